@@ -1,0 +1,4 @@
+pub mod DigitLemmas
+pub mod SplitLemmas
+pub mod LineLemmas
+pub mod PrintLemmas
