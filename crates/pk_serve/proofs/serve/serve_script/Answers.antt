@@ -1,0 +1,10 @@
+use Rattle.pk_serve.proofs.Closing.{keeps_script, keeps_some, answers_all, serves_some}
+use Rattle.pk_serve.proofs.serve.serve_script.Goals as goal
+
+pub returns : goal.returns
+returns g c = record {
+  kept = keeps_script _ _ _ _ _ _ c.serve_all.ensures.ends;
+  kept_untold = keeps_some _ _ _ _ _ _ c.serve_all.ensures.ends;
+  served = answers_all _ _ _ _ _ _ c.serve_all.ensures.ends c.serve_all.ensures.none;
+  served_untold = serves_some _ _ _ _ _ _ c.serve_all.ensures.none c.serve_all.ensures.ends;
+}

@@ -1,0 +1,5 @@
+pub mod Ends
+pub mod Serving
+pub mod Input
+pub mod Run
+pub mod Port
