@@ -1,0 +1,8 @@
+use Rattle.pk_pool.proofs.Sharing.{shared_adopted, used_adopted}
+use Rattle.pk_pool.proofs.pool.Pool.adopt.Goals as goal
+
+pub invariant_of-self : goal.invariant_of-self
+invariant_of-self g c = let r = rw (← c.self.view_is) at c.requires in shared_adopted _ _ _ _ r.free c.self.invariant r.below
+
+pub returns-clause-counted : goal.returns-clause-counted
+returns-clause-counted g c = let r = rw (← c.self.view_is) at c.requires in rw (← c.self.view_is) (used_adopted c.self.inside.plan c.self.inside.states.items c.args.block c.args.owner r.free)
