@@ -1,11 +1,14 @@
 -- Lists of states of which one is written.
-use Rattle.std.proofs.Common.{◌≡◌, ◌≢◌, ℕ, zero, suc, List, [], ◌∷◌, Some, refl, sym, ap, arith}
+use Rattle.std.proofs.Common.{◌≡◌, ◌≢◌, ◌⊎◌, inl, inr, ℕ, zero, suc, List, [], ◌∷◌, Some, refl, sym, ap, ◌∙◌, subst, arith, replicate}
 use Rattle.std.specs.Prelude.{slice_get}
 use Rattle.std.proofs.Math.ListN.{set}
 use Rattle.std.proofs.lemmas.Option.{slice_get_within, same_Some}
+use Rattle.std.proofs.lemmas.Bool.{cases_eq}
+use Rattle.pk_base.specs.Shape.{Shape}
 use Rattle.pk_plan.specs.declared.owner.Owner.{Owner}
 use Rattle.pk_pool.specs.declared.state.BlockState.{BlockState}
 use Rattle.pk_pool.specs.declared.state.BlockState.TheVariants.{Root, Free, Ready, Owned}
+use Rattle.pk_pool.specs.Blocks.{unused}
 
 pub get-set_other : {X : Type 0} (xs : List X) (i k : ℕ) (y : X) → k ≢ i → slice_get (set xs i y) k ≡ slice_get xs k
 get-set_other [] i k y ne = refl
@@ -42,3 +45,25 @@ owned_is_not_ready e = cc
 
 pub owned_is_not_free : {o : Owner} → Owned o ≡ Free → ⊥
 owned_is_not_free e = cc
+
+-- what stands in a list of one element, and where one was written
+nowhere_replicate : {X : Type 0} (n k : ℕ) (x y : X) → slice_get (replicate n x) k ≡ Some y → x ≡ y
+nowhere_replicate zero k x y h = cc
+nowhere_replicate (suc n) zero x y h = same_Some x y h
+nowhere_replicate (suc n) (suc k) x y h = nowhere_replicate n k x y h
+
+set_one : {X : Type 0} (xs : List X) (i k : ℕ) (x y : X) → slice_get (set xs i x) k ≡ Some y → (y ≡ x) ⊎ (slice_get xs k ≡ Some y)
+set_one xs i k x y h = elim (cases_eq k i) [
+  | inl same ↦ inl (get-set_same xs i x y (subst (λ j. slice_get (set xs i x) j ≡ Some y) same h))
+  | inr other ↦ inr (sym (get-set_other xs i k x other) ∙ h)
+]
+
+-- no block is erased at first
+pub none_ready_unused : (shape : Shape) (b : ℕ) → slice_get (unused shape).states b ≡ Some Ready → ⊥
+none_ready_unused shape b h = elim (set_one (set (replicate shape.blocks Free) 0 Root) 1 b Root Ready h) [
+  | inl root ↦ ready_is_not_root (sym root)
+  | inr one ↦ elim (set_one (replicate shape.blocks Free) 0 b Root Ready one) [
+    | inl root ↦ ready_is_not_root (sym root)
+    | inr free ↦ free_is_not_ready (nowhere_replicate shape.blocks b Free Ready free)
+  ]
+]

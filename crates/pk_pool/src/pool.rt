@@ -1,5 +1,6 @@
 //! The pool.
-ghost use Rattle.std.specs.Prelude.{◌≡◌, ℕ, ◌+◌, ◌*◌, ◌<◌, ◌≤◌, ◌⊎◌, count_by, length, slice_get, Some, IfOk, IfErr, OnOk, OnErr, MatchOption, MatchBool};
+ghost use Rattle.std.specs.Prelude.{◌≡◌, ℕ, ◌+◌, ◌*◌, ◌<◌, ◌≤◌, ◌⊎◌, count_by, length, slice_get, nat_lt, Some, IfOk, IfErr, OnOk, OnErr, MatchOption, MatchBool};
+ghost use Rattle.pk_base.specs.Page.{Flash};
 ghost use Rattle.pk_plan.specs.Quotas.{quota_of};
 ghost use Rattle.pk_plan.specs.declared.owner.Owner.{Owner};
 ghost use Rattle.pk_nand.specs.Calls.{IsReady};
@@ -44,6 +45,7 @@ fn lowest(states: &[BlockState], wanted: BlockState) -> Option<usize>
     None
 }
 
+// Whether a block's state is this one.
 fn is_in(state: BlockState, wanted: BlockState) -> bool
     ensures { result ≡ spec.is_in wanted state }
 {
@@ -67,7 +69,8 @@ fn count(states: &[BlockState], wanted: BlockState) -> u32
 impl<A: Allocator> Pool<A> {
     /// All blocks from 2 on free, and none erased. All memory of the pool is taken here.
     pub fn new(alloc: A, plan: Plan) -> Result<Pool<A>, AllocError>
-        ensures { IfOk result (λ p. p ≡ unused plan) }
+        ensures unused { IfOk result (λ p. p ≡ unused plan) }
+        ensures fits { IfOk result (λ p. (flash : Flash) → Fits p flash) }
     {
         plan.known();
         let blocks = plan.shape().blocks() as usize;
@@ -90,6 +93,7 @@ impl<A: Allocator> Pool<A> {
         requires below { used_by owner self.old.states < quota_of self.old.shape owner }
         ensures adopted { self.new ≡ with_state self.old block (Owned owner) }
         ensures counted { used_by owner self.new.states ≡ used_by owner self.old.states + 1 }
+        ensures fits { (flash : Flash) → Fits self.old flash → Fits self.new flash }
     {
         self.states[block as usize] = BlockState::Owned(owner);
     }
@@ -107,13 +111,14 @@ impl<A: Allocator> Pool<A> {
         ensures taken { IfOk result (λ b. self.new ≡ with_state self.old b (Owned owner)) }
         ensures counted { OnOk result (used_by owner self.new.states ≡ used_by owner self.old.states + 1) }
         ensures owned { IfOk result (λ b. slice_get self.new.states b ≡ Some (Owned owner)) }
+        ensures shape { self.new.shape ≡ self.old.shape }
         ensures erased { IfOk result (λ b. IsErasedBlock self.old.shape (B.state board.new).pages b) }
         ensures cuts { IfOk result (λ b. ReachesIn self.old.shape b (B.state board.old) (B.state board.new)) }
         ensures stopped { IfErr result (λ e. e ≡ Stopped) }
         ensures none_ready { OnErr result (IsNowhere Ready self.old.states) }
         ensures failed { OnErr result (FailsToErase self.old (B.state board.old) (B.state board.new)) }
         ensures kept { OnErr result (self.new ≡ self.old) }
-        ensures ready { IsReady (B.state board.new) self.old.shape }
+        ensures ready { IsReady (B.state board.new) self.new.shape }
         ensures fits { Fits self.new (B.state board.new).pages }
     {
         match lowest(&self.states, BlockState::Ready) {
@@ -139,6 +144,7 @@ impl<A: Allocator> Pool<A> {
         requires { IsOwned self.old block }
         ensures given { self.new ≡ with_state self.old block Free }
         ensures counted { (o : Owner) → slice_get self.old.states block ≡ Some (Owned o) → used_by o self.new.states + 1 ≡ used_by o self.old.states }
+        ensures fits { (flash : Flash) → Fits self.old flash → Fits self.new flash }
     {
         self.states[block as usize] = BlockState::Free;
     }
@@ -152,7 +158,7 @@ impl<A: Allocator> Pool<A> {
         ensures stopped { IfErr result (λ e. e ≡ Stopped) }
         ensures failed { OnErr result (FailsToErase self.old (B.state board.old) (B.state board.new)) }
         ensures kept { OnErr result (self.new ≡ self.old) }
-        ensures ready { IsReady (B.state board.new) self.old.shape }
+        ensures ready { IsReady (B.state board.new) self.new.shape }
         ensures shape { self.new.shape ≡ self.old.shape }
         ensures owned { (b : ℕ) → IsOwned self.old b → slice_get self.new.states b ≡ slice_get self.old.states b }
         ensures fits { Fits self.new (B.state board.new).pages }
@@ -167,6 +173,20 @@ impl<A: Allocator> Pool<A> {
                 Err(_) => Err(Fault::Stopped),
             },
         }
+    }
+
+    /// Whether the owner may have another block.
+    pub fn has_room(&self, owner: Owner) -> bool
+        ensures { result ≡ nat_lt (used_by owner self.now.states) (quota_of self.now.shape owner) }
+    {
+        self.used(owner) < self.plan.quota(owner)
+    }
+
+    /// What a block is; None past the last one.
+    pub fn state(&self, block: u32) -> Option<BlockState>
+        ensures { result ≡ slice_get self.now.states block }
+    {
+        self.states.get(block as usize).copied()
     }
 
     /// How many blocks the owner has.

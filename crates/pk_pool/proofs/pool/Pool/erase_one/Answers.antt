@@ -23,7 +23,7 @@ returns-in-Ok-clause-cases g c =
 pub returns-in-Ok-clause-ready : goal.returns-in-Ok-clause-ready
 returns-in-Ok-clause-ready g c =
     let r = rw (← c.self.view_is) at c.requires.ready in
-    rw (c.in-Ok.ensures.ok, ← c.self.view_is) (IsReady-erase _ _ c.in-Some.b c.self.invariant.plan.is_shape r)
+    rw c.in-Ok.ensures.ok (IsReady-erase _ _ c.in-Some.b c.self.invariant.plan.is_shape r)
 
 pub returns-in-Ok-clause-owned : goal.returns-in-Ok-clause-owned
 returns-in-Ok-clause-owned g c =
