@@ -1,9 +1,9 @@
 -- Plans that grow.
-use Rattle.std.proofs.Common.{◌≡◌, ◌≢◌, ℕ, List, [], ◌∷◌, ◌++◌, refl, sym, ap, ◌∙◌, subst, Bool, true, false, T, ◌==◌, if◌then◌else◌, eqb→eq, Option, None, Some}
+use Rattle.std.proofs.Common.{◌≡◌, ℕ, List, [], ◌∷◌, ◌++◌, refl, sym, subst, Bool, true, false, T, ◌==◌, if◌then◌else◌, eqb→eq, Option, Some}
 use Rattle.std.proofs.Math.Dec.{eqb_refl}
 use Rattle.pk_flash.specs.declared.types.Left.{Left}
 use Rattle.pk_flash.specs.declared.types.Planned.{Planned}
-use Rattle.pk_flash.specs.Plan.{later, planned_from, planned_left}
+use Rattle.pk_flash.specs.Plan.{later, planned_from}
 
 pub planned-append : (call : ℕ) (found : Option Left) (plan : List Planned) (next : Planned) → planned_from call found (plan ++ next ∷ []) ≡ later call (planned_from call found plan) next
 planned-append call found [] next = refl

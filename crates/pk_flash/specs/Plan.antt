@@ -1,5 +1,7 @@
 -- Planned failures: which call is to fail, and what it leaves.
-use Rattle.std.specs.Prelude.{ℕ, ◌==◌, if◌then◌else◌, List, [], ◌∷◌, Option, Some, None, Result, Ok, Err, ⊤}
+use Rattle.std.specs.Prelude.{◌≡◌, ℕ, ◌==◌, if◌then◌else◌, List, [], ◌∷◌, Option, Some, None, Result, Ok, Err, ⊤}
+use Rattle.pk_nand.specs.Calls.{counted}
+use Rattle.pk_nand.specs.declared.types.PageState.{PageState}
 use Rattle.pk_flash.specs.declared.types.Left.{Left}
 use Rattle.pk_flash.specs.declared.types.Left.TheVariants.{Done}
 use Rattle.pk_flash.specs.declared.types.Planned.{Planned}
@@ -27,3 +29,9 @@ AnswersBy None (Ok x) = ⊤
 AnswersBy None (Err e) = ⊥
 AnswersBy (Some left) (Ok x) = ⊥
 AnswersBy (Some left) (Err e) = ⊤
+
+-- one call more was made; what is planned stays, and so do the pages as the board was handed in
+pub record Turned (calls calls' : ℕ) (plan plan' : List Planned) (start start' : List PageState) : Type 0 where
+  pub one_more : calls' ≡ counted calls
+  pub same_plan : plan' ≡ plan
+  pub same_start : start' ≡ start

@@ -43,7 +43,7 @@ impl Trail {
     /// Takes buffers for pages of another size.
     pub fn refit(&mut self, alloc: Global, page_bytes: u32) -> Result<(), AllocError>
         ensures ok { OnOk result (self.new.page_bytes ≡ page_bytes) }
-        ensures err { OnErr result (self.new.page_bytes ≡ self.old.page_bytes) }
+        ensures err { OnErr result (self.new ≡ self.old) }
         ensures marks { self.new.marks.items ≡ self.old.marks.items }
         ensures room { self.new.room ≡ self.old.room }
     {
@@ -83,7 +83,8 @@ impl Trail {
     {
         let own = copy_into_spare(&mut self.for_pages, bytes);
         let copy = copy_into_spare(&mut self.for_marks, bytes);
-        self.marks.push_reserved(Mark::Program { page, bytes: copy });
+        self.marks
+            .push_reserved(Mark::Program { page, bytes: copy });
         own
     }
 }

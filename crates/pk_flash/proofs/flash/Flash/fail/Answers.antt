@@ -1,4 +1,4 @@
-use Rattle.std.proofs.Common.{◌≡◌, ap, ◌∙◌, None, Some}
+use Rattle.std.proofs.Common.{ap, ◌∙◌, None}
 use Rattle.pk_flash.specs.declared.types.Planned.{Planned}
 use Rattle.pk_flash.specs.Plan.{planned_left}
 use Rattle.pk_flash.proofs.PlanLemmas.{planned-append, later-same, later-other}
