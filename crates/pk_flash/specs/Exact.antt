@@ -36,7 +36,8 @@ pub record GivesNothing {X E : Type 0} (posted posted' : List ℕ) (trail trail'
   pub same_posted : posted' ≡ posted
   pub same_trail : trail' ≡ trail
 
--- A post gives out what was planned; or nothing is done, as always where the room would be passed.
-pub record PostsBy {X E : Type 0} (posted_room room : ℕ) (left : Option Left) (bytes posted posted' : List ℕ) (trail trail' : List Mark) (result : Result X E) : Type 0 where
+-- A post gives out what was planned, or nothing is done: with room it does for at most a page of bytes, and without it never.
+pub record PostsBy {X E : Type 0} (page_bytes posted_room room : ℕ) (left : Option Left) (bytes posted posted' : List ℕ) (trail trail' : List Mark) (result : Result X E) : Type 0 where
   pub did : Gives left (take (part (length bytes) left) bytes) posted posted' trail trail' result ⊎ GivesNothing posted posted' trail trail' result
+  pub free : part (length bytes) left ≤ page_bytes → length posted + part (length bytes) left ≤ posted_room → length trail < room → Gives left (take (part (length bytes) left) bytes) posted posted' trail trail' result
   pub refused : (posted_room < length posted + part (length bytes) left) ⊎ (room ≤ length trail) → GivesNothing posted posted' trail trail' result

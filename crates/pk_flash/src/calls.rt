@@ -1,5 +1,5 @@
 //! What calls do to the pages, the trail and the bytes given out of a board in memory.
-ghost use Rattle.std.specs.Prelude.{◌≡◌, ◌≤◌, ◌<◌, ◌+◌, ◌++◌, ◌∷◌, [], ℕ, length, take, Some, OnOk, OnErr, IfOk, IsTrue, vec_len, slice_set, option_copied, option_map};
+ghost use Rattle.std.specs.Prelude.{◌≡◌, ◌≤◌, ◌<◌, ◌+◌, ◌++◌, ◌∷◌, [], ℕ, length, take, Some, OnOk, OnErr, IfOk, IsTrue, vec_capacity, ◌⊎◌, slice_set, option_copied, option_map};
 ghost use Rattle.pk_base.specs.Shape as spec;
 ghost use Rattle.pk_base.specs.Page.{whole, IsPage, IsFlash};
 ghost use Rattle.pk_base.specs.Mark.{program, erase, post, after};
@@ -11,7 +11,7 @@ ghost use Rattle.pk_flash.specs.Outcomes.{choice as choice_of, program_choice as
 ghost use Rattle.pk_flash.specs.Rows.{RowChosen};
 ghost use Rattle.pk_flash.specs.Exact.{ActsBy, PostsBy, part as part_of};
 
-use crate::pages::{block_pages_of, choose, choose_row, copy_of, program_choice};
+use crate::pages::{block_pages_of, choose, choose_row, program_choice};
 use crate::trail::Trail;
 use crate::types::Left;
 use pk_base::Shape;
@@ -97,7 +97,7 @@ pub fn erase_block(
     }
 }
 
-// Gives bytes out and notes it, where there is room for both and memory for the mark's bytes.
+// Gives bytes out and notes it, where there is room for both and, past a page of bytes, memory for the mark's.
 fn give(
     alloc: Global,
     posted: &mut Vec<u8>,
@@ -105,12 +105,15 @@ fn give(
     trail: &mut Trail,
     bytes: &[u8],
 ) -> Result<(), AllocError>
+    requires { posted_room ≤ vec_capacity posted.old }
     ensures posted { OnOk result (posted.new.items ≡ posted.old.items ++ bytes.now) }
     ensures marks { OnOk result (seen_marks trail.new.marks.items ≡ seen_marks trail.old.marks.items ++ post bytes.now ∷ []) }
     ensures within { OnOk result (length posted.old.items + length bytes.now ≤ posted_room) }
     ensures below { OnOk result (length trail.old.marks.items < trail.old.room) }
     ensures posted_err { OnErr result (posted.new.items ≡ posted.old.items) }
     ensures marks_err { OnErr result (trail.new.marks.items ≡ trail.old.marks.items) }
+    ensures cause { OnErr result ((posted_room < length posted.old.items + length bytes.now) ⊎ (trail.old.room ≤ length trail.old.marks.items) ⊎ (trail.old.page_bytes < length bytes.now)) }
+    ensures holds { posted_room ≤ vec_capacity posted.new }
     ensures room { trail.new.room ≡ trail.old.room }
     ensures page_bytes { trail.new.page_bytes ≡ trail.old.page_bytes }
 {
@@ -120,11 +123,13 @@ fn give(
     if trail.is_full() {
         return Err(AllocError);
     }
-    posted.reserve(bytes.len())?;
-    let bytes_again = copy_of(alloc, bytes)?;
-    trail.note(Mark::Post { bytes: bytes_again });
-    posted.extend_from_slice(bytes)?;
-    Ok(())
+    match trail.note_post(alloc, bytes) {
+        Ok(()) => match posted.extend_from_slice(bytes) {
+            Ok(()) => Ok(()),
+            Err(_) => unreachable!(),
+        },
+        Err(_) => Err(AllocError),
+    }
 }
 
 // How many bytes a post gives out.
@@ -139,7 +144,8 @@ fn part(left: Option<&Left>, all: usize) -> usize
     }
 }
 
-/// Gives bytes out, or fails and leaves what `left` says. Without memory for the mark's bytes it fails with nothing done.
+/// Gives bytes out, or fails and leaves what `left` says. More than a page of bytes take memory for their mark; without it
+/// the call fails with nothing done.
 pub fn post_bytes(
     alloc: Global,
     posted: &mut Vec<u8>,
@@ -148,10 +154,12 @@ pub fn post_bytes(
     bytes: &[u8],
     left: Option<&Left>,
 ) -> Result<(), HostFault>
-    ensures exact { PostsBy posted_room trail.old.room (option_copied left.entry) bytes.now posted.old.items posted.new.items (seen_marks trail.old.marks.items) (seen_marks trail.new.marks.items) result }
+    requires { posted_room ≤ vec_capacity posted.old }
+    ensures exact { PostsBy trail.old.page_bytes posted_room trail.old.room (option_copied left.entry) bytes.now posted.old.items posted.new.items (seen_marks trail.old.marks.items) (seen_marks trail.new.marks.items) result }
     ensures posted { OnOk result (posted.new.items ≡ posted.old.items ++ bytes.now) }
     ensures marks { OnOk result (seen_marks trail.new.marks.items ≡ seen_marks trail.old.marks.items ++ post bytes.now ∷ []) }
     ensures left { OnErr result (PostLeft bytes.now (Some posted.old.items) (Some posted.new.items) (Some (seen_marks trail.old.marks.items)) (Some (seen_marks trail.new.marks.items))) }
+    ensures holds { posted_room ≤ vec_capacity posted.new }
     ensures room { trail.new.room ≡ trail.old.room }
     ensures page_bytes { trail.new.page_bytes ≡ trail.old.page_bytes }
 {

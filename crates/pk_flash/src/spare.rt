@@ -1,5 +1,5 @@
 //! Buffers of a page each, which are taken with the room.
-ghost use Rattle.std.specs.Prelude.{◌≡◌, ◌<◌, ◌+◌, length, IfOk};
+ghost use Rattle.std.specs.Prelude.{◌≡◌, ◌<◌, ◌+◌, ℕ, length, IfOk};
 ghost use Rattle.pk_flash.specs.Spare.{AreSpare};
 
 use pk_nand::PageBytes;
@@ -28,7 +28,7 @@ pub fn copy_into_spare(spare: &mut Vec<Vec<u8>>, bytes: &[u8]) -> PageBytes
     requires room { AreSpare (length bytes.now) spare.old.items }
     ensures bytes { result ≡ bytes.now }
     ensures count { length spare.new.items + 1 ≡ length spare.old.items }
-    ensures rest { AreSpare (length bytes.now) spare.new.items }
+    ensures rest { (room : ℕ) → AreSpare room spare.old.items → AreSpare room spare.new.items }
 {
     match spare.pop() {
         Some(mut buffer) => {

@@ -1,9 +1,10 @@
 //! The marks of a board in memory, with the buffers for those to come.
 ghost use Rattle.std.specs.Prelude.{◌≡◌, ◌<◌, ◌≤◌, ◌+◌, ◌++◌, ◌∷◌, [], ◌↔◌, ℕ, length, IsTrue, IfOk, OnOk, OnErr, vec_capacity};
-ghost use Rattle.pk_base.specs.Mark.{program};
+ghost use Rattle.pk_base.specs.Mark.{program, post};
 ghost use Rattle.pk_nand.specs.Seen.{mark as seen_mark, marks as seen_marks};
 ghost use Rattle.pk_flash.specs.Spare.{AreSpare};
 
+use crate::pages::copy_of;
 use crate::spare::{copy_into_spare, spare_buffers};
 use pk_nand::{Mark, PageBytes};
 use std::alloc::{AllocError, Global};
@@ -86,5 +87,25 @@ impl Trail {
         self.marks
             .push_reserved(Mark::Program { page, bytes: copy });
         own
+    }
+
+    /// Adds the mark of a post. Bytes that fit a page have a buffer for them; more take memory, and nothing is done without.
+    pub fn note_post(&mut self, alloc: Global, bytes: &[u8]) -> Result<(), AllocError>
+        requires { length self.old.marks.items < self.old.room }
+        ensures marks { OnOk result (seen_marks self.new.marks.items ≡ seen_marks self.old.marks.items ++ post bytes.now ∷ []) }
+        ensures err { OnErr result (self.new.marks.items ≡ self.old.marks.items) }
+        ensures small { OnErr result (self.old.page_bytes < length bytes.now) }
+        ensures room { self.new.room ≡ self.old.room }
+        ensures page { self.new.page_bytes ≡ self.old.page_bytes }
+    {
+        if bytes.len() <= self.page_bytes as usize {
+            let copy = copy_into_spare(&mut self.for_marks, bytes);
+            self.marks.push_reserved(Mark::Post { bytes: copy });
+            Ok(())
+        } else {
+            let copy = copy_of(alloc, bytes)?;
+            self.note(Mark::Post { bytes: copy });
+            Ok(())
+        }
     }
 }
