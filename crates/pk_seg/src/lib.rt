@@ -7,3 +7,6 @@ mod values;
 
 pub use pages::{read_page, write_page};
 pub use values::{read_head, read_value, write_value};
+
+#[cfg(test)]
+mod tests;
