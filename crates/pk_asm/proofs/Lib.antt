@@ -2,3 +2,4 @@ pub mod DigitLemmas
 pub mod SplitLemmas
 pub mod LineLemmas
 pub mod PrintLemmas
+pub mod TextLemmas
