@@ -70,14 +70,14 @@ no_word = Text (record { ref_ptr = (0, 0); now = [] })
 tail_append : (xs ys : List Word) → tail_text (xs ++ ys) ≡ tail_text xs ++ tail_text ys
 tail_append xs ys = ap behind_blanks (map-append word_text xs ys) ∙ flat_map-append (λ word. 32 ∷ word) (map word_text xs) (map word_text ys)
 
-pub tail_more : (words : List Word) (i : ℕ)  → i < length words → tail_text (take i words) ++ 32 ∷ word_text (get_or words i no_word) ≡ tail_text (take (i + 1) words)
+pub tail_more : (words : List Word) (i : ℕ) → i < length words → tail_text (take i words) ++ 32 ∷ word_text (get_or words i no_word) ≡ tail_text (take (i + 1) words)
 tail_more words i lt =
     ap (λ (xs : List ℕ). tail_text (take i words) ++ xs) (sym (append-nil (32 ∷ word_text (get_or words i no_word))))
     ∙ sym (tail_append (take i words) (get_or words i no_word ∷ []))
     ∙ ap tail_text (sym (take_more words i no_word lt))
 
 -- a word and those before it are no longer than all
-pub tail_short : (words : List Word) (i : ℕ)  → i < length words → length (tail_text (take i words)) + (1 + length (word_text (get_or words i no_word))) ≤ length (tail_text words)
+pub tail_short : (words : List Word) (i : ℕ) → i < length words → length (tail_text (take i words)) + (1 + length (word_text (get_or words i no_word))) ≤ length (tail_text words)
 tail_short words i lt =
     let front = ap length (tail_more words i lt) in
     let whole = ap length (sym (tail_append (take (i + 1) words) (drop (i + 1) words)) ∙ ap tail_text (take-append-drop (i + 1) words)) in
@@ -85,14 +85,14 @@ tail_short words i lt =
     let all = length-append (tail_text (take (i + 1) words)) (tail_text (drop (i + 1) words)) in
     omega (arith, front, whole, parts, all)
 
-pub fit_stop : (words : List Word) (i : ℕ)  (left room : ℕ) → i < length words → left + length (tail_text (take i words)) ≡ room
+pub fit_stop : (words : List Word) (i : ℕ) (left room : ℕ) → i < length words → left + length (tail_text (take i words)) ≡ room
     → left < length (word_text (get_or words i no_word)) + 1 → false ≡ nat_le (length (tail_text words)) room
 fit_stop words i left room lt so_far more =
     let short = tail_short words i lt in
     let over : room < length (tail_text words) = omega arith in
     grind (arith, nat_tests)
 
-pub fit_step : (words : List Word) (i : ℕ)  (left next room : ℕ) → i < length words → left + length (tail_text (take i words)) ≡ room
+pub fit_step : (words : List Word) (i : ℕ) (left next room : ℕ) → i < length words → left + length (tail_text (take i words)) ≡ room
     → next + (length (word_text (get_or words i no_word)) + 1) ≡ left → next + length (tail_text (take (i + 1) words)) ≡ room
 fit_step words i left next room lt so_far step =
     let front = ap length (tail_more words i lt) in
@@ -112,14 +112,14 @@ pub record WordsSoFar (words : List Word) (i : ℕ) (old now : RoomyList) : Type
 pub words_none : (words : List Word) (old : RoomyList) → WordsSoFar words 0 old old
 words_none words old = record { wrote = wrote_none old }
 
-pub words_room : (words : List Word) (i : ℕ)  (old now : RoomyList) → i < length words → length old.items + length (tail_text words) ≤ old.room
+pub words_room : (words : List Word) (i : ℕ) (old now : RoomyList) → i < length words → length old.items + length (tail_text words) ≤ old.room
     → WordsSoFar words i old now → length now.items + (1 + length (word_text (get_or words i no_word))) ≤ now.room
 words_room words i old now lt room h =
     let sized = wrote_len old now (tail_text (take i words)) h.wrote in
     let short = tail_short words i lt in
     omega (arith, sized.0, sized.1)
 
-pub words_step : (words : List Word) (i : ℕ)  (old now next : RoomyList) → i < length words → next ≡ record now { items = now.items ++ 32 ∷ word_text (get_or words i no_word) }
+pub words_step : (words : List Word) (i : ℕ) (old now next : RoomyList) → i < length words → next ≡ record now { items = now.items ++ 32 ∷ word_text (get_or words i no_word) }
     → WordsSoFar words i old now → WordsSoFar words (i + 1) old next
 words_step words i old now next lt step h = record { wrote = wrote_more old now next _ _ _ (tail_more words i lt) h.wrote step }
 

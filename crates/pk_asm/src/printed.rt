@@ -170,7 +170,11 @@ fn put_form(form: &Form, value: &[u8], into: &mut Bytes) -> bool
     match form {
         Form::Store { key, options, .. } => put_store(key.bytes(), *options, value, into),
         Form::Retrieve { key, size } => {
-            put_line(b"retrieve", &[Word::Hex(key.bytes()), Word::Number(*size)], into)
+            put_line(
+                b"retrieve",
+                &[Word::Hex(key.bytes()), Word::Number(*size)],
+                into,
+            )
         }
         Form::Delete { key } => put_line(b"delete", &[Word::Hex(key.bytes())], into),
         Form::Exist { key } => put_line(b"exist", &[Word::Hex(key.bytes())], into),

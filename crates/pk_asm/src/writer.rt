@@ -4,10 +4,9 @@ ghost use Rattle.pk_nvme.specs.Text.{hex_text, bytes_text};
 ghost use Rattle.pk_asm.specs.PrintedWord.{word_text, tail_text};
 ghost use Rattle.pk_asm.specs.Printed.{WritesLine};
 
+use crate::assemble::MOST_BYTES;
 use itoa::Buffer;
 use pk_nvme::Bytes;
-
-use crate::assemble::MOST_BYTES;
 
 /// A word as it is printed.
 #[derive(Clone, Copy)]
@@ -66,7 +65,10 @@ const DIGITS: &[u8; 16] = b"0123456789abcdef";
 fn digits(byte: u8) -> [u8; 2]
     ensures { result ≡ hex_text (byte ∷ []) }
 {
-    [DIGITS[usize::from(byte / 16)], DIGITS[usize::from(byte % 16)]]
+    [
+        DIGITS[usize::from(byte / 16)],
+        DIGITS[usize::from(byte % 16)],
+    ]
 }
 
 fn put_hex(bytes: &[u8], into: &mut Bytes)
@@ -110,7 +112,11 @@ fn line_fits(name: &[u8], words: &[Word], left: usize) -> bool
     if left == 0 {
         return false;
     }
-    let room = if left - 1 < MOST_BYTES { left - 1 } else { MOST_BYTES };
+    let room = if left - 1 < MOST_BYTES {
+        left - 1
+    } else {
+        MOST_BYTES
+    };
     name.len() <= room && fit(words, room - name.len())
 }
 
