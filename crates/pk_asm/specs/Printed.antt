@@ -1,7 +1,8 @@
 -- The line that is printed for an entry and its bytes.
-use Rattle.std.specs.Prelude.{◌≡◌, ℕ, ◌+◌, ◌≤◌, ◌==◌, ◌&&◌, not, nat_le, nat_lt, if◌then◌else◌, List, [], ◌∷◌, ◌++◌, length, take, Option, Some, None, option_map, codes, bytes_eq}
+use Rattle.std.specs.Prelude.{◌≡◌, ℕ, ◌+◌, ◌≤◌, ◌<◌, ◌^◌, Bool, ◌==◌, ◌&&◌, not, nat_le, nat_lt, if◌then◌else◌, List, [], ◌∷◌, ◌++◌, length, take, Option, Some, None, option_map, codes, bytes_eq}
 use Rattle.std.specs.List.{flat_map}
-use Rattle.pk_nvme.specs.Command.{Command, command, key}
+use Rattle.pk_nvme.specs.Bytes.{RoomyList}
+use Rattle.pk_nvme.specs.Command.{Command, command}
 use Rattle.pk_nvme.specs.Text.{number_text, hex_text, bytes_text}
 use Rattle.pk_asm.specs.Form.{form_entry}
 use Rattle.pk_asm.specs.Line.{says, named_of, entry, most_bytes}
@@ -53,16 +54,33 @@ raw_line e bytes = line_of (codes "raw" ∷ hex_text e ∷ bytes_text bytes ∷ 
 abbrev pub key_at : ℕ → List ℕ → Option (List ℕ)
 key_at size place = if nat_le 1 size && nat_le size 16 then Some (take size place) else None
 
--- the form with the fields of a command, whatever else its entry holds
+-- the forms with these fields of a command: the bytes of the key, its place, the size
+abbrev pub store_candidate : ℕ → List ℕ → ℕ → ℕ → ℕ → Option Form
+store_candidate key_len place size options bytes =
+    if size == bytes && nat_lt options 4 then option_map (λ key. Store key size options) (key_at key_len place) else None
+
+abbrev pub retrieve_candidate : ℕ → List ℕ → ℕ → Option Form
+retrieve_candidate key_len place size = option_map (λ key. Retrieve key size) (key_at key_len place)
+
+abbrev pub delete_candidate : ℕ → List ℕ → Option Form
+delete_candidate key_len place = option_map Delete (key_at key_len place)
+
+abbrev pub exist_candidate : ℕ → List ℕ → Option Form
+exist_candidate key_len place = option_map Exist (key_at key_len place)
+
+abbrev pub list_candidate : ℕ → List ℕ → ℕ → Option Form
+list_candidate key_len place size =
+    if key_len == 0 then Some (ListFrom None size) else option_map (λ key. ListFrom (Some key) size) (key_at key_len place)
+
+-- the form with the fields of a command, whatever else its entry holds; a Store alone brings bytes
 unfoldable pub candidate : Command → Option Form
 candidate c =
-    let key : Option (List ℕ) = key_at c.key_len c.key_bytes in
-    if c.opcode == 0x01 then (if c.size == length c.value && nat_lt c.options 4 then option_map (λ k. Store k c.size c.options) key else None) else
+    if c.opcode == 0x01 then store_candidate c.key_len c.key_bytes c.size c.options (length c.value) else
     if not (length c.value == 0) then None else
-    if c.opcode == 0x02 then option_map (λ k. Retrieve k c.size) key else
-    if c.opcode == 0x10 then option_map Delete key else
-    if c.opcode == 0x14 then option_map Exist key else
-    if c.opcode == 0x06 then (if c.key_len == 0 then Some (ListFrom None c.size) else option_map (λ k. ListFrom (Some k) c.size) key) else
+    if c.opcode == 0x02 then retrieve_candidate c.key_len c.key_bytes c.size else
+    if c.opcode == 0x10 then delete_candidate c.key_len c.key_bytes else
+    if c.opcode == 0x14 then exist_candidate c.key_len c.key_bytes else
+    if c.opcode == 0x06 then list_candidate c.key_len c.key_bytes c.size else
     if c.opcode == 0x00 then Some Flush else
     if c.opcode == 0xC2 then Some Report else
     if c.opcode == 0xC0 then Some (Tick c.size) else None
@@ -83,9 +101,21 @@ line_for (Some form) e bytes = form_line form bytes
 abbrev pub printed : ℕ → List ℕ → List ℕ → List ℕ
 printed number e bytes = line_for (form_that_gives number e bytes) e bytes
 
--- The named line stands there exactly where a named line at this number gives the same entry and bytes, and the
--- line gives this entry and these bytes.
+-- a named line says this form and these bytes, fewer than 2 ^ 32
+pub record IsSaid (form : Form) (bytes : List ℕ) : Type 0 where
+  pub name : List ℕ
+  pub operands : List (List ℕ)
+  pub said : named_of name operands ≡ Some (form, bytes)
+  pub few : length bytes < 2 ^ 32
+
+-- The line is the named one exactly where a named line of this number gives the same entry and bytes, and it gives
+-- this entry and these bytes.
 pub record Prints (number : ℕ) (e bytes line : List ℕ) : Type 0 where
-  pub named : (name : List ℕ) (operands : List (List ℕ)) (form : Form) → named_of name operands ≡ Some (form, bytes) → form_entry number form ≡ e → line ≡ form_line form bytes
-  pub raw : ((name : List ℕ) (operands : List (List ℕ)) (form : Form) → named_of name operands ≡ Some (form, bytes) → ¬ (form_entry number form ≡ e)) → line ≡ raw_line e bytes
+  pub named : (form : Form) → IsSaid form bytes → form_entry number form ≡ e → line ≡ form_line form bytes
+  pub raw : ((form : Form) → IsSaid form bytes → ¬ (form_entry number form ≡ e)) → line ≡ raw_line e bytes
   pub same : length line ≤ most_bytes → says number line ≡ Some (entry e bytes)
+
+-- the line and its line feed are written where they fit, else nothing
+pub record WritesLine (line : List ℕ) (old new : RoomyList) (is_written : Bool) : Type 0 where
+  pub fits : is_written ≡ (nat_le (length line) most_bytes && nat_le (length old.items + (length line + 1)) old.room)
+  pub written : new ≡ record old { items = if is_written then old.items ++ (line ++ 10 ∷ []) else old.items }

@@ -2,8 +2,8 @@
 use Rattle.std.specs.Prelude.{ℕ, List, map, decimal}
 use Rattle.pk_nvme.specs.Text.{hex_text}
 use Rattle.pk_asm.specs.Printed.{behind_blanks}
-use Rattle.pk_asm.specs.declared.print.Word.{Word}
-use Rattle.pk_asm.specs.declared.print.Word.TheVariants.{Text, Hex, Number}
+use Rattle.pk_asm.specs.declared.writer.Word.{Word}
+use Rattle.pk_asm.specs.declared.writer.Word.TheVariants.{Text, Hex, Number}
 
 abbrev pub word_text : Word → List ℕ
 word_text (Text text) = text.now

@@ -153,7 +153,12 @@ fn options(word: &[u8]) -> Option<u8>
 }
 
 /// A Store of this key with these options; its bytes come into `value`.
-fn store_with(key: Option<Key>, bytes: &[u8], options: Option<u8>, value: &mut Bytes) -> Option<Form>
+fn store_with(
+    key: Option<Key>,
+    bytes: &[u8],
+    options: Option<u8>,
+    value: &mut Bytes,
+) -> Option<Form>
     requires empty { value.old.items ≡ [] }
     requires fits { length bytes.now ≤ 2 * value.old.room }
     requires short { length bytes.now < 2 ^ 32 }
@@ -261,7 +266,11 @@ fn entry_said(line: &[u8], number: u64, value: &mut Bytes) -> Option<[u8; 64]>
 /// The entry that a line gives, which is of this number among the entries of its script; its bytes come into `value`.
 /// An empty line and one that begins with `#` give nothing. `value` is emptied first.
 #[tactic(auto, unfolding(crate::specs::Line::says))]
-pub fn assemble_line(line: &[u8], number: u64, value: &mut Bytes) -> Result<Option<[u8; 64]>, BadLine>
+pub fn assemble_line(
+    line: &[u8],
+    number: u64,
+    value: &mut Bytes,
+) -> Result<Option<[u8; 64]>, BadLine>
     requires { 1100000 ≤ value.old.room }
     // `BadLine` comes exactly outside the grammar.
     ensures exact { MatchResult result (λ entry. option_map spec.entry_in (spec.says number line.now) ≡ Some entry) (λ _. spec.says number line.now ≡ None) }

@@ -9,32 +9,16 @@ use pk_nvme::Request;
 #[derive(Drop)]
 pub enum Form {
     /// `options` are the option bits, `size` the bytes of the value.
-    Store {
-        key: Key,
-        size: u32,
-        options: u8,
-    },
+    Store { key: Key, size: u32, options: u8 },
     /// `size` is that of the host's buffer, in bytes.
-    Retrieve {
-        key: Key,
-        size: u32,
-    },
-    Delete {
-        key: Key,
-    },
-    Exist {
-        key: Key,
-    },
+    Retrieve { key: Key, size: u32 },
+    Delete { key: Key },
+    Exist { key: Key },
     /// From this key on, or from the first; `size` is that of the host's buffer, in bytes.
-    ListFrom {
-        from: Option<Key>,
-        size: u32,
-    },
+    ListFrom { from: Option<Key>, size: u32 },
     Flush,
     Report,
-    Tick {
-        steps: u32,
-    },
+    Tick { steps: u32 },
 }
 
 /// The entry of this number, in namespace 1, with these fields.
@@ -64,7 +48,13 @@ impl Form {
         ensures { result ≡ form_entry number self.now }
     {
         match self {
-            Form::Store { key, size, options } => entry_of(number, 0x01, key.bytes(), *size, *options),
+            Form::Store { key, size, options } => entry_of(
+                number,
+                0x01,
+                key.bytes(),
+                *size,
+                *options,
+            ),
             Form::Retrieve { key, size } => entry_of(number, 0x02, key.bytes(), *size, 0),
             Form::Delete { key } => entry_of(number, 0x10, key.bytes(), 0, 0),
             Form::Exist { key } => entry_of(number, 0x14, key.bytes(), 0, 0),

@@ -4,11 +4,15 @@
 mod assemble;
 mod form;
 mod operands;
-mod print;
+mod printed;
 mod words;
+mod writer;
 
 pub use assemble::{BadLine, assemble_line};
 pub use form::Form;
 pub use operands::Operands;
-pub use print::{Word, put_line};
+pub use printed::print;
 pub use words::{bytes_word, entry_word, key, number};
+
+#[cfg(test)]
+mod tests;

@@ -56,7 +56,11 @@ fn value_of(digits: &[u8]) -> Option<u32>
 pub fn number(word: &[u8]) -> Option<u32>
     ensures { result ≡ number_of word.now }
 {
-    if is_number(word) { value_of(word) } else { None }
+    if is_number(word) {
+        value_of(word)
+    } else {
+        None
+    }
 }
 
 /// The key that a word of 2 to 32 hexadecimal digits is, two for each byte, in either case.

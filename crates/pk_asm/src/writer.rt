@@ -2,12 +2,11 @@
 ghost use Rattle.std.specs.Prelude.{◌≡◌, ◌+◌, ◌*◌, ◌-◌, ◌^◌, ◌≤◌, ◌<◌, ◌++◌, ◌∷◌, ◌&&◌, [], length, nat_le, if◌then◌else◌, map};
 ghost use Rattle.pk_nvme.specs.Text.{hex_text, bytes_text};
 ghost use Rattle.pk_asm.specs.PrintedWord.{word_text, tail_text};
-ghost use Rattle.pk_asm.specs.Printed.{behind_blanks};
-
-use itoa::Buffer;
-use pk_nvme::Bytes;
+ghost use Rattle.pk_asm.specs.Printed.{WritesLine};
 
 use crate::assemble::MOST_BYTES;
+use itoa::Buffer;
+use pk_nvme::Bytes;
 
 /// A word as it is printed.
 #[derive(Clone, Copy)]
@@ -34,27 +33,27 @@ impl<'a> Word<'a> {
         }
     }
 
-    fn len(&self) -> usize
-        ensures value { result ≡ length (word_text self.now) }
+    fn len(self) -> usize
+        ensures value { result ≡ length (word_text self.entry) }
         ensures small { result < 2 ^ 64 - 1 }
     {
         match self {
             Word::Text(text) => text.len(),
             Word::Hex(bytes) => 2 * bytes.len(),
-            Word::Number(number) => Buffer::new().format(*number).len(),
+            Word::Number(number) => Buffer::new().format(number).len(),
         }
     }
 
     /// The word behind a blank.
-    fn put(&self, into: &mut Bytes)
-        requires { length into.old.items + (1 + length (word_text self.now)) ≤ into.old.room }
-        ensures { into.new ≡ record into.old { items = into.old.items ++ 32 ∷ word_text self.now } }
+    fn put(self, into: &mut Bytes)
+        requires { length into.old.items + (1 + length (word_text self)) ≤ into.old.room }
+        ensures { into.new ≡ record into.old { items = into.old.items ++ 32 ∷ word_text self.entry } }
     {
         into.push(b' ');
         match self {
             Word::Text(text) => into.extend(text),
             Word::Hex(bytes) => put_hex(bytes, into),
-            Word::Number(number) => into.extend(Buffer::new().format(*number).as_bytes()),
+            Word::Number(number) => into.extend(Buffer::new().format(number).as_bytes()),
         }
     }
 }
@@ -66,7 +65,10 @@ const DIGITS: &[u8; 16] = b"0123456789abcdef";
 fn digits(byte: u8) -> [u8; 2]
     ensures { result ≡ hex_text (byte ∷ []) }
 {
-    [DIGITS[usize::from(byte / 16)], DIGITS[usize::from(byte % 16)]]
+    [
+        DIGITS[usize::from(byte / 16)],
+        DIGITS[usize::from(byte % 16)],
+    ]
 }
 
 fn put_hex(bytes: &[u8], into: &mut Bytes)
@@ -110,14 +112,17 @@ fn line_fits(name: &[u8], words: &[Word], left: usize) -> bool
     if left == 0 {
         return false;
     }
-    let room = if left - 1 < MOST_BYTES { left - 1 } else { MOST_BYTES };
+    let room = if left - 1 < MOST_BYTES {
+        left - 1
+    } else {
+        MOST_BYTES
+    };
     name.len() <= room && fit(words, room - name.len())
 }
 
 /// The line of these words and its line feed, where they fit.
 pub fn put_line(name: &[u8], words: &[Word], into: &mut Bytes) -> bool
-    ensures fits { result ≡ (nat_le (length (name.now ++ tail_text words.now)) 2200000 && nat_le (length into.old.items + (length (name.now ++ tail_text words.now) + 1)) into.old.room) }
-    ensures written { into.new ≡ record into.old { items = if result then into.old.items ++ ((name.now ++ tail_text words.now) ++ 10 ∷ []) else into.old.items } }
+    ensures { WritesLine (name.now ++ tail_text words.now) into.old into.new result }
 {
     if !line_fits(name, words, into.left()) {
         return false;
