@@ -1,3 +1,5 @@
+ghost use Rattle.std.specs.Prelude.{◌+◌, ◌*◌, ◌≤◌, length};
+
 use super::*;
 use std::test::*;
 
@@ -68,22 +70,30 @@ fn records(rt: HostRuntime) {
     assert_eq!(rt; &refused[8..16], [1, 0, 1, 0, 3, 4, 0x0f, 1].as_slice());
 }
 
+// A number, a blank and the digits of some bytes.
+fn spell(text: &mut Bytes, number: u32, bytes: &[u8])
+    requires { length text.old.items + 11 + 2 * length bytes.now ≤ text.old.room }
+{
+    text.push_number(number);
+    text.push(b' ');
+    text.push_hex(bytes);
+}
+
 #[test]
 fn bytes_and_text(rt: HostRuntime) -> Result<(), Fail> {
     let mut text = Bytes::with_room(rt.alloc(), 32)?;
     assert!(rt; text.is_empty());
     text.extend(b"n=");
-    text.push_number(0);
-    text.push(b' ');
-    text.push_number(4_294_967_295);
-    text.push(b' ');
-    text.push_hex(&[0x00, 0x7f, 0xab, 0xff]);
-    assert_eq!(rt; text.bytes(), b"n=0 4294967295 007fabff".as_slice());
-    assert_eq!(rt; (text.len(), text.left(), text.room()), (23, 9, 32));
+    spell(&mut text, 4_294_967_295, &[0x00, 0x7f, 0xab, 0xff]);
+    assert_eq!(rt; text.bytes(), b"n=4294967295 007fabff".as_slice());
+    assert_eq!(rt; (text.len(), text.left(), text.room()), (21, 11, 32));
     text.truncate(3);
-    assert_eq!(rt; text.bytes(), b"n=0".as_slice());
+    assert_eq!(rt; text.bytes(), b"n=4".as_slice());
     text.clear();
     assert_eq!(rt; (text.len(), text.left()), (0, 32));
+    let mut zero = Bytes::with_room(rt.alloc(), 16)?;
+    spell(&mut zero, 0, &[]);
+    assert_eq!(rt; zero.bytes(), b"0 ".as_slice());
     assert_eq!(rt; Bytes::with_room(rt.alloc(), 1_100_000)?.left(), 1_100_000);
     Ok(())
 }
