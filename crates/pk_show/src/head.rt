@@ -51,7 +51,11 @@ impl Head {
         ensures { result ≡ length (front self.now) }
     {
         let digits = digits(self.cid) + digits(self.result) + digits(self.reads);
-        if self.data_len == 0 { digits + 36 } else { digits + 35 }
+        if self.data_len == 0 {
+            digits + 36
+        } else {
+            digits + 35
+        }
     }
 
     fn write(&self, into: &mut Bytes)

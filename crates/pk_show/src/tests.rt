@@ -17,7 +17,11 @@ fn lines(rt: HostRuntime) -> Result<(), Fail> {
             b"cid=2 status=00 result=3 reads=1 data=616263",
         ),
         (
-            record_head(&completion(65_535, 7, 0x87, 4_294_967_295), 4_294_967_295, 1),
+            record_head(
+                &completion(65_535, 7, 0x87, 4_294_967_295),
+                4_294_967_295,
+                1,
+            ),
             b"\xfe",
             b"cid=65535 status=87 result=4294967295 reads=4294967295 data=fe",
         ),
