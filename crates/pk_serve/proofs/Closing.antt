@@ -1,5 +1,5 @@
 -- The end of a run, and what it says of the whole.
-use Rattle.std.proofs.Common.{◌≡◌, ◌≢◌, ◌⊎◌, inl, inr, ℕ, List, [], ◌∷◌, ◌++◌, length, refl, sym, ◌∙◌, ap, subst, arith, append-nil, append_assoc, Option, Some, None, Ok}
+use Rattle.std.proofs.Common.{◌≡◌, ◌≢◌, ◌⊎◌, inl, inr, ℕ, ◌≤◌, ◌+◌, List, [], ◌∷◌, ◌++◌, length, refl, sym, ◌∙◌, ap, subst, arith, append-nil, append_assoc, Option, Some, None, Ok}
 use Rattle.pk_base.specs.Shape.{Shape}
 use Rattle.pk_base.specs.Entry.{Entry}
 use Rattle.pk_nvme.specs.Command.{Command}
@@ -13,12 +13,12 @@ use Rattle.pk_model.specs.Run.{Exchange, commands}
 use Rattle.std.proofs.lemmas.List.{length-map}
 use Rattle.pk_model.specs.Sight.{Sight}
 use Rattle.pk_drive.specs.Growth.{Goes}
-use Rattle.pk_drive.specs.Wear.{is_worn}
+use Rattle.pk_drive.specs.Wear.{is_worn, roots}
 use Rattle.pk_drive.proofs.Growing.{Goes-reaches, weaken_went}
 use Rattle.pk_serve.specs.Ends.{IsFault}
-use Rattle.pk_serve.specs.Serving.{Serving, KeptAt, rise, Flushed, Breaks}
+use Rattle.pk_serve.specs.Serving.{Serving, KeptAt, rise, installs, Flushed, Breaks}
 use Rattle.pk_serve.specs.Input.{put_back, AtEnd, Spells, IsPart, behind}
-use Rattle.pk_serve.specs.Run.{Finished, Failed, Finish, Ends, Served, ServedBy, KeepsScript, KeepsSome, Answers, ServesSome}
+use Rattle.pk_serve.specs.Run.{Finished, Failed, Finish, Ends, Served, ServedBy, KeepsScript, KeepsSome, Answers, ServedSome, Causes}
 use Rattle.pk_serve.specs.declared.end.End.{End}
 use Rattle.pk_serve.specs.declared.end.End.TheVariants.{Done, Truncated, Input, Output, Flash, Worn, NotBuilt}
 use Rattle.pk_serve.proofs.Serves.{kept-more}
@@ -109,16 +109,16 @@ no_fault NotBuilt p q f = f
 
 -- ---- what is said of the whole
 
-front_none : (xs ys : List ℕ) → xs ++ ys ≡ [] → xs ≡ []
+pub front_none : (xs ys : List ℕ) → xs ++ ys ≡ [] → xs ≡ []
 front_none [] ys e = refl
 front_none (x ∷ xs) ys e = cc
 
 -- an input that is told
-told : (o : Option (List ℕ)) (xs input : List ℕ) → Some input ≡ put_back xs o → (left : List ℕ) × (o ≡ Some left) × (input ≡ xs ++ left)
+pub told : (o : Option (List ℕ)) (xs input : List ℕ) → Some input ≡ put_back xs o → (left : List ℕ) × (o ≡ Some left) × (input ≡ xs ++ left)
 told None xs input e = absurd (let h : Some input ≡ None = e in cc)
 told (Some left) xs input e = (left, refl, (let h : Some input ≡ Some (xs ++ left) = e in cc))
 
-script_is : (bytes part left input : List ℕ) (cs : List Command) → Spells bytes cs → input ≡ (bytes ++ part) ++ left → script input ≡ behind cs (script (part ++ left))
+pub script_is : (bytes part left input : List ℕ) (cs : List Command) → Spells bytes cs → input ≡ (bytes ++ part) ++ left → script input ≡ behind cs (script (part ++ left))
 script_is bytes part left input cs spells e = ap script (e ∙ append_assoc bytes part left) ∙ spells (part ++ left)
 
 script_none : script [] ≡ ([], [])
@@ -129,7 +129,7 @@ script_of : (cs : List Command) (part rest : List ℕ) (s : List Command × List
 script_of cs part rest s e same is = e ∙ (ap (λ r. behind cs (script r)) same ∙ (ap (behind cs) is ∙ ap (λ l. (l, part)) (append-nil cs)))
 
 -- these bytes are these commands
-script_whole : (bytes : List ℕ) (cs : List Command) → Spells bytes cs → script bytes ≡ (cs, [])
+pub script_whole : (bytes : List ℕ) (cs : List Command) → Spells bytes cs → script bytes ≡ (cs, [])
 script_whole bytes cs spells = ap script (sym (append-nil bytes)) ∙ script_of cs [] [] (script (bytes ++ [])) (spells []) refl script_none
 
 module _ (shape : Shape) (frames : ℕ) (start : Map) (a b : BoardState) (d : Sight) where
@@ -147,14 +147,26 @@ module _ (shape : Shape) (frames : ℕ) (start : Map) (a b : BoardState) (d : Si
         holds = subst M none w.stands.map_is;
         few_faults = w.few_faults;
         metered = w.metered;
+        few_roots = w.few_roots;
         no_faults = w.no_faults;
       }
 
   served_as : (cs ds : List Command) → cs ≡ ds → Served shape frames start a b cs → Served shape frames start a b ds
-  served_as cs ds e h = record { served = h.served; are = h.are ∙ e; left = h.left; ran = h.ran; posted = h.posted; holds = h.holds; few_faults = h.few_faults; metered = h.metered; no_faults = h.no_faults }
+  served_as cs ds e h = record {
+    served = h.served;
+    are = h.are ∙ e;
+    left = h.left;
+    ran = h.ran;
+    posted = h.posted;
+    holds = h.holds;
+    few_faults = h.few_faults;
+    metered = h.metered;
+    few_roots = (let T : List Command → Type 0 = λ l. roots b ≤ roots a + installs l in subst T e h.few_roots);
+    no_faults = h.no_faults;
+  }
 
   -- as many exchanges as commands
-  size_of : (part : List ℕ) (f : Finished shape frames start a b d [] part) → length (commands f.all) ≡ length f.all
+  pub size_of : (part : List ℕ) (f : Finished shape frames start a b d [] part) → length (commands f.all) ≡ length f.all
   size_of part f = length-map f.all (λ (x : Exchange). x.command)
 
   module _ (input : List ℕ) (is : a.input ≡ Some input) where
@@ -172,13 +184,13 @@ module _ (shape : Shape) (frames : ℕ) (start : Map) (a b : BoardState) (d : Si
         let f = x.finished in
         let i = input_of (f.bytes ++ []) f.input in
         let e : script input ≡ (commands f.all, []) = script_of (commands f.all) [] ([] ++ i.0) (script input) (script_is f.bytes [] i.0 input (commands f.all) f.spells i.2) (at_end_of i.0 i.1 x.at_end) script_none in
-        (e ∙ (λ k. ((sym e k).0, [])), served_as (commands f.all) (script input).0 (sym (ap (λ s. s.0) e)) (served_of [] f none), x.same)
+        (e ∙ (λ k. ((sym e k).0, [])), served_as (commands f.all) (script input).0 (sym (ap (λ s. s.0) e)) (served_of [] f none), x.at_end, x.same)
     served_by refused Truncated (inl f) x = absurd f
     served_by refused Truncated (inr none) x =
         let f = x.finished in
         let i = input_of (f.bytes ++ x.part) f.input in
         let e : script input ≡ (commands f.all, x.part) = script_of (commands f.all) x.part (x.part ++ i.0) (script input) (script_is f.bytes x.part i.0 input (commands f.all) f.spells i.2) (ap (λ l. x.part ++ l) (at_end_of i.0 i.1 x.at_end) ∙ append-nil x.part) x.is_part in
-        (λ z. x.some (sym (ap (λ s. s.1) e) ∙ z), (omega (arith, x.goes_on.0, ap (λ s. length s.0) e, size_of x.part f), x.goes_on.1), served_as (commands f.all) (script input).0 (sym (ap (λ s. s.0) e)) (served_of x.part f none), x.same)
+        (λ z. x.some (sym (ap (λ s. s.1) e) ∙ z), (omega (arith, x.goes_on.0, ap (λ s. length s.0) e, size_of x.part f), x.goes_on.1), served_as (commands f.all) (script input).0 (sym (ap (λ s. s.0) e)) (served_of x.part f none), x.at_end, x.same)
     served_by refused Input (inl f) x = absurd f
     served_by refused Input (inr none) x =
         let f = x.finished in
@@ -283,30 +295,26 @@ module _ (a b : BoardState) (before after : Sight) (refused : Shape → ℕ → 
   pub answers_all : IsFault end ⊎ (after.pending ≡ []) → Answers a b before refused end
   answers_all closed shape frames start stands none input is = served_by shape frames start a b after input is (refused shape frames) end closed (h shape frames start stands none)
 
--- what was served, where it ends in no fault
-served_some : (shape : Shape) (frames : ℕ) (start : Map) (a b : BoardState) (d : Sight) (refused : Map → List ℕ → Type 0) (end : End) → d.pending ≡ [] → (IsFault end → ⊥) → Finish shape frames start a b d [] refused end
-    → (cs : List Command) × Served shape frames start a b cs
-served_some shape frames start a b d refused Done none sound x = (commands x.finished.all, served_of shape frames start a b d [] x.finished none)
-served_some shape frames start a b d refused Truncated none sound x = (commands x.finished.all, served_of shape frames start a b d x.part x.finished none)
-served_some shape frames start a b d refused Input none sound x = (commands x.finished.all, served_of shape frames start a b d x.part x.finished none)
-served_some shape frames start a b d refused Worn none sound x = (commands x.finished.all, served_of shape frames start a b d x.part x.finished none)
-served_some shape frames start a b d refused NotBuilt none sound x = (commands x.finished.all, served_of shape frames start a b d x.entry x.finished none)
-served_some shape frames start a b d refused Output none sound x = absurd (sound tt)
-served_some shape frames start a b d refused Flash none sound x = absurd (sound tt)
+-- what was served, whether the input is told or not
+served_some : (shape : Shape) (frames : ℕ) (start : Map) (a b : BoardState) (d : Sight) (refused : Map → List ℕ → Type 0) (end : End) → IsFault end ⊎ (d.pending ≡ []) → Finish shape frames start a b d [] refused end
+    → ServedSome shape frames start a b refused end
+unfolding served_of
+served_some shape frames start a b d refused Done (inr none) x = (commands x.finished.all, served_of shape frames start a b d [] x.finished none, x.same)
+served_some shape frames start a b d refused Truncated (inr none) x =
+    (commands x.finished.all, (omega (arith, x.goes_on.0, size_of shape frames start a b d x.part x.finished), x.goes_on.1), served_of shape frames start a b d x.part x.finished none, x.same)
+served_some shape frames start a b d refused Input (inr none) x = (commands x.finished.all, served_of shape frames start a b d x.part x.finished none, x.rose)
+served_some shape frames start a b d refused Worn (inr none) x =
+    let n = size_of shape frames start a b d x.part x.finished in
+    (commands x.finished.all, served_of shape frames start a b d x.part x.finished none, elim x.cause [ inl full ↦ inl (n ∙ full) | inr worn ↦ inr worn ], x.same)
+served_some shape frames start a b d refused NotBuilt (inr none) x =
+    (commands x.finished.all, x.entry, x.size, served_of shape frames start a b d x.entry x.finished none, x.is, (omega (arith, x.goes_on.0, size_of shape frames start a b d x.entry x.finished), x.goes_on.1), x.same)
+served_some shape frames start a b d refused Done (inl f) x = absurd f
+served_some shape frames start a b d refused Truncated (inl f) x = absurd f
+served_some shape frames start a b d refused Input (inl f) x = absurd f
+served_some shape frames start a b d refused Worn (inl f) x = absurd f
+served_some shape frames start a b d refused NotBuilt (inl f) x = absurd f
+served_some shape frames start a b d refused Output closed x = x.cause
+served_some shape frames start a b d refused Flash closed x = x.cause
 
--- an end is a fault or none
-fault_or_none : (end : End) → IsFault end ⊎ (IsFault end → ⊥)
-fault_or_none Done = inr (λ f. f)
-fault_or_none Truncated = inr (λ f. f)
-fault_or_none Input = inr (λ f. f)
-fault_or_none Worn = inr (λ f. f)
-fault_or_none NotBuilt = inr (λ f. f)
-fault_or_none Output = inl tt
-fault_or_none Flash = inl tt
-
-pub serves_some : (a b : BoardState) (before after : Sight) (refused : Shape → ℕ → Map → List ℕ → Type 0) (end : End) → IsFault end ⊎ (after.pending ≡ []) → Ends a b before after [] refused end → IsFault end ⊎ ServesSome a b before
-serves_some a b before after refused end (inl f) h = inl f
-serves_some a b before after refused end (inr none) h = elim (fault_or_none end) [
-  | inl f ↦ inl f
-  | inr sound ↦ inr (λ shape frames start stands n. served_some shape frames start a b after (refused shape frames) end none sound (h shape frames start stands n))
-]
+pub causes_all : (a b : BoardState) (before after : Sight) (refused : Shape → ℕ → Map → List ℕ → Type 0) (end : End) → Ends a b before after [] refused end → IsFault end ⊎ (after.pending ≡ []) → Causes a b before refused end
+causes_all a b before after refused end h closed shape frames start stands none = served_some shape frames start a b after (refused shape frames) end closed (h shape frames start stands none)

@@ -12,4 +12,5 @@ pub mod Entering
 pub mod Looping
 pub mod Nexting
 pub mod Closing
+pub mod Completing
 pub mod Submitting

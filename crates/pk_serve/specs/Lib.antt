@@ -2,4 +2,5 @@ pub mod Ends
 pub mod Serving
 pub mod Input
 pub mod Run
+pub mod Complete
 pub mod Port

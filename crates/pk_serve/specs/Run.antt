@@ -1,5 +1,5 @@
 -- How a run over the input ends.
-use Rattle.std.specs.Prelude.{◌≡◌, ◌≢◌, ◌⊎◌, ◌<◌, ℕ, List, [], ◌++◌, length, Some, Bool, true, false}
+use Rattle.std.specs.Prelude.{◌≡◌, ◌≢◌, ◌⊎◌, ◌<◌, ◌≤◌, ◌+◌, ℕ, List, [], ◌++◌, length, Some, Bool, true, false}
 use Rattle.pk_base.specs.Shape.{Shape}
 use Rattle.pk_base.specs.Map.{Map}
 use Rattle.pk_nvme.specs.Command.{Command, command}
@@ -13,11 +13,11 @@ use Rattle.pk_model.specs.Kept.{AtMost}
 use Rattle.pk_model.specs.Script.{script}
 use Rattle.pk_model.specs.Sight.{Sight}
 use Rattle.pk_drive.specs.Drive.{Stands}
-use Rattle.pk_drive.specs.Wear.{is_worn}
+use Rattle.pk_drive.specs.Wear.{is_worn, roots}
 use Rattle.pk_drive.specs.Growth.{Goes}
 use Rattle.pk_drive.specs.Meter.{meter, MeteredAll}
 use Rattle.pk_serve.specs.Ends.{HasCause, NoFaults}
-use Rattle.pk_serve.specs.Serving.{Serving, Cutoff, KeptAt, rise}
+use Rattle.pk_serve.specs.Serving.{Serving, Cutoff, KeptAt, rise, installs}
 use Rattle.pk_serve.specs.Input.{put_back, AtEnd, Spells, IsPart}
 use Rattle.pk_serve.specs.declared.end.End.{End}
 use Rattle.pk_serve.specs.declared.end.End.TheVariants.{Done, Truncated, Input, Output, Flash, Worn, NotBuilt}
@@ -141,6 +141,7 @@ pub record Served (shape : Shape) (frames : ℕ) (start : Map) (a b : BoardState
   pub holds : Holds shape b.pages left
   pub few_faults : AtMost (rise a.read_faults b.read_faults) (faults served)
   pub metered : MeteredAll (meter a) served (meter b)
+  pub few_roots : roots b ≤ roots a + installs cs
   pub no_faults : NoFaults a b
 
 -- fewer were taken than a run takes, and the drive is not worn
@@ -151,9 +152,9 @@ TakesMore board cs = (length cs < most_entries) × (is_worn board ≡ false)
 -- another one that begins; those before an entry that is refused.
 abbrev pub ServedBy : Shape → ℕ → Map → BoardState → BoardState → List ℕ → (Map → List ℕ → Type 0) → End → Type 0
 ServedBy shape frames start a b input refused Done =
-    (script input ≡ ((script input).0, [])) × Served shape frames start a b (script input).0 × (b.in_faults ≡ a.in_faults)
+    (script input ≡ ((script input).0, [])) × Served shape frames start a b (script input).0 × AtEnd b.input × (b.in_faults ≡ a.in_faults)
 ServedBy shape frames start a b input refused Truncated =
-    ((script input).1 ≢ []) × TakesMore b (script input).0 × Served shape frames start a b (script input).0 × (b.in_faults ≡ a.in_faults)
+    ((script input).1 ≢ []) × TakesMore b (script input).0 × Served shape frames start a b (script input).0 × AtEnd b.input × (b.in_faults ≡ a.in_faults)
 ServedBy shape frames start a b input refused Input =
     (taken : List ℕ) × (left : List ℕ) × (input ≡ taken ++ left) × Served shape frames start a b (script taken).0
     × ((script taken).1 ≢ [] → TakesMore b (script taken).0) × Rose a.in_faults b.in_faults
@@ -171,7 +172,18 @@ Answers a b before refused end =
     (shape : Shape) (frames : ℕ) (start : Map) → Stands shape frames a before start → before.pending ≡ []
     → (input : List ℕ) → a.input ≡ Some input → ServedBy shape frames start a b input (refused shape frames) end
 
--- the same where the input is not told
-abbrev pub ServesSome : BoardState → BoardState → Sight → Type 0
-ServesSome a b before =
-    (shape : Shape) (frames : ℕ) (start : Map) → Stands shape frames a before start → before.pending ≡ [] → (cs : List Command) × Served shape frames start a b cs
+-- The same where the input is not told: some commands were served, and each end has its cause.
+abbrev pub ServedSome : Shape → ℕ → Map → BoardState → BoardState → (Map → List ℕ → Type 0) → End → Type 0
+ServedSome shape frames start a b refused Done = (cs : List Command) × Served shape frames start a b cs × (b.in_faults ≡ a.in_faults)
+ServedSome shape frames start a b refused Truncated = (cs : List Command) × TakesMore b cs × Served shape frames start a b cs × (b.in_faults ≡ a.in_faults)
+ServedSome shape frames start a b refused Input = (cs : List Command) × Served shape frames start a b cs × Rose a.in_faults b.in_faults
+ServedSome shape frames start a b refused Worn =
+    (cs : List Command) × Served shape frames start a b cs × ((length cs ≡ most_entries) ⊎ (is_worn b ≡ true)) × (b.in_faults ≡ a.in_faults)
+ServedSome shape frames start a b refused NotBuilt =
+    (cs : List Command) × (entry : List ℕ) × (length entry ≡ 64) × (s : Served shape frames start a b cs) × refused s.left entry × TakesMore b cs × (b.in_faults ≡ a.in_faults)
+ServedSome shape frames start a b refused Output = Rose a.out_faults b.out_faults
+ServedSome shape frames start a b refused Flash = Rose a.stop_faults b.stop_faults
+
+abbrev pub Causes : BoardState → BoardState → Sight → (Shape → ℕ → Map → List ℕ → Type 0) → End → Type 0
+Causes a b before refused end =
+    (shape : Shape) (frames : ℕ) (start : Map) → Stands shape frames a before start → before.pending ≡ [] → ServedSome shape frames start a b (refused shape frames) end

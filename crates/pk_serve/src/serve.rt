@@ -8,7 +8,8 @@ ghost use Rattle.pk_queue.specs.Queue.{bytes_of};
 ghost use Rattle.pk_drive.specs.Wear.{is_worn};
 ghost use Rattle.pk_serve.specs.Ends.{IsFault};
 ghost use Rattle.pk_serve.specs.Input.{Advances, Quits};
-ghost use Rattle.pk_serve.specs.Run.{Ends, Unbuilt, KeepsScript, KeepsSome, ServesSome, Answers};
+ghost use Rattle.pk_serve.specs.Complete.{Completes};
+ghost use Rattle.pk_serve.specs.Run.{Ends, Unbuilt, KeepsScript, KeepsSome, Answers, Causes};
 
 use crate::End;
 use crate::entry::{take_entry, take_value};
@@ -165,7 +166,8 @@ pub fn serve_script<D: Engine, B: Board>(
     ensures kept { KeepsScript (B.state board.old) (B.state board.new) (D.sight drive.old) }
     ensures kept_untold { KeepsSome (B.state board.old) (B.state board.new) (D.sight drive.old) }
     ensures served { Answers (B.state board.old) (B.state board.new) (D.sight drive.old) (Unbuilt D D.sight D.built) result }
-    ensures served_untold { IsFault result ⊎ ServesSome (B.state board.old) (B.state board.new) (D.sight drive.old) }
+    ensures causes { Causes (B.state board.old) (B.state board.new) (D.sight drive.old) (Unbuilt D D.sight D.built) result }
+    ensures complete { Completes D D.built (B.state board.old) (B.state board.new) (D.sight drive.old) result }
 {
     serve_all(drive, board, held, value, into, shape)
 }

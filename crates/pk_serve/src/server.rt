@@ -1,7 +1,8 @@
 //! What serving needs beside the drive and the board.
 ghost use Rattle.std.specs.Prelude.{◌≡◌, ◌⊎◌, [], false, IfOk, Some};
 ghost use Rattle.pk_serve.specs.Ends.{IsFault};
-ghost use Rattle.pk_serve.specs.Run.{Unbuilt, KeepsScript, KeepsSome, ServesSome, Answers};
+ghost use Rattle.pk_serve.specs.Complete.{Completes};
+ghost use Rattle.pk_serve.specs.Run.{Unbuilt, KeepsScript, KeepsSome, Answers, Causes};
 
 use crate::End;
 use crate::serve::serve_script;
@@ -57,7 +58,8 @@ impl Server {
         ensures kept { KeepsScript (B.state board.old) (B.state board.new) (D.sight drive.old) }
         ensures kept_untold { KeepsSome (B.state board.old) (B.state board.new) (D.sight drive.old) }
         ensures served { Answers (B.state board.old) (B.state board.new) (D.sight drive.old) (Unbuilt D D.sight D.built) result }
-        ensures served_untold { IsFault result ⊎ ServesSome (B.state board.old) (B.state board.new) (D.sight drive.old) }
+        ensures causes { Causes (B.state board.old) (B.state board.new) (D.sight drive.old) (Unbuilt D D.sight D.built) result }
+    ensures complete { Completes D D.built (B.state board.old) (B.state board.new) (D.sight drive.old) result }
     {
         self.held.clear();
         serve_script(
