@@ -145,21 +145,21 @@ impl<'a> FileBoard<'a> {
 
 impl Nand for FileBoard<'_> {
     ghost state = { λ f. record {
-        shape = f.shape;
-        pages = pages_of f.slots.items;
-        trail = None;
-        reads = f.reads;
-        programs = f.programs;
-        erases = f.erases;
-        flash_faults = f.flash_faults;
-        read_faults = f.read_faults;
-        stop_faults = f.stop_faults;
-        failed_at = f.failed_at;
-        bad = f.bad;
-        input = None;
-        posted = None;
-        in_faults = f.in_faults;
-        out_faults = f.out_faults
+      shape = f.shape;
+      pages = pages_of f.slots.items;
+      trail = None;
+      reads = f.reads;
+      programs = f.programs;
+      erases = f.erases;
+      flash_faults = f.flash_faults;
+      read_faults = f.read_faults;
+      stop_faults = f.stop_faults;
+      failed_at = f.failed_at;
+      bad = f.bad;
+      input = None;
+      posted = None;
+      in_faults = f.in_faults;
+      out_faults = f.out_faults;
     } };
 
     fn load(&mut self, alloc: Global) -> Result<Option<Shape>, LoadFault> {

@@ -1,5 +1,5 @@
 use Rattle.pk_nand.specs.BoardState.{shape_or_none}
-use Rattle.std.proofs.Common.{◌≡◌, ◌∙◌, length}
+use Rattle.std.proofs.Common.{◌∙◌}
 use Rattle.std.proofs.lemmas.List.{length-map}
 use Rattle.pk_file.specs.Slots.{pages_of, page_of}
 use Rattle.pk_file.proofs.Rows.{erase_left, erase_done}

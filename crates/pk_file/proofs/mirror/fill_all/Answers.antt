@@ -1,5 +1,4 @@
-use Rattle.std.proofs.Common.{◌≡◌, ◌<◌, ◌∙◌, length, arith, sym, subst, length-set}
-use Rattle.pk_base.specs.Shape.{page_count}
+use Rattle.std.proofs.Common.{◌<◌, ◌∙◌, length, arith, sym, subst, length-set}
 use Rattle.pk_base.specs.Page.{IsPage}
 use Rattle.pk_file.specs.declared.slot.Slot.{Slot}
 use Rattle.pk_file.proofs.Slotting.{fit_set}

@@ -5,7 +5,7 @@ use Rattle.pk_file.proofs.slots.erased_slots.Given as goal
 
 abbrev pub invariant-loop-i : goal.invariant-loop-i
 invariant-loop-i l = record {
-    pages : pages_of l.slots.items ≡ replicate l.i erased;
-    count : length l.slots.items ≡ l.i;
-    fit : AllFit l.shape l.slots.items
-  }
+  pages : pages_of l.slots.items ≡ replicate l.i erased;
+  count : length l.slots.items ≡ l.i;
+  fit : AllFit l.shape l.slots.items;
+}

@@ -1,4 +1,4 @@
-use Rattle.std.proofs.Common.{◌≡◌, ◌∙◌, ◌+◌, ◌<◌, List, ℕ, length, take, sym, subst, arith}
+use Rattle.std.proofs.Common.{◌≡◌, ◌∙◌, ◌+◌, List, ℕ, take, sym, subst, arith}
 use Rattle.pk_file.specs.declared.slot.Slot.{Slot}
 use Rattle.pk_file.specs.Slots.{bytes_of, AllFit}
 use Rattle.pk_file.proofs.Slotting.{bytes_more, fit_more, byte_small, states_next}

@@ -1,8 +1,8 @@
-use Rattle.std.proofs.Common.{◌∙◌, ap, List, ℕ}
+use Rattle.std.proofs.Common.{ap, List, ℕ}
 use Rattle.std.proofs.Math.ListN.{set}
 use Rattle.std.proofs.lemmas.List.{map-set}
 use Rattle.pk_base.specs.Page.{whole}
-use Rattle.pk_file.specs.Slots.{page_of, pages_of}
+use Rattle.pk_file.specs.Slots.{pages_of}
 use Rattle.pk_file.proofs.slots.write_slot.Goals as goal
 
 pub returns-clause-pages : goal.returns-clause-pages
