@@ -1,0 +1,12 @@
+//! The workload that a start generates: each turn gives the entry of a command and, for a Store, its value.
+#![tactic(auto)]
+
+mod command;
+mod draw;
+pub mod laws;
+#[cfg(test)]
+mod tests;
+mod value;
+mod workload;
+
+pub use workload::Workload;
