@@ -162,6 +162,7 @@ impl Nand for FileBoard<'_> {
       out_faults = f.out_faults;
     } };
 
+    #[tactic(auto, using(crate::proofs::Slotting::ready_flash))]
     fn load(&mut self, alloc: Global) -> Result<Option<Shape>, LoadFault> {
         self.bad = None;
         if self.shape.is_some() {
@@ -187,6 +188,7 @@ impl Nand for FileBoard<'_> {
         }
     }
 
+    #[tactic(auto, using(crate::proofs::Slotting::ready_flash))]
     fn make(&mut self, alloc: Global, shape: Shape) -> Result<(), LoadFault> {
         let Ok(slots) = erased_slots(alloc, &shape) else {
             return Err(LoadFault::Memory);

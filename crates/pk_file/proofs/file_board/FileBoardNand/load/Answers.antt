@@ -19,3 +19,11 @@ returns-in-Ok-Some-clause-ok c = record {
   held = search rules;
   rest = refl;
 }
+
+pub returns-then-is_some-clause-ready : goal.returns-then-is_some-clause-ready
+returns-then-is_some-clause-ready c s e =
+    record { shape_is = e; flash = ready_flash c.args.self.now.shape c.args.self.now.slots.items c.args.self.now.count c.args.self.now.fit s e }
+
+pub returns-in-Ok-Some-clause-ready : goal.returns-in-Ok-Some-clause-ready
+returns-in-Ok-Some-clause-ready c s e =
+    record { shape_is = e; flash = ready_flash (Some c.in-Ok-Some.image.shape) c.in-Ok-Some.image.slots.items c.in-Ok-Some.image.count c.in-Ok-Some.image.fit s e }
