@@ -130,17 +130,89 @@ fn ends(rt: HostRuntime) -> Result<(), Fail> {
     let skipped = [1u8; 2017];
     let done = record(1, 7, 0);
     check(&rt, alloc, "empty", &[], None, End::Done, &[])?;
-    check(&rt, alloc, "inside an entry", &[&store, &store[..63]], None, End::Truncated, &[&done])?;
-    check(&rt, alloc, "inside a value", &[&store, &three, b"ab"], None, End::Truncated, &[&done])?;
-    check(&rt, alloc, "a value too large is passed over", &[&large, &skipped, &exist], None, End::Done, &[&record(1, 9, 0x85), &record(2, 5, 0x87)])?;
-    check(&rt, alloc, "inside a value too large", &[&store, &large, b"ab"], None, End::Truncated, &[&done])?;
-    check(&rt, alloc, "an unknown opcode", &[&unknown, &store], None, End::Done, &[&record(1, 6, 0x01), &record(2, 7, 0)])?;
-    check(&rt, alloc, "not built", &[&store, &unbuilt, &store], None, End::NotBuilt, &[&done])?;
-    check(&rt, alloc, "the input fails", &[&store, &store], Some((1, Left::Untouched)), End::Input, &[&done])?;
+    check(
+        &rt,
+        alloc,
+        "inside an entry",
+        &[&store, &store[..63]],
+        None,
+        End::Truncated,
+        &[&done],
+    )?;
+    check(
+        &rt,
+        alloc,
+        "inside a value",
+        &[&store, &three, b"ab"],
+        None,
+        End::Truncated,
+        &[&done],
+    )?;
+    check(
+        &rt,
+        alloc,
+        "a value too large is passed over",
+        &[&large, &skipped, &exist],
+        None,
+        End::Done,
+        &[&record(1, 9, 0x85), &record(2, 5, 0x87)],
+    )?;
+    check(
+        &rt,
+        alloc,
+        "inside a value too large",
+        &[&store, &large, b"ab"],
+        None,
+        End::Truncated,
+        &[&done],
+    )?;
+    check(
+        &rt,
+        alloc,
+        "an unknown opcode",
+        &[&unknown, &store],
+        None,
+        End::Done,
+        &[&record(1, 6, 0x01), &record(2, 7, 0)],
+    )?;
+    check(
+        &rt,
+        alloc,
+        "not built",
+        &[&store, &unbuilt, &store],
+        None,
+        End::NotBuilt,
+        &[&done],
+    )?;
+    check(
+        &rt,
+        alloc,
+        "the input fails",
+        &[&store, &store],
+        Some((1, Left::Untouched)),
+        End::Input,
+        &[&done],
+    )?;
     // three entries and the end of the input are fetched before a record is out
-    check(&rt, alloc, "held to the end", &[&store, &store, &store], Some((4, Left::Part(5))), End::Output, &[&done[..5]])?;
+    check(
+        &rt,
+        alloc,
+        "held to the end",
+        &[&store, &store, &store],
+        Some((4, Left::Part(5))),
+        End::Output,
+        &[&done[..5]],
+    )?;
     // a record of a command that is no Store goes out with those before it
-    check(&rt, alloc, "a command between", &[&store, &unknown, &store], Some((2, Left::Part(7))), End::Output, &[&done[..7]])?;
+    check(
+        &rt,
+        alloc,
+        "a command between",
+        &[&store, &unknown, &store],
+        Some((2, Left::Part(7))),
+        End::Output,
+        &[&done[..7]],
+    )?;
     Ok(())
 }
 
@@ -151,10 +223,38 @@ fn held_records(rt: HostRuntime) -> Result<(), Fail> {
     let store = entry(0x01, 7, 0x61, 0);
     let s = store.as_slice();
     let sixteen = [s, s, s, s, s, s, s, s, s, s, s, s, s, s, s, s];
-    check(&rt, alloc, "out after 15", &sixteen, Some((15, Left::Part(9))), End::Output, &[&record(1, 7, 0)[..9]])?;
-    check(&rt, alloc, "not before", &sixteen, Some((14, Left::Untouched)), End::Input, &[
-        &record(1, 7, 0), &record(2, 7, 0), &record(3, 7, 0), &record(4, 7, 0), &record(5, 7, 0), &record(6, 7, 0), &record(7, 7, 0),
-        &record(8, 7, 0), &record(9, 7, 0), &record(10, 7, 0), &record(11, 7, 0), &record(12, 7, 0), &record(13, 7, 0), &record(14, 7, 0),
-    ])?;
+    check(
+        &rt,
+        alloc,
+        "out after 15",
+        &sixteen,
+        Some((15, Left::Part(9))),
+        End::Output,
+        &[&record(1, 7, 0)[..9]],
+    )?;
+    check(
+        &rt,
+        alloc,
+        "not before",
+        &sixteen,
+        Some((14, Left::Untouched)),
+        End::Input,
+        &[
+            &record(1, 7, 0),
+            &record(2, 7, 0),
+            &record(3, 7, 0),
+            &record(4, 7, 0),
+            &record(5, 7, 0),
+            &record(6, 7, 0),
+            &record(7, 7, 0),
+            &record(8, 7, 0),
+            &record(9, 7, 0),
+            &record(10, 7, 0),
+            &record(11, 7, 0),
+            &record(12, 7, 0),
+            &record(13, 7, 0),
+            &record(14, 7, 0),
+        ],
+    )?;
     Ok(())
 }

@@ -100,7 +100,7 @@ impl Table {
         self.put(Slot {
             used: true,
             key: request.key,
-            size: value.len() as u32,
+            size: request.size,
             front,
         });
         self.note();
