@@ -1,5 +1,5 @@
 -- A drive over a flash on which no root stands stands for no map.
-use Rattle.std.proofs.Common.{◌≡◌, ◌≢◌, ℕ, zero, suc, ◌+◌, ◌≤◌, ◌<◌, List, [], ◌∷◌, length, refl, sym, ◌∙◌, ap, subst, arith, Option, Some, None, Ok, Err, nat_le, Bool, true, false, ◌*◌}
+use Rattle.std.proofs.Common.{◌≡◌, ◌≢◌, ℕ, zero, suc, ◌≤◌, ◌<◌, List, [], ◌∷◌, length, refl, sym, ◌∙◌, ap, subst, arith, Option, Some, None, Ok, nat_le, Bool, true, false, ◌*◌}
 use Rattle.std.proofs.lemmas.Bool.Decides.{nat_tests}
 use Rattle.std.specs.List.{range_with_len}
 use Rattle.pk_base.specs.Shape.{Shape}
@@ -10,7 +10,7 @@ use Rattle.pk_rootfmt.specs.Newest.{newest_root, newest_of, newer_of, root_of}
 use Rattle.pk_nand.specs.BoardState.{BoardState}
 use Rattle.pk_nand.specs.Calls.{last_count}
 use Rattle.pk_model.specs.Reading.{reading, reading_of}
-use Rattle.pk_model.specs.Sight.{Sight, map_of}
+use Rattle.pk_model.specs.Sight.{Sight}
 use Rattle.pk_drive.specs.Drive.{Stands}
 use Rattle.pk_drive.specs.Wear.{root_number}
 use Rattle.pk_drive.specs.Meter.{reads_after}

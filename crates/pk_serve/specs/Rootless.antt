@@ -1,8 +1,7 @@
 -- A flash on which no root stands, and what is seen of a drive that keeps nothing on it.
-use Rattle.std.specs.Prelude.{◌≡◌, ℕ, [], Bool, false, Option, Some, None, replicate}
+use Rattle.std.specs.Prelude.{◌≡◌, ℕ, [], false, Option, Some, None, replicate}
 use Rattle.pk_base.specs.Shape.{Shape}
 use Rattle.pk_base.specs.Page.{Flash, page_at}
-use Rattle.pk_base.specs.Entry.{Entry}
 use Rattle.pk_rootfmt.specs.Newest.{newest_root}
 use Rattle.pk_model.specs.Sight.{Sight, Counts}
 
