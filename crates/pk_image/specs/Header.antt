@@ -1,4 +1,4 @@
--- The header of an image file: its bytes, and the first byte that is wrong.
+-- The header of an image file: its bytes, and the first field that is wrong.
 use Rattle.std.specs.Prelude.{◌≡◌, ℕ, ◌+◌, ◌*◌, List, [], ◌∷◌, Bool, ◌==◌, ◌&&◌, nat_le, if◌then◌else◌, is_ok, Option, Some}
 use Rattle.pk_base.specs.Fields.{u32, u32_at, unlike, unless, first_of, spelled, zeros}
 use Rattle.pk_base.specs.Shape.{Shape, IsShape, page_count, checked}
@@ -40,7 +40,7 @@ abbrev pub header_checks : List ℕ → ℕ → List (Option ℕ)
 header_checks bytes size =
     unlike 0 magic bytes ∷ unless 8 (is_shape (named_shape bytes)) ∷ unlike 20 (zeros 12) bytes ∷ unless 32 (has_size (named_shape bytes) size) ∷ []
 
--- The first wrong byte of a file's header. A file that is shorter than a header is wrong at its length.
+-- The first wrong field of a file's header. A file that is shorter than a header is wrong at its length.
 unfoldable pub header_fault : List ℕ → ℕ → Option ℕ
 header_fault bytes size = if nat_le 32 size then first_of (header_checks bytes size) else Some size
 

@@ -62,7 +62,7 @@ pages_in_file shape file k (suc n) = page_in_file shape file k ∷ pages_in_file
 abbrev pub flash_in_file : Shape → List ℕ → Flash
 flash_in_file shape file = pages_in_file shape file 0 (page_count shape)
 
--- ---- the first wrong byte
+-- ---- the first wrong field
 
 -- the first of these state bytes that is none, where they begin at a place
 abbrev pub bad_state : ℕ → List ℕ → Option ℕ

@@ -79,7 +79,7 @@ fn fits(bytes: &[u8], size: u64) -> bool
     }
 }
 
-/// The first wrong byte of a header, in a file of this length.
+/// The first wrong field of a header, in a file of this length.
 #[tactic(auto, unfolding(crate::specs::Header::header_fault))]
 fn checked(bytes: &[u8], size: u64) -> Result<(), Wrong>
     requires sized { length bytes.now ≡ 32 }
@@ -92,7 +92,7 @@ fn checked(bytes: &[u8], size: u64) -> Result<(), Wrong>
     passes(32, fits(bytes, size))
 }
 
-/// The shape that a header names, or the first wrong byte.
+/// The shape that a header names, or the first wrong field.
 fn shape_of(bytes: &[u8], file_len: u64) -> Result<Shape, ImageError>
     requires { length bytes.now ≡ 32 }
     ensures { MatchResult result (λ shape. (header_fault bytes.now file_len ≡ None) × (shape ≡ named_shape bytes.now)) (λ bad. header_fault bytes.now file_len ≡ Some (place_of bad)) }
@@ -117,7 +117,7 @@ pub fn read_header(bytes: &[u8; 32], file_len: u64) -> Result<Shape, ImageError>
     ensures found { IfOk result (λ shape. IsHeader shape bytes.now file_len) }
     // The header of a shape is read as this shape.
     ensures only { (shape : spec.Shape) → IsHeader shape bytes.now file_len → result ≡ Ok shape }
-    // Else the first wrong byte is named.
+    // Else the first wrong field is named.
     ensures exact { IfErr result (λ bad. header_fault bytes.now file_len ≡ Some (place_of bad)) }
 {
     shape_of(bytes, file_len)

@@ -1,5 +1,5 @@
 //! Image files: their header, the state byte of each page, and the places of both.
-//! A header is read exactly where it is one, and else refused at its first wrong byte.
+//! A header is read exactly where it is one, and else refused at its first wrong field.
 //! Two laws say that a file without a wrong byte is the image of the pages that are read of it, and of no others.
 #![tactic(auto)]
 

@@ -16,14 +16,14 @@ fn headers(rt: HostRuntime) -> Result<(), Fail> {
     assert!(rt; read_header(&bytes, size).is_ok());
     for (place, byte, at) in [
         (0usize, b'p', 0u64),
-        (7, b'2', 7),
+        (7, b'2', 0),
         (8, 1, 8),
         (12, 32, 8),
         (16, 16, 8),
         (17, 1, 32),
         (19, 1, 8),
         (20, 1, 20),
-        (31, 1, 31),
+        (31, 1, 20),
     ] {
         let mut other = bytes;
         if place < 32 {
