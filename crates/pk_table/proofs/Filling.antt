@@ -9,6 +9,7 @@ use Rattle.pk_nand.specs.BoardState.{BoardState}
 use Rattle.pk_nand.specs.Calls.{IsErased, IsReady, InOrder}
 use Rattle.pk_nand.specs.Crash.{SameOutside}
 use Rattle.pk_segfmt.specs.Stored.{page_of, IsStored}
+use Rattle.pk_segfmt.proofs.StoredLemmas.{charge_needed, charge_room, charge_some}
 use Rattle.pk_table.specs.Space.{NoRoots, IsFilled, Agrees, GoesTo}
 
 module _ (shape : Shape) (is : IsShape shape) where
@@ -76,6 +77,27 @@ module _ (shape : Shape) (is : IsShape shape) where
   limit_is : limit shape ≡ (data_blocks shape - 1) * dense shape
   unfolding limit
   limit_is = refl
+
+  -- the limit is no more than all pages
+  pub limit_most : limit shape ≤ page_count shape
+  limit_most =
+      let few = few_blocks in
+      let is_limit = limit_is in
+      let part : dense shape ≤ shape.block_pages = omega arith in
+      let blocks : (data_blocks shape - 1) * dense shape ≤ shape.blocks * dense shape = mul-le-mul_right (dense shape) (omega (arith, few)) in
+      let pages : dense shape * shape.blocks ≤ shape.block_pages * shape.blocks = mul-le-mul_right shape.blocks part in
+      omega (arith, is_limit, blocks, pages)
+
+  -- the front of a value has no more pages than the value
+  pub charge_front : (front len : ℕ) → front ≤ len → charge shape front ≤ charge shape len
+  charge_front front len short =
+      let some = charge_some shape is front in
+      let last : ℕ = charge shape front - 1 in
+      let needed : last * shape.page_bytes < 32 + front = charge_needed shape is front last (omega (arith, some)) in
+      let room : 32 + len ≤ charge shape len * shape.page_bytes = charge_room shape is len in
+      let less : last * shape.page_bytes < charge shape len * shape.page_bytes = omega (arith, needed, room, short) in
+      let fewer : last < charge shape len = lt_of_mul-lt-mul_right shape.page_bytes less in
+      omega (arith, fewer, some)
 
   -- a block that is left has more pages used than the limit counts for it, so the blocks last
   pub room_lasts : (block used spent count block' used' : ℕ) → 2 ≤ block → block < shape.blocks → (block - 2) * dense shape + used ≤ spent → spent + count ≤ limit shape

@@ -1,9 +1,13 @@
 -- What the checks that read a command alone tell where they pass, and the statuses that they give.
 use Rattle.std.proofs.Common.{◌≡◌, ◌≢◌, ◌≤◌, ℕ, Bool, true, false, ◌&&◌, nat_le, Option, Some, None, refl, sym, ◌∙◌, ap, subst, arith}
+use Rattle.std.specs.Prelude.{[], ◌-◌, ◌||◌, not, ◌==◌, is_some}
 use Rattle.std.proofs.lemmas.Bool.Decides.{nat_tests}
-use Rattle.pk_base.specs.Shape.{Shape, greatest}
+use Rattle.pk_base.specs.Shape.{Shape, greatest, charge, limit}
 use Rattle.pk_nvme.specs.Command.{Command}
+use Rattle.pk_nvme.specs.Seen.{command_of}
+use Rattle.pk_nvme.specs.declared.request.Request.{Request}
 use Rattle.pk_model.specs.Answer.{Kind, flush, store, retrieve, list, delete, exist, tick, report, kind, first_of, check, is_namespace, is_key_length, size_fault, fault_of, early}
+use Rattle.pk_table.specs.Space.{is_built}
 
 first_none : (a b : Option ℕ) → first_of a b ≡ None → (a ≡ None) × (b ≡ None)
 first_none None b e = (refl, e)
@@ -52,6 +56,14 @@ module _ (shape : Shape) (c : Command) (passed : early shape c ≡ None) where
 
   pub list_room : c.opcode ≡ 0x06 → 4 ≤ c.size
   list_room is = at_most 4 c.size (check_none _ 0x02 (first_none _ _ (first_none _ _ (of_kind 0x06 is)).1).1)
+
+-- a Store that is served has its pages left of the limit
+pub built_room : (shape : Shape) (spent : ℕ) (r : Request) → early shape (command_of r []) ≡ None → r.opcode ≡ 0x01 → is_built shape spent r ≡ true → charge shape r.size ≤ limit shape - spent
+built_room shape spent r passed is built =
+    let room : Bool = nat_le (charge shape r.size) (limit shape - spent) in
+    let T : Option ℕ → Type 0 = λ o. (is_some o || (not (r.opcode == 0x01) || room)) ≡ true in
+    let U : ℕ → Type 0 = λ n. (not (n == 0x01) || room) ≡ true in
+    at_most _ _ (subst U is (subst T passed built))
 
 -- a status of these checks is no success, and tells of no read
 pub record IsRefusal (s : ℕ) : Type 0 where

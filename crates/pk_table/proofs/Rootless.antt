@@ -1,5 +1,5 @@
 -- A flash without a root, of which no drive's map can be read.
-use Rattle.std.proofs.Common.{◌≡◌, ◌<◌, ◌+◌, ◌*◌, ℕ, zero, suc, List, [], ◌∷◌, Option, Some, None, false, nat_le, refl, sym, ◌∙◌, ap, subst, arith, zero-add}
+use Rattle.std.proofs.Common.{◌≡◌, ◌<◌, ◌≤◌, ◌+◌, ◌*◌, ℕ, zero, suc, List, [], ◌∷◌, Option, Some, None, false, nat_le, refl, sym, ◌∙◌, ap, subst, arith, zero-add}
 use Rattle.std.specs.Prelude.{Result, Ok, Err}
 use Rattle.std.specs.List.{range_with_len}
 use Rattle.pk_base.specs.Shape.{Shape}
@@ -9,11 +9,11 @@ use Rattle.pk_base.specs.Entry.{Entry}
 use Rattle.pk_base.specs.Refusal.{Refusal, not_formatted, some_or, ◌>>=◌}
 use Rattle.pk_rootfmt.specs.Root.{Root}
 use Rattle.pk_rootfmt.specs.Newest.{root_of, newer_of, newest_of, newest_root}
-use Rattle.pk_nand.specs.BoardState.{BoardState}
+use Rattle.pk_nand.specs.BoardState.{BoardState, shape_of}
 use Rattle.pk_model.specs.Reading.{reading_of}
 use Rattle.pk_model.specs.Sight.{Sight, map_of}
 use Rattle.pk_drive.specs.Drive.{Stands}
-use Rattle.pk_drive.specs.Wear.{root_number, number_of}
+use Rattle.pk_drive.specs.Wear.{root_number, number_of, roots}
 use Rattle.pk_table.specs.Space.{NoRoots, Agrees}
 
 none_newest : (shape : Shape) (at : ℕ → Page) (first n : ℕ) → ((q : ℕ) → q < first + n → at q ≡ erased) → newest_of shape at (range_with_len first n) ≡ None
@@ -58,3 +58,10 @@ pub no_stand : (own shape : Shape) (block used frames : ℕ) (board : BoardState
 no_stand own shape block used frames board drive m is stands =
     let same : own ≡ shape = some_is own shape (sym is.shape_is ∙ stands.shape_is) in
     no_reading shape board.pages drive.pending m (subst (λ (s : Shape). NoRoots s board.pages) same is.no_roots) stands.map_is
+
+-- and no root was installed
+pub few_roots : (own : Shape) (old new : BoardState) (n : ℕ) → shape_of new ≡ own → NoRoots own new.pages → roots new ≤ roots old + n
+few_roots own old new n is none =
+    let zero_roots : root_number own new.pages ≡ 0 = no_number own new.pages none in
+    let same : roots new ≡ root_number own new.pages = ap (λ (s : Shape). root_number s new.pages) is in
+    omega (arith, same, zero_roots)

@@ -51,7 +51,8 @@ pub struct TableDrive {
 
 // A success with so many bytes of data.
 fn success(data_len: u32) -> Outcome
-    ensures { result ≡ record { status = 0; result = 0; data_len = data_len; reads = 0; stopped = false } }
+    ensures value { result ≡ record { status = 0; result = 0; data_len = data_len; reads = 0; stopped = false } }
+    ensures quiet { IsQuiet result }
 {
     Outcome {
         status: 0,
@@ -64,7 +65,8 @@ fn success(data_len: u32) -> Outcome
 
 // A status alone.
 fn refusal(status: u8) -> Outcome
-    ensures { result ≡ record { status = status; result = 0; data_len = 0; reads = 0; stopped = false } }
+    ensures value { result ≡ record { status = status; result = 0; data_len = 0; reads = 0; stopped = false } }
+    ensures quiet { status ≢ 0x88 → IsQuiet result }
 {
     Outcome {
         status,
@@ -112,6 +114,7 @@ impl TableDrive {
         }
     }
 
+    // Writes a value behind those that were written, and its place into the table.
     fn write<B: Nand>(&mut self, board: &mut B, key: Key, value: &[u8]) -> Outcome
         requires agrees { Agrees self.old.shape self.old.block self.old.used (B.state board.old).shape (B.state board.old).pages }
         requires runs { self.old.stopped ≡ false }
@@ -124,6 +127,10 @@ impl TableDrive {
         ensures shape { self.new.shape ≡ self.old.shape }
         ensures no_data { result.data_len ≡ 0 }
     {
+        self.shape.known();
+        // so that the numbers of bytes and of pages are known to fit
+        let _ = self.shape.greatest();
+        let _ = self.shape.limit();
         let len = value.len() as u32;
         let count = self.shape.charge(len);
         let (block, used) = self.place_for(count);
@@ -153,6 +160,7 @@ impl TableDrive {
     }
 
     // The checks of a Store's options, and the Store.
+    #[tactic(auto, using(crate::proofs::Serving::served_quiet))]
     fn store<B: Nand>(&mut self, board: &mut B, request: &Request, value: &[u8]) -> Outcome
         requires agrees { Agrees self.old.shape self.old.block self.old.used (B.state board.old).shape (B.state board.old).pages }
         requires runs { self.old.stopped ≡ false }
@@ -177,11 +185,13 @@ impl TableDrive {
         self.write(board, key, value)
     }
 
+    // Reads the front of a value.
     fn retrieve<B: Nand>(&mut self, board: &mut B, request: &Request, into: &mut [u8]) -> Outcome
         requires agrees { Agrees self.old.shape self.old.block self.old.used (B.state board.old).shape (B.state board.old).pages }
         requires key { 1 ≤ request.now.key_len × request.now.key_len ≤ 16 }
         requires room { spec.greatest self.old.shape ≤ length into.old }
         requires counted { (B.state board.old).reads ≤ last_count }
+        requires faults { (B.state board.old).read_faults ≤ last_count }
         ensures rest { (self.new.shape ≡ self.old.shape) × (self.new.frames ≡ self.old.frames) × (self.new.block ≡ self.old.block) × (self.new.used ≡ self.old.used) × (self.new.spent ≡ self.old.spent) × (self.new.stopped ≡ self.old.stopped) }
         ensures runs { result.stopped ≡ false }
         ensures pages { (B.state board.new).pages ≡ (B.state board.old).pages }
@@ -189,6 +199,7 @@ impl TableDrive {
         ensures fits { result.data_len ≤ length into.new }
         ensures len { length into.new ≡ length into.old }
     {
+        self.shape.known();
         let key = key_of(request);
         match self.table.search(key.bytes()) {
             Ok(at) => {
@@ -219,6 +230,7 @@ impl TableDrive {
         }
     }
 
+    // Writes the keys from one on.
     fn list(&self, request: &Request, into: &mut [u8]) -> Outcome
         requires key { request.now.key_len ≤ 16 }
         requires some { 4 ≤ request.now.size }
@@ -235,6 +247,7 @@ impl TableDrive {
         ))
     }
 
+    // Takes a key out.
     fn delete(&mut self, request: &Request) -> Outcome
         requires key { 1 ≤ request.now.key_len × request.now.key_len ≤ 16 }
         ensures rest { (self.new.shape ≡ self.old.shape) × (self.new.frames ≡ self.old.frames) × (self.new.block ≡ self.old.block) × (self.new.used ≡ self.old.used) × (self.new.spent ≡ self.old.spent) × (self.new.stopped ≡ self.old.stopped) }
@@ -251,6 +264,7 @@ impl TableDrive {
         }
     }
 
+    // Whether a key is there.
     fn exist(&self, request: &Request) -> Outcome
         requires key { 1 ≤ request.now.key_len × request.now.key_len ≤ 16 }
         ensures quiet { IsQuiet result }
@@ -287,6 +301,7 @@ impl TableDrive {
         }
     }
 
+    // Writes the numbers of a Report.
     fn report(&self, into: &mut [u8]) -> Outcome
         requires room { 65536 ≤ length into.old }
         ensures quiet { IsQuiet result }
@@ -316,6 +331,7 @@ impl TableDrive {
         requires room { 65536 ≤ length into.old }
         requires room_value { spec.greatest self.old.shape ≤ length into.old }
         requires counted { (B.state board.old).reads ≤ last_count }
+        requires faults { (B.state board.old).read_faults ≤ last_count }
         ensures stops { self.new.stopped ≡ result.stopped }
         ensures agrees { result.stopped ≡ false → Agrees self.new.shape self.new.block self.new.used (B.state board.new).shape (B.state board.new).pages }
         ensures served { Served self.old.shape (B.state board.old) (B.state board.new) result }
@@ -351,7 +367,7 @@ impl Engine for TableDrive {
         value: &[u8],
         into: &mut [u8],
     ) -> Outcome {
-        // the board's count of reads is one of 64 bits
+        // so that the board's counts are known to be of 64 bits
         let _ = board.read_count();
         match early_fault(&self.shape, request) {
             Some(status) => refusal(status),
