@@ -27,7 +27,7 @@ append_same (x ∷ xs) ys (z ∷ zs) ws e f =
 length_three : (xs ys zs : List ℕ) → (length xs + length ys) + length zs ≡ length (xs ++ ys ++ zs)
 length_three xs ys zs = omega (arith, length-append (xs ++ ys) zs, length-append xs ys)
 
-length_concat : (lists : List (List ℕ)) → length (concat lists) ≡ total (map length lists)
+pub length_concat : (lists : List (List ℕ)) → length (concat lists) ≡ total (map length lists)
 length_concat [] = refl
 length_concat (list ∷ lists) = let more = length_concat lists in omega (arith, length-append list (concat lists))
 

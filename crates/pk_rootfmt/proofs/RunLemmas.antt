@@ -121,3 +121,7 @@ lengths_set (list ∷ lists) (suc i) new = ap (λ (r : List ℕ). length list �
 pub joined_set : (sizes bs : List ℕ) (i : ℕ) (new : List ℕ) → total sizes ≤ length bs → length (concat (slice_set (parts sizes bs) i new)) ≡ total (slice_set sizes i (length new))
 joined_set sizes bs i new room =
     length_concat (slice_set (parts sizes bs) i new) ∙ ap total (lengths_set (parts sizes bs) i new ∙ ap (λ (l : List ℕ). slice_set l i (length new)) (parts_lengths sizes bs room))
+
+-- a list that was written as a whole
+pub whole : (len : ℕ) (new old : List ℕ) → length new ≡ length old → length old ≡ len → take len (new ++ drop (length new) old) ≡ new
+whole len new old same sized = take_at new (drop (length new) old) len (omega arith)
