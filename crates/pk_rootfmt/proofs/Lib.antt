@@ -4,3 +4,4 @@ pub mod PageLemmas
 pub mod AgainLemmas
 pub mod LoopLemmas
 pub mod RunLemmas
+pub mod FillLemmas

@@ -134,13 +134,16 @@ older_at page j = if j == 4 then u16s_at 2 (drop 68 page) else []
 pub record Journal (page : List ℕ) (j epoch : ℕ) : Type 0 where
   pub most : j ≤ 4
   pub len : 2 + length (older_at page j) ≡ j
+  pub front : take 2 (u16s_at j (drop 64 page)) ≡ u16s_at 2 (drop 64 page)
+  pub behind : drop 2 (u16s_at j (drop 64 page)) ≡ older_at page j
+  pub even : (nat_eq j 0 || nat_eq j 2 || nat_eq j 4) ≡ true
   pub named : (s : ℕ) → u16s_at 2 (drop 64 page) ++ (older_at page j ++ u16s_at s (drop (64 + 2 * j) page)) ≡ u16s_at (j + s) (drop 64 page)
   pub older : (nat_eq j 2 || nat_le 2 epoch) ≡ true → (nat_eq (length (older_at page j)) 0 || (nat_eq (length (older_at page j)) 2 && nat_le 2 epoch)) ≡ true
 
 pub journal_is : (page : List ℕ) (j epoch : ℕ) → (nat_eq j 2 || nat_eq j 4) ≡ true → Journal page j epoch
 journal_is page j epoch e = by_test (nat_eq j 2) (Journal page j epoch)
-    (λ yes. let is : 2 ≡ j = grind (arith, nat_tests) in subst (λ (k : ℕ). Journal page k epoch) is (record { most = omega arith; len = refl; named = named_two page; older = λ t. refl }))
-    (λ no. let is : 4 ≡ j = grind (arith, nat_tests) in subst (λ (k : ℕ). Journal page k epoch) is (record { most = omega arith; len = refl; named = named_four page; older = λ t. t }))
+    (λ yes. let is : 2 ≡ j = grind (arith, nat_tests) in subst (λ (k : ℕ). Journal page k epoch) is (record { most = omega arith; len = refl; front = refl; behind = refl; even = refl; named = named_two page; older = λ t. refl }))
+    (λ no. let is : 4 ≡ j = grind (arith, nat_tests) in subst (λ (k : ℕ). Journal page k epoch) is (record { most = omega arith; len = refl; front = refl; behind = ap (u16s_at 2) (drop-drop 2 2 (drop 64 page) ∙ drop-drop 4 64 page); even = refl; named = named_four page; older = λ t. t }))
 
 pub sum_four : (a b c d : ℕ) → sum (a ∷ b ∷ c ∷ d ∷ []) ≡ a + (b + (c + d))
 sum_four a b c d = omega arith
@@ -188,7 +191,7 @@ module _ (g : Shape) (page : List ℕ) (fits : (i : ℕ) → get_or page i 0 < 2
   abbrev pub four_runs : ℕ
   four_runs = run_blocks g a + (run_blocks g b + (run_blocks g c + run_blocks g d))
 
-  journal_own : Journal page journal epoch
+  pub journal_own : Journal page journal epoch
   journal_own = journal_is page journal epoch (unless_true 18 _ one.1.1.1.1.1.0)
 
   pub runs_fit : four_runs ≤ meta_blocks g
@@ -202,7 +205,7 @@ module _ (g : Shape) (page : List ℕ) (fits : (i : ℕ) → get_or page i 0 < 2
       at_most : (x y : ℕ) → nat_le x y ≡ true → x ≤ y
       at_most x y e = grind (arith, nat_tests)
 
-  listed_is : listed g page ≡ journal + four_runs
+  pub listed_is : listed g page ≡ journal + four_runs
   unfolding listed
   listed_is = refl
 
