@@ -5,3 +5,4 @@ pub mod AgainLemmas
 pub mod LoopLemmas
 pub mod RunLemmas
 pub mod FillLemmas
+pub mod EncodeLemmas
