@@ -11,7 +11,7 @@ use Rattle.pk_rootfmt.specs.Root.{Root, named, root_bytes, root_at, root_page, i
 use Rattle.pk_rootfmt.specs.Fault.{magic, is_epoch, is_run_count, shape_checks, number_checks, list_checks, listed, blocks_fault, shape_fault, number_fault, list_fault, root_fault}
 use Rattle.pk_rootfmt.specs.Held.{total}
 use Rattle.pk_rootfmt.proofs.BlockLemmas.{both_true, length-u16s, length-numbers, numbers_again, parts_again, are_blocks, are_other, check_from_others}
-use Rattle.pk_rootfmt.proofs.RoomLemmas.{entries_small}
+use Rattle.pk_rootfmt.proofs.RoomLemmas.{page_room, runs_most, entries_small}
 use Rattle.pk_rootfmt.proofs.PageLemmas.{Parts, root_parts, by_test, bytes_same, same_bytes, rows, rows_root, Journal, journal_is, older_at, sum_four}
 
 append_same : (xs ys zs ws : List ℕ) → xs ++ ys ≡ zs ++ ws → length xs ≡ length zs → (xs ≡ zs) × (ys ≡ ws)
@@ -246,18 +246,30 @@ module _ (g : Shape) (shape : IsShape g) (number epoch : ℕ) (newest older : Li
             ∙ stands_unlike (64 + 2 * n) (zeros (g.page_bytes - (64 + 2 * n))) (drop ((64 + 2 * n) + (g.page_bytes - (64 + 2 * n))) page) page row.1.1.1.1.1.1.1.1.1.1.1.1.1.1.1.0)
           ⊕ tt)
 
+    -- the page has room for its blocks
+    pub blocks_room : 64 + 2 * j + 2 * length (concat runs) ≤ g.page_bytes
+    blocks_room =
+        let few = runs_most g a b c d shape (at_most a (cap g 1 * page_entries g) run_own.p1) (at_most b (cap g 2 * page_entries g) run_own.p2)
+        (at_most c (cap g 3 * page_entries g) run_own.p3) (at_most d (cap g 4 * page_entries g) run_own.p4) in
+        let all : length (concat runs) ≡ run_blocks g a + (run_blocks g b + (run_blocks g c + run_blocks g d)) = omega (arith, length_concat runs, ap total sizes) in
+        let most = (journal_is page j epoch journal_tests.0).most in
+        omega (arith, page_room g shape, few, all, most)
+      where
+        at_most : (x y : ℕ) → nat_le x y ≡ true → x ≤ y
+        at_most x y e = grind (arith, nat_tests)
+
     pub read : Read g page root
     read = record { front = front_read; middle = middle_read; back = back_read; value = value_read }
 
 -- four numbers
-record Four (xs : List ℕ) : Type 0 where
+pub record Four (xs : List ℕ) : Type 0 where
   pub a : ℕ
   pub b : ℕ
   pub c : ℕ
   pub d : ℕ
   pub is : xs ≡ a ∷ b ∷ c ∷ d ∷ []
 
-four : (xs : List ℕ) → length xs ≡ 4 → Four xs
+pub four : (xs : List ℕ) → length xs ≡ 4 → Four xs
 four (a ∷ b ∷ c ∷ d ∷ []) e = record { a = a; b = b; c = c; d = d; is = refl }
 four [] e = absurd (omega arith)
 four (a ∷ []) e = absurd (omega arith)
@@ -265,20 +277,34 @@ four (a ∷ b ∷ []) e = absurd (omega arith)
 four (a ∷ b ∷ c ∷ []) e = absurd (omega arith)
 four (a ∷ b ∷ c ∷ d ∷ e' ∷ es) e = absurd (omega arith)
 
--- the page of a root of the grammar is read as the root
-pub root_read : (g : Shape) (root : Root) → IsShape g → is_root g root ≡ true → Read g (root_bytes g root) root
-root_read g root shape e =
-    let h = root_parts g root e in
-    let tests = first_true (nat_eq (length root.counts) 4) (list_all (λ p. nat_le p.0 (p.1 * page_entries g)) (zip root.counts (caps g))) (bytes_eq (map length root.runs) (map (run_blocks g) root.counts)) h.runs in
-    let counts = four root.counts (grind (arith, nat_tests)) in
-    let whole : List ℕ → Root = λ (cs : List ℕ). record { number = root.number; epoch = root.epoch; newest = root.newest; older = root.older; counts = cs; runs = root.runs } in
-    let same : Parts g (whole (counts.a ∷ counts.b ∷ counts.c ∷ counts.d ∷ [])) = subst (λ (cs : List ℕ). Parts g (whole cs)) counts.is h in
-    subst (λ (cs : List ℕ). Read g (root_bytes g (whole cs)) (whole cs)) (sym counts.is)
-    (read g shape root.number root.epoch root.newest root.older counts.a counts.b counts.c counts.d root.runs same)
+-- the counts of a root of the grammar are four
+four_counts : (g : Shape) (root : Root) → Parts g root → length root.counts ≡ 4
+four_counts g root h =
+    let test = first_true (nat_eq (length root.counts) 4) (list_all (λ p. nat_le p.0 (p.1 * page_entries g)) (zip root.counts (caps g))) (bytes_eq (map length root.runs) (map (run_blocks g) root.counts)) h.runs in
+    grind (arith, nat_tests)
   where
     first_true : (p q r : Bool) → (p && q && r) ≡ true → p ≡ true
     first_true true q r t = refl
     first_true false q r t = cc
+
+-- the page of a root of the grammar is read as the root
+pub root_read : (g : Shape) (root : Root) → IsShape g → is_root g root ≡ true → Read g (root_bytes g root) root
+root_read g root shape e =
+    let h = root_parts g root e in
+    let counts = four root.counts (four_counts g root h) in
+    let whole : List ℕ → Root = λ (cs : List ℕ). record { number = root.number; epoch = root.epoch; newest = root.newest; older = root.older; counts = cs; runs = root.runs } in
+    let same : Parts g (whole (counts.a ∷ counts.b ∷ counts.c ∷ counts.d ∷ [])) = subst (λ (cs : List ℕ). Parts g (whole cs)) counts.is h in
+    subst (λ (cs : List ℕ). Read g (root_bytes g (whole cs)) (whole cs)) (sym counts.is)
+    (read g shape root.number root.epoch root.newest root.older counts.a counts.b counts.c counts.d root.runs same)
+
+-- a page has room for the blocks of a root of the grammar
+pub root_room : (g : Shape) (root : Root) → IsShape g → is_root g root ≡ true → 64 + 2 * (length root.newest + length root.older) + 2 * length (concat root.runs) ≤ g.page_bytes
+root_room g root shape e =
+    let h = root_parts g root e in
+    let counts = four root.counts (four_counts g root h) in
+    let whole : List ℕ → Root = λ (cs : List ℕ). record { number = root.number; epoch = root.epoch; newest = root.newest; older = root.older; counts = cs; runs = root.runs } in
+    let same : Parts g (whole (counts.a ∷ counts.b ∷ counts.c ∷ counts.d ∷ [])) = subst (λ (cs : List ℕ). Parts g (whole cs)) counts.is h in
+    blocks_room g shape root.number root.epoch root.newest root.older counts.a counts.b counts.c counts.d root.runs same
 
 -- so the page that it spells is its page
 pub reads_back : (g : Shape) (root : Root) → IsShape g → is_root g root ≡ true → root_page g (root_bytes g root) ≡ Some root

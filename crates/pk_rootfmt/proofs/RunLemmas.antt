@@ -1,11 +1,11 @@
 -- Runs as parts of one list, and the blocks of epochs.
 use Rattle.std.proofs.Common.{◌≡◌, ℕ, zero, suc, ◌+◌, ◌-◌, ◌*◌, ◌<◌, ◌≤◌, Bool, true, false, List, [], ◌∷◌, ◌++◌, length, take, drop, get_or, map, refl, sym, ap, subst, ◌∙◌, arith, length-append, length-drop, Option, Some, None}
-use Rattle.std.specs.Prelude.{nat_eq, ◌||◌, slice_get, slice_set, sum}
+use Rattle.std.specs.Prelude.{nat_eq, ◌&&◌, ◌||◌, if◌then◌else◌, bytes_eq, slice_get, slice_set, sum}
 use Rattle.std.specs.List.{concat}
 use Rattle.std.proofs.lemmas.Bool.Decides.{nat_tests}
 use Rattle.std.proofs.lemmas.List.{drop-drop, drop-take, take_all, take_at, drop_at, take-append-le, drop-append-le, length-take-le, append_assoc}
 use Rattle.pk_base.specs.Shape.{Shape, IsShape, meta_blocks}
-use Rattle.pk_rootfmt.specs.Root.{Root, parts, root_page}
+use Rattle.pk_rootfmt.specs.Root.{Root, parts, root_page, root_bytes, root_at, is_root}
 use Rattle.pk_rootfmt.specs.Fault.{root_fault}
 use Rattle.pk_rootfmt.specs.Held.{total, two_of, older_of}
 use Rattle.pk_rootfmt.proofs.BlockLemmas.{parts_same, parts_lengths}
@@ -63,6 +63,19 @@ page_missing g page at is wrong = by_root (root_page g page) refl
       where
         apart : Some at ≡ None → ⊥
         apart e = cc
+
+-- the root of a page is one of the grammar
+pub page_is_root : (g : Shape) (page : List ℕ) (root : Root) → root_page g page ≡ Some root → is_root g root ≡ true
+unfolding root_page
+page_is_root g page root e = by_tests (is_root g (root_at g page)) (bytes_eq page (root_bytes g (root_at g page))) refl e
+  where
+    same : (x y : Root) → Some x ≡ Some y → x ≡ y
+    same x y e = cc
+
+    by_tests : (p q : Bool) → is_root g (root_at g page) ≡ p → (if p && q then Some (root_at g page) else None) ≡ Some root → is_root g root ≡ true
+    by_tests true true is e = subst (λ (r : Root). is_root g r ≡ true) (same (root_at g page) root e) is
+    by_tests true false is e = cc
+    by_tests false q is e = cc
 
 take_front : (n m : ℕ) (xs : List ℕ) → take n (take (n + m) xs) ≡ take n xs
 take_front zero m xs = refl

@@ -149,7 +149,9 @@ impl<A: Allocator> Root<A> {
     pub fn encode(&self, into: &mut [u8])
         requires grammar { is_root self.now.shape self.now.root ≡ true }
         requires sized { length into.old ≡ self.now.shape.page_bytes }
-        ensures { into.new ≡ root_bytes self.now.shape self.now.root }
+        ensures bytes { into.new ≡ root_bytes self.now.shape self.now.root }
+        // So the page is decoded to this root again.
+        ensures again { root_page self.now.shape into.new ≡ Some self.now.root }
     {
         self.shape.known();
         let count = total(&self.sizes);
@@ -170,6 +172,7 @@ impl<A: Allocator> Root<A> {
         ensures shape { self.new.shape ≡ self.old.shape }
         // A page is decoded exactly where the definition has a root for it, to that root.
         ensures found { OnOk result (root_page self.old.shape page.now ≡ Some self.new.root) }
+        ensures grammar { OnOk result (is_root self.old.shape self.new.root ≡ true) }
         // Else the first wrong byte is named, and the root is as it was.
         ensures missing { OnErr result (root_page self.old.shape page.now ≡ None) }
         ensures exact { IfErr result (λ bad. root_fault self.old.shape page.now ≡ Some bad.at) }

@@ -2,7 +2,7 @@ use Rattle.std.proofs.Common.{◌≡◌, ap, subst, Some}
 use Rattle.pk_base.specs.Shape.{Shape, IsShape}
 use Rattle.pk_rootfmt.specs.Fault.{root_fault}
 use Rattle.pk_rootfmt.specs.Held.{Held}
-use Rattle.pk_rootfmt.proofs.RunLemmas.{page_missing}
+use Rattle.pk_rootfmt.proofs.RunLemmas.{page_missing, page_is_root}
 use Rattle.pk_rootfmt.proofs.root.Root.decode.Goals as goal
 
 pub returns-in-Err-clause-missing : goal.returns-in-Err-clause-missing
