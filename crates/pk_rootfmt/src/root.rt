@@ -172,7 +172,7 @@ impl<A: Allocator> Root<A> {
         ensures shape { self.new.shape ≡ self.old.shape }
         // A page is decoded exactly where the definition has a root for it, to that root.
         ensures found { OnOk result (root_page self.old.shape page.now ≡ Some self.new.root) }
-        ensures grammar { OnOk result (is_root self.old.shape self.new.root ≡ true) }
+        ensures grammar { OnOk result (is_root self.new.shape self.new.root ≡ true) }
         // Else the first wrong byte is named, and the root is as it was.
         ensures missing { OnErr result (root_page self.old.shape page.now ≡ None) }
         ensures exact { IfErr result (λ bad. root_fault self.old.shape page.now ≡ Some bad.at) }
