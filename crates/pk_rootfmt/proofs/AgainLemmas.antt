@@ -1,18 +1,18 @@
 -- The page of a root passes the check, and is read as the root.
-use Rattle.std.proofs.Common.{◌≡◌, ℕ, zero, suc, ◌+◌, ◌-◌, ◌*◌, ◌^◌, ◌<◌, ◌≤◌, Bool, true, false, List, [], ◌∷◌, ◌++◌, length, take, drop, get_or, map, refl, sym, ap, subst, ◌∙◌, arith, length-append, length-drop, Option, Some, None}
-use Rattle.std.specs.Prelude.{nat_eq, nat_le, nat_lt, ◌==◌, ◌&&◌, ◌||◌, if◌then◌else◌, bytes_eq, sum, zip}
-use Rattle.std.specs.List.{list_all, flat_map, concat}
+use Rattle.std.proofs.Common.{◌≡◌, ℕ, ◌+◌, ◌-◌, ◌*◌, ◌^◌, ◌<◌, ◌≤◌, Bool, true, false, List, [], ◌∷◌, ◌++◌, length, drop, map, refl, sym, ap, subst, ◌∙◌, arith, length-append, Some, None}
+use Rattle.std.specs.Prelude.{nat_eq, nat_le, nat_lt, ◌&&◌, ◌||◌, if◌then◌else◌, bytes_eq, sum, zip}
+use Rattle.std.specs.List.{list_all, concat}
 use Rattle.std.proofs.lemmas.Bool.Decides.{nat_tests}
 use Rattle.std.proofs.lemmas.List.{append_assoc, length-replicate}
-use Rattle.pk_base.specs.Fields.{u16, u32, u64, u16_at, u32_at, u64_at, number_at, spelled, zeros, unlike, unless, first_of}
+use Rattle.pk_base.specs.Fields.{u16_at, u32_at, u64_at, zeros, unlike, unless}
 use Rattle.pk_base.specs.Shape.{Shape, IsShape, page_entries, cap, caps, run_blocks}
-use Rattle.pk_base.proofs.Tables.{◌⊕◌, fields_of, first_none, true_unless, stands_unlike, stands_number, Stand, AreSized, spelled_stand}
-use Rattle.pk_rootfmt.specs.Root.{Root, named, root_bytes, root_at, root_page, is_root, u16s_at, parts}
+use Rattle.pk_base.proofs.Tables.{◌⊕◌, first_none, true_unless, stands_unlike, stands_number, Stand, AreSized, spelled_stand}
+use Rattle.pk_rootfmt.specs.Root.{Root, root_bytes, root_at, root_page, is_root, u16s_at, parts}
 use Rattle.pk_rootfmt.specs.Fault.{magic, is_epoch, is_run_count, shape_checks, number_checks, list_checks, listed, blocks_fault, shape_fault, number_fault, list_fault, root_fault}
 use Rattle.pk_rootfmt.specs.Held.{total}
-use Rattle.pk_rootfmt.proofs.BlockLemmas.{both_true, length-u16s, length-numbers, numbers_again, parts_again, are_blocks, are_other, check_from_others}
+use Rattle.pk_rootfmt.proofs.BlockLemmas.{both_true, length-numbers, numbers_again, parts_again, are_blocks, are_other, check_from_others}
 use Rattle.pk_rootfmt.proofs.RoomLemmas.{page_room, runs_most, entries_small}
-use Rattle.pk_rootfmt.proofs.PageLemmas.{Parts, root_parts, by_test, bytes_same, same_bytes, rows, rows_root, Journal, journal_is, older_at, sum_four}
+use Rattle.pk_rootfmt.proofs.PageLemmas.{Parts, root_parts, by_test, bytes_same, same_bytes, rows, rows_root, journal_is, older_at, sum_four}
 
 append_same : (xs ys zs ws : List ℕ) → xs ++ ys ≡ zs ++ ws → length xs ≡ length zs → (xs ≡ zs) × (ys ≡ ws)
 append_same [] ys [] ws e f = (refl, e)
@@ -187,7 +187,7 @@ module _ (g : Shape) (shape : IsShape g) (number epoch : ℕ) (newest older : Li
         record { newest_is = first.0; older_is = second.0; runs_is = second.1 }
 
     runs_read : parts (map (run_blocks g) (u32_at page 40 ∷ u32_at page 44 ∷ u32_at page 48 ∷ u32_at page 52 ∷ []))
-            (u16s_at (sum (map (run_blocks g) (u32_at page 40 ∷ u32_at page 44 ∷ u32_at page 48 ∷ u32_at page 52 ∷ []))) (drop (64 + 2 * u16_at page 18) page)) ≡ runs
+        (u16s_at (sum (map (run_blocks g) (u32_at page 40 ∷ u32_at page 44 ∷ u32_at page 48 ∷ u32_at page 52 ∷ []))) (drop (64 + 2 * u16_at page 18) page)) ≡ runs
     runs_read =
         ap (parts (map (run_blocks g) (u32_at page 40 ∷ u32_at page 44 ∷ u32_at page 48 ∷ u32_at page 52 ∷ []))) lists.runs_is
         ∙ ap (λ (l : List ℕ). parts l (concat runs)) (sizes_read ∙ sym sizes) ∙ parts_again runs
@@ -209,14 +209,14 @@ module _ (g : Shape) (shape : IsShape g) (number epoch : ℕ) (newest older : Li
         let block_most = shape.block_most in
         let blocks_most = shape.blocks_most in
         first_none (shape_checks g page) (
-          stands_unlike 0 magic (drop 8 page) page row.0
-          ⊕ equal_unless 8 (u16_at page 8) 1 (stands_number 2 8 1 (drop 10 page) page row.1.0 (omega arith))
-          ⊕ equal_unless 10 (u16_at page 10) g.block_pages (stands_number 2 10 g.block_pages (drop 12 page) page row.1.1.0 (omega arith))
-          ⊕ equal_unless 12 (u32_at page 12) g.page_bytes (stands_number 4 12 g.page_bytes (drop 16 page) page row.1.1.1.0 (omega arith))
-          ⊕ equal_unless 16 (u16_at page 16) g.blocks (stands_number 2 16 g.blocks (drop 18 page) page row.1.1.1.1.0 (omega arith))
-          ⊕ true_unless 18 _ (ap (λ (x : ℕ). nat_eq x 2 || nat_eq x 4) journal_read ∙ journal_tests.0)
-          ⊕ stands_unlike 20 (zeros 4) (drop 24 page) page row.1.1.1.1.1.1.0
-          ⊕ tt)
+        stands_unlike 0 magic (drop 8 page) page row.0
+        ⊕ equal_unless 8 (u16_at page 8) 1 (stands_number 2 8 1 (drop 10 page) page row.1.0 (omega arith))
+        ⊕ equal_unless 10 (u16_at page 10) g.block_pages (stands_number 2 10 g.block_pages (drop 12 page) page row.1.1.0 (omega arith))
+        ⊕ equal_unless 12 (u32_at page 12) g.page_bytes (stands_number 4 12 g.page_bytes (drop 16 page) page row.1.1.1.0 (omega arith))
+        ⊕ equal_unless 16 (u16_at page 16) g.blocks (stands_number 2 16 g.blocks (drop 18 page) page row.1.1.1.1.0 (omega arith))
+        ⊕ true_unless 18 _ (ap (λ (x : ℕ). nat_eq x 2 || nat_eq x 4) journal_read ∙ journal_tests.0)
+        ⊕ stands_unlike 20 (zeros 4) (drop 24 page) page row.1.1.1.1.1.1.0
+        ⊕ tt)
       where
         equal_unless : (at x y : ℕ) → x ≡ y → unless at (nat_eq x y) ≡ None
         equal_unless at x y e = let t : nat_eq x y ≡ true = grind (arith, nat_tests) in true_unless at _ t
@@ -227,24 +227,24 @@ module _ (g : Shape) (shape : IsShape g) (number epoch : ℕ) (newest older : Li
         let some = (both_true (nat_le 1 number) (nat_lt number (2 ^ 64)) h.number).0 in
         let epochs : is_epoch j number epoch ≡ true = rw (h.some, h.most, journal_tests.1) refl in
         first_none (number_checks g page) (
-          true_unless 24 _ (ap (nat_le 1) number_read ∙ some)
-          ⊕ true_unless 32 _ (ap (λ (x : ℕ). is_epoch x (u64_at page 24) (u64_at page 32)) journal_read ∙ ap (λ (x : ℕ). is_epoch j x (u64_at page 32)) number_read ∙ ap (is_epoch j number) epoch_read ∙ epochs)
-          ⊕ true_unless 40 _ (ap (is_run_count g 1) a_read ∙ run_own.p1)
-          ⊕ true_unless 44 _ (ap (is_run_count g 2) b_read ∙ run_own.p2)
-          ⊕ true_unless 48 _ (ap (is_run_count g 3) c_read ∙ run_own.p3)
-          ⊕ true_unless 52 _ (ap (is_run_count g 4) d_read ∙ run_own.p4)
-          ⊕ stands_unlike 56 (zeros 8) (drop 64 page) page row.1.1.1.1.1.1.1.1.1.1.1.1.1.0
-          ⊕ tt)
+        true_unless 24 _ (ap (nat_le 1) number_read ∙ some)
+        ⊕ true_unless 32 _ (ap (λ (x : ℕ). is_epoch x (u64_at page 24) (u64_at page 32)) journal_read ∙ ap (λ (x : ℕ). is_epoch j x (u64_at page 32)) number_read ∙ ap (is_epoch j number) epoch_read ∙ epochs)
+        ⊕ true_unless 40 _ (ap (is_run_count g 1) a_read ∙ run_own.p1)
+        ⊕ true_unless 44 _ (ap (is_run_count g 2) b_read ∙ run_own.p2)
+        ⊕ true_unless 48 _ (ap (is_run_count g 3) c_read ∙ run_own.p3)
+        ⊕ true_unless 52 _ (ap (is_run_count g 4) d_read ∙ run_own.p4)
+        ⊕ stands_unlike 56 (zeros 8) (drop 64 page) page row.1.1.1.1.1.1.1.1.1.1.1.1.1.0
+        ⊕ tt)
 
     back_read : list_fault g page ≡ None
     unfolding list_fault
     back_read =
         first_none (list_checks g page) (
-          (ap (λ (x : ℕ). blocks_fault g 64 [] (u16s_at x (drop 64 page))) listed_read ∙ ap (blocks_fault g 64 []) blocks_read
-            ∙ check_from_others g 64 [] blocks (record { blocks = h.blocks; differs = h.differs; others = none_before blocks }))
-          ⊕ (ap (λ (x : ℕ). unlike (64 + 2 * x) (zeros (g.page_bytes - (64 + 2 * x))) page) listed_read
-            ∙ stands_unlike (64 + 2 * n) (zeros (g.page_bytes - (64 + 2 * n))) (drop ((64 + 2 * n) + (g.page_bytes - (64 + 2 * n))) page) page row.1.1.1.1.1.1.1.1.1.1.1.1.1.1.1.0)
-          ⊕ tt)
+        (ap (λ (x : ℕ). blocks_fault g 64 [] (u16s_at x (drop 64 page))) listed_read ∙ ap (blocks_fault g 64 []) blocks_read
+        ∙ check_from_others g 64 [] blocks (record { blocks = h.blocks; differs = h.differs; others = none_before blocks }))
+        ⊕ (ap (λ (x : ℕ). unlike (64 + 2 * x) (zeros (g.page_bytes - (64 + 2 * x))) page) listed_read
+        ∙ stands_unlike (64 + 2 * n) (zeros (g.page_bytes - (64 + 2 * n))) (drop ((64 + 2 * n) + (g.page_bytes - (64 + 2 * n))) page) page row.1.1.1.1.1.1.1.1.1.1.1.1.1.1.1.0)
+        ⊕ tt)
 
     -- the page has room for its blocks
     pub blocks_room : 64 + 2 * j + 2 * length (concat runs) ≤ g.page_bytes
@@ -326,7 +326,7 @@ page_root g page root shape e =
     let own = root_read g (root_at g page) shape tests.0 in
     let same : page ≡ root_bytes g (root_at g page) = same_bytes page (root_bytes g (root_at g page)) tests.1 in
     first_none (shape_fault g page ∷ number_fault g page ∷ list_fault g page ∷ []) (
-      (ap (shape_fault g) same ∙ own.front) ⊕ (ap (number_fault g) same ∙ own.middle) ⊕ (ap (list_fault g) same ∙ own.back) ⊕ tt)
+    (ap (shape_fault g) same ∙ own.front) ⊕ (ap (number_fault g) same ∙ own.middle) ⊕ (ap (list_fault g) same ∙ own.back) ⊕ tt)
   where
     some_tests : (p q : Bool) → (if p && q then Some (root_at g page) else None) ≡ Some root → (p ≡ true) × (q ≡ true)
     some_tests true true e = (refl, refl)

@@ -17,7 +17,7 @@ flat_append (x ∷ xs) ys = ap (λ (r : List ℕ). u16 x ++ r) (flat_append xs y
 
 pub encoded : (g : Shape) (number epoch : ℕ) (newest older : List ℕ) (a b c d : ℕ) (runs : List (List ℕ))
     → spelled (magic ∷ u16 1 ∷ u16 g.block_pages ∷ u32 g.page_bytes ∷ u16 g.blocks ∷ u16 (length (newest ++ older)) ∷ zeros 4 ∷ u64 number ∷ u64 epoch ∷ flat_map u32 (a ∷ b ∷ c ∷ d ∷ []) ∷ zeros 8 ∷ [])
-        ++ flat_map u16 (newest ++ older) ++ flat_map u16 (concat runs) ++ zeros (g.page_bytes - (64 + 2 * length (newest ++ older) + 2 * length (concat runs)))
+    ++ flat_map u16 (newest ++ older) ++ flat_map u16 (concat runs) ++ zeros (g.page_bytes - (64 + 2 * length (newest ++ older) + 2 * length (concat runs)))
     ≡ root_bytes g (record { number = number; epoch = epoch; newest = newest; older = older; counts = a ∷ b ∷ c ∷ d ∷ []; runs = runs })
 encoded g number epoch newest older a b c d runs =
     let e : List ℕ = newest ++ older in

@@ -1,11 +1,11 @@
 -- What is read of a page that passes is its root.
-use Rattle.std.proofs.Common.{◌≡◌, ℕ, ◌+◌, ◌*◌, ◌<◌, ◌≤◌, true, List, [], ◌∷◌, length, take, drop, get_or, map, refl, sym, ap, ◌∙◌, arith, Some, None}
-use Rattle.std.specs.Prelude.{nat_eq, ◌||◌, sum}
+use Rattle.std.proofs.Common.{◌≡◌, ℕ, ◌+◌, ◌*◌, ◌<◌, ◌≤◌, List, [], ◌∷◌, length, take, drop, get_or, map, sym, ap, ◌∙◌, arith, Some, None}
+use Rattle.std.specs.Prelude.{sum}
 use Rattle.std.proofs.lemmas.List.{take_all}
 use Rattle.pk_base.specs.Fields.{u16_at, u32_at, u64_at}
 use Rattle.pk_base.specs.Shape.{Shape, IsShape, run_blocks, meta_blocks}
 use Rattle.pk_base.proofs.Tables.{all_none}
-use Rattle.pk_rootfmt.specs.Root.{Root, root_at, root_page, u16s_at, parts}
+use Rattle.pk_rootfmt.specs.Root.{root_page, u16s_at, parts}
 use Rattle.pk_rootfmt.specs.Fault.{shape_fault, number_fault, list_fault, root_fault}
 use Rattle.pk_rootfmt.specs.Held.{total}
 use Rattle.pk_rootfmt.proofs.BlockLemmas.{length-u16s, parts_same}

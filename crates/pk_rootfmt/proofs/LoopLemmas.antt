@@ -1,11 +1,10 @@
 -- Steps of the loops over block numbers.
-use Rattle.std.proofs.Common.{◌≡◌, ℕ, zero, suc, ◌+◌, ◌-◌, ◌*◌, ◌<◌, ◌≤◌, Bool, true, false, List, [], ◌∷◌, ◌++◌, length, take, drop, get_or, refl, sym, ap, ◌∙◌, arith, Option, Some, None}
-use Rattle.std.specs.Prelude.{nat_eq, ◌==◌, ◌||◌, not, slice_set}
-use Rattle.std.specs.List.{list_any, flat_map}
+use Rattle.std.proofs.Common.{◌≡◌, ℕ, zero, suc, ◌+◌, ◌-◌, ◌*◌, ◌<◌, Bool, true, false, List, [], ◌∷◌, ◌++◌, length, take, drop, refl, sym, ap, ◌∙◌, arith, Option, Some, None}
+use Rattle.std.specs.Prelude.{nat_eq, ◌==◌, slice_set}
+use Rattle.std.specs.List.{list_any}
 use Rattle.std.proofs.lemmas.Bool.Decides.{nat_tests}
-use Rattle.std.proofs.lemmas.List.{drop-drop, flat_map_more, take_more}
-use Rattle.std.proofs.Math.Seq.{take-suc-set}
-use Rattle.pk_base.specs.Fields.{u16, u16_at, unless, first_of}
+use Rattle.std.proofs.lemmas.List.{drop-drop}
+use Rattle.pk_base.specs.Fields.{u16_at, unless, first_of}
 use Rattle.pk_base.specs.Shape.{Shape}
 use Rattle.pk_rootfmt.specs.Root.{u16s_at}
 use Rattle.pk_rootfmt.specs.Fault.{is_other_block, blocks_fault}

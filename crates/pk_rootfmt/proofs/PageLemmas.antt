@@ -1,19 +1,18 @@
 -- The check of a page passes exactly the pages of roots.
-use Rattle.std.proofs.Common.{◌≡◌, ℕ, zero, suc, ◌+◌, ◌-◌, ◌*◌, ◌^◌, ◌<◌, ◌≤◌, Bool, true, false, List, [], ◌∷◌, ◌++◌, length, take, drop, get_or, map, refl, sym, ap, subst, ◌∙◌, arith, length-append, length-drop, get_or-drop, Option, Some, None, T}
-use Rattle.std.specs.Prelude.{nat_eq, nat_le, nat_lt, ◌==◌, ◌&&◌, ◌||◌, if◌then◌else◌, bytes_eq, sum, zip, codes}
-use Rattle.std.specs.List.{list_all, flat_map, concat}
+use Rattle.std.proofs.Common.{◌≡◌, ℕ, ◌+◌, ◌-◌, ◌*◌, ◌^◌, ◌<◌, ◌≤◌, Bool, true, false, List, [], ◌∷◌, ◌++◌, length, take, drop, get_or, map, refl, sym, ap, subst, ◌∙◌, arith, length-drop, get_or-drop, Some, None, T}
+use Rattle.std.specs.Prelude.{nat_eq, nat_le, ◌==◌, ◌&&◌, ◌||◌, if◌then◌else◌, bytes_eq, sum}
+use Rattle.std.specs.List.{flat_map, concat}
 use Rattle.std.proofs.Math.Dec.{eqb_refl}
 use Rattle.std.proofs.lemmas.Bool.Decides.{nat_tests}
-use Rattle.std.proofs.lemmas.Slice.Eq.{bytes_eq-Decides}
-use Rattle.std.proofs.lemmas.List.{drop_all, drop-drop, take_at, drop_at, length-replicate, append-nil, append_assoc}
-use Rattle.pk_base.specs.Fields.{u16, u32, u64, u16_at, u32_at, u64_at, number_at, padded, spelled, zeros, unless, first_of}
-use Rattle.pk_base.specs.Shape.{Shape, IsShape, page_entries, caps, cap, run_blocks, meta_blocks}
-use Rattle.pk_base.proofs.Tables.{◌⊕◌, fields_of, AllNone, all_none, first_none, unless_true, true_unless, unlike_stands, stands_unlike, number_stands, stands_number, number_fits, Stand, AreSized, stand_spelled, spelled_stand}
+use Rattle.std.proofs.lemmas.List.{drop_all, drop-drop, length-replicate, append-nil}
+use Rattle.pk_base.specs.Fields.{u16, u32, u64, u16_at, u32_at, u64_at, spelled, zeros}
+use Rattle.pk_base.specs.Shape.{Shape, IsShape, run_blocks, meta_blocks}
+use Rattle.pk_base.proofs.Tables.{◌⊕◌, fields_of, AllNone, all_none, unless_true, unlike_stands, number_stands, number_fits, Stand, stand_spelled}
 use Rattle.pk_rootfmt.specs.Root.{Root, named, root_bytes, root_at, root_page, is_root, is_number, has_runs, differ, u16s_at, parts}
-use Rattle.pk_rootfmt.specs.Fault.{magic, is_epoch, is_run_count, shape_checks, number_checks, list_checks, listed, blocks_fault, shape_fault, number_fault, list_fault, root_fault}
+use Rattle.pk_rootfmt.specs.Fault.{magic, is_epoch, is_run_count, shape_checks, number_checks, list_checks, listed, shape_fault, number_fault, list_fault}
 use Rattle.pk_rootfmt.specs.Held.{total}
-use Rattle.pk_rootfmt.proofs.BlockLemmas.{both_true, length-u16s, length-numbers, numbers_stand, numbers_again, numbers_split, parts_lengths, parts_joined, parts_again, are_blocks, Others, others_from_check, check_from_others}
-use Rattle.pk_rootfmt.proofs.RoomLemmas.{page_room, runs_most, entries_small}
+use Rattle.pk_rootfmt.proofs.BlockLemmas.{both_true, length-u16s, length-numbers, numbers_stand, numbers_split, parts_lengths, parts_joined, are_blocks, Others, others_from_check}
+use Rattle.pk_rootfmt.proofs.RoomLemmas.{page_room, runs_most}
 
 -- ---- tests, one behind another
 
@@ -283,11 +282,13 @@ module _ (g : Shape) (page : List ℕ) (fits : (i : ℕ) → get_or page i 0 < 2
       where
         number_test : (n : ℕ) → nat_le 1 n ≡ true → n < 256 ^ 8 → is_number n ≡ true
         number_test n e f = grind (arith, nat_tests)
+
         split : (p q r : Bool) → (p && q && r) ≡ true → (p ≡ true) × (q ≡ true) × (r ≡ true)
         split true true true e = (refl, refl, refl)
         split true true false e = cc
         split true false r e = cc
         split false q r e = cc
+
         epoch_tests : (j n e : ℕ) → is_epoch j n e ≡ true → (nat_le 1 e ≡ true) × (nat_le e n ≡ true) × ((nat_eq j 2 || nat_le 2 e) ≡ true)
         epoch_tests j n e t = split (nat_le 1 e) (nat_le e n) (nat_eq j 2 || nat_le 2 e) t
 

@@ -1,9 +1,9 @@
 -- Runs as parts of one list, and the blocks of epochs.
-use Rattle.std.proofs.Common.{◌≡◌, ℕ, zero, suc, ◌+◌, ◌-◌, ◌*◌, ◌<◌, ◌≤◌, Bool, true, false, List, [], ◌∷◌, ◌++◌, length, take, drop, get_or, map, refl, sym, ap, subst, ◌∙◌, arith, length-append, length-drop, Option, Some, None}
-use Rattle.std.specs.Prelude.{nat_eq, ◌&&◌, ◌||◌, if◌then◌else◌, bytes_eq, slice_get, slice_set, sum}
+use Rattle.std.proofs.Common.{◌≡◌, ℕ, zero, suc, ◌+◌, ◌<◌, ◌≤◌, Bool, true, false, List, [], ◌∷◌, ◌++◌, length, take, drop, get_or, map, refl, sym, ap, subst, ◌∙◌, arith, length-drop, Option, Some, None}
+use Rattle.std.specs.Prelude.{nat_eq, ◌&&◌, ◌||◌, if◌then◌else◌, bytes_eq, slice_get, slice_set}
 use Rattle.std.specs.List.{concat}
 use Rattle.std.proofs.lemmas.Bool.Decides.{nat_tests}
-use Rattle.std.proofs.lemmas.List.{drop-drop, drop-take, take_all, take_at, drop_at, take-append-le, drop-append-le, length-take-le, append_assoc}
+use Rattle.std.proofs.lemmas.List.{drop-drop, drop-take, take_at, drop_at, take-append-le, drop-append-le, length-take-le}
 use Rattle.pk_base.specs.Shape.{Shape, IsShape, meta_blocks}
 use Rattle.pk_rootfmt.specs.Root.{Root, parts, root_page, root_bytes, root_at, is_root}
 use Rattle.pk_rootfmt.specs.Fault.{root_fault}

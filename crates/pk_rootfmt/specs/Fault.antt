@@ -1,5 +1,5 @@
 -- The first wrong byte of a root page.
-use Rattle.std.specs.Prelude.{ℕ, ◌+◌, ◌-◌, ◌*◌, List, [], ◌∷◌, ◌++◌, drop, sum, Bool, ◌&&◌, ◌||◌, not, ◌==◌, nat_le, nat_lt, Option, Some, None}
+use Rattle.std.specs.Prelude.{ℕ, ◌+◌, ◌-◌, ◌*◌, List, [], ◌∷◌, ◌++◌, drop, Bool, ◌&&◌, ◌||◌, not, ◌==◌, nat_le, nat_lt, Option, None}
 use Rattle.std.specs.List.{list_any}
 use Rattle.pk_base.specs.Fields.{u16_at, u32_at, u64_at, unlike, unless, first_of, zeros}
 use Rattle.pk_base.specs.Shape.{Shape, page_entries, cap, run_blocks}

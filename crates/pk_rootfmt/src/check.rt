@@ -39,8 +39,10 @@ fn listed(shape: &Shape, page: &[u8]) -> usize
     requires { 64 ≤ length page.now }
     ensures { result ≡ listed_of shape.now page.now }
 {
-    let deep = run_size(shape, get_u32(page, 48)) as usize + run_size(shape, get_u32(page, 52)) as usize;
-    let runs = run_size(shape, get_u32(page, 40)) as usize + (run_size(shape, get_u32(page, 44)) as usize + deep);
+    let deep = run_size(shape, get_u32(page, 48)) as usize
+        + run_size(shape, get_u32(page, 52)) as usize;
+    let runs = run_size(shape, get_u32(page, 40)) as usize
+        + (run_size(shape, get_u32(page, 44)) as usize + deep);
     get_u16(page, 18) as usize + runs
 }
 

@@ -23,7 +23,14 @@ fn put_counts(into: &mut [u8], entries: &[u32; 4])
 }
 
 /// Writes what stands before the blocks.
-pub(crate) fn put_numbers(shape: &Shape, journal: u16, number: u64, epoch: u64, entries: &[u32; 4], into: &mut [u8])
+pub(crate) fn put_numbers(
+    shape: &Shape,
+    journal: u16,
+    number: u64,
+    epoch: u64,
+    entries: &[u32; 4],
+    into: &mut [u8],
+)
     requires { 64 ≤ length into.old }
     ensures front { take 64 into.new ≡ spelled (magic ∷ two_bytes 1 ∷ two_bytes shape.now.block_pages ∷ four_bytes shape.now.page_bytes ∷ two_bytes shape.now.blocks ∷ two_bytes journal ∷ zeros_of 4 ∷ eight_bytes number ∷ eight_bytes epoch ∷ flat_map four_bytes entries.now ∷ zeros_of 8 ∷ []) }
     ensures len { length into.new ≡ length into.old }
@@ -43,7 +50,15 @@ pub(crate) fn put_numbers(shape: &Shape, journal: u16, number: u64, epoch: u64, 
 }
 
 /// Writes a page with these numbers, the blocks of the epochs and those of the runs.
-pub(crate) fn put_page(shape: &Shape, epochs: &[u16], number: u64, epoch: u64, entries: &[u32; 4], runs: &[u16], into: &mut [u8])
+pub(crate) fn put_page(
+    shape: &Shape,
+    epochs: &[u16],
+    number: u64,
+    epoch: u64,
+    entries: &[u32; 4],
+    runs: &[u16],
+    into: &mut [u8],
+)
     requires small { length epochs.now ≤ 4 }
     requires fits { 64 + 2 * length epochs.now + 2 * length runs.now ≤ length into.old }
     ensures { into.new ≡ spelled (magic ∷ two_bytes 1 ∷ two_bytes shape.now.block_pages ∷ four_bytes shape.now.page_bytes ∷ two_bytes shape.now.blocks ∷ two_bytes (length epochs.now) ∷ zeros_of 4 ∷ eight_bytes number ∷ eight_bytes epoch ∷ flat_map four_bytes entries.now ∷ zeros_of 8 ∷ []) ++ flat_map two_bytes epochs.now ++ flat_map two_bytes runs.now ++ zeros_of (length into.old - (64 + 2 * length epochs.now + 2 * length runs.now)) }

@@ -196,7 +196,12 @@ impl<A: Allocator> Root<A> {
         ensures root { root_page self.old.shape page.now ≡ Some self.new.root }
     {
         self.shape.known();
-        let entries = [get_u32(page, 40), get_u32(page, 44), get_u32(page, 48), get_u32(page, 52)];
+        let entries = [
+            get_u32(page, 40),
+            get_u32(page, 44),
+            get_u32(page, 48),
+            get_u32(page, 52),
+        ];
         let sizes = sizes_of(&self.shape, &entries);
         let journal = get_u16(page, 18) as usize;
         read_blocks(page, 64, journal, &mut self.epochs);

@@ -7,7 +7,8 @@ use std::test::*;
 fn first_page() -> [u8; 512] {
     let mut page = [0u8; 512];
     page[..28].copy_from_slice(&[
-        0x50, 0x49, 0x4e, 0x4b, 0x52, 0x4f, 0x4f, 0x54, 1, 0, 16, 0, 0, 2, 0, 0, 64, 0, 2, 0, 0, 0, 0, 0, 1, 0, 0, 0,
+        0x50, 0x49, 0x4e, 0x4b, 0x52, 0x4f, 0x4f, 0x54, 1, 0, 16, 0, 0, 2, 0, 0, 64, 0, 2, 0, 0, 0,
+        0, 0, 1, 0, 0, 0,
     ]);
     page[32] = 1;
     page[64..68].copy_from_slice(&[2, 0, 3, 0]);
@@ -35,7 +36,11 @@ fn changed(page: [u8; 512], place: u16, byte: u8) -> [u8; 512] {
 }
 
 /// The first wrong byte of a page of this shape; none where it is read as a root.
-fn wrong_byte<A: Allocator + Clone>(alloc: A, shape: &Shape, page: &[u8]) -> Result<Option<u32>, AllocError> {
+fn wrong_byte<A: Allocator + Clone>(
+    alloc: A,
+    shape: &Shape,
+    page: &[u8],
+) -> Result<Option<u32>, AllocError> {
     let mut root = Root::new(alloc, *shape)?;
     if page.len() != shape.page_bytes() as usize {
         return Ok(None);
@@ -89,7 +94,7 @@ fn later_root(rt: HostRuntime) -> Result<(), Fail> {
     assert_eq!(rt; root.older(), Some([2, 3]));
     assert_eq!(rt; root.entries(1), 20);
     assert_eq!(rt; root.entries(2), 0);
-    assert!(rt; root.blocks(1) == [9]);
+    assert!(rt; root.blocks(1) == [9u16].as_slice());
     Ok(())
 }
 
@@ -110,8 +115,8 @@ fn parts_set(rt: HostRuntime) -> Result<(), Fail> {
     assert_eq!(rt; root.newest(), [7, 8]);
     assert_eq!(rt; root.older(), Some([5, 6]));
     assert_eq!(rt; root.entries(3), 300);
-    assert!(rt; root.blocks(1) == [9]);
-    assert!(rt; root.blocks(3) == [10, 11]);
+    assert!(rt; root.blocks(1) == [9u16].as_slice());
+    assert!(rt; root.blocks(3) == [10u16, 11].as_slice());
     root.set_epochs(5, [7, 8], None);
     assert!(rt; root.older().is_none());
     Ok(())

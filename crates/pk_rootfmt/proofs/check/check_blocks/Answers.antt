@@ -1,4 +1,4 @@
-use Rattle.std.proofs.Common.{◌≡◌, ◌+◌, ◌*◌, ◌∙◌, Bool, true, false, drop, ap, sym, arith}
+use Rattle.std.proofs.Common.{◌∙◌, drop, ap, sym, arith}
 use Rattle.pk_rootfmt.specs.Root.{u16s_at}
 use Rattle.pk_rootfmt.specs.Fault.{is_other_block}
 use Rattle.pk_rootfmt.proofs.LoopLemmas.{fault_stop, fault_more}

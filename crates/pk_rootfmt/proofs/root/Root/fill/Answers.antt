@@ -1,6 +1,6 @@
-use Rattle.std.proofs.Common.{◌≡◌, ◌∙◌, ◌+◌, ◌*◌, ◌<◌, ◌≤◌, ◌∷◌, [], List, ℕ, map, ap, sym, subst, arith, length, take, drop, get_or, refl, Some}
+use Rattle.std.proofs.Common.{◌≡◌, ◌∙◌, ◌+◌, ◌*◌, ◌<◌, ◌∷◌, [], List, ℕ, map, ap, sym, subst, arith, length, take, drop, get_or, refl, Some}
 use Rattle.pk_base.specs.Shape.{Shape, IsShape, run_blocks, meta_blocks}
-use Rattle.pk_rootfmt.specs.Root.{Root, parts, u16s_at}
+use Rattle.pk_rootfmt.specs.Root.{parts, u16s_at}
 use Rattle.pk_rootfmt.specs.Held.{Held, total}
 use Rattle.pk_rootfmt.proofs.RunLemmas.{total_small, whole}
 use Rattle.pk_rootfmt.proofs.FillLemmas.{sizes_at, journal_facts, sizes_fit, sizes_room, filled}

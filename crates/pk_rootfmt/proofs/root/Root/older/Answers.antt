@@ -1,4 +1,4 @@
-use Rattle.std.proofs.Common.{◌≡◌, ◌∙◌, ap, sym, List, ℕ}
+use Rattle.std.proofs.Common.{◌∙◌, ap}
 use Rattle.pk_rootfmt.specs.Held.{Held, older_of}
 use Rattle.pk_rootfmt.proofs.RunLemmas.{older_none}
 use Rattle.pk_rootfmt.proofs.root.Root.older.Goals as goal
