@@ -1,5 +1,5 @@
 -- Where nothing fails, the whole script is served.
-use Rattle.std.proofs.Common.{◌≡◌, ◌≢◌, ◌⊎◌, inl, inr, ℕ, zero, suc, ◌+◌, ◌-◌, ◌*◌, ◌≤◌, ◌<◌, List, [], ◌∷◌, ◌++◌, length, refl, sym, ◌∙◌, ap, subst, arith, append-nil, length-append, Option, Some, None, Bool, true, false, ◌==◌, if◌then◌else◌, nat_le, Ok}
+use Rattle.std.proofs.Common.{◌≡◌, ◌≢◌, ◌⊎◌, inl, inr, ℕ, zero, suc, ◌+◌, ◌-◌, ◌*◌, ◌≤◌, ◌<◌, List, [], ◌∷◌, ◌++◌, length, refl, sym, ◌∙◌, ap, subst, arith, length-append, Some, None, Bool, true, false, ◌==◌, if◌then◌else◌, nat_le, Ok}
 use Rattle.std.proofs.lemmas.Bool.Decides.{nat_tests}
 use Rattle.std.specs.List.{FoldsTo}
 use Rattle.pk_base.specs.Shape.{Shape, limit}
@@ -9,19 +9,18 @@ use Rattle.pk_nvme.specs.Reply.{Reply}
 use Rattle.pk_nvme.specs.declared.request.Request.{Request}
 use Rattle.pk_nand.specs.BoardState.{BoardState}
 use Rattle.pk_nand.specs.Calls.{Rose, last_count}
-use Rattle.pk_model.specs.Answer.{Answer, kind, retrieve, map_after}
+use Rattle.pk_model.specs.Answer.{Answer, kind, retrieve}
 use Rattle.pk_model.specs.Bounds.{most_reads}
-use Rattle.pk_model.specs.Run.{Exchange, Step, RunWithin, commands, faults, map_after_all}
+use Rattle.pk_model.specs.Run.{Exchange, Step, commands, faults, map_after_all}
 use Rattle.pk_model.specs.Reading.{reading}
-use Rattle.pk_model.specs.Script.{script, commands_in, begins_whole, value_size}
+use Rattle.pk_model.specs.Script.{script, commands_in, begins_whole}
 use Rattle.pk_model.specs.Kept.{AtMost}
 use Rattle.pk_model.specs.Sight.{Sight}
-use Rattle.pk_drive.specs.Drive.{Stands}
 use Rattle.pk_drive.specs.Exec.{most_installs}
 use Rattle.pk_drive.specs.Wear.{is_worn, roots}
 use Rattle.pk_serve.specs.Serving.{rise, installs}
-use Rattle.pk_serve.specs.Run.{Served, ServedBy, Answers, Unbuilt, most_entries}
-use Rattle.pk_serve.specs.Complete.{ticks, NoneRose, Complete, IsServable, Completes}
+use Rattle.pk_serve.specs.Run.{Served, Unbuilt}
+use Rattle.pk_serve.specs.Complete.{ticks, Complete, IsServable, Completes}
 use Rattle.pk_serve.specs.declared.end.End.{End}
 use Rattle.pk_serve.specs.declared.end.End.TheVariants.{Done, Truncated, Input, Output, Flash, Worn, NotBuilt}
 use Rattle.pk_serve.proofs.Counting.{faults-one}

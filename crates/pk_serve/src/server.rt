@@ -59,7 +59,7 @@ impl Server {
         ensures kept_untold { KeepsSome (B.state board.old) (B.state board.new) (D.sight drive.old) }
         ensures served { Answers (B.state board.old) (B.state board.new) (D.sight drive.old) (Unbuilt D D.sight D.built) result }
         ensures causes { Causes (B.state board.old) (B.state board.new) (D.sight drive.old) (Unbuilt D D.sight D.built) result }
-    ensures complete { Completes D D.built (B.state board.old) (B.state board.new) (D.sight drive.old) result }
+        ensures complete { Completes D D.built (B.state board.old) (B.state board.new) (D.sight drive.old) result }
     {
         self.held.clear();
         serve_script(
