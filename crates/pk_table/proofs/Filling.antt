@@ -141,7 +141,7 @@ module _ (shape : Shape) (is : IsShape shape) where
   place_in block used less =
       let quot : (block * shape.block_pages + used) / shape.block_pages ≡ block = div-mul-add block shape.block_pages used less in
       let all : (block * shape.block_pages + used) / shape.block_pages * shape.block_pages + (block * shape.block_pages + used) % shape.block_pages ≡ block * shape.block_pages + used
-          = div-add-mod' (block * shape.block_pages + used) shape.block_pages in
+      = div-add-mod' (block * shape.block_pages + used) shape.block_pages in
       let P : ℕ → Type 0 = λ b. b * shape.block_pages + (block * shape.block_pages + used) % shape.block_pages ≡ block * shape.block_pages + used in
       let all' = subst P quot all in
       omega (arith, all')
@@ -176,9 +176,9 @@ module _ (shape : Shape) (is : IsShape shape) where
         before = λ q from to e. elim (cases_lt q page) [
           | inl low ↦ filled.before q from low (sym (same.below q low) ∙ e)
           | inr high ↦ (let within : q - page < count = omega (arith, to, high) in
-            let at : page + (q - page) ≡ q = omega (arith, high) in
-            let P : ℕ → Type 0 = λ k. page_at new k ≡ whole (page_of shape key value (q - page)) in
-            whole_not (page_of shape key value (q - page)) (sym (subst P at (stored (q - page) within)) ∙ e))
+              let at : page + (q - page) ≡ q = omega (arith, high) in
+              let P : ℕ → Type 0 = λ k. page_at new k ≡ whole (page_of shape key value (q - page)) in
+              whole_not (page_of shape key value (q - page)) (sym (subst P at (stored (q - page) within)) ∙ e))
         ];
         behind = λ q from to. same.above q (omega (arith, from)) ∙ filled.behind q (omega (arith, from)) to;
       }

@@ -14,8 +14,8 @@ ghost use Rattle.pk_table.specs.Served.{IsQuiet, Served};
 
 use crate::front::read_front;
 use crate::list::put_list;
-use crate::report::put_counts;
 use crate::placed::Placed;
+use crate::report::put_counts;
 use crate::table::Table;
 use pk_base::{Key, Shape};
 use pk_drive::{Counts, Engine, Outcome, Ticked};

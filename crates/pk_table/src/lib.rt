@@ -13,3 +13,5 @@ mod table;
 
 pub use drive::TableDrive;
 
+#[cfg(test)]
+mod tests;
