@@ -1,4 +1,4 @@
--- The first wrong byte of a root page.
+-- The first wrong field of a root page.
 use Rattle.std.specs.Prelude.{ℕ, ◌+◌, ◌-◌, ◌*◌, List, [], ◌∷◌, ◌++◌, drop, Bool, ◌&&◌, ◌||◌, not, ◌==◌, nat_le, nat_lt, Option, None}
 use Rattle.std.specs.List.{list_any}
 use Rattle.pk_base.specs.Fields.{u16_at, u32_at, u64_at, unlike, unless, first_of, zeros}
@@ -58,6 +58,6 @@ module _ (shape : Shape) (page : List ℕ) where
   unfoldable pub list_fault : Option ℕ
   list_fault = first_of list_checks
 
-  -- the first wrong byte of a page
+  -- the first byte of the first wrong field of a page
   abbrev pub root_fault : Option ℕ
   root_fault = first_of (shape_fault ∷ number_fault ∷ list_fault ∷ [])

@@ -1,4 +1,4 @@
-//! The first wrong byte of a root page.
+//! The first wrong field of a root page.
 ghost use Rattle.std.specs.Prelude.{◌≡◌, ◌+◌, ◌*◌, ◌<◌, ◌≤◌, ◌^◌, ◌==◌, not, [], length, drop};
 ghost use Rattle.std.specs.List.{list_any};
 ghost use Rattle.pk_base.specs.Fields.{Finds};
@@ -126,7 +126,7 @@ fn check_lists(shape: &Shape, page: &[u8]) -> Result<(), Wrong>
     zeros(page, 64 + 2 * count, page.len())
 }
 
-/// The first wrong byte.
+/// The first wrong field.
 pub(crate) fn checked(shape: &Shape, page: &[u8]) -> Result<(), Wrong>
     requires { length page.now ≡ shape.now.page_bytes }
     ensures { Finds result (root_fault shape.now page.now) }

@@ -13,7 +13,7 @@ use pk_base::{Shape, get_u16, get_u32, get_u64};
 use std::alloc::{AllocError, Allocator};
 use std::marker::Model;
 
-/// Bytes are no root page: the first wrong one.
+/// Bytes are no root page: the first byte of the first wrong field.
 #[derive(Clone, Copy, Debug, PartialEq, Eq)]
 pub struct BadRoot {
     pub at: u32,
@@ -173,7 +173,7 @@ impl<A: Allocator> Root<A> {
         // A page is decoded exactly where the definition has a root for it, to that root.
         ensures found { OnOk result (root_page self.old.shape page.now ≡ Some self.new.root) }
         ensures grammar { OnOk result (is_root self.new.shape self.new.root ≡ true) }
-        // Else the first wrong byte is named, and the root is as it was.
+        // Else the first wrong field is named, and the root is as it was.
         ensures missing { OnErr result (root_page self.old.shape page.now ≡ None) }
         ensures exact { IfErr result (λ bad. root_fault self.old.shape page.now ≡ Some bad.at) }
         ensures kept { OnErr result (self.new ≡ self.old) }

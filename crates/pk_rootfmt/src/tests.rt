@@ -35,7 +35,7 @@ fn changed(page: [u8; 512], place: u16, byte: u8) -> [u8; 512] {
     page
 }
 
-/// The first wrong byte of a page of this shape; none where it is read as a root.
+/// The first wrong field of a page of this shape; none where it is read as a root.
 fn wrong_byte<A: Allocator + Clone>(
     alloc: A,
     shape: &Shape,
@@ -127,7 +127,7 @@ fn wrong_first_pages(rt: HostRuntime) -> Result<(), Fail> {
     let shape = Shape::new(512, 16, 64).ok().ok_or("a shape")?;
     for (place, byte, at) in [
         (0u16, 0u8, 0u32),
-        (7, 0, 7),
+        (7, 0, 0),
         (8, 2, 8),
         (9, 1, 8),
         (10, 8, 10),
@@ -136,7 +136,7 @@ fn wrong_first_pages(rt: HostRuntime) -> Result<(), Fail> {
         (18, 3, 18),
         (18, 4, 32),
         (20, 1, 20),
-        (23, 1, 23),
+        (23, 1, 20),
         (24, 0, 24),
         (32, 0, 32),
         (32, 2, 32),
@@ -145,13 +145,13 @@ fn wrong_first_pages(rt: HostRuntime) -> Result<(), Fail> {
         (49, 4, 48),
         (53, 5, 52),
         (56, 1, 56),
-        (63, 1, 63),
+        (63, 1, 56),
         (64, 1, 64),
         (64, 64, 64),
         (66, 2, 66),
         (40, 1, 68),
         (68, 1, 68),
-        (511, 1, 511),
+        (511, 1, 68),
     ] {
         let page = changed(first_page(), place, byte);
         assert_eq!(rt; wrong_byte(rt.alloc(), &shape, &page)?, Some(at));
@@ -173,6 +173,7 @@ fn wrong_later_pages(rt: HostRuntime) -> Result<(), Fail> {
         (73, 1, 72),
         (40, 0, 72),
         (74, 1, 74),
+        (75, 1, 74),
     ] {
         let page = changed(later_page(), place, byte);
         assert_eq!(rt; wrong_byte(rt.alloc(), &shape, &page)?, Some(at));
