@@ -1,0 +1,15 @@
+//! The program's one call: words and a board in, a status out.
+//!
+//! Every run returns and is safe, over every board. Each status other than 0 has its cause as a clause of the call.
+#![tactic(auto)]
+
+mod making;
+mod running;
+mod serving;
+mod status;
+mod word;
+mod words;
+
+pub use running::run;
+pub use status::Status;
+
