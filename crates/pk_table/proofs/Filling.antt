@@ -1,10 +1,10 @@
 -- Blocks that values fill in order.
-use Rattle.std.proofs.Common.{◌≡◌, ◌≢◌, ◌⊎◌, inl, inr, ◌<◌, ◌≤◌, ◌+◌, ◌-◌, ◌*◌, ◌/◌, ◌%◌, ℕ, suc, List, length, refl, sym, ◌∙◌, ap, subst, arith, Some}
+use Rattle.std.proofs.Common.{◌≡◌, inl, inr, ◌<◌, ◌≤◌, ◌+◌, ◌-◌, ◌*◌, ◌/◌, ◌%◌, ℕ, suc, List, length, refl, sym, ◌∙◌, subst, arith, Some}
 use Rattle.std.proofs.Math.Nat.{mul-le-mul_right, lt_of_mul-lt-mul_right}
 use Rattle.std.proofs.lemmas.Nat.{div-mul-add, div-add-mod'}
 use Rattle.std.proofs.lemmas.Bool.{cases_lt}
 use Rattle.pk_base.specs.Shape.{Shape, IsShape, page_count, charge, limit, data_blocks, dense, most_pages}
-use Rattle.pk_base.specs.Page.{Page, Flash, page_at, erased, whole, IsFlash}
+use Rattle.pk_base.specs.Page.{Flash, page_at, erased, whole, IsFlash}
 use Rattle.pk_nand.specs.BoardState.{BoardState}
 use Rattle.pk_nand.specs.Calls.{IsErased, IsReady, InOrder}
 use Rattle.pk_nand.specs.Crash.{SameOutside}

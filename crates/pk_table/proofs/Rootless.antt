@@ -1,17 +1,16 @@
 -- A flash without a root, of which no drive's map can be read.
-use Rattle.std.proofs.Common.{◌≡◌, ◌<◌, ◌≤◌, ◌+◌, ◌*◌, ℕ, zero, suc, List, [], ◌∷◌, Option, Some, None, false, nat_le, refl, sym, ◌∙◌, ap, subst, arith, zero-add}
+use Rattle.std.proofs.Common.{◌≡◌, ◌<◌, ◌≤◌, ◌+◌, ◌*◌, ℕ, zero, suc, List, Some, None, false, nat_le, refl, sym, ◌∙◌, ap, subst, arith}
 use Rattle.std.specs.Prelude.{Result, Ok, Err}
 use Rattle.std.specs.List.{range_with_len}
 use Rattle.pk_base.specs.Shape.{Shape}
 use Rattle.pk_base.specs.Page.{Page, Flash, page_at, erased}
 use Rattle.pk_base.specs.Map.{Map}
 use Rattle.pk_base.specs.Entry.{Entry}
-use Rattle.pk_base.specs.Refusal.{Refusal, not_formatted, some_or, ◌>>=◌}
-use Rattle.pk_rootfmt.specs.Root.{Root}
+use Rattle.pk_base.specs.Refusal.{Refusal, not_formatted}
 use Rattle.pk_rootfmt.specs.Newest.{root_of, newer_of, newest_of, newest_root}
 use Rattle.pk_nand.specs.BoardState.{BoardState, shape_of}
 use Rattle.pk_model.specs.Reading.{reading_of}
-use Rattle.pk_model.specs.Sight.{Sight, map_of}
+use Rattle.pk_model.specs.Sight.{Sight}
 use Rattle.pk_drive.specs.Drive.{Stands}
 use Rattle.pk_drive.specs.Wear.{root_number, number_of, roots}
 use Rattle.pk_table.specs.Space.{NoRoots, Agrees}

@@ -1,6 +1,6 @@
 -- What the calls of a command leave, as its answer tells them.
-use Rattle.std.proofs.Common.{◌≡◌, ◌≢◌, ◌<◌, ◌≤◌, ◌+◌, ◌*◌, ℕ, zero, suc, List, length, Bool, true, false, refl, sym, ◌∙◌, ap, subst, arith, min}
-use Rattle.pk_base.specs.Shape.{Shape, charge}
+use Rattle.std.proofs.Common.{◌≡◌, ◌≢◌, ◌≤◌, ◌+◌, ℕ, zero, suc, List, Bool, true, false, refl, sym, ◌∙◌, ap, subst, arith, min}
+use Rattle.pk_base.specs.Shape.{Shape}
 use Rattle.pk_base.specs.Page.{Flash}
 use Rattle.pk_nand.specs.BoardState.{BoardState}
 use Rattle.pk_nand.specs.Calls.{Rose, counted, last_count, after_program, ProgramFailed}
@@ -9,7 +9,6 @@ use Rattle.pk_nand.specs.Erased.{counted_by, after_reads}
 use Rattle.pk_segfmt.specs.Stored.{page_of}
 use Rattle.pk_seg.specs.Stored.{written, WriteFailed}
 use Rattle.pk_drive.specs.Drive.{OnlyFlash, NoFault}
-use Rattle.pk_drive.specs.Meter.{reads_after}
 use Rattle.pk_drive.specs.declared.types.Outcome.{Outcome}
 use Rattle.pk_drive.proofs.Growing.{at_end}
 use Rattle.pk_table.specs.Space.{NoRoots}

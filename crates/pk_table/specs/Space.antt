@@ -1,5 +1,5 @@
 -- The blocks that values fill in order, and the flash of a drive whose keys stand in memory.
-use Rattle.std.specs.Prelude.{◌≡◌, ◌≢◌, ◌⊎◌, ℕ, ◌+◌, ◌-◌, ◌*◌, ◌<◌, ◌≤◌, List, [], Bool, ◌||◌, not, ◌==◌, nat_le, is_some, Option, Some, None, false}
+use Rattle.std.specs.Prelude.{◌≡◌, ◌≢◌, ◌⊎◌, ℕ, ◌+◌, ◌-◌, ◌*◌, ◌<◌, ◌≤◌, [], Bool, ◌||◌, not, ◌==◌, nat_le, is_some, Option, Some, None, false}
 use Rattle.pk_base.specs.Shape.{Shape, charge, greatest, limit, pinned, page_count}
 use Rattle.pk_base.specs.Page.{Flash, page_at, erased, IsFlash}
 use Rattle.pk_nvme.specs.Seen.{command_of}

@@ -1,4 +1,4 @@
-use Rattle.std.proofs.Common.{◌≡◌, ◌∙◌, ℕ, arith}
+use Rattle.std.proofs.Common.{◌≡◌, ◌∙◌, arith}
 use Rattle.pk_table.proofs.Reports.{numbers_more}
 use Rattle.pk_table.proofs.report.put_counts.Goals as goal
 

@@ -1,4 +1,4 @@
-use Rattle.std.proofs.Common.{◌≡◌, ◌*◌, length, take, ℕ}
+use Rattle.std.proofs.Common.{◌≡◌, ◌*◌, length, take}
 use Rattle.std.specs.List.{flat_map}
 use Rattle.pk_base.specs.Fields.{u32}
 use Rattle.pk_table.proofs.report.put_counts.Given as goal

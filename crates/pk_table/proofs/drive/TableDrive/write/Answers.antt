@@ -1,4 +1,4 @@
-use Rattle.std.proofs.Common.{◌≡◌, ◌∙◌, ◌≤◌, ◌<◌, ◌+◌, ◌*◌, ℕ, length, refl, ap, arith}
+use Rattle.std.proofs.Common.{◌∙◌, ◌≤◌, ◌+◌, ◌*◌, ℕ, length, refl, ap, arith}
 use Rattle.std.proofs.lemmas.List.{with_items_is}
 use Rattle.pk_base.specs.Shape.{charge, page_count}
 use Rattle.pk_table.proofs.Filling.{room_lasts, limit_most, filled_order, agrees_goes, agrees_more, roots_stay}

@@ -1,4 +1,4 @@
-use Rattle.std.proofs.Common.{◌≡◌, ◌∙◌, ap}
+use Rattle.std.proofs.Common.{◌∙◌, ap}
 use Rattle.pk_nand.specs.BoardState.{shape_or_none}
 use Rattle.pk_table.proofs.Rootless.{no_stand, few_roots}
 use Rattle.pk_table.proofs.drive.TableDriveEngine.exec.Goals as goal

@@ -1,4 +1,4 @@
-use Rattle.std.proofs.Common.{[], ◌∙◌, sym, arith}
+use Rattle.std.proofs.Common.{[], ◌∙◌, sym}
 use Rattle.pk_nvme.specs.Seen.{command_of}
 use Rattle.pk_table.proofs.Passing.{store_short}
 use Rattle.pk_table.proofs.drive.TableDriveEngine.is_built.Goals as goal
