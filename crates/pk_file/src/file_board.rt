@@ -235,6 +235,8 @@ impl Nand for FileBoard<'_> {
     }
 
     fn read_count(&self) -> u64 {
+        // so that this count is known to be one of 64 bits
+        let _faults = self.read_faults;
         self.reads
     }
 }

@@ -12,4 +12,3 @@ mod words;
 
 pub use running::run;
 pub use status::Status;
-

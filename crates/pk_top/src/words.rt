@@ -145,7 +145,11 @@ fn generate(operands: &[&str]) -> Option<Word>
 fn alone(word: Word, operands: &[&str]) -> Option<Word>
     ensures { option_map seen result ≡ spec.alone (seen word) (map (λ w. w.now) operands.now) }
 {
-    if operands.is_empty() { Some(word) } else { None }
+    if operands.is_empty() {
+        Some(word)
+    } else {
+        None
+    }
 }
 
 /// What a name and its operands ask for, where no value stands among them.
