@@ -1,2 +1,4 @@
 pub mod Words
 pub mod Texts
+pub mod Statuses
+pub mod Loads

@@ -12,3 +12,6 @@ mod words;
 
 pub use running::run;
 pub use status::Status;
+
+#[cfg(test)]
+mod tests;

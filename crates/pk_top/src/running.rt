@@ -1,4 +1,7 @@
 //! The run of the program.
+ghost use Rattle.std.specs.Prelude.{◌≡◌, ◌⊎◌, None, map};
+ghost use Rattle.pk_top.specs.Words as spec;
+ghost use Rattle.pk_top.specs.Statuses.{Tells};
 
 use crate::making::make;
 use crate::serving::serve;
@@ -8,8 +11,13 @@ use crate::words::word_of;
 use pk_nand::Board;
 use std::alloc::Global;
 
-/// Does what the words ask for.
-pub fn run<B: Board>(alloc: Global, words: &[&str], board: &mut B) -> Status {
+/// Does what the words ask for, over any board. Status 2 comes exactly where they ask for nothing of the table (or 7 where the
+/// memory for a value among them is missing), and nothing was done then.
+pub fn run<B: Board>(alloc: Global, words: &[&str], board: &mut B) -> Status
+    ensures words { result.0 ≡ 2 → (spec.word_of (map (λ w. w.now) words.now) ≡ None) × (B.state board.new ≡ B.state board.old) }
+    ensures no_words { spec.word_of (map (λ w. w.now) words.now) ≡ None → (B.state board.new ≡ B.state board.old) × ((result.0 ≡ 2) ⊎ (result.0 ≡ 7)) }
+    ensures tells { (result.0 ≡ 2) ⊎ Tells (B.state board.old) (B.state board.new) result.0 }
+{
     match word_of(alloc, words) {
         Ok(Some(word)) => obey(alloc, word, board),
         Ok(None) => Status::WORDS,
@@ -17,7 +25,9 @@ pub fn run<B: Board>(alloc: Global, words: &[&str], board: &mut B) -> Status {
     }
 }
 
-fn obey<B: Board>(alloc: Global, word: Word, board: &mut B) -> Status {
+fn obey<B: Board>(alloc: Global, word: Word, board: &mut B) -> Status
+    ensures { Tells (B.state board.old) (B.state board.new) result.0 }
+{
     match word {
         Word::Make(shape) => make(alloc, shape, board),
         Word::Serve(frames) => serve(alloc, frames, board),

@@ -1,7 +1,8 @@
 //! The word that serves a script.
-ghost use Rattle.std.specs.Prelude.{◌≡◌, ◌<◌, ℕ, length, true, IfOk};
+ghost use Rattle.std.specs.Prelude.{◌≡◌, ◌<◌, ℕ, length, true, IfOk, IfErr};
 ghost use Rattle.pk_base.specs.Shape as spec;
 ghost use Rattle.pk_nand.specs.Calls.{IsErased, IsReady};
+ghost use Rattle.pk_top.specs.Statuses.{Tells, IsServed};
 
 use crate::making::of_load_fault;
 use crate::status::Status;
@@ -12,7 +13,9 @@ use pk_table::TableDrive;
 use std::alloc::Global;
 
 /// The status of an end.
-fn of_end(end: End) -> Status {
+fn of_end(end: End) -> Status
+    ensures { IsServed result.0 }
+{
     match end {
         End::Done => Status::DONE,
         End::Truncated => Status::TRUNCATED,
@@ -26,7 +29,9 @@ fn of_end(end: End) -> Status {
 
 /// The shape of the image that is found.
 fn found<B: Board>(alloc: Global, board: &mut B) -> Result<Shape, Status>
-    ensures { IfOk result (λ shape. IsReady (B.state board.new) shape) }
+    ensures ready { IfOk result (λ shape. IsReady (B.state board.new) shape) }
+    ensures silent { ((B.state board.new).input ≡ (B.state board.old).input) × ((B.state board.new).posted ≡ (B.state board.old).posted) }
+    ensures tells { IfErr result (λ status. Tells (B.state board.old) (B.state board.new) status.0) }
 {
     match board.load(alloc) {
         Ok(Some(shape)) => Ok(shape),
@@ -40,6 +45,8 @@ fn is_blank<B: Board>(board: &mut B, shape: &Shape, page: &mut [u8]) -> Result<b
     requires ready { IsReady (B.state board.old) shape.now }
     requires room { length page.old ≡ shape.now.page_bytes }
     ensures ready { IsReady (B.state board.new) shape.now }
+    ensures silent { ((B.state board.new).input ≡ (B.state board.old).input) × ((B.state board.new).posted ≡ (B.state board.old).posted) }
+    ensures flash { IfErr result (λ status. status.0 ≡ 6) }
     ensures blank { IfOk result (λ r. r ≡ true → ((q : ℕ) → q < spec.page_count shape.now → IsErased (B.state board.new).pages q)) }
 {
     match all_erased(board, shape, page) {
@@ -52,6 +59,7 @@ fn is_blank<B: Board>(board: &mut B, shape: &Shape, page: &mut [u8]) -> Result<b
 fn serve_blank<B: Board>(alloc: Global, shape: Shape, frames: u32, board: &mut B) -> Status
     requires ready { IsReady (B.state board.old) shape }
     requires blank { (q : ℕ) → q < spec.page_count shape → IsErased (B.state board.old).pages q }
+    ensures { Tells (B.state board.old) (B.state board.new) result.0 }
 {
     let Ok(mut drive) = TableDrive::open(alloc, shape, frames) else {
         return Status::MEMORY;
@@ -63,7 +71,9 @@ fn serve_blank<B: Board>(alloc: Global, shape: Shape, frames: u32, board: &mut B
 }
 
 /// Serves the script of the input with so many frames, on an image whose pages are all Erased.
-pub fn serve<B: Board>(alloc: Global, frames: u32, board: &mut B) -> Status {
+pub fn serve<B: Board>(alloc: Global, frames: u32, board: &mut B) -> Status
+    ensures { Tells (B.state board.old) (B.state board.new) result.0 }
+{
     let shape = match found(alloc, board) {
         Ok(shape) => shape,
         Err(status) => return status,

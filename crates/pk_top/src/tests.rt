@@ -1,0 +1,107 @@
+use super::*;
+use pk_base::Shape;
+use pk_flash::{Flash, Room};
+use std::alloc::{AllocError, Global};
+use std::test::*;
+
+// A Store of `abc` under the key `a`, and a Retrieve of it with a buffer of 3 bytes.
+const SCRIPT: [u8; 131] = [
+    1, 0, 1, 0, 1, 0, 0, 0, 0x61, 0, 0, 0, 0, 0, 0, 0, 0, 0, 0, 0, 0, 0, 0, 0, 0, 0, 0, 0, 0, 0, 0,
+    0, 0, 0, 0, 0, 0, 0, 0, 0, 3, 0, 0, 0, 1, 0, 0, 0, 0, 0, 0, 0, 0, 0, 0, 0, 0, 0, 0, 0, 0, 0, 0,
+    0, 0x61, 0x62, 0x63, 2, 0, 2, 0, 1, 0, 0, 0, 0x61, 0, 0, 0, 0, 0, 0, 0, 0, 0, 0, 0, 0, 0, 0, 0,
+    0, 0, 0, 0, 0, 0, 0, 0, 0, 0, 0, 0, 0, 0, 0, 0, 3, 0, 0, 0, 1, 0, 0, 0, 0, 0, 0, 0, 0, 0, 0, 0,
+    0, 0, 0, 0, 0, 0, 0, 0,
+];
+
+// Their records.
+const RECORDS: [u8; 51] = [
+    0, 0, 0, 0, 0, 0, 0, 0, 1, 0, 1, 0, 1, 0, 1, 0, 0, 0, 0, 0, 0, 0, 0, 0, 3, 0, 0, 0, 0, 0, 0, 0,
+    2, 0, 1, 0, 2, 0, 1, 0, 1, 0, 0, 0, 3, 0, 0, 0, 0x61, 0x62, 0x63,
+];
+
+const ROOM: Room = Room {
+    posted: 1000,
+    marks: 20,
+};
+
+// The words of a text, which single blanks divide.
+fn words_in<'a>(alloc: Global, text: &'a str) -> Result<Vec<&'a str>, AllocError> {
+    let mut words = Vec::new(alloc);
+    for word in text.split(' ') {
+        words.push(word)?;
+    }
+    Ok(words)
+}
+
+// The status of these words on a board without an image and without input.
+fn status_of(alloc: Global, text: &str) -> Result<u8, Fail> {
+    let words = words_in(alloc, text)?;
+    let mut flash = Flash::new(alloc, None, Vec::new(alloc), ROOM)?;
+    Ok(run(alloc, &words, &mut flash).0)
+}
+
+#[test]
+fn words(rt: HostRuntime) -> Result<(), Fail> {
+    for (text, status) in [
+        ("make 512 16 64", 0u8),
+        ("make 512 32 64", 2),
+        ("make 512 16 4096", 2),
+        ("make 512 16 16", 2),
+        ("make 500 16 64", 2),
+        ("make 0512 16 64", 2),
+        ("make 512 16", 2),
+        ("serve", 2),
+        ("serve 16385", 2),
+        ("serve 16384", 8),
+        ("serve 36", 8),
+        ("serve 36 36", 2),
+        ("hello", 2),
+        ("", 2),
+        ("put 61 616263", 11),
+        ("put 61 -", 11),
+        ("put 61 61626", 2),
+        ("put 61", 2),
+        ("get 6A", 11),
+        ("get 6", 2),
+        ("get 6162636465666768696a6b6c6d6e6f70", 11),
+        ("get 6162636465666768696a6b6c6d6e6f7071", 2),
+        ("del 61", 11),
+        ("has 61", 11),
+        ("list", 11),
+        ("list 61", 11),
+        ("list -", 2),
+        ("stat", 11),
+        ("stat 1", 2),
+        ("gen 1 3", 11),
+        ("gen 1", 2),
+    ] {
+        assert_eq!(rt; status_of(rt.alloc(), text)?, status);
+    }
+    Ok(())
+}
+
+// An image is made once, and a script that ends inside an entry is told so.
+#[test]
+fn makes_once(rt: HostRuntime) -> Result<(), Fail> {
+    let alloc = rt.alloc();
+    let mut flash = Flash::new(alloc, None, SCRIPT[..70].to_vec(alloc)?, ROOM)?;
+    let make = ["make", "512", "16", "64"];
+    assert_eq!(rt; run(alloc, &make, &mut flash).0, 0);
+    assert_eq!(rt; run(alloc, &make, &mut flash).0, 9);
+    assert_eq!(rt; run(alloc, &["serve", "36"], &mut flash).0, 3);
+    assert_eq!(rt; flash.posted(), &RECORDS[..24]);
+    Ok(())
+}
+
+// The worked script gives the worked records, and a flash with a value is not served again.
+#[test]
+fn serves(rt: HostRuntime) -> Result<(), Fail> {
+    let alloc = rt.alloc();
+    let shape = Shape::new(512, 16, 64).ok().ok_or("a shape")?;
+    let mut flash = Flash::new(alloc, Some(shape), SCRIPT.to_vec(alloc)?, ROOM)?;
+    let serve = ["serve", "36"];
+    assert_eq!(rt; run(alloc, &serve, &mut flash).0, 0);
+    assert_eq!(rt; flash.posted(), RECORDS.as_slice());
+    assert_eq!(rt; run(alloc, &serve, &mut flash).0, 11);
+    Ok(())
+}
