@@ -43,7 +43,7 @@ PY
 
 program=$top/crates/pink/out/pink
 echo "image: $(wc -c <"$image" | tr -d ' ') bytes; script: 1,000 Stores of 4,000 bytes and 100,000 Retrieves"
-echo "cp of the image, seconds:              $(seconds /dev/null cp "$image" "$image.copy")"
+echo "cp of the image, seconds:              $(seconds /dev/null cp --sparse=never "$image" "$image.copy")"
 echo "load and an empty serve, seconds:      $(seconds /dev/null "$program" "$image" serve 36)"
 whole=$(seconds "$folder/script" "$program" "$image" serve 36)
 echo "serve of 101,000 commands, seconds:    $whole"
