@@ -1,11 +1,10 @@
 -- Records that are taken piece by piece, and what they show.
-use Rattle.std.proofs.Common.{◌≡◌, ◌≢◌, ℕ, zero, suc, ◌<◌, ◌≤◌, ◌+◌, ◌-◌, Bool, true, false, cond, List, [], ◌∷◌, ◌++◌, length, take, drop, refl, sym, ◌∙◌, ap, subst, arith, append_assoc, append-nil, length-append, Option, Some, None, length-drop, length-take-le}
+use Rattle.std.proofs.Common.{◌≡◌, ◌≢◌, ℕ, zero, suc, ◌<◌, ◌≤◌, ◌+◌, ◌-◌, ◌/◌, ◌%◌, Bool, true, false, cond, List, [], ◌∷◌, ◌++◌, length, take, drop, refl, sym, ◌∙◌, ap, subst, arith, append_assoc, append-nil, length-append, Option, Some, None, length-drop, length-take-le}
 use Rattle.std.specs.Prelude.{nat_lt, nat_le, ◌==◌, ◌^◌, if◌then◌else◌, IfSome, codes, IsTrue, ◌↔◌}
 use Rattle.std.proofs.lemmas.Bool.Decides.{nat_tests}
 use Rattle.std.proofs.lemmas.List.{take-append-drop}
 use Rattle.std.proofs.Math.Seq.{take-append_seam, drop-append_seam, take-append-add, drop-append-add}
 use Rattle.pk_base.specs.Fields.{u16_at, u32_at}
-use Rattle.pk_show.specs.declared.head.Head.{Head}
 use Rattle.pk_nvme.specs.Text.{hex_text, number_text}
 use Rattle.pk_nvme.proofs.TextLemmas.{hex_text-append, length-hex_text, number_text_short}
 use Rattle.pk_show.specs.Shown.{shown_head, shown as record_line, words, front, head_of}
@@ -18,7 +17,7 @@ use Rattle.pk_text.specs.Turns.{put_back, AtEnd, TurnsFrom}
 use Rattle.pk_text.specs.Steps.{ahead, Moved, Advances, Fed, IsOver, Filled, FeedFailed, HeadTaken, Stops}
 use Rattle.pk_text.specs.declared.end.TextEnd.{TextEnd}
 use Rattle.pk_text.specs.declared.end.TextEnd.TheVariants.{Done, Truncated, Input, Output, TooMany, BadLine}
-use Rattle.pk_text.proofs.Turning.{put_back-nil, before-before, Moved-none, Moved-then, Moved-post, known, known_is, told-back, none_ahead, Turns-output, Turns-stop, all_posted}
+use Rattle.pk_text.proofs.Turning.{not_false, put_back-nil, before-before, Moved-none, Moved-then, Moved-post, known, known_is, told-back, none_ahead, Turns-output, Turns-stop, all_posted}
 use Rattle.pk_text.proofs.Feeding.{Fed-used}
 
 nil_of : (xs : List ℕ) → length xs ≡ 0 → xs ≡ []
@@ -252,18 +251,19 @@ dash_short : (b : Bool) → length (if b then codes "-" else []) ≤ 1
 dash_short true = omega arith
 dash_short false = omega arith
 
-length-words : (h : Head) → length (words h) ≡ length (number_text h.cid) + length (number_text h.result) + length (number_text h.reads) + 35
-length-words h = simp length-append (omega (arith, length-hex_text (h.status ∷ [])))
+length-words : (head : List ℕ)
+    → length (words (head_of head)) ≡ length (number_text (u16_at head 12)) + length (number_text (u32_at head 0)) + length (number_text (u32_at head 16)) + 35
+length-words head = simp length-append (omega (arith, length-hex_text (u32_at head 12 / 2 ^ 17 % 256 ∷ [])))
 
-front_length : (h : Head) → h.cid < 2 ^ 32 → h.result < 2 ^ 32 → h.reads < 2 ^ 32 → length (front h) ≤ 66
-front_length h cid result reads =
-    let dash : List ℕ = if h.data_len == 0 then codes "-" else [] in
-    omega (arith, length-append (words h) (if h.data_len == 0 then codes "-" else []), length-words h, dash_short (h.data_len == 0), (number_text_short h.cid cid).1, (number_text_short h.result result).1, (number_text_short h.reads reads).1)
+front_length : (head : List ℕ) → u16_at head 12 < 2 ^ 32 → u32_at head 0 < 2 ^ 32 → u32_at head 16 < 2 ^ 32 → length (shown_head head) ≤ 66
+front_length head cid result reads =
+    omega (arith, length-append (words (head_of head)) (if u32_at head 20 == 0 then codes "-" else []), length-words head, dash_short (u32_at head 20 == 0),
+      (number_text_short (u16_at head 12) cid).1, (number_text_short (u32_at head 0) result).1, (number_text_short (u32_at head 16) reads).1)
 
 pub front_short : (head : List ℕ) (cid result reads : ℕ) → cid ≡ u16_at head 12 → result ≡ u32_at head 0 → reads ≡ u32_at head 16 → cid < 2 ^ 32 → result < 2 ^ 32 → reads < 2 ^ 32 → length (shown_head head) ≤ 66
 front_short head cid result reads e f g cid_few result_few reads_few =
     let L : ℕ → Type 0 = λ n. n < 2 ^ 32 in
-    front_length (head_of head) (subst L e cid_few) (subst L f result_few) (subst L g reads_few)
+    front_length head (subst L e cid_few) (subst L f result_few) (subst L g reads_few)
 
 -- ---- the same, by what the calls answered
 
@@ -296,4 +296,4 @@ pub no_refusal : (old now : RoomyList) (text : List ℕ) (r : Bool) → length t
 no_refusal old now text r short room clear h e =
     let none : length now.items ≡ 0 = ap (λ (l : RoomyList). length l.items) clear in
     let same : now.room ≡ old.room = ap (λ (l : RoomyList). l.room) clear in
-    let t = subst IsTrue e (h.1 (omega arith)) in t
+    not_false r (h.1 (omega arith)) e

@@ -1,5 +1,5 @@
 -- Runs that are put together from steps.
-use Rattle.std.proofs.Common.{◌≡◌, ℕ, suc, ◌+◌, Bool, false, arith, ◌<◌, ◌≤◌, List, [], ◌∷◌, ◌++◌, length, refl, sym, ◌∙◌, ap, subst, append_assoc, append-nil, Option, Some, None}
+use Rattle.std.proofs.Common.{◌≡◌, ℕ, suc, ◌+◌, Bool, true, false, arith, ◌<◌, ◌≤◌, List, [], ◌∷◌, ◌++◌, length, refl, sym, ◌∙◌, ap, subst, append_assoc, append-nil, Option, Some, None}
 use Rattle.std.specs.Prelude.{IfSome, IfErr, OnOk, OnErr, IsTrue, Result, Ok, Err, ◌↔◌}
 use Rattle.pk_nand.specs.BoardState.{BoardState}
 use Rattle.pk_nand.specs.Calls.{Rose, longer, after_post, PostFailed}
@@ -248,8 +248,11 @@ pub if_err_map : {X : Type 0} → (P Q : TextEnd → Type 0) (r : Result X TextE
 if_err_map P Q (Ok x) f h = tt
 if_err_map P Q (Err e) f h = f e h
 
+pub not_false : (r : Bool) → IsTrue r → r ≡ false → ⊥
+not_false r t e = let k : true ≡ false = sym t ∙ e in cc
+
 pub not_empty : (xs : List ℕ) (r : Bool) → (IsTrue r ↔ (xs ≡ [])) → r ≡ false → 0 < length xs
-not_empty [] r h e = absurd (let t = subst IsTrue e (h.1 refl) in t)
+not_empty [] r h e = absurd (not_false r (h.1 refl) e)
 not_empty (x ∷ xs) r h e = omega arith
 
 pub Advances-count : (e f : ℕ → List ℕ → Written) (n : ℕ) (u v : Option (List ℕ)) (a b : BoardState) → Advances (e 0) (f (suc n)) u v a b → Advances (e 0) (f (n + 1)) u v a b
