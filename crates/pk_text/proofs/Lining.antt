@@ -131,8 +131,8 @@ Line-last taken number next p q line a b c few h given =
       touched = m.touched;
       ends = (
         all_posted a c (assembled_from taken number (line ++ [])) given.out Done m
-        (ap (λ l. lines_given taken number (lines l)) (append-nil line) ∙ (ap (lines_given taken number) (lines-last line h.0 h.2)
-        ∙ (first_line taken number line [] few ∙ given.spells (λ n. lines_given (suc taken) n [])))),
+            (ap (λ l. lines_given taken number (lines l)) (append-nil line) ∙ (ap (lines_given taken number) (lines-last line h.0 h.2)
+            ∙ (first_line taken number line [] few ∙ given.spells (λ n. lines_given (suc taken) n [])))),
         subst AtEnd (sym given.input) h.3.at_end,
       );
     }

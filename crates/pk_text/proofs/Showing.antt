@@ -102,8 +102,8 @@ record_same f g bytes same =
     let behind : List ℕ = drop 24 bytes in
     let size : ℕ = u32_at (take 24 bytes) 20 in
     ap (λ (w : Written). if nat_lt (length bytes) 24 then ended Truncated else before (shown_head (take 24 bytes))
-        (if nat_lt (length (drop 24 bytes)) (u32_at (take 24 bytes) 20) then cut_short (drop 24 bytes)
-        else before (hex_text (take (u32_at (take 24 bytes) 20) (drop 24 bytes)) ++ codes "\n") w))
+    (if nat_lt (length (drop 24 bytes)) (u32_at (take 24 bytes) 20) then cut_short (drop 24 bytes)
+    else before (hex_text (take (u32_at (take 24 bytes) 20) (drop 24 bytes)) ++ codes "\n") w))
     (same (drop (u32_at (take 24 bytes) 20) (drop 24 bytes)) (omega (arith, length-drop (u32_at (take 24 bytes) 20) (drop 24 bytes), length-drop 24 bytes)))
 
 enough : (n m taken : ℕ) (bytes : List ℕ) → length bytes ≤ n → length bytes ≤ m → records_shown n taken bytes ≡ records_shown m taken bytes
@@ -140,7 +140,7 @@ whole_record law taken head bytes rest few size whole =
     let none : u32_at head 20 - length bytes ≡ 0 = omega arith in
     first_head taken head (bytes ++ rest) few size
     ∙ (ap (before (shown_head head)) (data_step (u32_at head 20) (shown_from (suc taken)) bytes rest (nat_lt (length rest) (u32_at head 20 - length bytes)) (omega arith) refl
-      ∙ (ap (λ k. before (hex_text bytes) (data_shown k (shown_from (suc taken)) rest)) none ∙ ap (before (hex_text bytes)) (data_end (shown_from (suc taken)) rest)))
+    ∙ (ap (λ k. before (hex_text bytes) (data_shown k (shown_from (suc taken)) rest)) none ∙ ap (before (hex_text bytes)) (data_end (shown_from (suc taken)) rest)))
     ∙ (before-before (shown_head head) (hex_text bytes) (before (codes "\n") (shown_from (suc taken) rest))
     ∙ (before-before (shown_head head ++ hex_text bytes) (codes "\n") (shown_from (suc taken) rest)
     ∙ ap (λ t. before t (shown_from (suc taken) rest)) (law head bytes whole))))
@@ -176,7 +176,7 @@ Head-part taken p q head a b few some h =
       touched = h.0.moved.touched;
       ends = (
         all_posted a b (shown_from taken (head ++ [])) [] Truncated h.0.moved
-        (ap (shown_from taken) e ∙ (one_record taken head few some ∙ record_part (shown_from (suc taken)) head h.1)),
+            (ap (shown_from taken) e ∙ (one_record taken head few some ∙ record_part (shown_from (suc taken)) head h.1)),
         h.2.at_end,
       );
     }
@@ -257,8 +257,15 @@ length-words head = simp length-append (omega (arith, length-hex_text (u32_at he
 
 front_length : (head : List ℕ) → u16_at head 12 < 2 ^ 32 → u32_at head 0 < 2 ^ 32 → u32_at head 16 < 2 ^ 32 → length (shown_head head) ≤ 66
 front_length head cid result reads =
-    omega (arith, length-append (words (head_of head)) (if u32_at head 20 == 0 then codes "-" else []), length-words head, dash_short (u32_at head 20 == 0),
-      (number_text_short (u16_at head 12) cid).1, (number_text_short (u32_at head 0) result).1, (number_text_short (u32_at head 16) reads).1)
+    omega (
+      arith,
+      length-append (words (head_of head)) (if u32_at head 20 == 0 then codes "-" else []),
+      length-words head,
+      dash_short (u32_at head 20 == 0),
+      (number_text_short (u16_at head 12) cid).1,
+      (number_text_short (u32_at head 0) result).1,
+      (number_text_short (u32_at head 16) reads).1,
+    )
 
 pub front_short : (head : List ℕ) (cid result reads : ℕ) → cid ≡ u16_at head 12 → result ≡ u32_at head 0 → reads ≡ u32_at head 16 → cid < 2 ^ 32 → result < 2 ^ 32 → reads < 2 ^ 32 → length (shown_head head) ≤ 66
 front_short head cid result reads e f g cid_few result_few reads_few =

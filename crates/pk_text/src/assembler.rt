@@ -77,13 +77,7 @@ impl Assembler {
         };
         let line = self.line.bytes();
         match give_line(board, line, number, &mut self.value, &mut self.out) {
-            Ok(next) => {
-                if ended {
-                    Ok(next)
-                } else {
-                    Err(TextEnd::Done)
-                }
-            }
+            Ok(next) => { if ended { Ok(next) } else { Err(TextEnd::Done) } }
             Err(end) => Err(end),
         }
     }

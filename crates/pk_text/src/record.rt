@@ -55,11 +55,7 @@ fn write_front(head: &[u8; 24], text: &mut Bytes)
 }
 
 /// Posts the front of the line of the record with this head. Answers the bytes of its data.
-pub fn post_front<B: Board>(
-    board: &mut B,
-    head: &Bytes,
-    text: &mut Bytes,
-) -> Result<u32, HostFault>
+pub fn post_front<B: Board>(board: &mut B, head: &Bytes, text: &mut Bytes) -> Result<u32, HostFault>
     requires whole { length head.now.items ≡ 24 }
     requires room { text.old.room ≡ 8192 }
     ensures room { text.new.room ≡ text.old.room }
