@@ -1,0 +1,4 @@
+mod Turning
+mod Feeding
+mod Lining
+mod Showing

@@ -1,0 +1,261 @@
+-- Lines that are taken, and what they give.
+use Rattle.std.proofs.Common.{◌≡◌, ℕ, suc, ◌<◌, ◌≤◌, ◌+◌, Bool, true, false, cond, List, [], ◌∷◌, ◌++◌, length, refl, sym, ◌∙◌, ap, subst, arith, append_assoc, append-nil, length-append, Option, Some, None}
+use Rattle.std.specs.Prelude.{nat_lt, nat_le, ◌==◌, if◌then◌else◌, IfSome, option_map}
+use Rattle.std.proofs.lemmas.Bool.Decides.{nat_tests}
+use Rattle.pk_asm.specs.Line.{Line, nothing, entry, says, entry_in, bytes_in}
+use Rattle.pk_nand.specs.BoardState.{BoardState}
+use Rattle.pk_nand.specs.Calls.{after_post, PostFailed}
+use Rattle.pk_text.specs.Written.{Written, ended, before}
+use Rattle.pk_text.specs.Assembled.{onto_first, lines, line_given, lines_given, assembled_from}
+use Rattle.pk_text.specs.Turns.{put_back, AtEnd, TurnsFrom}
+use Rattle.pk_text.specs.Steps.{ahead, Moved, Advances, Fed, Nexted, IsOver, FeedFailed, IsLine, LineTaken, NoLine, Gives, GivesNot, Stops}
+use Rattle.pk_text.specs.declared.end.TextEnd.{TextEnd}
+use Rattle.pk_text.specs.declared.end.TextEnd.TheVariants.{Done, Truncated, Input, Output, TooMany, BadLine}
+use Rattle.pk_text.proofs.Feeding.{Fed-more, Fed-end}
+use Rattle.pk_text.proofs.Turning.{Moved-none, Moved-then, Moved-post, known, known_is, told-back, none_ahead, Turns-input, Turns-output, Turns-stop, all_posted}
+
+-- ---- the lines of bytes
+
+pub IsLine-more : (line : List ℕ) (byte : ℕ) → IsLine line → (byte == 10) ≡ false → IsLine (line ++ byte ∷ [])
+IsLine-more [] byte all e = (e, all)
+IsLine-more (x ∷ line) byte all e = (all.0, IsLine-more line byte all.1 e)
+
+onto : (byte : ℕ) (bytes : List ℕ) → (byte == 10) ≡ false → lines (byte ∷ bytes) ≡ onto_first byte (lines bytes)
+onto byte bytes e = ap (λ b. if b then [] ∷ lines bytes else onto_first byte (lines bytes)) e
+
+lines-feed : (line rest : List ℕ) → IsLine line → lines (line ++ 10 ∷ rest) ≡ line ∷ lines rest
+lines-feed [] rest all = refl
+lines-feed (byte ∷ line) rest all = onto byte (line ++ 10 ∷ rest) all.0 ∙ ap (onto_first byte) (lines-feed line rest all.1)
+
+lines-last : (line : List ℕ) → IsLine line → 0 < length line → lines line ≡ line ∷ []
+lines-last [] all some = absurd (omega arith)
+lines-last (byte ∷ []) all some = onto byte [] all.0
+lines-last (byte ∷ next ∷ line) all some = onto byte (next ∷ line) all.0 ∙ ap (onto_first byte) (lines-last (next ∷ line) all.1 (omega arith))
+
+-- some lines, the first of which begins with these bytes
+pub record Begins (line bytes : List ℕ) : Type 0 where
+  pub more : List ℕ
+  pub tail : List (List ℕ)
+  pub is : lines bytes ≡ (line ++ more) ∷ tail
+
+onto_any : (byte : ℕ) (ls : List (List ℕ)) → (more : List ℕ) × (tail : List (List ℕ)) × (onto_first byte ls ≡ (byte ∷ more) ∷ tail)
+onto_any byte [] = ([], [], refl)
+onto_any byte (line ∷ ls) = (line, ls, refl)
+
+lines-long : (line rest : List ℕ) → IsLine line → 0 < length line → Begins line (line ++ rest)
+lines-long [] rest all some = absurd (omega arith)
+lines-long (byte ∷ []) rest all some = let o = onto_any byte (lines rest) in record { more = o.0; tail = o.1; is = onto byte rest all.0 ∙ o.2 }
+lines-long (byte ∷ next ∷ line) rest all some =
+    let b = lines-long (next ∷ line) rest all.1 (omega arith) in
+    record { more = b.more; tail = b.tail; is = onto byte (next ∷ line ++ rest) all.0 ∙ ap (onto_first byte) b.is }
+
+some-line : (byte : ℕ) (rest : List ℕ) (feed : Bool) → (byte == 10) ≡ feed → (line : List ℕ) × (tail : List (List ℕ)) × (lines (byte ∷ rest) ≡ line ∷ tail)
+some-line byte rest true e = ([], lines rest, ap (λ b. if b then [] ∷ lines rest else onto_first byte (lines rest)) e)
+some-line byte rest false e = let o = onto_any byte (lines rest) in (byte ∷ o.0, o.1, onto byte rest e ∙ o.2)
+
+-- ---- what the first line gives
+
+first_line : (taken number : ℕ) (line : List ℕ) (ls : List (List ℕ)) → taken < 4294967295
+    → lines_given taken number (line ∷ ls) ≡ line_given (says number line) number (λ next. lines_given (suc taken) next ls)
+first_line taken number line ls few =
+    let e : nat_le 4294967295 taken ≡ false = grind (arith, nat_tests) in
+    ap (λ b. if b then ended TooMany else line_given (says number line) number (λ next. lines_given (suc taken) next ls)) e
+
+too_many : (taken number : ℕ) (line : List ℕ) (ls : List (List ℕ)) → 4294967295 ≤ taken → lines_given taken number (line ∷ ls) ≡ ended TooMany
+too_many taken number line ls full =
+    let e : nat_le 4294967295 taken ≡ true = grind (arith, nat_tests) in
+    ap (λ b. if b then ended TooMany else line_given (says number line) number (λ next. lines_given (suc taken) next ls)) e
+
+says-long : (number : ℕ) (line : List ℕ) → 2200000 < length line → says number line ≡ None
+unfolding says
+says-long number line long = let e : nat_lt 2200000 (length line) ≡ true = grind (arith, nat_tests) in rw e refl
+
+-- ---- steps
+
+pub Gives-nothing : (number : ℕ) (line : List ℕ) (a : BoardState) → says number line ≡ Some nothing → Gives number line number a a
+Gives-nothing number line a e = record { out = []; spells = λ more. ap (λ o. line_given o number more) e; input = refl; moved = Moved-none a }
+
+pub Gives-entry : (number : ℕ) (line e bytes : List ℕ) (a b : BoardState) → says number line ≡ Some (entry e bytes) → b ≡ after_post a (e ++ bytes) → Gives number line (number + 1) a b
+Gives-entry number line e bytes a b said posted = record {
+  out = e ++ bytes;
+  spells = λ more. ap (λ o. line_given o number more) said;
+  input = ap (λ s. s.input) posted;
+  moved = Moved-post a b (e ++ bytes) posted;
+}
+
+pub Line-advances : (taken number next : ℕ) (p q line : List ℕ) (a b c : BoardState) → taken < 4294967295 → LineTaken p q a b line true → Gives number line next b c
+    → Advances (assembled_from taken number) (assembled_from (suc taken) next) (ahead p a) (ahead q c) a c
+Line-advances taken number next p q line a b c few found given = record {
+  bytes = line ++ 10 ∷ [];
+  out = given.out;
+  came = found.1.came ∙ ap (λ i. put_back (line ++ 10 ∷ []) (put_back q i)) (sym given.input);
+  spells = λ rest.
+      ap (λ t. lines_given taken number (lines t)) (append_assoc line (10 ∷ []) rest)
+      ∙ (ap (lines_given taken number) (lines-feed line rest found.0)
+      ∙ (first_line taken number line (lines rest) few ∙ given.spells (λ n. lines_given (suc taken) n (lines rest))));
+  moved = Moved-then a b c [] given.out found.1.moved given.moved;
+}
+
+-- an input that begins with the line, as far as it is told
+pub record Found (u : Option (List ℕ)) (a b : BoardState) (line : List ℕ) : Type 0 where
+  pub input : List ℕ
+  pub rest : List ℕ
+  pub told : IfSome u (λ l. l ≡ input)
+  pub split : lines input ≡ line ∷ lines rest
+  pub moved : Moved a b []
+
+found_line : (p q line : List ℕ) (a b : BoardState) (whole : Bool) → LineTaken p q a b line whole → Found (ahead p a) a b line
+found_line p q line a b true h = record {
+  input = (line ++ 10 ∷ []) ++ known (ahead q b);
+  rest = known (ahead q b);
+  told = told-back (ahead p a) (ahead q b) (line ++ 10 ∷ []) (known (ahead q b)) h.1.came (known_is (ahead q b));
+  split = ap lines (append_assoc line (10 ∷ []) (known (ahead q b))) ∙ lines-feed line (known (ahead q b)) h.0;
+  moved = h.1.moved;
+}
+found_line p q line a b false h = record {
+  input = line ++ [];
+  rest = [];
+  told = told-back (ahead p a) (ahead q b) line [] h.1.came (none_ahead q b h.3);
+  split = ap lines (append-nil line) ∙ lines-last line h.0 h.2;
+  moved = h.1.moved;
+}
+
+pub Line-last : (taken number next : ℕ) (p q line : List ℕ) (a b c : BoardState) → taken < 4294967295 → LineTaken p q a b line false → Gives number line next b c
+    → TurnsFrom (assembled_from taken number) (ahead p a) a c Done
+Line-last taken number next p q line a b c few h given =
+    let m : Moved a c given.out = Moved-then a b c [] given.out h.1.moved given.moved in
+    record {
+      input = line ++ [];
+      told = told-back (ahead p a) (ahead q b) line [] h.1.came (none_ahead q b h.3);
+      out = given.out;
+      touched = m.touched;
+      ends = (
+        all_posted a c (assembled_from taken number (line ++ [])) given.out Done m
+            (ap (λ l. lines_given taken number (lines l)) (append-nil line) ∙ (ap (lines_given taken number) (lines-last line h.0 h.2)
+            ∙ (first_line taken number line [] few ∙ given.spells (λ n. lines_given (suc taken) n [])))),
+        subst AtEnd (sym given.input) h.3.at_end,
+      );
+    }
+
+pub Line-not : (taken number : ℕ) (p q line : List ℕ) (a b c : BoardState) (whole : Bool) (end : TextEnd) → taken < 4294967295 → LineTaken p q a b line whole → GivesNot number line b c end
+    → TurnsFrom (assembled_from taken number) (ahead p a) a c end
+Line-not taken number p q line a b c whole Done few t h = absurd h
+Line-not taken number p q line a b c whole Truncated few t h = absurd h
+Line-not taken number p q line a b c whole Input few t h = absurd h
+Line-not taken number p q line a b c whole Output few t h =
+    let f = found_line p q line a b whole t in
+    Turns-output (assembled_from taken number) (ahead p a) f.input a b c (h.0 ++ h.1) (lines_given (suc taken) (number + 1) (lines f.rest)) f.told f.moved h.3
+    (ap (lines_given taken number) f.split ∙ (first_line taken number line (lines f.rest) few ∙ ap (λ o. line_given o number (λ n. lines_given (suc taken) n (lines f.rest))) h.2))
+Line-not taken number p q line a b c whole TooMany few t h = absurd h
+Line-not taken number p q line a b c whole BadLine few t h =
+    let f = found_line p q line a b whole t in
+    let T : BoardState → Type 0 = λ s. Moved a s [] in
+    let m : Moved a c [] = subst T (sym h.1) f.moved in
+    record {
+      input = f.input;
+      told = f.told;
+      out = [];
+      touched = m.touched;
+      ends = all_posted a c (assembled_from taken number f.input) [] BadLine m
+          (ap (lines_given taken number) f.split ∙ (first_line taken number line (lines f.rest) few ∙ ap (λ o. line_given o number (λ n. lines_given (suc taken) n (lines f.rest))) h.0));
+    }
+
+pub No-line : (taken number : ℕ) (p q line : List ℕ) (a b : BoardState) (end : TextEnd) → taken < 4294967295 → NoLine p q a b line end → TurnsFrom (assembled_from taken number) (ahead p a) a b end
+No-line taken number p q line a b Done few h = record {
+  input = [];
+  told = told-back (ahead p a) (ahead q b) [] [] h.0.came (none_ahead q b h.1);
+  out = [];
+  touched = h.0.moved.touched;
+  ends = (all_posted a b (ended Done) [] Done h.0.moved refl, h.1.at_end);
+}
+No-line taken number p q line a b Truncated few h = absurd h
+No-line taken number p q line a b Input few h = Turns-input (assembled_from taken number) (ahead p a) a b h
+No-line taken number p q line a b Output few h = absurd h
+No-line taken number p q line a b TooMany few h = absurd h
+No-line taken number p q line a b BadLine few h =
+    let l = lines-long line (known (ahead q b)) h.0 (omega (arith, h.2)) in
+    record {
+      input = line ++ known (ahead q b);
+      told = told-back (ahead p a) (ahead q b) line (known (ahead q b)) h.1.came (known_is (ahead q b));
+      out = [];
+      touched = h.1.moved.touched;
+      ends = all_posted a b (assembled_from taken number (line ++ known (ahead q b))) [] BadLine h.1.moved
+          (ap (lines_given taken number) l.is ∙ (first_line taken number (line ++ l.more) l.tail few
+          ∙ ap (λ o. line_given o number (λ n. lines_given (suc taken) n l.tail)) (says-long number (line ++ l.more) (omega (arith, h.2, length-append line l.more)))));
+    }
+
+pub Lines-stop : (taken number : ℕ) (p q : List ℕ) (a b : BoardState) (end : TextEnd) → 4294967295 ≤ taken → Stops p q a b end → TurnsFrom (assembled_from taken number) (ahead p a) a b end
+Lines-stop taken number p q a b end full h = Turns-stop (assembled_from taken number) p q a b end refl
+    (λ byte rest. let s = some-line byte rest (byte == 10) refl in ap (lines_given taken number) s.2 ∙ too_many taken number s.0 s.1 full) h
+
+-- ---- what the line says
+
+nothing_said : (o : Option Line) → option_map entry_in o ≡ Some None → o ≡ Some nothing
+nothing_said (Some nothing) h = refl
+nothing_said (Some (entry e bytes)) h = cc
+nothing_said None h = cc
+
+entry_said : (o : Option Line) (e : List ℕ) → option_map entry_in o ≡ Some (Some e) → o ≡ Some (entry e (bytes_in o))
+entry_said (Some nothing) e h = cc
+entry_said (Some (entry e' bytes)) e h = let same : e' ≡ e = cc in ap (λ x. Some (entry x bytes)) same
+entry_said None e h = cc
+
+pub Gives-none : (number : ℕ) (line : List ℕ) (a : BoardState) → option_map entry_in (says number line) ≡ Some None → Gives number line number a a
+Gives-none number line a h = Gives-nothing number line a (nothing_said (says number line) h)
+
+pub Gives-some : (number : ℕ) (line e bytes : List ℕ) (a b : BoardState) → option_map entry_in (says number line) ≡ Some (Some e) → bytes ≡ bytes_in (says number line) → b ≡ after_post a (e ++ bytes)
+    → Gives number line (number + 1) a b
+Gives-some number line e bytes a b h same posted =
+    Gives-entry number line e (bytes_in (says number line)) a b (entry_said (says number line) e h) (posted ∙ ap (λ t. after_post a (e ++ t)) same)
+
+pub Gives-failed : (number : ℕ) (line e bytes : List ℕ) (a b : BoardState) → option_map entry_in (says number line) ≡ Some (Some e) → bytes ≡ bytes_in (says number line) → PostFailed a b (e ++ bytes)
+    → GivesNot number line a b Output
+Gives-failed number line e bytes a b h same f =
+    let T : List ℕ → Type 0 = λ t. PostFailed a b (e ++ t) in
+    (e, bytes_in (says number line), entry_said (says number line) e h, subst T same f)
+
+-- ---- byte by byte
+
+pub Line-ended : (p q r line : List ℕ) (a b c : BoardState) (next : Option ℕ) (byte : ℕ) → IsLine line → Fed p q a b line → Nexted q r b c next → next ≡ Some byte → byte ≡ 10
+    → LineTaken p r a c line true
+Line-ended p q r line a b c next byte plain fed h e feed =
+    let T : Option ℕ → Type 0 = λ o. Nexted q r b c o in
+    let U : ℕ → Type 0 = λ x. Fed p r a c (line ++ x ∷ []) in
+    (plain, subst U feed (Fed-more p q r a b c line byte fed (subst T e h)))
+
+pub Line-more : (p q r line : List ℕ) (a b c : BoardState) (next : Option ℕ) (byte : ℕ) → Fed p q a b line → Nexted q r b c next → next ≡ Some byte → Fed p r a c (line ++ byte ∷ [])
+Line-more p q r line a b c next byte fed h e = let T : Option ℕ → Type 0 = λ o. Nexted q r b c o in Fed-more p q r a b c line byte fed (subst T e h)
+
+pub Line-final : (p q r line : List ℕ) (a b c : BoardState) (next : Option ℕ) → IsLine line → Fed p q a b line → Nexted q r b c next → next ≡ None → 0 < length line
+    → LineTaken p r a c line false
+Line-final p q r line a b c next plain fed h e some =
+    let T : Option ℕ → Type 0 = λ o. Nexted q r b c o in
+    let n = subst T e h in
+    (plain, Fed-end p q r a b c line fed n.0, some, n.1)
+
+pub plain_byte : (byte : ℕ) → (byte ≡ 10 → ⊥) → (byte == 10) ≡ false
+plain_byte byte h = grind (arith, nat_tests)
+
+pub some_of : (xs : List ℕ) → (xs ≡ [] → ⊥) → 0 < length xs
+some_of [] h = absurd (h refl)
+some_of (x ∷ xs) h = omega arith
+
+pub Line-advances_as : (taken number next : ℕ) (p q line l : List ℕ) (a b c : BoardState) (whole : Bool) → taken < 4294967295 → LineTaken p q a b line whole → whole ≡ true → l ≡ line → Gives number l next b c
+    → Advances (assembled_from taken number) (assembled_from (suc taken) next) (ahead p a) (ahead q c) a c
+Line-advances_as taken number next p q line l a b c whole few h e same given =
+    let T : Bool → Type 0 = λ w. LineTaken p q a b line w in
+    let U : List ℕ → Type 0 = λ x. Gives number x next b c in
+    Line-advances taken number next p q line a b c few (subst T e h) (subst U same given)
+
+pub Line-last_as : (taken number next : ℕ) (p q line l : List ℕ) (a b c : BoardState) (whole : Bool) → taken < 4294967295 → LineTaken p q a b line whole → whole ≡ false → l ≡ line → Gives number l next b c
+    → TurnsFrom (assembled_from taken number) (ahead p a) a c Done
+Line-last_as taken number next p q line l a b c whole few h e same given =
+    let T : Bool → Type 0 = λ w. LineTaken p q a b line w in
+    let U : List ℕ → Type 0 = λ x. Gives number x next b c in
+    Line-last taken number next p q line a b c few (subst T e h) (subst U same given)
+
+pub Line-not_as : (taken number : ℕ) (p q line l : List ℕ) (a b c : BoardState) (whole : Bool) (end : TextEnd) → taken < 4294967295 → LineTaken p q a b line whole → l ≡ line → GivesNot number l b c end
+    → TurnsFrom (assembled_from taken number) (ahead p a) a c end
+Line-not_as taken number p q line l a b c whole end few h same failed =
+    let U : List ℕ → Type 0 = λ x. GivesNot number x b c end in
+    Line-not taken number p q line a b c whole end few h (subst U same failed)

@@ -1,0 +1,12 @@
+use Rattle.std.proofs.Common.{◌≡◌, Some, None, sym, ap, ◌∙◌, List, ℕ, Option}
+use Rattle.std.specs.Prelude.{option_map}
+use Rattle.pk_asm.specs.Line.{says, entry_in}
+use Rattle.pk_text.proofs.Lining.{Gives-none}
+use Rattle.pk_text.proofs.line.give_line.Goals as goal
+
+pub returns-in-Ok-None-clause-ok : goal.returns-in-Ok-None-clause-ok
+returns-in-Ok-None-clause-ok g c =
+    let e = c.in-Ok-None.ensures.exact in
+    let f = c.in-Ok-None.field-0-is in
+    let h : option_map entry_in (says c.args.number c.args.line.now) ≡ Some None = e ∙ ap Some f in
+    Gives-none c.args.number c.args.line.now _ h

@@ -1,0 +1,10 @@
+use Rattle.std.proofs.Common.{arith, rules, ◌≤◌, length}
+use Rattle.std.proofs.lemmas.Grind.{common_steps}
+use Rattle.pk_show.specs.Shown.{shown_head}
+use Rattle.pk_text.proofs.Showing.{front_short, no_refusal}
+use Rattle.pk_text.proofs.record.write_front.Goals as goal
+
+pub unreachable-requires : goal.unreachable-requires
+unreachable-requires c =
+    let short : length (shown_head c.args.head.now) ≤ 66 = front_short c.args.head.now c.get_u16.result c.get_u32.result c.get_u32-2.result c.get_u16.ensures c.get_u32.ensures c.get_u32-2.ensures (omega arith) (omega arith) (omega arith) in
+    no_refusal c.args.text.now c.clear.new.self (shown_head c.args.head.now) c.show_head.result short c.requires c.clear.ensures c.show_head.ensures.fits c.if-not-show_head.true

@@ -1,0 +1,15 @@
+use Rattle.std.proofs.Common.{arith}
+use Rattle.pk_text.specs.Records.{shown_from, shown}
+use Rattle.pk_text.proofs.Turning.{Advances-then, Advances-count, Turns-behind, Turns-all}
+use Rattle.pk_text.proofs.Showing.{Records-stop}
+use Rattle.pk_text.proofs.shower.Shower.show.Goals as goal
+
+pub returns-in-Err : goal.returns-in-Err
+returns-in-Err g c = Turns-all shown _ _ _ (Turns-behind _ _ _ _ _ _ _ _ c.loop-taken.invariant (c.in-Err.ensures.quits c.loop-taken._taken (omega arith)))
+
+pub loop-taken-preserved : goal.loop-taken-preserved
+loop-taken-preserved g c =
+    Advances-count shown_from shown_from c.loop-taken._taken _ _ _ _ (Advances-then _ _ _ _ _ _ _ _ _ c.loop-taken.invariant (c.in-Ok.ensures.advances c.loop-taken._taken (omega arith)))
+
+pub returns : goal.returns
+returns g c = Turns-all shown _ _ _ (Turns-behind _ _ _ _ _ _ _ _ c.loop-taken.invariant (Records-stop c.loop-taken._taken _ _ _ _ _ (omega arith) c.stop.ensures))

@@ -1,0 +1,5 @@
+pub mod Written
+pub mod Assembled
+pub mod Records
+pub mod Turns
+pub mod Steps

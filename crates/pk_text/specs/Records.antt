@@ -1,0 +1,40 @@
+-- Answer records as lines of text.
+use Rattle.std.specs.Prelude.{ℕ, zero, suc, nat_le, nat_lt, if◌then◌else◌, List, [], ◌∷◌, ◌++◌, length, take, drop, codes}
+use Rattle.pk_base.specs.Fields.{u32_at}
+use Rattle.pk_nvme.specs.Text.{hex_text}
+use Rattle.pk_show.specs.Shown.{shown_head}
+use Rattle.pk_text.specs.Written.{Written, ended, before, most}
+use Rattle.pk_text.specs.declared.end.TextEnd.TheVariants.{Done, Truncated, TooMany}
+
+-- data that are cut short give the digits that they have
+abbrev pub cut_short : List ℕ → Written
+cut_short bytes = record { bytes = hex_text bytes; end = Truncated }
+
+-- the digits of so many bytes of data and a line feed, and then what follows
+abbrev pub data_shown : ℕ → (List ℕ → Written) → List ℕ → Written
+data_shown size more bytes =
+    if nat_lt (length bytes) size then cut_short bytes
+    else before (hex_text (take size bytes) ++ codes "\n") (more (drop size bytes))
+
+-- the line of a record with this head, from its data on, and then what follows
+abbrev pub head_shown : List ℕ → (List ℕ → Written) → List ℕ → Written
+head_shown head more bytes = before (shown_head head) (data_shown (u32_at head 20) more bytes)
+
+-- the line of the record that begins here, and then what follows; a record that ends within its head of 24 bytes gives nothing
+abbrev pub record_shown : (List ℕ → Written) → List ℕ → Written
+record_shown more bytes = if nat_lt (length bytes) 24 then ended Truncated else head_shown (take 24 bytes) more (drop 24 bytes)
+
+-- the lines of at most so many records, behind so many others
+abbrev pub records_shown : ℕ → ℕ → List ℕ → Written
+records_shown zero taken bytes = ended Done
+records_shown (suc n) taken [] = ended Done
+records_shown (suc n) taken (byte ∷ bytes) =
+    if nat_le most taken then ended TooMany else record_shown (λ rest. records_shown n (suc taken) rest) (byte ∷ bytes)
+
+-- the lines of all the records that stand in the bytes, behind so many others
+abbrev pub shown_from : ℕ → List ℕ → Written
+shown_from taken bytes = records_shown (length bytes) taken bytes
+
+-- what a whole input of records is shown as
+abbrev pub shown : List ℕ → Written
+shown input = shown_from 0 input

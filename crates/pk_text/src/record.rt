@@ -1,0 +1,180 @@
+//! Answer records, taken and shown piece by piece.
+ghost use Rattle.std.specs.Prelude.{◌≡◌, ◌≤◌, ◌<◌, ◌-◌, ◌*◌, ℕ, List, length, IfOk, IfErr, OnOk, OnErr, codes};
+ghost use Rattle.pk_base.specs.Fields.{u32_at};
+ghost use Rattle.pk_nand.specs.Calls.{after_post, PostFailed};
+ghost use Rattle.pk_nvme.specs.Text.{hex_text};
+ghost use Rattle.pk_show.specs.Shown.{shown_head};
+ghost use Rattle.pk_text.specs.Written.{Written};
+ghost use Rattle.pk_text.specs.Records.{data_shown, head_shown};
+ghost use Rattle.pk_text.specs.Turns.{TurnsFrom};
+ghost use Rattle.pk_text.specs.declared.end.TextEnd.{TextEnd};
+ghost use Rattle.pk_text.specs.Steps.{HeadTaken, FeedFailed, Advances, ahead};
+
+use crate::TextEnd;
+use crate::feed::Feed;
+use pk_base::{get_u16, get_u32};
+use pk_nand::{Board, HostFault};
+use pk_nvme::Bytes;
+use pk_show::{show_head, show_piece};
+
+/// Most bytes of data that are shown in one piece.
+pub const PIECE: usize = 4096;
+
+/// Takes the head of a record. False where the input ends before it is whole.
+pub fn take_head<B: Board>(
+    feed: &mut Feed,
+    board: &mut B,
+    head: &mut Bytes,
+) -> Result<bool, HostFault>
+    requires { head.old.room ≡ 24 }
+    ensures room { head.new.room ≡ head.old.room }
+    ensures ok { IfOk result (λ whole. HeadTaken feed.old feed.new (B.state board.old) (B.state board.new) head.new.items whole) }
+    ensures err { OnErr result (FeedFailed (B.state board.old) (B.state board.new)) }
+{
+    head.clear();
+    for _count in 0..24usize {
+        match feed.next(board) {
+            Ok(Some(byte)) => head.push(byte),
+            Ok(None) => return Ok(false),
+            Err(fault) => return Err(fault),
+        }
+    }
+    Ok(true)
+}
+
+// Writes the front of a record's line.
+fn write_front(head: &[u8; 24], text: &mut Bytes)
+    requires { text.old.room ≡ 8192 }
+    ensures { text.new ≡ record text.old { items = shown_head head.now } }
+{
+    let _numbers = (get_u16(head, 12), get_u32(head, 0), get_u32(head, 16));
+    text.clear();
+    if !show_head(head, text) {
+        unreachable!();
+    }
+}
+
+/// Posts the front of the line of the record with this head. Answers the bytes of its data.
+pub fn post_front<B: Board>(board: &mut B, head: &Bytes, text: &mut Bytes) -> Result<u32, HostFault>
+    requires whole { length head.now.items ≡ 24 }
+    requires room { text.old.room ≡ 8192 }
+    ensures room { text.new.room ≡ text.old.room }
+    ensures size { IfOk result (λ size. size ≡ u32_at head.now.items 20) }
+    ensures ok { OnOk result (B.state board.new ≡ after_post (B.state board.old) (shown_head head.now.items)) }
+    ensures err { OnErr result (PostFailed (B.state board.old) (B.state board.new) (shown_head head.now.items)) }
+{
+    let mut bytes = [0u8; 24];
+    bytes.copy_from_slice(head.bytes());
+    write_front(&bytes, text);
+    match board.post(text.bytes()) {
+        Ok(()) => Ok(get_u32(&bytes, 20)),
+        Err(fault) => Err(fault),
+    }
+}
+
+// Posts the digits of a piece of data.
+fn post_piece<B: Board>(board: &mut B, piece: &[u8], text: &mut Bytes) -> Result<(), HostFault>
+    requires { 2 * length piece.now ≤ text.old.room }
+    ensures room { text.new.room ≡ text.old.room }
+    ensures ok { OnOk result (B.state board.new ≡ after_post (B.state board.old) (hex_text piece.now)) }
+    ensures err { OnErr result (PostFailed (B.state board.old) (B.state board.new) (hex_text piece.now)) }
+{
+    text.clear();
+    if !show_piece(piece, text) {
+        unreachable!();
+    }
+    board.post(text.bytes())
+}
+
+// Takes some of the data of a record, of which so many bytes are left, and posts their digits. Answers how many it took.
+fn show_some<B: Board>(
+    feed: &mut Feed,
+    board: &mut B,
+    text: &mut Bytes,
+    left: u32,
+) -> Result<u32, TextEnd>
+    requires some { 0 < left }
+    requires room { text.old.room ≡ 8192 }
+    ensures room { text.new.room ≡ text.old.room }
+    ensures some { IfOk result (λ count. 0 < count) }
+    ensures few { IfOk result (λ count. count ≤ left) }
+    ensures advances { IfOk result (λ count. (more : List ℕ → Written)
+        → Advances (data_shown left more) (data_shown (left - count) more) (ahead feed.old (B.state board.old)) (ahead feed.new (B.state board.new)) (B.state board.old) (B.state board.new)) }
+    ensures quits { IfErr result (λ end. (more : List ℕ → Written)
+        → TurnsFrom (data_shown left more) (ahead feed.old (B.state board.old)) (B.state board.old) (B.state board.new) end) }
+{
+    match feed.fill(board) {
+        Ok(true) => {}
+        Ok(false) => return Err(TextEnd::Truncated),
+        Err(_) => return Err(TextEnd::Input),
+    }
+    let count = feed.front().len().min(left as usize).min(PIECE);
+    match post_piece(board, &feed.front()[..count], text) {
+        Ok(()) => {
+            feed.take(count);
+            Ok(count as u32)
+        }
+        Err(_) => Err(TextEnd::Output),
+    }
+}
+
+/// Takes the data of a record, so many bytes, and posts their digits.
+pub fn show_data<B: Board>(
+    feed: &mut Feed,
+    board: &mut B,
+    text: &mut Bytes,
+    size: u32,
+) -> Result<(), TextEnd>
+    requires { text.old.room ≡ 8192 }
+    ensures room { text.new.room ≡ text.old.room }
+    ensures advances { OnOk result ((more : List ℕ → Written)
+        → Advances (data_shown size more) (data_shown 0 more) (ahead feed.old (B.state board.old)) (ahead feed.new (B.state board.new)) (B.state board.old) (B.state board.new)) }
+    ensures quits { IfErr result (λ end. (more : List ℕ → Written)
+        → TurnsFrom (data_shown size more) (ahead feed.old (B.state board.old)) (B.state board.old) (B.state board.new) end) }
+{
+    let mut left = size;
+    while 0 < left {
+        match show_some(feed, board, text, left) {
+            Ok(count) => left -= count,
+            Err(end) => return Err(end),
+        }
+    }
+    Ok(())
+}
+
+// Posts the line feed behind the data of a record.
+fn end_line<B: Board>(board: &mut B) -> Result<(), TextEnd>
+    ensures ok { OnOk result (B.state board.new ≡ after_post (B.state board.old) (codes "\n")) }
+    ensures err { OnErr result (PostFailed (B.state board.old) (B.state board.new) (codes "\n")) }
+    ensures kind { IfErr result (λ end. end ≡ TextEnd.Output) }
+{
+    match board.post(b"\n") {
+        Ok(()) => Ok(()),
+        Err(_) => Err(TextEnd::Output),
+    }
+}
+
+/// Posts the line of the record with this head, and takes its data.
+pub fn show_record<B: Board>(
+    feed: &mut Feed,
+    board: &mut B,
+    head: &Bytes,
+    text: &mut Bytes,
+) -> Result<(), TextEnd>
+    requires whole { length head.now.items ≡ 24 }
+    requires room { text.old.room ≡ 8192 }
+    ensures room { text.new.room ≡ text.old.room }
+    ensures advances { OnOk result ((more : List ℕ → Written)
+        → Advances (head_shown head.now.items more) more (ahead feed.old (B.state board.old)) (ahead feed.new (B.state board.new)) (B.state board.old) (B.state board.new)) }
+    ensures quits { IfErr result (λ end. (more : List ℕ → Written)
+        → TurnsFrom (head_shown head.now.items more) (ahead feed.old (B.state board.old)) (B.state board.old) (B.state board.new) end) }
+{
+    let size = match post_front(board, head, text) {
+        Ok(size) => size,
+        Err(_) => return Err(TextEnd::Output),
+    };
+    match show_data(feed, board, text, size) {
+        Ok(()) => end_line(board),
+        Err(end) => Err(end),
+    }
+}
