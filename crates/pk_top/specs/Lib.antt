@@ -2,3 +2,4 @@ pub mod Words
 pub mod Texts
 pub mod Statuses
 pub mod Loads
+pub mod TextRuns

@@ -7,6 +7,7 @@ mod making;
 mod running;
 mod serving;
 mod status;
+mod texts;
 mod word;
 mod words;
 

@@ -72,6 +72,10 @@ fn words(rt: HostRuntime) -> Result<(), Fail> {
         ("list -", 2),
         ("stat", 11),
         ("stat 1", 2),
+        ("asm", 0),
+        ("asm 1", 2),
+        ("show", 0),
+        ("show -", 2),
         ("gen 1 3", 11),
         ("gen 1", 2),
     ] {
@@ -103,5 +107,25 @@ fn serves(rt: HostRuntime) -> Result<(), Fail> {
     assert_eq!(rt; run(alloc, &serve, &mut flash).0, 0);
     assert_eq!(rt; flash.posted(), RECORDS.as_slice());
     assert_eq!(rt; run(alloc, &serve, &mut flash).0, 11);
+    Ok(())
+}
+
+// The text of the worked script is assembled to its bytes, and its records are shown.
+#[test]
+fn texts(rt: HostRuntime) -> Result<(), Fail> {
+    let alloc = rt.alloc();
+    let text = b"store 61 616263\nretrieve 61 3\n".as_slice();
+    let mut lines = Flash::new(alloc, None, text.to_vec(alloc)?, ROOM)?;
+    assert_eq!(rt; run(alloc, &["asm"], &mut lines).0, 0);
+    assert_eq!(rt; lines.posted(), SCRIPT.as_slice());
+    let mut records = Flash::new(alloc, None, RECORDS.to_vec(alloc)?, ROOM)?;
+    assert_eq!(rt; run(alloc, &["show"], &mut records).0, 0);
+    assert_eq!(rt;
+        records.posted(),
+        b"cid=1 status=00 result=0 reads=0 data=-\ncid=2 status=00 result=3 reads=1 data=616263\n".as_slice()
+    );
+    let mut bad = Flash::new(alloc, None, b"flush\nstroe\n".to_vec(alloc)?, ROOM)?;
+    assert_eq!(rt; run(alloc, &["asm"], &mut bad).0, 12);
+    assert_eq!(rt; bad.posted().len(), 64);
     Ok(())
 }

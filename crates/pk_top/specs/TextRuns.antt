@@ -1,0 +1,19 @@
+-- A run of a word that touches no flash.
+use Rattle.std.specs.Prelude.{◌≡◌, ◌⊎◌, ℕ, List}
+use Rattle.pk_nand.specs.BoardState.{BoardState}
+use Rattle.pk_text.specs.Written.{Written}
+use Rattle.pk_text.specs.Turns.{Turns}
+use Rattle.pk_text.specs.declared.end.TextEnd.{TextEnd}
+use Rattle.pk_text.specs.declared.end.TextEnd.TheVariants.{Done, Truncated, Input, Output, TooMany, BadLine}
+
+abbrev pub text_status : TextEnd → ℕ
+text_status Done = 0
+text_status Truncated = 3
+text_status Input = 4
+text_status Output = 5
+text_status TooMany = 10
+text_status BadLine = 12
+
+-- Memory was missing, and nothing was done; or the input was turned into what this function says of it, up to an end of this status.
+abbrev pub TextRun : (List ℕ → Written) → BoardState → BoardState → ℕ → Type 0
+TextRun turn old new status = ((status ≡ 7) × (new ≡ old)) ⊎ ((end : TextEnd) × (status ≡ text_status end) × Turns turn old new end)
