@@ -1,0 +1,4 @@
+pub mod HeadLemmas
+pub mod PageLemmas
+pub mod ValueLemmas
+pub mod StoredLemmas

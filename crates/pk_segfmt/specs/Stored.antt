@@ -1,0 +1,36 @@
+-- The pages of a value, each by its number, and a flash in which they stand.
+use Rattle.std.specs.Prelude.{◌≡◌, ℕ, ◌+◌, ◌*◌, ◌<◌, List, length, take, drop, Ok}
+use Rattle.pk_base.specs.Key.{Key}
+use Rattle.pk_base.specs.Shape.{Shape, IsShape, charge}
+use Rattle.pk_base.specs.Entry.{Place}
+use Rattle.pk_base.specs.Page.{Page, whole}
+use Rattle.pk_segfmt.specs.Value.{head_bytes, value_bytes, value_at}
+use Rattle.pk_segfmt.specs.Head.{IsHead}
+
+-- page i of a value
+unfoldable pub page_of : Shape → Key → List ℕ → ℕ → List ℕ
+page_of shape key value i = take shape.page_bytes (drop (i * shape.page_bytes) (value_bytes shape key value))
+
+-- the pages of this value stand one after another from a page on
+abbrev pub IsStored : Shape → (ℕ → Page) → Key → ℕ → List ℕ → Type 0
+IsStored shape at key page value = (i : ℕ) → i < charge shape (length value) → at (page + i) ≡ whole (page_of shape key value i)
+
+-- whole pages have the page's size
+abbrev pub AreFull : Shape → (ℕ → Page) → Type 0
+AreFull shape at = (page : ℕ) (bytes : List ℕ) → at page ≡ whole bytes → length bytes ≡ shape.page_bytes
+
+-- where the pages of a value stand, the reading of a flash finds the value
+abbrev pub ReadsBack : Type 0
+ReadsBack =
+    (shape : Shape) (at : ℕ → Page) (key : Key) (page : ℕ) (value : List ℕ) → IsShape shape → IsHead shape key (length value) → IsStored shape at key page value
+    → value_at shape at key (record { page = page; len = length value }) ≡ Ok value
+
+-- where the reading of a flash finds a value, its pages stand
+abbrev pub StandsWhereRead : Type 0
+StandsWhereRead =
+    (shape : Shape) (at : ℕ → Page) (key : Key) (place : Place) (value : List ℕ) → IsShape shape → IsHead shape key place.len → AreFull shape at
+    → value_at shape at key place ≡ Ok value → (length value ≡ place.len) × IsStored shape at key place.page value
+
+-- the first page of a value begins with its head
+abbrev pub BeginsWithHead : Type 0
+BeginsWithHead = (shape : Shape) (key : Key) (value : List ℕ) → IsShape shape → IsHead shape key (length value) → take 32 (page_of shape key value 0) ≡ head_bytes key (length value)

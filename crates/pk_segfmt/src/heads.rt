@@ -1,0 +1,108 @@
+//! The head in front of a value.
+ghost use Rattle.std.specs.Prelude.{◌≡◌, ◌≤◌, List, ℕ, length, take, nat_le, IfOk, IfErr, MatchResult, Ok, Some, None, slice_index, drop};
+ghost use Rattle.pk_base.specs.Fields.{Finds, number_at};
+ghost use Rattle.pk_base.specs.Key.{IsKey};
+ghost use Rattle.pk_base.specs.Shape.{IsShape, greatest};
+ghost use Rattle.pk_segfmt.specs.Value.{head_bytes};
+ghost use Rattle.pk_segfmt.specs.Head.{IsHead, head_fault};
+ghost use Rattle.pk_segfmt.specs.Stored.{page_of};
+
+use crate::found::{BadHead, Head};
+use pk_base::{
+    Key, Shape, Wrong, get_u32, passes, put_padded, put_text, put_u8, put_u32, put_zeros, text,
+    zeros,
+};
+
+const KIND: [u8; 1] = [0x44];
+
+const MAGIC: [u8; 8] = *b"PINKDATA";
+
+/// A value may have this length.
+fn is_len(shape: &Shape, len: u32) -> bool
+    ensures { result ≡ nat_le len (greatest shape.now) }
+{
+    len <= shape.greatest()
+}
+
+/// The first wrong byte.
+#[tactic(auto, unfolding(crate::specs::Head::head_fault))]
+fn checked(shape: &Shape, bytes: &[u8]) -> Result<(), Wrong>
+    requires { length bytes.now ≡ 32 }
+    ensures { Finds result (head_fault shape.now bytes.now) }
+{
+    let size = bytes[0];
+    passes(0, size >= 1 && size <= 16)?;
+    text(bytes, 1, &KIND)?;
+    zeros(bytes, 2, 4)?;
+    zeros(bytes, 4 + size as usize, 20)?;
+    passes(20, is_len(shape, get_u32(bytes, 20)))?;
+    text(bytes, 24, &MAGIC)
+}
+
+/// The head of bytes that are one.
+fn read(shape: &Shape, bytes: &[u8]) -> Head
+    requires sized { length bytes.now ≡ 32 }
+    requires good { head_fault shape.now bytes.now ≡ None }
+    ensures { result ≡ record { key = take (slice_index bytes.now 0) (drop 4 bytes.now); len = number_at 4 20 bytes.now } }
+{
+    let _ = shape;
+    let size = bytes[0] as usize;
+    Head {
+        key: Key::of(&bytes[4..4 + size]),
+        len: get_u32(bytes, 20),
+    }
+}
+
+/// The head of these bytes, or the first wrong one.
+fn head_of(shape: &Shape, bytes: &[u8]) -> Result<Head, BadHead>
+    requires { length bytes.now ≡ 32 }
+    ensures exact { MatchResult result (λ h. (head_fault shape.now bytes.now ≡ None) × (h ≡ record { key = take (slice_index bytes.now 0) (drop 4 bytes.now); len = number_at 4 20 bytes.now })) (λ bad. head_fault shape.now bytes.now ≡ Some bad.at) }
+    ensures shape { IsShape shape.now }
+{
+    shape.known();
+    match checked(shape, bytes) {
+        Ok(()) => Ok(read(shape, bytes)),
+        Err(wrong) => Err(BadHead { at: wrong.at }),
+    }
+}
+
+/// The head of 32 bytes.
+fn decode(shape: &Shape, bytes: &[u8]) -> Result<Head, BadHead>
+    requires { length bytes.now ≡ 32 }
+    ensures found { IfOk result (λ h. IsHead shape.now h.key h.len × (bytes.now ≡ head_bytes h.key h.len)) }
+    ensures only { (key : List ℕ) (len : ℕ) → IsHead shape.now key len → bytes.now ≡ head_bytes key len → result ≡ Ok (record { key = key; len = len }) }
+    ensures exact { IfErr result (λ bad. head_fault shape.now bytes.now ≡ Some bad.at) }
+{
+    head_of(shape, bytes)
+}
+
+/// The head of a value's first page.
+pub fn head(shape: &Shape, page: &[u8]) -> Result<Head, BadHead>
+    requires { length page.now ≡ shape.now.page_bytes }
+    // What is found may be a head, and its bytes stand in front.
+    ensures found { IfOk result (λ h. IsHead shape.now h.key h.len × (take 32 page.now ≡ head_bytes h.key h.len)) }
+    // A head that stands in front is found.
+    ensures only { (key : List ℕ) (len : ℕ) → IsHead shape.now key len → take 32 page.now ≡ head_bytes key len → result ≡ Ok (record { key = key; len = len }) }
+    // The head of a value that was written is found.
+    ensures written { (key value : List ℕ) → IsHead shape.now key (length value) → page.now ≡ page_of shape.now key value 0 → result ≡ Ok (record { key = key; len = length value }) }
+    // Else the first wrong byte is named.
+    ensures exact { IfErr result (λ bad. head_fault shape.now (take 32 page.now) ≡ Some bad.at) }
+{
+    shape.known();
+    decode(shape, &page[..32])
+}
+
+/// Writes the head of a value of so many bytes.
+pub(crate) fn put_head(key: &[u8], len: u32, into: &mut [u8])
+    requires key { IsKey key.now }
+    requires room { 32 ≤ length into.old }
+    ensures front { take 32 into.new ≡ head_bytes key.now len }
+    ensures len { length into.new ≡ length into.old }
+{
+    put_u8(into, 0, key.len() as u8);
+    put_text(into, 1, &KIND);
+    put_zeros(into, 2, 4);
+    put_padded(into, 4, 16, key);
+    put_u32(into, 20, len);
+    put_text(into, 24, &MAGIC);
+}

@@ -1,0 +1,52 @@
+//! The pages of a value.
+ghost use Rattle.std.specs.Prelude.{◌≡◌, ◌<◌, ◌≤◌, ◌+◌, ◌-◌, ◌*◌, ◌++◌, length, take, drop};
+ghost use Rattle.pk_base.specs.Fields.{padded};
+ghost use Rattle.pk_base.specs.Shape.{greatest, charge};
+ghost use Rattle.pk_segfmt.specs.Value.{head_bytes};
+ghost use Rattle.pk_segfmt.specs.Stored.{page_of, ReadsBack, StandsWhereRead, BeginsWithHead};
+
+use crate::heads::put_head;
+use pk_base::{Key, Shape, put_padded};
+
+/// Writes a text from this place on, as much as there is room for, and zeros behind it.
+fn put_rest(into: &mut [u8], at: usize, text: &[u8])
+    requires { at ≤ length into.old }
+    ensures { into.new ≡ take at into.old ++ padded (length into.old - at) (take (length into.old - at) text.now) }
+{
+    let room = into.len() - at;
+    let size = text.len().min(room);
+    put_padded(into, at, room, &text[..size]);
+}
+
+/// Writes page `i` of a value's pages; `into` has the bytes of a page.
+pub fn page(shape: &Shape, key: &Key, value: &[u8], i: u32, into: &mut [u8])
+    requires short { length value.now ≤ greatest shape.now }
+    requires within { i < charge shape.now (length value.now) }
+    requires sized { length into.old ≡ shape.now.page_bytes }
+    ensures { into.new ≡ page_of shape.now key.now value.now i }
+{
+    shape.known();
+    let key = key.bytes();
+    if i == 0 {
+        put_head(key, value.len() as u32, into);
+        put_rest(into, 32, value);
+    } else {
+        let start = i as usize * into.len() - 32;
+        put_rest(into, 0, &value[start..]);
+    }
+}
+
+/// Where the pages of a value stand, the reading of a flash finds the value.
+pub fn reads_back()
+    ensures { ReadsBack }
+{}
+
+/// Where the reading of a flash finds a value, its pages stand.
+pub fn stands_where_read()
+    ensures { StandsWhereRead }
+{}
+
+/// The first page of a value begins with its head.
+pub fn begins_with_head()
+    ensures { BeginsWithHead }
+{}
