@@ -1,11 +1,9 @@
 -- Which reply a command has and which map it leaves, by the first check that fails.
-use Rattle.std.proofs.Common.{◌≡◌, ℕ, ◌≤◌, List, length, Bool, true, false, ◌&&◌, nat_le, IsTrue, Option, Some, None, refl, sym, ap, ◌∙◌, arith}
+use Rattle.std.proofs.Common.{◌≡◌, ℕ, ◌≤◌, List, Bool, true, false, ◌&&◌, nat_le, IsTrue, Option, Some, None, refl, sym, ap, ◌∙◌}
 use Rattle.std.proofs.lemmas.Bool.{leb-true}
-use Rattle.std.proofs.lemmas.List.{length-take-le}
-use Rattle.pk_base.specs.Key.{IsKey}
 use Rattle.pk_base.specs.Shape.{Shape}
 use Rattle.pk_base.specs.Map.{Map}
-use Rattle.pk_nvme.specs.Command.{Command, key}
+use Rattle.pk_nvme.specs.Command.{Command}
 use Rattle.pk_nvme.specs.Reply.{refusal}
 use Rattle.pk_model.specs.Answer.{Kind, kind, first_of, check, is_namespace, is_key_length, size_fault, fault_of, early, late_of, refused, reply, reply_of, map_after, effect}
 
@@ -63,10 +61,11 @@ passed_key shape c k is e =
 abbrev pub WantsKey : Kind → Type 0
 WantsKey k = (n : ℕ) → is_key_length k n ≡ (nat_le 1 n && nat_le n 16)
 
-pub key_is : (shape : Shape) (c : Command) (k : Kind) → WantsKey k → length c.key_bytes ≡ 16 → kind c.opcode ≡ Some k → early shape c ≡ None → IsKey (key c)
-key_is shape c k wants sized is e =
+pub record IsKeyLength (n : ℕ) : Type 0 where
+  pub some : 1 ≤ n
+  pub most : n ≤ 16
+
+pub key_sized : (shape : Shape) (c : Command) (k : Kind) → WantsKey k → kind c.opcode ≡ Some k → early shape c ≡ None → IsKeyLength c.key_len
+key_sized shape c k wants is e =
     let both = both_true (nat_le 1 c.key_len) (nat_le c.key_len 16) (sym (wants c.key_len) ∙ passed_key shape c k is e) in
-    let some : 1 ≤ c.key_len = leb-true 1 c.key_len both.0 in
-    let most : c.key_len ≤ 16 = leb-true c.key_len 16 both.1 in
-    let len : length (key c) ≡ c.key_len = length-take-le c.key_len c.key_bytes (omega (arith, sized, most)) in
-    record { some = omega (arith, len, some); most = omega (arith, len, most) }
+    record { some = leb-true 1 c.key_len both.0; most = leb-true c.key_len 16 both.1 }

@@ -1,7 +1,7 @@
 -- What the machine in memory answers, and the live pages of its map.
 use Rattle.std.proofs.Common.{◌≡◌, ℕ, ◌+◌, refl, sym, ap, ◌∙◌, arith, List, [], Bool, true, false, Option, Some, None, is_some, if◌then◌else◌}
 use Rattle.std.proofs.lemmas.List.{nil_from_length}
-use Rattle.std.specs.FinMap.{get, insert, remove, empty, entries, len-entries, len-empty}
+use Rattle.std.specs.FinMap.{get, contains_key, insert, remove, empty, entries, len-entries, len-empty}
 use Rattle.pk_base.specs.Key.{Key, key_cmp}
 use Rattle.pk_base.specs.Shape.{Shape, limit}
 use Rattle.pk_nvme.specs.declared.request.Request.{Request}
@@ -33,6 +33,9 @@ module _ (old : Machine) (r : Request) (k : Kind) where
       let serves_it = serves old.shape (limit old.shape) 0 old.map no_numbers (command_of r v) k is (passes v) late in
       record { reply_is = answer ∙ sym serves_it.replied; map_is = left ∙ ap (λ (m : Map). record old { map = m }) (sym serves_it.leaves) }
 
--- a check that a key is there
-pub there : (b : Bool) (o : Option (List ℕ)) → is_some o ≡ b → check (is_some o) 0x87 ≡ (if b then None else Some 0x87)
-there b o e = ap (λ x. check x 0x87) e
+-- what was found of a key in a map
+pub found_some : (m : Map) (q : Key) (o : Option (List ℕ)) (v : List ℕ) → o ≡ get m q → o ≡ Some v → contains_key m q ≡ true
+found_some m q o v e is = ap is_some (sym e ∙ is)
+
+pub found_none : (m : Map) (q : Key) (o : Option (List ℕ)) → o ≡ get m q → o ≡ None → contains_key m q ≡ false
+found_none m q o e is = ap is_some (sym e ∙ is)

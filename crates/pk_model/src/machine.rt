@@ -1,7 +1,6 @@
 //! The plain slow machine: what a drive without faults answers, over a map in memory. It is a yardstick for tests.
-ghost use Rattle.std.specs.Prelude.{◌≡◌, ◌≤◌, ℕ, length, None, Some, IfOk, OnErr, MatchOption, List, []};
-ghost use Rattle.std.specs.FinMap.{empty};
-ghost use Rattle.pk_base.specs.Key.{IsKey};
+ghost use Rattle.std.specs.Prelude.{◌≡◌, ◌≤◌, ◌<◌, ◌^◌, ◌⊎◌, ℕ, length, None, Some, IfOk, IfSome, OnErr, List, []};
+ghost use Rattle.std.specs.FinMap.{empty, get};
 ghost use Rattle.pk_base.specs.Shape.{charge, limit};
 ghost use Rattle.pk_base.specs.Map.{pages_of, pages_if_some, live as live_of};
 ghost use Rattle.std.specs.FinMap as map;
@@ -56,10 +55,11 @@ fn pages(shape: &Shape, value: &[u8]) -> u64
 
 /// The key that a request names.
 fn key_of(request: &Request) -> Key
-    requires { IsKey (key_in (command_of request.now [])) }
+    requires some { 1 ≤ request.now.key_len }
+    requires most { request.now.key_len ≤ 16 }
     ensures { result ≡ key_in (command_of request.now []) }
 {
-    Key::of(&request.key[..(request.key_len as usize).min(16)])
+    Key::of(&request.key[..request.key_len as usize])
 }
 
 impl MapMachine {
@@ -84,5 +84,50 @@ impl MapMachine {
             Some(_) => Answer::of_parts(alloc, 0, &[], &[]),
             None => Answer::of_status(alloc, 0x87),
         }
+    }
+
+    /// A success that leaves the map: of a Flush or a Tick.
+    fn done(&self, alloc: Global, request: &Request) -> Result<Answer, AllocError>
+        requires opcode { (request.now.opcode ≡ 0x00) ⊎ (request.now.opcode ≡ 0xC0) }
+        requires passed { (value : List ℕ) → early self.now.shape (command_of request.now value) ≡ None }
+        ensures { IfOk result (λ a. (value : List ℕ) → Answers self.now self.now (command_of request.now value) a) }
+    {
+        let _ = request;
+        Answer::of_parts(alloc, 0, &[], &[])
+    }
+
+    /// The front of the value of a key.
+    fn retrieve(&self, alloc: Global, request: &Request) -> Result<Answer, AllocError>
+        requires opcode { request.now.opcode ≡ 0x02 }
+        requires passed { (value : List ℕ) → early self.now.shape (command_of request.now value) ≡ None }
+        requires short { (k : List ℕ) → IfSome (get self.now.map k) (λ v. length v < 2 ^ 32) }
+        ensures { IfOk result (λ a. (value : List ℕ) → Answers self.now self.now (command_of request.now value) a) }
+    {
+        match self.map.get(&key_of(request)) {
+            Some(value) => {
+                let value = value.bytes();
+                let size = value.len().min(request.size as usize);
+                Answer::of_parts(alloc, value.len() as u32, &[], &value[..size])
+            }
+            None => Answer::of_status(alloc, 0x87),
+        }
+    }
+
+    /// Takes a key away.
+    fn delete(&mut self, alloc: Global, request: &Request) -> Result<Answer, AllocError>
+        requires opcode { request.now.opcode ≡ 0x10 }
+        requires passed { (value : List ℕ) → early self.old.shape (command_of request.now value) ≡ None }
+        ensures ok { IfOk result (λ a. (value : List ℕ) → Answers self.old self.new (command_of request.now value) a) }
+        ensures err { OnErr result (self.new ≡ self.old) }
+    {
+        let key = key_of(request);
+        let pages = match self.map.get(&key) {
+            Some(value) => pages(&self.shape, value.bytes()),
+            None => return Answer::of_status(alloc, 0x87),
+        };
+        let answer = Answer::of_parts(alloc, 0, &[], &[])?;
+        self.map.remove(&key);
+        self.live -= pages;
+        Ok(answer)
     }
 }
