@@ -1,10 +1,11 @@
 -- Digits of bytes one piece after another.
-use Rattle.std.proofs.Common.{◌≡◌, ℕ, ◌+◌, ◌*◌, ◌<◌, ◌≤◌, ◌/◌, ◌%◌, List, [], ◌∷◌, ◌++◌, length, take, get_or, slice_index, refl, sym, ap, ◌∙◌, arith}
+use Rattle.std.proofs.Common.{◌≡◌, ℕ, ◌+◌, ◌*◌, ◌<◌, ◌≤◌, ◌/◌, ◌%◌, ◌^◌, List, [], ◌∷◌, ◌++◌, length, take, get_or, slice_index, refl, sym, ap, ◌∙◌, arith}
 use Rattle.std.proofs.lemmas.List.{append_assoc, append-nil, length-append, length-take-le, take_more}
+use Rattle.std.proofs.lemmas.Fmt.{decimal_nonempty, length-decimal-le}
 use Rattle.hex.specs.Hex.{encode_with, lower_digits}
 use Rattle.hex.proofs.HexLemmas.{length-encode_with}
 use Rattle.pk_nvme.specs.Bytes.{RoomyList}
-use Rattle.pk_nvme.specs.Text.{hex_text}
+use Rattle.pk_nvme.specs.Text.{number_text, hex_text}
 
 encode_with-append : (t xs ys : List ℕ) → encode_with t (xs ++ ys) ≡ encode_with t xs ++ encode_with t ys
 unfolding encode_with
@@ -45,3 +46,11 @@ digits_written old now new bytes digits i h before is extended =
     ∙ ap (λ (xs : List ℕ). record old { items = xs })
     (append_assoc old.items (hex_text (take i bytes)) digits
     ∙ ap (λ (xs : List ℕ). old.items ++ xs) (ap (λ (xs : List ℕ). hex_text (take i bytes) ++ xs) is ∙ hex_text_more bytes i h))
+
+-- the digits of a number of 32 bits
+pub number_text_short : (n : ℕ) → n < 2 ^ 32 → (0 < length (number_text n)) × (length (number_text n) ≤ 10)
+number_text_short n h = (decimal_nonempty n (omega (arith, h)), length-decimal-le 10 n (omega arith) (omega (arith, h)) (omega (arith, h)))
+
+-- what is appended to a text takes so much of its room
+pub appended : (old new : RoomyList) (xs : List ℕ) → new ≡ record old { items = old.items ++ xs } → (length new.items ≡ length old.items + length xs) × (new.room ≡ old.room)
+appended old new xs e = (ap (λ (r : RoomyList). length r.items) e ∙ length-append old.items xs, ap (λ (r : RoomyList). r.room) e)

@@ -2,14 +2,16 @@ use Rattle.std.proofs.Common.{◌≡◌, ◌∙◌, ◌+◌, ◌++◌, List, ℕ
 use Rattle.std.proofs.lemmas.List.{take_all, length-take-le}
 use Rattle.pk_base.specs.Fields.{u16, u32, zeros}
 use Rattle.pk_base.proofs.Tables.{joined, joined_spelled}
+use Rattle.pk_nvme.specs.Command.{command}
+use Rattle.pk_nvme.proofs.RequestLemmas.{command-entry_of}
 use Rattle.pk_nvme.proofs.request.Request.entry.Goals as goal
 
 -- what was written behind a place, by the size of the text
 front_sized : (at n : ℕ) (new old text : List ℕ) → length text ≡ n → take (at + length text) new ≡ take at old ++ text → take (at + n) new ≡ take at old ++ text
 front_sized at n new old text size front = ap (λ (k : ℕ). take (at + k) new) (sym size) ∙ front
 
-pub returns : goal.returns
-returns c =
+pub returns-clause-bytes : goal.returns-clause-bytes
+returns-clause-bytes c =
     let key : List ℕ = c.args.self.now.key in
     let low : List ℕ = take 8 key in
     let high : List ℕ = take 8 (drop 8 key) in
@@ -23,3 +25,8 @@ returns c =
     let all : take 64 c.put_text-2.new.bytes ≡ joined [] fields =
     rw (last, c.put_zeros-3.ensures.front, c.put_u8-3.ensures.front, c.put_u8-2.ensures.front, c.put_u32-2.ensures.front, c.put_zeros-2.ensures.front, first, c.put_u32.ensures.front, c.put_u16.ensures.front, c.put_zeros.ensures.front, c.put_u8.ensures.front) refl in
     sym (take_all 64 c.put_text-2.new.bytes (omega arith)) ∙ all ∙ joined_spelled [] fields
+
+pub returns-clause-fields : goal.returns-clause-fields
+returns-clause-fields c = λ value.
+    ap (λ (entry : List ℕ). command entry value) (returns-clause-bytes c)
+    ∙ command-entry_of c.args.self.now value (assumption (c.well_formed, c.put_text.lifetimes)) (omega arith) (omega arith) (omega arith)

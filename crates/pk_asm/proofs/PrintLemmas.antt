@@ -1,0 +1,141 @@
+-- Words that are written one after another.
+use Rattle.std.proofs.Common.{◌≡◌, ℕ, suc, ◌+◌, ◌-◌, ◌*◌, ◌/◌, ◌%◌, ◌<◌, ◌≤◌, Bool, true, false, cond, List, [], ◌∷◌, ◌++◌, length, take, drop, get_or, map, refl, sym, ap, ◌∙◌, arith, subst, length-append}
+use Rattle.std.specs.Prelude.{nat_le, ◌&&◌}
+use Rattle.std.specs.List.{flat_map}
+use Rattle.std.specs.Borrow.{Bor}
+use Rattle.std.proofs.lemmas.Bool.Decides.{nat_tests}
+use Rattle.std.proofs.lemmas.List.{append_assoc, append-nil, take_more, take_all, map-append, take-append-drop, length-take-le}
+use Rattle.std.proofs.lemmas.List.Concat.{flat_map-append}
+use Rattle.hex.specs.Hex.{encode_with, encode_lower, lower_digits}
+use Rattle.hex.proofs.HexLemmas.{length-encode_with}
+use Rattle.pk_nvme.specs.Bytes.{RoomyList}
+use Rattle.pk_nvme.specs.Text.{hex_text}
+use Rattle.pk_asm.specs.Printed.{behind_blanks}
+use Rattle.pk_asm.specs.PrintedWord.{word_text, tail_text}
+use Rattle.pk_asm.specs.declared.writer.Word.{Word}
+use Rattle.pk_asm.specs.declared.writer.Word.TheVariants.{Text, Hex}
+
+-- a list of bytes behind which a text was written
+pub record Wrote (old : RoomyList) (text : List ℕ) (new : RoomyList) : Type 0 where
+  pub now : new ≡ record old { items = old.items ++ text }
+
+pub wrote_none : (old : RoomyList) → Wrote old [] old
+wrote_none old = record { now = ap (λ (xs : List ℕ). record old { items = xs }) (sym (append-nil old.items)) }
+
+pub wrote_more : (old now next : RoomyList) (front text whole : List ℕ) → front ++ text ≡ whole → Wrote old front now → next ≡ record now { items = now.items ++ text } → Wrote old whole next
+wrote_more old now next front text whole e h step =
+    let moved : record now { items = now.items ++ text } ≡ record old { items = (old.items ++ front) ++ text } = ap (λ (v : RoomyList). record v { items = v.items ++ text }) h.now in
+    record { now = step ∙ moved ∙ ap (λ (xs : List ℕ). record old { items = xs }) (append_assoc old.items front text ∙ ap (λ (xs : List ℕ). old.items ++ xs) e) }
+
+pub wrote_len : (old now : RoomyList) (text : List ℕ) → Wrote old text now → (length now.items ≡ length old.items + length text) × (now.room ≡ old.room)
+wrote_len old now text h = (ap (λ (v : RoomyList). length v.items) h.now ∙ length-append old.items text, ap (λ (v : RoomyList). v.room) h.now)
+
+-- ---- hexadecimal digits
+
+hex_append : (xs ys : List ℕ) → hex_text (xs ++ ys) ≡ hex_text xs ++ hex_text ys
+unfolding encode_with
+hex_append [] ys = refl
+hex_append (x ∷ xs) ys = ap (λ (r : List ℕ). get_or lower_digits (x / 16) 0 ∷ get_or lower_digits (x % 16) 0 ∷ r) (hex_append xs ys)
+
+pub hex_more : (bytes : List ℕ) (i : ℕ) → i < length bytes → hex_text (take i bytes) ++ hex_text (get_or bytes i 0 ∷ []) ≡ hex_text (take (i + 1) bytes)
+hex_more bytes i lt = sym (hex_append (take i bytes) (get_or bytes i 0 ∷ [])) ∙ ap hex_text (sym (take_more bytes i 0 lt))
+
+-- so many bytes were written
+pub record HexSoFar (bytes : List ℕ) (i : ℕ) (old now : RoomyList) : Type 0 where
+  pub wrote : Wrote old (hex_text (take i bytes)) now
+
+pub hex_none : (bytes : List ℕ) (old : RoomyList) → HexSoFar bytes 0 old old
+unfolding encode_with
+hex_none bytes old = record { wrote = wrote_none old }
+
+pub hex_room : (bytes : List ℕ) (i : ℕ) (old now : RoomyList) → i < length bytes → length old.items + 2 * length bytes ≤ old.room → HexSoFar bytes i old now → length now.items + 2 ≤ now.room
+hex_room bytes i old now lt room h =
+    let sized = wrote_len old now (hex_text (take i bytes)) h.wrote in
+    let digits = length-encode_with lower_digits (take i bytes) in
+    let count = length-take-le i bytes (omega arith) in
+    omega (arith, sized.0, sized.1, digits)
+
+pub hex_step : (bytes : List ℕ) (i : ℕ) (old now next : RoomyList) → i < length bytes → next ≡ record now { items = now.items ++ hex_text (get_or bytes i 0 ∷ []) } → HexSoFar bytes i old now → HexSoFar bytes (i + 1) old next
+hex_step bytes i old now next lt step h = record { wrote = wrote_more old now next _ _ _ (hex_more bytes i lt) h.wrote step }
+
+pub hex_all : (bytes : List ℕ) (i : ℕ) (old now : RoomyList) → length bytes ≤ i → HexSoFar bytes i old now → now ≡ record old { items = old.items ++ hex_text bytes }
+hex_all bytes i old now all h = h.wrote.now ∙ ap (λ (xs : List ℕ). record old { items = old.items ++ hex_text xs }) (take_all i bytes all)
+
+-- ---- words behind blanks
+
+-- what is read past the end of a list of words
+abbrev pub no_word : Word
+no_word = Text (record { ref_ptr = (0, 0); now = [] })
+
+tail_append : (xs ys : List Word) → tail_text (xs ++ ys) ≡ tail_text xs ++ tail_text ys
+tail_append xs ys = ap behind_blanks (map-append word_text xs ys) ∙ flat_map-append (λ word. 32 ∷ word) (map word_text xs) (map word_text ys)
+
+pub tail_more : (words : List Word) (i : ℕ) → i < length words → tail_text (take i words) ++ 32 ∷ word_text (get_or words i no_word) ≡ tail_text (take (i + 1) words)
+tail_more words i lt =
+    ap (λ (xs : List ℕ). tail_text (take i words) ++ xs) (sym (append-nil (32 ∷ word_text (get_or words i no_word))))
+    ∙ sym (tail_append (take i words) (get_or words i no_word ∷ []))
+    ∙ ap tail_text (sym (take_more words i no_word lt))
+
+-- a word and those before it are no longer than all
+pub tail_short : (words : List Word) (i : ℕ) → i < length words → length (tail_text (take i words)) + (1 + length (word_text (get_or words i no_word))) ≤ length (tail_text words)
+tail_short words i lt =
+    let front = ap length (tail_more words i lt) in
+    let whole = ap length (sym (tail_append (take (i + 1) words) (drop (i + 1) words)) ∙ ap tail_text (take-append-drop (i + 1) words)) in
+    let parts = length-append (tail_text (take i words)) (32 ∷ word_text (get_or words i no_word)) in
+    let all = length-append (tail_text (take (i + 1) words)) (tail_text (drop (i + 1) words)) in
+    omega (arith, front, whole, parts, all)
+
+pub fit_stop : (words : List Word) (i : ℕ) (left room : ℕ) → i < length words → left + length (tail_text (take i words)) ≡ room
+    → left < length (word_text (get_or words i no_word)) + 1 → false ≡ nat_le (length (tail_text words)) room
+fit_stop words i left room lt so_far more =
+    let short = tail_short words i lt in
+    let over : room < length (tail_text words) = omega arith in
+    grind (arith, nat_tests)
+
+pub fit_step : (words : List Word) (i : ℕ) (left next room : ℕ) → i < length words → left + length (tail_text (take i words)) ≡ room
+    → next + (length (word_text (get_or words i no_word)) + 1) ≡ left → next + length (tail_text (take (i + 1) words)) ≡ room
+fit_step words i left next room lt so_far step =
+    let front = ap length (tail_more words i lt) in
+    let parts = length-append (tail_text (take i words)) (32 ∷ word_text (get_or words i no_word)) in
+    omega (arith, front, parts)
+
+pub fit_all : (words : List Word) (i left room : ℕ) → length words ≤ i → left + length (tail_text (take i words)) ≡ room → true ≡ nat_le (length (tail_text words)) room
+fit_all words i left room all so_far =
+    let whole = ap (λ (ws : List Word). length (tail_text ws)) (take_all i words all) in
+    let within : length (tail_text words) ≤ room = omega arith in
+    grind (arith, nat_tests)
+
+-- so many words were written
+pub record WordsSoFar (words : List Word) (i : ℕ) (old now : RoomyList) : Type 0 where
+  pub wrote : Wrote old (tail_text (take i words)) now
+
+pub words_none : (words : List Word) (old : RoomyList) → WordsSoFar words 0 old old
+words_none words old = record { wrote = wrote_none old }
+
+pub words_room : (words : List Word) (i : ℕ) (old now : RoomyList) → i < length words → length old.items + length (tail_text words) ≤ old.room
+    → WordsSoFar words i old now → length now.items + (1 + length (word_text (get_or words i no_word))) ≤ now.room
+words_room words i old now lt room h =
+    let sized = wrote_len old now (tail_text (take i words)) h.wrote in
+    let short = tail_short words i lt in
+    omega (arith, sized.0, sized.1)
+
+pub words_step : (words : List Word) (i : ℕ) (old now next : RoomyList) → i < length words → next ≡ record now { items = now.items ++ 32 ∷ word_text (get_or words i no_word) }
+    → WordsSoFar words i old now → WordsSoFar words (i + 1) old next
+words_step words i old now next lt step h = record { wrote = wrote_more old now next _ _ _ (tail_more words i lt) h.wrote step }
+
+pub words_all : (words : List Word) (i : ℕ) (old now : RoomyList) → length words ≤ i → WordsSoFar words i old now → now ≡ record old { items = old.items ++ tail_text words }
+words_all words i old now all h = h.wrote.now ∙ ap (λ (ws : List Word). record old { items = old.items ++ tail_text ws }) (take_all i words all)
+
+-- digits behind a blank
+pub hex_fits : (word : Word) (bytes : Bor (List ℕ)) (old new : RoomyList) → word ≡ Hex bytes → length old.items + (1 + length (word_text word)) ≤ old.room
+    → new ≡ record old { items = old.items ++ 32 ∷ [] } → length new.items + 2 * length bytes.now ≤ new.room
+hex_fits word bytes old new is room blank =
+    let digits = length-encode_with lower_digits bytes.now in
+    let text = ap (λ (w : Word). length (word_text w)) is in
+    let items = ap (λ (v : RoomyList). length v.items) blank in
+    let parts = length-append old.items (32 ∷ []) in
+    let same = ap (λ (v : RoomyList). v.room) blank in
+    omega arith
+
+pub hex_length : (word : Word) (bytes : Bor (List ℕ)) → word ≡ Hex bytes → 2 * length bytes.now ≡ length (word_text word)
+hex_length word bytes is = sym (length-encode_with lower_digits bytes.now) ∙ ap (λ (w : Word). length (word_text w)) (sym is)

@@ -1,0 +1,202 @@
+-- The fields of an entry that a form gives, read again.
+use Rattle.std.proofs.Common.{◌≡◌, ℕ, zero, suc, ◌+◌, ◌-◌, ◌%◌, ◌^◌, ◌<◌, ◌≤◌, Bool, true, false, cond, List, [], ◌∷◌, ◌++◌, length, take, drop, get_or, refl, sym, ap, ◌∙◌, subst, arith, inl, inr, Option, Some, None, length-append, length-drop}
+use Rattle.std.specs.Prelude.{nat_lt, nat_le, nat_eq, ◌==◌, ◌&&◌, not, option_map}
+use Rattle.std.proofs.lemmas.Bool.{and_parts}
+use Rattle.std.proofs.lemmas.Bool.Decides.{nat_tests}
+use Rattle.std.proofs.lemmas.List.{take_at, take_all, take-append-drop, length-take-le, get_or-drop, append_assoc, length-replicate}
+use Rattle.pk_base.specs.Fields.{AreBytes, padded, zeros, u16, u32, u8_at, u32_at, number_at}
+use Rattle.pk_base.specs.Key.{IsKey}
+use Rattle.pk_base.proofs.Tables.{spelled_stand, stands_byte, stands_number, length-padded, number_fits, ◌⊕◌}
+use Rattle.pk_nvme.specs.Command.{Command, command}
+use Rattle.pk_asm.specs.Form.{entry_with, form_entry, key_or_none}
+use Rattle.pk_asm.specs.Printed.{candidate, key_at, store_candidate, retrieve_candidate, delete_candidate, exist_candidate, list_candidate}
+use Rattle.pk_asm.specs.declared.form.Form.{Form}
+use Rattle.pk_asm.specs.declared.form.Form.TheVariants.{Store, Retrieve, Delete, Exist, ListFrom, Flush, Report, Tick}
+use Rattle.pk_asm.proofs.FormLemmas.{IsByteKey, IsFrom, IsForm, picked, held}
+
+-- what a command says of its form
+pub record HasFields (c : Command) (opcode : ℕ) (key : List ℕ) (size options : ℕ) (bytes : List ℕ) : Type 0 where
+  pub opcode_is : c.opcode ≡ opcode
+  pub key_len_is : c.key_len ≡ length key
+  pub key_bytes_is : c.key_bytes ≡ padded 16 key
+  pub size_is : c.size ≡ size
+  pub options_is : c.options ≡ options
+  pub value_is : c.value ≡ bytes
+
+pub fields_of : (number opcode : ℕ) (key : List ℕ) (size options : ℕ) (bytes : List ℕ) → length key ≤ 16 → size < 2 ^ 32 → HasFields (command (entry_with number opcode key size options) bytes) opcode key size options bytes
+unfolding entry_with
+fields_of number opcode key size options bytes short small =
+    let place : List ℕ = padded 16 key in
+    let full : length place ≡ 16 = length-padded 16 key short in
+    let low : List ℕ = take 8 place in
+    let high : List ℕ = take 8 (drop 8 place) in
+    let low_size : length low ≡ 8 = length-take-le 8 place (omega arith) in
+    let high_size : length high ≡ 8 = length-take-le 8 (drop 8 place) (omega (arith, length-drop 8 place)) in
+    let table : List (ℕ × List ℕ) = (1, opcode ∷ []) ∷ (1, zeros 1) ∷ (2, u16 (number % 2 ^ 16)) ∷ (4, u32 1) ∷ (8, low) ∷ (24, zeros 24) ∷ (4, u32 size) ∷ (1, length key ∷ []) ∷ (1, options ∷ []) ∷ (10, zeros 10) ∷ (8, high) ∷ [] in
+    let e : List ℕ = entry_with number opcode key size options in
+    let s = spelled_stand 0 table e (refl ⊕ refl ⊕ refl ⊕ refl ⊕ low_size ⊕ refl ⊕ refl ⊕ refl ⊕ refl ⊕ refl ⊕ high_size ⊕ tt) refl in
+    let s8 : drop 8 e ≡ low ++ drop 16 e = s.1.1.1.1.0 in
+    let s56 : drop 56 e ≡ high ++ drop 64 e = s.1.1.1.1.1.1.1.1.1.1.0 in
+    let front : take 8 (drop 8 e) ≡ low = ap (take 8) s8 ∙ take_at low (drop 16 e) 8 low_size in
+    let back : take 8 (drop 56 e) ≡ high = ap (take 8) s56 ∙ take_at high (drop 64 e) 8 high_size in
+    let whole : low ++ high ≡ place = ap (λ (xs : List ℕ). low ++ xs) (take_all 8 (drop 8 place) (omega (arith, length-drop 8 place))) ∙ take-append-drop 8 place in
+    record {
+      opcode_is = refl;
+      key_len_is = stands_byte 44 (length key) (drop 45 e) e s.1.1.1.1.1.1.1.0;
+      key_bytes_is = ap (λ (xs : List ℕ). xs ++ take 8 (drop 56 e)) front ∙ ap (λ (xs : List ℕ). low ++ xs) back ∙ whole;
+      size_is = stands_number 4 40 size (drop 44 e) e s.1.1.1.1.1.1.0 small;
+      options_is = stands_byte 45 options (drop 46 e) e s.1.1.1.1.1.1.1.1.0;
+      value_is = refl;
+    }
+
+-- ---- the form of these fields
+
+key_read : (key : List ℕ) → IsKey key → key_at (length key) (padded 16 key) ≡ Some key
+key_read key h =
+    let some : nat_le 1 (length key) ≡ true = let le = h.some in grind (arith, nat_tests) in
+    let most : nat_le (length key) 16 ≡ true = let le = h.most in grind (arith, nat_tests) in
+    let whole : take (length key) (padded 16 key) ≡ key = take_at key (zeros (16 - length key)) (length key) refl in
+    rw (some, most) (ap Some whole)
+
+same_number : (n m : ℕ) → n ≡ m → (n == m) ≡ true
+same_number n m e = grind (arith, nat_tests)
+
+pub candidate_of : (number : ℕ) (form : Form) (bytes : List ℕ) → IsForm form bytes → candidate (command (form_entry number form) bytes) ≡ Some form
+unfolding candidate
+candidate_of number (Store key size options) bytes h =
+    let f = fields_of number 1 key size options bytes h.0.is_key.most h.2 in
+    let sized = same_number size (length bytes) h.1 in
+    let few : nat_lt options 4 ≡ true = let lt = h.3 in grind (arith, nat_tests) in
+    rw (f.opcode_is, f.key_len_is, f.key_bytes_is, f.size_is, f.options_is, sized, few, key_read key h.0.is_key) refl
+candidate_of number (Retrieve key size) bytes h =
+    let f = fields_of number 0x02 key size 0 [] h.0.is_key.most h.1 in
+    subst (λ xs. candidate (command (form_entry number (Retrieve key size)) xs) ≡ Some (Retrieve key size)) (sym h.2)
+    (rw (f.opcode_is, f.key_len_is, f.key_bytes_is, f.size_is, key_read key h.0.is_key) refl)
+candidate_of number (Delete key) bytes h =
+    let f = fields_of number 0x10 key 0 0 [] h.0.is_key.most (omega arith) in
+    subst (λ xs. candidate (command (form_entry number (Delete key)) xs) ≡ Some (Delete key)) (sym h.1)
+    (rw (f.opcode_is, f.key_len_is, f.key_bytes_is, key_read key h.0.is_key) refl)
+candidate_of number (Exist key) bytes h =
+    let f = fields_of number 0x14 key 0 0 [] h.0.is_key.most (omega arith) in
+    subst (λ xs. candidate (command (form_entry number (Exist key)) xs) ≡ Some (Exist key)) (sym h.1)
+    (rw (f.opcode_is, f.key_len_is, f.key_bytes_is, key_read key h.0.is_key) refl)
+candidate_of number (ListFrom None size) bytes h =
+    let f = fields_of number 0x06 [] size 0 [] (omega arith) h.1 in
+    subst (λ xs. candidate (command (form_entry number (ListFrom None size)) xs) ≡ Some (ListFrom None size)) (sym h.2)
+    (rw (f.opcode_is, f.key_len_is, f.size_is) refl)
+candidate_of number (ListFrom (Some key) size) bytes h =
+    let f = fields_of number 0x06 key size 0 [] h.0.is_key.most h.1 in
+    let some : (length key == 0) ≡ false = let le = h.0.is_key.some in grind (arith, nat_tests) in
+    subst (λ xs. candidate (command (form_entry number (ListFrom (Some key) size)) xs) ≡ Some (ListFrom (Some key) size)) (sym h.2)
+    (rw (f.opcode_is, f.key_len_is, f.key_bytes_is, f.size_is, some, key_read key h.0.is_key) refl)
+candidate_of number Flush bytes h =
+    let f = fields_of number 0x00 [] 0 0 [] (omega arith) (omega arith) in
+    subst (λ xs. candidate (command (form_entry number Flush) xs) ≡ Some Flush) (sym h) (rw f.opcode_is refl)
+candidate_of number Report bytes h =
+    let f = fields_of number 0xC2 [] 0 0 [] (omega arith) (omega arith) in
+    subst (λ xs. candidate (command (form_entry number Report) xs) ≡ Some Report) (sym h) (rw f.opcode_is refl)
+candidate_of number (Tick steps) bytes h =
+    let f = fields_of number 0xC0 [] steps 0 [] (omega arith) h.0 in
+    subst (λ xs. candidate (command (form_entry number (Tick steps)) xs) ≡ Some (Tick steps)) (sym h.1) (rw (f.opcode_is, f.size_is) refl)
+
+-- ---- a candidate is a form
+
+bytes_cons : (x : ℕ) (xs : List ℕ) → x < 256 → AreBytes xs → AreBytes (x ∷ xs)
+bytes_cons x xs h hs zero = h
+bytes_cons x xs h hs (suc i) = hs i
+
+bytes_take : (n : ℕ) (xs : List ℕ) → AreBytes xs → AreBytes (take n xs)
+bytes_take zero xs h = λ i. omega arith
+bytes_take (suc n) [] h = h
+bytes_take (suc n) (x ∷ xs) h = bytes_cons x (take n xs) (h 0) (bytes_take n xs (λ i. h (suc i)))
+
+bytes_drop : (n : ℕ) (xs : List ℕ) → AreBytes xs → AreBytes (drop n xs)
+bytes_drop n xs h = λ i. rw (get_or-drop n xs i 0) (h (n + i))
+
+bytes_append : (xs ys : List ℕ) → AreBytes xs → AreBytes ys → AreBytes (xs ++ ys)
+bytes_append [] ys h k = k
+bytes_append (x ∷ xs) ys h k = bytes_cons x (xs ++ ys) (h 0) (bytes_append xs ys (λ i. h (suc i)) k)
+
+place_size : (e : List ℕ) → length e ≡ 64 → length (take 8 (drop 8 e) ++ take 8 (drop 56 e)) ≡ 16
+place_size e sized =
+    let low = length-take-le 8 (drop 8 e) (omega (arith, length-drop 8 e)) in
+    let high = length-take-le 8 (drop 56 e) (omega (arith, length-drop 56 e)) in
+    length-append (take 8 (drop 8 e)) (take 8 (drop 56 e)) ∙ omega arith
+
+key_at_is : (n : ℕ) (place key : List ℕ) → length place ≡ 16 → AreBytes place → key_at n place ≡ Some key → IsByteKey key
+key_at_is n place key sized fits e =
+    let h = held (nat_le 1 n && nat_le n 16) (Some (take n place)) key e in
+    let parts = and_parts (nat_le 1 n) (nat_le n 16) h.0 in
+    let low : 1 ≤ n = let le = parts.0 in grind (arith, nat_tests) in
+    let high : n ≤ 16 = let le = parts.1 in grind (arith, nat_tests) in
+    let same : take n place ≡ key = cc in
+    let long : length (take n place) ≡ n = length-take-le n place (omega arith) in
+    subst IsByteKey same (record { is_key = record { some = omega arith; most = omega arith }; fits = bytes_take n place fits })
+
+unheld : {A : Type 0} (b : Bool) (y : Option A) (z : A) → cond b None y ≡ Some z → (b ≡ false) × (y ≡ Some z)
+unheld true y z e = cc
+unheld false y z e = (refl, e)
+
+mapped : {A : Type 0} (f : A → Form) (o : Option A) (form : Form) → option_map f o ≡ Some form → (x : A) × (o ≡ Some x) × (f x ≡ form)
+mapped f (Some x) form e = (x, refl, cc)
+mapped f None form e = cc
+
+no_bytes : (bytes : List ℕ) → not (length bytes == 0) ≡ false → bytes ≡ []
+no_bytes [] e = refl
+no_bytes (x ∷ xs) e = let some : (suc (length xs) == 0) ≡ false = grind (arith, nat_tests) in cc
+
+list_candidate_is : (key_len : ℕ) (place : List ℕ) (size : ℕ) (form : Form) → length place ≡ 16 → AreBytes place → size < 2 ^ 32 → list_candidate key_len place size ≡ Some form → IsForm form []
+list_candidate_is key_len place size form full fits small is =
+    elim (picked (key_len == 0) (Some (ListFrom None size)) (option_map (λ k. ListFrom (Some k) size) (key_at key_len place)) form is) [
+      | inl h ↦ let same : ListFrom None size ≡ form = cc in subst (λ f. IsForm f []) same (tt, small, refl)
+      | inr h ↦ let m = mapped (λ k. ListFrom (Some k) size) (key_at key_len place) form h in subst (λ f. IsForm f []) m.2 (key_at_is key_len place m.0 full fits m.1, small, refl)
+    ]
+
+plain_candidate : (opcode key_len : ℕ) (place : List ℕ) (size : ℕ) (form : Form) → length place ≡ 16 → AreBytes place → size < 2 ^ 32
+    → cond (opcode == 0x02) (retrieve_candidate key_len place size)
+    (cond (opcode == 0x10) (delete_candidate key_len place)
+    (cond (opcode == 0x14) (exist_candidate key_len place)
+    (cond (opcode == 0x06) (list_candidate key_len place size)
+    (cond (opcode == 0x00) (Some Flush) (cond (opcode == 0xC2) (Some Report) (cond (opcode == 0xC0) (Some (Tick size)) None)))))) ≡ Some form
+    → IsForm form []
+plain_candidate opcode key_len place size form full fits small is =
+    elim (picked (opcode == 0x02) (retrieve_candidate key_len place size) _ form is) [
+      | inl h ↦ let m = mapped (λ k. Retrieve k size) (key_at key_len place) form h in subst (λ f. IsForm f []) m.2 (key_at_is key_len place m.0 full fits m.1, small, refl)
+      | inr e1 ↦ elim (picked (opcode == 0x10) (delete_candidate key_len place) _ form e1) [
+        | inl h ↦ let m = mapped Delete (key_at key_len place) form h in subst (λ f. IsForm f []) m.2 (key_at_is key_len place m.0 full fits m.1, refl)
+        | inr e2 ↦ elim (picked (opcode == 0x14) (exist_candidate key_len place) _ form e2) [
+          | inl h ↦ let m = mapped Exist (key_at key_len place) form h in subst (λ f. IsForm f []) m.2 (key_at_is key_len place m.0 full fits m.1, refl)
+          | inr e3 ↦ elim (picked (opcode == 0x06) (list_candidate key_len place size) _ form e3) [
+            | inl h ↦ list_candidate_is key_len place size form full fits small h
+            | inr e4 ↦ elim (picked (opcode == 0x00) (Some Flush) _ form e4) [
+              | inl h ↦ let same : Flush ≡ form = cc in subst (λ f. IsForm f []) same refl
+              | inr e5 ↦ elim (picked (opcode == 0xC2) (Some Report) _ form e5) [
+                | inl h ↦ let same : Report ≡ form = cc in subst (λ f. IsForm f []) same refl
+                | inr e6 ↦ let h = (held (opcode == 0xC0) (Some (Tick size)) form e6).1 in let same : Tick size ≡ form = cc in subst (λ f. IsForm f []) same (small, refl)
+              ]
+            ]
+          ]
+        ]
+      ]
+    ]
+
+pub candidate_is : (e bytes : List ℕ) (form : Form) → length e ≡ 64 → AreBytes e → candidate (command e bytes) ≡ Some form → IsForm form bytes
+unfolding candidate
+candidate_is e bytes form sized fits is =
+    let c : Command = command e bytes in
+    let place : List ℕ = take 8 (drop 8 e) ++ take 8 (drop 56 e) in
+    let full : length place ≡ 16 = place_size e sized in
+    let of_bytes : AreBytes place = bytes_append (take 8 (drop 8 e)) (take 8 (drop 56 e)) (bytes_take 8 (drop 8 e) (bytes_drop 8 e fits)) (bytes_take 8 (drop 56 e) (bytes_drop 56 e fits)) in
+    let small : c.size < 2 ^ 32 = number_fits 4 40 e fits in
+    elim (picked (c.opcode == 0x01) (store_candidate c.key_len place c.size c.options (length bytes)) _ form is) [
+      | inl s ↦
+          let h = held (c.size == length bytes && nat_lt c.options 4) (option_map (λ k. Store k c.size c.options) (key_at c.key_len place)) form s in
+          let parts = and_parts (c.size == length bytes) (nat_lt c.options 4) h.0 in
+          let m = mapped (λ k. Store k c.size c.options) (key_at c.key_len place) form h.1 in
+          let same : c.size ≡ length bytes = let t = parts.0 in grind (arith, nat_tests) in
+          let few : c.options < 4 = let t = parts.1 in grind (arith, nat_tests) in
+          subst (λ f. IsForm f bytes) m.2 (key_at_is c.key_len place m.0 full of_bytes m.1, same, small, few)
+      | inr more ↦
+          let rest = unheld (not (length bytes == 0)) _ form more in
+          subst (λ xs. IsForm form xs) (sym (no_bytes bytes rest.0)) (plain_candidate c.opcode c.key_len place c.size form full of_bytes small rest.1)
+    ]

@@ -1,0 +1,18 @@
+//! Lines of a text script: the entry and the bytes that a line gives, and the line that gives an entry and bytes.
+#![tactic(auto)]
+
+mod assemble;
+mod form;
+mod operands;
+mod printed;
+mod words;
+mod writer;
+
+pub use assemble::{BadLine, assemble_line};
+pub use form::Form;
+pub use operands::Operands;
+pub use printed::print;
+pub use words::{bytes_word, entry_word, key, number};
+
+#[cfg(test)]
+mod tests;

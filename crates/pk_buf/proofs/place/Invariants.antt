@@ -1,0 +1,16 @@
+-- all before `low` are below, and none from `high` on
+use Rattle.std.proofs.Common.{◌≡◌, ◌≤◌, ◌-◌, length, true, false}
+use Rattle.std.specs.List.{AllWithin}
+use Rattle.pk_buf.specs.Table.{is_below, content}
+use Rattle.pk_buf.proofs.place.Given as goal
+
+abbrev pub invariant-loop-low : goal.invariant-loop-low
+invariant-loop-low l = record {
+  order : l.low ≤ l.high;
+  within : l.high ≤ length l.slots;
+  front : AllWithin (λ x. is_below l.key (content x) ≡ true) l.slots 0 l.low;
+  back : AllWithin (λ x. is_below l.key (content x) ≡ false) l.slots l.high (length l.slots);
+}
+
+abbrev pub decreases-loop-low : goal.decreases-loop-low
+decreases-loop-low l = l.high - l.low

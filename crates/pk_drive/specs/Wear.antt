@@ -1,0 +1,23 @@
+-- How many roots were installed, and when no more are.
+use Rattle.std.specs.Prelude.{ℕ, Bool, nat_le, Option, Some, None}
+use Rattle.pk_base.specs.Shape.{Shape}
+use Rattle.pk_base.specs.Page.{Flash, page_at}
+use Rattle.pk_rootfmt.specs.Root.{Root}
+use Rattle.pk_rootfmt.specs.Newest.{newest_root}
+use Rattle.pk_nand.specs.BoardState.{BoardState, shape_of}
+
+abbrev pub number_of : Option (ℕ × Root) → ℕ
+number_of None = 0
+number_of (Some top) = top.1.number
+
+-- the number of the newest root; 0 where there is none
+unfoldable pub root_number : Shape → Flash → ℕ
+root_number shape flash = number_of (newest_root shape (page_at flash))
+
+-- the same of a board
+abbrev pub roots : BoardState → ℕ
+roots board = root_number (shape_of board) board.pages
+
+-- the numbers of roots are used up from 2^63 on
+abbrev pub is_worn : BoardState → Bool
+is_worn board = nat_le 9223372036854775808 (roots board)

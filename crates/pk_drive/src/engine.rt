@@ -1,0 +1,145 @@
+//! The trait of a drive over the board that it is handed.
+ghost use Rattle.std.specs.Prelude.{◌≡◌, ◌≢◌, ◌≤◌, ◌<◌, ◌+◌, ℕ, List, [], length, take, Bool, true, false, nat_le, OnOk, OnErr, IsOk, IsSome, Some, Option, Ok};
+ghost use Rattle.pk_base.specs.Shape.{Shape, greatest};
+ghost use Rattle.pk_base.specs.Page.{Flash};
+ghost use Rattle.pk_base.specs.Map.{Map};
+ghost use Rattle.pk_nvme.specs.Seen.{command_of};
+ghost use Rattle.pk_nvme.specs.declared.request.Request.{Request};
+ghost use Rattle.pk_nand.specs.BoardState.{shape_of};
+ghost use Rattle.pk_nand.specs.Calls.{Rose};
+ghost use Rattle.pk_model.specs.Answer.{early};
+ghost use Rattle.pk_model.specs.Sight.{Sight, map_of};
+ghost use Rattle.pk_drive.specs.Wear.{root_number, roots, is_worn};
+ghost use Rattle.pk_drive.specs.Drive.{OnlyFlash, NoFault, AtMostOneCall, CountsMap};
+ghost use Rattle.pk_drive.specs.Meter.{reads_after};
+ghost use Rattle.pk_drive.specs.Exec.{ExecStands, ExecReaches, ExecGoes, most_installs, report_of, IsNextMerge};
+ghost use Rattle.pk_drive.specs.Commit.{CommitStands, CommitReaches, CommitGoes, OneProgram};
+ghost use Rattle.pk_drive.specs.Tick.{TickStands, TickReaches, TickGoes, TellsIdle};
+ghost use Rattle.pk_drive.specs.Seen.{reply_of, stopped_by, counts_of};
+ghost use Rattle.pk_drive.specs.declared.types.Ticked.{Ticked};
+
+use crate::{Counts, Outcome, Ticked};
+use pk_nand::{Nand, NandFault};
+use pk_nvme::Request;
+
+/// A drive. No call takes memory.
+pub trait Engine {
+    /// What contracts see of it.
+    ghost sight: { Self → Sight };
+
+    /// The board has the shape and the pages with which opening, or the last call, ended.
+    ghost agrees: { Self → Option Shape → Flash → Type 0 };
+
+    /// It can serve this request.
+    ghost built: { Self → Request → Bool };
+
+    /// Executes one command. A Store's value is handed over where it is not too large, and no other bytes are.
+    fn exec<B: Nand>(
+        &mut self,
+        board: &mut B,
+        request: &Request,
+        value: &[u8],
+        into: &mut [u8],
+    ) -> Outcome
+        requires agrees { agrees self.old (B.state board.old).shape (B.state board.old).pages }
+        requires runs { (sight self.old).stopped ≡ false }
+        requires unworn { is_worn (B.state board.old) ≡ false }
+        requires is_built { built self.old request.now ≡ true }
+        requires tick { request.now.opcode ≡ 0xC0 → (sight self.old).pending ≡ [] }
+        requires sized { request.now.opcode ≡ 0x01 → request.now.size ≤ greatest (shape_of (B.state board.old)) → length value.now ≡ request.now.size }
+        requires empty { request.now.opcode ≢ 0x01 → value.now ≡ [] }
+        requires too_large { greatest (shape_of (B.state board.old)) < request.now.size → value.now ≡ [] }
+        requires room { 65536 ≤ length into.old }
+        requires room_value { greatest (shape_of (B.state board.old)) ≤ length into.old }
+        ensures stops { (sight self.new).stopped ≡ result.stopped }
+        ensures agrees { result.stopped ≡ false → agrees self.new (B.state board.new).shape (B.state board.new).pages }
+        ensures stands { result.stopped ≡ false → ExecStands (B.state board.old) (B.state board.new) (sight self.old) (sight self.new) (command_of request.now value.now) (reply_of result into.new) result.reads }
+        ensures cuts { result.stopped ≡ false → ExecReaches (B.state board.old) (B.state board.new) (sight self.old) (command_of request.now value.now) }
+        ensures cuts_stopped { result.stopped ≡ true → ExecGoes (B.state board.old) (B.state board.new) (sight self.old) (command_of request.now value.now) }
+        ensures fits { result.data_len ≤ length into.new }
+        ensures room { length into.new ≡ length into.old }
+        ensures rest { OnlyFlash (B.state board.old) (B.state board.new) }
+        ensures reads { (B.state board.new).reads ≡ reads_after (B.state board.old).reads result.reads }
+        ensures up { (B.state board.old).read_faults ≤ (B.state board.new).read_faults }
+        ensures unread { result.status ≡ 0x88 → result.stopped ≡ false → Rose (B.state board.old).read_faults (B.state board.new).read_faults }
+        ensures sound { result.status ≢ 0x88 → NoFault (B.state board.old) (B.state board.new) }
+        ensures stop { result.stopped ≡ true → Rose (B.state board.old).stop_faults (B.state board.new).stop_faults }
+        ensures stop_status { result.stopped ≡ true → result.status ≡ 0x88 }
+        ensures no_stop { result.stopped ≡ false → (B.state board.new).stop_faults ≡ (B.state board.old).stop_faults }
+        ensures early { IsSome (early (shape_of (B.state board.old)) (command_of request.now value.now)) → (result.stopped ≡ false) × (B.state board.new ≡ B.state board.old) }
+        ensures report { request.now.opcode ≡ 0xC2 → (result.status ≢ 0x88) × (B.state board.new ≡ B.state board.old) }
+        ensures report_data { request.now.opcode ≡ 0xC2 → result.status ≡ 0 → take result.data_len into.new ≡ report_of (sight self.new).counts }
+        ensures installs { roots (B.state board.new) ≤ roots (B.state board.old) + most_installs request.now.opcode request.now.size }
+        ensures merge { result.stopped ≡ false → IsNextMerge (shape_of (B.state board.new)) (sight self.new).counts };
+
+    /// Commits the pending entries by one program; where there are none it does nothing. A failure stops the drive.
+    fn commit<B: Nand>(&mut self, board: &mut B) -> Result<(), NandFault>
+        requires agrees { agrees self.old (B.state board.old).shape (B.state board.old).pages }
+        requires runs { (sight self.old).stopped ≡ false }
+        ensures runs { OnOk result ((sight self.new).stopped ≡ false) }
+        ensures stops { OnErr result ((sight self.new).stopped ≡ true) }
+        ensures none { OnOk result ((sight self.new).pending ≡ []) }
+        ensures agrees { OnOk result (agrees self.new (B.state board.new).shape (B.state board.new).pages) }
+        ensures built { OnOk result ((r : Request) → built self.old r ≡ true → built self.new r ≡ true) }
+        ensures stands { OnOk result (CommitStands (B.state board.old) (B.state board.new) (sight self.old) (sight self.new)) }
+        ensures cuts { OnOk result (CommitReaches (B.state board.old) (B.state board.new) (sight self.old)) }
+        ensures cuts_failed { OnErr result (CommitGoes (B.state board.old) (B.state board.new) (sight self.old)) }
+        ensures rest { OnlyFlash (B.state board.old) (B.state board.new) }
+        ensures reads { (B.state board.new).reads ≡ (B.state board.old).reads }
+        ensures read_faults { (B.state board.new).read_faults ≡ (B.state board.old).read_faults }
+        ensures stop { OnErr result (Rose (B.state board.old).stop_faults (B.state board.new).stop_faults) }
+        ensures no_stop { OnOk result ((B.state board.new).stop_faults ≡ (B.state board.old).stop_faults) }
+        ensures sound { OnOk result ((B.state board.new).flash_faults ≡ (B.state board.old).flash_faults) }
+        ensures idle { (sight self.old).pending ≡ [] → IsOk result × (B.state board.new ≡ B.state board.old) }
+        ensures program { (sight self.old).pending ≢ [] → OneProgram (B.state board.old) (B.state board.new) }
+        ensures installs { roots (B.state board.new) ≡ roots (B.state board.old) };
+
+    /// Makes one background step, with at most one call of the flash.
+    fn tick<B: Nand>(&mut self, board: &mut B) -> Ticked
+        requires agrees { agrees self.old (B.state board.old).shape (B.state board.old).pages }
+        requires runs { (sight self.old).stopped ≡ false }
+        requires unworn { is_worn (B.state board.old) ≡ false }
+        requires none { (sight self.old).pending ≡ [] }
+        ensures stops { (sight self.new).stopped ≡ stopped_by result }
+        ensures none { (sight self.new).pending ≡ [] }
+        ensures agrees { stopped_by result ≡ false → agrees self.new (B.state board.new).shape (B.state board.new).pages }
+        ensures stands { stopped_by result ≡ false → TickStands (B.state board.old) (B.state board.new) (sight self.old) (sight self.new) }
+        ensures cuts { stopped_by result ≡ false → TickReaches (B.state board.old) (B.state board.new) (sight self.old) }
+        ensures cuts_stopped { stopped_by result ≡ true → TickGoes (B.state board.old) (B.state board.new) (sight self.old) }
+        ensures idle { TellsIdle (B.state board.old) (sight self.old) result }
+        ensures idle_rests { result ≡ Ticked.Idle → B.state board.new ≡ B.state board.old }
+        ensures rest { OnlyFlash (B.state board.old) (B.state board.new) }
+        ensures calls { AtMostOneCall (B.state board.old) (B.state board.new) }
+        ensures unread { result ≡ Ticked.Fault false → Rose (B.state board.old).read_faults (B.state board.new).read_faults }
+        ensures up { (B.state board.old).read_faults ≤ (B.state board.new).read_faults }
+        ensures worked { result ≡ Ticked.Worked → NoFault (B.state board.old) (B.state board.new) }
+        ensures stop { stopped_by result ≡ true → Rose (B.state board.old).stop_faults (B.state board.new).stop_faults }
+        ensures no_stop { stopped_by result ≡ false → (B.state board.new).stop_faults ≡ (B.state board.old).stop_faults }
+        ensures installs { roots (B.state board.new) ≤ roots (B.state board.old) + 1 }
+        ensures merge { stopped_by result ≡ false → IsNextMerge (shape_of (B.state board.new)) (sight self.new).counts };
+
+    /// Whether it can serve this request.
+    fn is_built(&self, request: &Request) -> bool
+        ensures { result ≡ built self.now request.now };
+
+    /// How many entries are pending.
+    fn pending(&self) -> u32
+        ensures { result ≡ length (sight self.now).pending };
+
+    /// A program or an erase failed.
+    fn is_stopped(&self) -> bool
+        ensures { result ≡ (sight self.now).stopped };
+
+    /// The numbers of roots are used up: on a drive that is not stopped, the newest root's number is at least 2^63.
+    fn is_worn(&self) -> bool
+        ensures { (shape : Shape) (flash : Flash) → agrees self.now (Some shape) flash → (sight self.now).stopped ≡ false → result ≡ nat_le 9223372036854775808 (root_number shape flash) };
+
+    /// The numbers of a Report. On a drive that is not stopped the first five are those of its map and its frames.
+    fn counts(&self) -> Counts
+        ensures numbers { counts_of result ≡ (sight self.now).counts }
+        ensures map { (shape : Shape) (flash : Flash) (m : Map) → agrees self.now (Some shape) flash → (sight self.now).stopped ≡ false → map_of shape flash (sight self.now) ≡ Ok m → CountsMap shape (sight self.now).frames m (sight self.now).counts };
+
+    /// The live pages of its map, on a drive that is not stopped.
+    fn live_pages(&self) -> u32
+        ensures { result ≡ (sight self.now).counts.live };
+}

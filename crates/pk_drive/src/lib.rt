@@ -1,0 +1,10 @@
+//! The contract of a drive: what it answers, what it leaves on the flash, and what stands there wherever power is lost.
+//!
+//! Whoever serves commands stands on this contract alone, and whoever stores the map is built to it.
+#![tactic(auto)]
+
+mod engine;
+mod types;
+
+pub use engine::Engine;
+pub use types::{Counts, Outcome, Ticked};

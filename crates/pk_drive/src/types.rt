@@ -1,0 +1,64 @@
+//! What a drive answers.
+
+/// What a command came to. The data are the first `data_len` bytes of the buffer that was handed in.
+#[derive(Clone, Copy, Debug)]
+pub struct Outcome {
+    /// The status code.
+    pub status: u8,
+    /// Dword 0 of the completion.
+    pub result: u32,
+    /// Bytes of data.
+    pub data_len: u32,
+    /// Pages that were read for it.
+    pub reads: u32,
+    /// A program or an erase failed, and no call follows.
+    pub stopped: bool,
+}
+
+/// What a background step came to.
+#[derive(Clone, Copy, Debug, PartialEq, Eq)]
+pub enum Ticked {
+    /// A step was made.
+    Worked,
+    /// Nothing is left to do.
+    Idle,
+    /// A call of the flash failed: a read, or a program or an erase, which stops the drive.
+    Fault { stopped: bool },
+}
+
+/// The sixteen numbers of a Report, in its order.
+#[derive(Clone, Copy, Debug)]
+pub struct Counts {
+    /// Live pages of the map.
+    pub live: u32,
+    /// Most live pages.
+    pub limit: u32,
+    /// Keys of the map.
+    pub keys: u32,
+    /// Levels whose pages are all kept in frames.
+    pub pinned: u32,
+    /// Frames of the arena.
+    pub frames: u32,
+    /// Frames that are leased.
+    pub leased: u32,
+    /// Entries of the active buffer.
+    pub active: u32,
+    /// Entries of the frozen buffer.
+    pub frozen: u32,
+    /// Entries of run 1.
+    pub run1: u32,
+    /// Entries of run 2.
+    pub run2: u32,
+    /// Entries of run 3.
+    pub run3: u32,
+    /// Entries of run 4.
+    pub run4: u32,
+    /// Pages used of the newest epoch.
+    pub epoch: u32,
+    /// Data blocks in use.
+    pub blocks: u32,
+    /// Free blocks that were erased since opening.
+    pub ready: u32,
+    /// The level into which a merge runs; 0 where none does.
+    pub merge: u32,
+}

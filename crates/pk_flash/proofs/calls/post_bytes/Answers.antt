@@ -1,0 +1,12 @@
+use Rattle.std.proofs.Common.{take, drop, inl, ap, Some}
+use Rattle.std.proofs.lemmas.List.{take-append-drop}
+use Rattle.pk_flash.proofs.calls.post_bytes.Goals as goal
+
+pub returns-in-Some-clause-left : goal.returns-in-Some-clause-left
+returns-in-Some-clause-left c = record {
+  out = take c.part-count.result c.args.bytes.now;
+  unposted = drop c.part-count.result c.args.bytes.now;
+  front = take-append-drop c.part-count.result c.args.bytes.now;
+  posted_is = ap (λ l. Some l) c.in-Ok.ensures.posted;
+  trail_is = inl (ap (λ l. Some l) c.in-Ok.ensures.marks);
+}

@@ -1,0 +1,37 @@
+-- Planned failures: which call is to fail, and what it leaves.
+use Rattle.std.specs.Prelude.{◌≡◌, ℕ, ◌==◌, if◌then◌else◌, List, [], ◌∷◌, Option, Some, None, Result, Ok, Err, ⊤}
+use Rattle.pk_nand.specs.Calls.{counted}
+use Rattle.pk_nand.specs.declared.types.PageState.{PageState}
+use Rattle.pk_flash.specs.declared.types.Left.{Left}
+use Rattle.pk_flash.specs.declared.types.Left.TheVariants.{Done}
+use Rattle.pk_flash.specs.declared.types.Planned.{Planned}
+
+-- a plan for this call takes the place of an earlier one
+abbrev pub later : ℕ → Option Left → Planned → Option Left
+later call found next = if next.call == call then Some next.left else found
+
+abbrev pub planned_from : ℕ → Option Left → List Planned → Option Left
+planned_from call found [] = found
+planned_from call found (next ∷ plan) = planned_from call (later call found next) plan
+
+-- what the call with this number is to leave, if it is to fail
+abbrev pub planned_left : List Planned → ℕ → Option Left
+planned_left plan call = planned_from call None plan
+
+-- what a call leaves: what was planned, or all that it does
+abbrev pub left_of : Option Left → Left
+left_of None = Done
+left_of (Some left) = left
+
+-- a call with room fails exactly where it is to
+abbrev pub AnswersBy : {X E : Type 0} → Option Left → Result X E → Type 0
+AnswersBy None (Ok x) = ⊤
+AnswersBy None (Err e) = ⊥
+AnswersBy (Some left) (Ok x) = ⊥
+AnswersBy (Some left) (Err e) = ⊤
+
+-- one call more was made; what is planned stays, and so do the pages as the board was handed in
+pub record Turned (calls calls' : ℕ) (plan plan' : List Planned) (start start' : List PageState) : Type 0 where
+  pub one_more : calls' ≡ counted calls
+  pub same_plan : plan' ≡ plan
+  pub same_start : start' ≡ start

@@ -1,0 +1,174 @@
+//! What calls do to the pages, the trail and the bytes given out of a board in memory.
+ghost use Rattle.std.specs.Prelude.{◌≡◌, ◌≤◌, ◌<◌, ◌+◌, ◌++◌, ◌∷◌, [], ℕ, length, take, Some, OnOk, OnErr, IfOk, IsTrue, vec_capacity, ◌⊎◌, slice_set, option_copied, option_map};
+ghost use Rattle.pk_base.specs.Shape as spec;
+ghost use Rattle.pk_base.specs.Page.{whole, IsPage, IsFlash};
+ghost use Rattle.pk_base.specs.Mark.{program, erase, post, after};
+ghost use Rattle.pk_nand.specs.BoardState.{shape_or_none};
+ghost use Rattle.pk_nand.specs.Calls.{counted, LeftBehind, PostLeft};
+ghost use Rattle.pk_nand.specs.Seen.{state as seen, states, marks as seen_marks};
+ghost use Rattle.pk_flash.specs.Plan.{left_of};
+ghost use Rattle.pk_flash.specs.Outcomes.{choice as choice_of, program_choice as program_choice_of};
+ghost use Rattle.pk_flash.specs.Rows.{RowChosen};
+ghost use Rattle.pk_flash.specs.Exact.{ActsBy, PostsBy, part as part_of};
+
+use crate::pages::{block_pages_of, choose, choose_row, program_choice};
+use crate::trail::Trail;
+use crate::types::Left;
+use pk_base::Shape;
+use pk_nand::{HostFault, Mark, NandFault, PageBytes, PageState};
+use std::alloc::{AllocError, Global};
+
+/// One more, up to the last value.
+pub fn raise(count: &mut u64)
+    ensures { count.new ≡ counted count.old }
+{
+    *count = count.saturating_add(1);
+}
+
+fn programmed(bytes: PageBytes, left: Option<&Left>) -> Option<PageState>
+    ensures { option_map seen result ≡ program_choice_of bytes (left_of (option_copied left.entry)) }
+{
+    match left {
+        None => Some(PageState::Whole(bytes)),
+        Some(left) => program_choice(bytes, left),
+    }
+}
+
+/// Programs a page, or fails and leaves what `left` says.
+pub fn program_page(
+    pages: &mut Vec<PageState>,
+    trail: &mut Trail,
+    at: u32,
+    bytes: &[u8],
+    left: Option<&Left>,
+) -> Result<(), NandFault>
+    requires { length bytes.now ≡ trail.old.page_bytes }
+    ensures exact { (shape : spec.Shape) → ActsBy shape (program at bytes.now) trail.old.room (option_copied left.entry) (states pages.old.items) (states pages.new.items) (seen_marks trail.old.marks.items) (seen_marks trail.new.marks.items) result }
+    ensures pages { OnOk result (states pages.new.items ≡ slice_set (states pages.old.items) at (whole bytes.now)) }
+    ensures marks { OnOk result (seen_marks trail.new.marks.items ≡ seen_marks trail.old.marks.items ++ program at bytes.now ∷ []) }
+    ensures flash { (shape : spec.Shape) → IsPage shape bytes.now → IsFlash shape (states pages.old.items) → IsFlash shape (states pages.new.items) }
+    ensures left { OnErr result ((shape : spec.Shape) → LeftBehind shape (program at bytes.now) (states pages.old.items) (states pages.new.items) (Some (seen_marks trail.old.marks.items)) (Some (seen_marks trail.new.marks.items))) }
+    ensures room { trail.new.room ≡ trail.old.room }
+    ensures page_bytes { trail.new.page_bytes ≡ trail.old.page_bytes }
+{
+    if trail.is_full() {
+        return Err(NandFault);
+    }
+    let own = trail.note_program(at, bytes);
+    choose(pages, at as usize, programmed(own, left));
+    match left {
+        None => Ok(()),
+        Some(_) => Err(NandFault),
+    }
+}
+
+/// Erases a block, or fails and leaves what `left` says.
+pub fn erase_block(
+    shape: &Option<Shape>,
+    pages: &mut Vec<PageState>,
+    trail: &mut Trail,
+    block: u32,
+    left: Option<&Left>,
+) -> Result<(), NandFault>
+    requires { block < (shape_or_none shape.now).blocks }
+    ensures exact { ActsBy (shape_or_none shape.now) (erase block) trail.old.room (option_copied left.entry) (states pages.old.items) (states pages.new.items) (seen_marks trail.old.marks.items) (seen_marks trail.new.marks.items) result }
+    ensures pages { OnOk result (states pages.new.items ≡ after (shape_or_none shape.now) (erase block) (states pages.old.items)) }
+    ensures marks { OnOk result (seen_marks trail.new.marks.items ≡ seen_marks trail.old.marks.items ++ erase block ∷ []) }
+    ensures flash { IsFlash (shape_or_none shape.now) (states pages.old.items) → IsFlash (shape_or_none shape.now) (states pages.new.items) }
+    ensures left { OnErr result (LeftBehind (shape_or_none shape.now) (erase block) (states pages.old.items) (states pages.new.items) (Some (seen_marks trail.old.marks.items)) (Some (seen_marks trail.new.marks.items))) }
+    ensures room { trail.new.room ≡ trail.old.room }
+    ensures page_bytes { trail.new.page_bytes ≡ trail.old.page_bytes }
+{
+    if trail.is_full() {
+        return Err(NandFault);
+    }
+    trail.note(Mark::Erase { block });
+    let count = block_pages_of(shape) as usize;
+    let first = block as usize * count;
+    match left {
+        None => {
+            choose_row(pages, first, count, &Left::Done);
+            Ok(())
+        }
+        Some(left) => {
+            choose_row(pages, first, count, left);
+            Err(NandFault)
+        }
+    }
+}
+
+// Gives bytes out and notes it, where there is room for both and, past a page of bytes, memory for the mark's.
+fn give(
+    alloc: Global,
+    posted: &mut Vec<u8>,
+    posted_room: usize,
+    trail: &mut Trail,
+    bytes: &[u8],
+) -> Result<(), AllocError>
+    requires { posted_room ≤ vec_capacity posted.old }
+    ensures posted { OnOk result (posted.new.items ≡ posted.old.items ++ bytes.now) }
+    ensures marks { OnOk result (seen_marks trail.new.marks.items ≡ seen_marks trail.old.marks.items ++ post bytes.now ∷ []) }
+    ensures within { OnOk result (length posted.old.items + length bytes.now ≤ posted_room) }
+    ensures below { OnOk result (length trail.old.marks.items < trail.old.room) }
+    ensures posted_err { OnErr result (posted.new.items ≡ posted.old.items) }
+    ensures marks_err { OnErr result (trail.new.marks.items ≡ trail.old.marks.items) }
+    ensures cause { OnErr result ((posted_room < length posted.old.items + length bytes.now) ⊎ (trail.old.room ≤ length trail.old.marks.items) ⊎ (trail.old.page_bytes < length bytes.now)) }
+    ensures holds { posted_room ≤ vec_capacity posted.new }
+    ensures room { trail.new.room ≡ trail.old.room }
+    ensures page_bytes { trail.new.page_bytes ≡ trail.old.page_bytes }
+{
+    if bytes.len() > posted_room || posted.len() > posted_room - bytes.len() {
+        return Err(AllocError);
+    }
+    if trail.is_full() {
+        return Err(AllocError);
+    }
+    match trail.note_post(alloc, bytes) {
+        Ok(()) => match posted.extend_from_slice(bytes) {
+            Ok(()) => Ok(()),
+            Err(_) => unreachable!(),
+        },
+        Err(_) => Err(AllocError),
+    }
+}
+
+// How many bytes a post gives out.
+fn part(left: Option<&Left>, all: usize) -> usize
+    ensures part { result ≡ part_of all (option_copied left.entry) }
+    ensures within { result ≤ all }
+{
+    match left {
+        None => all,
+        Some(Left::Part(count)) => all.min(*count as usize),
+        Some(_) => 0,
+    }
+}
+
+/// Gives bytes out, or fails and leaves what `left` says. More than a page of bytes take memory for their mark; without it
+/// the call fails with nothing done.
+pub fn post_bytes(
+    alloc: Global,
+    posted: &mut Vec<u8>,
+    posted_room: usize,
+    trail: &mut Trail,
+    bytes: &[u8],
+    left: Option<&Left>,
+) -> Result<(), HostFault>
+    requires { posted_room ≤ vec_capacity posted.old }
+    ensures exact { PostsBy trail.old.page_bytes posted_room trail.old.room (option_copied left.entry) bytes.now posted.old.items posted.new.items (seen_marks trail.old.marks.items) (seen_marks trail.new.marks.items) result }
+    ensures posted { OnOk result (posted.new.items ≡ posted.old.items ++ bytes.now) }
+    ensures marks { OnOk result (seen_marks trail.new.marks.items ≡ seen_marks trail.old.marks.items ++ post bytes.now ∷ []) }
+    ensures left { OnErr result (PostLeft bytes.now (Some posted.old.items) (Some posted.new.items) (Some (seen_marks trail.old.marks.items)) (Some (seen_marks trail.new.marks.items))) }
+    ensures holds { posted_room ≤ vec_capacity posted.new }
+    ensures room { trail.new.room ≡ trail.old.room }
+    ensures page_bytes { trail.new.page_bytes ≡ trail.old.page_bytes }
+{
+    let count = part(left, bytes.len());
+    match give(alloc, posted, posted_room, trail, &bytes[..count]) {
+        Ok(()) => match left {
+            None => Ok(()),
+            Some(_) => Err(HostFault),
+        },
+        Err(_) => Err(HostFault),
+    }
+}

@@ -1,0 +1,11 @@
+//! The workload that a start generates: each turn gives the entry of a command and, for a Store, its value.
+#![tactic(auto)]
+
+mod command;
+mod draw;
+#[cfg(test)]
+mod tests;
+mod value;
+mod workload;
+
+pub use workload::Workload;

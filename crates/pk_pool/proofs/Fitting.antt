@@ -1,0 +1,203 @@
+-- What programs and erases leave of a pool's view of a flash.
+use Rattle.std.proofs.Common.{◌≡◌, ◌≢◌, ◌⊎◌, inl, inr, ℕ, zero, suc, ◌+◌, ◌-◌, ◌*◌, ◌/◌, ◌%◌, ◌<◌, ◌≤◌, List, [], ◌∷◌, length, Some, refl, sym, ap, ◌∙◌, subst, arith, zero-add, length-set}
+use Rattle.std.specs.Prelude.{slice_get}
+use Rattle.std.proofs.Math.ListN.{set}
+use Rattle.std.proofs.Math.Nat.{suc-mul, mul-le-mul_right, mul-mod_left}
+use Rattle.std.proofs.lemmas.Nat.{div-mul-add, div-add-mod'}
+use Rattle.std.proofs.lemmas.Option.{slice_get_within, same_Some}
+use Rattle.std.proofs.lemmas.Bool.{cases_eq, cases_lt}
+use Rattle.pk_base.specs.Shape.{Shape, IsShape, page_count}
+use Rattle.pk_base.specs.Page.{Page, Flash, page_at, erased}
+use Rattle.pk_base.specs.Mark.{Mark, program, erase, after}
+use Rattle.pk_nand.specs.BoardState.{BoardState, shape_of}
+use Rattle.pk_nand.specs.Cut.{Interrupted, MayLeave}
+use Rattle.pk_nand.specs.Calls.{IsReady, InOrder, LeftBehind, after_erase, EraseFailed}
+use Rattle.pk_nand.specs.Crash.{SameOutside, Reached, Went}
+use Rattle.pk_nand.proofs.Leaving.{erased_leaves, page-erased_in, interrupted_done, IsFlash-after, IsFlash-left, full_erase}
+use Rattle.pk_nand.proofs.Reaching.{Reached-start, Reached-erase, Went-erase_failed}
+use Rattle.pk_nand.proofs.Writing.{shape_is}
+use Rattle.pk_pool.specs.declared.state.BlockState.{BlockState}
+use Rattle.pk_pool.specs.declared.state.BlockState.TheVariants.{Root, Free, Ready, Owned}
+use Rattle.pk_pool.specs.Blocks.{Blocks, Fits, IsErasedBlock, IsOwned, IsShared, IsSpare, with_state}
+use Rattle.pk_pool.specs.Laws.{IsNotReady, IsInBlock}
+use Rattle.pk_pool.specs.Taking.{SameButBlock, ReachesIn, WentIn, FailsToErase}
+use Rattle.pk_pool.proofs.States.{get-set_other, get-set_same, free_is_not_ready, owned_is_not_ready}
+
+-- ---- pages of a block
+
+-- a page whose number divides so stands in this block, and the other way round
+pub in_block : (n k b : ℕ) → 0 < n → k / n ≡ b → (b * n ≤ k) × (k < b * n + n)
+in_block n k b some is =
+    let whole : k / n * n + k % n ≡ k = div-add-mod' k n in
+    let whole' : b * n + k % n ≡ k = let P : ℕ → Type 0 = λ x. x * n + k % n ≡ k in subst P is whole in
+    (omega arith, omega arith)
+
+pub block_of : (n k b : ℕ) → b * n ≤ k → k < b * n + n → k / n ≡ b
+block_of n k b low high =
+    let e : b * n + (k - b * n) ≡ k = omega arith in
+    let P : ℕ → Type 0 = λ x. x / n ≡ b in
+    subst P e (div-mul-add b n (k - b * n) (omega arith))
+
+-- a block ends where a later one begins, or before
+pub apart : (a b n : ℕ) → a < b → a * n + n ≤ b * n
+apart a b n h = omega (arith, mul-le-mul_right {m = suc a} {n = b} n (omega arith), suc-mul a n)
+
+-- a page outside the block is below it or above it
+outside : (n b c k : ℕ) → c ≢ b → c * n ≤ k → k < c * n + n → (k < b * n) ⊎ (b * n + n ≤ k)
+outside n b c k ne low high = elim (cases_lt c b) [
+  | inl below ↦ inl (omega (arith, apart c b n below, high))
+  | inr above ↦ inr (let more : b < c = omega (arith, above, ne) in omega (arith, apart b c n more, low))
+]
+
+-- ---- the pool and the flash
+
+-- where the pages of the erased blocks are the same
+pub Fits-same : (p : Blocks) (f g : Flash) → ((b k : ℕ) → slice_get p.states b ≡ Some Ready → IsInBlock p.shape b k → page_at g k ≡ page_at f k) → Fits p f → Fits p g
+Fits-same p f g same fits = record { erased = λ b is k low high. same b k is (low, high) ∙ fits.erased b is k low high }
+
+-- no page outside a block differs that does not count as erased
+pub Fits-but_block : (p : Blocks) (f g : Flash) (b : ℕ) → IsNotReady p b → SameButBlock p.shape b f g → Fits p f → Fits p g
+Fits-but_block p f g b not_ready same fits = Fits-same p f g (λ c k is inside.
+    elim (outside p.shape.block_pages b c k (λ e. not_ready (subst (λ x. slice_get p.states x ≡ Some Ready) e is)) inside.0 inside.1) [
+      | inl low ↦ same.below k low
+      | inr high ↦ same.above k high
+    ]) fits
+
+-- no page outside some pages of such a block differs
+pub Fits-outside : (p : Blocks) (f g : Flash) (b first count : ℕ) → IsNotReady p b
+    → b * p.shape.block_pages ≤ first → first + count ≤ b * p.shape.block_pages + p.shape.block_pages → SameOutside first count f g → Fits p f → Fits p g
+Fits-outside p f g b first count not_ready low high same fits = Fits-but_block p f g b not_ready (record {
+  size = same.size;
+  below = λ k less. same.below k (omega (arith, less, low));
+  above = λ k more. same.above k (omega (arith, more, high));
+}) fits
+
+-- a block with an owner does not count as erased
+pub owned_not_ready : (p : Blocks) (b : ℕ) → IsOwned p b → slice_get p.states b ≡ Some Ready → ⊥
+owned_not_ready p b owned is = owned_is_not_ready {o = owned.0} (same_Some (Owned owned.0) Ready (sym owned.1 ∙ is))
+
+pub free_not_ready : (states : List BlockState) (b : ℕ) → slice_get states b ≡ Some Free → slice_get states b ≡ Some Ready → ⊥
+free_not_ready states b free is = free_is_not_ready (same_Some Free Ready (sym free ∙ is))
+
+-- an erase, done or not, leaves all pages of other blocks
+pub erase_leaves : (shape : Shape) (f g : Flash) (b : ℕ) (out : List ℕ) → 0 < shape.block_pages → Interrupted shape (erase b) f g out → SameButBlock shape b f g
+erase_leaves shape f g b out some cut =
+    let n : ℕ = shape.block_pages in
+    record {
+      size = cut.same_size;
+      below = λ k low. elim (cut.pages k) [ inl same ↦ same | inr is ↦ absurd (omega (arith, low, (in_block n k b some is.0).0)) ];
+      above = λ k high. elim (cut.pages k) [ inl same ↦ same | inr is ↦ absurd (omega (arith, high, (in_block n k b some is.0).1)) ];
+    }
+
+pub erased_leaves_others : (shape : Shape) (f : Flash) (b : ℕ) → 0 < shape.block_pages → SameButBlock shape b f (after shape (erase b) f)
+erased_leaves_others shape f b some = erase_leaves shape f (after shape (erase b) f) b [] some (interrupted_done shape (erase b) f)
+
+-- all pages of an erased block are Erased
+pub erased_now : (shape : Shape) (f : Flash) (b : ℕ) → length f ≡ page_count shape → b < shape.blocks → IsErasedBlock shape (after shape (erase b) f) b
+erased_now shape f b size exists k low high =
+    let end : b * shape.block_pages + shape.block_pages ≤ shape.blocks * shape.block_pages = apart b shape.blocks shape.block_pages exists in
+    page-erased_in shape b 0 f k (omega (arith, size, high, end)) (let e : 0 + k ≡ k = zero-add k in rw e (block_of shape.block_pages k b low high))
+
+-- an erase of any block leaves the erased ones Erased
+pub Fits-erased : (p : Blocks) (f : Flash) (b : ℕ) → Fits p f → Fits p (after p.shape (erase b) f)
+Fits-erased p f b fits = record {
+  erased = λ c is k low high. elim (erased_leaves p.shape b 0 f k) [
+    | inl same ↦ same ∙ fits.erased c is k low high
+    | inr is_erased ↦ is_erased.1
+  ];
+}
+
+-- an erase of a block that does not count as erased, done or not
+pub Fits-erase : (p : Blocks) (f g : Flash) (b : ℕ) (out : List ℕ) → 0 < p.shape.block_pages → IsNotReady p b → Interrupted p.shape (erase b) f g out → Fits p f → Fits p g
+Fits-erase p f g b out some not_ready cut fits = Fits-but_block p f g b not_ready (erase_leaves p.shape f g b out some cut) fits
+
+-- a program in a block that does not count as erased, done or not
+pub Fits-program : (p : Blocks) (f g : Flash) (b at : ℕ) (bytes out : List ℕ) → IsNotReady p b → IsInBlock p.shape b at
+    → Interrupted p.shape (program at bytes) f g out → Fits p f → Fits p g
+Fits-program p f g b at bytes out not_ready inside cut fits = Fits-but_block p f g b not_ready (record {
+  size = cut.same_size;
+  below = λ k low. elim (cut.pages k) [ inl same ↦ same | inr is ↦ (let e = is.0 in absurd (omega (arith, low, inside.0, e))) ];
+  above = λ k high. elim (cut.pages k) [ inl same ↦ same | inr is ↦ (let e = is.0 in absurd (omega (arith, high, inside.1, e))) ];
+}) fits
+
+pub Fits-programmed : (p : Blocks) (f : Flash) (b at : ℕ) (bytes : List ℕ) → IsNotReady p b → IsInBlock p.shape b at
+    → Fits p f → Fits p (after p.shape (program at bytes) f)
+Fits-programmed p f b at bytes not_ready inside fits =
+    Fits-program p f (after p.shape (program at bytes) f) b at bytes [] not_ready inside (interrupted_done p.shape (program at bytes) f) fits
+
+-- a block that gets another state, which does not count as erased
+pub Fits-marked : (p : Blocks) (f : Flash) (b : ℕ) (t : BlockState) → (t ≡ Ready → ⊥) → Fits p f → Fits (with_state p b t) f
+Fits-marked p f b t not_ready fits = record {
+  erased = λ c is. elim (cases_eq c b) [
+    | inl same ↦ absurd (not_ready (sym (get-set_same p.states b t Ready (subst (λ k. slice_get (set p.states b t) k ≡ Some Ready) same is))))
+    | inr other ↦ fits.erased c (sym (get-set_other p.states b c t other) ∙ is)
+  ];
+}
+
+-- a block that counts as erased from now on
+pub Fits-ready : (p : Blocks) (f : Flash) (b : ℕ) → IsErasedBlock p.shape f b → Fits p f → Fits (with_state p b Ready) f
+Fits-ready p f b is_erased fits = record {
+  erased = λ c is. elim (cases_eq c b) [
+    | inl same ↦ subst (λ k. IsErasedBlock p.shape f k) (sym same) is_erased
+    | inr other ↦ fits.erased c (sym (get-set_other p.states b c Ready other) ∙ is)
+  ];
+}
+
+-- the first page of an erased block is the next one to be programmed
+pub InOrder-erased : (shape : Shape) (f : Flash) (b : ℕ) → IsErasedBlock shape f b → InOrder shape f (b * shape.block_pages)
+InOrder-erased shape f b is_erased =
+    let none : b * shape.block_pages % shape.block_pages ≡ 0 = mul-mod_left b shape.block_pages in
+    record {
+      before = λ k low high. absurd (omega (arith, none, low, high));
+      behind = λ k low high. is_erased k low (omega (arith, none, high));
+    }
+
+-- ---- the board
+
+-- nothing was done
+pub ReachesIn-none : (shape : Shape) (b : ℕ) (board : BoardState) → ReachesIn shape b board board
+ReachesIn-none shape b board = ([], Reached-start board board (λ f _. SameButBlock shape b board.pages f) refl refl refl refl (record { size = refl; below = λ k _. refl; above = λ k _. refl }))
+
+module _ (shape : Shape) (board : BoardState) (b : ℕ) (is_shape : IsShape shape) (ready : IsReady board shape) where
+  some_pages : 0 < shape.block_pages
+  some_pages = let least : 8 ≤ shape.block_pages = is_shape.block_least in omega arith
+
+  -- an erase of block b, done or not, seen by the board
+  within : (f : Flash) → Interrupted (shape_of board) (erase b) board.pages f [] → SameButBlock shape b board.pages f
+  within f cut = erase_leaves shape board.pages f b [] some_pages (subst (λ s. Interrupted s (erase b) board.pages f []) (shape_is board shape ready) cut)
+
+  done : SameButBlock shape b board.pages (after_erase board b).pages
+  done = rw (shape_is board shape ready) (erased_leaves_others shape board.pages b some_pages)
+
+  pub ReachesIn-erase : ReachesIn shape b board (after_erase board b)
+  ReachesIn-erase = (erase b ∷ [], Reached-erase board (λ f _. SameButBlock shape b board.pages f) b within done)
+
+  pub WentIn-erase : (new : BoardState) → EraseFailed board new b → WentIn shape b board new
+  WentIn-erase new failed = Went-erase_failed board (λ f _. SameButBlock shape b board.pages f) new b failed within done
+
+  pub IsReady-erase : IsReady (after_erase board b) shape
+  IsReady-erase = record {
+    shape_is = ready.shape_is;
+    flash = rw (shape_is board shape ready) (IsFlash-after shape (erase b) board.pages (full_erase shape b) ready.flash);
+  }
+
+  pub IsReady-erase_failed : (new : BoardState) → EraseFailed board new b → IsReady new shape
+  IsReady-erase_failed new failed = record {
+    shape_is = ap (λ s. s.shape) failed.rest ∙ ready.shape_is;
+    flash = IsFlash-left shape (erase b) board.pages new.pages board.trail new.trail (full_erase shape b) ready.flash
+        (subst (λ s. LeftBehind s (erase b) board.pages new.pages board.trail new.trail) (shape_is board shape ready) failed.left);
+  }
+
+  pub erased_block : b < shape.blocks → IsErasedBlock shape (after_erase board b).pages b
+  erased_block exists = rw (shape_is board shape ready) (erased_now shape board.pages b ready.flash.size exists)
+
+module _ (p : Blocks) (board : BoardState) (b : ℕ) (is_shape : IsShape p.shape) (ready : IsReady board p.shape) (fits : Fits p board.pages) where
+  pub Fits-after_erase : Fits p (after_erase board b).pages
+  Fits-after_erase = rw (shape_is board p.shape ready) (Fits-erased p board.pages b fits)
+
+  -- where the erase failed
+  pub Fits-erase_failed : (new : BoardState) → IsNotReady p b → EraseFailed board new b → Fits p new.pages
+  Fits-erase_failed new not_ready failed = elim failed.left [
+    | inl marked ↦ Fits-but_block p board.pages new.pages b not_ready (within p.shape board b is_shape ready new.pages marked.0) fits
+    | inr same ↦ subst (Fits p) (sym same.0) fits
+  ]

@@ -1,0 +1,22 @@
+//! What calls of other crates leave of a pool's view of a flash.
+ghost use Rattle.pk_pool.specs.Laws.{ChangesElsewhere, ProgramElsewhere, EraseElsewhere, ErasedInOrder};
+
+/// Changes within a block that does not count as erased leave the pool fitting.
+pub fn changes_elsewhere()
+    ensures { ChangesElsewhere }
+{}
+
+/// A program in such a block, done or interrupted, leaves the pool fitting.
+pub fn program_elsewhere()
+    ensures { ProgramElsewhere }
+{}
+
+/// An erase of such a block, done or interrupted, leaves the pool fitting.
+pub fn erase_elsewhere()
+    ensures { EraseElsewhere }
+{}
+
+/// The first page of an erased block is the next one to be programmed.
+pub fn erased_in_order()
+    ensures { ErasedInOrder }
+{}

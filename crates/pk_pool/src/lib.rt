@@ -1,0 +1,15 @@
+//! The pool of blocks: three owners with quotas. A block that is owned is never handed out, and each block is erased in this
+//! session before it is handed out, so that all its pages are Erased.
+#![tactic(auto)]
+
+mod laws;
+mod pool;
+mod state;
+
+pub use laws::{changes_elsewhere, erase_elsewhere, erased_in_order, program_elsewhere};
+pub use pk_plan::Owner;
+pub use pool::Pool;
+pub use state::BlockState;
+
+#[cfg(test)]
+mod tests;

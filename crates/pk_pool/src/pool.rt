@@ -1,0 +1,206 @@
+//! The pool.
+ghost use Rattle.std.specs.Prelude.{◌≡◌, ℕ, ◌+◌, ◌*◌, ◌<◌, ◌≤◌, ◌⊎◌, count_by, length, slice_get, nat_lt, Some, IfOk, IfErr, OnOk, OnErr, MatchOption, MatchBool};
+ghost use Rattle.pk_base.specs.Page.{Flash};
+ghost use Rattle.pk_plan.specs.Quotas.{quota_of};
+ghost use Rattle.pk_plan.specs.declared.owner.Owner.{Owner};
+ghost use Rattle.pk_nand.specs.Calls.{IsReady};
+ghost use Rattle.pk_nand.specs.declared.types.Fault.TheVariants.{Stopped};
+ghost use Rattle.pk_pool.specs.declared.state.BlockState.TheVariants.{Free, Ready, Owned};
+ghost use Rattle.pk_pool.specs.Blocks as spec;
+ghost use Rattle.pk_pool.specs.Blocks.{is_ready, used_by, unused, with_state, IsOwned, IsSpare, IsShared, IsLowest, IsNowhere, IsErasedBlock, Fits};
+ghost use Rattle.pk_pool.specs.Taking.{ReachesIn, TakesReady, ErasesFree, FailsToErase, ErasesOne, ErasesNone};
+
+use crate::state::BlockState;
+use pk_nand::{Fault, Nand};
+use pk_plan::{Owner, Plan};
+use std::alloc::{AllocError, Allocator};
+use std::marker::Model;
+
+/// The blocks of a flash. Contracts see the shape and the state of each block.
+#[derive(Drop)]
+pub struct Pool<A: Allocator> {
+    plan: Plan,
+    states: Vec<BlockState, A>,
+}
+
+impl<A: Allocator> Model for Pool<A> {
+    ghost use Rattle.pk_pool.specs.Blocks.{Blocks, IsShared};
+
+    ghost Value = { Blocks };
+
+    ghost view = { λ p. record { shape = p.plan; states = p.states.items } };
+
+    ghost invariant = { λ p. IsShared p.plan p.states.items };
+}
+
+// The lowest-numbered block in this state.
+fn lowest(states: &[BlockState], wanted: BlockState) -> Option<usize>
+    ensures { MatchOption result (IsNowhere wanted states.now) (λ b. IsLowest wanted states.now b) }
+{
+    for (b, state) in states.iter().enumerate() {
+        if *state == wanted {
+            return Some(b);
+        }
+    }
+    None
+}
+
+// Whether a block's state is this one.
+fn is_in(state: BlockState, wanted: BlockState) -> bool
+    ensures { result ≡ spec.is_in wanted state }
+{
+    state == wanted
+}
+
+// How many blocks are in this state.
+fn count(states: &[BlockState], wanted: BlockState) -> u32
+    requires { length states.now ≤ 4096 }
+    ensures { result ≡ count_by (spec.is_in wanted) states.now }
+{
+    let mut count = 0;
+    for state in states {
+        if is_in(*state, wanted) {
+            count += 1;
+        }
+    }
+    count
+}
+
+impl<A: Allocator> Pool<A> {
+    /// All blocks from 2 on free, and none erased. All memory of the pool is taken here.
+    pub fn new(alloc: A, plan: Plan) -> Result<Pool<A>, AllocError>
+        ensures unused { IfOk result (λ p. p ≡ unused plan) }
+        ensures fits { IfOk result (λ p. (flash : Flash) → Fits p flash) }
+    {
+        plan.known();
+        let blocks = plan.shape().blocks() as usize;
+        let mut states = Vec::from_elem(alloc, BlockState::Free, blocks)?;
+        states[0] = BlockState::Root;
+        states[1] = BlockState::Root;
+        Ok(Pool { plan, states })
+    }
+
+    /// Each pool keeps this.
+    pub fn known(&self)
+        ensures { IsShared self.now.shape self.now.states }
+    {
+        let _ = &self.states;
+    }
+
+    /// Makes a free block the owner's, as it is found at opening.
+    pub fn adopt(&mut self, block: u32, owner: Owner)
+        requires free { IsSpare self.old block }
+        requires below { used_by owner self.old.states < quota_of self.old.shape owner }
+        ensures adopted { self.new ≡ with_state self.old block (Owned owner) }
+        ensures counted { used_by owner self.new.states ≡ used_by owner self.old.states + 1 }
+        ensures fits { (flash : Flash) → Fits self.old flash → Fits self.new flash }
+    {
+        self.states[block as usize] = BlockState::Owned(owner);
+    }
+
+    /// Hands out a block whose pages are all Erased: the lowest-numbered one that was erased in this session, else the
+    /// lowest-numbered free one, which is erased now by the one call of the board. `Stopped` where this call fails; the pool
+    /// is as before then.
+    pub fn take<B: Nand>(&mut self, board: &mut B, owner: Owner) -> Result<u32, Fault>
+        requires below { used_by owner self.old.states < quota_of self.old.shape owner }
+        requires ready { IsReady (B.state board.old) self.old.shape }
+        requires fits { Fits self.old (B.state board.old).pages }
+        ensures choice { IfOk result (λ b. TakesReady self.old (B.state board.old) b (B.state board.new) ⊎ ErasesFree self.old (B.state board.old) b (B.state board.new)) }
+        ensures spare { IfOk result (λ b. IsSpare self.old b) }
+        ensures place { IfOk result (λ b. 2 ≤ b × b < self.old.shape.blocks) }
+        ensures taken { IfOk result (λ b. self.new ≡ with_state self.old b (Owned owner)) }
+        ensures counted { OnOk result (used_by owner self.new.states ≡ used_by owner self.old.states + 1) }
+        ensures owned { IfOk result (λ b. slice_get self.new.states b ≡ Some (Owned owner)) }
+        ensures shape { self.new.shape ≡ self.old.shape }
+        ensures erased { IfOk result (λ b. IsErasedBlock self.old.shape (B.state board.new).pages b) }
+        ensures cuts { IfOk result (λ b. ReachesIn self.old.shape b (B.state board.old) (B.state board.new)) }
+        ensures stopped { IfErr result (λ e. e ≡ Stopped) }
+        ensures none_ready { OnErr result (IsNowhere Ready self.old.states) }
+        ensures failed { OnErr result (FailsToErase self.old (B.state board.old) (B.state board.new)) }
+        ensures kept { OnErr result (self.new ≡ self.old) }
+        ensures ready { IsReady (B.state board.new) self.new.shape }
+        ensures fits { Fits self.new (B.state board.new).pages }
+    {
+        match lowest(&self.states, BlockState::Ready) {
+            Some(b) => {
+                self.states[b] = BlockState::Owned(owner);
+                Ok(b as u32)
+            }
+            None => match lowest(&self.states, BlockState::Free) {
+                Some(b) => match board.erase(b as u32) {
+                    Ok(()) => {
+                        self.states[b] = BlockState::Owned(owner);
+                        Ok(b as u32)
+                    }
+                    Err(_) => Err(Fault::Stopped),
+                },
+                None => unreachable!(),
+            },
+        }
+    }
+
+    /// Gives a block back. It is free, and counts as not erased.
+    pub fn give(&mut self, block: u32)
+        requires { IsOwned self.old block }
+        ensures given { self.new ≡ with_state self.old block Free }
+        ensures counted { (o : Owner) → slice_get self.old.states block ≡ Some (Owned o) → used_by o self.new.states + 1 ≡ used_by o self.old.states }
+        ensures fits { (flash : Flash) → Fits self.old flash → Fits self.new flash }
+    {
+        self.states[block as usize] = BlockState::Free;
+    }
+
+    /// Erases the lowest-numbered free block that was not erased in this session, by one call of the board; false exactly where
+    /// there is none. `Stopped` where this call fails; the pool is as before then.
+    pub fn erase_one<B: Nand>(&mut self, board: &mut B) -> Result<bool, Fault>
+        requires ready { IsReady (B.state board.old) self.old.shape }
+        requires fits { Fits self.old (B.state board.old).pages }
+        ensures cases { IfOk result (λ erased. MatchBool erased (ErasesOne self.old (B.state board.old) self.new (B.state board.new)) (ErasesNone self.old (B.state board.old) self.new (B.state board.new))) }
+        ensures stopped { IfErr result (λ e. e ≡ Stopped) }
+        ensures failed { OnErr result (FailsToErase self.old (B.state board.old) (B.state board.new)) }
+        ensures kept { OnErr result (self.new ≡ self.old) }
+        ensures ready { IsReady (B.state board.new) self.new.shape }
+        ensures shape { self.new.shape ≡ self.old.shape }
+        ensures owned { (b : ℕ) → IsOwned self.old b → slice_get self.new.states b ≡ slice_get self.old.states b }
+        ensures fits { Fits self.new (B.state board.new).pages }
+    {
+        match lowest(&self.states, BlockState::Free) {
+            None => Ok(false),
+            Some(b) => match board.erase(b as u32) {
+                Ok(()) => {
+                    self.states[b] = BlockState::Ready;
+                    Ok(true)
+                }
+                Err(_) => Err(Fault::Stopped),
+            },
+        }
+    }
+
+    /// Whether the owner may have another block.
+    pub fn has_room(&self, owner: Owner) -> bool
+        ensures { result ≡ nat_lt (used_by owner self.now.states) (quota_of self.now.shape owner) }
+    {
+        self.used(owner) < self.plan.quota(owner)
+    }
+
+    /// What a block is; None past the last one.
+    pub fn state(&self, block: u32) -> Option<BlockState>
+        ensures { result ≡ slice_get self.now.states block }
+    {
+        self.states.get(block as usize).copied()
+    }
+
+    /// How many blocks the owner has.
+    pub fn used(&self, owner: Owner) -> u32
+        ensures value { result ≡ used_by owner self.now.states }
+        ensures most { result ≤ quota_of self.now.shape owner }
+    {
+        count(&self.states, BlockState::Owned(owner))
+    }
+
+    /// How many free blocks were erased in this session.
+    pub fn ready(&self) -> u32
+        ensures { result ≡ count_by is_ready self.now.states }
+    {
+        count(&self.states, BlockState::Ready)
+    }
+}

@@ -1,0 +1,12 @@
+//! What a block is to the pool.
+use pk_plan::Owner;
+
+/// What a block is to the pool. A root block never has an owner here. A ready block is free, and was erased in this session
+/// since it last had an owner; a free one was not.
+#[derive(Clone, Copy, Debug, PartialEq, Eq)]
+pub enum BlockState {
+    Root,
+    Free,
+    Ready,
+    Owned(Owner),
+}

@@ -1,0 +1,11 @@
+//! The records that wait for a commit, in order.
+//!
+//! Room for them is taken once, and no other call takes memory.
+#![tactic(auto)]
+
+mod queue;
+
+pub use queue::Queue;
+
+#[cfg(test)]
+mod tests;

@@ -1,0 +1,95 @@
+-- Boards that are read.
+use Rattle.std.proofs.Common.{◌≡◌, ◌<◌, ◌≤◌, ◌+◌, ◌-◌, ◌*◌, ℕ, zero, suc, List, [], ◌∷◌, ◌++◌, length, take, drop, refl, sym, ◌∙◌, ap, subst, arith}
+use Rattle.std.specs.Prelude.{min}
+use Rattle.std.proofs.lemmas.List.{take_all}
+use Rattle.pk_base.specs.Key.{Key}
+use Rattle.pk_base.specs.Shape.{Shape, IsShape, fetched}
+use Rattle.pk_base.specs.Page.{Page, Flash, page_at, whole, torn}
+use Rattle.pk_nand.specs.BoardState.{BoardState}
+use Rattle.pk_nand.specs.Calls.{Rose, IsReady, filled, after_read, ReadFailed}
+use Rattle.pk_segfmt.specs.Value.{value_bytes}
+use Rattle.pk_segfmt.specs.Stored.{page_of}
+use Rattle.pk_seg.specs.Counts.{after_reads, ReadsFailed}
+use Rattle.pk_seg.specs.Stored.{IsFront}
+use Rattle.pk_seg.proofs.Fronts.{front_next, value_front, fetched_within, fetched_needed, fetched_room}
+
+whole_not_torn : (bytes : List ℕ) → torn ≡ whole bytes → ⊥
+whole_not_torn bytes e = cc
+
+-- a page that is whole exists
+pub whole_exists : (flash : Flash) (k : ℕ) (bytes : List ℕ) → page_at flash k ≡ whole bytes → k < length flash
+whole_exists [] k bytes is = absurd (whole_not_torn bytes is)
+whole_exists (p ∷ ps) zero bytes is = omega arith
+whole_exists (p ∷ ps) (suc k) bytes is = omega (arith, whole_exists ps k bytes is)
+
+pub IsReady-read_failed : (old new : BoardState) (shape : Shape) (at : ℕ) → ReadFailed old new at → IsReady old shape → IsReady new shape
+IsReady-read_failed old new shape at failed ready = record {
+  shape_is = ap (λ s. s.shape) failed.rest ∙ ready.shape_is;
+  flash = rw (ap (λ s. s.pages) failed.rest) ready.flash;
+}
+
+-- i of the pages were read, and the front of the value that they hold is filled in
+pub record Filling (old now : BoardState) (shape : Shape) (page n i : ℕ) (into : List ℕ) : Type 0 where
+  pub board : now ≡ after_reads i old
+  pub len : length into ≡ n
+  pub front : (key value : List ℕ) → IsFront shape old.pages page n key value → take (min n (i * shape.page_bytes - 32)) into ≡ take (min n (i * shape.page_bytes - 32)) (drop 32 (value_bytes shape key value))
+
+pub Filling-start : (old : BoardState) (shape : Shape) (page n : ℕ) (into : List ℕ) → length into ≡ n → Filling old old shape page n 0 into
+Filling-start old shape page n into len =
+    let none : min n (0 * shape.page_bytes - 32) ≡ 0 = omega arith in
+    record { board = refl; len = len; front = λ key value is. rw none refl }
+
+-- the page that is read next exists
+pub Filling-exists : (old : BoardState) (shape : Shape) (page n i : ℕ) (key value : List ℕ) → IsShape shape → IsFront shape old.pages page n key value → i < fetched shape n → page + i < length old.pages
+Filling-exists old shape page n i key value is_shape is less =
+    whole_exists old.pages (page + i) (page_of shape key value i) (is.stored i (fetched_within shape i n (length value) is_shape less is.long))
+
+page_is : (shape : Shape) (key : Key) (value : List ℕ) (i : ℕ) → page_of shape key value i ≡ take shape.page_bytes (drop (i * shape.page_bytes) (value_bytes shape key value))
+unfolding page_of
+page_is shape key value i = refl
+
+-- the piece that a page brings
+abbrev Copied : List ℕ → List ℕ → ℕ → List ℕ → ℕ → ℕ → Type 0
+Copied old new n page p i = take (min n ((i + 1) * p - 32)) new ≡ take (i * p - 32) old ++ take (n - (i * p - 32)) (drop (32 - i * p) page)
+
+-- one page more
+pub Filling-next : (old now : BoardState) (shape : Shape) (page n i : ℕ) (into new buf buf' : List ℕ) → IsShape shape → i < fetched shape n → Filling old now shape page n i into
+    → buf' ≡ filled (page_at now.pages (page + i)) buf → length buf' ≡ shape.page_bytes → length new ≡ length into
+    → take (min (length into) ((i + 1) * length buf' - 32)) new ≡ take (i * length buf' - 32) into ++ take (length into - (i * length buf' - 32)) (drop (32 - i * length buf') buf')
+    → Filling old (after_read now) shape page n (i + 1) new
+Filling-next old now shape page n i into new buf buf' is_shape less f read full same_len copied = record {
+  board = let Q : ℕ → Type 0 = λ k. after_read now ≡ after_reads k old in let e : suc i ≡ i + 1 = omega arith in subst Q e (ap after_read f.board);
+  len = same_len ∙ f.len;
+  front = λ key value is.
+      let p : ℕ = shape.page_bytes in
+      let least : 512 ≤ p = is_shape.page_least in
+      let here : page_at old.pages (page + i) ≡ whole (page_of shape key value i) = is.stored i (fetched_within shape i n (length value) is_shape less is.long) in
+      let pages : now.pages ≡ old.pages = ap (λ (b : BoardState). b.pages) f.board in
+      let page_now : buf' ≡ page_of shape key value i = read ∙ ap (λ (q : Page). filled q buf) (ap (λ (g : Flash). page_at g (page + i)) pages ∙ here) in
+      let needed : i * p < 32 + n = fetched_needed shape i n is_shape less in
+      let within : i * p - 32 ≤ n = omega (arith, needed) in
+      let clipped : min n (i * p - 32) ≡ i * p - 32 = omega (arith, within) in
+      let before : take (i * p - 32) into ≡ take (i * p - 32) (drop 32 (value_bytes shape key value)) =
+      subst (λ (k : ℕ). take k into ≡ take k (drop 32 (value_bytes shape key value))) clipped (f.front key value is) in
+      let one : Copied into new n buf' (length buf') i = subst (λ (m : ℕ). Copied into new m buf' (length buf') i) f.len copied in
+      let two : Copied into new n buf' p i = subst (λ (m : ℕ). Copied into new n buf' m i) full one in
+      let three : Copied into new n (take p (drop (i * p) (value_bytes shape key value))) p i = subst (λ (q : List ℕ). Copied into new n q p i) (page_now ∙ page_is shape key value i) two in
+      front_next n p i (value_bytes shape key value) into new (omega (arith, least)) within before three;
+}
+
+-- all pages were read
+pub Filling-end : (old now : BoardState) (shape : Shape) (page n : ℕ) (into : List ℕ) → IsShape shape → Filling old now shape page n (fetched shape n) into
+    → (key value : List ℕ) → IsFront shape old.pages page n key value → into ≡ take n value
+Filling-end old now shape page n into is_shape f key value is =
+    let room : n ≤ fetched shape n * shape.page_bytes - 32 = fetched_room shape n is_shape in
+    let all : min n (fetched shape n * shape.page_bytes - 32) ≡ n = omega (arith, room) in
+    let front : take n into ≡ take n (drop 32 (value_bytes shape key value)) =
+    subst (λ (k : ℕ). take k into ≡ take k (drop 32 (value_bytes shape key value))) all (f.front key value is) in
+    sym (take_all n into (omega (arith, f.len))) ∙ (front ∙ value_front shape key value n is.is_head.is_key is.long)
+
+-- the next read fails
+pub Filling-failed : (old now new : BoardState) (shape : Shape) (page n i : ℕ) (into : List ℕ) → i < fetched shape n → Filling old now shape page n i into → ReadFailed now new (page + i)
+    → ReadsFailed old new page (fetched shape n)
+Filling-failed old now new shape page n i into less f failed =
+    let from_old : ReadFailed (after_reads i old) new (page + i) = subst (λ b. ReadFailed b new (page + i)) f.board failed in
+    record { made = i; within = less; failed = from_old; flash = from_old.flash; read = from_old.read }

@@ -1,0 +1,38 @@
+-- Values on a board, and the board while one is written.
+use Rattle.std.specs.Prelude.{◌≡◌, ℕ, zero, suc, ◌+◌, ◌<◌, ◌≤◌, List, length, take}
+use Rattle.pk_base.specs.Key.{Key}
+use Rattle.pk_base.specs.Shape.{Shape, charge}
+use Rattle.pk_base.specs.Page.{Flash, page_at, whole}
+use Rattle.pk_nand.specs.BoardState.{BoardState, shape_of}
+use Rattle.pk_nand.specs.Calls.{Rose, after_program, ProgramFailed}
+use Rattle.pk_segfmt.specs.Head.{IsHead}
+use Rattle.pk_segfmt.specs.Value.{head_bytes}
+use Rattle.pk_segfmt.specs.Stored.{page_of, IsStored}
+
+-- from this page on stand the pages of a value of at least n bytes
+pub record IsFront (shape : Shape) (flash : Flash) (page n : ℕ) (key : Key) (value : List ℕ) : Type 0 where
+  pub is_head : IsHead shape key (length value)
+  pub long : n ≤ length value
+  pub stored : IsStored shape (page_at flash) key page value
+
+-- the page is a whole one and begins with this head
+pub record HasHead (shape : Shape) (flash : Flash) (page : ℕ) (key : Key) (len : ℕ) : Type 0 where
+  pub is_head : IsHead shape key len
+  pub bytes : List ℕ
+  pub here : page_at flash page ≡ whole bytes
+  pub front : take 32 bytes ≡ head_bytes key len
+
+module _ (shape : Shape) (key : Key) (page : ℕ) (value : List ℕ) where
+  -- the board behind the programs of the first k pages of a value
+  abbrev pub written : ℕ → BoardState → BoardState
+  written zero old = old
+  written (suc k) old = after_program (written k old) (page + k) (page_of shape key value k)
+
+  -- a program of one of its pages failed, behind those of all pages before it
+  pub record WriteFailed (old new : BoardState) : Type 0 where
+    pub made : ℕ
+    pub within : made < charge shape (length value)
+    pub failed : ProgramFailed (written made old) new (page + made) (page_of shape key value made)
+    pub flash : Rose old.flash_faults new.flash_faults
+    pub stop : Rose old.stop_faults new.stop_faults
+    pub read : new.read_faults ≡ old.read_faults

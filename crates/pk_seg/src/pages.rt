@@ -1,0 +1,46 @@
+//! Single pages.
+ghost use Rattle.std.specs.Prelude.{◌≡◌, ◌<◌, List, ℕ, length, IfErr, OnOk, OnErr};
+ghost use Rattle.pk_base.specs.Shape as spec;
+ghost use Rattle.pk_base.specs.Page.{page_at, whole};
+ghost use Rattle.pk_nand.specs.BoardState.{shape_of};
+ghost use Rattle.pk_nand.specs.Calls.{IsReady, InOrder, after_read, after_program, ReadFailed, ProgramFailed};
+ghost use Rattle.pk_nand.specs.Crash.{Reached, Went, SameOutside};
+ghost use Rattle.pk_nand.specs.declared.types.Fault.TheVariants.{Reading, Stopped};
+
+use pk_nand::{Fault, Nand};
+
+/// Reads a whole page into the buffer, by one read. `Reading` where it fails.
+pub fn read_page<B: Nand>(board: &mut B, page: u32, buf: &mut [u8]) -> Result<(), Fault>
+    requires exists { page < length (B.state board.old).pages }
+    requires room { length buf.old ≡ (shape_of (B.state board.old)).page_bytes }
+    requires whole { (bytes : List ℕ) × (page_at (B.state board.old).pages page ≡ whole bytes) }
+    ensures bytes { OnOk result (page_at (B.state board.old).pages page ≡ whole buf.new) }
+    ensures ok { OnOk result (B.state board.new ≡ after_read (B.state board.old)) }
+    ensures reading { IfErr result (λ e. e ≡ Reading) }
+    ensures err { OnErr result (ReadFailed (B.state board.old) (B.state board.new) page) }
+{
+    match board.read(page, buf) {
+        Ok(_) => Ok(()),
+        Err(_) => Err(Fault::Reading),
+    }
+}
+
+/// Programs the next Erased page of its block with the buffer's bytes. `Stopped` where this fails. Wherever it is cut, no
+/// other page differs.
+pub fn write_page<B: Nand>(board: &mut B, page: u32, buf: &[u8]) -> Result<(), Fault>
+    requires exists { page < length (B.state board.old).pages }
+    requires full { length buf.now ≡ (shape_of (B.state board.old)).page_bytes }
+    requires order { InOrder (shape_of (B.state board.old)) (B.state board.old).pages page }
+    ensures ok { OnOk result (B.state board.new ≡ after_program (B.state board.old) page buf.now) }
+    ensures written { OnOk result (page_at (B.state board.new).pages page ≡ whole buf.now) }
+    ensures cuts { OnOk result (Reached (B.state board.old) (B.state board.new) (λ flash _. SameOutside page 1 (B.state board.old).pages flash)) }
+    ensures stopped { IfErr result (λ e. e ≡ Stopped) }
+    ensures err { OnErr result (ProgramFailed (B.state board.old) (B.state board.new) page buf.now) }
+    ensures cuts_err { OnErr result (Went (B.state board.old) (B.state board.new) (λ flash _. SameOutside page 1 (B.state board.old).pages flash)) }
+    ensures ready { (shape : spec.Shape) → IsReady (B.state board.old) shape → IsReady (B.state board.new) shape }
+{
+    match board.program(page, buf) {
+        Ok(()) => Ok(()),
+        Err(_) => Err(Fault::Stopped),
+    }
+}

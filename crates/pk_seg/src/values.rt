@@ -1,0 +1,129 @@
+//! Values.
+ghost use Rattle.std.specs.Prelude.{◌≡◌, ◌+◌, ◌-◌, ◌*◌, ◌%◌, ◌<◌, ◌≤◌, ◌++◌, List, ℕ, length, min, take, drop, IfOk, IfErr, OnOk, OnErr};
+ghost use Rattle.pk_base.specs.Shape as spec;
+ghost use Rattle.pk_base.specs.Page.{page_at};
+ghost use Rattle.pk_nand.specs.Calls.{IsReady, InOrder, after_read, ReadFailed};
+ghost use Rattle.pk_nand.specs.Crash.{Reached, Went, SameOutside};
+ghost use Rattle.pk_nand.specs.declared.types.Fault.TheVariants.{Reading, Stopped};
+ghost use Rattle.pk_segfmt.specs.Stored.{IsStored};
+ghost use Rattle.pk_seg.specs.Counts.{after_reads, ReadsFailed};
+ghost use Rattle.pk_seg.specs.Stored.{IsFront, HasHead, written, WriteFailed};
+
+use crate::pages::write_page;
+use pk_base::{Key, Shape};
+use pk_nand::{Fault, Nand};
+use pk_segfmt::{Head, head, page as value_page};
+
+/// Programs the pages of a value, the next Erased ones of a block. `Stopped` where a program fails. Wherever it is cut, no
+/// other page differs. `buf` has the bytes of a page, which are lost.
+pub fn write_value<B: Nand>(
+    board: &mut B,
+    shape: &Shape,
+    page: u32,
+    key: &Key,
+    value: &[u8],
+    buf: &mut [u8],
+) -> Result<(), Fault>
+    requires ready { IsReady (B.state board.old) shape.now }
+    requires short { length value.now ≤ spec.greatest shape.now }
+    requires exist { page + spec.charge shape.now (length value.now) ≤ spec.page_count shape.now }
+    requires block { page % shape.now.block_pages + spec.charge shape.now (length value.now) ≤ shape.now.block_pages }
+    requires order { InOrder shape.now (B.state board.old).pages page }
+    requires room { length buf.old ≡ shape.now.page_bytes }
+    ensures stored { OnOk result (IsStored shape.now (page_at (B.state board.new).pages) key.now page value.now) }
+    ensures ok { OnOk result (B.state board.new ≡ written shape.now key.now page value.now (spec.charge shape.now (length value.now)) (B.state board.old)) }
+    ensures order { OnOk result (page % shape.now.block_pages + spec.charge shape.now (length value.now) < shape.now.block_pages → InOrder shape.now (B.state board.new).pages (page + spec.charge shape.now (length value.now))) }
+    ensures cuts { OnOk result (Reached (B.state board.old) (B.state board.new) (λ flash _. SameOutside page (spec.charge shape.now (length value.now)) (B.state board.old).pages flash)) }
+    ensures stopped { IfErr result (λ e. e ≡ Stopped) }
+    ensures err { OnErr result (WriteFailed shape.now key.now page value.now (B.state board.old) (B.state board.new)) }
+    ensures cuts_err { OnErr result (Went (B.state board.old) (B.state board.new) (λ flash _. SameOutside page (spec.charge shape.now (length value.now)) (B.state board.old).pages flash)) }
+    ensures ready { IsReady (B.state board.new) shape.now }
+    ensures buffer { length buf.new ≡ length buf.old }
+{
+    shape.known();
+    // so that the numbers of pages are known to fit
+    let _ = shape.page_count();
+    let _ = shape.greatest();
+    for i in 0..shape.charge(value.len() as u32) {
+        value_page(shape, key, value, i, buf);
+        match write_page(board, page + i, buf) {
+            Ok(()) => {}
+            Err(fault) => return Err(fault),
+        }
+    }
+    Ok(())
+}
+
+// Copies page i of a value, behind the 32 bytes of its head, to its place in the value's front.
+fn copy_page(into: &mut [u8], i: u32, page: &[u8])
+    requires within { i * length page.now - 32 ≤ length into.old }
+    requires head { 32 ≤ length page.now }
+    requires small { length page.now ≤ 16384 }
+    ensures front { take (min (length into.old) ((i + 1) * length page.now - 32)) into.new ≡ take (i * length page.now - 32) into.old ++ take (length into.old - (i * length page.now - 32)) (drop (32 - i * length page.now) page.now) }
+    ensures len { length into.new ≡ length into.old }
+{
+    let done = (i as usize * page.len()).saturating_sub(32);
+    let part = if i == 0 { &page[32..] } else { page };
+    let count = part.len().min(into.len() - done);
+    into[done..done + count].copy_from_slice(&part[..count]);
+}
+
+/// Fills `into` with the front of the value from this page on, by as many reads as it has pages. `Reading` where one fails.
+/// `buf` has the bytes of a page, which are lost.
+pub fn read_value<B: Nand>(
+    board: &mut B,
+    shape: &Shape,
+    page: u32,
+    into: &mut [u8],
+    buf: &mut [u8],
+) -> Result<(), Fault>
+    requires ready { IsReady (B.state board.old) shape.now }
+    requires value { (key : List ℕ) × (value : List ℕ) × IsFront shape.now (B.state board.old).pages page (length into.old) key value }
+    requires room { length buf.old ≡ shape.now.page_bytes }
+    ensures front { OnOk result ((key value : List ℕ) → IsFront shape.now (B.state board.old).pages page (length into.old) key value → into.new ≡ take (length into.old) value) }
+    ensures ok { OnOk result (B.state board.new ≡ after_reads (spec.fetched shape.now (length into.old)) (B.state board.old)) }
+    ensures reading { IfErr result (λ e. e ≡ Reading) }
+    ensures err { OnErr result (ReadsFailed (B.state board.old) (B.state board.new) page (spec.fetched shape.now (length into.old))) }
+    ensures ready { IsReady (B.state board.new) shape.now }
+    ensures len { length into.new ≡ length into.old }
+    ensures buffer { length buf.new ≡ length buf.old }
+{
+    shape.known();
+    let _ = shape.greatest();
+    let _ = shape.page_count();
+    for i in 0..shape.fetched(into.len() as u32) {
+        match board.read(page + i, buf) {
+            Ok(_) => copy_page(into, i, buf),
+            Err(_) => return Err(Fault::Reading),
+        }
+    }
+    Ok(())
+}
+
+/// The head of the value from this page on, by one read. `Reading` where it fails. `buf` has the bytes of a page, which are
+/// lost.
+pub fn read_head<B: Nand>(
+    board: &mut B,
+    shape: &Shape,
+    page: u32,
+    buf: &mut [u8],
+) -> Result<Head, Fault>
+    requires ready { IsReady (B.state board.old) shape.now }
+    requires head { (key : List ℕ) × (len : ℕ) × HasHead shape.now (B.state board.old).pages page key len }
+    requires room { length buf.old ≡ shape.now.page_bytes }
+    ensures head { IfOk result (λ h. HasHead shape.now (B.state board.old).pages page h.key h.len) }
+    ensures only { IfOk result (λ h. (key : List ℕ) (len : ℕ) → HasHead shape.now (B.state board.old).pages page key len → h ≡ record { key = key; len = len }) }
+    ensures ok { OnOk result (B.state board.new ≡ after_read (B.state board.old)) }
+    ensures reading { IfErr result (λ e. e ≡ Reading) }
+    ensures err { OnErr result (ReadFailed (B.state board.old) (B.state board.new) page) }
+    ensures ready { IsReady (B.state board.new) shape.now }
+    ensures buffer { length buf.new ≡ length buf.old }
+{
+    match board.read(page, buf) {
+        Ok(_) => match head(shape, buf) {
+            Ok(found) => Ok(found),
+            Err(_) => unreachable!(),
+        },
+        Err(_) => Err(Fault::Reading),
+    }
+}

@@ -1,0 +1,72 @@
+-- One command, from what is held before it to what is held after it.
+use Rattle.std.proofs.Common.{◌≡◌, ◌≢◌, ℕ, suc, ◌+◌, ◌≤◌, List, [], ◌∷◌, ◌++◌, length, sym, ap, ◌∙◌, subst, append-nil, arith}
+use Rattle.pk_base.specs.Shape.{Shape}
+use Rattle.pk_base.specs.Map.{Map}
+use Rattle.pk_nvme.specs.Command.{Command}
+use Rattle.pk_nvme.specs.Reply.{Reply, reply_record}
+use Rattle.pk_nand.specs.BoardState.{BoardState}
+use Rattle.pk_nand.specs.Calls.{Rose}
+use Rattle.pk_model.specs.Run.{Exchange, commands}
+use Rattle.pk_model.specs.Sight.{Sight}
+use Rattle.pk_drive.specs.Drive.{OnlyFlash}
+use Rattle.pk_drive.specs.Wear.{roots}
+use Rattle.pk_drive.specs.Meter.{reads_after}
+use Rattle.pk_drive.specs.Exec.{ExecStands, ExecReaches, ExecGoes, most_installs}
+use Rattle.pk_drive.proofs.Growing.{weaken_went}
+use Rattle.pk_serve.specs.Serving.{rise, Serving, Cutoff, Next, Breaks, Keeps, Serves, Stops, KeptAt}
+use Rattle.pk_serve.specs.declared.end.End.{End}
+use Rattle.pk_serve.specs.declared.end.End.TheVariants.{Flash as FlashFailed}
+use Rattle.pk_serve.proofs.Serves.{Serving-exec, Cutoff-exec, kept-more}
+use Rattle.pk_serve.proofs.Counting.{commands-push}
+use Rattle.pk_serve.proofs.Giving.{rose_from}
+
+-- more commands were taken
+pub cutoff-more : (shape : Shape) (frames : ℕ) (start : Map) (a c : BoardState) (cs more : List Command) → Cutoff shape frames start a c cs → Cutoff shape frames start a c (cs ++ more)
+cutoff-more shape frames start a c cs more h = record {
+  went = (
+    h.went.0,
+    weaken_went h.went.0 a c (KeptAt shape frames start cs (rise a.read_faults c.read_faults)) (KeptAt shape frames start (cs ++ more) (rise a.read_faults c.read_faults))
+        (kept-more shape frames start cs more (rise a.read_faults c.read_faults) (rise a.read_faults c.read_faults) (λ k h. h)) h.went.1,
+    h.went.2,
+  );
+}
+
+-- what is held, with nothing behind it
+bare : (shape : Shape) (frames : ℕ) (start : Map) (a b : BoardState) (d : Sight) (held : List ℕ) (all : List Exchange) (m : Map) → Serving shape frames start a b d held all m → Serving shape frames start a b d (held ++ []) all m
+bare shape frames start a b d held all m w = let T : List ℕ → Type 0 = λ t. Serving shape frames start a b d t all m in subst T (sym (append-nil held)) w
+
+-- it fails before the command
+pub stops_before : (b c : BoardState) (d : Sight) (held : List ℕ) (taken : ℕ) (end : End) (cmd : Command) → Breaks b c d held end → Stops b c d held taken end cmd
+stops_before b c d held taken end cmd h shape frames start a all m size w =
+    let r = h shape frames start a [] all m (bare shape frames start a b d held all m w) in
+    (cutoff-more shape frames start a c (commands all) (cmd ∷ []) r.0, r.1)
+
+module _ (b c f : BoardState) (d e : Sight) (held now_held : List ℕ) (taken : ℕ) (cmd : Command) (keeps : Keeps b c d e held now_held) where
+  -- the command stops the drive
+  pub stops_in : ExecGoes c f e cmd → c.read_faults ≤ f.read_faults → Rose c.stop_faults f.stop_faults → Stops b f d held taken FlashFailed cmd
+  stops_in went up rose shape frames start a all m size w =
+      let v = keeps shape frames start a all m w in
+      (Cutoff-exec shape frames start a c e now_held all m v f cmd (went shape frames m v.stands) up, rose_from v.no_faults.stop rose)
+
+  module _ (g : Sight) (rep : Reply) (reads count : ℕ) (one : count ≡ taken + 1) (reaches : ExecReaches c f e cmd) (stands : ExecStands c f e g cmd rep reads) (rest : OnlyFlash c f)
+      (up : c.read_faults ≤ f.read_faults) (unread : rep.status ≡ 0x88 → Rose c.read_faults f.read_faults) (sound : rep.status ≢ 0x88 → f.read_faults ≡ c.read_faults)
+      (no_stop : f.stop_faults ≡ c.stop_faults) (read : f.reads ≡ reads_after c.reads reads) (few_roots : roots f ≤ roots c + most_installs cmd.opcode cmd.size) where
+    executed : (shape : Shape) (frames : ℕ) (start : Map) (a : BoardState) (all : List Exchange) (m : Map) → taken ≡ length all → Serving shape frames start a b d held all m
+        → Next shape frames start a f g (now_held ++ reply_record count cmd.cid rep reads) all cmd
+    executed shape frames start a all m size w =
+        let v = keeps shape frames start a all m w in
+        let T : ℕ → Type 0 = λ n. Next shape frames start a f g (now_held ++ reply_record n cmd.cid rep reads) all cmd in
+        let e' : suc taken ≡ count = omega arith in
+        subst T e' (Serving-exec shape frames start a c e now_held all m v f g cmd rep reads taken size (reaches shape frames m v.stands) (stands shape frames m v.stands) rest up unread sound no_stop read few_roots)
+
+    pub serves_all : (h : BoardState) (i : Sight) (last : List ℕ) → Keeps f h g i (now_held ++ reply_record count cmd.cid rep reads) last → Serves b h d i held last taken cmd
+    serves_all h i last more shape frames start a all m size w =
+        let n = executed shape frames start a all m size w in
+        record { x = n.x; is = n.is; m = n.m; serving = more shape frames start a (all ++ n.x ∷ []) n.m n.serving }
+
+    pub stops_behind : (h : BoardState) (end : End) → Breaks f h g (now_held ++ reply_record count cmd.cid rep reads) end → Stops b h d held taken end cmd
+    stops_behind h end more shape frames start a all m size w =
+        let n = executed shape frames start a all m size w in
+        let r = more shape frames start a [] (all ++ n.x ∷ []) n.m (bare shape frames start a f g (now_held ++ reply_record count cmd.cid rep reads) (all ++ n.x ∷ []) n.m n.serving) in
+        let C : List Command → Type 0 = λ l. Cutoff shape frames start a h l in
+        (subst C (commands-push all n.x ∙ ap (λ c. commands all ++ c ∷ []) n.is) r.0, r.1)

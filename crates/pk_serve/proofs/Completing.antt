@@ -1,0 +1,153 @@
+-- Where nothing fails, the whole script is served.
+use Rattle.std.proofs.Common.{◌≡◌, ◌≢◌, ◌⊎◌, inl, inr, ℕ, zero, suc, ◌+◌, ◌-◌, ◌*◌, ◌≤◌, ◌<◌, List, [], ◌∷◌, ◌++◌, length, refl, sym, ◌∙◌, ap, subst, arith, append-nil, length-append, Option, Some, None, Bool, true, false, ◌==◌, if◌then◌else◌, nat_le, Ok}
+use Rattle.std.proofs.lemmas.Bool.Decides.{nat_tests}
+use Rattle.std.specs.List.{FoldsTo}
+use Rattle.pk_base.specs.Shape.{Shape, limit}
+use Rattle.pk_base.specs.Map.{Map}
+use Rattle.pk_nvme.specs.Command.{Command}
+use Rattle.pk_nvme.specs.Reply.{Reply}
+use Rattle.pk_nvme.specs.declared.request.Request.{Request}
+use Rattle.pk_nand.specs.BoardState.{BoardState}
+use Rattle.pk_nand.specs.Calls.{Rose, last_count}
+use Rattle.pk_model.specs.Answer.{Answer, kind, retrieve, map_after}
+use Rattle.pk_model.specs.Bounds.{most_reads}
+use Rattle.pk_model.specs.Run.{Exchange, Step, RunWithin, commands, faults, map_after_all}
+use Rattle.pk_model.specs.Reading.{reading}
+use Rattle.pk_model.specs.Script.{script, commands_in, begins_whole, value_size}
+use Rattle.pk_model.specs.Kept.{AtMost}
+use Rattle.pk_model.specs.Sight.{Sight}
+use Rattle.pk_drive.specs.Drive.{Stands}
+use Rattle.pk_drive.specs.Exec.{most_installs}
+use Rattle.pk_drive.specs.Wear.{is_worn, roots}
+use Rattle.pk_serve.specs.Serving.{rise, installs}
+use Rattle.pk_serve.specs.Run.{Served, ServedBy, Answers, Unbuilt, most_entries}
+use Rattle.pk_serve.specs.Complete.{ticks, NoneRose, Complete, IsServable, Completes}
+use Rattle.pk_serve.specs.declared.end.End.{End}
+use Rattle.pk_serve.specs.declared.end.End.TheVariants.{Done, Truncated, Input, Output, Flash, Worn, NotBuilt}
+use Rattle.pk_serve.proofs.Counting.{faults-one}
+use Rattle.pk_serve.specs.Ends.{IsFault}
+use Rattle.pk_serve.specs.Input.{behind}
+use Rattle.pk_serve.specs.Run.{Ends, Finish}
+use Rattle.pk_serve.proofs.Closing.{told, script_is, front_none, served_by, size_of}
+
+-- ---- answers without a read error
+
+module _ (shape : Shape) (frames : ℕ) where
+  -- where no reply tells of a read error, each is an answer, and the map is known
+  answered : (xs : List Exchange) (m m' : Map) → faults xs ≡ 0
+      → FoldsTo (λ m x m'. Step shape frames m x.command x.reply m' × (kind x.command.opcode ≡ Some retrieve → x.reads ≤ most_reads shape frames m x.command)) m xs m'
+      → FoldsTo (λ m x m'. Answer shape (limit shape) frames m x.command x.reply m') m xs m' × (m' ≡ map_after_all shape m (commands xs))
+  answered [] m m' none ran = (ran, sym ran)
+  answered (x ∷ xs) m m' none ran =
+      let first : faults (x ∷ []) ≡ 0 = omega arith in
+      let rest : faults xs ≡ 0 = omega arith in
+      let more = answered xs ran.0 m' rest ran.2 in
+      let one : Answer shape (limit shape) frames m x.command x.reply ran.0 = elim ran.1.0 [
+        | inl a ↦ a
+        | inr u ↦ elim (faults-one x) [
+          | inl good ↦ absurd (good.0 (ap (λ (r : Reply). r.status) u.replied))
+          | inr bad ↦ absurd (let z : 0 ≡ 1 = sym first ∙ bad.1 in omega (arith, z))
+        ]
+      ] in
+      ((ran.0, one, more.0), more.1 ∙ ap (λ n. map_after_all shape n (commands xs)) one.leaves)
+
+-- no fault was counted
+none_counted : (before now k : ℕ) → (Rose before now → ⊥) → AtMost (rise before now) k → k ≡ 0
+none_counted before now k none h = by (nat_le last_count now) refl h
+  where
+    by : (b : Bool) → nat_le last_count now ≡ b → AtMost (if b then None else Some (now - before)) k → k ≡ 0
+    by true e f = absurd (none (grind (arith, nat_tests, e)))
+    by false e f = by_order (nat_le (suc before) now) refl
+      where
+        by_order : (o : Bool) → nat_le (suc before) now ≡ o → k ≡ 0
+        by_order true r = absurd (none (let up : suc before ≤ now = grind (arith, nat_tests, r) in omega (arith, up)))
+        by_order false r = let down : now ≤ before = grind (arith, nat_tests, r) in omega (arith, down, f)
+
+-- ---- roots
+
+installs_few : (cs : List Command) → installs cs ≤ ticks cs + 65535 * length cs
+installs_few [] = omega arith
+installs_few (c ∷ cs) =
+    let rest = installs_few cs in
+    let one : most_installs c.opcode c.size ≤ (if c.opcode == 0xC0 then c.size else 0) + 65535 = by (c.opcode == 0xC0) in
+    omega (arith, rest, one)
+  where
+    by : (b : Bool) → (if b then c.size else 65535) ≤ (if b then c.size else 0) + 65535
+    by true = omega arith
+    by false = omega arith
+
+ticks-append : (xs ys : List Command) → ticks (xs ++ ys) ≡ ticks xs + ticks ys
+ticks-append [] ys = omega arith
+ticks-append (c ∷ cs) ys = let rest = ticks-append cs ys in omega (arith, rest)
+
+-- not worn, behind commands that install few roots
+unworn : (a b : BoardState) (cs : List Command) → roots b ≤ roots a + installs cs → roots a < 4611686018427387904 → ticks cs < 2305843009213693952 → length cs < 4294967296 → is_worn b ≢ true
+unworn a b cs up far few short worn =
+    let at : 9223372036854775808 ≤ roots b = grind (arith, nat_tests, worn) in
+    let most = installs_few cs in
+    omega (arith, at, up, far, few, short, most)
+
+-- ---- a part of the script
+
+-- bytes of which no command stands are left
+nothing_taken : (n : ℕ) (bytes : List ℕ) → (commands_in n bytes).0 ≡ [] → (commands_in n bytes).1 ≡ bytes
+nothing_taken zero bytes none = refl
+nothing_taken (suc n) bytes none = by (begins_whole bytes) refl
+  where
+    by : (b : Bool) → begins_whole bytes ≡ b → (commands_in (suc n) bytes).1 ≡ bytes
+    by true e = absurd (let h = rw e at none in cc)
+    by false e = rw e refl
+
+nothing_in : (bytes : List ℕ) → (script bytes).0 ≡ [] → (script bytes).1 ≡ bytes
+unfolding script
+nothing_in bytes none = nothing_taken (length bytes) bytes none
+
+-- ---- the end
+
+module _ (shape : Shape) (frames : ℕ) (start : Map) (a b : BoardState) (d : Sight) (input : List ℕ) (is : a.input ≡ Some input) (ok : IsServable a b (script input).0 (script input).1) where
+  complete_of : Served shape frames start a b (script input).0 → Complete shape frames start a b (script input).0
+  complete_of s =
+      let none : faults s.served ≡ 0 = none_counted a.read_faults b.read_faults (faults s.served) ok.none_rose.reads s.few_faults in
+      let r = answered shape frames s.served start s.left none s.ran in
+      let e : s.left ≡ map_after_all shape start (script input).0 = r.1 ∙ ap (map_after_all shape start) s.are in
+      let R : Map → Type 0 = λ m. FoldsTo (λ m x m'. Answer shape (limit shape) frames m x.command x.reply m') start s.served m in
+      let H : Map → Type 0 = λ m. reading shape b.pages [] ≡ Ok m in
+      record { served = s.served; are = s.are; ran = subst R e r.0; posted = s.posted; holds = subst H e s.holds }
+
+  -- another command begins in a script that is whole: there are more commands
+  one_more : (bytes part left : List ℕ) (cs : List Command) → part ≢ [] → script input ≡ behind cs (script (part ++ left)) → length cs + 1 ≤ length (script input).0
+  one_more bytes part left cs some e =
+      let whole : (script (part ++ left)).1 ≡ [] = sym (ap (λ s. s.1) e) ∙ ok.whole in
+      let n : length (script input).0 ≡ length cs + length (script (part ++ left)).0 = ap (λ s. length s.0) e ∙ length-append cs (script (part ++ left)).0 in
+      by (script (part ++ left)).0 refl whole n
+    where
+      by : (more : List Command) → (script (part ++ left)).0 ≡ more → (script (part ++ left)).1 ≡ [] → length (script input).0 ≡ length cs + length (script (part ++ left)).0 → length cs + 1 ≤ length (script input).0
+      by [] none whole n = absurd (some (front_none part left (sym (nothing_in (part ++ left) none) ∙ whole)))
+      by (c ∷ more) is_more whole n = omega (arith, n, ap (λ l. length l) is_more)
+
+  pub completed : (Drive : Type 0) (sight : Drive → Sight) (built : Drive → Request → Bool) → ((drive : Drive) (r : Request) → built drive r ≡ true) → (end : End) → IsFault end ⊎ (d.pending ≡ [])
+      → Finish shape frames start a b d [] (Unbuilt Drive sight built shape frames) end → (end ≡ Done) × Complete shape frames start a b (script input).0
+  completed Drive sight built all_built Done closed x =
+      let s = served_by shape frames start a b d input is (Unbuilt Drive sight built shape frames) Done closed x in (refl, complete_of s.1)
+  completed Drive sight built all_built Truncated closed x =
+      let s = served_by shape frames start a b d input is (Unbuilt Drive sight built shape frames) Truncated closed x in absurd (s.0 ok.whole)
+  completed Drive sight built all_built Input closed x = absurd (ok.none_rose.input x.rose)
+  completed Drive sight built all_built Output closed x = absurd (ok.none_rose.output x.cause)
+  completed Drive sight built all_built Flash closed x = absurd (ok.none_rose.stops x.cause)
+  completed Drive sight built all_built NotBuilt closed x = absurd (let h : true ≡ false = sym (all_built x.is.0 x.is.2) ∙ x.is.5 in cc)
+  completed Drive sight built all_built Worn closed x =
+      let f = x.finished in
+      let i = told b.input (f.bytes ++ x.part) input (sym is ∙ f.input) in
+      let e : script input ≡ behind (commands f.all) (script (x.part ++ i.0)) = script_is f.bytes x.part i.0 input (commands f.all) f.spells i.2 in
+      let more = one_more f.bytes x.part i.0 (commands f.all) x.some e in
+      let n : length (commands f.all) ≡ length f.all = size_of shape frames start a b d x.part f in
+      let t : ticks (script input).0 ≡ ticks (commands f.all) + ticks (script (x.part ++ i.0)).0 = ap (λ s. ticks s.0) e ∙ ticks-append (commands f.all) (script (x.part ++ i.0)).0 in
+      absurd (elim x.cause [
+        | inl full ↦ omega (arith, full, n, more, ok.few)
+        | inr worn ↦ unworn a b (commands f.all) f.serving.few_roots ok.far_from_worn (omega (arith, t, ok.few_ticks)) (omega (arith, more, ok.few)) worn
+      ])
+
+pub completes : (Drive : Type 0) (sight : Drive → Sight) (built : Drive → Request → Bool) (a b : BoardState) (before after : Sight) (end : End) → Ends a b before after [] (Unbuilt Drive sight built) end
+    → IsFault end ⊎ (after.pending ≡ []) → Completes Drive built a b before end
+completes Drive sight built a b before after end h closed shape frames start stands none all_built input is ok =
+    completed shape frames start a b after input is ok Drive sight built all_built end closed (h shape frames start stands none)

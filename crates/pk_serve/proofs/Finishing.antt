@@ -1,0 +1,76 @@
+-- The record of a command is held, or posted.
+use Rattle.std.proofs.Common.{◌≡◌, ℕ, ◌≤◌, List, [], ◌∷◌, ◌++◌, length, take, sym, ◌∙◌, ap, subst, append-nil, append_assoc, length-take-le}
+use Rattle.pk_base.specs.Fields.{u32}
+use Rattle.pk_nvme.specs.Reply.{reply_record, completion}
+use Rattle.pk_nand.specs.BoardState.{BoardState}
+use Rattle.pk_queue.specs.Queue.{bytes_of}
+use Rattle.pk_model.specs.Sight.{Sight}
+use Rattle.pk_drive.specs.Seen.{reply_of}
+use Rattle.pk_drive.specs.declared.types.Outcome.{Outcome}
+use Rattle.pk_serve.specs.Serving.{Serving, Flushed, Breaks, Posts, PostBreaks, Keeps}
+use Rattle.pk_serve.specs.declared.end.End.{End}
+
+pub bytes_of-push : (heads : List (List ℕ)) (head : List ℕ) → bytes_of (heads ++ head ∷ []) ≡ bytes_of heads ++ head
+bytes_of-push [] head = append-nil head
+bytes_of-push (h ∷ heads) head = ap (λ t. h ++ t) (bytes_of-push heads head) ∙ sym (append_assoc h (bytes_of heads) head)
+
+-- a record is its head and the data
+pub record_is : (count cid : ℕ) (o : Outcome) (into entry head : List ℕ) → entry ≡ completion cid count o.status o.result → head ≡ entry ++ u32 o.reads ++ u32 o.data_len → o.data_len ≤ length into
+    → reply_record count cid (reply_of o into) o.reads ≡ head ++ take o.data_len into
+record_is count cid o into entry head is_entry is_head fits =
+    ap (λ n. completion cid count o.status o.result ++ u32 o.reads ++ u32 n ++ take o.data_len into) (length-take-le o.data_len into fits)
+    ∙ sym (ap (λ h. h ++ take o.data_len into) is_head ∙ (ap (λ e. (e ++ u32 o.reads ++ u32 o.data_len) ++ take o.data_len into) is_entry
+    ∙ (append_assoc (completion cid count o.status o.result) (u32 o.reads ++ u32 o.data_len) (take o.data_len into)
+    ∙ ap (λ t. completion cid count o.status o.result ++ t) (append_assoc (u32 o.reads) (u32 o.data_len) (take o.data_len into)))))
+
+-- where there are no data
+record_bare : (count cid : ℕ) (o : Outcome) (into entry head : List ℕ) → entry ≡ completion cid count o.status o.result → head ≡ entry ++ u32 o.reads ++ u32 o.data_len → o.data_len ≤ length into → o.data_len ≡ 0
+    → reply_record count cid (reply_of o into) o.reads ≡ head
+record_bare count cid o into entry head is_entry is_head fits none =
+    record_is count cid o into entry head is_entry is_head fits ∙ (ap (λ n. head ++ take n into) none ∙ append-nil head)
+
+-- what is held, with a record behind it
+pub record_whole : (heads : List ℕ) (count cid : ℕ) (o : Outcome) (into entry head : List ℕ) → entry ≡ completion cid count o.status o.result → head ≡ entry ++ u32 o.reads ++ u32 o.data_len → o.data_len ≤ length into
+    → heads ++ reply_record count cid (reply_of o into) o.reads ≡ heads ++ (head ++ take o.data_len into)
+record_whole heads count cid o into entry head is_entry is_head fits = ap (λ t. heads ++ t) (record_is count cid o into entry head is_entry is_head fits)
+
+-- the record is held
+pub keeps_held : (b : BoardState) (d : Sight) (heads now_heads : List (List ℕ)) (count cid : ℕ) (o : Outcome) (into entry head : List ℕ) → entry ≡ completion cid count o.status o.result → head ≡ entry ++ u32 o.reads ++ u32 o.data_len
+    → o.data_len ≤ length into → o.data_len ≡ 0 → now_heads ≡ heads ++ head ∷ [] → Keeps b b d d (bytes_of heads ++ reply_record count cid (reply_of o into) o.reads) (bytes_of now_heads)
+keeps_held b d heads now_heads count cid o into entry head is_entry is_head fits none is shape frames start a all m w =
+    let T : List ℕ → Type 0 = λ t. Serving shape frames start a b d t all m in
+    let e : bytes_of heads ++ reply_record count cid (reply_of o into) o.reads ≡ bytes_of now_heads =
+    ap (λ t. bytes_of heads ++ t) (record_bare count cid o into entry head is_entry is_head fits none) ∙ (sym (bytes_of-push heads head) ∙ ap bytes_of (sym is)) in
+    subst T e w
+
+module _ (b c : BoardState) (d e : Sight) (heads head more : List ℕ) (whole : List ℕ) (is : whole ≡ heads ++ (head ++ more)) where
+  -- the commit, or a post of what is held, failed
+  pub breaks_held : (end : End) → Breaks b c d heads end → Breaks b c d whole end
+  breaks_held end breaks shape frames start a behind all m w =
+      let T : List ℕ → Type 0 = λ t. Serving shape frames start a b d t all m in
+      breaks shape frames start a ((head ++ more) ++ behind) all m (subst T (ap (λ t. t ++ behind) is ∙ append_assoc heads (head ++ more) behind) w)
+
+  module _ (flushed : Flushed b c d e heads) (none : e.pending ≡ []) where
+    -- the head and the data are posted too
+    pub posts_all : (f g : BoardState) → Posts c f head → Posts f g more → (left : List (List ℕ)) → left ≡ [] → Keeps b g d e whole (bytes_of left)
+    posts_all f g p q left empty shape frames start a all m w =
+        let T : List ℕ → Type 0 = λ t. Serving shape frames start a b d t all m in
+        let U : List ℕ → Type 0 = λ t. Serving shape frames start a c e t all m in
+        let V : List ℕ → Type 0 = λ t. Serving shape frames start a f e t all m in
+        let L : List (List ℕ) → Type 0 = λ l. Serving shape frames start a g e (bytes_of l) all m in
+        subst L (sym empty) (q e none shape frames start a [] all m (subst V (sym (append-nil more)) (p e none shape frames start a more all m
+        (flushed shape frames start a (head ++ more) all m (subst T is w)))))
+
+    pub breaks_head : (f : BoardState) (end : End) → PostBreaks c f head end → Breaks b f d whole end
+    breaks_head f end breaks shape frames start a behind all m w =
+        let T : List ℕ → Type 0 = λ t. Serving shape frames start a b d t all m in
+        let U : List ℕ → Type 0 = λ t. Serving shape frames start a c e t all m in
+        breaks e none shape frames start a (more ++ behind) all m
+        (subst U (append_assoc head more behind) (flushed shape frames start a ((head ++ more) ++ behind) all m (subst T (ap (λ t. t ++ behind) is ∙ append_assoc heads (head ++ more) behind) w)))
+
+    pub breaks_data : (f g : BoardState) (end : End) → Posts c f head → PostBreaks f g more end → Breaks b g d whole end
+    breaks_data f g end p breaks shape frames start a behind all m w =
+        let T : List ℕ → Type 0 = λ t. Serving shape frames start a b d t all m in
+        let U : List ℕ → Type 0 = λ t. Serving shape frames start a c e t all m in
+        breaks e none shape frames start a behind all m (p e none shape frames start a (more ++ behind) all m
+        (subst U (append_assoc head more behind) (flushed shape frames start a ((head ++ more) ++ behind) all m (subst T (ap (λ t. t ++ behind) is ∙ append_assoc heads (head ++ more) behind) w))))

@@ -1,0 +1,16 @@
+pub mod Counting
+pub mod Answering
+pub mod Serves
+pub mod Giving
+pub mod Queueing
+pub mod Finishing
+pub mod Commanding
+pub mod Scripts
+pub mod Skipping
+pub mod Taking
+pub mod Entering
+pub mod Looping
+pub mod Nexting
+pub mod Closing
+pub mod Completing
+pub mod Submitting

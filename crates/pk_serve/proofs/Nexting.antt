@@ -1,0 +1,107 @@
+-- A command is taken, entry and value.
+use Rattle.std.proofs.Common.{◌≡◌, ◌≢◌, ℕ, List, [], ◌++◌, length, sym, ◌∙◌, ap, subst, arith, length-append, ◌==◌, if◌then◌else◌, Bool, Option, Some, nat_le, inl}
+use Rattle.pk_base.specs.Shape.{Shape}
+use Rattle.pk_nvme.specs.Command.{Command, command}
+use Rattle.pk_nvme.specs.Seen.{command_of as command_seen}
+use Rattle.pk_nvme.specs.declared.request.Request.{Request}
+use Rattle.pk_base.specs.Page.{Flash}
+use Rattle.pk_nand.specs.BoardState.{BoardState, shape_or_none}
+use Rattle.pk_drive.specs.Wear.{root_number, is_worn}
+use Rattle.pk_nand.specs.Calls.{Rose}
+use Rattle.pk_base.specs.Map.{Map}
+use Rattle.pk_model.specs.Script.{value_size as value_bytes}
+use Rattle.pk_model.specs.Run.{Exchange}
+use Rattle.pk_model.specs.Sight.{Sight}
+use Rattle.pk_drive.specs.Exec.{IsValue}
+use Rattle.pk_serve.specs.Serving.{Serving, Serves, Stops}
+use Rattle.pk_serve.specs.declared.end.End.{End}
+use Rattle.pk_serve.specs.Input.{put_back, TookFailed, Entered, Valued, NoValue, Advances, Fails, Breaks_off, Fails_at, Rejects, NoEntry, None_refused, Quits}
+use Rattle.pk_serve.proofs.Serves.{Serving-inputs}
+use Rattle.pk_serve.proofs.Looping.{None_refused-any}
+use Rattle.pk_serve.proofs.Scripts.{taken-append, Spells-one, IsPart-value}
+use Rattle.pk_serve.proofs.Entering.{input_too, failed_too, both_too}
+
+-- the bytes of the value, by the entry and by the request
+value_size : (entry : List ℕ) (r : Request) → ((v : List ℕ) → command_seen r v ≡ command entry v) → value_bytes entry ≡ (if r.opcode == 0x01 then r.size else 0)
+value_size entry r parsed =
+    let opcode : r.opcode ≡ (command entry []).opcode = ap (λ (c : Command). c.opcode) (parsed []) in
+    let size : r.size ≡ (command entry []).size = ap (λ (c : Command). c.size) (parsed []) in
+    sym (λ k. if opcode k == 0x01 then size k else 0)
+
+module _ (a m b : BoardState) (before : Sight) (same : m ≡ record a { input = m.input }) where
+  serving_too : (shape : Shape) (frames : ℕ) (start : Map) (s : BoardState) (held : List ℕ) (all : List Exchange) (map : Map) → Serving shape frames start s a before held all map → Serving shape frames start s m before held all map
+  serving_too shape frames start s held all map w =
+      let T : BoardState → Type 0 = λ x. Serving shape frames start s x before held all map in
+      subst T (sym same) (Serving-inputs shape frames start s a before held all map w m.input a.in_faults)
+
+  serves_too : (after : Sight) (held now_held : List ℕ) (taken : ℕ) (c : Command) → Serves m b before after held now_held taken c → Serves a b before after held now_held taken c
+  serves_too after held now_held taken c h shape frames start s all map size w = h shape frames start s all map size (serving_too shape frames start s held all map w)
+
+  stops_too : (held : List ℕ) (taken : ℕ) (end : End) (c : Command) → Stops m b before held taken end c → Stops a b before held taken end c
+  stops_too held taken end c h shape frames start s all map size w = h shape frames start s all map size (serving_too shape frames start s held all map w)
+
+module _ (a m n : BoardState) (entry : List ℕ) (entered : Entered a m entry) (size : length entry ≡ 64) (r : Request) (parsed : (v : List ℕ) → command_seen r v ≡ command entry v) where
+  module _ (shape : Shape) (handed : List ℕ) (valued : Valued m n shape r.opcode r.size handed) (b : BoardState) (before : Sight) (held : List ℕ) (taken : ℕ) (same : b.input ≡ n.input) where
+    taken_all : a.input ≡ put_back (entry ++ valued.value) b.input
+    taken_all = taken-append a.input m.input n.input entry valued.value entered.input valued.input ∙ ap (put_back (entry ++ valued.value)) (sym same)
+
+    pub Advances-one : (after : Sight) (now_held : List ℕ) → ((v : List ℕ) → IsValue shape r.opcode r.size handed v → Serves n b before after held now_held taken (command_seen r v)) → Advances a b before after held now_held taken
+    Advances-one after now_held serves = record {
+      bytes = entry ++ valued.value;
+      c = command_seen r valued.value;
+      input = taken_all;
+      spells = Spells-one entry valued.value (command_seen r valued.value) size (valued.whole ∙ sym (value_size entry r parsed)) (parsed valued.value);
+      serves = serves_too a n b before (input_too a m n entered.rest valued.rest) after held now_held taken (command_seen r valued.value) (serves valued.value valued.is_value);
+    }
+
+    pub Fails-one : (end : End) → ((v : List ℕ) → IsValue shape r.opcode r.size handed v → Stops n b before held taken end (command_seen r v)) → Fails a b before held taken end
+    Fails-one end stops = record {
+      bytes = entry ++ valued.value;
+      c = command_seen r valued.value;
+      input = taken_all;
+      spells = Spells-one entry valued.value (command_seen r valued.value) size (valued.whole ∙ sym (value_size entry r parsed)) (parsed valued.value);
+      stops = stops_too a n b before (input_too a m n entered.rest valued.rest) held taken end (command_seen r valued.value) (stops valued.value valued.is_value);
+    }
+
+  some_entry : (more : List ℕ) → entry ++ more ≢ []
+  some_entry more e = absurd (omega (arith, ap (λ l. length l) e, length-append entry more, size))
+
+  pub Breaks_off-value : NoValue m n r.opcode r.size → Breaks_off a n
+  Breaks_off-value h = record {
+    part = entry ++ h.bytes;
+    left = record {
+      input = taken-append a.input m.input n.input entry h.bytes entered.input h.input;
+      is_part = IsPart-value entry h.bytes size (omega (arith, h.few, value_size entry r parsed));
+      rest = both_too a n (input_too a m n entered.rest h.rest);
+    };
+    some = some_entry h.bytes;
+    same = ap (λ s. s.in_faults) (input_too a m n entered.rest h.rest);
+    at_end = h.at_end;
+  }
+
+  pub Fails_at-value : TookFailed m n (if r.opcode == 0x01 then r.size else 0) → Fails_at a n
+  Fails_at-value h = record {
+    part = entry ++ h.bytes;
+    left = record {
+      input = taken-append a.input m.input n.input entry h.bytes entered.input h.input;
+      is_part = IsPart-value entry h.bytes size (omega (arith, h.few, value_size entry r parsed));
+      rest = failed_too a m n entered.rest h.rest;
+    };
+    rose = (let T : ℕ → Type 0 = λ k. Rose k n.in_faults in subst T (ap (λ s. s.in_faults) entered.rest) h.rose);
+  }
+
+  pub Rejects-entry : (refused : List ℕ → Type 0) → refused entry → Rejects a m refused
+  Rejects-entry refused is = record { entry = entry; size = size; input = entered.input; rest = entered.rest; is = is }
+
+-- a drive that tells of its flash whether it is worn
+pub worn_is : (agrees : Option Shape → Flash → Type 0) (board : BoardState) (shape : Shape) (worn : Bool) → board.shape ≡ Some shape → agrees board.shape board.pages
+    → ((s : Shape) (f : Flash) → agrees (Some s) f → worn ≡ nat_le 9223372036854775808 (root_number s f)) → worn ≡ is_worn board
+worn_is agrees board shape worn has ok told =
+    let T : Option Shape → Type 0 = λ o. agrees o board.pages in
+    told shape board.pages (subst T has ok) ∙ ap (λ s. nat_le 9223372036854775808 (root_number (shape_or_none s) board.pages)) (sym has)
+
+-- no entry was taken
+pub Quits-entry : (a b : BoardState) (drive : Sight) (held : List ℕ) (taken : ℕ) (refused : List ℕ → Type 0) (end : End) (worn : Bool) → worn ≡ is_worn a → NoEntry a b worn None_refused end → Quits a b drive held taken refused end
+Quits-entry a b drive held taken refused end worn is n =
+    let T : Bool → Type 0 = λ r. NoEntry a b r None_refused end in
+    inl (None_refused-any a b (is_worn a) refused end (subst T is n))

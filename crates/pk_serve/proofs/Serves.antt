@@ -1,0 +1,344 @@
+-- The steps of serving: what was kept is kept.
+use Rattle.std.proofs.Common.{◌≡◌, ◌≢◌, inl, inr, ℕ, suc, ◌+◌, ◌≤◌, List, [], ◌∷◌, ◌++◌, length, Option, Some, Ok, refl, sym, ◌∙◌, ap, subst, arith, append_assoc, append-nil, replicate}
+use Rattle.std.proofs.lemmas.Fn.{FoldsTo-push}
+use Rattle.pk_base.specs.Shape.{Shape, limit}
+use Rattle.pk_base.specs.Page.{Flash}
+use Rattle.pk_base.specs.Entry.{Entry}
+use Rattle.pk_base.specs.Mark.{Mark, post, all_posted}
+use Rattle.pk_base.specs.Map.{Map}
+use Rattle.pk_nvme.specs.Command.{Command}
+use Rattle.pk_nvme.specs.Reply.{Reply, reply_record}
+use Rattle.pk_nand.specs.BoardState.{BoardState}
+use Rattle.pk_nand.specs.Calls.{Rose, after_post, PostFailed}
+use Rattle.pk_nand.specs.Crash.{ReachedBy}
+use Rattle.pk_nand.proofs.Reaching.{Reached-start, Reached-post, Reached-then}
+use Rattle.pk_nand.proofs.CutLemmas.{posted-append}
+use Rattle.pk_model.specs.Answer.{kind, retrieve, reply, map_after}
+use Rattle.pk_model.specs.Bounds.{most_reads}
+use Rattle.pk_model.specs.Run.{Exchange, Step, commands, faults}
+use Rattle.pk_model.specs.Reading.{reading}
+use Rattle.pk_model.specs.Kept.{AtMost}
+use Rattle.pk_model.specs.Sight.{Sight}
+use Rattle.pk_drive.specs.Drive.{Stands, OnlyFlash}
+use Rattle.pk_drive.specs.Wear.{roots}
+use Rattle.pk_drive.specs.Growth.{GrowsAlong, Reaches, Goes}
+use Rattle.pk_drive.specs.Meter.{Meter, Metered, MeteredAll, meter, reads_after}
+use Rattle.pk_drive.specs.Exec.{ExecCut, Executed, most_installs}
+use Rattle.pk_drive.specs.Commit.{CommitCut}
+use Rattle.pk_drive.proofs.Growing.{weaken, at_end, grows_behind, Goes-then, GrowsAlong-post, Goes-post_failed}
+use Rattle.pk_serve.specs.Serving.{rise, KeptAt, Serving, Cutoff, Next, installs}
+use Rattle.pk_serve.proofs.Counting.{at_most-zero, at_most-more, at_most-one, commands-push, records-push, faults-push, faults-one, installs-push}
+use Rattle.pk_serve.proofs.Answering.{reply_other, answers}
+
+-- more commands and more faults
+pub kept-more : (shape : Shape) (frames : ℕ) (start : Map) (cs more : List Command) (n later : Option ℕ) → ((k : ℕ) → AtMost n k → AtMost later k)
+    → (f : Flash) (q : List ℕ) → KeptAt shape frames start cs n f q → KeptAt shape frames start (cs ++ more) later f q
+kept-more shape frames start cs more n later up f q k = record {
+  served = k.served;
+  unserved = k.unserved ++ more;
+  from_front = sym (append_assoc (commands k.served) k.unserved more) ∙ ap (λ l. l ++ more) k.from_front;
+  map_left = k.map_left;
+  ran = k.ran;
+  held = k.held;
+  unposted = k.unposted;
+  begins = k.begins;
+  few_faults = up (faults k.served) k.few_faults;
+}
+
+-- the relation of a step, with the bound of a Retrieve's reads
+abbrev StepWithin : Shape → ℕ → Map → Exchange → Map → Type 0
+StepWithin shape frames m x m' = Step shape frames m x.command x.reply m' × (kind x.command.opcode ≡ Some retrieve → x.reads ≤ most_reads shape frames m x.command)
+
+-- nothing more was given out
+none_more : (P : List ℕ → Type 0) (out q : List ℕ) → q ≡ [] → P out → P (out ++ q)
+none_more P out q e h = subst P (sym (ap (λ t. out ++ t) e ∙ append-nil out)) h
+
+-- the bound on faults for a list with one more
+few_more : (n : Option ℕ) (xs : List Exchange) (x : Exchange) (k : ℕ) → faults (x ∷ []) ≡ k → AtMost n (faults xs + k) → AtMost n (faults (xs ++ x ∷ []))
+few_more n xs x k e h = let T : ℕ → Type 0 = λ f. AtMost n f in subst T (sym (faults-push xs x ∙ ap (λ f. faults xs + f) e)) h
+
+module _ (shape : Shape) (frames : ℕ) (start : Map) (a b : BoardState) (drive : Sight) (unposted : List ℕ) (all : List Exchange) (m : Map)
+    (w : Serving shape frames start a b drive unposted all m) where
+  -- what stands now is kept
+  present : KeptAt shape frames start (commands all) (rise a.read_faults b.read_faults) b.pages (all_posted w.marks)
+  present = at_end w.marks a b (KeptAt shape frames start (commands all) (rise a.read_faults b.read_faults)) w.run
+
+  -- a flash that holds what this one holds
+  kept_same : (f : Flash) → reading shape f [] ≡ reading shape b.pages [] → KeptAt shape frames start (commands all) (rise a.read_faults b.read_faults) f (all_posted w.marks)
+  kept_same f e = let k = present in record {
+    served = k.served;
+    unserved = k.unserved;
+    from_front = k.from_front;
+    map_left = k.map_left;
+    ran = k.ran;
+    held = e ∙ k.held;
+    unposted = k.unposted;
+    begins = k.begins;
+    few_faults = k.few_faults;
+  }
+
+  -- a flash that holds all that was served, where a front of what is not posted was given out
+  kept_all : (f : Flash) → reading shape f [] ≡ Ok m → (out rest : List ℕ) → out ++ rest ≡ unposted → KeptAt shape frames start (commands all) (rise a.read_faults b.read_faults) f (all_posted w.marks ++ out)
+  kept_all f e out rest front = record {
+    served = all;
+    unserved = [];
+    from_front = append-nil (commands all);
+    map_left = m;
+    ran = w.ran;
+    held = e;
+    unposted = rest;
+    begins = append_assoc (all_posted w.marks) out rest ∙ (ap (λ t. all_posted w.marks ++ t) front ∙ w.records_are);
+    few_faults = w.few_faults;
+  }
+
+  -- a flash that holds the map after one more command
+  kept_next : (c : Command) (f : Flash) → reading shape f [] ≡ Ok (map_after shape (limit shape) m c) → KeptAt shape frames start (commands all ++ c ∷ []) (rise a.read_faults b.read_faults) f (all_posted w.marks)
+  kept_next c f e =
+      let x : Exchange = record { command = c; reply = reply shape (limit shape) frames m (replicate 11 0) c; reads = 0 } in
+      let r : List ℕ = reply_record (suc (length all)) c.cid (reply shape (limit shape) frames m (replicate 11 0) c) 0 in
+      record {
+        served = all ++ x ∷ [];
+        unserved = [];
+        from_front = append-nil (commands (all ++ x ∷ [])) ∙ commands-push all x;
+        map_left = map_after shape (limit shape) m c;
+        ran = FoldsTo-push (StepWithin shape frames) start all m x (map_after shape (limit shape) m c) w.ran (inl (answers shape (limit shape) frames m c), λ _. omega arith);
+        held = e;
+        unposted = unposted ++ r;
+        begins = sym (append_assoc (all_posted w.marks) unposted r) ∙ (ap (λ t. t ++ r) w.records_are ∙ sym (records-push 0 all x (length all) (omega arith)));
+        few_faults = elim (faults-one x) [
+          | inl good ↦ few_more (rise a.read_faults b.read_faults) all x 0 good.1 (let T : ℕ → Type 0 = λ k. AtMost (rise a.read_faults b.read_faults) k in let e : faults all ≡ faults all + 0 = omega arith in subst T e w.few_faults)
+          | inr bad ↦ absurd (reply_other shape (limit shape) frames m (replicate 11 0) c bad.0)
+        ];
+      }
+
+  -- ---- a command
+
+  -- every cut of a command
+  exec_cut : (c : Command) (later : ℕ) → b.read_faults ≤ later → (f : Flash) (q : List ℕ) → ExecCut shape b.pages m c f q
+      → KeptAt shape frames start (commands all ++ c ∷ []) (rise a.read_faults later) f (all_posted w.marks ++ q)
+  exec_cut c later up f q cut =
+      let P : List ℕ → Type 0 = λ t. KeptAt shape frames start (commands all ++ c ∷ []) (rise a.read_faults later) f t in
+      none_more P (all_posted w.marks) q cut.0 (elim cut.1 [
+        | inl same ↦ kept-more shape frames start (commands all) (c ∷ []) (rise a.read_faults b.read_faults) (rise a.read_faults later) (λ k h. at_most-more a.read_faults b.read_faults later k up h) f (all_posted w.marks) (kept_same f same)
+        | inr more ↦ elim more [
+          | inl held ↦
+              subst P (append-nil (all_posted w.marks))
+              (kept-more shape frames start (commands all) (c ∷ []) (rise a.read_faults b.read_faults) (rise a.read_faults later) (λ k h. at_most-more a.read_faults b.read_faults later k up h) f (all_posted w.marks ++ []) (kept_all f held [] unposted refl))
+          | inr next ↦
+              let k = kept_next c f next in
+              record {
+                served = k.served;
+                unserved = k.unserved;
+                from_front = k.from_front;
+                map_left = k.map_left;
+                ran = k.ran;
+                held = k.held;
+                unposted = k.unposted;
+                begins = k.begins;
+                few_faults = at_most-more a.read_faults b.read_faults later (faults k.served) up k.few_faults;
+              }
+        ]
+      ])
+
+  -- what was kept so far, with more commands and more faults
+  before : (more : List Command) (later : ℕ) → b.read_faults ≤ later → ReachedBy w.marks a b (KeptAt shape frames start (commands all ++ more) (rise a.read_faults later))
+  before more later up = weaken w.marks a b (KeptAt shape frames start (commands all) (rise a.read_faults b.read_faults)) (KeptAt shape frames start (commands all ++ more) (rise a.read_faults later))
+      (kept-more shape frames start (commands all) more (rise a.read_faults b.read_faults) (rise a.read_faults later) (λ k h. at_most-more a.read_faults b.read_faults later k up h)) w.run
+
+  -- the marks so far, and those of a call whose cuts are kept, with more commands
+  extend : (more : List Command) (c : BoardState) (P : Flash → List ℕ → Type 0) → b.read_faults ≤ c.read_faults
+      → ((f : Flash) (q : List ℕ) → P f q → KeptAt shape frames start (commands all ++ more) (rise a.read_faults c.read_faults) f (all_posted w.marks ++ q))
+      → (ms : List Mark) → ReachedBy ms b c P → ReachedBy (w.marks ++ ms) a c (KeptAt shape frames start (commands all ++ more) (rise a.read_faults c.read_faults))
+  extend more c P up kept ms run =
+      let K : Flash → List ℕ → Type 0 = KeptAt shape frames start (commands all ++ more) (rise a.read_faults c.read_faults) in
+      Reached-then w.marks ms a b c K (before more c.read_faults up) (weaken ms b c P (λ f q. K f (all_posted w.marks ++ q)) kept run)
+
+  grown : (ms : List Mark) → GrowsAlong shape b.pages ms → GrowsAlong shape a.pages (w.marks ++ ms)
+  grown ms more = grows_behind shape w.marks a b (KeptAt shape frames start (commands all) (rise a.read_faults b.read_faults)) w.shape_is w.run w.grows ms more
+
+  extend_went : (more : List Command) (c : BoardState) (P : Flash → List ℕ → Type 0) → b.read_faults ≤ c.read_faults
+      → ((f : Flash) (q : List ℕ) → P f q → KeptAt shape frames start (commands all ++ more) (rise a.read_faults c.read_faults) f (all_posted w.marks ++ q))
+      → Goes shape b c P → Cutoff shape frames start a c (commands all ++ more)
+  extend_went more c P up kept went =
+      record { went = Goes-then shape w.marks a b (KeptAt shape frames start (commands all ++ more) (rise a.read_faults c.read_faults)) w.shape_is (before more c.read_faults up) w.grows c P kept went }
+
+  -- a command was served
+  pub Serving-exec : (c : BoardState) (e : Sight) (cmd : Command) (rep : Reply) (reads taken : ℕ) → taken ≡ length all
+      → Reaches shape b c (ExecCut shape b.pages m cmd) → Executed shape frames c e m cmd rep reads → OnlyFlash b c
+      → b.read_faults ≤ c.read_faults → (rep.status ≡ 0x88 → Rose b.read_faults c.read_faults) → (rep.status ≢ 0x88 → c.read_faults ≡ b.read_faults)
+      → c.stop_faults ≡ b.stop_faults → c.reads ≡ reads_after b.reads reads → roots c ≤ roots b + most_installs cmd.opcode cmd.size
+      → Next shape frames start a c e (unposted ++ reply_record (suc taken) cmd.cid rep reads) all cmd
+  Serving-exec c e cmd rep reads taken size reached done rest up unread sound no_stop read few_roots =
+      let x : Exchange = record { command = cmd; reply = rep; reads = reads } in
+      let silent : all_posted reached.0 ≡ [] = (at_end reached.0 b c (ExecCut shape b.pages m cmd) reached.1).0 in
+      let more = extend (cmd ∷ []) c (ExecCut shape b.pages m cmd) up (exec_cut cmd c.read_faults up) reached.0 reached.1 in
+      let R : List Command → Type 0 = λ l. ReachedBy (w.marks ++ reached.0) a c (KeptAt shape frames start l (rise a.read_faults c.read_faults)) in
+      record {
+        x = x;
+        is = refl;
+        m = done.left;
+        serving = record {
+          ran = FoldsTo-push (StepWithin shape frames) start all m x done.left w.ran (done.stepped, done.bounded);
+          stands = done.stands;
+          marks = w.marks ++ reached.0;
+          run = subst R (sym (commands-push all x)) more;
+          grows = grown reached.0 reached.2;
+          shape_is = w.shape_is;
+          records_are =
+              ap (λ t. t ++ (unposted ++ reply_record (suc taken) cmd.cid rep reads)) (posted-append w.marks reached.0 ∙ (ap (λ t. all_posted w.marks ++ t) silent ∙ append-nil (all_posted w.marks)))
+              ∙ (sym (append_assoc (all_posted w.marks) unposted (reply_record (suc taken) cmd.cid rep reads))
+              ∙ (ap (λ t. t ++ reply_record (suc taken) cmd.cid rep reads) w.records_are ∙ sym (records-push 0 all x taken (omega (arith, size)))));
+          few_faults = elim (faults-one x) [
+            | inl good ↦ few_more (rise a.read_faults c.read_faults) all x 0 good.1
+                (let T : ℕ → Type 0 = λ k. AtMost (rise a.read_faults c.read_faults) k in let e : faults all ≡ faults all + 0 = omega arith in subst T e (at_most-more a.read_faults b.read_faults c.read_faults (faults all) up w.few_faults))
+            | inr bad ↦ few_more (rise a.read_faults c.read_faults) all x 1 bad.1 (at_most-one a.read_faults b.read_faults c.read_faults (faults all) w.rose (unread bad.0) w.few_faults)
+          ];
+          rose = omega (arith, w.rose, up);
+          metered = FoldsTo-push Metered (meter a) all (meter b) x (meter c) w.metered (record { reads = read; failed = unread; sound = sound });
+          few_roots = omega (arith, w.few_roots, few_roots, ap installs (commands-push all x), installs-push (commands all) cmd);
+          no_faults = record {
+            output = ap (λ s. s.out_faults) rest ∙ w.no_faults.output;
+            stop = no_stop ∙ w.no_faults.stop;
+          };
+        };
+      }
+
+  -- a command stopped the drive
+  pub Cutoff-exec : (c : BoardState) (cmd : Command) → Goes shape b c (ExecCut shape b.pages m cmd) → b.read_faults ≤ c.read_faults → Cutoff shape frames start a c (commands all ++ cmd ∷ [])
+  Cutoff-exec c cmd went up = extend_went (cmd ∷ []) c (ExecCut shape b.pages m cmd) up (exec_cut cmd c.read_faults up) went
+
+  -- ---- a commit
+
+  commit_cut : (later : ℕ) → b.read_faults ≤ later → (f : Flash) (q : List ℕ) → CommitCut shape b.pages m f q
+      → KeptAt shape frames start (commands all ++ []) (rise a.read_faults later) f (all_posted w.marks ++ q)
+  commit_cut later up f q cut =
+      let P : List ℕ → Type 0 = λ t. KeptAt shape frames start (commands all ++ []) (rise a.read_faults later) f t in
+      none_more P (all_posted w.marks) q cut.0 (elim cut.1 [
+        | inl same ↦ kept-more shape frames start (commands all) [] (rise a.read_faults b.read_faults) (rise a.read_faults later) (λ k h. at_most-more a.read_faults b.read_faults later k up h) f (all_posted w.marks) (kept_same f same)
+        | inr held ↦ subst P (append-nil (all_posted w.marks))
+            (kept-more shape frames start (commands all) [] (rise a.read_faults b.read_faults) (rise a.read_faults later) (λ k h. at_most-more a.read_faults b.read_faults later k up h) f (all_posted w.marks ++ []) (kept_all f held [] unposted refl))
+      ])
+
+  -- what was pending is on the flash
+  pub Serving-commit : (c : BoardState) (e : Sight) → Reaches shape b c (CommitCut shape b.pages m) → Stands shape frames c e m → OnlyFlash b c
+      → c.read_faults ≡ b.read_faults → c.stop_faults ≡ b.stop_faults → c.reads ≡ b.reads → roots c ≡ roots b → Serving shape frames start a c e unposted all m
+  Serving-commit c e reached stands rest same_reads no_stop read same_roots =
+      let up : b.read_faults ≤ c.read_faults = omega (arith, same_reads) in
+      let silent : all_posted reached.0 ≡ [] = (at_end reached.0 b c (CommitCut shape b.pages m) reached.1).0 in
+      let more = extend [] c (CommitCut shape b.pages m) up (commit_cut c.read_faults up) reached.0 reached.1 in
+      let R : List Command → Type 0 = λ l. ReachedBy (w.marks ++ reached.0) a c (KeptAt shape frames start l (rise a.read_faults c.read_faults)) in
+      let same : meter b ≡ meter c = λ k. record { reads = sym read k; read_faults = sym same_reads k } in
+      let M : Meter → Type 0 = λ t. MeteredAll (meter a) all t in
+      record {
+        ran = w.ran;
+        stands = stands;
+        marks = w.marks ++ reached.0;
+        run = subst R (append-nil (commands all)) more;
+        grows = grown reached.0 reached.2;
+        shape_is = w.shape_is;
+        records_are = ap (λ t. t ++ unposted) (posted-append w.marks reached.0 ∙ (ap (λ t. all_posted w.marks ++ t) silent ∙ append-nil (all_posted w.marks))) ∙ w.records_are;
+        few_faults = at_most-more a.read_faults b.read_faults c.read_faults (faults all) up w.few_faults;
+        rose = omega (arith, w.rose, up);
+        metered = subst M same w.metered;
+        few_roots = omega (arith, w.few_roots, same_roots);
+        no_faults = record {
+          output = ap (λ s. s.out_faults) rest ∙ w.no_faults.output;
+          stop = no_stop ∙ w.no_faults.stop;
+        };
+      }
+
+  pub Cutoff-commit : (c : BoardState) → Goes shape b c (CommitCut shape b.pages m) → c.read_faults ≡ b.read_faults → Cutoff shape frames start a c (commands all)
+  Cutoff-commit c went same_reads =
+      let up : b.read_faults ≤ c.read_faults = omega (arith, same_reads) in
+      let R : List Command → Type 0 = λ l. Cutoff shape frames start a c l in
+      subst R (append-nil (commands all)) (extend_went [] c (CommitCut shape b.pages m) up (commit_cut c.read_faults up) went)
+
+  -- ---- a post of a front of what is not posted, where nothing is pending
+
+  -- the flash holds the map
+  held_now : drive.pending ≡ [] → reading shape b.pages [] ≡ Ok m
+  held_now none = let M : List Entry → Type 0 = λ p. reading shape b.pages p ≡ Ok m in subst M none w.stands.map_is
+
+  post_cut : reading shape b.pages [] ≡ Ok m → (bytes behind : List ℕ) → bytes ++ behind ≡ unposted → (out rest : List ℕ) → out ++ rest ≡ bytes
+      → KeptAt shape frames start (commands all ++ []) (rise a.read_faults b.read_faults) b.pages (all_posted w.marks ++ out)
+  post_cut held bytes behind front out rest is = kept-more shape frames start (commands all) [] (rise a.read_faults b.read_faults) (rise a.read_faults b.read_faults) (λ k h. h) b.pages (all_posted w.marks ++ out)
+      (kept_all b.pages held out (rest ++ behind) (sym (append_assoc out rest behind) ∙ (ap (λ t. t ++ behind) is ∙ front)))
+
+  pub Serving-post : (bytes behind : List ℕ) → drive.pending ≡ [] → bytes ++ behind ≡ unposted → Serving shape frames start a (after_post b bytes) drive behind all m
+  Serving-post bytes behind none front =
+      let P : Flash → List ℕ → Type 0 = λ f q. KeptAt shape frames start (commands all ++ []) (rise a.read_faults b.read_faults) f (all_posted w.marks ++ q) in
+      let more = extend [] (after_post b bytes) P (omega arith) (λ f q h. h) (post bytes ∷ []) (Reached-post b bytes P (post_cut (held_now none) bytes behind front)) in
+      let R : List Command → Type 0 = λ l. ReachedBy (w.marks ++ post bytes ∷ []) a (after_post b bytes) (KeptAt shape frames start l (rise a.read_faults b.read_faults)) in
+      record {
+        ran = w.ran;
+        stands = record { shape_is = w.stands.shape_is; frames_is = w.stands.frames_is; map_is = w.stands.map_is };
+        marks = w.marks ++ post bytes ∷ [];
+        run = subst R (append-nil (commands all)) more;
+        grows = grown (post bytes ∷ []) (GrowsAlong-post shape b.pages bytes);
+        shape_is = w.shape_is;
+        records_are = ap (λ t. t ++ behind) (posted-append w.marks (post bytes ∷ []) ∙ ap (λ t. all_posted w.marks ++ t) (append-nil bytes))
+            ∙ (append_assoc (all_posted w.marks) bytes behind ∙ (ap (λ t. all_posted w.marks ++ t) front ∙ w.records_are));
+        few_faults = w.few_faults;
+        rose = w.rose;
+        metered = w.metered;
+        few_roots = w.few_roots;
+        no_faults = record { output = w.no_faults.output; stop = w.no_faults.stop };
+      }
+
+  pub Cutoff-post : (c : BoardState) (bytes behind : List ℕ) → drive.pending ≡ [] → bytes ++ behind ≡ unposted → PostFailed b c bytes → Cutoff shape frames start a c (commands all)
+  Cutoff-post c bytes behind none front failed =
+      let same : c.read_faults ≡ b.read_faults = ap (λ s. s.read_faults) failed.rest in
+      let P : Flash → List ℕ → Type 0 = λ f q. KeptAt shape frames start (commands all ++ []) (rise a.read_faults b.read_faults) f (all_posted w.marks ++ q) in
+      let up : b.read_faults ≤ c.read_faults = omega (arith, same) in
+      let R : List Command → Type 0 = λ l. Cutoff shape frames start a c l in
+      let N : ℕ → Type 0 = λ n. (f : Flash) (q : List ℕ) → P f q → KeptAt shape frames start (commands all ++ []) (rise a.read_faults n) f (all_posted w.marks ++ q) in
+      subst R (append-nil (commands all)) (extend_went [] c P up (subst N (sym same) (λ f q h. h)) (Goes-post_failed shape b bytes P (post_cut (held_now none) bytes behind front) c failed))
+
+  -- ---- calls that leave the flash and the host's bytes
+
+  -- an input that may have failed
+  pub Serving-inputs : (left : Option (List ℕ)) (count : ℕ) → Serving shape frames start a (record b { input = left; in_faults = count }) drive unposted all m
+  Serving-inputs left count = record {
+    ran = w.ran;
+    stands = record { shape_is = w.stands.shape_is; frames_is = w.stands.frames_is; map_is = w.stands.map_is };
+    marks = w.marks;
+    run = record { trail = w.run.trail; posted = w.run.posted; same_shape = w.run.same_shape; cuts = w.run.cuts; stands = w.run.stands };
+    grows = w.grows;
+    shape_is = w.shape_is;
+    records_are = w.records_are;
+    few_faults = w.few_faults;
+    rose = w.rose;
+    metered = w.metered;
+    few_roots = w.few_roots;
+    no_faults = record { output = w.no_faults.output; stop = w.no_faults.stop };
+  }
+
+-- nothing was served yet
+pub Serving-start : (shape : Shape) (frames : ℕ) (start : Map) (a : BoardState) (drive : Sight) → Stands shape frames a drive start → drive.pending ≡ [] → Serving shape frames start a a drive [] [] start
+Serving-start shape frames start a drive stands none =
+    let M : List Entry → Type 0 = λ p. reading shape a.pages p ≡ Ok start in
+    let held : reading shape a.pages [] ≡ Ok start = subst M none stands.map_is in
+    record {
+      ran = refl;
+      stands = stands;
+      marks = [];
+      run = Reached-start a a (KeptAt shape frames start [] (rise a.read_faults a.read_faults)) refl refl refl refl (record {
+        served = [];
+        unserved = [];
+        from_front = refl;
+        map_left = start;
+        ran = refl;
+        held = held;
+        unposted = [];
+        begins = refl;
+        few_faults = at_most-zero (rise a.read_faults a.read_faults);
+      });
+      grows = tt;
+      shape_is = stands.shape_is;
+      records_are = refl;
+      few_faults = at_most-zero (rise a.read_faults a.read_faults);
+      rose = omega arith;
+      metered = refl;
+      few_roots = omega arith;
+      no_faults = record { output = refl; stop = refl };
+    }

@@ -1,0 +1,105 @@
+-- A Store that is too large is refused whatever its value is.
+use Rattle.std.proofs.Common.{◌≡◌, ◌≢◌, inl, inr, ℕ, ◌<◌, List, [], Option, Some, None, refl, sym, ◌∙◌, ap, subst, arith, false, nat_le, Ok}
+use Rattle.std.proofs.lemmas.Bool.Decides.{nat_tests}
+use Rattle.pk_base.specs.Shape.{Shape, greatest, limit}
+use Rattle.pk_base.specs.Page.{Flash}
+use Rattle.pk_nvme.specs.Command.{Command}
+use Rattle.pk_nvme.specs.Reply.{Reply, refusal}
+use Rattle.pk_nand.specs.BoardState.{BoardState, shape_or_none}
+use Rattle.pk_base.specs.Map.{Map}
+use Rattle.pk_model.specs.Answer.{store, retrieve, kind, first_of, check, is_namespace, is_key_length, fault_of, early, late_of, refused, reply, map_after}
+use Rattle.pk_model.specs.Run.{Step}
+use Rattle.pk_model.specs.Sight.{Sight}
+use Rattle.pk_drive.specs.Growth.{Reaches, Goes}
+use Rattle.pk_drive.specs.Exec.{Executed, ExecCut, ExecStands, ExecReaches, ExecGoes, IsValue}
+use Rattle.pk_drive.proofs.Growing.{weaken, weaken_went}
+
+abbrev store_early : Shape → ℕ → ℕ → ℕ → Option ℕ
+store_early shape namespace key_len size =
+    first_of (check (is_namespace store namespace) 0x0B) (first_of (check (is_key_length store key_len) 0x86) (check (nat_le size (greatest shape)) 0x85))
+
+early_is : (shape : Shape) (c : Command) → c.opcode ≡ 0x01 → early shape c ≡ store_early shape c.namespace c.key_len c.size
+early_is shape c e = ap (λ o. fault_of shape c (kind o)) e
+
+first_some : (p q : Option ℕ) → (s : ℕ) × (q ≡ Some s) → (s : ℕ) × (first_of p q ≡ Some s)
+first_some (Some t) q h = (t, refl)
+first_some None q h = h
+
+too_large : (shape : Shape) (namespace key_len size : ℕ) → greatest shape < size → (s : ℕ) × (store_early shape namespace key_len size ≡ Some s)
+too_large shape namespace key_len size large =
+    let e : nat_le size (greatest shape) ≡ false = grind (arith, nat_tests) in
+    first_some (check (is_namespace store namespace) 0x0B) (first_of (check (is_key_length store key_len) 0x86) (check (nat_le size (greatest shape)) 0x85))
+    (first_some (check (is_key_length store key_len) 0x86) (check (nat_le size (greatest shape)) 0x85) (0x85, ap (λ b. check b 0x85) e))
+
+-- a command that is refused early
+module _ (shape : Shape) (most frames : ℕ) (m : Map) (own : List ℕ) (c : Command) (s : ℕ) (e : early shape c ≡ Some s) where
+  refused_is : refused shape most m c ≡ Some s
+  refused_is = ap (λ o. first_of o (late_of shape most m c (kind c.opcode))) e
+
+  leaves : map_after shape most m c ≡ m
+  unfolding map_after
+  leaves = rw refused_is refl
+
+  replies : reply shape most frames m own c ≡ refusal s
+  unfolding reply
+  replies = rw refused_is refl
+
+-- two commands that are refused early alike
+module _ (shape : Shape) (frames : ℕ) (c d : Command) (s : ℕ) (ec : early shape c ≡ Some s) (ed : early shape d ≡ Some s) where
+  step_too : (m : Map) (a : Reply) (m' : Map) → Step shape frames m c a m' → Step shape frames m d a m'
+  step_too m a m' (inl x) = inl (record {
+    own = x.own;
+    eleven = x.eleven;
+    replied = x.replied ∙ (replies shape (limit shape) frames m x.own c s ec ∙ sym (replies shape (limit shape) frames m x.own d s ed));
+    leaves = x.leaves ∙ (leaves shape (limit shape) frames m x.own c s ec ∙ sym (leaves shape (limit shape) frames m x.own d s ed));
+  })
+  step_too m a m' (inr x) = absurd (let h : None ≡ Some s = sym x.not_early ∙ ec in cc)
+
+  cut_too : (start : Flash) (m : Map) (f : Flash) (q : List ℕ) → ExecCut shape start m c f q → ExecCut shape start m d f q
+  cut_too start m f q cut = (
+    cut.0,
+    elim cut.1 [
+      | inl same ↦ inl same
+      | inr more ↦ elim more [
+        | inl all ↦ inr (inl all)
+        | inr next ↦ inr (inl (next ∙ ap (λ x. Ok x) (leaves shape (limit shape) frames m [] c s ec)))
+      ]
+    ],
+  )
+
+-- a Retrieve is no Store
+no_retrieve : (opcode : ℕ) → opcode ≡ 0x01 → kind opcode ≢ Some retrieve
+no_retrieve opcode e h = let g : Some store ≡ Some retrieve = sym (ap kind e) ∙ h in cc
+
+module _ (old new : BoardState) (before after : Sight) (c : Command) (v : List ℕ) (is : IsValue (shape_or_none old.shape) c.opcode c.size c.value v) where
+  -- the two refusals
+  refused_both : (shape : Shape) → old.shape ≡ Some shape → (c.opcode ≡ 0x01) × (greatest (shape_or_none old.shape) < c.size) → (s : ℕ) × (early shape c ≡ Some s) × (early shape (record c { value = v }) ≡ Some s)
+  refused_both shape same large =
+      let T : Shape → Type 0 = λ s. greatest s < c.size in
+      let r = too_large shape c.namespace c.key_len c.size (subst T (ap shape_or_none same) large.1) in
+      (r.0, early_is shape c large.0 ∙ r.1, early_is shape (record c { value = v }) large.0 ∙ r.1)
+
+  pub stands_value : (rep : Reply) (reads : ℕ) → ExecStands old new before after c rep reads → ExecStands old new before after (record c { value = v }) rep reads
+  stands_value rep reads h shape frames m s = elim is [
+    | inl same ↦ (let T : List ℕ → Type 0 = λ x. Executed shape frames new after m (record c { value = x }) rep reads in subst T (sym same) (h shape frames m s))
+    | inr large ↦ (let r = refused_both shape s.shape_is large in let x = h shape frames m s in record {
+      left = x.left;
+      stepped = step_too shape frames c (record c { value = v }) r.0 r.1 r.2 m rep x.left x.stepped;
+      stands = x.stands;
+      bounded = λ k. absurd (no_retrieve c.opcode large.0 k);
+    })
+  ]
+
+  pub reaches_value : ExecReaches old new before c → ExecReaches old new before (record c { value = v })
+  reaches_value h shape frames m s = elim is [
+    | inl same ↦ (let T : List ℕ → Type 0 = λ x. Reaches shape old new (ExecCut shape old.pages m (record c { value = x })) in subst T (sym same) (h shape frames m s))
+    | inr large ↦ (let r = refused_both shape s.shape_is large in let x = h shape frames m s in
+        (x.0, weaken x.0 old new (ExecCut shape old.pages m c) (ExecCut shape old.pages m (record c { value = v })) (cut_too shape frames c (record c { value = v }) r.0 r.1 r.2 old.pages m) x.1, x.2))
+  ]
+
+  pub went_value : ExecGoes old new before c → ExecGoes old new before (record c { value = v })
+  went_value h shape frames m s = elim is [
+    | inl same ↦ (let T : List ℕ → Type 0 = λ x. Goes shape old new (ExecCut shape old.pages m (record c { value = x })) in subst T (sym same) (h shape frames m s))
+    | inr large ↦ (let r = refused_both shape s.shape_is large in let x = h shape frames m s in
+        (x.0, weaken_went x.0 old new (ExecCut shape old.pages m c) (ExecCut shape old.pages m (record c { value = v })) (cut_too shape frames c (record c { value = v }) r.0 r.1 r.2 old.pages m) x.1, x.2))
+  ]

@@ -1,0 +1,21 @@
+use Rattle.std.proofs.Common.{inl, inr, ap, nat_le}
+use Rattle.pk_serve.proofs.Closing.{Finish-closed, Finish-broken, no_fault}
+use Rattle.pk_serve.proofs.serve.serve_all.Goals as goal
+
+pub returns-in-Ok : goal.returns-in-Ok
+returns-in-Ok g c =
+    let e = c.in-Ok.ensures in
+    record {
+      ends = λ shape frames start stands none. Finish-closed shape frames start _ _ _ _ _ _ _ e.input e.in_faults _ e.serves (ap (λ n. nat_le 9223372036854775808 n) e.installs) (no_fault _ c.in_default.not-Output c.in_default.not-Flash)
+          (c.serve_entries-end.ensures.ends shape frames start stands none);
+      none = inr e.none;
+    }
+
+pub returns-in-Err : goal.returns-in-Err
+returns-in-Err g c =
+    let e = c.in-Err.ensures in
+    record {
+      ends = λ shape frames start stands none. Finish-broken shape frames start _ _ _ _ _ _ _ e.input e.in_faults _ _ e.breaks (no_fault _ c.in_default.not-Output c.in_default.not-Flash)
+          (c.serve_entries-end.ensures.ends shape frames start stands none);
+      none = inl e.fault;
+    }

@@ -1,0 +1,20 @@
+use Rattle.std.proofs.Common.{◌≡◌, ℕ, [], false}
+use Rattle.pk_base.specs.Shape.{Shape}
+use Rattle.pk_base.specs.Map.{Map}
+use Rattle.pk_queue.specs.Queue.{bytes_of}
+use Rattle.pk_drive.specs.Drive.{Stands}
+use Rattle.pk_serve.specs.Run.{Looping}
+use Rattle.pk_serve.proofs.serve.serve_entries.Given as goal
+
+abbrev pub invariant-loop-taken : goal.invariant-loop-taken
+invariant-loop-taken g l =
+    let a = g.B.Nand.state l.initial.board in
+    let b = g.B.Nand.state l.board in
+    record {
+      agrees : g.D.Engine.agrees l.drive b.shape b.pages;
+      runs : (g.D.Engine.sight l.drive).stopped ≡ false;
+      shape : b.shape ≡ a.shape;
+      in_faults : b.in_faults ≡ a.in_faults;
+      looping : (shape : Shape) (frames : ℕ) (start : Map) → Stands shape frames a (g.D.Engine.sight l.initial.drive) start → (g.D.Engine.sight l.initial.drive).pending ≡ []
+          → Looping shape frames start a b (g.D.Engine.sight l.drive) (bytes_of l.held.heads) l.taken;
+    }

@@ -1,0 +1,20 @@
+use Rattle.std.proofs.Common.{ℕ, List, subst}
+use Rattle.pk_queue.specs.Queue.{bytes_of}
+use Rattle.pk_serve.specs.Serving.{Breaks, Flushed}
+use Rattle.pk_serve.proofs.Giving.{commit-breaks, flushes, flush-breaks}
+use Rattle.pk_serve.proofs.step.flush.Goals as goal
+
+pub returns-in-Err-clause-breaks : goal.returns-in-Err-clause-breaks
+returns-in-Err-clause-breaks g c = let e = c.in-Err.ensures in commit-breaks _ _ _ (bytes_of c.args.held.now.heads) e.cuts_failed e.read_faults e.stop
+
+pub returns-in-Err-give_all-clause-breaks : goal.returns-in-Err-give_all-clause-breaks
+returns-in-Err-give_all-clause-breaks g c =
+    let e = c.in-Ok.ensures in
+    let T : List (List ℕ) → Type 0 = λ t. Breaks (g.B.Nand.state c.args.board.now) (g.B.Nand.state c.give_all.new.board) (g.D.Engine.sight c.args.drive.now) (bytes_of t) c.in-Err-give_all.end in
+    subst T c.held.ensures (flush-breaks _ _ _ _ e.cuts e.stands e.rest e.read_faults e.no_stop e.reads e.installs _ (bytes_of c.held.result.now) c.in-Err-give_all.end e.none c.in-Err-give_all.ensures.breaks)
+
+pub returns-clause-serves : goal.returns-clause-serves
+returns-clause-serves g c =
+    let e = c.in-Ok.ensures in
+    let T : List (List ℕ) → Type 0 = λ t. Flushed (g.B.Nand.state c.args.board.now) (g.B.Nand.state c.give_all.new.board) (g.D.Engine.sight c.args.drive.now) (g.D.Engine.sight c.commit.new.self) (bytes_of t) in
+    subst T c.held.ensures (flushes _ _ _ _ e.cuts e.stands e.rest e.read_faults e.no_stop e.reads e.installs _ (bytes_of c.held.result.now) e.none c.in-Ok-give_all.ensures.posts)

@@ -1,0 +1,25 @@
+use Rattle.std.proofs.Common.{suc, ◌+◌, ◌≡◌, ◌∙◌, take, drop, sym, ap, arith}
+use Rattle.pk_queue.specs.Queue.{bytes_of}
+use Rattle.pk_serve.proofs.Giving.{posts_both, breaks_second}
+use Rattle.pk_serve.proofs.Queueing.{bytes_of-next, bytes_of-all}
+use Rattle.pk_serve.proofs.step.give_all.Goals as goal
+
+pub returns-in-Err-clause-breaks : goal.returns-in-Err-clause-breaks
+returns-in-Err-clause-breaks g c =
+    let heads = c.args.heads.now in
+    let i = c.loop-head.head-index in
+    breaks_second _ _ _ (bytes_of (take i heads)) _ (bytes_of (drop (suc i) heads)) (bytes_of heads) c.in-Err.end (bytes_of-all heads i c.loop-head-test.true) c.loop-head.invariant.posts c.in-Err.ensures.breaks
+
+pub loop-head-preserved : goal.loop-head-preserved
+loop-head-preserved g c =
+    let heads = c.args.heads.now in
+    let i = c.loop-head.head-index in
+    let v = c.loop-head.invariant in
+    let e = c.in-Ok.ensures in
+    let next : suc i ≡ i + 1 = omega arith in
+    record {
+      flash = (e.flash.0 ∙ v.flash.0, e.flash.1 ∙ v.flash.1);
+      input = e.input ∙ v.input;
+      in_faults = e.in_faults ∙ v.in_faults;
+      posts = posts_both _ _ _ (bytes_of (take i heads)) _ (bytes_of (take (i + 1) heads)) (ap (λ n. bytes_of (take n heads)) (sym next) ∙ bytes_of-next heads i c.loop-head-test.true) v.posts e.posts;
+    }

@@ -1,0 +1,15 @@
+use Rattle.std.proofs.Common.{◌≡◌, take}
+use Rattle.pk_queue.specs.Queue.{bytes_of}
+use Rattle.pk_serve.specs.Serving.{Posts}
+use Rattle.pk_serve.proofs.step.give_all.Given as goal
+
+abbrev pub invariant-loop-head : goal.invariant-loop-head
+invariant-loop-head g l =
+    let a = g.B.Nand.state l.initial.board in
+    let b = g.B.Nand.state l.board in
+    record {
+      flash : (b.shape ≡ a.shape) × (b.pages ≡ a.pages);
+      input : b.input ≡ a.input;
+      in_faults : b.in_faults ≡ a.in_faults;
+      posts : Posts a b (bytes_of (take l.head-index l.heads));
+    }

@@ -1,0 +1,52 @@
+-- When every command of a script is served.
+use Rattle.std.specs.Prelude.{◌≡◌, ◌<◌, ◌+◌, ℕ, List, [], ◌∷◌, length, Some, Bool, true, ◌==◌, if◌then◌else◌}
+use Rattle.std.specs.List.{FoldsTo}
+use Rattle.pk_base.specs.Shape.{Shape, limit}
+use Rattle.pk_base.specs.Map.{Map}
+use Rattle.pk_nvme.specs.Command.{Command}
+use Rattle.pk_nvme.specs.declared.request.Request.{Request}
+use Rattle.pk_nand.specs.BoardState.{BoardState}
+use Rattle.pk_nand.specs.Calls.{Rose, longer}
+use Rattle.pk_model.specs.Answer.{Answer}
+use Rattle.pk_model.specs.Run.{Exchange, commands, records, map_after_all}
+use Rattle.pk_model.specs.Reading.{Holds}
+use Rattle.pk_model.specs.Script.{script}
+use Rattle.pk_model.specs.Sight.{Sight}
+use Rattle.pk_drive.specs.Drive.{Stands}
+use Rattle.pk_drive.specs.Wear.{roots}
+use Rattle.pk_serve.specs.declared.end.End.{End}
+use Rattle.pk_serve.specs.declared.end.End.TheVariants.{Done}
+
+-- the steps that the Ticks of these commands ask for
+abbrev pub ticks : List Command → ℕ
+ticks [] = 0
+ticks (c ∷ cs) = (if c.opcode == 0xC0 then c.size else 0) + ticks cs
+
+-- no count of faults rose
+pub record NoneRose (a b : BoardState) : Type 0 where
+  pub reads : Rose a.read_faults b.read_faults → ⊥
+  pub stops : Rose a.stop_faults b.stop_faults → ⊥
+  pub input : Rose a.in_faults b.in_faults → ⊥
+  pub output : Rose a.out_faults b.out_faults → ⊥
+
+-- Every command was answered by the definition, and its record posted; the flash holds the map after all of them.
+pub record Complete (shape : Shape) (frames : ℕ) (start : Map) (a b : BoardState) (cs : List Command) : Type 0 where
+  pub served : List Exchange
+  pub are : commands served ≡ cs
+  pub ran : FoldsTo (λ m x m'. Answer shape (limit shape) frames m x.command x.reply m') start served (map_after_all shape start cs)
+  pub posted : b.posted ≡ longer a.posted (records 0 served)
+  pub holds : Holds shape b.pages (map_after_all shape start cs)
+
+-- a script that is whole, of fewer than 2^32 entries, on a drive that is far from worn and serves every request, where nothing fails
+pub record IsServable (a b : BoardState) (cs : List Command) (rest : List ℕ) : Type 0 where
+  pub whole : rest ≡ []
+  pub few : length cs < 4294967296
+  pub far_from_worn : roots a < 4611686018427387904
+  pub few_ticks : ticks cs < 2305843009213693952
+  pub none_rose : NoneRose a b
+
+abbrev pub Completes : (Drive : Type 0) → (Drive → Request → Bool) → BoardState → BoardState → Sight → End → Type 0
+Completes Drive built a b before end =
+    (shape : Shape) (frames : ℕ) (start : Map) → Stands shape frames a before start → before.pending ≡ []
+    → ((drive : Drive) (r : Request) → built drive r ≡ true) → (input : List ℕ) → a.input ≡ Some input → IsServable a b (script input).0 (script input).1
+    → (end ≡ Done) × Complete shape frames start a b (script input).0

@@ -1,0 +1,31 @@
+-- How serving ends, and why.
+use Rattle.std.specs.Prelude.{◌≡◌}
+use Rattle.pk_nand.specs.BoardState.{BoardState}
+use Rattle.pk_nand.specs.Calls.{Rose}
+use Rattle.pk_serve.specs.declared.end.End.{End}
+use Rattle.pk_serve.specs.declared.end.End.TheVariants.{Done, Truncated, Input, Output, Flash, Worn, NotBuilt}
+
+-- no count of faults of the output, or of a program or an erase, has changed
+pub record NoFaults (a b : BoardState) : Type 0 where
+  pub output : b.out_faults ≡ a.out_faults
+  pub stop : b.stop_faults ≡ a.stop_faults
+
+-- The output or the flash failed. No other end comes so.
+abbrev pub HasCause : BoardState → BoardState → End → Type 0
+HasCause a b Done = ⊥
+HasCause a b Truncated = ⊥
+HasCause a b Input = ⊥
+HasCause a b Output = Rose a.out_faults b.out_faults
+HasCause a b Flash = Rose a.stop_faults b.stop_faults
+HasCause a b Worn = ⊥
+HasCause a b NotBuilt = ⊥
+
+-- the output or the flash failed
+abbrev pub IsFault : End → Type 0
+IsFault Done = ⊥
+IsFault Truncated = ⊥
+IsFault Input = ⊥
+IsFault Output = Unit {0}
+IsFault Flash = Unit {0}
+IsFault Worn = ⊥
+IsFault NotBuilt = ⊥

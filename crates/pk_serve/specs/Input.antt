@@ -1,0 +1,163 @@
+-- What is taken of the input.
+use Rattle.std.specs.Prelude.{◌≡◌, ◌≢◌, ◌⊎◌, ℕ, ◌<◌, ◌≤◌, ◌+◌, ◌-◌, take, List, [], ◌∷◌, ◌++◌, length, Option, Some, None, IfSome, true, false, Bool, ◌==◌, if◌then◌else◌}
+use Rattle.pk_nvme.specs.Command.{Command}
+use Rattle.pk_nand.specs.BoardState.{BoardState}
+use Rattle.pk_nand.specs.Calls.{Rose}
+use Rattle.pk_model.specs.Script.{script}
+use Rattle.pk_base.specs.Shape.{Shape, greatest}
+use Rattle.pk_model.specs.Sight.{Sight}
+use Rattle.pk_drive.specs.Wear.{is_worn}
+use Rattle.pk_drive.specs.Exec.{IsValue}
+use Rattle.pk_serve.specs.Serving.{Serves, Stops}
+use Rattle.pk_serve.specs.declared.end.End.{End}
+use Rattle.pk_serve.specs.declared.end.End.TheVariants.{Done, Truncated, Input, Output, Flash, Worn, NotBuilt}
+
+-- the input with these bytes in front, where it is told
+abbrev pub put_back : List ℕ → Option (List ℕ) → Option (List ℕ)
+put_back taken None = None
+put_back taken (Some left) = Some (taken ++ left)
+
+-- the input is at its end, where it is told
+abbrev pub AtEnd : Option (List ℕ) → Type 0
+AtEnd input = IfSome input (λ bytes. bytes ≡ [])
+
+-- a script behind these commands
+abbrev pub behind : List Command → (List Command × List ℕ) → (List Command × List ℕ)
+behind cs rest = (cs ++ rest.0, rest.1)
+
+-- the bytes are these commands, whatever follows
+abbrev pub Spells : List ℕ → List Command → Type 0
+Spells bytes cs = (left : List ℕ) → script (bytes ++ left) ≡ behind cs (script left)
+
+-- no whole command stands in the bytes
+abbrev pub IsPart : List ℕ → Type 0
+IsPart bytes = script bytes ≡ ([], bytes)
+
+-- These bytes were taken, no whole command. Nothing else changed but for a fault of the input.
+pub record Left (old new : BoardState) (part : List ℕ) : Type 0 where
+  pub input : old.input ≡ put_back part new.input
+  pub is_part : IsPart part
+  pub rest : new ≡ record old { input = new.input; in_faults = new.in_faults }
+
+-- a command was taken and served
+pub record Advances (old new : BoardState) (before after : Sight) (held now_held : List ℕ) (taken : ℕ) : Type 0 where
+  pub bytes : List ℕ
+  pub c : Command
+  pub input : old.input ≡ put_back bytes new.input
+  pub spells : Spells bytes (c ∷ [])
+  pub serves : Serves old new before after held now_held taken c
+
+-- a command was taken, and serving ended in it
+pub record Fails (old new : BoardState) (before : Sight) (held : List ℕ) (taken : ℕ) (end : End) : Type 0 where
+  pub bytes : List ℕ
+  pub c : Command
+  pub input : old.input ≡ put_back bytes new.input
+  pub spells : Spells bytes (c ∷ [])
+  pub stops : Stops old new before held taken end c
+
+-- the input is read to its end
+pub record Finds (old new : BoardState) : Type 0 where
+  pub left : Left old new []
+  pub same : new.in_faults ≡ old.in_faults
+  pub at_end : AtEnd new.input
+
+-- it ends inside a command
+pub record Breaks_off (old new : BoardState) : Type 0 where
+  pub part : List ℕ
+  pub left : Left old new part
+  pub some : part ≢ []
+  pub same : new.in_faults ≡ old.in_faults
+  pub at_end : AtEnd new.input
+
+-- it failed
+pub record Fails_at (old new : BoardState) : Type 0 where
+  pub part : List ℕ
+  pub left : Left old new part
+  pub rose : Rose old.in_faults new.in_faults
+
+-- another command begins, and no more are taken
+pub record Refuses_more (old new : BoardState) : Type 0 where
+  pub part : List ℕ
+  pub some : part ≢ []
+  pub input : old.input ≡ put_back part new.input
+  pub rest : new ≡ record old { input = new.input }
+
+-- an entry was taken that is refused
+pub record Rejects (old new : BoardState) (refused : List ℕ → Type 0) : Type 0 where
+  pub entry : List ℕ
+  pub size : length entry ≡ 64
+  pub input : old.input ≡ put_back entry new.input
+  pub rest : new ≡ record old { input = new.input }
+  pub is : refused entry
+
+-- how no command was taken; none is where no more are
+abbrev pub NoEntry : BoardState → BoardState → Bool → (List ℕ → Type 0) → End → Type 0
+NoEntry old new no_more refused Done = Finds old new
+NoEntry old new no_more refused Truncated = Breaks_off old new × (no_more ≡ false)
+NoEntry old new no_more refused Input = (f : Fails_at old new) × (f.part ≢ [] → no_more ≡ false)
+NoEntry old new no_more refused Output = ⊥
+NoEntry old new no_more refused Flash = ⊥
+NoEntry old new no_more refused Worn = Refuses_more old new × (no_more ≡ true)
+NoEntry old new no_more refused NotBuilt = Rejects old new refused × (no_more ≡ false)
+
+-- no entry is refused
+abbrev pub None_refused : List ℕ → Type 0
+None_refused entry = ⊥
+
+-- an entry was taken
+pub record Entered (old new : BoardState) (entry : List ℕ) : Type 0 where
+  pub input : old.input ≡ put_back entry new.input
+  pub rest : new ≡ record old { input = new.input }
+
+-- ---- bytes that are taken in parts
+
+-- at most so many bytes were taken, fewer only at the end of the input
+pub record Took (old new : BoardState) (size : ℕ) (bytes : List ℕ) : Type 0 where
+  pub within : length bytes ≤ size
+  pub input : old.input ≡ put_back bytes new.input
+  pub ended : length bytes < size → AtEnd new.input
+  pub rest : new ≡ record old { input = new.input }
+
+-- the input failed behind fewer bytes
+pub record TookFailed (old new : BoardState) (size : ℕ) : Type 0 where
+  pub bytes : List ℕ
+  pub few : length bytes < size
+  pub input : old.input ≡ put_back bytes new.input
+  pub rose : Rose old.in_faults new.in_faults
+  pub rest : new ≡ record old { input = new.input; in_faults = new.in_faults }
+
+-- the bytes stand in a buffer behind what was there
+pub record Filled (old new : BoardState) (from n : ℕ) (before into : List ℕ) : Type 0 where
+  pub bytes : List ℕ
+  pub took : Took old new (length before - from) bytes
+  pub count : n ≡ from + length bytes
+  pub stand : take n into ≡ take from before ++ bytes
+
+-- the bytes were passed over
+pub record Skipped (old new : BoardState) (size n : ℕ) : Type 0 where
+  pub bytes : List ℕ
+  pub took : Took old new size bytes
+  pub count : n ≡ length bytes
+
+-- The value behind an entry was taken, and this is handed to the drive.
+pub record Valued (old new : BoardState) (shape : Shape) (opcode size : ℕ) (handed : List ℕ) : Type 0 where
+  pub value : List ℕ
+  pub whole : length value ≡ (if opcode == 0x01 then size else 0)
+  pub is_value : IsValue shape opcode size handed value
+  pub sized : opcode ≡ 0x01 → size ≤ greatest shape → length handed ≡ size
+  pub empty : opcode ≢ 0x01 → handed ≡ []
+  pub too_large : greatest shape < size → handed ≡ []
+  pub input : old.input ≡ put_back value new.input
+  pub rest : new ≡ record old { input = new.input }
+
+-- the input ends inside it
+pub record NoValue (old new : BoardState) (opcode size : ℕ) : Type 0 where
+  pub bytes : List ℕ
+  pub few : length bytes < (if opcode == 0x01 then size else 0)
+  pub input : old.input ≡ put_back bytes new.input
+  pub at_end : AtEnd new.input
+  pub rest : new ≡ record old { input = new.input }
+
+-- how a command was not served
+abbrev pub Quits : BoardState → BoardState → Sight → List ℕ → ℕ → (List ℕ → Type 0) → End → Type 0
+Quits old new before held taken refused end = NoEntry old new (is_worn old) refused end ⊎ Fails old new before held taken end

@@ -1,0 +1,6 @@
+pub mod Ends
+pub mod Serving
+pub mod Input
+pub mod Run
+pub mod Complete
+pub mod Port

@@ -1,0 +1,189 @@
+-- How a run over the input ends.
+use Rattle.std.specs.Prelude.{◌≡◌, ◌≢◌, ◌⊎◌, ◌<◌, ◌≤◌, ◌+◌, ℕ, List, [], ◌++◌, length, Some, Bool, true, false}
+use Rattle.pk_base.specs.Shape.{Shape}
+use Rattle.pk_base.specs.Map.{Map}
+use Rattle.pk_nvme.specs.Command.{Command, command}
+use Rattle.pk_nvme.specs.Seen.{command_of}
+use Rattle.pk_nvme.specs.declared.request.Request.{Request}
+use Rattle.pk_nand.specs.BoardState.{BoardState}
+use Rattle.pk_nand.specs.Calls.{Rose, longer}
+use Rattle.pk_model.specs.Run.{Exchange, RunWithin, commands, records, faults}
+use Rattle.pk_model.specs.Reading.{Holds}
+use Rattle.pk_model.specs.Kept.{AtMost}
+use Rattle.pk_model.specs.Script.{script}
+use Rattle.pk_model.specs.Sight.{Sight}
+use Rattle.pk_drive.specs.Drive.{Stands}
+use Rattle.pk_drive.specs.Wear.{is_worn, roots}
+use Rattle.pk_drive.specs.Growth.{Goes}
+use Rattle.pk_drive.specs.Meter.{meter, MeteredAll}
+use Rattle.pk_serve.specs.Ends.{HasCause, NoFaults}
+use Rattle.pk_serve.specs.Serving.{Serving, Cutoff, KeptAt, rise, installs}
+use Rattle.pk_serve.specs.Input.{put_back, AtEnd, Spells, IsPart}
+use Rattle.pk_serve.specs.declared.end.End.{End}
+use Rattle.pk_serve.specs.declared.end.End.TheVariants.{Done, Truncated, Input, Output, Flash, Worn, NotBuilt}
+
+-- the most entries of a run
+abbrev pub most_entries : ℕ
+most_entries = 4294967295
+
+-- a drive that stands for this map says that it does not serve the request of this entry
+abbrev pub Unbuilt : (Drive : Type 0) → (Drive → Sight) → (Drive → Request → Bool) → Shape → ℕ → Map → List ℕ → Type 0
+Unbuilt Drive sight built shape frames m entry =
+    (drive : Drive) × (board : BoardState) × (request : Request) × Stands shape frames board (sight drive) m
+    × ((value : List ℕ) → command_of request value ≡ command entry value) × (built drive request ≡ false)
+
+-- So many commands were taken from the input and served.
+pub record Looping (shape : Shape) (frames : ℕ) (start : Map) (a b : BoardState) (drive : Sight) (held : List ℕ) (taken : ℕ) : Type 0 where
+  pub all : List Exchange
+  pub m : Map
+  pub bytes : List ℕ
+  pub serving : Serving shape frames start a b drive held all m
+  pub count : taken ≡ length all
+  pub input : a.input ≡ put_back bytes b.input
+  pub spells : Spells bytes (commands all)
+
+-- All commands before these last bytes were served.
+pub record Finished (shape : Shape) (frames : ℕ) (start : Map) (a b : BoardState) (drive : Sight) (held part : List ℕ) : Type 0 where
+  pub all : List Exchange
+  pub m : Map
+  pub bytes : List ℕ
+  pub serving : Serving shape frames start a b drive held all m
+  pub input : a.input ≡ put_back (bytes ++ part) b.input
+  pub spells : Spells bytes (commands all)
+
+-- The run failed in or behind these commands, all taken whole.
+pub record Failed (shape : Shape) (frames : ℕ) (start : Map) (a b : BoardState) (end : End) : Type 0 where
+  pub cs : List Command
+  pub bytes : List ℕ
+  pub part : List ℕ
+  pub cutoff : Cutoff shape frames start a b cs
+  pub input : a.input ≡ put_back (bytes ++ part) b.input
+  pub spells : Spells bytes cs
+  pub cause : HasCause a b end
+
+-- another entry may be taken behind these
+abbrev pub GoesOn : BoardState → List Exchange → Type 0
+GoesOn board all = (length all < most_entries) × (is_worn board ≡ false)
+
+pub record IsDone (shape : Shape) (frames : ℕ) (start : Map) (a b : BoardState) (drive : Sight) (held : List ℕ) : Type 0 where
+  pub finished : Finished shape frames start a b drive held []
+  pub at_end : AtEnd b.input
+  pub same : b.in_faults ≡ a.in_faults
+
+pub record IsTruncated (shape : Shape) (frames : ℕ) (start : Map) (a b : BoardState) (drive : Sight) (held : List ℕ) : Type 0 where
+  pub part : List ℕ
+  pub some : part ≢ []
+  pub is_part : IsPart part
+  pub finished : Finished shape frames start a b drive held part
+  pub goes_on : GoesOn b finished.all
+  pub at_end : AtEnd b.input
+  pub same : b.in_faults ≡ a.in_faults
+
+pub record InputFailed (shape : Shape) (frames : ℕ) (start : Map) (a b : BoardState) (drive : Sight) (held : List ℕ) : Type 0 where
+  pub part : List ℕ
+  pub is_part : IsPart part
+  pub finished : Finished shape frames start a b drive held part
+  pub goes_on : part ≢ [] → GoesOn b finished.all
+  pub rose : Rose a.in_faults b.in_faults
+
+-- another command begins
+pub record IsWorn (shape : Shape) (frames : ℕ) (start : Map) (a b : BoardState) (drive : Sight) (held : List ℕ) : Type 0 where
+  pub part : List ℕ
+  pub some : part ≢ []
+  pub finished : Finished shape frames start a b drive held part
+  pub cause : (length finished.all ≡ most_entries) ⊎ (is_worn b ≡ true)
+  pub same : b.in_faults ≡ a.in_faults
+
+-- an entry was taken that is refused on this map
+pub record IsRefused (shape : Shape) (frames : ℕ) (start : Map) (a b : BoardState) (drive : Sight) (held : List ℕ) (refused : Map → List ℕ → Type 0) : Type 0 where
+  pub entry : List ℕ
+  pub size : length entry ≡ 64
+  pub finished : Finished shape frames start a b drive held entry
+  pub is : refused finished.m entry
+  pub goes_on : GoesOn b finished.all
+  pub same : b.in_faults ≡ a.in_faults
+
+abbrev pub Finish : Shape → ℕ → Map → BoardState → BoardState → Sight → List ℕ → (Map → List ℕ → Type 0) → End → Type 0
+Finish shape frames start a b drive held refused Done = IsDone shape frames start a b drive held
+Finish shape frames start a b drive held refused Truncated = IsTruncated shape frames start a b drive held
+Finish shape frames start a b drive held refused Input = InputFailed shape frames start a b drive held
+Finish shape frames start a b drive held refused Worn = IsWorn shape frames start a b drive held
+Finish shape frames start a b drive held refused NotBuilt = IsRefused shape frames start a b drive held refused
+Finish shape frames start a b drive held refused Output = Failed shape frames start a b Output
+Finish shape frames start a b drive held refused Flash = Failed shape frames start a b Flash
+
+-- from a drive with this map and nothing pending
+abbrev pub Ends : BoardState → BoardState → Sight → Sight → List ℕ → (Shape → ℕ → Map → List ℕ → Type 0) → End → Type 0
+Ends a b before after held refused end =
+    (shape : Shape) (frames : ℕ) (start : Map) → Stands shape frames a before start → before.pending ≡ [] → Finish shape frames start a b after held (refused shape frames) end
+
+-- ---- what is said of a run as a whole
+
+-- The headline: every cut keeps what was served of the script, and from each state of the trail to the next the tree grows.
+abbrev pub KeepsScript : BoardState → BoardState → Sight → Type 0
+KeepsScript a b before =
+    (shape : Shape) (frames : ℕ) (start : Map) → Stands shape frames a before start → before.pending ≡ []
+    → (input : List ℕ) → a.input ≡ Some input → Goes shape a b (KeptAt shape frames start (script input).0 (rise a.read_faults b.read_faults))
+
+-- the same where the input is not told
+abbrev pub KeepsSome : BoardState → BoardState → Sight → Type 0
+KeepsSome a b before =
+    (shape : Shape) (frames : ℕ) (start : Map) → Stands shape frames a before start → before.pending ≡ []
+    → (cs : List Command) × Goes shape a b (KeptAt shape frames start cs (rise a.read_faults b.read_faults))
+
+-- These were served, with exactly their records posted, and the flash holds the map after them.
+pub record Served (shape : Shape) (frames : ℕ) (start : Map) (a b : BoardState) (cs : List Command) : Type 0 where
+  pub served : List Exchange
+  pub are : commands served ≡ cs
+  pub left : Map
+  pub ran : RunWithin shape frames start served left
+  pub posted : b.posted ≡ longer a.posted (records 0 served)
+  pub holds : Holds shape b.pages left
+  pub few_faults : AtMost (rise a.read_faults b.read_faults) (faults served)
+  pub metered : MeteredAll (meter a) served (meter b)
+  pub few_roots : roots b ≤ roots a + installs cs
+  pub no_faults : NoFaults a b
+
+-- fewer were taken than a run takes, and the drive is not worn
+abbrev pub TakesMore : BoardState → List Command → Type 0
+TakesMore board cs = (length cs < most_entries) × (is_worn board ≡ false)
+
+-- Which commands were served, by the end: all of the script; all of it, and more bytes; those whole in the bytes that were taken; those before
+-- another one that begins; those before an entry that is refused.
+abbrev pub ServedBy : Shape → ℕ → Map → BoardState → BoardState → List ℕ → (Map → List ℕ → Type 0) → End → Type 0
+ServedBy shape frames start a b input refused Done =
+    (script input ≡ ((script input).0, [])) × Served shape frames start a b (script input).0 × AtEnd b.input × (b.in_faults ≡ a.in_faults)
+ServedBy shape frames start a b input refused Truncated =
+    ((script input).1 ≢ []) × TakesMore b (script input).0 × Served shape frames start a b (script input).0 × AtEnd b.input × (b.in_faults ≡ a.in_faults)
+ServedBy shape frames start a b input refused Input =
+    (taken : List ℕ) × (left : List ℕ) × (input ≡ taken ++ left) × Served shape frames start a b (script taken).0
+    × ((script taken).1 ≢ [] → TakesMore b (script taken).0) × Rose a.in_faults b.in_faults
+ServedBy shape frames start a b input refused Worn =
+    (bytes : List ℕ) × (more : List ℕ) × (input ≡ bytes ++ more) × (more ≢ []) × (script bytes ≡ ((script bytes).0, [])) × Served shape frames start a b (script bytes).0
+    × ((length (script bytes).0 ≡ most_entries) ⊎ (is_worn b ≡ true)) × (b.in_faults ≡ a.in_faults)
+ServedBy shape frames start a b input refused NotBuilt =
+    (bytes : List ℕ) × (entry : List ℕ) × (more : List ℕ) × (input ≡ bytes ++ entry ++ more) × (length entry ≡ 64) × (script bytes ≡ ((script bytes).0, []))
+    × (s : Served shape frames start a b (script bytes).0) × refused s.left entry × TakesMore b (script bytes).0 × (b.in_faults ≡ a.in_faults)
+ServedBy shape frames start a b input refused Output = Rose a.out_faults b.out_faults
+ServedBy shape frames start a b input refused Flash = Rose a.stop_faults b.stop_faults
+
+abbrev pub Answers : BoardState → BoardState → Sight → (Shape → ℕ → Map → List ℕ → Type 0) → End → Type 0
+Answers a b before refused end =
+    (shape : Shape) (frames : ℕ) (start : Map) → Stands shape frames a before start → before.pending ≡ []
+    → (input : List ℕ) → a.input ≡ Some input → ServedBy shape frames start a b input (refused shape frames) end
+
+-- The same where the input is not told: some commands were served, and each end has its cause.
+abbrev pub ServedSome : Shape → ℕ → Map → BoardState → BoardState → (Map → List ℕ → Type 0) → End → Type 0
+ServedSome shape frames start a b refused Done = (cs : List Command) × Served shape frames start a b cs × (b.in_faults ≡ a.in_faults)
+ServedSome shape frames start a b refused Truncated = (cs : List Command) × TakesMore b cs × Served shape frames start a b cs × (b.in_faults ≡ a.in_faults)
+ServedSome shape frames start a b refused Input = (cs : List Command) × Served shape frames start a b cs × Rose a.in_faults b.in_faults
+ServedSome shape frames start a b refused Worn =
+    (cs : List Command) × Served shape frames start a b cs × ((length cs ≡ most_entries) ⊎ (is_worn b ≡ true)) × (b.in_faults ≡ a.in_faults)
+ServedSome shape frames start a b refused NotBuilt =
+    (cs : List Command) × (entry : List ℕ) × (length entry ≡ 64) × (s : Served shape frames start a b cs) × refused s.left entry × TakesMore b cs × (b.in_faults ≡ a.in_faults)
+ServedSome shape frames start a b refused Output = Rose a.out_faults b.out_faults
+ServedSome shape frames start a b refused Flash = Rose a.stop_faults b.stop_faults
+
+abbrev pub Causes : BoardState → BoardState → Sight → (Shape → ℕ → Map → List ℕ → Type 0) → End → Type 0
+Causes a b before refused end =
+    (shape : Shape) (frames : ℕ) (start : Map) → Stands shape frames a before start → before.pending ≡ [] → ServedSome shape frames start a b (refused shape frames) end

@@ -1,0 +1,96 @@
+-- What stands after some commands were served.
+use Rattle.std.specs.Prelude.{◌≡◌, ℕ, ◌+◌, ◌-◌, ◌≤◌, List, [], ◌∷◌, ◌++◌, length, Option, Some, None, nat_le, if◌then◌else◌}
+use Rattle.pk_base.specs.Shape.{Shape}
+use Rattle.pk_base.specs.Page.{Flash}
+use Rattle.pk_base.specs.Mark.{Mark, all_posted}
+use Rattle.pk_base.specs.Map.{Map}
+use Rattle.pk_nvme.specs.Command.{Command}
+use Rattle.pk_nand.specs.BoardState.{BoardState}
+use Rattle.pk_nand.specs.Calls.{last_count}
+use Rattle.pk_nand.specs.Crash.{ReachedBy}
+use Rattle.pk_model.specs.Run.{Exchange, RunWithin, commands, records, faults}
+use Rattle.pk_model.specs.Kept.{Kept, AtMost}
+use Rattle.pk_model.specs.Sight.{Sight}
+use Rattle.pk_drive.specs.Drive.{Stands}
+use Rattle.pk_drive.specs.Wear.{roots}
+use Rattle.pk_drive.specs.Growth.{GrowsAlong, Goes}
+use Rattle.pk_drive.specs.Meter.{meter, MeteredAll}
+use Rattle.pk_drive.specs.Exec.{most_installs}
+use Rattle.pk_serve.specs.Ends.{NoFaults, HasCause}
+use Rattle.pk_serve.specs.declared.end.End.{End}
+
+-- what a count rose by, or no bound where it has reached its last value
+abbrev pub rise : ℕ → ℕ → Option ℕ
+rise before now = if nat_le last_count now then None else Some (now - before)
+
+-- most roots that these commands install
+abbrev pub installs : List Command → ℕ
+installs [] = 0
+installs (c ∷ cs) = most_installs c.opcode c.size + installs cs
+
+-- what every cut keeps, of these commands
+abbrev pub KeptAt : Shape → ℕ → Map → List Command → Option ℕ → Flash → List ℕ → Type 0
+KeptAt shape frames start cs n flash posted = Kept shape frames start cs n posted flash
+
+-- These were served from one map to another, and their records were posted but for these bytes. Wherever it was cut, it was kept.
+pub record Serving (shape : Shape) (frames : ℕ) (start : Map) (a b : BoardState) (drive : Sight) (unposted : List ℕ) (all : List Exchange) (m : Map) : Type 0 where
+  pub ran : RunWithin shape frames start all m
+  pub stands : Stands shape frames b drive m
+  pub marks : List Mark
+  pub run : ReachedBy marks a b (KeptAt shape frames start (commands all) (rise a.read_faults b.read_faults))
+  pub grows : GrowsAlong shape a.pages marks
+  pub shape_is : a.shape ≡ Some shape
+  pub records_are : all_posted marks ++ unposted ≡ records 0 all
+  pub few_faults : AtMost (rise a.read_faults b.read_faults) (faults all)
+  pub rose : a.read_faults ≤ b.read_faults
+  pub metered : MeteredAll (meter a) all (meter b)
+  pub few_roots : roots b ≤ roots a + installs (commands all)
+  pub no_faults : NoFaults a b
+
+-- It ended in a fault, or may have. Wherever it was cut, it was kept.
+pub record Cutoff (shape : Shape) (frames : ℕ) (start : Map) (a b : BoardState) (cs : List Command) : Type 0 where
+  pub went : Goes shape a b (KeptAt shape frames start cs (rise a.read_faults b.read_faults))
+
+-- A call posts these bytes: what was served stays, and those behind them are left.
+abbrev pub Flushed : BoardState → BoardState → Sight → Sight → List ℕ → Type 0
+Flushed old new before after bytes =
+    (shape : Shape) (frames : ℕ) (start : Map) (a : BoardState) (behind : List ℕ) (all : List Exchange) (m : Map)
+    → Serving shape frames start a old before (bytes ++ behind) all m → Serving shape frames start a new after behind all m
+
+-- A call ends the run while these bytes are held: what was served is kept.
+abbrev pub Breaks : BoardState → BoardState → Sight → List ℕ → End → Type 0
+Breaks old new before bytes end =
+    (shape : Shape) (frames : ℕ) (start : Map) (a : BoardState) (behind : List ℕ) (all : List Exchange) (m : Map)
+    → Serving shape frames start a old before (bytes ++ behind) all m → Cutoff shape frames start a new (commands all) × HasCause a new end
+
+-- A drive with nothing pending posts these bytes.
+abbrev pub Posts : BoardState → BoardState → List ℕ → Type 0
+Posts old new bytes = (drive : Sight) → drive.pending ≡ [] → Flushed old new drive drive bytes
+
+abbrev pub PostBreaks : BoardState → BoardState → List ℕ → End → Type 0
+PostBreaks old new bytes end = (drive : Sight) → drive.pending ≡ [] → Breaks old new drive bytes end
+
+-- A call changes what is held from one to the other: what was served stays.
+abbrev pub Keeps : BoardState → BoardState → Sight → Sight → List ℕ → List ℕ → Type 0
+Keeps old new before after held now_held =
+    (shape : Shape) (frames : ℕ) (start : Map) (a : BoardState) (all : List Exchange) (m : Map)
+    → Serving shape frames start a old before held all m → Serving shape frames start a new after now_held all m
+
+-- one more command was served
+pub record Next (shape : Shape) (frames : ℕ) (start : Map) (a b : BoardState) (drive : Sight) (unposted : List ℕ) (all : List Exchange) (c : Command) : Type 0 where
+  pub x : Exchange
+  pub is : x.command ≡ c
+  pub m : Map
+  pub serving : Serving shape frames start a b drive unposted (all ++ x ∷ []) m
+
+-- A call serves a command behind so many taken.
+abbrev pub Serves : BoardState → BoardState → Sight → Sight → List ℕ → List ℕ → ℕ → Command → Type 0
+Serves old new before after held now_held taken c =
+    (shape : Shape) (frames : ℕ) (start : Map) (a : BoardState) (all : List Exchange) (m : Map)
+    → taken ≡ length all → Serving shape frames start a old before held all m → Next shape frames start a new after now_held all c
+
+-- A call ends the run in a command behind so many taken.
+abbrev pub Stops : BoardState → BoardState → Sight → List ℕ → ℕ → End → Command → Type 0
+Stops old new before held taken end c =
+    (shape : Shape) (frames : ℕ) (start : Map) (a : BoardState) (all : List Exchange) (m : Map)
+    → taken ≡ length all → Serving shape frames start a old before held all m → Cutoff shape frames start a new (commands all ++ c ∷ []) × HasCause a new end

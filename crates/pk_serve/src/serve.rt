@@ -1,0 +1,173 @@
+//! The serving loop.
+ghost use Rattle.std.specs.Prelude.{◌≡◌, ◌≢◌, ◌≤◌, ◌<◌, ◌+◌, ◌-◌, ◌^◌, ◌⊎◌, ℕ, List, [], length, take, true, false, OnOk, OnErr, IfErr, Some};
+ghost use Rattle.pk_base.specs.Shape.{greatest};
+ghost use Rattle.pk_nvme.specs.Command.{command};
+ghost use Rattle.pk_nvme.specs.Seen.{command_of};
+ghost use Rattle.pk_nvme.specs.declared.request.Request.{Request};
+ghost use Rattle.pk_queue.specs.Queue.{bytes_of};
+ghost use Rattle.pk_drive.specs.Wear.{is_worn};
+ghost use Rattle.pk_serve.specs.Ends.{IsFault};
+ghost use Rattle.pk_serve.specs.Input.{Advances, Quits};
+ghost use Rattle.pk_serve.specs.Complete.{Completes};
+ghost use Rattle.pk_serve.specs.Run.{Ends, Unbuilt, KeepsScript, KeepsSome, Answers, Causes};
+
+use crate::End;
+use crate::entry::{take_entry, take_value};
+use crate::step::{flush, serve_one};
+use pk_base::Shape;
+use pk_drive::Engine;
+use pk_nand::Board;
+use pk_nvme::Request;
+use pk_queue::Queue;
+
+/// Takes one command and serves it.
+pub fn serve_next<D: Engine, B: Board>(
+    drive: &mut D,
+    board: &mut B,
+    held: &mut Queue,
+    value: &mut [u8],
+    into: &mut [u8],
+    shape: &Shape,
+    taken: u32,
+) -> Result<(), End>
+    requires agrees { D.agrees drive.old (B.state board.old).shape (B.state board.old).pages }
+    requires runs { (D.sight drive.old).stopped ≡ false }
+    requires shape { (B.state board.old).shape ≡ Some shape.now }
+    requires count { taken < 2 ^ 32 - 1 }
+    requires value { greatest shape.now ≤ length value.old }
+    requires some { 0 < length value.old }
+    requires room_list { 65536 ≤ length into.old }
+    requires room_value { greatest shape.now ≤ length into.old }
+    ensures agrees { OnOk result (D.agrees drive.new (B.state board.new).shape (B.state board.new).pages) }
+    ensures runs { OnOk result ((D.sight drive.new).stopped ≡ false) }
+    ensures shape { (B.state board.new).shape ≡ (B.state board.old).shape }
+    ensures room { held.new.room ≡ held.old.room }
+    ensures value { length value.new ≡ length value.old }
+    ensures into { length into.new ≡ length into.old }
+    ensures in_faults { OnOk result ((B.state board.new).in_faults ≡ (B.state board.old).in_faults) }
+    ensures advances { OnOk result (Advances (B.state board.old) (B.state board.new) (D.sight drive.old) (D.sight drive.new) (bytes_of held.old.heads) (bytes_of held.new.heads) taken) }
+    ensures quits { IfErr result (λ end. Quits (B.state board.old) (B.state board.new) (D.sight drive.old) (bytes_of held.old.heads) taken
+        (λ entry. (r : Request) × ((v : List ℕ) → command_of r v ≡ command entry v) × (D.built drive.old r ≡ false)) end) }
+    ensures open { IfErr result (λ end. IsFault end ⊎ ((D.agrees drive.new (B.state board.new).shape (B.state board.new).pages) × (D.sight drive.new ≡ D.sight drive.old) × (held.new.heads ≡ held.old.heads))) }
+{
+    let worn = drive.is_worn();
+    let mut entry = [0u8; 64];
+    match take_entry(board, &mut entry, worn) {
+        Ok(()) => {}
+        Err(end) => return Err(end),
+    }
+    let request = Request::of(&entry);
+    if !drive.is_built(&request) {
+        return Err(End::NotBuilt);
+    }
+    let handed = match take_value(board, &request, shape, value) {
+        Ok(handed) => handed,
+        Err(_) => return Err(End::Input),
+    };
+    match handed {
+        Some(n) => match serve_one(
+            drive,
+            board,
+            held,
+            into,
+            shape,
+            taken,
+            &request,
+            &value[..n],
+        ) {
+            Ok(()) => Ok(()),
+            Err(end) => Err(end),
+        },
+        None => Err(End::Truncated),
+    }
+}
+
+/// Takes commands and serves them until the input ends or something fails.
+pub fn serve_entries<D: Engine, B: Board>(
+    drive: &mut D,
+    board: &mut B,
+    held: &mut Queue,
+    value: &mut [u8],
+    into: &mut [u8],
+    shape: &Shape,
+) -> End
+    requires agrees { D.agrees drive.old (B.state board.old).shape (B.state board.old).pages }
+    requires runs { (D.sight drive.old).stopped ≡ false }
+    requires shape { (B.state board.old).shape ≡ Some shape.now }
+    requires none { held.old.heads ≡ [] }
+    requires value { greatest shape.now ≤ length value.old }
+    requires some { 0 < length value.old }
+    requires room_list { 65536 ≤ length into.old }
+    requires room_value { greatest shape.now ≤ length into.old }
+    ensures shape { (B.state board.new).shape ≡ (B.state board.old).shape }
+    ensures ends { Ends (B.state board.old) (B.state board.new) (D.sight drive.old) (D.sight drive.new) (bytes_of held.new.heads) (Unbuilt D D.sight D.built) result }
+    ensures open { IsFault result ⊎ ((D.agrees drive.new (B.state board.new).shape (B.state board.new).pages) × ((D.sight drive.new).stopped ≡ false)) }
+{
+    for taken in 0..u32::MAX {
+        match serve_next(drive, board, held, value, into, shape, taken) {
+            Ok(()) => {}
+            Err(end) => return end,
+        }
+    }
+    let mut entry = [0u8; 64];
+    match take_entry(board, &mut entry, true) {
+        Ok(()) => End::Worn,
+        Err(end) => end,
+    }
+}
+
+/// Serves the input, and at its end commits and gives out what is held.
+pub fn serve_all<D: Engine, B: Board>(
+    drive: &mut D,
+    board: &mut B,
+    held: &mut Queue,
+    value: &mut [u8],
+    into: &mut [u8],
+    shape: &Shape,
+) -> End
+    requires agrees { D.agrees drive.old (B.state board.old).shape (B.state board.old).pages }
+    requires runs { (D.sight drive.old).stopped ≡ false }
+    requires shape { (B.state board.old).shape ≡ Some shape.now }
+    requires none { held.old.heads ≡ [] }
+    requires value { greatest shape.now ≤ length value.old }
+    requires some { 0 < length value.old }
+    requires room_list { 65536 ≤ length into.old }
+    requires room_value { greatest shape.now ≤ length into.old }
+    ensures ends { Ends (B.state board.old) (B.state board.new) (D.sight drive.old) (D.sight drive.new) [] (Unbuilt D D.sight D.built) result }
+    ensures none { IsFault result ⊎ ((D.sight drive.new).pending ≡ []) }
+{
+    let end = serve_entries(drive, board, held, value, into, shape);
+    match end {
+        End::Output | End::Flash => end,
+        _ => match flush(drive, board, held) {
+            Ok(()) => end,
+            Err(fault) => fault,
+        },
+    }
+}
+
+/// Serves the script of the input: what is said of the whole.
+pub fn serve_script<D: Engine, B: Board>(
+    drive: &mut D,
+    board: &mut B,
+    held: &mut Queue,
+    value: &mut [u8],
+    into: &mut [u8],
+    shape: &Shape,
+) -> End
+    requires agrees { D.agrees drive.old (B.state board.old).shape (B.state board.old).pages }
+    requires runs { (D.sight drive.old).stopped ≡ false }
+    requires shape { (B.state board.old).shape ≡ Some shape.now }
+    requires none { held.old.heads ≡ [] }
+    requires value { greatest shape.now ≤ length value.old }
+    requires some { 0 < length value.old }
+    requires room_list { 65536 ≤ length into.old }
+    requires room_value { greatest shape.now ≤ length into.old }
+    ensures kept { KeepsScript (B.state board.old) (B.state board.new) (D.sight drive.old) }
+    ensures kept_untold { KeepsSome (B.state board.old) (B.state board.new) (D.sight drive.old) }
+    ensures served { Answers (B.state board.old) (B.state board.new) (D.sight drive.old) (Unbuilt D D.sight D.built) result }
+    ensures causes { Causes (B.state board.old) (B.state board.new) (D.sight drive.old) (Unbuilt D D.sight D.built) result }
+    ensures complete { Completes D D.built (B.state board.old) (B.state board.new) (D.sight drive.old) result }
+{
+    serve_all(drive, board, held, value, into, shape)
+}

@@ -1,0 +1,32 @@
+-- Records as lines of text.
+use Rattle.std.specs.Prelude.{ℕ, ◌/◌, ◌%◌, ◌^◌, ◌==◌, if◌then◌else◌, List, [], ◌∷◌, ◌++◌, codes}
+use Rattle.pk_base.specs.Fields.{u16_at, u32_at}
+use Rattle.pk_nvme.specs.Text.{number_text, hex_text, bytes_text}
+use Rattle.pk_show.specs.declared.head.Head.{Head}
+
+-- the fields of a record's 24 bytes that are shown; the status code is in bits 17 to 24 of the completion's last dword
+abbrev pub head_of : List ℕ → Head
+head_of head = record {
+  cid = u16_at head 12;
+  status = u32_at head 12 / 2 ^ 17 % 256;
+  result = u32_at head 0;
+  reads = u32_at head 16;
+  data_len = u32_at head 20;
+}
+
+-- the words of a line before its data
+abbrev pub words : Head → List ℕ
+words h =
+    codes "cid=" ++ number_text h.cid ++ codes " status=" ++ hex_text (h.status ∷ []) ++ codes " result=" ++ number_text h.result
+    ++ codes " reads=" ++ number_text h.reads ++ codes " data="
+
+-- the line of a record, from its 24 bytes and its data
+abbrev pub shown : List ℕ → List ℕ → List ℕ
+shown head bytes = words (head_of head) ++ bytes_text bytes ++ codes "\n"
+
+-- the front of a line that is known from the head alone: all before the digits of the data
+abbrev pub front : Head → List ℕ
+front h = words h ++ (if h.data_len == 0 then codes "-" else [])
+
+abbrev pub shown_head : List ℕ → List ℕ
+shown_head head = front (head_of head)
