@@ -1,11 +1,11 @@
 -- Which reply a command has and which map it leaves, by the first check that fails.
 use Rattle.std.proofs.Common.{◌≡◌, ℕ, ◌≤◌, List, Bool, true, false, ◌&&◌, nat_le, IsTrue, Option, Some, None, refl, sym, ap, ◌∙◌}
 use Rattle.std.proofs.lemmas.Bool.{leb-true}
-use Rattle.pk_base.specs.Shape.{Shape}
+use Rattle.pk_base.specs.Shape.{Shape, greatest}
 use Rattle.pk_base.specs.Map.{Map}
 use Rattle.pk_nvme.specs.Command.{Command}
 use Rattle.pk_nvme.specs.Reply.{refusal}
-use Rattle.pk_model.specs.Answer.{Kind, kind, first_of, check, is_namespace, is_key_length, size_fault, fault_of, early, late_of, refused, reply, reply_of, map_after, effect}
+use Rattle.pk_model.specs.Answer.{Kind, kind, store, list, first_of, check, is_namespace, is_key_length, size_fault, fault_of, early, late_of, refused, reply, reply_of, map_after, effect}
 
 module _ (shape : Shape) (most frames : ℕ) (m : Map) (own : List ℕ) (c : Command) where
   -- it is refused
@@ -50,6 +50,13 @@ both_true true true h = (refl, refl)
 both_true true false h = cc
 both_true false b h = cc
 
+-- the size of a command that passed has the bounds of its kind
+passed_size : (shape : Shape) (c : Command) (k : Kind) → kind c.opcode ≡ Some k → early shape c ≡ None → size_fault shape k c.size ≡ None
+passed_size shape c k is e =
+    let faults : fault_of shape c (Some k) ≡ None = ap (fault_of shape c) (sym is) ∙ e in
+    let behind = first_none (check (is_namespace k c.namespace) 0x0B) (first_of (check (is_key_length k c.key_len) 0x86) (size_fault shape k c.size)) faults in
+    (first_none (check (is_key_length k c.key_len) 0x86) (size_fault shape k c.size) behind.1).1
+
 -- the key of a command that passed has a key's length
 passed_key : (shape : Shape) (c : Command) (k : Kind) → kind c.opcode ≡ Some k → early shape c ≡ None → is_key_length k c.key_len ≡ true
 passed_key shape c k is e =
@@ -69,3 +76,16 @@ pub key_sized : (shape : Shape) (c : Command) (k : Kind) → WantsKey k → kind
 key_sized shape c k wants is e =
     let both = both_true (nat_le 1 c.key_len) (nat_le c.key_len 16) (sym (wants c.key_len) ∙ passed_key shape c k is e) in
     record { some = leb-true 1 c.key_len both.0; most = leb-true c.key_len 16 both.1 }
+
+pub store_sized : (shape : Shape) (c : Command) → kind c.opcode ≡ Some store → early shape c ≡ None → c.size ≤ greatest shape
+store_sized shape c is e = leb-true c.size (greatest shape) (check_none (nat_le c.size (greatest shape)) 0x85 (passed_size shape c store is e))
+
+pub record IsListSize (c : Command) : Type 0 where
+  pub key_most : c.key_len ≤ 16
+  pub least : 4 ≤ c.size
+
+pub list_sized : (shape : Shape) (c : Command) → kind c.opcode ≡ Some list → early shape c ≡ None → IsListSize c
+list_sized shape c is e = record {
+  key_most = leb-true c.key_len 16 (passed_key shape c list is e);
+  least = leb-true 4 c.size (check_none (nat_le 4 c.size) 0x02 (passed_size shape c list is e));
+}

@@ -3,7 +3,8 @@ use Rattle.std.proofs.Common.{◌≡◌, ℕ, ◌+◌, ◌-◌, List, [], ◌∷
 use Rattle.std.proofs.lemmas.List.{append_assoc, append-nil}
 use Rattle.std.specs.Ordering.{is_lt}
 use Rattle.pk_base.specs.Key.{Key, key_cmp}
-use Rattle.pk_model.specs.Answer.{listed, fitting}
+use Rattle.pk_base.specs.Fields.{u32}
+use Rattle.pk_model.specs.Answer.{listed, fitting, list_bytes}
 use Rattle.pk_model.specs.Listing.{Listing, offered, offered_from, offered_all}
 
 -- the keys that are not below this one
@@ -41,3 +42,10 @@ lists from bytes count left (k ∷ ks) =
         | false ↦ (let stays = offered_all-full from bytes count left ks in (ap (λ l. l.bytes) stays ∙ sym (append-nil bytes), ap (λ l. l.count) stays ∙ omega arith))
       ]
     ]
+
+-- how many keys were listed, and they
+pub listed_answer : (from : Key) (left : ℕ) (ks : List Key) (l : Listing) → l ≡ offered_all from (room_left [] 0 left) ks → u32 l.count ++ l.bytes ≡ list_bytes (fitting left (wanted from ks))
+listed_answer from left ks l e =
+    let all = lists from [] 0 left ks in
+    let count : 0 + length (fitting left (wanted from ks)) ≡ length (fitting left (wanted from ks)) = omega arith in
+    ap (λ (x : Listing). u32 x.count ++ x.bytes) e ∙ (λ i. u32 ((all.1 ∙ count) i) ++ all.0 i)

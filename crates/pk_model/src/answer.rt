@@ -29,7 +29,12 @@ impl Answer {
     }
 
     /// A success with this result and these data, in two parts.
-    pub fn of_parts(alloc: Global, result_field: u32, front: &[u8], rest: &[u8]) -> Result<Answer, AllocError>
+    pub fn of_parts(
+        alloc: Global,
+        result_field: u32,
+        front: &[u8],
+        rest: &[u8],
+    ) -> Result<Answer, AllocError>
         requires { length front.now ≤ 65536 }
         ensures { IfOk result (λ a. replied a ≡ success result_field (front.now ++ rest.now)) }
     {
