@@ -14,7 +14,7 @@ use Rattle.pk_base.specs.Shape.{Shape, limit, charge, need, pinned}
 use Rattle.pk_nvme.specs.declared.request.Request.{Request}
 use Rattle.pk_nvme.specs.Seen.{command_of}
 use Rattle.pk_nvme.specs.Command.{Command, key}
-use Rattle.pk_nvme.specs.Reply.{Reply, refusal}
+use Rattle.pk_nvme.specs.Reply.{refusal}
 use Rattle.pk_model.specs.Answer.{Kind, kind, store, first_of, check, early, late_of, reply_of, effect, success, report_bytes}
 use Rattle.pk_model.specs.Machine.{Machine, replied, no_numbers, Answers}
 use Rattle.pk_model.specs.declared.answer.Answer.{Answer}

@@ -1,14 +1,8 @@
-use Rattle.std.proofs.Common.{◌≡◌, ◌≤◌, ◌∙◌, sym, ap, subst, refl, Option, Some, None, List, [], ℕ, ◌++◌, ◌-◌, ◌+◌, ◌∷◌, length, min, take, replicate, true, false, inl, inr, ◌⊎◌, arith, IfOk}
+use Rattle.std.proofs.Common.{◌≡◌, ap, refl, List, [], ℕ, inl, inr}
 use Rattle.std.proofs.lemmas.Result.{IfOk-weaker}
-use Rattle.std.specs.Option.{option_copied}
-use Rattle.std.specs.FinMap.{get, contains_key, insert, remove, keys, len}
-use Rattle.pk_base.specs.Map.{Map, live, keys_from}
-use Rattle.pk_base.specs.Shape.{Shape, limit, greatest}
 use Rattle.pk_nvme.specs.Seen.{command_of}
-use Rattle.pk_nvme.specs.Command.{key}
-use Rattle.pk_nvme.specs.Reply.{refusal}
-use Rattle.pk_model.specs.Answer.{kind, flush, tick, check, success}
-use Rattle.pk_model.specs.Machine.{Machine, replied, Answers}
+use Rattle.pk_model.specs.Answer.{kind, flush, tick, success}
+use Rattle.pk_model.specs.Machine.{replied, Answers}
 use Rattle.pk_model.proofs.Machines.{served_answer}
 use Rattle.pk_model.proofs.machine.MapMachine.done.Goals as goal
 

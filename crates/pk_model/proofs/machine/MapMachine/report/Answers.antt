@@ -1,13 +1,10 @@
-use Rattle.std.proofs.Common.{◌≡◌, ◌≤◌, ◌∙◌, sym, ap, subst, refl, Option, Some, None, List, [], ℕ, ◌++◌, ◌-◌, ◌+◌, ◌∷◌, length, min, take, replicate, true, false, inl, inr, ◌⊎◌, arith, IfOk}
+use Rattle.std.proofs.Common.{◌≡◌, ◌∙◌, ap, refl, List, ℕ, ◌++◌, replicate, arith}
 use Rattle.std.proofs.lemmas.Result.{IfOk-weaker}
-use Rattle.std.specs.Option.{option_copied}
-use Rattle.std.specs.FinMap.{get, contains_key, insert, remove, keys, len}
-use Rattle.pk_base.specs.Map.{Map, live, keys_from}
-use Rattle.pk_base.specs.Shape.{Shape, limit, greatest}
+use Rattle.std.specs.FinMap.{len}
+use Rattle.pk_base.specs.Map.{live}
+use Rattle.pk_base.specs.Shape.{limit}
 use Rattle.pk_nvme.specs.Seen.{command_of}
-use Rattle.pk_nvme.specs.Command.{key}
-use Rattle.pk_nvme.specs.Reply.{refusal}
-use Rattle.pk_model.specs.Answer.{kind, report, check, success}
+use Rattle.pk_model.specs.Answer.{kind, report, success}
 use Rattle.pk_model.specs.Machine.{Machine, replied, Answers}
 use Rattle.pk_model.proofs.Machines.{served_answer, reported, len-live}
 use Rattle.pk_model.proofs.machine.MapMachine.report.Goals as goal

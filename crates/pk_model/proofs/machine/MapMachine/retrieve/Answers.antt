@@ -1,14 +1,13 @@
-use Rattle.std.proofs.Common.{◌≡◌, ◌≤◌, ◌∙◌, sym, ap, subst, refl, Option, Some, None, List, [], ℕ, ◌++◌, ◌-◌, ◌+◌, ◌∷◌, length, min, take, replicate, true, false, inl, inr, ◌⊎◌, arith, IfOk}
+use Rattle.std.proofs.Common.{◌≡◌, ◌∙◌, sym, ap, refl, List, [], ℕ, length, min, take, true, false}
 use Rattle.std.proofs.lemmas.Result.{IfOk-weaker}
 use Rattle.std.specs.Option.{option_copied}
-use Rattle.std.specs.FinMap.{get, contains_key, insert, remove, keys, len}
-use Rattle.pk_base.specs.Map.{Map, live, keys_from}
-use Rattle.pk_base.specs.Shape.{Shape, limit, greatest}
+use Rattle.std.specs.FinMap.{get, contains_key}
+use Rattle.pk_base.specs.Map.{Map}
 use Rattle.pk_nvme.specs.Seen.{command_of}
 use Rattle.pk_nvme.specs.Command.{key}
 use Rattle.pk_nvme.specs.Reply.{refusal}
 use Rattle.pk_model.specs.Answer.{kind, retrieve, check, success}
-use Rattle.pk_model.specs.Machine.{Machine, replied, Answers}
+use Rattle.pk_model.specs.Machine.{replied, Answers}
 use Rattle.pk_model.proofs.Answering.{key_sized}
 use Rattle.pk_model.proofs.Machines.{refused_answer, served_answer, found_some, found_none, retrieved}
 use Rattle.pk_model.proofs.machine.MapMachine.retrieve.Goals as goal

@@ -1,16 +1,14 @@
-use Rattle.std.proofs.Common.{◌≡◌, ◌≤◌, ◌∙◌, sym, ap, subst, refl, Option, Some, None, List, [], ℕ, ◌++◌, ◌-◌, ◌+◌, ◌∷◌, length, min, take, replicate, true, false, inl, inr, ◌⊎◌, arith, IfOk}
+use Rattle.std.proofs.Common.{◌≡◌, ◌≤◌, ◌∙◌, sym, ap, subst, refl, Some, None, List, [], ℕ}
 use Rattle.std.proofs.lemmas.Result.{IfOk-weaker}
-use Rattle.std.specs.Option.{option_copied}
-use Rattle.std.specs.FinMap.{get, contains_key, insert, remove, keys, len}
-use Rattle.pk_base.specs.Map.{Map, live, pages_if_some}
-use Rattle.pk_base.specs.Shape.{Shape, limit, greatest, charge}
+use Rattle.std.specs.FinMap.{get, contains_key, insert}
+use Rattle.pk_base.specs.Map.{live, pages_if_some}
+use Rattle.pk_base.specs.Shape.{limit, greatest, charge}
 use Rattle.pk_nvme.specs.Seen.{command_of}
-use Rattle.pk_nvme.specs.Command.{key}
 use Rattle.pk_nvme.specs.Reply.{refusal}
-use Rattle.pk_model.specs.Answer.{kind, store, late_of, check, success}
-use Rattle.pk_model.specs.Machine.{Machine, replied, Answers}
+use Rattle.pk_model.specs.Answer.{kind, store, late_of}
+use Rattle.pk_model.specs.Machine.{Machine, replied}
 use Rattle.pk_model.proofs.Answering.{key_sized, store_sized}
-use Rattle.pk_model.proofs.Machines.{refused_answer, served_answer, store_check, store_late, live_stored, both_ok}
+use Rattle.pk_model.proofs.Machines.{refused_answer, served_answer, store_late, live_stored, both_ok}
 use Rattle.pk_model.proofs.machine.MapMachine.store.Goals as goal
 
 pub key_of-key-requires-clause-some : goal.key_of-key-requires-clause-some

@@ -1,4 +1,4 @@
-use Rattle.std.proofs.Common.{◌∙◌, sym, ap}
+use Rattle.std.proofs.Common.{◌∙◌, ap}
 use Rattle.std.specs.FinMap as map
 use Rattle.pk_model.proofs.Tables.{insert-tree}
 use Rattle.pk_model.proofs.table.Table.insert.Goals as goal

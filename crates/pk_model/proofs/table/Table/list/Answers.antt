@@ -1,5 +1,5 @@
-use Rattle.std.proofs.Common.{◌≡◌, ◌∙◌, sym, ap, map, List, ℕ}
-use Rattle.std.specs.FinMap.{keys, entries}
+use Rattle.std.proofs.Common.{◌∙◌, sym, ap, map, List, ℕ}
+use Rattle.std.specs.FinMap.{keys}
 use Rattle.pk_base.specs.Key.{Key}
 use Rattle.pk_base.specs.Map.{Map}
 use Rattle.pk_model.specs.Listing.{Listing, offered_all}
