@@ -160,11 +160,13 @@ options_are word n e =
 store_with_is : (k b : Option (List ℕ)) (o : Option ℕ) (form : Form) (bytes : List ℕ) → ((key : List ℕ) → k ≡ Some key → IsByteKey key) → ((n : ℕ) → o ≡ Some n → n < 4)
     → length bytes < 2 ^ 32 → store_with k b o ≡ Some (form, bytes) → IsForm form bytes
 store_with_is (Some key) (Some xs) (Some n) form bytes keys options few e =
-    let pair : (Store key (length xs) n, xs) ≡ (form, bytes) = cc in
+    let first : Form × List ℕ = (Store key (length xs) n, xs) in
+    let last : Form × List ℕ = (form, bytes) in
+    let pair : first ≡ last = cc in
     let same : Store key (length xs) n ≡ form = ap (λ (s : Form × List ℕ). s.0) pair in
-    let brings : xs ≡ bytes = ap (λ (s : Form × List ℕ). s.1) pair in
-    let size : length xs ≡ length bytes = ap length brings in
-    subst (λ f. IsForm f bytes) same (keys key refl, size, omega arith, options n refl)
+    let size : length xs ≡ length bytes = ap (λ (s : Form × List ℕ). length s.1) pair in
+    let below : length xs < 2 ^ 32 = omega (arith, size, few) in
+    subst (λ f. IsForm f bytes) same (keys key refl, size, below, options n refl)
 store_with_is (Some key) (Some xs) None form bytes keys options few e = cc
 store_with_is (Some key) None o form bytes keys options few e = cc
 store_with_is None b o form bytes keys options few e = cc

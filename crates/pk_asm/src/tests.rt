@@ -1,5 +1,6 @@
 use super::*;
 use pk_nvme::Bytes;
+use std::alloc::{AllocError, Global};
 use std::process::Abort;
 use std::test::*;
 
@@ -254,24 +255,34 @@ fn other_lines(rt: HostRuntime) -> Result<(), Fail> {
     Ok(())
 }
 
-// A line of the greatest length, one that is longer, and a comment that is.
+/// So many bytes, these first and digits behind them.
+fn long_line(alloc: Global, size: usize, front: &[u8]) -> Result<Vec<u8>, AllocError> {
+    let mut line = vec![in alloc; b'0'; size]?;
+    for (i, byte) in front.iter().enumerate() {
+        if i < line.len() {
+            line[i] = *byte;
+        }
+    }
+    Ok(line)
+}
+
+// A comment of the greatest length and one that is longer; a Store of nearly that length and one that is longer.
 #[test]
 fn longest(rt: HostRuntime) -> Result<(), Fail> {
     let mut value = Bytes::with_room(rt.alloc(), 1_100_000)?;
-    let mut line = vec![in rt.alloc(); b'0'; 2_200_001]?;
-    assert_eq!(rt; line.len(), 2_200_001);
-    line[..9].copy_from_slice(b"store 61 ");
-    line[2_199_995..2_200_000].copy_from_slice(b" both");
-    assert_eq!(rt; line.len(), 2_200_001);
+    let comment = long_line(rt.alloc(), 2_200_000, b"#")?;
     assert!(rt; value.room() >= 1_100_000);
-    assert!(rt; assemble_line(&line[..2_200_000], 1, &mut value).is_ok());
-    assert_eq!(rt; value.len(), 1_099_993);
-    check_bad(&rt, &mut value, &line);
-    assert_eq!(rt; line.len(), 2_200_001);
-    line[0] = b'#';
+    assert_eq!(rt; assemble_line(&comment, 1, &mut value), Ok(None));
+    check_bad(&rt, &mut value, &long_line(rt.alloc(), 2_200_001, b"#")?);
+    let store = long_line(rt.alloc(), 2_199_999, b"store 61 ")?;
     assert!(rt; value.room() >= 1_100_000);
-    assert_eq!(rt; assemble_line(&line[..2_200_000], 1, &mut value), Ok(None));
-    check_bad(&rt, &mut value, &line);
+    assert!(rt; assemble_line(&store, 1, &mut value).is_ok());
+    assert_eq!(rt; value.len(), 1_099_995);
+    check_bad(
+        &rt,
+        &mut value,
+        &long_line(rt.alloc(), 2_200_001, b"store 61 ")?,
+    );
     Ok(())
 }
 

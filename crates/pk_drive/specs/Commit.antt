@@ -1,5 +1,5 @@
 -- What a commit does, for every map that the drive may stand for.
-use Rattle.std.specs.Prelude.{◌≡◌, ◌⊎◌, ℕ, List, [], Ok}
+use Rattle.std.specs.Prelude.{◌≡◌, ◌≢◌, ◌⊎◌, ℕ, List, [], Ok}
 use Rattle.pk_base.specs.Shape.{Shape}
 use Rattle.pk_base.specs.Page.{Flash}
 use Rattle.pk_base.specs.Map.{Map}
@@ -32,3 +32,6 @@ pub record OneProgram (old new : BoardState) : Type 0 where
   pub programs : new.programs ≡ counted old.programs
   pub erases : new.erases ≡ old.erases
   pub reads : new.reads ≡ old.reads
+
+abbrev pub CommitPrograms : BoardState → BoardState → Sight → Type 0
+CommitPrograms old new before = (shape : Shape) (frames : ℕ) (m : Map) → Stands shape frames old before m → before.pending ≢ [] → OneProgram old new

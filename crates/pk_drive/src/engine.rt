@@ -2,7 +2,7 @@
 ghost use Rattle.std.specs.Prelude.{◌≡◌, ◌≢◌, ◌≤◌, ◌<◌, ◌+◌, ℕ, List, [], length, take, Bool, true, false, nat_le, OnOk, OnErr, IsOk, IsSome, Some, Option, Ok};
 ghost use Rattle.pk_base.specs.Shape.{Shape, greatest};
 ghost use Rattle.pk_base.specs.Page.{Flash};
-ghost use Rattle.pk_base.specs.Map.{Map};
+ghost use Rattle.pk_base.specs.Map.{Map, live};
 ghost use Rattle.pk_nvme.specs.Seen.{command_of};
 ghost use Rattle.pk_nvme.specs.declared.request.Request.{Request};
 ghost use Rattle.pk_nand.specs.BoardState.{shape_of};
@@ -13,7 +13,7 @@ ghost use Rattle.pk_drive.specs.Wear.{root_number, roots, is_worn};
 ghost use Rattle.pk_drive.specs.Drive.{OnlyFlash, NoFault, AtMostOneCall, CountsMap};
 ghost use Rattle.pk_drive.specs.Meter.{reads_after};
 ghost use Rattle.pk_drive.specs.Exec.{ExecStands, ExecReaches, ExecGoes, most_installs, report_of, IsNextMerge};
-ghost use Rattle.pk_drive.specs.Commit.{CommitStands, CommitReaches, CommitGoes, OneProgram};
+ghost use Rattle.pk_drive.specs.Commit.{CommitStands, CommitReaches, CommitGoes, CommitPrograms};
 ghost use Rattle.pk_drive.specs.Tick.{TickStands, TickReaches, TickGoes, TellsIdle};
 ghost use Rattle.pk_drive.specs.Seen.{reply_of, stopped_by, counts_of};
 ghost use Rattle.pk_drive.specs.declared.types.Ticked.{Ticked};
@@ -91,7 +91,7 @@ pub trait Engine {
         ensures no_stop { OnOk result ((B.state board.new).stop_faults ≡ (B.state board.old).stop_faults) }
         ensures sound { OnOk result ((B.state board.new).flash_faults ≡ (B.state board.old).flash_faults) }
         ensures idle { (sight self.old).pending ≡ [] → IsOk result × (B.state board.new ≡ B.state board.old) }
-        ensures program { (sight self.old).pending ≢ [] → OneProgram (B.state board.old) (B.state board.new) }
+        ensures program { CommitPrograms (B.state board.old) (B.state board.new) (sight self.old) }
         ensures installs { roots (B.state board.new) ≡ roots (B.state board.old) };
 
     /// Makes one background step, with at most one call of the flash.
@@ -141,5 +141,6 @@ pub trait Engine {
 
     /// The live pages of its map, on a drive that is not stopped.
     fn live_pages(&self) -> u32
-        ensures { result ≡ (sight self.now).counts.live };
+        ensures number { result ≡ (sight self.now).counts.live }
+        ensures map { (shape : Shape) (flash : Flash) (m : Map) → agrees self.now (Some shape) flash → (sight self.now).stopped ≡ false → map_of shape flash (sight self.now) ≡ Ok m → result ≡ live shape m };
 }

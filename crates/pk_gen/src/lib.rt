@@ -3,6 +3,7 @@
 
 mod command;
 mod draw;
+pub mod laws;
 #[cfg(test)]
 mod tests;
 mod value;

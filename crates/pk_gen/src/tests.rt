@@ -1,5 +1,5 @@
 use super::*;
-use draw::{drawn, step};
+use crate::draw::{drawn, step};
 use pk_nvme::{Bytes, Request};
 use std::test::*;
 

@@ -9,7 +9,8 @@ use Rattle.pk_nand.specs.BoardState.{BoardState}
 use Rattle.pk_nand.specs.Calls.{Rose, IsReady, filled, after_read, ReadFailed}
 use Rattle.pk_segfmt.specs.Value.{value_bytes}
 use Rattle.pk_segfmt.specs.Stored.{page_of}
-use Rattle.pk_seg.specs.Counts.{after_reads, ReadsFailed}
+use Rattle.pk_nand.specs.Erased.{after_reads}
+use Rattle.pk_seg.specs.Counts.{ReadsFailed}
 use Rattle.pk_seg.specs.Stored.{IsFront}
 use Rattle.pk_seg.proofs.Fronts.{front_next, value_front, fetched_within, fetched_needed, fetched_room}
 

@@ -3,11 +3,11 @@ use Rattle.std.proofs.Common.{◌≡◌, ℕ, ◌+◌, ◌-◌, ◌^◌, ◌<◌
 use Rattle.std.specs.Prelude.{nat_le, ◌&&◌, Result, Ok, Err, IfOk, MatchResult}
 use Rattle.std.proofs.lemmas.Bool.Decides.{nat_tests}
 use Rattle.std.proofs.lemmas.List.{drop_more, drop_all, length-take-le}
-use Rattle.pk_base.specs.Fields.{number_at, u32, padded, zeros}
+use Rattle.pk_base.specs.Fields.{number_at, u32, unlike, padded, zeros}
 use Rattle.pk_base.specs.Shape.{Shape, IsShape, greatest}
 use Rattle.pk_base.specs.Key.{IsKey}
 use Rattle.pk_base.proofs.ShapeLemmas.{greatest_most}
-use Rattle.pk_base.proofs.Tables.{◌⊕◌, AllNone, all_none, first_none, unless_true, true_unless, unlike_stands, stands_byte, stands_unlike, number_stands, stands_number, Stand, AreSized, stand_spelled, spelled_stand, padded_stands, stands_padded, length-padded}
+use Rattle.pk_base.proofs.Tables.{◌⊕◌, field_none, none_field, AllNone, all_none, first_none, unless_true, true_unless, unlike_stands, stands_byte, stands_unlike, number_stands, stands_number, Stand, AreSized, stand_spelled, spelled_stand, padded_stands, stands_padded, length-padded}
 use Rattle.pk_segfmt.specs.declared.found.Head.{Head}
 use Rattle.pk_segfmt.specs.declared.found.BadHead.{BadHead}
 use Rattle.pk_segfmt.specs.Head.{magic, IsHead, head_checks, head_fault}
@@ -51,7 +51,7 @@ module _ (g : Shape) (bytes : List ℕ) (sized : length bytes ≡ 32) (good : he
       (drop_more bytes 0 0 (omega arith) ∙ ap (λ (n : ℕ). n ∷ drop 1 bytes) (sym key_len))
       ⊕ unlike_stands 1 (68 ∷ []) bytes passed.1.0 (omega arith)
       ⊕ unlike_stands 2 (zeros 2) bytes passed.1.1.0 (omega arith)
-      ⊕ padded_stands 4 16 size bytes size_fits.1 (omega arith) passed.1.1.1.0
+      ⊕ padded_stands 4 16 size bytes size_fits.1 (omega arith) (field_none 4 (unlike (4 + size) (zeros (20 - (4 + size))) bytes) passed.1.1.1.0)
       ⊕ number_stands 4 20 bytes fits (omega arith)
       ⊕ unlike_stands 24 magic bytes passed.1.1.1.1.1.0 (omega arith)
       ⊕ drop_all 32 bytes (omega arith) in
@@ -82,7 +82,7 @@ head_again g bytes key len shape is e =
           true_unless 0 _ (rw size_is (grind (arith, nat_tests, is.is_key.some, is.is_key.most)))
           ⊕ stands_unlike 1 (68 ∷ []) (drop 2 bytes) bytes row.1.0
           ⊕ stands_unlike 2 (zeros 2) (drop 4 bytes) bytes row.1.1.0
-          ⊕ rw size_is pad.0
+          ⊕ rw size_is (none_field 4 (unlike (4 + length key) (zeros (20 - (4 + length key))) bytes) pad.0)
           ⊕ true_unless 20 _ (rw len_is (grind (arith, nat_tests, is.short)))
           ⊕ stands_unlike 24 magic (drop 32 bytes) bytes row.1.1.1.1.1.0
           ⊕ tt);

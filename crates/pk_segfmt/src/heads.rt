@@ -9,8 +9,8 @@ ghost use Rattle.pk_segfmt.specs.Stored.{page_of};
 
 use crate::found::{BadHead, Head};
 use pk_base::{
-    Key, Shape, Wrong, get_u32, passes, put_padded, put_text, put_u8, put_u32, put_zeros, text,
-    zeros,
+    Key, Shape, Wrong, get_u32, padding, passes, put_padded, put_text, put_u8, put_u32, put_zeros,
+    text, zeros,
 };
 
 const KIND: [u8; 1] = [0x44];
@@ -24,7 +24,7 @@ fn is_len(shape: &Shape, len: u32) -> bool
     len <= shape.greatest()
 }
 
-/// The first wrong byte.
+/// The first wrong field.
 #[tactic(auto, unfolding(crate::specs::Head::head_fault))]
 fn checked(shape: &Shape, bytes: &[u8]) -> Result<(), Wrong>
     requires { length bytes.now ≡ 32 }
@@ -34,7 +34,7 @@ fn checked(shape: &Shape, bytes: &[u8]) -> Result<(), Wrong>
     passes(0, size >= 1 && size <= 16)?;
     text(bytes, 1, &KIND)?;
     zeros(bytes, 2, 4)?;
-    zeros(bytes, 4 + size as usize, 20)?;
+    padding(bytes, 4, 4 + size as usize, 20)?;
     passes(20, is_len(shape, get_u32(bytes, 20)))?;
     text(bytes, 24, &MAGIC)
 }
@@ -53,7 +53,7 @@ fn read(shape: &Shape, bytes: &[u8]) -> Head
     }
 }
 
-/// The head of these bytes, or the first wrong one.
+/// The head of these bytes, or the first wrong field.
 fn head_of(shape: &Shape, bytes: &[u8]) -> Result<Head, BadHead>
     requires { length bytes.now ≡ 32 }
     ensures exact { MatchResult result (λ h. (head_fault shape.now bytes.now ≡ None) × (h ≡ record { key = take (slice_index bytes.now 0) (drop 4 bytes.now); len = number_at 4 20 bytes.now })) (λ bad. head_fault shape.now bytes.now ≡ Some bad.at) }
@@ -85,7 +85,7 @@ pub fn head(shape: &Shape, page: &[u8]) -> Result<Head, BadHead>
     ensures only { (key : List ℕ) (len : ℕ) → IsHead shape.now key len → take 32 page.now ≡ head_bytes key len → result ≡ Ok (record { key = key; len = len }) }
     // The head of a value that was written is found.
     ensures written { (key value : List ℕ) → IsHead shape.now key (length value) → page.now ≡ page_of shape.now key value 0 → result ≡ Ok (record { key = key; len = length value }) }
-    // Else the first wrong byte is named.
+    // Else the first wrong field is named.
     ensures exact { IfErr result (λ bad. head_fault shape.now (take 32 page.now) ≡ Some bad.at) }
 {
     shape.known();

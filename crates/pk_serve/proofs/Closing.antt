@@ -1,8 +1,9 @@
 -- The end of a run, and what it says of the whole.
-use Rattle.std.proofs.Common.{◌≡◌, ◌≢◌, ◌⊎◌, inl, inr, ℕ, ◌≤◌, ◌+◌, List, [], ◌∷◌, ◌++◌, length, refl, sym, ◌∙◌, ap, subst, arith, append-nil, append_assoc, Option, Some, None, Ok}
+use Rattle.std.proofs.Common.{◌≡◌, ◌≢◌, ◌⊎◌, inl, inr, ℕ, ◌≤◌, ◌+◌, List, [], ◌∷◌, ◌++◌, length, refl, sym, ◌∙◌, ap, subst, arith, append-nil, append_assoc, Option, Some, None, Ok, Bool}
 use Rattle.pk_base.specs.Shape.{Shape}
 use Rattle.pk_base.specs.Entry.{Entry}
 use Rattle.pk_nvme.specs.Command.{Command}
+use Rattle.pk_nvme.specs.declared.request.Request.{Request}
 use Rattle.pk_nand.specs.BoardState.{BoardState}
 use Rattle.pk_base.specs.Mark.{all_posted}
 use Rattle.pk_nand.specs.Calls.{Rose, longer}
@@ -26,20 +27,21 @@ use Rattle.pk_serve.proofs.Scripts.{IsPart-entry}
 
 -- ---- what is held is posted at the end
 
-module _ (shape : Shape) (frames : ℕ) (start : Map) (a b c : BoardState) (d e : Sight) (held : List ℕ) (refused : Map → List ℕ → Type 0) (input : c.input ≡ b.input) (in_faults : c.in_faults ≡ b.in_faults) where
-  closed : (part : List ℕ) → Flushed b c d e held → Finished shape frames start a b d held part → Finished shape frames start a c e [] part
+module _ (shape : Shape) (frames : ℕ) (start : Map) (a b c : BoardState) (d e : Sight) (held : List ℕ) (says : Map → Request → Bool → Type 0) (input : c.input ≡ b.input) (in_faults : c.in_faults ≡ b.in_faults) where
+  closed : (part : List ℕ) → Flushed b c d e held → Finished shape frames start a b d held part says → Finished shape frames start a c e [] part says
   closed part flushed f =
       let T : List ℕ → Type 0 = λ t. Serving shape frames start a b d t f.all f.m in
       record {
         all = f.all;
         m = f.m;
         bytes = f.bytes;
+        accepted = f.accepted;
         serving = flushed shape frames start a [] f.all f.m (subst T (sym (append-nil held)) f.serving);
         input = f.input ∙ ap (put_back (f.bytes ++ part)) (sym input);
         spells = f.spells;
       }
 
-  pub Finish-closed : (end : End) → Flushed b c d e held → is_worn c ≡ is_worn b → (IsFault end → ⊥) → Finish shape frames start a b d held refused end → Finish shape frames start a c e [] refused end
+  pub Finish-closed : (end : End) → Flushed b c d e held → is_worn c ≡ is_worn b → (IsFault end → ⊥) → Finish shape frames start a b d held says end → Finish shape frames start a c e [] says end
   unfolding closed
   Finish-closed Done flushed worn sound f = record { finished = closed [] flushed f.finished; at_end = subst AtEnd (sym input) f.at_end; same = in_faults ∙ f.same }
   Finish-closed Truncated flushed worn sound f = record { part = f.part; some = f.some; is_part = f.is_part; finished = closed f.part flushed f.finished; goes_on = (f.goes_on.0, worn ∙ f.goes_on.1); at_end = subst AtEnd (sym input) f.at_end; same = in_faults ∙ f.same }
@@ -55,7 +57,7 @@ module _ (shape : Shape) (frames : ℕ) (start : Map) (a b c : BoardState) (d e 
   Finish-closed Output flushed worn sound f = absurd (sound tt)
   Finish-closed Flash flushed worn sound f = absurd (sound tt)
 
-  broken : (part : List ℕ) (fault : End) → Breaks b c d held fault → Finished shape frames start a b d held part → Failed shape frames start a c fault
+  broken : (part : List ℕ) (fault : End) → Breaks b c d held fault → Finished shape frames start a b d held part says → Failed shape frames start a c fault
   broken part fault breaks f =
       let T : List ℕ → Type 0 = λ t. Serving shape frames start a b d t f.all f.m in
       let r = breaks shape frames start a [] f.all f.m (subst T (sym (append-nil held)) f.serving) in
@@ -69,7 +71,7 @@ module _ (shape : Shape) (frames : ℕ) (start : Map) (a b c : BoardState) (d e 
         cause = r.1;
       }
 
-  as_finish : (fault : End) → Failed shape frames start a c fault → Finish shape frames start a c e [] refused fault
+  as_finish : (fault : End) → Failed shape frames start a c fault → Finish shape frames start a c e [] says fault
   as_finish Done f = absurd f.cause
   as_finish Truncated f = absurd f.cause
   as_finish Input f = absurd f.cause
@@ -78,7 +80,7 @@ module _ (shape : Shape) (frames : ℕ) (start : Map) (a b c : BoardState) (d e 
   as_finish Output f = f
   as_finish Flash f = f
 
-  pub Finish-broken : (end fault : End) → Breaks b c d held fault → (IsFault end → ⊥) → Finish shape frames start a b d held refused end → Finish shape frames start a c e [] refused fault
+  pub Finish-broken : (end fault : End) → Breaks b c d held fault → (IsFault end → ⊥) → Finish shape frames start a b d held says end → Finish shape frames start a c e [] says fault
   Finish-broken Done fault breaks sound f = as_finish fault (broken [] fault breaks f.finished)
   Finish-broken Truncated fault breaks sound f = as_finish fault (broken f.part fault breaks f.finished)
   Finish-broken Input fault breaks sound f = as_finish fault (broken f.part fault breaks f.finished)
@@ -88,15 +90,15 @@ module _ (shape : Shape) (frames : ℕ) (start : Map) (a b c : BoardState) (d e 
   Finish-broken Flash fault breaks sound f = absurd (sound tt)
 
 -- a fault leaves nothing to be closed
-pub Finish-fault : (shape : Shape) (frames : ℕ) (start : Map) (a b : BoardState) (d : Sight) (held now_held : List ℕ) (refused : Map → List ℕ → Type 0) (end : End) → IsFault end
-    → Finish shape frames start a b d held refused end → Finish shape frames start a b d now_held refused end
-Finish-fault shape frames start a b d held now_held refused Output is f = f
-Finish-fault shape frames start a b d held now_held refused Flash is f = f
-Finish-fault shape frames start a b d held now_held refused Done is f = absurd is
-Finish-fault shape frames start a b d held now_held refused Truncated is f = absurd is
-Finish-fault shape frames start a b d held now_held refused Input is f = absurd is
-Finish-fault shape frames start a b d held now_held refused Worn is f = absurd is
-Finish-fault shape frames start a b d held now_held refused NotBuilt is f = absurd is
+pub Finish-fault : (shape : Shape) (frames : ℕ) (start : Map) (a b : BoardState) (d : Sight) (held now_held : List ℕ) (says : Map → Request → Bool → Type 0) (end : End) → IsFault end
+    → Finish shape frames start a b d held says end → Finish shape frames start a b d now_held says end
+Finish-fault shape frames start a b d held now_held says Output is f = f
+Finish-fault shape frames start a b d held now_held says Flash is f = f
+Finish-fault shape frames start a b d held now_held says Done is f = absurd is
+Finish-fault shape frames start a b d held now_held says Truncated is f = absurd is
+Finish-fault shape frames start a b d held now_held says Input is f = absurd is
+Finish-fault shape frames start a b d held now_held says Worn is f = absurd is
+Finish-fault shape frames start a b d held now_held says NotBuilt is f = absurd is
 
 pub no_fault : (end : End) → (end ≡ Output → ⊥) → (end ≡ Flash → ⊥) → IsFault end → ⊥
 no_fault Output p q f = p refl
@@ -132,9 +134,9 @@ script_of cs part rest s e same is = e ∙ (ap (λ r. behind cs (script r)) same
 pub script_whole : (bytes : List ℕ) (cs : List Command) → Spells bytes cs → script bytes ≡ (cs, [])
 script_whole bytes cs spells = ap script (sym (append-nil bytes)) ∙ script_of cs [] [] (script (bytes ++ [])) (spells []) refl script_none
 
-module _ (shape : Shape) (frames : ℕ) (start : Map) (a b : BoardState) (d : Sight) where
+module _ (shape : Shape) (frames : ℕ) (start : Map) (a b : BoardState) (d : Sight) (says : Map → Request → Bool → Type 0) where
   -- what was served
-  served_of : (part : List ℕ) (f : Finished shape frames start a b d [] part) → d.pending ≡ [] → Served shape frames start a b (commands f.all)
+  served_of : (part : List ℕ) (f : Finished shape frames start a b d [] part says) → d.pending ≡ [] → Served shape frames start a b says (commands f.all)
   served_of part f none =
       let w = f.serving in
       let M : List Entry → Type 0 = λ p. reading shape b.pages p ≡ Ok f.m in
@@ -143,6 +145,7 @@ module _ (shape : Shape) (frames : ℕ) (start : Map) (a b : BoardState) (d : Si
         are = refl;
         left = f.m;
         ran = w.ran;
+        accepted = f.accepted;
         posted = w.run.posted ∙ ap (longer a.posted) (sym (append-nil (all_posted w.marks)) ∙ w.records_are);
         holds = subst M none w.stands.map_is;
         few_faults = w.few_faults;
@@ -151,12 +154,13 @@ module _ (shape : Shape) (frames : ℕ) (start : Map) (a b : BoardState) (d : Si
         no_faults = w.no_faults;
       }
 
-  served_as : (cs ds : List Command) → cs ≡ ds → Served shape frames start a b cs → Served shape frames start a b ds
+  served_as : (cs ds : List Command) → cs ≡ ds → Served shape frames start a b says cs → Served shape frames start a b says ds
   served_as cs ds e h = record {
     served = h.served;
     are = h.are ∙ e;
     left = h.left;
     ran = h.ran;
+    accepted = h.accepted;
     posted = h.posted;
     holds = h.holds;
     few_faults = h.few_faults;
@@ -166,7 +170,7 @@ module _ (shape : Shape) (frames : ℕ) (start : Map) (a b : BoardState) (d : Si
   }
 
   -- as many exchanges as commands
-  pub size_of : (part : List ℕ) (f : Finished shape frames start a b d [] part) → length (commands f.all) ≡ length f.all
+  pub size_of : (part : List ℕ) (f : Finished shape frames start a b d [] part says) → length (commands f.all) ≡ length f.all
   size_of part f = length-map f.all (λ (x : Exchange). x.command)
 
   module _ (input : List ℕ) (is : a.input ≡ Some input) where
@@ -177,22 +181,22 @@ module _ (shape : Shape) (frames : ℕ) (start : Map) (a b : BoardState) (d : Si
     at_end_of : (left : List ℕ) → b.input ≡ Some left → AtEnd b.input → left ≡ []
     at_end_of left e h = subst AtEnd e h
 
-    pub served_by : (refused : Map → List ℕ → Type 0) (end : End) → IsFault end ⊎ (d.pending ≡ []) → Finish shape frames start a b d [] refused end → ServedBy shape frames start a b input refused end
+    pub served_by : (end : End) → IsFault end ⊎ (d.pending ≡ []) → Finish shape frames start a b d [] says end → ServedBy shape frames start a b input says end
     unfolding served_of served_as
-    served_by refused Done (inl f) x = absurd f
-    served_by refused Done (inr none) x =
+    served_by Done (inl f) x = absurd f
+    served_by Done (inr none) x =
         let f = x.finished in
         let i = input_of (f.bytes ++ []) f.input in
         let e : script input ≡ (commands f.all, []) = script_of (commands f.all) [] ([] ++ i.0) (script input) (script_is f.bytes [] i.0 input (commands f.all) f.spells i.2) (at_end_of i.0 i.1 x.at_end) script_none in
         (e ∙ (λ k. ((sym e k).0, [])), served_as (commands f.all) (script input).0 (sym (ap (λ s. s.0) e)) (served_of [] f none), x.at_end, x.same)
-    served_by refused Truncated (inl f) x = absurd f
-    served_by refused Truncated (inr none) x =
+    served_by Truncated (inl f) x = absurd f
+    served_by Truncated (inr none) x =
         let f = x.finished in
         let i = input_of (f.bytes ++ x.part) f.input in
         let e : script input ≡ (commands f.all, x.part) = script_of (commands f.all) x.part (x.part ++ i.0) (script input) (script_is f.bytes x.part i.0 input (commands f.all) f.spells i.2) (ap (λ l. x.part ++ l) (at_end_of i.0 i.1 x.at_end) ∙ append-nil x.part) x.is_part in
         (λ z. x.some (sym (ap (λ s. s.1) e) ∙ z), (omega (arith, x.goes_on.0, ap (λ s. length s.0) e, size_of x.part f), x.goes_on.1), served_as (commands f.all) (script input).0 (sym (ap (λ s. s.0) e)) (served_of x.part f none), x.at_end, x.same)
-    served_by refused Input (inl f) x = absurd f
-    served_by refused Input (inr none) x =
+    served_by Input (inl f) x = absurd f
+    served_by Input (inr none) x =
         let f = x.finished in
         let i = input_of (f.bytes ++ x.part) f.input in
         let e : script (f.bytes ++ x.part) ≡ (commands f.all, x.part) = script_of (commands f.all) x.part x.part (script (f.bytes ++ x.part)) (f.spells x.part) refl x.is_part in (
@@ -203,8 +207,8 @@ module _ (shape : Shape) (frames : ℕ) (start : Map) (a b : BoardState) (d : Si
           (λ z. (let r = x.goes_on (λ none_left. z (ap (λ s. s.1) e ∙ none_left)) in (omega (arith, r.0, ap (λ s. length s.0) e, size_of x.part f), r.1))),
           x.rose,
         )
-    served_by refused Worn (inl f) x = absurd f
-    served_by refused Worn (inr none) x =
+    served_by Worn (inl f) x = absurd f
+    served_by Worn (inr none) x =
         let f = x.finished in
         let i = input_of (f.bytes ++ x.part) f.input in
         let e : script f.bytes ≡ (commands f.all, []) = script_whole f.bytes (commands f.all) f.spells in
@@ -218,8 +222,8 @@ module _ (shape : Shape) (frames : ℕ) (start : Map) (a b : BoardState) (d : Si
           elim x.cause [ inl full ↦ inl (ap (λ s. length s.0) e ∙ (size_of x.part f ∙ full)) | inr worn ↦ inr worn ],
           x.same,
         )
-    served_by refused NotBuilt (inl f) x = absurd f
-    served_by refused NotBuilt (inr none) x =
+    served_by NotBuilt (inl f) x = absurd f
+    served_by NotBuilt (inr none) x =
         let f = x.finished in
         let i = input_of (f.bytes ++ x.entry) f.input in
         let e : script f.bytes ≡ (commands f.all, []) = script_whole f.bytes (commands f.all) f.spells in (
@@ -234,8 +238,8 @@ module _ (shape : Shape) (frames : ℕ) (start : Map) (a b : BoardState) (d : Si
           (omega (arith, x.goes_on.0, ap (λ s. length s.0) e, size_of x.entry f), x.goes_on.1),
           x.same,
         )
-    served_by refused Output p x = x.cause
-    served_by refused Flash p x = x.cause
+    served_by Output p x = x.cause
+    served_by Flash p x = x.cause
 
     -- a run of these commands is one of the script
     went_script : (cs : List Command) (bytes part : List ℕ) → Spells bytes cs → a.input ≡ put_back (bytes ++ part) b.input
@@ -260,7 +264,7 @@ module _ (shape : Shape) (frames : ℕ) (start : Map) (a b : BoardState) (d : Si
     pub input : a.input ≡ put_back (bytes ++ part) b.input
     pub went : Goes shape a b (KeptAt shape frames start cs (rise a.read_faults b.read_faults))
 
-  trail_finished : (part : List ℕ) → Finished shape frames start a b d [] part → Trail
+  trail_finished : (part : List ℕ) → Finished shape frames start a b d [] part says → Trail
   trail_finished part f = record {
     cs = commands f.all;
     bytes = f.bytes;
@@ -273,48 +277,48 @@ module _ (shape : Shape) (frames : ℕ) (start : Map) (a b : BoardState) (d : Si
   trail_failed : (end : End) → Failed shape frames start a b end → Trail
   trail_failed end f = record { cs = f.cs; bytes = f.bytes; part = f.part; spells = f.spells; input = f.input; went = f.cutoff.went }
 
-  pub trail_of : (refused : Map → List ℕ → Type 0) (end : End) → Finish shape frames start a b d [] refused end → Trail
-  trail_of refused Done x = trail_finished [] x.finished
-  trail_of refused Truncated x = trail_finished x.part x.finished
-  trail_of refused Input x = trail_finished x.part x.finished
-  trail_of refused Worn x = trail_finished x.part x.finished
-  trail_of refused NotBuilt x = trail_finished x.entry x.finished
-  trail_of refused Output x = trail_failed Output x
-  trail_of refused Flash x = trail_failed Flash x
+  pub trail_of : (end : End) → Finish shape frames start a b d [] says end → Trail
+  trail_of Done x = trail_finished [] x.finished
+  trail_of Truncated x = trail_finished x.part x.finished
+  trail_of Input x = trail_finished x.part x.finished
+  trail_of Worn x = trail_finished x.part x.finished
+  trail_of NotBuilt x = trail_finished x.entry x.finished
+  trail_of Output x = trail_failed Output x
+  trail_of Flash x = trail_failed Flash x
 
-module _ (a b : BoardState) (before after : Sight) (refused : Shape → ℕ → Map → List ℕ → Type 0) (end : End) (h : Ends a b before after [] refused end) where
+module _ (a b : BoardState) (before after : Sight) (says : Shape → ℕ → Map → Request → Bool → Type 0) (end : End) (h : Ends a b before after [] says end) where
   pub keeps_script : KeepsScript a b before
   keeps_script shape frames start stands none input is =
-      let g = trail_of shape frames start a b after (refused shape frames) end (h shape frames start stands none) in
-      went_script shape frames start a b after input is g.cs g.bytes g.part g.spells g.input g.went
+      let g = trail_of shape frames start a b after (says shape frames) end (h shape frames start stands none) in
+      went_script shape frames start a b after (says shape frames) input is g.cs g.bytes g.part g.spells g.input g.went
 
   pub keeps_some : KeepsSome a b before
   keeps_some shape frames start stands none =
-      let g = trail_of shape frames start a b after (refused shape frames) end (h shape frames start stands none) in (g.cs, g.went)
+      let g = trail_of shape frames start a b after (says shape frames) end (h shape frames start stands none) in (g.cs, g.went)
 
-  pub answers_all : IsFault end ⊎ (after.pending ≡ []) → Answers a b before refused end
-  answers_all closed shape frames start stands none input is = served_by shape frames start a b after input is (refused shape frames) end closed (h shape frames start stands none)
+  pub answers_all : IsFault end ⊎ (after.pending ≡ []) → Answers a b before says end
+  answers_all closed shape frames start stands none input is = served_by shape frames start a b after (says shape frames) input is end closed (h shape frames start stands none)
 
 -- what was served, whether the input is told or not
-served_some : (shape : Shape) (frames : ℕ) (start : Map) (a b : BoardState) (d : Sight) (refused : Map → List ℕ → Type 0) (end : End) → IsFault end ⊎ (d.pending ≡ []) → Finish shape frames start a b d [] refused end
-    → ServedSome shape frames start a b refused end
+served_some : (shape : Shape) (frames : ℕ) (start : Map) (a b : BoardState) (d : Sight) (says : Map → Request → Bool → Type 0) (end : End) → IsFault end ⊎ (d.pending ≡ []) → Finish shape frames start a b d [] says end
+    → ServedSome shape frames start a b says end
 unfolding served_of
-served_some shape frames start a b d refused Done (inr none) x = (commands x.finished.all, served_of shape frames start a b d [] x.finished none, x.same)
-served_some shape frames start a b d refused Truncated (inr none) x =
-    (commands x.finished.all, (omega (arith, x.goes_on.0, size_of shape frames start a b d x.part x.finished), x.goes_on.1), served_of shape frames start a b d x.part x.finished none, x.same)
-served_some shape frames start a b d refused Input (inr none) x = (commands x.finished.all, served_of shape frames start a b d x.part x.finished none, x.rose)
-served_some shape frames start a b d refused Worn (inr none) x =
-    let n = size_of shape frames start a b d x.part x.finished in
-    (commands x.finished.all, served_of shape frames start a b d x.part x.finished none, elim x.cause [ inl full ↦ inl (n ∙ full) | inr worn ↦ inr worn ], x.same)
-served_some shape frames start a b d refused NotBuilt (inr none) x =
-    (commands x.finished.all, x.entry, x.size, served_of shape frames start a b d x.entry x.finished none, x.is, (omega (arith, x.goes_on.0, size_of shape frames start a b d x.entry x.finished), x.goes_on.1), x.same)
-served_some shape frames start a b d refused Done (inl f) x = absurd f
-served_some shape frames start a b d refused Truncated (inl f) x = absurd f
-served_some shape frames start a b d refused Input (inl f) x = absurd f
-served_some shape frames start a b d refused Worn (inl f) x = absurd f
-served_some shape frames start a b d refused NotBuilt (inl f) x = absurd f
-served_some shape frames start a b d refused Output closed x = x.cause
-served_some shape frames start a b d refused Flash closed x = x.cause
+served_some shape frames start a b d says Done (inr none) x = (commands x.finished.all, served_of shape frames start a b d says [] x.finished none, x.same)
+served_some shape frames start a b d says Truncated (inr none) x =
+    (commands x.finished.all, (omega (arith, x.goes_on.0, size_of shape frames start a b d says x.part x.finished), x.goes_on.1), served_of shape frames start a b d says x.part x.finished none, x.same)
+served_some shape frames start a b d says Input (inr none) x = (commands x.finished.all, served_of shape frames start a b d says x.part x.finished none, x.rose)
+served_some shape frames start a b d says Worn (inr none) x =
+    let n = size_of shape frames start a b d says x.part x.finished in
+    (commands x.finished.all, served_of shape frames start a b d says x.part x.finished none, elim x.cause [ inl full ↦ inl (n ∙ full) | inr worn ↦ inr worn ], x.same)
+served_some shape frames start a b d says NotBuilt (inr none) x =
+    (commands x.finished.all, x.entry, x.size, served_of shape frames start a b d says x.entry x.finished none, x.is, (omega (arith, x.goes_on.0, size_of shape frames start a b d says x.entry x.finished), x.goes_on.1), x.same)
+served_some shape frames start a b d says Done (inl f) x = absurd f
+served_some shape frames start a b d says Truncated (inl f) x = absurd f
+served_some shape frames start a b d says Input (inl f) x = absurd f
+served_some shape frames start a b d says Worn (inl f) x = absurd f
+served_some shape frames start a b d says NotBuilt (inl f) x = absurd f
+served_some shape frames start a b d says Output closed x = x.cause
+served_some shape frames start a b d says Flash closed x = x.cause
 
-pub causes_all : (a b : BoardState) (before after : Sight) (refused : Shape → ℕ → Map → List ℕ → Type 0) (end : End) → Ends a b before after [] refused end → IsFault end ⊎ (after.pending ≡ []) → Causes a b before refused end
-causes_all a b before after refused end h closed shape frames start stands none = served_some shape frames start a b after (refused shape frames) end closed (h shape frames start stands none)
+pub causes_all : (a b : BoardState) (before after : Sight) (says : Shape → ℕ → Map → Request → Bool → Type 0) (end : End) → Ends a b before after [] says end → IsFault end ⊎ (after.pending ≡ []) → Causes a b before says end
+causes_all a b before after says end h closed shape frames start stands none = served_some shape frames start a b after (says shape frames) end closed (h shape frames start stands none)

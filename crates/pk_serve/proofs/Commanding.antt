@@ -52,17 +52,17 @@ module _ (b c f : BoardState) (d e : Sight) (held now_held : List ℕ) (taken : 
       (up : c.read_faults ≤ f.read_faults) (unread : rep.status ≡ 0x88 → Rose c.read_faults f.read_faults) (sound : rep.status ≢ 0x88 → f.read_faults ≡ c.read_faults)
       (no_stop : f.stop_faults ≡ c.stop_faults) (read : f.reads ≡ reads_after c.reads reads) (few_roots : roots f ≤ roots c + most_installs cmd.opcode cmd.size) where
     executed : (shape : Shape) (frames : ℕ) (start : Map) (a : BoardState) (all : List Exchange) (m : Map) → taken ≡ length all → Serving shape frames start a b d held all m
-        → Next shape frames start a f g (now_held ++ reply_record count cmd.cid rep reads) all cmd
+        → Next shape frames start a f g (now_held ++ reply_record count cmd.cid rep reads) all m cmd
     executed shape frames start a all m size w =
         let v = keeps shape frames start a all m w in
-        let T : ℕ → Type 0 = λ n. Next shape frames start a f g (now_held ++ reply_record n cmd.cid rep reads) all cmd in
+        let T : ℕ → Type 0 = λ n. Next shape frames start a f g (now_held ++ reply_record n cmd.cid rep reads) all m cmd in
         let e' : suc taken ≡ count = omega arith in
         subst T e' (Serving-exec shape frames start a c e now_held all m v f g cmd rep reads taken size (reaches shape frames m v.stands) (stands shape frames m v.stands) rest up unread sound no_stop read few_roots)
 
     pub serves_all : (h : BoardState) (i : Sight) (last : List ℕ) → Keeps f h g i (now_held ++ reply_record count cmd.cid rep reads) last → Serves b h d i held last taken cmd
     serves_all h i last more shape frames start a all m size w =
         let n = executed shape frames start a all m size w in
-        record { x = n.x; is = n.is; m = n.m; serving = more shape frames start a (all ++ n.x ∷ []) n.m n.serving }
+        record { x = n.x; is = n.is; m = n.m; step = n.step; serving = more shape frames start a (all ++ n.x ∷ []) n.m n.serving }
 
     pub stops_behind : (h : BoardState) (end : End) → Breaks f h g (now_held ++ reply_record count cmd.cid rep reads) end → Stops b h d held taken end cmd
     stops_behind h end more shape frames start a all m size w =

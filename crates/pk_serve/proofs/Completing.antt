@@ -1,5 +1,5 @@
 -- Where nothing fails, the whole script is served.
-use Rattle.std.proofs.Common.{◌≡◌, ◌≢◌, ◌⊎◌, inl, inr, ℕ, zero, suc, ◌+◌, ◌-◌, ◌*◌, ◌≤◌, ◌<◌, List, [], ◌∷◌, ◌++◌, length, refl, sym, ◌∙◌, ap, subst, arith, append-nil, length-append, Option, Some, None, Bool, true, false, ◌==◌, if◌then◌else◌, nat_le, Ok}
+use Rattle.std.proofs.Common.{◌≡◌, ◌≢◌, ◌⊎◌, inl, inr, ℕ, zero, suc, ◌+◌, ◌-◌, ◌*◌, ◌≤◌, ◌<◌, List, [], ◌∷◌, ◌++◌, length, refl, sym, ◌∙◌, ap, subst, arith, length-append, Some, None, Bool, true, false, ◌==◌, if◌then◌else◌, nat_le, Ok}
 use Rattle.std.proofs.lemmas.Bool.Decides.{nat_tests}
 use Rattle.std.specs.List.{FoldsTo}
 use Rattle.pk_base.specs.Shape.{Shape, limit}
@@ -9,19 +9,18 @@ use Rattle.pk_nvme.specs.Reply.{Reply}
 use Rattle.pk_nvme.specs.declared.request.Request.{Request}
 use Rattle.pk_nand.specs.BoardState.{BoardState}
 use Rattle.pk_nand.specs.Calls.{Rose, last_count}
-use Rattle.pk_model.specs.Answer.{Answer, kind, retrieve, map_after}
+use Rattle.pk_model.specs.Answer.{Answer, kind, retrieve}
 use Rattle.pk_model.specs.Bounds.{most_reads}
-use Rattle.pk_model.specs.Run.{Exchange, Step, RunWithin, commands, faults, map_after_all}
+use Rattle.pk_model.specs.Run.{Exchange, Step, commands, faults, map_after_all}
 use Rattle.pk_model.specs.Reading.{reading}
-use Rattle.pk_model.specs.Script.{script, commands_in, begins_whole, value_size}
+use Rattle.pk_model.specs.Script.{script, commands_in, begins_whole}
 use Rattle.pk_model.specs.Kept.{AtMost}
 use Rattle.pk_model.specs.Sight.{Sight}
-use Rattle.pk_drive.specs.Drive.{Stands}
 use Rattle.pk_drive.specs.Exec.{most_installs}
 use Rattle.pk_drive.specs.Wear.{is_worn, roots}
 use Rattle.pk_serve.specs.Serving.{rise, installs}
-use Rattle.pk_serve.specs.Run.{Served, ServedBy, Answers, Unbuilt, most_entries}
-use Rattle.pk_serve.specs.Complete.{ticks, NoneRose, Complete, IsServable, Completes}
+use Rattle.pk_serve.specs.Run.{Served, Told}
+use Rattle.pk_serve.specs.Complete.{ticks, Complete, IsServable, Completes}
 use Rattle.pk_serve.specs.declared.end.End.{End}
 use Rattle.pk_serve.specs.declared.end.End.TheVariants.{Done, Truncated, Input, Output, Flash, Worn, NotBuilt}
 use Rattle.pk_serve.proofs.Counting.{faults-one}
@@ -104,8 +103,8 @@ nothing_in bytes none = nothing_taken (length bytes) bytes none
 
 -- ---- the end
 
-module _ (shape : Shape) (frames : ℕ) (start : Map) (a b : BoardState) (d : Sight) (input : List ℕ) (is : a.input ≡ Some input) (ok : IsServable a b (script input).0 (script input).1) where
-  complete_of : Served shape frames start a b (script input).0 → Complete shape frames start a b (script input).0
+module _ (shape : Shape) (frames : ℕ) (start : Map) (a b : BoardState) (d : Sight) (says : Map → Request → Bool → Type 0) (input : List ℕ) (is : a.input ≡ Some input) (ok : IsServable a b (script input).0 (script input).1) where
+  complete_of : Served shape frames start a b says (script input).0 → Complete shape frames start a b (script input).0
   complete_of s =
       let none : faults s.served ≡ 0 = none_counted a.read_faults b.read_faults (faults s.served) ok.none_rose.reads s.few_faults in
       let r = answered shape frames s.served start s.left none s.ran in
@@ -125,29 +124,30 @@ module _ (shape : Shape) (frames : ℕ) (start : Map) (a b : BoardState) (d : Si
       by [] none whole n = absurd (some (front_none part left (sym (nothing_in (part ++ left) none) ∙ whole)))
       by (c ∷ more) is_more whole n = omega (arith, n, ap (λ l. length l) is_more)
 
-  pub completed : (Drive : Type 0) (sight : Drive → Sight) (built : Drive → Request → Bool) → ((drive : Drive) (r : Request) → built drive r ≡ true) → (end : End) → IsFault end ⊎ (d.pending ≡ [])
-      → Finish shape frames start a b d [] (Unbuilt Drive sight built shape frames) end → (end ≡ Done) × Complete shape frames start a b (script input).0
-  completed Drive sight built all_built Done closed x =
-      let s = served_by shape frames start a b d input is (Unbuilt Drive sight built shape frames) Done closed x in (refl, complete_of s.1)
-  completed Drive sight built all_built Truncated closed x =
-      let s = served_by shape frames start a b d input is (Unbuilt Drive sight built shape frames) Truncated closed x in absurd (s.0 ok.whole)
-  completed Drive sight built all_built Input closed x = absurd (ok.none_rose.input x.rose)
-  completed Drive sight built all_built Output closed x = absurd (ok.none_rose.output x.cause)
-  completed Drive sight built all_built Flash closed x = absurd (ok.none_rose.stops x.cause)
-  completed Drive sight built all_built NotBuilt closed x = absurd (let h : true ≡ false = sym (all_built x.is.0 x.is.2) ∙ x.is.5 in cc)
-  completed Drive sight built all_built Worn closed x =
+  pub completed : ((m : Map) (r : Request) → says m r false → ⊥) → (end : End) → IsFault end ⊎ (d.pending ≡ []) → Finish shape frames start a b d [] says end → (end ≡ Done) × Complete shape frames start a b (script input).0
+  completed all_built Done closed x = let s = served_by shape frames start a b d says input is Done closed x in (refl, complete_of s.1)
+  completed all_built Truncated closed x = let s = served_by shape frames start a b d says input is Truncated closed x in absurd (s.0 ok.whole)
+  completed all_built Input closed x = absurd (ok.none_rose.input x.rose)
+  completed all_built Output closed x = absurd (ok.none_rose.output x.cause)
+  completed all_built Flash closed x = absurd (ok.none_rose.stops x.cause)
+  completed all_built NotBuilt closed x = absurd (all_built x.finished.m x.is.0 x.is.2)
+  completed all_built Worn closed x =
       let f = x.finished in
       let i = told b.input (f.bytes ++ x.part) input (sym is ∙ f.input) in
       let e : script input ≡ behind (commands f.all) (script (x.part ++ i.0)) = script_is f.bytes x.part i.0 input (commands f.all) f.spells i.2 in
       let more = one_more f.bytes x.part i.0 (commands f.all) x.some e in
-      let n : length (commands f.all) ≡ length f.all = size_of shape frames start a b d x.part f in
+      let n : length (commands f.all) ≡ length f.all = size_of shape frames start a b d says x.part f in
       let t : ticks (script input).0 ≡ ticks (commands f.all) + ticks (script (x.part ++ i.0)).0 = ap (λ s. ticks s.0) e ∙ ticks-append (commands f.all) (script (x.part ++ i.0)).0 in
       absurd (elim x.cause [
         | inl full ↦ omega (arith, full, n, more, ok.few)
         | inr worn ↦ unworn a b (commands f.all) f.serving.few_roots ok.far_from_worn (omega (arith, t, ok.few_ticks)) (omega (arith, more, ok.few)) worn
       ])
 
-pub completes : (Drive : Type 0) (sight : Drive → Sight) (built : Drive → Request → Bool) (a b : BoardState) (before after : Sight) (end : End) → Ends a b before after [] (Unbuilt Drive sight built) end
+-- a drive that serves every request refuses none
+none_refused : (Drive : Type 0) (sight : Drive → Sight) (built : Drive → Request → Bool) → ((drive : Drive) (r : Request) → built drive r ≡ true) → (shape : Shape) (frames : ℕ) (m : Map) (r : Request) → Told Drive sight built shape frames m r false → ⊥
+none_refused Drive sight built all_built shape frames m r h = let z : true ≡ false = sym (all_built h.0 r) ∙ h.3 in cc
+
+pub completes : (Drive : Type 0) (sight : Drive → Sight) (built : Drive → Request → Bool) (a b : BoardState) (before after : Sight) (end : End) → Ends a b before after [] (Told Drive sight built) end
     → IsFault end ⊎ (after.pending ≡ []) → Completes Drive built a b before end
 completes Drive sight built a b before after end h closed shape frames start stands none all_built input is ok =
-    completed shape frames start a b after input is ok Drive sight built all_built end closed (h shape frames start stands none)
+    completed shape frames start a b after (Told Drive sight built shape frames) input is ok (none_refused Drive sight built all_built shape frames) end closed (h shape frames start stands none)

@@ -14,3 +14,4 @@ pub mod Nexting
 pub mod Closing
 pub mod Completing
 pub mod Submitting
+pub mod Rootless

@@ -1,5 +1,6 @@
 -- The loop over the commands of the input.
 use Rattle.std.proofs.Common.{◌≡◌, ◌⊎◌, inl, inr, ℕ, ◌+◌, ◌<◌, List, [], ◌∷◌, ◌++◌, refl, sym, ◌∙◌, ap, subst, arith, append-nil, length-append, true, false, Bool}
+use Rattle.std.proofs.lemmas.Fn.{FoldsTo-push}
 use Rattle.pk_base.specs.Shape.{Shape}
 use Rattle.pk_base.specs.Map.{Map}
 use Rattle.pk_nvme.specs.Command.{Command, command}
@@ -12,17 +13,17 @@ use Rattle.pk_model.specs.Sight.{Sight}
 use Rattle.pk_drive.specs.Drive.{Stands}
 use Rattle.pk_drive.specs.Wear.{is_worn}
 use Rattle.pk_serve.specs.Ends.{IsFault}
-use Rattle.pk_serve.specs.Serving.{Serving}
+use Rattle.pk_serve.specs.Serving.{Serving, StepWithin, Accepted, Refused}
 use Rattle.pk_serve.specs.Input.{put_back, Spells, Advances, Fails, NoEntry, Quits, None_refused}
-use Rattle.pk_serve.specs.Run.{Looping, Finished, Failed, Finish, Unbuilt, most_entries}
+use Rattle.pk_serve.specs.Run.{Looping, Finished, Failed, Finish, Told, most_entries}
 use Rattle.pk_serve.specs.declared.end.End.{End}
 use Rattle.pk_serve.specs.declared.end.End.TheVariants.{Done, Truncated, Input, Output, Flash, Worn, NotBuilt}
 use Rattle.pk_serve.proofs.Serves.{Serving-start, Serving-inputs}
 use Rattle.pk_serve.proofs.Scripts.{taken-append, put_back-nil, Spells-none, Spells-append}
 use Rattle.pk_serve.proofs.Counting.{commands-push}
 
-pub Looping-start : (shape : Shape) (frames : ℕ) (start : Map) (a : BoardState) (drive : Sight) (held : List ℕ) → held ≡ [] → Stands shape frames a drive start → drive.pending ≡ [] → Looping shape frames start a a drive held 0
-Looping-start shape frames start a drive held empty stands none =
+pub Looping-start : (shape : Shape) (frames : ℕ) (start : Map) (a : BoardState) (drive : Sight) (held : List ℕ) (says : Map → Request → Bool → Type 0) → held ≡ [] → Stands shape frames a drive start → drive.pending ≡ [] → Looping shape frames start a a drive held 0 says
+Looping-start shape frames start a drive held says empty stands none =
     let T : List ℕ → Type 0 = λ t. Serving shape frames start a a drive t [] start in
     record {
       all = [];
@@ -30,6 +31,7 @@ Looping-start shape frames start a drive held empty stands none =
       bytes = [];
       serving = subst T (sym empty) (Serving-start shape frames start a drive stands none);
       count = refl;
+      accepted = refl;
       input = put_back-nil a.input;
       spells = Spells-none;
     }
@@ -44,23 +46,25 @@ None_refused-any a b no_more refused Flash n = n
 None_refused-any a b no_more refused Worn n = n
 None_refused-any a b no_more refused NotBuilt n = absurd n.0.is
 
-module _ (shape : Shape) (frames : ℕ) (start : Map) (a b c : BoardState) (d e : Sight) (held now_held : List ℕ) (taken : ℕ) (w : Looping shape frames start a b d held taken) where
-  pub Looping-next : Advances b c d e held now_held taken → Looping shape frames start a c e now_held (taken + 1)
-  Looping-next n =
+module _ (shape : Shape) (frames : ℕ) (start : Map) (a b c : BoardState) (d e : Sight) (held now_held : List ℕ) (taken : ℕ) (says : Map → Request → Bool → Type 0) (w : Looping shape frames start a b d held taken says) where
+  pub Looping-next : (accepts : Command → Type 0) → ((cmd : Command) → accepts cmd → Accepted says w.m cmd) → Advances b c d e held now_held taken accepts → Looping shape frames start a c e now_held (taken + 1) says
+  Looping-next accepts on n =
       let x = n.serves shape frames start a w.all w.m w.count w.serving in
       let S : List Command → Type 0 = λ l. Spells (w.bytes ++ n.bytes) l in
+      let A : Command → Type 0 = λ cmd. Accepted says w.m cmd in
       record {
         all = w.all ++ x.x ∷ [];
         m = x.m;
         bytes = w.bytes ++ n.bytes;
         serving = x.serving;
         count = omega (arith, w.count, length-append w.all (x.x ∷ []));
+        accepted = FoldsTo-push (λ m y m'. StepWithin shape frames m y m' × Accepted says m y.command) start w.all w.m x.x x.m w.accepted (x.step, subst A (sym x.is) (on n.c n.accepted));
         input = taken-append a.input b.input c.input w.bytes n.bytes w.input n.input;
         spells = subst S (sym (commands-push w.all x.x ∙ ap (λ cmd. commands w.all ++ cmd ∷ []) x.is)) (Spells-append w.bytes n.bytes (commands w.all) (n.c ∷ []) w.spells n.spells);
       }
 
   -- bytes behind the commands were taken
-  finished : (part : List ℕ) → b.input ≡ put_back part c.input → c ≡ record b { input = c.input; in_faults = c.in_faults } → e ≡ d → now_held ≡ held → Finished shape frames start a c e now_held part
+  finished : (part : List ℕ) → b.input ≡ put_back part c.input → c ≡ record b { input = c.input; in_faults = c.in_faults } → e ≡ d → now_held ≡ held → Finished shape frames start a c e now_held part says
   finished part more rest same_drive same_held =
       let T : BoardState → Type 0 = λ s. Serving shape frames start a s d held w.all w.m in
       let U : Sight → Type 0 = λ s. Serving shape frames start a c s held w.all w.m in
@@ -69,6 +73,7 @@ module _ (shape : Shape) (frames : ℕ) (start : Map) (a b c : BoardState) (d e 
         all = w.all;
         m = w.m;
         bytes = w.bytes;
+        accepted = w.accepted;
         serving = subst V (sym same_held) (subst U (sym same_drive) (subst T (sym rest) (Serving-inputs shape frames start a b d held w.all w.m w.serving c.input c.in_faults)));
         input = taken-append a.input b.input c.input w.bytes part w.input more;
         spells = w.spells;
@@ -97,11 +102,11 @@ module _ (shape : Shape) (frames : ℕ) (start : Map) (a b c : BoardState) (d e 
   both_fields p = p ∙ ap (λ (k : ℕ). record b { input = c.input; in_faults = k }) (sym (ap (λ s. s.in_faults) p))
 
   -- nothing was left open where the input ends
-  pub none_taken : (no_more : Bool) (why : no_more ≡ true → (taken ≡ most_entries) ⊎ (is_worn b ≡ true)) (go : no_more ≡ false → (taken < most_entries) × (is_worn b ≡ false)) (refused : List ℕ → Type 0) (refused_on : Map → List ℕ → Type 0)
-      → ((entry : List ℕ) → refused entry → refused_on w.m entry) → (end : End) → b.in_faults ≡ a.in_faults → e ≡ d → now_held ≡ held → NoEntry b c no_more refused end → Finish shape frames start a c e now_held refused_on end
+  pub none_taken : (no_more : Bool) (why : no_more ≡ true → (taken ≡ most_entries) ⊎ (is_worn b ≡ true)) (go : no_more ≡ false → (taken < most_entries) × (is_worn b ≡ false)) (refused : List ℕ → Type 0)
+      → ((entry : List ℕ) → refused entry → Refused says w.m entry) → (end : End) → b.in_faults ≡ a.in_faults → e ≡ d → now_held ≡ held → NoEntry b c no_more refused end → Finish shape frames start a c e now_held says end
   unfolding finished
-  none_taken no_more why go refused refused_on on Done same sd sh n = record { finished = finished [] n.left.input n.left.rest sd sh; at_end = n.at_end; same = n.same ∙ same }
-  none_taken no_more why go refused refused_on on Truncated same sd sh k = let n = k.0 in let f = go k.1 in record {
+  none_taken no_more why go refused on Done same sd sh n = record { finished = finished [] n.left.input n.left.rest sd sh; at_end = n.at_end; same = n.same ∙ same }
+  none_taken no_more why go refused on Truncated same sd sh k = let n = k.0 in let f = go k.1 in record {
     part = n.part;
     some = n.some;
     is_part = n.left.is_part;
@@ -110,16 +115,16 @@ module _ (shape : Shape) (frames : ℕ) (start : Map) (a b c : BoardState) (d e 
     at_end = n.at_end;
     same = n.same ∙ same;
   }
-  none_taken no_more why go refused refused_on on Input same sd sh k = let n = k.0 in record {
+  none_taken no_more why go refused on Input same sd sh k = let n = k.0 in record {
     part = n.part;
     goes_on = λ z. (let f = go (k.1 z) in (omega (arith, f.0, w.count), worn_too n.left.rest ∙ f.1));
     is_part = n.left.is_part;
     finished = finished n.part n.left.input n.left.rest sd sh;
     rose = (let T : ℕ → Type 0 = λ i. Rose i c.in_faults in subst T same n.rose);
   }
-  none_taken no_more why go refused refused_on on Output same sd sh n = absurd n
-  none_taken no_more why go refused refused_on on Flash same sd sh n = absurd n
-  none_taken no_more why go refused refused_on on Worn same sd sh n =
+  none_taken no_more why go refused on Output same sd sh n = absurd n
+  none_taken no_more why go refused on Flash same sd sh n = absurd n
+  none_taken no_more why go refused on Worn same sd sh n =
       let k = n.0 in
       let rest : c ≡ record b { input = c.input; in_faults = c.in_faults } = both_fields k.rest in
       record {
@@ -129,7 +134,7 @@ module _ (shape : Shape) (frames : ℕ) (start : Map) (a b c : BoardState) (d e 
         cause = elim (why n.1) [ inl full ↦ inl (sym w.count ∙ full) | inr worn ↦ inr (worn_too rest ∙ worn) ];
         same = ap (λ s. s.in_faults) k.rest ∙ same;
       }
-  none_taken no_more why go refused refused_on on NotBuilt same sd sh n =
+  none_taken no_more why go refused on NotBuilt same sd sh n =
       let k = n.0 in
       let f = go n.1 in
       let rest : c ≡ record b { input = c.input; in_faults = c.in_faults } = both_fields k.rest in
@@ -142,29 +147,32 @@ module _ (shape : Shape) (frames : ℕ) (start : Map) (a b c : BoardState) (d e 
         same = ap (λ s. s.in_faults) k.rest ∙ same;
       }
 
-  command_failed : (refused_on : Map → List ℕ → Type 0) (end : End) → Fails b c d held taken end → Finish shape frames start a c e now_held refused_on end
-  command_failed refused_on Done f = absurd (failed Done f).cause
-  command_failed refused_on Truncated f = absurd (failed Truncated f).cause
-  command_failed refused_on Input f = absurd (failed Input f).cause
-  command_failed refused_on Worn f = absurd (failed Worn f).cause
-  command_failed refused_on NotBuilt f = absurd (failed NotBuilt f).cause
-  command_failed refused_on Output f = failed Output f
-  command_failed refused_on Flash f = failed Flash f
+  command_failed : (end : End) → Fails b c d held taken end → Finish shape frames start a c e now_held says end
+  command_failed Done f = absurd (failed Done f).cause
+  command_failed Truncated f = absurd (failed Truncated f).cause
+  command_failed Input f = absurd (failed Input f).cause
+  command_failed Worn f = absurd (failed Worn f).cause
+  command_failed NotBuilt f = absurd (failed NotBuilt f).cause
+  command_failed Output f = failed Output f
+  command_failed Flash f = failed Flash f
 
   -- a command was not served
-  pub Finish-quits : taken < most_entries → (refused : List ℕ → Type 0) (refused_on : Map → List ℕ → Type 0) → ((entry : List ℕ) → refused entry → refused_on w.m entry) → (end : End) → b.in_faults ≡ a.in_faults
-      → IsFault end ⊎ ((e ≡ d) × (now_held ≡ held)) → Quits b c d held taken refused end → Finish shape frames start a c e now_held refused_on end
-  Finish-quits few refused refused_on on end same idle (inr f) = command_failed refused_on end f
-  Finish-quits few refused refused_on on end same (inr o) (inl n) = none_taken (is_worn b) (λ h. inr h) (λ h. (few, h)) refused refused_on on end same o.0 o.1 n
-  Finish-quits few refused refused_on on Output same (inl o) (inl n) = absurd n
-  Finish-quits few refused refused_on on Flash same (inl o) (inl n) = absurd n
-  Finish-quits few refused refused_on on Done same (inl o) (inl n) = absurd o
-  Finish-quits few refused refused_on on Truncated same (inl o) (inl n) = absurd o
-  Finish-quits few refused refused_on on Input same (inl o) (inl n) = absurd o
-  Finish-quits few refused refused_on on Worn same (inl o) (inl n) = absurd o
-  Finish-quits few refused refused_on on NotBuilt same (inl o) (inl n) = absurd o
+  pub Finish-quits : taken < most_entries → (refused : List ℕ → Type 0) → ((entry : List ℕ) → refused entry → Refused says w.m entry) → (end : End) → b.in_faults ≡ a.in_faults
+      → IsFault end ⊎ ((e ≡ d) × (now_held ≡ held)) → Quits b c d held taken refused end → Finish shape frames start a c e now_held says end
+  Finish-quits few refused on end same idle (inr f) = command_failed end f
+  Finish-quits few refused on end same (inr o) (inl n) = none_taken (is_worn b) (λ h. inr h) (λ h. (few, h)) refused on end same o.0 o.1 n
+  Finish-quits few refused on Output same (inl o) (inl n) = absurd n
+  Finish-quits few refused on Flash same (inl o) (inl n) = absurd n
+  Finish-quits few refused on Done same (inl o) (inl n) = absurd o
+  Finish-quits few refused on Truncated same (inl o) (inl n) = absurd o
+  Finish-quits few refused on Input same (inl o) (inl n) = absurd o
+  Finish-quits few refused on Worn same (inl o) (inl n) = absurd o
+  Finish-quits few refused on NotBuilt same (inl o) (inl n) = absurd o
 
 -- the drive that stands for the map says so
-pub unbuilt_on : (Drive : Type 0) (sight : Drive → Sight) (built : Drive → Request → Bool) (shape : Shape) (frames : ℕ) (m : Map) (board : BoardState) (drive : Drive) → Stands shape frames board (sight drive) m
-    → (entry : List ℕ) → ((r : Request) × ((v : List ℕ) → command_of r v ≡ command entry v) × (built drive r ≡ false)) → Unbuilt Drive sight built shape frames m entry
-unbuilt_on Drive sight built shape frames m board drive stands entry h = (drive, board, h.0, stands, h.1, h.2)
+module _ (Drive : Type 0) (sight : Drive → Sight) (built : Drive → Request → Bool) (shape : Shape) (frames : ℕ) (m : Map) (board : BoardState) (drive : Drive) (stands : Stands shape frames board (sight drive) m) where
+  pub refused_on : (entry : List ℕ) → ((r : Request) × ((v : List ℕ) → command_of r v ≡ command entry v) × (built drive r ≡ false)) → Refused (Told Drive sight built shape frames) m entry
+  refused_on entry h = (h.0, h.1, (drive, board, stands, h.2))
+
+  pub accepted_on : (c : Command) → ((r : Request) × (command_of r c.value ≡ c) × (built drive r ≡ true)) → Accepted (Told Drive sight built shape frames) m c
+  accepted_on c h = (h.0, h.1, (drive, board, stands, h.2))

@@ -45,12 +45,14 @@ module _ (a m n : BoardState) (entry : List ℕ) (entered : Entered a m entry) (
     taken_all : a.input ≡ put_back (entry ++ valued.value) b.input
     taken_all = taken-append a.input m.input n.input entry valued.value entered.input valued.input ∙ ap (put_back (entry ++ valued.value)) (sym same)
 
-    pub Advances-one : (after : Sight) (now_held : List ℕ) → ((v : List ℕ) → IsValue shape r.opcode r.size handed v → Serves n b before after held now_held taken (command_seen r v)) → Advances a b before after held now_held taken
-    Advances-one after now_held serves = record {
+    pub Advances-one : (after : Sight) (now_held : List ℕ) (accepts : Command → Type 0) → accepts (command_seen r valued.value)
+        → ((v : List ℕ) → IsValue shape r.opcode r.size handed v → Serves n b before after held now_held taken (command_seen r v)) → Advances a b before after held now_held taken accepts
+    Advances-one after now_held accepts is serves = record {
       bytes = entry ++ valued.value;
       c = command_seen r valued.value;
       input = taken_all;
       spells = Spells-one entry valued.value (command_seen r valued.value) size (valued.whole ∙ sym (value_size entry r parsed)) (parsed valued.value);
+      accepted = is;
       serves = serves_too a n b before (input_too a m n entered.rest valued.rest) after held now_held taken (command_seen r valued.value) (serves valued.value valued.is_value);
     }
 

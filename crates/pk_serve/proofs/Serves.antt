@@ -1,5 +1,5 @@
 -- The steps of serving: what was kept is kept.
-use Rattle.std.proofs.Common.{◌≡◌, ◌≢◌, inl, inr, ℕ, suc, ◌+◌, ◌≤◌, List, [], ◌∷◌, ◌++◌, length, Option, Some, Ok, refl, sym, ◌∙◌, ap, subst, arith, append_assoc, append-nil, replicate}
+use Rattle.std.proofs.Common.{◌≡◌, ◌≢◌, inl, inr, ℕ, suc, ◌+◌, ◌≤◌, List, [], ◌∷◌, ◌++◌, length, Option, Ok, refl, sym, ◌∙◌, ap, subst, arith, append_assoc, append-nil, replicate}
 use Rattle.std.proofs.lemmas.Fn.{FoldsTo-push}
 use Rattle.pk_base.specs.Shape.{Shape, limit}
 use Rattle.pk_base.specs.Page.{Flash}
@@ -13,9 +13,8 @@ use Rattle.pk_nand.specs.Calls.{Rose, after_post, PostFailed}
 use Rattle.pk_nand.specs.Crash.{ReachedBy}
 use Rattle.pk_nand.proofs.Reaching.{Reached-start, Reached-post, Reached-then}
 use Rattle.pk_nand.proofs.CutLemmas.{posted-append}
-use Rattle.pk_model.specs.Answer.{kind, retrieve, reply, map_after}
-use Rattle.pk_model.specs.Bounds.{most_reads}
-use Rattle.pk_model.specs.Run.{Exchange, Step, commands, faults}
+use Rattle.pk_model.specs.Answer.{reply, map_after}
+use Rattle.pk_model.specs.Run.{Exchange, commands, faults}
 use Rattle.pk_model.specs.Reading.{reading}
 use Rattle.pk_model.specs.Kept.{AtMost}
 use Rattle.pk_model.specs.Sight.{Sight}
@@ -26,7 +25,7 @@ use Rattle.pk_drive.specs.Meter.{Meter, Metered, MeteredAll, meter, reads_after}
 use Rattle.pk_drive.specs.Exec.{ExecCut, Executed, most_installs}
 use Rattle.pk_drive.specs.Commit.{CommitCut}
 use Rattle.pk_drive.proofs.Growing.{weaken, at_end, grows_behind, Goes-then, GrowsAlong-post, Goes-post_failed}
-use Rattle.pk_serve.specs.Serving.{rise, KeptAt, Serving, Cutoff, Next, installs}
+use Rattle.pk_serve.specs.Serving.{rise, KeptAt, Serving, Cutoff, Next, StepWithin, installs}
 use Rattle.pk_serve.proofs.Counting.{at_most-zero, at_most-more, at_most-one, commands-push, records-push, faults-push, faults-one, installs-push}
 use Rattle.pk_serve.proofs.Answering.{reply_other, answers}
 
@@ -44,10 +43,6 @@ kept-more shape frames start cs more n later up f q k = record {
   begins = k.begins;
   few_faults = up (faults k.served) k.few_faults;
 }
-
--- the relation of a step, with the bound of a Retrieve's reads
-abbrev StepWithin : Shape → ℕ → Map → Exchange → Map → Type 0
-StepWithin shape frames m x m' = Step shape frames m x.command x.reply m' × (kind x.command.opcode ≡ Some retrieve → x.reads ≤ most_reads shape frames m x.command)
 
 -- nothing more was given out
 none_more : (P : List ℕ → Type 0) (out q : List ℕ) → q ≡ [] → P out → P (out ++ q)
@@ -167,7 +162,7 @@ module _ (shape : Shape) (frames : ℕ) (start : Map) (a b : BoardState) (drive 
       → Reaches shape b c (ExecCut shape b.pages m cmd) → Executed shape frames c e m cmd rep reads → OnlyFlash b c
       → b.read_faults ≤ c.read_faults → (rep.status ≡ 0x88 → Rose b.read_faults c.read_faults) → (rep.status ≢ 0x88 → c.read_faults ≡ b.read_faults)
       → c.stop_faults ≡ b.stop_faults → c.reads ≡ reads_after b.reads reads → roots c ≤ roots b + most_installs cmd.opcode cmd.size
-      → Next shape frames start a c e (unposted ++ reply_record (suc taken) cmd.cid rep reads) all cmd
+      → Next shape frames start a c e (unposted ++ reply_record (suc taken) cmd.cid rep reads) all m cmd
   Serving-exec c e cmd rep reads taken size reached done rest up unread sound no_stop read few_roots =
       let x : Exchange = record { command = cmd; reply = rep; reads = reads } in
       let silent : all_posted reached.0 ≡ [] = (at_end reached.0 b c (ExecCut shape b.pages m cmd) reached.1).0 in
@@ -177,6 +172,7 @@ module _ (shape : Shape) (frames : ℕ) (start : Map) (a b : BoardState) (drive 
         x = x;
         is = refl;
         m = done.left;
+        step = (done.stepped, done.bounded);
         serving = record {
           ran = FoldsTo-push (StepWithin shape frames) start all m x done.left w.ran (done.stepped, done.bounded);
           stands = done.stands;

@@ -4,3 +4,4 @@ pub mod Input
 pub mod Run
 pub mod Complete
 pub mod Port
+pub mod Rootless

@@ -2,8 +2,7 @@
 use Rattle.std.specs.Prelude.{◌≡◌, ◌≢◌, ◌⊎◌, ◌<◌, ◌≤◌, ◌+◌, ℕ, List, [], ◌++◌, length, Some, Bool, true, false}
 use Rattle.pk_base.specs.Shape.{Shape}
 use Rattle.pk_base.specs.Map.{Map}
-use Rattle.pk_nvme.specs.Command.{Command, command}
-use Rattle.pk_nvme.specs.Seen.{command_of}
+use Rattle.pk_nvme.specs.Command.{Command}
 use Rattle.pk_nvme.specs.declared.request.Request.{Request}
 use Rattle.pk_nand.specs.BoardState.{BoardState}
 use Rattle.pk_nand.specs.Calls.{Rose, longer}
@@ -17,7 +16,7 @@ use Rattle.pk_drive.specs.Wear.{is_worn, roots}
 use Rattle.pk_drive.specs.Growth.{Goes}
 use Rattle.pk_drive.specs.Meter.{meter, MeteredAll}
 use Rattle.pk_serve.specs.Ends.{HasCause, NoFaults}
-use Rattle.pk_serve.specs.Serving.{Serving, Cutoff, KeptAt, rise, installs}
+use Rattle.pk_serve.specs.Serving.{Serving, Cutoff, KeptAt, rise, installs, RunAccepted, Refused}
 use Rattle.pk_serve.specs.Input.{put_back, AtEnd, Spells, IsPart}
 use Rattle.pk_serve.specs.declared.end.End.{End}
 use Rattle.pk_serve.specs.declared.end.End.TheVariants.{Done, Truncated, Input, Output, Flash, Worn, NotBuilt}
@@ -26,28 +25,28 @@ use Rattle.pk_serve.specs.declared.end.End.TheVariants.{Done, Truncated, Input, 
 abbrev pub most_entries : ℕ
 most_entries = 4294967295
 
--- a drive that stands for this map says that it does not serve the request of this entry
-abbrev pub Unbuilt : (Drive : Type 0) → (Drive → Sight) → (Drive → Request → Bool) → Shape → ℕ → Map → List ℕ → Type 0
-Unbuilt Drive sight built shape frames m entry =
-    (drive : Drive) × (board : BoardState) × (request : Request) × Stands shape frames board (sight drive) m
-    × ((value : List ℕ) → command_of request value ≡ command entry value) × (built drive request ≡ false)
+-- a drive that stands for this map says whether it serves this request
+abbrev pub Told : (Drive : Type 0) → (Drive → Sight) → (Drive → Request → Bool) → Shape → ℕ → Map → Request → Bool → Type 0
+Told Drive sight built shape frames m request answer = (drive : Drive) × (board : BoardState) × Stands shape frames board (sight drive) m × (built drive request ≡ answer)
 
 -- So many commands were taken from the input and served.
-pub record Looping (shape : Shape) (frames : ℕ) (start : Map) (a b : BoardState) (drive : Sight) (held : List ℕ) (taken : ℕ) : Type 0 where
+pub record Looping (shape : Shape) (frames : ℕ) (start : Map) (a b : BoardState) (drive : Sight) (held : List ℕ) (taken : ℕ) (says : Map → Request → Bool → Type 0) : Type 0 where
   pub all : List Exchange
   pub m : Map
   pub bytes : List ℕ
   pub serving : Serving shape frames start a b drive held all m
+  pub accepted : RunAccepted shape frames says start all m
   pub count : taken ≡ length all
   pub input : a.input ≡ put_back bytes b.input
   pub spells : Spells bytes (commands all)
 
 -- All commands before these last bytes were served.
-pub record Finished (shape : Shape) (frames : ℕ) (start : Map) (a b : BoardState) (drive : Sight) (held part : List ℕ) : Type 0 where
+pub record Finished (shape : Shape) (frames : ℕ) (start : Map) (a b : BoardState) (drive : Sight) (held part : List ℕ) (says : Map → Request → Bool → Type 0) : Type 0 where
   pub all : List Exchange
   pub m : Map
   pub bytes : List ℕ
   pub serving : Serving shape frames start a b drive held all m
+  pub accepted : RunAccepted shape frames says start all m
   pub input : a.input ≡ put_back (bytes ++ part) b.input
   pub spells : Spells bytes (commands all)
 
@@ -65,57 +64,57 @@ pub record Failed (shape : Shape) (frames : ℕ) (start : Map) (a b : BoardState
 abbrev pub GoesOn : BoardState → List Exchange → Type 0
 GoesOn board all = (length all < most_entries) × (is_worn board ≡ false)
 
-pub record IsDone (shape : Shape) (frames : ℕ) (start : Map) (a b : BoardState) (drive : Sight) (held : List ℕ) : Type 0 where
-  pub finished : Finished shape frames start a b drive held []
+pub record IsDone (shape : Shape) (frames : ℕ) (start : Map) (a b : BoardState) (drive : Sight) (held : List ℕ) (says : Map → Request → Bool → Type 0) : Type 0 where
+  pub finished : Finished shape frames start a b drive held [] says
   pub at_end : AtEnd b.input
   pub same : b.in_faults ≡ a.in_faults
 
-pub record IsTruncated (shape : Shape) (frames : ℕ) (start : Map) (a b : BoardState) (drive : Sight) (held : List ℕ) : Type 0 where
+pub record IsTruncated (shape : Shape) (frames : ℕ) (start : Map) (a b : BoardState) (drive : Sight) (held : List ℕ) (says : Map → Request → Bool → Type 0) : Type 0 where
   pub part : List ℕ
   pub some : part ≢ []
   pub is_part : IsPart part
-  pub finished : Finished shape frames start a b drive held part
+  pub finished : Finished shape frames start a b drive held part says
   pub goes_on : GoesOn b finished.all
   pub at_end : AtEnd b.input
   pub same : b.in_faults ≡ a.in_faults
 
-pub record InputFailed (shape : Shape) (frames : ℕ) (start : Map) (a b : BoardState) (drive : Sight) (held : List ℕ) : Type 0 where
+pub record InputFailed (shape : Shape) (frames : ℕ) (start : Map) (a b : BoardState) (drive : Sight) (held : List ℕ) (says : Map → Request → Bool → Type 0) : Type 0 where
   pub part : List ℕ
   pub is_part : IsPart part
-  pub finished : Finished shape frames start a b drive held part
+  pub finished : Finished shape frames start a b drive held part says
   pub goes_on : part ≢ [] → GoesOn b finished.all
   pub rose : Rose a.in_faults b.in_faults
 
 -- another command begins
-pub record IsWorn (shape : Shape) (frames : ℕ) (start : Map) (a b : BoardState) (drive : Sight) (held : List ℕ) : Type 0 where
+pub record IsWorn (shape : Shape) (frames : ℕ) (start : Map) (a b : BoardState) (drive : Sight) (held : List ℕ) (says : Map → Request → Bool → Type 0) : Type 0 where
   pub part : List ℕ
   pub some : part ≢ []
-  pub finished : Finished shape frames start a b drive held part
+  pub finished : Finished shape frames start a b drive held part says
   pub cause : (length finished.all ≡ most_entries) ⊎ (is_worn b ≡ true)
   pub same : b.in_faults ≡ a.in_faults
 
 -- an entry was taken that is refused on this map
-pub record IsRefused (shape : Shape) (frames : ℕ) (start : Map) (a b : BoardState) (drive : Sight) (held : List ℕ) (refused : Map → List ℕ → Type 0) : Type 0 where
+pub record IsRefused (shape : Shape) (frames : ℕ) (start : Map) (a b : BoardState) (drive : Sight) (held : List ℕ) (says : Map → Request → Bool → Type 0) : Type 0 where
   pub entry : List ℕ
   pub size : length entry ≡ 64
-  pub finished : Finished shape frames start a b drive held entry
-  pub is : refused finished.m entry
+  pub finished : Finished shape frames start a b drive held entry says
+  pub is : Refused says finished.m entry
   pub goes_on : GoesOn b finished.all
   pub same : b.in_faults ≡ a.in_faults
 
-abbrev pub Finish : Shape → ℕ → Map → BoardState → BoardState → Sight → List ℕ → (Map → List ℕ → Type 0) → End → Type 0
-Finish shape frames start a b drive held refused Done = IsDone shape frames start a b drive held
-Finish shape frames start a b drive held refused Truncated = IsTruncated shape frames start a b drive held
-Finish shape frames start a b drive held refused Input = InputFailed shape frames start a b drive held
-Finish shape frames start a b drive held refused Worn = IsWorn shape frames start a b drive held
-Finish shape frames start a b drive held refused NotBuilt = IsRefused shape frames start a b drive held refused
-Finish shape frames start a b drive held refused Output = Failed shape frames start a b Output
-Finish shape frames start a b drive held refused Flash = Failed shape frames start a b Flash
+abbrev pub Finish : Shape → ℕ → Map → BoardState → BoardState → Sight → List ℕ → (Map → Request → Bool → Type 0) → End → Type 0
+Finish shape frames start a b drive held says Done = IsDone shape frames start a b drive held says
+Finish shape frames start a b drive held says Truncated = IsTruncated shape frames start a b drive held says
+Finish shape frames start a b drive held says Input = InputFailed shape frames start a b drive held says
+Finish shape frames start a b drive held says Worn = IsWorn shape frames start a b drive held says
+Finish shape frames start a b drive held says NotBuilt = IsRefused shape frames start a b drive held says
+Finish shape frames start a b drive held says Output = Failed shape frames start a b Output
+Finish shape frames start a b drive held says Flash = Failed shape frames start a b Flash
 
 -- from a drive with this map and nothing pending
-abbrev pub Ends : BoardState → BoardState → Sight → Sight → List ℕ → (Shape → ℕ → Map → List ℕ → Type 0) → End → Type 0
-Ends a b before after held refused end =
-    (shape : Shape) (frames : ℕ) (start : Map) → Stands shape frames a before start → before.pending ≡ [] → Finish shape frames start a b after held (refused shape frames) end
+abbrev pub Ends : BoardState → BoardState → Sight → Sight → List ℕ → (Shape → ℕ → Map → Request → Bool → Type 0) → End → Type 0
+Ends a b before after held says end =
+    (shape : Shape) (frames : ℕ) (start : Map) → Stands shape frames a before start → before.pending ≡ [] → Finish shape frames start a b after held (says shape frames) end
 
 -- ---- what is said of a run as a whole
 
@@ -132,11 +131,12 @@ KeepsSome a b before =
     → (cs : List Command) × Goes shape a b (KeptAt shape frames start cs (rise a.read_faults b.read_faults))
 
 -- These were served, with exactly their records posted, and the flash holds the map after them.
-pub record Served (shape : Shape) (frames : ℕ) (start : Map) (a b : BoardState) (cs : List Command) : Type 0 where
+pub record Served (shape : Shape) (frames : ℕ) (start : Map) (a b : BoardState) (says : Map → Request → Bool → Type 0) (cs : List Command) : Type 0 where
   pub served : List Exchange
   pub are : commands served ≡ cs
   pub left : Map
   pub ran : RunWithin shape frames start served left
+  pub accepted : RunAccepted shape frames says start served left
   pub posted : b.posted ≡ longer a.posted (records 0 served)
   pub holds : Holds shape b.pages left
   pub few_faults : AtMost (rise a.read_faults b.read_faults) (faults served)
@@ -150,40 +150,40 @@ TakesMore board cs = (length cs < most_entries) × (is_worn board ≡ false)
 
 -- Which commands were served, by the end: all of the script; all of it, and more bytes; those whole in the bytes that were taken; those before
 -- another one that begins; those before an entry that is refused.
-abbrev pub ServedBy : Shape → ℕ → Map → BoardState → BoardState → List ℕ → (Map → List ℕ → Type 0) → End → Type 0
-ServedBy shape frames start a b input refused Done =
-    (script input ≡ ((script input).0, [])) × Served shape frames start a b (script input).0 × AtEnd b.input × (b.in_faults ≡ a.in_faults)
-ServedBy shape frames start a b input refused Truncated =
-    ((script input).1 ≢ []) × TakesMore b (script input).0 × Served shape frames start a b (script input).0 × AtEnd b.input × (b.in_faults ≡ a.in_faults)
-ServedBy shape frames start a b input refused Input =
-    (taken : List ℕ) × (left : List ℕ) × (input ≡ taken ++ left) × Served shape frames start a b (script taken).0
+abbrev pub ServedBy : Shape → ℕ → Map → BoardState → BoardState → List ℕ → (Map → Request → Bool → Type 0) → End → Type 0
+ServedBy shape frames start a b input says Done =
+    (script input ≡ ((script input).0, [])) × Served shape frames start a b says (script input).0 × AtEnd b.input × (b.in_faults ≡ a.in_faults)
+ServedBy shape frames start a b input says Truncated =
+    ((script input).1 ≢ []) × TakesMore b (script input).0 × Served shape frames start a b says (script input).0 × AtEnd b.input × (b.in_faults ≡ a.in_faults)
+ServedBy shape frames start a b input says Input =
+    (taken : List ℕ) × (left : List ℕ) × (input ≡ taken ++ left) × Served shape frames start a b says (script taken).0
     × ((script taken).1 ≢ [] → TakesMore b (script taken).0) × Rose a.in_faults b.in_faults
-ServedBy shape frames start a b input refused Worn =
-    (bytes : List ℕ) × (more : List ℕ) × (input ≡ bytes ++ more) × (more ≢ []) × (script bytes ≡ ((script bytes).0, [])) × Served shape frames start a b (script bytes).0
+ServedBy shape frames start a b input says Worn =
+    (bytes : List ℕ) × (more : List ℕ) × (input ≡ bytes ++ more) × (more ≢ []) × (script bytes ≡ ((script bytes).0, [])) × Served shape frames start a b says (script bytes).0
     × ((length (script bytes).0 ≡ most_entries) ⊎ (is_worn b ≡ true)) × (b.in_faults ≡ a.in_faults)
-ServedBy shape frames start a b input refused NotBuilt =
+ServedBy shape frames start a b input says NotBuilt =
     (bytes : List ℕ) × (entry : List ℕ) × (more : List ℕ) × (input ≡ bytes ++ entry ++ more) × (length entry ≡ 64) × (script bytes ≡ ((script bytes).0, []))
-    × (s : Served shape frames start a b (script bytes).0) × refused s.left entry × TakesMore b (script bytes).0 × (b.in_faults ≡ a.in_faults)
-ServedBy shape frames start a b input refused Output = Rose a.out_faults b.out_faults
-ServedBy shape frames start a b input refused Flash = Rose a.stop_faults b.stop_faults
+    × (s : Served shape frames start a b says (script bytes).0) × Refused says s.left entry × TakesMore b (script bytes).0 × (b.in_faults ≡ a.in_faults)
+ServedBy shape frames start a b input says Output = Rose a.out_faults b.out_faults
+ServedBy shape frames start a b input says Flash = Rose a.stop_faults b.stop_faults
 
-abbrev pub Answers : BoardState → BoardState → Sight → (Shape → ℕ → Map → List ℕ → Type 0) → End → Type 0
-Answers a b before refused end =
+abbrev pub Answers : BoardState → BoardState → Sight → (Shape → ℕ → Map → Request → Bool → Type 0) → End → Type 0
+Answers a b before says end =
     (shape : Shape) (frames : ℕ) (start : Map) → Stands shape frames a before start → before.pending ≡ []
-    → (input : List ℕ) → a.input ≡ Some input → ServedBy shape frames start a b input (refused shape frames) end
+    → (input : List ℕ) → a.input ≡ Some input → ServedBy shape frames start a b input (says shape frames) end
 
 -- The same where the input is not told: some commands were served, and each end has its cause.
-abbrev pub ServedSome : Shape → ℕ → Map → BoardState → BoardState → (Map → List ℕ → Type 0) → End → Type 0
-ServedSome shape frames start a b refused Done = (cs : List Command) × Served shape frames start a b cs × (b.in_faults ≡ a.in_faults)
-ServedSome shape frames start a b refused Truncated = (cs : List Command) × TakesMore b cs × Served shape frames start a b cs × (b.in_faults ≡ a.in_faults)
-ServedSome shape frames start a b refused Input = (cs : List Command) × Served shape frames start a b cs × Rose a.in_faults b.in_faults
-ServedSome shape frames start a b refused Worn =
-    (cs : List Command) × Served shape frames start a b cs × ((length cs ≡ most_entries) ⊎ (is_worn b ≡ true)) × (b.in_faults ≡ a.in_faults)
-ServedSome shape frames start a b refused NotBuilt =
-    (cs : List Command) × (entry : List ℕ) × (length entry ≡ 64) × (s : Served shape frames start a b cs) × refused s.left entry × TakesMore b cs × (b.in_faults ≡ a.in_faults)
-ServedSome shape frames start a b refused Output = Rose a.out_faults b.out_faults
-ServedSome shape frames start a b refused Flash = Rose a.stop_faults b.stop_faults
+abbrev pub ServedSome : Shape → ℕ → Map → BoardState → BoardState → (Map → Request → Bool → Type 0) → End → Type 0
+ServedSome shape frames start a b says Done = (cs : List Command) × Served shape frames start a b says cs × (b.in_faults ≡ a.in_faults)
+ServedSome shape frames start a b says Truncated = (cs : List Command) × TakesMore b cs × Served shape frames start a b says cs × (b.in_faults ≡ a.in_faults)
+ServedSome shape frames start a b says Input = (cs : List Command) × Served shape frames start a b says cs × Rose a.in_faults b.in_faults
+ServedSome shape frames start a b says Worn =
+    (cs : List Command) × Served shape frames start a b says cs × ((length cs ≡ most_entries) ⊎ (is_worn b ≡ true)) × (b.in_faults ≡ a.in_faults)
+ServedSome shape frames start a b says NotBuilt =
+    (cs : List Command) × (entry : List ℕ) × (length entry ≡ 64) × (s : Served shape frames start a b says cs) × Refused says s.left entry × TakesMore b cs × (b.in_faults ≡ a.in_faults)
+ServedSome shape frames start a b says Output = Rose a.out_faults b.out_faults
+ServedSome shape frames start a b says Flash = Rose a.stop_faults b.stop_faults
 
-abbrev pub Causes : BoardState → BoardState → Sight → (Shape → ℕ → Map → List ℕ → Type 0) → End → Type 0
-Causes a b before refused end =
-    (shape : Shape) (frames : ℕ) (start : Map) → Stands shape frames a before start → before.pending ≡ [] → ServedSome shape frames start a b (refused shape frames) end
+abbrev pub Causes : BoardState → BoardState → Sight → (Shape → ℕ → Map → Request → Bool → Type 0) → End → Type 0
+Causes a b before says end =
+    (shape : Shape) (frames : ℕ) (start : Map) → Stands shape frames a before start → before.pending ≡ [] → ServedSome shape frames start a b (says shape frames) end

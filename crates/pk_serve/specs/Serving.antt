@@ -1,14 +1,19 @@
 -- What stands after some commands were served.
-use Rattle.std.specs.Prelude.{◌≡◌, ℕ, ◌+◌, ◌-◌, ◌≤◌, List, [], ◌∷◌, ◌++◌, length, Option, Some, None, nat_le, if◌then◌else◌}
+use Rattle.std.specs.Prelude.{◌≡◌, ℕ, ◌+◌, ◌-◌, ◌≤◌, List, [], ◌∷◌, ◌++◌, length, Option, Some, None, Bool, true, false, nat_le, if◌then◌else◌}
 use Rattle.pk_base.specs.Shape.{Shape}
 use Rattle.pk_base.specs.Page.{Flash}
 use Rattle.pk_base.specs.Mark.{Mark, all_posted}
 use Rattle.pk_base.specs.Map.{Map}
-use Rattle.pk_nvme.specs.Command.{Command}
+use Rattle.pk_nvme.specs.Command.{Command, command}
+use Rattle.pk_nvme.specs.Seen.{command_of}
+use Rattle.pk_nvme.specs.declared.request.Request.{Request}
 use Rattle.pk_nand.specs.BoardState.{BoardState}
 use Rattle.pk_nand.specs.Calls.{last_count}
 use Rattle.pk_nand.specs.Crash.{ReachedBy}
-use Rattle.pk_model.specs.Run.{Exchange, RunWithin, commands, records, faults}
+use Rattle.std.specs.List.{FoldsTo}
+use Rattle.pk_model.specs.Answer.{kind, retrieve}
+use Rattle.pk_model.specs.Bounds.{most_reads}
+use Rattle.pk_model.specs.Run.{Exchange, Step, RunWithin, commands, records, faults}
 use Rattle.pk_model.specs.Kept.{Kept, AtMost}
 use Rattle.pk_model.specs.Sight.{Sight}
 use Rattle.pk_drive.specs.Drive.{Stands}
@@ -76,18 +81,34 @@ Keeps old new before after held now_held =
     (shape : Shape) (frames : ℕ) (start : Map) (a : BoardState) (all : List Exchange) (m : Map)
     → Serving shape frames start a old before held all m → Serving shape frames start a new after now_held all m
 
+-- one command, with the bound of a Retrieve's reads
+abbrev pub StepWithin : Shape → ℕ → Map → Exchange → Map → Type 0
+StepWithin shape frames m x m' = Step shape frames m x.command x.reply m' × (kind x.command.opcode ≡ Some retrieve → x.reads ≤ most_reads shape frames m x.command)
+
+-- a drive that stands for this map says of a command's request that it serves it, or of an entry's that it does not
+abbrev pub Accepted : (Map → Request → Bool → Type 0) → Map → Command → Type 0
+Accepted says m c = (r : Request) × (command_of r c.value ≡ c) × says m r true
+
+abbrev pub Refused : (Map → Request → Bool → Type 0) → Map → List ℕ → Type 0
+Refused says m entry = (r : Request) × ((value : List ℕ) → command_of r value ≡ command entry value) × says m r false
+
+-- from map to map, each command accepted on the map before it
+abbrev pub RunAccepted : Shape → ℕ → (Map → Request → Bool → Type 0) → Map → List Exchange → Map → Type 0
+RunAccepted shape frames says = FoldsTo (λ m x m'. StepWithin shape frames m x m' × Accepted says m x.command)
+
 -- one more command was served
-pub record Next (shape : Shape) (frames : ℕ) (start : Map) (a b : BoardState) (drive : Sight) (unposted : List ℕ) (all : List Exchange) (c : Command) : Type 0 where
+pub record Next (shape : Shape) (frames : ℕ) (start : Map) (a b : BoardState) (drive : Sight) (unposted : List ℕ) (all : List Exchange) (before : Map) (c : Command) : Type 0 where
   pub x : Exchange
   pub is : x.command ≡ c
   pub m : Map
+  pub step : StepWithin shape frames before x m
   pub serving : Serving shape frames start a b drive unposted (all ++ x ∷ []) m
 
 -- A call serves a command behind so many taken.
 abbrev pub Serves : BoardState → BoardState → Sight → Sight → List ℕ → List ℕ → ℕ → Command → Type 0
 Serves old new before after held now_held taken c =
     (shape : Shape) (frames : ℕ) (start : Map) (a : BoardState) (all : List Exchange) (m : Map)
-    → taken ≡ length all → Serving shape frames start a old before held all m → Next shape frames start a new after now_held all c
+    → taken ≡ length all → Serving shape frames start a old before held all m → Next shape frames start a new after now_held all m c
 
 -- A call ends the run in a command behind so many taken.
 abbrev pub Stops : BoardState → BoardState → Sight → List ℕ → ℕ → End → Command → Type 0

@@ -15,3 +15,6 @@ mod step;
 pub use end::End;
 pub use port::submit;
 pub use server::Server;
+
+#[cfg(test)]
+mod tests;

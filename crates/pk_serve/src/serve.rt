@@ -9,7 +9,7 @@ ghost use Rattle.pk_drive.specs.Wear.{is_worn};
 ghost use Rattle.pk_serve.specs.Ends.{IsFault};
 ghost use Rattle.pk_serve.specs.Input.{Advances, Quits};
 ghost use Rattle.pk_serve.specs.Complete.{Completes};
-ghost use Rattle.pk_serve.specs.Run.{Ends, Unbuilt, KeepsScript, KeepsSome, Answers, Causes};
+ghost use Rattle.pk_serve.specs.Run.{Ends, Told, KeepsScript, KeepsSome, Answers, Causes};
 
 use crate::End;
 use crate::entry::{take_entry, take_value};
@@ -45,7 +45,8 @@ pub fn serve_next<D: Engine, B: Board>(
     ensures value { length value.new ≡ length value.old }
     ensures into { length into.new ≡ length into.old }
     ensures in_faults { OnOk result ((B.state board.new).in_faults ≡ (B.state board.old).in_faults) }
-    ensures advances { OnOk result (Advances (B.state board.old) (B.state board.new) (D.sight drive.old) (D.sight drive.new) (bytes_of held.old.heads) (bytes_of held.new.heads) taken) }
+    ensures advances { OnOk result (Advances (B.state board.old) (B.state board.new) (D.sight drive.old) (D.sight drive.new) (bytes_of held.old.heads) (bytes_of held.new.heads) taken
+        (λ c. (r : Request) × (command_of r c.value ≡ c) × (D.built drive.old r ≡ true))) }
     ensures quits { IfErr result (λ end. Quits (B.state board.old) (B.state board.new) (D.sight drive.old) (bytes_of held.old.heads) taken
         (λ entry. (r : Request) × ((v : List ℕ) → command_of r v ≡ command entry v) × (D.built drive.old r ≡ false)) end) }
     ensures open { IfErr result (λ end. IsFault end ⊎ ((D.agrees drive.new (B.state board.new).shape (B.state board.new).pages) × (D.sight drive.new ≡ D.sight drive.old) × (held.new.heads ≡ held.old.heads))) }
@@ -100,7 +101,7 @@ pub fn serve_entries<D: Engine, B: Board>(
     requires room_list { 65536 ≤ length into.old }
     requires room_value { greatest shape.now ≤ length into.old }
     ensures shape { (B.state board.new).shape ≡ (B.state board.old).shape }
-    ensures ends { Ends (B.state board.old) (B.state board.new) (D.sight drive.old) (D.sight drive.new) (bytes_of held.new.heads) (Unbuilt D D.sight D.built) result }
+    ensures ends { Ends (B.state board.old) (B.state board.new) (D.sight drive.old) (D.sight drive.new) (bytes_of held.new.heads) (Told D D.sight D.built) result }
     ensures open { IsFault result ⊎ ((D.agrees drive.new (B.state board.new).shape (B.state board.new).pages) × ((D.sight drive.new).stopped ≡ false)) }
 {
     for taken in 0..u32::MAX {
@@ -133,7 +134,7 @@ pub fn serve_all<D: Engine, B: Board>(
     requires some { 0 < length value.old }
     requires room_list { 65536 ≤ length into.old }
     requires room_value { greatest shape.now ≤ length into.old }
-    ensures ends { Ends (B.state board.old) (B.state board.new) (D.sight drive.old) (D.sight drive.new) [] (Unbuilt D D.sight D.built) result }
+    ensures ends { Ends (B.state board.old) (B.state board.new) (D.sight drive.old) (D.sight drive.new) [] (Told D D.sight D.built) result }
     ensures none { IsFault result ⊎ ((D.sight drive.new).pending ≡ []) }
 {
     let end = serve_entries(drive, board, held, value, into, shape);
@@ -165,8 +166,8 @@ pub fn serve_script<D: Engine, B: Board>(
     requires room_value { greatest shape.now ≤ length into.old }
     ensures kept { KeepsScript (B.state board.old) (B.state board.new) (D.sight drive.old) }
     ensures kept_untold { KeepsSome (B.state board.old) (B.state board.new) (D.sight drive.old) }
-    ensures served { Answers (B.state board.old) (B.state board.new) (D.sight drive.old) (Unbuilt D D.sight D.built) result }
-    ensures causes { Causes (B.state board.old) (B.state board.new) (D.sight drive.old) (Unbuilt D D.sight D.built) result }
+    ensures served { Answers (B.state board.old) (B.state board.new) (D.sight drive.old) (Told D D.sight D.built) result }
+    ensures causes { Causes (B.state board.old) (B.state board.new) (D.sight drive.old) (Told D D.sight D.built) result }
     ensures complete { Completes D D.built (B.state board.old) (B.state board.new) (D.sight drive.old) result }
 {
     serve_all(drive, board, held, value, into, shape)

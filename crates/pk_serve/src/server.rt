@@ -2,7 +2,7 @@
 ghost use Rattle.std.specs.Prelude.{◌≡◌, ◌⊎◌, [], false, IfOk, Some};
 ghost use Rattle.pk_serve.specs.Ends.{IsFault};
 ghost use Rattle.pk_serve.specs.Complete.{Completes};
-ghost use Rattle.pk_serve.specs.Run.{Unbuilt, KeepsScript, KeepsSome, Answers, Causes};
+ghost use Rattle.pk_serve.specs.Run.{Told, KeepsScript, KeepsSome, Answers, Causes};
 
 use crate::End;
 use crate::serve::serve_script;
@@ -57,9 +57,9 @@ impl Server {
         requires shape { (B.state board.old).shape ≡ Some self.old }
         ensures kept { KeepsScript (B.state board.old) (B.state board.new) (D.sight drive.old) }
         ensures kept_untold { KeepsSome (B.state board.old) (B.state board.new) (D.sight drive.old) }
-        ensures served { Answers (B.state board.old) (B.state board.new) (D.sight drive.old) (Unbuilt D D.sight D.built) result }
-        ensures causes { Causes (B.state board.old) (B.state board.new) (D.sight drive.old) (Unbuilt D D.sight D.built) result }
-    ensures complete { Completes D D.built (B.state board.old) (B.state board.new) (D.sight drive.old) result }
+        ensures served { Answers (B.state board.old) (B.state board.new) (D.sight drive.old) (Told D D.sight D.built) result }
+        ensures causes { Causes (B.state board.old) (B.state board.new) (D.sight drive.old) (Told D D.sight D.built) result }
+        ensures complete { Completes D D.built (B.state board.old) (B.state board.new) (D.sight drive.old) result }
     {
         self.held.clear();
         serve_script(

@@ -1,0 +1,261 @@
+//! A board over a file, standard input and standard output. It tells neither input, posted bytes nor trail.
+ghost use Rattle.std.specs.Prelude.{◌≡◌, ◌≤◌, ◌<◌, ◌+◌, ◌*◌, ◌/◌, ℕ, length, Option, None, Some, OnOk, OnErr, slice_set};
+ghost use Rattle.pk_base.specs.Shape as spec;
+ghost use Rattle.pk_base.specs.Page.{Flash, whole, IsPage};
+ghost use Rattle.pk_base.specs.Mark.{program, erase, after};
+ghost use Rattle.pk_nand.specs.BoardState.{BoardState, shape_or_none};
+ghost use Rattle.pk_nand.specs.Calls.{counted, LeftBehind};
+ghost use Rattle.pk_file.specs.Slots.{pages_of, AllFit};
+
+use crate::mirror::{Written, create_image, erase_pages, find_image, write_page};
+use crate::slot::Slot;
+use crate::slots::{erase_slots, erased_slots, known, read_slot, tear_slot, write_slot};
+use pk_base::Shape;
+use pk_nand::{Board, HostFault, LoadFault, Nand, NandFault, PageRead};
+use std::alloc::Global;
+use std::fs::File;
+use std::io::{Read, Write};
+
+/// The image file of a drive, with its pages in memory, beside standard input and output.
+#[derive(Drop)]
+pub struct FileBoard<'a> {
+    rt: &'a HostRuntime,
+    path: &'a str,
+    file: Option<File>,
+    shape: Option<Shape>,
+    slots: Vec<Slot>,
+    reads: u64,
+    programs: u64,
+    erases: u64,
+    flash_faults: u64,
+    read_faults: u64,
+    stop_faults: u64,
+    failed_at: Option<u32>,
+    bad: Option<u64>,
+    in_faults: u64,
+    out_faults: u64,
+    ghost count: { length slots.items ≡ spec.page_count (shape_or_none shape) },
+    ghost fit: { AllFit (shape_or_none shape) slots.items },
+}
+
+/// One more, up to the last value.
+fn raise(count: &mut u64)
+    ensures { count.new ≡ counted count.old }
+{
+    *count = count.saturating_add(1);
+}
+
+/// Programs a page in the file and in memory. A write that fails leaves both alike.
+fn program_page(
+    file: &Option<File>,
+    shape: &Option<Shape>,
+    slots: &mut Vec<Slot>,
+    page: u32,
+    bytes: &[u8],
+) -> Result<(), NandFault>
+    requires exists { page < length slots.old.items }
+    requires count { length slots.old.items ≡ spec.page_count (shape_or_none shape.now) }
+    requires full { length bytes.now ≡ (shape_or_none shape.now).page_bytes }
+    requires fit { AllFit (shape_or_none shape.now) slots.old.items }
+    ensures pages { OnOk result (pages_of slots.new.items ≡ slice_set (pages_of slots.old.items) page (whole bytes.now)) }
+    ensures left { OnErr result (LeftBehind (shape_or_none shape.now) (program page bytes.now) (pages_of slots.old.items) (pages_of slots.new.items) None None) }
+    ensures count { length slots.new.items ≡ length slots.old.items }
+    ensures fit { AllFit (shape_or_none shape.now) slots.new.items }
+{
+    match (file, shape) {
+        (Some(file), Some(shape)) => match write_page(file, shape, page, bytes) {
+            Written::Whole => {
+                write_slot(slots, page as usize, bytes);
+                Ok(())
+            }
+            Written::Torn => {
+                tear_slot(slots, page as usize);
+                Err(NandFault)
+            }
+            Written::Nothing => Err(NandFault),
+        },
+        _ => Err(NandFault),
+    }
+}
+
+/// Erases a block in the file and in memory. A write that fails erases the pages whose state bytes it set.
+fn erase_block(
+    file: &Option<File>,
+    shape: &Option<Shape>,
+    slots: &mut Vec<Slot>,
+    block: u32,
+) -> Result<(), NandFault>
+    requires exists { block < (shape_or_none shape.now).blocks }
+    requires count { length slots.old.items ≡ spec.page_count (shape_or_none shape.now) }
+    requires fit { AllFit (shape_or_none shape.now) slots.old.items }
+    ensures pages { OnOk result (pages_of slots.new.items ≡ after (shape_or_none shape.now) (erase block) (pages_of slots.old.items)) }
+    ensures left { OnErr result (LeftBehind (shape_or_none shape.now) (erase block) (pages_of slots.old.items) (pages_of slots.new.items) None None) }
+    ensures count { length slots.new.items ≡ length slots.old.items }
+    ensures fit { AllFit (shape_or_none shape.now) slots.new.items }
+{
+    match (file, shape) {
+        (Some(file), Some(shape)) => {
+            let count = shape.block_pages();
+            let first = block * count;
+            let done = erase_pages(file, shape, first, count);
+            erase_slots(slots, first as usize, done as usize);
+            if done < count {
+                return Err(NandFault);
+            }
+            Ok(())
+        }
+        _ => Err(NandFault),
+    }
+}
+
+impl<'a> FileBoard<'a> {
+    /// A board whose image is the file at this path. Nothing is opened before `load` or `make`.
+    pub fn new(rt: &'a HostRuntime, path: &'a str) -> FileBoard<'a>
+        ensures { result.shape ≡ None }
+    {
+        FileBoard {
+            rt,
+            path,
+            file: None,
+            shape: None,
+            slots: Vec::new(rt.alloc()),
+            reads: 0,
+            programs: 0,
+            erases: 0,
+            flash_faults: 0,
+            read_faults: 0,
+            stop_faults: 0,
+            failed_at: None,
+            bad: None,
+            in_faults: 0,
+            out_faults: 0,
+        }
+    }
+
+    fn block_of(&self, page: u32) -> Option<u32>
+        requires { page < length self.now.slots.items }
+        ensures { result ≡ Some (page / (shape_or_none self.now.shape).block_pages) }
+    {
+        match &self.shape {
+            None => unreachable!(),
+            Some(shape) => Some(page / shape.block_pages()),
+        }
+    }
+}
+
+impl Nand for FileBoard<'_> {
+    ghost state = { λ f. record {
+      shape = f.shape;
+      pages = pages_of f.slots.items;
+      trail = None;
+      reads = f.reads;
+      programs = f.programs;
+      erases = f.erases;
+      flash_faults = f.flash_faults;
+      read_faults = f.read_faults;
+      stop_faults = f.stop_faults;
+      failed_at = f.failed_at;
+      bad = f.bad;
+      input = None;
+      posted = None;
+      in_faults = f.in_faults;
+      out_faults = f.out_faults;
+    } };
+
+    #[tactic(auto, using(crate::proofs::Slotting::ready_flash))]
+    fn load(&mut self, alloc: Global) -> Result<Option<Shape>, LoadFault> {
+        self.bad = None;
+        if self.shape.is_some() {
+            return Ok(self.shape);
+        }
+        match find_image(self.rt, alloc, self.path) {
+            Ok(None) => Ok(None),
+            Ok(Some(image)) => {
+                self.slots = image.slots;
+                self.shape = Some(image.shape);
+                self.file = Some(image.file);
+                Ok(self.shape)
+            }
+            Err(LoadFault::Fault) => {
+                raise(&mut self.flash_faults);
+                Err(LoadFault::Fault)
+            }
+            Err(LoadFault::BadImage { at }) => {
+                self.bad = Some(at);
+                Err(LoadFault::BadImage { at })
+            }
+            Err(LoadFault::Memory) => Err(LoadFault::Memory),
+        }
+    }
+
+    #[tactic(auto, using(crate::proofs::Slotting::ready_flash))]
+    fn make(&mut self, alloc: Global, shape: Shape) -> Result<(), LoadFault> {
+        let Ok(slots) = erased_slots(alloc, &shape) else {
+            return Err(LoadFault::Memory);
+        };
+        let Ok(file) = create_image(self.rt, self.path, &shape) else {
+            raise(&mut self.flash_faults);
+            return Err(LoadFault::Fault);
+        };
+        self.slots = slots;
+        self.shape = Some(shape);
+        self.file = Some(file);
+        Ok(())
+    }
+
+    fn read(&mut self, page: u32, into: &mut [u8]) -> Result<PageRead, NandFault> {
+        raise(&mut self.reads);
+        Ok(read_slot(&self.slots, page as usize, into))
+    }
+
+    fn program(&mut self, page: u32, bytes: &[u8]) -> Result<(), NandFault> {
+        raise(&mut self.programs);
+        match program_page(&self.file, &self.shape, &mut self.slots, page, bytes) {
+            Ok(()) => Ok(()),
+            Err(_) => {
+                raise(&mut self.flash_faults);
+                raise(&mut self.stop_faults);
+                self.failed_at = self.block_of(page);
+                Err(NandFault)
+            }
+        }
+    }
+
+    fn erase(&mut self, block: u32) -> Result<(), NandFault> {
+        raise(&mut self.erases);
+        match erase_block(&self.file, &self.shape, &mut self.slots, block) {
+            Ok(()) => Ok(()),
+            Err(_) => {
+                raise(&mut self.flash_faults);
+                raise(&mut self.stop_faults);
+                self.failed_at = Some(block);
+                Err(NandFault)
+            }
+        }
+    }
+
+    fn read_count(&self) -> u64 {
+        self.reads
+    }
+}
+
+impl Board for FileBoard<'_> {
+    fn fetch(&mut self, into: &mut [u8]) -> Result<usize, HostFault> {
+        match self.rt.stdin().read(into) {
+            Ok(count) => Ok(count),
+            Err(_) => {
+                raise(&mut self.in_faults);
+                Err(HostFault)
+            }
+        }
+    }
+
+    fn post(&mut self, bytes: &[u8]) -> Result<(), HostFault> {
+        let mut out = self.rt.stdout();
+        if out.write_all(bytes).is_ok() && out.flush().is_ok() {
+            return Ok(());
+        }
+        raise(&mut self.out_faults);
+        Err(HostFault)
+    }
+}

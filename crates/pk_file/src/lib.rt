@@ -1,0 +1,14 @@
+//! A board over an image file, standard input and standard output: the trusted edge of the program.
+//! It meets the contracts of a board with its pages in memory, and mirrors each change to the file before the next.
+//! What a file or a terminal does with the bytes is not proved.
+#![tactic(auto)]
+
+mod file_board;
+mod mirror;
+mod slot;
+mod slots;
+
+pub use file_board::FileBoard;
+
+#[cfg(test)]
+mod tests;

@@ -1,0 +1,179 @@
+//! What is read of an image file and written to it.
+ghost use Rattle.std.specs.Prelude.{◌≡◌, ◌≤◌, ◌<◌, ◌+◌, length, IfOk};
+ghost use Rattle.pk_base.specs.Shape as spec;
+ghost use Rattle.pk_base.specs.Page.{IsPage};
+ghost use Rattle.pk_file.specs.Slots.{AllFit};
+
+use crate::slot::Slot;
+use crate::slots::{known, slots_of};
+use pk_base::Shape;
+use pk_image::{ImageError, file_len, header, page_at, read_header, state_at};
+use pk_nand::{LoadFault, PageRead};
+use std::alloc::Global;
+use std::fs::{File, OpenOptions};
+use std::io;
+use std::os::unix::fs::FileExt;
+
+/// An open image file and what was read of it.
+#[derive(Drop)]
+pub struct Image {
+    pub file: File,
+    pub shape: Shape,
+    pub slots: Vec<Slot>,
+    ghost count: { length slots.items ≡ spec.page_count shape },
+    ghost fit: { AllFit shape slots.items },
+}
+
+/// Opens the image file, with its length in bytes; None where it is missing or empty.
+fn opened(rt: &HostRuntime, path: &str) -> Result<Option<(File, u64)>, LoadFault> {
+    let file = match OpenOptions::new().read(true).write(true).open(rt, path) {
+        Ok(file) => file,
+        Err(e) if e.kind() == io::ErrorKind::NotFound => return Ok(None),
+        Err(_) => return Err(LoadFault::Fault),
+    };
+    match file.metadata() {
+        Ok(data) if data.len() == 0 => Ok(None),
+        Ok(data) => Ok(Some((file, data.len()))),
+        Err(_) => Err(LoadFault::Fault),
+    }
+}
+
+/// The shape of a file of this length, by its header. Of a shorter file than a header nothing is read.
+fn shape_of(file: &File, len: u64) -> Result<Shape, LoadFault> {
+    let mut head = [0u8; 32];
+    if len >= 32 && file.read_exact_at(&mut head, 0).is_err() {
+        return Err(LoadFault::Fault);
+    }
+    match read_header(&head, len) {
+        Ok(shape) => Ok(shape),
+        Err(ImageError::Bad { at }) => Err(LoadFault::BadImage { at }),
+    }
+}
+
+/// The pages of the state bytes of a file, with the room of their bytes.
+fn slots_in(alloc: Global, file: &File, shape: &Shape) -> Result<Vec<Slot>, LoadFault>
+    ensures count { IfOk result (λ v. length v.items ≡ spec.page_count shape.now) }
+    ensures fit { IfOk result (λ v. AllFit shape.now v.items) }
+{
+    let Ok(mut states) = Vec::from_elem(alloc, 0u8, shape.page_count() as usize) else {
+        return Err(LoadFault::Memory);
+    };
+    if file.read_exact_at(states.as_mut_slice(), 32).is_err() {
+        return Err(LoadFault::Fault);
+    }
+    slots_of(alloc, shape, states.as_slice())
+}
+
+/// Reads the bytes of a page, if it is Whole.
+fn fill(file: &File, at: u64, slot: &mut Slot) -> io::Result<()>
+    ensures state { slot.new.state ≡ slot.old.state }
+    ensures fit { (shape : spec.Shape) → IsPage shape slot.old.bytes.items → IsPage shape slot.new.bytes.items }
+{
+    if slot.state != PageRead::Whole {
+        return Ok(());
+    }
+    let bytes = slot.bytes.as_mut_slice();
+    let done = file.read_exact_at(bytes, at);
+    known(bytes);
+    done
+}
+
+/// Reads the bytes of all Whole pages.
+fn fill_all(file: &File, shape: &Shape, slots: &mut Vec<Slot>) -> io::Result<()>
+    requires count { length slots.old.items ≡ spec.page_count shape.now }
+    requires fit { AllFit shape.now slots.old.items }
+    ensures count { length slots.new.items ≡ length slots.old.items }
+    ensures fit { AllFit shape.now slots.new.items }
+{
+    for i in 0..shape.page_count() {
+        match fill(file, page_at(shape, i), &mut slots[i as usize]) {
+            Ok(()) => {}
+            Err(fault) => return Err(fault),
+        }
+    }
+    Ok(())
+}
+
+/// The image of an open file of this length.
+fn read_image(alloc: Global, file: File, len: u64) -> Result<Image, LoadFault> {
+    let shape = match shape_of(&file, len) {
+        Ok(shape) => shape,
+        Err(fault) => return Err(fault),
+    };
+    let mut slots = match slots_in(alloc, &file, &shape) {
+        Ok(slots) => slots,
+        Err(fault) => return Err(fault),
+    };
+    match fill_all(&file, &shape, &mut slots) {
+        Ok(()) => Ok(Image { file, shape, slots }),
+        Err(_) => Err(LoadFault::Fault),
+    }
+}
+
+/// The image at this path; None where there is none.
+pub fn find_image(rt: &HostRuntime, alloc: Global, path: &str) -> Result<Option<Image>, LoadFault> {
+    match opened(rt, path) {
+        Ok(None) => Ok(None),
+        Ok(Some((file, len))) => match read_image(alloc, file, len) {
+            Ok(image) => Ok(Some(image)),
+            Err(fault) => Err(fault),
+        },
+        Err(fault) => Err(fault),
+    }
+}
+
+/// Makes an image file with all pages Erased of a missing or empty one. Its text is written last, so
+/// that a file that was not made to its end is no image.
+pub fn create_image(rt: &HostRuntime, path: &str, shape: &Shape) -> io::Result<File> {
+    let file = OpenOptions::new()
+        .read(true)
+        .write(true)
+        .create(true)
+        .open(rt, path)?;
+    if file.metadata()?.len() != 0 {
+        return Err(io::Error::from(io::ErrorKind::AlreadyExists));
+    }
+    let head = header(shape);
+    file.set_len(file_len(shape))?;
+    file.write_all_at(&head[8..], 8)?;
+    file.write_all_at(&head[..8], 0)?;
+    Ok(file)
+}
+
+/// What a write left of a page in the file.
+#[derive(Clone, Copy, Debug, PartialEq, Eq)]
+pub enum Written {
+    Nothing,
+    Torn,
+    Whole,
+}
+
+/// Sets the page's state byte to 2, writes the page, then sets the state byte to 1.
+pub fn write_page(file: &File, shape: &Shape, page: u32, bytes: &[u8]) -> Written
+    requires { page < spec.page_count shape.now }
+{
+    let state = state_at(shape, page);
+    if file.write_all_at(&[2], state).is_err() {
+        return Written::Nothing;
+    }
+    if file.write_all_at(bytes, page_at(shape, page)).is_err() {
+        return Written::Torn;
+    }
+    match file.write_all_at(&[1], state) {
+        Ok(()) => Written::Whole,
+        Err(_) => Written::Torn,
+    }
+}
+
+/// Sets the state bytes of pages in a row to 0, and answers how many of them were set.
+pub fn erase_pages(file: &File, shape: &Shape, first: u32, count: u32) -> u32
+    requires small { count ≤ 256 }
+    requires exists { first < spec.page_count shape.now }
+    ensures { result ≤ count }
+{
+    let zeros = [0u8; 256];
+    match file.write_at(&zeros[..count as usize], state_at(shape, first)) {
+        Ok(done) => done as u32,
+        Err(_) => 0,
+    }
+}

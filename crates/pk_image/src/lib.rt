@@ -1,0 +1,15 @@
+//! Image files: their header, the state byte of each page, and the places of both.
+//! A header is read exactly where it is one, and else refused at its first wrong field.
+//! Two laws say that a file without a wrong byte is the image of the pages that are read of it, and of no others.
+#![tactic(auto)]
+
+mod head;
+mod laws;
+mod tag;
+
+pub use head::{ImageError, file_len, header, read_header};
+pub use laws::{every_image_is_read, what_is_read_is_an_image};
+pub use tag::{PageTag, page_at, state, state_at};
+
+#[cfg(test)]
+mod tests;

@@ -1,0 +1,110 @@
+-- The pages that the reading of a run reads are those that hold its entries.
+use Rattle.std.proofs.Common.{◌≡◌, ℕ, zero, suc, ◌+◌, ◌^◌, ◌<◌, ◌≤◌, true, List, [], ◌∷◌, length, map, get_or, refl, sym, ap, subst, ◌∙◌, arith, Some, None}
+use Rattle.std.specs.Prelude.{nat_le, ◌&&◌, if◌then◌else◌, bytes_eq, Result, Ok, Err, IfOk}
+use Rattle.std.specs.List.{AllByRecursion, list_all}
+use Rattle.std.specs.Ordering.{is_lt}
+use Rattle.std.specs.declared.cmp.Ordering.{Ordering}
+use Rattle.std.specs.declared.cmp.Ordering.TheVariants.{Less, Equal, Greater}
+use Rattle.std.specs.FinMap.Entries.{is_sorted, below_all}
+use Rattle.std.proofs.lemmas.Bool.Decides.{nat_tests}
+use Rattle.std.proofs.lemmas.Slice.Eq.{bytes_eq-Decides}
+use Rattle.pk_base.specs.Key.{Key, key_cmp, IsBelow, IsRising}
+use Rattle.pk_base.specs.Shape.{Shape, IsShape, page_entries}
+use Rattle.pk_base.specs.Entry.{Entry, key_of}
+use Rattle.pk_base.specs.EntryBytes.{IsEntry, is_entry, are_entries, entries_from}
+use Rattle.pk_base.proofs.EntryLemmas.{is_place}
+use Rattle.pk_meta.specs.declared.MetaHead.{MetaHead}
+use Rattle.pk_meta.specs.declared.BadMeta.{BadMeta}
+use Rattle.pk_meta.specs.Page.{IsContent, IsMetaPage, meta_bytes, meta_entries}
+use Rattle.pk_meta.proofs.Sound.{both_true, if_some, are_sound}
+use Rattle.pk_meta.proofs.PageLemmas.{meta_again, Exact, found, only}
+
+-- ---- rising keys
+
+lt_less : (o : Ordering) → is_lt o ≡ true → o ≡ Less
+lt_less Less e = refl
+lt_less Equal e = cc
+lt_less Greater e = cc
+
+below_sound : (key : Key) (es : List Entry) → below_all key_cmp key es ≡ true → AllByRecursion (IsBelow key) (map key_of es)
+below_sound key [] e = tt
+below_sound key (x ∷ es) e = let h = both_true (is_lt (key_cmp key (key_of x))) (below_all key_cmp key es) e in (lt_less _ h.0, below_sound key es h.1)
+
+sorted_sound : (es : List Entry) → is_sorted key_cmp es ≡ true → IsRising (map key_of es)
+sorted_sound [] e = tt
+sorted_sound (x ∷ es) e = let h = both_true (below_all key_cmp (key_of x) es) (is_sorted key_cmp es) e in (below_sound (key_of x) es h.0, sorted_sound es h.1)
+
+below_true : (key : Key) (es : List Entry) → AllByRecursion (IsBelow key) (map key_of es) → below_all key_cmp key es ≡ true
+below_true key [] h = refl
+below_true key (x ∷ es) h = rw (ap is_lt h.0, below_true key es h.1) refl
+
+sorted_true : (es : List Entry) → IsRising (map key_of es) → is_sorted key_cmp es ≡ true
+sorted_true [] h = refl
+sorted_true (x ∷ es) h = rw (below_true (key_of x) es h.0, sorted_true es h.1) refl
+
+-- ---- entries pass their tests
+
+least_true : (a b : ℕ) → a ≤ b → nat_le a b ≡ true
+least_true a b h = grind (arith, nat_tests)
+
+is_entry_true : (g : Shape) (e : Entry) → IsEntry g e → is_entry g e ≡ true
+is_entry_true g (key, Some place) h =
+    let tests = is_place g place.page place.len h.1 in
+    rw (least_true 1 (length key) h.0.some, least_true (length key) 16 h.0.most, tests.0, tests.1) refl
+is_entry_true g (key, None) h = rw (least_true 1 (length key) h.0.some, least_true (length key) 16 h.0.most) refl
+
+all_entries : (g : Shape) (es : List Entry) → AllByRecursion (IsEntry g) es → list_all (is_entry g) es ≡ true
+all_entries g [] h = refl
+all_entries g (e ∷ es) h = rw (is_entry_true g e h.0, all_entries g es h.1) refl
+
+are_true : (g : Shape) (es : List Entry) → 1 ≤ length es → length es ≤ page_entries g → AllByRecursion (IsEntry g) es → are_entries g es ≡ true
+are_true g es some most each = rw (least_true 1 (length es) some, least_true (length es) (page_entries g) most, all_entries g es each) refl
+
+-- ---- the laws
+
+pub meta_entries_again : (g : Shape) (level index : ℕ) (es : List Entry) → IsShape g → IsContent g level index es → meta_entries g level index (length es) (meta_bytes g level index es) ≡ Some es
+unfolding meta_entries
+meta_entries_again g level index es shape content =
+    let page : List ℕ = meta_bytes g level index es in
+    let own = meta_again g page level index es shape (record { content = content; bytes = refl }) in
+    let test : (are_entries g es && is_sorted key_cmp es && bytes_eq page page) ≡ true =
+    rw (are_true g es content.some content.most content.each, sorted_true es content.rising, (bytes_eq-Decides page page).1 refl) refl in
+    ap (λ (x : List Entry). if are_entries g x && is_sorted key_cmp x && bytes_eq page (meta_bytes g level index x) then Some x else None) own.entries_are ∙ rw test refl
+
+many_from : (at n : ℕ) (page : List ℕ) → length (entries_from at n page) ≡ n
+many_from at zero page = refl
+many_from at (suc n) page = ap suc (many_from (at + 32) n page)
+
+pub meta_held : (g : Shape) (level index count : ℕ) (page : List ℕ) (es : List Entry) → 1 ≤ level → level ≤ 4 → index < 2 ^ 32 → meta_entries g level index count page ≡ Some es
+    → IsMetaPage g page level index es × (length es ≡ count)
+unfolding meta_entries
+meta_held g level index count page es least most fits e =
+    let read : List Entry = entries_from 32 count page in
+    let some = if_some (are_entries g read && is_sorted key_cmp read && bytes_eq page (meta_bytes g level index read)) read es e in
+    let last = both_true (are_entries g read && is_sorted key_cmp read) (bytes_eq page (meta_bytes g level index read)) some.0 in
+    let first = both_true (are_entries g read) (is_sorted key_cmp read) last.0 in
+    let stand = are_sound g read first.0 in
+    subst (λ (x : List Entry). IsMetaPage g page level index x × (length x ≡ count)) some.1 (
+      record {
+        content = record { level_least = least; level_most = most; index_fits = fits; some = stand.some; most = stand.most; each = stand.each; rising = sorted_sound read first.1 };
+        bytes = (bytes_eq-Decides page (meta_bytes g level index read)).0 last.1;
+      },
+      many_from 32 count page,
+    )
+
+pub reads : (g : Shape) (page : List ℕ) (r : Result MetaHead BadMeta) → ((i : ℕ) → get_or page i 0 < 256) → length page ≡ g.page_bytes → IsShape g → Exact g page r
+    → IfOk r (λ h. (entries : List Entry) × (meta_entries g h.level h.index h.count page ≡ Some entries) × (length entries ≡ h.count))
+reads g page (Ok h) fits sized shape e =
+    let own = found g page (Ok h) fits sized shape e in (
+      own.0,
+      ap (λ (n : ℕ). meta_entries g h.level h.index n page) (sym own.2) ∙ ap (λ (x : List ℕ). meta_entries g h.level h.index (length own.0) x) own.1.bytes
+          ∙ meta_entries_again g h.level h.index own.0 shape own.1.content,
+      own.2,
+    )
+reads g page (Err bad) fits sized shape e = tt
+
+pub read_only : (g : Shape) (page : List ℕ) (r : Result MetaHead BadMeta) → IsShape g → Exact g page r → (level index count : ℕ) (entries : List Entry) → 1 ≤ level → level ≤ 4 → index < 2 ^ 32
+    → meta_entries g level index count page ≡ Some entries → r ≡ Ok (record { level = level; index = index; count = count })
+read_only g page r shape exact level index count entries least most fits e =
+    let held = meta_held g level index count page entries least most fits e in
+    only g page r shape exact level index entries held.0 ∙ ap (λ (n : ℕ). Ok (record { level = level; index = index; count = n })) held.1

@@ -1,0 +1,75 @@
+//! The entry of a key in a page, by halving.
+ghost use Rattle.std.specs.Prelude.{◌≡◌, ◌≤◌, ◌<◌, ◌+◌, ◌*◌, ◌^◌, List, ℕ, length, option_map, Some, None};
+ghost use Rattle.pk_base.specs.Entry.{Entry as EntrySpec};
+ghost use Rattle.pk_base.specs.EntryBytes.{cell_at, cell_key};
+ghost use Rattle.pk_base.specs.Fields.{number_at};
+ghost use Rattle.pk_base.specs.Seen.{entry as seen};
+ghost use Rattle.pk_meta.specs.Page.{IsMetaPage, Decodes, IsEntryOf, IsPlaceOf};
+
+use crate::entry;
+use pk_base::{Entry, Key, Shape, cell_of, compare, get_u16};
+use std::cmp::Ordering;
+
+/// Where a key stands among the entries of a page, and how many keys it was compared with.
+#[derive(Clone, Copy, Debug)]
+struct Search {
+    place: Option<u32>,
+    probes: u32,
+}
+
+/// The key of an entry.
+fn key_at<'a>(shape: &Shape, page: &'a [u8], i: usize) -> &'a [u8]
+    requires sized { length page.now ≡ shape.now.page_bytes }
+    requires decodes { Decodes shape.now page.now }
+    requires within { i < number_at 2 10 page.now }
+    ensures { result.now ≡ cell_key (cell_at (32 + 32 * i) page.now) }
+{
+    shape.known();
+    let cell = cell_of(page, i);
+    let size = cell[0] as usize;
+    &cell[4..4 + size]
+}
+
+/// The place of a key. Of n entries at most the binary logarithm of 2n are compared.
+fn place_of(shape: &Shape, page: &[u8], key: &Key) -> Search
+    requires sized { length page.now ≡ shape.now.page_bytes }
+    requires decodes { Decodes shape.now page.now }
+    ensures place { IsPlaceOf shape.now page.now key.now result.place }
+    ensures probes { 2 ^ result.probes ≤ 2 * number_at 2 10 page.now }
+{
+    shape.known();
+    let mut low = 0;
+    let mut high = get_u16(page, 10) as usize;
+    let mut probes = 0u32;
+    while low < high {
+        let middle = low + (high - low) / 2;
+        probes += 1;
+        match compare(key_at(shape, page, middle), key.bytes()) {
+            Ordering::Less => low = middle + 1,
+            Ordering::Greater => high = middle,
+            Ordering::Equal => {
+                return Search {
+                    place: Some(middle as u32),
+                    probes,
+                };
+            }
+        }
+    }
+    Search {
+        place: None,
+        probes,
+    }
+}
+
+/// The entry of a key; None exactly where the page has none of it.
+pub fn find(shape: &Shape, page: &[u8], key: &Key) -> Option<Entry>
+    requires sized { length page.now ≡ shape.now.page_bytes }
+    requires decodes { Decodes shape.now page.now }
+    ensures { (level index : ℕ) (entries : List EntrySpec) → IsMetaPage shape.now page.now level index entries → IsEntryOf key.now entries (option_map seen result) }
+{
+    shape.known();
+    match place_of(shape, page, key).place {
+        Some(place) => Some(entry(shape, page, place)),
+        None => None,
+    }
+}

@@ -1,0 +1,67 @@
+-- The bytes that are written one after another are those of a root's page.
+use Rattle.std.proofs.Common.{◌≡◌, ℕ, ◌+◌, ◌-◌, ◌*◌, ◌≤◌, true, List, [], ◌∷◌, ◌++◌, length, take, drop, refl, sym, ap, subst, ◌∙◌, arith, length-append}
+use Rattle.std.specs.List.{flat_map, concat}
+use Rattle.std.proofs.lemmas.List.{append_assoc, append-nil, take_all, take-append-drop, length-take-le}
+use Rattle.pk_base.specs.Fields.{u16, u32, u64, spelled, zeros}
+use Rattle.pk_base.specs.Shape.{Shape, IsShape}
+use Rattle.pk_rootfmt.specs.Root.{Root, root_bytes, is_root, parts}
+use Rattle.pk_rootfmt.specs.Fault.{magic}
+use Rattle.pk_rootfmt.specs.Held.{total}
+use Rattle.pk_rootfmt.proofs.BlockLemmas.{parts_same, parts_joined}
+use Rattle.pk_rootfmt.proofs.PageLemmas.{before_blocks, rows_root}
+use Rattle.pk_rootfmt.proofs.AgainLemmas.{four, root_room}
+
+flat_append : (xs ys : List ℕ) → flat_map u16 (xs ++ ys) ≡ flat_map u16 xs ++ flat_map u16 ys
+flat_append [] ys = refl
+flat_append (x ∷ xs) ys = ap (λ (r : List ℕ). u16 x ++ r) (flat_append xs ys) ∙ sym (append_assoc (u16 x) (flat_map u16 xs) (flat_map u16 ys))
+
+pub encoded : (g : Shape) (number epoch : ℕ) (newest older : List ℕ) (a b c d : ℕ) (runs : List (List ℕ))
+    → spelled (magic ∷ u16 1 ∷ u16 g.block_pages ∷ u32 g.page_bytes ∷ u16 g.blocks ∷ u16 (length (newest ++ older)) ∷ zeros 4 ∷ u64 number ∷ u64 epoch ∷ flat_map u32 (a ∷ b ∷ c ∷ d ∷ []) ∷ zeros 8 ∷ [])
+    ++ flat_map u16 (newest ++ older) ++ flat_map u16 (concat runs) ++ zeros (g.page_bytes - (64 + 2 * length (newest ++ older) + 2 * length (concat runs)))
+    ≡ root_bytes g (record { number = number; epoch = epoch; newest = newest; older = older; counts = a ∷ b ∷ c ∷ d ∷ []; runs = runs })
+encoded g number epoch newest older a b c d runs =
+    let e : List ℕ = newest ++ older in
+    let r : List ℕ = concat runs in
+    let k : ℕ = g.page_bytes - (64 + 2 * length e + 2 * length r) in
+    let size : k ≡ g.page_bytes - (64 + 2 * length (e ++ r)) = omega (arith, length-append e r) in
+    ap (λ (x : List ℕ). before_blocks g (length e) number epoch a b c d (x ++ zeros k)) (sym (flat_append e r))
+    ∙ ap (λ (n : ℕ). before_blocks g (length e) number epoch a b c d (flat_map u16 (e ++ r) ++ zeros n)) size
+    ∙ ap (λ (x : List ℕ). before_blocks g (length e) number epoch a b c d (flat_map u16 (e ++ r) ++ x)) (sym (append-nil (zeros (g.page_bytes - (64 + 2 * length (e ++ r))))))
+    ∙ ap (λ (j : ℕ). before_blocks g j number epoch a b c d (flat_map u16 (e ++ r) ++ (zeros (g.page_bytes - (64 + 2 * length (e ++ r))) ++ []))) (length-append newest older)
+    ∙ rows_root g number epoch newest older a b c d runs
+
+-- the runs are cut from the front of the list of blocks
+pub runs_joined : (sizes items : List ℕ) → total sizes ≤ length items → concat (parts sizes items) ≡ take (total sizes) items
+runs_joined sizes items room =
+    let front : List ℕ = take (total sizes) items in
+    let len : length front ≡ total sizes = length-take-le (total sizes) items room in
+    let same : take (total sizes) items ≡ take (total sizes) front = sym (take_all (total sizes) front (omega (arith, len))) in
+    ap concat (parts_same sizes items front same) ∙ parts_joined sizes front len
+
+-- a list is its first two numbers and the rest
+length_two : (xs : List ℕ) → length (take 2 xs) + length (drop 2 xs) ≡ length xs
+length_two xs = omega (arith, length-append (take 2 xs) (drop 2 xs), ap length (take-append-drop 2 xs))
+
+-- what is written of epochs and runs into so many bytes
+abbrev pub written : Shape → ℕ → ℕ → ℕ → List ℕ → List ℕ → List ℕ → List ℕ
+written g size number epoch epochs counts runs =
+    spelled (magic ∷ u16 1 ∷ u16 g.block_pages ∷ u32 g.page_bytes ∷ u16 g.blocks ∷ u16 (length epochs) ∷ zeros 4 ∷ u64 number ∷ u64 epoch ∷ flat_map u32 counts ∷ zeros 8 ∷ [])
+    ++ flat_map u16 epochs ++ flat_map u16 runs ++ zeros (size - (64 + 2 * length epochs + 2 * length runs))
+
+module _ (g : Shape) (number epoch : ℕ) (epochs counts sizes items : List ℕ) where
+  -- the root that is held in these lists
+  abbrev pub held : Root
+  held = record { number = number; epoch = epoch; newest = take 2 epochs; older = drop 2 epochs; counts = counts; runs = parts sizes items }
+
+  pub held_room : IsShape g → is_root g held ≡ true → total sizes ≤ length items → 64 + 2 * length epochs + 2 * length (take (total sizes) items) ≤ g.page_bytes
+  held_room shape e room = omega (arith, root_room g held shape e, length_two epochs, ap length (runs_joined sizes items room))
+
+  -- it is written as its page
+  pub held_bytes : length counts ≡ 4 → total sizes ≤ length items → written g g.page_bytes number epoch epochs counts (take (total sizes) items) ≡ root_bytes g held
+  held_bytes sized room =
+      let own = four counts sized in
+      let page : List ℕ → Root = λ (cs : List ℕ). record { number = number; epoch = epoch; newest = take 2 epochs; older = drop 2 epochs; counts = cs; runs = parts sizes items } in
+      ap (λ (es : List ℕ). written g g.page_bytes number epoch es counts (take (total sizes) items)) (sym (take-append-drop 2 epochs))
+      ∙ ap (λ (rs : List ℕ). written g g.page_bytes number epoch (take 2 epochs ++ drop 2 epochs) counts rs) (sym (runs_joined sizes items room))
+      ∙ subst (λ (cs : List ℕ). written g g.page_bytes number epoch (take 2 epochs ++ drop 2 epochs) cs (concat (parts sizes items)) ≡ root_bytes g (page cs)) (sym own.is)
+      (encoded g number epoch (take 2 epochs) (drop 2 epochs) own.a own.b own.c own.d (parts sizes items))

@@ -1,0 +1,8 @@
+use Rattle.std.proofs.Common.{◌≡◌, ◌+◌, ◌-◌, ◌*◌, [], drop}
+use Rattle.pk_rootfmt.specs.Root.{u16s_at}
+use Rattle.pk_rootfmt.specs.Fault.{blocks_fault}
+use Rattle.pk_rootfmt.proofs.check.check_blocks.Given as goal
+
+abbrev pub invariant-loop-i : goal.invariant-loop-i
+invariant-loop-i l =
+    blocks_fault l.shape (64 + 2 * l.i) (u16s_at l.i (drop 64 l.page)) (u16s_at (l.count - l.i) (drop (64 + 2 * l.i) l.page)) ≡ blocks_fault l.shape 64 [] (u16s_at l.count (drop 64 l.page))

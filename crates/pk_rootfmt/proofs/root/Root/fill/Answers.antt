@@ -1,0 +1,92 @@
+use Rattle.std.proofs.Common.{◌≡◌, ◌∙◌, ◌+◌, ◌*◌, ◌<◌, ◌∷◌, [], List, ℕ, map, ap, sym, subst, arith, length, take, drop, get_or, refl, Some}
+use Rattle.pk_base.specs.Shape.{Shape, IsShape, run_blocks, meta_blocks}
+use Rattle.pk_rootfmt.specs.Root.{parts, u16s_at}
+use Rattle.pk_rootfmt.specs.Held.{Held, total}
+use Rattle.pk_rootfmt.proofs.RunLemmas.{total_small, whole}
+use Rattle.pk_rootfmt.proofs.FillLemmas.{sizes_at, journal_facts, sizes_fit, sizes_room, filled}
+use Rattle.pk_rootfmt.proofs.root.Root.fill.Goals as goal
+
+pub read_blocks-requires-clause-there : goal.read_blocks-requires-clause-there
+read_blocks-requires-clause-there g c =
+    let shape : Shape = c.args.self.now.shape in
+    let page : List ℕ = c.args.page.now in
+    let same : c.self.inside.shape ≡ shape = ap (λ (h : Held). h.shape) c.self.view_is in
+    let is : IsShape shape = subst IsShape same c.known.ensures in
+    let fits : (i : ℕ) → get_or page i 0 < 256 = λ i. omega (arith, c.type_inv.page i) in
+    omega (arith, sizes_room shape page fits c.requires.sized is c.requires.passes, c.get_u16-journal.ensures)
+
+pub read_blocks-requires-clause-room : goal.read_blocks-requires-clause-room
+read_blocks-requires-clause-room g c =
+    let shape : Shape = c.args.self.now.shape in
+    let page : List ℕ = c.args.page.now in
+    let same : c.self.inside.shape ≡ shape = ap (λ (h : Held). h.shape) c.self.view_is in
+    let is : IsShape shape = subst IsShape same c.known.ensures in
+    let fits : (i : ℕ) → get_or page i 0 < 256 = λ i. omega (arith, c.type_inv.page i) in
+    let most = (journal_facts shape page fits c.requires.sized is c.requires.passes).most in omega (arith, most, c.get_u16-journal.ensures, c.self.invariant.epochs_room)
+
+pub total-requires : goal.total-requires
+total-requires g c =
+    let shape : Shape = c.args.self.now.shape in
+    let page : List ℕ = c.args.page.now in
+    let same : c.self.inside.shape ≡ shape = ap (λ (h : Held). h.shape) c.self.view_is in
+    let is : IsShape shape = subst IsShape same c.known.ensures in
+    let fits : (i : ℕ) → get_or page i 0 < 256 = λ i. omega (arith, c.type_inv.page i) in
+    let sizes_is : c.sizes_of-sizes.result ≡ sizes_at shape page = c.sizes_of-sizes.ensures ∙ (λ i. map (run_blocks (same i)) (c.get_u32.ensures i ∷ c.get_u32-2.ensures i ∷ c.get_u32-3.ensures i ∷ c.get_u32-4.ensures i ∷ [])) in
+    omega (arith, ap total sizes_is, total_small shape (total (sizes_at shape page)) is (sizes_fit shape page fits c.requires.sized is c.requires.passes))
+
+pub read_blocks-requires-2-clause-there : goal.read_blocks-requires-2-clause-there
+read_blocks-requires-2-clause-there g c =
+    let shape : Shape = c.args.self.now.shape in
+    let page : List ℕ = c.args.page.now in
+    let same : c.self.inside.shape ≡ shape = ap (λ (h : Held). h.shape) c.self.view_is in
+    let is : IsShape shape = subst IsShape same c.known.ensures in
+    let fits : (i : ℕ) → get_or page i 0 < 256 = λ i. omega (arith, c.type_inv.page i) in
+    let sizes_is : c.sizes_of-sizes.result ≡ sizes_at shape page = c.sizes_of-sizes.ensures ∙ (λ i. map (run_blocks (same i)) (c.get_u32.ensures i ∷ c.get_u32-2.ensures i ∷ c.get_u32-3.ensures i ∷ c.get_u32-4.ensures i ∷ [])) in
+    omega (arith, sizes_room shape page fits c.requires.sized is c.requires.passes, c.get_u16-journal.ensures, c.total.ensures, ap total sizes_is)
+
+pub read_blocks-requires-2-clause-room : goal.read_blocks-requires-2-clause-room
+read_blocks-requires-2-clause-room g c =
+    let shape : Shape = c.args.self.now.shape in
+    let page : List ℕ = c.args.page.now in
+    let same : c.self.inside.shape ≡ shape = ap (λ (h : Held). h.shape) c.self.view_is in
+    let is : IsShape shape = subst IsShape same c.known.ensures in
+    let fits : (i : ℕ) → get_or page i 0 < 256 = λ i. omega (arith, c.type_inv.page i) in
+    let sizes_is : c.sizes_of-sizes.result ≡ sizes_at shape page = c.sizes_of-sizes.ensures ∙ (λ i. map (run_blocks (same i)) (c.get_u32.ensures i ∷ c.get_u32-2.ensures i ∷ c.get_u32-3.ensures i ∷ c.get_u32-4.ensures i ∷ [])) in
+    omega (arith, sizes_fit shape page fits c.requires.sized is c.requires.passes, ap total sizes_is, c.total.ensures, ap length c.deref_mut.ensures.value, c.self.invariant.room, ap meta_blocks same)
+
+pub invariant_of-self : goal.invariant_of-self
+invariant_of-self g c =
+    let shape : Shape = c.args.self.now.shape in
+    let page : List ℕ = c.args.page.now in
+    let same : c.self.inside.shape ≡ shape = ap (λ (h : Held). h.shape) c.self.view_is in
+    let is : IsShape shape = subst IsShape same c.known.ensures in
+    let fits : (i : ℕ) → get_or page i 0 < 256 = λ i. omega (arith, c.type_inv.page i) in
+    let sizes_is : c.sizes_of-sizes.result ≡ sizes_at shape page = c.sizes_of-sizes.ensures ∙ (λ i. map (run_blocks (same i)) (c.get_u32.ensures i ∷ c.get_u32-2.ensures i ∷ c.get_u32-3.ensures i ∷ c.get_u32-4.ensures i ∷ [])) in
+    let sized : length c.read_blocks-2.new.into ≡ length c.self.inside.blocks.items = c.read_blocks-2.ensures.len ∙ ap length c.deref_mut.ensures.value in
+    let even = (journal_facts shape page fits c.requires.sized is c.requires.passes).even in
+    record {
+      epochs_room = c.read_blocks.ensures.len ∙ c.self.invariant.epochs_room;
+      epochs_fit = rw c.get_u16-journal.ensures even;
+      four_counts = refl;
+      four = ap length sizes_is;
+      room = ap length (whole c.self.inside.blocks.len c.read_blocks-2.new.into c.self.inside.blocks.items sized (omega arith)) ∙ sized ∙ c.self.invariant.room;
+      fits = omega (arith, sizes_fit shape page fits c.requires.sized is c.requires.passes, ap total sizes_is, ap meta_blocks same);
+    }
+
+pub returns-clause-root : goal.returns-clause-root
+returns-clause-root g c =
+    let shape : Shape = c.args.self.now.shape in
+    let page : List ℕ = c.args.page.now in
+    let same : c.self.inside.shape ≡ shape = ap (λ (h : Held). h.shape) c.self.view_is in
+    let is : IsShape shape = subst IsShape same c.known.ensures in
+    let fits : (i : ℕ) → get_or page i 0 < 256 = λ i. omega (arith, c.type_inv.page i) in
+    let sizes_is : c.sizes_of-sizes.result ≡ sizes_at shape page = c.sizes_of-sizes.ensures ∙ (λ i. map (run_blocks (same i)) (c.get_u32.ensures i ∷ c.get_u32-2.ensures i ∷ c.get_u32-3.ensures i ∷ c.get_u32-4.ensures i ∷ [])) in
+    let sized : length c.read_blocks-2.new.into ≡ length c.self.inside.blocks.items = c.read_blocks-2.ensures.len ∙ ap length c.deref_mut.ensures.value in
+    let kept = whole c.self.inside.blocks.len c.read_blocks-2.new.into c.self.inside.blocks.items sized (omega arith) in
+    let journal_is = c.get_u16-journal.ensures in
+    let count : c.total.result ≡ total (sizes_at shape page) = c.total.ensures ∙ ap total sizes_is in
+    let epochs_read = subst (λ (k : ℕ). take k c.read_blocks.new.into ≡ u16s_at k (drop 64 page)) journal_is c.read_blocks.ensures.front in
+    let blocks_read = subst (λ (n : ℕ). take n c.read_blocks-2.new.into ≡ u16s_at n (drop (64 + 2 * c.get_u16-journal.result) page)) count c.read_blocks-2.ensures.front in
+    let runs_read = subst (λ (k : ℕ). take (total (sizes_at shape page)) c.read_blocks-2.new.into ≡ u16s_at (total (sizes_at shape page)) (drop (64 + 2 * k) page)) journal_is blocks_read in
+    filled shape page fits c.requires.sized is c.requires.passes c.read_blocks.new.into c.read_blocks-2.new.into epochs_read runs_read
+    ∙ (λ i. Some (record { number = sym c.get_u64-self-inside.ensures i; epoch = sym c.get_u64-self-inside-2.ensures i; newest = take 2 (take (sym journal_is i) c.read_blocks.new.into); older = drop 2 (take (sym journal_is i) c.read_blocks.new.into); counts = sym c.get_u32.ensures i ∷ sym c.get_u32-2.ensures i ∷ sym c.get_u32-3.ensures i ∷ sym c.get_u32-4.ensures i ∷ []; runs = parts (sym sizes_is i) (sym kept i) }))

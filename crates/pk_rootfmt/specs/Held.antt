@@ -1,0 +1,49 @@
+-- The value of a root that is held in memory, and the laws of its page.
+use Rattle.std.specs.Prelude.{◌≡◌, ℕ, ◌+◌, ◌≤◌, ◌==◌, ◌||◌, List, [], ◌∷◌, length, true, Option, Some, None}
+use Rattle.pk_base.specs.Shape.{Shape, IsShape, meta_blocks}
+use Rattle.pk_rootfmt.specs.Root.{Root, root_bytes, root_page, is_root}
+
+-- a root of a flash of this shape
+pub record Held : Type 0 where
+  pub shape : Shape
+  pub root : Root
+
+-- no root: the number 0 and no blocks
+abbrev pub none : Root
+none = record { number = 0; epoch = 0; newest = []; older = []; counts = 0 ∷ 0 ∷ 0 ∷ 0 ∷ []; runs = [] ∷ [] ∷ [] ∷ [] ∷ [] }
+
+-- the first root of a flash: epoch 1 in blocks 2 and 3, and empty runs
+abbrev pub first : Root
+first = record { number = 1; epoch = 1; newest = 2 ∷ 3 ∷ []; older = []; counts = 0 ∷ 0 ∷ 0 ∷ 0 ∷ []; runs = [] ∷ [] ∷ [] ∷ [] ∷ [] }
+
+-- the sum of the sizes of runs
+abbrev pub total : List ℕ → ℕ
+total [] = 0
+total (n ∷ ns) = n + total ns
+
+-- the blocks of an epoch, or zeros where there are none
+abbrev pub two_of : List ℕ → List ℕ
+two_of [] = 0 ∷ 0 ∷ []
+two_of (b ∷ bs) = b ∷ bs
+
+-- the blocks of the older epoch, where there is one
+abbrev pub older_of : List ℕ → Option (List ℕ)
+older_of [] = None
+older_of (b ∷ bs) = Some (b ∷ bs)
+
+abbrev pub blocks_or_none : Option (List ℕ) → List ℕ
+blocks_or_none None = []
+blocks_or_none (Some bs) = bs
+
+-- what a root in memory keeps: room for the blocks of all runs and of two epochs
+pub record HasRoom (shape : Shape) (journal : ℕ) (epochs counts sizes blocks : List ℕ) : Type 0 where
+  pub epochs_room : length epochs ≡ 4
+  pub epochs_fit : (journal == 0 || journal == 2 || journal == 4) ≡ true
+  pub four_counts : length counts ≡ 4
+  pub four : length sizes ≡ 4
+  pub room : length blocks ≡ meta_blocks shape + 4
+  pub fits : total sizes ≤ meta_blocks shape
+
+-- the page of a root is read as the root
+abbrev pub ReadsBack : Type 0
+ReadsBack = (shape : Shape) (root : Root) → IsShape shape → is_root shape root ≡ true → root_page shape (root_bytes shape root) ≡ Some root

@@ -1,0 +1,138 @@
+//! The first wrong byte of a root page.
+ghost use Rattle.std.specs.Prelude.{◌≡◌, ◌+◌, ◌*◌, ◌<◌, ◌≤◌, ◌^◌, ◌==◌, not, [], length, drop};
+ghost use Rattle.std.specs.List.{list_any};
+ghost use Rattle.pk_base.specs.Fields.{Finds};
+ghost use Rattle.pk_base.specs.Shape.{run_blocks};
+ghost use Rattle.pk_rootfmt.specs.Root.{u16s_at};
+ghost use Rattle.pk_rootfmt.specs.Fault.{is_run_count, is_epoch, is_other_block, blocks_fault, listed as listed_of, shape_fault, number_fault, list_fault, root_fault};
+
+use pk_base::{Shape, Wrong, get_u16, get_u32, get_u64, passes, text, zeros};
+
+pub(crate) const MAGIC: [u8; 8] = *b"PINKROOT";
+
+/// The blocks of a run of so many entries.
+pub(crate) fn run_size(shape: &Shape, entries: u32) -> u32
+    ensures { result ≡ run_blocks shape.now entries }
+{
+    let pages = entries.div_ceil(shape.entries());
+    pages.div_ceil(shape.block_pages())
+}
+
+/// A run of this level may have so many entries.
+fn is_count(shape: &Shape, level: u8, entries: u32) -> bool
+    requires { 1 ≤ level × level ≤ 4 }
+    ensures { result ≡ is_run_count shape.now level entries }
+{
+    entries as u64 <= shape.cap(level) as u64 * shape.entries() as u64
+}
+
+/// The newest epoch of a root with so many journal blocks may have this number.
+fn is_newest(journal: u16, number: u64, epoch: u64) -> bool
+    ensures { result ≡ is_epoch journal number epoch }
+{
+    epoch >= 1 && epoch <= number && (journal == 2 || epoch >= 2)
+}
+
+/// As many blocks as the fields of the page name.
+#[tactic(auto, unfolding(crate::specs::Fault::listed))]
+fn listed(shape: &Shape, page: &[u8]) -> usize
+    requires { 64 ≤ length page.now }
+    ensures { result ≡ listed_of shape.now page.now }
+{
+    let deep = run_size(shape, get_u32(page, 48)) as usize
+        + run_size(shape, get_u32(page, 52)) as usize;
+    let runs = run_size(shape, get_u32(page, 40)) as usize
+        + (run_size(shape, get_u32(page, 44)) as usize + deep);
+    get_u16(page, 18) as usize + runs
+}
+
+/// None of so many blocks is this one.
+fn is_new(page: &[u8], count: usize, block: u16) -> bool
+    requires { 64 + 2 * count ≤ length page.now }
+    ensures { result ≡ not (list_any (λ other. block == other) (u16s_at count (drop 64 page.now))) }
+{
+    for i in 0..count {
+        if get_u16(page, 64 + 2 * i) == block {
+            return false;
+        }
+    }
+    true
+}
+
+/// The block number behind so many others may stand there.
+fn is_block(shape: &Shape, page: &[u8], count: usize, block: u16) -> bool
+    requires { 64 + 2 * count ≤ length page.now }
+    ensures { result ≡ is_other_block shape.now (u16s_at count (drop 64 page.now)) block }
+{
+    block >= 2 && (block as u32) < shape.blocks() && is_new(page, count, block)
+}
+
+/// So many block numbers stand in the page.
+fn check_blocks(shape: &Shape, page: &[u8], count: usize) -> Result<(), Wrong>
+    requires fits { 64 + 2 * count ≤ length page.now }
+    requires small { length page.now < 2 ^ 31 }
+    ensures { Finds result (blocks_fault shape.now 64 [] (u16s_at count (drop 64 page.now))) }
+{
+    for i in 0..count {
+        let at = 64 + 2 * i;
+        if !is_block(shape, page, i, get_u16(page, at)) {
+            return Err(Wrong { at: at as u32 });
+        }
+    }
+    Ok(())
+}
+
+#[tactic(auto, unfolding(crate::specs::Fault::shape_fault))]
+fn check_shape(shape: &Shape, page: &[u8]) -> Result<(), Wrong>
+    requires { length page.now ≡ shape.now.page_bytes }
+    ensures { Finds result (shape_fault shape.now page.now) }
+{
+    shape.known();
+    text(page, 0, &MAGIC)?;
+    passes(8, get_u16(page, 8) == 1)?;
+    passes(10, get_u16(page, 10) as u32 == shape.block_pages())?;
+    passes(12, get_u32(page, 12) == shape.page_bytes())?;
+    passes(16, get_u16(page, 16) as u32 == shape.blocks())?;
+    let journal = get_u16(page, 18);
+    passes(18, journal == 2 || journal == 4)?;
+    zeros(page, 20, 24)
+}
+
+#[tactic(auto, unfolding(crate::specs::Fault::number_fault))]
+fn check_numbers(shape: &Shape, page: &[u8]) -> Result<(), Wrong>
+    requires { length page.now ≡ shape.now.page_bytes }
+    ensures { Finds result (number_fault shape.now page.now) }
+{
+    shape.known();
+    let number = get_u64(page, 24);
+    passes(24, number >= 1)?;
+    passes(32, is_newest(get_u16(page, 18), number, get_u64(page, 32)))?;
+    passes(40, is_count(shape, 1, get_u32(page, 40)))?;
+    passes(44, is_count(shape, 2, get_u32(page, 44)))?;
+    passes(48, is_count(shape, 3, get_u32(page, 48)))?;
+    passes(52, is_count(shape, 4, get_u32(page, 52)))?;
+    zeros(page, 56, 64)
+}
+
+#[tactic(auto, unfolding(crate::specs::Fault::list_fault))]
+fn check_lists(shape: &Shape, page: &[u8]) -> Result<(), Wrong>
+    requires sized { length page.now ≡ shape.now.page_bytes }
+    requires room { 64 + 2 * listed_of shape.now page.now ≤ length page.now }
+    ensures { Finds result (list_fault shape.now page.now) }
+{
+    shape.known();
+    let count = listed(shape, page);
+    check_blocks(shape, page, count)?;
+    zeros(page, 64 + 2 * count, page.len())
+}
+
+/// The first wrong byte.
+pub(crate) fn checked(shape: &Shape, page: &[u8]) -> Result<(), Wrong>
+    requires { length page.now ≡ shape.now.page_bytes }
+    ensures { Finds result (root_fault shape.now page.now) }
+{
+    shape.known();
+    check_shape(shape, page)?;
+    check_numbers(shape, page)?;
+    check_lists(shape, page)
+}
