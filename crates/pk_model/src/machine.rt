@@ -1,0 +1,306 @@
+//! The plain slow machine: what a drive without faults answers, over a map in memory. It is a yardstick for tests.
+ghost use Rattle.std.specs.Prelude.{◌≡◌, ◌==◌, ◌≤◌, ◌<◌, ◌^◌, ◌/◌, ◌%◌, ◌⊎◌, ◌&&◌, ◌||◌, not, nat_le, ℕ, length, flat_map, ◌++◌, None, Some, IfOk, OnOk, OnErr, List, [], ◌∷◌};
+ghost use Rattle.std.specs.FinMap.{empty, get, contains_key};
+ghost use Rattle.pk_base.specs.Fields.{u32 as u32_bytes};
+ghost use Rattle.pk_base.specs.Shape.{charge, limit};
+ghost use Rattle.pk_base.specs.Map.{pages_of, pages_if_some, live as live_of};
+ghost use Rattle.std.specs.FinMap as map;
+ghost use Rattle.pk_nvme.specs.Command.{command, key as key_in, IsWhole};
+ghost use Rattle.pk_nvme.specs.Seen.{command_of};
+ghost use Rattle.pk_model.specs.Answer.{check, early, first_of, success};
+ghost use Rattle.pk_model.specs.Machine.{Machine, Answers, replied};
+
+use crate::answer::Answer;
+use crate::early::early_fault;
+use crate::listing::Page;
+use crate::table::Table;
+use crate::value::Value;
+use pk_base::{Key, Shape};
+use pk_nvme::Request;
+use std::alloc::{AllocError, Global};
+use std::marker::Model;
+
+/// A shape and a map from keys to values.
+#[derive(Drop)]
+pub struct MapMachine {
+    shape: Shape,
+    map: Table,
+    live: u64,
+}
+
+impl Model for MapMachine {
+    ghost use Rattle.std.specs.Prelude.{◌≡◌, ◌≤◌};
+    ghost use Rattle.std.specs.FinMap.{code};
+    ghost use Rattle.std.specs.Coded.{codes, coded_ℕ, coded_list};
+    ghost use Rattle.pk_base.specs.Key.{key_cmp};
+    ghost use Rattle.pk_base.specs.Shape.{limit};
+    ghost use Rattle.pk_base.specs.Map.{live as live_of};
+    ghost use Rattle.pk_model.specs.Machine.{Machine};
+
+    ghost Value = { Machine };
+
+    ghost coded = { Prim.hlevel (codes, code {R = key_cmp} (coded_list coded_ℕ) (coded_list coded_ℕ)) };
+
+    ghost view = { λ m. record { shape = m.shape; map = m.map } };
+
+    ghost invariant = { λ m. (m.live ≡ live_of m.shape m.map) × (m.live ≤ limit m.shape) };
+}
+
+/// The pages of a value.
+#[tactic(auto, unfolding(pk_base::specs::Shape::charge))]
+fn pages(shape: &Shape, value: &[u8]) -> u64
+    ensures { result ≡ pages_of shape.now value.now }
+{
+    (32 + value.len() as u64).div_ceil(shape.page_bytes() as u64)
+}
+
+/// The first check of a Store that fails on the map: of its options, then of the live pages that it would leave.
+fn store_fault(options: u8, is_there: bool, live: u64, most: u64) -> Option<u8>
+    ensures { result ≡ first_of (check (not (options % 2 == 1) || is_there) 0x87) (first_of (check (not (options / 2 % 2 == 1 && is_there)) 0x89) (check (nat_le live most) 0x81)) }
+{
+    if options % 2 == 1 && !is_there {
+        return Some(0x87);
+    }
+    if options / 2 % 2 == 1 && is_there {
+        return Some(0x89);
+    }
+    if live > most { Some(0x81) } else { None }
+}
+
+/// The numbers of a Report that are not 0: the live pages, their limit and the keys.
+fn report_front(live: u32, limit: u32, keys: u32) -> [u8; 12]
+    ensures { result ≡ flat_map u32_bytes (live ∷ limit ∷ keys ∷ []) }
+{
+    let [a0, a1, a2, a3] = live.to_le_bytes();
+    let [b0, b1, b2, b3] = limit.to_le_bytes();
+    let [c0, c1, c2, c3] = keys.to_le_bytes();
+    [a0, a1, a2, a3, b0, b1, b2, b3, c0, c1, c2, c3]
+}
+
+/// The answer of a List: how many keys there are, and they.
+fn answer_of(alloc: Global, page: &Page) -> Result<Answer, AllocError>
+    ensures { IfOk result (λ a. replied a ≡ success 0 (u32_bytes page.now.count ++ page.now.bytes)) }
+{
+    Answer::of_parts(alloc, 0, &page.count().to_le_bytes(), page.bytes())
+}
+
+/// The key that a request names.
+fn key_of(request: &Request) -> Key
+    requires some { 1 ≤ request.now.key_len }
+    requires most { request.now.key_len ≤ 16 }
+    ensures { result ≡ key_in (command_of request.now []) }
+{
+    Key::of(&request.key[..request.key_len as usize])
+}
+
+/// Whether a value stands under a key, and its pages; none where no value does.
+#[derive(Clone, Copy)]
+struct Held {
+    is_there: bool,
+    pages: u64,
+}
+
+impl MapMachine {
+    /// A machine of this shape with the empty map; an error where the memory for it is missing.
+    pub fn new(alloc: Global, shape: Shape) -> Result<MapMachine, AllocError>
+        ensures { IfOk result (λ m. m ≡ record { shape = shape; map = empty }) }
+    {
+        Ok(MapMachine {
+            shape,
+            map: Table::new(alloc),
+            live: 0,
+        })
+    }
+
+    /// The answer to a command, with the value that follows its entry; an error where the memory for the answer or for the
+    /// value is missing, with the machine as it was.
+    pub fn step(
+        &mut self,
+        alloc: Global,
+        entry: &[u8; 64],
+        value: &[u8],
+    ) -> Result<Answer, AllocError>
+        requires { IsWhole (command entry.now value.now) }
+        ensures ok { IfOk result (λ a. Answers self.old self.new (command entry.now value.now) a) }
+        ensures err { OnErr result (self.new ≡ self.old) }
+    {
+        let request = Request::of(entry);
+        match early_fault(&self.shape, &request) {
+            Some(status) => Answer::of_status(alloc, status),
+            None => self.serve(alloc, &request, value),
+        }
+    }
+
+    /// The answer to a command that passed the checks that read it alone.
+    fn serve(
+        &mut self,
+        alloc: Global,
+        request: &Request,
+        value: &[u8],
+    ) -> Result<Answer, AllocError>
+        requires passed { (v : List ℕ) → early self.old.shape (command_of request.now v) ≡ None }
+        requires whole { IsWhole (command_of request.now value.now) }
+        ensures ok { IfOk result (λ a. Answers self.old self.new (command_of request.now value.now) a) }
+        ensures err { OnErr result (self.new ≡ self.old) }
+    {
+        match request.opcode {
+            0x00 | 0xc0 => self.done(alloc, request),
+            0x01 => self.store(alloc, request, value),
+            0x02 => self.retrieve(alloc, request),
+            0x06 => self.list(alloc, request),
+            0x10 => self.delete(alloc, request),
+            0x14 => self.exist(alloc, request),
+            0xc2 => self.report(alloc, request),
+            _ => Answer::of_status(alloc, 0x01),
+        }
+    }
+
+    /// What stands under a key.
+    fn held(&self, key: &Key) -> Held
+        ensures there { result.is_there ≡ contains_key self.now.map key.now }
+        ensures pages { result.pages ≡ pages_if_some self.now.shape (get self.now.map key.now) }
+        ensures most { result.pages ≤ live_of self.now.shape self.now.map }
+    {
+        match self.map.get(key) {
+            Some(value) => Held {
+                is_there: true,
+                pages: pages(&self.shape, value.bytes()),
+            },
+            None => Held {
+                is_there: false,
+                pages: 0,
+            },
+        }
+    }
+
+    /// Puts a key and a value into the map, unless a check on the map fails.
+    fn store(
+        &mut self,
+        alloc: Global,
+        request: &Request,
+        value: &[u8],
+    ) -> Result<Answer, AllocError>
+        requires opcode { request.now.opcode ≡ 0x01 }
+        requires passed { (v : List ℕ) → early self.old.shape (command_of request.now v) ≡ None }
+        requires whole { length value.now ≡ request.now.size }
+        ensures ok { IfOk result (λ a. Answers self.old self.new (command_of request.now value.now) a) }
+        ensures err { OnErr result (self.new ≡ self.old) }
+    {
+        let limit = self.shape.limit() as u64;
+        let key = key_of(request);
+        let held = self.held(&key);
+        let live = self.live - held.pages + self.shape.charge(request.size) as u64;
+        match store_fault(request.options, held.is_there, live, limit) {
+            Some(status) => Answer::of_status(alloc, status),
+            None => self.put(alloc, key, value, live),
+        }
+    }
+
+    /// Puts a key and a value into the map, which then has so many live pages.
+    fn put(
+        &mut self,
+        alloc: Global,
+        key: Key,
+        value: &[u8],
+        live: u64,
+    ) -> Result<Answer, AllocError>
+        requires short { length value.now < 2 ^ 32 }
+        requires live { live ≡ live_of self.old.shape (map.insert self.old.map key value.now) }
+        requires most { live ≤ limit self.old.shape }
+        ensures ok { IfOk result (λ a. replied a ≡ success 0 []) }
+        ensures left { OnOk result (self.new ≡ record self.old { map = map.insert self.old.map key value.now }) }
+        ensures err { OnErr result (self.new ≡ self.old) }
+    {
+        let answer = Answer::of_parts(alloc, 0, &[], &[])?;
+        match self.map.insert(key, Value::of(alloc, value)?) {
+            Ok(()) => {
+                self.live = live;
+                Ok(answer)
+            }
+            Err(error) => Err(error),
+        }
+    }
+
+    /// Takes a key away.
+    fn delete(&mut self, alloc: Global, request: &Request) -> Result<Answer, AllocError>
+        requires opcode { request.now.opcode ≡ 0x10 }
+        requires passed { (v : List ℕ) → early self.old.shape (command_of request.now v) ≡ None }
+        ensures ok { IfOk result (λ a. (v : List ℕ) → Answers self.old self.new (command_of request.now v) a) }
+        ensures err { OnErr result (self.new ≡ self.old) }
+    {
+        let key = key_of(request);
+        let held = self.held(&key);
+        if !held.is_there {
+            return Answer::of_status(alloc, 0x87);
+        }
+        match Answer::of_parts(alloc, 0, &[], &[]) {
+            Ok(answer) => {
+                self.map.remove(&key);
+                self.live -= held.pages;
+                Ok(answer)
+            }
+            Err(error) => Err(error),
+        }
+    }
+
+    /// The front of the value of a key.
+    fn retrieve(&self, alloc: Global, request: &Request) -> Result<Answer, AllocError>
+        requires opcode { request.now.opcode ≡ 0x02 }
+        requires passed { (v : List ℕ) → early self.now.shape (command_of request.now v) ≡ None }
+        ensures { IfOk result (λ a. (v : List ℕ) → Answers self.now self.now (command_of request.now v) a) }
+    {
+        match self.map.get(&key_of(request)) {
+            Some(value) => {
+                let size = (request.size as usize).min(value.bytes().len());
+                Answer::of_parts(alloc, value.len(), &[], &value.bytes()[..size])
+            }
+            None => Answer::of_status(alloc, 0x87),
+        }
+    }
+
+    /// Whether the key of a request is there.
+    fn exist(&self, alloc: Global, request: &Request) -> Result<Answer, AllocError>
+        requires opcode { request.now.opcode ≡ 0x14 }
+        requires passed { (v : List ℕ) → early self.now.shape (command_of request.now v) ≡ None }
+        ensures { IfOk result (λ a. (v : List ℕ) → Answers self.now self.now (command_of request.now v) a) }
+    {
+        match self.map.get(&key_of(request)) {
+            Some(_) => Answer::of_parts(alloc, 0, &[], &[]),
+            None => Answer::of_status(alloc, 0x87),
+        }
+    }
+
+    /// The keys from a key on, as many as fit.
+    fn list(&self, alloc: Global, request: &Request) -> Result<Answer, AllocError>
+        requires opcode { request.now.opcode ≡ 0x06 }
+        requires passed { (v : List ℕ) → early self.now.shape (command_of request.now v) ≡ None }
+        ensures { IfOk result (λ a. (v : List ℕ) → Answers self.now self.now (command_of request.now v) a) }
+    {
+        let mut page = Page::with_room(alloc, request.size.min(65536) as usize - 4)?;
+        self.map
+            .list(&request.key[..request.key_len as usize], &mut page);
+        answer_of(alloc, &page)
+    }
+
+    /// A success that leaves the map: of a Flush or a Tick.
+    fn done(&self, alloc: Global, request: &Request) -> Result<Answer, AllocError>
+        requires opcode { (request.now.opcode ≡ 0x00) ⊎ (request.now.opcode ≡ 0xC0) }
+        requires passed { (v : List ℕ) → early self.now.shape (command_of request.now v) ≡ None }
+        ensures { IfOk result (λ a. (v : List ℕ) → Answers self.now self.now (command_of request.now v) a) }
+    {
+        let _ = request;
+        Answer::of_parts(alloc, 0, &[], &[])
+    }
+
+    /// The numbers of the map, and zeros for those of a drive.
+    fn report(&self, alloc: Global, request: &Request) -> Result<Answer, AllocError>
+        requires opcode { request.now.opcode ≡ 0xC2 }
+        requires passed { (v : List ℕ) → early self.now.shape (command_of request.now v) ≡ None }
+        ensures { IfOk result (λ a. (v : List ℕ) → Answers self.now self.now (command_of request.now v) a) }
+    {
+        let _ = request;
+        let limit = self.shape.limit();
+        let front = report_front(self.live as u32, limit, self.map.len() as u32);
+        Answer::of_parts(alloc, 0, &front, &[0; 52])
+    }
+}
