@@ -2,6 +2,7 @@ pub mod Counting
 pub mod Answering
 pub mod Serves
 pub mod Giving
+pub mod Blaming
 pub mod Queueing
 pub mod Finishing
 pub mod Commanding

@@ -29,3 +29,14 @@ IsFault Output = Unit {0}
 IsFault Flash = Unit {0}
 IsFault Worn = ⊥
 IsFault NotBuilt = ⊥
+
+-- What the counts of faults tell of an end, whatever the drive stands for: the input, the output, or a program or an erase failed where it
+-- says so, and none of them did where it does not.
+abbrev pub Blames : BoardState → BoardState → End → Type 0
+Blames a b Done = (b.in_faults ≡ a.in_faults) × NoFaults a b
+Blames a b Truncated = (b.in_faults ≡ a.in_faults) × NoFaults a b
+Blames a b Input = Rose a.in_faults b.in_faults × NoFaults a b
+Blames a b Output = Rose a.out_faults b.out_faults
+Blames a b Flash = Rose a.stop_faults b.stop_faults
+Blames a b Worn = (b.in_faults ≡ a.in_faults) × NoFaults a b
+Blames a b NotBuilt = (b.in_faults ≡ a.in_faults) × NoFaults a b

@@ -6,7 +6,7 @@ ghost use Rattle.pk_nvme.specs.Seen.{command_of};
 ghost use Rattle.pk_nvme.specs.declared.request.Request.{Request};
 ghost use Rattle.pk_queue.specs.Queue.{bytes_of};
 ghost use Rattle.pk_drive.specs.Wear.{is_worn};
-ghost use Rattle.pk_serve.specs.Ends.{IsFault};
+ghost use Rattle.pk_serve.specs.Ends.{IsFault, NoFaults, Blames};
 ghost use Rattle.pk_serve.specs.Input.{Advances, Quits};
 ghost use Rattle.pk_serve.specs.Complete.{Completes};
 ghost use Rattle.pk_serve.specs.Run.{Ends, Told, KeepsScript, KeepsSome, Answers, Causes};
@@ -45,6 +45,8 @@ pub fn serve_next<D: Engine, B: Board>(
     ensures value { length value.new ≡ length value.old }
     ensures into { length into.new ≡ length into.old }
     ensures in_faults { OnOk result ((B.state board.new).in_faults ≡ (B.state board.old).in_faults) }
+    ensures quiet { OnOk result (NoFaults (B.state board.old) (B.state board.new)) }
+    ensures blames { IfErr result (Blames (B.state board.old) (B.state board.new)) }
     ensures advances { OnOk result (Advances (B.state board.old) (B.state board.new) (D.sight drive.old) (D.sight drive.new) (bytes_of held.old.heads) (bytes_of held.new.heads) taken
         (λ c. (r : Request) × (command_of r c.value ≡ c) × (D.built drive.old r ≡ true))) }
     ensures quits { IfErr result (λ end. Quits (B.state board.old) (B.state board.new) (D.sight drive.old) (bytes_of held.old.heads) taken
@@ -101,6 +103,7 @@ pub fn serve_entries<D: Engine, B: Board>(
     requires room_list { 65536 ≤ length into.old }
     requires room_value { greatest shape.now ≤ length into.old }
     ensures shape { (B.state board.new).shape ≡ (B.state board.old).shape }
+    ensures blames { Blames (B.state board.old) (B.state board.new) result }
     ensures ends { Ends (B.state board.old) (B.state board.new) (D.sight drive.old) (D.sight drive.new) (bytes_of held.new.heads) (Told D D.sight D.built) result }
     ensures open { IsFault result ⊎ ((D.agrees drive.new (B.state board.new).shape (B.state board.new).pages) × ((D.sight drive.new).stopped ≡ false)) }
 {
@@ -134,6 +137,7 @@ pub fn serve_all<D: Engine, B: Board>(
     requires some { 0 < length value.old }
     requires room_list { 65536 ≤ length into.old }
     requires room_value { greatest shape.now ≤ length into.old }
+    ensures blames { Blames (B.state board.old) (B.state board.new) result }
     ensures ends { Ends (B.state board.old) (B.state board.new) (D.sight drive.old) (D.sight drive.new) [] (Told D D.sight D.built) result }
     ensures none { IsFault result ⊎ ((D.sight drive.new).pending ≡ []) }
 {
@@ -164,6 +168,7 @@ pub fn serve_script<D: Engine, B: Board>(
     requires some { 0 < length value.old }
     requires room_list { 65536 ≤ length into.old }
     requires room_value { greatest shape.now ≤ length into.old }
+    ensures blames { Blames (B.state board.old) (B.state board.new) result }
     ensures kept { KeepsScript (B.state board.old) (B.state board.new) (D.sight drive.old) }
     ensures kept_untold { KeepsSome (B.state board.old) (B.state board.new) (D.sight drive.old) }
     ensures served { Answers (B.state board.old) (B.state board.new) (D.sight drive.old) (Told D D.sight D.built) result }

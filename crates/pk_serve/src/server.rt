@@ -1,6 +1,6 @@
 //! What serving needs beside the drive and the board.
 ghost use Rattle.std.specs.Prelude.{◌≡◌, ◌⊎◌, [], false, IfOk, Some};
-ghost use Rattle.pk_serve.specs.Ends.{IsFault};
+ghost use Rattle.pk_serve.specs.Ends.{IsFault, Blames};
 ghost use Rattle.pk_serve.specs.Complete.{Completes};
 ghost use Rattle.pk_serve.specs.Run.{Told, KeepsScript, KeepsSome, Answers, Causes};
 
@@ -55,6 +55,7 @@ impl Server {
         requires agrees { D.agrees drive.old (B.state board.old).shape (B.state board.old).pages }
         requires runs { (D.sight drive.old).stopped ≡ false }
         requires shape { (B.state board.old).shape ≡ Some self.old }
+        ensures blames { Blames (B.state board.old) (B.state board.new) result }
         ensures kept { KeepsScript (B.state board.old) (B.state board.new) (D.sight drive.old) }
         ensures kept_untold { KeepsSome (B.state board.old) (B.state board.new) (D.sight drive.old) }
         ensures served { Answers (B.state board.old) (B.state board.new) (D.sight drive.old) (Told D D.sight D.built) result }

@@ -9,7 +9,7 @@ ghost use Rattle.pk_queue.specs.Queue.{bytes_of};
 ghost use Rattle.pk_drive.specs.Seen.{reply_of};
 ghost use Rattle.pk_drive.specs.Wear.{is_worn, roots};
 ghost use Rattle.pk_drive.specs.Exec.{IsValue};
-ghost use Rattle.pk_serve.specs.Ends.{IsFault};
+ghost use Rattle.pk_serve.specs.Ends.{IsFault, NoFaults, HasCause};
 ghost use Rattle.pk_serve.specs.Serving.{Flushed, Breaks, Posts, PostBreaks, Keeps, Serves, Stops};
 
 use crate::End;
@@ -25,6 +25,8 @@ pub fn give<B: Board>(board: &mut B, bytes: &[u8]) -> Result<(), End>
     ensures input { (B.state board.new).input ≡ (B.state board.old).input }
     ensures in_faults { (B.state board.new).in_faults ≡ (B.state board.old).in_faults }
     ensures posts { OnOk result (Posts (B.state board.old) (B.state board.new) bytes.now) }
+    ensures quiet { OnOk result (NoFaults (B.state board.old) (B.state board.new)) }
+    ensures cause { IfErr result (HasCause (B.state board.old) (B.state board.new)) }
     ensures fault { IfErr result IsFault }
     ensures breaks { IfErr result (PostBreaks (B.state board.old) (B.state board.new) bytes.now) }
 {
@@ -43,6 +45,8 @@ pub fn give_all<B: Board>(board: &mut B, heads: &[[u8; 24]]) -> Result<(), End>
     ensures input { (B.state board.new).input ≡ (B.state board.old).input }
     ensures in_faults { (B.state board.new).in_faults ≡ (B.state board.old).in_faults }
     ensures posts { OnOk result (Posts (B.state board.old) (B.state board.new) (bytes_of heads.now)) }
+    ensures quiet { OnOk result (NoFaults (B.state board.old) (B.state board.new)) }
+    ensures cause { IfErr result (HasCause (B.state board.old) (B.state board.new)) }
     ensures fault { IfErr result IsFault }
     ensures breaks { IfErr result (PostBreaks (B.state board.old) (B.state board.new) (bytes_of heads.now)) }
 {
@@ -70,6 +74,8 @@ pub fn flush<D: Engine, B: Board>(drive: &mut D, board: &mut B, held: &mut Queue
     ensures held { OnOk result (held.new ≡ record held.old { heads = [] }) }
     ensures room { held.new.room ≡ held.old.room }
     ensures serves { OnOk result (Flushed (B.state board.old) (B.state board.new) (D.sight drive.old) (D.sight drive.new) (bytes_of held.old.heads)) }
+    ensures quiet { OnOk result (NoFaults (B.state board.old) (B.state board.new)) }
+    ensures cause { IfErr result (HasCause (B.state board.old) (B.state board.new)) }
     ensures fault { IfErr result IsFault }
     ensures breaks { IfErr result (Breaks (B.state board.old) (B.state board.new) (D.sight drive.old) (bytes_of held.old.heads)) }
 {
@@ -104,6 +110,8 @@ pub fn prepare<D: Engine, B: Board>(
     ensures in_faults { (B.state board.new).in_faults ≡ (B.state board.old).in_faults }
     ensures room { held.new.room ≡ held.old.room }
     ensures keeps { OnOk result (Keeps (B.state board.old) (B.state board.new) (D.sight drive.old) (D.sight drive.new) (bytes_of held.old.heads) (bytes_of held.new.heads)) }
+    ensures quiet { OnOk result (NoFaults (B.state board.old) (B.state board.new)) }
+    ensures cause { IfErr result (HasCause (B.state board.old) (B.state board.new)) }
     ensures fault { IfErr result IsFault }
     ensures breaks { IfErr result (Breaks (B.state board.old) (B.state board.new) (D.sight drive.old) (bytes_of held.old.heads)) }
 {
@@ -156,6 +164,8 @@ pub fn finish<D: Engine, B: Board>(
     ensures room { held.new.room ≡ held.old.room }
     ensures keeps { OnOk result (Keeps (B.state board.old) (B.state board.new) (D.sight drive.old) (D.sight drive.new)
         (bytes_of held.old.heads ++ reply_record count request.now.cid (reply_of outcome.now into.now) outcome.now.reads) (bytes_of held.new.heads)) }
+    ensures quiet { OnOk result (NoFaults (B.state board.old) (B.state board.new)) }
+    ensures cause { IfErr result (HasCause (B.state board.old) (B.state board.new)) }
     ensures fault { IfErr result IsFault }
     ensures breaks { IfErr result (Breaks (B.state board.old) (B.state board.new) (D.sight drive.old)
         (bytes_of held.old.heads ++ reply_record count request.now.cid (reply_of outcome.now into.now) outcome.now.reads)) }
@@ -210,6 +220,8 @@ pub fn serve_one<D: Engine, B: Board>(
     ensures room { held.new.room ≡ held.old.room }
     ensures into { length into.new ≡ length into.old }
     ensures serves { OnOk result ((v : List ℕ) → IsValue shape.now request.now.opcode request.now.size value.now v → Serves (B.state board.old) (B.state board.new) (D.sight drive.old) (D.sight drive.new) (bytes_of held.old.heads) (bytes_of held.new.heads) taken (command_of request.now v)) }
+    ensures quiet { OnOk result (NoFaults (B.state board.old) (B.state board.new)) }
+    ensures cause { IfErr result (HasCause (B.state board.old) (B.state board.new)) }
     ensures fault { IfErr result IsFault }
     ensures stops { IfErr result (λ end. (v : List ℕ) → IsValue shape.now request.now.opcode request.now.size value.now v → Stops (B.state board.old) (B.state board.new) (D.sight drive.old) (bytes_of held.old.heads) taken end (command_of request.now v)) }
 {

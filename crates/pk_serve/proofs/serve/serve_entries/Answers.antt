@@ -3,6 +3,7 @@ use Rattle.pk_queue.specs.Queue.{bytes_of}
 use Rattle.pk_serve.specs.Input.{None_refused}
 use Rattle.pk_serve.specs.Run.{Told}
 use Rattle.pk_serve.proofs.Looping.{Looping-start, Looping-next, Finish-quits, none_taken, refused_on, accepted_on}
+use Rattle.pk_serve.proofs.Blaming.{quiet-then, blames-then, blames-entry}
 use Rattle.pk_serve.proofs.serve.serve_entries.Goals as goal
 
 true_false : true ≡ false → ⊥
@@ -14,6 +15,7 @@ loop-taken-init g c = record {
   runs = c.requires.runs;
   shape = refl;
   in_faults = refl;
+  quiet = record { output = refl; stop = refl; };
   looping = λ shape frames start stands none. Looping-start shape frames start _ _ (bytes_of c.args.held.now.heads) (Told _ g.D.Engine.sight g.D.Engine.built shape frames) (ap bytes_of c.requires.none) stands none;
 }
 
@@ -25,6 +27,7 @@ loop-taken-preserved g c =
       runs = e.runs;
       shape = e.shape ∙ c.loop-taken.invariant.shape;
       in_faults = e.in_faults ∙ c.loop-taken.invariant.in_faults;
+      quiet = quiet-then _ _ _ c.loop-taken.invariant.quiet e.quiet;
       looping = λ shape frames start stands none.
           let w = c.loop-taken.invariant.looping shape frames start stands none in
           let T = Told _ g.D.Engine.sight g.D.Engine.built shape frames in
@@ -46,3 +49,10 @@ returns-in-Err-take_entry-clause-ends g c = λ shape frames start stands none.
     let T = Told _ g.D.Engine.sight g.D.Engine.built shape frames in
     none_taken shape frames start _ _ _ _ _ _ _ c.loop-taken.taken T (c.loop-taken.invariant.looping shape frames start stands none) true (λ _. inl full) (λ h. absurd (true_false h)) None_refused
     (λ entry h. absurd h) c.in-Err-take_entry.end c.loop-taken.invariant.in_faults refl refl c.in-Err-take_entry.ensures.err
+
+pub returns-in-Err-clause-blames : goal.returns-in-Err-clause-blames
+returns-in-Err-clause-blames g c = blames-then _ _ _ c.in-Err.end c.loop-taken.invariant.in_faults c.loop-taken.invariant.quiet c.in-Err.ensures.blames
+
+pub returns-in-Err-take_entry-clause-blames : goal.returns-in-Err-take_entry-clause-blames
+returns-in-Err-take_entry-clause-blames g c =
+    blames-then _ _ _ c.in-Err-take_entry.end c.loop-taken.invariant.in_faults c.loop-taken.invariant.quiet (blames-entry _ _ true None_refused c.in-Err-take_entry.end c.in-Err-take_entry.ensures.err)

@@ -4,6 +4,7 @@ use Rattle.pk_serve.proofs.serve.serve_script.Goals as goal
 
 pub returns : goal.returns
 returns g c = record {
+  blames = c.serve_all.ensures.blames;
   kept = keeps_script _ _ _ _ _ _ c.serve_all.ensures.ends;
   kept_untold = keeps_some _ _ _ _ _ _ c.serve_all.ensures.ends;
   served = answers_all _ _ _ _ _ _ c.serve_all.ensures.ends c.serve_all.ensures.none;

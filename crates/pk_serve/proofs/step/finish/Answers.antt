@@ -1,6 +1,7 @@
 use Rattle.std.proofs.Common.{ap, take}
 use Rattle.pk_queue.specs.Queue.{bytes_of}
 use Rattle.pk_serve.proofs.Finishing.{record_whole, keeps_held, breaks_held, posts_all, breaks_head, breaks_data}
+use Rattle.pk_serve.proofs.Blaming.{quiet-then, cause-then}
 use Rattle.pk_serve.proofs.step.finish.Goals as goal
 
 pub returns-then-is_held-clause-keeps : goal.returns-then-is_held-clause-keeps
@@ -27,3 +28,12 @@ pub returns-in-Err-give-2-clause-breaks : goal.returns-in-Err-give-2-clause-brea
 returns-in-Err-give-2-clause-breaks g c =
     let is = record_whole (bytes_of c.args.held.now.heads) c.args.count c.args.request.now.cid c.args.outcome.now c.args.into.now _ _ c.completion-entry.ensures c.record_head-head.ensures c.requires.sized in
     breaks_data _ _ _ _ (bytes_of c.args.held.now.heads) c.record_head-head.result (take c.args.outcome.now.data_len c.args.into.now) _ is c.in-Ok.ensures.serves c.in-Ok.ensures.none _ _ c.in-Err-give-2.end c.in-Ok-give.ensures.posts c.in-Err-give-2.ensures.breaks
+
+pub returns-in-Err-give-clause-cause : goal.returns-in-Err-give-clause-cause
+returns-in-Err-give-clause-cause g c = cause-then (g.B.Nand.state c.args.board.now) (g.B.Nand.state c.flush.new.board) (g.B.Nand.state c.give.new.board) c.in-Err-give.end c.in-Ok.ensures.quiet c.in-Err-give.ensures.cause
+
+pub returns-in-Ok-give-2-clause-quiet : goal.returns-in-Ok-give-2-clause-quiet
+returns-in-Ok-give-2-clause-quiet g c = quiet-then _ _ _ (quiet-then _ _ _ c.in-Ok.ensures.quiet c.in-Ok-give.ensures.quiet) c.in-Ok-give-2.ensures.quiet
+
+pub returns-in-Err-give-2-clause-cause : goal.returns-in-Err-give-2-clause-cause
+returns-in-Err-give-2-clause-cause g c = cause-then (g.B.Nand.state c.args.board.now) (g.B.Nand.state c.give.new.board) (g.B.Nand.state c.give-2.new.board) c.in-Err-give-2.end (quiet-then _ _ _ c.in-Ok.ensures.quiet c.in-Ok-give.ensures.quiet) c.in-Err-give-2.ensures.cause

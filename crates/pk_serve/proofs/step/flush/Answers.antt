@@ -2,6 +2,7 @@ use Rattle.std.proofs.Common.{ℕ, List, subst}
 use Rattle.pk_queue.specs.Queue.{bytes_of}
 use Rattle.pk_serve.specs.Serving.{Breaks, Flushed}
 use Rattle.pk_serve.proofs.Giving.{commit-breaks, flushes, flush-breaks}
+use Rattle.pk_serve.proofs.Blaming.{quiet-then, cause-then, quiet-flash}
 use Rattle.pk_serve.proofs.step.flush.Goals as goal
 
 pub returns-in-Err-clause-breaks : goal.returns-in-Err-clause-breaks
@@ -18,3 +19,9 @@ returns-clause-serves g c =
     let e = c.in-Ok.ensures in
     let T : List (List ℕ) → Type 0 = λ t. Flushed (g.B.Nand.state c.args.board.now) (g.B.Nand.state c.give_all.new.board) (g.D.Engine.sight c.args.drive.now) (g.D.Engine.sight c.commit.new.self) (bytes_of t) in
     subst T c.held.ensures (flushes _ _ _ _ e.cuts e.stands e.rest e.read_faults e.no_stop e.reads e.installs _ (bytes_of c.held.result.now) e.none c.in-Ok-give_all.ensures.posts)
+
+pub returns-in-Err-give_all-clause-cause : goal.returns-in-Err-give_all-clause-cause
+returns-in-Err-give_all-clause-cause g c = let e = c.in-Ok.ensures in cause-then (g.B.Nand.state c.args.board.now) (g.B.Nand.state c.commit.new.board) (g.B.Nand.state c.give_all.new.board) c.in-Err-give_all.end (quiet-flash _ _ e.rest e.no_stop) c.in-Err-give_all.ensures.cause
+
+pub returns-clause-quiet : goal.returns-clause-quiet
+returns-clause-quiet g c = let e = c.in-Ok.ensures in quiet-then _ _ _ (quiet-flash _ _ e.rest e.no_stop) c.in-Ok-give_all.ensures.quiet

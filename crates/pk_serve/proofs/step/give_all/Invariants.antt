@@ -1,5 +1,6 @@
 use Rattle.std.proofs.Common.{◌≡◌, take}
 use Rattle.pk_queue.specs.Queue.{bytes_of}
+use Rattle.pk_serve.specs.Ends.{NoFaults}
 use Rattle.pk_serve.specs.Serving.{Posts}
 use Rattle.pk_serve.proofs.step.give_all.Given as goal
 
@@ -11,5 +12,6 @@ invariant-loop-head g l =
       flash : (b.shape ≡ a.shape) × (b.pages ≡ a.pages);
       input : b.input ≡ a.input;
       in_faults : b.in_faults ≡ a.in_faults;
+      quiet : NoFaults a b;
       posts : Posts a b (bytes_of (take l.head-index l.heads));
     }

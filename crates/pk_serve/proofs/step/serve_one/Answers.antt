@@ -6,6 +6,8 @@ use Rattle.pk_queue.specs.Queue.{bytes_of}
 use Rattle.pk_drive.specs.Exec.{IsValue}
 use Rattle.pk_serve.proofs.Commanding.{stops_before, stops_in, serves_all, stops_behind}
 use Rattle.pk_serve.proofs.Skipping.{stands_value, reaches_value, went_value}
+use Rattle.pk_serve.proofs.Blaming.{quiet-then, cause-then, quiet-flash}
+use Rattle.pk_serve.proofs.Giving.{rose_from}
 use Rattle.pk_serve.proofs.step.serve_one.Goals as goal
 
 pub returns-in-Err-clause-stops : goal.returns-in-Err-clause-stops
@@ -40,3 +42,16 @@ returns-in-Err-finish-clause-stops g c = λ v is.
     (reaches_value _ _ _ (g.D.Engine.sight c.exec-outcome.new.self) (command_of c.args.request.now c.args.value.now) v has (e.cuts c.if-outcome.false))
     (stands_value _ _ _ _ (command_of c.args.request.now c.args.value.now) v has _ _ (e.stands c.if-outcome.false))
     e.rest e.up (λ h. e.unread h c.if-outcome.false) (λ h. (e.sound h).1) (e.no_stop c.if-outcome.false) e.reads e.installs _ _ c.in-Err-finish.ensures.breaks
+
+pub returns-then-outcome-clause-cause : goal.returns-then-outcome-clause-cause
+returns-then-outcome-clause-cause g c = rose_from c.in-Ok.ensures.quiet.stop (c.exec-outcome.ensures.stop c.if-outcome.true)
+
+pub returns-in-Ok-finish-clause-quiet : goal.returns-in-Ok-finish-clause-quiet
+returns-in-Ok-finish-clause-quiet g c =
+    let e = c.exec-outcome.ensures in
+    quiet-then _ _ _ (quiet-then _ _ _ c.in-Ok.ensures.quiet (quiet-flash _ _ e.rest (e.no_stop c.if-outcome.false))) c.in-Ok-finish.ensures.quiet
+
+pub returns-in-Err-finish-clause-cause : goal.returns-in-Err-finish-clause-cause
+returns-in-Err-finish-clause-cause g c =
+    let e = c.exec-outcome.ensures in
+    cause-then (g.B.Nand.state c.args.board.now) (g.B.Nand.state c.exec-outcome.new.board) (g.B.Nand.state c.finish.new.board) c.in-Err-finish.end (quiet-then _ _ _ c.in-Ok.ensures.quiet (quiet-flash _ _ e.rest (e.no_stop c.if-outcome.false))) c.in-Err-finish.ensures.cause
