@@ -1,8 +1,9 @@
 //! The word that serves a script.
-ghost use Rattle.std.specs.Prelude.{◌≡◌, ◌<◌, ℕ, length, true, IfOk, IfErr};
+ghost use Rattle.std.specs.Prelude.{◌≡◌, ◌<◌, ℕ, length, true, OnOk, IfOk, IfErr};
 ghost use Rattle.pk_base.specs.Shape as spec;
 ghost use Rattle.pk_nand.specs.Calls.{IsErased, IsReady};
-ghost use Rattle.pk_top.specs.Statuses.{Tells, IsServed};
+ghost use Rattle.pk_top.specs.Ends.{end_status};
+ghost use Rattle.pk_top.specs.Statuses.{FlashFailed, Quiet, Tells, IsServed};
 
 use crate::making::of_load_fault;
 use crate::status::Status;
@@ -14,7 +15,8 @@ use std::alloc::Global;
 
 /// The status of an end.
 fn of_end(end: End) -> Status
-    ensures { IsServed result.0 }
+    ensures value { result.0 ≡ end_status end }
+    ensures served { IsServed result.0 }
 {
     match end {
         End::Done => Status::DONE,
@@ -30,7 +32,7 @@ fn of_end(end: End) -> Status
 /// The shape of the image that is found.
 fn found<B: Board>(alloc: Global, board: &mut B) -> Result<Shape, Status>
     ensures ready { IfOk result (λ shape. IsReady (B.state board.new) shape) }
-    ensures silent { ((B.state board.new).input ≡ (B.state board.old).input) × ((B.state board.new).posted ≡ (B.state board.old).posted) }
+    ensures quiet { OnOk result (Quiet (B.state board.old) (B.state board.new)) }
     ensures tells { IfErr result (λ status. Tells (B.state board.old) (B.state board.new) status.0) }
 {
     match board.load(alloc) {
@@ -45,8 +47,9 @@ fn is_blank<B: Board>(board: &mut B, shape: &Shape, page: &mut [u8]) -> Result<b
     requires ready { IsReady (B.state board.old) shape.now }
     requires room { length page.old ≡ shape.now.page_bytes }
     ensures ready { IsReady (B.state board.new) shape.now }
-    ensures silent { ((B.state board.new).input ≡ (B.state board.old).input) × ((B.state board.new).posted ≡ (B.state board.old).posted) }
+    ensures quiet { OnOk result (Quiet (B.state board.old) (B.state board.new)) }
     ensures flash { IfErr result (λ status. status.0 ≡ 6) }
+    ensures failed { IfErr result (λ status. FlashFailed (B.state board.old) (B.state board.new)) }
     ensures blank { IfOk result (λ r. r ≡ true → ((q : ℕ) → q < spec.page_count shape.now → IsErased (B.state board.new).pages q)) }
 {
     match all_erased(board, shape, page) {
