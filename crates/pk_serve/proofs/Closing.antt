@@ -123,11 +123,11 @@ told (Some left) xs input e = (left, refl, (let h : Some input ≡ Some (xs ++ l
 pub script_is : (bytes part left input : List ℕ) (cs : List Command) → Spells bytes cs → input ≡ (bytes ++ part) ++ left → script input ≡ behind cs (script (part ++ left))
 script_is bytes part left input cs spells e = ap script (e ∙ append_assoc bytes part left) ∙ spells (part ++ left)
 
-script_none : script [] ≡ ([], [])
+pub script_none : script [] ≡ ([], [])
 script_none = IsPart-entry [] (omega arith)
 
 -- these commands and these bytes
-script_of : (cs : List Command) (part rest : List ℕ) (s : List Command × List ℕ) → s ≡ behind cs (script rest) → rest ≡ part → IsPart part → s ≡ (cs, part)
+pub script_of : (cs : List Command) (part rest : List ℕ) (s : List Command × List ℕ) → s ≡ behind cs (script rest) → rest ≡ part → IsPart part → s ≡ (cs, part)
 script_of cs part rest s e same is = e ∙ (ap (λ r. behind cs (script r)) same ∙ (ap (behind cs) is ∙ ap (λ l. (l, part)) (append-nil cs)))
 
 -- these bytes are these commands

@@ -13,6 +13,7 @@ pub mod Entering
 pub mod Looping
 pub mod Nexting
 pub mod Closing
+pub mod Consuming
 pub mod Completing
 pub mod Submitting
 pub mod Rootless

@@ -15,6 +15,7 @@ use Rattle.pk_model.specs.Sight.{Sight}
 use Rattle.pk_drive.specs.Exec.{IsValue}
 use Rattle.pk_serve.specs.Serving.{Serving, Serves, Stops}
 use Rattle.pk_serve.specs.declared.end.End.{End}
+use Rattle.pk_serve.specs.Ends.{IsFault}
 use Rattle.pk_serve.specs.Input.{put_back, TookFailed, Entered, Valued, NoValue, Advances, Fails, Breaks_off, Fails_at, Rejects, NoEntry, None_refused, Quits}
 use Rattle.pk_serve.proofs.Serves.{Serving-inputs}
 use Rattle.pk_serve.proofs.Looping.{None_refused-any}
@@ -56,12 +57,13 @@ module _ (a m n : BoardState) (entry : List ℕ) (entered : Entered a m entry) (
       serves = serves_too a n b before (input_too a m n entered.rest valued.rest) after held now_held taken (command_seen r valued.value) (serves valued.value valued.is_value);
     }
 
-    pub Fails-one : (end : End) → ((v : List ℕ) → IsValue shape r.opcode r.size handed v → Stops n b before held taken end (command_seen r v)) → Fails a b before held taken end
-    Fails-one end stops = record {
+    pub Fails-one : (end : End) → IsFault end → ((v : List ℕ) → IsValue shape r.opcode r.size handed v → Stops n b before held taken end (command_seen r v)) → Fails a b before held taken end
+    Fails-one end fault stops = record {
       bytes = entry ++ valued.value;
       c = command_seen r valued.value;
       input = taken_all;
       spells = Spells-one entry valued.value (command_seen r valued.value) size (valued.whole ∙ sym (value_size entry r parsed)) (parsed valued.value);
+      fault = fault;
       stops = stops_too a n b before (input_too a m n entered.rest valued.rest) held taken end (command_seen r valued.value) (stops valued.value valued.is_value);
     }
 

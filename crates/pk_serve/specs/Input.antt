@@ -8,6 +8,7 @@ use Rattle.pk_base.specs.Shape.{Shape, greatest}
 use Rattle.pk_model.specs.Sight.{Sight}
 use Rattle.pk_drive.specs.Wear.{is_worn}
 use Rattle.pk_drive.specs.Exec.{IsValue}
+use Rattle.pk_serve.specs.Ends.{IsFault}
 use Rattle.pk_serve.specs.Serving.{Serves, Stops}
 use Rattle.pk_serve.specs.declared.end.End.{End}
 use Rattle.pk_serve.specs.declared.end.End.TheVariants.{Done, Truncated, Input, Output, Flash, Worn, NotBuilt}
@@ -54,6 +55,7 @@ pub record Fails (old new : BoardState) (before : Sight) (held : List ℕ) (take
   pub c : Command
   pub input : old.input ≡ put_back bytes new.input
   pub spells : Spells bytes (c ∷ [])
+  pub fault : IsFault end
   pub stops : Stops old new before held taken end c
 
 -- the input is read to its end

@@ -9,6 +9,7 @@ ghost use Rattle.pk_drive.specs.Wear.{is_worn};
 ghost use Rattle.pk_serve.specs.Ends.{IsFault, NoFaults, Blames};
 ghost use Rattle.pk_serve.specs.Input.{Advances, Quits};
 ghost use Rattle.pk_serve.specs.Complete.{Completes};
+ghost use Rattle.pk_serve.specs.Script.{Consumes, SaysOfScript};
 ghost use Rattle.pk_serve.specs.Run.{Ends, Told, KeepsScript, KeepsSome, Answers, Causes};
 
 use crate::End;
@@ -104,6 +105,7 @@ pub fn serve_entries<D: Engine, B: Board>(
     requires room_value { greatest shape.now ≤ length into.old }
     ensures shape { (B.state board.new).shape ≡ (B.state board.old).shape }
     ensures blames { Blames (B.state board.old) (B.state board.new) result }
+    ensures consumes { Consumes (B.state board.old) (B.state board.new) result }
     ensures ends { Ends (B.state board.old) (B.state board.new) (D.sight drive.old) (D.sight drive.new) (bytes_of held.new.heads) (Told D D.sight D.built) result }
     ensures open { IsFault result ⊎ ((D.agrees drive.new (B.state board.new).shape (B.state board.new).pages) × ((D.sight drive.new).stopped ≡ false)) }
 {
@@ -138,6 +140,7 @@ pub fn serve_all<D: Engine, B: Board>(
     requires room_list { 65536 ≤ length into.old }
     requires room_value { greatest shape.now ≤ length into.old }
     ensures blames { Blames (B.state board.old) (B.state board.new) result }
+    ensures consumes { Consumes (B.state board.old) (B.state board.new) result }
     ensures ends { Ends (B.state board.old) (B.state board.new) (D.sight drive.old) (D.sight drive.new) [] (Told D D.sight D.built) result }
     ensures none { IsFault result ⊎ ((D.sight drive.new).pending ≡ []) }
 {
@@ -169,6 +172,7 @@ pub fn serve_script<D: Engine, B: Board>(
     requires room_list { 65536 ≤ length into.old }
     requires room_value { greatest shape.now ≤ length into.old }
     ensures blames { Blames (B.state board.old) (B.state board.new) result }
+    ensures says { SaysOfScript (B.state board.old) (B.state board.new) result }
     ensures kept { KeepsScript (B.state board.old) (B.state board.new) (D.sight drive.old) }
     ensures kept_untold { KeepsSome (B.state board.old) (B.state board.new) (D.sight drive.old) }
     ensures served { Answers (B.state board.old) (B.state board.new) (D.sight drive.old) (Told D D.sight D.built) result }

@@ -2,6 +2,7 @@
 ghost use Rattle.std.specs.Prelude.{◌≡◌, ◌⊎◌, [], false, IfOk, Some};
 ghost use Rattle.pk_serve.specs.Ends.{IsFault, Blames};
 ghost use Rattle.pk_serve.specs.Complete.{Completes};
+ghost use Rattle.pk_serve.specs.Script.{SaysOfScript};
 ghost use Rattle.pk_serve.specs.Run.{Told, KeepsScript, KeepsSome, Answers, Causes};
 
 use crate::End;
@@ -56,6 +57,7 @@ impl Server {
         requires runs { (D.sight drive.old).stopped ≡ false }
         requires shape { (B.state board.old).shape ≡ Some self.old }
         ensures blames { Blames (B.state board.old) (B.state board.new) result }
+        ensures says { SaysOfScript (B.state board.old) (B.state board.new) result }
         ensures kept { KeepsScript (B.state board.old) (B.state board.new) (D.sight drive.old) }
         ensures kept_untold { KeepsSome (B.state board.old) (B.state board.new) (D.sight drive.old) }
         ensures served { Answers (B.state board.old) (B.state board.new) (D.sight drive.old) (Told D D.sight D.built) result }

@@ -1,6 +1,7 @@
 use Rattle.std.proofs.Common.{inl, inr, ap, nat_le}
 use Rattle.pk_serve.proofs.Closing.{Finish-closed, Finish-broken, no_fault}
 use Rattle.pk_serve.proofs.Blaming.{blames-still, blames-behind}
+use Rattle.pk_serve.proofs.Consuming.{consumes_failed, consumes-still}
 use Rattle.pk_serve.proofs.serve.serve_all.Goals as goal
 
 pub returns-in-Ok : goal.returns-in-Ok
@@ -9,6 +10,7 @@ returns-in-Ok g c =
     record {
       ends = λ shape frames start stands none. Finish-closed shape frames start _ _ _ _ _ _ _ e.input e.in_faults _ e.serves (ap (λ n. nat_le 9223372036854775808 n) e.installs) (no_fault _ c.in_default.not-Output c.in_default.not-Flash)
           (c.serve_entries-end.ensures.ends shape frames start stands none);
+      consumes = consumes-still _ _ _ e.input (ap (λ n. nat_le 9223372036854775808 n) e.installs) _ c.serve_entries-end.ensures.consumes;
       blames = blames-still _ _ _ _ c.serve_entries-end.ensures.blames e.in_faults e.quiet;
       none = inr e.none;
     }
@@ -19,6 +21,7 @@ returns-in-Err g c =
     record {
       ends = λ shape frames start stands none. Finish-broken shape frames start _ _ _ _ _ _ _ e.input e.in_faults _ _ e.breaks (no_fault _ c.in_default.not-Output c.in_default.not-Flash)
           (c.serve_entries-end.ensures.ends shape frames start stands none);
+      consumes = consumes_failed _ _ _ e.fault;
       blames = blames-behind _ _ _ _ _ (no_fault _ c.in_default.not-Output c.in_default.not-Flash) c.serve_entries-end.ensures.blames e.cause;
       none = inl e.fault;
     }

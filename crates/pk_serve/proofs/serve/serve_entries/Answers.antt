@@ -4,6 +4,7 @@ use Rattle.pk_serve.specs.Input.{None_refused}
 use Rattle.pk_serve.specs.Run.{Told}
 use Rattle.pk_serve.proofs.Looping.{Looping-start, Looping-next, Finish-quits, none_taken, refused_on, accepted_on}
 use Rattle.pk_serve.proofs.Blaming.{quiet-then, blames-then, blames-entry}
+use Rattle.pk_serve.proofs.Consuming.{consumed-none, consumed-next, consumes-entry, consumes-quits}
 use Rattle.pk_serve.proofs.serve.serve_entries.Goals as goal
 
 true_false : true ≡ false → ⊥
@@ -16,6 +17,7 @@ loop-taken-init g c = record {
   shape = refl;
   in_faults = refl;
   quiet = record { output = refl; stop = refl; };
+  consumed = consumed-none _;
   looping = λ shape frames start stands none. Looping-start shape frames start _ _ (bytes_of c.args.held.now.heads) (Told _ g.D.Engine.sight g.D.Engine.built shape frames) (ap bytes_of c.requires.none) stands none;
 }
 
@@ -28,6 +30,7 @@ loop-taken-preserved g c =
       shape = e.shape ∙ c.loop-taken.invariant.shape;
       in_faults = e.in_faults ∙ c.loop-taken.invariant.in_faults;
       quiet = quiet-then _ _ _ c.loop-taken.invariant.quiet e.quiet;
+      consumed = consumed-next _ _ _ c.loop-taken.taken c.loop-taken.invariant.consumed _ _ _ _ _ e.advances;
       looping = λ shape frames start stands none.
           let w = c.loop-taken.invariant.looping shape frames start stands none in
           let T = Told _ g.D.Engine.sight g.D.Engine.built shape frames in
@@ -56,3 +59,11 @@ returns-in-Err-clause-blames g c = blames-then _ _ _ c.in-Err.end c.loop-taken.i
 pub returns-in-Err-take_entry-clause-blames : goal.returns-in-Err-take_entry-clause-blames
 returns-in-Err-take_entry-clause-blames g c =
     blames-then _ _ _ c.in-Err-take_entry.end c.loop-taken.invariant.in_faults c.loop-taken.invariant.quiet (blames-entry _ _ true None_refused c.in-Err-take_entry.end c.in-Err-take_entry.ensures.err)
+
+pub returns-in-Err-clause-consumes : goal.returns-in-Err-clause-consumes
+returns-in-Err-clause-consumes g c = consumes-quits _ _ _ c.loop-taken.taken c.loop-taken.invariant.consumed _ _ _ c.in-Err.end c.in-Err.ensures.quits
+
+pub returns-in-Err-take_entry-clause-consumes : goal.returns-in-Err-take_entry-clause-consumes
+returns-in-Err-take_entry-clause-consumes g c =
+    let full : c.loop-taken.taken ≡ 4294967295 = omega arith in
+    consumes-entry _ _ _ c.loop-taken.taken c.loop-taken.invariant.consumed true (λ _. inl full) None_refused c.in-Err-take_entry.end c.in-Err-take_entry.ensures.err

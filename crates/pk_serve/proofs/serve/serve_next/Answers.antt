@@ -13,7 +13,7 @@ returns-in-Ok-serve_one-clause-advances g c =
 pub returns-in-Err-serve_one-clause-quits : goal.returns-in-Err-serve_one-clause-quits
 returns-in-Err-serve_one-clause-quits g c =
     let valued = rw c.in-Some.is at c.in-Ok-take_value.ensures.ok in
-    inr (Fails-one _ _ _ _ c.in-Ok.ensures.ok c.in-Ok.ensures.len c.of-request.result c.of-request.ensures _ _ valued _ _ _ _ c.in-Err-serve_one.ensures.input _ c.in-Err-serve_one.ensures.stops)
+    inr (Fails-one _ _ _ _ c.in-Ok.ensures.ok c.in-Ok.ensures.len c.of-request.result c.of-request.ensures _ _ valued _ _ _ _ c.in-Err-serve_one.ensures.input _ c.in-Err-serve_one.ensures.fault c.in-Err-serve_one.ensures.stops)
 
 pub returns-in-None-clause-quits : goal.returns-in-None-clause-quits
 returns-in-None-clause-quits g c =

@@ -1,0 +1,101 @@
+-- What was taken of a script, whatever the drive stands for.
+use Rattle.std.proofs.Common.{◌≡◌, ◌≢◌, ◌⊎◌, inl, inr, ℕ, ◌+◌, ◌<◌, List, [], ◌∷◌, ◌++◌, length, refl, sym, ◌∙◌, ap, subst, arith, append-nil, append_assoc, length-append, true, false, Bool, Option, Some}
+use Rattle.pk_nvme.specs.Command.{Command}
+use Rattle.pk_nand.specs.BoardState.{BoardState}
+use Rattle.pk_model.specs.Script.{script}
+use Rattle.pk_model.specs.Sight.{Sight}
+use Rattle.pk_drive.specs.Wear.{is_worn}
+use Rattle.pk_serve.specs.Ends.{IsFault}
+use Rattle.pk_serve.specs.Input.{put_back, AtEnd, Spells, Advances, Fails, NoEntry, Quits}
+use Rattle.pk_serve.specs.Run.{most_entries}
+use Rattle.pk_serve.specs.Script.{Consumed, Consumes, Says, SaysOfScript}
+use Rattle.pk_serve.specs.declared.end.End.{End}
+use Rattle.pk_serve.specs.declared.end.End.TheVariants.{Done, Truncated, Input, Output, Flash, Worn, NotBuilt}
+use Rattle.pk_serve.proofs.Scripts.{taken-append, put_back-nil, Spells-none, Spells-append}
+use Rattle.pk_serve.proofs.Closing.{told, script_is, script_of, script_none, script_whole, front_none}
+
+pub consumed-none : (a : BoardState) → Consumed a a 0 []
+consumed-none a = record { cs = []; bytes = []; count = refl; input = put_back-nil a.input; spells = Spells-none; }
+
+pub consumes_failed : (a b : BoardState) (end : End) → IsFault end → Consumes a b end
+consumes_failed a b Done f = absurd f
+consumes_failed a b Truncated f = absurd f
+consumes_failed a b Input f = absurd f
+consumes_failed a b Output f = tt
+consumes_failed a b Flash f = tt
+consumes_failed a b Worn f = absurd f
+consumes_failed a b NotBuilt f = absurd f
+
+module _ (a b c : BoardState) (taken : ℕ) (w : Consumed a b taken []) where
+  plain : a.input ≡ put_back w.bytes b.input
+  plain = w.input ∙ ap (λ t. put_back t b.input) (append-nil w.bytes)
+
+  pub consumed-next : (d e : Sight) (held now_held : List ℕ) (accepts : Command → Type 0) → Advances b c d e held now_held taken accepts → Consumed a c (taken + 1) []
+  consumed-next d e held now_held accepts n = record {
+    cs = w.cs ++ n.c ∷ [];
+    bytes = w.bytes ++ n.bytes;
+    count = omega (arith, w.count, length-append w.cs (n.c ∷ []));
+    input = taken-append a.input b.input c.input w.bytes n.bytes plain n.input ∙ ap (λ t. put_back t c.input) (sym (append-nil (w.bytes ++ n.bytes)));
+    spells = Spells-append w.bytes n.bytes w.cs (n.c ∷ []) w.spells n.spells;
+  }
+
+  consumed-part : (part : List ℕ) → b.input ≡ put_back part c.input → Consumed a c taken part
+  consumed-part part more = record { cs = w.cs; bytes = w.bytes; count = w.count; input = taken-append a.input b.input c.input w.bytes part plain more; spells = w.spells; }
+
+  pub consumes-entry : (no_more : Bool) → (no_more ≡ true → (taken ≡ most_entries) ⊎ (is_worn b ≡ true)) → (refused : List ℕ → Type 0) (end : End) → NoEntry b c no_more refused end → Consumes a c end
+  consumes-entry no_more why refused Done n = (taken, consumed-part [] n.left.input, n.at_end)
+  consumes-entry no_more why refused Truncated k = let n = k.0 in (taken, n.part, n.some, n.left.is_part, consumed-part n.part n.left.input, n.at_end)
+  consumes-entry no_more why refused Input n = tt
+  consumes-entry no_more why refused Output n = tt
+  consumes-entry no_more why refused Flash n = tt
+  consumes-entry no_more why refused Worn k =
+      let n = k.0 in (taken, n.part, n.some, consumed-part n.part n.input, elim (why k.1) [ inl full ↦ inl full | inr worn ↦ inr (ap is_worn n.rest ∙ worn) ])
+  consumes-entry no_more why refused NotBuilt k = let n = k.0 in (taken, n.entry, n.size, consumed-part n.entry n.input)
+
+  pub consumes-quits : (d : Sight) (held : List ℕ) (refused : List ℕ → Type 0) (end : End) → Quits b c d held taken refused end → Consumes a c end
+  consumes-quits d held refused end (inl n) = consumes-entry (is_worn b) (λ worn. inr worn) refused end n
+  consumes-quits d held refused end (inr f) = consumes_failed a c end f.fault
+
+-- the input and the roots are left
+module _ (a b c : BoardState) (same : c.input ≡ b.input) (worn : is_worn c ≡ is_worn b) where
+  consumed-still : (taken : ℕ) (part : List ℕ) → Consumed a b taken part → Consumed a c taken part
+  consumed-still taken part w = record { cs = w.cs; bytes = w.bytes; count = w.count; input = w.input ∙ ap (put_back (w.bytes ++ part)) (sym same); spells = w.spells; }
+
+  pub consumes-still : (end : End) → Consumes a b end → Consumes a c end
+  consumes-still Done h = (h.0, consumed-still h.0 [] h.1, subst AtEnd (sym same) h.2)
+  consumes-still Truncated (taken, part, some, is_part, w, at_end) = (taken, part, some, is_part, consumed-still taken part w, subst AtEnd (sym same) at_end)
+  consumes-still Input h = tt
+  consumes-still Output h = tt
+  consumes-still Flash h = tt
+  consumes-still Worn (taken, part, some, w, cause) = (taken, part, some, consumed-still taken part w, elim cause [ inl full ↦ inl full | inr is ↦ inr (worn ∙ is) ])
+  consumes-still NotBuilt (taken, entry, size, w) = (taken, entry, size, consumed-still taken entry w)
+
+-- ---- an input that is told
+
+pub says_of_script : (a b : BoardState) (end : End) → Consumes a b end → SaysOfScript a b end
+says_of_script a b Done (taken, w, at_end) input is =
+    let i = told b.input (w.bytes ++ []) input (sym is ∙ w.input) in
+    let e : script input ≡ (w.cs, []) = script_of w.cs [] ([] ++ i.0) (script input) (script_is w.bytes [] i.0 input w.cs w.spells i.2) (subst AtEnd i.1 at_end) script_none in
+    (ap (λ s. s.1) e, at_end)
+says_of_script a b Truncated (taken, part, some, is_part, w, at_end) input is =
+    let i = told b.input (w.bytes ++ part) input (sym is ∙ w.input) in
+    let left : i.0 ≡ [] = subst AtEnd i.1 at_end in
+    let e : script input ≡ (w.cs, part) = script_of w.cs part (part ++ i.0) (script input) (script_is w.bytes part i.0 input w.cs w.spells i.2) (ap (λ l. part ++ l) left ∙ append-nil part) is_part in
+    (λ z. some (sym (ap (λ s. s.1) e) ∙ z), at_end)
+says_of_script a b Input h input is = tt
+says_of_script a b Output h input is = tt
+says_of_script a b Flash h input is = tt
+says_of_script a b Worn (taken, part, some, w, cause) input is =
+    let i = told b.input (w.bytes ++ part) input (sym is ∙ w.input) in
+    let e : script w.bytes ≡ (w.cs, []) = script_whole w.bytes w.cs w.spells in (
+      w.bytes,
+      part ++ i.0,
+      i.2 ∙ append_assoc w.bytes part i.0,
+      (λ z. some (front_none part i.0 z)),
+      ap (λ s. s.1) e,
+      elim cause [ inl full ↦ inl (ap (λ s. length s.0) e ∙ (sym w.count ∙ full)) | inr worn ↦ inr worn ],
+    )
+says_of_script a b NotBuilt (taken, entry, size, w) input is =
+    let i = told b.input (w.bytes ++ entry) input (sym is ∙ w.input) in
+    let e : script w.bytes ≡ (w.cs, []) = script_whole w.bytes w.cs w.spells in
+    (w.bytes, entry, i.0, i.2, size, ap (λ s. s.1) e)
