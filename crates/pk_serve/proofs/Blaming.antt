@@ -11,7 +11,7 @@ use Rattle.pk_serve.specs.declared.end.End.TheVariants.{Done, Truncated, Input, 
 use Rattle.pk_serve.proofs.Giving.{rose_from}
 
 pub quiet-then : (a b c : BoardState) → NoFaults a b → NoFaults b c → NoFaults a c
-quiet-then a b c p q = record { output = q.output ∙ p.output; stop = q.stop ∙ p.stop; }
+quiet-then a b c p q = record { output = q.output ∙ p.output; stop = q.stop ∙ p.stop }
 
 pub cause-then : (a b c : BoardState) (end : End) → NoFaults a b → HasCause b c end → HasCause a c end
 cause-then a b c Done q h = h
@@ -23,10 +23,10 @@ cause-then a b c Worn q h = h
 cause-then a b c NotBuilt q h = h
 
 pub quiet-flash : (a b : BoardState) → OnlyFlash a b → b.stop_faults ≡ a.stop_faults → NoFaults a b
-quiet-flash a b rest same = record { output = ap (λ (s : BoardState). s.out_faults) rest; stop = same; }
+quiet-flash a b rest same = record { output = ap (λ (s : BoardState). s.out_faults) rest; stop = same }
 
 pub quiet-post : (a b : BoardState) (bytes : List ℕ) → b ≡ after_post a bytes → NoFaults a b
-quiet-post a b bytes is = record { output = ap (λ (s : BoardState). s.out_faults) is; stop = ap (λ (s : BoardState). s.stop_faults) is; }
+quiet-post a b bytes is = record { output = ap (λ (s : BoardState). s.out_faults) is; stop = ap (λ (s : BoardState). s.stop_faults) is }
 
 -- ---- the end of a call, as it is told
 
@@ -78,11 +78,13 @@ blames-behind a b c end fault n h cause = blames-cause a c fault (cause-then a b
 
 module _ (a b : BoardState) where
   quiet-rest : b ≡ record a { input = b.input; in_faults = b.in_faults } → NoFaults a b
-  quiet-rest is = record { output = ap (λ (s : BoardState). s.out_faults) is; stop = ap (λ (s : BoardState). s.stop_faults) is; }
+  quiet-rest is = record { output = ap (λ (s : BoardState). s.out_faults) is; stop = ap (λ (s : BoardState). s.stop_faults) is }
 
   quiet-input : b ≡ record a { input = b.input } → (b.in_faults ≡ a.in_faults) × NoFaults a b
-  quiet-input is = (ap (λ (s : BoardState). s.in_faults) is,
-      record { output = ap (λ (s : BoardState). s.out_faults) is; stop = ap (λ (s : BoardState). s.stop_faults) is; })
+  quiet-input is = (
+    ap (λ (s : BoardState). s.in_faults) is,
+    record { output = ap (λ (s : BoardState). s.out_faults) is; stop = ap (λ (s : BoardState). s.stop_faults) is },
+  )
 
   pub blames-entry : (no_more : Bool) (refused : List ℕ → Type 0) (end : End) → NoEntry a b no_more refused end → Blames a b end
   blames-entry no_more refused Done h = (h.same, quiet-rest h.left.rest)

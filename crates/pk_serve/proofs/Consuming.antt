@@ -15,7 +15,7 @@ use Rattle.pk_serve.proofs.Scripts.{taken-append, put_back-nil, Spells-none, Spe
 use Rattle.pk_serve.proofs.Closing.{told, script_is, script_of, script_none, script_whole, front_none}
 
 pub consumed-none : (a : BoardState) → Consumed a a 0 []
-consumed-none a = record { cs = []; bytes = []; count = refl; input = put_back-nil a.input; spells = Spells-none; }
+consumed-none a = record { cs = []; bytes = []; count = refl; input = put_back-nil a.input; spells = Spells-none }
 
 pub consumes_failed : (a b : BoardState) (end : End) → IsFault end → Consumes a b end
 consumes_failed a b Done f = absurd f
@@ -40,7 +40,7 @@ module _ (a b c : BoardState) (taken : ℕ) (w : Consumed a b taken []) where
   }
 
   consumed-part : (part : List ℕ) → b.input ≡ put_back part c.input → Consumed a c taken part
-  consumed-part part more = record { cs = w.cs; bytes = w.bytes; count = w.count; input = taken-append a.input b.input c.input w.bytes part plain more; spells = w.spells; }
+  consumed-part part more = record { cs = w.cs; bytes = w.bytes; count = w.count; input = taken-append a.input b.input c.input w.bytes part plain more; spells = w.spells }
 
   pub consumes-entry : (no_more : Bool) → (no_more ≡ true → (taken ≡ most_entries) ⊎ (is_worn b ≡ true)) → (refused : List ℕ → Type 0) (end : End) → NoEntry b c no_more refused end → Consumes a c end
   consumes-entry no_more why refused Done n = (taken, consumed-part [] n.left.input, n.at_end)
@@ -59,7 +59,7 @@ module _ (a b c : BoardState) (taken : ℕ) (w : Consumed a b taken []) where
 -- the input and the roots are left
 module _ (a b c : BoardState) (same : c.input ≡ b.input) (worn : is_worn c ≡ is_worn b) where
   consumed-still : (taken : ℕ) (part : List ℕ) → Consumed a b taken part → Consumed a c taken part
-  consumed-still taken part w = record { cs = w.cs; bytes = w.bytes; count = w.count; input = w.input ∙ ap (put_back (w.bytes ++ part)) (sym same); spells = w.spells; }
+  consumed-still taken part w = record { cs = w.cs; bytes = w.bytes; count = w.count; input = w.input ∙ ap (put_back (w.bytes ++ part)) (sym same); spells = w.spells }
 
   pub consumes-still : (end : End) → Consumes a b end → Consumes a c end
   consumes-still Done h = (h.0, consumed-still h.0 [] h.1, subst AtEnd (sym same) h.2)

@@ -16,7 +16,7 @@ loop-taken-init g c = record {
   runs = c.requires.runs;
   shape = refl;
   in_faults = refl;
-  quiet = record { output = refl; stop = refl; };
+  quiet = record { output = refl; stop = refl };
   consumed = consumed-none _;
   looping = λ shape frames start stands none. Looping-start shape frames start _ _ (bytes_of c.args.held.now.heads) (Told _ g.D.Engine.sight g.D.Engine.built shape frames) (ap bytes_of c.requires.none) stands none;
 }
