@@ -2,13 +2,14 @@
 use Rattle.std.proofs.Common.{◌≡◌, ◌≢◌, ℕ, zero, suc, ◌≤◌, ◌<◌, List, [], ◌∷◌, length, refl, sym, ◌∙◌, ap, subst, arith, Option, Some, None, Ok, nat_le, Bool, true, false, ◌*◌}
 use Rattle.std.proofs.lemmas.Bool.Decides.{nat_tests}
 use Rattle.std.specs.List.{range_with_len}
-use Rattle.pk_base.specs.Shape.{Shape}
+use Rattle.pk_base.specs.Shape.{Shape, page_count}
 use Rattle.pk_base.specs.Page.{Page, Flash, page_at, erased, torn}
 use Rattle.pk_base.specs.Entry.{Entry}
 use Rattle.pk_base.specs.Map.{Map}
 use Rattle.pk_rootfmt.specs.Newest.{newest_root, newest_of, newer_of, root_of}
 use Rattle.pk_nand.specs.BoardState.{BoardState}
-use Rattle.pk_nand.specs.Calls.{last_count}
+use Rattle.pk_nand.specs.Calls.{last_count, IsReady}
+use Rattle.pk_nand.specs.Erased.{ErasedUpTo}
 use Rattle.pk_model.specs.Reading.{reading, reading_of}
 use Rattle.pk_model.specs.Sight.{Sight}
 use Rattle.pk_drive.specs.Drive.{Stands}
@@ -51,3 +52,10 @@ erased_rootless has flash all shape is = none_newest shape (page_at flash) (rang
     by : (p : ℕ) (b : Bool) → nat_le (length flash) p ≡ b → root_of shape (page_at flash p) ≡ None
     by p true e = ap (root_of shape) (past_end flash p (grind (arith, nat_tests, e)))
     by p false e = ap (root_of shape) (all p (grind (arith, nat_tests, e)))
+
+-- a board whose pages were all found Erased
+pub blank_rootless : (shape : Shape) (old new : BoardState) (r : Bool) → IsReady new shape → ErasedUpTo (page_count shape) old new r → r ≡ true → Rootless new.shape new.pages
+blank_rootless shape old new true ready h e =
+    let T : ℕ → BoardState → Type 0 = λ i b. page_at b.pages i ≡ erased in
+    erased_rootless new.shape new.pages (λ i lt. subst (T i) (sym h.1) (h.0 i (omega (arith, lt, ready.flash.size))))
+blank_rootless shape old new false ready h e = cc
