@@ -67,6 +67,13 @@ impl<A: Allocator + Clone> Root<A> {
 }
 
 impl<A: Allocator> Root<A> {
+    /// The shape of the flash that it is a root of.
+    pub fn shape(&self) -> &Shape
+        ensures { result.now ≡ self.now.shape }
+    {
+        &self.shape
+    }
+
     /// The root's number; 0 where there is none.
     pub fn number(&self) -> u64
         ensures { result ≡ self.now.root.number }
