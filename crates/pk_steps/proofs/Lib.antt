@@ -1,0 +1,6 @@
+mod Untouched
+mod Places
+mod Storing
+mod Counting
+mod Committing
+mod Freezing

@@ -1,0 +1,5 @@
+pub mod Under
+pub mod Reads
+pub mod Stores
+pub mod Lookups
+pub mod Roots

@@ -1,0 +1,43 @@
+//! What the steps of an engine make of the map that a flash holds: laws over the definitions alone, each the contract of a
+//! function that does nothing. A drive's calls cite them, and unfold no reading.
+#![tactic(auto)]
+
+ghost use Rattle.pk_steps.specs.Reads.{ReadsUnder, UnderReads, Same, Programs, Erases};
+ghost use Rattle.pk_steps.specs.Stores.{Stores, Deletes, Fits};
+ghost use Rattle.pk_steps.specs.Lookups.{Finds, FoundIn, Counts};
+ghost use Rattle.pk_steps.specs.Roots.{Commits, Committed, Freezes};
+
+/// A flash holds a map exactly where one stands under its newest root.
+pub fn reading()
+    ensures under { ReadsUnder }
+    ensures read { UnderReads }
+{}
+
+/// What is not read may change: erased pages may be programmed, blocks without a page that is read may be erased, and at every
+/// cut the same stands under the same root.
+pub fn unread()
+    ensures same { Same }
+    ensures programs { Programs }
+    ensures erases { Erases }
+{}
+
+/// One more entry puts a value into the map, or takes a key out of it.
+pub fn entries()
+    ensures stores { Stores }
+    ensures deletes { Deletes }
+    ensures fits { Fits }
+{}
+
+/// The entry that counts says what the map has, and the entries that count say how much it holds.
+pub fn lookups()
+    ensures finds { Finds }
+    ensures found_in { FoundIn }
+    ensures counts { Counts }
+{}
+
+/// A commit moves the pending entries into the newest epoch, and a freeze makes the newest epoch the older one.
+pub fn roots()
+    ensures commits { Commits }
+    ensures committed { Committed }
+    ensures freezes { Freezes }
+{}
