@@ -1,0 +1,140 @@
+-- The reading of an epoch, page by page.
+use Rattle.std.proofs.Common.{◌≡◌, ℕ, zero, suc, ◌+◌, ◌*◌, ◌<◌, ◌≤◌, refl, sym, ap, subst, ◌∙◌, arith, Bool, true, false, List, [], ◌∷◌, ◌++◌, length, nat_le, Option, Some, None, Result, Ok, Err, add-zero, le_refl}
+use Rattle.std.specs.Prelude.{⊤}
+use Rattle.std.proofs.lemmas.Bool.Decides.{nat_tests}
+use Rattle.pk_base.specs.Shape.{Shape, buffer, epoch_pages}
+use Rattle.pk_base.specs.Page.{Page, Flash, page_at, erased, whole, torn, page_in, pages_of_blocks}
+use Rattle.pk_base.specs.Entry.{Entry}
+use Rattle.pk_base.specs.Refusal.{Refusal, damaged, ◌>>=◌, ensure, some_or}
+use Rattle.pk_base.specs.Firsts.{firsts}
+use Rattle.pk_jrnfmt.specs.Page.{journal_entries}
+use Rattle.pk_jrnfmt.specs.Epoch.{journal, epoch}
+use Rattle.pk_jrn.specs.Laws.{SameBlocks}
+use Rattle.pk_jrn.proofs.Places.{pages_same}
+
+pub ok_same : {A : Type 0} (x y : A) → ◌≡◌ {A = Result A Refusal} (Ok x) (Ok y) → x ≡ y
+ok_same x y e = cc
+
+-- a step that gave something, and what followed
+bind_ok : {A B : Type 0} (r : Result A Refusal) (f : A → Result B Refusal) (b : B) → r >>= f ≡ Ok b → (a : A) × (r ≡ Ok a) × (f a ≡ Ok b)
+bind_ok (Ok a) f b e = (a, refl, e)
+bind_ok (Err x) f b e = cc
+
+-- the page is not Whole
+abbrev pub IsNotWhole : Page → Type 0
+IsNotWhole page = (bytes : List ℕ) → page ≡ whole bytes → ⊥
+
+pub erased_not_whole : (page : Page) → page ≡ erased → IsNotWhole page
+erased_not_whole page is bytes e = cc
+
+pub torn_not_whole : (page : Page) → page ≡ torn → IsNotWhole page
+torn_not_whole page is bytes e = cc
+
+module _ (shape : Shape) (number : ℕ) where
+  -- an epoch ends at a page that is not whole
+  ends_at : (index : ℕ) (before : List Entry) (p : ℕ) (page : Page) (pages : List (ℕ × Page)) → IsNotWhole page → journal shape number index before ((p, page) ∷ pages) ≡ Ok before
+  ends_at index before p erased pages not_whole = refl
+  ends_at index before p torn pages not_whole = refl
+  ends_at index before p (whole bytes) pages not_whole = absurd (not_whole bytes refl)
+
+  module _ (blocks : List ℕ) where
+    pub ends : (at : ℕ → Page) (index : ℕ) (before : List Entry) (n : ℕ) → IsNotWhole (at (page_in shape blocks index)) → journal shape number index before (pages_of_blocks shape at blocks index n) ≡ Ok before
+    ends at index before zero not_whole = refl
+    ends at index before (suc n) not_whole = ends_at index before (page_in shape blocks index) (at (page_in shape blocks index)) (pages_of_blocks shape at blocks (index + 1) n) not_whole
+
+    -- the page of this index is whole
+    module _ (at : ℕ → Page) (index : ℕ) (before : List Entry) (n : ℕ) (bytes : List ℕ) (here : at (page_in shape blocks index) ≡ whole bytes) where
+      p : ℕ
+      p = page_in shape blocks index
+
+      step : journal shape number index before (pages_of_blocks shape at blocks index (suc n))
+          ≡ (some_or (journal_entries shape number index bytes) (damaged p) >>= (λ es. ensure (nat_le (length (firsts (before ++ es))) (buffer shape)) p >>= (λ _. journal shape number (index + 1) (before ++ es) (pages_of_blocks shape at blocks (index + 1) n))))
+      unfolding p
+      step = ap (λ (page : Page). journal shape number index before ((p, page) ∷ pages_of_blocks shape at blocks (index + 1) n)) here
+
+      -- it adds its entries
+      pub goes_on : (es : List Entry) → journal_entries shape number index bytes ≡ Some es → length (firsts (before ++ es)) ≤ buffer shape
+          → journal shape number index before (pages_of_blocks shape at blocks index (suc n)) ≡ journal shape number (index + 1) (before ++ es) (pages_of_blocks shape at blocks (index + 1) n)
+      goes_on es spells within =
+          let test : nat_le (length (firsts (before ++ es))) (buffer shape) ≡ true = grind (arith, nat_tests) in
+          step ∙ rw (spells, test) refl
+
+      -- or it refuses
+      pub refuses : ((es : List Entry) → journal_entries shape number index bytes ≡ Some es → buffer shape < length (firsts (before ++ es)))
+          → journal shape number index before (pages_of_blocks shape at blocks index (suc n)) ≡ Err (damaged (page_in shape blocks index))
+      unfolding p
+      refuses many = step ∙ by_cases (journal_entries shape number index bytes) refl
+        where
+          by_cases : (o : Option (List Entry)) → journal_entries shape number index bytes ≡ o
+              → (some_or o (damaged p) >>= (λ es. ensure (nat_le (length (firsts (before ++ es))) (buffer shape)) p >>= (λ _. journal shape number (index + 1) (before ++ es) (pages_of_blocks shape at blocks (index + 1) n)))) ≡ Err (damaged p)
+          by_cases None e = refl
+          by_cases (Some es) e =
+              let more = many es e in
+              let test : nat_le (length (firsts (before ++ es))) (buffer shape) ≡ false = grind (arith, nat_tests) in
+              rw test refl
+
+      -- where all is read, its entries are there
+      went_on : (all : List Entry) → journal shape number index before (pages_of_blocks shape at blocks index (suc n)) ≡ Ok all
+          → (es : List Entry) × (journal_entries shape number index bytes ≡ Some es) × (nat_le (length (firsts (before ++ es))) (buffer shape) ≡ true)
+          × (journal shape number (index + 1) (before ++ es) (pages_of_blocks shape at blocks (index + 1) n) ≡ Ok all)
+      went_on all is =
+          let read = bind_ok (some_or (journal_entries shape number index bytes) (damaged p)) _ all (sym step ∙ is) in
+          let tested = bind_ok (ensure (nat_le (length (firsts (before ++ read.0))) (buffer shape)) p) _ all read.2 in
+          (read.0, some_ok (journal_entries shape number index bytes) read.0 read.1, passed _ tested.0 tested.1, tested.2)
+        where
+          some_ok : (o : Option (List Entry)) (es : List Entry) → some_or o (damaged p) ≡ Ok es → o ≡ Some es
+          some_ok (Some x) es e = cc
+          some_ok None es e = cc
+
+          passed : (b : Bool) (u : ⊤) → ensure b p ≡ Ok u → b ≡ true
+          passed true u e = refl
+          passed false u e = cc
+
+    -- Where so many pages are Whole and the next is not, another flash with the same pages is read on behind the same entries.
+    pub reads_on : (at at' : ℕ → Page) (n rest index : ℕ) (before all : List Entry)
+        → ((j : ℕ) → index ≤ j → j < index + n → (bytes : List ℕ) × (at (page_in shape blocks j) ≡ whole bytes))
+        → ((j : ℕ) → index ≤ j → j < index + n → at' (page_in shape blocks j) ≡ at (page_in shape blocks j))
+        → IsNotWhole (at (page_in shape blocks (index + n)))
+        → journal shape number index before (pages_of_blocks shape at blocks index (n + rest)) ≡ Ok all
+        → journal shape number index before (pages_of_blocks shape at' blocks index (n + rest)) ≡ journal shape number (index + n) all (pages_of_blocks shape at' blocks (index + n) rest)
+    reads_on at at' zero rest index before all are_whole same stop is =
+        let e : rest ≡ zero + rest = omega arith in
+        let z : index + zero ≡ index = add-zero index in
+        let not_whole : IsNotWhole (at (page_in shape blocks index)) = subst (λ (k : ℕ). IsNotWhole (at (page_in shape blocks k))) z stop in
+        let b : before ≡ all = ok_same before all (sym (ends at index before (zero + rest) not_whole) ∙ is) in
+        λ i. journal shape number (sym z i) (b i) (pages_of_blocks shape at' blocks (sym z i) (sym e i))
+    reads_on at at' (suc n) rest index before all are_whole same stop is =
+        let e : suc n + rest ≡ suc (n + rest) = omega arith in
+        let m : index + 1 + n ≡ index + suc n = omega arith in
+        let w = are_whole index (le_refl index) (omega arith) in
+        let is' : journal shape number index before (pages_of_blocks shape at blocks index (suc (n + rest))) ≡ Ok all = subst (λ (k : ℕ). journal shape number index before (pages_of_blocks shape at blocks index k) ≡ Ok all) e is in
+        let g = went_on at index before (n + rest) w.0 w.1 all is' in
+        let within : length (firsts (before ++ g.0)) ≤ buffer shape = grind (arith, nat_tests, g.2) in
+        ap (λ (k : ℕ). journal shape number index before (pages_of_blocks shape at' blocks index k)) e
+        ∙ goes_on at' index before (n + rest) w.0 (same index (le_refl index) (omega arith) ∙ w.1) g.0 g.1 within
+        ∙ reads_on at at' n rest (index + 1) (before ++ g.0) all (λ j low high. are_whole j (omega (arith, low)) (omega (arith, high))) (λ j low high. same j (omega (arith, low)) (omega (arith, high)))
+        (subst (λ (k : ℕ). IsNotWhole (at (page_in shape blocks k))) (sym m) stop) g.3
+        ∙ (λ i. journal shape number (m i) all (pages_of_blocks shape at' blocks (m i) rest))
+
+-- ---- whole epochs
+
+pub epoch_is : (shape : Shape) (at : ℕ → Page) (number : ℕ) (blocks : List ℕ) (n : ℕ) → length blocks ≡ 2 → epoch_pages shape ≡ n → epoch shape at number blocks ≡ journal shape number 0 [] (pages_of_blocks shape at blocks 0 n)
+unfolding epoch
+epoch_is shape at number blocks n two size =
+    let all : length blocks * shape.block_pages ≡ n = ap (λ k. k * shape.block_pages) two ∙ size in
+    ap (λ k. journal shape number 0 [] (pages_of_blocks shape at blocks 0 k)) all
+
+pages_from_same : (shape : Shape) (at at' : ℕ → Page) (blocks : List ℕ) (i n : ℕ) → ((j : ℕ) → i ≤ j → j < i + n → at' (page_in shape blocks j) ≡ at (page_in shape blocks j)) → pages_of_blocks shape at' blocks i n ≡ pages_of_blocks shape at blocks i n
+pages_from_same shape at at' blocks i zero same = refl
+pages_from_same shape at at' blocks i (suc n) same = λ k. (page_in shape blocks i, same i (le_refl i) (omega arith) k) ∷ pages_from_same shape at at' blocks (i + 1) n (λ j low high. same j (omega arith) (omega arith)) k
+
+-- where the blocks are the same, what is read is the same
+pub reads_same : (shape : Shape) (number : ℕ) (blocks : List ℕ) (old new : Flash) → length blocks ≡ 2 → SameBlocks shape blocks old new → epoch shape (page_at new) number blocks ≡ epoch shape (page_at old) number blocks
+reads_same shape number blocks old new two same =
+    epoch_is shape (page_at new) number blocks (epoch_pages shape) two refl
+    ∙ ap (journal shape number 0 []) (pages_from_same shape (page_at old) (page_at new) blocks 0 (epoch_pages shape) (λ j low high. pages_same shape blocks old new j same (omega (arith, high))))
+    ∙ sym (epoch_is shape (page_at old) number blocks (epoch_pages shape) two refl)
+
+-- an epoch whose first page is not whole has no entries
+pub reads_none : (shape : Shape) (at : ℕ → Page) (number : ℕ) (blocks : List ℕ) → length blocks ≡ 2 → IsNotWhole (at (page_in shape blocks 0)) → epoch shape at number blocks ≡ Ok []
+reads_none shape at number blocks two not_whole = epoch_is shape at number blocks (epoch_pages shape) two refl ∙ ends shape number blocks at 0 [] (epoch_pages shape) not_whole

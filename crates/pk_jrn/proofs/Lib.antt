@@ -1,0 +1,5 @@
+pub mod Puts
+pub mod Places
+pub mod Journals
+pub mod Appending
+pub mod Replaying

@@ -1,0 +1,4 @@
+pub mod Epochs
+pub mod Appends
+pub mod Replays
+pub mod Laws

@@ -1,0 +1,83 @@
+-- An epoch that is read from a flash into a write buffer.
+use Rattle.std.specs.Prelude.{◌≡◌, ℕ, ◌+◌, ◌<◌, ◌≤◌, Bool, true, false, List, [], ◌∷◌, length, min, reverse, Some, Ok, Err}
+use Rattle.std.specs.FinMap.Entries.{put}
+use Rattle.std.specs.List.{AllByRecursion}
+use Rattle.pk_base.specs.Key.{key_cmp}
+use Rattle.pk_base.specs.Shape.{Shape, buffer, epoch_pages}
+use Rattle.pk_base.specs.Page.{Flash, page_at, page_in}
+use Rattle.pk_base.specs.Entry.{Entry, key_of}
+use Rattle.pk_base.specs.EntryBytes.{IsEntry}
+use Rattle.pk_base.specs.Firsts.{firsts}
+use Rattle.pk_base.specs.Refusal.{damaged}
+use Rattle.pk_jrnfmt.specs.Page.{journal_entries}
+use Rattle.pk_jrnfmt.specs.Epoch.{epoch}
+use Rattle.pk_buf.specs.Table.{Table}
+use Rattle.pk_nand.specs.BoardState.{BoardState}
+use Rattle.pk_nand.specs.Calls.{Rose, ReadFailed}
+use Rattle.pk_nand.specs.Erased.{after_reads}
+use Rattle.pk_jrn.specs.declared.error.ReplayError.{ReplayError}
+use Rattle.pk_jrn.specs.declared.error.ReplayError.TheVariants.{Damaged, Fault}
+use Rattle.pk_jrn.specs.Epochs.{IsWhole}
+
+-- a write buffer that holds these entries, of which the later one of a key counts
+abbrev pub buffer_of : Shape → List Entry → Table
+buffer_of shape es = record { capacity = buffer shape; entries = firsts (reverse es) }
+
+module _ (shape : Shape) (number : ℕ) (blocks : List ℕ) where
+  -- so many pages were replayed: they are those before the first that is not Whole, and the buffer holds the epoch's entries
+  pub record Replayed (flash : Flash) (used : ℕ) (into : Table) : Type 0 where
+    pub entries : List Entry
+    pub read : epoch shape (page_at flash) number blocks ≡ Ok entries
+    pub held : into ≡ buffer_of shape entries
+    pub each : AllByRecursion (IsEntry shape) entries
+    pub within : used ≤ epoch_pages shape
+    pub before : (j : ℕ) → j < used → IsWhole flash (page_in shape blocks j)
+    pub ends : used < epoch_pages shape → IsWhole flash (page_in shape blocks used) → ⊥
+
+  -- the reads of a replay that ended behind so many pages: the page that ends it is read too, unless the epoch is full
+  abbrev pub after_replay : ℕ → BoardState → BoardState
+  after_replay used old = after_reads (min (used + 1) (epoch_pages shape)) old
+
+  -- the reading of the epoch refuses with this page, behind which nothing was read
+  pub record ReplayRefused (old new : BoardState) (page : ℕ) : Type 0 where
+    pub index : ℕ
+    pub within : index < epoch_pages shape
+    pub page_is : page ≡ page_in shape blocks index
+    pub read : epoch shape (page_at old.pages) number blocks ≡ Err (damaged page)
+    pub board : new ≡ after_reads (index + 1) old
+
+  -- a read failed, behind others that did not
+  pub record ReplayFailed (old new : BoardState) : Type 0 where
+    pub made : ℕ
+    pub within : made < epoch_pages shape
+    pub before : (j : ℕ) → j < made → IsWhole old.pages (page_in shape blocks j)
+    pub failed : ReadFailed (after_reads made old) new (page_in shape blocks made)
+    pub flash : Rose old.flash_faults new.flash_faults
+    pub read : Rose old.read_faults new.read_faults
+
+  -- the cause of each refusal
+  abbrev pub Refused : BoardState → BoardState → ReplayError → Type 0
+  Refused old new (Damaged page) = ReplayRefused old new page
+  Refused old new Fault = ReplayFailed old new
+
+-- ---- inside
+
+-- a table of entries behind writes, one after another
+abbrev pub puts : List Entry → List Entry → List Entry
+puts [] table = table
+puts (e ∷ es) table = puts es (put key_cmp (key_of e) e.1 table)
+
+-- The entry was written, for which there was room; or there was none, and nothing was done.
+abbrev pub PutOrFull : Table → Entry → Bool → Table → Type 0
+PutOrFull old e true new = (new ≡ record old { entries = put key_cmp (key_of e) e.1 old.entries }) × (length new.entries ≤ old.capacity)
+PutOrFull old e false new = (new ≡ old) × (old.capacity < length (put key_cmp (key_of e) e.1 old.entries))
+
+-- The entries were written, for all of which there was room; or there is no room for all of them.
+abbrev pub PutsOrFull : Table → List Entry → Bool → Table → Type 0
+PutsOrFull old es true new = (new ≡ record old { entries = puts es old.entries }) × (length new.entries ≤ old.capacity)
+PutsOrFull old es false new = (new.capacity ≡ old.capacity) × (old.capacity < length (puts es old.entries))
+
+-- The entries of the epoch's page of this index were written; or the bytes are none, or there is no room for all its entries.
+abbrev pub TakesPage : Shape → ℕ → ℕ → List ℕ → Table → Bool → Table → Type 0
+TakesPage shape number index page old true new = (es : List Entry) × (journal_entries shape number index page ≡ Some es) × PutsOrFull old es true new
+TakesPage shape number index page old false new = (new.capacity ≡ old.capacity) × ((es : List Entry) → journal_entries shape number index page ≡ Some es → old.capacity < length (puts es old.entries))

@@ -1,0 +1,76 @@
+//! The entries of a journal page, written into a write buffer.
+ghost use Rattle.std.specs.Prelude.{◌≡◌, ℕ, ◌<◌, List, length, MatchBool};
+ghost use Rattle.pk_base.specs.Fields.{number_at};
+ghost use Rattle.pk_base.specs.Shape.{epoch_pages};
+ghost use Rattle.pk_base.specs.Entry.{Entry as EntrySpec};
+ghost use Rattle.pk_base.specs.Seen.{entry as seen};
+ghost use Rattle.pk_jrnfmt.specs.Page.{Decodes, IsJournalPage};
+ghost use Rattle.pk_jrn.specs.Replays.{PutOrFull, PutsOrFull, TakesPage};
+
+use pk_base::{Entry, Shape};
+use pk_buf::Buffer;
+use pk_jrnfmt::{JrnHead, decode, entry};
+use pk_region::Region;
+
+// Writes the entry, unless there is no room for its key.
+fn put_one<A: Region>(into: &mut Buffer<A>, new: Entry) -> bool
+    ensures { PutOrFull into.old (seen new) result into.new }
+{
+    // so that the entries are known to rise
+    let _ = into.len();
+    if into.room() == 0 && into.get(new.key()).is_none() {
+        return false;
+    }
+    into.put(new);
+    let _ = into.room();
+    true
+}
+
+// Writes the entries of a page of so many, up to the first for whose key there is no room.
+fn put_all<A: Region>(shape: &Shape, page: &[u8], count: u32, into: &mut Buffer<A>) -> bool
+    requires sized { length page.now ≡ shape.now.page_bytes }
+    requires decodes { Decodes shape.now page.now }
+    requires count { count ≡ number_at 2 20 page.now }
+    ensures { (epoch index : ℕ) (es : List EntrySpec) → IsJournalPage shape.now page.now epoch index es → length es ≡ count → PutsOrFull into.old es result into.new }
+{
+    // so that the entries are known to rise
+    let _ = into.len();
+    for i in 0..count {
+        if !put_one(into, entry(shape, page, i)) {
+            return false;
+        }
+    }
+    let _ = into.room();
+    true
+}
+
+// Whether a page is the one of this epoch and index.
+fn is_of(head: JrnHead, number: u64, index: u32) -> bool
+    ensures { MatchBool result ((head.epoch ≡ number) × (head.index ≡ index)) ((head.epoch ≡ number) × (head.index ≡ index) → ⊥) }
+{
+    head.epoch == number && head.index == index
+}
+
+// Writes the entries of the epoch's page of this index, unless the bytes are none or there is no room for all of them.
+pub fn take_page<A: Region>(
+    shape: &Shape,
+    number: u64,
+    index: u32,
+    page: &[u8],
+    into: &mut Buffer<A>,
+) -> bool
+    requires sized { length page.now ≡ shape.now.page_bytes }
+    requires within { index < epoch_pages shape.now }
+    ensures { TakesPage shape.now number index page.now into.old result into.new }
+{
+    match decode(shape, page) {
+        Ok(head) => {
+            if is_of(head, number, index) {
+                put_all(shape, page, head.count, into)
+            } else {
+                false
+            }
+        }
+        Err(_) => false,
+    }
+}

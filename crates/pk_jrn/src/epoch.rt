@@ -1,0 +1,156 @@
+//! An epoch and its next page.
+ghost use Rattle.std.specs.Prelude.{◌≡◌, ℕ, ◌+◌, ◌<◌, ◌≤◌, length, [], Some, IfErr, OnOk, OnErr};
+ghost use Rattle.std.specs.List.{AllByRecursion};
+ghost use Rattle.pk_base.specs.Shape.{page_entries, epoch_pages};
+ghost use Rattle.pk_base.specs.Page.{Flash};
+ghost use Rattle.pk_base.specs.EntryBytes.{IsEntry};
+ghost use Rattle.pk_base.specs.Seen.{entries as seen_all};
+ghost use Rattle.pk_nand.specs.Calls.{IsReady, after_program, ProgramFailed};
+ghost use Rattle.pk_nand.specs.declared.types.Fault.TheVariants.{Stopped};
+ghost use Rattle.pk_jrnfmt.specs.Page.{journal_entries};
+ghost use Rattle.pk_jrn.specs.Epochs.{started, found_at_opening, left_of, next_page, AreBlocks, AreErased, Fits, Reads};
+ghost use Rattle.pk_jrn.specs.Appends.{next_bytes, AddsAll, CommitReached, CommitWent};
+
+use crate::pages::page_of;
+use pk_base::{Entry, Shape};
+use pk_jrnfmt::encode;
+use pk_nand::{Fault, Nand};
+use pk_seg::write_page;
+use std::marker::Model;
+
+/// An epoch of the journal: two blocks whose pages are written one after another, a commit in each.
+#[derive(Drop)]
+pub struct Epoch {
+    shape: Shape,
+    number: u64,
+    blocks: [u16; 2],
+    used: u32,
+    takes_more: bool,
+}
+
+impl Model for Epoch {
+    ghost use Rattle.std.specs.Prelude.{◌≡◌, ◌≤◌, length};
+    ghost use Rattle.pk_base.specs.Shape.{epoch_pages};
+    ghost use Rattle.pk_jrn.specs.Epochs.{JournalEpoch};
+
+    ghost Value = { JournalEpoch };
+
+    ghost view = { λ e. record { shape = e.shape; number = e.number; blocks = e.blocks; used = e.used; takes_more = e.takes_more } };
+
+    ghost invariant = { λ e. (length e.blocks ≡ 2) × (e.used ≤ epoch_pages e.shape) };
+}
+
+impl Epoch {
+    /// A new epoch, of which no page is written.
+    pub fn start(shape: Shape, number: u64, blocks: [u16; 2]) -> Epoch
+        ensures started { result ≡ started shape number blocks }
+        ensures fits { (flash : Flash) → AreErased shape flash blocks → Fits result flash }
+        ensures reads { (flash : Flash) → AreErased shape flash blocks → Reads result flash [] }
+    {
+        Epoch {
+            shape,
+            number,
+            blocks,
+            used: 0,
+            takes_more: true,
+        }
+    }
+
+    /// An epoch as it is found at opening, of which so many pages are Whole. It takes no more pages.
+    pub fn found(shape: Shape, number: u64, blocks: [u16; 2], used: u32) -> Epoch
+        requires { used ≤ epoch_pages shape }
+        ensures { result ≡ found_at_opening shape number blocks used }
+    {
+        Epoch {
+            shape,
+            number,
+            blocks,
+            used,
+            takes_more: false,
+        }
+    }
+
+    /// How many more pages it takes.
+    pub fn left(&self) -> u32
+        ensures { result ≡ left_of self.now }
+    {
+        self.shape.known();
+        if self.takes_more {
+            2 * self.shape.block_pages() - self.used
+        } else {
+            0
+        }
+    }
+
+    /// How many of its pages are written.
+    pub fn used(&self) -> u32
+        ensures value { result ≡ self.now.used }
+        ensures most { result ≤ epoch_pages self.now.shape }
+    {
+        self.used
+    }
+
+    /// Whether it was begun by this drive, and not found at opening.
+    pub fn is_fresh(&self) -> bool
+        ensures { result ≡ self.now.takes_more }
+    {
+        self.takes_more
+    }
+
+    /// Its number.
+    pub fn number(&self) -> u64
+        ensures { result ≡ self.now.number }
+    {
+        self.number
+    }
+
+    /// Its two blocks in their order.
+    pub fn blocks(&self) -> [u16; 2]
+        ensures value { result ≡ self.now.blocks }
+        ensures two { length self.now.blocks ≡ 2 }
+    {
+        self.blocks
+    }
+
+    /// Adds entries, 1 to those of a page, behind those of the epoch, by the program of its next page. `Stopped` where this
+    /// fails; the epoch is as before then. Wherever it is cut, all of the entries were added or none. `buf` has the bytes of a
+    /// page, which are lost.
+    pub fn append<B: Nand>(
+        &mut self,
+        board: &mut B,
+        entries: &[Entry],
+        buf: &mut [u8],
+    ) -> Result<(), Fault>
+        requires left { 0 < left_of self.old }
+        requires some { 1 ≤ length entries.now }
+        requires most { length entries.now ≤ page_entries self.old.shape }
+        requires each { AllByRecursion (IsEntry self.old.shape) (seen_all entries.now) }
+        requires ready { IsReady (B.state board.old) self.old.shape }
+        requires fits { Fits self.old (B.state board.old).pages }
+        requires blocks { AreBlocks self.old.shape self.old.blocks }
+        requires room { length buf.old ≡ self.old.shape.page_bytes }
+        ensures ok { OnOk result (B.state board.new ≡ after_program (B.state board.old) (next_page self.old) (next_bytes self.old (seen_all entries.now))) }
+        ensures taken { OnOk result (self.new ≡ record self.old { used = self.old.used + 1 }) }
+        ensures fits { OnOk result (Fits self.new (B.state board.new).pages) }
+        ensures spells { journal_entries self.old.shape self.old.number self.old.used (next_bytes self.old (seen_all entries.now)) ≡ Some (seen_all entries.now) }
+        ensures list { OnOk result (AddsAll self.old (seen_all entries.now) (B.state board.old).pages (B.state board.new).pages) }
+        ensures cuts { OnOk result (CommitReached self.old (seen_all entries.now) (B.state board.old) (B.state board.new)) }
+        ensures stopped { IfErr result (λ e. e ≡ Stopped) }
+        ensures err { OnErr result (ProgramFailed (B.state board.old) (B.state board.new) (next_page self.old) (next_bytes self.old (seen_all entries.now))) }
+        ensures cuts_err { OnErr result (CommitWent self.old (seen_all entries.now) (B.state board.old) (B.state board.new)) }
+        ensures kept { OnErr result (self.new ≡ self.old) }
+        ensures ready { IsReady (B.state board.new) self.old.shape }
+        ensures buffer { length buf.new ≡ length buf.old }
+    {
+        self.shape.known();
+        encode(&self.shape, self.number, self.used, entries, buf);
+        let page = page_of(&self.shape, &self.blocks, self.used);
+        match write_page(board, page, buf) {
+            Ok(()) => {
+                self.used += 1;
+                Ok(())
+            }
+            Err(fault) => Err(fault),
+        }
+    }
+}

@@ -1,0 +1,70 @@
+//! An epoch that is read from a board.
+ghost use Rattle.std.specs.Prelude.{◌≡◌, ℕ, List, length, IfOk, IfErr, OnErr, MatchBool};
+ghost use Rattle.pk_base.specs.Shape.{epoch_pages};
+ghost use Rattle.pk_nand.specs.Calls.{IsReady};
+ghost use Rattle.pk_nand.specs.declared.types.PageRead.TheVariants.{Whole};
+ghost use Rattle.pk_buf.specs.Table.{no_entries};
+ghost use Rattle.pk_jrn.specs.Epochs.{AllExist, Fits, found_at_opening};
+ghost use Rattle.pk_jrn.specs.Replays.{Replayed, Refused, after_replay};
+
+use crate::entries::take_page;
+use crate::error::ReplayError;
+use crate::pages::page_of;
+use pk_base::Shape;
+use pk_buf::Buffer;
+use pk_nand::{Nand, PageRead};
+use pk_region::Region;
+
+// Whether the page that was read is Whole.
+fn is_whole(found: PageRead) -> bool
+    ensures { MatchBool result (found ≡ Whole) (found ≡ Whole → ⊥) }
+{
+    found == PageRead::Whole
+}
+
+/// Reads the pages of an epoch up to the first that is not Whole, by one read each, and writes their entries into an empty write
+/// buffer, where the later entry of a key counts. Answers how many pages were Whole. `Damaged` with the first page that is Whole
+/// and not the epoch's page at its place, or whose entries bring the keys above those of a write buffer; `Fault` where a read
+/// failed. After a refusal the buffer is empty. `buf` has the bytes of a page, which are lost.
+pub fn replay<B: Nand, A: Region>(
+    board: &mut B,
+    shape: &Shape,
+    number: u64,
+    blocks: [u16; 2],
+    into: &mut Buffer<A>,
+    buf: &mut [u8],
+) -> Result<u32, ReplayError>
+    requires ready { IsReady (B.state board.old) shape.now }
+    requires blocks { AllExist shape.now blocks }
+    requires empty { into.old ≡ no_entries shape.now }
+    requires room { length buf.old ≡ shape.now.page_bytes }
+    ensures replayed { IfOk result (λ used. Replayed shape.now number blocks (B.state board.old).pages used into.new) }
+    ensures fits { IfOk result (λ used. Fits (found_at_opening shape.now number blocks used) (B.state board.old).pages) }
+    ensures reads { IfOk result (λ used. B.state board.new ≡ after_replay shape.now number blocks used (B.state board.old)) }
+    ensures refused { IfErr result (λ e. Refused shape.now number blocks (B.state board.old) (B.state board.new) e) }
+    ensures cleared { OnErr result (into.new ≡ into.old) }
+    ensures flash { (B.state board.new).pages ≡ (B.state board.old).pages }
+    ensures ready { IsReady (B.state board.new) shape.now }
+    ensures buffer { length buf.new ≡ length buf.old }
+{
+    shape.known();
+    for index in 0..2 * shape.block_pages() {
+        let page = page_of(shape, &blocks, index);
+        match board.read(page, buf) {
+            Ok(found) => {
+                if !is_whole(found) {
+                    return Ok(index);
+                }
+                if !take_page(shape, number, index, buf, into) {
+                    into.clear();
+                    return Err(ReplayError::Damaged { page });
+                }
+            }
+            Err(_) => {
+                into.clear();
+                return Err(ReplayError::Fault);
+            }
+        }
+    }
+    Ok(2 * shape.block_pages())
+}
