@@ -1,13 +1,13 @@
 -- The newest root of pages that are read one after another.
-use Rattle.std.proofs.Common.{◌≡◌, ℕ, zero, suc, ◌+◌, ◌*◌, ◌<◌, ◌≤◌, List, [], ◌∷◌, Bool, true, false, ◌&&◌, nat_le, if◌then◌else◌, length, Option, Some, None, refl, sym, ap, ◌∙◌, subst, arith, T, leb→le, le→leb, leb-false, le_refl, add-zero}
+use Rattle.std.proofs.Common.{◌≡◌, ℕ, zero, suc, ◌+◌, ◌*◌, ◌<◌, ◌≤◌, List, Bool, true, false, ◌&&◌, nat_le, if◌then◌else◌, length, Option, Some, None, refl, sym, ap, ◌∙◌, subst, arith, T, leb→le, leb-false, le_refl, add-zero}
 use Rattle.std.proofs.Math.Nat.{mul-le-mul_left}
 use Rattle.std.specs.Prelude.{bytes_eq, MatchOption, IfSome}
 use Rattle.std.specs.List.{range_with_len}
 use Rattle.pk_base.specs.Fields.{u64_at}
-use Rattle.pk_base.specs.Shape.{Shape, IsShape, page_count}
+use Rattle.pk_base.specs.Shape.{Shape, IsShape}
 use Rattle.pk_base.specs.Page.{Page, Flash, page_at, erased, whole, torn}
 use Rattle.pk_nand.specs.BoardState.{BoardState}
-use Rattle.pk_nand.specs.Calls.{Rose, IsReady, filled, after_read, ReadFailed}
+use Rattle.pk_nand.specs.Calls.{IsReady, filled, after_read, ReadFailed}
 use Rattle.pk_nand.specs.Erased.{after_reads}
 use Rattle.pk_nand.specs.Seen.{answer}
 use Rattle.pk_nand.specs.declared.types.PageRead.{PageRead}
@@ -223,8 +223,8 @@ Scanned-next old now shape i best best' first into into' found buf buf' s told r
     let pages : now.pages ≡ old.pages = ap (λ (b : BoardState). b.pages) s.board in
     let P : Page → Type 0 = λ p. root_in into.shape found buf' ≡ root_of shape p in
     let root : root_in into.shape found buf' ≡ root_of shape (page_at old.pages i) = subst P (ap (λ (g : Flash). page_at g i) pages)
-        (ap (λ (x : Shape). root_in x found buf') s.shape_is ∙ (ap (λ (x : PageRead). root_in shape x buf') told
-        ∙ (ap (λ (x : List ℕ). root_in shape (answer (page_at now.pages i)) x) read ∙ root_in-read shape (page_at now.pages i) buf))) in
+    (ap (λ (x : Shape). root_in x found buf') s.shape_is ∙ (ap (λ (x : PageRead). root_in shape x buf') told
+    ∙ (ap (λ (x : List ℕ). root_in shape (answer (page_at now.pages i)) x) read ∙ root_in-read shape (page_at now.pages i) buf))) in
     record {
       board = let Q : ℕ → Type 0 = λ k. after_read now ≡ after_reads k old in subst Q e (ap after_read s.board);
       shape_is = same_shape ∙ s.shape_is;

@@ -71,7 +71,6 @@ pub record Installs (shape : Shape) (root : Root) (next : Next) (old : BoardStat
   pub was : next ≡ Program page
   pub program : new ≡ after_program old page (root_bytes shape root)
   pub then_next : next' ≡ next_behind shape page
-  pub in_root_blocks : page < 2 * shape.block_pages
   pub fits : Fits shape next' (page, root) new.pages
   pub cuts : Reached old new (λ cut _. MayInstall shape page root old.pages cut)
 

@@ -1,5 +1,5 @@
 -- A search through root pages from the lowest on: the newest root so far.
-use Rattle.std.specs.Prelude.{ℕ, List, nat_le, if◌then◌else◌, Bool, true, false, Option, Some, None}
+use Rattle.std.specs.Prelude.{ℕ, List, nat_le, if◌then◌else◌, Bool, false, Option, Some, None}
 use Rattle.pk_base.specs.Shape.{Shape}
 use Rattle.pk_nand.specs.declared.types.PageRead.{PageRead}
 use Rattle.pk_nand.specs.declared.types.PageRead.TheVariants.{Erased, Whole, Torn}

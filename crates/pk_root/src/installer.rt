@@ -15,6 +15,7 @@ use pk_base::Shape;
 use pk_model::laws;
 use pk_nand::{Fault, Nand};
 use pk_rootfmt::Root;
+use pk_seg::write_page;
 use std::alloc::Allocator;
 use std::marker::Model;
 
@@ -79,9 +80,9 @@ fn program_root<B: Nand, A: Allocator>(
     laws::root();
     root.shape().known();
     root.encode(buf);
-    match board.program(page, buf) {
+    match write_page(board, page, buf) {
         Ok(()) => Ok(()),
-        Err(_) => Err(Fault::Stopped),
+        Err(fault) => Err(fault),
     }
 }
 

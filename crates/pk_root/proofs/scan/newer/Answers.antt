@@ -1,4 +1,4 @@
-use Rattle.std.proofs.Common.{◌≡◌, sym, ◌∙◌}
+use Rattle.std.proofs.Common.{sym, ◌∙◌}
 use Rattle.pk_root.proofs.Scanning.{passed_over, taken}
 use Rattle.pk_root.proofs.scan.newer.Goals as goal
 

@@ -1,11 +1,9 @@
-use Rattle.std.proofs.Common.{◌≡◌, ◌∙◌, ◌*◌, arith, sym, subst, ap}
-use Rattle.std.specs.Prelude.{ℕ, IfSome, true}
+use Rattle.std.proofs.Common.{◌≡◌, ◌∙◌, ◌*◌, arith, ap}
 use Rattle.pk_base.specs.Shape.{Shape}
 use Rattle.pk_base.specs.Page.{page_at}
-use Rattle.pk_rootfmt.specs.Root.{is_root}
 use Rattle.pk_rootfmt.specs.Newest.{newest_root}
 use Rattle.pk_root.specs.Scanned.{found_at}
-use Rattle.pk_root.proofs.Scanning.{Scanned, Scanned-next, Scanned-end, found_page, found_place, found_grammar}
+use Rattle.pk_root.proofs.Scanning.{Scanned-next, Scanned-end, found_page, found_place, found_grammar}
 use Rattle.pk_root.proofs.scan.newest.Given.{Over}
 use Rattle.pk_root.proofs.scan.newest.Goals as goal
 
@@ -16,7 +14,6 @@ loop-page-preserved g c = record {
       c.in-Ok.found c.loop-page.buf c.read.new.into c.loop-page.invariant.scanned c.in-Ok.ensures.found c.in-Ok.ensures.bytes
       c.newer_read-best.ensures.newer c.newer_read-best.ensures.shape c.newer_read-best.ensures.kept);
 }
-
 
 -- all pages of the root blocks were read
 ended : (g : Over) (c : goal.After-loop-page g) → found_at c.loop-page.best c.loop-page.into.root ≡ newest_root c.args.into.now.shape (page_at (g.B.Nand.state c.args.board.now).pages)
