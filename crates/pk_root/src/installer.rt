@@ -1,0 +1,156 @@
+//! Installs of roots, at most one call of the board each.
+ghost use Rattle.std.specs.Prelude.{◌≡◌, ◌*◌, ◌<◌, ◌⊎◌, ℕ, length, not, true, false, Some, MatchBool, OnOk, OnErr, IfOk, IfErr};
+ghost use Rattle.pk_base.specs.Shape as spec;
+ghost use Rattle.pk_base.specs.Page.{Flash, page_at};
+ghost use Rattle.pk_nand.specs.Calls.{IsReady, after_program, after_erase, ProgramFailed, EraseFailed};
+ghost use Rattle.pk_nand.specs.Crash.{Reached, Went};
+ghost use Rattle.pk_nand.specs.declared.types.Fault.TheVariants.{Stopped};
+ghost use Rattle.pk_rootfmt.specs.Root.{Root as RootValue, is_root, root_bytes};
+ghost use Rattle.pk_rootfmt.specs.Newest.{newest_root};
+ghost use Rattle.pk_root.specs.declared.next.Next.TheVariants.{Erase, Program};
+ghost use Rattle.pk_root.specs.Installing.{erases_next, other_block, next_behind as next_behind_of, Fits, SameBehind, KeepsRoot, MayInstall, Installs, ErasesOther, FailsToInstall, FailsToErase};
+
+use crate::next::Next;
+use pk_base::Shape;
+use pk_model::laws;
+use pk_nand::{Fault, Nand};
+use pk_rootfmt::Root;
+use pk_seg::write_page;
+use std::alloc::Allocator;
+use std::marker::Model;
+
+/// Where the next root goes. Contracts see what the next step does.
+#[derive(Drop)]
+pub struct Installer {
+    next: Next,
+}
+
+impl Model for Installer {
+    ghost use Rattle.pk_root.specs.declared.next.Next.{Next};
+
+    ghost Value = { Next };
+
+    ghost view = { λ i. i.next };
+}
+
+// Erases the root block in which this page does not lie, and answers its first page. `Stopped` where the erase fails.
+fn erase_other<B: Nand>(board: &mut B, shape: &Shape, beside: u32) -> Result<u32, Fault>
+    requires ready { IsReady (B.state board.old) shape.now }
+    requires fits { (top : ℕ × RootValue) × Fits shape.now (Erase beside) top (B.state board.old).pages }
+    ensures first { IfOk result (λ page. page ≡ other_block shape.now beside * shape.now.block_pages) }
+    ensures ok { OnOk result (B.state board.new ≡ after_erase (B.state board.old) (other_block shape.now beside)) }
+    ensures cuts { OnOk result (Reached (B.state board.old) (B.state board.new) (λ cut _. KeepsRoot shape.now (B.state board.old).pages cut)) }
+    ensures fits { OnOk result ((top : ℕ × RootValue) → Fits shape.now (Erase beside) top (B.state board.old).pages → Fits shape.now (Program (other_block shape.now beside * shape.now.block_pages)) top (B.state board.new).pages) }
+    ensures stopped { IfErr result (λ e. e ≡ Stopped) }
+    ensures err { OnErr result (EraseFailed (B.state board.old) (B.state board.new) (other_block shape.now beside)) }
+    ensures cuts_err { OnErr result (Went (B.state board.old) (B.state board.new) (λ cut _. KeepsRoot shape.now (B.state board.old).pages cut)) }
+    ensures behind { SameBehind shape.now (B.state board.old).pages (B.state board.new).pages }
+    ensures ready { IsReady (B.state board.new) shape.now }
+{
+    laws::root();
+    shape.known();
+    let block = 1 - beside / shape.block_pages();
+    match board.erase(block) {
+        Ok(()) => Ok(block * shape.block_pages()),
+        Err(_) => Err(Fault::Stopped),
+    }
+}
+
+// Programs the root in this page. `Stopped` where the program fails.
+fn program_root<B: Nand, A: Allocator>(
+    board: &mut B,
+    root: &Root<A>,
+    page: u32,
+    buf: &mut [u8],
+) -> Result<(), Fault>
+    requires ready { IsReady (B.state board.old) root.now.shape }
+    requires grammar { is_root root.now.shape root.now.root ≡ true }
+    requires fits { (top : ℕ × RootValue) × Fits root.now.shape (Program page) top (B.state board.old).pages × (top.1.number < root.now.root.number) }
+    requires room { length buf.old ≡ root.now.shape.page_bytes }
+    ensures ok { OnOk result (B.state board.new ≡ after_program (B.state board.old) page (root_bytes root.now.shape root.now.root)) }
+    ensures cuts { OnOk result (Reached (B.state board.old) (B.state board.new) (λ cut _. MayInstall root.now.shape page root.now.root (B.state board.old).pages cut)) }
+    ensures fits { OnOk result (Fits root.now.shape (next_behind_of root.now.shape page) (page, root.now.root) (B.state board.new).pages) }
+    ensures stopped { IfErr result (λ e. e ≡ Stopped) }
+    ensures err { OnErr result (ProgramFailed (B.state board.old) (B.state board.new) page (root_bytes root.now.shape root.now.root)) }
+    ensures cuts_err { OnErr result (Went (B.state board.old) (B.state board.new) (λ cut _. MayInstall root.now.shape page root.now.root (B.state board.old).pages cut)) }
+    ensures behind { SameBehind root.now.shape (B.state board.old).pages (B.state board.new).pages }
+    ensures ready { IsReady (B.state board.new) root.now.shape }
+    ensures buffer { length buf.new ≡ length buf.old }
+{
+    laws::root();
+    root.shape().known();
+    root.encode(buf);
+    match write_page(board, page, buf) {
+        Ok(()) => Ok(()),
+        Err(fault) => Err(fault),
+    }
+}
+
+// What is next behind a root in this page.
+fn next_behind(shape: &Shape, page: u32) -> Next
+    requires { page < 2 * shape.now.block_pages }
+    ensures { result ≡ next_behind_of shape.now page }
+{
+    shape.known();
+    let pages = shape.block_pages();
+    if page % pages + 1 < pages {
+        Next::Program { page: page + 1 }
+    } else {
+        Next::Erase { beside: page }
+    }
+}
+
+impl Installer {
+    /// Behind the newest root, which was found in this page: the first step erases the other root block, and the next one
+    /// programs that block's first page.
+    pub fn after(page: u32) -> Installer
+        ensures value { result ≡ Erase page }
+        ensures fits { (shape : spec.Shape) (flash : Flash) (root : RootValue) → newest_root shape (page_at flash) ≡ Some (page, root) → Fits shape result (page, root) flash }
+    {
+        Installer {
+            next: Next::Erase { beside: page },
+        }
+    }
+
+    /// One step of the install of a root with a greater number than the newest one's, by one call of the board. True where the
+    /// root was programmed; false where the other root block was erased, behind which the next step programs. Wherever it is
+    /// cut the newest root is the former or, in a program, this one, and no page behind the root blocks differs. `Stopped`
+    /// where the call fails; the installer is as before then. `buf` has the bytes of a page, which are lost.
+    pub fn step<B: Nand, A: Allocator>(
+        &mut self,
+        board: &mut B,
+        root: &Root<A>,
+        buf: &mut [u8],
+    ) -> Result<bool, Fault>
+        requires ready { IsReady (B.state board.old) root.now.shape }
+        requires grammar { is_root root.now.shape root.now.root ≡ true }
+        requires fits { (top : ℕ × RootValue) × Fits root.now.shape self.old top (B.state board.old).pages × (top.1.number < root.now.root.number) }
+        requires room { length buf.old ≡ root.now.shape.page_bytes }
+        ensures cases { IfOk result (λ installed. MatchBool installed (Installs root.now.shape root.now.root self.old (B.state board.old) self.new (B.state board.new)) (ErasesOther root.now.shape self.old (B.state board.old) self.new (B.state board.new))) }
+        ensures turn { IfOk result (λ installed. installed ≡ not (erases_next self.old)) }
+        ensures programs_next { IfOk result (λ installed. installed ≡ false → erases_next self.new ≡ false) }
+        ensures stopped { IfErr result (λ e. e ≡ Stopped) }
+        ensures failed { OnErr result (FailsToInstall root.now.shape root.now.root self.old (B.state board.old) (B.state board.new) ⊎ FailsToErase root.now.shape self.old (B.state board.old) (B.state board.new)) }
+        ensures kept { OnErr result (self.new ≡ self.old) }
+        ensures behind { SameBehind root.now.shape (B.state board.old).pages (B.state board.new).pages }
+        ensures ready { IsReady (B.state board.new) root.now.shape }
+        ensures buffer { length buf.new ≡ length buf.old }
+    {
+        match self.next {
+            Next::Erase { beside } => match erase_other(board, root.shape(), beside) {
+                Ok(page) => {
+                    self.next = Next::Program { page };
+                    Ok(false)
+                }
+                Err(fault) => Err(fault),
+            },
+            Next::Program { page } => match program_root(board, root, page, buf) {
+                Ok(()) => {
+                    self.next = next_behind(root.shape(), page);
+                    Ok(true)
+                }
+                Err(fault) => Err(fault),
+            },
+        }
+    }
+}
