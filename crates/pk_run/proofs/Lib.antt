@@ -1,0 +1,4 @@
+pub mod Orders
+pub mod Pieces
+pub mod Standing
+pub mod Lookups

@@ -1,0 +1,168 @@
+-- Runs that stand: what others leave of them, and another block or page.
+use Rattle.std.proofs.Common.{◌≡◌, ◌⊎◌, inl, inr, ℕ, zero, suc, ◌+◌, ◌-◌, ◌*◌, ◌/◌, ◌%◌, ◌^◌, ◌<◌, ◌≤◌, T, List, [], ◌∷◌, ◌++◌, length, slice_get, slice_index, get_or, take, drop, refl, ap, sym, subst, ◌∙◌, arith, Option, Some, None, option_map, Ok, length-append, suc-mul, mul-le-mul_right, le_refl, zero-mul, div-lt_iff_lt-mul}
+use Rattle.std.proofs.Math.ListN.{get_or-append}
+use Rattle.std.specs.Int.{div_ceil}
+use Rattle.std.proofs.lemmas.Grind.{div_ceil_times}
+use Rattle.std.proofs.lemmas.Bool.{cases_lt}
+use Rattle.std.proofs.lemmas.Option.{slice_get_within, slice_get_past}
+use Rattle.pk_base.specs.Key.{Key, key_cmp}
+use Rattle.pk_base.specs.Shape.{Shape, IsShape, page_entries, run_pages}
+use Rattle.pk_base.specs.Entry.{Entry, key_of}
+use Rattle.pk_base.specs.Page.{Page, Flash, page_at, page_in, whole}
+use Rattle.pk_meta.specs.Run.{run}
+use Rattle.pk_pin.specs.Frames.{Frames, IsLeased, frame_of}
+use Rattle.pk_run.specs.Kept.{Kept, empty, page_of, IsPinned, IsFrameOf, Stands, IsNext, IsPinnedAlike, with_page, with_lease}
+use Rattle.pk_run.specs.Laws.{SamePages, SameFrames, StandsElsewhere}
+use Rattle.pk_run.proofs.Pieces.{pages_are, run_same, run_more}
+
+none_within : (j : ℕ) (lease : ℕ) → slice_get [] j ≡ Some lease → ⊥
+none_within j lease got = cc
+
+-- a lease is of a page of the run
+pub leased_page : (r : Kept) (flash : Flash) (arena : Frames) (es : List Entry) → Stands r flash arena es → (j lease : ℕ) → slice_get r.leases j ≡ Some lease → j < length r.firsts
+leased_page r flash arena es s j lease got =
+    elim s.pinned [
+      | inl none ↦ absurd (none_within j lease (ap (λ (ls : List ℕ). slice_get ls j) (sym none) ∙ got))
+      | inr all ↦ omega (arith, all, slice_get_within r.leases j lease got)
+    ]
+
+pub Stands-elsewhere : StandsElsewhere
+Stands-elsewhere r old new before after es pages frames s = record {
+  read = run_same r.shape (page_at old) (page_at new) r.level r.count r.blocks r.blocks (λ j h. (refl, pages j (omega (arith, s.pages)))) ∙ s.read;
+  many = s.many;
+  rising = s.rising;
+  pages = s.pages;
+  within = s.within;
+  starts = s.starts;
+  pinned = s.pinned;
+  frames = λ j lease got.
+      let had = s.frames j lease got in
+      let same = frames j lease got had.leased in
+      record { leased = same.0; bytes = pages j (leased_page r old before es s j lease got) ∙ had.bytes ∙ ap (λ (bytes : List ℕ). whole bytes) (sym same.1) };
+}
+
+entries_some : (shape : Shape) → IsShape shape → 0 < page_entries shape
+entries_some shape is = let page : 512 ≤ shape.page_bytes = is.page_least in omega arith
+
+no_pages : (shape : Shape) → IsShape shape → run_pages shape 0 ≡ 0
+no_pages shape is = pages_are 0 (page_entries shape) 0 (entries_some shape is) (omega arith) (let z : 0 * page_entries shape ≡ 0 = zero-mul (page_entries shape) in omega (arith, z, entries_some shape is))
+
+pub Stands-empty : (shape : Shape) (level : ℕ) (flash : Flash) (arena : Frames) → IsShape shape → Stands (empty shape level) flash arena []
+unfolding run
+Stands-empty shape level flash arena is = record {
+  read = rw (no_pages shape is) refl;
+  many = refl;
+  rising = tt;
+  pages = sym (no_pages shape is);
+  within = omega arith;
+  starts = λ j h. absurd (omega arith);
+  pinned = inl refl;
+  frames = λ j lease got. cc;
+}
+
+-- ---- one more block
+
+get_left : {X : Type 0} (xs ys : List X) (i : ℕ) → i < length xs → slice_get (xs ++ ys) i ≡ slice_get xs i
+get_left [] ys i h = absurd (omega arith)
+get_left (x ∷ xs) ys zero h = refl
+get_left (x ∷ xs) ys (suc i) h = get_left xs ys i (omega arith)
+
+get_right : {X : Type 0} (xs ys : List X) (n : ℕ) → n ≡ length xs → slice_get (xs ++ ys) n ≡ slice_get ys 0
+get_right [] ys zero e = refl
+get_right [] ys (suc n) e = absurd (omega arith)
+get_right (x ∷ xs) ys zero e = absurd (omega arith)
+get_right (x ∷ xs) ys (suc n) e = get_right xs ys n (omega arith)
+
+-- a place in the blocks is the same where there are more
+same_place : (shape : Shape) (blocks : List ℕ) (b j : ℕ) → IsShape shape → j < length blocks * shape.block_pages → page_in shape (blocks ++ b ∷ []) j ≡ page_in shape blocks j
+same_place shape blocks b j is h =
+    let some : 0 < shape.block_pages = let least : 8 ≤ shape.block_pages = is.block_least in omega arith in
+    let lt : j / shape.block_pages < length blocks = (div-lt_iff_lt-mul some).1 h in
+    ap (λ (k : ℕ). k * shape.block_pages + j % shape.block_pages) (get_or-append blocks (b ∷ []) 0 (j / shape.block_pages) lt)
+
+pub Stands-block : (r : Kept) (b : ℕ) (flash : Flash) (arena : Frames) (es : List Entry) → IsShape r.shape → Stands r flash arena es → Stands (record r { blocks = r.blocks ++ b ∷ [] }) flash arena es
+Stands-block r b flash arena es is s =
+    let more : length r.blocks * r.shape.block_pages ≤ length (r.blocks ++ b ∷ []) * r.shape.block_pages = mul-le-mul_right r.shape.block_pages (let e = length-append r.blocks (b ∷ []) in omega (arith, e)) in
+    let place : (j : ℕ) → j < length r.firsts → page_in r.shape (r.blocks ++ b ∷ []) j ≡ page_in r.shape r.blocks j = λ j h. same_place r.shape r.blocks b j is (omega (arith, s.within)) in
+    record {
+      read = run_same r.shape (page_at flash) (page_at flash) r.level r.count r.blocks (r.blocks ++ b ∷ []) (λ j h. (place j (omega (arith, s.pages)), refl)) ∙ s.read;
+      many = s.many;
+      rising = s.rising;
+      pages = s.pages;
+      within = omega (arith, s.within, more);
+      starts = s.starts;
+      pinned = s.pinned;
+      frames = λ j lease got.
+          subst (λ (page : ℕ). IsFrameOf flash arena page lease) (sym (place j (leased_page r flash arena es s j lease got))) (s.frames j lease got);
+    }
+
+-- ---- one more page
+
+times_less : (i j size : ℕ) → 0 < size → i < j → i * size < j * size
+times_less i j size some h =
+    let step : suc i * size ≤ j * size = mul-le-mul_right size h in
+    omega (arith, suc-mul i size)
+
+module _ (r : Kept) (flash : Flash) (arena : Frames) (es more : List Entry) (first : Key) where
+  pages_length : length (r.firsts ++ first ∷ []) ≡ suc (length r.firsts)
+  pages_length = let e = length-append r.firsts (first ∷ []) in omega (arith, e)
+
+  starts_more : 0 < page_entries r.shape → length es ≡ length r.firsts * page_entries r.shape
+      → ((j : ℕ) → j < length r.firsts → slice_get r.firsts j ≡ option_map key_of (slice_get es (j * page_entries r.shape)))
+      → option_map key_of (slice_get more 0) ≡ Some first
+      → (j : ℕ) → j < length (r.firsts ++ first ∷ []) → slice_get (r.firsts ++ first ∷ []) j ≡ option_map key_of (slice_get (es ++ more) (j * page_entries r.shape))
+  starts_more some many starts begins j h =
+      let size : ℕ = page_entries r.shape in
+      elim (cases_lt j (length r.firsts)) [
+        | inl before ↦
+            let less = times_less j (length r.firsts) size some before in
+            get_left r.firsts (first ∷ []) j before ∙ starts j before ∙ ap (option_map key_of) (sym (get_left es more (j * size) (omega (arith, less, many))))
+        | inr past ↦
+            let here : j ≡ length r.firsts = omega (arith, h, past, pages_length) in
+            let at : j * size ≡ length es = ap (λ (k : ℕ). k * size) here ∙ sym many in
+            get_right r.firsts (first ∷ []) j here ∙ sym begins ∙ ap (option_map key_of) (sym (get_right es more (j * size) at))
+      ]
+
+  pinned_more : (lease : Option ℕ) → IsPinnedAlike r flash arena lease → (with_lease r.leases lease ≡ []) ⊎ (length (with_lease r.leases lease) ≡ length (r.firsts ++ first ∷ []))
+  pinned_more None alike = inl alike
+  pinned_more (Some lease) alike = let e = length-append r.leases (lease ∷ []) in let all = alike.0 in inr (omega (arith, e, all, pages_length))
+
+  frames_more : ((j lease : ℕ) → slice_get r.leases j ≡ Some lease → IsFrameOf flash arena (page_of r j) lease)
+      → (lease : Option ℕ) → IsPinnedAlike r flash arena lease
+      → (j l : ℕ) → slice_get (with_lease r.leases lease) j ≡ Some l → IsFrameOf flash arena (page_of r j) l
+  frames_more had None alike j l got = had j l got
+  frames_more had (Some lease) alike j l got =
+      elim (cases_lt j (length r.leases)) [
+        | inl before ↦ had j l (sym (get_left r.leases (lease ∷ []) j before) ∙ got)
+        | inr past ↦
+            let e = length-append r.leases (lease ∷ []) in
+            let here : j ≡ length r.leases = omega (arith, past, e, slice_get_within (r.leases ++ lease ∷ []) j l got) in
+            let right = get_right r.leases (lease ∷ []) j here in
+            let same : lease ≡ l = cc in
+            let all = alike.0 in
+            let page : j ≡ length r.firsts = omega (arith, here, all) in
+            subst (λ (k : ℕ). IsFrameOf flash arena (page_of r k) l) (sym page) (subst (IsFrameOf flash arena (page_of r (length r.firsts))) same alike.1)
+      ]
+
+pub Stands-page : (r : Kept) (flash : Flash) (arena : Frames) (es more : List Entry) (first : Key) (lease : Option ℕ) (n : ℕ) → IsShape r.shape
+    → r.count ≡ length r.firsts * page_entries r.shape → length r.firsts < length r.blocks * r.shape.block_pages → 1 ≤ n → n ≤ page_entries r.shape
+    → Stands r flash arena es → IsNext r flash arena es more first lease → length more ≡ n → Stands (with_page r first lease n) flash arena (es ++ more)
+Stands-page r flash arena es more first lease n is full place some most s next many =
+    let size : ℕ = page_entries r.shape in
+    let pages : ℕ = length r.firsts in
+    let positive : 0 < size = entries_some r.shape is in
+    let was : run r.shape (page_at flash) r.level (pages * size) r.blocks ≡ Ok es = subst (λ (k : ℕ). run r.shape (page_at flash) r.level k r.blocks ≡ Ok es) full s.read in
+    let now = run_more r.shape (page_at flash) r.level pages r.blocks next.bytes es more is (omega (arith, some, many)) (omega (arith, most, many)) was next.here next.holds next.rising next.deepest in
+    let count : pages * size + length more ≡ r.count + n = omega (arith, full, many) in
+    let sum = length-append es more in
+    let long = pages_length r flash arena es more first in
+    record {
+      read = subst (λ (k : ℕ). run r.shape (page_at flash) r.level k r.blocks ≡ Ok (es ++ more)) count now;
+      many = omega (arith, sum, s.many, many);
+      rising = next.rising;
+      pages = long ∙ sym (pages_are (r.count + n) size (suc pages) positive (omega (arith, full, most, suc-mul pages size)) (omega (arith, full, some, suc-mul pages size)));
+      within = omega (arith, long, place);
+      starts = starts_more r flash arena es more first positive (s.many ∙ full) s.starts next.begins;
+      pinned = pinned_more r flash arena es more first lease next.alike;
+      frames = frames_more r flash arena es more first s.frames lease next.alike;
+    }

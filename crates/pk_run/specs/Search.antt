@@ -1,0 +1,44 @@
+-- Where a key is looked for among the pages of a run.
+use Rattle.std.specs.Prelude.{◌≡◌, ◌⊎◌, ℕ, suc, ◌+◌, ◌<◌, ◌≤◌, List, length, slice_get, Some, None, Option, MatchOption}
+use Rattle.std.specs.declared.cmp.Ordering.TheVariants.{Greater}
+use Rattle.std.specs.FinMap.Entries.{find}
+use Rattle.pk_base.specs.Key.{Key, key_cmp}
+use Rattle.pk_base.specs.Entry.{Entry, key_of}
+use Rattle.pk_base.specs.Seen.{entry}
+use Rattle.pk_base.specs.declared.entry.Entry.{Entry as RustEntry}
+use Rattle.pk_nand.specs.BoardState.{BoardState}
+use Rattle.pk_run.specs.Kept.{Kept, after_look}
+
+-- a look-up answered the entry of the key among these, or that there is none
+abbrev pub IsFound : Key → List Entry → Option RustEntry → Type 0
+IsFound key es found = MatchOption found (find key_cmp key es ≡ None) (λ e. (key_of (entry e) ≡ key) × (find key_cmp key es ≡ Some (entry e).1))
+
+-- the first key of the page at this place, if there is one, is above the key
+abbrev pub BeginsAbove : Key → List Key → ℕ → Type 0
+BeginsAbove key firsts p = (first : Key) → slice_get firsts p ≡ Some first → key_cmp first key ≡ Greater
+
+-- it is not
+abbrev pub BeginsUpTo : Key → List Key → ℕ → Type 0
+BeginsUpTo key firsts p = (first : Key) → slice_get firsts p ≡ Some first → key_cmp first key ≡ Greater → ⊥
+
+-- no page begins at or before the key
+abbrev pub IsBeforeAll : Key → List Key → Type 0
+IsBeforeAll key firsts = BeginsAbove key firsts 0
+
+-- the page begins at or before the key, and the next one above it
+pub record IsPageFor (key : Key) (firsts : List Key) (p : ℕ) : Type 0 where
+  pub exists : p < length firsts
+  pub here : BeginsUpTo key firsts p
+  pub next : BeginsAbove key firsts (suc p)
+
+-- No page may have the key, and nothing was called; or one may, and it was looked at.
+abbrev pub Looks : Kept → Key → BoardState → BoardState → Type 0
+Looks r key old new = (IsBeforeAll key r.firsts × (new ≡ old)) ⊎ ((p : ℕ) × IsPageFor key r.firsts p × (new ≡ after_look r.leases old))
+
+-- ---- inside
+
+-- the page before this place begins at or before the key, and the page at it above the key
+pub record IsBorder (key : Key) (firsts : List Key) (place : ℕ) : Type 0 where
+  pub end : place ≤ length firsts
+  pub before : (p : ℕ) → suc p ≡ place → BeginsUpTo key firsts p
+  pub at : BeginsAbove key firsts place
