@@ -1,0 +1,4 @@
+pub mod Blocks
+pub mod Heads
+pub mod Reading
+pub mod Checking

@@ -1,0 +1,4 @@
+pub mod Places
+pub mod Pages
+pub mod Checked
+pub mod Lives
