@@ -4,9 +4,9 @@
 #![tactic(auto)]
 
 mod errors;
-//mod taken;
+mod taken;
 mod values;
 
 pub use errors::ValueError;
-//pub use taken::take_value;
+pub use taken::take_value;
 pub use values::check_value;
