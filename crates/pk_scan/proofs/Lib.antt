@@ -5,3 +5,5 @@ pub mod Checking
 pub mod Ranges
 pub mod Standing
 pub mod Taking
+pub mod Accepting
+pub mod Nothing

@@ -2,3 +2,4 @@ pub mod Places
 pub mod Pages
 pub mod Checked
 pub mod Lives
+pub mod Accepted

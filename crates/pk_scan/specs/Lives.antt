@@ -2,10 +2,10 @@
 use Rattle.std.specs.Prelude.{◌≡◌, ℕ, ◌+◌, ◌/◌, List, [], ◌∷◌, map, true, Bool, ◌==◌, if◌then◌else◌}
 use Rattle.std.specs.List.{list_any, range_with_len, AllByRecursion}
 use Rattle.pk_base.specs.Key.{Key}
-use Rattle.pk_base.specs.Shape.{Shape, page_count, charge}
+use Rattle.pk_base.specs.Shape.{Shape, IsShape, page_count, charge}
 use Rattle.pk_base.specs.Entry.{Place}
 use Rattle.pk_base.specs.EntryBytes.{IsPlace}
-use Rattle.pk_live.specs.Values.{Values}
+use Rattle.pk_live.specs.Values.{Values, no_values}
 use Rattle.pk_model.specs.Values.{fits, all_pages}
 
 module _ (shape : Shape) where
@@ -31,3 +31,7 @@ pub record Lives (shape : Shape) (named : List ℕ) (live : Values) (taken : Lis
   pub map_is : live ≡ live_of shape taken
   pub places : AllByRecursion (λ e. IsPlace shape e.1) taken
   pub placed_well : fits shape named (all_pages shape taken) ≡ true
+
+-- A live map without values stands for none.
+abbrev pub StartsWithNone : Type 0
+StartsWithNone = (shape : Shape) (named : List ℕ) → IsShape shape → Lives shape named (no_values shape) []

@@ -3,10 +3,12 @@
 //! takes them; each refusal names the page that the reading names.
 #![tactic(auto)]
 
+mod accept;
 mod errors;
 mod taken;
 mod values;
 
+pub use accept::accept_value;
 pub use errors::ValueError;
-pub use taken::take_value;
+pub use taken::{starts_with_none, take_value};
 pub use values::check_value;

@@ -9,7 +9,7 @@ ghost use Rattle.pk_live.specs.Values.{IsLive, count_of};
 ghost use Rattle.pk_segfmt.specs.Value.{value_pages};
 ghost use Rattle.pk_model.specs.Values.{fits, all_pages};
 ghost use Rattle.pk_scan.specs.Places.{place};
-ghost use Rattle.pk_scan.specs.Lives.{Lives};
+ghost use Rattle.pk_scan.specs.Lives.{Lives, StartsWithNone};
 
 use pk_base::Shape;
 use pk_live::Live;
@@ -115,3 +115,8 @@ pub fn take_value<A: Allocator>(
     live.close(block);
     true
 }
+
+/// A live map without values stands for none.
+pub fn starts_with_none()
+    ensures { StartsWithNone }
+{}
