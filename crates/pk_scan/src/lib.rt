@@ -12,3 +12,6 @@ pub use accept::accept_value;
 pub use errors::ValueError;
 pub use taken::{starts_with_none, take_value};
 pub use values::check_value;
+
+#[cfg(test)]
+mod tests;
