@@ -1,0 +1,20 @@
+use Rattle.std.proofs.Common.{arith, ◌<◌, ◌+◌, ap, sym, ◌∙◌}
+use Rattle.pk_base.specs.Shape.{page_count}
+use Rattle.pk_scan.specs.Places.{place}
+use Rattle.pk_scan.proofs.Blocks.{value_exists}
+use Rattle.pk_scan.proofs.values.check_page.Goals as goal
+
+pub overflow_add-page : goal.overflow_add-page
+overflow_add-page g c =
+    let less = value_exists c.args.shape.now (place c.args.page c.args.len) c.args.i c.page_count.ensures.shape c.requires.place c.requires.within in
+    omega (arith, less, c.page_count.ensures.value, c.page_count.type_inv)
+
+pub overflow_add-result : goal.overflow_add-result
+overflow_add-result g c =
+    let less = value_exists c.args.shape.now (place c.args.page c.args.len) c.args.i c.page_count.ensures.shape c.requires.place c.requires.within in
+    omega (arith, less, c.page_count.ensures.value, c.page_count.type_inv)
+
+pub overflow_add-result-in-Ok : goal.overflow_add-result-in-Ok
+overflow_add-result-in-Ok g c =
+    let less = value_exists c.args.shape.now (place c.args.page c.args.len) c.args.i c.page_count.ensures.shape c.requires.place c.requires.within in
+    omega (arith, less, c.page_count.ensures.value, c.page_count.type_inv)

@@ -1,0 +1,16 @@
+use Rattle.std.proofs.Common.{◌≡◌, arith}
+use Rattle.pk_base.specs.Shape.{charge}
+use Rattle.pk_scan.specs.Places.{place}
+use Rattle.pk_scan.proofs.Checking.{Checking-refused, Checking-end}
+use Rattle.pk_scan.proofs.values.check_value.Goals as goal
+
+pub returns-in-Err-clause-err : goal.returns-in-Err-clause-err
+returns-in-Err-clause-err g c =
+    let less = rw c.charge-i-end.ensures.value at c.loop-i-test.true in
+    Checking-refused _ _ _ c.args.shape.now c.args.key.now (place c.args.page c.args.len) c.loop-i.i c.in-Err.error less c.loop-i.invariant.checking c.in-Err.ensures.err
+
+pub returns-clause-value : goal.returns-clause-value
+returns-clause-value g c =
+    let all : c.loop-i.i ≡ charge c.args.shape.now c.args.len = omega (arith, c.loop-i-test.false, c.loop-i.auto.i-end, c.charge-i-end.ensures.value) in
+    let checking = rw all at c.loop-i.invariant.checking in
+    Checking-end _ _ c.args.shape.now c.args.key.now (place c.args.page c.args.len) checking

@@ -1,0 +1,32 @@
+-- A value as the next one that the reading of a flash comes to.
+use Rattle.std.specs.Prelude.{◌≡◌, ℕ, suc, ◌-◌, List, [], ◌∷◌, ◌++◌, true, Ok, Err, if◌then◌else◌}
+use Rattle.pk_base.specs.Key.{Key}
+use Rattle.pk_base.specs.Shape.{Shape}
+use Rattle.pk_base.specs.Entry.{Place}
+use Rattle.pk_base.specs.Page.{Flash, page_at}
+use Rattle.pk_base.specs.Refusal.{damaged, ◌>>=◌}
+use Rattle.pk_nand.specs.BoardState.{BoardState}
+use Rattle.pk_nand.specs.Erased.{after_reads}
+use Rattle.pk_segfmt.specs.Value.{value_pages, value_at}
+use Rattle.pk_model.specs.Values.{fits, all_pages, values_of}
+use Rattle.pk_scan.specs.Checked.{Faulted}
+use Rattle.pk_scan.specs.declared.errors.ValueError.{ValueError}
+use Rattle.pk_scan.specs.declared.errors.ValueError.TheVariants.{Damaged, Fault}
+
+-- Behind the values that were taken, the reading finds this one and goes on with the others.
+pub record Accepted (shape : Shape) (flash : Flash) (named : List ℕ) (taken : List (Key × Place)) (key : Key) (place : Place) : Type 0 where
+  pub value : List ℕ
+  pub found : value_at shape (page_at flash) key place ≡ Ok value
+  pub goes_on : (rest : List (Key × Place))
+      → values_of shape (page_at flash) named (all_pages shape taken) ((key, place) ∷ rest)
+      ≡ (values_of shape (page_at flash) named (all_pages shape (taken ++ (key, place) ∷ [])) rest >>= (λ others. Ok ((key, value) ∷ others)))
+
+-- The reading refuses this value with the page. Its pages were read up to this one, or none where they may not be taken.
+pub record RefusedWith (shape : Shape) (old new : BoardState) (named : List ℕ) (taken : List (Key × Place)) (key : Key) (place : Place) (page : ℕ) : Type 0 where
+  pub refusal : (rest : List (Key × Place)) → values_of shape (page_at old.pages) named (all_pages shape taken) ((key, place) ∷ rest) ≡ Err (damaged page)
+  pub board : new ≡ (if fits shape named (all_pages shape taken ++ value_pages shape place) then after_reads (suc (page - place.page)) old else old)
+
+-- why the value was not accepted
+abbrev pub NotAccepted : Shape → BoardState → BoardState → List ℕ → List (Key × Place) → Key → Place → ValueError → Type 0
+NotAccepted shape old new named taken key place (Damaged page) = RefusedWith shape old new named taken key place page
+NotAccepted shape old new named taken key place Fault = (fits shape named (all_pages shape taken ++ value_pages shape place) ≡ true) × Faulted shape old new key place

@@ -1,0 +1,5 @@
+pub mod Places
+pub mod Pages
+pub mod Checked
+pub mod Lives
+pub mod Accepted

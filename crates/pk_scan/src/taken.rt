@@ -1,0 +1,122 @@
+//! The pages of values, taken one value after another.
+ghost use Rattle.std.specs.Prelude.{◌≡◌, ◌==◌, ◌<◌, ◌≤◌, ◌+◌, ◌-◌, ◌++◌, ◌∷◌, [], ◌&&◌, nat_le, ◌^◌, ◌↔◌, ℕ, List, true, false, if◌then◌else◌, count_by, slice_index, IsTrue};
+ghost use Rattle.std.specs.List.{list_any};
+ghost use Rattle.pk_base.specs.Key.{Key};
+ghost use Rattle.pk_base.specs.Shape.{limit, data_blocks};
+ghost use Rattle.pk_base.specs.Entry.{Place};
+ghost use Rattle.pk_base.specs.EntryBytes.{IsPlace};
+ghost use Rattle.pk_live.specs.Values.{IsLive, count_of};
+ghost use Rattle.pk_segfmt.specs.Value.{value_pages};
+ghost use Rattle.pk_model.specs.Values.{fits, all_pages};
+ghost use Rattle.pk_scan.specs.Places.{place};
+ghost use Rattle.pk_scan.specs.Lives.{Lives, StartsWithNone};
+
+use pk_base::Shape;
+use pk_live::Live;
+use std::alloc::Allocator;
+
+// Whether the block is one of those that are named.
+fn is_named(named: &[u16], block: u32) -> bool
+    ensures { result ≡ list_any (λ b. b == block) named.now }
+{
+    for b in named {
+        if *b as u32 == block {
+            return true;
+        }
+    }
+    false
+}
+
+// Whether a live value begins at one of the pages from here up to `end`.
+fn begins_before<A: Allocator>(live: &Live<A>, from: u32, end: u32) -> bool
+    ensures { IsTrue result ↔ ((p : ℕ) × (from ≤ p) × (p < end) × (0 < slice_index live.now.heads p)) }
+{
+    for page in from..end {
+        if live.is_head(page) {
+            return true;
+        }
+    }
+    false
+}
+
+// Whether one of so many pages is live: the first is, or a value begins behind it.
+fn overlaps<A: Allocator>(live: &Live<A>, page: u32, count: u32) -> bool
+    requires some { 0 < count }
+    requires small { page + count < 2 ^ 32 }
+    ensures { IsTrue result ↔ ((p : ℕ) × (page ≤ p) × (p < page + count) × IsLive live.now p) }
+{
+    live.is_live(page) || begins_before(live, page + 1, page + count)
+}
+
+// How many blocks have a live page, with this one.
+fn blocks_used<A: Allocator>(live: &Live<A>, block: u32) -> u32
+    ensures value { result ≡ count_by (λ b. b) live.now.closed + (if count_of live.now block == 0 then 1 else 0) }
+{
+    live.known();
+    let closed = live.closed();
+    if live.count(block) == 0 {
+        closed + 1
+    } else {
+        closed
+    }
+}
+
+// Whether so many live pages, in so many blocks, are not too many.
+fn are_few(shape: &Shape, pages: u32, blocks: u32) -> bool
+    ensures { result ≡ (nat_le pages (limit shape.now) && nat_le blocks (data_blocks shape.now - 1)) }
+{
+    pages <= shape.limit() && blocks <= shape.data_blocks() - 1
+}
+
+// Whether the pages of a value may be taken.
+fn has_room<A: Allocator>(shape: &Shape, named: &[u16], live: &Live<A>, page: u32, len: u32) -> bool
+    requires place { IsPlace shape.now (place page len) }
+    requires lives { (taken : List (Key × Place)) × Lives shape.now named.now live.now taken }
+    ensures { (taken : List (Key × Place)) → Lives shape.now named.now live.now taken → result ≡ fits shape.now named.now (all_pages shape.now taken ++ value_pages shape.now (place page len)) }
+{
+    live.known();
+    // so that the numbers of pages are known to fit
+    let _ = shape.page_count();
+    let count = shape.charge(len);
+    let block = page / shape.block_pages();
+    if is_named(named, block) {
+        return false;
+    }
+    if overlaps(live, page, count) {
+        return false;
+    }
+    let pages = live.total() + count;
+    are_few(shape, pages, blocks_used(live, block))
+}
+
+/// Whether the pages of a value lie in no block that is named, none of them belongs to a value that was taken before, and
+/// with them the live pages and the blocks that have one are not too many. If so they are live from now on, and their block
+/// is closed; else the live map stays.
+///
+/// `named` are the blocks that the root names; a value of `len` bytes has `Shape::charge(len)` pages from `page` on.
+pub fn take_value<A: Allocator>(
+    shape: &Shape,
+    named: &[u16],
+    live: &mut Live<A>,
+    page: u32,
+    len: u32,
+) -> bool
+    requires place { IsPlace shape.now (place page len) }
+    requires lives { (taken : List (Key × Place)) × Lives shape.now named.now live.old taken }
+    ensures fits { (taken : List (Key × Place)) → Lives shape.now named.now live.old taken → result ≡ fits shape.now named.now (all_pages shape.now taken ++ value_pages shape.now (place page len)) }
+    ensures taken { result ≡ true → (taken : List (Key × Place)) (key : Key) → Lives shape.now named.now live.old taken → Lives shape.now named.now live.new (taken ++ (key, place page len) ∷ []) }
+    ensures left { result ≡ false → live.new ≡ live.old }
+{
+    if !has_room(shape, named, live, page, len) {
+        return false;
+    }
+    let block = page / shape.block_pages();
+    live.set(page, shape.charge(len));
+    live.close(block);
+    true
+}
+
+/// A live map without values stands for none.
+pub fn starts_with_none()
+    ensures { StartsWithNone }
+{}

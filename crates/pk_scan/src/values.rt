@@ -1,0 +1,136 @@
+//! Values, each read from its pages.
+ghost use Rattle.std.specs.Prelude.{◌≡◌, ◌==◌, ◌<◌, ◌≤◌, ◌+◌, nat_eq, length, drop, true, IfErr, OnOk, OnErr};
+ghost use Rattle.std.specs.List.{list_all, starts_with};
+ghost use Rattle.pk_base.specs.Shape as spec;
+ghost use Rattle.pk_base.specs.EntryBytes.{IsPlace};
+ghost use Rattle.pk_base.specs.Page.{page_at};
+ghost use Rattle.pk_nand.specs.Calls.{IsReady, after_read};
+ghost use Rattle.pk_nand.specs.Erased.{after_reads};
+ghost use Rattle.pk_segfmt.specs.Value.{head_bytes};
+ghost use Rattle.pk_scan.specs.Places.{place};
+ghost use Rattle.pk_scan.specs.Pages.{front_of, fits_page, left_at, is_right};
+ghost use Rattle.pk_scan.specs.Checked.{HasValue, NotFound, PageRefused};
+
+use crate::errors::ValueError;
+use pk_base::{Key, Shape};
+use pk_nand::{Nand, PageRead};
+use pk_segfmt::head;
+
+// Whether the bytes of a page begin with the head of a value with this key and length.
+fn begins_with_head(shape: &Shape, key: &Key, len: u32, bytes: &[u8]) -> bool
+    requires short { len ≤ spec.greatest shape.now }
+    requires sized { length bytes.now ≡ shape.now.page_bytes }
+    ensures { result ≡ starts_with nat_eq bytes.now (head_bytes key.now len) }
+{
+    let key = key.bytes();
+    match head(shape, bytes) {
+        Ok(found) => found.len == len && found.key.bytes() == key,
+        Err(_) => false,
+    }
+}
+
+// Whether all bytes are 0.
+fn are_zeros(bytes: &[u8]) -> bool
+    ensures { result ≡ list_all (λ b. b == 0) bytes.now }
+{
+    for b in bytes {
+        if *b != 0 {
+            return false;
+        }
+    }
+    true
+}
+
+// Whether only zeros stand behind so many bytes.
+fn ends_in_zeros(bytes: &[u8], left: usize) -> bool
+    ensures { result ≡ list_all (λ b. b == 0) (drop left bytes.now) }
+{
+    if left < bytes.len() {
+        are_zeros(&bytes[left..])
+    } else {
+        true
+    }
+}
+
+// Whether the bytes of a page are those of page `i` of a value.
+fn fits(shape: &Shape, key: &Key, len: u32, i: u32, bytes: &[u8]) -> bool
+    requires short { len ≤ spec.greatest shape.now }
+    requires within { i < spec.charge shape.now len }
+    requires sized { length bytes.now ≡ shape.now.page_bytes }
+    ensures { result ≡ fits_page (front_of (head_bytes key.now len) i) (left_at shape.now len i) bytes.now }
+{
+    shape.known();
+    let left = (32 + len as usize).saturating_sub(i as usize * bytes.len());
+    if i == 0 {
+        begins_with_head(shape, key, len, bytes) && ends_in_zeros(bytes, left)
+    } else {
+        ends_in_zeros(bytes, left)
+    }
+}
+
+// Reads page `i` of a value.
+fn check_page<B: Nand>(
+    board: &mut B,
+    shape: &Shape,
+    key: &Key,
+    page: u32,
+    len: u32,
+    i: u32,
+    buf: &mut [u8],
+) -> Result<(), ValueError>
+    requires ready { IsReady (B.state board.old) shape.now }
+    requires place { IsPlace shape.now (place page len) }
+    requires within { i < spec.charge shape.now len }
+    requires room { length buf.old ≡ shape.now.page_bytes }
+    ensures right { OnOk result (is_right shape.now (page_at (B.state board.old).pages) key.now (place page len) i ≡ true) }
+    ensures ok { OnOk result (B.state board.new ≡ after_read (B.state board.old)) }
+    ensures err { IfErr result (λ e. PageRefused shape.now (B.state board.old) (B.state board.new) key.now (place page len) i e) }
+    ensures buffer { length buf.new ≡ length buf.old }
+{
+    // so that the numbers of pages are known to fit
+    let _ = shape.page_count();
+    match board.read(page + i, buf) {
+        Ok(PageRead::Whole) => {
+            if fits(shape, key, len, i, buf) {
+                Ok(())
+            } else {
+                Err(ValueError::Damaged { page: page + i })
+            }
+        }
+        Ok(_) => Err(ValueError::Damaged { page: page + i }),
+        Err(_) => Err(ValueError::Fault),
+    }
+}
+
+/// Checks that the pages of a value are Whole, begin with the head of this key and length, hold the value, and have zeros
+/// behind it. Reads them in order, up to the first that is wrong; a value of `len` bytes has `Shape::charge(len)` pages from
+/// `page` on. `buf` has the bytes of a page, which are lost.
+///
+/// `Damaged` names the first page that is wrong. `Fault` where a read failed, behind pages that are right.
+pub fn check_value<B: Nand>(
+    board: &mut B,
+    shape: &Shape,
+    key: &Key,
+    page: u32,
+    len: u32,
+    buf: &mut [u8],
+) -> Result<(), ValueError>
+    requires ready { IsReady (B.state board.old) shape.now }
+    requires place { IsPlace shape.now (place page len) }
+    requires room { length buf.old ≡ shape.now.page_bytes }
+    ensures value { OnOk result (HasValue shape.now (B.state board.old).pages key.now (place page len)) }
+    ensures ok { OnOk result (B.state board.new ≡ after_reads (spec.charge shape.now len) (B.state board.old)) }
+    ensures err { IfErr result (λ e. NotFound shape.now (B.state board.old) (B.state board.new) key.now (place page len) e) }
+    ensures pages { (B.state board.new).pages ≡ (B.state board.old).pages }
+    ensures ready { IsReady (B.state board.new) shape.now }
+    ensures buffer { length buf.new ≡ length buf.old }
+{
+    shape.known();
+    for i in 0..shape.charge(len) {
+        match check_page(board, shape, key, page, len, i, buf) {
+            Ok(()) => {}
+            Err(error) => return Err(error),
+        }
+    }
+    Ok(())
+}
