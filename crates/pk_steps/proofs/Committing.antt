@@ -1,21 +1,19 @@
 -- A commit that is cut leaves what stands under the root, or has its entries in the newest epoch.
-use Rattle.std.proofs.Common.{◌≡◌, ◌⊎◌, inl, inr, ℕ, zero, suc, ◌+◌, ◌-◌, ◌*◌, ◌<◌, ◌≤◌, refl, sym, ap, subst, ◌∙◌, arith, T, List, [], ◌∷◌, ◌++◌, length, nat_le, Some, Ok, append-nil, le_refl, le_of_eq}
-use Rattle.pk_base.specs.Shape.{Shape, buffer, epoch_pages}
+use Rattle.std.proofs.Common.{◌≡◌, inl, inr, ℕ, zero, suc, ◌+◌, ◌-◌, ◌<◌, ◌≤◌, refl, sym, subst, ◌∙◌, arith, List, [], ◌++◌, Some, Ok, append-nil, le_refl, le_of_eq}
+use Rattle.pk_base.specs.Shape.{Shape, epoch_pages}
 use Rattle.pk_base.specs.Page.{Page, Flash, page_at, erased, whole, page_in, pages_of_blocks}
 use Rattle.pk_base.specs.Entry.{Entry}
-use Rattle.pk_base.specs.Refusal.{◌>>=◌}
-use Rattle.pk_base.specs.Firsts.{firsts}
 use Rattle.pk_base.specs.Map.{Map}
 use Rattle.pk_base.specs.Mark.{program, after}
 use Rattle.pk_nand.specs.Cut.{MayLeave}
 use Rattle.pk_nand.proofs.Leaving.{page_at-slice_set_same, cut_leaves, done_leaves}
 use Rattle.pk_jrnfmt.specs.Page.{journal_entries}
-use Rattle.pk_jrnfmt.specs.Epoch.{journal, epoch}
+use Rattle.pk_jrnfmt.specs.Epoch.{journal}
 use Rattle.pk_rootfmt.specs.Root.{Root}
 use Rattle.pk_rootfmt.specs.Newest.{newest_root}
 use Rattle.pk_model.specs.Found.{Found, newest_epoch, found_under}
 use Rattle.pk_model.specs.Reading.{map_under}
-use Rattle.pk_model.specs.Laws.{IsWholePage, IsCommit}
+use Rattle.pk_model.specs.Laws.{IsWholePage}
 use Rattle.pk_base.proofs.ShapeLemmas.{block_pages_positive}
 use Rattle.pk_model.proofs.SamePages.{pages_same}
 use Rattle.pk_model.proofs.Commits.{Blocks, valid_blocks, ends, epoch_split, only_index, roots_stay, former, same_before, stands_apart, under, within_buffer, apart_or_same}

@@ -1,18 +1,16 @@
 -- What the entries that count say of the map.
-use Rattle.std.proofs.Common.{◌≡◌, ℕ, suc, ◌<◌, refl, sym, ap, subst, ◌∙◌, arith, Bool, true, false, cond, ◌&&◌, T, List, [], ◌∷◌, ◌++◌, length, map, reverse, Option, Some, None, Result, Ok}
+use Rattle.std.proofs.Common.{◌≡◌, ℕ, suc, ◌<◌, refl, sym, ap, subst, ◌∙◌, arith, true, false, cond, T, List, [], ◌∷◌, ◌++◌, length, map, reverse, Option, Some, None}
 use Rattle.std.specs.List.{flat_map}
 use Rattle.std.specs.Ordering.{is_lt, eq_by_cmp}
-use Rattle.std.specs.FinMap.{get, len, keys, entries, from_entries, entries-insert, len-entries}
+use Rattle.std.specs.FinMap.{get, entries, from_entries, entries-insert, len-entries}
 use Rattle.std.specs.FinMap.Entries.{put, find, is_sorted, below_all}
 use Rattle.pk_base.specs.Key.{Key, key_cmp}
 use Rattle.pk_base.specs.Shape.{Shape}
-use Rattle.pk_base.specs.Page.{Page, Flash, page_at, whole}
+use Rattle.pk_base.specs.Page.{Page, Flash, page_at}
 use Rattle.pk_base.specs.Entry.{Entry, Place}
-use Rattle.pk_base.specs.Firsts.{firsts}
-use Rattle.pk_base.specs.Map.{Map, live, pages_in}
+use Rattle.pk_base.specs.Map.{Map, pages_in}
 use Rattle.pk_rootfmt.specs.Root.{named}
-use Rattle.pk_model.specs.Found.{Found, entries_in_order}
-use Rattle.pk_model.specs.Values.{placed, all_pages}
+use Rattle.pk_model.specs.Found.{entries_in_order}
 use Rattle.pk_model.proofs.MapLemmas.{key_total}
 use Rattle.pk_model.proofs.Commits.{left_part, right_part, both}
 use Rattle.pk_model.proofs.Lookups.{flat, Has, map_under_get, find-firsts, firsts_sorted}
@@ -21,8 +19,8 @@ use Rattle.pk_model.proofs.Stores.{put-below}
 use Rattle.pk_model.proofs.Merges.{placed_sorted}
 use Rattle.pk_model.proofs.Live.{live-pages}
 use Rattle.pk_model.proofs.HeldMap.{nothing_fits, none_of_empty}
-use Rattle.pk_steps.specs.Under.{IsUnder, counting, places}
-use Rattle.pk_steps.specs.Lookups.{IsValueOf, Finds, or_else, FoundIn, Counted, Counts}
+use Rattle.pk_steps.specs.Under.{counting, places}
+use Rattle.pk_steps.specs.Lookups.{IsValueOf, Finds, or_else, FoundIn, Counts}
 use Rattle.pk_steps.proofs.Untouched.{values_under}
 
 value_of : (shape : Shape) (flash : Flash) (q : Key) (e : Option (Option Place)) (value : Option (List ℕ)) → Has shape (page_at flash) q (flat e) value → IsValueOf shape flash q e value

@@ -1,32 +1,28 @@
 -- A freeze leaves the map: the entries of the newest epoch are those of the older one.
-use Rattle.std.proofs.Common.{◌≡◌, ◌⊎◌, inl, inr, ℕ, zero, suc, ◌+◌, ◌-◌, ◌*◌, ◌/◌, ◌%◌, ◌<◌, ◌≤◌, refl, sym, ap, subst, ◌∙◌, arith, Bool, true, false, not, ◌||◌, T, List, [], ◌∷◌, ◌++◌, length, reverse, nat_le, slice_index, ◌==◌, if◌then◌else◌, Some, Result, Ok, append-nil, mul-le-mul_right, div-add-mod', mod-lt, zero-mul, eqb→eq, le→leb}
+use Rattle.std.proofs.Common.{◌≡◌, inl, inr, ℕ, suc, ◌+◌, ◌-◌, ◌*◌, ◌/◌, ◌%◌, ◌<◌, ◌≤◌, refl, sym, ap, subst, ◌∙◌, arith, true, false, not, ◌||◌, T, List, [], ◌∷◌, ◌++◌, length, reverse, nat_le, slice_index, ◌==◌, if◌then◌else◌, Result, Ok, append-nil, mul-le-mul_right, div-add-mod', mod-lt, zero-mul, eqb→eq, le→leb}
 use Rattle.std.proofs.lemmas.Nat.{div-mul-add}
-use Rattle.std.specs.List.{list_any, concat, flat_map}
-use Rattle.std.specs.FinMap.{from_entries}
-use Rattle.pk_base.specs.Key.{Key}
+use Rattle.std.specs.List.{list_any, concat}
 use Rattle.pk_base.specs.Shape.{Shape, IsShape, buffer, epoch_pages}
 use Rattle.pk_base.specs.Page.{Page, Flash, page_at, erased, page_in}
-use Rattle.pk_base.specs.Entry.{Entry, Place}
+use Rattle.pk_base.specs.Entry.{Entry}
 use Rattle.pk_base.specs.EntryBytes.{IsEntry}
 use Rattle.pk_base.specs.Refusal.{Refusal, ◌>>=◌, ensure}
 use Rattle.pk_base.specs.Firsts.{firsts}
 use Rattle.pk_base.specs.Map.{Map}
 use Rattle.pk_jrnfmt.specs.Epoch.{epoch}
 use Rattle.pk_rootfmt.specs.Root.{Root, is_root, named}
-use Rattle.pk_rootfmt.specs.Newest.{newest_root}
 use Rattle.pk_model.specs.Found.{Found, older_epoch, newest_epoch, runs_from, found_under, entries_in_order}
 use Rattle.pk_model.specs.Values.{placed, values_of, all_pages}
 use Rattle.pk_model.specs.Reading.{map_under}
-use Rattle.pk_model.specs.Laws.{AnyByRecursion, IsPageOf, IsWholePage}
-use Rattle.pk_model.specs.Tree.{Follows}
+use Rattle.pk_model.specs.Laws.{IsWholePage}
 use Rattle.pk_base.proofs.ShapeLemmas.{block_pages_positive}
 use Rattle.pk_model.proofs.StrangePages.{bind_ok}
 use Rattle.pk_model.proofs.SamePages.{any_front, any_back, values_same}
 use Rattle.pk_model.proofs.Roots.{newest_sound}
 use Rattle.pk_model.proofs.RootAlone.{found_alone, values_behind}
-use Rattle.pk_model.proofs.Commits.{Blocks, blocks_of_root, root_valid, ends, behind_roots, values_apart, is_any_back}
+use Rattle.pk_model.proofs.Commits.{blocks_of_root, root_valid, ends, behind_roots, values_apart, is_any_back}
 use Rattle.pk_model.proofs.Entries.{counting_all, journal_are, meta_are}
-use Rattle.pk_model.proofs.ValueSets.{Reads, values_sound, values_complete, fits_parts, parts_fit, is_true}
+use Rattle.pk_model.proofs.ValueSets.{values_sound, values_complete, fits_parts, parts_fit, is_true}
 use Rattle.pk_model.proofs.HeldMap.{nothing_fits}
 use Rattle.pk_steps.specs.Under.{IsUnder, places}
 use Rattle.pk_steps.specs.Roots.{frozen_root, frozen, Freezes}

@@ -1,15 +1,15 @@
 -- Where one value more, or one less, lies well.
-use Rattle.std.proofs.Common.{◌≡◌, ◌⊎◌, inl, inr, ℕ, zero, suc, ◌+◌, ◌-◌, ◌/◌, ◌<◌, ◌≤◌, refl, sym, ap, subst, ◌∙◌, arith, Bool, true, false, not, ◌&&◌, ◌||◌, cond, T, List, [], ◌∷◌, ◌++◌, length, filter, nat_le, ◌==◌, eqb→eq, le_trans, eq-or-lt_of_le, length-append}
+use Rattle.std.proofs.Common.{◌≡◌, ◌⊎◌, inl, inr, ℕ, zero, suc, ◌+◌, ◌/◌, ◌<◌, ◌≤◌, refl, sym, ap, subst, ◌∙◌, arith, Bool, true, false, not, ◌||◌, cond, T, List, [], ◌∷◌, ◌++◌, length, filter, ◌==◌, eqb→eq, le_trans, eq-or-lt_of_le, length-append}
 use Rattle.std.specs.declared.cmp.Ordering.TheVariants.{Less, Equal, Greater}
 use Rattle.std.specs.List.{list_any, list_all, range_with_len}
 use Rattle.std.specs.FinMap.Entries.{put, by_order}
 use Rattle.pk_base.specs.Key.{Key, key_cmp}
-use Rattle.pk_base.specs.Shape.{Shape, charge, limit, data_blocks}
+use Rattle.pk_base.specs.Shape.{Shape, charge}
 use Rattle.pk_base.specs.Entry.{Place}
 use Rattle.pk_segfmt.specs.Value.{value_pages}
 use Rattle.pk_rootfmt.specs.Root.{differ}
 use Rattle.pk_model.specs.Values.{fits, blocks_with, all_pages}
-use Rattle.pk_model.specs.Laws.{AnyByRecursion, IsPageOf}
+use Rattle.pk_model.specs.Laws.{AnyByRecursion}
 use Rattle.pk_model.proofs.Commits.{left_part, right_part, both, refuted, rest_differs, any_behind, apart, differ_front, all_front, is_any}
 use Rattle.pk_model.proofs.SamePages.{any_front}
 use Rattle.pk_model.proofs.ValueSets.{fits_parts, parts_fit, is_true, any_more, filter_more}

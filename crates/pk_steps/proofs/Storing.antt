@@ -1,5 +1,5 @@
 -- One more entry puts a value into the map, or takes a key out of it.
-use Rattle.std.proofs.Common.{◌≡◌, ℕ, refl, sym, ap, subst, ◌∙◌, Bool, true, false, not, cond, ◌&&◌, T, List, [], ◌∷◌, ◌++◌, length, filter, nat_le, Option, Some, None, Result, Ok, le→leb}
+use Rattle.std.proofs.Common.{◌≡◌, ℕ, refl, sym, ap, subst, ◌∙◌, Bool, true, false, not, cond, T, List, [], ◌∷◌, ◌++◌, length, nat_le, Option, Some, None, Ok, le→leb}
 use Rattle.std.specs.declared.cmp.Ordering.{Ordering}
 use Rattle.std.specs.declared.cmp.Ordering.TheVariants.{Less, Equal, Greater}
 use Rattle.std.specs.Ordering.{is_lt, is_eq, eq_by_cmp}
@@ -11,11 +11,9 @@ use Rattle.pk_base.specs.Shape.{Shape, buffer}
 use Rattle.pk_base.specs.Page.{Page, page_at}
 use Rattle.pk_base.specs.Entry.{Entry, Place}
 use Rattle.pk_base.specs.Firsts.{firsts}
-use Rattle.pk_base.specs.Map.{Map}
-use Rattle.pk_segfmt.specs.Value.{value_at}
-use Rattle.pk_rootfmt.specs.Root.{Root, named}
-use Rattle.pk_model.specs.Found.{Found, entries_in_order}
-use Rattle.pk_model.specs.Values.{placed, fits, values_of, all_pages}
+use Rattle.pk_rootfmt.specs.Root.{named}
+use Rattle.pk_model.specs.Found.{entries_in_order}
+use Rattle.pk_model.specs.Values.{placed, values_of}
 use Rattle.pk_model.specs.Reading.{map_under}
 use Rattle.pk_model.proofs.MapLemmas.{key_total, key_antisymm, below_less}
 use Rattle.pk_model.proofs.Commits.{left_part, right_part}
@@ -23,7 +21,7 @@ use Rattle.pk_model.proofs.Lookups.{firsts_sorted}
 use Rattle.pk_model.proofs.ValueSets.{values_sound, values_complete, Reads, is_true}
 use Rattle.pk_model.proofs.Stores.{below_placed, reading-store, entries_in_order-push}
 use Rattle.pk_model.proofs.HeldMap.{nothing_fits}
-use Rattle.pk_steps.specs.Under.{IsUnder, counting, places}
+use Rattle.pk_steps.specs.Under.{counting, places}
 use Rattle.pk_steps.specs.Stores.{Stores, Deletes}
 use Rattle.pk_steps.proofs.Untouched.{values_under}
 use Rattle.pk_steps.proofs.Places.{kept, kept_fit}

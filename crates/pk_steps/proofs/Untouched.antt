@@ -1,6 +1,6 @@
 -- What is not read may change.
-use Rattle.std.proofs.Common.{◌≡◌, ◌⊎◌, inl, inr, ℕ, zero, suc, ◌+◌, ◌-◌, ◌*◌, ◌/◌, ◌<◌, ◌≤◌, refl, sym, ap, subst, ◌∙◌, arith, Bool, true, false, T, List, [], ◌∷◌, ◌++◌, length, drop, take, nat_le, nat_lt, nat_eq, ◌==◌, Some, None, Result, Ok, leb→le, leb-false, eq-or-lt_of_le, div-lt_iff_lt-mul}
-use Rattle.std.specs.List.{list_all, starts_with, concat, AllZip}
+use Rattle.std.proofs.Common.{◌≡◌, ◌⊎◌, inl, inr, ℕ, zero, suc, ◌+◌, ◌-◌, ◌/◌, ◌<◌, ◌≤◌, refl, sym, subst, ◌∙◌, arith, true, false, T, List, [], ◌∷◌, ◌++◌, length, drop, nat_le, nat_eq, ◌==◌, Result, Ok, leb→le, leb-false, eq-or-lt_of_le, div-lt_iff_lt-mul}
+use Rattle.std.specs.List.{list_all, starts_with, concat}
 use Rattle.pk_base.specs.Key.{Key}
 use Rattle.pk_base.specs.Shape.{Shape, charge, buffer}
 use Rattle.pk_base.specs.Page.{Page, Flash, page_at, erased, whole, torn, page_in}
@@ -12,16 +12,15 @@ use Rattle.pk_segfmt.specs.Value.{head_bytes, value_pages, value_page, value_fro
 use Rattle.pk_rootfmt.specs.Root.{Root, named}
 use Rattle.pk_rootfmt.specs.Newest.{newest_root}
 use Rattle.pk_base.specs.Map.{Map}
-use Rattle.pk_nand.specs.Crash.{SameOutside}
 use Rattle.pk_model.specs.Found.{Found, found_under, entries_in_order}
-use Rattle.pk_model.specs.Values.{placed, values_of}
+use Rattle.pk_model.specs.Values.{values_of}
 use Rattle.pk_model.specs.Reading.{reading_of, map_under}
 use Rattle.pk_model.specs.Laws.{AnyByRecursion, IsPageOf, IsRead, IsWholePage}
 use Rattle.pk_base.proofs.ShapeLemmas.{block_pages_positive}
 use Rattle.pk_model.proofs.SamePages.{newest_root_same, found_same, map_under_same, agrees, agree_runs, any_front, any_back, any_in_concat}
 use Rattle.pk_model.proofs.StrangePages.{bind_ok, some_ok}
 use Rattle.pk_model.proofs.Lookups.{values_step, passed}
-use Rattle.pk_steps.specs.Under.{IsUnder, IsNamed, IsValuePage, places}
+use Rattle.pk_steps.specs.Under.{IsUnder, IsValuePage, places}
 use Rattle.pk_steps.specs.Reads.{ReadsUnder, UnderReads, Same, Programs, Erases}
 
 pub reads_under : ReadsUnder

@@ -1,15 +1,15 @@
 -- What one more entry makes of the map: the statements.
-use Rattle.std.specs.Prelude.{◌≡◌, ℕ, ◌-◌, ◌/◌, ◌≤◌, List, [], ◌∷◌, ◌++◌, length, true, Some, None, Ok, T}
+use Rattle.std.specs.Prelude.{◌≡◌, ℕ, ◌-◌, ◌/◌, ◌≤◌, List, [], ◌∷◌, ◌++◌, length, true, Some, None, Ok}
 use Rattle.std.specs.FinMap.{insert, remove}
-use Rattle.std.specs.FinMap.Entries.{put, is_sorted}
+use Rattle.std.specs.FinMap.Entries.{put}
 use Rattle.pk_base.specs.Key.{Key, key_cmp}
-use Rattle.pk_base.specs.Shape.{Shape, buffer, charge, limit, data_blocks}
+use Rattle.pk_base.specs.Shape.{Shape, buffer, limit, data_blocks}
 use Rattle.pk_base.specs.Page.{Flash, page_at}
 use Rattle.pk_base.specs.Entry.{Entry, Place}
 use Rattle.pk_base.specs.Firsts.{firsts}
 use Rattle.pk_base.specs.Map.{Map}
 use Rattle.pk_segfmt.specs.Value.{value_at}
-use Rattle.pk_rootfmt.specs.Root.{Root, named, differ}
+use Rattle.pk_rootfmt.specs.Root.{Root, named}
 use Rattle.pk_model.specs.Found.{Found}
 use Rattle.pk_model.specs.Values.{fits, all_pages}
 use Rattle.pk_model.specs.Laws.{AnyByRecursion, IsPageOf}

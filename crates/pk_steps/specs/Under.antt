@@ -1,5 +1,5 @@
 -- What stands under the newest root of a flash, and the map that it makes with entries that are not yet there.
-use Rattle.std.specs.Prelude.{◌≡◌, ◌⊎◌, ℕ, ◌+◌, ◌*◌, ◌/◌, ◌<◌, ◌≤◌, List, Some, Ok}
+use Rattle.std.specs.Prelude.{◌≡◌, ℕ, ◌/◌, List, Some, Ok}
 use Rattle.pk_base.specs.Shape.{Shape}
 use Rattle.pk_base.specs.Page.{Flash, page_at}
 use Rattle.pk_base.specs.Entry.{Entry, Place}
