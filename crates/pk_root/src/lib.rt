@@ -11,3 +11,6 @@ mod scan;
 pub use installer::Installer;
 pub use laws::changes_behind;
 pub use scan::newest;
+
+#[cfg(test)]
+mod tests;
