@@ -170,7 +170,7 @@ fn run<B: Nand, A: Allocator>(
     Ok(number)
 }
 
-// The newest root of these pages, and its number, by 32 reads.
+// The newest root of these pages, and its number, by 32 reads; what is read into had the number 77 before.
 fn check(
     rt: &impl Abort,
     alloc: Global,
@@ -180,9 +180,10 @@ fn check(
     let (mut board, shape) = board(alloc, pages, 1000)?;
     let mut buf = Vec::from_elem(alloc, 0u8, shape.page_bytes() as usize)?;
     let mut into = Root::new(alloc, shape)?;
+    assert!(rt; set_root(&mut into, 77, &mut buf));
     let found = newest(&mut board, &mut into, &mut buf);
     assert_eq!(rt; found, Ok(expected.map(|root| root.0)));
-    assert_eq!(rt; into.number(), expected.map_or(0, |root| root.1));
+    assert_eq!(rt; into.number(), expected.map_or(77, |root| root.1));
     assert_eq!(rt; board.read_count(), 32);
     Ok(())
 }
