@@ -1,6 +1,6 @@
-//! The newest root of a flash, and the next one. Every page of the two root blocks is read to find the newest root; an install
-//! takes the next page of a root block that holds no other root, or erases the block without the newest root, and wherever it
-//! is cut the newest root is the former or the new one.
+//! The newest root of a flash, found by a read of each page of the two root blocks, and the install of the next one, by at most one
+//! call of the board a step: the first install of a session, and one behind a full block, erases the block without the newest root.
+//! Wherever a step is cut the newest root is the former or the new one, and no page behind the root blocks differs.
 #![tactic(auto)]
 
 mod installer;
@@ -11,3 +11,6 @@ mod scan;
 pub use installer::Installer;
 pub use laws::changes_behind;
 pub use scan::newest;
+
+#[cfg(test)]
+mod tests;
