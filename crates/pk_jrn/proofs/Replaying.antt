@@ -240,12 +240,12 @@ module _ (shape : Shape) (number : ℕ) (blocks : List ℕ) (old : BoardState) w
       ends = λ small. absurd (omega (arith, small, all));
     }
 
-    pub reads_to_end : (new : BoardState) → i < epoch_pages shape → new ≡ after_read now → new ≡ after_replay shape number blocks i old
+    pub reads_to_end : (new : BoardState) → i < epoch_pages shape → new ≡ after_read now → new ≡ after_replay shape i old
     reads_to_end new inside read =
         let k : suc i ≡ min (i + 1) (epoch_pages shape) = omega (arith, inside) in
         read ∙ ap after_read r.board ∙ ap (λ n. after_reads n old) k
 
-    pub reads_all : i ≡ epoch_pages shape → now ≡ after_replay shape number blocks i old
+    pub reads_all : i ≡ epoch_pages shape → now ≡ after_replay shape i old
     reads_all all =
         let k : i ≡ min (i + 1) (epoch_pages shape) = omega (arith, all) in
         r.board ∙ ap (λ n. after_reads n old) k

@@ -23,6 +23,10 @@ use Rattle.pk_jrn.specs.Epochs.{IsWhole}
 abbrev pub buffer_of : Shape → List Entry → Table
 buffer_of shape es = record { capacity = buffer shape; entries = firsts (reverse es) }
 
+-- the board behind a replay of so many pages: the page that ends it is read too, unless the epoch is full
+abbrev pub after_replay : Shape → ℕ → BoardState → BoardState
+after_replay shape used old = after_reads (min (used + 1) (epoch_pages shape)) old
+
 module _ (shape : Shape) (number : ℕ) (blocks : List ℕ) where
   -- so many pages were replayed: they are those before the first that is not Whole, and the buffer holds the epoch's entries
   pub record Replayed (flash : Flash) (used : ℕ) (into : Table) : Type 0 where
@@ -33,10 +37,6 @@ module _ (shape : Shape) (number : ℕ) (blocks : List ℕ) where
     pub within : used ≤ epoch_pages shape
     pub before : (j : ℕ) → j < used → IsWhole flash (page_in shape blocks j)
     pub ends : used < epoch_pages shape → IsWhole flash (page_in shape blocks used) → ⊥
-
-  -- the reads of a replay that ended behind so many pages: the page that ends it is read too, unless the epoch is full
-  abbrev pub after_replay : ℕ → BoardState → BoardState
-  after_replay used old = after_reads (min (used + 1) (epoch_pages shape)) old
 
   -- the reading of the epoch refuses with this page, behind which nothing was read
   pub record ReplayRefused (old new : BoardState) (page : ℕ) : Type 0 where

@@ -40,7 +40,7 @@ pub fn replay<B: Nand, A: Region>(
     requires room { length buf.old ≡ shape.now.page_bytes }
     ensures replayed { IfOk result (λ used. Replayed shape.now number blocks (B.state board.old).pages used into.new) }
     ensures fits { IfOk result (λ used. Fits (found_at_opening shape.now number blocks used) (B.state board.old).pages) }
-    ensures reads { IfOk result (λ used. B.state board.new ≡ after_replay shape.now number blocks used (B.state board.old)) }
+    ensures reads { IfOk result (λ used. B.state board.new ≡ after_replay shape.now used (B.state board.old)) }
     ensures refused { IfErr result (λ e. Refused shape.now number blocks (B.state board.old) (B.state board.new) e) }
     ensures cleared { OnErr result (into.new ≡ into.old) }
     ensures flash { (B.state board.new).pages ≡ (B.state board.old).pages }
