@@ -65,11 +65,12 @@ impl<A: Allocator + Clone> Levels<A> {
 }
 
 impl<A: Allocator> Levels<A> {
-    /// All levels keep this.
+    /// All levels keep this. No look-up reads more often than there are levels without frames.
     pub fn known(&self)
-        ensures { IsLevels self.now }
+        ensures levels { IsLevels self.now }
+        ensures few { reads_through self.now.runs + self.now.pinned ≤ 4 }
     {
-        let _ = self.pinned;
+        let _ = &self.first;
     }
 
     /// How many levels have frames for all their pages: the upper ones.
@@ -139,7 +140,6 @@ impl<A: Allocator> Levels<A> {
         requires room { length buf.old ≡ self.now.shape.page_bytes }
         ensures found { IfOk result (λ found. (ess : List (List EntrySpec)) → StandEach (B.state board.old).pages arena.now self.now.runs ess → IsFound key.now (all_entries ess) found) }
         ensures reads { OnOk result (ReadsUpTo (reads_through self.now.runs) (B.state board.old) (B.state board.new)) }
-        ensures few { reads_through self.now.runs + self.now.pinned ≤ 4 }
         ensures reading { IfErr result (λ fault. fault ≡ Reading) }
         ensures err { OnErr result (ReadFailsWithin (reads_through self.now.runs) (B.state board.old) (B.state board.new)) }
         ensures same { (B.state board.new).pages ≡ (B.state board.old).pages }
