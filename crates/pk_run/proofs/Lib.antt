@@ -2,3 +2,5 @@ pub mod Orders
 pub mod Pieces
 pub mod Standing
 pub mod Lookups
+pub mod Others
+pub mod TestRuns

@@ -7,5 +7,8 @@ mod laws;
 mod run;
 mod search;
 
-pub use laws::stands_elsewhere;
+pub use laws::{frame_filled, frame_given, frame_taken, stands_elsewhere, stands_outside};
 pub use run::Run;
+
+#[cfg(test)]
+mod tests;

@@ -75,6 +75,13 @@ impl<A: Allocator> Run<A> {
         self.shape.known();
     }
 
+    /// The shape of the flash.
+    pub fn shape(&self) -> Shape
+        ensures { result ≡ self.now.shape }
+    {
+        self.shape
+    }
+
     /// The level, 1 to 4.
     pub fn level(&self) -> u8
         ensures { result ≡ self.now.level }
@@ -200,6 +207,7 @@ impl<A: Allocator> Run<A> {
         ensures reading { IfErr result (λ fault. fault ≡ Reading) }
         ensures err { OnErr result ((p : ℕ) × IsPageFor key.now self.now.firsts p × ReadFailed (B.state board.old) (B.state board.new) (page_of self.now p)) }
         ensures unpinned { OnErr result (self.now.leases ≡ []) }
+        ensures same { (B.state board.new).pages ≡ (B.state board.old).pages }
         ensures ready { IsReady (B.state board.new) self.now.shape }
     {
         self.known();
@@ -234,6 +242,7 @@ impl<A: Allocator> Run<A> {
         ensures reading { IfErr result (λ fault. fault ≡ Reading) }
         ensures err { OnErr result (ReadFailed (B.state board.old) (B.state board.new) (page_of self.now i)) }
         ensures unpinned { OnErr result (self.now.leases ≡ []) }
+        ensures same { (B.state board.new).pages ≡ (B.state board.old).pages }
         ensures ready { IsReady (B.state board.new) self.now.shape }
     {
         self.known();

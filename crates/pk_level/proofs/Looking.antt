@@ -1,0 +1,197 @@
+-- A look-up through the runs, from the first on.
+use Rattle.std.proofs.Common.{◌≡◌, ◌⊎◌, inl, inr, ℕ, zero, suc, ◌+◌, ◌-◌, ◌<◌, ◌≤◌, Bool, true, false, cond, List, [], ◌∷◌, ◌++◌, length, slice_get, drop, refl, ap, sym, subst, ◌∙◌, arith, Option, Some, None, append_assoc}
+use Rattle.std.specs.Ordering.{eq_by_cmp}
+use Rattle.std.specs.FinMap.Entries.{find}
+use Rattle.std.proofs.lemmas.Bool.{cases_lt}
+use Rattle.pk_base.specs.Key.{Key, key_cmp}
+use Rattle.pk_base.specs.Shape.{Shape}
+use Rattle.pk_base.specs.Entry.{Entry, Place, key_of}
+use Rattle.pk_base.specs.Seen.{entry as seen}
+use Rattle.pk_base.specs.declared.entry.Entry.{Entry as RustEntry}
+use Rattle.pk_base.specs.Page.{Flash}
+use Rattle.pk_nand.specs.BoardState.{BoardState}
+use Rattle.pk_nand.specs.Calls.{counted, IsReady, after_read, ReadFailed}
+use Rattle.pk_nand.specs.Erased.{counted_by, after_reads}
+use Rattle.pk_pin.specs.Frames.{Frames}
+use Rattle.pk_run.specs.Kept.{Kept, IsPinned, Stands, empty, after_look}
+use Rattle.pk_run.specs.Search.{IsFound, IsPageFor, Looks}
+use Rattle.pk_level.specs.Levels.{Levels, IsOfLevel, AreOfLevels, IsLevels, StandEach, all_entries, reads_by, most_reads, reads_through, ReadsUpTo, ReadFailsWithin}
+
+-- ---- entries of several lists
+
+find_left : (key : Key) (xs ys : List Entry) (v : Option Place) → find key_cmp key xs ≡ Some v → find key_cmp key (xs ++ ys) ≡ Some v
+find_left key [] ys v e = cc
+find_left key (x ∷ xs) ys v e =
+    elim (eq_by_cmp key_cmp key x.0) as (λ b. cond b (Some x.1) (find key_cmp key xs) ≡ Some v → cond b (Some x.1) (find key_cmp key (xs ++ ys)) ≡ Some v) [
+      | true ↦ λ e. e
+      | false ↦ λ e. find_left key xs ys v e
+    ] e
+
+find_right : (key : Key) (xs ys : List Entry) → find key_cmp key xs ≡ None → find key_cmp key (xs ++ ys) ≡ find key_cmp key ys
+find_right key [] ys e = refl
+find_right key (x ∷ xs) ys e =
+    elim (eq_by_cmp key_cmp key x.0) as (λ b. cond b (Some x.1) (find key_cmp key xs) ≡ None → cond b (Some x.1) (find key_cmp key (xs ++ ys)) ≡ find key_cmp key ys) [
+      | true ↦ λ e. cc
+      | false ↦ λ e. find_right key xs ys e
+    ] e
+
+entries_at : (ess : List (List Entry)) (i : ℕ) (es : List Entry) → slice_get ess i ≡ Some es → all_entries (drop i ess) ≡ es ++ all_entries (drop (suc i) ess)
+entries_at [] i es got = cc
+entries_at (xs ∷ ess) zero es got = let same : xs ≡ es = cc in ap (λ (ys : List Entry). ys ++ all_entries ess) same
+entries_at (xs ∷ ess) (suc i) es got = entries_at ess i es got
+
+-- ---- runs that stand
+
+stands_at : (flash : Flash) (arena : Frames) (rs : List Kept) (ess : List (List Entry)) (i : ℕ) (r : Kept) → StandEach flash arena rs ess → slice_get rs i ≡ Some r
+    → (es : List Entry) × (slice_get ess i ≡ Some es) × Stands r flash arena es
+stands_at flash arena [] [] i r each got = cc
+stands_at flash arena [] (es ∷ ess) i r each got = absurd each
+stands_at flash arena (x ∷ rs) [] i r each got = absurd each
+stands_at flash arena (x ∷ rs) (es ∷ ess) zero r each got = let same : x ≡ r = cc in (es, refl, subst (λ (y : Kept). Stands y flash arena es) same each.0)
+stands_at flash arena (x ∷ rs) (es ∷ ess) (suc i) r each got = stands_at flash arena rs ess i r each.1 got
+
+no_more : (flash : Flash) (arena : Frames) (rs : List Kept) (ess : List (List Entry)) (i : ℕ) → StandEach flash arena rs ess → length rs ≤ i → all_entries (drop i ess) ≡ []
+no_more flash arena [] [] zero each h = refl
+no_more flash arena [] [] (suc i) each h = refl
+no_more flash arena [] (es ∷ ess) i each h = absurd each
+no_more flash arena (r ∷ rs) [] i each h = absurd each
+no_more flash arena (r ∷ rs) (es ∷ ess) zero each h = absurd (omega arith)
+no_more flash arena (r ∷ rs) (es ∷ ess) (suc i) each h = no_more flash arena rs ess i each.1 (omega arith)
+
+-- a run among the levels is one of its level
+pub of_level_at : (shape : Shape) (pinned level : ℕ) (rs : List Kept) (i : ℕ) (r : Kept) → AreOfLevels shape pinned level rs → slice_get rs i ≡ Some r → IsOfLevel shape pinned (level + i) r
+of_level_at shape pinned level [] i r are got = cc
+of_level_at shape pinned level (x ∷ rs) zero r are got =
+    let same : x ≡ r = cc in
+    let here : level ≡ level + 0 = omega arith in
+    subst (λ (l : ℕ). IsOfLevel shape pinned l r) here (subst (IsOfLevel shape pinned level) same are.0)
+of_level_at shape pinned level (x ∷ rs) (suc i) r are got =
+    let on : suc level + i ≡ level + suc i = omega arith in
+    subst (λ (l : ℕ). IsOfLevel shape pinned l r) on (of_level_at shape pinned (suc level) rs i r are.1 got)
+
+-- ---- reads
+
+by_frames : (n m : ℕ) → m ≡ n → reads_by n m ≡ 0
+by_frames zero m e = refl
+by_frames (suc n) zero e = absurd (omega arith)
+by_frames (suc n) (suc m) e = refl
+
+one_read : (n m : ℕ) → reads_by n m ≤ 1
+one_read zero m = omega arith
+one_read (suc n) zero = omega arith
+one_read (suc n) (suc m) = omega arith
+
+needs_read : (n m p : ℕ) → p < n → m ≡ 0 → 1 ≤ reads_by n m
+needs_read zero m p h e = absurd (omega arith)
+needs_read (suc n) zero p h e = omega arith
+needs_read (suc n) (suc m) p h e = absurd (omega arith)
+
+pub unpinned_reads : (r : Kept) (key : Key) (p : ℕ) → IsPageFor key r.firsts p → r.leases ≡ [] → 1 ≤ most_reads r
+unpinned_reads r key p for_key none = needs_read (length r.firsts) (length r.leases) p for_key.exists (ap (λ (ls : List ℕ). length ls) none)
+
+counted_more : (k m n : ℕ) → counted_by k (counted_by m n) ≡ counted_by (k + m) n
+counted_more zero m n = let e : m ≡ 0 + m = omega arith in ap (λ (j : ℕ). counted_by j n) e
+counted_more (suc k) m n = ap counted (counted_more k m n) ∙ (let e : suc (k + m) ≡ suc k + m = omega arith in ap (λ (j : ℕ). counted_by j n) e)
+
+reads_more : (k m : ℕ) (old : BoardState) → after_reads k (after_reads m old) ≡ after_reads (k + m) old
+reads_more k m old = ap (λ (n : ℕ). record old { reads = n }) (counted_more k m old.reads)
+
+look_by : (leases : List ℕ) (n p : ℕ) (now next : BoardState) → p < n → next ≡ after_look leases now → (k : ℕ) × (k ≤ reads_by n (length leases)) × (next ≡ after_reads k now)
+look_by leases zero p now next h e = absurd (omega arith)
+look_by [] (suc n) p now next h e = (suc zero, omega arith, e)
+look_by (l ∷ leases) (suc n) p now next h e = (zero, omega arith, e)
+
+-- how often a look-up in one run reads
+look_reads : (r : Kept) (key : Key) (now next : BoardState) → Looks r key now next → (k : ℕ) × (k ≤ most_reads r) × (next ≡ after_reads k now)
+look_reads r key now next (inl none) = (zero, omega arith, none.1)
+look_reads r key now next (inr some) = look_by r.leases (length r.firsts) some.0 now next some.1.exists some.2
+
+through_at : (rs : List Kept) (i : ℕ) (r : Kept) → slice_get rs i ≡ Some r → reads_through (drop i rs) ≡ most_reads r + reads_through (drop (suc i) rs)
+through_at [] i r got = cc
+through_at (x ∷ rs) zero r got = let same : x ≡ r = cc in ap (λ (y : Kept). most_reads y + reads_through rs) same
+through_at (x ∷ rs) (suc i) r got = through_at rs i r got
+
+-- no more runs are read than have no frames
+few_from : (shape : Shape) (pinned level : ℕ) (rs : List Kept) → AreOfLevels shape pinned level rs → suc pinned - level ≤ length rs → reads_through rs + (suc pinned - level) ≤ length rs
+few_from shape pinned level [] are most = omega arith
+few_from shape pinned level (r ∷ rs) are most =
+    let rest = few_from shape pinned (suc level) rs are.1 (omega arith) in
+    elim (cases_lt pinned level) [
+      | inl behind ↦ let one = one_read (length r.firsts) (length r.leases) in omega (arith, rest, one, behind)
+      | inr within ↦ let none = by_frames (length r.firsts) (length r.leases) (are.0.frames within) in omega (arith, rest, none, within)
+    ]
+
+pub few_reads : (levels : Levels) → IsLevels levels → reads_through levels.runs + levels.pinned ≤ 4
+few_reads levels is = let few = few_from levels.shape levels.pinned 1 levels.runs is.each (omega (arith, is.most, is.four)) in omega (arith, few, is.four)
+
+-- ---- a look-up
+
+-- the first i runs have nothing of the key, and no more than their share of reads was made
+pub record Looking (rs : List Kept) (arena : Frames) (key : Key) (old now : BoardState) (i : ℕ) : Type 0 where
+  pub made : ℕ
+  pub few : made + reads_through (drop i rs) ≤ reads_through rs
+  pub board : now ≡ after_reads made old
+  pub none : (ess : List (List Entry)) → StandEach old.pages arena rs ess → find key_cmp key (all_entries ess) ≡ find key_cmp key (all_entries (drop i ess))
+
+pub Looking-start : (rs : List Kept) (arena : Frames) (key : Key) (old : BoardState) → Looking rs arena key old old 0
+Looking-start rs arena key old = record { made = 0; few = omega arith; board = refl; none = λ ess each. refl }
+
+same_pages : (rs : List Kept) (arena : Frames) (key : Key) (old now : BoardState) (i : ℕ) → Looking rs arena key old now i → now.pages ≡ old.pages
+same_pages rs arena key old now i at = ap (λ (b : BoardState). b.pages) at.board
+
+-- the next run stands on the board now
+pub next_stands : (rs : List Kept) (arena : Frames) (key : Key) (old now : BoardState) (i : ℕ) (r : Kept) (ess : List (List Entry)) → Looking rs arena key old now i → slice_get rs i ≡ Some r
+    → StandEach old.pages arena rs ess → (es : List Entry) × (slice_get ess i ≡ Some es) × Stands r now.pages arena es
+next_stands rs arena key old now i r ess at got each =
+    let own = stands_at old.pages arena rs ess i r each got in
+    (own.0, own.1, subst (λ (flash : Flash). Stands r flash arena own.0) (sym (same_pages rs arena key old now i at)) own.2)
+
+-- the next run has nothing either
+pub Looking-next : (rs : List Kept) (arena : Frames) (key : Key) (old now next : BoardState) (i : ℕ) (r : Kept) → Looking rs arena key old now i → slice_get rs i ≡ Some r
+    → Looks r key now next → ((es : List Entry) → Stands r now.pages arena es → find key_cmp key es ≡ None) → Looking rs arena key old next (i + 1)
+Looking-next rs arena key old now next i r at got looks missing =
+    let look = look_reads r key now next looks in
+    let left = through_at rs i r got in
+    let on : suc i ≡ i + 1 = omega arith in
+    let few = at.few in
+    subst (Looking rs arena key old next) on (record {
+      made = look.0 + at.made;
+      few = omega (arith, few, left, look.1);
+      board = look.2 ∙ ap (λ (b : BoardState). after_reads look.0 b) at.board ∙ reads_more look.0 at.made old;
+      none = λ ess each.
+          let own = next_stands rs arena key old now i r ess at got each in
+          at.none ess each ∙ ap (find key_cmp key) (entries_at ess i own.0 own.1) ∙ find_right key own.0 (all_entries (drop (suc i) ess)) (missing own.0 own.2);
+    })
+
+-- the next run has it
+pub Looking-found : (rs : List Kept) (arena : Frames) (key : Key) (old now : BoardState) (i : ℕ) (r : Kept) (e : RustEntry) → Looking rs arena key old now i → slice_get rs i ≡ Some r
+    → ((es : List Entry) → Stands r now.pages arena es → IsFound key es (Some e))
+    → (ess : List (List Entry)) → StandEach old.pages arena rs ess → IsFound key (all_entries ess) (Some e)
+Looking-found rs arena key old now i r e at got found ess each =
+    let own = next_stands rs arena key old now i r ess at got each in
+    let is = found own.0 own.2 in
+    (is.0, at.none ess each ∙ ap (find key_cmp key) (entries_at ess i own.0 own.1) ∙ find_left key own.0 (all_entries (drop (suc i) ess)) (seen e).1 is.1)
+
+pub reads_found : (rs : List Kept) (arena : Frames) (key : Key) (old now next : BoardState) (i : ℕ) (r : Kept) → Looking rs arena key old now i → slice_get rs i ≡ Some r → Looks r key now next
+    → ReadsUpTo (reads_through rs) old next
+reads_found rs arena key old now next i r at got looks =
+    let look = look_reads r key now next looks in
+    let left = through_at rs i r got in
+    let few = at.few in
+    (look.0 + at.made, omega (arith, few, left, look.1), look.2 ∙ ap (λ (b : BoardState). after_reads look.0 b) at.board ∙ reads_more look.0 at.made old)
+
+-- none has it
+pub Looking-end : (rs : List Kept) (arena : Frames) (key : Key) (old now : BoardState) (i : ℕ) → length rs ≤ i → Looking rs arena key old now i
+    → (ess : List (List Entry)) → StandEach old.pages arena rs ess → find key_cmp key (all_entries ess) ≡ None
+Looking-end rs arena key old now i all at ess each = at.none ess each ∙ ap (find key_cmp key) (no_more old.pages arena rs ess i each all)
+
+pub reads_end : (rs : List Kept) (arena : Frames) (key : Key) (old now : BoardState) (i : ℕ) → Looking rs arena key old now i → ReadsUpTo (reads_through rs) old now
+reads_end rs arena key old now i at = let few = at.few in (at.made, omega (arith, few), at.board)
+
+-- a read of the next run fails
+pub Looking-failed : (rs : List Kept) (arena : Frames) (key : Key) (old now next : BoardState) (i page : ℕ) (r : Kept) → Looking rs arena key old now i → slice_get rs i ≡ Some r → 1 ≤ most_reads r
+    → ReadFailed now next page → ReadFailsWithin (reads_through rs) old next
+Looking-failed rs arena key old now next i page r at got some failed =
+    let left = through_at rs i r got in
+    let few = at.few in
+    (at.made, page, omega (arith, few, left, some), subst (λ (b : BoardState). ReadFailed b next page) at.board failed)

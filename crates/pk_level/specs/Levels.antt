@@ -1,0 +1,77 @@
+-- The four runs of a drive, and a look-up through them.
+use Rattle.std.specs.Prelude.{◌≡◌, ⊤, ℕ, zero, suc, ◌+◌, ◌-◌, ◌<◌, ◌≤◌, List, [], ◌∷◌, length, slice_get, slice_index_or, slice_set, Some}
+use Rattle.std.specs.List.{flat_map}
+use Rattle.pk_base.specs.Shape.{Shape}
+use Rattle.pk_base.specs.Entry.{Entry}
+use Rattle.pk_base.specs.Page.{Flash}
+use Rattle.pk_nand.specs.BoardState.{BoardState}
+use Rattle.pk_nand.specs.Calls.{ReadFailed}
+use Rattle.pk_nand.specs.Erased.{after_reads}
+use Rattle.pk_pin.specs.Frames.{Frames}
+use Rattle.pk_run.specs.Kept.{Kept, IsPinned, Stands, empty}
+
+-- how many levels have frames for all their pages, and runs 1 to 4
+pub record Levels : Type 0 where
+  pub shape : Shape
+  pub pinned : ℕ
+  pub runs : List Kept
+
+-- four runs without entries
+abbrev pub no_runs : Shape → ℕ → Levels
+no_runs shape pinned = record { shape = shape; pinned = pinned; runs = empty shape 1 ∷ empty shape 2 ∷ empty shape 3 ∷ empty shape 4 ∷ [] }
+
+-- the run of a level
+abbrev pub run_of : Levels → ℕ → Kept
+run_of levels level = slice_index_or levels.runs (level - 1) (empty levels.shape level)
+
+abbrev pub with_run : Levels → ℕ → Kept → Levels
+with_run levels level r = record levels { runs = slice_set levels.runs (level - 1) r }
+
+-- a run may stand at this level: it is one of it, and all its pages have frames where those of the level have
+pub record IsOfLevel (shape : Shape) (pinned level : ℕ) (r : Kept) : Type 0 where
+  pub same_shape : r.shape ≡ shape
+  pub same_level : r.level ≡ level
+  pub frames : level ≤ pinned → IsPinned r
+
+-- runs from a level on
+abbrev pub AreOfLevels : Shape → ℕ → ℕ → List Kept → Type 0
+AreOfLevels shape pinned level [] = ⊤
+AreOfLevels shape pinned level (r ∷ rs) = IsOfLevel shape pinned level r × AreOfLevels shape pinned (suc level) rs
+
+-- what all levels keep to
+pub record IsLevels (levels : Levels) : Type 0 where
+  pub most : levels.pinned ≤ 4
+  pub four : length levels.runs ≡ 4
+  pub each : AreOfLevels levels.shape levels.pinned 1 levels.runs
+
+-- the entries of the runs on the flash are those of these lists
+abbrev pub StandEach : Flash → Frames → List Kept → List (List Entry) → Type 0
+StandEach flash arena [] [] = ⊤
+StandEach flash arena [] (es ∷ ess) = ⊥
+StandEach flash arena (r ∷ rs) [] = ⊥
+StandEach flash arena (r ∷ rs) (es ∷ ess) = Stands r flash arena es × StandEach flash arena rs ess
+
+-- all entries, those of the first run first
+abbrev pub all_entries : List (List Entry) → List Entry
+all_entries ess = flat_map (λ es. es) ess
+
+-- most reads of a look-up in a run, by its pages and their frames: none where it has no pages, or where they have frames
+abbrev pub reads_by : ℕ → ℕ → ℕ
+reads_by zero leases = 0
+reads_by (suc pages) zero = 1
+reads_by (suc pages) (suc leases) = 0
+
+abbrev pub most_reads : Kept → ℕ
+most_reads r = reads_by (length r.firsts) (length r.leases)
+
+abbrev pub reads_through : List Kept → ℕ
+reads_through [] = 0
+reads_through (r ∷ rs) = most_reads r + reads_through rs
+
+-- nothing but at most n reads
+abbrev pub ReadsUpTo : ℕ → BoardState → BoardState → Type 0
+ReadsUpTo n old new = (k : ℕ) × (k ≤ n) × (new ≡ after_reads k old)
+
+-- a read failed, behind fewer than n others that did not
+abbrev pub ReadFailsWithin : ℕ → BoardState → BoardState → Type 0
+ReadFailsWithin n old new = (k page : ℕ) × (k < n) × ReadFailed (after_reads k old) new page

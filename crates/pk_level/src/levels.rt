@@ -1,0 +1,158 @@
+//! The four runs.
+ghost use Rattle.std.specs.Prelude.{◌≡◌, ◌+◌, ◌-◌, ◌<◌, ◌≤◌, List, [], ◌∷◌, length, slice_get, Some, IfOk, IfErr, OnOk, OnErr};
+ghost use Rattle.pk_base.specs.Entry.{Entry as EntrySpec};
+ghost use Rattle.pk_base.specs.Shape.{pinned as pinned_by};
+ghost use Rattle.pk_base.specs.Page.{Flash};
+ghost use Rattle.pk_nand.specs.Calls.{IsReady};
+ghost use Rattle.pk_nand.specs.declared.types.Fault.TheVariants.{Reading};
+ghost use Rattle.pk_pin.specs.Frames.{Frames};
+ghost use Rattle.pk_run.specs.Search.{IsFound};
+ghost use Rattle.pk_level.specs.Levels as spec;
+ghost use Rattle.pk_level.specs.Levels.{IsLevels, IsOfLevel, StandEach, ReadsUpTo, ReadFailsWithin, no_runs, run_of, with_run, all_entries, reads_through};
+
+use pk_base::{Entry, Key};
+use pk_nand::{Fault, Nand};
+use pk_pin::PinArena;
+use pk_plan::Plan;
+use pk_run::Run;
+use std::alloc::{AllocError, Allocator};
+use std::marker::Model;
+use std::mem;
+
+/// The runs of levels 1 to 4. Contracts see the list of them, and how many levels have frames for all their pages.
+#[derive(Drop)]
+pub struct Levels<A: Allocator> {
+    plan: Plan,
+    pinned: u8,
+    first: Run<A>,
+    second: Run<A>,
+    third: Run<A>,
+    fourth: Run<A>,
+}
+
+impl<A: Allocator> Model for Levels<A> {
+    ghost use Rattle.std.specs.Prelude.{[], ◌∷◌};
+    ghost use Rattle.pk_level.specs.Levels as spec;
+    ghost use Rattle.pk_level.specs.Levels.{IsLevels};
+
+    ghost Value = { spec.Levels };
+
+    ghost view = { λ l. record { shape = l.plan; pinned = l.pinned; runs = l.first ∷ l.second ∷ l.third ∷ l.fourth ∷ [] } };
+
+    ghost invariant = { λ l. IsLevels (record { shape = l.plan; pinned = l.pinned; runs = l.first ∷ l.second ∷ l.third ∷ l.fourth ∷ [] }) };
+}
+
+impl<A: Allocator + Clone> Levels<A> {
+    /// Four runs without entries, for an arena of so many frames. All memory of the runs is taken here.
+    pub fn new(alloc: A, plan: Plan, frames: u32) -> Result<Levels<A>, AllocError>
+        ensures empty { IfOk result (λ l. l ≡ no_runs plan (pinned_by plan frames)) }
+        ensures stands { IfOk result (λ l. (flash : Flash) (arena : Frames) → StandEach flash arena l.runs ([] ∷ [] ∷ [] ∷ [] ∷ [])) }
+    {
+        let shape = plan.shape();
+        let first = Run::new(alloc.clone()?, shape, 1)?;
+        let second = Run::new(alloc.clone()?, shape, 2)?;
+        let third = Run::new(alloc.clone()?, shape, 3)?;
+        let fourth = Run::new(alloc, shape, 4)?;
+        Ok(Levels {
+            plan,
+            pinned: plan.pinned(frames),
+            first,
+            second,
+            third,
+            fourth,
+        })
+    }
+}
+
+impl<A: Allocator> Levels<A> {
+    /// All levels keep this. No look-up reads more often than there are levels without frames.
+    pub fn known(&self)
+        ensures levels { IsLevels self.now }
+        ensures few { reads_through self.now.runs + self.now.pinned ≤ 4 }
+    {
+        let _ = &self.first;
+    }
+
+    /// How many levels have frames for all their pages: the upper ones.
+    pub fn pinned(&self) -> u8
+        ensures { result ≡ self.now.pinned }
+    {
+        self.pinned
+    }
+
+    // The run at this place among the four.
+    fn at(&self, place: u8) -> &Run<A>
+        requires { place < 4 }
+        ensures { slice_get self.now.runs place ≡ Some result.now }
+    {
+        match place {
+            0 => &self.first,
+            1 => &self.second,
+            2 => &self.third,
+            _ => &self.fourth,
+        }
+    }
+
+    /// The run of a level, 1 to 4.
+    pub fn run(&self, level: u8) -> &Run<A>
+        requires { 1 ≤ level × level ≤ 4 }
+        ensures run { result.now ≡ run_of self.now level }
+        ensures of_level { IsOfLevel self.now.shape self.now.pinned level result.now }
+    {
+        self.known();
+        self.at(level - 1)
+    }
+
+    /// How many entries the run of a level has, 1 to 4.
+    pub fn entries(&self, level: u8) -> u32
+        requires { 1 ≤ level × level ≤ 4 }
+        ensures { result ≡ (run_of self.now level).count }
+    {
+        self.run(level).entries()
+    }
+
+    /// Puts a run in place of the one of its level, which is handed back. All its pages have frames where those of the level have.
+    pub fn install_run(&mut self, level: u8, run: Run<A>) -> Run<A>
+        requires level { 1 ≤ level × level ≤ 4 }
+        requires of_level { IsOfLevel self.old.shape self.old.pinned level run }
+        ensures installed { self.new ≡ with_run self.old level run }
+        ensures former { result ≡ run_of self.old level }
+    {
+        match level {
+            1 => mem::replace(&mut self.first, run),
+            2 => mem::replace(&mut self.second, run),
+            3 => mem::replace(&mut self.third, run),
+            _ => mem::replace(&mut self.fourth, run),
+        }
+    }
+
+    /// The entry of the key in the first run that has one. Each run is read at most once, and not at all where it has no pages or
+    /// they have frames. `Reading` where a read fails; else nothing fails. `buf` has a page's bytes, which are lost.
+    pub fn lookup<B: Nand>(
+        &self,
+        board: &mut B,
+        arena: &PinArena<A>,
+        key: &Key,
+        buf: &mut [u8],
+    ) -> Result<Option<Entry>, Fault>
+        requires ready { IsReady (B.state board.old) self.now.shape }
+        requires stand { (ess : List (List EntrySpec)) × StandEach (B.state board.old).pages arena.now self.now.runs ess }
+        requires room { length buf.old ≡ self.now.shape.page_bytes }
+        ensures found { IfOk result (λ found. (ess : List (List EntrySpec)) → StandEach (B.state board.old).pages arena.now self.now.runs ess → IsFound key.now (all_entries ess) found) }
+        ensures reads { OnOk result (ReadsUpTo (reads_through self.now.runs) (B.state board.old) (B.state board.new)) }
+        ensures reading { IfErr result (λ fault. fault ≡ Reading) }
+        ensures err { OnErr result (ReadFailsWithin (reads_through self.now.runs) (B.state board.old) (B.state board.new)) }
+        ensures same { (B.state board.new).pages ≡ (B.state board.old).pages }
+        ensures ready { IsReady (B.state board.new) self.now.shape }
+    {
+        self.known();
+        for place in 0..4u8 {
+            match self.at(place).find(board, arena, key, buf) {
+                Ok(Some(entry)) => return Ok(Some(entry)),
+                Ok(None) => {}
+                Err(fault) => return Err(fault),
+            }
+        }
+        Ok(None)
+    }
+}

@@ -1,0 +1,72 @@
+-- A run that stands while others change pages and frames that are none of its own.
+use Rattle.std.proofs.Common.{◌≡◌, ◌≢◌, ◌⊎◌, inl, inr, ℕ, zero, suc, ◌+◌, ◌<◌, ◌≤◌, Bool, true, false, cond, List, [], ◌∷◌, length, slice_get, set, refl, ap, sym, subst, ◌∙◌, arith, Some, get_or-set_other}
+use Rattle.std.specs.Prelude.{◌==◌}
+use Rattle.std.proofs.lemmas.Bool.{cases_eq}
+use Rattle.std.proofs.lemmas.Bool.Decides.{eqb_tells}
+use Rattle.pk_base.specs.Entry.{Entry}
+use Rattle.pk_base.specs.Page.{Flash, page_at}
+use Rattle.pk_pin.specs.Frames.{Frames, IsLeased, frame_of, leased, given, filled, times}
+use Rattle.pk_run.specs.Kept.{Kept, Stands, page_of}
+use Rattle.pk_run.specs.Laws.{StandsOutside, FrameTaken, FrameFilled, FrameGiven}
+use Rattle.pk_run.proofs.Standing.{Stands-elsewhere}
+
+pub Stands-outside : StandsOutside
+Stands-outside r old new arena es first count same apart s =
+    Stands-elsewhere r old new arena arena es (λ j h. elim (apart j h) [ inl below ↦ same.below (page_of r j) below | inr above ↦ same.above (page_of r j) above ]) (λ j lease got is. (is, refl)) s
+
+set_other : (us : List Bool) (i l : ℕ) (b : Bool) → i ≢ l → slice_get (set us l b) i ≡ slice_get us i
+set_other [] i l b ne = refl
+set_other (u ∷ us) zero zero b ne = absurd (ne refl)
+set_other (u ∷ us) zero (suc l) b ne = refl
+set_other (u ∷ us) (suc i) zero b ne = refl
+set_other (u ∷ us) (suc i) (suc l) b ne = set_other us i l b (λ e. ne (ap suc e))
+
+itself : (l : ℕ) → (l == l) ≡ true
+itself l = elim (eqb_tells l l) [
+  | inl e ↦ e.0
+  | inr ne ↦ absurd (ne.1 refl)
+]
+
+-- a frame of the run stands among its leases
+among : (ls : List ℕ) (j l : ℕ) → slice_get ls j ≡ Some l → times l ls ≡ 0 → ⊥
+among [] j l got none = cc
+among (x ∷ ls) zero l got none =
+    let same : x ≡ l = cc in
+    let here : times l (l ∷ ls) ≡ 0 = subst (λ (y : ℕ). times l (y ∷ ls) ≡ 0) same none in
+    let more : times l (l ∷ ls) ≡ suc (times l ls) = rw (itself l) refl in
+    absurd (omega (arith, here, more))
+among (x ∷ ls) (suc j) l got none =
+    elim (x == l) as (λ b. cond b (suc (times l ls)) (times l ls) ≡ 0 → ⊥) [
+      | true ↦ λ e. absurd (omega (arith, e))
+      | false ↦ λ e. among ls j l got e
+    ] none
+
+not_among : (ls : List ℕ) (l : ℕ) → ((j : ℕ) → slice_get ls j ≡ Some l → ⊥) → times l ls ≡ 0
+not_among [] l none = refl
+not_among (x ∷ ls) l none =
+    elim (eqb_tells x l) [
+      | inl e ↦ absurd (none 0 (ap Some e.1))
+      | inr ne ↦ rw ne.0 (not_among ls l (λ j got. none (suc j) got))
+    ]
+
+free_or_leased : (us : List Bool) (l : ℕ) → slice_get us l ≡ Some false → slice_get us l ≡ Some true → ⊥
+free_or_leased us l free is = cc
+
+apart_from : (ls : List ℕ) (j lease l : ℕ) → slice_get ls j ≡ Some lease → times l ls ≡ 0 → lease ≢ l
+apart_from ls j lease l got none same = among ls j l (got ∙ ap Some same) none
+
+pub Stands-taken : FrameTaken
+Stands-taken r flash arena es lease free s =
+    let own : (j l : ℕ) → slice_get r.leases j ≡ Some l → l ≢ lease =
+    λ j l got same. free_or_leased arena.used lease free (subst (λ (k : ℕ). slice_get arena.used k ≡ Some true) same (s.frames j l got).leased) in (
+      Stands-elsewhere r flash flash arena (leased arena lease) es (λ j h. refl) (λ j l got is. (set_other arena.used l lease true (own j l got) ∙ is, refl)) s,
+      not_among r.leases lease (λ j got. own j lease got refl),
+    )
+
+pub Stands-filled : FrameFilled
+Stands-filled r flash arena es lease bytes none s =
+    Stands-elsewhere r flash flash arena (filled arena lease bytes) es (λ j h. refl) (λ j l got is. (is, get_or-set_other arena.frames lease l bytes [] (apart_from r.leases j l lease got none))) s
+
+pub Stands-given : FrameGiven
+Stands-given r flash arena es lease none s =
+    Stands-elsewhere r flash flash arena (given arena lease) es (λ j h. refl) (λ j l got is. (set_other arena.used l lease false (apart_from r.leases j l lease got none) ∙ is, refl)) s
