@@ -1,6 +1,5 @@
-use Rattle.std.proofs.Common.{◌≡◌, [], ◌∷◌, ◌++◌, sym, subst}
+use Rattle.std.proofs.Common.{[], sym, subst}
 use Rattle.pk_live.specs.Values.{Values}
-use Rattle.pk_scan.specs.Places.{place}
 use Rattle.pk_scan.specs.Lives.{Lives}
 use Rattle.pk_scan.proofs.tests.accept_both.Goals as goal
 

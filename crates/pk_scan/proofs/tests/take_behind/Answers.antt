@@ -1,4 +1,4 @@
-use Rattle.std.proofs.Common.{◌≡◌, [], ◌∷◌, sym, subst}
+use Rattle.std.proofs.Common.{[], ◌∷◌, sym, subst}
 use Rattle.pk_live.specs.Values.{Values}
 use Rattle.pk_scan.specs.Lives.{Lives}
 use Rattle.pk_scan.proofs.tests.take_behind.Goals as goal
