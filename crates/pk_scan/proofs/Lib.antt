@@ -7,3 +7,4 @@ pub mod Standing
 pub mod Taking
 pub mod Accepting
 pub mod Nothing
+pub mod StillLives
