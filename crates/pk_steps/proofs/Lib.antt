@@ -1,6 +1,6 @@
-mod Untouched
-mod Places
-mod Storing
-mod Counting
-mod Committing
-mod Freezing
+pub mod Untouched
+pub mod Places
+pub mod Storing
+pub mod Counting
+pub mod Committing
+pub mod Freezing
