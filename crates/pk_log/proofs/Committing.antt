@@ -1,12 +1,7 @@
 -- What a commit leaves of a log and of a flash, cut or not.
-use Rattle.std.proofs.Common.{◌≡◌, ◌≢◌, ◌⊎◌, inl, inr, ℕ, zero, suc, ◌+◌, ◌*◌, ◌<◌, ◌≤◌, refl, sym, ap, subst, ◌∙◌, arith, true, T, List, [], ◌∷◌, ◌++◌, length, reverse, Some, Ok, append-nil}
-use Rattle.std.specs.List.{AllByRecursion}
-use Rattle.pk_base.specs.declared.entry.Entry.{Entry as RustEntry}
-use Rattle.pk_base.specs.Seen.{entry as seen, entries as seen_all}
-use Rattle.pk_base.specs.EntryBytes.{IsEntry}
-use Rattle.pk_base.specs.Shape.{Shape, IsShape, buffer, epoch_pages, page_entries}
+use Rattle.std.proofs.Common.{◌≡◌, ◌≢◌, inl, inr, ℕ, ◌+◌, ◌<◌, ◌≤◌, refl, sym, ap, subst, ◌∙◌, arith, List, [], ◌++◌, length, Some, Ok, append-nil}
+use Rattle.pk_base.specs.Shape.{Shape, buffer, epoch_pages}
 use Rattle.pk_base.specs.Page.{Page, Flash, page_at, erased, whole, page_in}
-use Rattle.pk_base.specs.Entry.{Entry}
 use Rattle.pk_base.specs.Firsts.{firsts}
 use Rattle.pk_base.specs.Map.{Map}
 use Rattle.pk_base.specs.Mark.{program, after}
@@ -23,14 +18,14 @@ use Rattle.pk_rootfmt.specs.Root.{Root}
 use Rattle.pk_rootfmt.specs.Newest.{newest_root}
 use Rattle.pk_root.proofs.Places.{Fits-by_same}
 use Rattle.pk_buf.specs.Table.{Table}
-use Rattle.pk_jrn.specs.Epochs.{JournalEpoch, AllExist, AreBlocks, Fits as EpochFits, Reads, left_of, next_page}
-use Rattle.pk_jrn.specs.Appends.{next_bytes, AddsAll}
+use Rattle.pk_jrn.specs.Epochs.{JournalEpoch, Fits as EpochFits, Reads, left_of, next_page}
+use Rattle.pk_jrn.specs.Appends.{AddsAll}
 use Rattle.pk_jrn.specs.Replays.{buffer_of}
 use Rattle.pk_jrn.proofs.Places.{page_exists}
 use Rattle.pk_jrn.proofs.Appending.{takes_more, page_left}
 use Rattle.pk_jrn.proofs.Puts.{firsts-reverse}
-use Rattle.pk_model.specs.Found.{Found, newest_epoch, found_under}
-use Rattle.pk_model.specs.Laws.{IsWholePage, IsCommit, IsStorable}
+use Rattle.pk_model.specs.Found.{Found, newest_epoch}
+use Rattle.pk_model.specs.Laws.{IsWholePage, IsCommit}
 use Rattle.pk_model.proofs.Commits.{Blocks, valid_blocks, behind_roots, roots_stay, under}
 use Rattle.pk_steps.specs.Under.{IsUnder}
 use Rattle.pk_steps.specs.Roots.{committed}
@@ -38,7 +33,7 @@ use Rattle.pk_steps.proofs.Committing.{commits, commit_done}
 use Rattle.pk_drive.specs.Growth.{Grows, Reaches, Goes}
 use Rattle.pk_log.specs.State.{LogState, all_committed}
 use Rattle.pk_log.specs.Logs.{Logs}
-use Rattle.pk_log.specs.Commits.{CommitsNone, CommitStands, CommitCut, Maps, CommitHolds, CommitReaches, CommitGoes}
+use Rattle.pk_log.specs.Commits.{CommitStands, CommitCut, CommitHolds, CommitReaches}
 use Rattle.pk_log.proofs.Going.{Reaches-program, Goes-program_failed}
 use Rattle.pk_log.proofs.Standing.{blocks_are, valid_root, newest_found}
 

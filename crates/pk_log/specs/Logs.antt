@@ -1,5 +1,5 @@
 -- How a log stands to a flash.
-use Rattle.std.specs.Prelude.{◌≡◌, ◌≢◌, ℕ, ◌<◌, ◌≤◌, List, [], ◌++◌, length, Some, Ok}
+use Rattle.std.specs.Prelude.{◌≡◌, ◌≢◌, ℕ, ◌<◌, ◌≤◌, [], ◌++◌, length, Some, Ok}
 use Rattle.std.specs.List.{AllByRecursion}
 use Rattle.pk_base.specs.Shape.{IsShape, page_entries}
 use Rattle.pk_base.specs.Page.{Flash, page_at}

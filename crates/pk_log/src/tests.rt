@@ -20,12 +20,11 @@ fn known(bytes: &[u8])
 }
 
 // Adds an entry that deletes the key, unless that needs a freeze or a commit before it.
-fn delete<A: Region>(log: &mut Log<A>, shape: &Shape, bytes: &[u8]) -> bool
-    requires shape { shape.now ≡ log.old.shape }
+fn delete<A: Region>(log: &mut Log<A>, bytes: &[u8]) -> bool
     requires key { IsKey bytes.now }
 {
     let key = Key::of(bytes);
-    if log.pending() >= shape.entries() || log.needs_freeze(&key) {
+    if log.pending() >= log.root().shape().entries() || log.needs_freeze(&key) {
         return false;
     }
     known(bytes);
@@ -45,7 +44,7 @@ fn fills(rt: HostRuntime) -> Result<(), Fail> {
     let mut log = Log::new(&heap, root, 0, epoch, active, frozen)?;
     let used = heap.used();
     for i in 0..20u8 {
-        let done = delete(&mut log, &shape, &[i]);
+        let done = delete(&mut log, &[i]);
         assert_eq!(rt; done, i < 15);
     }
     assert_eq!(rt; log.pending(), 15);
