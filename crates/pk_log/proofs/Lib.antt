@@ -1,0 +1,4 @@
+pub mod Going
+pub mod Standing
+pub mod Pushing
+pub mod Committing

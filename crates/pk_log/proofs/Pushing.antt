@@ -1,0 +1,88 @@
+-- One more entry that waits for a commit.
+use Rattle.std.proofs.Common.{◌≡◌, ◌≢◌, ℕ, zero, suc, ◌+◌, ◌<◌, ◌≤◌, refl, ap, ◌∙◌, arith, Bool, true, false, ◌&&◌, ◌||◌, ◌==◌, List, [], ◌∷◌, ◌++◌, reverse, length, append_assoc}
+use Rattle.std.specs.List.{AllByRecursion}
+use Rattle.std.specs.FinMap.Entries.{put}
+use Rattle.pk_base.specs.Key.{key_cmp}
+use Rattle.pk_base.specs.Shape.{buffer, page_entries}
+use Rattle.pk_base.specs.Page.{Flash}
+use Rattle.pk_base.specs.Entry.{Entry, key_of}
+use Rattle.pk_base.specs.Firsts.{firsts}
+use Rattle.pk_base.specs.Seen.{entry as seen, entries as seen_all}
+use Rattle.pk_base.specs.declared.entry.Entry.{Entry as RustEntry}
+use Rattle.pk_rootfmt.specs.Root.{Root}
+use Rattle.pk_buf.specs.Table.{Table}
+use Rattle.pk_jrn.specs.Epochs.{left_of}
+use Rattle.pk_jrn.proofs.Puts.{puts_are_firsts, firsts-reverse}
+use Rattle.pk_model.specs.Found.{Found}
+use Rattle.pk_model.specs.Laws.{IsStorable}
+use Rattle.pk_log.specs.State.{LogState, is_full_for, needs_freeze, pushed}
+use Rattle.pk_log.specs.Logs.{Logs}
+
+-- ---- what is left
+
+-- where no freeze is wanted and nothing is pending, the epoch has a page left
+left_some : (left : ℕ) (full : Bool) → (full || ((0 == 0) && (left == 0))) ≡ false → 0 < left
+left_some zero true e = cc
+left_some zero false e = cc
+left_some (suc n) full e = omega arith
+
+left_for_first : (es : List Entry) (left : ℕ) (full : Bool) → (full || ((length es == 0) && (left == 0))) ≡ false → (es ≢ [] → 0 < left) → 0 < left
+left_for_first [] left full e before = left_some left full e
+left_for_first (x ∷ es) left full e before = before (λ is. cc)
+
+-- ---- lists with one more element
+
+pub seen_push : (es : List RustEntry) (e : RustEntry) → seen_all (es ++ e ∷ []) ≡ seen_all es ++ seen e ∷ []
+seen_push [] e = refl
+seen_push (x ∷ es) e = ap (λ xs. seen x ∷ xs) (seen_push es e)
+
+pub some_seen : (es : List RustEntry) → 0 < length es → seen_all es ≢ []
+some_seen [] some e = absurd (omega (arith, some))
+some_seen (x ∷ es) some e = cc
+
+pub none_seen : (es : List RustEntry) → length es ≡ 0 → seen_all es ≡ []
+none_seen [] none = refl
+none_seen (x ∷ es) none = absurd (omega (arith, none))
+
+length-push : (es : List Entry) (e : Entry) → length (es ++ e ∷ []) ≡ length es + 1
+length-push [] e = refl
+length-push (x ∷ es) e = let more = length-push es e in omega (arith, more)
+
+all_push : (P : Entry → Type 0) (es : List Entry) (e : Entry) → AllByRecursion P es → P e → AllByRecursion P (es ++ e ∷ [])
+all_push P [] e all is = (is, tt)
+all_push P (x ∷ es) e all is = (all.0, all_push P es e all.1 is)
+
+-- ---- the log
+
+module _ (log : LogState) (e : Entry) (flash : Flash) (top : ℕ × Root) (found : Found) (logs : Logs log flash top found) where
+  -- the entries of the buffer
+  entries_are : put key_cmp (key_of e) e.1 log.active.entries ≡ firsts (reverse (found.newest ++ (log.pending ++ e ∷ [])))
+  entries_are =
+      ap (λ (t : Table). put key_cmp e.0 e.1 t.entries) logs.active_is
+      ∙ puts_are_firsts (found.newest ++ log.pending) (e ∷ [])
+      ∙ ap (λ es. firsts (reverse es)) (append_assoc found.newest log.pending (e ∷ []))
+
+  -- the keys of the epoch with the entry
+  pub keys_fit : length (put key_cmp (key_of e) e.1 log.active.entries) ≤ log.active.capacity → length (firsts (found.newest ++ (log.pending ++ e ∷ []))) ≤ buffer log.shape
+  keys_fit bound =
+      let capacity : log.active.capacity ≡ buffer log.shape = ap (λ (t : Table). t.capacity) logs.active_is in
+      let same : length (put key_cmp (key_of e) e.1 log.active.entries) ≡ length (firsts (found.newest ++ (log.pending ++ e ∷ []))) = ap length entries_are ∙ firsts-reverse (found.newest ++ (log.pending ++ e ∷ [])) in
+      omega (arith, bound, capacity, same)
+
+  pub stands_pushed : needs_freeze log (key_of e) ≡ false → length log.pending < page_entries log.shape → IsStorable log.shape e → Logs (pushed log e) flash top found
+  stands_pushed no_freeze few storable = record {
+    is_shape = logs.is_shape;
+    is_top = logs.is_top;
+    root_is = logs.root_is;
+    is_found = logs.is_found;
+    installs = logs.installs;
+    epoch_shape = logs.epoch_shape;
+    epoch_number = logs.epoch_number;
+    epoch_blocks = logs.epoch_blocks;
+    epoch_fits = logs.epoch_fits;
+    active_is = λ i. record { capacity = (logs.active_is i).capacity; entries = entries_are i };
+    frozen_is = logs.frozen_is;
+    pending_are = all_push (IsStorable log.shape) log.pending e logs.pending_are storable;
+    pending_few = let more = length-push log.pending e in omega (arith, few, more);
+    pending_room = λ some. left_for_first log.pending (left_of log.epoch) (is_full_for log.active (key_of e)) no_freeze logs.pending_room;
+  }

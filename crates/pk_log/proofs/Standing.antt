@@ -1,0 +1,166 @@
+-- A log and the flash that it stands on.
+use Rattle.std.proofs.Common.{◌≡◌, inl, inr, ℕ, ◌+◌, ◌-◌, ◌*◌, ◌/◌, ◌<◌, ◌≤◌, refl, sym, ap, subst, ◌∙◌, arith, Bool, true, false, ◌&&◌, ◌||◌, T, List, ◌++◌, length, nat_le, nat_lt, slice_index, ◌==◌, Some, Result, Ok, append-nil}
+use Rattle.std.specs.List.{list_all, concat}
+use Rattle.std.proofs.lemmas.Nat.{div-mul-add}
+use Rattle.std.proofs.lemmas.Bool.{ltb-true}
+use Rattle.pk_base.specs.Shape.{Shape, IsShape}
+use Rattle.pk_base.specs.Page.{Page, Flash, page_at, page_in}
+use Rattle.pk_base.specs.Refusal.{Refusal}
+use Rattle.pk_base.proofs.ShapeLemmas.{block_pages_positive}
+use Rattle.pk_rootfmt.specs.Root.{Root, named, is_root, is_number, has_runs, differ}
+use Rattle.pk_rootfmt.specs.Held.{Held}
+use Rattle.pk_rootfmt.specs.Newest.{newest_root}
+use Rattle.pk_root.proofs.Places.{Fits-after, Fits-by_same}
+use Rattle.pk_buf.specs.Table.{Table}
+use Rattle.pk_jrn.specs.Epochs.{JournalEpoch, AreBlocks}
+use Rattle.pk_jrn.specs.Laws.{SameBlocks}
+use Rattle.pk_jrn.specs.Replays.{buffer_of}
+use Rattle.pk_jrn.proofs.Places.{Fits-same}
+use Rattle.pk_model.specs.Found.{Found, older_epoch, newest_epoch, runs_from, found_under}
+use Rattle.pk_model.specs.Laws.{AnyByRecursion}
+use Rattle.pk_model.proofs.Roots.{newest_sound}
+use Rattle.pk_model.proofs.StrangePages.{bind_ok}
+use Rattle.pk_model.proofs.SamePages.{newest_root_same, found_same, in_some_block, agree_runs, any_front, any_back, any_in_concat}
+use Rattle.pk_model.proofs.Commits.{right_part, all_at, all_front, root_valid, blocks_of_root, differ_front, injective, member}
+use Rattle.pk_log.specs.State.{LogState, opened}
+use Rattle.pk_log.specs.Logs.{Logs, Opens}
+use Rattle.pk_log.specs.Laws.{SameNamed, LogsElsewhere}
+
+-- ---- the blocks of a newest epoch
+
+all_of_root : (a b c d e f g h : Bool) → T (a && b && c && d && e && f && g && h) → T g
+all_of_root true true true true true true true true is = tt
+all_of_root false b c d e f g h is = absurd is
+all_of_root true false c d e f g h is = absurd is
+all_of_root true true false d e f g h is = absurd is
+all_of_root true true true false e f g h is = absurd is
+all_of_root true true true true false f g h is = absurd is
+all_of_root true true true true true false g h is = absurd is
+all_of_root true true true true true true false h is = absurd is
+all_of_root true true true true true true true false is = absurd is
+
+is_true : (b : Bool) → T b → b ≡ true
+is_true true t = refl
+is_true false t = absurd t
+
+-- they are two different blocks of the flash
+pub blocks_are : (shape : Shape) (root : Root) → T (is_root shape root) → AreBlocks shape root.newest
+blocks_are shape root is =
+    let in_flash : ℕ → Bool = λ b. nat_le 2 b && nat_lt b shape.blocks in
+    let blocks = blocks_of_root shape root is in
+    let two : length root.newest ≡ 2 = blocks.two in
+    let every : T (list_all in_flash (named root)) = all_of_root (is_number root.number) (nat_le 1 root.epoch) (nat_le root.epoch root.number) (length root.newest == 2) (length root.older == 0 || (length root.older == 2 && nat_le 2 root.epoch))
+    (has_runs shape root) (list_all in_flash (named root)) (differ (named root)) is in
+    let newest : T (list_all in_flash root.newest) = all_front in_flash root.newest root.older (all_front in_flash (root.newest ++ root.older) (concat root.runs) every) in
+    let distinct : T (differ root.newest) = differ_front root.newest root.older (differ_front (root.newest ++ root.older) (concat root.runs) blocks.different) in
+    record {
+      exist = λ n small. ltb-true (slice_index root.newest n) shape.blocks (is_true (nat_lt (slice_index root.newest n) shape.blocks) (right_part (nat_le 2 (slice_index root.newest n)) (nat_lt (slice_index root.newest n) shape.blocks)
+          (all_at in_flash root.newest n newest (omega (arith, small, two)))));
+      different = λ same. let clash : 0 ≡ 1 = injective root.newest 0 1 distinct (omega (arith, two)) (omega (arith, two)) same in omega (arith, clash);
+    }
+
+pub valid_root : (shape : Shape) (at : ℕ → Page) (top : ℕ × Root) → newest_root shape at ≡ Some top → T (is_root shape top.1)
+valid_root shape at top is_top = root_valid shape (at top.0) top.1 (newest_sound shape at top is_top).there
+
+-- the blocks of the epoch that a log writes
+pub epoch_blocks_are : (log : LogState) (flash : Flash) (top : ℕ × Root) (found : Found) → Logs log flash top found → AreBlocks log.epoch.shape log.epoch.blocks
+epoch_blocks_are log flash top found logs =
+    let there : AreBlocks log.shape top.1.newest = blocks_are log.shape top.1 (valid_root log.shape (page_at flash) top logs.is_top) in
+    subst (λ (s : Shape). AreBlocks s log.epoch.blocks) (sym logs.epoch_shape) (subst (λ (bs : List ℕ). AreBlocks log.shape bs) (sym logs.epoch_blocks) there)
+
+-- ---- the entries of the newest epoch
+
+pub newest_found : (shape : Shape) (at : ℕ → Page) (root : Root) (found : Found) → found_under shape at root ≡ Ok found → newest_epoch shape at root ≡ Ok found.newest
+unfolding found_under
+newest_found shape at root found is =
+    let first = bind_ok (older_epoch shape at root) _ found is in
+    let second = bind_ok (newest_epoch shape at root) _ found first.2 in
+    let third = bind_ok (runs_from shape at 1 root.counts root.runs) _ found second.2 in
+    second.1 ∙ (λ i. Ok (same_newest _ _ third.2 i))
+  where
+    same_newest : (x y : Found) → ◌≡◌ {A = Result Found Refusal} (Ok x) (Ok y) → x.newest ≡ y.newest
+    same_newest x y e = let s : x ≡ y = cc in ap (λ (f : Found). f.newest) s
+
+-- ---- at opening
+
+pub opens : (held : Held) (page : ℕ) (epoch : JournalEpoch) (active frozen : Table) (flash : Flash) (found : Found) → IsShape held.shape
+    → Opens held page epoch active frozen flash found → Logs (opened held page epoch active frozen) flash (page, held.root) found
+opens held page epoch active frozen flash found is_shape is = record {
+  is_shape = is_shape;
+  is_top = is.is_top;
+  root_is = refl;
+  is_found = is.is_found;
+  installs = Fits-after held.shape flash page held.root is.is_top;
+  epoch_shape = is.epoch_shape;
+  epoch_number = is.epoch_number;
+  epoch_blocks = is.epoch_blocks;
+  epoch_fits = is.epoch_fits;
+  active_is = is.active_is ∙ ap (buffer_of held.shape) (sym (append-nil found.newest));
+  frozen_is = is.frozen_is;
+  pending_are = tt;
+  pending_few = omega arith;
+  pending_room = λ some. absurd (some refl);
+}
+
+-- ---- changes elsewhere
+
+module _ (log : LogState) (old new : Flash) (top : ℕ × Root) (found : Found) (same : SameNamed log.shape top.1 old new) (logs : Logs log old top found) where
+  abbrev shape : Shape
+  shape = log.shape
+
+  abbrev root : Root
+  root = top.1
+
+  positive : 0 < shape.block_pages
+  positive = block_pages_positive shape logs.is_shape
+
+  -- pages of blocks that the root names
+  named_same : (blocks : List ℕ) → ((P : ℕ → Type 0) → AnyByRecursion P blocks → AnyByRecursion P (named root)) → (j : ℕ) → page_at new (page_in shape blocks j) ≡ page_at old (page_in shape blocks j)
+  named_same blocks within j = same (page_in shape blocks j) (elim (in_some_block shape positive blocks j) [ inl low ↦ inl low | inr is ↦ inr (within _ is) ])
+
+  newest_within : (P : ℕ → Type 0) → AnyByRecursion P root.newest → AnyByRecursion P (named root)
+  newest_within P is = any_front P (root.newest ++ root.older) (concat root.runs) (any_front P root.newest root.older is)
+
+  lists_same : found_under shape (page_at new) root ≡ found_under shape (page_at old) root
+  lists_same = found_same shape (page_at old) (page_at new) root
+      (λ j low. named_same root.newest newest_within j)
+      (λ j low. named_same root.older (λ P is. any_front P (root.newest ++ root.older) (concat root.runs) (any_back P root.newest root.older is)) j)
+      (agree_runs shape (page_at old) (page_at new) root.counts root.runs (λ blocks among. named_same blocks (λ P is. any_back P (root.newest ++ root.older) (concat root.runs) (any_in_concat P blocks root.runs among is))))
+
+  -- a page of a block of the newest epoch
+  in_epoch : (n k : ℕ) → n < 2 → slice_index root.newest n * shape.block_pages ≤ k → k < slice_index root.newest n * shape.block_pages + shape.block_pages → page_at new k ≡ page_at old k
+  in_epoch n k small low high =
+      let blocks = blocks_of_root shape root (valid_root shape (page_at old) top logs.is_top) in
+      let two : length root.newest ≡ 2 = blocks.two in
+      let b : ℕ = slice_index root.newest n in
+      let rest : k - b * shape.block_pages < shape.block_pages = omega (arith, low, high) in
+      let all : b * shape.block_pages + (k - b * shape.block_pages) ≡ k = omega (arith, low) in
+      let here : k / shape.block_pages ≡ b = ap (λ x. x / shape.block_pages) (sym all) ∙ div-mul-add b shape.block_pages (k - b * shape.block_pages) rest in
+      same k (inr (newest_within (λ x. k / shape.block_pages ≡ x) (subst (λ (y : ℕ). AnyByRecursion (λ x. y ≡ x) root.newest) (sym here) (member root.newest n (omega (arith, small, two))))))
+
+  blocks_same : SameBlocks log.epoch.shape log.epoch.blocks old new
+  blocks_same =
+      let P : Shape → List ℕ → Type 0 = λ s bs. SameBlocks s bs old new in
+      let there : P shape root.newest = λ n small k low high. in_epoch n k small low high in
+      subst (λ s. P s log.epoch.blocks) (sym logs.epoch_shape) (subst (λ bs. P shape bs) (sym logs.epoch_blocks) there)
+
+  stays : Logs log new top found
+  stays = record {
+    is_shape = logs.is_shape;
+    is_top = newest_root_same shape (page_at old) (page_at new) (λ k low. same k (inl low)) ∙ logs.is_top;
+    root_is = logs.root_is;
+    is_found = lists_same ∙ logs.is_found;
+    installs = Fits-by_same shape log.next top old new (λ k low. same k (inl low)) logs.installs;
+    epoch_shape = logs.epoch_shape;
+    epoch_number = logs.epoch_number;
+    epoch_blocks = logs.epoch_blocks;
+    epoch_fits = Fits-same log.epoch old new blocks_same logs.epoch_fits;
+    active_is = logs.active_is;
+    frozen_is = logs.frozen_is;
+    pending_are = logs.pending_are;
+    pending_few = logs.pending_few;
+    pending_room = logs.pending_room;
+  }
+
+pub logs_elsewhere : LogsElsewhere
+logs_elsewhere log old new top found same logs = stays log old new top found same logs

@@ -1,0 +1,19 @@
+use Rattle.std.proofs.Common.{subst, sym}
+use Rattle.pk_model.specs.Laws.{IsStorable}
+use Rattle.pk_log.specs.State.{LogState}
+use Rattle.pk_base.specs.Seen.{entry as seen}
+use Rattle.pk_log.proofs.Pushing.{seen_push, keys_fit, stands_pushed}
+use Rattle.pk_log.proofs.log.Log.push.Goals as goal
+
+pub returns-clause-stands : goal.returns-clause-stands
+returns-clause-stands g c flash top found logs =
+    let l = rw (← c.self.view_is) at logs in
+    let r = rw (← c.self.view_is) at c.requires in
+    let storable = subst (λ (x : LogState). IsStorable x.shape (seen c.args.new)) (sym c.self.view_is) c.requires.storable in
+    rw (c.put.ensures, c.copy.ensures, c.push_reserved.ensures.items, seen_push c.self.inside.pending.items c.args.new) (stands_pushed _ (seen c.args.new) flash top found l r.room r.few storable)
+
+pub returns-clause-fits : goal.returns-clause-fits
+returns-clause-fits g c flash top found logs =
+    let l = rw (← c.self.view_is) at logs in
+    let bound = rw (c.put.ensures, c.copy.ensures) at c.len-2.ensures.bound in
+    rw (← c.self.view_is) (keys_fit _ (seen c.args.new) flash top found l bound)

@@ -1,0 +1,4 @@
+pub mod State
+pub mod Logs
+pub mod Commits
+pub mod Laws
