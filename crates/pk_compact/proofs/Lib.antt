@@ -1,0 +1,6 @@
+pub mod Counts
+pub mod Running
+pub mod Taking
+pub mod Installing
+pub mod Grammar
+pub mod Frozen
