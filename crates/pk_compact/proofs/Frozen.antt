@@ -38,6 +38,7 @@ use Rattle.pk_compact.proofs.Counts.{works_then, stops_then}
 use Rattle.pk_compact.proofs.Running.{run_then, go_then}
 use Rattle.pk_compact.proofs.Taking.{spare_before, two_works, two_leave, two_front, two_reach, two_under, failed_stops, failed_goes}
 use Rattle.pk_compact.proofs.Grammar.{Known, known, next_is_root}
+use Rattle.pk_compact.proofs.Apart.{apart_after}
 use Rattle.pk_compact.proofs.Installing.{Finished, finish, finish_goes, works_all, stops_all, erased_behind}
 
 -- ---- lists and states
@@ -194,6 +195,12 @@ module _ (pool : Blocks) (root : Held) (next : Next) (has_entries : Bool) (old :
         let f = finish root.shape is_shape top found m t.first t.second two.first_least two.second_least may.none_older frozen_valid next mid new mid_ready mid_fits under first_erased second_erased next' (subst P frozen_is installed) in
         let U : Root → Type 0 = λ r. IsUnder root.shape new.pages [] (f.page, r) (frozen found) m in
         let V : Root → Type 0 = λ r. Fits root.shape next' (f.page, r) new.pages in
+        let pool_same : given_back (with_two pool t.first t.second) (if has_entries then [] else root.root.newest) ≡ pool'' = sym (given ∙ (ap (λ p. given_back p (if has_entries then [] else slice_index former 0 ∷ slice_index former 1 ∷ [])) t.pool_is
+        ∙ ap (λ bs. given_back (with_two pool t.first t.second) (if has_entries then [] else bs)) (ap (λ xs. slice_index xs 0 ∷ slice_index xs 1 ∷ []) (former_is former former_told) ∙ two_are root.root.newest grammar.two))) in
+        let W : Blocks → Type 0 = λ p. IsApart root.shape p (next_root root.root blocks has_entries) (frozen found) in
+        let X : List ℕ → Type 0 = λ bs. IsApart root.shape (given_back (with_two pool t.first t.second) (if has_entries then [] else root.root.newest)) (next_root root.root bs has_entries) (frozen found) in
+        let after : IsApart root.shape pool'' (next_root root.root blocks has_entries) (frozen found) = subst W pool_same (subst X (sym t.blocks_are)
+        (apart_after root.shape old.pages pool top found m root.root t.first t.second may.under may.top_is may.none_older may.apart t.first_spare t.second_spare may.none_named may.owned grammar.different has_entries)) in
         let former_newest : slice_index former 0 ∷ slice_index former 1 ∷ [] ≡ top.1.newest = ap (λ xs. slice_index xs 0 ∷ slice_index xs 1 ∷ []) (former_is former former_told) ∙ (two_are root.root.newest grammar.two ∙ ap (λ r. r.newest) (sym may.top_is)) in
         record {
           page = f.page;
@@ -209,6 +216,7 @@ module _ (pool : Blocks) (root : Held) (next : Next) (has_entries : Bool) (old :
           under = subst U (sym frozen_is) f.frozen_under;
           installs = subst V (sym frozen_is) f.installs;
           pool_is = given ∙ (ap (λ p. given_back p (if has_entries then [] else slice_index former 0 ∷ slice_index former 1 ∷ [])) t.pool_is ∙ ap (λ bs. given_back (with_two pool t.first t.second) (if has_entries then [] else bs)) former_newest);
+          apart = after;
           number = number_next root.shape old.pages new.pages top f.page (frozen_root top.1 found t.first t.second) may.under.is_top f.frozen_under.is_top refl;
           elsewhere = λ k high one other. same k high ∙ leave k one other;
           cuts = run_then root.shape m old mid new ready.shape_is reach f.reaches;

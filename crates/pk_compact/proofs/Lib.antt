@@ -3,4 +3,6 @@ pub mod Running
 pub mod Taking
 pub mod Installing
 pub mod Grammar
+pub mod Apart
 pub mod Frozen
+pub mod Examples

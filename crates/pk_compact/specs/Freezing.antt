@@ -63,7 +63,7 @@ pub record AreTwo (shape : Shape) (first second : ℕ) : Type 0 where
   pub different : second ≢ first
 
 -- The next root is the newest one: it names an empty epoch in two spare blocks, which are Erased, and the former epoch as the older one where
--- that has entries; else its blocks are free. The map is the same, wherever the freeze is cut.
+-- that has entries; else its blocks are free. The map is the same, wherever the freeze is cut, and no spare block is read then.
 pub record Froze (shape : Shape) (pool : Blocks) (old : BoardState) (has_entries : Bool) (top : ℕ × Root) (found : Found) (m : Map) (blocks : List ℕ) (pool' : Blocks) (root' : Root) (next' : Next) (new : BoardState) : Type 0 where
   pub page : ℕ
   pub first : ℕ
@@ -78,6 +78,7 @@ pub record Froze (shape : Shape) (pool : Blocks) (old : BoardState) (has_entries
   pub under : IsUnder shape new.pages [] (page, root') (frozen found) m
   pub installs : Fits shape next' (page, root') new.pages
   pub pool_is : pool' ≡ given_back (with_two pool first second) (if has_entries then [] else top.1.newest)
+  pub apart : IsApart shape pool' root' (frozen found)
   pub number : root_number shape new.pages ≡ root_number shape old.pages + 1
   pub elsewhere : SameElsewhere shape first second old.pages new.pages
   pub cuts : Reaches shape old new (TickCut shape m)

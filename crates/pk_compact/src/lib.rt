@@ -8,3 +8,6 @@ mod install;
 mod next;
 
 pub use epoch::freeze;
+
+#[cfg(test)]
+mod tests;
