@@ -1,0 +1,10 @@
+//! The drive: it executes commands, commits and makes background steps over the parts of the engine.
+//!
+//! Its map is the one that the flash holds with the pending entries. Wherever a command, a commit or a step is cut off, the
+//! flash holds what the contract of a drive says.
+#![tactic(auto)]
+
+mod lookup;
+mod place;
+
+pub use place::ValuePlace;
