@@ -18,13 +18,13 @@ use Rattle.pk_jrnfmt.specs.Page.{IsJournalPage, journal_entries}
 use Rattle.pk_jrnfmt.specs.Epoch.{journal, epoch}
 use Rattle.pk_jrnfmt.proofs.PageLemmas.{journal_held}
 use Rattle.pk_nand.specs.BoardState.{BoardState}
-use Rattle.pk_nand.specs.Calls.{IsReady, ReadFailed, after_read, filled}
+use Rattle.pk_nand.specs.Calls.{after_read, filled}
 use Rattle.pk_nand.specs.Erased.{after_reads}
 use Rattle.pk_nand.specs.Seen.{answer}
 use Rattle.pk_nand.specs.declared.types.PageRead.{PageRead}
 use Rattle.pk_nand.specs.declared.types.PageRead.TheVariants.{Erased as ReadErased, Whole as ReadWhole, Torn as ReadTorn}
-use Rattle.pk_jrn.specs.Epochs.{IsWhole, Fits, found_at_opening}
-use Rattle.pk_jrn.specs.Replays.{puts, PutOrFull, PutsOrFull, TakesPage, buffer_of, Replayed, after_replay, ReplayRefused, ReplayFailed}
+use Rattle.pk_jrn.specs.Epochs.{IsWhole}
+use Rattle.pk_jrn.specs.Replays.{puts, PutOrFull, PutsOrFull, TakesPage, buffer_of, Replayed, after_replay, ReplayRefused}
 use Rattle.pk_jrn.proofs.Puts.{puts-snoc, puts_are_firsts, puts_too_many, firsts-reverse}
 use Rattle.pk_jrn.proofs.Journals.{IsNotWhole, ends, goes_on, refuses, epoch_is}
 
@@ -163,9 +163,6 @@ module _ (shape : Shape) (number : ℕ) (blocks : List ℕ) (old : BoardState) w
     pub pages_stay : now.pages ≡ old.pages
     pages_stay = ap (λ b. b.pages) r.board
 
-    pub stays_ready : IsReady old shape → IsReady now shape
-    stays_ready ready = rw r.board (record { shape_is = ready.shape_is; flash = ready.flash })
-
     room : into.capacity ≡ buffer shape
     room = ap (λ t. t.capacity) r.held
 
@@ -211,11 +208,6 @@ module _ (shape : Shape) (number : ℕ) (blocks : List ℕ) (old : BoardState) w
           board = read ∙ ap after_read r.board ∙ ap (λ k. after_reads k old) one;
         }
 
-    pub Replaying-failed : (new : BoardState) (page : ℕ) → i < epoch_pages shape → page ≡ page_in shape blocks i → ReadFailed now new page → ReplayFailed shape number blocks old new
-    Replaying-failed new page inside page_is failed =
-        let from_old : ReadFailed (after_reads i old) new (page_in shape blocks i) = subst (λ b. ReadFailed b new (page_in shape blocks i)) r.board (subst (λ p. ReadFailed now new p) page_is failed) in
-        record { made = i; within = inside; before = r.before; failed = from_old; flash = from_old.flash; read = from_old.read }
-
     -- the page is not whole
     pub Replayed-ends : i < epoch_pages shape → IsNotWhole (page_at old.pages (page_in shape blocks i)) → Replayed shape number blocks old.pages i into
     Replayed-ends inside not_whole = record {
@@ -228,30 +220,7 @@ module _ (shape : Shape) (number : ℕ) (blocks : List ℕ) (old : BoardState) w
       ends = λ _ is. not_whole is.0 is.1;
     }
 
-    -- all pages were whole
-    pub Replayed-all : i ≡ epoch_pages shape → Replayed shape number blocks old.pages i into
-    Replayed-all all = record {
-      entries = r.entries;
-      read = left_here 0 (omega (arith, all));
-      held = r.held;
-      each = r.each;
-      within = omega (arith, all);
-      before = r.before;
-      ends = λ small. absurd (omega (arith, small, all));
-    }
-
     pub reads_to_end : (new : BoardState) → i < epoch_pages shape → new ≡ after_read now → new ≡ after_replay shape i old
     reads_to_end new inside read =
         let k : suc i ≡ min (i + 1) (epoch_pages shape) = omega (arith, inside) in
         read ∙ ap after_read r.board ∙ ap (λ n. after_reads n old) k
-
-    pub reads_all : i ≡ epoch_pages shape → now ≡ after_replay shape i old
-    reads_all all =
-        let k : i ≡ min (i + 1) (epoch_pages shape) = omega (arith, all) in
-        r.board ∙ ap (λ n. after_reads n old) k
-
-    pub Fits-found : length blocks ≡ 2 → i ≤ epoch_pages shape → Fits (found_at_opening shape number blocks i) old.pages
-    Fits-found two inside = record { two = two; within = inside; before = r.before; behind = λ more. absurd (not_more more) }
-      where
-        not_more : false ≡ true → ⊥
-        not_more e = cc
