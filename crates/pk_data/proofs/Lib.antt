@@ -1,2 +1,5 @@
 pub mod Lists
 pub mod Standing
+pub mod Unchanged
+pub mod Filling
+pub mod Opening
