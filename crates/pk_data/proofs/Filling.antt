@@ -27,7 +27,8 @@ use Rattle.pk_steps.specs.Under.{IsValuePage}
 use Rattle.pk_data.specs.declared.open_block.OpenBlock.{OpenBlock}
 use Rattle.pk_data.specs.State.{DataState, has_left, page_behind, fits_open, next_page, closed_with, opened, more_used, with_written, needs_reclaim}
 use Rattle.pk_data.specs.Placed.{Placed, IsOpenIn, IsNotOpen, HoldsValues}
-use Rattle.pk_data.specs.Reserving.{IsReserved, WritesNext}
+use Rattle.pk_data.specs.Reserving.{IsReserved, WritesNext, IsFreeOf}
+use Rattle.pk_data.specs.Entries.{IsInOpen}
 use Rattle.pk_data.specs.Laws.{SameValues}
 use Rattle.pk_data.proofs.Unchanged.{some_pages, flash_elsewhere}
 
@@ -156,9 +157,9 @@ module _ (shape : Shape) (pool : Blocks) (flash flash' : Flash) (b : ℕ) (spare
 -- ---- pages that were written
 
 wrote : (shape : Shape) (live : Values) (open_block : Option OpenBlock) (pool : Blocks) (old new : Flash) (es : List (Key × Place)) (count : ℕ)
-    → Placed shape (state_of live open_block) pool old es → MatchOption open_block ⊥ (λ o. o.used + count ≤ live.block_pages) → WritesNext shape (state_of live open_block) count old new
+    → Placed shape (state_of live open_block) pool old es → has_left shape open_block count ≡ true → WritesNext shape (state_of live open_block) count old new
     → Placed shape (state_of live (more_used open_block count)) pool new es
-wrote shape live None pool old new es count p room w = absurd room
+wrote shape live None pool old new es count p room w = cc
 wrote shape live (Some o) pool old new es count p room w = record {
   is_shape = p.is_shape;
   shape_is = p.shape_is;
@@ -191,7 +192,7 @@ wrote shape live (Some o) pool old new es count p room w = record {
     open_is = p.open_is
 
     left : o.used + count ≤ shape.block_pages
-    left = subst (λ (n : ℕ). o.used + count ≤ n) p.block_pages_is room
+    left = leb→le (o.used + count) shape.block_pages (subst T (sym room) tt)
 
     low_end : o.block * pool.shape.block_pages ≤ o.block * shape.block_pages + o.used
     low_end = subst (λ (s : Shape). o.block * s.block_pages ≤ o.block * shape.block_pages + o.used) (sym p.shape_is) (omega arith)
@@ -209,10 +210,19 @@ wrote shape live (Some o) pool old new es count p room w = record {
       ]
     ]
 
-pub wrote_as : (d : DataState) (count : ℕ) (d' : DataState) → MatchOption d.open_block ⊥ (λ o. o.used + count ≤ d.live.block_pages) → d' ≡ with_written d count
-    → (shape : Shape) (pool : Blocks) (old new : Flash) (es : List (Key × Place)) → Placed shape d pool old es → WritesNext shape d count old new → Placed shape d' pool new es
-wrote_as d count d' room is shape pool old new es p w =
+pub wrote_as : (shape : Shape) (d : DataState) (count : ℕ) (d' : DataState) → fits_open shape d count ≡ true → d' ≡ with_written d count
+    → (pool : Blocks) (old new : Flash) (es : List (Key × Place)) → Placed shape d pool old es → WritesNext shape d count old new → Placed shape d' pool new es
+wrote_as shape d count d' room is pool old new es p w =
     subst (λ (v : DataState). Placed shape v pool new es) (sym is) (wrote shape d.live d.open_block pool old new es count p room w)
+
+-- they lie in the part that is written now
+in_written : (shape : Shape) (open_block : Option OpenBlock) (count : ℕ) → has_left shape open_block count ≡ true
+    → MatchOption (more_used open_block count) ⊥ (λ o. (o.block * shape.block_pages ≤ page_behind shape open_block) × (page_behind shape open_block + count ≤ o.block * shape.block_pages + o.used))
+in_written shape None count room = cc
+in_written shape (Some o) count room = (omega arith, omega arith)
+
+pub in_written_as : (shape : Shape) (d : DataState) (count : ℕ) (d' : DataState) → fits_open shape d count ≡ true → d' ≡ with_written d count → IsInOpen shape d' (next_page shape d) count
+in_written_as shape d count d' room is = subst (λ (v : DataState). IsInOpen shape v (next_page shape d) count) (sym is) (in_written shape d.open_block count room)
 
 -- ---- the call that finds pages
 
@@ -258,6 +268,10 @@ module _ (shape : Shape) (d : DataState) (p q : Blocks) (old new : BoardState) (
     where
       true_is : (a n : ℕ) → a ≤ n → nat_le a n ≡ true
       true_is a n le = is_true (nat_le a n) (le→leb a n le)
+
+  pub opened_free : (count : ℕ) → needs_reclaim shape d p count ≡ false → fits_open shape d count ≡ false → 1 ≤ count → count ≤ most_pages shape → IsFreeOf shape es (b * shape.block_pages) count
+  opened_free count room no_room some most k low high is =
+      (opened_by count room no_room).written k is ((opened_reserved count room no_room some most).free k low high)
 
 -- an erase that failed leaves the values placed
 pub failed_keeps : (shape : Shape) (d : DataState) (p : Blocks) (old new : BoardState) (es : List (Key × Place)) → Placed shape d p old.pages es → FailsToErase p old new → Fits p new.pages → Placed shape d p new.pages es

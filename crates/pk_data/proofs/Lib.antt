@@ -3,3 +3,4 @@ pub mod Standing
 pub mod Unchanged
 pub mod Filling
 pub mod Opening
+pub mod Releasing

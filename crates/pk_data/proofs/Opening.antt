@@ -37,7 +37,7 @@ page_exists shape is_shape (e ∷ es) k places (inl here) =
 page_exists shape is_shape (e ∷ es) k places (inr there) = page_exists shape is_shape es k places.1 there
 
 -- the block of a page among others has one of them
-any_block : (n k : ℕ) (pages : List ℕ) → AnyByRecursion (λ p. k ≡ p) pages → list_any (λ p. p / n == k / n) pages ≡ true
+pub any_block : (n k : ℕ) (pages : List ℕ) → AnyByRecursion (λ p. k ≡ p) pages → list_any (λ p. p / n == k / n) pages ≡ true
 any_block n k [] is = absurd is
 any_block n k (p ∷ pages) (inl e) = or_left (p / n == k / n) (list_any (λ q. q / n == k / n) pages) (eq-eqb (p / n) (k / n) (ap (λ q. q / n) (sym e)))
 any_block n k (p ∷ pages) (inr is) = or_right (p / n == k / n) (list_any (λ q. q / n == k / n) pages) (any_block n k pages is)

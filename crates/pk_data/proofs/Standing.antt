@@ -35,12 +35,9 @@ pub record InBlock (shape : Shape) (pool : Blocks) (flash : Flash) (place : Plac
   pub owned : (k : ℕ) → IsPageOf shape k place → HoldsValues pool (k / shape.block_pages)
   pub written : (k : ℕ) → IsPageOf shape k place → page_at flash k ≢ erased
 
--- the pages of a value lie in the written part of the open block
-abbrev pub InOpen : Shape → Place → Option OpenBlock → Type 0
-InOpen shape place open_block = MatchOption open_block ⊥ (λ o. (o.block * shape.block_pages ≤ place.page) × (place.page + charge shape place.len ≤ o.block * shape.block_pages + o.used))
-
-pub in_block : (shape : Shape) (pool : Blocks) (flash : Flash) (place : Place) (open_block : Option OpenBlock) → IsShape shape → place.len ≤ greatest shape
-    → MatchOption open_block (Unit {0}) (λ o. IsOpenIn shape pool flash o) → InOpen shape place open_block → InBlock shape pool flash place
+in_block : (shape : Shape) (pool : Blocks) (flash : Flash) (place : Place) (open_block : Option OpenBlock) → IsShape shape → place.len ≤ greatest shape
+    → MatchOption open_block (Unit {0}) (λ o. IsOpenIn shape pool flash o)
+    → MatchOption open_block ⊥ (λ o. (o.block * shape.block_pages ≤ place.page) × (place.page + charge shape place.len ≤ o.block * shape.block_pages + o.used)) → InBlock shape pool flash place
 in_block shape pool flash place None is_shape short open_is inside = absurd inside
 in_block shape pool flash place (Some o) is_shape short open_is inside =
     let n : ℕ = shape.block_pages in

@@ -22,7 +22,7 @@ use Rattle.pk_steps.specs.Under.{IsValuePage}
 use Rattle.pk_data.specs.declared.open_block.OpenBlock.{OpenBlock}
 use Rattle.pk_data.specs.State.{DataState}
 use Rattle.pk_data.specs.Placed.{Placed, IsOpenIn, HoldsValues}
-use Rattle.pk_data.specs.Laws.{SameValues, FlashElsewhere, BlockElsewhere, LieInFew, value_blocks, is_for_values}
+use Rattle.pk_data.specs.Laws.{SameValues, FlashElsewhere, BlockElsewhere, LieInFew, NoneInSpare, value_blocks, is_for_values}
 
 -- the block of a page has some
 pub some_pages : (shape : Shape) → IsShape shape → 0 < shape.block_pages
@@ -145,3 +145,8 @@ lie_in_few shape d pool flash es placed = (few, λ k is. among k (placed.owned k
 
     among : (k : ℕ) → HoldsValues pool (k / shape.block_pages) → AnyByRecursion (λ b. k / shape.block_pages ≡ b) (value_blocks pool)
     among k held = filter_has (λ b. is_for_values (slice_get pool.states b)) (k / shape.block_pages) 0 (length pool.states) (omega arith) (omega (arith, slice_get_within pool.states (k / shape.block_pages) (Owned for_values) held)) (ap is_for_values held)
+
+pub none_in_spare : NoneInSpare
+none_in_spare shape d pool flash es b placed spare k here is =
+    let held : slice_get pool.states b ≡ Some (Owned for_values) = subst (λ c. HoldsValues pool c) here (placed.owned k is) in
+    elim spare [ inl free ↦ cc | inr ready ↦ cc ]

@@ -12,6 +12,10 @@ use Rattle.pk_data.specs.declared.span.Span.{Span}
 use Rattle.pk_data.specs.State.{DataState}
 use Rattle.pk_data.specs.Placed.{Placed}
 
+-- these pages lie in the part of the open block that is written
+abbrev pub IsInOpen : Shape → DataState → ℕ → ℕ → Type 0
+IsInOpen shape d page count = MatchOption d.open_block ⊥ (λ o. (o.block * shape.block_pages ≤ page) × (page + count ≤ o.block * shape.block_pages + o.used))
+
 -- the pages of a value
 abbrev pub span_of : Shape → Place → Span
 span_of shape place = record { page = place.page; count = charge shape place.len }
@@ -52,5 +56,5 @@ pub record Moves (d : DataState) (old : Option Span) (new : Span) : Type 0 where
   pub old_is : span_if_some shape (find key_cmp key es) ≡ old
   pub new_is : span_of shape place ≡ new
   pub short : place.len ≤ greatest shape
-  pub in_open : MatchOption d.open_block ⊥ (λ o. (o.block * shape.block_pages ≤ place.page) × (place.page + charge shape place.len ≤ o.block * shape.block_pages + o.used))
+  pub in_open : IsInOpen shape d place.page (charge shape place.len)
   pub free : (k : ℕ) → IsPageOf shape k place → IsValuePage shape es k → ⊥

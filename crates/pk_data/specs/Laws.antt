@@ -7,7 +7,7 @@ use Rattle.pk_base.specs.Page.{Flash, page_at}
 use Rattle.pk_base.specs.Entry.{Place}
 use Rattle.pk_plan.specs.declared.owner.Owner.TheVariants.{Values as for_values}
 use Rattle.pk_pool.specs.declared.state.BlockState.{BlockState}
-use Rattle.pk_pool.specs.Blocks.{Blocks, Fits, is_owned_by, with_state}
+use Rattle.pk_pool.specs.Blocks.{Blocks, Fits, IsSpare, is_owned_by, with_state}
 use Rattle.pk_model.specs.Laws.{AnyByRecursion}
 use Rattle.pk_steps.specs.Under.{IsValuePage}
 use Rattle.pk_data.specs.State.{DataState}
@@ -45,3 +45,9 @@ LieInFew =
     (shape : Shape) (d : DataState) (pool : Blocks) (flash : Flash) (es : List (Key × Place)) → Placed shape d pool flash es
     → (length (value_blocks pool) ≤ data_blocks shape - 1)
     × ((k : ℕ) → IsValuePage shape es k → AnyByRecursion (λ b. k / shape.block_pages ≡ b) (value_blocks pool))
+
+-- No page of a placed value lies in a block without an owner.
+abbrev pub NoneInSpare : Type 0
+NoneInSpare =
+    (shape : Shape) (d : DataState) (pool : Blocks) (flash : Flash) (es : List (Key × Place)) (b : ℕ) → Placed shape d pool flash es → IsSpare pool b
+    → (k : ℕ) → k / shape.block_pages ≡ b → IsValuePage shape es k → ⊥

@@ -1,6 +1,8 @@
 -- The pages for a value: what a call that finds them does.
-use Rattle.std.specs.Prelude.{◌≡◌, ◌≢◌, ◌⊎◌, ℕ, ◌+◌, ◌*◌, ◌/◌, ◌%◌, ◌<◌, ◌≤◌, true, Some}
+use Rattle.std.specs.Prelude.{◌≡◌, ◌≢◌, ◌⊎◌, ℕ, ◌+◌, ◌*◌, ◌/◌, ◌%◌, ◌<◌, ◌≤◌, List, true, Some}
 use Rattle.pk_base.specs.Shape.{Shape, page_count}
+use Rattle.pk_base.specs.Key.{Key}
+use Rattle.pk_base.specs.Entry.{Place}
 use Rattle.pk_base.specs.Page.{Flash, page_at, erased}
 use Rattle.pk_plan.specs.declared.owner.Owner.TheVariants.{Values as for_values}
 use Rattle.pk_nand.specs.BoardState.{BoardState}
@@ -9,6 +11,7 @@ use Rattle.pk_nand.specs.Crash.{SameOutside}
 use Rattle.pk_pool.specs.declared.state.BlockState.TheVariants.{Owned}
 use Rattle.pk_pool.specs.Blocks.{Blocks, IsSpare, with_state}
 use Rattle.pk_pool.specs.Taking.{TakesReady, ErasesFree, ReachesIn}
+use Rattle.pk_steps.specs.Under.{IsValuePage}
 use Rattle.pk_data.specs.State.{DataState, fits_open, next_page, opened}
 use Rattle.pk_data.specs.Placed.{HoldsValues}
 
@@ -23,6 +26,10 @@ pub record IsReserved (shape : Shape) (d : DataState) (pool : Blocks) (flash : F
   pub free : (k : ℕ) → page ≤ k → k < page + count → page_at flash k ≡ erased
   pub order : InOrder shape flash page
 
+-- none of these pages belongs to a value
+abbrev pub IsFreeOf : Shape → List (Key × Place) → ℕ → ℕ → Type 0
+IsFreeOf shape es page count = (k : ℕ) → page ≤ k → k < page + count → IsValuePage shape es k → ⊥
+
 -- The open block had room, and nothing was done.
 pub record TakesNext (shape : Shape) (d : DataState) (p : Blocks) (old : BoardState) (count : ℕ) (d' : DataState) (q : Blocks) (new : BoardState) : Type 0 where
   pub room : fits_open shape d count ≡ true
@@ -34,6 +41,7 @@ pub record TakesNext (shape : Shape) (d : DataState) (p : Blocks) (old : BoardSt
 pub record OpensBlock (d : DataState) (p : Blocks) (old : BoardState) (b : ℕ) (d' : DataState) (q : Blocks) (new : BoardState) : Type 0 where
   pub opens : d' ≡ opened d b
   pub spare : IsSpare p b
+  pub place : 2 ≤ b × b < p.shape.blocks
   pub taken : q ≡ with_state p b (Owned for_values)
   pub choice : TakesReady p old b new ⊎ ErasesFree p old b new
   pub cuts : ReachesIn p.shape b old new

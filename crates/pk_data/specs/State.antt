@@ -62,6 +62,9 @@ with_head d page count = record d { live = record d.live { heads = slice_set d.l
 abbrev pub with_heads : DataState → List ℕ → DataState
 with_heads d heads = record d { live = record d.live { heads = heads } }
 
+abbrev pub with_closed : DataState → List Bool → DataState
+with_closed d closed = record d { live = record d.live { closed = closed } }
+
 -- blocks have at most 256 pages, and a flash at most 4,096 blocks
 abbrev pub IsSmall : Option OpenBlock → Type 0
 IsSmall None = Unit {0}

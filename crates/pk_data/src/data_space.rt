@@ -1,5 +1,5 @@
 //! The data blocks of a drive.
-ghost use Rattle.std.specs.Prelude.{◌≡◌, ℕ, List, ◌+◌, ◌<◌, ◌≤◌, ◌⊎◌, false, true, sum, length, slice_get, Some, None, IfOk, IfErr, OnOk, OnErr, MatchOption, if◌then◌else◌};
+ghost use Rattle.std.specs.Prelude.{◌≡◌, ℕ, List, ◌+◌, ◌<◌, ◌≤◌, ◌⊎◌, false, true, sum, length, slice_get, slice_set, Some, None, IfOk, IfErr, OnOk, OnErr, MatchOption, if◌then◌else◌};
 ghost use Rattle.std.specs.FinMap.Entries.{put};
 ghost use Rattle.pk_base.specs.Key.{Key, key_cmp};
 ghost use Rattle.pk_base.specs.Shape as spec;
@@ -7,14 +7,16 @@ ghost use Rattle.pk_base.specs.Page.{Flash};
 ghost use Rattle.pk_base.specs.Entry.{Place};
 ghost use Rattle.pk_nand.specs.Calls.{IsReady};
 ghost use Rattle.pk_nand.specs.declared.types.Fault.TheVariants.{Stopped};
-ghost use Rattle.pk_pool.specs.Blocks.{Blocks};
+ghost use Rattle.pk_pool.specs.declared.state.BlockState.TheVariants.{Free};
+ghost use Rattle.pk_pool.specs.Blocks.{Blocks, with_state};
 ghost use Rattle.pk_pool.specs.Taking.{FailsToErase};
+ghost use Rattle.pk_live.specs.Values.{IsClosed, count_of};
 ghost use Rattle.pk_model.specs.Values.{all_pages};
-ghost use Rattle.pk_data.specs.State.{DataState, with_none_open, closed_with, opened, more_used, with_written, with_head, with_heads};
+ghost use Rattle.pk_data.specs.State.{DataState, IsSmall, with_none_open, closed_with, opened, more_used, with_written, with_head, with_heads, with_closed};
 ghost use Rattle.pk_data.specs.State as state;
 ghost use Rattle.pk_data.specs.Placed.{Placed, FoundAtOpening, without};
-ghost use Rattle.pk_data.specs.Reserving.{IsReserved, TakesNext, OpensBlock, WritesNext};
-ghost use Rattle.pk_data.specs.Entries.{Held, Moves, heads_without};
+ghost use Rattle.pk_data.specs.Reserving.{IsReserved, TakesNext, OpensBlock, WritesNext, IsFreeOf};
+ghost use Rattle.pk_data.specs.Entries.{Held, Moves, IsInOpen, heads_without};
 
 use crate::open_block::OpenBlock;
 use crate::span::Span;
@@ -66,10 +68,13 @@ fn clear<A: Allocator>(live: &mut Live<A>, old: Option<Span>)
 }
 
 // The block with so many more pages written, if there is one.
-fn more(open_block: Option<OpenBlock>, count: u32) -> Option<OpenBlock>
-    requires { MatchOption open_block (Unit {0}) (λ o. o.used + count ≤ 256) }
-    ensures { result ≡ more_used open_block count }
+fn more(shape: &Shape, open_block: Option<OpenBlock>, count: u32) -> Option<OpenBlock>
+    requires room { state.has_left shape.now open_block count ≡ true }
+    requires small { IsSmall open_block }
+    ensures value { result ≡ more_used open_block count }
+    ensures small { IsSmall result }
 {
+    shape.known();
     match open_block {
         None => None,
         Some(open) => Some(OpenBlock {
@@ -97,6 +102,13 @@ impl<A: Allocator> Data<A> {
         ensures placed { (shape : spec.Shape) (pool : Blocks) (flash : Flash) (es : List (Key × Place)) → Placed shape self.now pool flash es → result ≡ length (all_pages shape es) }
     {
         self.live.total()
+    }
+
+    /// The live values, with the blocks that are closed.
+    pub fn live(&self) -> &Live<A>
+        ensures { result.now ≡ self.now.live }
+    {
+        &self.live
     }
 
     /// The block that takes the next value, where there is one.
@@ -172,6 +184,7 @@ impl<A: Allocator> Data<A> {
         requires room { state.needs_reclaim shape.now self.old pool.old count ≡ false }
         ensures reserved { IfOk result (λ page. IsReserved shape.now self.new pool.new (B.state board.new).pages page count) }
         ensures cases { OnOk result (TakesNext shape.now self.old pool.old (B.state board.old) count self.new pool.new (B.state board.new) ⊎ ((b : ℕ) × (state.fits_open shape.now self.old count ≡ false) × OpensBlock self.old pool.old (B.state board.old) b self.new pool.new (B.state board.new))) }
+        ensures free { IfOk result (λ page. (es : List (Key × Place)) → Placed shape.now self.old pool.old (B.state board.old).pages es → IsFreeOf shape.now es page count) }
         ensures stopped { IfErr result (λ e. e ≡ Stopped) }
         ensures failed { OnErr result (FailsToErase pool.old (B.state board.old) (B.state board.new)) }
         ensures had_no_room { OnErr result (state.fits_open shape.now self.old count ≡ false) }
@@ -193,13 +206,13 @@ impl<A: Allocator> Data<A> {
     }
 
     /// So many more pages of the open block are written, behind the others.
-    pub fn wrote(&mut self, count: u32)
-        requires { MatchOption self.old.open_block ⊥ (λ o. o.used + count ≤ self.old.live.block_pages) }
+    pub fn wrote(&mut self, shape: &Shape, count: u32)
+        requires { state.fits_open shape.now self.old count ≡ true }
         ensures written { self.new ≡ with_written self.old count }
-        ensures placed { (shape : spec.Shape) (pool : Blocks) (old new : Flash) (es : List (Key × Place)) → Placed shape self.old pool old es → WritesNext shape self.old count old new → Placed shape self.new pool new es }
+        ensures in_open { IsInOpen shape.now self.new (state.next_page shape.now self.old) count }
+        ensures placed { (pool : Blocks) (old new : Flash) (es : List (Key × Place)) → Placed shape.now self.old pool old es → WritesNext shape.now self.old count old new → Placed shape.now self.new pool new es }
     {
-        self.live.known();
-        self.open_block = more(self.open_block, count);
+        self.open_block = more(shape, self.open_block, count);
     }
 
     /// A key has its value at the pages of `new` from now on, and no more at those of `old`.
@@ -219,5 +232,18 @@ impl<A: Allocator> Data<A> {
         ensures placed { (h : Held self.old span) → Placed h.shape self.new h.pool h.flash (without h.key h.es) }
     {
         self.live.clear(span.page, span.count);
+    }
+
+    /// Gives a closed block without live pages back to the pool.
+    pub fn release(&mut self, pool: &mut Pool<A>, block: u32)
+        requires closed { IsClosed self.old.live block }
+        requires empty { count_of self.old.live block ≡ 0 }
+        requires placed { (shape : spec.Shape) × (flash : Flash) × (es : List (Key × Place)) × Placed shape self.old pool.old flash es }
+        ensures released { self.new ≡ with_closed self.old (slice_set self.old.live.closed block false) }
+        ensures given { pool.new ≡ with_state pool.old block Free }
+        ensures placed { (shape : spec.Shape) (flash : Flash) (es : List (Key × Place)) → Placed shape self.old pool.old flash es → Placed shape self.new pool.new flash es }
+    {
+        self.live.forget(block);
+        pool.give(block);
     }
 }

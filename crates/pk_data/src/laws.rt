@@ -1,5 +1,5 @@
 //! What holds of placed values whatever others do, each the contract of a function that does nothing.
-ghost use Rattle.pk_data.specs.Laws.{FlashElsewhere, BlockElsewhere, LieInFew};
+ghost use Rattle.pk_data.specs.Laws.{FlashElsewhere, BlockElsewhere, LieInFew, NoneInSpare};
 
 /// Values stay placed where the flash changes in blocks that are not for values, and where such a block changes its owner.
 pub fn elsewhere()
@@ -7,7 +7,9 @@ pub fn elsewhere()
     ensures block { BlockElsewhere }
 {}
 
-/// Placed values lie in the blocks that the pool has for them, at most one less than all data blocks.
+/// Placed values lie in the blocks that the pool has for them, at most one less than all data blocks, and in no block without
+/// an owner.
 pub fn value_blocks()
-    ensures { LieInFew }
+    ensures few { LieInFew }
+    ensures none_in_spare { NoneInSpare }
 {}

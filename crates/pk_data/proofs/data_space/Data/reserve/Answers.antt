@@ -1,5 +1,5 @@
 use Rattle.pk_data.specs.State.{fits_open, next_page}
-use Rattle.pk_data.proofs.Filling.{reserved_next, found_next, found_none, opened_by, opened_reserved, failed_keeps}
+use Rattle.pk_data.proofs.Filling.{reserved_next, found_next, found_none, opened_by, opened_reserved, opened_free, failed_keeps}
 use Rattle.pk_data.proofs.data_space.Data.reserve.Goals as goal
 
 -- the open block has room
@@ -28,6 +28,14 @@ returns-in-Ok-clause-placed g c es placed =
     rw c.open_next.ensures
     (opened_by c.args.shape.now c.args.self.now c.args.pool.now c.take.new.self (g.B.Nand.state c.args.board.now) (g.B.Nand.state c.take.new.board) c.in-Ok.block es placed
     ok.spare ok.place ok.taken ok.counted ok.erased ok.cuts c.take.ensures.fits c.args.count c.requires.room no_room)
+
+pub returns-in-Ok-clause-free : goal.returns-in-Ok-clause-free
+returns-in-Ok-clause-free g c es placed =
+    let no_room = found_none (fits_open c.args.shape.now c.args.self.now c.args.count) (next_page c.args.shape.now c.args.self.now) c.next_in_open.result c.next_in_open.ensures c.in-None.is in
+    let ok = c.in-Ok.ensures in
+    rw c.block_pages.ensures.value
+    (opened_free c.args.shape.now c.args.self.now c.args.pool.now c.take.new.self (g.B.Nand.state c.args.board.now) (g.B.Nand.state c.take.new.board) c.in-Ok.block es placed
+    ok.spare ok.place ok.taken ok.counted ok.erased ok.cuts c.take.ensures.fits c.args.count c.requires.room no_room c.requires.some c.requires.most)
 
 -- the erase failed
 
