@@ -4,3 +4,4 @@ pub mod Unchanged
 pub mod Filling
 pub mod Opening
 pub mod Releasing
+pub mod Nothing

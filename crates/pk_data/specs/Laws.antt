@@ -1,17 +1,18 @@
 -- What others do to the flash and to the pool, and what the values' blocks are: the statements.
-use Rattle.std.specs.Prelude.{◌≡◌, ℕ, ◌-◌, ◌/◌, ◌≤◌, List, length, filter, Bool, true, false, Option, Some, None, slice_get}
+use Rattle.std.specs.Prelude.{◌≡◌, ℕ, ◌-◌, ◌/◌, ◌≤◌, List, [], length, filter, Bool, true, false, Option, Some, None, slice_get}
 use Rattle.std.specs.List.{range_with_len}
 use Rattle.pk_base.specs.Key.{Key}
-use Rattle.pk_base.specs.Shape.{Shape, data_blocks}
+use Rattle.pk_base.specs.Shape.{Shape, IsShape, data_blocks}
 use Rattle.pk_base.specs.Page.{Flash, page_at}
 use Rattle.pk_base.specs.Entry.{Place}
 use Rattle.pk_plan.specs.declared.owner.Owner.TheVariants.{Values as for_values}
 use Rattle.pk_pool.specs.declared.state.BlockState.{BlockState}
-use Rattle.pk_pool.specs.Blocks.{Blocks, Fits, IsSpare, is_owned_by, with_state}
+use Rattle.pk_pool.specs.Blocks.{Blocks, Fits, IsSpare, is_owned_by, unused, with_state}
+use Rattle.pk_live.specs.Values.{no_values}
 use Rattle.pk_model.specs.Laws.{AnyByRecursion}
 use Rattle.pk_steps.specs.Under.{IsValuePage}
 use Rattle.pk_data.specs.State.{DataState}
-use Rattle.pk_data.specs.Placed.{HoldsValues, Placed}
+use Rattle.pk_data.specs.Placed.{HoldsValues, Placed, FoundAtOpening}
 
 -- no page differs of a block that the pool has for values
 abbrev pub SameValues : Shape → Blocks → Flash → Flash → Type 0
@@ -51,3 +52,7 @@ abbrev pub NoneInSpare : Type 0
 NoneInSpare =
     (shape : Shape) (d : DataState) (pool : Blocks) (flash : Flash) (es : List (Key × Place)) (b : ℕ) → Placed shape d pool flash es → IsSpare pool b
     → (k : ℕ) → k / shape.block_pages ≡ b → IsValuePage shape es k → ⊥
+
+-- Where no block has an owner and no value is live, there are none.
+abbrev pub StartsWithNone : Type 0
+StartsWithNone = (shape : Shape) (flash : Flash) → IsShape shape → FoundAtOpening shape [] (no_values shape) (unused shape) flash []

@@ -1,5 +1,5 @@
 -- The pages for a value: what a call that finds them does.
-use Rattle.std.specs.Prelude.{◌≡◌, ◌≢◌, ◌⊎◌, ℕ, ◌+◌, ◌*◌, ◌/◌, ◌%◌, ◌<◌, ◌≤◌, List, true, Some}
+use Rattle.std.specs.Prelude.{◌≡◌, ◌≢◌, ◌⊎◌, ℕ, ◌+◌, ◌*◌, ◌/◌, ◌%◌, ◌<◌, ◌≤◌, List, true, false, Some}
 use Rattle.pk_base.specs.Shape.{Shape, page_count}
 use Rattle.pk_base.specs.Key.{Key}
 use Rattle.pk_base.specs.Entry.{Place}
@@ -38,13 +38,15 @@ pub record TakesNext (shape : Shape) (d : DataState) (p : Blocks) (old : BoardSt
   pub same_board : new ≡ old
 
 -- It had none: it was closed, and a block without an owner was taken from the pool, by at most one erase.
-pub record OpensBlock (d : DataState) (p : Blocks) (old : BoardState) (b : ℕ) (d' : DataState) (q : Blocks) (new : BoardState) : Type 0 where
-  pub opens : d' ≡ opened d b
-  pub spare : IsSpare p b
-  pub place : 2 ≤ b × b < p.shape.blocks
-  pub taken : q ≡ with_state p b (Owned for_values)
-  pub choice : TakesReady p old b new ⊎ ErasesFree p old b new
-  pub cuts : ReachesIn p.shape b old new
+pub record OpensBlock (shape : Shape) (d : DataState) (p : Blocks) (old : BoardState) (count : ℕ) (d' : DataState) (q : Blocks) (new : BoardState) : Type 0 where
+  pub no_room : fits_open shape d count ≡ false
+  pub block : ℕ
+  pub opens : d' ≡ opened d block
+  pub spare : IsSpare p block
+  pub place : 2 ≤ block × block < p.shape.blocks
+  pub taken : q ≡ with_state p block (Owned for_values)
+  pub choice : TakesReady p old block new ⊎ ErasesFree p old block new
+  pub cuts : ReachesIn p.shape block old new
 
 -- nothing but the next so many pages differs, and these are written now
 pub record WritesNext (shape : Shape) (d : DataState) (count : ℕ) (old new : Flash) : Type 0 where

@@ -183,7 +183,7 @@ impl<A: Allocator> Data<A> {
         requires placed { (es : List (Key × Place)) × Placed shape.now self.old pool.old (B.state board.old).pages es }
         requires room { state.needs_reclaim shape.now self.old pool.old count ≡ false }
         ensures reserved { IfOk result (λ page. IsReserved shape.now self.new pool.new (B.state board.new).pages page count) }
-        ensures cases { OnOk result (TakesNext shape.now self.old pool.old (B.state board.old) count self.new pool.new (B.state board.new) ⊎ ((b : ℕ) × (state.fits_open shape.now self.old count ≡ false) × OpensBlock self.old pool.old (B.state board.old) b self.new pool.new (B.state board.new))) }
+        ensures cases { OnOk result (TakesNext shape.now self.old pool.old (B.state board.old) count self.new pool.new (B.state board.new) ⊎ OpensBlock shape.now self.old pool.old (B.state board.old) count self.new pool.new (B.state board.new)) }
         ensures free { IfOk result (λ page. (es : List (Key × Place)) → Placed shape.now self.old pool.old (B.state board.old).pages es → IsFreeOf shape.now es page count) }
         ensures stopped { IfErr result (λ e. e ≡ Stopped) }
         ensures failed { OnErr result (FailsToErase pool.old (B.state board.old) (B.state board.new)) }

@@ -1,5 +1,5 @@
 //! What holds of placed values whatever others do, each the contract of a function that does nothing.
-ghost use Rattle.pk_data.specs.Laws.{FlashElsewhere, BlockElsewhere, LieInFew, NoneInSpare};
+ghost use Rattle.pk_data.specs.Laws.{FlashElsewhere, BlockElsewhere, LieInFew, NoneInSpare, StartsWithNone};
 
 /// Values stay placed where the flash changes in blocks that are not for values, and where such a block changes its owner.
 pub fn elsewhere()
@@ -12,4 +12,9 @@ pub fn elsewhere()
 pub fn value_blocks()
     ensures few { LieInFew }
     ensures none_in_spare { NoneInSpare }
+{}
+
+/// At first no value is placed.
+pub fn starts_with_none()
+    ensures { StartsWithNone }
 {}

@@ -10,6 +10,6 @@ mod open_block;
 mod span;
 
 pub use data_space::Data;
-pub use laws::{elsewhere, value_blocks};
+pub use laws::{elsewhere, starts_with_none, value_blocks};
 pub use open_block::OpenBlock;
 pub use span::Span;
