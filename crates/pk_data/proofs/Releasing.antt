@@ -1,0 +1,92 @@
+-- A closed block without live pages is given back.
+use Rattle.std.proofs.Common.{◌≡◌, ◌≢◌, ℕ, ◌+◌, ◌-◌, ◌*◌, ◌/◌, ◌<◌, ◌≤◌, ◌⊎◌, inl, inr, Bool, true, false, not, ◌==◌, List, length, Option, Some, None, refl, sym, ap, subst, ◌∙◌, arith, length-set}
+use Rattle.std.specs.Prelude.{slice_get, MatchOption}
+use Rattle.std.proofs.Math.ListN.{set}
+use Rattle.std.proofs.lemmas.Bool.{cases_eq, eq-eqb}
+use Rattle.std.proofs.lemmas.Option.{slice_get_within}
+use Rattle.pk_base.specs.Key.{Key}
+use Rattle.pk_base.specs.Shape.{Shape, data_blocks}
+use Rattle.pk_base.specs.Page.{Flash}
+use Rattle.pk_base.specs.Entry.{Place}
+use Rattle.pk_plan.specs.declared.owner.Owner.TheVariants.{Values as for_values}
+use Rattle.pk_pool.specs.declared.state.BlockState.TheVariants.{Free, Owned}
+use Rattle.pk_pool.specs.Blocks.{Blocks, used_by, with_state}
+use Rattle.pk_pool.proofs.States.{get-set_other, get-set_same, free_is_not_ready}
+use Rattle.pk_pool.proofs.Sharing.{used_given}
+use Rattle.pk_pool.proofs.Fitting.{Fits-marked}
+use Rattle.pk_live.specs.Values.{IsClosed, count_of, block_sum}
+use Rattle.pk_model.specs.Values.{all_pages}
+use Rattle.pk_steps.specs.Under.{IsValuePage}
+use Rattle.pk_steps.proofs.Places.{value_in}
+use Rattle.pk_scan.specs.Lives.{is_used}
+use Rattle.pk_scan.proofs.Standing.{block_is}
+use Rattle.pk_data.specs.declared.open_block.OpenBlock.{OpenBlock}
+use Rattle.pk_data.specs.State.{DataState, with_closed}
+use Rattle.pk_data.specs.Placed.{Placed, IsOpenIn, IsNotOpen, HoldsValues}
+use Rattle.pk_data.proofs.Opening.{any_block}
+
+module _ (shape : Shape) (d : DataState) (p : Blocks) (flash : Flash) (es : List (Key × Place)) (b : ℕ) (placed : Placed shape d p flash es) (closed : IsClosed d.live b) where
+  abbrev then_pool : Blocks
+  then_pool = with_state p b Free
+
+  pub held : HoldsValues p b
+  held = (placed.closed_owned b closed).0
+
+  kept : (c : ℕ) → c ≢ b → HoldsValues p c → HoldsValues then_pool c
+  kept c ne is = get-set_other p.states b c Free ne ∙ is
+
+  was : (c : ℕ) → HoldsValues then_pool c → (c ≢ b) × HoldsValues p c
+  was c is =
+      let other : c ≢ b = λ e.
+      let same : Owned for_values ≡ Free = get-set_same p.states b Free (Owned for_values) (subst (λ k. HoldsValues then_pool k) e is) in cc in
+      (other, sym (get-set_other p.states b c Free other) ∙ is)
+
+  -- no page of a value lies in the block
+  empty_has_none : count_of d.live b ≡ 0 → (k : ℕ) → IsValuePage shape es k → k / shape.block_pages ≢ b
+  empty_has_none empty k is here =
+      let exists : b < shape.blocks = omega (arith, slice_get_within p.states b (Owned for_values) held, placed.size) in
+      let sum_is : count_of d.live b ≡ block_sum d.live.heads shape.block_pages b = ap (λ (n : ℕ). block_sum d.live.heads n b) placed.block_pages_is in
+      let zero_sum : (block_sum d.live.heads shape.block_pages b == 0) ≡ true = eq-eqb (block_sum d.live.heads shape.block_pages b) 0 (sym sum_is ∙ empty) in
+      let unused : true ≡ not (is_used shape es b) = sym zero_sum ∙ ap (λ hs. block_sum hs shape.block_pages b == 0) placed.heads_are ∙ block_is shape placed.is_shape es b placed.places exists in
+      let used : is_used shape es b ≡ true = ap (is_used shape es) (sym here) ∙ any_block shape.block_pages k (all_pages shape es) (value_in shape es k is) in
+      let clash : true ≡ false = unused ∙ ap not used in
+      cc
+
+  open_stays : (open_block : Option OpenBlock) → IsNotOpen open_block b → MatchOption open_block (Unit {0}) (λ o. IsOpenIn shape p flash o) → MatchOption open_block (Unit {0}) (λ o. IsOpenIn shape then_pool flash o)
+  open_stays None other open_is = tt
+  open_stays (Some o) other open_is = record {
+    owned = kept o.block (λ e. other (sym e)) open_is.owned;
+    behind_roots = open_is.behind_roots;
+    exists = open_is.exists;
+    within = open_is.within;
+    written = open_is.written;
+    unwritten = open_is.unwritten;
+  }
+
+  pub Placed-released : count_of d.live b ≡ 0 → Placed shape (with_closed d (set d.live.closed b false)) then_pool flash es
+  Placed-released empty = record {
+    is_shape = placed.is_shape;
+    shape_is = placed.shape_is;
+    size = length-set p.states b Free ∙ placed.size;
+    fits = Fits-marked p flash b Free free_is_not_ready placed.fits;
+    few = let most = placed.few in let less = used_given p.states b for_values held in omega (arith, most, less);
+    places = placed.places;
+    apart = placed.apart;
+    owned = λ k is. kept (k / shape.block_pages) (empty_has_none empty k is) (placed.owned k is);
+    written = placed.written;
+    block_pages_is = placed.block_pages_is;
+    heads_are = placed.heads_are;
+    closed_size = length-set d.live.closed b false ∙ placed.closed_size;
+    closed_owned = λ c is.
+        let other : c ≢ b = λ e. let clash : true ≡ false = get-set_same d.live.closed b false true (subst (λ k. slice_get (set d.live.closed b false) k ≡ Some true) e is) in cc in
+        let old = placed.closed_owned c (sym (get-set_other d.live.closed b c false other) ∙ is) in
+        (kept c other old.0, old.1);
+    owned_closed = λ c is not_open. let old = was c is in get-set_other d.live.closed b c false old.0 ∙ placed.owned_closed c old.1 not_open;
+    open_is = open_stays d.open_block (placed.closed_owned b closed).1 placed.open_is;
+  }
+
+pub released_as : (shape : Shape) (d : DataState) (p q : Blocks) (flash : Flash) (es : List (Key × Place)) (b : ℕ) (d' : DataState) → IsClosed d.live b → count_of d.live b ≡ 0
+    → d' ≡ with_closed d (set d.live.closed b false) → q ≡ with_state p b Free → Placed shape d p flash es → Placed shape d' q flash es
+released_as shape d p q flash es b d' closed empty is is_pool placed =
+    subst (λ (v : DataState). Placed shape v q flash es) (sym is)
+    (subst (λ (r : Blocks). Placed shape (with_closed d (set d.live.closed b false)) r flash es) (sym is_pool) (Placed-released shape d p flash es b placed closed empty))

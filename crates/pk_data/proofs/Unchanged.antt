@@ -1,0 +1,152 @@
+-- Placed values, after others changed the flash or the pool; and the blocks in which they lie.
+use Rattle.std.proofs.Common.{◌≡◌, ◌≢◌, ◌⊎◌, inl, inr, ℕ, zero, suc, ◌+◌, ◌-◌, ◌*◌, ◌/◌, ◌<◌, ◌≤◌, Bool, true, false, cond, List, [], ◌∷◌, length, filter, Option, Some, None, refl, sym, ap, subst, ◌∙◌, arith, length-set, eq-or-lt_of_le}
+use Rattle.std.specs.Prelude.{count_by, slice_get, MatchOption}
+use Rattle.std.specs.List.{range_with_len}
+use Rattle.std.proofs.Math.ListN.{set}
+use Rattle.std.proofs.lemmas.Bool.{cases_eq, cases_lt}
+use Rattle.std.proofs.lemmas.List.Sums.{sum_by-cons}
+use Rattle.std.proofs.lemmas.Option.{slice_get_within, same_Some}
+use Rattle.pk_base.specs.Key.{Key}
+use Rattle.pk_base.specs.Shape.{Shape, IsShape, data_blocks}
+use Rattle.pk_base.specs.Page.{Flash, page_at, erased}
+use Rattle.pk_base.specs.Entry.{Place}
+use Rattle.pk_plan.specs.declared.owner.Owner.TheVariants.{Values as for_values}
+use Rattle.pk_pool.specs.declared.state.BlockState.{BlockState}
+use Rattle.pk_pool.specs.declared.state.BlockState.TheVariants.{Owned}
+use Rattle.pk_pool.specs.Blocks.{Blocks, Fits, is_owned_by, used_by, with_state}
+use Rattle.pk_pool.proofs.States.{get-set_other, get-set_same}
+use Rattle.pk_pool.proofs.Sharing.{count-set}
+use Rattle.pk_pool.proofs.Fitting.{block_of, in_block}
+use Rattle.pk_model.specs.Laws.{AnyByRecursion}
+use Rattle.pk_steps.specs.Under.{IsValuePage}
+use Rattle.pk_data.specs.declared.open_block.OpenBlock.{OpenBlock}
+use Rattle.pk_data.specs.State.{DataState}
+use Rattle.pk_data.specs.Placed.{Placed, IsOpenIn, HoldsValues}
+use Rattle.pk_data.specs.Laws.{SameValues, FlashElsewhere, BlockElsewhere, LieInFew, NoneInSpare, value_blocks, is_for_values}
+
+-- the block of a page has some
+pub some_pages : (shape : Shape) → IsShape shape → 0 < shape.block_pages
+some_pages shape is_shape = let least : 8 ≤ shape.block_pages = is_shape.block_least in omega (arith, least)
+
+-- the open block, where the pool has it still and its pages are the same
+open_same : (shape : Shape) (p q : Blocks) (old new : Flash) (open_block : Option OpenBlock)
+    → ((b : ℕ) → HoldsValues p b → HoldsValues q b) → SameValues shape p old new
+    → MatchOption open_block (Unit {0}) (λ o. IsOpenIn shape p old o) → MatchOption open_block (Unit {0}) (λ o. IsOpenIn shape q new o)
+open_same shape p q old new None kept same open_is = tt
+open_same shape p q old new (Some o) kept same open_is =
+    let n : ℕ = shape.block_pages in
+    let page : (k : ℕ) → o.block * n ≤ k → k < o.block * n + n → page_at new k ≡ page_at old k =
+    λ k low high. same k (subst (λ b. HoldsValues p b) (sym (block_of n k o.block low high)) open_is.owned) in
+    record {
+      owned = kept o.block open_is.owned;
+      behind_roots = open_is.behind_roots;
+      exists = open_is.exists;
+      within = open_is.within;
+      written = λ k low high e. open_is.written k low high (sym (page k low (omega (arith, high, open_is.within))) ∙ e);
+      unwritten = λ k low high. page k (omega (arith, low)) high ∙ open_is.unwritten k low high;
+    }
+
+-- where the pool has the same blocks for values, and their pages are the same
+pub Placed-kept : (shape : Shape) (d : DataState) (p q : Blocks) (old new : Flash) (es : List (Key × Place)) → Placed shape d p old es
+    → q.shape ≡ p.shape → length q.states ≡ length p.states → used_by for_values q.states ≡ used_by for_values p.states
+    → ((b : ℕ) → HoldsValues p b → HoldsValues q b) → ((b : ℕ) → HoldsValues q b → HoldsValues p b)
+    → SameValues shape p old new → Fits q new → Placed shape d q new es
+Placed-kept shape d p q old new es placed shape_is size used kept was same fits = record {
+  is_shape = placed.is_shape;
+  shape_is = shape_is ∙ placed.shape_is;
+  size = size ∙ placed.size;
+  fits = fits;
+  few = let few = placed.few in omega (arith, few, used);
+  places = placed.places;
+  apart = placed.apart;
+  owned = λ k is. kept (k / shape.block_pages) (placed.owned k is);
+  written = λ k is e. placed.written k is (sym (same k (placed.owned k is)) ∙ e);
+  block_pages_is = placed.block_pages_is;
+  heads_are = placed.heads_are;
+  closed_size = placed.closed_size;
+  closed_owned = λ b is. let c = placed.closed_owned b is in (kept b c.0, c.1);
+  owned_closed = λ b held other. placed.owned_closed b (was b held) other;
+  open_is = open_same shape p q old new d.open_block kept same placed.open_is;
+}
+
+pub flash_elsewhere : FlashElsewhere
+flash_elsewhere shape d p old new es placed same fits = Placed-kept shape d p p old new es placed refl refl refl (λ b held. held) (λ b held. held) same fits
+
+-- a block of which the state says that it is for values
+for_values_is : (s : BlockState) → Some s ≡ Some (Owned for_values) → is_owned_by for_values s ≡ true
+for_values_is s e = ap (is_owned_by for_values) (same_Some s (Owned for_values) e)
+
+pub block_elsewhere : BlockElsewhere
+block_elsewhere shape d p b s t old new es placed is not_s not_t same fits =
+    Placed-kept shape d p (with_state p b t) old new es placed refl (length-set p.states b t) used kept was same fits
+  where
+    none : (x : BlockState) → is_owned_by for_values x ≡ false → is_owned_by for_values x ≡ true → ⊥
+    none x is_not is_one = let clash : true ≡ false = sym is_one ∙ is_not in cc
+
+    used : used_by for_values (with_state p b t).states ≡ used_by for_values p.states
+    used =
+        let all = count-set (is_owned_by for_values) p.states b s t is in
+        let all' : used_by for_values (set p.states b t) + 0 ≡ used_by for_values p.states + 0 = rw (not_s, not_t) at all in
+        omega (arith, all')
+
+    kept : (c : ℕ) → HoldsValues p c → HoldsValues (with_state p b t) c
+    kept c held = elim (cases_eq c b) [
+      | inl e ↦ absurd (none s not_s (for_values_is s (sym is ∙ subst (λ k. HoldsValues p k) e held)))
+      | inr ne ↦ get-set_other p.states b c t ne ∙ held
+    ]
+
+    was : (c : ℕ) → HoldsValues (with_state p b t) c → HoldsValues p c
+    was c held = elim (cases_eq c b) [
+      | inl e ↦ absurd (none t not_t (ap (is_owned_by for_values) (sym (get-set_same p.states b t (Owned for_values) (subst (λ k. HoldsValues (with_state p b t) k) e held)))))
+      | inr ne ↦ sym (get-set_other p.states b c t ne) ∙ held
+    ]
+
+-- ---- the blocks for values
+
+at_first : (P : ℕ → Type 0) (a : ℕ) → P (a + 0) → P a
+at_first P a h = let e : a + 0 ≡ a = omega arith in subst P e h
+
+at_next : (P : ℕ → Type 0) (a i : ℕ) → P (a + suc i) → P ((a + 1) + i)
+at_next P a i h = let e : a + suc i ≡ (a + 1) + i = omega arith in subst P e h
+
+-- as many numbers in a row pass a test as elements of a list pass the same one
+pub filter_row : {X : Type 0} (f : ℕ → Bool) (q : X → Bool) (xs : List X) (a : ℕ) → ((i : ℕ) (x : X) → slice_get xs i ≡ Some x → f (a + i) ≡ q x)
+    → length (filter f (range_with_len a (length xs))) ≡ count_by q xs
+filter_row f q [] a same = refl
+filter_row {X} f q (x ∷ xs) a same =
+    let rest = filter_row f q xs (a + 1) (λ i y is. at_next (λ k. f k ≡ q y) a i (same (suc i) y is)) in
+    let here : f a ≡ q x = at_first (λ k. f k ≡ q x) a (same 0 x refl) in
+    let all = sum_by-cons {X = X} (λ y. cond (q y) 1 0) x xs in
+    sized (f a) (filter f (range_with_len (a + 1) (length xs))) ∙ (λ i. cond (here i) 1 0 + rest i) ∙ sym all
+  where
+    sized : (b : Bool) (ys : List ℕ) → length (cond b (a ∷ ys) ys) ≡ cond b 1 0 + length ys
+    sized true ys = omega arith
+    sized false ys = omega arith
+
+-- a number of the row that passes is among those
+filter_has : (f : ℕ → Bool) (k a n : ℕ) → a ≤ k → k < a + n → f k ≡ true → AnyByRecursion (λ b. k ≡ b) (filter f (range_with_len a n))
+filter_has f k a zero low high is = absurd (omega (arith, low, high))
+filter_has f k a (suc n) low high is =
+    elim (eq-or-lt_of_le low) [
+      | inl e ↦ (let here : f a ≡ true = ap f e ∙ is in rw here (inl (sym e)))
+      | inr above ↦ (
+          let there = filter_has f k (a + 1) n (omega (arith, above)) (omega (arith, high)) is in
+          elim (f a) as (λ b. AnyByRecursion (λ c. k ≡ c) (cond b (a ∷ filter f (range_with_len (a + 1) n)) (filter f (range_with_len (a + 1) n)))) [ true ↦ inr there | false ↦ there ])
+    ]
+
+pub lie_in_few : LieInFew
+lie_in_few shape d pool flash es placed = (few, λ k is. among k (placed.owned k is))
+  where
+    few : length (value_blocks pool) ≤ data_blocks shape - 1
+    few =
+        let all = filter_row (λ b. is_for_values (slice_get pool.states b)) (is_owned_by for_values) pool.states 0 (λ i x is. let e : 0 + i ≡ i = omega arith in ap (λ k. is_for_values (slice_get pool.states k)) e ∙ ap is_for_values is) in
+        let most = placed.few in
+        omega (arith, all, most)
+
+    among : (k : ℕ) → HoldsValues pool (k / shape.block_pages) → AnyByRecursion (λ b. k / shape.block_pages ≡ b) (value_blocks pool)
+    among k held = filter_has (λ b. is_for_values (slice_get pool.states b)) (k / shape.block_pages) 0 (length pool.states) (omega arith) (omega (arith, slice_get_within pool.states (k / shape.block_pages) (Owned for_values) held)) (ap is_for_values held)
+
+pub none_in_spare : NoneInSpare
+none_in_spare shape d pool flash es b placed spare k here is =
+    let held : slice_get pool.states b ≡ Some (Owned for_values) = subst (λ c. HoldsValues pool c) here (placed.owned k is) in
+    elim spare [ inl free ↦ cc | inr ready ↦ cc ]

@@ -1,0 +1,5 @@
+pub mod State
+pub mod Placed
+pub mod Reserving
+pub mod Entries
+pub mod Laws

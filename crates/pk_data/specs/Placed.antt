@@ -1,0 +1,79 @@
+-- The values of a flash, as the live map, the pool and the open block tell them.
+use Rattle.std.specs.Prelude.{◌≡◌, ◌≢◌, ℕ, ◌+◌, ◌-◌, ◌*◌, ◌/◌, ◌<◌, ◌≤◌, List, [], ◌∷◌, length, map, filter, Bool, true, false, not, Option, Some, None, MatchOption, slice_get}
+use Rattle.std.specs.List.{range_with_len, AllByRecursion}
+use Rattle.std.specs.Ordering.{eq_by_cmp}
+use Rattle.pk_base.specs.Key.{Key, key_cmp}
+use Rattle.pk_base.specs.Shape.{Shape, IsShape, page_count, data_blocks}
+use Rattle.pk_base.specs.Page.{Flash, page_at, erased}
+use Rattle.pk_base.specs.Entry.{Place}
+use Rattle.pk_base.specs.EntryBytes.{IsPlace}
+use Rattle.pk_plan.specs.declared.owner.Owner.TheVariants.{Values as for_values}
+use Rattle.pk_pool.specs.declared.state.BlockState.TheVariants.{Owned}
+use Rattle.pk_pool.specs.Blocks.{Blocks, Fits, used_by}
+use Rattle.pk_live.specs.Values.{Values, IsClosed}
+use Rattle.pk_model.specs.Laws.{IsPageOf}
+use Rattle.pk_steps.specs.Under.{IsValuePage}
+use Rattle.pk_scan.specs.Lives.{head_of, Lives}
+use Rattle.pk_data.specs.declared.open_block.OpenBlock.{OpenBlock}
+use Rattle.pk_data.specs.State.{DataState}
+
+-- the pool has this block for values
+abbrev pub HoldsValues : Blocks → ℕ → Type 0
+HoldsValues pool b = slice_get pool.states b ≡ Some (Owned for_values)
+
+-- it is another one than the open block
+abbrev pub IsNotOpen : Option OpenBlock → ℕ → Type 0
+IsNotOpen None b = Unit {0}
+IsNotOpen (Some o) b = b ≢ o.block
+
+-- The open block is one for values. Its first pages are written, and those behind them are Erased.
+pub record IsOpenIn (shape : Shape) (pool : Blocks) (flash : Flash) (o : OpenBlock) : Type 0 where
+  pub owned : HoldsValues pool o.block
+  pub behind_roots : 2 ≤ o.block
+  pub exists : o.block < shape.blocks
+  pub within : o.used ≤ shape.block_pages
+  pub written : (k : ℕ) → o.block * shape.block_pages ≤ k → k < o.block * shape.block_pages + o.used → page_at flash k ≢ erased
+  pub unwritten : (k : ℕ) → o.block * shape.block_pages + o.used ≤ k → k < o.block * shape.block_pages + shape.block_pages → page_at flash k ≡ erased
+
+-- no page belongs to two of these values
+abbrev pub AreApart : Shape → List (Key × Place) → Type 0
+AreApart shape [] = Unit {0}
+AreApart shape (e ∷ es) = ((k : ℕ) → IsPageOf shape k e.1 → IsValuePage shape es k → ⊥) × AreApart shape es
+
+-- The values of these keys are live. Their pages are written, and lie in blocks that the pool has for values; of these blocks
+-- all but the open one are closed, and at most one less than all data blocks are in use.
+pub record Placed (shape : Shape) (d : DataState) (pool : Blocks) (flash : Flash) (es : List (Key × Place)) : Type 0 where
+  pub is_shape : IsShape shape
+  pub shape_is : pool.shape ≡ shape
+  pub size : length pool.states ≡ shape.blocks
+  pub fits : Fits pool flash
+  pub few : used_by for_values pool.states ≤ data_blocks shape - 1
+  -- the values
+  pub places : AllByRecursion (λ e. IsPlace shape e.1) es
+  pub apart : AreApart shape es
+  pub owned : (k : ℕ) → IsValuePage shape es k → HoldsValues pool (k / shape.block_pages)
+  pub written : (k : ℕ) → IsValuePage shape es k → page_at flash k ≢ erased
+  -- the live map
+  pub block_pages_is : d.live.block_pages ≡ shape.block_pages
+  pub heads_are : d.live.heads ≡ map (head_of shape es) (range_with_len 0 (page_count shape))
+  pub closed_size : length d.live.closed ≡ shape.blocks
+  pub closed_owned : (b : ℕ) → IsClosed d.live b → HoldsValues pool b × IsNotOpen d.open_block b
+  pub owned_closed : (b : ℕ) → HoldsValues pool b → IsNotOpen d.open_block b → IsClosed d.live b
+  -- the open block
+  pub open_is : MatchOption d.open_block (Unit {0}) (λ o. IsOpenIn shape pool flash o)
+
+-- As it is at opening: these values were taken one after another, their pages are written, and the pool has the blocks for
+-- values that are closed.
+pub record FoundAtOpening (shape : Shape) (named : List ℕ) (live : Values) (pool : Blocks) (flash : Flash) (es : List (Key × Place)) : Type 0 where
+  pub is_shape : IsShape shape
+  pub shape_is : pool.shape ≡ shape
+  pub size : length pool.states ≡ shape.blocks
+  pub fits : Fits pool flash
+  pub lives : Lives shape named live es
+  pub written : (k : ℕ) → IsValuePage shape es k → page_at flash k ≢ erased
+  pub closed_owned : (b : ℕ) → IsClosed live b → HoldsValues pool b
+  pub owned_closed : (b : ℕ) → HoldsValues pool b → IsClosed live b
+
+-- these values without that of a key
+abbrev pub without : Key → List (Key × Place) → List (Key × Place)
+without key es = filter (λ e. not (eq_by_cmp key_cmp key e.0)) es

@@ -1,0 +1,54 @@
+-- The pages for a value: what a call that finds them does.
+use Rattle.std.specs.Prelude.{◌≡◌, ◌≢◌, ◌⊎◌, ℕ, ◌+◌, ◌*◌, ◌/◌, ◌%◌, ◌<◌, ◌≤◌, List, true, false, Some}
+use Rattle.pk_base.specs.Shape.{Shape, page_count}
+use Rattle.pk_base.specs.Key.{Key}
+use Rattle.pk_base.specs.Entry.{Place}
+use Rattle.pk_base.specs.Page.{Flash, page_at, erased}
+use Rattle.pk_plan.specs.declared.owner.Owner.TheVariants.{Values as for_values}
+use Rattle.pk_nand.specs.BoardState.{BoardState}
+use Rattle.pk_nand.specs.Calls.{InOrder}
+use Rattle.pk_nand.specs.Crash.{SameOutside}
+use Rattle.pk_pool.specs.declared.state.BlockState.TheVariants.{Owned}
+use Rattle.pk_pool.specs.Blocks.{Blocks, IsSpare, with_state}
+use Rattle.pk_pool.specs.Taking.{TakesReady, ErasesFree, ReachesIn}
+use Rattle.pk_steps.specs.Under.{IsValuePage}
+use Rattle.pk_data.specs.State.{DataState, fits_open, next_page, opened}
+use Rattle.pk_data.specs.Placed.{HoldsValues}
+
+-- From this page on so many are the next Erased ones of the open block, which is one for values.
+pub record IsReserved (shape : Shape) (d : DataState) (pool : Blocks) (flash : Flash) (page count : ℕ) : Type 0 where
+  pub next : page ≡ next_page shape d
+  pub room : fits_open shape d count ≡ true
+  pub exists : page + count ≤ page_count shape
+  pub inside : page % shape.block_pages + count ≤ shape.block_pages
+  pub behind_roots : 2 ≤ page / shape.block_pages
+  pub owned : HoldsValues pool (page / shape.block_pages)
+  pub free : (k : ℕ) → page ≤ k → k < page + count → page_at flash k ≡ erased
+  pub order : InOrder shape flash page
+
+-- none of these pages belongs to a value
+abbrev pub IsFreeOf : Shape → List (Key × Place) → ℕ → ℕ → Type 0
+IsFreeOf shape es page count = (k : ℕ) → page ≤ k → k < page + count → IsValuePage shape es k → ⊥
+
+-- The open block had room, and nothing was done.
+pub record TakesNext (shape : Shape) (d : DataState) (p : Blocks) (old : BoardState) (count : ℕ) (d' : DataState) (q : Blocks) (new : BoardState) : Type 0 where
+  pub room : fits_open shape d count ≡ true
+  pub kept : d' ≡ d
+  pub same_pool : q ≡ p
+  pub same_board : new ≡ old
+
+-- It had none: it was closed, and a block without an owner was taken from the pool, by at most one erase.
+pub record OpensBlock (shape : Shape) (d : DataState) (p : Blocks) (old : BoardState) (count : ℕ) (d' : DataState) (q : Blocks) (new : BoardState) : Type 0 where
+  pub no_room : fits_open shape d count ≡ false
+  pub block : ℕ
+  pub opens : d' ≡ opened d block
+  pub spare : IsSpare p block
+  pub place : 2 ≤ block × block < p.shape.blocks
+  pub taken : q ≡ with_state p block (Owned for_values)
+  pub choice : TakesReady p old block new ⊎ ErasesFree p old block new
+  pub cuts : ReachesIn p.shape block old new
+
+-- nothing but the next so many pages differs, and these are written now
+pub record WritesNext (shape : Shape) (d : DataState) (count : ℕ) (old new : Flash) : Type 0 where
+  pub outside : SameOutside (next_page shape d) count old new
+  pub written : (k : ℕ) → next_page shape d ≤ k → k < next_page shape d + count → page_at new k ≢ erased

@@ -1,0 +1,71 @@
+-- Where values go: the live values, and the block that is being filled.
+use Rattle.std.specs.Prelude.{ℕ, ◌+◌, ◌-◌, ◌*◌, ◌≤◌, List, Bool, true, false, not, ◌&&◌, ◌==◌, nat_le, slice_set, Option, Some, None}
+use Rattle.pk_base.specs.Shape.{Shape, data_blocks}
+use Rattle.pk_plan.specs.declared.owner.Owner.TheVariants.{Values as for_values}
+use Rattle.pk_pool.specs.Blocks.{Blocks, used_by}
+use Rattle.pk_live.specs.Values.{Values}
+use Rattle.pk_data.specs.declared.open_block.OpenBlock.{OpenBlock}
+
+-- the live values with the blocks that are closed, and the block that takes the next value, where there is one
+pub record DataState : Type 0 where
+  pub live : Values
+  pub open_block : Option OpenBlock
+
+-- as after opening: no block takes values
+abbrev pub with_none_open : Values → DataState
+with_none_open live = record { live = live; open_block = None }
+
+-- so many Erased pages are left of the block
+abbrev pub has_left : Shape → Option OpenBlock → ℕ → Bool
+has_left shape None count = false
+has_left shape (Some o) count = nat_le (o.used + count) shape.block_pages
+
+abbrev pub fits_open : Shape → DataState → ℕ → Bool
+fits_open shape d count = has_left shape d.open_block count
+
+-- the next page of the block to be written
+abbrev pub page_behind : Shape → Option OpenBlock → ℕ
+page_behind shape None = 0
+page_behind shape (Some o) = o.block * shape.block_pages + o.used
+
+abbrev pub next_page : Shape → DataState → ℕ
+next_page shape d = page_behind shape d.open_block
+
+-- A value of so many pages has no room in the open block, and one more block would be the last one, which is kept for reclaims.
+abbrev pub needs_reclaim : Shape → DataState → Blocks → ℕ → Bool
+needs_reclaim shape d pool count = not (fits_open shape d count) && (used_by for_values pool.states == data_blocks shape - 1)
+
+-- the open block is closed, if there is one
+abbrev pub closed_with : Option OpenBlock → List Bool → List Bool
+closed_with None closed = closed
+closed_with (Some o) closed = slice_set closed o.block true
+
+-- this block takes values from now on, in place of the one before
+abbrev pub opened : DataState → ℕ → DataState
+opened d b = record {
+  live = record d.live { closed = closed_with d.open_block d.live.closed };
+  open_block = Some (record { block = b; used = 0 });
+}
+
+-- so many more pages of the block are written
+abbrev pub more_used : Option OpenBlock → ℕ → Option OpenBlock
+more_used None count = None
+more_used (Some o) count = Some (record { block = o.block; used = o.used + count })
+
+abbrev pub with_written : DataState → ℕ → DataState
+with_written d count = record d { open_block = more_used d.open_block count }
+
+-- the value at this page has so many pages, none where it is live no more
+abbrev pub with_head : DataState → ℕ → ℕ → DataState
+with_head d page count = record d { live = record d.live { heads = slice_set d.live.heads page count } }
+
+abbrev pub with_heads : DataState → List ℕ → DataState
+with_heads d heads = record d { live = record d.live { heads = heads } }
+
+abbrev pub with_closed : DataState → List Bool → DataState
+with_closed d closed = record d { live = record d.live { closed = closed } }
+
+-- blocks have at most 256 pages, and a flash at most 4,096 blocks
+abbrev pub IsSmall : Option OpenBlock → Type 0
+IsSmall None = Unit {0}
+IsSmall (Some o) = (o.block ≤ 4096) × (o.used ≤ 256)

@@ -1,0 +1,249 @@
+//! The data blocks of a drive.
+ghost use Rattle.std.specs.Prelude.{◌≡◌, ℕ, List, ◌+◌, ◌<◌, ◌≤◌, ◌⊎◌, false, true, sum, length, slice_get, slice_set, Some, None, IfOk, IfErr, OnOk, OnErr, MatchOption, if◌then◌else◌};
+ghost use Rattle.std.specs.FinMap.Entries.{put};
+ghost use Rattle.pk_base.specs.Key.{Key, key_cmp};
+ghost use Rattle.pk_base.specs.Shape as spec;
+ghost use Rattle.pk_base.specs.Page.{Flash};
+ghost use Rattle.pk_base.specs.Entry.{Place};
+ghost use Rattle.pk_nand.specs.Calls.{IsReady};
+ghost use Rattle.pk_nand.specs.declared.types.Fault.TheVariants.{Stopped};
+ghost use Rattle.pk_pool.specs.declared.state.BlockState.TheVariants.{Free};
+ghost use Rattle.pk_pool.specs.Blocks.{Blocks, with_state};
+ghost use Rattle.pk_pool.specs.Taking.{FailsToErase};
+ghost use Rattle.pk_live.specs.Values.{IsClosed, count_of};
+ghost use Rattle.pk_model.specs.Values.{all_pages};
+ghost use Rattle.pk_data.specs.State.{DataState, IsSmall, with_none_open, closed_with, opened, more_used, with_written, with_head, with_heads, with_closed};
+ghost use Rattle.pk_data.specs.State as state;
+ghost use Rattle.pk_data.specs.Placed.{Placed, FoundAtOpening, without};
+ghost use Rattle.pk_data.specs.Reserving.{IsReserved, TakesNext, OpensBlock, WritesNext, IsFreeOf};
+ghost use Rattle.pk_data.specs.Entries.{Held, Moves, IsInOpen, heads_without};
+
+use crate::open_block::OpenBlock;
+use crate::span::Span;
+use pk_base::Shape;
+use pk_live::Live;
+use pk_nand::{Fault, Nand};
+use pk_plan::Owner;
+use pk_pool::Pool;
+use std::alloc::Allocator;
+use std::marker::Model;
+
+/// Where values go: the live values with the blocks that are closed, and the block that takes the next value.
+#[derive(Drop)]
+pub struct Data<A: Allocator> {
+    live: Live<A>,
+    open_block: Option<OpenBlock>,
+}
+
+impl<A: Allocator> Model for Data<A> {
+    ghost use Rattle.pk_data.specs.State.{DataState, IsSmall};
+
+    ghost Value = { DataState };
+
+    ghost view = { λ d. record { live = d.live; open_block = d.open_block } };
+
+    ghost invariant = { λ d. IsSmall d.open_block };
+}
+
+// Closes the block, if there is one.
+fn close<A: Allocator>(live: &mut Live<A>, open_block: Option<OpenBlock>)
+    requires { MatchOption open_block (Unit {0}) (λ o. o.block < length live.old.closed) }
+    ensures { live.new ≡ record live.old { closed = closed_with open_block live.old.closed } }
+{
+    match open_block {
+        None => {}
+        Some(open) => live.close(open.block),
+    }
+}
+
+// The value at these pages is live no more, if there is one.
+fn clear<A: Allocator>(live: &mut Live<A>, old: Option<Span>)
+    requires { MatchOption old (Unit {0}) (λ s. slice_get live.old.heads s.page ≡ Some s.count) }
+    ensures { live.new ≡ record live.old { heads = heads_without old live.old.heads } }
+{
+    match old {
+        None => {}
+        Some(span) => live.clear(span.page, span.count),
+    }
+}
+
+// The block with so many more pages written, if there is one.
+fn more(shape: &Shape, open_block: Option<OpenBlock>, count: u32) -> Option<OpenBlock>
+    requires room { state.has_left shape.now open_block count ≡ true }
+    requires small { IsSmall open_block }
+    ensures value { result ≡ more_used open_block count }
+    ensures small { IsSmall result }
+{
+    shape.known();
+    match open_block {
+        None => None,
+        Some(open) => Some(OpenBlock {
+            block: open.block,
+            used: open.used + count,
+        }),
+    }
+}
+
+impl<A: Allocator> Data<A> {
+    /// As after opening: the values are live, and no block takes values. Takes no memory.
+    pub fn new(live: Live<A>) -> Data<A>
+        ensures value { result ≡ with_none_open live }
+        ensures placed { (shape : spec.Shape) (named : List ℕ) (pool : Blocks) (flash : Flash) (es : List (Key × Place)) → FoundAtOpening shape named live pool flash es → Placed shape result pool flash es }
+    {
+        Data {
+            live,
+            open_block: None,
+        }
+    }
+
+    /// All live pages.
+    pub fn total(&self) -> u32
+        ensures value { result ≡ sum self.now.live.heads }
+        ensures placed { (shape : spec.Shape) (pool : Blocks) (flash : Flash) (es : List (Key × Place)) → Placed shape self.now pool flash es → result ≡ length (all_pages shape es) }
+    {
+        self.live.total()
+    }
+
+    /// The live values, with the blocks that are closed.
+    pub fn live(&self) -> &Live<A>
+        ensures { result.now ≡ self.now.live }
+    {
+        &self.live
+    }
+
+    /// The block that takes the next value, where there is one.
+    pub fn open_block(&self) -> Option<OpenBlock>
+        ensures { result ≡ self.now.open_block }
+    {
+        self.open_block
+    }
+
+    /// Whether a value of so many pages has room in the open block.
+    pub fn fits_open(&self, shape: &Shape, count: u32) -> bool
+        requires { count ≤ spec.most_pages shape.now }
+        ensures { result ≡ state.fits_open shape.now self.now count }
+    {
+        let pages = shape.block_pages();
+        match self.open_block {
+            None => false,
+            Some(open) => open.used + count <= pages,
+        }
+    }
+
+    /// Whether a block has to be reclaimed before a value of so many pages: it has no room in the open block, and the pool has
+    /// but one block left for values, which is kept for reclaims.
+    pub fn needs_reclaim(&self, shape: &Shape, pool: &Pool<A>, count: u32) -> bool
+        requires { count ≤ spec.most_pages shape.now }
+        ensures { result ≡ state.needs_reclaim shape.now self.now pool.now count }
+    {
+        !self.fits_open(shape, count) && pool.used(Owner::Values) == shape.data_blocks() - 1
+    }
+
+    // The next page of the open block, where it has room for so many.
+    fn next_in_open(&self, shape: &Shape, count: u32) -> Option<u32>
+        requires { count ≤ spec.most_pages shape.now }
+        ensures { result ≡ (if state.fits_open shape.now self.now count then Some (state.next_page shape.now self.now) else None) }
+    {
+        let pages = shape.block_pages();
+        match self.open_block {
+            None => None,
+            Some(open) => {
+                if open.used + count <= pages {
+                    Some(open.block * pages + open.used)
+                } else {
+                    None
+                }
+            }
+        }
+    }
+
+    // This block takes values from now on, and the one before is closed.
+    fn open_next(&mut self, block: u32)
+        requires small { block ≤ 4096 }
+        requires closes { MatchOption self.old.open_block (Unit {0}) (λ o. o.block < length self.old.live.closed) }
+        ensures { self.new ≡ opened self.old block }
+    {
+        close(&mut self.live, self.open_block);
+        self.open_block = Some(OpenBlock { block, used: 0 });
+    }
+
+    /// Finds the pages for a value of `count` pages, and answers the first: the next ones of the open block where it has room;
+    /// else the open block is closed, and another one is taken from the pool, by at most one erase. `Stopped` where this erase
+    /// fails; nothing changes then but the flash.
+    pub fn reserve<B: Nand>(
+        &mut self,
+        board: &mut B,
+        shape: &Shape,
+        pool: &mut Pool<A>,
+        count: u32,
+    ) -> Result<u32, Fault>
+        requires some { 1 ≤ count }
+        requires most { count ≤ spec.most_pages shape.now }
+        requires ready { IsReady (B.state board.old) shape.now }
+        requires placed { (es : List (Key × Place)) × Placed shape.now self.old pool.old (B.state board.old).pages es }
+        requires room { state.needs_reclaim shape.now self.old pool.old count ≡ false }
+        ensures reserved { IfOk result (λ page. IsReserved shape.now self.new pool.new (B.state board.new).pages page count) }
+        ensures cases { OnOk result (TakesNext shape.now self.old pool.old (B.state board.old) count self.new pool.new (B.state board.new) ⊎ OpensBlock shape.now self.old pool.old (B.state board.old) count self.new pool.new (B.state board.new)) }
+        ensures free { IfOk result (λ page. (es : List (Key × Place)) → Placed shape.now self.old pool.old (B.state board.old).pages es → IsFreeOf shape.now es page count) }
+        ensures stopped { IfErr result (λ e. e ≡ Stopped) }
+        ensures failed { OnErr result (FailsToErase pool.old (B.state board.old) (B.state board.new)) }
+        ensures had_no_room { OnErr result (state.fits_open shape.now self.old count ≡ false) }
+        ensures kept { OnErr result (self.new ≡ self.old) }
+        ensures kept_pool { OnErr result (pool.new ≡ pool.old) }
+        ensures placed { (es : List (Key × Place)) → Placed shape.now self.old pool.old (B.state board.old).pages es → Placed shape.now self.new pool.new (B.state board.new).pages es }
+        ensures ready { IsReady (B.state board.new) shape.now }
+    {
+        match self.next_in_open(shape, count) {
+            Some(page) => Ok(page),
+            None => match pool.take(board, Owner::Values) {
+                Ok(block) => {
+                    self.open_next(block);
+                    Ok(block * shape.block_pages())
+                }
+                Err(_) => Err(Fault::Stopped),
+            },
+        }
+    }
+
+    /// So many more pages of the open block are written, behind the others.
+    pub fn wrote(&mut self, shape: &Shape, count: u32)
+        requires { state.fits_open shape.now self.old count ≡ true }
+        ensures written { self.new ≡ with_written self.old count }
+        ensures in_open { IsInOpen shape.now self.new (state.next_page shape.now self.old) count }
+        ensures placed { (pool : Blocks) (old new : Flash) (es : List (Key × Place)) → Placed shape.now self.old pool old es → WritesNext shape.now self.old count old new → Placed shape.now self.new pool new es }
+    {
+        self.open_block = more(shape, self.open_block, count);
+    }
+
+    /// A key has its value at the pages of `new` from now on, and no more at those of `old`.
+    pub fn replace(&mut self, old: Option<Span>, new: Span)
+        requires { Moves self.old old new }
+        ensures moved { self.new ≡ with_head (with_heads self.old (heads_without old self.old.live.heads)) new.page new.count }
+        ensures placed { (m : Moves self.old old new) → Placed m.shape self.new m.pool m.flash (put key_cmp m.key m.place m.es) }
+    {
+        clear(&mut self.live, old);
+        self.live.set(new.page, new.count);
+    }
+
+    /// The value at these pages is live no more: its key was removed.
+    pub fn remove(&mut self, span: Span)
+        requires { Held self.old span }
+        ensures removed { self.new ≡ with_head self.old span.page 0 }
+        ensures placed { (h : Held self.old span) → Placed h.shape self.new h.pool h.flash (without h.key h.es) }
+    {
+        self.live.clear(span.page, span.count);
+    }
+
+    /// Gives a closed block without live pages back to the pool.
+    pub fn release(&mut self, pool: &mut Pool<A>, block: u32)
+        requires closed { IsClosed self.old.live block }
+        requires empty { count_of self.old.live block ≡ 0 }
+        requires placed { (shape : spec.Shape) × (flash : Flash) × (es : List (Key × Place)) × Placed shape self.old pool.old flash es }
+        ensures released { self.new ≡ with_closed self.old (slice_set self.old.live.closed block false) }
+        ensures given { pool.new ≡ with_state pool.old block Free }
+        ensures placed { (shape : spec.Shape) (flash : Flash) (es : List (Key × Place)) → Placed shape self.old pool.old flash es → Placed shape self.new pool.new flash es }
+    {
+        self.live.forget(block);
+        pool.give(block);
+    }
+}

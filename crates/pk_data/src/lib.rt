@@ -1,0 +1,15 @@
+//! Where values go: the live map of a drive, and the data block that is being filled.
+//!
+//! A value's pages are the next Erased ones of the open block, or the first of a block that was handed out for it. The live map
+//! stands for the values of the keys that are there, whatever of them is written, replaced or removed.
+#![tactic(auto)]
+
+mod data_space;
+mod laws;
+mod open_block;
+mod span;
+
+pub use data_space::Data;
+pub use laws::{elsewhere, starts_with_none, value_blocks};
+pub use open_block::OpenBlock;
+pub use span::Span;
