@@ -1,1 +1,5 @@
+pub mod Parts
+pub mod Agreeing
 pub mod Finding
+pub mod Done
+pub mod Moves

@@ -4,7 +4,10 @@
 //! flash holds what the contract of a drive says.
 #![tactic(auto)]
 
+mod drive;
 mod lookup;
+mod moves;
 mod place;
 
+pub use drive::Drive;
 pub use place::ValuePlace;

@@ -1,0 +1,46 @@
+-- How a drive stands to its flash.
+use Rattle.std.specs.Prelude.{◌≡◌, ℕ, ◌/◌, List, [], ◌++◌, length, Option, Some, slice_get}
+use Rattle.std.specs.List.{concat}
+use Rattle.pk_base.specs.Shape.{Shape, pinned}
+use Rattle.pk_base.specs.Page.{Flash, IsFlash}
+use Rattle.pk_base.specs.Map.{Map}
+use Rattle.pk_plan.specs.declared.owner.Owner.TheVariants.{Journal, Meta}
+use Rattle.pk_rootfmt.specs.Root.{Root}
+use Rattle.pk_pool.specs.declared.state.BlockState.TheVariants.{Owned}
+use Rattle.pk_pool.specs.Blocks.{used_by}
+use Rattle.pk_level.specs.Levels.{StandEach}
+use Rattle.pk_model.specs.Found.{Found}
+use Rattle.pk_model.specs.Laws.{AnyByRecursion}
+use Rattle.pk_steps.specs.Under.{IsUnder, IsValuePage, places}
+use Rattle.pk_log.specs.Logs.{Logs}
+use Rattle.pk_data.specs.Placed.{HoldsValues, Placed}
+use Rattle.pk_core.specs.Parts.{Parts}
+
+-- The parts are those of what stands under the newest root: without is the map of the flash, all the one with the pending entries.
+pub record AgreesWith (d : Parts) (shape : Shape) (flash : Flash) (top : ℕ × Root) (found : Found) (without all : Map) : Type 0 where
+  pub shape_is : d.log.shape ≡ shape
+  pub is_flash : IsFlash shape flash
+  pub logs : Logs d.log flash top found
+  pub committed : IsUnder shape flash [] top found without
+  pub pending : IsUnder shape flash d.log.pending top found all
+  pub levels_shape : d.levels.shape ≡ shape
+  pub levels_pinned : d.levels.pinned ≡ pinned shape d.frames
+  pub stand : StandEach flash d.arena d.levels.runs found.runs
+  -- the values of the map with the pending entries, and where those without them lie
+  pub placed : Placed shape d.space d.pool flash (places found d.log.pending)
+  pub former : (k : ℕ) → IsValuePage shape (places found []) k → HoldsValues d.pool (k / shape.block_pages)
+  -- the blocks that the root names are those of the journal and of the runs
+  pub journal : (b : ℕ) → AnyByRecursion (λ c. b ≡ c) (top.1.newest ++ top.1.older) → slice_get d.pool.states b ≡ Some (Owned Journal)
+  pub journal_few : used_by Journal d.pool.states ≡ length (top.1.newest ++ top.1.older)
+  pub runs : (b : ℕ) → AnyByRecursion (λ c. b ≡ c) (concat top.1.runs) → slice_get d.pool.states b ≡ Some (Owned Meta)
+  pub keys_are : d.keys ≡ length (places found d.log.pending)
+
+-- the board has this shape and these pages, and the drive agrees with them
+pub record Agrees (d : Parts) (told : Option Shape) (flash : Flash) : Type 0 where
+  pub shape : Shape
+  pub top : ℕ × Root
+  pub found : Found
+  pub without : Map
+  pub all : Map
+  pub told_is : told ≡ Some shape
+  pub with : AgreesWith d shape flash top found without all

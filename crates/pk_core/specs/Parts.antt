@@ -1,0 +1,84 @@
+-- What a drive keeps in memory, and what contracts see of it.
+use Rattle.std.specs.Prelude.{ℕ, Bool, true, false, List, [], length, sum, count_by, Option, Some, None, nat_le, ◌==◌, ◌||◌, ◌&&◌, not}
+use Rattle.pk_base.specs.Shape.{Shape, buffer, charge, limit, pinned}
+use Rattle.pk_nvme.specs.declared.request.Request.{Request}
+use Rattle.pk_nvme.specs.Seen.{command_of}
+use Rattle.pk_plan.specs.declared.owner.Owner.TheVariants.{Values}
+use Rattle.pk_pin.specs.Frames.{Frames, leased_frames}
+use Rattle.pk_pool.specs.Blocks.{Blocks, is_ready, used_by}
+use Rattle.pk_level.specs.Levels.{Levels, run_of}
+use Rattle.pk_jrn.specs.Epochs.{left_of}
+use Rattle.pk_model.specs.Answer.{early}
+use Rattle.pk_model.specs.Sight.{Sight, Counts}
+use Rattle.pk_log.specs.State.{LogState}
+use Rattle.pk_data.specs.State.{DataState, needs_reclaim}
+use Rattle.pk_data.specs.declared.open_block.OpenBlock.{OpenBlock}
+
+-- the log, the runs with the arena of their frames, where values lie, the blocks, how many keys there are, the frames, and whether it stopped
+pub record Parts : Type 0 where
+  pub log : LogState
+  pub levels : Levels
+  pub arena : Frames
+  pub space : DataState
+  pub pool : Blocks
+  pub keys : ℕ
+  pub frames : ℕ
+  pub stopped : Bool
+
+abbrev pub shape_of : Parts → Shape
+shape_of d = d.log.shape
+
+-- the sixteen numbers of a Report
+abbrev pub counts_of : Parts → Counts
+counts_of d = record {
+  live = sum d.space.live.heads;
+  limit = limit d.log.shape;
+  keys = d.keys;
+  pinned = pinned d.log.shape d.frames;
+  frames = d.frames;
+  leased = leased_frames d.arena;
+  active = length d.log.active.entries;
+  frozen = length d.log.frozen.entries;
+  run1 = (run_of d.levels 1).count;
+  run2 = (run_of d.levels 2).count;
+  run3 = (run_of d.levels 3).count;
+  run4 = (run_of d.levels 4).count;
+  epoch = d.log.epoch.used;
+  blocks = used_by Values d.pool.states;
+  ready = count_by is_ready d.pool.states;
+  merge = 0;
+}
+
+abbrev pub block_if_open : Option OpenBlock → Option ℕ
+block_if_open None = None
+block_if_open (Some o) = Some o.block
+
+-- merges and reclaims are not built, so none runs
+abbrev pub sight_of : Parts → Sight
+sight_of d = record {
+  frames = d.frames;
+  pending = d.log.pending;
+  stopped = d.stopped;
+  counts = counts_of d;
+  open_block = block_if_open d.space.open_block;
+  reclaims = false;
+  fresh = d.log.epoch.takes_more;
+}
+
+-- a Store or Delete may want a freeze while the frozen buffer has entries: the active one is full, or the epoch takes no more pages
+abbrev pub wants_second_freeze : Parts → Bool
+wants_second_freeze d = nat_le 1 (length d.log.frozen.entries) && (nat_le (buffer d.log.shape) (length d.log.active.entries) || left_of d.log.epoch == 0)
+
+-- What is built of a command that passed the checks that read it alone: all but a second freeze and a reclaim.
+abbrev pub is_built_for : Parts → ℕ → ℕ → Bool
+is_built_for d opcode size =
+    not ((opcode == 0x01 || opcode == 0x10) && wants_second_freeze d)
+    && not (opcode == 0x01 && needs_reclaim d.log.shape d.space d.pool (charge d.log.shape size))
+
+abbrev pub built_if : Parts → Request → Option ℕ → Bool
+built_if d r None = is_built_for d r.opcode r.size
+built_if d r (Some status) = true
+
+-- a command that is refused by those checks is always served
+abbrev pub is_built : Parts → Request → Bool
+is_built d r = built_if d r (early d.log.shape (command_of r []))
