@@ -1,0 +1,137 @@
+-- A flash that was just formatted may be frozen.
+use Rattle.std.proofs.Common.{◌≡◌, ◌⊎◌, inl, inr, ℕ, zero, suc, ◌+◌, ◌-◌, ◌*◌, ◌%◌, ◌/◌, ◌<◌, ◌≤◌, List, [], ◌∷◌, length, replicate, Option, Some, Ok, false, refl, sym, ap, subst, ◌∙◌, arith, slice_set}
+use Rattle.std.specs.Prelude.{slice_get}
+use Rattle.std.specs.FinMap.{from_entries}
+use Rattle.pk_base.specs.Shape.{Shape, IsShape, checked, deepest, meta_blocks, limit, data_blocks, charge, greatest}
+use Rattle.pk_base.specs.Page.{Page, Flash, page_at, erased, whole}
+use Rattle.pk_base.specs.Map.{Map}
+use Rattle.pk_plan.specs.declared.owner.Owner.TheVariants.{Journal}
+use Rattle.pk_nand.specs.Calls.{InOrder}
+use Rattle.pk_jrnfmt.specs.Epoch.{epoch}
+use Rattle.pk_meta.specs.Run.{run}
+use Rattle.pk_rootfmt.specs.Root.{Root, root_bytes, root_page}
+use Rattle.pk_rootfmt.specs.Held.{Held, first}
+use Rattle.pk_rootfmt.specs.Newest.{newest_root}
+use Rattle.pk_model.specs.Found.{Found, found_under, runs_from}
+use Rattle.pk_model.specs.Values.{values_of}
+use Rattle.pk_model.specs.Reading.{map_under}
+use Rattle.pk_pool.specs.declared.state.BlockState.TheVariants.{Free, Ready, Owned}
+use Rattle.pk_pool.specs.Blocks.{Blocks, unused, with_state, IsSpare, Fits as PoolFits}
+use Rattle.pk_root.specs.declared.next.Next.{Next}
+use Rattle.pk_root.specs.Installing.{Fits}
+use Rattle.pk_steps.specs.Under.{IsUnder}
+use Rattle.pk_steps.proofs.Places.{In}
+use Rattle.pk_compact.specs.Freezing.{IsApart, MayFreeze}
+
+abbrev pub small : Shape
+small = record { page_bytes = 512; block_pages = 16; blocks = 64 }
+
+abbrev pub made : Flash
+made = slice_set (replicate 1024 erased) 0 (whole (root_bytes small first))
+
+abbrev pub adopted : Blocks
+adopted = with_state (with_state (unused small) 2 (Owned Journal)) 3 (Owned Journal)
+
+abbrev nothing : Found
+nothing = record { newest = []; older = []; runs = [] ∷ [] ∷ [] ∷ [] ∷ [] }
+
+abbrev empty : Map
+empty = from_entries []
+
+pub small_is : checked small ≡ Ok small
+unfolding checked deepest meta_blocks
+small_is = refl
+
+pub made_newest : newest_root small (page_at made) ≡ Some (0, first)
+unfolding newest_root root_page deepest
+made_newest = refl
+
+made_found : found_under small (page_at made) first ≡ Ok nothing
+unfolding found_under epoch runs_from run
+made_found = refl
+
+made_map : map_under small (page_at made) first nothing [] ≡ Ok empty
+unfolding map_under values_of charge limit data_blocks meta_blocks deepest greatest
+made_map = refl
+
+two_free : slice_get adopted.states 2 ≡ Some Free → ⊥
+two_free e = cc
+
+two_ready : slice_get adopted.states 2 ≡ Some Ready → ⊥
+two_ready e = cc
+
+three_free : slice_get adopted.states 3 ≡ Some Free → ⊥
+three_free e = cc
+
+three_ready : slice_get adopted.states 3 ≡ Some Ready → ⊥
+three_ready e = cc
+
+not_named : (b : ℕ) → IsSpare adopted b → In b (2 ∷ 3 ∷ []) → ⊥
+not_named b (inl free) (inl e) = let P : ℕ → Type 0 = λ x. slice_get adopted.states x ≡ Some Free in two_free (subst P e free)
+not_named b (inl free) (inr (inl e)) = let P : ℕ → Type 0 = λ x. slice_get adopted.states x ≡ Some Free in three_free (subst P e free)
+not_named b (inr ready) (inl e) = let P : ℕ → Type 0 = λ x. slice_get adopted.states x ≡ Some Ready in two_ready (subst P e ready)
+not_named b (inr ready) (inr (inl e)) = let P : ℕ → Type 0 = λ x. slice_get adopted.states x ≡ Some Ready in three_ready (subst P e ready)
+not_named b spare (inr (inr none)) = absurd none
+
+is_owned : (b : ℕ) → In b (2 ∷ 3 ∷ []) → slice_get adopted.states b ≡ Some (Owned Journal)
+is_owned b (inl e) = let P : ℕ → Type 0 = λ x. slice_get adopted.states x ≡ Some (Owned Journal) in subst P (sym e) refl
+is_owned b (inr (inl e)) = let P : ℕ → Type 0 = λ x. slice_get adopted.states x ≡ Some (Owned Journal) in subst P (sym e) refl
+is_owned b (inr (inr none)) = absurd none
+
+abbrev top : ℕ × Root
+top = (0, first)
+
+made_may : (next : Next) → PoolFits adopted made → Fits small next top made → MayFreeze adopted (record { shape = small; root = first }) next made false top nothing empty
+made_may next pool_fits installs = record {
+  pool_shape = refl;
+  pool_fits = pool_fits;
+  installs = installs;
+  top_is = refl;
+  under = record { is_top = made_newest; is_found = made_found; is_map = made_map };
+  none_older = refl;
+  none_named = refl;
+  told = refl;
+  number = omega arith;
+  room = omega arith;
+  owned = is_owned;
+  apart = record { unnamed = not_named; no_value = λ b k spare e is. is };
+}
+
+pub first_may : (pool : Blocks) (root : Held) (next : Next) (flash : Flash) → root ≡ record { shape = small; root = first } → flash ≡ made → pool ≡ adopted → PoolFits pool flash → Fits root.shape next (0, first) flash
+    → (x : ℕ × Root) × (f : Found) × (m : Map) × MayFreeze pool root next flash false x f m
+first_may pool root next flash root_is flash_is pool_is pool_fits installs =
+    let P : Blocks → Type 0 = λ p. PoolFits p flash in
+    let Q : Flash → Type 0 = λ f. PoolFits adopted f in
+    let R : Held → Type 0 = λ h. Fits h.shape next (0, first) flash in
+    let S : Flash → Type 0 = λ f. Fits small next (0, first) f in
+    let may = made_may next (subst Q flash_is (subst P pool_is pool_fits)) (subst S flash_is (subst R root_is installs)) in
+    let A : Blocks → Type 0 = λ p. MayFreeze p (record { shape = small; root = first }) next made false top nothing empty in
+    let B : Held → Type 0 = λ h. MayFreeze pool h next made false top nothing empty in
+    let C : Flash → Type 0 = λ f. MayFreeze pool root next f false top nothing empty in
+    (top, nothing, empty, subst C (sym flash_is) (subst B (sym root_is) (subst A (sym pool_is) may)))
+
+-- the first page of a flash without a program is the next one
+erased_at : (n k : ℕ) → k < n → page_at (replicate n erased) k ≡ erased
+erased_at zero k low = absurd (omega (arith, low))
+erased_at (suc n) zero low = refl
+erased_at (suc n) (suc k) low = erased_at n k (omega (arith, low))
+
+pub first_order : (flash : Flash) → flash ≡ replicate 1024 erased → InOrder small flash 0
+first_order flash is =
+    let P : Flash → Type 0 = λ f. InOrder small f 0 in
+    subst P (sym is) (record { before = λ k low high. absurd (omega (arith, high)); behind = λ k low high. erased_at 1024 k (omega (arith, high)) })
+
+pub newest_is : (page : ℕ) (root : Root) → newest_root small (page_at made) ≡ Some (page, root) → (page ≡ 0) × (root ≡ first)
+newest_is page root is = (ap page_of same, ap root_of same)
+  where
+    page_of : ℕ × Root → ℕ
+    page_of x = x.0
+
+    root_of : ℕ × Root → Root
+    root_of x = x.1
+
+    some_same : (x y : ℕ × Root) → ◌≡◌ {A = Option (ℕ × Root)} (Some x) (Some y) → x ≡ y
+    some_same x y e = cc
+
+    same : ◌≡◌ {A = ℕ × Root} (page, root) (0, first)
+    same = some_same (page, root) (0, first) (sym is ∙ made_newest)

@@ -1,0 +1,54 @@
+//! The two blocks of an epoch, taken from the pool and given back.
+ghost use Rattle.std.specs.Prelude.{◌≡◌, ◌≤◌, ◌≢◌, ℕ, ◌∷◌, [], List, length, slice_get, slice_index, Some, if◌then◌else◌, IfOk, IfErr, OnOk, OnErr};
+ghost use Rattle.pk_base.specs.Page.{Flash};
+ghost use Rattle.pk_plan.specs.declared.owner.Owner.TheVariants.{Journal};
+ghost use Rattle.pk_nand.specs.Calls.{IsReady};
+ghost use Rattle.pk_nand.specs.declared.types.Fault.TheVariants.{Stopped};
+ghost use Rattle.pk_pool.specs.declared.state.BlockState.TheVariants.{Owned};
+ghost use Rattle.pk_pool.specs.Blocks.{used_by, Fits};
+ghost use Rattle.pk_compact.specs.Freezing.{given_back};
+ghost use Rattle.pk_compact.specs.Steps.{TakesTwo, FailsToTake};
+
+use pk_nand::{Fault, Nand};
+use pk_pool::{Owner, Pool};
+use std::alloc::Allocator;
+
+/// Takes two blocks for an epoch, each by at most one erase. `Stopped` where an erase fails.
+pub(crate) fn take_two<B: Nand, A: Allocator>(
+    board: &mut B,
+    pool: &mut Pool<A>,
+) -> Result<[u16; 2], Fault>
+    requires room { used_by Journal pool.old.states ≤ 2 }
+    requires ready { IsReady (B.state board.old) pool.old.shape }
+    requires fits { Fits pool.old (B.state board.old).pages }
+    ensures taken { IfOk result (λ blocks. TakesTwo pool.old (B.state board.old) blocks pool.new (B.state board.new)) }
+    ensures stopped { IfErr result (λ e. e ≡ Stopped) }
+    ensures failed { OnErr result (FailsToTake pool.old (B.state board.old) (B.state board.new)) }
+    ensures ready { IsReady (B.state board.new) pool.new.shape }
+    ensures fits { Fits pool.new (B.state board.new).pages }
+    ensures shape { pool.new.shape ≡ pool.old.shape }
+{
+    pool.known();
+    match pool.take(board, Owner::Journal) {
+        Ok(first) => match pool.take(board, Owner::Journal) {
+            Ok(second) => Ok([first as u16, second as u16]),
+            Err(fault) => Err(fault),
+        },
+        Err(fault) => Err(fault),
+    }
+}
+
+/// Gives the blocks of an epoch without entries back, which is named no more; another one stays.
+pub(crate) fn give_back<A: Allocator>(pool: &mut Pool<A>, blocks: [u16; 2], has_entries: bool)
+    requires first { slice_get pool.old.states (slice_index blocks 0) ≡ Some (Owned Journal) }
+    requires second { slice_get pool.old.states (slice_index blocks 1) ≡ Some (Owned Journal) }
+    requires different { slice_index blocks 1 ≢ slice_index blocks 0 }
+    ensures given { pool.new ≡ given_back pool.old (if has_entries then [] else slice_index blocks 0 ∷ slice_index blocks 1 ∷ []) }
+    ensures fits { (flash : Flash) → Fits pool.old flash → Fits pool.new flash }
+{
+    if has_entries {
+        return;
+    }
+    pool.give(blocks[0] as u32);
+    pool.give(blocks[1] as u32);
+}
