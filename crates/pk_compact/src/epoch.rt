@@ -39,6 +39,7 @@ pub fn freeze<B: Nand, A: Allocator>(
     ensures works { OnOk result (Works (B.state board.old) (B.state board.new)) }
     ensures fits { OnOk result (Fits pool.new (B.state board.new).pages) }
     ensures shape { OnOk result ((root.new.shape ≡ root.old.shape) × (pool.new.shape ≡ root.old.shape)) }
+    ensures root_shape { root.new.shape ≡ root.old.shape }
     ensures stopped { IfErr result (λ e. e ≡ Stopped) }
     ensures went { OnErr result ((top : ℕ × RootValue) (found : Found) (m : Map) → MayFreeze pool.old root.old installer.old (B.state board.old).pages has_entries top found m → Goes root.old.shape (B.state board.old) (B.state board.new) (TickCut root.old.shape m)) }
     ensures stops { OnErr result (Stops (B.state board.old) (B.state board.new)) }

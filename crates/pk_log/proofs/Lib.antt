@@ -2,3 +2,4 @@ pub mod Going
 pub mod Standing
 pub mod Pushing
 pub mod Committing
+pub mod Freezing

@@ -1,4 +1,5 @@
 pub mod State
 pub mod Logs
 pub mod Commits
+pub mod Freezes
 pub mod Laws

@@ -3,6 +3,7 @@
 //! cut, the flash holds the map without them or with them.
 #![tactic(auto)]
 
+mod freeze;
 mod laws;
 mod log;
 

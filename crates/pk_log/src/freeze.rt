@@ -1,0 +1,63 @@
+//! The freeze of a log.
+ghost use Rattle.std.specs.Prelude.{◌≡◌, ℕ, length, IfErr, OnOk, OnErr};
+ghost use Rattle.pk_base.specs.Map.{Map};
+ghost use Rattle.pk_nand.specs.Calls.{IsReady};
+ghost use Rattle.pk_nand.specs.declared.types.Fault.TheVariants.{Stopped};
+ghost use Rattle.pk_rootfmt.specs.Root.{Root as RootValue};
+ghost use Rattle.pk_model.specs.Found.{Found};
+ghost use Rattle.pk_pool.specs.Blocks.{Fits};
+ghost use Rattle.pk_drive.specs.Growth.{Goes};
+ghost use Rattle.pk_drive.specs.Tick.{TickCut};
+ghost use Rattle.pk_compact.specs.Working.{Works, Stops};
+ghost use Rattle.pk_log.specs.Freezes.{CanFreeze, LogFroze};
+
+use crate::log::Log;
+use pk_compact::freeze as freeze_root;
+use pk_jrn::Epoch;
+use pk_nand::{Fault, Nand};
+use pk_pool::Pool;
+use pk_region::Region;
+
+impl<A: Region> Log<A> {
+    /// Begins an empty epoch in two blocks of the pool. The former one is the older one now, where it has entries, and the
+    /// buffers are exchanged. Nothing may be pending, and nothing frozen. At most three erases and one program; wherever it is
+    /// cut, the map is the same. `Stopped` where one of them fails; log and pool are not to be used any more then. `buf` has
+    /// the bytes of a page, which are lost.
+    pub fn freeze<B: Nand>(
+        &mut self,
+        board: &mut B,
+        pool: &mut Pool<A>,
+        buf: &mut [u8],
+    ) -> Result<(), Fault>
+        requires ready { IsReady (B.state board.old) self.old.shape }
+        requires can { (top : ℕ × RootValue) × (found : Found) × (m : Map) × CanFreeze self.old pool.old (B.state board.old).pages top found m }
+        requires room { length buf.old ≡ self.old.shape.page_bytes }
+        ensures froze { OnOk result ((top : ℕ × RootValue) (found : Found) (m : Map) → CanFreeze self.old pool.old (B.state board.old).pages top found m → LogFroze self.old pool.old (B.state board.old) top found m self.new pool.new (B.state board.new)) }
+        ensures works { OnOk result (Works (B.state board.old) (B.state board.new)) }
+        ensures fits { OnOk result (Fits pool.new (B.state board.new).pages) }
+        ensures shape { OnOk result ((self.new.shape ≡ self.old.shape) × (pool.new.shape ≡ self.old.shape)) }
+        ensures stopped { IfErr result (λ e. e ≡ Stopped) }
+        ensures went { OnErr result ((top : ℕ × RootValue) (found : Found) (m : Map) → CanFreeze self.old pool.old (B.state board.old).pages top found m → Goes self.old.shape (B.state board.old) (B.state board.new) (TickCut self.old.shape m)) }
+        ensures stops { OnErr result (Stops (B.state board.old) (B.state board.new)) }
+        ensures ready { IsReady (B.state board.new) self.old.shape }
+        ensures buffer { length buf.new ≡ length buf.old }
+    {
+        let has_entries = self.active.len() > 0;
+        match freeze_root(
+            board,
+            pool,
+            &mut self.root,
+            &mut self.installer,
+            has_entries,
+            buf,
+        ) {
+            Ok(blocks) => {
+                let shape = *self.root.shape();
+                self.epoch = Epoch::start(shape, self.root.epoch(), blocks);
+                self.active.exchange(&mut self.frozen);
+                Ok(())
+            }
+            Err(fault) => Err(fault),
+        }
+    }
+}
