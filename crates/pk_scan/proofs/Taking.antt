@@ -1,9 +1,9 @@
 -- A value more: whether its pages may be taken, and the live map with it.
 use Rattle.std.proofs.Common.{◌≡◌, inl, inr, ℕ, ◌+◌, ◌-◌, ◌/◌, ◌%◌, ◌<◌, ◌≤◌, Bool, true, false, not, ◌&&◌, ◌||◌, cond, List, [], ◌∷◌, ◌++◌, length, get_or, map, sum, refl, sym, subst, ap, ◌∙◌, arith, ◌==◌, length-append}
-use Rattle.std.specs.Prelude.{count_by, nat_le, slice_get, Some, IsTrue, ◌↔◌}
+use Rattle.std.specs.Prelude.{count_by, nat_le, nat_lt, suc, slice_get, Some, IsTrue, ◌↔◌}
 use Rattle.std.specs.List.{list_any, list_all, range_with_len}
 use Rattle.std.proofs.Math.ListN.{set}
-use Rattle.std.proofs.lemmas.Bool.{false≢true, or_right, and_parts, eq-eqb, ne_eqb, cases_lt}
+use Rattle.std.proofs.lemmas.Bool.{false≢true, or_right, and_parts, eq-eqb, ne_eqb, cases_lt, le-leb, lt-leb, leb-true}
 use Rattle.std.proofs.lemmas.Bool.Decides.{same_from_decides}
 use Rattle.std.proofs.lemmas.List.FromFn.{length-range_with_len, length-map-range_with_len, get_or-map-range_with_len}
 use Rattle.std.proofs.lemmas.List.Folds.{list_any-append, list_all-append}
@@ -32,13 +32,14 @@ module _ (shape : Shape) (named : List ℕ) where
   record FitsNow (pages : List ℕ) : Type 0 where
     pub out : list_all outside pages ≡ true
     pub apart : differ pages ≡ true
+    pub few_blocks : nat_le (length (blocks_with shape pages)) (data_blocks shape - 1) ≡ true
 
   fits_now : (pages : List ℕ) → fits shape named pages ≡ true → FitsNow pages
   fits_now pages e =
       let a = and_parts ((list_all outside pages && differ pages) && nat_le (length pages) (limit shape)) (nat_le (length (blocks_with shape pages)) (data_blocks shape - 1)) e in
       let b = and_parts (list_all outside pages && differ pages) (nat_le (length pages) (limit shape)) a.0 in
       let c = and_parts (list_all outside pages) (differ pages) b.0 in
-      record { out = c.0; apart = c.1 }
+      record { out = c.0; apart = c.1; few_blocks = a.1 }
 
 module _ (shape : Shape) (named : List ℕ) (live : Values) (taken : List (Key × Place)) (place : Place) (is_shape : IsShape shape) (is_place : IsPlace shape place) (lives : Lives shape named live taken) where
   abbrev block : ℕ
@@ -160,8 +161,8 @@ module _ (shape : Shape) (named : List ℕ) (live : Values) (taken : List (Key �
   abbrev pub IsOver : Bool → ℕ → Type 0
   IsOver o k = IsTrue o ↔ ((p : ℕ) × (place.page ≤ p) × (p < place.page + k) × IsLive live p)
 
-  abbrev pub AreUsed : ℕ → ℕ → Type 0
-  AreUsed blocks q = blocks ≡ count_by (λ b. b) live.closed + cond (count_of live (place.page / q) == 0) 1 0
+  abbrev pub MayBeUsed : Bool → ℕ → Type 0
+  MayBeUsed r q = r ≡ (not (count_of live (place.page / q) == 0) || nat_lt (count_by (λ b. b) live.closed) (data_blocks shape - 1))
 
   -- a block that is named refuses
   pub named_refuses : (t : Bool) (q : ℕ) → q ≡ shape.block_pages → IsNamed t q → t ≡ true → false ≡ fits shape named (old ++ own)
@@ -177,18 +178,38 @@ module _ (shape : Shape) (named : List ℕ) (live : Values) (taken : List (Key �
       sym
       (λ i. (out_is t told' ∙ ap not none) i && (apart_is o over' ∙ ap not is) i && nat_le (length (old ++ own)) (limit shape) && nat_le (length (blocks_with shape (old ++ own))) (data_blocks shape - 1))
 
-  -- and then the counts decide
-  pub counts_decide : (t o r : Bool) (q k total blocks : ℕ) → q ≡ shape.block_pages → k ≡ count → IsNamed t q → t ≡ false → IsOver o k → o ≡ false → total ≡ sum live.heads → AreUsed blocks q
-      → r ≡ (nat_le (total + k) (limit shape) && nat_le blocks (data_blocks shape - 1)) → r ≡ fits shape named (old ++ own)
-  counts_decide t o r q k total blocks q_is k_is told none over apart all used is =
+  -- so do too many pages
+  pub pages_refuse : (t o : Bool) (q k total : ℕ) → q ≡ shape.block_pages → k ≡ count → IsNamed t q → t ≡ false → IsOver o k → o ≡ false → total ≡ sum live.heads → limit shape < total + k
+      → false ≡ fits shape named (old ++ own)
+  pages_refuse t o q k total q_is k_is told none over apart all many =
       let told' = subst (IsNamed t) q_is told in
       let over' = subst (IsOver o) k_is over in
-      let used' = subst (AreUsed blocks) q_is used in
-      let is' : r ≡ (nat_le (total + count) (limit shape) && nat_le blocks (data_blocks shape - 1)) =
-      subst (λ (n : ℕ). r ≡ (nat_le (total + n) (limit shape) && nat_le blocks (data_blocks shape - 1))) k_is is in
-      let all_four : fits shape named (old ++ own) ≡ (nat_le (total + count) (limit shape) && nat_le blocks (data_blocks shape - 1)) =
-      λ i. (out_is t told' ∙ ap not none) i && (apart_is o over' ∙ ap not apart) i && nat_le (length_is total all i) (limit shape) && nat_le (blocks_is blocks used' i) (data_blocks shape - 1) in
-      is' ∙ sym all_four
+      let too_many : nat_le (total + count) (limit shape) ≡ false = lt-leb (total + count) (limit shape) (omega (arith, many, k_is)) in
+      sym (λ i. (out_is t told' ∙ ap not none) i && (apart_is o over' ∙ ap not apart) i && (ap (λ m. nat_le m (limit shape)) (length_is total all) ∙ too_many) i && nat_le (length (blocks_with shape (old ++ own))) (data_blocks shape - 1))
+
+  -- and then the blocks decide
+  pub blocks_decide : (t o r : Bool) (q k total : ℕ) → q ≡ shape.block_pages → k ≡ count → IsNamed t q → t ≡ false → IsOver o k → o ≡ false → total ≡ sum live.heads → total + k ≤ limit shape
+      → MayBeUsed r q → r ≡ fits shape named (old ++ own)
+  blocks_decide t o r q k total q_is k_is told none over apart all few used =
+      let told' = subst (IsNamed t) q_is told in
+      let over' = subst (IsOver o) k_is over in
+      let used' = subst (MayBeUsed r) q_is used in
+      let few' : nat_le (total + count) (limit shape) ≡ true = le-leb (total + count) (limit shape) (omega (arith, few, k_is)) in
+      let all_four : fits shape named (old ++ own) ≡ nat_le (length (blocks_with shape (old ++ own))) (data_blocks shape - 1) =
+      λ i. (out_is t told' ∙ ap not none) i && (apart_is o over' ∙ ap not apart) i && (ap (λ m. nat_le m (limit shape)) (length_is total all) ∙ few') i && nat_le (length (blocks_with shape (old ++ own))) (data_blocks shape - 1) in
+      let blocks : length (blocks_with shape (old ++ own)) ≡ count_by (λ b. b) live.closed + cond (count_of live block == 0) 1 0 = blocks_is (count_by (λ b. b) live.closed + cond (count_of live block == 0) 1 0) refl in
+      used' ∙ one_more (count_of live block == 0) (count_by (λ b. b) live.closed) (data_blocks shape - 1) closed_few
+      ∙ sym (all_four ∙ ap (λ m. nat_le m (data_blocks shape - 1)) blocks)
+    where
+      closed_few : count_by (λ b. b) live.closed ≤ data_blocks shape - 1
+      closed_few =
+          let before : count_by (λ b. b) live.closed ≡ length (blocks_with shape old) =
+          ap (count_by (λ b. b)) closed_are ∙ count_map (is_used shape taken) (range_with_len 0 shape.blocks) ∙ sym (length-filter (is_used shape taken) (range_with_len 0 shape.blocks)) in
+          omega (arith, before, leb-true (length (blocks_with shape old)) (data_blocks shape - 1) now.few_blocks)
+
+      one_more : (none_yet : Bool) (closed most : ℕ) → closed ≤ most → (not none_yet || nat_lt closed most) ≡ nat_le (closed + cond none_yet 1 0) most
+      one_more true closed most room = let e : closed + 1 ≡ suc closed = omega arith in ap (λ n. nat_le n most) (sym e)
+      one_more false closed most room = sym (le-leb (closed + 0) most (omega (arith, room)))
 
   -- ---- the live map with the value
 

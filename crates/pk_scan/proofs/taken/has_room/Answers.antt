@@ -1,11 +1,11 @@
 use Rattle.std.proofs.Common.{◌≤◌, arith}
 use Rattle.pk_live.proofs.Counts.{sum-le-pages}
 use Rattle.pk_scan.specs.Places.{place}
-use Rattle.pk_scan.proofs.Taking.{named_refuses, overlap_refuses, counts_decide}
+use Rattle.pk_scan.proofs.Taking.{named_refuses, overlap_refuses, pages_refuse, blocks_decide}
 use Rattle.pk_scan.proofs.taken.has_room.Goals as goal
 
-pub overflow_add-pages : goal.overflow_add-pages
-overflow_add-pages g c =
+pub overflow_add-total : goal.overflow_add-total
+overflow_add-total g c =
     let k = c.known.ensures in
     let total = sum-le-pages c.args.live.now.heads c.args.live.now.block_pages _ k.small k.few k.pages k.short in
     let block : c.args.shape.now.block_pages ≤ 256 = c.page_count.ensures.shape.block_most in
@@ -21,8 +21,14 @@ returns-then-overlaps g c taken lives =
     overlap_refuses c.args.shape.now c.args.named.now c.args.live.now taken (place c.args.page c.args.len) c.page_count.ensures.shape c.requires.place lives
     c.is_named.result c.overlaps.result c.block_pages.result c.charge-count.result c.block_pages.ensures.value c.charge-count.ensures.value c.is_named.ensures c.if-is_named.false c.overlaps.ensures c.if-overlaps.true
 
+pub returns-then-total-count : goal.returns-then-total-count
+returns-then-total-count g c taken lives =
+    pages_refuse c.args.shape.now c.args.named.now c.args.live.now taken (place c.args.page c.args.len) c.page_count.ensures.shape c.requires.place lives
+    c.is_named.result c.overlaps.result c.block_pages.result c.charge-count.result c.total.result c.block_pages.ensures.value c.charge-count.ensures.value
+    c.is_named.ensures c.if-is_named.false c.overlaps.ensures c.if-overlaps.false c.total.ensures (rw c.limit.ensures.value at c.if-total-count.true)
+
 pub returns : goal.returns
 returns g c taken lives =
-    counts_decide c.args.shape.now c.args.named.now c.args.live.now taken (place c.args.page c.args.len) c.page_count.ensures.shape c.requires.place lives
-    c.is_named.result c.overlaps.result c.are_few.result c.block_pages.result c.charge-count.result c.total.result c.blocks_used.result c.block_pages.ensures.value c.charge-count.ensures.value
-    c.is_named.ensures c.if-is_named.false c.overlaps.ensures c.if-overlaps.false c.total.ensures c.blocks_used.ensures.value c.are_few.ensures
+    blocks_decide c.args.shape.now c.args.named.now c.args.live.now taken (place c.args.page c.args.len) c.page_count.ensures.shape c.requires.place lives
+    c.is_named.result c.overlaps.result c.may_be_used.result c.block_pages.result c.charge-count.result c.total.result c.block_pages.ensures.value c.charge-count.ensures.value
+    c.is_named.ensures c.if-is_named.false c.overlaps.ensures c.if-overlaps.false c.total.ensures (rw c.limit.ensures.value at c.if-total-count.false) c.may_be_used.ensures
