@@ -44,3 +44,8 @@ pub record IsWritten (d : Parts) (shape : Shape) (flash : Flash) (key : Key) (va
   pub there : value_at shape (page_at flash) key (record { page = page; len = length value }) ≡ Ok value
   pub apart : (top : ℕ × Root) (found : Found) (without all : Map) → AgreesWith d shape flash top found without all
       → (k : ℕ) → IsPageOf shape k (record { page = page; len = length value }) → IsValuePage shape (places found d.log.pending) k → ⊥
+
+-- Where a change of the map is cut off, the flash holds what it held, or the map before it, or the one after it; and nothing was given out.
+abbrev pub ChangeCut : Shape → Flash → Map → Map → Flash → List ℕ → Type 0
+ChangeCut shape start m after flash posted =
+    (posted ≡ []) × ((reading shape flash [] ≡ reading shape start []) ⊎ ((reading shape flash [] ≡ Ok m) ⊎ (reading shape flash [] ≡ Ok after)))

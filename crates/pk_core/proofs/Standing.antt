@@ -1,0 +1,40 @@
+-- A drive that agrees with its board stands for one map.
+use Rattle.std.proofs.Common.{◌≡◌, ℕ, refl, sym, ap, subst, ◌∙◌, List, [], Option, Some, None, Result, Ok, unwrap_or}
+use Rattle.pk_base.specs.Shape.{Shape}
+use Rattle.pk_base.specs.Page.{Flash}
+use Rattle.pk_base.specs.Map.{Map}
+use Rattle.pk_base.specs.Refusal.{Refusal}
+use Rattle.pk_rootfmt.specs.Root.{Root}
+use Rattle.pk_nand.specs.BoardState.{BoardState}
+use Rattle.pk_model.specs.Found.{Found}
+use Rattle.pk_model.specs.Reading.{reading}
+use Rattle.pk_steps.specs.Under.{IsUnder}
+use Rattle.pk_steps.proofs.Untouched.{under_reads}
+use Rattle.pk_drive.specs.Drive.{Stands}
+use Rattle.pk_core.specs.Parts.{Parts, sight_of}
+use Rattle.pk_core.specs.Agreeing.{AgreesWith, Agrees}
+use Rattle.pk_core.specs.Moves.{StandsFor}
+
+same_shape : (x y : Shape) → Some x ≡ Some y → x ≡ y
+same_shape x y e = ap (λ o. unwrap_or o x) e
+
+same_map : (x y : Map) → ◌≡◌ {A = Result Map Refusal} (Ok x) (Ok y) → x ≡ y
+same_map x y e = cc
+
+-- what the drive's map reads as
+pub reads_as : (d : Parts) (shape : Shape) (flash : Flash) (m : Map) → StandsFor d shape flash m → reading shape flash d.log.pending ≡ Ok m
+reads_as d shape flash m is = under_reads shape flash d.log.pending is.top is.found m is.with.pending
+
+-- the map of a drive that agrees with its board is the one that it stands for
+pub stands_for : (d : Parts) (board : BoardState) (shape : Shape) (frames : ℕ) (m : Map) → Agrees d board.shape board.pages → Stands shape frames board (sight_of d) m → StandsFor d shape board.pages m
+stands_for d board shape frames m agrees stands =
+    let shapes : agrees.shape ≡ shape = same_shape agrees.shape shape (sym agrees.told_is ∙ stands.shape_is) in
+    let here : StandsFor d shape board.pages agrees.all = subst (λ s. StandsFor d s board.pages agrees.all) shapes (record { top = agrees.top; found = agrees.found; without = agrees.without; with = agrees.with }) in
+    subst (λ x. StandsFor d shape board.pages x) (same_map agrees.all m (sym (reads_as d shape board.pages agrees.all here) ∙ stands.map_is)) here
+
+-- and the other way round
+pub stands_so : (d : Parts) (board : BoardState) (shape : Shape) (m : Map) → board.shape ≡ Some shape → StandsFor d shape board.pages m → Stands shape d.frames board (sight_of d) m
+stands_so d board shape m told is = record { shape_is = told; frames_is = refl; map_is = reads_as d shape board.pages m is }
+
+pub agrees_so : (d : Parts) (told : Option Shape) (shape : Shape) (flash : Flash) (m : Map) → told ≡ Some shape → StandsFor d shape flash m → Agrees d told flash
+agrees_so d told shape flash m is stands = record { shape = shape; top = stands.top; found = stands.found; without = stands.without; all = m; told_is = is; with = stands.with }
