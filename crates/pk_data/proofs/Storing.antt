@@ -1,12 +1,12 @@
 -- A value that was written at pages that were found for it.
-use Rattle.std.proofs.Common.{◌≡◌, ◌≢◌, ℕ, ◌+◌, ◌-◌, ◌<◌, ◌≤◌, cond, T, List, length, Option, Some, None, sym, ap, subst, ◌∙◌, arith}
+use Rattle.std.proofs.Common.{◌≡◌, ℕ, ◌+◌, ◌-◌, ◌≤◌, cond, T, List, length, Option, Some, sym, ap, subst, ◌∙◌, arith}
 use Rattle.std.specs.Ordering.{is_eq}
 use Rattle.std.specs.Cmp.{tied_itself}
 use Rattle.std.specs.FinMap.Entries.{put, find, is_sorted, is_sorted-put, find-put}
 use Rattle.pk_base.specs.Key.{Key, key_cmp}
 use Rattle.pk_base.specs.Shape.{Shape, charge, greatest}
 use Rattle.pk_base.specs.Entry.{Place}
-use Rattle.pk_base.specs.Page.{Flash, page_at, erased, whole}
+use Rattle.pk_base.specs.Page.{Flash, page_at, whole}
 use Rattle.pk_base.specs.Mark.{all_posted}
 use Rattle.pk_nand.specs.BoardState.{BoardState}
 use Rattle.pk_nand.specs.Crash.{SameOutside, Reached}

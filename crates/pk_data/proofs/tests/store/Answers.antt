@@ -1,8 +1,8 @@
-use Rattle.std.proofs.Common.{length, sym, subst}
+use Rattle.std.proofs.Common.{length}
 use Rattle.std.specs.FinMap.Entries.{put}
 use Rattle.pk_base.specs.Key.{key_cmp}
 use Rattle.pk_base.specs.Shape.{charge}
-use Rattle.pk_data.proofs.Storing.{same_at_end, writes_value, place_of, moves, rising_after, span_after}
+use Rattle.pk_data.proofs.Storing.{same_at_end, writes_value, moves, rising_after, span_after}
 use Rattle.pk_data.proofs.tests.store.Goals as goal
 
 pub replace-requires : goal.replace-requires

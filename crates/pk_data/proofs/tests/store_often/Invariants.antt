@@ -1,7 +1,6 @@
-use Rattle.std.proofs.Common.{◌≡◌, ◌≤◌, List, length, T}
+use Rattle.std.proofs.Common.{◌≡◌, List, length, T}
 use Rattle.std.specs.FinMap.Entries.{find, is_sorted}
 use Rattle.pk_base.specs.Key.{Key, key_cmp}
-use Rattle.pk_base.specs.Shape.{greatest}
 use Rattle.pk_base.specs.Entry.{Place}
 use Rattle.pk_nand.specs.Calls.{IsReady}
 use Rattle.pk_data.specs.Placed.{Placed}
