@@ -1,27 +1,25 @@
 -- The open block: its next pages, another block in its place, and pages that were written.
-use Rattle.std.proofs.Common.{◌≡◌, ◌≢◌, ◌⊎◌, inl, inr, ℕ, ◌+◌, ◌-◌, ◌*◌, ◌/◌, ◌%◌, ◌<◌, ◌≤◌, Bool, true, false, not, ◌&&◌, ◌==◌, cond, T, nat_le, List, [], ◌∷◌, length, Option, Some, None, refl, sym, ap, subst, ◌∙◌, arith, length-set, leb→le, le→leb}
+use Rattle.std.proofs.Common.{◌≡◌, ◌≢◌, inl, inr, ℕ, ◌+◌, ◌-◌, ◌*◌, ◌/◌, ◌%◌, ◌<◌, ◌≤◌, Bool, true, false, not, ◌&&◌, ◌==◌, cond, T, nat_le, List, length, Option, Some, None, refl, sym, ap, subst, ◌∙◌, arith, length-set, leb→le, le→leb}
 use Rattle.std.specs.Prelude.{slice_get, MatchOption}
 use Rattle.std.proofs.Math.ListN.{set}
 use Rattle.std.proofs.Math.Nat.{mul_comm}
 use Rattle.std.proofs.lemmas.Nat.{div-add-mod'}
 use Rattle.std.proofs.lemmas.Bool.{cases_eq, cases_lt, eq-eqb}
-use Rattle.std.proofs.lemmas.Option.{slice_get-get_or, slice_get_within}
+use Rattle.std.proofs.lemmas.Option.{slice_get-get_or}
 use Rattle.pk_base.specs.Key.{Key}
-use Rattle.pk_base.specs.Shape.{Shape, IsShape, page_count, data_blocks, most_pages}
-use Rattle.pk_base.specs.Page.{Flash, page_at, erased}
+use Rattle.pk_base.specs.Shape.{Shape, IsShape, data_blocks, most_pages}
+use Rattle.pk_base.specs.Page.{Flash, page_at}
 use Rattle.pk_base.specs.Entry.{Place}
 use Rattle.pk_nand.specs.BoardState.{BoardState}
 use Rattle.pk_base.specs.Mark.{all_posted}
-use Rattle.pk_nand.specs.Crash.{SameOutside}
 use Rattle.pk_nand.proofs.Reaching.{Went-reached}
 use Rattle.pk_plan.specs.declared.owner.Owner.TheVariants.{Values as for_values}
-use Rattle.pk_pool.specs.declared.state.BlockState.{BlockState}
 use Rattle.pk_pool.specs.declared.state.BlockState.TheVariants.{Free, Ready, Owned}
 use Rattle.pk_pool.specs.Blocks.{Blocks, Fits, IsSpare, IsErasedBlock, used_by, with_state}
 use Rattle.pk_pool.specs.Taking.{SameButBlock, ReachesIn, WentIn, FailsToErase}
-use Rattle.pk_pool.proofs.States.{get-set_other, get-set_same, set_is}
-use Rattle.pk_pool.proofs.Fitting.{block_of, in_block, apart, Fits-outside, owned_not_ready}
-use Rattle.pk_live.specs.Values.{Values, IsClosed}
+use Rattle.pk_pool.proofs.States.{get-set_other, set_is}
+use Rattle.pk_pool.proofs.Fitting.{block_of, apart, Fits-outside, owned_not_ready}
+use Rattle.pk_live.specs.Values.{Values}
 use Rattle.pk_model.proofs.ValueSets.{is_true}
 use Rattle.pk_steps.specs.Under.{IsValuePage}
 use Rattle.pk_data.specs.declared.open_block.OpenBlock.{OpenBlock}
@@ -30,7 +28,7 @@ use Rattle.pk_data.specs.Placed.{Placed, IsOpenIn, IsNotOpen, HoldsValues}
 use Rattle.pk_data.specs.Reserving.{IsReserved, WritesNext, IsFreeOf}
 use Rattle.pk_data.specs.Entries.{IsInOpen}
 use Rattle.pk_data.specs.Laws.{SameValues}
-use Rattle.pk_data.proofs.Unchanged.{some_pages, flash_elsewhere}
+use Rattle.pk_data.proofs.Unchanged.{flash_elsewhere}
 
 abbrev state_of : Values → Option OpenBlock → DataState
 state_of live open_block = record { live = live; open_block = open_block }

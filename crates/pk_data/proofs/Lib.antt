@@ -5,3 +5,4 @@ pub mod Filling
 pub mod Opening
 pub mod Releasing
 pub mod Nothing
+pub mod Storing

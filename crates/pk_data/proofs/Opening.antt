@@ -1,6 +1,6 @@
 -- Values as they are found at opening.
-use Rattle.std.proofs.Common.{◌≡◌, ◌⊎◌, inl, inr, ℕ, ◌+◌, ◌-◌, ◌*◌, ◌/◌, ◌%◌, ◌<◌, ◌≤◌, Bool, true, false, T, List, [], ◌∷◌, ◌++◌, ◌||◌, ◌==◌, length, filter, get_or, map, Option, Some, None, refl, sym, ap, subst, ◌∙◌, arith}
-use Rattle.std.specs.Prelude.{count_by, slice_get}
+use Rattle.std.proofs.Common.{◌≡◌, inl, inr, ℕ, ◌+◌, ◌-◌, ◌/◌, ◌<◌, ◌≤◌, true, false, T, List, [], ◌∷◌, ◌==◌, length, filter, get_or, map, Some, refl, sym, ap, subst, ◌∙◌, arith}
+use Rattle.std.specs.Prelude.{slice_get}
 use Rattle.std.specs.List.{list_any, range_with_len, AllByRecursion}
 use Rattle.std.proofs.lemmas.Bool.{cases_Bool, or_left, or_right, eq-eqb, false_from_ne_true}
 use Rattle.std.proofs.lemmas.List.FromFn.{length-map-range_with_len, get_or-map-range_with_len}
@@ -14,13 +14,13 @@ use Rattle.pk_plan.specs.declared.owner.Owner.TheVariants.{Journal, Meta, Values
 use Rattle.pk_pool.specs.declared.state.BlockState.{BlockState}
 use Rattle.pk_pool.specs.declared.state.BlockState.TheVariants.{Root, Free, Ready, Owned}
 use Rattle.pk_pool.specs.Blocks.{Blocks, is_owned_by, used_by}
-use Rattle.pk_live.specs.Values.{Values, IsClosed}
-use Rattle.pk_model.specs.Values.{all_pages, blocks_with, fits}
-use Rattle.pk_model.specs.Laws.{AnyByRecursion, IsPageOf}
+use Rattle.pk_live.specs.Values.{Values}
+use Rattle.pk_model.specs.Values.{all_pages, fits}
+use Rattle.pk_model.specs.Laws.{AnyByRecursion}
 use Rattle.pk_model.proofs.ValueSets.{fits_parts}
 use Rattle.pk_steps.specs.Under.{IsValuePage}
 use Rattle.pk_steps.proofs.Places.{value_in}
-use Rattle.pk_scan.specs.Lives.{is_used, live_of, Lives}
+use Rattle.pk_scan.specs.Lives.{is_used}
 use Rattle.pk_scan.proofs.Blocks.{value_exists, block_exists}
 use Rattle.pk_data.specs.State.{with_none_open}
 use Rattle.pk_data.specs.Placed.{Placed, FoundAtOpening, HoldsValues}

@@ -1,16 +1,16 @@
 -- A closed block without live pages is given back.
-use Rattle.std.proofs.Common.{◌≡◌, ◌≢◌, ℕ, ◌+◌, ◌-◌, ◌*◌, ◌/◌, ◌<◌, ◌≤◌, ◌⊎◌, inl, inr, Bool, true, false, not, ◌==◌, List, length, Option, Some, None, refl, sym, ap, subst, ◌∙◌, arith, length-set}
+use Rattle.std.proofs.Common.{◌≡◌, ◌≢◌, ℕ, ◌/◌, ◌<◌, true, false, not, ◌==◌, List, Option, Some, None, sym, ap, subst, ◌∙◌, arith, length-set}
 use Rattle.std.specs.Prelude.{slice_get, MatchOption}
 use Rattle.std.proofs.Math.ListN.{set}
-use Rattle.std.proofs.lemmas.Bool.{cases_eq, eq-eqb}
+use Rattle.std.proofs.lemmas.Bool.{eq-eqb}
 use Rattle.std.proofs.lemmas.Option.{slice_get_within}
 use Rattle.pk_base.specs.Key.{Key}
-use Rattle.pk_base.specs.Shape.{Shape, data_blocks}
+use Rattle.pk_base.specs.Shape.{Shape}
 use Rattle.pk_base.specs.Page.{Flash}
 use Rattle.pk_base.specs.Entry.{Place}
 use Rattle.pk_plan.specs.declared.owner.Owner.TheVariants.{Values as for_values}
 use Rattle.pk_pool.specs.declared.state.BlockState.TheVariants.{Free, Owned}
-use Rattle.pk_pool.specs.Blocks.{Blocks, used_by, with_state}
+use Rattle.pk_pool.specs.Blocks.{Blocks, with_state}
 use Rattle.pk_pool.proofs.States.{get-set_other, get-set_same, free_is_not_ready}
 use Rattle.pk_pool.proofs.Sharing.{used_given}
 use Rattle.pk_pool.proofs.Fitting.{Fits-marked}

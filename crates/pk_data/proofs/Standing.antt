@@ -1,7 +1,6 @@
 -- Placed values, after a key got a value at another place, or lost it.
-use Rattle.std.proofs.Common.{◌≡◌, ◌≢◌, ◌⊎◌, inl, inr, ℕ, ◌+◌, ◌-◌, ◌*◌, ◌/◌, ◌%◌, ◌<◌, ◌≤◌, true, false, cond, T, List, [], ◌∷◌, length, get_or, map, sum, Option, Some, None, refl, sym, ap, subst, ◌∙◌, arith, ◌==◌}
+use Rattle.std.proofs.Common.{◌≡◌, ◌≢◌, inl, inr, ℕ, ◌+◌, ◌*◌, ◌/◌, ◌%◌, ◌<◌, ◌≤◌, true, false, T, List, length, get_or, sum, Option, Some, None, refl, sym, ap, subst, ◌∙◌, arith, ◌==◌}
 use Rattle.std.specs.Prelude.{slice_get, MatchOption}
-use Rattle.std.specs.List.{range_with_len, AllByRecursion}
 use Rattle.std.specs.FinMap.Entries.{put, find, is_sorted}
 use Rattle.std.proofs.Math.ListN.{set}
 use Rattle.std.proofs.Math.Nat.{mul_comm}
@@ -26,8 +25,8 @@ use Rattle.pk_data.specs.declared.open_block.OpenBlock.{OpenBlock}
 use Rattle.pk_data.specs.declared.span.Span.{Span}
 use Rattle.pk_data.specs.State.{DataState, with_head, with_heads}
 use Rattle.pk_data.specs.Placed.{Placed, IsOpenIn, HoldsValues, without}
-use Rattle.pk_data.specs.Entries.{span_of, span_if_some, heads_without, Held, Moves}
-use Rattle.pk_data.proofs.Lists.{put_without, nothing_out, find_gone, page_put, page_without, found_page, apart_put, apart_without, places_put, places_without, found_place, head_put, head_without, head_none, head_found}
+use Rattle.pk_data.specs.Entries.{span_if_some, heads_without, Held, Moves}
+use Rattle.pk_data.proofs.Lists.{put_without, nothing_out, find_gone, page_put, page_without, apart_put, apart_without, places_put, places_without, found_place, head_put, head_without, head_none, head_found}
 
 -- pages that were written into a block for values
 pub record InBlock (shape : Shape) (pool : Blocks) (flash : Flash) (place : Place) : Type 0 where

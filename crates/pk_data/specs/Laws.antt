@@ -1,5 +1,5 @@
 -- What others do to the flash and to the pool, and what the values' blocks are: the statements.
-use Rattle.std.specs.Prelude.{◌≡◌, ℕ, ◌-◌, ◌/◌, ◌≤◌, List, [], length, filter, Bool, true, false, Option, Some, None, slice_get}
+use Rattle.std.specs.Prelude.{◌≡◌, ℕ, ◌-◌, ◌/◌, ◌≤◌, List, [], length, filter, Bool, false, Option, Some, None, slice_get}
 use Rattle.std.specs.List.{range_with_len}
 use Rattle.pk_base.specs.Key.{Key}
 use Rattle.pk_base.specs.Shape.{Shape, IsShape, data_blocks}

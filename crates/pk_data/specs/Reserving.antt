@@ -1,5 +1,5 @@
 -- The pages for a value: what a call that finds them does.
-use Rattle.std.specs.Prelude.{◌≡◌, ◌≢◌, ◌⊎◌, ℕ, ◌+◌, ◌*◌, ◌/◌, ◌%◌, ◌<◌, ◌≤◌, List, true, false, Some}
+use Rattle.std.specs.Prelude.{◌≡◌, ◌≢◌, ◌⊎◌, ℕ, ◌+◌, ◌/◌, ◌%◌, ◌<◌, ◌≤◌, List, true, false}
 use Rattle.pk_base.specs.Shape.{Shape, page_count}
 use Rattle.pk_base.specs.Key.{Key}
 use Rattle.pk_base.specs.Entry.{Place}
