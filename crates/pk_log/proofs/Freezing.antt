@@ -1,7 +1,6 @@
 -- A freeze of a log.
-use Rattle.std.proofs.Common.{◌≡◌, inl, inr, ℕ, zero, suc, ◌-◌, ◌<◌, ◌≤◌, refl, sym, ap, subst, ◌∙◌, arith, Bool, true, false, not, ◌||◌, ◌==◌, T, List, [], ◌∷◌, ◌++◌, length, reverse, nat_le, nat_lt, slice_index, Option, Result, Ok, append-nil, eqb→eq}
+use Rattle.std.proofs.Common.{◌≡◌, ℕ, zero, suc, ◌-◌, ◌<◌, refl, sym, ap, subst, ◌∙◌, arith, Bool, true, false, not, ◌||◌, ◌==◌, T, List, [], ◌∷◌, ◌++◌, length, reverse, nat_le, nat_lt, Option, Result, Ok, append-nil, eqb→eq}
 use Rattle.std.proofs.lemmas.Bool.Decides.{nat_tests}
-use Rattle.std.specs.List.{AllByRecursion}
 use Rattle.std.specs.FinMap.Entries.{put, is_sorted}
 use Rattle.pk_base.specs.Key.{Key, key_cmp}
 use Rattle.pk_base.specs.Shape.{Shape}
@@ -9,14 +8,13 @@ use Rattle.pk_base.specs.Page.{Page, Flash, page_at, page_in}
 use Rattle.pk_base.specs.Entry.{Entry, Place}
 use Rattle.pk_base.specs.Firsts.{firsts}
 use Rattle.pk_base.specs.Map.{Map}
-use Rattle.pk_base.specs.Refusal.{Refusal, ensure, ◌>>=◌}
+use Rattle.pk_base.specs.Refusal.{Refusal, ensure}
 use Rattle.pk_nand.specs.BoardState.{BoardState}
 use Rattle.pk_rootfmt.specs.Root.{Root}
-use Rattle.pk_rootfmt.specs.Held.{Held}
 use Rattle.pk_root.specs.declared.next.Next.{Next}
 use Rattle.pk_buf.specs.Table.{Table}
 use Rattle.pk_jrnfmt.specs.Epoch.{epoch}
-use Rattle.pk_jrn.specs.Epochs.{JournalEpoch, started, AreErased, Fits as EpochFits}
+use Rattle.pk_jrn.specs.Epochs.{started, AreErased, Fits as EpochFits}
 use Rattle.pk_jrn.specs.Replays.{buffer_of}
 use Rattle.pk_jrn.proofs.Puts.{put_grows, firsts_sorted, firsts-reverse}
 use Rattle.pk_model.specs.Found.{Found, older_epoch, newest_epoch, runs_from, found_under}
@@ -94,10 +92,10 @@ module _ (log : LogState) (pool : Blocks) (flash : Flash) (top : ℕ × Root) (f
   told =
       let logs = can.logs in
       let keys : length log.active.entries ≡ length (firsts found.newest) =
-          ap (λ (t : Table). length t.entries) logs.active_is
-          ∙ ap (λ (es : List Entry). length (firsts (reverse (found.newest ++ es)))) can.none_pending
-          ∙ ap (λ (es : List Entry). length (firsts (reverse es))) (append-nil found.newest)
-          ∙ firsts-reverse found.newest
+      ap (λ (t : Table). length t.entries) logs.active_is
+      ∙ ap (λ (es : List Entry). length (firsts (reverse (found.newest ++ es)))) can.none_pending
+      ∙ ap (λ (es : List Entry). length (firsts (reverse es))) (append-nil found.newest)
+      ∙ firsts-reverse found.newest
       in
       tells_some found.newest (length log.active.entries) keys
 
