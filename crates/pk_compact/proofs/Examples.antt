@@ -1,10 +1,10 @@
 -- A flash that was just formatted may be frozen.
-use Rattle.std.proofs.Common.{◌≡◌, ◌⊎◌, inl, inr, ℕ, zero, suc, ◌+◌, ◌-◌, ◌*◌, ◌%◌, ◌/◌, ◌<◌, ◌≤◌, List, [], ◌∷◌, length, replicate, Option, Some, None, Result, Ok, false, refl, sym, ap, subst, ◌∙◌, arith, slice_set}
+use Rattle.std.proofs.Common.{◌≡◌, inl, inr, ℕ, zero, suc, ◌<◌, [], ◌∷◌, replicate, Option, Some, None, Result, Ok, false, refl, sym, ap, subst, ◌∙◌, arith, slice_set}
 use Rattle.std.specs.Prelude.{slice_get, MatchOption}
 use Rattle.std.specs.FinMap.{from_entries}
-use Rattle.pk_base.specs.Shape.{Shape, IsShape, page_count, checked, deepest, meta_blocks, limit, data_blocks, charge, greatest}
+use Rattle.pk_base.specs.Shape.{Shape, page_count, checked, deepest, meta_blocks, limit, data_blocks, charge, greatest}
 use Rattle.pk_base.specs.declared.shape.ShapeError.{ShapeError}
-use Rattle.pk_base.specs.Page.{Page, Flash, page_at, erased, whole}
+use Rattle.pk_base.specs.Page.{Flash, page_at, erased, whole}
 use Rattle.pk_base.specs.Map.{Map}
 use Rattle.pk_plan.specs.declared.owner.Owner.TheVariants.{Journal}
 use Rattle.pk_nand.specs.BoardState.{BoardState}
@@ -22,9 +22,8 @@ use Rattle.pk_pool.specs.declared.state.BlockState.TheVariants.{Free, Ready, Own
 use Rattle.pk_pool.specs.Blocks.{Blocks, used_by, unused, with_state, IsSpare, Fits as PoolFits}
 use Rattle.pk_root.specs.declared.next.Next.{Next}
 use Rattle.pk_root.specs.Installing.{Fits}
-use Rattle.pk_steps.specs.Under.{IsUnder}
 use Rattle.pk_steps.proofs.Places.{In}
-use Rattle.pk_compact.specs.Freezing.{IsApart, MayFreeze}
+use Rattle.pk_compact.specs.Freezing.{MayFreeze}
 
 abbrev pub small : Shape
 small = record { page_bytes = 512; block_pages = 16; blocks = 64 }
@@ -129,10 +128,13 @@ newest_is page root is = (ap page_of same, ap root_of same)
   where
     page_of : ℕ × Root → ℕ
     page_of x = x.0
+
     root_of : ℕ × Root → Root
     root_of x = x.1
+
     some_same : (x y : ℕ × Root) → ◌≡◌ {A = Option (ℕ × Root)} (Some x) (Some y) → x ≡ y
     some_same x y e = cc
+
     same : ◌≡◌ {A = ℕ × Root} (page, root) (0, first)
     same = some_same (page, root) (0, first) (sym is ∙ made_newest)
 

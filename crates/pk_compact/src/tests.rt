@@ -21,12 +21,7 @@ use std::alloc::{Allocator, Global};
 use std::test::*;
 
 // Writes the first root into page 0 of a flash whose pages are all Erased.
-fn format<B: Nand>(
-    board: &mut B,
-    alloc: Global,
-    shape: &Shape,
-    buf: &mut [u8],
-) -> Result<(), Fault>
+fn format<B: Nand>(board: &mut B, alloc: Global, shape: &Shape, buf: &mut [u8]) -> Result<(), Fault>
     requires shape { shape.now ≡ record { page_bytes = 512; block_pages = 16; blocks = 64 } }
     requires has { (B.state board.old).shape ≡ Some shape.now }
     requires pages { (B.state board.old).pages ≡ replicate 1024 erased }
