@@ -1,8 +1,8 @@
 -- What calls of the flash leave of the counts of a board.
-use Rattle.std.proofs.Common.{◌≡◌, ◌⊎◌, inl, inr, ℕ, List, refl, sym, ap, subst, ◌∙◌, ◌≤◌}
+use Rattle.std.proofs.Common.{◌≡◌, inl, inr, ℕ, List, refl, sym, ap, subst, ◌∙◌}
 use Rattle.pk_nand.specs.BoardState.{BoardState}
-use Rattle.pk_nand.specs.Calls.{Rose, counted, after_program, after_erase, ProgramFailed, EraseFailed}
-use Rattle.pk_drive.specs.Drive.{OnlyFlash, NoFault}
+use Rattle.pk_nand.specs.Calls.{Rose, after_program, after_erase, ProgramFailed, EraseFailed}
+use Rattle.pk_drive.specs.Drive.{OnlyFlash}
 use Rattle.pk_compact.specs.Working.{Works, Stops}
 use Rattle.pk_compact.specs.Steps.{AtMostErases}
 

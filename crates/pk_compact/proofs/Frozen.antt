@@ -1,5 +1,5 @@
 -- A freeze, from its parts.
-use Rattle.std.proofs.Common.{◌≡◌, ◌≢◌, ◌⊎◌, inl, inr, ℕ, zero, suc, ◌+◌, ◌*◌, ◌/◌, ◌<◌, ◌≤◌, List, [], ◌∷◌, ◌++◌, T, Bool, true, false, not, length, slice_index, Some, if◌then◌else◌, ◌==◌, refl, sym, ap, subst, ◌∙◌, arith, mul-le-mul_right}
+use Rattle.std.proofs.Common.{◌≡◌, ◌≢◌, inl, inr, ℕ, ◌+◌, ◌*◌, ◌/◌, ◌<◌, ◌≤◌, List, [], ◌∷◌, ◌++◌, T, Bool, true, false, not, length, slice_index, Some, if◌then◌else◌, refl, sym, ap, subst, ◌∙◌, arith, mul-le-mul_right}
 use Rattle.std.specs.Prelude.{slice_get}
 use Rattle.std.specs.List.{concat}
 use Rattle.std.proofs.Math.ListN.{set}
@@ -10,7 +10,7 @@ use Rattle.pk_base.specs.Map.{Map}
 use Rattle.pk_plan.specs.declared.owner.Owner.TheVariants.{Journal}
 use Rattle.pk_nand.specs.BoardState.{BoardState}
 use Rattle.pk_nand.specs.Calls.{IsReady}
-use Rattle.pk_rootfmt.specs.Root.{Root, named, is_root, differ}
+use Rattle.pk_rootfmt.specs.Root.{Root, is_root, differ}
 use Rattle.pk_rootfmt.specs.Held.{Held, two_of}
 use Rattle.pk_rootfmt.specs.Newest.{newest_root}
 use Rattle.pk_model.specs.Found.{Found}
@@ -39,7 +39,7 @@ use Rattle.pk_compact.proofs.Running.{run_then, go_then}
 use Rattle.pk_compact.proofs.Taking.{spare_before, two_works, two_leave, two_front, two_reach, two_under, failed_stops, failed_goes}
 use Rattle.pk_compact.proofs.Grammar.{Known, known, next_is_root}
 use Rattle.pk_compact.proofs.Apart.{apart_after}
-use Rattle.pk_compact.proofs.Installing.{Finished, finish, finish_goes, works_all, stops_all, erased_behind}
+use Rattle.pk_compact.proofs.Installing.{finish, finish_goes, works_all, stops_all, erased_behind}
 
 -- ---- lists and states
 

@@ -1,14 +1,11 @@
 -- The root of a freeze is one of the grammar.
-use Rattle.std.proofs.Common.{◌≡◌, ◌≢◌, ◌⊎◌, inl, inr, ℕ, ◌+◌, ◌<◌, ◌≤◌, refl, sym, ap, subst, ◌∙◌, arith, Bool, true, false, not, ◌&&◌, ◌||◌, T, List, [], ◌∷◌, ◌++◌, length, nat_le, nat_lt, ◌==◌, if◌then◌else◌, leb→le, le→leb, eqb→eq, append-nil}
+use Rattle.std.proofs.Common.{◌≡◌, inl, inr, ℕ, ◌+◌, ◌<◌, ◌≤◌, refl, sym, ap, subst, ◌∙◌, arith, Bool, true, false, not, ◌&&◌, ◌||◌, T, List, [], ◌∷◌, ◌++◌, length, nat_le, nat_lt, ◌==◌, leb→le, le→leb, eqb→eq, append-nil}
 use Rattle.std.specs.List.{list_any, list_all, concat}
 use Rattle.pk_base.specs.Shape.{Shape}
 use Rattle.pk_rootfmt.specs.Root.{Root, named, is_root, is_number, has_runs, differ}
-use Rattle.pk_model.specs.Laws.{AnyByRecursion}
-use Rattle.pk_model.proofs.Commits.{left_part, right_part, both, all_front, any_behind}
-use Rattle.pk_model.proofs.SamePages.{any_front}
+use Rattle.pk_model.proofs.Commits.{right_part, both, any_behind}
 use Rattle.pk_model.proofs.RootAlone.{all_back}
-use Rattle.pk_model.proofs.ValueSets.{is_true}
-use Rattle.pk_steps.proofs.Places.{In, not_of, in_append, differ_append}
+use Rattle.pk_steps.proofs.Places.{In, not_of}
 use Rattle.pk_compact.specs.Freezing.{AreTwo}
 use Rattle.pk_compact.specs.Steps.{next_root}
 

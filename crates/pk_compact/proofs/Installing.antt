@@ -1,5 +1,5 @@
 -- The install of the root of a freeze.
-use Rattle.std.proofs.Common.{◌≡◌, ◌⊎◌, inl, inr, ℕ, zero, suc, ◌+◌, ◌*◌, ◌/◌, ◌%◌, ◌<◌, ◌≤◌, List, [], ◌∷◌, T, true, length, slice_index, Some, refl, sym, ap, subst, ◌∙◌, arith, le_refl, mod-lt, div-lt_iff_lt-mul, mul-le-mul_right}
+use Rattle.std.proofs.Common.{◌≡◌, ◌⊎◌, inl, inr, ℕ, zero, suc, ◌+◌, ◌*◌, ◌/◌, ◌%◌, ◌<◌, ◌≤◌, List, [], ◌∷◌, true, slice_index, Some, refl, sym, subst, ◌∙◌, arith, le_refl, mod-lt, div-lt_iff_lt-mul, mul-le-mul_right}
 use Rattle.pk_base.specs.Shape.{Shape, IsShape, epoch_pages}
 use Rattle.pk_base.specs.Page.{Flash, page_at, page_in, erased}
 use Rattle.pk_base.specs.EntryBytes.{IsEntry}
@@ -7,7 +7,7 @@ use Rattle.pk_base.specs.Firsts.{firsts}
 use Rattle.pk_base.specs.Map.{Map}
 use Rattle.pk_base.specs.Mark.{erase, program, after}
 use Rattle.pk_base.proofs.ShapeLemmas.{block_pages_positive}
-use Rattle.pk_nand.specs.BoardState.{BoardState, shape_of}
+use Rattle.pk_nand.specs.BoardState.{BoardState}
 use Rattle.pk_nand.specs.Cut.{Interrupted}
 use Rattle.pk_nand.specs.Calls.{IsReady, after_erase, after_program, ProgramFailed, EraseFailed}
 use Rattle.pk_nand.proofs.Leaving.{interrupted_done}
@@ -26,7 +26,7 @@ use Rattle.pk_model.proofs.Entries.{counting_all, journal_are, meta_are}
 use Rattle.pk_pool.specs.Blocks.{IsErasedBlock}
 use Rattle.pk_root.specs.declared.next.Next.{Next}
 use Rattle.pk_root.specs.declared.next.Next.TheVariants.{Erase, Program}
-use Rattle.pk_root.specs.Installing.{other_block, Fits, SameBehind, Installs, ErasesOther, FailsToInstall, FailsToErase}
+use Rattle.pk_root.specs.Installing.{other_block, Fits, SameBehind, FailsToInstall, FailsToErase}
 use Rattle.pk_root.proofs.Places.{page_below, in_block}
 use Rattle.pk_root.proofs.Scanning.{root_page_exists}
 use Rattle.pk_pool.proofs.Fitting.{IsReady-erase}
@@ -36,7 +36,6 @@ use Rattle.pk_steps.proofs.Untouched.{under_reads}
 use Rattle.pk_steps.proofs.Freezing.{freezes}
 use Rattle.pk_drive.specs.Growth.{Grows, Reaches, Goes}
 use Rattle.pk_drive.specs.Tick.{TickCut}
-use Rattle.pk_compact.specs.Freezing.{AreTwo}
 use Rattle.pk_compact.specs.Working.{Works, Stops}
 use Rattle.pk_compact.specs.Steps.{MayEraseOther, InstallsAll, FailsToFinish}
 use Rattle.pk_compact.proofs.Counts.{works_none, works_erase, works_program, works_then, stops_erase, stops_program, stops_then}

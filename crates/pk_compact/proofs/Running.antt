@@ -1,5 +1,5 @@
 -- Runs of a job: single calls that give nothing out, and what follows them.
-use Rattle.std.proofs.Common.{◌≡◌, ◌⊎◌, inl, inr, ℕ, List, [], ◌∷◌, ◌++◌, Some, Ok, refl, sym, ap, subst, ◌∙◌}
+use Rattle.std.proofs.Common.{◌≡◌, inl, inr, ℕ, List, [], ◌∷◌, ◌++◌, Some, refl, sym, ap, subst, ◌∙◌}
 use Rattle.pk_base.specs.Shape.{Shape}
 use Rattle.pk_base.specs.Page.{Flash}
 use Rattle.pk_base.specs.Map.{Map}
@@ -7,11 +7,10 @@ use Rattle.pk_base.specs.Mark.{Mark, program, erase, after, posted_by, all_poste
 use Rattle.pk_nand.specs.BoardState.{BoardState, shape_of, shape_or_none}
 use Rattle.pk_nand.specs.Cut.{Cut, Interrupted}
 use Rattle.pk_nand.specs.Calls.{longer, LeftBy, after_program, after_erase, ProgramFailed, EraseFailed}
-use Rattle.pk_nand.specs.Crash.{EveryCut, ReachedBy}
 use Rattle.pk_nand.proofs.Leaving.{interrupted_done}
 use Rattle.pk_nand.proofs.CutLemmas.{interrupted_none}
 use Rattle.pk_nand.proofs.Reaching.{Reached-start, Reached-erase, Reached-program, Went-reached, silent_cuts, longer-nil}
-use Rattle.pk_drive.specs.Growth.{Grows, GrowsAlong, Reaches, Goes}
+use Rattle.pk_drive.specs.Growth.{Grows, Reaches, Goes}
 use Rattle.pk_drive.specs.Tick.{TickCut}
 use Rattle.pk_drive.proofs.Growing.{at_end, Reaches-then, Goes-then}
 

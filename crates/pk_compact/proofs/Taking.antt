@@ -1,16 +1,16 @@
 -- Two blocks that are taken from the pool.
-use Rattle.std.proofs.Common.{◌≡◌, ◌≢◌, ◌⊎◌, inl, inr, ℕ, ◌+◌, ◌*◌, ◌/◌, ◌<◌, ◌≤◌, List, [], ◌∷◌, Some, refl, sym, ap, subst, ◌∙◌, arith, zero-add, div-lt_iff_lt-mul}
+use Rattle.std.proofs.Common.{◌≡◌, ◌≢◌, ◌⊎◌, inl, inr, ℕ, ◌*◌, ◌/◌, ◌<◌, ◌≤◌, List, [], ◌∷◌, Some, refl, sym, ap, subst, ◌∙◌, arith, zero-add, div-lt_iff_lt-mul}
 use Rattle.std.specs.Prelude.{slice_get}
 use Rattle.std.proofs.Math.ListN.{set}
 use Rattle.pk_base.specs.Shape.{Shape, IsShape}
-use Rattle.pk_base.specs.Page.{Flash, page_at, erased}
+use Rattle.pk_base.specs.Page.{Flash, page_at}
 use Rattle.pk_base.specs.Map.{Map}
 use Rattle.pk_base.specs.Mark.{erase, after}
 use Rattle.pk_base.proofs.ShapeLemmas.{block_pages_positive}
 use Rattle.pk_plan.specs.declared.owner.Owner.TheVariants.{Journal}
 use Rattle.pk_nand.specs.BoardState.{BoardState, shape_of}
 use Rattle.pk_nand.specs.Cut.{Interrupted}
-use Rattle.pk_nand.specs.Calls.{IsReady, after_erase, EraseFailed}
+use Rattle.pk_nand.specs.Calls.{IsReady, EraseFailed}
 use Rattle.pk_nand.proofs.Leaving.{erased_leaves, page_at-erased_from, interrupted_done}
 use Rattle.pk_nand.proofs.Writing.{shape_is}
 use Rattle.pk_rootfmt.specs.Root.{Root, named}
@@ -27,7 +27,7 @@ use Rattle.pk_steps.specs.Under.{IsUnder, IsValuePage, places}
 use Rattle.pk_steps.proofs.Untouched.{erases, under_reads}
 use Rattle.pk_drive.specs.Growth.{Grows, Reaches, Goes}
 use Rattle.pk_drive.specs.Tick.{TickCut}
-use Rattle.pk_compact.specs.Freezing.{IsApart, AreTwo, SameElsewhere}
+use Rattle.pk_compact.specs.Freezing.{IsApart}
 use Rattle.pk_compact.specs.Working.{Works, Stops}
 use Rattle.pk_compact.specs.Steps.{AtMostErases, TakesTwo, FailsToTake}
 use Rattle.pk_compact.proofs.Counts.{works_at_most, works_then, stops_erase, stops_then}
