@@ -75,6 +75,13 @@ impl<A: Allocator> Run<A> {
         self.shape.known();
     }
 
+    /// The shape of the flash that it is a run of.
+    pub fn shape(&self) -> &Shape
+        ensures { result.now ≡ self.now.shape }
+    {
+        &self.shape
+    }
+
     /// The level, 1 to 4.
     pub fn level(&self) -> u8
         ensures { result ≡ self.now.level }

@@ -7,3 +7,8 @@ pub mod Standing
 pub mod Taking
 pub mod Accepting
 pub mod Nothing
+pub mod Rises
+pub mod RunPages
+pub mod Leasing
+pub mod Rereading
+pub mod Loading

@@ -3,3 +3,4 @@ pub mod Pages
 pub mod Checked
 pub mod Lives
 pub mod Accepted
+pub mod Runs

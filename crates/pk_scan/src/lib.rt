@@ -5,11 +5,13 @@
 
 mod accept;
 mod errors;
+mod pages;
+mod runs;
 mod taken;
 mod values;
 
 pub use accept::accept_value;
-pub use errors::ValueError;
+pub use errors::PageError;
 pub use taken::{starts_with_none, take_value};
 pub use values::check_value;
 
