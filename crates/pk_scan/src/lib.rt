@@ -12,6 +12,7 @@ mod values;
 
 pub use accept::accept_value;
 pub use errors::PageError;
+pub use runs::load_run;
 pub use taken::{starts_with_none, take_value};
 pub use values::check_value;
 

@@ -92,3 +92,98 @@ fn take_page<B: Nand, A: Allocator>(
         Err(_) => Err(PageError::Fault),
     }
 }
+
+// Reads the pages of a run that has its blocks, and no page.
+fn read_pages<B: Nand, A: Allocator>(
+    board: &mut B,
+    arena: &mut PinArena<A>,
+    pins: bool,
+    count: u32,
+    into: &mut Run<A>,
+    buf: &mut [u8],
+) -> Result<(), PageError>
+    requires ready { IsReady (B.state board.old) into.old.shape }
+    requires exist { AllExist into.old.shape into.old.blocks }
+    requires few { count ≤ cap into.old.shape into.old.level * page_entries into.old.shape }
+    requires places { length into.old.blocks ≡ run_blocks into.old.shape count }
+    requires none { into.old.count ≡ 0 }
+    requires no_pages { into.old.firsts ≡ [] }
+    requires no_leases { into.old.leases ≡ [] }
+    requires stands { Stands into.old (B.state board.old).pages arena.old [] }
+    requires frames { arena.old.page_bytes ≡ into.old.shape.page_bytes }
+    requires free { pins ≡ true → run_pages into.old.shape count ≤ free_frames arena.old }
+    requires sized { length buf.old ≡ into.old.shape.page_bytes }
+    ensures has_run { OnOk result (HasRun into.old.shape into.old.level count into.old.blocks (B.state board.old).pages arena.new into.new) }
+    ensures count { OnOk result (into.new.count ≡ count) }
+    ensures ok { OnOk result (B.state board.new ≡ after_reads (run_pages into.old.shape count) (B.state board.old)) }
+    ensures err { IfErr result (λ e. NotRead into.old.shape into.old.level count into.old.blocks (B.state board.old) (B.state board.new) e) }
+    ensures shape { into.new.shape ≡ into.old.shape }
+    ensures level { into.new.level ≡ into.old.level }
+    ensures blocks { into.new.blocks ≡ into.old.blocks }
+    ensures pinned { IsPinnedIf pins into.new }
+    ensures stands { (es : List EntrySpec) × Stands into.new (B.state board.old).pages arena.new es }
+    ensures frames { LeasedMore arena.old arena.new into.new.leases }
+    ensures pages { (B.state board.new).pages ≡ (B.state board.old).pages }
+    ensures ready { IsReady (B.state board.new) into.old.shape }
+    ensures buffer { length buf.new ≡ length buf.old }
+{
+    into.known();
+    let most = into.shape().entries();
+    let pages = count.div_ceil(most);
+    let mut last = None;
+    for _ in 0..pages {
+        let entries = (count - into.entries()).min(most);
+        match take_page(board, arena, pins, entries, &last, into, buf) {
+            Ok(key) => last = Some(key),
+            Err(error) => return Err(error),
+        }
+    }
+    Ok(())
+}
+
+/// Reads a run of so many entries from its blocks into an empty run of its level, page by page, up to the first page that is
+/// wrong. Where `pins`, each page is kept in a frame of the arena, which has enough free ones. `buf` has the bytes of a page,
+/// which are lost.
+///
+/// `Damaged` names the first page that is not Whole, not the meta page of this level, index and count, whose keys do not rise
+/// behind those of the pages before, or which has a deleted key in run 4. `Fault` where a read failed. After either the run
+/// stands for the pages before.
+pub fn load_run<B: Nand, A: Allocator>(
+    board: &mut B,
+    arena: &mut PinArena<A>,
+    pins: bool,
+    count: u32,
+    blocks: &[u16],
+    into: &mut Run<A>,
+    buf: &mut [u8],
+) -> Result<(), PageError>
+    requires ready { IsReady (B.state board.old) into.old.shape }
+    requires empty { into.old ≡ empty into.old.shape into.old.level }
+    requires few { count ≤ cap into.old.shape into.old.level * page_entries into.old.shape }
+    requires places { length blocks.now ≡ run_blocks into.old.shape count }
+    requires exist { AllExist into.old.shape blocks.now }
+    requires frames { arena.old.page_bytes ≡ into.old.shape.page_bytes }
+    requires free { pins ≡ true → run_pages into.old.shape count ≤ free_frames arena.old }
+    requires sized { length buf.old ≡ into.old.shape.page_bytes }
+    ensures has_run { OnOk result (HasRun into.old.shape into.old.level count blocks.now (B.state board.old).pages arena.new into.new) }
+    ensures count { OnOk result (into.new.count ≡ count) }
+    ensures ok { OnOk result (B.state board.new ≡ after_reads (run_pages into.old.shape count) (B.state board.old)) }
+    ensures err { IfErr result (λ e. NotRead into.old.shape into.old.level count blocks.now (B.state board.old) (B.state board.new) e) }
+    ensures shape { into.new.shape ≡ into.old.shape }
+    ensures level { into.new.level ≡ into.old.level }
+    ensures blocks { into.new.blocks ≡ blocks.now }
+    ensures pinned { IsPinnedIf pins into.new }
+    ensures stands { (es : List EntrySpec) × Stands into.new (B.state board.old).pages arena.new es }
+    ensures frames { LeasedMore arena.old arena.new into.new.leases }
+    ensures runs { RunsStand arena.old arena.new }
+    ensures pages { (B.state board.new).pages ≡ (B.state board.old).pages }
+    ensures ready { IsReady (B.state board.new) into.old.shape }
+    ensures buffer { length buf.new ≡ length buf.old }
+{
+    into.known();
+    add_blocks(blocks, into);
+    match read_pages(board, arena, pins, count, into, buf) {
+        Ok(()) => Ok(()),
+        Err(error) => Err(error),
+    }
+}
