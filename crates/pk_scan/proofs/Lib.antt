@@ -12,3 +12,5 @@ pub mod RunPages
 pub mod Leasing
 pub mod Rereading
 pub mod Loading
+pub mod Adopting
+pub mod Naming

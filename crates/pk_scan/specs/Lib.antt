@@ -4,3 +4,4 @@ pub mod Checked
 pub mod Lives
 pub mod Accepted
 pub mod Runs
+pub mod Adopts

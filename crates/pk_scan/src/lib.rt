@@ -4,6 +4,7 @@
 #![tactic(auto)]
 
 mod accept;
+mod adopt;
 mod errors;
 mod pages;
 mod runs;
@@ -11,6 +12,7 @@ mod taken;
 mod values;
 
 pub use accept::accept_value;
+pub use adopt::{adopt_blocks, adopt_values};
 pub use errors::PageError;
 pub use runs::load_run;
 pub use taken::{starts_with_none, take_value};
