@@ -14,3 +14,4 @@ pub mod Rereading
 pub mod Loading
 pub mod Adopting
 pub mod Naming
+pub mod Closing

@@ -1,6 +1,6 @@
-//! Opening: what the flash holds is read part by part, by exact numbers of reads, up to the first place that is wrong.
-//! A value is accepted exactly where the reading of a flash finds it, and its pages are taken exactly where that reading
-//! takes them; each refusal names the page that the reading names.
+//! Opening: what the flash holds is read part by part, by exact numbers of reads, up to the first page that is wrong.
+//! A value or a run is accepted exactly where the reading of a flash finds it; each refusal names the page that this reading
+//! names. The blocks that were found get their owners in the pool.
 #![tactic(auto)]
 
 mod accept;
