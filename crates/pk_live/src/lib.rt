@@ -132,6 +132,13 @@ impl<A: Allocator> Live<A> {
         self.closed[block as usize] = false;
     }
 
+    /// Whether a block is closed; false past the last one.
+    pub fn is_closed(&self, block: u32) -> bool
+        ensures { result ≡ slice_index_or self.now.closed block false }
+    {
+        (block as usize) < self.closed.len() && self.closed[block as usize]
+    }
+
     /// How many blocks are closed.
     pub fn closed(&self) -> u32
         ensures { result ≡ count_by (λ b. b) self.now.closed }

@@ -38,7 +38,7 @@ below_true : (key : Key) (es : List Entry) → AllByRecursion (IsBelow key) (map
 below_true key [] h = refl
 below_true key (x ∷ es) h = rw (ap is_lt h.0, below_true key es h.1) refl
 
-sorted_true : (es : List Entry) → IsRising (map key_of es) → is_sorted key_cmp es ≡ true
+pub sorted_true : (es : List Entry) → IsRising (map key_of es) → is_sorted key_cmp es ≡ true
 sorted_true [] h = refl
 sorted_true (x ∷ es) h = rw (below_true (key_of x) es h.0, sorted_true es h.1) refl
 

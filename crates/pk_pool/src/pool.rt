@@ -182,6 +182,13 @@ impl<A: Allocator> Pool<A> {
         self.used(owner) < self.plan.quota(owner)
     }
 
+    /// How many blocks there are.
+    pub fn blocks(&self) -> u32
+        ensures { result ≡ self.now.shape.blocks }
+    {
+        self.plan.shape().blocks()
+    }
+
     /// What a block is; None past the last one.
     pub fn state(&self, block: u32) -> Option<BlockState>
         ensures { result ≡ slice_get self.now.states block }

@@ -12,8 +12,8 @@ use Rattle.pk_segfmt.specs.Value.{value_pages, value_at}
 use Rattle.pk_model.specs.Values.{fits, all_pages, values_of}
 use Rattle.pk_scan.specs.Checked.{HasValue, NotFound}
 use Rattle.pk_scan.specs.Accepted.{Accepted, RefusedWith, NotAccepted}
-use Rattle.pk_scan.specs.declared.errors.ValueError.{ValueError}
-use Rattle.pk_scan.specs.declared.errors.ValueError.TheVariants.{Damaged, Fault}
+use Rattle.pk_scan.specs.declared.errors.PageError.{PageError}
+use Rattle.pk_scan.specs.declared.errors.PageError.TheVariants.{Damaged, Fault}
 use Rattle.pk_scan.proofs.Standing.{all_pages-more}
 
 module _ (shape : Shape) (named : List ℕ) (taken : List (Key × Place)) (key : Key) (place : Place) where
@@ -50,7 +50,7 @@ module _ (shape : Shape) (named : List ℕ) (taken : List (Key × Place)) (key :
     board = ap (λ b. if b then after_reads (suc (place.page - place.page)) board else board) e;
   }
 
-  pub refused_value : (old new : BoardState) (e : ValueError) → fits shape named now ≡ true → NotFound shape old new key place e → NotAccepted shape old new named taken key place e
+  pub refused_value : (old new : BoardState) (e : PageError) → fits shape named now ≡ true → NotFound shape old new key place e → NotAccepted shape old new named taken key place e
   refused_value old new (Damaged page) fit refused = record {
     refusal = λ rest. was_taken (page_at old.pages) rest fit ∙ ap (λ v. behind (page_at old.pages) rest v) refused.refusal;
     board = refused.board ∙ ap (λ b. if b then after_reads (suc (page - place.page)) old else old) (sym fit);

@@ -13,8 +13,8 @@ use Rattle.pk_nand.specs.Erased.{after_reads}
 use Rattle.pk_segfmt.specs.Value.{head_bytes, value_from, value_at}
 use Rattle.pk_scan.specs.Pages.{is_right}
 use Rattle.pk_scan.specs.Checked.{HasValue, NotFound, PageRefused}
-use Rattle.pk_scan.specs.declared.errors.ValueError.{ValueError}
-use Rattle.pk_scan.specs.declared.errors.ValueError.TheVariants.{Damaged, Fault}
+use Rattle.pk_scan.specs.declared.errors.PageError.{PageError}
+use Rattle.pk_scan.specs.declared.errors.PageError.TheVariants.{Damaged, Fault}
 use Rattle.pk_scan.proofs.Reading.{all_right, first_wrong, not_before}
 
 -- ---- the value, behind its head
@@ -76,7 +76,7 @@ Checking-next old now shape key place i c right = record {
 pub Checking-end : (old now : BoardState) (shape : Shape) (key : Key) (place : Place) → Checking old now shape key place (charge shape place.len) → HasValue shape old.pages key place
 Checking-end old now shape key place c = value_found shape old.pages key place c.right
 
-pub Checking-refused : (old now new : BoardState) (shape : Shape) (key : Key) (place : Place) (i : ℕ) (e : ValueError) → i < charge shape place.len → Checking old now shape key place i
+pub Checking-refused : (old now new : BoardState) (shape : Shape) (key : Key) (place : Place) (i : ℕ) (e : PageError) → i < charge shape place.len → Checking old now shape key place i
     → PageRefused shape now new key place i e → NotFound shape old new key place e
 Checking-refused old now new shape key place i (Damaged page) less c refused =
     let wrong = subst (λ (f : Flash). is_right shape (page_at f) key place i ≡ false) (pages_same old now i c.board) refused.1 in
@@ -95,11 +95,11 @@ Checking-refused old now new shape key place i Fault less c refused =
     }
 
 -- the pages stay
-pub refused_pages : (old new : BoardState) (shape : Shape) (key : Key) (place : Place) (e : ValueError) → NotFound shape old new key place e → (new.pages ≡ old.pages) × (new.shape ≡ old.shape)
+pub refused_pages : (old new : BoardState) (shape : Shape) (key : Key) (place : Place) (e : PageError) → NotFound shape old new key place e → (new.pages ≡ old.pages) × (new.shape ≡ old.shape)
 refused_pages old new shape key place (Damaged page) refused = (ap (λ (b : BoardState). b.pages) refused.board, ap (λ (b : BoardState). b.shape) refused.board)
 refused_pages old new shape key place Fault refused = (ap (λ (b : BoardState). b.pages) refused.reads.failed.rest, ap (λ (b : BoardState). b.shape) refused.reads.failed.rest)
 
-pub refused_ready : (old new : BoardState) (shape : Shape) (key : Key) (place : Place) (e : ValueError) → NotFound shape old new key place e → IsReady old shape → IsReady new shape
+pub refused_ready : (old new : BoardState) (shape : Shape) (key : Key) (place : Place) (e : PageError) → NotFound shape old new key place e → IsReady old shape → IsReady new shape
 refused_ready old new shape key place e not_found ready =
     let same = refused_pages old new shape key place e not_found in
     record { shape_is = same.1 ∙ ready.shape_is; flash = rw same.0 ready.flash }

@@ -8,3 +8,11 @@ pub mod Taking
 pub mod Accepting
 pub mod Nothing
 pub mod StillLives
+pub mod Rises
+pub mod RunPages
+pub mod Leasing
+pub mod Rereading
+pub mod Loading
+pub mod Adopting
+pub mod Naming
+pub mod Closing

@@ -10,8 +10,8 @@ use Rattle.pk_nand.specs.Erased.{after_reads}
 use Rattle.pk_segfmt.specs.Value.{value_pages, value_at}
 use Rattle.pk_model.specs.Values.{fits, all_pages, values_of}
 use Rattle.pk_scan.specs.Checked.{Faulted}
-use Rattle.pk_scan.specs.declared.errors.ValueError.{ValueError}
-use Rattle.pk_scan.specs.declared.errors.ValueError.TheVariants.{Damaged, Fault}
+use Rattle.pk_scan.specs.declared.errors.PageError.{PageError}
+use Rattle.pk_scan.specs.declared.errors.PageError.TheVariants.{Damaged, Fault}
 
 -- Behind the values that were taken, the reading finds this one and goes on with the others.
 pub record Accepted (shape : Shape) (flash : Flash) (named : List ℕ) (taken : List (Key × Place)) (key : Key) (place : Place) : Type 0 where
@@ -27,6 +27,6 @@ pub record RefusedWith (shape : Shape) (old new : BoardState) (named : List ℕ)
   pub board : new ≡ (if fits shape named (all_pages shape taken ++ value_pages shape place) then after_reads (suc (page - place.page)) old else old)
 
 -- why the value was not accepted
-abbrev pub NotAccepted : Shape → BoardState → BoardState → List ℕ → List (Key × Place) → Key → Place → ValueError → Type 0
+abbrev pub NotAccepted : Shape → BoardState → BoardState → List ℕ → List (Key × Place) → Key → Place → PageError → Type 0
 NotAccepted shape old new named taken key place (Damaged page) = RefusedWith shape old new named taken key place page
 NotAccepted shape old new named taken key place Fault = (fits shape named (all_pages shape taken ++ value_pages shape place) ≡ true) × Faulted shape old new key place

@@ -11,8 +11,8 @@ use Rattle.pk_nand.specs.Erased.{after_reads}
 use Rattle.pk_seg.specs.Counts.{ReadsFailed}
 use Rattle.pk_segfmt.specs.Value.{value_at}
 use Rattle.pk_scan.specs.Pages.{is_right}
-use Rattle.pk_scan.specs.declared.errors.ValueError.{ValueError}
-use Rattle.pk_scan.specs.declared.errors.ValueError.TheVariants.{Damaged, Fault}
+use Rattle.pk_scan.specs.declared.errors.PageError.{PageError}
+use Rattle.pk_scan.specs.declared.errors.PageError.TheVariants.{Damaged, Fault}
 
 -- the reading of a flash finds a value of this key at its place
 abbrev pub HasValue : Shape → Flash → Key → Place → Type 0
@@ -31,13 +31,13 @@ pub record Faulted (shape : Shape) (old new : BoardState) (key : Key) (place : P
   pub later : (page : ℕ) → value_at shape (page_at old.pages) key place ≡ Err (damaged page) → place.page + reads.made ≤ page
 
 -- why a value was not found
-abbrev pub NotFound : Shape → BoardState → BoardState → Key → Place → ValueError → Type 0
+abbrev pub NotFound : Shape → BoardState → BoardState → Key → Place → PageError → Type 0
 NotFound shape old new key place (Damaged page) = DamagedAt shape old new key place page
 NotFound shape old new key place Fault = Faulted shape old new key place
 
 -- ---- inside
 
 -- page i was refused, after it was read; or its read failed
-abbrev pub PageRefused : Shape → BoardState → BoardState → Key → Place → ℕ → ValueError → Type 0
+abbrev pub PageRefused : Shape → BoardState → BoardState → Key → Place → ℕ → PageError → Type 0
 PageRefused shape old new key place i (Damaged page) = (page ≡ place.page + i) × (is_right shape (page_at old.pages) key place i ≡ false) × (new ≡ after_read old)
 PageRefused shape old new key place i Fault = ReadFailed old new (place.page + i)

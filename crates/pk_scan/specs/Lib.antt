@@ -3,3 +3,5 @@ pub mod Pages
 pub mod Checked
 pub mod Lives
 pub mod Accepted
+pub mod Runs
+pub mod Adopts

@@ -10,7 +10,7 @@ ghost use Rattle.pk_scan.specs.Places.{place};
 ghost use Rattle.pk_scan.specs.Lives.{Lives};
 ghost use Rattle.pk_scan.specs.Accepted.{Accepted, NotAccepted};
 
-use crate::errors::ValueError;
+use crate::errors::PageError;
 use crate::taken::take_value;
 use crate::values::check_value;
 use pk_base::{Key, Shape};
@@ -33,7 +33,7 @@ pub fn accept_value<B: Nand, A: Allocator>(
     page: u32,
     len: u32,
     buf: &mut [u8],
-) -> Result<(), ValueError>
+) -> Result<(), PageError>
     requires ready { IsReady (B.state board.old) shape.now }
     requires place { IsPlace shape.now (place page len) }
     requires lives { (taken : List (KeySpec × Place)) × Lives shape.now named.now live.old taken }
@@ -47,7 +47,7 @@ pub fn accept_value<B: Nand, A: Allocator>(
     ensures buffer { length buf.new ≡ length buf.old }
 {
     if !take_value(shape, named, live, page, len) {
-        return Err(ValueError::Damaged { page });
+        return Err(PageError::Damaged { page });
     }
     match check_value(board, shape, key, page, len, buf) {
         Ok(()) => Ok(()),

@@ -1,8 +1,8 @@
 //! What is answered where a flash is refused.
 
-/// Why a value was not found in its pages.
+/// Why pages of a flash are not what is looked for in them.
 #[derive(Clone, Copy, Debug, PartialEq, Eq)]
-pub enum ValueError {
+pub enum PageError {
     /// This page is the first that is wrong.
     Damaged { page: u32 },
     /// A read failed. The board's counts tell of it.

@@ -58,7 +58,7 @@ fn write_and_check<B: Nand>(
     key: &Key,
     len: u32,
     buf: &mut [u8],
-) -> Result<(), ValueError>
+) -> Result<(), PageError>
     requires ready { IsReady (B.state board.old) shape.now }
     requires block { shape.now.block_pages ≡ 16 }
     requires blocks { shape.now.blocks ≡ 64 }
@@ -71,7 +71,7 @@ fn write_and_check<B: Nand>(
     let own = Key::of(b"key");
     match erase(board, shape, 2, 32) {
         Ok(()) => {}
-        Err(_) => return Err(ValueError::Fault),
+        Err(_) => return Err(PageError::Fault),
     }
     let _ = write_value(board, shape, 32, &own, value, buf);
     check_value(board, shape, key, 32, len, buf)
@@ -105,7 +105,7 @@ const NONE: u64 = 1000;
 #[test]
 fn values_are_checked(rt: HostRuntime) -> Result<(), Fail> {
     let alloc = rt.alloc();
-    let damaged = |page: u32| Err(ValueError::Damaged { page });
+    let damaged = |page: u32| Err(PageError::Damaged { page });
     for (written, call, torn, key, len, answer, reads) in [
         (0usize, NONE, false, b"key", 0u32, Ok(()), 1u64),
         (480, NONE, false, b"key", 480, Ok(()), 1),
@@ -117,8 +117,8 @@ fn values_are_checked(rt: HostRuntime) -> Result<(), Fail> {
         (2016, 1, false, b"key", 2016, damaged(32), 1),
         (2016, 2, true, b"key", 2016, damaged(33), 2),
         (2016, 4, false, b"key", 2016, damaged(35), 4),
-        (2016, 5, false, b"key", 2016, Err(ValueError::Fault), 1),
-        (2016, 7, false, b"key", 2016, Err(ValueError::Fault), 3),
+        (2016, 5, false, b"key", 2016, Err(PageError::Fault), 1),
+        (2016, 7, false, b"key", 2016, Err(PageError::Fault), 3),
     ] {
         let left = if torn { Left::Torn } else { Left::Untouched };
         let (mut board, shape) = board_with_fault(alloc, call, left)?;
@@ -143,7 +143,7 @@ fn spoil_and_check<B: Nand>(
     at: usize,
     byte: u8,
     buf: &mut [u8],
-) -> Result<(), ValueError>
+) -> Result<(), PageError>
     requires ready { IsReady (B.state board.old) shape.now }
     requires size { shape.now.page_bytes ≡ 512 }
     requires block { shape.now.block_pages ≡ 16 }
@@ -158,12 +158,12 @@ fn spoil_and_check<B: Nand>(
     let key = Key::of(b"key");
     match erase(board, shape, 2, 32) {
         Ok(()) => {}
-        Err(_) => return Err(ValueError::Fault),
+        Err(_) => return Err(PageError::Fault),
     }
     page(shape, &key, value, 0, buf);
     buf[at] = byte;
     if write_page(board, 32, buf).is_err() {
-        return Err(ValueError::Fault);
+        return Err(PageError::Fault);
     }
     check_value(board, shape, &key, 32, value.len() as u32, buf)
 }
@@ -172,7 +172,7 @@ fn spoil_and_check<B: Nand>(
 #[test]
 fn bytes_are_checked(rt: HostRuntime) -> Result<(), Fail> {
     let alloc = rt.alloc();
-    let damaged = Err(ValueError::Damaged { page: 32 });
+    let damaged = Err(PageError::Damaged { page: 32 });
     for (at, byte, answer) in [
         (132usize, 0u8, Ok(())),
         (131, 7, Ok(())),
@@ -293,7 +293,7 @@ fn accept_both<B: Nand, A: Allocator>(
     value: &[u8],
     page: u32,
     buf: &mut [u8],
-) -> [Result<(), ValueError>; 2]
+) -> [Result<(), PageError>; 2]
     requires ready { IsReady (B.state board.old) shape.now }
     requires block { shape.now.block_pages ≡ 16 }
     requires blocks { shape.now.blocks ≡ 64 }
@@ -310,7 +310,7 @@ fn accept_both<B: Nand, A: Allocator>(
     let key = Key::of(b"key");
     match erase(board, shape, 2, 32) {
         Ok(()) => {}
-        Err(_) => return [Err(ValueError::Fault), Err(ValueError::Fault)],
+        Err(_) => return [Err(PageError::Fault), Err(PageError::Fault)],
     }
     let _ = write_value(board, shape, 32, &key, value, buf);
     match accept_value(board, shape, &[], live, &key, 32, len, buf) {
@@ -337,7 +337,7 @@ fn values_are_accepted(rt: HostRuntime) -> Result<(), Fail> {
             return Err("numbers")?;
         }
         let found = accept_both(&mut board, &shape, &mut live, &value, at, &mut buf);
-        assert_eq!(rt; found, [Ok(()), Err(ValueError::Damaged { page: answer })]);
+        assert_eq!(rt; found, [Ok(()), Err(PageError::Damaged { page: answer })]);
         assert_eq!(rt; board.read_count(), reads);
     }
     Ok(())

@@ -11,7 +11,7 @@ ghost use Rattle.pk_scan.specs.Places.{place};
 ghost use Rattle.pk_scan.specs.Pages.{front_of, fits_page, left_at, is_right};
 ghost use Rattle.pk_scan.specs.Checked.{HasValue, NotFound, PageRefused};
 
-use crate::errors::ValueError;
+use crate::errors::PageError;
 use pk_base::{Key, Shape};
 use pk_nand::{Nand, PageRead};
 use pk_segfmt::head;
@@ -77,7 +77,7 @@ fn check_page<B: Nand>(
     len: u32,
     i: u32,
     buf: &mut [u8],
-) -> Result<(), ValueError>
+) -> Result<(), PageError>
     requires ready { IsReady (B.state board.old) shape.now }
     requires place { IsPlace shape.now (place page len) }
     requires within { i < spec.charge shape.now len }
@@ -94,11 +94,11 @@ fn check_page<B: Nand>(
             if fits(shape, key, len, i, buf) {
                 Ok(())
             } else {
-                Err(ValueError::Damaged { page: page + i })
+                Err(PageError::Damaged { page: page + i })
             }
         }
-        Ok(_) => Err(ValueError::Damaged { page: page + i }),
-        Err(_) => Err(ValueError::Fault),
+        Ok(_) => Err(PageError::Damaged { page: page + i }),
+        Err(_) => Err(PageError::Fault),
     }
 }
 
@@ -114,7 +114,7 @@ pub fn check_value<B: Nand>(
     page: u32,
     len: u32,
     buf: &mut [u8],
-) -> Result<(), ValueError>
+) -> Result<(), PageError>
     requires ready { IsReady (B.state board.old) shape.now }
     requires place { IsPlace shape.now (place page len) }
     requires room { length buf.old ≡ shape.now.page_bytes }

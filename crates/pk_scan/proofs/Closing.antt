@@ -1,0 +1,232 @@
+-- The blocks of live values: a root does not name them, so they are free, and they are not too many.
+use Rattle.std.proofs.Common.{◌≡◌, ◌≢◌, ◌⊎◌, inl, inr, ℕ, zero, suc, ◌+◌, ◌-◌, ◌*◌, ◌/◌, ◌<◌, ◌≤◌, Bool, true, false, not, ◌&&◌, ◌||◌, ◌==◌, cond, List, [], ◌∷◌, ◌++◌, length, take, drop, get_or, map, refl, sym, ap, subst, ◌∙◌, arith, Option, Some, None, option_map}
+use Rattle.std.specs.Prelude.{slice_get, count_by, filter, nat_le}
+use Rattle.std.specs.List.{list_any, list_all, concat, range_with_len, AllByRecursion}
+use Rattle.std.proofs.lemmas.Bool.{false≢true, or_parts, or_cases, and_parts, eqb-true, cases_eq, cases_lt, cases_Bool}
+use Rattle.std.proofs.lemmas.Bool.Decides.{nat_tests, eqb_tells}
+use Rattle.std.proofs.lemmas.List.{take_all, length-take-le, take-append-drop, get_or_past}
+use Rattle.std.proofs.lemmas.List.FromFn.{length-map-range_with_len, get_or-map-range_with_len}
+use Rattle.std.proofs.lemmas.List.Folds.{list_any-append}
+use Rattle.std.proofs.lemmas.Option.{slice_get-get_or}
+use Rattle.std.proofs.lemmas.List.Sums.{sum_by-append, sum_by-cons, length-filter}
+use Rattle.pk_base.specs.Key.{Key}
+use Rattle.pk_base.specs.Shape.{Shape, IsShape, data_blocks, limit}
+use Rattle.pk_base.specs.Entry.{Place}
+use Rattle.pk_base.specs.Page.{Flash}
+use Rattle.pk_live.specs.Values.{Values as LiveValues}
+use Rattle.pk_segfmt.specs.Value.{value_pages}
+use Rattle.pk_model.specs.Values.{all_pages, fits, blocks_with}
+use Rattle.pk_plan.specs.declared.owner.Owner.{Owner}
+use Rattle.pk_plan.specs.declared.owner.Owner.TheVariants.{Journal, Meta, Values}
+use Rattle.pk_plan.specs.Quotas.{quota_of}
+use Rattle.pk_pool.specs.declared.state.BlockState.{BlockState}
+use Rattle.pk_pool.specs.declared.state.BlockState.TheVariants.{Owned, Free}
+use Rattle.pk_pool.specs.Blocks.{Blocks, used_by, unused, with_state, IsSpare, Fits}
+use Rattle.pk_rootfmt.specs.Root.{Root, named, differ}
+use Rattle.pk_scan.specs.Lives.{head_of, is_used, live_of, Lives}
+use Rattle.pk_scan.specs.Adopts.{is_among, owned_if, state_of, Adopts, NamesOwned}
+use Rattle.pk_scan.proofs.Loading.{take_more}
+use Rattle.pk_scan.proofs.Standing.{count_map, value_in_block, Placed}
+use Rattle.pk_scan.proofs.Adopting.{still_spare, adopts_none, adopts_both, adopts_same, adopts_one}
+use Rattle.pk_scan.proofs.Naming.{unused_free, unused_none}
+
+-- ---- flags, one more after another
+
+flag_here : (xs : List Bool) (c : Bool) → get_or (xs ++ c ∷ []) (length xs) false ≡ c
+flag_here [] c = refl
+flag_here (x ∷ xs) c = flag_here xs c
+
+flag_other : (xs : List Bool) (c : Bool) (b : ℕ) → b ≢ length xs → get_or (xs ++ c ∷ []) b false ≡ get_or xs b false
+flag_other [] c zero ne = absurd (ne refl)
+flag_other [] c (suc b) ne = refl
+flag_other (x ∷ xs) c zero ne = refl
+flag_other (x ∷ xs) c (suc b) ne = flag_other xs c b (λ e. ne (ap suc e))
+
+flag_same : (xs : List Bool) (b : ℕ) → get_or (xs ++ false ∷ []) b false ≡ get_or xs b false
+flag_same xs b = elim (cases_eq b (length xs)) [
+  | inl e ↦ ap (λ k. get_or (xs ++ false ∷ []) k false) e ∙ flag_here xs false ∙ sym (get_or_past xs b false (omega (arith, e)))
+  | inr ne ↦ flag_other xs false b ne
+]
+
+flag_more : (xs : List Bool) (i b : ℕ) → length xs ≡ i → (get_or xs b false || (i == b)) ≡ get_or (xs ++ true ∷ []) b false
+flag_more xs i b many = elim (eqb_tells i b) [
+  | inl e ↦
+      let here : b ≡ length xs = sym e.1 ∙ sym many in
+      both (get_or xs b false) (i == b) e.0 ∙ sym (ap (λ k. get_or (xs ++ true ∷ []) k false) here ∙ flag_here xs true)
+  | inr ne ↦
+      let other : b ≢ length xs = λ e. ne.1 (sym (e ∙ many)) in
+      left (get_or xs b false) (i == b) ne.0 ∙ sym (flag_other xs true b other)
+]
+  where
+    both : (p q : Bool) → q ≡ true → (p || q) ≡ true
+    both true q e = refl
+    both false q e = e
+
+    left : (p q : Bool) → q ≡ false → (p || q) ≡ p
+    left true q e = refl
+    left false q e = e
+
+abbrev flags : List Bool → ℕ
+flags xs = count_by (λ b. b) xs
+
+flags_more : (xs : List Bool) (c : Bool) → flags (xs ++ c ∷ []) ≡ flags xs + cond c 1 0
+flags_more xs c =
+    let one : flags (c ∷ []) ≡ cond c 1 0 + flags [] = sum_by-cons (λ b. cond {A = ℕ} b 1 0) c [] in
+    let none : flags [] ≡ 0 = refl in
+    let sum = sum_by-append (λ b. cond {A = ℕ} b 1 0) xs (c ∷ []) in
+    omega (arith, one, none, sum)
+
+flags_front : (xs : List Bool) (i : ℕ) → flags (take i xs) ≤ flags xs
+flags_front xs i =
+    let whole = ap flags (take-append-drop i xs) in
+    let sum = sum_by-append (λ b. cond {A = ℕ} b 1 0) (take i xs) (drop i xs) in
+    omega (arith, whole, sum)
+
+-- ---- the blocks of values
+
+-- a block with a page of pages that lie outside of the blocks that are named is not named
+any_outside : (n : ℕ) (names pages : List ℕ) (b : ℕ) → list_all (λ p. not (list_any (λ c. c == p / n) names)) pages ≡ true → list_any (λ p. p / n == b) pages ≡ true → is_among names b ≡ false
+any_outside n names [] b out has = absurd (false≢true has)
+any_outside n names (p ∷ pages) b out has =
+    let parts = and_parts (not (list_any (λ c. c == p / n) names)) (list_all (λ p. not (list_any (λ c. c == p / n) names)) pages) out in
+    elim (or_cases (p / n == b) (list_any (λ p. p / n == b) pages) has) [
+      | inl here ↦ subst (λ (k : ℕ). is_among names k ≡ false) (eqb-true (p / n) b here) (not_true (list_any (λ c. c == p / n) names) parts.0)
+      | inr later ↦ any_outside n names pages b parts.1 later
+    ]
+  where
+    not_true : (a : Bool) → not a ≡ true → a ≡ false
+    not_true true e = absurd (false≢true e)
+    not_true false e = refl
+
+module _ (shape : Shape) (is_shape : IsShape shape) where
+  -- a block with a page of a value is behind the root blocks
+  behind_roots : (taken : List (Key × Place)) (b : ℕ) → Placed shape taken → is_used shape taken b ≡ true → 2 ≤ b
+  behind_roots [] b placed used = absurd (false≢true used)
+  behind_roots (e ∷ es) b placed used =
+      let parts : (list_any (λ p. p / shape.block_pages == b) (value_pages shape e.1) || is_used shape es b) ≡ true =
+      sym (list_any-append (λ p. p / shape.block_pages == b) (value_pages shape e.1) (all_pages shape es)) ∙ used in
+      elim (or_cases (list_any (λ p. p / shape.block_pages == b) (value_pages shape e.1)) (is_used shape es b) parts) [
+        | inl here ↦
+            let is : e.1.page / shape.block_pages ≡ b = eqb-true (e.1.page / shape.block_pages) b (sym (value_in_block shape is_shape e.1 b placed.0) ∙ here) in
+            let low = placed.0.past_roots in
+            subst (λ (k : ℕ). 2 ≤ k) is low
+        | inr later ↦ behind_roots es b placed.1 later
+      ]
+
+  module _ (names : List ℕ) (live : LiveValues) (taken : List (Key × Place)) (lives : Lives shape names live taken) where
+    flags_are : live.closed ≡ map (is_used shape taken) (range_with_len 0 shape.blocks)
+    flags_are = ap (λ (v : LiveValues). v.closed) lives.map_is
+
+    pub flags_many : length live.closed ≡ shape.blocks
+    flags_many = ap length flags_are ∙ length-map-range_with_len (is_used shape taken) 0 shape.blocks
+
+    used_is : (b : ℕ) → b < shape.blocks → get_or live.closed b false ≡ is_used shape taken b
+    used_is b inside = ap (λ (xs : List Bool). get_or xs b false) flags_are ∙ get_or-map-range_with_len (is_used shape taken) 0 shape.blocks b b false inside (omega arith)
+
+    pages_fit : (list_all (λ p. not (list_any (λ c. c == p / shape.block_pages) names)) (all_pages shape taken) ≡ true) × (nat_le (length (blocks_with shape (all_pages shape taken))) (data_blocks shape - 1) ≡ true)
+    pages_fit =
+        let pages : List ℕ = all_pages shape taken in
+        let a = and_parts ((list_all (λ p. not (list_any (λ c. c == p / shape.block_pages) names)) pages && differ pages) && nat_le (length pages) (limit shape)) (nat_le (length (blocks_with shape pages)) (data_blocks shape - 1)) lives.placed_well in
+        let b = and_parts (list_all (λ p. not (list_any (λ c. c == p / shape.block_pages) names)) pages && differ pages) (nat_le (length pages) (limit shape)) a.0 in
+        let c = and_parts (list_all (λ p. not (list_any (λ c. c == p / shape.block_pages) names)) pages) (differ pages) b.0 in
+        (c.0, a.1)
+
+    -- no closed block is named
+    not_named : (b : ℕ) → b < shape.blocks → get_or live.closed b false ≡ true → is_among names b ≡ false
+    not_named b inside closed = any_outside shape.block_pages names (all_pages shape taken) b pages_fit.0 (sym (used_is b inside) ∙ closed)
+
+    past_roots : (b : ℕ) → b < shape.blocks → get_or live.closed b false ≡ true → 2 ≤ b
+    past_roots b inside closed = behind_roots taken b lives.places (sym (used_is b inside) ∙ closed)
+
+    pub few_closed : flags live.closed ≤ data_blocks shape - 1
+    few_closed =
+        let pages : List ℕ = all_pages shape taken in
+        let many : flags live.closed ≡ length (blocks_with shape pages) =
+        ap flags flags_are ∙ count_map (is_used shape taken) (range_with_len 0 shape.blocks) ∙ sym (length-filter (λ b. list_any (λ p. p / shape.block_pages == b) pages) (range_with_len 0 shape.blocks)) in
+        omega (arith, many, at_most (length (blocks_with shape pages)) (data_blocks shape - 1) pages_fit.1)
+      where
+        at_most : (x y : ℕ) → nat_le x y ≡ true → x ≤ y
+        at_most x y e = grind (arith, nat_tests)
+
+  -- what the root does not name is as it was
+  unnamed : (root : Root) (b : ℕ) (s : Option BlockState) → is_among (named root) b ≡ false → option_map (state_of root b) s ≡ s
+  unnamed root b s none =
+      let parts = or_parts (is_among (root.newest ++ root.older) b) (is_among (concat root.runs) b) (sym (list_any-append (λ c. c == b) (root.newest ++ root.older) (concat root.runs)) ∙ none) in
+      stays (is_among (concat root.runs) b) (is_among (root.newest ++ root.older) b) parts.1 parts.0 s
+    where
+      stays : (x y : Bool) → x ≡ false → y ≡ false → (s : Option BlockState) → option_map (λ t. owned_if Meta x (owned_if Journal y t)) s ≡ s
+      stays true y p q s = absurd (false≢true (sym p))
+      stays false true p q s = absurd (false≢true (sym q))
+      stays false false p q None = refl
+      stays false false p q (Some t) = refl
+
+  -- so it is free
+  pub closed_is_spare : (root : Root) (p : Blocks) (live : LiveValues) (taken : List (Key × Place)) → NamesOwned root (unused shape) p → Lives shape (named root) live taken
+      → (b : ℕ) → b < shape.blocks → get_or live.closed b false ≡ true → IsSpare p b
+  closed_is_spare root p live taken owned lives b inside closed =
+      inl (owned.states b ∙ unnamed root b (slice_get (unused shape).states b) (not_named (named root) live taken lives b inside closed) ∙ unused_free shape b (past_roots (named root) live taken lives b inside closed) inside)
+
+-- ---- one block after another
+
+-- the closed ones of the first i blocks were adopted
+abbrev pub ValuesAdopting : LiveValues → Blocks → Blocks → ℕ → Type 0
+ValuesAdopting live old now i = Adopts Values (λ b. get_or (take i live.closed) b false) (flags (take i live.closed)) old now
+
+pub ValuesAdopting-start : (live : LiveValues) (p : Blocks) → ValuesAdopting live p p 0
+ValuesAdopting-start live p = adopts_none Values p
+
+pub ValuesAdopting-end : (live : LiveValues) (old now : Blocks) (i : ℕ) → length live.closed ≤ i → ValuesAdopting live old now i → Adopts Values (λ b. get_or live.closed b false) (flags live.closed) old now
+ValuesAdopting-end live old now i all a = subst (λ (xs : List Bool). Adopts Values (λ b. get_or xs b false) (flags xs) old now) (take_all i live.closed all) a
+
+module _ (live : LiveValues) (old now : Blocks) (i : ℕ) (inside : i < length live.closed) (a : ValuesAdopting live old now i) where
+  taken_many : length (take i live.closed) ≡ i
+  taken_many = length-take-le i live.closed (omega (arith, inside))
+
+  pub next_is_spare : IsSpare old i → IsSpare now i
+  next_is_spare spare = (still_spare a (i ∷ []) (get_or_past (take i live.closed) i false (omega (arith, taken_many)), tt) (spare, tt)).0
+
+  pub ValuesAdopting-passed : slice_get live.closed i ≡ Some false → ValuesAdopting live old now (i + 1)
+  ValuesAdopting-passed open_one =
+      let more = take_more live.closed i false open_one in
+      let xs : List Bool = take i live.closed in
+      let count = flags_more xs false in
+      subst (λ (ys : List Bool). Adopts Values (λ b. get_or ys b false) (flags ys) old now) (sym more) (adopts_same (λ b. sym (flag_same xs b)) (omega (arith, count)) a)
+
+  pub ValuesAdopting-next : (new : Blocks) → slice_get live.closed i ≡ Some true → IsSpare now i → new ≡ with_state now i (Owned Values) → used_by Values new.states ≡ used_by Values now.states + 1
+      → ((flash : Flash) → Fits now flash → Fits new flash) → ValuesAdopting live old new (i + 1)
+  ValuesAdopting-next new closed spare is counted fits =
+      let more = take_more live.closed i true closed in
+      let xs : List Bool = take i live.closed in
+      let count = flags_more xs true in
+      let one = adopts_one Values now new i spare is counted fits in
+      subst (λ (ys : List Bool). Adopts Values (λ b. get_or ys b false) (flags ys) old new) (sym more) (adopts_same (λ b. flag_more xs i b taken_many) (sym count) (adopts_both a one))
+
+  -- there is room for one more
+  pub room_left : slice_get live.closed i ≡ Some true → used_by Values old.states ≡ 0 → flags live.closed ≤ data_blocks old.shape - 1 → 1 ≤ data_blocks old.shape → used_by Values now.states < quota_of now.shape Values
+  room_left closed none few some =
+      let xs : List Bool = take i live.closed in
+      let count : flags (take (i + 1) live.closed) ≡ flags xs + 1 = ap flags (take_more live.closed i true closed) ∙ flags_more xs true in
+      let front = flags_front live.closed (i + 1) in
+      let quota = ap (λ s. quota_of s Values) a.shape in
+      omega (arith, count, front, few, some, none, quota, a.counted)
+
+-- what is read of a flag
+pub flag_at : (xs : List Bool) (i : ℕ) (c d : Bool) → i < length xs → c ≡ get_or xs i false → c ≡ d → slice_get xs i ≡ Some d
+flag_at xs i c d inside is told = slice_get-get_or xs i false inside ∙ ap (λ b. Some b) (sym is ∙ told)
+
+-- ---- all of it
+
+-- the live map stands for values outside of the root's blocks, which have their owners
+pub record Settled (p : Blocks) (live : LiveValues) : Type 0 where
+  pub many : length live.closed ≡ p.shape.blocks
+  pub spare : (b : ℕ) → b < p.shape.blocks → get_or live.closed b false ≡ true → IsSpare p b
+  pub none : used_by Values p.states ≡ 0
+  pub few : flags live.closed ≤ data_blocks p.shape - 1
+
+pub settled : (p : Blocks) (live : LiveValues) → IsShape p.shape → (root : Root) × (taken : List (Key × Place)) × NamesOwned root (unused p.shape) p × Lives p.shape (named root) live taken → Settled p live
+settled p live is (root, taken, owned, lives) = record {
+  many = flags_many p.shape is (named root) live taken lives;
+  spare = closed_is_spare p.shape is root p live taken owned lives;
+  none = owned.values ∙ unused_none Values p.shape (let fits = is.data_fits in omega (arith, fits));
+  few = few_closed p.shape is (named root) live taken lives;
+}

@@ -1,0 +1,68 @@
+-- Frames that are leased one after another.
+use Rattle.std.proofs.Common.{◌≡◌, ◌≢◌, ℕ, zero, suc, ◌+◌, ◌<◌, Bool, true, false, not, cond, List, [], ◌∷◌, ◌++◌, length, refl, ap, sym, subst, ◌∙◌, arith, Some, get_or-set_other, length-set, length-append}
+use Rattle.std.specs.Prelude.{count_by, slice_get}
+use Rattle.std.proofs.Math.ListN.{set}
+use Rattle.std.proofs.lemmas.List.Sums.{sum_by-set}
+use Rattle.std.proofs.lemmas.Option.{slice_get_within, get_or_from_slice_get, same_Some}
+use Rattle.pk_base.specs.Entry.{Entry}
+use Rattle.pk_base.specs.Page.{Flash}
+use Rattle.pk_pin.specs.Frames.{Frames, IsLeased, frame_of, leased, filled, times, AreLeases}
+use Rattle.pk_pin.proofs.Leases.{times-append, leases_taken}
+use Rattle.pk_run.specs.Kept.{Kept, Stands}
+use Rattle.pk_run.proofs.Standing.{Stands-elsewhere}
+use Rattle.pk_scan.specs.Runs.{LeasedMore, RunsStand, KeepsPage}
+
+pub leased_none : (a : Frames) → LeasedMore a a []
+leased_none a = record { page = refl; size = refl; kept = λ i is. (is, refl); free = omega arith; leases = λ ls all. all }
+
+get-set_other : (us : List Bool) (l i : ℕ) (u : Bool) → i ≢ l → slice_get (set us l u) i ≡ slice_get us i
+get-set_other [] l i u ne = refl
+get-set_other (x ∷ us) zero zero u ne = absurd (ne refl)
+get-set_other (x ∷ us) zero (suc i) u ne = refl
+get-set_other (x ∷ us) (suc l) zero u ne = refl
+get-set_other (x ∷ us) (suc l) (suc i) u ne = get-set_other us l i u (λ e. ne (ap suc e))
+
+no_clash : {A : Type 0} → Some false ≡ Some true → A
+no_clash e = cc
+
+-- a free frame was leased and filled
+pub leased_one : (a : Frames) (l : ℕ) (bytes : List ℕ) → slice_get a.used l ≡ Some false → LeasedMore a (filled (leased a l) l bytes) (l ∷ [])
+leased_one a l bytes free = record {
+  page = refl;
+  size = length-set a.used l true;
+  kept = λ i is.
+      let other : i ≢ l = λ e. no_clash (sym free ∙ ap (slice_get a.used) (sym e) ∙ is) in
+      (get-set_other a.used l i true other ∙ is, get_or-set_other a.frames l i bytes [] other);
+  free =
+      let was = get_or_from_slice_get a.used l false true free in
+      let change = rw was at (sum_by-set (λ x. cond (not x) 1 0) a.used l true true (slice_get_within a.used l false free)) in
+      omega (arith, change);
+  leases = λ ls all. leases_taken a ls l all free;
+}
+
+pub leased_more : (a b c : Frames) (xs ys : List ℕ) → LeasedMore a b xs → LeasedMore b c ys → LeasedMore a c (xs ++ ys)
+leased_more a b c xs ys m n = record {
+  page = n.page ∙ m.page;
+  size = n.size ∙ m.size;
+  kept = λ i is. let was = m.kept i is in let now = n.kept i was.0 in (now.0, now.1 ∙ was.1);
+  free = let e = length-append xs ys in omega (arith, e, m.free, n.free);
+  leases = λ ls all i.
+      let now = n.leases (xs ++ ls) (m.leases ls all) i in
+      let left : times i ((xs ++ ys) ++ ls) ≡ times i xs + times i ys + times i ls = times-append i (xs ++ ys) ls ∙ ap (λ k. k + times i ls) (times-append i xs ys) in
+      let right : times i (ys ++ (xs ++ ls)) ≡ times i ys + (times i xs + times i ls) = times-append i ys (xs ++ ls) ∙ ap (λ k. times i ys + k) (times-append i xs ls) in
+      left ∙ (let e : times i xs + times i ys + times i ls ≡ times i ys + (times i xs + times i ls) = omega arith in e) ∙ sym right ∙ now;
+}
+
+pub runs_stand : (a b : Frames) (more : List ℕ) → LeasedMore a b more → RunsStand a b
+runs_stand a b more m r flash es s = Stands-elsewhere r flash flash a b es (λ j h. refl) (λ j lease got is. m.kept lease is) s
+
+-- a page is kept in a frame that was free
+pub kept_in : (old mid new : Frames) (l : ℕ) (bytes : List ℕ) (pins : Bool) → slice_get old.used l ≡ Some false → mid ≡ leased old l → new ≡ filled mid l bytes → frame_of new l ≡ bytes
+    → IsLeased mid l → pins ≡ true → KeepsPage pins old new bytes (Some l)
+kept_in old mid new l bytes pins free is_mid is_new holds is_leased wanted =
+    let is : new ≡ filled (leased old l) l bytes = is_new ∙ ap (λ (a : Frames). filled a l bytes) is_mid in
+    record {
+      wanted = sym wanted;
+      more = subst (λ (a : Frames). LeasedMore old a (l ∷ [])) (sym is) (leased_one old l bytes free);
+      kept = (subst (λ (a : Frames). IsLeased a l) (sym is_new) is_leased, holds);
+    }

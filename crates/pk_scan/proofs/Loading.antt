@@ -1,0 +1,302 @@
+-- A run whose pages are read one after another.
+use Rattle.std.proofs.Common.{◌≡◌, ℕ, zero, suc, ◌+◌, ◌-◌, ◌*◌, ◌/◌, ◌%◌, ◌^◌, ◌<◌, ◌≤◌, min, Bool, true, false, not, ◌||◌, ◌==◌, T, is_some, List, [], ◌∷◌, ◌++◌, length, take, refl, ap, sym, subst, ◌∙◌, arith, Option, Some, None, option_map, Ok, Err, append_assoc, append-nil, length-append, suc-mul, mul-le-mul_right, mul_comm, zero-mul, div-lt_iff_lt-mul}
+use Rattle.std.specs.Prelude.{slice_get, slice_index}
+use Rattle.std.specs.Int.{div_ceil}
+use Rattle.std.specs.List.{AllByRecursion}
+use Rattle.std.specs.FinMap.Entries.{is_sorted}
+use Rattle.pk_base.specs.Key.{Key, key_cmp}
+use Rattle.pk_base.specs.Shape.{Shape, IsShape, page_entries, page_count, run_pages, run_blocks, blocks_of, cap}
+use Rattle.pk_base.specs.Entry.{Entry, key_of}
+use Rattle.pk_base.specs.EntryBytes.{IsEntry}
+use Rattle.pk_base.specs.Page.{Page, Flash, IsFlash, page_at, page_in, erased, whole, torn, pages_of_blocks}
+use Rattle.pk_base.specs.Refusal.{damaged}
+use Rattle.pk_meta.specs.Page.{meta_entries, IsMetaPage}
+use Rattle.pk_meta.specs.Run.{meta, run}
+use Rattle.pk_meta.proofs.Reading.{meta_held}
+use Rattle.pk_nand.specs.BoardState.{BoardState}
+use Rattle.pk_nand.specs.Calls.{IsReady, ReadFailed, after_read, filled}
+use Rattle.pk_nand.specs.Seen.{answer}
+use Rattle.pk_nand.specs.declared.types.PageRead.{PageRead}
+use Rattle.pk_nand.specs.declared.types.PageRead.TheVariants.{Erased as ReadErased, Whole as ReadWhole, Torn as ReadTorn}
+use Rattle.pk_nand.specs.Erased.{after_reads}
+use Rattle.pk_pin.specs.Frames.{Frames, free_frames}
+use Rattle.pk_run.proofs.Standing.{Stands-empty}
+use Rattle.pk_run.specs.Kept.{Kept, empty, most_blocks, Stands, IsNext, IsPinned, IsPinnedAlike, page_of, with_page, with_lease}
+use Rattle.pk_run.proofs.Pieces.{share, meta_next}
+use Rattle.pk_scan.specs.declared.errors.PageError.{PageError}
+use Rattle.pk_scan.specs.declared.errors.PageError.TheVariants.{Damaged, Fault}
+use Rattle.pk_scan.specs.Runs.{AllExist, HasRun, ComesTo, RunRefused, RunFailed, NotRead, LeasedMore, IsPinnedIf, IsLast, GoesOn, listed, KeepsPage, PageAdded, PageTaken, PageRefused}
+use Rattle.pk_scan.proofs.Leasing.{leased_none, leased_more, runs_stand}
+use Rattle.pk_scan.proofs.Rereading.{meta_refused, last_of, pages_most, blocks_most, more_left, all_counted}
+
+-- a page has room for entries
+pub size_some : (shape : Shape) → IsShape shape → 0 < page_entries shape
+size_some shape is = let page : 512 ≤ shape.page_bytes = is.page_least in omega arith
+
+-- ---- one page
+
+-- a page of the run's blocks is a page of the flash
+pub page_exists : (r : Kept) (flash : Flash) (i : ℕ) → IsShape r.shape → IsFlash r.shape flash → AllExist r.shape r.blocks → i < length r.blocks * r.shape.block_pages → page_of r i < length flash
+page_exists r flash i is full exist inside =
+    let n : ℕ = r.shape.block_pages in
+    let some : 0 < n = let least : 8 ≤ n = is.block_least in omega arith in
+    let block : i / n < length r.blocks = (div-lt_iff_lt-mul some).1 inside in
+    let b : ℕ = slice_index r.blocks (i / n) in
+    let up : suc b * n ≤ r.shape.blocks * n = mul-le-mul_right n (exist (i / n) block) in
+    omega (arith, up, suc-mul b n, mul_comm r.shape.blocks n, full.size, some)
+
+-- what is pinned stays so
+alike : (pins : Bool) (r : Kept) (flash : Flash) (before after : Frames) (lease : Option ℕ) (bytes : List ℕ) → IsPinnedIf pins r → KeepsPage pins before after bytes lease
+    → page_at flash (page_of r (length r.firsts)) ≡ whole bytes → IsPinnedAlike r flash after lease
+alike true r flash before after None bytes pinned keeps here = let no : false ≡ true = keeps.wanted in cc
+alike true r flash before after (Some lease) bytes pinned keeps here = (pinned, record { leased = keeps.kept.0; bytes = here ∙ ap (λ (b : List ℕ). whole b) (sym keeps.kept.1) })
+alike false r flash before after None bytes pinned keeps here = pinned
+alike false r flash before after (Some lease) bytes pinned keeps here = let no : true ≡ false = keeps.wanted in cc
+
+pub page_taken : (pins : Bool) (flash : Flash) (before after : Frames) (old new : Kept) (es : List Entry) (many : ℕ) (first last : Key) (lease : Option ℕ) (bytes : List ℕ)
+    → 1 ≤ old.level → old.level ≤ 4 → length old.firsts < 2 ^ 32 → 1 ≤ many
+    → page_at flash (page_of old (length old.firsts)) ≡ whole bytes
+    → IsPinnedIf pins old → KeepsPage pins before after bytes lease
+    → ((level index : ℕ) (es : List Entry) → IsMetaPage old.shape bytes level index es → option_map key_of (slice_get es 0) ≡ Some first)
+    → ((level index : ℕ) (es : List Entry) → IsMetaPage old.shape bytes level index es → option_map key_of (slice_get es (many - 1)) ≡ Some last)
+    → ((flash : Flash) (arena : Frames) (es more : List Entry) → Stands old flash arena es → IsNext old flash arena es more first lease → length more ≡ many → Stands new flash arena (es ++ more))
+    → Stands old flash before es → (more : List Entry) × GoesOn old.shape old.level (length old.firsts) many es bytes more
+    → PageTaken flash after old new es many last
+page_taken pins flash before after old new es many first last lease bytes least most fits some here pinned keeps begins ends pushed stands (more, goes) =
+    let held = meta_held old.shape old.level (length old.firsts) many bytes more least most fits goes.holds in
+    let holds : meta_entries old.shape old.level (length old.firsts) (length more) bytes ≡ Some more = subst (λ (n : ℕ). meta_entries old.shape old.level (length old.firsts) n bytes ≡ Some more) (sym held.1) goes.holds in
+    let next : IsNext old flash after es more first lease = record {
+      bytes = bytes;
+      here = here;
+      holds = holds;
+      begins = begins old.level (length old.firsts) more held.0;
+      rising = goes.rising;
+      deepest = goes.deepest;
+      alike = alike pins old flash before after lease bytes pinned keeps here;
+    } in
+    record {
+      bytes = bytes;
+      more = more;
+      here = here;
+      goes_on = goes;
+      stands = pushed flash after es more (runs_stand before after (listed lease) keeps.more old flash es stands) next held.1;
+      ends = last_of es more (many - 1) last (let m = held.1 in omega (arith, some, m)) (ends old.level (length old.firsts) more held.0);
+    }
+
+-- ---- pages in a row
+
+all_append : (P : Entry → Type 0) (xs ys : List Entry) → AllByRecursion P xs → AllByRecursion P ys → AllByRecursion P (xs ++ ys)
+all_append P [] ys front back = back
+all_append P (x ∷ xs) ys front back = (front.0, all_append P xs ys front.1 back)
+
+with_listed : (leases : List ℕ) (lease : Option ℕ) → leases ++ listed lease ≡ with_lease leases lease
+with_listed leases None = append-nil leases
+with_listed leases (Some lease) = refl
+
+-- ---- what a read answers
+
+pub read_whole : (p : Page) (r : PageRead) (old new : List ℕ) → r ≡ ReadWhole → r ≡ answer p → new ≡ filled p old → p ≡ whole new
+read_whole erased r old new is a f = let no_answer : ReadWhole ≡ ReadErased = sym is ∙ a in cc
+read_whole (whole bytes) r old new is a f = ap (λ (b : List ℕ). whole b) (sym f)
+read_whole torn r old new is a f = let no_answer : ReadWhole ≡ ReadTorn = sym is ∙ a in cc
+
+-- ---- the pages of a run
+
+module _ (shape : Shape) (level count : ℕ) (blocks : List ℕ) (pins : Bool) (old : BoardState) (arena : Frames) where
+  abbrev size : ℕ
+  size = page_entries shape
+
+  -- i pages were read, and the reading of the run goes on behind their entries
+  pub record Loading (now : BoardState) (frames : Frames) (r : Kept) (last : Option Key) (i : ℕ) : Type 0 where
+    pub es : List Entry
+    pub board : now ≡ after_reads i old
+    pub shape_is : r.shape ≡ shape
+    pub level_is : r.level ≡ level
+    pub blocks_are : r.blocks ≡ blocks
+    pub pages : length r.firsts ≡ i
+    pub counted : r.count ≡ min count (i * page_entries shape)
+    pub stands : Stands r old.pages frames es
+    pub ends : IsLast last es
+    pub each : AllByRecursion (IsEntry shape) es
+    pub pinned : IsPinnedIf pins r
+    pub more : LeasedMore arena frames r.leases
+    pub comes : ComesTo shape level count blocks old.pages i es
+
+  none_pinned : (pins : Bool) (r : Kept) → r.firsts ≡ [] → r.leases ≡ [] → IsPinnedIf pins r
+  none_pinned true r firsts leases = ap (λ (ls : List ℕ). length ls) leases ∙ ap (λ (ks : List Key). length ks) (sym firsts)
+  none_pinned false r firsts leases = leases
+
+  pub Loading-start : (r : Kept) → r.shape ≡ shape → r.level ≡ level → r.blocks ≡ blocks → r.count ≡ 0 → r.firsts ≡ [] → r.leases ≡ [] → Stands r old.pages arena [] → Loading old arena r None 0
+  unfolding run
+  Loading-start r shape_is level_is blocks_are none firsts leases stands = record {
+    es = [];
+    board = refl;
+    shape_is = shape_is;
+    level_is = level_is;
+    blocks_are = blocks_are;
+    pages = ap length firsts;
+    counted = let z : 0 * page_entries shape ≡ 0 = zero-mul (page_entries shape) in omega (arith, none, z);
+    stands = stands;
+    ends = refl;
+    each = tt;
+    pinned = none_pinned pins r firsts leases;
+    more = rw leases (leased_none arena);
+    comes = let e : run_pages shape count ≡ run_pages shape count - 0 = omega arith in ap (λ k. meta shape level count 0 [] (pages_of_blocks shape (page_at old.pages) blocks 0 k)) e;
+  }
+
+  module _ (now : BoardState) (frames : Frames) (r : Kept) (last : Option Key) (i : ℕ) (l : Loading now frames r last i) where
+    pub pages_stay : now.pages ≡ old.pages
+    pages_stay = ap (λ b. b.pages) l.board
+
+    pub stays_ready : IsReady old shape → IsReady now shape
+    stays_ready ready = rw l.board (record { shape_is = ready.shape_is; flash = ready.flash })
+
+    pub stands_now : Stands r now.pages frames l.es
+    stands_now = subst (λ (f : Flash). Stands r f frames l.es) (sym pages_stay) l.stands
+
+    -- the next page is that of the run's blocks
+    page_is : page_of r (length r.firsts) ≡ page_in shape blocks i
+    page_is = rw (l.shape_is, l.blocks_are, l.pages) refl
+
+    goes_is : (many : ℕ) (bytes : List ℕ) (more : List Entry) → GoesOn r.shape r.level (length r.firsts) many l.es bytes more ≡ GoesOn shape level i many l.es bytes more
+    goes_is many bytes more = rw (l.shape_is, l.level_is, l.pages) refl
+
+    -- what is left: this page and the others
+    left_here : i < run_pages shape count → run shape (page_at old.pages) level count blocks
+        ≡ meta shape level count i l.es ((page_in shape blocks i, page_at old.pages (page_in shape blocks i)) ∷ pages_of_blocks shape (page_at old.pages) blocks (i + 1) (run_pages shape count - (i + 1)))
+    left_here inside =
+        let step : run_pages shape count - i ≡ suc (run_pages shape count - (i + 1)) = omega (arith, inside) in
+        l.comes ∙ ap (λ k. meta shape level count i l.es (pages_of_blocks shape (page_at old.pages) blocks i k)) step
+
+    full_so_far : 0 < size → i < run_pages shape count → r.count ≡ i * size
+    full_so_far some inside = let less = more_left count size i some inside in omega (arith, l.counted, less)
+
+    pub is_full : 0 < size → i < run_pages shape count → r.count ≡ length r.firsts * page_entries r.shape
+    is_full some inside = rw (l.shape_is, l.pages) (full_so_far some inside)
+
+    -- the entries of the next page
+    pub some_left : (many : ℕ) → 0 < size → i < run_pages shape count → many ≡ min (count - r.count) size → (1 ≤ many) × (many ≤ size) × (many ≡ share shape count i)
+    some_left many some inside is =
+        let less = more_left count size i some inside in
+        let full = full_so_far some inside in
+        (omega (arith, less, full, some), omega arith, omega (arith, full))
+
+    pub room_left : 0 < size → count ≤ cap shape level * size → i < run_pages shape count → length r.firsts < cap r.shape r.level
+    room_left some few inside = rw (l.shape_is, l.level_is, l.pages) (let most = pages_most count size (cap shape level) some few in omega (arith, inside, most))
+
+    pub frame_left : run_pages shape count ≤ free_frames arena → pins ≡ true → i < run_pages shape count → 0 < free_frames frames
+    frame_left enough wanted inside =
+        let pinned : IsPinned r = subst (λ (b : Bool). IsPinnedIf b r) wanted l.pinned in
+        omega (arith, enough, inside, pinned, l.pages, l.more.free)
+
+    -- ---- the page goes on
+
+    pinned_more : (pins : Bool) (first : Key) (lease : Option ℕ) (many : ℕ) → IsPinnedIf pins r → is_some lease ≡ pins → IsPinnedIf pins (with_page r first lease many)
+    pinned_more true first None many pinned wanted = let no : false ≡ true = wanted in cc
+    pinned_more true first (Some lease) many pinned wanted =
+        let a = length-append r.leases (lease ∷ []) in let b = length-append r.firsts (first ∷ []) in let e : length r.leases ≡ length r.firsts = pinned in
+        let both : length (r.leases ++ lease ∷ []) ≡ length (r.firsts ++ first ∷ []) = omega (arith, a, b, e) in both
+    pinned_more false first None many pinned wanted = pinned
+    pinned_more false first (Some lease) many pinned wanted = let no : true ≡ false = wanted in cc
+
+    pub Loading-next : (new : BoardState) (frames' : Frames) (r' : Kept) (key : Key) (many : ℕ) → 1 ≤ level → level ≤ 4 → i < 2 ^ 32 → 0 < size → i < run_pages shape count → many ≡ share shape count i
+        → new ≡ after_read now → PageAdded pins frames frames' r r' many → PageTaken now.pages frames' r r' l.es many key → Loading new frames' r' (Some key) (i + 1)
+    Loading-next new frames' r' key many least most fits some inside share_is read added taken_now =
+        let taken = subst (λ (f : Flash). PageTaken f frames' r r' l.es many key) pages_stay taken_now in
+        let one : suc i ≡ i + 1 = omega arith in
+        let goes : GoesOn shape level i many l.es taken.bytes taken.more = subst (λ (X : Type 0). X) (goes_is many taken.bytes taken.more) taken.goes_on in
+        let holds : meta_entries shape level i (share shape count i) taken.bytes ≡ Some taken.more = subst (λ (n : ℕ). meta_entries shape level i n taken.bytes ≡ Some taken.more) share_is goes.holds in
+        let here : page_at old.pages (page_in shape blocks i) ≡ whole taken.bytes = subst (λ (p : ℕ). page_at old.pages p ≡ whole taken.bytes) page_is taken.here in
+        let full = full_so_far some inside in
+        record {
+          es = l.es ++ taken.more;
+          board = read ∙ ap after_read l.board ∙ ap (λ k. after_reads k old) one;
+          shape_is = ap (λ (k : Kept). k.shape) added.run ∙ l.shape_is;
+          level_is = ap (λ (k : Kept). k.level) added.run ∙ l.level_is;
+          blocks_are = ap (λ (k : Kept). k.blocks) added.run ∙ l.blocks_are;
+          pages = ap (λ (k : Kept). length k.firsts) added.run ∙ (let e = length-append r.firsts (added.first ∷ []) in omega (arith, e, l.pages));
+          counted = ap (λ (k : Kept). k.count) added.run ∙ (let less = more_left count size i some inside in let up : (i + 1) * size ≡ i * size + size = ap (λ (k : ℕ). k * size) (sym one) ∙ suc-mul i size in omega (arith, full, share_is, less, up));
+          stands = taken.stands;
+          ends = taken.ends;
+          each = all_append (IsEntry shape) l.es taken.more l.each (meta_held shape level i many taken.bytes taken.more least most fits goes.holds).0.content.each;
+          pinned = subst (IsPinnedIf pins) (sym added.run) (pinned_more pins added.first added.lease many l.pinned added.wanted);
+          more = subst (LeasedMore arena frames') (with_listed r.leases added.lease ∙ ap (λ (k : Kept). k.leases) (sym added.run)) (leased_more arena frames frames' r.leases (listed added.lease) l.more added.more);
+          comes = left_here inside
+              ∙ meta_next shape level count i l.es taken.more (page_in shape blocks i) (page_at old.pages (page_in shape blocks i)) taken.bytes (pages_of_blocks shape (page_at old.pages) blocks (i + 1) (run_pages shape count - (i + 1))) here holds goes.rising goes.deepest;
+        }
+
+    -- ---- or it does not
+
+    pub Loading-refused : (new : BoardState) (many : ℕ) (e : PageError) → i < run_pages shape count → many ≡ share shape count i → PageRefused now new r l.es many e → NotRead shape level count blocks old new e
+    Loading-refused new many (Damaged page) inside share_is refused =
+        let one : suc i ≡ i + 1 = omega arith in
+        let none : (bytes : List ℕ) (more : List Entry) → page_at old.pages (page_in shape blocks i) ≡ whole bytes → GoesOn shape level i (share shape count i) l.es bytes more → ⊥ =
+        λ bytes more here goes.
+            refused.2 bytes more (ap (λ (f : Flash). page_at f (page_of r (length r.firsts))) pages_stay ∙ ap (page_at old.pages) page_is ∙ here)
+            (subst (λ (X : Type 0). X) (sym (goes_is many bytes more)) (subst (λ (n : ℕ). GoesOn shape level i n l.es bytes more) (sym share_is) goes)) in
+        record {
+          index = i;
+          within = inside;
+          page_is = refused.0 ∙ page_is;
+          read = left_here inside
+              ∙ meta_refused shape level count i l.es (page_in shape blocks i) (page_at old.pages (page_in shape blocks i)) (pages_of_blocks shape (page_at old.pages) blocks (i + 1) (run_pages shape count - (i + 1))) none
+              ∙ ap (λ p. Err (damaged p)) (sym (refused.0 ∙ page_is));
+          board = refused.1 ∙ ap after_read l.board ∙ ap (λ k. after_reads k old) one;
+        }
+    Loading-refused new many Fault inside share_is refused =
+        let failed : ReadFailed (after_reads i old) new (page_in shape blocks i) = subst (λ b. ReadFailed b new (page_in shape blocks i)) l.board (subst (λ p. ReadFailed now new p) page_is refused) in
+        record { made = i; within = inside; comes = (l.es, l.comes); failed = failed; flash = failed.flash; read = failed.read }
+
+    -- ---- all pages were read
+
+    pub Loading-end : i ≡ run_pages shape count → HasRun shape level count blocks old.pages frames r
+    Loading-end all = record {
+      entries = l.es;
+      read = let none : run_pages shape count - i ≡ 0 = omega (arith, all) in l.comes ∙ ap (λ k. meta shape level count i l.es (pages_of_blocks shape (page_at old.pages) blocks i k)) none;
+      each = l.each;
+      stands = l.stands;
+    }
+
+    pub all_entries : 0 < size → i ≡ run_pages shape count → r.count ≡ count
+    all_entries some all = l.counted ∙ ap (λ (k : ℕ). min count (k * size)) all ∙ all_counted count size some
+
+  -- the pages stay
+  pub not_read_pages : (new : BoardState) (e : PageError) → NotRead shape level count blocks old new e → (new.pages ≡ old.pages) × (new.shape ≡ old.shape)
+  not_read_pages new (Damaged page) refused = (ap (λ (b : BoardState). b.pages) refused.board, ap (λ (b : BoardState). b.shape) refused.board)
+  not_read_pages new Fault refused = (ap (λ (b : BoardState). b.pages) refused.failed.rest, ap (λ (b : BoardState). b.shape) refused.failed.rest)
+
+  pub not_read_ready : (new : BoardState) (e : PageError) → NotRead shape level count blocks old new e → IsReady old shape → IsReady new shape
+  not_read_ready new e not_read ready =
+      let same = not_read_pages new e not_read in
+      record { shape_is = same.1 ∙ ready.shape_is; flash = rw same.0 ready.flash }
+
+-- ---- the blocks of a run
+
+pub take_more : {X : Type 0} (xs : List X) (i : ℕ) (x : X) → slice_get xs i ≡ Some x → take (i + 1) xs ≡ take i xs ++ x ∷ []
+take_more {X = X} xs i x got = let k : i + 1 ≡ suc i = omega arith in rw k (at_suc xs i got)
+  where
+    at_suc : (xs : List X) (i : ℕ) → slice_get xs i ≡ Some x → take (suc i) xs ≡ take i xs ++ x ∷ []
+    at_suc [] i got = cc
+    at_suc (y ∷ xs) zero got = let same : y ≡ x = cc in ap (λ (z : X). z ∷ []) same
+    at_suc (y ∷ xs) (suc i) got = ap (λ (zs : List X). y ∷ zs) (at_suc xs i got)
+
+pub block_added : (old mid new : Kept) (blocks : List ℕ) (i b : ℕ) → slice_get blocks i ≡ Some b → mid ≡ record old { blocks = old.blocks ++ take i blocks } → new ≡ record mid { blocks = mid.blocks ++ b ∷ [] }
+    → new ≡ record old { blocks = old.blocks ++ take (i + 1) blocks }
+block_added old mid new blocks i b got is_mid is_new =
+    is_new ∙ ap (λ (r : Kept). record r { blocks = r.blocks ++ b ∷ [] }) is_mid
+    ∙ ap (λ (bs : List ℕ). record old { blocks = bs }) (append_assoc old.blocks (take i blocks) (b ∷ []) ∙ ap (λ (bs : List ℕ). old.blocks ++ bs) (sym (take_more blocks i b got)))
+
+-- the blocks of so many entries are no more than those of the level
+pub blocks_fit : (shape : Shape) (level count : ℕ) → IsShape shape → count ≤ cap shape level * page_entries shape → run_blocks shape count ≤ blocks_of shape (cap shape level)
+blocks_fit shape level count is few =
+    let some : 0 < shape.block_pages = let least : 8 ≤ shape.block_pages = is.block_least in omega arith in
+    blocks_most (run_pages shape count) (cap shape level) shape.block_pages some (pages_most count (page_entries shape) (cap shape level) (size_some shape is) few)
+
+pub room_for_blocks : (r : Kept) (blocks : List ℕ) (count : ℕ) → IsShape r.shape → r ≡ empty r.shape r.level → count ≤ cap r.shape r.level * page_entries r.shape → length blocks ≡ run_blocks r.shape count
+    → length r.blocks + length blocks ≤ most_blocks r
+room_for_blocks r blocks count is none few many =
+    let no : length r.blocks ≡ 0 = ap (λ (k : Kept). length k.blocks) none in
+    omega (arith, no, many, blocks_fit r.shape r.level count is few)
+
+pub empty_stands : (r : Kept) (flash : Flash) (arena : Frames) → IsShape r.shape → r ≡ empty r.shape r.level → Stands r flash arena []
+empty_stands r flash arena is none = subst (λ (k : Kept). Stands k flash arena []) (sym none) (Stands-empty r.shape r.level flash arena is)

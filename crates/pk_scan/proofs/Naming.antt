@@ -1,0 +1,229 @@
+-- The blocks that a root names, which a new pool has as free ones.
+use Rattle.std.proofs.Common.{◌≡◌, ◌≢◌, ◌⊎◌, inl, inr, ℕ, zero, suc, ◌+◌, ◌*◌, ◌<◌, ◌≤◌, Bool, true, false, not, ◌&&◌, ◌||◌, ◌==◌, cond, List, [], ◌∷◌, ◌++◌, length, map, replicate, refl, sym, ap, subst, ◌∙◌, arith, Option, Some, None, option_map, length-append, append-nil, append_assoc}
+use Rattle.std.specs.Prelude.{slice_get, count_by, nat_le, nat_lt, nat_eq, zip, bytes_eq}
+use Rattle.std.specs.List.{list_any, list_all, concat, AllByRecursion}
+use Rattle.std.proofs.Math.ListN.{set}
+use Rattle.std.proofs.lemmas.Bool.{false≢true}
+use Rattle.std.proofs.lemmas.Bool.Decides.{nat_tests}
+use Rattle.std.proofs.lemmas.List.Folds.{list_all-append}
+use Rattle.std.proofs.lemmas.List.Sums.{sum_by-cons}
+use Rattle.std.proofs.lemmas.Slice.Eq.{bytes_eq-Decides}
+use Rattle.pk_base.specs.Shape.{Shape, IsShape, page_entries, caps, deepest, meta_blocks, run_blocks}
+use Rattle.pk_plan.specs.declared.owner.Owner.{Owner}
+use Rattle.pk_plan.specs.declared.owner.Owner.TheVariants.{Journal, Meta, Values}
+use Rattle.pk_plan.specs.Quotas.{quota_of}
+use Rattle.pk_pool.specs.declared.state.BlockState.{BlockState}
+use Rattle.pk_pool.specs.declared.state.BlockState.TheVariants.{Root as RootBlock, Free, Ready, Owned}
+use Rattle.pk_pool.specs.Blocks.{Blocks, used_by, is_owned_by, unused, IsSpare}
+use Rattle.pk_pool.proofs.States.{get-set_other}
+use Rattle.pk_pool.proofs.Sharing.{count-set}
+use Rattle.pk_rootfmt.specs.Root.{Root, named, is_root, has_runs, differ}
+use Rattle.pk_rootfmt.specs.Held.{two_of, older_of, total}
+use Rattle.pk_rootfmt.proofs.PageLemmas.{Parts, root_parts}
+use Rattle.pk_rootfmt.proofs.RoomLemmas.{runs_most}
+use Rattle.pk_rootfmt.proofs.AgainLemmas.{four}
+use Rattle.pk_scan.specs.Adopts.{is_among, owned_if, state_of, Adopts, NamesOwned, MayAdopt}
+use Rattle.pk_scan.proofs.Adopting.{apart, differ_front, differ_back, still_spare, spare_front, spare_back}
+
+-- ---- the blocks of the epochs
+
+pub two_is : (bs : List ℕ) → length bs ≡ 2 → two_of bs ≡ bs
+two_is [] e = absurd (omega (arith, e))
+two_is (b ∷ bs) e = refl
+
+pub older_is : (bs os : List ℕ) → Some os ≡ older_of bs → os ≡ bs
+older_is [] os e = cc
+older_is (b ∷ bs) os e = cc
+
+pub older_none : (bs : List ℕ) → None ≡ older_of bs → bs ≡ []
+older_none [] e = refl
+older_none (b ∷ bs) e = cc
+
+-- ---- a new pool
+
+get-replicate : (n k : ℕ) → k < n → slice_get (replicate n Free) k ≡ Some Free
+get-replicate zero k h = absurd (omega arith)
+get-replicate (suc n) zero h = refl
+get-replicate (suc n) (suc k) h = get-replicate n k (omega arith)
+
+pub unused_free : (shape : Shape) (b : ℕ) → 2 ≤ b → b < shape.blocks → slice_get (unused shape).states b ≡ Some Free
+unused_free shape b low high =
+    get-set_other (set (replicate shape.blocks Free) 0 RootBlock) 1 b RootBlock (λ e. absurd (omega (arith, low, e)))
+    ∙ get-set_other (replicate shape.blocks Free) 0 b RootBlock (λ e. absurd (omega (arith, low, e))) ∙ get-replicate shape.blocks b high
+
+none_owned : (o : Owner) (n : ℕ) → used_by o (replicate n Free) ≡ 0
+none_owned o zero = refl
+none_owned o (suc n) =
+    let step = sum_by-cons (λ s. cond {A = ℕ} (is_owned_by o s) 1 0) Free (replicate n Free) in
+    let rest = none_owned o n in
+    omega (arith, step, rest)
+
+pub unused_none : (o : Owner) (shape : Shape) → 2 ≤ shape.blocks → used_by o (unused shape).states ≡ 0
+unused_none o shape some =
+    let xs : List BlockState = replicate shape.blocks Free in
+    let ys : List BlockState = set xs 0 RootBlock in
+    let first = count-set (is_owned_by o) xs 0 Free RootBlock (get-replicate shape.blocks 0 (omega (arith, some))) in
+    let second = count-set (is_owned_by o) ys 1 Free RootBlock (get-set_other xs 0 1 RootBlock (λ e. absurd (omega (arith, e))) ∙ get-replicate shape.blocks 1 (omega (arith, some))) in
+    let none = none_owned o shape.blocks in
+    omega (arith, first, second, none)
+
+behind : (shape : Shape) (b : ℕ) → (nat_le 2 b && nat_lt b shape.blocks) ≡ true → (2 ≤ b) × (b < shape.blocks)
+behind shape b e = (grind (arith, nat_tests), grind (arith, nat_tests))
+
+all_spare : (shape : Shape) (bs : List ℕ) → list_all (λ b. nat_le 2 b && nat_lt b shape.blocks) bs ≡ true → AllByRecursion (IsSpare (unused shape)) bs
+all_spare shape [] e = tt
+all_spare shape (b ∷ bs) e =
+    let own = behind shape b (left _ _ e) in
+    (inl (unused_free shape b own.0 own.1), all_spare shape bs (right _ _ e))
+  where
+    left : (p q : Bool) → (p && q) ≡ true → p ≡ true
+    left true q e = refl
+    left false q e = e
+
+    right : (p q : Bool) → (p && q) ≡ true → q ≡ true
+    right true q e = e
+    right false q e = absurd (false≢true e)
+
+-- ---- numbers of blocks
+
+length_concat : (xs : List (List ℕ)) → length (concat xs) ≡ total (map length xs)
+length_concat [] = refl
+length_concat (x ∷ xs) = length-append x (concat xs) ∙ ap (λ n. length x + n) (length_concat xs)
+
+length-map : {X : Type 0} (f : X → ℕ) (xs : List X) → length (map f xs) ≡ length xs
+length-map f [] = refl
+length-map f (x ∷ xs) = ap suc (length-map f xs)
+
+record HasFour (shape : Shape) (counts : List ℕ) (runs : List (List ℕ)) : Type 0 where
+  pub four_counts : length counts ≡ 4
+  pub each : list_all (λ p. nat_le p.0 (p.1 * page_entries shape)) (zip counts (caps shape)) ≡ true
+  pub sizes : map length runs ≡ map (run_blocks shape) counts
+
+has_four : (shape : Shape) (root : Root) → has_runs shape root ≡ true → HasFour shape root.counts root.runs
+has_four shape root e =
+    let p : Bool = length root.counts == 4 in
+    let q : Bool = list_all (λ p. nat_le p.0 (p.1 * page_entries shape)) (zip root.counts (caps shape)) in
+    let r : Bool = bytes_eq (map length root.runs) (map (run_blocks shape) root.counts) in
+    let three = three_true p q r e in
+    record { four_counts = is_four (length root.counts) three.0; each = three.1; sizes = (bytes_eq-Decides (map length root.runs) (map (run_blocks shape) root.counts)).0 three.2 }
+  where
+    three_true : (p q r : Bool) → (p && q && r) ≡ true → (p ≡ true) × (q ≡ true) × (r ≡ true)
+    three_true true true true e = (refl, refl, refl)
+    three_true true true false e = absurd (false≢true e)
+    three_true true false r e = absurd (false≢true e)
+    three_true false q r e = absurd (false≢true e)
+
+    is_four : (n : ℕ) → nat_eq n 4 ≡ true → n ≡ 4
+    is_four n e = grind (arith, nat_tests)
+
+four_runs : (shape : Shape) (counts : List ℕ) (runs : List (List ℕ)) → HasFour shape counts runs → length runs ≡ 4
+four_runs shape counts runs h = sym (length-map length runs) ∙ ap length h.sizes ∙ length-map (run_blocks shape) counts ∙ h.four_counts
+
+few_blocks : (shape : Shape) → IsShape shape → (counts : List ℕ) (runs : List (List ℕ)) → HasFour shape counts runs → length (concat runs) ≤ meta_blocks shape
+few_blocks shape is counts runs h = let f = four counts h.four_counts in by_four f.a f.b f.c f.d (subst (λ (cs : List ℕ). HasFour shape cs runs) f.is h)
+  where
+    at_most : (x y : ℕ) → nat_le x y ≡ true → x ≤ y
+    at_most x y e = grind (arith, nat_tests)
+
+    four_true : (p q r t : Bool) → (p && (q && (r && (t && true)))) ≡ true → (p ≡ true) × (q ≡ true) × (r ≡ true) × (t ≡ true)
+    four_true true true true true e = (refl, refl, refl, refl)
+    four_true true true true false e = absurd (false≢true e)
+    four_true true true false t e = absurd (false≢true e)
+    four_true true false r t e = absurd (false≢true e)
+    four_true false q r t e = absurd (false≢true e)
+
+    by_four : (a b c d : ℕ) → HasFour shape (a ∷ b ∷ c ∷ d ∷ []) runs → length (concat runs) ≤ meta_blocks shape
+    by_four a b c d k =
+        let size : ℕ = page_entries shape in
+        let each = four_true (nat_le a (4 * size)) (nat_le b (16 * size)) (nat_le c (64 * size)) (nat_le d (deepest shape * size)) k.each in
+        let few = runs_most shape a b c d is (at_most a (4 * size) each.0) (at_most b (16 * size) each.1) (at_most c (64 * size) each.2) (at_most d (deepest shape * size) each.3) in
+        let sum : length (concat runs) ≡ run_blocks shape a + (run_blocks shape b + (run_blocks shape c + (run_blocks shape d + 0))) = length_concat runs ∙ ap total k.sizes in
+        omega (arith, few, sum)
+
+few_epochs : (newest older : List ℕ) (epoch : ℕ) → nat_eq (length newest) 2 ≡ true → (nat_eq (length older) 0 || (nat_eq (length older) 2 && nat_le 2 epoch)) ≡ true → length (newest ++ older) ≤ 4
+few_epochs newest older epoch two is =
+    let e = length-append newest older in
+    let n : length newest ≡ 2 = grind (arith, nat_tests) in
+    let o = most (nat_eq (length older) 0) (nat_eq (length older) 2) (nat_le 2 epoch) is in
+    omega (arith, e, n, older_most (length older) o)
+  where
+    most : (p q r : Bool) → (p || (q && r)) ≡ true → (p ≡ true) ⊎ (q ≡ true)
+    most true q r e = inl refl
+    most false true r e = inr refl
+    most false false r e = inl e
+
+    older_most : (n : ℕ) → (nat_eq n 0 ≡ true) ⊎ (nat_eq n 2 ≡ true) → n ≤ 2
+    older_most n (inl e) = let z : n ≡ 0 = grind (arith, nat_tests) in omega (arith, z)
+    older_most n (inr e) = let z : n ≡ 2 = grind (arith, nat_tests) in omega (arith, z)
+
+-- ---- a root in a new pool
+
+module _ (shape : Shape) (root : Root) (is : IsShape shape) (e : is_root shape root ≡ true) where
+  abbrev parts : Parts shape root
+  parts = root_parts shape root e
+
+  abbrev epochs : List ℕ
+  epochs = root.newest ++ root.older
+
+  abbrev of_runs : List ℕ
+  of_runs = concat root.runs
+
+  some_blocks : 2 ≤ shape.blocks
+  some_blocks = let fits = is.data_fits in omega (arith, fits)
+
+  named_is : named root ≡ epochs ++ of_runs
+  named_is = refl
+
+  names_differ : differ (epochs ++ of_runs) ≡ true
+  names_differ = sym (ap differ named_is) ∙ parts.differs
+
+  names_spare : AllByRecursion (IsSpare (unused shape)) (epochs ++ of_runs)
+  names_spare = all_spare shape (epochs ++ of_runs) (sym (ap (list_all (λ b. nat_le 2 b && nat_lt b shape.blocks)) named_is) ∙ parts.blocks)
+
+  pub two_newest : length root.newest ≡ 2
+  two_newest = let t = parts.two in grind (arith, nat_tests)
+
+  pub runs_are_four : length root.runs ≡ 4
+  runs_are_four = four_runs shape root.counts root.runs (has_four shape root parts.runs)
+
+  pub may_epochs : (p : Blocks) → p ≡ unused shape → MayAdopt Journal epochs p
+  may_epochs p unused_is = subst (MayAdopt Journal epochs) (sym unused_is) (record {
+    spare = spare_front (unused shape) epochs of_runs names_spare;
+    differ = differ_front epochs of_runs names_differ;
+    room = let none = unused_none Journal shape some_blocks in omega (arith, none, few_epochs root.newest root.older root.epoch parts.two parts.older);
+  })
+
+  module _ (p q : Blocks) (unused_is : p ≡ unused shape) (a : Adopts Journal (is_among epochs) (length epochs) p q) where
+    from_unused : Adopts Journal (is_among epochs) (length epochs) (unused shape) q
+    from_unused = subst (λ (x : Blocks). Adopts Journal (is_among epochs) (length epochs) x q) unused_is a
+
+    pub may_runs : MayAdopt Meta of_runs q
+    may_runs = record {
+      spare = still_spare from_unused of_runs (apart epochs of_runs names_differ) (spare_back (unused shape) epochs of_runs names_spare);
+      differ = differ_back epochs of_runs names_differ;
+      room =
+          let none = unused_none Meta shape some_blocks in
+          let same = from_unused.others Meta refl in
+          let quota = ap (λ s. quota_of s Meta) from_unused.shape in
+          omega (arith, none, same, quota, few_blocks shape is root.counts root.runs (has_four shape root parts.runs));
+    }
+
+  pub none_used : (o : Owner) (p : Blocks) → p ≡ unused shape → used_by o p.states ≡ 0
+  none_used o p unused_is = ap (λ (x : Blocks). used_by o x.states) unused_is ∙ unused_none o shape some_blocks
+
+composed : (f g : BlockState → BlockState) (s : Option BlockState) → option_map f (option_map g s) ≡ option_map (λ x. f (g x)) s
+composed f g None = refl
+composed f g (Some s) = refl
+
+pub names_owned : (root : Root) (p q r : Blocks) → Adopts Journal (is_among (root.newest ++ root.older)) (length (root.newest ++ root.older)) p q → Adopts Meta (is_among (concat root.runs)) (length (concat root.runs)) q r
+    → NamesOwned root p r
+names_owned root p q r a c = record {
+  shape = c.shape ∙ a.shape;
+  states = λ b.
+      c.states b ∙ ap (option_map (owned_if Meta (is_among (concat root.runs) b))) (a.states b)
+      ∙ composed (owned_if Meta (is_among (concat root.runs) b)) (owned_if Journal (is_among (root.newest ++ root.older) b)) (slice_get p.states b);
+  journal = c.others Journal refl ∙ a.counted;
+  meta = c.counted ∙ ap (λ n. n + length (concat root.runs)) (a.others Meta refl);
+  values = c.others Values refl ∙ a.others Values refl;
+  fits = λ flash fits. c.fits flash (a.fits flash fits);
+}

@@ -1,0 +1,142 @@
+-- One page of a run, by what is found in it.
+use Rattle.std.proofs.Common.{◌≡◌, ℕ, zero, suc, ◌+◌, ◌<◌, ◌≤◌, ◌^◌, Bool, true, false, cond, not, ◌&&◌, ◌||◌, ◌==◌, T, is_some, List, [], ◌∷◌, ◌++◌, length, take, refl, ap, sym, subst, ◌∙◌, arith, Option, Some, None, option_map, Result, Ok, Err}
+use Rattle.std.specs.Prelude.{slice_get}
+use Rattle.std.specs.List.{list_all}
+use Rattle.std.specs.Ordering.{is_lt}
+use Rattle.std.specs.FinMap.Entries.{is_sorted}
+use Rattle.std.proofs.lemmas.List.{take_all}
+use Rattle.pk_base.specs.Key.{Key, key_cmp}
+use Rattle.pk_base.specs.Shape.{Shape}
+use Rattle.pk_base.specs.Entry.{Entry, key_of}
+use Rattle.pk_meta.specs.Page.{meta_entries, IsMetaPage}
+use Rattle.pk_meta.specs.declared.MetaHead.{MetaHead}
+use Rattle.pk_meta.specs.declared.BadMeta.{BadMeta}
+use Rattle.pk_meta.proofs.Reading.{meta_held, sorted_true}
+use Rattle.pk_scan.specs.Runs.{IsLast, is_behind, are_put, GoesOn, GoesOnOr}
+use Rattle.pk_scan.proofs.Rises.{sorted_back, rises_behind, lies_behind}
+
+-- ---- none was deleted
+
+is_true : (b : Bool) → T b → b ≡ true
+is_true true p = refl
+is_true false p = absurd p
+
+of_true : (b : Bool) → b ≡ true → T b
+of_true true e = tt
+of_true false e = cc
+
+pub put_next : (es : List Entry) (i : ℕ) (e : Entry) → slice_get es i ≡ Some e → is_some e.1 ≡ true → are_put (take i es) ≡ true → are_put (take (i + 1) es) ≡ true
+put_next es i e got put before = let k : i + 1 ≡ suc i = omega arith in rw k (at_suc es i got before)
+  where
+    at_suc : (es : List Entry) (i : ℕ) → slice_get es i ≡ Some e → are_put (take i es) ≡ true → are_put (take (suc i) es) ≡ true
+    at_suc [] i got before = cc
+    at_suc (x ∷ es) zero got before = let same : e ≡ x = cc in rw (subst (λ (y : Entry). is_some y.1 ≡ true) same put) refl
+    at_suc (x ∷ es) (suc i) got before = rest (is_some x.1) (are_put (take i es)) (are_put (take (suc i) es)) (at_suc es i got) before
+      where
+        rest : (a b c : Bool) → (b ≡ true → c ≡ true) → (a && b) ≡ true → (a && c) ≡ true
+        rest true b c on e = on e
+        rest false b c on e = e
+
+pub put_all : (es : List Entry) (i : ℕ) → length es ≤ i → are_put (take i es) ≡ true → true ≡ are_put es
+put_all es i all put = sym put ∙ ap are_put (take_all i es all)
+
+pub put_not : (es : List Entry) (i : ℕ) (e : Entry) → slice_get es i ≡ Some e → is_some e.1 ≡ false → false ≡ are_put es
+put_not [] i e got gone = cc
+put_not (x ∷ es) zero e got gone = let same : e ≡ x = cc in sym (ap (λ b. b && are_put es) (subst (λ (y : Entry). is_some y.1 ≡ false) same gone))
+put_not (x ∷ es) (suc i) e got gone = none (is_some x.1) (are_put es) (put_not es i e got gone)
+  where
+    none : (a b : Bool) → false ≡ b → false ≡ (a && b)
+    none true b e = e
+    none false b e = refl
+
+-- ---- what was found in a page
+
+-- it is no meta page, or one of another level, index or count
+abbrev pub ReadSo : Shape → List ℕ → Result MetaHead BadMeta → Type 0
+ReadSo shape page r = (level index count : ℕ) (es : List Entry) → 1 ≤ level → level ≤ 4 → index < 2 ^ 32 → meta_entries shape level index count page ≡ Some es → r ≡ Ok (record { level = level; index = index; count = count })
+
+pub another_page : (shape : Shape) (level index count : ℕ) (page : List ℕ) (r : Result MetaHead BadMeta) (head : MetaHead) → 1 ≤ level → level ≤ 4 → index < 2 ^ 32
+    → ReadSo shape page r → r ≡ Ok head → (head ≡ record { level = level; index = index; count = count } → ⊥)
+    → (before : List Entry) → GoesOnOr shape level index count before page false
+another_page shape level index count page r head least most fits read is other before more goes =
+    other (head_same _ _ (sym is ∙ read level index count more least most fits goes.holds))
+  where
+    head_same : (x y : MetaHead) → ◌≡◌ {A = Result MetaHead BadMeta} (Ok x) (Ok y) → x ≡ y
+    head_same x y e = cc
+
+pub no_page : (shape : Shape) (level index count : ℕ) (page : List ℕ) (r : Result MetaHead BadMeta) (bad : BadMeta) → 1 ≤ level → level ≤ 4 → index < 2 ^ 32
+    → ReadSo shape page r → r ≡ Err bad → (before : List Entry) → GoesOnOr shape level index count before page false
+no_page shape level index count page r bad least most fits read is before more goes = clash (sym is ∙ read level index count more least most fits goes.holds)
+  where
+    clash : {h : MetaHead} → ◌≡◌ {A = Result MetaHead BadMeta} (Err bad) (Ok h) → ⊥
+    clash e = cc
+
+module _ (shape : Shape) (level index count : ℕ) (page : List ℕ) (es : List Entry) (holds : meta_entries shape level index count page ≡ Some es) where
+  same_entries : (more : List Entry) → meta_entries shape level index count page ≡ Some more → more ≡ es
+  same_entries more is = let both : Some more ≡ Some es = sym is ∙ holds in some_same more es both
+    where
+      some_same : (xs ys : List Entry) → Some xs ≡ Some ys → xs ≡ ys
+      some_same xs ys e = cc
+
+  pub has_gone : (before : List Entry) → (not (level == 4) || are_put es) ≡ false → GoesOnOr shape level index count before page false
+  has_gone before gone more goes =
+      let same = same_entries more goes.holds in
+      subst T gone (subst (λ (xs : List Entry). T (not (level == 4) || are_put xs)) same goes.deepest)
+
+  pub told : (before : List Entry) (last : Option Key) (first : Key) → T (is_sorted key_cmp es) → option_map key_of (slice_get es 0) ≡ Some first
+      → T (not (level == 4) || are_put es) → T (is_sorted key_cmp before) → IsLast last before → (b : Bool) → b ≡ is_behind last first → GoesOnOr shape level index count before page b
+  told before last first up begins deep up' ends b is = by_first es refl
+    where
+      goes : T (is_sorted key_cmp (before ++ es)) → GoesOnOr shape level index count before page true
+      goes rising = (es, record { holds = holds; rising = rising; deepest = deep })
+
+      -- behind none, or behind the last one
+      with_last : (next : Entry) (rest : List Entry) → es ≡ next ∷ rest → key_of next ≡ first → (last : Option Key) → IsLast last before → (b : Bool) → b ≡ is_behind last first → GoesOnOr shape level index count before page b
+      with_last next rest e key None none true is = goes (subst (λ (xs : List Entry). T (is_sorted key_cmp (xs ++ es))) (sym none) up)
+      with_last next rest e key None none false is = let clash : false ≡ true = is in cc
+      with_last next rest e key (Some k) (front, l, whole, key_is) true is =
+          let less : T (is_lt (key_cmp (key_of l) (key_of next))) = rw (key_is, key) (of_true _ (sym is)) in
+          let rises = rises_behind front l next rest (subst (λ (xs : List Entry). T (is_sorted key_cmp xs)) whole up') (subst (λ (xs : List Entry). T (is_sorted key_cmp xs)) e up) less in
+          goes (subst (λ (xs : List Entry). T (is_sorted key_cmp (xs ++ es))) (sym whole) (subst (λ (xs : List Entry). T (is_sorted key_cmp ((front ++ l ∷ []) ++ xs))) (sym e) rises))
+      with_last next rest e key (Some k) (front, l, whole, key_is) false is = λ more had.
+          let same = same_entries more had.holds in
+          let rises : T (is_sorted key_cmp ((front ++ l ∷ []) ++ next ∷ rest)) =
+          subst (λ (xs : List Entry). T (is_sorted key_cmp ((front ++ l ∷ []) ++ xs))) e
+          (subst (λ (xs : List Entry). T (is_sorted key_cmp (xs ++ es))) whole (subst (λ (xs : List Entry). T (is_sorted key_cmp (before ++ xs))) same had.rising)) in
+          let less : T (is_lt (key_cmp k first)) = subst (λ (x : Key). T (is_lt (key_cmp k x))) key (subst (λ (x : Key). T (is_lt (key_cmp x (key_of next)))) key_is (lies_behind front l next rest rises)) in
+          subst T (sym is) less
+
+      by_first : (xs : List Entry) → es ≡ xs → GoesOnOr shape level index count before page b
+      by_first [] e = let none : None ≡ Some first = sym (ap (λ (ys : List Entry). option_map key_of (slice_get ys 0)) e) ∙ begins in cc
+      by_first (next ∷ rest) e =
+          let here : Some (key_of next) ≡ Some first = sym (ap (λ (ys : List Entry). option_map key_of (slice_get ys 0)) e) ∙ begins in
+          let key : key_of next ≡ first = cc in
+          with_last next rest e key last ends b is
+
+-- the page was found to be that of the level, index and count
+pub record Found (shape : Shape) (level index count : ℕ) (page : List ℕ) : Type 0 where
+  pub es : List Entry
+  pub holds : meta_entries shape level index count page ≡ Some es
+  pub is_page : IsMetaPage shape page level index es
+  pub many : length es ≡ count
+  pub rising : T (is_sorted key_cmp es)
+
+pub found : (shape : Shape) (level index count : ℕ) (page : List ℕ) (head : MetaHead) → 1 ≤ level → level ≤ 4 → index < 2 ^ 32 → head ≡ record { level = level; index = index; count = count }
+    → (es : List Entry) × (meta_entries shape head.level head.index head.count page ≡ Some es) × (length es ≡ head.count) → Found shape level index count page
+found shape level index count page head least most fits is (es, reads, many) =
+    let holds : meta_entries shape level index count page ≡ Some es = subst (λ (h : MetaHead). meta_entries shape h.level h.index h.count page ≡ Some es) is reads in
+    let held = meta_held shape level index count page es least most fits holds in
+    record { es = es; holds = holds; is_page = held.0; many = held.1; rising = of_true _ (sorted_true es held.0.content.rising) }
+
+pub found_gone : {shape : Shape} {level index count : ℕ} {page : List ℕ} (f : Found shape level index count page) (b : Bool) → b ≡ false
+    → ((index : ℕ) (es : List Entry) → IsMetaPage shape page level index es → length es ≡ count → b ≡ (not (level == 4) || are_put es))
+    → (before : List Entry) → GoesOnOr shape level index count before page false
+found_gone {shape} {level} {index} {count} {page} f b is told_b before = has_gone shape level index count page f.es f.holds before (sym (told_b index f.es f.is_page f.many) ∙ is)
+
+pub found_told : {shape : Shape} {level index count : ℕ} {page : List ℕ} (f : Found shape level index count page) (a : Bool) → a ≡ true
+    → ((index : ℕ) (es : List Entry) → IsMetaPage shape page level index es → length es ≡ count → a ≡ (not (level == 4) || are_put es))
+    → (last : Option Key) (first : Key) → ((level index : ℕ) (es : List Entry) → IsMetaPage shape page level index es → option_map key_of (slice_get es 0) ≡ Some first)
+    → (b : Bool) → b ≡ is_behind last first
+    → (before : List Entry) → T (is_sorted key_cmp before) → IsLast last before → GoesOnOr shape level index count before page b
+found_told {shape} {level} {index} {count} {page} f a is told_a last first begins b is_b before up ends =
+    told shape level index count page f.es f.holds before last first f.rising (begins level index f.es f.is_page) (of_true _ (sym (told_a index f.es f.is_page f.many) ∙ is)) up ends b is_b

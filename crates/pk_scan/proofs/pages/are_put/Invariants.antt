@@ -1,0 +1,8 @@
+use Rattle.std.proofs.Common.{◌≡◌, ℕ, List, true, take}
+use Rattle.pk_base.specs.Entry.{Entry}
+use Rattle.pk_meta.specs.Page.{IsMetaPage}
+use Rattle.pk_scan.specs.Runs.{are_put}
+use Rattle.pk_scan.proofs.pages.are_put.Given as goal
+
+abbrev pub invariant-loop-i : goal.invariant-loop-i
+invariant-loop-i l = (level index : ℕ) (es : List Entry) → IsMetaPage l.shape l.page level index es → are_put (take l.i es) ≡ true

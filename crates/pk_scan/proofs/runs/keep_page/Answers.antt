@@ -1,0 +1,9 @@
+use Rattle.std.proofs.Common.{◌≡◌, ◌∙◌, ap, sym, subst, refl}
+use Rattle.pk_pin.specs.Frames.{Frames, filled, IsLeased, leased}
+use Rattle.pk_scan.specs.Runs.{LeasedMore}
+use Rattle.pk_scan.proofs.Leasing.{leased_one, kept_in}
+use Rattle.pk_scan.proofs.runs.keep_page.Goals as goal
+
+pub returns : goal.returns
+returns g c =
+    kept_in c.args.arena.now c.take.new.self c.fill.new.self c.in-Some.lease c.args.bytes.now c.args.pins c.in-Some.ensures.was_free c.in-Some.ensures.leased c.fill.ensures.filled c.fill.ensures.holds c.in-Some.ensures.held c.if-not-pins.false

@@ -1,0 +1,49 @@
+-- Blocks that get their owners at opening.
+use Rattle.std.specs.Prelude.{◌≡◌, ℕ, ◌+◌, ◌≤◌, Bool, true, false, ◌==◌, List, [], ◌∷◌, ◌++◌, length, slice_get, option_map}
+use Rattle.std.specs.List.{list_any, concat, AllByRecursion}
+use Rattle.pk_base.specs.Page.{Flash}
+use Rattle.pk_plan.specs.declared.owner.Owner.{Owner}
+use Rattle.pk_plan.specs.declared.owner.Owner.TheVariants.{Journal, Meta, Values}
+use Rattle.pk_plan.specs.Quotas.{quota_of}
+use Rattle.pk_pool.specs.declared.state.BlockState.{BlockState}
+use Rattle.pk_pool.specs.declared.state.BlockState.TheVariants.{Owned}
+use Rattle.pk_pool.specs.Blocks.{Blocks, used_by, same_owner, IsSpare, Fits}
+use Rattle.pk_rootfmt.specs.Root.{Root, differ}
+
+-- the block is one of these
+abbrev pub is_among : List ℕ → ℕ → Bool
+is_among blocks b = list_any (λ c. c == b) blocks
+
+-- what a block is that becomes the owner's, or does not
+abbrev pub owned_if : Owner → Bool → BlockState → BlockState
+owned_if owner true state = Owned owner
+owned_if owner false state = state
+
+-- The blocks that pass the test, so many, became the owner's, and all others are what they were.
+pub record Adopts (owner : Owner) (test : ℕ → Bool) (n : ℕ) (old new : Blocks) : Type 0 where
+  pub shape : new.shape ≡ old.shape
+  pub states : (b : ℕ) → slice_get new.states b ≡ option_map (owned_if owner (test b)) (slice_get old.states b)
+  pub counted : used_by owner new.states ≡ used_by owner old.states + n
+  pub others : (o : Owner) → same_owner o owner ≡ false → used_by o new.states ≡ used_by o old.states
+  pub fits : (flash : Flash) → Fits old flash → Fits new flash
+
+-- what a block is of which a root tells
+abbrev pub state_of : Root → ℕ → BlockState → BlockState
+state_of root b state = owned_if Meta (is_among (concat root.runs) b) (owned_if Journal (is_among (root.newest ++ root.older) b) state)
+
+-- The blocks of the root's epochs became the journal's, and those of its runs meta blocks; all others are what they were.
+pub record NamesOwned (root : Root) (old new : Blocks) : Type 0 where
+  pub shape : new.shape ≡ old.shape
+  pub states : (b : ℕ) → slice_get new.states b ≡ option_map (state_of root b) (slice_get old.states b)
+  pub journal : used_by Journal new.states ≡ used_by Journal old.states + length (root.newest ++ root.older)
+  pub meta : used_by Meta new.states ≡ used_by Meta old.states + length (concat root.runs)
+  pub values : used_by Values new.states ≡ used_by Values old.states
+  pub fits : (flash : Flash) → Fits old flash → Fits new flash
+
+-- ---- inside
+
+-- these blocks are spare and different ones, and the owner may have all of them
+pub record MayAdopt (owner : Owner) (blocks : List ℕ) (p : Blocks) : Type 0 where
+  pub spare : AllByRecursion (IsSpare p) blocks
+  pub differ : differ blocks ≡ true
+  pub room : used_by owner p.states + length blocks ≤ quota_of p.shape owner

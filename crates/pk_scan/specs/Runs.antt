@@ -1,0 +1,143 @@
+-- A run of meta pages that is read from a flash, page by page.
+use Rattle.std.specs.Prelude.{◌≡◌, ℕ, suc, ◌+◌, ◌-◌, ◌*◌, ◌<◌, T, Bool, true, false, not, ◌||◌, ◌==◌, is_some, List, [], ◌∷◌, ◌++◌, length, slice_index, min, Option, Some, None, Ok, Err}
+use Rattle.std.specs.List.{list_all, AllByRecursion}
+use Rattle.std.specs.Ordering.{is_lt}
+use Rattle.std.specs.FinMap.Entries.{is_sorted}
+use Rattle.pk_base.specs.Key.{Key, key_cmp}
+use Rattle.pk_base.specs.Shape.{Shape, page_entries, run_pages}
+use Rattle.pk_base.specs.Entry.{Entry, key_of}
+use Rattle.pk_base.specs.EntryBytes.{IsEntry}
+use Rattle.pk_base.specs.Page.{Flash, page_at, page_in, whole, pages_of_blocks}
+use Rattle.pk_base.specs.Refusal.{damaged}
+use Rattle.pk_meta.specs.Page.{meta_entries}
+use Rattle.pk_meta.specs.Run.{meta, run}
+use Rattle.pk_nand.specs.BoardState.{BoardState}
+use Rattle.pk_nand.specs.Calls.{Rose, ReadFailed, after_read}
+use Rattle.pk_nand.specs.Erased.{after_reads}
+use Rattle.pk_pin.specs.Frames.{Frames, IsLeased, frame_of, free_frames, AreLeases}
+use Rattle.pk_run.specs.Kept.{Kept, IsPinned, Stands, page_of, with_page}
+use Rattle.pk_scan.specs.declared.errors.PageError.{PageError}
+use Rattle.pk_scan.specs.declared.errors.PageError.TheVariants.{Damaged, Fault}
+
+-- each of these is a block of the flash
+abbrev pub AllExist : Shape → List ℕ → Type 0
+AllExist shape blocks = (n : ℕ) → n < length blocks → slice_index blocks n < shape.blocks
+
+-- every page of the run has a frame, or none has
+abbrev pub IsPinnedIf : Bool → Kept → Type 0
+IsPinnedIf true r = IsPinned r
+IsPinnedIf false r = r.leases ≡ []
+
+module _ (shape : Shape) (level count : ℕ) (blocks : List ℕ) where
+  -- The reading of the run finds entries, and what is kept of it stands for them.
+  pub record HasRun (flash : Flash) (arena : Frames) (r : Kept) : Type 0 where
+    pub entries : List Entry
+    pub read : run shape (page_at flash) level count blocks ≡ Ok entries
+    pub each : AllByRecursion (IsEntry shape) entries
+    pub stands : Stands r flash arena entries
+
+  -- behind so many pages the reading of the run has these entries, and goes on with the other pages
+  abbrev pub ComesTo : Flash → ℕ → List Entry → Type 0
+  ComesTo flash index es =
+      run shape (page_at flash) level count blocks ≡ meta shape level count index es (pages_of_blocks shape (page_at flash) blocks index (run_pages shape count - index))
+
+  -- The reading of the run refuses with this page, behind which nothing was read.
+  pub record RunRefused (old new : BoardState) (page : ℕ) : Type 0 where
+    pub index : ℕ
+    pub within : index < run_pages shape count
+    pub page_is : page ≡ page_in shape blocks index
+    pub read : run shape (page_at old.pages) level count blocks ≡ Err (damaged page)
+    pub board : new ≡ after_reads (index + 1) old
+
+  -- A read failed, behind pages that the reading of the run does not refuse.
+  pub record RunFailed (old new : BoardState) : Type 0 where
+    pub made : ℕ
+    pub within : made < run_pages shape count
+    pub comes : (es : List Entry) × ComesTo old.pages made es
+    pub failed : ReadFailed (after_reads made old) new (page_in shape blocks made)
+    pub flash : Rose old.flash_faults new.flash_faults
+    pub read : Rose old.read_faults new.read_faults
+
+  -- why the run was not read
+  abbrev pub NotRead : BoardState → BoardState → PageError → Type 0
+  NotRead old new (Damaged page) = RunRefused old new page
+  NotRead old new Fault = RunFailed old new
+
+-- Of an arena these free frames were leased, one after another; whoever had a frame has it, with what it contained.
+pub record LeasedMore (old new : Frames) (more : List ℕ) : Type 0 where
+  pub page : new.page_bytes ≡ old.page_bytes
+  pub size : length new.used ≡ length old.used
+  pub kept : (i : ℕ) → IsLeased old i → IsLeased new i × (frame_of new i ≡ frame_of old i)
+  pub free : free_frames new + length more ≡ free_frames old
+  pub leases : (ls : List ℕ) → AreLeases old ls → AreLeases new (more ++ ls)
+
+-- each run that stood with the frames of one arena stands with those of the other
+abbrev pub RunsStand : Frames → Frames → Type 0
+RunsStand old new = (r : Kept) (flash : Flash) (es : List Entry) → Stands r flash old es → Stands r flash new es
+
+-- ---- inside
+
+-- the last of these entries has this key; there is none where there is no key
+abbrev pub IsLast : Option Key → List Entry → Type 0
+IsLast None es = es ≡ []
+IsLast (Some key) es = (front : List Entry) × (e : Entry) × (es ≡ front ++ e ∷ []) × (key_of e ≡ key)
+
+-- the key is above the last one, if there is one
+abbrev pub is_behind : Option Key → Key → Bool
+is_behind None key = true
+is_behind (Some last) key = is_lt (key_cmp last key)
+
+-- none of these keys was deleted
+abbrev pub are_put : List Entry → Bool
+are_put es = list_all (λ e. is_some e.1) es
+
+-- The page of this level and index has so many entries, which go on behind those before.
+pub record GoesOn (shape : Shape) (level index many : ℕ) (before : List Entry) (bytes : List ℕ) (more : List Entry) : Type 0 where
+  pub holds : meta_entries shape level index many bytes ≡ Some more
+  pub rising : T (is_sorted key_cmp (before ++ more))
+  -- run 4 keeps no deleted keys
+  pub deepest : T (not (level == 4) || are_put more)
+
+-- whether it has
+abbrev pub GoesOnOr : Shape → ℕ → ℕ → ℕ → List Entry → List ℕ → Bool → Type 0
+GoesOnOr shape level index many before bytes true = (more : List Entry) × GoesOn shape level index many before bytes more
+GoesOnOr shape level index many before bytes false = (more : List Entry) → GoesOn shape level index many before bytes more → ⊥
+
+abbrev pub listed : Option ℕ → List ℕ
+listed None = []
+listed (Some lease) = lease ∷ []
+
+-- the bytes are in a frame, if there is one
+abbrev pub IsKeptIn : Frames → List ℕ → Option ℕ → Type 0
+IsKeptIn arena bytes None = Unit {0}
+IsKeptIn arena bytes (Some lease) = IsLeased arena lease × (frame_of arena lease ≡ bytes)
+
+-- where a frame is wanted, a free one was leased and filled with these bytes; else nothing was done
+pub record KeepsPage (pins : Bool) (old new : Frames) (bytes : List ℕ) (lease : Option ℕ) : Type 0 where
+  pub wanted : is_some lease ≡ pins
+  pub more : LeasedMore old new (listed lease)
+  pub kept : IsKeptIn new bytes lease
+
+-- The next page of the run has so many entries, and stands in it now.
+pub record PageAdded (pins : Bool) (before after : Frames) (old new : Kept) (many : ℕ) : Type 0 where
+  pub first : Key
+  pub lease : Option ℕ
+  pub run : new ≡ with_page old first lease many
+  pub wanted : is_some lease ≡ pins
+  pub more : LeasedMore before after (listed lease)
+
+-- Its entries go on behind es, and the last one has this key.
+pub record PageTaken (flash : Flash) (after : Frames) (old new : Kept) (es : List Entry) (many : ℕ) (last : Key) : Type 0 where
+  pub bytes : List ℕ
+  pub more : List Entry
+  pub here : page_at flash (page_of old (length old.firsts)) ≡ whole bytes
+  pub goes_on : GoesOn old.shape old.level (length old.firsts) many es bytes more
+  pub stands : Stands new flash after (es ++ more)
+  pub ends : IsLast (Some last) (es ++ more)
+
+-- The next page of the run was read, and has no entries that go on behind es; or its read failed.
+abbrev pub PageRefused : BoardState → BoardState → Kept → List Entry → ℕ → PageError → Type 0
+PageRefused old new r es many (Damaged page) =
+    (page ≡ page_of r (length r.firsts)) × (new ≡ after_read old)
+    × ((bytes : List ℕ) (more : List Entry) → page_at old.pages (page_of r (length r.firsts)) ≡ whole bytes → GoesOn r.shape r.level (length r.firsts) many es bytes more → ⊥)
+PageRefused old new r es many Fault = ReadFailed old new (page_of r (length r.firsts))

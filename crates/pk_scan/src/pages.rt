@@ -1,0 +1,113 @@
+//! A page of a run: whether its entries go on behind those of the pages before.
+ghost use Rattle.std.specs.Prelude.{◌≡◌, ◌==◌, ◌||◌, not, ◌<◌, ◌≤◌, ℕ, List, T, true, length, slice_get, is_some, option_map, Some, MatchBool};
+ghost use Rattle.std.specs.FinMap.Entries.{is_sorted};
+ghost use Rattle.pk_base.specs.Key.{key_cmp};
+ghost use Rattle.pk_base.specs.Fields.{number_at};
+ghost use Rattle.pk_base.specs.Entry.{Entry as EntrySpec, key_of};
+ghost use Rattle.pk_base.specs.Seen.{entry as seen};
+ghost use Rattle.pk_meta.specs.Page.{Decodes, IsMetaPage};
+ghost use Rattle.pk_scan.specs.Runs as runs;
+ghost use Rattle.pk_scan.specs.Runs.{IsLast, GoesOnOr};
+
+use pk_base::{Entry, Key, Shape, is_below};
+use pk_meta::{MetaHead, decode, entry};
+
+// Whether a page begins so.
+fn is_head(found: MetaHead, wanted: MetaHead) -> bool
+    ensures { MatchBool result (found ≡ wanted) (found ≡ wanted → ⊥) }
+{
+    found == wanted
+}
+
+// Whether a key stands behind the last one, if there is one.
+fn is_behind(last: &Option<Key>, key: &Key) -> bool
+    ensures { result ≡ runs.is_behind last.now key.now }
+{
+    match last {
+        None => true,
+        Some(last) => is_below(last.bytes(), key.bytes()),
+    }
+}
+
+// Whether the key of an entry was not deleted.
+fn is_put(entry: &Entry) -> bool
+    ensures { result ≡ is_some (seen entry.now).1 }
+{
+    match entry {
+        Entry::Put { .. } => true,
+        Entry::Gone { .. } => false,
+    }
+}
+
+// Whether no key of a page with so many entries was deleted.
+fn are_put(shape: &Shape, page: &[u8], count: u32) -> bool
+    requires sized { length page.now ≡ shape.now.page_bytes }
+    requires decodes { Decodes shape.now page.now }
+    requires count { count ≡ number_at 2 10 page.now }
+    ensures { (level index : ℕ) (es : List EntrySpec) → IsMetaPage shape.now page.now level index es → length es ≡ count → result ≡ runs.are_put es }
+{
+    for i in 0..count {
+        if !is_put(&entry(shape, page, i)) {
+            return false;
+        }
+    }
+    true
+}
+
+// Whether a page with so many entries may stand in a run of this level: run 4 keeps no deleted keys.
+fn may_stand(shape: &Shape, level: u8, page: &[u8], count: u32) -> bool
+    requires sized { length page.now ≡ shape.now.page_bytes }
+    requires decodes { Decodes shape.now page.now }
+    requires count { count ≡ number_at 2 10 page.now }
+    ensures { (index : ℕ) (es : List EntrySpec) → IsMetaPage shape.now page.now level index es → length es ≡ count → result ≡ (not (level == 4) || runs.are_put es) }
+{
+    level != 4 || are_put(shape, page, count)
+}
+
+/// The key of an entry of a page.
+pub fn key_at(shape: &Shape, page: &[u8], i: u32) -> Key
+    requires sized { length page.now ≡ shape.now.page_bytes }
+    requires decodes { Decodes shape.now page.now }
+    requires within { i < number_at 2 10 page.now }
+    ensures { (level index : ℕ) (es : List EntrySpec) → IsMetaPage shape.now page.now level index es → option_map key_of (slice_get es i) ≡ Some result }
+{
+    entry(shape, page, i).key().copy()
+}
+
+/// Whether a page is that of this level and index with so many entries, which go on behind others of which the last has this
+/// key, and none of which is deleted in run 4.
+pub fn goes_on(
+    shape: &Shape,
+    level: u8,
+    index: u32,
+    count: u32,
+    last: &Option<Key>,
+    page: &[u8],
+) -> bool
+    requires level { 1 ≤ level × level ≤ 4 }
+    requires sized { length page.now ≡ shape.now.page_bytes }
+    ensures goes_on { (before : List EntrySpec) → T (is_sorted key_cmp before) → IsLast last.now before → GoesOnOr shape.now level index count before page.now result }
+    ensures decodes { result ≡ true → Decodes shape.now page.now }
+    ensures count { result ≡ true → count ≡ number_at 2 10 page.now }
+{
+    shape.known();
+    match decode(shape, page) {
+        Ok(head) => {
+            if !is_head(
+                head,
+                MetaHead {
+                    level,
+                    index,
+                    count,
+                },
+            ) {
+                return false;
+            }
+            if !may_stand(shape, level, page, count) {
+                return false;
+            }
+            is_behind(last, &key_at(shape, page, 0))
+        }
+        Err(_) => false,
+    }
+}
