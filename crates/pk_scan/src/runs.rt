@@ -76,7 +76,7 @@ fn take_page<B: Nand, A: Allocator>(
     ensures buffer { length buf.new ≡ length buf.old }
 {
     into.known();
-    let shape = *into.shape();
+    let shape = into.shape();
     let index = into.pages();
     let page = into.page(index);
     match board.read(page, buf) {
