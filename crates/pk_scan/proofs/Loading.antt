@@ -232,8 +232,8 @@ module _ (shape : Shape) (level count : ℕ) (blocks : List ℕ) (pins : Bool) (
         let one : suc i ≡ i + 1 = omega arith in
         let none : (bytes : List ℕ) (more : List Entry) → page_at old.pages (page_in shape blocks i) ≡ whole bytes → GoesOn shape level i (share shape count i) l.es bytes more → ⊥ =
         λ bytes more here goes.
-            refused.2 bytes more (ap (λ (f : Flash). page_at f (page_of r (length r.firsts))) pages_stay ∙ ap (page_at old.pages) page_is ∙ here)
-            (subst (λ (X : Type 0). X) (sym (goes_is many bytes more)) (subst (λ (n : ℕ). GoesOn shape level i n l.es bytes more) (sym share_is) goes)) in
+        refused.2 bytes more (ap (λ (f : Flash). page_at f (page_of r (length r.firsts))) pages_stay ∙ ap (page_at old.pages) page_is ∙ here)
+        (subst (λ (X : Type 0). X) (sym (goes_is many bytes more)) (subst (λ (n : ℕ). GoesOn shape level i n l.es bytes more) (sym share_is) goes)) in
         record {
           index = i;
           within = inside;

@@ -20,3 +20,5 @@ pub use values::check_value;
 
 #[cfg(test)]
 mod tests;
+#[cfg(test)]
+mod tests_of_runs;
