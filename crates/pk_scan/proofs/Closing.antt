@@ -230,3 +230,11 @@ settled p live is (root, taken, owned, lives) = record {
   none = owned.values ∙ unused_none Values p.shape (let fits = is.data_fits in omega (arith, fits));
   few = few_closed p.shape is (named root) live taken lives;
 }
+
+-- A new pool whose root's blocks got their owners, and a live map of values outside of them, are what values are adopted in.
+pub may_adopt_values : (shape : Shape) (root : Root) (p q : Blocks) (live : LiveValues) (taken : List (Key × Place)) → p ≡ unused shape → NamesOwned root p q → Lives shape (named root) live taken
+    → (root : Root) × (taken : List (Key × Place)) × NamesOwned root (unused q.shape) q × Lives q.shape (named root) live taken
+may_adopt_values shape root p q live taken is owned lives =
+    let same : q.shape ≡ shape = owned.shape ∙ ap (λ (x : Blocks). x.shape) is in
+    let from : NamesOwned root (unused shape) q = subst (λ (x : Blocks). NamesOwned root x q) is owned in
+    (root, taken, subst (λ (s : Shape). NamesOwned root (unused s) q) (sym same) from, subst (λ (s : Shape). Lives s (named root) live taken) (sym same) lives)

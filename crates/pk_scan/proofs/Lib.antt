@@ -7,7 +7,6 @@ pub mod Standing
 pub mod Taking
 pub mod Accepting
 pub mod Nothing
-pub mod StillLives
 pub mod Rises
 pub mod RunPages
 pub mod Leasing
@@ -16,3 +15,4 @@ pub mod Loading
 pub mod Adopting
 pub mod Naming
 pub mod Closing
+pub mod TestAnswers

@@ -1,9 +1,9 @@
 -- A value more: whether its pages may be taken, and the live map with it.
-use Rattle.std.proofs.Common.{◌≡◌, inl, inr, ℕ, ◌+◌, ◌-◌, ◌/◌, ◌%◌, ◌<◌, ◌≤◌, Bool, true, false, not, ◌&&◌, ◌||◌, cond, List, [], ◌∷◌, ◌++◌, length, get_or, map, sum, refl, sym, subst, ap, ◌∙◌, arith, ◌==◌, length-append}
-use Rattle.std.specs.Prelude.{count_by, nat_le, nat_lt, suc, slice_get, Some, IsTrue, ◌↔◌}
-use Rattle.std.specs.List.{list_any, list_all, range_with_len}
+use Rattle.std.proofs.Common.{◌≡◌, ◌≢◌, ◌⊎◌, inl, inr, ℕ, zero, suc, ◌+◌, ◌-◌, ◌*◌, ◌/◌, ◌%◌, ◌<◌, ◌≤◌, Bool, true, false, not, ◌&&◌, ◌||◌, cond, List, [], ◌∷◌, ◌++◌, length, get_or, map, sum, refl, sym, subst, ap, ◌∙◌, arith, ◌==◌, length-append}
+use Rattle.std.specs.Prelude.{count_by, nat_le, slice_get, Some, filter, IsTrue, ◌↔◌}
+use Rattle.std.specs.List.{list_any, list_all, range_with_len, AllByRecursion}
 use Rattle.std.proofs.Math.ListN.{set}
-use Rattle.std.proofs.lemmas.Bool.{false≢true, or_right, and_parts, eq-eqb, ne_eqb, cases_lt, le-leb, lt-leb, leb-true}
+use Rattle.std.proofs.lemmas.Bool.{false≢true, cases_Bool, or_from, or_left, or_right, and_parts, and_from, eqb-true, eq-eqb, ne_eqb, cases_lt, cases_eq, false_from_ne_true, true_from_ne_false}
 use Rattle.std.proofs.lemmas.Bool.Decides.{same_from_decides}
 use Rattle.std.proofs.lemmas.List.FromFn.{length-range_with_len, length-map-range_with_len, get_or-map-range_with_len}
 use Rattle.std.proofs.lemmas.List.Folds.{list_any-append, list_all-append}
@@ -13,15 +13,15 @@ use Rattle.pk_base.specs.Key.{Key}
 use Rattle.pk_base.specs.Shape.{Shape, IsShape, page_count, charge, limit, data_blocks}
 use Rattle.pk_base.specs.Entry.{Place}
 use Rattle.pk_base.specs.EntryBytes.{IsPlace}
-use Rattle.pk_live.specs.Values.{Values, count_of, block_sum, IsLive}
+use Rattle.pk_live.specs.Values.{Values, no_values, count_of, block_sum, IsLive}
 use Rattle.pk_segfmt.specs.Value.{value_pages}
 use Rattle.pk_segfmt.proofs.StoredLemmas.{charge_some}
 use Rattle.pk_model.specs.Values.{all_pages, fits, blocks_with}
 use Rattle.pk_rootfmt.specs.Root.{differ}
-use Rattle.pk_scan.specs.Lives.{head_of, is_used, Lives}
+use Rattle.pk_scan.specs.Lives.{head_of, is_used, live_of, Lives}
 use Rattle.pk_scan.proofs.Blocks.{same_block, block_exists}
 use Rattle.pk_scan.proofs.Ranges.{all_same, has, has_range, range_has, meets, meets_told, meets_from, differ_append, differ_range}
-use Rattle.pk_scan.proofs.Standing.{map_set, count_map, all_pages-more, head_of-more, Placed-more, value_in_block, heads_read, covered, covers, total_is, block_is}
+use Rattle.pk_scan.proofs.Standing.{map_set, count_map, all_pages-more, head_of-more, Placed, Placed-more, value_in_block, heads_read, covered, covers, total_is, block_is}
 
 -- ---- the four parts of the test
 
@@ -32,16 +32,18 @@ module _ (shape : Shape) (named : List ℕ) where
   record FitsNow (pages : List ℕ) : Type 0 where
     pub out : list_all outside pages ≡ true
     pub apart : differ pages ≡ true
-    pub few_blocks : nat_le (length (blocks_with shape pages)) (data_blocks shape - 1) ≡ true
 
   fits_now : (pages : List ℕ) → fits shape named pages ≡ true → FitsNow pages
   fits_now pages e =
       let a = and_parts ((list_all outside pages && differ pages) && nat_le (length pages) (limit shape)) (nat_le (length (blocks_with shape pages)) (data_blocks shape - 1)) e in
       let b = and_parts (list_all outside pages && differ pages) (nat_le (length pages) (limit shape)) a.0 in
       let c = and_parts (list_all outside pages) (differ pages) b.0 in
-      record { out = c.0; apart = c.1; few_blocks = a.1 }
+      record { out = c.0; apart = c.1 }
 
 module _ (shape : Shape) (named : List ℕ) (live : Values) (taken : List (Key × Place)) (place : Place) (is_shape : IsShape shape) (is_place : IsPlace shape place) (lives : Lives shape named live taken) where
+  abbrev n : ℕ
+  n = shape.block_pages
+
   abbrev block : ℕ
   block = place.page / shape.block_pages
 
@@ -154,62 +156,23 @@ module _ (shape : Shape) (named : List ℕ) (live : Values) (taken : List (Key �
 
   -- ---- the tests one after another
 
-  -- what is told of the block, by pages of a block, and of the pages, by their count
-  abbrev pub IsNamed : Bool → ℕ → Type 0
-  IsNamed t q = t ≡ list_any (λ b. b == place.page / q) named
-
-  abbrev pub IsOver : Bool → ℕ → Type 0
-  IsOver o k = IsTrue o ↔ ((p : ℕ) × (place.page ≤ p) × (p < place.page + k) × IsLive live p)
-
-  abbrev pub MayBeUsed : Bool → ℕ → Type 0
-  MayBeUsed r q = r ≡ (not (count_of live (place.page / q) == 0) || nat_lt (count_by (λ b. b) live.closed) (data_blocks shape - 1))
-
   -- a block that is named refuses
-  pub named_refuses : (t : Bool) (q : ℕ) → q ≡ shape.block_pages → IsNamed t q → t ≡ true → false ≡ fits shape named (old ++ own)
-  named_refuses t q q_is told is =
-      let told' = subst (IsNamed t) q_is told in
-      sym (λ i. (out_is t told' ∙ ap not is) i && differ (old ++ own) && nat_le (length (old ++ own)) (limit shape) && nat_le (length (blocks_with shape (old ++ own))) (data_blocks shape - 1))
+  pub named_refuses : (t : Bool) → t ≡ list_any (λ b. b == block) named → t ≡ true → false ≡ fits shape named (old ++ own)
+  named_refuses t told is =
+      sym (λ i. (out_is t told ∙ ap not is) i && differ (old ++ own) && nat_le (length (old ++ own)) (limit shape) && nat_le (length (blocks_with shape (old ++ own))) (data_blocks shape - 1))
 
   -- so does a page that is live
-  pub overlap_refuses : (t o : Bool) (q k : ℕ) → q ≡ shape.block_pages → k ≡ count → IsNamed t q → t ≡ false → IsOver o k → o ≡ true → false ≡ fits shape named (old ++ own)
-  overlap_refuses t o q k q_is k_is told none over is =
-      let told' = subst (IsNamed t) q_is told in
-      let over' = subst (IsOver o) k_is over in
+  pub overlap_refuses : (t o : Bool) → t ≡ list_any (λ b. b == block) named → t ≡ false → (IsTrue o ↔ Overlaps) → o ≡ true → false ≡ fits shape named (old ++ own)
+  overlap_refuses t o told none over is =
       sym
-      (λ i. (out_is t told' ∙ ap not none) i && (apart_is o over' ∙ ap not is) i && nat_le (length (old ++ own)) (limit shape) && nat_le (length (blocks_with shape (old ++ own))) (data_blocks shape - 1))
+      (λ i. (out_is t told ∙ ap not none) i && (apart_is o over ∙ ap not is) i && nat_le (length (old ++ own)) (limit shape) && nat_le (length (blocks_with shape (old ++ own))) (data_blocks shape - 1))
 
-  -- so do too many pages
-  pub pages_refuse : (t o : Bool) (q k total : ℕ) → q ≡ shape.block_pages → k ≡ count → IsNamed t q → t ≡ false → IsOver o k → o ≡ false → total ≡ sum live.heads → limit shape < total + k
-      → false ≡ fits shape named (old ++ own)
-  pages_refuse t o q k total q_is k_is told none over apart all many =
-      let told' = subst (IsNamed t) q_is told in
-      let over' = subst (IsOver o) k_is over in
-      let too_many : nat_le (total + count) (limit shape) ≡ false = lt-leb (total + count) (limit shape) (omega (arith, many, k_is)) in
-      sym (λ i. (out_is t told' ∙ ap not none) i && (apart_is o over' ∙ ap not apart) i && (ap (λ m. nat_le m (limit shape)) (length_is total all) ∙ too_many) i && nat_le (length (blocks_with shape (old ++ own))) (data_blocks shape - 1))
-
-  -- and then the blocks decide
-  pub blocks_decide : (t o r : Bool) (q k total : ℕ) → q ≡ shape.block_pages → k ≡ count → IsNamed t q → t ≡ false → IsOver o k → o ≡ false → total ≡ sum live.heads → total + k ≤ limit shape
-      → MayBeUsed r q → r ≡ fits shape named (old ++ own)
-  blocks_decide t o r q k total q_is k_is told none over apart all few used =
-      let told' = subst (IsNamed t) q_is told in
-      let over' = subst (IsOver o) k_is over in
-      let used' = subst (MayBeUsed r) q_is used in
-      let few' : nat_le (total + count) (limit shape) ≡ true = le-leb (total + count) (limit shape) (omega (arith, few, k_is)) in
-      let all_four : fits shape named (old ++ own) ≡ nat_le (length (blocks_with shape (old ++ own))) (data_blocks shape - 1) =
-      λ i. (out_is t told' ∙ ap not none) i && (apart_is o over' ∙ ap not apart) i && (ap (λ m. nat_le m (limit shape)) (length_is total all) ∙ few') i && nat_le (length (blocks_with shape (old ++ own))) (data_blocks shape - 1) in
-      let blocks : length (blocks_with shape (old ++ own)) ≡ count_by (λ b. b) live.closed + cond (count_of live block == 0) 1 0 = blocks_is (count_by (λ b. b) live.closed + cond (count_of live block == 0) 1 0) refl in
-      used' ∙ one_more (count_of live block == 0) (count_by (λ b. b) live.closed) (data_blocks shape - 1) closed_few
-      ∙ sym (all_four ∙ ap (λ m. nat_le m (data_blocks shape - 1)) blocks)
-    where
-      closed_few : count_by (λ b. b) live.closed ≤ data_blocks shape - 1
-      closed_few =
-          let before : count_by (λ b. b) live.closed ≡ length (blocks_with shape old) =
-          ap (count_by (λ b. b)) closed_are ∙ count_map (is_used shape taken) (range_with_len 0 shape.blocks) ∙ sym (length-filter (is_used shape taken) (range_with_len 0 shape.blocks)) in
-          omega (arith, before, leb-true (length (blocks_with shape old)) (data_blocks shape - 1) now.few_blocks)
-
-      one_more : (none_yet : Bool) (closed most : ℕ) → closed ≤ most → (not none_yet || nat_lt closed most) ≡ nat_le (closed + cond none_yet 1 0) most
-      one_more true closed most room = let e : closed + 1 ≡ suc closed = omega arith in ap (λ n. nat_le n most) (sym e)
-      one_more false closed most room = sym (le-leb (closed + 0) most (omega (arith, room)))
+  -- and then the counts decide
+  pub counts_decide : (t o : Bool) (total blocks : ℕ) → t ≡ list_any (λ b. b == block) named → t ≡ false → (IsTrue o ↔ Overlaps) → o ≡ false → total ≡ sum live.heads
+      → blocks ≡ count_by (λ b. b) live.closed + cond (count_of live block == 0) 1 0
+      → (nat_le (total + count) (limit shape) && nat_le blocks (data_blocks shape - 1)) ≡ fits shape named (old ++ own)
+  counts_decide t o total blocks told none over apart all used =
+      sym (λ i. (out_is t told ∙ ap not none) i && (apart_is o over ∙ ap not apart) i && nat_le (length_is total all i) (limit shape) && nat_le (blocks_is blocks used i) (data_blocks shape - 1))
 
   -- ---- the live map with the value
 
@@ -230,11 +193,8 @@ module _ (shape : Shape) (named : List ℕ) (live : Values) (taken : List (Key �
       and_false true = refl
       and_false false = refl
 
-  -- where the code's answer says so, no value begins at the page
-  pub free : (r : Bool) → r ≡ fits shape named (old ++ own) → r ≡ true → slice_get live.heads place.page ≡ Some 0
-  free r is passes =
-      let e : fits shape named (old ++ own) ≡ true = sym is ∙ passes in
-      slice_get-get_or live.heads place.page 0 (omega (arith, is_place.exists, ap length heads_are, length-map-range_with_len (head_of shape taken) 0 (page_count shape))) ∙ ap Some (read place.page ∙ fresh e)
+  pub free : fits shape named (old ++ own) ≡ true → slice_get live.heads place.page ≡ Some 0
+  free e = slice_get-get_or live.heads place.page 0 (omega (arith, is_place.exists, ap length heads_are, length-map-range_with_len (head_of shape taken) 0 (page_count shape))) ∙ ap Some (read place.page ∙ fresh e)
 
   heads_more : (key : Key) → fits shape named (old ++ own) ≡ true → set live.heads place.page count ≡ map (head_of shape (taken ++ (key, place) ∷ [])) (range_with_len 0 (page_count shape))
   heads_more key e =
@@ -244,21 +204,13 @@ module _ (shape : Shape) (named : List ℕ) (live : Values) (taken : List (Key �
       head_of-more shape taken key place place.page ∙ rw here (omega (arith, fresh e)))
       (λ b ne. let other : (place.page == b) ≡ false = ne_eqb place.page b (λ same. ne (sym same)) in head_of-more shape taken key place b ∙ rw other (omega arith))
 
-  -- the live map as the code leaves it, by pages of a block and the count of the pages
-  pub Lives-more : (key : Key) (r : Bool) (q k : ℕ) (set_now closed_now : Values) → q ≡ shape.block_pages → k ≡ count → r ≡ fits shape named (old ++ own) → r ≡ true
-      → set_now ≡ record live { heads = set live.heads place.page k } → closed_now ≡ record set_now { closed = set set_now.closed (place.page / q) true }
-      → Lives shape named closed_now (taken ++ (key, place) ∷ [])
-  Lives-more key r q k set_now closed_now q_is k_is r_is passes was is =
-      let e : fits shape named (old ++ own) ≡ true = sym r_is ∙ passes in
-      let k_done : set_now ≡ record live { heads = set live.heads place.page count } = subst (λ (n : ℕ). set_now ≡ record live { heads = set live.heads place.page n }) k_is was in
-      let q_done : closed_now ≡ record set_now { closed = set set_now.closed block true } = subst (λ (n : ℕ). closed_now ≡ record set_now { closed = set set_now.closed (place.page / n) true }) q_is is in
-      let both : closed_now ≡ record live { heads = set live.heads place.page count; closed = set live.closed block true } =
-      q_done ∙ ap (λ (v : Values). record v { closed = set v.closed block true }) k_done in
-      record {
-        map_is = both ∙ (λ i. record { block_pages = pages_are i; heads = heads_more key e i; closed = closed_more key i });
-        places = Placed-more shape taken key place lives.places is_place;
-        placed_well = ap (λ ps. fits shape named ps) (all_pages-more shape taken key place) ∙ e;
-      }
+  pub Lives-more : (key : Key) → fits shape named (old ++ own) ≡ true → (new : Values)
+      → new ≡ record live { heads = set live.heads place.page count; closed = set live.closed block true } → Lives shape named new (taken ++ (key, place) ∷ [])
+  Lives-more key e new is = record {
+    map_is = is ∙ (λ i. record { block_pages = pages_are i; heads = heads_more key e i; closed = closed_more key i });
+    places = Placed-more shape taken key place lives.places is_place;
+    placed_well = ap (λ ps. fits shape named ps) (all_pages-more shape taken key place) ∙ e;
+  }
 
   -- numbers that are small enough
   pub inside : place.page % live.block_pages + count ≤ live.block_pages

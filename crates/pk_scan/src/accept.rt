@@ -23,7 +23,7 @@ use std::alloc::Allocator;
 /// the bytes of a page, which are lost.
 ///
 /// `Damaged` names the first page of a value whose pages may not be taken, before any read, or the first page that is wrong.
-/// `Fault` where a read failed. After either nothing is said of the live map.
+/// `Fault` where a read failed. After either the live map stands for nothing.
 pub fn accept_value<B: Nand, A: Allocator>(
     board: &mut B,
     shape: &Shape,

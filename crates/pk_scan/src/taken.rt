@@ -1,8 +1,8 @@
 //! The pages of values, taken one value after another.
-ghost use Rattle.std.specs.Prelude.{◌≡◌, ◌==◌, ◌<◌, ◌≤◌, ◌+◌, ◌-◌, ◌++◌, ◌∷◌, [], nat_lt, not, ◌||◌, ◌^◌, ◌↔◌, ℕ, List, true, false, count_by, slice_index, IsTrue};
+ghost use Rattle.std.specs.Prelude.{◌≡◌, ◌==◌, ◌<◌, ◌≤◌, ◌+◌, ◌-◌, ◌++◌, ◌∷◌, [], ◌&&◌, nat_le, ◌^◌, ◌↔◌, ℕ, List, true, false, if◌then◌else◌, count_by, slice_index, IsTrue};
 ghost use Rattle.std.specs.List.{list_any};
 ghost use Rattle.pk_base.specs.Key.{Key};
-ghost use Rattle.pk_base.specs.Shape.{data_blocks};
+ghost use Rattle.pk_base.specs.Shape.{limit, data_blocks};
 ghost use Rattle.pk_base.specs.Entry.{Place};
 ghost use Rattle.pk_base.specs.EntryBytes.{IsPlace};
 ghost use Rattle.pk_live.specs.Values.{IsLive, count_of};
@@ -48,11 +48,24 @@ fn overlaps<A: Allocator>(live: &Live<A>, page: u32, count: u32) -> bool
     live.is_live(page) || begins_before(live, page + 1, page + count)
 }
 
-// Whether the block has a live page, or one block more may have one.
-fn may_be_used<A: Allocator>(shape: &Shape, live: &Live<A>, block: u32) -> bool
-    ensures { result ≡ (not (count_of live.now block == 0) || nat_lt (count_by (λ b. b) live.now.closed) (data_blocks shape.now - 1)) }
+// How many blocks have a live page, with this one.
+fn blocks_used<A: Allocator>(live: &Live<A>, block: u32) -> u32
+    ensures value { result ≡ count_by (λ b. b) live.now.closed + (if count_of live.now block == 0 then 1 else 0) }
 {
-    live.count(block) != 0 || live.closed() < shape.data_blocks() - 1
+    live.known();
+    let closed = live.closed();
+    if live.count(block) == 0 {
+        closed + 1
+    } else {
+        closed
+    }
+}
+
+// Whether so many live pages, in so many blocks, are not too many.
+fn are_few(shape: &Shape, pages: u32, blocks: u32) -> bool
+    ensures { result ≡ (nat_le pages (limit shape.now) && nat_le blocks (data_blocks shape.now - 1)) }
+{
+    pages <= shape.limit() && blocks <= shape.data_blocks() - 1
 }
 
 // Whether the pages of a value may be taken.
@@ -72,10 +85,8 @@ fn has_room<A: Allocator>(shape: &Shape, named: &[u16], live: &Live<A>, page: u3
     if overlaps(live, page, count) {
         return false;
     }
-    if live.total() + count > shape.limit() {
-        return false;
-    }
-    may_be_used(shape, live, block)
+    let pages = live.total() + count;
+    are_few(shape, pages, blocks_used(live, block))
 }
 
 /// Whether the pages of a value lie in no block that is named, none of them belongs to a value that was taken before, and

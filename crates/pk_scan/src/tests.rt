@@ -42,7 +42,7 @@ fn erase<B: Nand>(board: &mut B, shape: &Shape, block: u32, page: u32) -> Result
     requires exists { block < shape.now.blocks }
     requires first { page ≡ block * shape.now.block_pages }
     ensures order { OnOk result (InOrder shape.now (B.state board.new).pages page) }
-    ensures ready { OnOk result (IsReady (B.state board.new) shape.now) }
+    ensures ready { IsReady (B.state board.new) shape.now }
 {
     match board.erase(block) {
         Ok(()) => Ok(()),
@@ -69,9 +69,8 @@ fn write_and_check<B: Nand>(
     let _ = shape.greatest();
     let _ = shape.charge(value.len() as u32);
     let own = Key::of(b"key");
-    match erase(board, shape, 2, 32) {
-        Ok(()) => {}
-        Err(_) => return Err(PageError::Fault),
+    if erase(board, shape, 2, 32).is_err() {
+        return Err(PageError::Fault);
     }
     let _ = write_value(board, shape, 32, &own, value, buf);
     check_value(board, shape, key, 32, len, buf)
@@ -156,9 +155,8 @@ fn spoil_and_check<B: Nand>(
     let _ = shape.greatest();
     let _ = shape.charge(value.len() as u32);
     let key = Key::of(b"key");
-    match erase(board, shape, 2, 32) {
-        Ok(()) => {}
-        Err(_) => return Err(PageError::Fault),
+    if erase(board, shape, 2, 32).is_err() {
+        return Err(PageError::Fault);
     }
     page(shape, &key, value, 0, buf);
     buf[at] = byte;
@@ -214,11 +212,12 @@ fn take_many<A: Allocator>(
     each: u32,
     blocks: u32,
 ) -> u32
-    requires lives { (taken : List (KeySpec × Place)) × Lives shape.now named.now live.old taken }
-    requires each { each ≤ 4 }
-    requires blocks { blocks ≤ 64 }
+    requires { (taken : List (KeySpec × Place)) × Lives shape.now named.now live.old taken }
     ensures { (taken : List (KeySpec × Place)) × Lives shape.now named.now live.new taken }
 {
+    if each > 4 || blocks > 64 {
+        return 0;
+    }
     let mut count = 0;
     for i in 0..each * blocks {
         let page = (2 + i / each) * 16 + i % each * 4;
@@ -229,31 +228,13 @@ fn take_many<A: Allocator>(
     count
 }
 
-// Takes so many values of four pages, and then one of this length at this page; whether this one could be taken.
-fn take_behind<A: Allocator>(
-    shape: &Shape,
-    live: &mut Live<A>,
-    each: u32,
-    blocks: u32,
-    page: u32,
-    len: u32,
-) -> bool
-    requires values { live.old ≡ no_values shape.now }
-    requires each { each ≤ 4 }
-    requires blocks { blocks ≤ 64 }
-{
-    shape.known();
-    starts_with_none();
-    let named = [60u16, 61];
-    take_many(shape, &named, live, each, blocks);
-    take(shape, &named, live, page, len)
-}
-
 // Behind so many values of four pages, so many to a block: whether a value of this length at this page can be taken, and the
 // live pages and closed blocks then. There are 42 blocks for values, of which 41 may have live pages, at most 492 in all.
 #[test]
 fn pages_are_taken(rt: HostRuntime) -> Result<(), Fail> {
     let shape = Shape::new(512, 16, 64).ok().ok_or("a shape")?;
+    shape.known();
+    starts_with_none();
     for (each, blocks, page, len, taken, total, closed) in [
         (0u32, 0u32, 32u32, 0u32, true, 1u32, 1u32),
         (0, 0, 45, 1504, true, 3, 1),
@@ -273,11 +254,10 @@ fn pages_are_taken(rt: HostRuntime) -> Result<(), Fail> {
         let heap = LocalHeap::new(rt.alloc(), 8192)?;
         let mut live = Live::new(&heap, shape)?;
         let used = heap.used();
-        if each > 4 || blocks > 64 {
-            return Err("numbers")?;
-        }
-        let found = take_behind(&shape, &mut live, each, blocks, page, len);
-        assert_eq!(rt; found, taken);
+        let named = [60u16, 61];
+        let before = take_many(&shape, &named, &mut live, each, blocks);
+        assert!(rt; before <= 123);
+        assert_eq!(rt; take(&shape, &named, &mut live, page, len), taken);
         assert_eq!(rt; live.total(), total);
         assert_eq!(rt; live.closed(), closed);
         assert_eq!(rt; heap.used(), used);
@@ -308,17 +288,18 @@ fn accept_both<B: Nand, A: Allocator>(
     let _ = shape.charge(len);
     starts_with_none();
     let key = Key::of(b"key");
-    match erase(board, shape, 2, 32) {
-        Ok(()) => {}
-        Err(_) => return [Err(PageError::Fault), Err(PageError::Fault)],
+    if erase(board, shape, 2, 32).is_err() {
+        return [Err(PageError::Fault), Err(PageError::Fault)];
     }
     let _ = write_value(board, shape, 32, &key, value, buf);
-    match accept_value(board, shape, &[], live, &key, 32, len, buf) {
-        Ok(()) => {}
-        Err(error) => return [Err(error), Err(error)],
+    let first = accept_value(board, shape, &[], live, &key, 32, len, buf);
+    if first.is_err() {
+        return [first, first];
     }
-    let second = accept_value(board, shape, &[], live, &key, page, len, buf);
-    [Ok(()), second]
+    [
+        first,
+        accept_value(board, shape, &[], live, &key, page, len, buf),
+    ]
 }
 
 // By the page of a second value: what is answered of it, and the reads of both. The first has two pages.

@@ -1,11 +1,15 @@
-use Rattle.std.proofs.Common.{◌≤◌, arith}
+use Rattle.std.proofs.Common.{◌≡◌, ◌∙◌, ℕ, ◌+◌, ◌-◌, ◌/◌, ◌==◌, ◌<◌, ◌≤◌, ◌&&◌, List, ap, subst, arith, cond, sum}
+use Rattle.std.specs.Prelude.{count_by, nat_le, IsTrue, ◌↔◌}
+use Rattle.std.specs.List.{list_any}
+use Rattle.pk_base.specs.Shape.{limit, data_blocks}
+use Rattle.pk_live.specs.Values.{count_of, IsLive}
 use Rattle.pk_live.proofs.Counts.{sum-le-pages}
 use Rattle.pk_scan.specs.Places.{place}
-use Rattle.pk_scan.proofs.Taking.{named_refuses, overlap_refuses, pages_refuse, blocks_decide}
+use Rattle.pk_scan.proofs.Taking.{named_refuses, overlap_refuses, counts_decide}
 use Rattle.pk_scan.proofs.taken.has_room.Goals as goal
 
-pub overflow_add-total : goal.overflow_add-total
-overflow_add-total g c =
+pub overflow_add-pages : goal.overflow_add-pages
+overflow_add-pages g c =
     let k = c.known.ensures in
     let total = sum-le-pages c.args.live.now.heads c.args.live.now.block_pages _ k.small k.few k.pages k.short in
     let block : c.args.shape.now.block_pages ≤ 256 = c.page_count.ensures.shape.block_most in
@@ -13,22 +17,24 @@ overflow_add-total g c =
 
 pub returns-then-is_named : goal.returns-then-is_named
 returns-then-is_named g c taken lives =
-    named_refuses c.args.shape.now c.args.named.now c.args.live.now taken (place c.args.page c.args.len) c.page_count.ensures.shape c.requires.place lives
-    c.is_named.result c.block_pages.result c.block_pages.ensures.value c.is_named.ensures c.if-is_named.true
+    let told = c.is_named.ensures ∙ ap (λ (n : ℕ). list_any (λ b. b == c.args.page / n) c.args.named.now) c.block_pages.ensures.value in
+    named_refuses c.args.shape.now c.args.named.now c.args.live.now taken (place c.args.page c.args.len) c.page_count.ensures.shape c.requires.place lives c.is_named.result told c.if-is_named.true
 
 pub returns-then-overlaps : goal.returns-then-overlaps
 returns-then-overlaps g c taken lives =
-    overlap_refuses c.args.shape.now c.args.named.now c.args.live.now taken (place c.args.page c.args.len) c.page_count.ensures.shape c.requires.place lives
-    c.is_named.result c.overlaps.result c.block_pages.result c.charge-count.result c.block_pages.ensures.value c.charge-count.ensures.value c.is_named.ensures c.if-is_named.false c.overlaps.ensures c.if-overlaps.true
-
-pub returns-then-total-count : goal.returns-then-total-count
-returns-then-total-count g c taken lives =
-    pages_refuse c.args.shape.now c.args.named.now c.args.live.now taken (place c.args.page c.args.len) c.page_count.ensures.shape c.requires.place lives
-    c.is_named.result c.overlaps.result c.block_pages.result c.charge-count.result c.total.result c.block_pages.ensures.value c.charge-count.ensures.value
-    c.is_named.ensures c.if-is_named.false c.overlaps.ensures c.if-overlaps.false c.total.ensures (rw c.limit.ensures.value at c.if-total-count.true)
+    let told = c.is_named.ensures ∙ ap (λ (n : ℕ). list_any (λ b. b == c.args.page / n) c.args.named.now) c.block_pages.ensures.value in
+    let over = subst (λ (k : ℕ). IsTrue c.overlaps.result ↔ ((p : ℕ) × (c.args.page ≤ p) × (p < c.args.page + k) × IsLive c.args.live.now p)) c.charge-count.ensures.value c.overlaps.ensures in
+    overlap_refuses c.args.shape.now c.args.named.now c.args.live.now taken (place c.args.page c.args.len) c.page_count.ensures.shape c.requires.place lives c.is_named.result c.overlaps.result told
+    c.if-is_named.false over c.if-overlaps.true
 
 pub returns : goal.returns
 returns g c taken lives =
-    blocks_decide c.args.shape.now c.args.named.now c.args.live.now taken (place c.args.page c.args.len) c.page_count.ensures.shape c.requires.place lives
-    c.is_named.result c.overlaps.result c.may_be_used.result c.block_pages.result c.charge-count.result c.total.result c.block_pages.ensures.value c.charge-count.ensures.value
-    c.is_named.ensures c.if-is_named.false c.overlaps.ensures c.if-overlaps.false c.total.ensures (rw c.limit.ensures.value at c.if-total-count.false) c.may_be_used.ensures
+    let told = c.is_named.ensures ∙ ap (λ (n : ℕ). list_any (λ b. b == c.args.page / n) c.args.named.now) c.block_pages.ensures.value in
+    let over = subst (λ (k : ℕ). IsTrue c.overlaps.result ↔ ((p : ℕ) × (c.args.page ≤ p) × (p < c.args.page + k) × IsLive c.args.live.now p)) c.charge-count.ensures.value c.overlaps.ensures in
+    let used =
+    c.blocks_used.ensures.value
+    ∙ ap (λ (n : ℕ). count_by (λ b. b) c.args.live.now.closed + cond (count_of c.args.live.now (c.args.page / n) == 0) 1 0) c.block_pages.ensures.value in
+    c.are_few.ensures
+    ∙ ap (λ (k : ℕ). nat_le (c.total.result + k) (limit c.args.shape.now) && nat_le c.blocks_used.result (data_blocks c.args.shape.now - 1)) c.charge-count.ensures.value
+    ∙ counts_decide c.args.shape.now c.args.named.now c.args.live.now taken (place c.args.page c.args.len) c.page_count.ensures.shape c.requires.place lives c.is_named.result c.overlaps.result
+    c.total.result c.blocks_used.result told c.if-is_named.false over c.if-overlaps.false c.total.ensures used

@@ -1,4 +1,4 @@
-use Rattle.std.proofs.Common.{List, ◌≤◌}
+use Rattle.std.proofs.Common.{◌≤◌, List}
 use Rattle.pk_base.specs.Key.{Key}
 use Rattle.pk_base.specs.Entry.{Place}
 use Rattle.pk_scan.specs.Lives.{Lives}
