@@ -1,12 +1,12 @@
 -- A log stands on a flash that was just formatted.
-use Rattle.std.proofs.Common.{◌≡◌, ℕ, zero, suc, ◌+◌, ◌*◌, ◌<◌, ◌≤◌, List, [], ◌∷◌, length, replicate, slice_set, Ok, refl, ◌∙◌, arith}
-use Rattle.pk_base.specs.Shape.{Shape, IsShape}
+use Rattle.std.proofs.Common.{◌≡◌, ℕ, zero, suc, ◌<◌, ◌≤◌, [], ◌∷◌, replicate, Ok, refl, ◌∙◌, arith}
+use Rattle.pk_base.specs.Shape.{IsShape}
 use Rattle.pk_base.specs.Page.{Flash, page_at, erased, whole}
 use Rattle.pk_nand.proofs.Leaving.{page_at-slice_set}
 use Rattle.pk_jrnfmt.specs.Epoch.{epoch}
 use Rattle.pk_meta.specs.Run.{run}
-use Rattle.pk_rootfmt.specs.Root.{Root, root_bytes}
-use Rattle.pk_rootfmt.specs.Held.{Held, first}
+use Rattle.pk_rootfmt.specs.Root.{root_bytes}
+use Rattle.pk_rootfmt.specs.Held.{first}
 use Rattle.pk_buf.specs.Table.{no_entries}
 use Rattle.pk_jrn.specs.Epochs.{JournalEpoch, started, AreErased, Fits as EpochFits}
 use Rattle.pk_model.specs.Found.{Found, found_under, runs_from}
