@@ -3,3 +3,4 @@ pub mod Standing
 pub mod Pushing
 pub mod Committing
 pub mod Freezing
+pub mod Examples
