@@ -1,7 +1,8 @@
 -- Which keys are there in lists of entries, and which of them a walk still wants.
-use Rattle.std.specs.Prelude.{ℕ, Bool, true, not, if◌then◌else◌, List, [], ◌∷◌, filter, slice_get, Option, Some, None}
+use Rattle.std.specs.Prelude.{◌≡◌, Bool, true, false, not, if◌then◌else◌, List, [], ◌∷◌, filter, slice_get, Option, Some, None}
 use Rattle.std.specs.List.{flat_map}
 use Rattle.std.specs.Ordering.{is_lt, is_gt}
+use Rattle.std.specs.declared.cmp.Ordering.TheVariants.{Less}
 use Rattle.pk_base.specs.Key.{Key, key_cmp}
 use Rattle.pk_base.specs.Entry.{Entry, Place}
 use Rattle.pk_base.specs.Firsts.{firsts}
@@ -32,3 +33,12 @@ abbrev pub lesser : Option Entry → Option Entry → Option Entry
 lesser None b = b
 lesser (Some x) None = Some x
 lesser (Some x) (Some y) = if is_gt (key_cmp x.0 y.0) then Some y else Some x
+
+-- of all lists the first wanted entry whose key is lowest, and of one key that of the first list
+abbrev pub least_first : (Key → Bool) → List (List Entry) → Option Entry
+least_first is_one [] = None
+least_first is_one (es ∷ ess) = lesser (first_of (wanted is_one es)) (least_first is_one ess)
+
+-- nothing below this key is wanted
+abbrev pub WantsFrom : (Key → Bool) → Key → Type 0
+WantsFrom is_one key = (k : Key) → key_cmp k key ≡ Less → is_one k ≡ false

@@ -3,7 +3,9 @@ use Rattle.std.specs.Prelude.{◌≡◌, ⊤, ℕ, suc, ◌+◌, ◌/◌, ◌≤
 use Rattle.pk_base.specs.Key.{Key}
 use Rattle.pk_base.specs.Shape.{Shape, page_entries}
 use Rattle.pk_base.specs.Entry.{Entry, Place, put_entry}
+use Rattle.pk_base.specs.Firsts.{firsts}
 use Rattle.pk_base.specs.Seen.{entry}
+use Rattle.std.specs.List.{flat_map}
 use Rattle.pk_base.specs.declared.entry.Entry.{Entry as RustEntry}
 use Rattle.pk_base.specs.Page.{Flash, page_at, whole}
 use Rattle.pk_nand.specs.BoardState.{BoardState}
@@ -52,11 +54,11 @@ pub record IsWalk (w : Walk) : Type 0 where
 
 -- ---- cursors and runs
 
--- No wanted key of the run stands before the cursor, and it holds the last page that it has come past.
+-- No wanted key of the run stands before the cursor, and it has the page of its place if it has come past it.
 pub record Follows (flash : Flash) (r : Kept) (es : List Entry) (position : Position) (c : Cursor) : Type 0 where
   pub pages : c.loaded ≤ length r.firsts
-  pub holds : (p : ℕ) → c.loaded ≡ suc p → page_at flash (page_of r p) ≡ whole c.bytes
   pub behind : c.loaded ≤ suc (c.place / page_entries r.shape)
+  pub holds : c.loaded ≡ suc (c.place / page_entries r.shape) → page_at flash (page_of r (c.place / page_entries r.shape)) ≡ whole c.bytes
   pub left : wanted (is_wanted position) es ≡ wanted (is_wanted position) (drop c.place es)
 
 abbrev pub FollowEach : Flash → List Kept → List (List Entry) → Position → List Cursor → Type 0
@@ -106,3 +108,15 @@ Reads before after old new = (k : ℕ) × (k + before ≤ after) × (new ≡ aft
 -- a read failed behind such
 abbrev pub ReadsFail : ℕ → ℕ → BoardState → BoardState → Type 0
 ReadsFail before after old new = (k page : ℕ) × (k + before ≤ after) × ReadFailed (after_reads k old) new page
+
+-- ---- inside
+
+-- all entries of the wanted keys, with those of deleted ones, that count
+abbrev pub all_left : Position → List (List Entry) → List Entry
+all_left position lists = wanted (is_wanted position) (firsts (flat_map (λ es. es) lists))
+
+-- the first of them was found, or that there is none; and these are left
+abbrev pub Passes : Option RustEntry → List Entry → List Entry → Type 0
+Passes found [] later = (found ≡ None) × (later ≡ [])
+Passes None (x ∷ rest) later = ⊥
+Passes (Some e) (x ∷ rest) later = (entry e ≡ x) × (later ≡ rest)

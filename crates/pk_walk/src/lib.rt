@@ -3,6 +3,11 @@
 //! Each key is given once, with the place of its value, and no page of a run is read twice in a walk.
 #![tactic(auto)]
 
+mod begin;
+mod buffers;
+mod cursor;
 mod position;
+mod seek;
 
+pub use cursor::Cursor;
 pub use position::Position;
