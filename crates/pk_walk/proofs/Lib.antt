@@ -1,3 +1,4 @@
 pub mod Merging
 pub mod Wanting
 pub mod Following
+pub mod Seeking
