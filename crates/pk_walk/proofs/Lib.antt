@@ -2,3 +2,4 @@ pub mod Merging
 pub mod Wanting
 pub mod Following
 pub mod Seeking
+pub mod Rows

@@ -6,6 +6,7 @@
 mod begin;
 mod buffers;
 mod cursor;
+mod cursors;
 mod position;
 mod seek;
 
