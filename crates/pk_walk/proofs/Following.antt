@@ -112,14 +112,14 @@ module _ (flash : Flash) (r : Kept) (es : List Entry) (position : Position) (c :
         left = passed_by (is_wanted position) es c.place e got not_one f.left;
       }
 
-  -- fewer keys are wanted
-  pub Follows-above : (key : Key) → T (is_wanted position key) → Follows flash r es (Above key) c
-  Follows-above key one = record {
-    pages = f.pages;
-    behind = f.behind;
-    holds = f.holds;
-    left = narrowed_behind (is_wanted (Above key)) (is_wanted position) es c.place (above_is_narrower position key one) f.left;
-  }
+-- fewer keys are wanted
+pub Follows-above : (flash : Flash) (r : Kept) (es : List Entry) (position : Position) (c : Cursor) → Follows flash r es position c → (key : Key) → T (is_wanted position key) → Follows flash r es (Above key) c
+Follows-above flash r es position c f key one = record {
+  pages = f.pages;
+  behind = f.behind;
+  holds = f.holds;
+  left = narrowed_behind (is_wanted (Above key)) (is_wanted position) es c.place (above_is_narrower position key one) f.left;
+}
 
 -- at the start it follows any run
 pub Follows-start : (flash : Flash) (r : Kept) (es : List Entry) (position : Position) (c : Cursor) → Follows flash r es position (at_start c)

@@ -3,3 +3,4 @@ pub mod Wanting
 pub mod Following
 pub mod Seeking
 pub mod Rows
+pub mod Walks

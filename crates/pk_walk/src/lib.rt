@@ -9,6 +9,7 @@ mod cursor;
 mod cursors;
 mod position;
 mod seek;
+mod walk;
 
-pub use cursor::Cursor;
 pub use position::Position;
+pub use walk::Walk;
