@@ -1,28 +1,23 @@
 -- A cursor in a run: the page of its place, the entry at it, and what its moves leave.
-use Rattle.std.proofs.Common.{◌≡◌, ◌⊎◌, inl, inr, ℕ, zero, suc, ◌+◌, ◌-◌, ◌*◌, ◌/◌, ◌%◌, ◌<◌, ◌≤◌, min, refl, sym, ap, subst, ◌∙◌, arith, Bool, true, false, T, List, [], ◌∷◌, length, take, drop, slice_get, Option, Some, None, Result, Ok, option_map, div-lt_iff_lt-mul, suc-mul}
+use Rattle.std.proofs.Common.{◌≡◌, ℕ, zero, suc, ◌+◌, ◌-◌, ◌*◌, ◌/◌, ◌%◌, ◌<◌, ◌≤◌, min, refl, sym, ap, subst, ◌∙◌, arith, Bool, false, T, List, [], ◌∷◌, length, take, drop, slice_get, Some, div-lt_iff_lt-mul}
 use Rattle.std.proofs.lemmas.Nat.{div-add-mod', le-div}
 use Rattle.std.proofs.lemmas.List.{length-take, length-drop}
-use Rattle.std.proofs.lemmas.Bool.{cases_eq}
-use Rattle.std.proofs.lemmas.Option.{slice_get_within}
 use Rattle.std.proofs.Math.Nat.{mod-lt}
-use Rattle.std.specs.FinMap.Entries.{is_sorted}
-use Rattle.pk_base.specs.Key.{Key, key_cmp}
+use Rattle.pk_base.specs.Key.{Key}
 use Rattle.pk_base.specs.Shape.{Shape, IsShape, page_entries}
 use Rattle.pk_base.specs.Entry.{Entry, key_of}
-use Rattle.pk_base.specs.Refusal.{Refusal}
 use Rattle.pk_base.specs.Fields.{number_at}
 use Rattle.pk_base.specs.Page.{Flash, page_at, whole}
-use Rattle.pk_meta.specs.Page.{IsMetaPage, Decodes}
+use Rattle.pk_meta.specs.Page.{IsMetaPage}
 use Rattle.pk_meta.proofs.PageLemmas.{meta_again}
 use Rattle.pk_nand.specs.BoardState.{BoardState}
-use Rattle.pk_nand.specs.Calls.{after_read}
 use Rattle.pk_pin.specs.Frames.{Frames}
 use Rattle.pk_run.specs.Kept.{Kept, IsKept, Stands, page_of, after_look}
-use Rattle.pk_run.specs.Search.{IsBeforeAll, IsPageFor}
+use Rattle.pk_run.specs.Search.{IsPageFor}
 use Rattle.pk_run.proofs.Lookups.{first_is, page_starts, holds_piece}
 use Rattle.pk_walk.specs.declared.position.Position.{Position}
 use Rattle.pk_walk.specs.declared.position.Position.TheVariants.{Above}
-use Rattle.pk_walk.specs.Visible.{is_wanted, wanted, first_of, WantsFrom}
+use Rattle.pk_walk.specs.Visible.{is_wanted, wanted, WantsFrom}
 use Rattle.pk_walk.specs.Walking.{Cursor, Follows, Reads, at_start, read_of}
 use Rattle.pk_walk.proofs.Wanting.{begun_at, passed_by, narrowed_behind, above_is_narrower}
 

@@ -1,5 +1,5 @@
 -- The first wanted entry of sorted lists in a row is the least of the first wanted entries of each.
-use Rattle.std.proofs.Common.{◌≡◌, ℕ, zero, suc, ◌+◌, ◌<◌, ◌≤◌, refl, sym, ap, subst, ◌∙◌, arith, Bool, true, false, cond, ◌&&◌, T, if◌then◌else◌, List, [], ◌∷◌, ◌++◌, length, drop, filter, slice_get, Option, Some, None, append-nil}
+use Rattle.std.proofs.Common.{◌≡◌, refl, sym, ap, subst, ◌∙◌, Bool, true, false, cond, T, if◌then◌else◌, List, [], ◌∷◌, ◌++◌, Option, Some, None}
 use Rattle.std.specs.Prelude.{⊤}
 use Rattle.std.specs.List.{flat_map}
 use Rattle.std.specs.declared.cmp.Ordering.{Ordering}
@@ -126,8 +126,12 @@ module _ (f g : Key → Option (Option Place)) (w : Key → Bool) where
   either q = either_of (f q) (g q)
 
   left_least : (x y : Entry) → IsLeast f w (Some x) → IsLeast g w (Some y) → T (if is_gt (key_cmp x.0 y.0) then false else true) → IsLeast either w (Some x)
-  left_least x y p q le = (p.0, some_left (f x.0) (g x.0) x.1 p.1, λ k v is found low.
-      from_either (f k) (g k) v found ⊥ (λ u there. p.2 k u is there low) (λ there. q.2 k v is there (below_not_above k x.0 y.0 (key_cmp x.0 y.0) refl le low)))
+  left_least x y p q le = (
+    p.0,
+    some_left (f x.0) (g x.0) x.1 p.1,
+    λ k v is found low.
+        from_either (f k) (g k) v found ⊥ (λ u there. p.2 k u is there low) (λ there. q.2 k v is there (below_not_above k x.0 y.0 (key_cmp x.0 y.0) refl le low)),
+  )
 
   right_least : (x y : Entry) → IsLeast f w (Some x) → IsLeast g w (Some y) → key_cmp x.0 y.0 ≡ Greater → IsLeast either w (Some y)
   right_least x y p q gt =
@@ -135,9 +139,12 @@ module _ (f g : Key → Option (Option Place)) (w : Key → Bool) where
       let none : (r : Option (Option Place)) → f y.0 ≡ r → f y.0 ≡ None = λ r. elim r as (λ r. f y.0 ≡ r → f y.0 ≡ None) [
         | None ↦ λ e. e
         | Some v ↦ λ e. absurd (p.2 y.0 v q.0 e lower)
-      ] in
-      (q.0, none_left (f y.0) (g y.0) (none (f y.0) refl) ∙ q.1, λ k v is found low.
-          from_either (f k) (g k) v found ⊥ (λ u there. p.2 k u is there (key_total.trans k y.0 x.0 low lower)) (λ there. q.2 k v is there low))
+      ] in (
+        q.0,
+        none_left (f y.0) (g y.0) (none (f y.0) refl) ∙ q.1,
+        λ k v is found low.
+            from_either (f k) (g k) v found ⊥ (λ u there. p.2 k u is there (key_total.trans k y.0 x.0 low lower)) (λ there. q.2 k v is there low),
+      )
 
   -- the least of two lists in a row is the lesser
   pub least_of_both : (a b : Option Entry) → IsLeast f w a → IsLeast g w b → IsLeast either w (lesser a b)

@@ -1,6 +1,5 @@
 -- A search through the runs, one after another, with a cursor in each.
-use Rattle.std.proofs.Common.{◌≡◌, ℕ, zero, suc, ◌+◌, ◌-◌, ◌<◌, ◌≤◌, refl, sym, ap, subst, ◌∙◌, arith, T, List, [], ◌∷◌, length, slice_get, slice_set, slice_index_or, Option, Some, None}
-use Rattle.std.specs.Prelude.{⊤}
+use Rattle.std.proofs.Common.{◌≡◌, ℕ, zero, suc, ◌+◌, ◌-◌, ◌<◌, refl, sym, ap, subst, ◌∙◌, arith, List, [], ◌∷◌, length, slice_get, slice_set, slice_index_or, Option, Some, None}
 use Rattle.pk_base.specs.Shape.{Shape}
 use Rattle.pk_base.specs.Entry.{Entry}
 use Rattle.pk_base.specs.Page.{Flash}
@@ -9,7 +8,7 @@ use Rattle.pk_nand.specs.Calls.{IsReady, ReadFailed}
 use Rattle.pk_nand.specs.Erased.{after_reads}
 use Rattle.pk_pin.specs.Frames.{Frames}
 use Rattle.pk_run.specs.Kept.{Kept, Stands, empty}
-use Rattle.pk_level.specs.Levels.{Levels, IsLevels, IsOfLevel, StandEach, run_of}
+use Rattle.pk_level.specs.Levels.{Levels, IsLevels, StandEach, run_of}
 use Rattle.pk_level.proofs.Looking.{stands_at, of_level_at, reads_more}
 use Rattle.pk_walk.specs.declared.position.Position.{Position}
 use Rattle.pk_walk.specs.Visible.{is_wanted, wanted, first_of, lesser, least_first}
@@ -121,9 +120,11 @@ module _ (levels : Levels) (arena : Frames) (position : Position) (old now : Boa
 
     pub row_follows : (es : List Entry) × Stands r now.pages arena es × Follows now.pages r es position c
     row_follows =
-        let back = sym same_pages in
-        (own.0, subst (λ (flash : Flash). Stands r flash arena own.0) back own.2,
-        subst (λ (flash : Flash). Follows flash r own.0 position c) back (follow_at old.pages position levels.runs at.ess cs i r own.0 c at.follow run_is own.1 cursor_is))
+        let back = sym same_pages in (
+          own.0,
+          subst (λ (flash : Flash). Stands r flash arena own.0) back own.2,
+          subst (λ (flash : Flash). Follows flash r own.0 position c) back (follow_at old.pages position levels.runs at.ess cs i r own.0 c at.follow run_is own.1 cursor_is),
+        )
 
     -- what it leaves
     module _ (next : BoardState) (d : Cursor) (moved : (es : List Entry) → Stands r now.pages arena es → Follows now.pages r es position d) (same : d.shape ≡ c.shape) where

@@ -1,6 +1,6 @@
 -- A search in a run for the first wanted entry: what holds at each step of it, and what it finds.
-use Rattle.std.proofs.Common.{◌≡◌, ℕ, zero, suc, ◌+◌, ◌<◌, ◌≤◌, refl, sym, ap, subst, ◌∙◌, arith, Bool, true, false, T, List, [], ◌∷◌, length, drop, slice_get, Option, Some, None, option_map, Result, Ok}
-use Rattle.pk_base.specs.Shape.{Shape, IsShape}
+use Rattle.std.proofs.Common.{◌≡◌, ℕ, suc, ◌+◌, ◌≤◌, refl, sym, ap, subst, ◌∙◌, arith, true, false, List, slice_get, Some, None, Result, Ok}
+use Rattle.pk_base.specs.Shape.{IsShape}
 use Rattle.pk_base.specs.Entry.{Entry, key_of}
 use Rattle.pk_base.specs.Seen.{entry as seen}
 use Rattle.pk_base.specs.declared.entry.Entry.{Entry as RustEntry}

@@ -1,11 +1,10 @@
 -- A walk over all lists: what a step leaves, and what is left behind several.
-use Rattle.std.proofs.Common.{◌≡◌, ◌≢◌, ℕ, zero, suc, ◌+◌, ◌-◌, ◌<◌, ◌≤◌, refl, sym, ap, subst, ◌∙◌, arith, Bool, true, false, T, is_some, List, [], ◌∷◌, ◌++◌, length, option_map, Option, Some, None, Result, Ok, Err}
-use Rattle.std.specs.Prelude.{⊤}
+use Rattle.std.proofs.Common.{◌≡◌, ℕ, suc, ◌+◌, ◌<◌, ◌≤◌, refl, sym, ap, subst, ◌∙◌, arith, true, false, T, is_some, List, [], ◌∷◌, length, Option, Some, None, Result, Ok, Err}
 use Rattle.std.specs.List.{flat_map}
 use Rattle.std.specs.FinMap.Entries.{is_sorted}
 use Rattle.pk_base.specs.Key.{Key, key_cmp}
 use Rattle.pk_base.specs.Shape.{Shape}
-use Rattle.pk_base.specs.Entry.{Entry, Place, key_of, put_entry}
+use Rattle.pk_base.specs.Entry.{Entry, Place, key_of}
 use Rattle.pk_base.specs.Seen.{entry as seen}
 use Rattle.pk_base.specs.declared.entry.Entry.{Entry as RustEntry}
 use Rattle.pk_base.specs.Firsts.{firsts}
@@ -16,15 +15,15 @@ use Rattle.pk_nand.specs.BoardState.{BoardState}
 use Rattle.pk_nand.specs.Calls.{IsReady, ReadFailed}
 use Rattle.pk_nand.specs.Erased.{after_reads}
 use Rattle.pk_pin.specs.Frames.{Frames}
-use Rattle.pk_run.specs.Kept.{Kept, Stands}
+use Rattle.pk_run.specs.Kept.{Kept}
 use Rattle.pk_level.specs.Levels.{StandEach}
 use Rattle.pk_level.proofs.Looking.{reads_more}
 use Rattle.pk_model.specs.Values.{placed}
 use Rattle.pk_model.proofs.Lookups.{firsts_sorted}
 use Rattle.pk_walk.specs.declared.position.Position.{Position}
-use Rattle.pk_walk.specs.declared.position.Position.TheVariants.{Above}
+use Rattle.pk_walk.specs.declared.position.Position.TheVariants.{First, Above}
 use Rattle.pk_walk.specs.Visible.{visible, is_wanted, wanted, first_of, lesser, least_first}
-use Rattle.pk_walk.specs.Walking.{Cursor, Walk, AreOfShape, Follows, FollowEach, IsLeft, Gives, Passes, Reads, ReadsFail, all_left, all_at_start, begun, read_of, pages_read, most_read}
+use Rattle.pk_walk.specs.Walking.{Cursor, Walk, IsWalk, AreOfShape, FollowEach, IsLeft, Gives, Passes, Reads, ReadsFail, all_left, all_at_start, read_of, pages_read, most_read}
 use Rattle.pk_walk.proofs.Merging.{EachSorted, first_of_lists}
 use Rattle.pk_walk.proofs.Wanting.{behind_first, first_wanted, none_wanted, placed_wanted}
 use Rattle.pk_walk.proofs.Following.{Follows-above, Follows-start}
@@ -102,6 +101,61 @@ step_wanted position lists e is = first_wanted (is_wanted position) (firsts (fla
 left_is : (position : Position) (lists : List (List Entry)) → wanted (is_wanted position) (visible lists) ≡ placed (all_left position lists)
 left_is position lists = placed_wanted (is_wanted position) (firsts (flat_map (λ es. es) lists))
 
+start_length : (cs : List Cursor) → length (all_at_start cs) ≡ length cs
+start_length [] = refl
+start_length (c ∷ cs) = ap (λ (n : ℕ). suc n) (start_length cs)
+
+start_shape : (shape : Shape) (cs : List Cursor) → AreOfShape shape cs → AreOfShape shape (all_at_start cs)
+start_shape shape [] are = tt
+start_shape shape (c ∷ cs) are = (are.0, start_shape shape cs are.1)
+
+-- a walk whose cursors go back to the start is one
+pub start_walk : (shape : Shape) (position : Position) (cs cursors : List Cursor) → cursors ≡ all_at_start cs → length cs ≡ 4 → AreOfShape shape cs → IsWalk (record { shape = shape; position = position; cursors = cursors })
+start_walk shape position cs cursors same four are = record {
+  four = ap (λ (xs : List Cursor). length xs) same ∙ start_length cs ∙ four;
+  each = subst (AreOfShape shape) (sym same) (start_shape shape cs are);
+}
+
+start_follow : (flash : Flash) (position : Position) (rs : List Kept) (ess : List (List Entry)) (cs : List Cursor) → FollowEach flash rs ess position (all_at_start cs)
+start_follow flash position [] ess cs = tt
+start_follow flash position (r ∷ rs) [] cs = tt
+start_follow flash position (r ∷ rs) (es ∷ ess) [] = tt
+start_follow flash position (r ∷ rs) (es ∷ ess) (c ∷ cs) = (Follows-start flash r es position c, start_follow flash position rs ess cs)
+
+-- at the start all wanted keys are left
+pub start_left : (w : Walk) (cs : List Cursor) → w.cursors ≡ all_at_start cs → (flash : Flash) (arena : Frames) (rs : List Kept) (active frozen : List Entry) (ess : List (List Entry)) → StandEach flash arena rs ess
+    → IsLeft w flash arena rs active frozen (wanted (is_wanted w.position) (visible (active ∷ frozen ∷ ess)))
+start_left w cs same flash arena rs active frozen ess stand = record {
+  ess = ess;
+  stand = stand;
+  follow = subst (FollowEach flash rs ess w.position) (sym same) (start_follow flash w.position rs ess cs);
+  is = refl;
+}
+
+none_read_of : (leases : List ℕ) → read_of leases 0 ≡ 0
+none_read_of [] = refl
+none_read_of (l ∷ leases) = refl
+
+start_reads : (rs : List Kept) (cs : List Cursor) → pages_read rs (all_at_start cs) ≡ 0
+start_reads [] cs = refl
+start_reads (r ∷ rs) [] = refl
+start_reads (r ∷ rs) (c ∷ cs) = let rest = start_reads rs cs in let own = none_read_of r.leases in omega (arith, rest, own)
+
+-- and nothing was read
+pub start_none : (cursors cs : List Cursor) → cursors ≡ all_at_start cs → (rs : List Kept) → pages_read rs cursors ≡ 0
+start_none cursors cs same rs = ap (pages_read rs) same ∙ start_reads rs cs
+
+all_wanted : (xs : List (Key × Place)) → wanted (is_wanted First) xs ≡ xs
+all_wanted [] = refl
+all_wanted (x ∷ xs) = ap (λ (ys : List (Key × Place)). x ∷ ys) (all_wanted xs)
+
+-- from the first key on all keys are left
+pub start_all : (w : Walk) (cs : List Cursor) → w.cursors ≡ all_at_start cs → w.position ≡ First → (flash : Flash) (arena : Frames) (rs : List Kept) (active frozen : List Entry) (ess : List (List Entry)) → StandEach flash arena rs ess
+    → IsLeft w flash arena rs active frozen (visible (active ∷ frozen ∷ ess))
+start_all w cs same first flash arena rs active frozen ess stand =
+    subst (IsLeft w flash arena rs active frozen) (ap (λ (p : Position). wanted (is_wanted p) (visible (active ∷ frozen ∷ ess))) first ∙ all_wanted (visible (active ∷ frozen ∷ ess)))
+    (start_left w cs same flash arena rs active frozen ess stand)
+
 -- the cursors follow the runs on the flash of old, only entries of deleted keys were passed since, and nothing was done but reads
 pub record Walking (rs : List Kept) (arena : Frames) (active frozen : List Entry) (shape : Shape) (old now : BoardState) (first w : Walk) : Type 0 where
   pub ess : List (List Entry)
@@ -176,10 +230,11 @@ module _ (rs : List Kept) (arena : Frames) (active frozen : List Entry) (shape :
         → ((ess : List (List Entry)) → StandEach now.pages arena rs ess → FollowEach now.pages rs ess v.position v.cursors)
         → (rest : List (Key × Place)) → IsLeft first old.pages arena rs active frozen rest
         → (later : List (Key × Place)) × Gives (Some e) rest later × IsLeft v next.pages arena rs active frozen later
-    Walking-gives next v e there pages passes follow rest left =
-        (placed (all_left v.position lists),
-        subst (λ (xs : List (Key × Place)). Gives (Some e) xs (placed (all_left v.position lists))) (sym (rest_is rest left)) (given (all_left w.position lists) (all_left v.position lists) (passes at.ess stand_now)),
-        left_next next v pages (follow at.ess stand_now))
+    Walking-gives next v e there pages passes follow rest left = (
+      placed (all_left v.position lists),
+      subst (λ (xs : List (Key × Place)). Gives (Some e) xs (placed (all_left v.position lists))) (sym (rest_is rest left)) (given (all_left w.position lists) (all_left v.position lists) (passes at.ess stand_now)),
+      left_next next v pages (follow at.ess stand_now),
+    )
       where
         given_one : (x : Entry) → is_some x.1 ≡ true → seen e ≡ x → (xs ys : List Entry) → ys ≡ xs → Gives (Some e) (placed (x ∷ xs)) (placed ys)
         given_one (key, Some place) some is xs ys same = (is, ap placed same)
@@ -195,10 +250,11 @@ module _ (rs : List Kept) (arena : Frames) (active frozen : List Entry) (shape :
         → ((ess : List (List Entry)) → StandEach now.pages arena rs ess → FollowEach now.pages rs ess v.position v.cursors)
         → (rest : List (Key × Place)) → IsLeft first old.pages arena rs active frozen rest
         → (later : List (Key × Place)) × Gives None rest later × IsLeft v next.pages arena rs active frozen later
-    Walking-ends next v pages passes follow rest left =
-        (placed (all_left v.position lists),
-        subst (λ (xs : List (Key × Place)). Gives None xs (placed (all_left v.position lists))) (sym (rest_is rest left)) (ended (all_left w.position lists) (all_left v.position lists) (passes at.ess stand_now)),
-        left_next next v pages (follow at.ess stand_now))
+    Walking-ends next v pages passes follow rest left = (
+      placed (all_left v.position lists),
+      subst (λ (xs : List (Key × Place)). Gives None xs (placed (all_left v.position lists))) (sym (rest_is rest left)) (ended (all_left w.position lists) (all_left v.position lists) (passes at.ess stand_now)),
+      left_next next v pages (follow at.ess stand_now),
+    )
       where
         ended : (xs ys : List Entry) → Passes None xs ys → Gives None (placed xs) (placed ys)
         ended [] ys p = (refl, ap placed p.1)

@@ -1,15 +1,15 @@
 -- What a sorted list has of the wanted keys: its first, what is behind it, and where it begins.
-use Rattle.std.proofs.Common.{◌≡◌, ℕ, zero, suc, ◌+◌, ◌<◌, ◌≤◌, refl, sym, ap, subst, ◌∙◌, arith, Bool, true, false, cond, not, ◌&&◌, T, if◌then◌else◌, List, [], ◌∷◌, ◌++◌, length, drop, filter, slice_get, Option, Some, None}
+use Rattle.std.proofs.Common.{◌≡◌, ℕ, zero, suc, ◌+◌, ◌≤◌, refl, sym, ap, subst, ◌∙◌, arith, Bool, true, false, cond, not, T, if◌then◌else◌, List, [], ◌∷◌, length, drop, slice_get, Option, Some, None}
 use Rattle.std.specs.declared.cmp.Ordering.{Ordering}
 use Rattle.std.specs.declared.cmp.Ordering.TheVariants.{Less, Equal, Greater}
-use Rattle.std.specs.Ordering.{is_lt, is_gt, is_eq, ordering_reverse}
-use Rattle.std.specs.FinMap.Entries.{find, is_sorted, below_all}
+use Rattle.std.specs.Ordering.{is_lt, is_gt, is_eq}
+use Rattle.std.specs.FinMap.Entries.{is_sorted, below_all}
 use Rattle.std.proofs.lemmas.Cmp.{tied_itself}
 use Rattle.pk_base.specs.Key.{Key, key_cmp}
 use Rattle.pk_base.specs.Entry.{Entry, Place, key_of}
-use Rattle.pk_buf.specs.Table.{place_of, is_below}
+use Rattle.pk_buf.specs.Table.{place_of}
 use Rattle.pk_model.specs.Values.{placed}
-use Rattle.pk_model.proofs.MapLemmas.{key_total, key_antisymm, left_part, right_part, both, below_less}
+use Rattle.pk_model.proofs.MapLemmas.{key_total, key_antisymm, left_part, right_part}
 use Rattle.pk_walk.specs.declared.position.Position.{Position}
 use Rattle.pk_walk.specs.declared.position.Position.TheVariants.{First, From, Above}
 use Rattle.pk_walk.specs.Visible.{is_wanted, wanted, first_of, WantsFrom}
@@ -260,8 +260,8 @@ pub above_not_here : (key : Key) (es : List Entry) (at : ℕ) (e : Entry) → at
     → slice_get es at ≡ first_of (wanted (is_wanted (Above key)) es)
 above_not_here key es at e is got other =
     ap (slice_get es) is ∙ first_above_other key es (λ f found tied.
-        let same : e ≡ f = same_entry e f (sym got ∙ ap (slice_get es) is ∙ found) in
-        equal_not (key_cmp (key_of f) key) tied (ap (λ (y : Entry). is_eq (key_cmp (key_of y) key)) (sym same) ∙ other))
+    let same : e ≡ f = same_entry e f (sym got ∙ ap (slice_get es) is ∙ found) in
+    equal_not (key_cmp (key_of f) key) tied (ap (λ (y : Entry). is_eq (key_cmp (key_of y) key)) (sym same) ∙ other))
   where
     equal_not : (o : Ordering) → o ≡ Equal → is_eq o ≡ false → ⊥
     equal_not o p q = let r = ap is_eq (sym p) ∙ q in cc

@@ -16,7 +16,7 @@ use Rattle.pk_run.specs.Kept.{Kept, page_of}
 use Rattle.pk_level.specs.Levels.{StandEach}
 use Rattle.pk_walk.specs.Visible.{visible, is_wanted, wanted}
 use Rattle.pk_walk.specs.declared.position.Position.{Position}
-use Rattle.pk_walk.specs.declared.position.Position.TheVariants.{First}
+use Rattle.pk_walk.specs.declared.position.Position.TheVariants.{First, From}
 
 -- A place among the entries of a run; how many pages of the run the walk has come past, and the bytes of the last of them.
 pub record Cursor : Type 0 where
@@ -38,6 +38,11 @@ pub record Walk : Type 0 where
   pub shape : Shape
   pub position : Position
   pub cursors : List Cursor
+
+-- the position at which a walk from a key begins, or from the first
+abbrev pub first_position : Option Key → Position
+first_position None = First
+first_position (Some key) = From key
 
 -- at the start of a walk from this position
 abbrev pub begun : Walk → Position → Walk

@@ -1,5 +1,6 @@
 //! The walk itself.
-ghost use Rattle.std.specs.Prelude.{◌≡◌, ◌≤◌, ◌∷◌, List, length, option_map, is_some, MatchOption, IfOk, IfErr, OnOk, OnErr};
+ghost use Rattle.std.specs.Prelude.{◌≡◌, ◌≤◌, ◌∷◌, List, length, option_map, is_some, IfOk, IfErr, OnOk, OnErr};
+ghost use Rattle.std.specs.Option.{option_copied};
 ghost use Rattle.pk_base.specs.Entry.{Entry as EntrySpec, Place};
 ghost use Rattle.pk_base.specs.Key.{Key as KeySpec};
 ghost use Rattle.pk_base.specs.Page.{Flash};
@@ -9,9 +10,9 @@ ghost use Rattle.pk_nand.specs.declared.types.Fault.TheVariants.{Reading};
 ghost use Rattle.pk_pin.specs.Frames.{Frames};
 ghost use Rattle.pk_run.specs.Kept.{Kept};
 ghost use Rattle.pk_level.specs.Levels.{StandEach};
-ghost use Rattle.pk_walk.specs.declared.position.Position.TheVariants.{First, From};
+ghost use Rattle.pk_walk.specs.declared.position.Position.TheVariants.{First};
 ghost use Rattle.pk_walk.specs.Visible.{is_wanted, first_of, visible, wanted};
-ghost use Rattle.pk_walk.specs.Walking.{FollowEach, Gives, IsLeft, IsWalk, Passes, Reads, ReadsFail, AreOfShape, all_left, begun, most_read, pages_read};
+ghost use Rattle.pk_walk.specs.Walking.{FollowEach, Gives, IsLeft, IsWalk, Passes, Reads, ReadsFail, AreOfShape, all_left, begun, first_position, most_read, pages_read};
 
 use crate::buffers::{first_in, least};
 use crate::cursors::Cursors;
@@ -50,6 +51,8 @@ impl<A: Region> Walk<A> {
     pub fn new(alloc: A, shape: Shape) -> Result<Walk<A>, AllocError>
         ensures shape { IfOk result (λ w. w.shape ≡ shape) }
         ensures begun { IfOk result (λ w. w ≡ begun w First) }
+        ensures left { IfOk result (λ w. (flash : Flash) (arena : Frames) (runs : List Kept) (active frozen : List EntrySpec) (ess : List (List EntrySpec)) → StandEach flash arena runs ess → IsLeft w flash arena runs active frozen (visible (active ∷ frozen ∷ ess))) }
+        ensures none_read { IfOk result (λ w. (runs : List Kept) → pages_read runs w.cursors ≡ 0) }
     {
         let cursors = Cursors::new(alloc, shape)?;
         cursors.known();
@@ -69,7 +72,9 @@ impl<A: Region> Walk<A> {
 
     /// Begins a walk at the first key that is not below this one, or at the first of all.
     pub fn start(&mut self, from: Option<&Key>)
-        ensures begun { MatchOption from (self.new ≡ begun self.old First) (λ key. self.new ≡ begun self.old (From key.now)) }
+        ensures begun { self.new ≡ begun self.old (first_position (option_copied from.entry)) }
+        ensures left { (flash : Flash) (arena : Frames) (runs : List Kept) (active frozen : List EntrySpec) (ess : List (List EntrySpec)) → StandEach flash arena runs ess → IsLeft self.new flash arena runs active frozen (wanted (is_wanted self.new.position) (visible (active ∷ frozen ∷ ess))) }
+        ensures none_read { (runs : List Kept) → pages_read runs self.new.cursors ≡ 0 }
     {
         self.cursors.restart();
         match from {
@@ -104,7 +109,15 @@ impl<A: Region> Walk<A> {
         ensures same { (B.state board.new).pages ≡ (B.state board.old).pages }
         ensures ready { IsReady (B.state board.new) levels.now.shape }
     {
-        match least_of_all(&mut self.cursors, &self.position, board, arena, levels, active, frozen) {
+        match least_of_all(
+            &mut self.cursors,
+            &self.position,
+            board,
+            arena,
+            levels,
+            active,
+            frozen,
+        ) {
             Ok(Some(entry)) => {
                 self.position = Position::Above(entry.key().copy());
                 Ok(Some(entry))

@@ -1,5 +1,3 @@
-use Rattle.std.proofs.Common.{◌≡◌, ◌*◌, ℕ, sym, subst, List, drop}
-use Rattle.pk_walk.specs.Visible.{wanted}
 use Rattle.pk_walk.proofs.Following.{page_begins}
 use Rattle.pk_walk.proofs.begin.page_start.Goals as goal
 

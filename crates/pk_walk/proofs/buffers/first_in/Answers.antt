@@ -1,4 +1,4 @@
-use Rattle.std.proofs.Common.{◌≡◌, ◌∙◌, ap, slice_get}
+use Rattle.std.proofs.Common.{◌∙◌, ap, slice_get}
 use Rattle.pk_walk.proofs.Wanting.{first_of_all, first_from}
 use Rattle.pk_walk.proofs.buffers.first_in.Goals as goal
 

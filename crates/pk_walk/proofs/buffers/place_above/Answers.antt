@@ -1,4 +1,4 @@
-use Rattle.std.proofs.Common.{◌≡◌, ap, sym, ◌∙◌, arith}
+use Rattle.std.proofs.Common.{sym, ◌∙◌, arith}
 use Rattle.pk_walk.proofs.Wanting.{above_here, above_not_here, above_past}
 use Rattle.pk_walk.proofs.buffers.place_above.Goals as goal
 

@@ -1,4 +1,4 @@
-use Rattle.std.proofs.Common.{◌≡◌, ap, sym, ◌∙◌}
+use Rattle.std.proofs.Common.{ap, sym, ◌∙◌}
 use Rattle.pk_walk.specs.Visible.{is_wanted}
 use Rattle.pk_walk.proofs.Seeking.{Seeking-start, Seeking-looked, Seeking-found, Seeking-passed, head_looked, Reads-more}
 use Rattle.pk_walk.proofs.seek.seek.Goals as goal
@@ -26,7 +26,7 @@ loop-cursor-preserved g c =
     let now = g.B.Nand.state c.loop-cursor.board in
     let not_one = sym (c.wants.ensures ∙ ap (is_wanted c.args.position.now) c.key.ensures) ∙ c.if-wants.false in
     let looked = Seeking-looked c.args.run.now c.args.arena.now c.args.position.now old c.args.cursor.now now c.loop-cursor.cursor c.loop-cursor.invariant.seeking
-        (g.B.Nand.state c.head.new.board) c.head.new.self c.in-Ok.ensures.place c.in-Ok.ensures.follows c.in-Ok.ensures.reads in
+    (g.B.Nand.state c.head.new.board) c.head.new.self c.in-Ok.ensures.place c.in-Ok.ensures.follows c.in-Ok.ensures.reads in
     let head = head_looked c.args.run.now c.args.arena.now c.args.position.now old c.args.cursor.now now c.loop-cursor.cursor c.loop-cursor.invariant.seeking c.head.new.self c.in-Ok.entry c.in-Ok.ensures.place c.in-Ok.ensures.head in
     record {
       ready = c.in-Ok.ensures.ready;

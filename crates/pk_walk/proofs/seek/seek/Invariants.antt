@@ -1,4 +1,4 @@
-use Rattle.std.proofs.Common.{◌≡◌, ℕ, ◌-◌}
+use Rattle.std.proofs.Common.{◌-◌}
 use Rattle.pk_nand.specs.Calls.{IsReady}
 use Rattle.pk_walk.proofs.Seeking.{Seeking}
 use Rattle.pk_walk.proofs.seek.seek.Given as goal

@@ -1,4 +1,4 @@
-use Rattle.std.proofs.Common.{◌≡◌, ap, ◌∙◌, option_map}
+use Rattle.std.proofs.Common.{ap, ◌∙◌, option_map}
 use Rattle.pk_base.specs.Seen.{entry as seen}
 use Rattle.pk_walk.specs.Visible.{lesser}
 use Rattle.pk_walk.proofs.Walks.{least_is}

@@ -1,5 +1,4 @@
 use Rattle.pk_walk.proofs.Following.{Follows-begun}
-use Rattle.pk_walk.specs.Walking.{Cursor, Follows}
 use Rattle.pk_walk.proofs.cursor.Cursor.begin.Goals as goal
 
 pub returns-then-self-eq0-clause-follows : goal.returns-then-self-eq0-clause-follows

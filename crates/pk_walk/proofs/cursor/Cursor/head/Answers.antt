@@ -1,7 +1,7 @@
-use Rattle.std.proofs.Common.{◌≡◌, ℕ, ◌/◌, ◌%◌, suc, ap, sym, subst, ◌∙◌, List}
+use Rattle.std.proofs.Common.{◌≡◌, ℕ, ◌/◌, suc, ap, sym, subst, ◌∙◌, List}
 use Rattle.pk_base.specs.Shape.{Shape, page_entries}
 use Rattle.pk_base.specs.Page.{page_at, whole}
-use Rattle.pk_meta.specs.Page.{Decodes, IsMetaPage}
+use Rattle.pk_meta.specs.Page.{Decodes}
 use Rattle.pk_run.specs.Kept.{page_of}
 use Rattle.pk_walk.specs.Walking.{Cursor, Follows}
 use Rattle.pk_walk.proofs.Following.{Follows-loaded, page_exists, holds, entry_within, entry_there}

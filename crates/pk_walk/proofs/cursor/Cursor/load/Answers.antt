@@ -1,4 +1,4 @@
-use Rattle.std.proofs.Common.{◌≡◌, ap, sym, ◌∙◌, arith, suc, ◌≤◌, ◌+◌}
+use Rattle.std.proofs.Common.{ap, arith, ◌≤◌}
 use Rattle.pk_walk.specs.Walking.{Cursor}
 use Rattle.pk_walk.proofs.Following.{looked}
 use Rattle.pk_walk.proofs.cursor.Cursor.load.Goals as goal

@@ -1,4 +1,4 @@
-use Rattle.std.proofs.Common.{◌≡◌, refl, ap, sym, ◌∙◌, arith, List, [], ◌∷◌, Some, option_map}
+use Rattle.std.proofs.Common.{refl, ap, sym, ◌∙◌, arith, [], ◌∷◌, Some, option_map}
 use Rattle.pk_base.specs.Seen.{entry as seen}
 use Rattle.pk_run.specs.Kept.{Kept}
 use Rattle.pk_walk.specs.Visible.{lesser}

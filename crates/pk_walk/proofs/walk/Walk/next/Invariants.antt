@@ -1,4 +1,3 @@
-use Rattle.std.proofs.Common.{◌≡◌, ℕ}
 use Rattle.pk_walk.proofs.Walks.{Walking, many_left}
 use Rattle.pk_walk.proofs.walk.Walk.next.Given as goal
 

@@ -1,4 +1,4 @@
-use Rattle.std.proofs.Common.{◌≡◌, ap, sym, subst, ◌∙◌, List, ◌∷◌, Some}
+use Rattle.std.proofs.Common.{ap, sym, subst, ◌∙◌, List, ◌∷◌, Some}
 use Rattle.pk_base.specs.Key.{Key}
 use Rattle.pk_base.specs.Entry.{Entry, key_of}
 use Rattle.pk_base.specs.Seen.{entry as seen}
