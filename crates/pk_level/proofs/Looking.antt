@@ -42,7 +42,7 @@ entries_at (xs ∷ ess) (suc i) es got = entries_at ess i es got
 
 -- ---- runs that stand
 
-stands_at : (flash : Flash) (arena : Frames) (rs : List Kept) (ess : List (List Entry)) (i : ℕ) (r : Kept) → StandEach flash arena rs ess → slice_get rs i ≡ Some r
+pub stands_at : (flash : Flash) (arena : Frames) (rs : List Kept) (ess : List (List Entry)) (i : ℕ) (r : Kept) → StandEach flash arena rs ess → slice_get rs i ≡ Some r
     → (es : List Entry) × (slice_get ess i ≡ Some es) × Stands r flash arena es
 stands_at flash arena [] [] i r each got = cc
 stands_at flash arena [] (es ∷ ess) i r each got = absurd each
@@ -93,7 +93,7 @@ counted_more : (k m n : ℕ) → counted_by k (counted_by m n) ≡ counted_by (k
 counted_more zero m n = let e : m ≡ 0 + m = omega arith in ap (λ (j : ℕ). counted_by j n) e
 counted_more (suc k) m n = ap counted (counted_more k m n) ∙ (let e : suc (k + m) ≡ suc k + m = omega arith in ap (λ (j : ℕ). counted_by j n) e)
 
-reads_more : (k m : ℕ) (old : BoardState) → after_reads k (after_reads m old) ≡ after_reads (k + m) old
+pub reads_more : (k m : ℕ) (old : BoardState) → after_reads k (after_reads m old) ≡ after_reads (k + m) old
 reads_more k m old = ap (λ (n : ℕ). record old { reads = n }) (counted_more k m old.reads)
 
 look_by : (leases : List ℕ) (n p : ℕ) (now next : BoardState) → p < n → next ≡ after_look leases now → (k : ℕ) × (k ≤ reads_by n (length leases)) × (next ≡ after_reads k now)

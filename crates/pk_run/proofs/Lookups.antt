@@ -22,7 +22,7 @@ use Rattle.pk_run.proofs.Orders.{find_piece, find_nowhere, absent, present, sort
 use Rattle.pk_run.proofs.Pieces.{HasPiece, pieces, share}
 
 -- an entry that is the first of a page has the page's first key
-first_is : (r : Kept) (flash : Flash) (arena : Frames) (es : List Entry) → IsShape r.shape → Stands r flash arena es → (j : ℕ) (e : Entry) → slice_get es (j * page_entries r.shape) ≡ Some e
+pub first_is : (r : Kept) (flash : Flash) (arena : Frames) (es : List Entry) → IsShape r.shape → Stands r flash arena es → (j : ℕ) (e : Entry) → slice_get es (j * page_entries r.shape) ≡ Some e
     → slice_get r.firsts j ≡ Some (key_of e)
 first_is r flash arena es is s j e got =
     let size : ℕ = page_entries r.shape in
@@ -50,7 +50,7 @@ module _ (r : Kept) (flash : Flash) (arena : Frames) (es : List Entry) (is : IsS
   piece p = take size (drop (p * size) es)
 
   -- a page of the run has a first entry
-  page_starts : (p : ℕ) → p < length r.firsts → p * size < length es
+  pub page_starts : (p : ℕ) → p < length r.firsts → p * size < length es
   page_starts p h =
       let page : 512 ≤ r.shape.page_bytes = is.page_least in
       let some : 0 < size = omega arith in

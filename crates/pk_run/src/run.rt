@@ -7,7 +7,7 @@ ghost use Rattle.pk_nand.specs.Calls.{IsReady, after_read, ReadFailed};
 ghost use Rattle.pk_nand.specs.declared.types.Fault.TheVariants.{Reading};
 ghost use Rattle.pk_pin.specs.Frames.{Frames};
 ghost use Rattle.pk_run.specs.Kept.{Kept, IsKept, IsPinned, Stands, IsNext, empty, page_of, most_pages, most_blocks, with_page, after_look};
-ghost use Rattle.pk_run.specs.Search.{IsFound, IsPageFor, Looks};
+ghost use Rattle.pk_run.specs.Search.{IsBeforeAll, IsFound, IsPageFor, Looks};
 
 use crate::search::page_for;
 use pk_base::{Entry, Key, Shape};
@@ -186,6 +186,18 @@ impl<A: Allocator> Run<A> {
         ensures none { IsNone result → self.new ≡ self.old }
     {
         self.leases.pop()
+    }
+
+    /// The page that may have the key: it begins at or before the key, and the next one above it. None where no page begins at or
+    /// before the key.
+    pub fn page_for(&self, key: &Key) -> Option<u32>
+        ensures { MatchOption result (IsBeforeAll key.now self.now.firsts) (λ p. IsPageFor key.now self.now.firsts p) }
+    {
+        self.known();
+        match page_for(&self.firsts, key) {
+            None => None,
+            Some(i) => Some(i as u32),
+        }
     }
 
     /// The entry of the key. A page is looked at only where it begins at or before the key and the next one above it, and it is

@@ -1,0 +1,141 @@
+-- A cursor in a run: the page of its place, the entry at it, and what its moves leave.
+use Rattle.std.proofs.Common.{◌≡◌, ℕ, zero, suc, ◌+◌, ◌-◌, ◌*◌, ◌/◌, ◌%◌, ◌<◌, ◌≤◌, min, refl, sym, ap, subst, ◌∙◌, arith, Bool, false, T, List, [], ◌∷◌, length, take, drop, slice_get, Some, div-lt_iff_lt-mul}
+use Rattle.std.proofs.lemmas.Nat.{div-add-mod', le-div}
+use Rattle.std.proofs.lemmas.List.{length-take, length-drop}
+use Rattle.std.proofs.Math.Nat.{mod-lt}
+use Rattle.pk_base.specs.Key.{Key}
+use Rattle.pk_base.specs.Shape.{Shape, IsShape, page_entries}
+use Rattle.pk_base.specs.Entry.{Entry, key_of}
+use Rattle.pk_base.specs.Fields.{number_at}
+use Rattle.pk_base.specs.Page.{Flash, page_at, whole}
+use Rattle.pk_meta.specs.Page.{IsMetaPage}
+use Rattle.pk_meta.proofs.PageLemmas.{meta_again}
+use Rattle.pk_nand.specs.BoardState.{BoardState}
+use Rattle.pk_pin.specs.Frames.{Frames}
+use Rattle.pk_run.specs.Kept.{Kept, IsKept, Stands, page_of, after_look}
+use Rattle.pk_run.specs.Search.{IsPageFor}
+use Rattle.pk_run.proofs.Lookups.{first_is, page_starts, holds_piece}
+use Rattle.pk_walk.specs.declared.position.Position.{Position}
+use Rattle.pk_walk.specs.declared.position.Position.TheVariants.{Above}
+use Rattle.pk_walk.specs.Visible.{is_wanted, wanted, WantsFrom}
+use Rattle.pk_walk.specs.Walking.{Cursor, Follows, Reads, at_start, read_of}
+use Rattle.pk_walk.proofs.Wanting.{begun_at, passed_by, narrowed_behind, above_is_narrower}
+
+-- ---- numbers
+
+pub entries_some : (shape : Shape) → IsShape shape → 0 < page_entries shape
+entries_some shape is = let page : 512 ≤ shape.page_bytes = is.page_least in omega arith
+
+-- the page of a later place is not an earlier one
+later_page : (place size : ℕ) → 0 < size → place / size ≤ suc place / size
+later_page place size some = le-div (place / size) (suc place) size some (let e = div-add-mod' place size in omega (arith, e))
+
+-- the page of a place in the run exists
+pub page_exists : (r : Kept) (place : ℕ) → IsShape r.shape → IsKept r → place < r.count → place / page_entries r.shape < length r.firsts
+page_exists r place is kept h = (div-lt_iff_lt-mul (entries_some r.shape is)).1 (omega (arith, h, kept.entries))
+
+-- ---- the entry at a place
+
+get_taken : (es : List Entry) (n i : ℕ) (e : Entry) → slice_get (take n es) i ≡ Some e → slice_get es i ≡ Some e
+get_taken [] zero i e got = cc
+get_taken [] (suc n) i e got = cc
+get_taken (x ∷ es) zero i e got = cc
+get_taken (x ∷ es) (suc n) zero e got = got
+get_taken (x ∷ es) (suc n) (suc i) e got = get_taken es n i e got
+
+get_dropped : (es : List Entry) (n i : ℕ) → slice_get (drop n es) i ≡ slice_get es (n + i)
+get_dropped es zero i = ap (slice_get es) (let e : i ≡ 0 + i = omega arith in e)
+get_dropped [] (suc n) i = refl
+get_dropped (x ∷ es) (suc n) i = get_dropped es n i ∙ ap (slice_get (x ∷ es)) (let e : suc (n + i) ≡ suc n + i = omega arith in e)
+
+module _ (r : Kept) (flash : Flash) (arena : Frames) (es : List Entry) (is : IsShape r.shape) (kept : IsKept r) (place : ℕ) (inside : place < r.count) where
+  abbrev size : ℕ
+  size = page_entries r.shape
+
+  abbrev piece : List Entry
+  piece = take size (drop (place / size * size) es)
+
+  -- the page of the place holds its piece
+  pub holds : Stands r flash arena es → (bytes : List ℕ) → page_at flash (page_of r (place / size)) ≡ whole bytes → IsMetaPage r.shape bytes r.level (place / size) piece
+  holds s bytes here = holds_piece r flash arena es is s kept (place / size) bytes (page_exists r place is kept inside) here
+
+  -- and more entries than the place has before it there
+  pub entry_within : Stands r flash arena es → (bytes : List ℕ) → page_at flash (page_of r (place / size)) ≡ whole bytes → place % size < number_at 2 10 bytes
+  entry_within s bytes here =
+      let own = meta_again r.shape bytes r.level (place / size) piece is (holds s bytes here) in
+      let long = length-take size (drop (place / size * size) es) in
+      let left = length-drop (place / size * size) es in
+      let low = mod-lt place (entries_some r.shape is) in
+      let at = div-add-mod' place size in
+      let count : number_at 2 10 bytes ≡ min size (length es - place / size * size) = own.count_is ∙ long ∙ ap (min size) left in
+      rw count (omega (arith, low, at, inside, s.many))
+
+  -- the entry at the place in its page is the one at the place in the run
+  pub entry_there : (e : Entry) → slice_get piece (place % size) ≡ Some e → slice_get es place ≡ Some e
+  entry_there e got =
+      ap (slice_get es) (sym (div-add-mod' place size)) ∙ sym (get_dropped es (place / size * size) (place % size)) ∙ get_taken (drop (place / size * size) es) size (place % size) e got
+
+-- ---- moves of a cursor
+
+module _ (flash : Flash) (r : Kept) (es : List Entry) (position : Position) (c : Cursor) (is : IsShape r.shape) (f : Follows flash r es position c) where
+  abbrev page : ℕ → ℕ
+  page place = place / page_entries r.shape
+
+  -- it has come past the page of its place
+  pub Follows-loaded : (bytes : List ℕ) → page c.place < length r.firsts → page_at flash (page_of r (page c.place)) ≡ whole bytes → Follows flash r es position (record c { loaded = suc (page c.place); bytes = bytes })
+  Follows-loaded bytes exists here = record { pages = exists; behind = omega arith; holds = λ e. here; left = f.left }
+
+  -- it has not
+  pub Follows-kept : (bytes : List ℕ) → c.loaded ≤ page c.place → Follows flash r es position (record c { bytes = bytes })
+  Follows-kept bytes before = record { pages = f.pages; behind = f.behind; holds = λ e. absurd (omega (arith, before, e)); left = f.left }
+
+  -- it is put to where the walk begins
+  pub Follows-begun : (place : ℕ) → c.loaded ≡ 0 → wanted (is_wanted position) es ≡ wanted (is_wanted position) (drop place es) → Follows flash r es position (record c { place = place })
+  Follows-begun place none left = record { pages = f.pages; behind = omega (arith, none); holds = λ e. absurd (omega (arith, none, e)); left = left }
+
+  -- it goes behind an entry that is not wanted
+  pub Follows-passed : (e : Entry) → slice_get es c.place ≡ Some e → is_wanted position e.0 ≡ false → Follows flash r es position (record c { place = suc c.place })
+  Follows-passed e got not_one =
+      let later = later_page c.place (page_entries r.shape) (entries_some r.shape is) in
+      let behind = f.behind in
+      record {
+        pages = f.pages;
+        behind = omega (arith, behind, later);
+        holds = λ loaded.
+            let same : page (suc c.place) ≡ page c.place = omega (arith, loaded, later, behind) in
+            subst (λ (p : ℕ). page_at flash (page_of r p) ≡ whole c.bytes) (sym same) (f.holds (omega (arith, loaded, same)));
+        left = passed_by (is_wanted position) es c.place e got not_one f.left;
+      }
+
+-- fewer keys are wanted
+pub Follows-above : (flash : Flash) (r : Kept) (es : List Entry) (position : Position) (c : Cursor) → Follows flash r es position c → (key : Key) → T (is_wanted position key) → Follows flash r es (Above key) c
+Follows-above flash r es position c f key one = record {
+  pages = f.pages;
+  behind = f.behind;
+  holds = f.holds;
+  left = narrowed_behind (is_wanted (Above key)) (is_wanted position) es c.place (above_is_narrower position key one) f.left;
+}
+
+-- at the start it follows any run
+pub Follows-start : (flash : Flash) (r : Kept) (es : List Entry) (position : Position) (c : Cursor) → Follows flash r es position (at_start c)
+Follows-start flash r es position c = record { pages = omega arith; behind = omega arith; holds = λ e. absurd (omega (arith, e)); left = refl }
+
+-- ---- where a walk begins in a run
+
+pub page_begins : (r : Kept) (flash : Flash) (arena : Frames) (es : List Entry) (w : Key → Bool) (key : Key) (p : ℕ) → IsShape r.shape → WantsFrom w key → IsPageFor key r.firsts p → Stands r flash arena es
+    → wanted w es ≡ wanted w (drop (p * page_entries r.shape) es)
+page_begins r flash arena es w key p is from for_key s =
+    let starts = page_starts r flash arena es is s p for_key.exists in
+    let got = there es (p * page_entries r.shape) starts in
+    begun_at w key es (p * page_entries r.shape) got.0 from s.rising got.1 (for_key.here (key_of got.0) (first_is r flash arena es is s p got.0 got.1))
+  where
+    there : (es : List Entry) (n : ℕ) → n < length es → (e : Entry) × (slice_get es n ≡ Some e)
+    there [] n h = absurd (omega (arith, h))
+    there (x ∷ es) zero h = (x, refl)
+    there (x ∷ es) (suc n) h = there es n (omega (arith, h))
+
+-- ---- reads
+
+pub looked : (leases : List ℕ) (loaded p : ℕ) (old new : BoardState) → loaded ≤ p → new ≡ after_look leases old → Reads (read_of leases loaded) (read_of leases (suc p)) old new
+looked [] loaded p old new h e = (1, omega (arith, h), e)
+looked (l ∷ leases) loaded p old new h e = (0, omega arith, e)

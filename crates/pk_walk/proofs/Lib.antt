@@ -1,0 +1,6 @@
+pub mod Merging
+pub mod Wanting
+pub mod Following
+pub mod Seeking
+pub mod Rows
+pub mod Walks

@@ -1,0 +1,205 @@
+-- A search through the runs, one after another, with a cursor in each.
+use Rattle.std.proofs.Common.{◌≡◌, ℕ, zero, suc, ◌+◌, ◌-◌, ◌<◌, refl, sym, ap, subst, ◌∙◌, arith, List, [], ◌∷◌, length, slice_get, slice_set, slice_index_or, Option, Some, None}
+use Rattle.pk_base.specs.Shape.{Shape}
+use Rattle.pk_base.specs.Entry.{Entry}
+use Rattle.pk_base.specs.Page.{Flash}
+use Rattle.pk_nand.specs.BoardState.{BoardState}
+use Rattle.pk_nand.specs.Calls.{IsReady, ReadFailed}
+use Rattle.pk_nand.specs.Erased.{after_reads}
+use Rattle.pk_pin.specs.Frames.{Frames}
+use Rattle.pk_run.specs.Kept.{Kept, Stands, empty}
+use Rattle.pk_level.specs.Levels.{Levels, IsLevels, StandEach, run_of}
+use Rattle.pk_level.proofs.Looking.{stands_at, of_level_at, reads_more}
+use Rattle.pk_walk.specs.declared.position.Position.{Position}
+use Rattle.pk_walk.specs.Visible.{is_wanted, wanted, first_of, lesser, least_first}
+use Rattle.pk_walk.specs.Walking.{Cursor, AreOfShape, Follows, FollowEach, Reads, ReadsFail, read_of, pages_read}
+use Rattle.pk_walk.proofs.Seeking.{Reads-none, Reads-more, Reads-pages, one_list}
+
+same_run : (x y : Kept) → ◌≡◌ {A = Option Kept} (Some x) (Some y) → x ≡ y
+same_run x y e = cc
+
+same_cursor : (x y : Cursor) → ◌≡◌ {A = Option Cursor} (Some x) (Some y) → x ≡ y
+same_cursor x y e = cc
+
+same_list : (xs ys : List Entry) → ◌≡◌ {A = Option (List Entry)} (Some xs) (Some ys) → xs ≡ ys
+same_list xs ys e = cc
+
+-- ---- one of several
+
+follow_at : (flash : Flash) (position : Position) (rs : List Kept) (ess : List (List Entry)) (cs : List Cursor) (i : ℕ) (r : Kept) (es : List Entry) (c : Cursor)
+    → FollowEach flash rs ess position cs → slice_get rs i ≡ Some r → slice_get ess i ≡ Some es → slice_get cs i ≡ Some c → Follows flash r es position c
+follow_at flash position [] ess cs i r es c f er ee ec = cc
+follow_at flash position (x ∷ rs) [] cs i r es c f er ee ec = cc
+follow_at flash position (x ∷ rs) (ys ∷ ess) [] i r es c f er ee ec = cc
+follow_at flash position (x ∷ rs) (ys ∷ ess) (d ∷ cs) zero r es c f er ee ec =
+    subst (λ (q : Kept). Follows flash q es position c) (same_run x r er) (subst (λ (xs : List Entry). Follows flash x xs position c) (same_list ys es ee) (subst (Follows flash x ys position) (same_cursor d c ec) f.0))
+follow_at flash position (x ∷ rs) (ys ∷ ess) (d ∷ cs) (suc i) r es c f er ee ec = follow_at flash position rs ess cs i r es c f.1 er ee ec
+
+follow_set : (flash : Flash) (position : Position) (rs : List Kept) (ess : List (List Entry)) (cs : List Cursor) (i : ℕ) (r : Kept) (es : List Entry) (c : Cursor)
+    → FollowEach flash rs ess position cs → slice_get rs i ≡ Some r → slice_get ess i ≡ Some es → Follows flash r es position c → FollowEach flash rs ess position (slice_set cs i c)
+follow_set flash position [] ess cs i r es c f er ee now = tt
+follow_set flash position (x ∷ rs) [] cs i r es c f er ee now = tt
+follow_set flash position (x ∷ rs) (ys ∷ ess) [] i r es c f er ee now = tt
+follow_set flash position (x ∷ rs) (ys ∷ ess) (d ∷ cs) zero r es c f er ee now =
+    (subst (λ (q : Kept). Follows flash q ys position c) (sym (same_run x r er)) (subst (λ (xs : List Entry). Follows flash r xs position c) (sym (same_list ys es ee)) now), f.1)
+follow_set flash position (x ∷ rs) (ys ∷ ess) (d ∷ cs) (suc i) r es c f er ee now = (f.0, follow_set flash position rs ess cs i r es c f.1 er ee now)
+
+read_set : (rs : List Kept) (cs : List Cursor) (i : ℕ) (r : Kept) (c d : Cursor) → slice_get rs i ≡ Some r → slice_get cs i ≡ Some c
+    → pages_read rs (slice_set cs i d) + read_of r.leases c.loaded ≡ pages_read rs cs + read_of r.leases d.loaded
+read_set [] cs i r c d er ec = cc
+read_set (x ∷ rs) [] i r c d er ec = cc
+read_set (x ∷ rs) (y ∷ cs) zero r c d er ec =
+    let run = same_run x r er in
+    let own : read_of x.leases y.loaded ≡ read_of r.leases c.loaded = (λ j. read_of (run j).leases (same_cursor y c ec j).loaded) in
+    let other : read_of x.leases d.loaded ≡ read_of r.leases d.loaded = (λ j. read_of (run j).leases d.loaded) in
+    omega (arith, own, other)
+read_set (x ∷ rs) (y ∷ cs) (suc i) r c d er ec = let rest = read_set rs cs i r c d er ec in omega (arith, rest)
+
+shape_at : (shape : Shape) (cs : List Cursor) (i : ℕ) (c : Cursor) → AreOfShape shape cs → slice_get cs i ≡ Some c → c.shape ≡ shape
+shape_at shape [] i c are ec = cc
+shape_at shape (d ∷ cs) zero c are ec = ap (λ (x : Cursor). x.shape) (sym (same_cursor d c ec)) ∙ are.0
+shape_at shape (d ∷ cs) (suc i) c are ec = shape_at shape cs i c are.1 ec
+
+shape_set : (shape : Shape) (cs : List Cursor) (i : ℕ) (c : Cursor) → AreOfShape shape cs → c.shape ≡ shape → AreOfShape shape (slice_set cs i c)
+shape_set shape [] i c are is = tt
+shape_set shape (d ∷ cs) zero c are is = (is, are.1)
+shape_set shape (d ∷ cs) (suc i) c are is = (are.0, shape_set shape cs i c are.1 is)
+
+index_is : (rs : List Kept) (i : ℕ) (r : Kept) → i < length rs → slice_get rs i ≡ Some (slice_index_or rs i r)
+index_is [] i r h = absurd (omega (arith, h))
+index_is (x ∷ rs) zero r h = refl
+index_is (x ∷ rs) (suc i) r h = index_is rs i r (omega (arith, h))
+
+-- the run of a level
+pub level_is : (levels : Levels) (i : ℕ) → IsLevels levels → i < 4 → slice_get levels.runs i ≡ Some (run_of levels (suc i))
+level_is levels i is h =
+    let here : i ≡ suc i - 1 = omega arith in
+    index_is levels.runs i (empty levels.shape (suc i)) (omega (arith, h, is.four)) ∙ ap (λ (k : ℕ). Some (slice_index_or levels.runs k (empty levels.shape (suc i)))) here
+
+-- ---- the search
+
+-- the cursors follow the runs on the flash of old, and nothing was done but reads
+pub record Rows (levels : Levels) (arena : Frames) (position : Position) (old now : BoardState) (first cs : List Cursor) : Type 0 where
+  pub ess : List (List Entry)
+  pub stand : StandEach old.pages arena levels.runs ess
+  pub follow : FollowEach old.pages levels.runs ess position cs
+  pub shape : AreOfShape levels.shape cs
+  pub ready : IsReady now levels.shape
+  pub reads : Reads (pages_read levels.runs first) (pages_read levels.runs cs) old now
+
+pub Rows-start : (levels : Levels) (arena : Frames) (position : Position) (old : BoardState) (cs : List Cursor) (ess : List (List Entry)) → IsReady old levels.shape → AreOfShape levels.shape cs
+    → StandEach old.pages arena levels.runs ess → FollowEach old.pages levels.runs ess position cs → Rows levels arena position old old cs cs
+Rows-start levels arena position old cs ess ready shape stand follow = record { ess = ess; stand = stand; follow = follow; shape = shape; ready = ready; reads = Reads-none (pages_read levels.runs cs) old }
+
+module _ (levels : Levels) (arena : Frames) (position : Position) (old now : BoardState) (first cs : List Cursor) (at : Rows levels arena position old now first cs) where
+  abbrev same_pages : now.pages ≡ old.pages
+  same_pages = Reads-pages _ _ old now at.reads
+
+  -- the runs have one list each
+  pub one_each : (rs : List Kept) (flash : Flash) (xss yss : List (List Entry)) → StandEach flash arena rs xss → StandEach flash arena rs yss → xss ≡ yss
+  one_each [] flash [] [] s t = refl
+  one_each [] flash [] (ys ∷ yss) s t = absurd t
+  one_each [] flash (xs ∷ xss) yss s t = absurd s
+  one_each (r ∷ rs) flash [] yss s t = absurd s
+  one_each (r ∷ rs) flash (xs ∷ xss) [] s t = absurd t
+  one_each (r ∷ rs) flash (xs ∷ xss) (ys ∷ yss) s t = λ i. one_list r flash arena xs ys s.0 t.0 i ∷ one_each rs flash xss yss s.1 t.1 i
+
+  pub follow_any : (ess : List (List Entry)) → StandEach old.pages arena levels.runs ess → FollowEach old.pages levels.runs ess position cs
+  follow_any ess s = subst (λ (xss : List (List Entry)). FollowEach old.pages levels.runs xss position cs) (one_each levels.runs old.pages at.ess ess at.stand s) at.follow
+
+  module _ (i : ℕ) (r : Kept) (c : Cursor) (run_is : slice_get levels.runs i ≡ Some r) (cursor_is : slice_get cs i ≡ Some c) where
+    -- what the search in one run asks
+    pub row_ready : IsLevels levels → IsReady now r.shape
+    row_ready is = subst (IsReady now) (sym (of_level_at levels.shape levels.pinned 1 levels.runs i r is.each run_is).same_shape) at.ready
+
+    pub row_shape : IsLevels levels → c.shape ≡ r.shape
+    row_shape is = shape_at levels.shape cs i c at.shape cursor_is ∙ sym (of_level_at levels.shape levels.pinned 1 levels.runs i r is.each run_is).same_shape
+
+    own : (es : List Entry) × (slice_get at.ess i ≡ Some es) × Stands r old.pages arena es
+    own = stands_at old.pages arena levels.runs at.ess i r at.stand run_is
+
+    pub row_follows : (es : List Entry) × Stands r now.pages arena es × Follows now.pages r es position c
+    row_follows =
+        let back = sym same_pages in (
+          own.0,
+          subst (λ (flash : Flash). Stands r flash arena own.0) back own.2,
+          subst (λ (flash : Flash). Follows flash r own.0 position c) back (follow_at old.pages position levels.runs at.ess cs i r own.0 c at.follow run_is own.1 cursor_is),
+        )
+
+    -- what it leaves
+    module _ (next : BoardState) (d : Cursor) (moved : (es : List Entry) → Stands r now.pages arena es → Follows now.pages r es position d) (same : d.shape ≡ c.shape) where
+      follow_next : FollowEach old.pages levels.runs at.ess position (slice_set cs i d)
+      follow_next =
+          let there = moved own.0 (subst (λ (flash : Flash). Stands r flash arena own.0) (sym same_pages) own.2) in
+          follow_set old.pages position levels.runs at.ess cs i r own.0 d at.follow run_is own.1 (subst (λ (flash : Flash). Follows flash r own.0 position d) same_pages there)
+
+      shape_next : AreOfShape levels.shape (slice_set cs i d)
+      shape_next = shape_set levels.shape cs i d at.shape (same ∙ shape_at levels.shape cs i c at.shape cursor_is)
+
+      pub Rows-next : IsLevels levels → IsReady next r.shape → Reads (read_of r.leases c.loaded) (read_of r.leases d.loaded) now next → Rows levels arena position old next first (slice_set cs i d)
+      Rows-next is ready reads =
+          let e = read_set levels.runs cs i r c d run_is cursor_is in
+          let more : Reads (pages_read levels.runs cs) (pages_read levels.runs (slice_set cs i d)) now next = (reads.0, (let h = reads.1 in omega (arith, e, h)), reads.2) in
+          record {
+            ess = at.ess;
+            stand = at.stand;
+            follow = follow_next;
+            shape = shape_next;
+            ready = subst (IsReady next) (of_level_at levels.shape levels.pinned 1 levels.runs i r is.each run_is).same_shape ready;
+            reads = Reads-more _ _ _ old now next at.reads more;
+          }
+
+      pub follow_failed : (ess : List (List Entry)) → StandEach old.pages arena levels.runs ess → FollowEach old.pages levels.runs ess position (slice_set cs i d)
+      follow_failed ess s = subst (λ (xss : List (List Entry)). FollowEach old.pages levels.runs xss position (slice_set cs i d)) (one_each levels.runs old.pages at.ess ess at.stand s) follow_next
+
+      pub shape_failed : AreOfShape levels.shape (slice_set cs i d)
+      shape_failed = shape_next
+
+      pub ready_failed : IsLevels levels → IsReady next r.shape → IsReady next levels.shape
+      ready_failed is ready = subst (IsReady next) (of_level_at levels.shape levels.pinned 1 levels.runs i r is.each run_is).same_shape ready
+
+      pub Rows-failed : ReadsFail (read_of r.leases c.loaded) (read_of r.leases d.loaded) now next → ReadsFail (pages_read levels.runs first) (pages_read levels.runs (slice_set cs i d)) old next
+      Rows-failed (k, page, few, failed) =
+          let e = read_set levels.runs cs i r c d run_is cursor_is in
+          let h = at.reads.1 in
+          let all = ap (λ (b : BoardState). after_reads k b) at.reads.2 ∙ reads_more k at.reads.0 old in
+          (k + at.reads.0, page, omega (arith, e, h, few), subst (λ (b : BoardState). ReadFailed b next page) all failed)
+
+    -- what one run has of any lists
+    pub row_found : (x : Option Entry) → ((es : List Entry) → Stands r now.pages arena es → x ≡ first_of (wanted (is_wanted position) es))
+        → (ess : List (List Entry)) → StandEach old.pages arena levels.runs ess → (es : List Entry) × (slice_get ess i ≡ Some es) × (x ≡ first_of (wanted (is_wanted position) es))
+    row_found x found ess s =
+        let there = stands_at old.pages arena levels.runs ess i r s run_is in
+        (there.0, there.1, found there.0 (subst (λ (flash : Flash). Stands r flash arena there.0) (sym same_pages) there.2))
+
+lesser_none : (a : Option Entry) → lesser a None ≡ a
+lesser_none None = refl
+lesser_none (Some x) = refl
+
+no_lists : (xs : List Entry) → ◌≡◌ {A = Option (List Entry)} None (Some xs) → ⊥
+no_lists xs e = cc
+
+-- the least of four lists
+pub least_of_four : (flash : Flash) (arena : Frames) (position : Position) (rs : List Kept) (ess : List (List Entry)) → length rs ≡ 4 → StandEach flash arena rs ess → (v w x y : Option Entry)
+    → (a : List Entry) × (slice_get ess 0 ≡ Some a) × (v ≡ first_of (wanted (is_wanted position) a))
+    → (b : List Entry) × (slice_get ess 1 ≡ Some b) × (w ≡ first_of (wanted (is_wanted position) b))
+    → (c : List Entry) × (slice_get ess 2 ≡ Some c) × (x ≡ first_of (wanted (is_wanted position) c))
+    → (d : List Entry) × (slice_get ess 3 ≡ Some d) × (y ≡ first_of (wanted (is_wanted position) d))
+    → lesser v (lesser w (lesser x y)) ≡ least_first (is_wanted position) ess
+least_of_four flash arena position (r1 ∷ r2 ∷ r3 ∷ r4 ∷ []) (a ∷ b ∷ c ∷ d ∷ []) four s v w x y p q o z =
+    let f : List Entry → Option Entry = λ es. first_of (wanted (is_wanted position) es) in
+    let one = p.2 ∙ ap f (sym (same_list a p.0 p.1)) in
+    let two = q.2 ∙ ap f (sym (same_list b q.0 q.1)) in
+    let three = o.2 ∙ ap f (sym (same_list c o.0 o.1)) in
+    let last = z.2 ∙ ap f (sym (same_list d z.0 z.1)) ∙ sym (lesser_none (f d)) in
+    λ i. lesser (one i) (lesser (two i) (lesser (three i) (last i)))
+least_of_four flash arena position (r1 ∷ r2 ∷ r3 ∷ r4 ∷ []) (a ∷ b ∷ c ∷ d ∷ e ∷ ess) four s v w x y p q o z = absurd s.1.1.1.1
+least_of_four flash arena position rs [] four s v w x y p q o z = absurd (no_lists p.0 p.1)
+least_of_four flash arena position rs (a ∷ []) four s v w x y p q o z = absurd (no_lists q.0 q.1)
+least_of_four flash arena position rs (a ∷ b ∷ []) four s v w x y p q o z = absurd (no_lists o.0 o.1)
+least_of_four flash arena position rs (a ∷ b ∷ c ∷ []) four s v w x y p q o z = absurd (no_lists z.0 z.1)
+least_of_four flash arena position [] (a ∷ b ∷ c ∷ d ∷ ess) four s v w x y p q o z = absurd (omega (arith, four))
+least_of_four flash arena position (r1 ∷ []) (a ∷ b ∷ c ∷ d ∷ ess) four s v w x y p q o z = absurd (omega (arith, four))
+least_of_four flash arena position (r1 ∷ r2 ∷ []) (a ∷ b ∷ c ∷ d ∷ ess) four s v w x y p q o z = absurd (omega (arith, four))
+least_of_four flash arena position (r1 ∷ r2 ∷ r3 ∷ []) (a ∷ b ∷ c ∷ d ∷ ess) four s v w x y p q o z = absurd (omega (arith, four))
+least_of_four flash arena position (r1 ∷ r2 ∷ r3 ∷ r4 ∷ r5 ∷ rs) (a ∷ b ∷ c ∷ d ∷ ess) four s v w x y p q o z = absurd (omega (arith, four))

@@ -1,0 +1,121 @@
+-- A search in a run for the first wanted entry: what holds at each step of it, and what it finds.
+use Rattle.std.proofs.Common.{◌≡◌, ℕ, suc, ◌+◌, ◌≤◌, refl, sym, ap, subst, ◌∙◌, arith, true, false, List, slice_get, Some, None, Result, Ok}
+use Rattle.pk_base.specs.Shape.{IsShape}
+use Rattle.pk_base.specs.Entry.{Entry, key_of}
+use Rattle.pk_base.specs.Seen.{entry as seen}
+use Rattle.pk_base.specs.declared.entry.Entry.{Entry as RustEntry}
+use Rattle.pk_base.specs.Refusal.{Refusal}
+use Rattle.pk_base.specs.Page.{Flash}
+use Rattle.pk_nand.specs.BoardState.{BoardState}
+use Rattle.pk_nand.specs.Calls.{ReadFailed}
+use Rattle.pk_nand.specs.Erased.{after_reads}
+use Rattle.pk_pin.specs.Frames.{Frames}
+use Rattle.pk_run.specs.Kept.{Kept, Stands}
+use Rattle.pk_level.proofs.Looking.{reads_more}
+use Rattle.pk_walk.specs.declared.position.Position.{Position}
+use Rattle.pk_walk.specs.Visible.{is_wanted, wanted, first_of}
+use Rattle.pk_walk.specs.Walking.{Cursor, Follows, Reads, ReadsFail, read_of}
+use Rattle.pk_walk.proofs.Wanting.{first_here, none_here}
+use Rattle.pk_walk.proofs.Following.{Follows-passed}
+
+-- ---- reads
+
+pub Reads-none : (n : ℕ) (old : BoardState) → Reads n n old old
+Reads-none n old = (0, omega arith, refl)
+
+pub Reads-more : (a b c : ℕ) (old now next : BoardState) → Reads a b old now → Reads b c now next → Reads a c old next
+Reads-more a b c old now next first more =
+    (more.0 + first.0, omega (arith, first.1, more.1), more.2 ∙ ap (λ (x : BoardState). after_reads more.0 x) first.2 ∙ reads_more more.0 first.0 old)
+
+pub Reads-failed : (a b : ℕ) (old now next : BoardState) (page : ℕ) → Reads a b old now → ReadFailed now next page → ReadsFail a b old next
+Reads-failed a b old now next page first failed = (first.0, page, first.1, subst (λ (x : BoardState). ReadFailed x next page) first.2 failed)
+
+pub Reads-pages : (a b : ℕ) (old now : BoardState) → Reads a b old now → now.pages ≡ old.pages
+Reads-pages a b old now reads = ap (λ (x : BoardState). x.pages) reads.2
+
+-- ---- a run has one list of entries
+
+same_ok : (xs ys : List Entry) → ◌≡◌ {A = Result (List Entry) Refusal} (Ok xs) (Ok ys) → xs ≡ ys
+same_ok xs ys e = cc
+
+pub one_list : (r : Kept) (flash : Flash) (arena : Frames) (xs ys : List Entry) → Stands r flash arena xs → Stands r flash arena ys → xs ≡ ys
+one_list r flash arena xs ys s t = same_ok xs ys (sym s.read ∙ t.read)
+
+-- ---- the search
+
+pub record Seeking (r : Kept) (arena : Frames) (position : Position) (old now : BoardState) (first c : Cursor) : Type 0 where
+  pub es : List Entry
+  pub stands : Stands r old.pages arena es
+  pub follows : Follows old.pages r es position c
+  pub shape : c.shape ≡ first.shape
+  pub reads : Reads (read_of r.leases first.loaded) (read_of r.leases c.loaded) old now
+
+module _ (r : Kept) (arena : Frames) (position : Position) (old : BoardState) (first : Cursor) where
+  pub Seeking-start : (c : Cursor) (es : List Entry) → Stands r old.pages arena es → Follows old.pages r es position first
+      → ((flash : Flash) (arena : Frames) (es : List Entry) → Stands r flash arena es → Follows flash r es position first → Follows flash r es position c)
+      → c ≡ record first { place = c.place } → Seeking r arena position old old first c
+  Seeking-start c es s f begun same = record {
+    es = es;
+    stands = s;
+    follows = begun old.pages arena es s f;
+    shape = ap (λ (x : Cursor). x.shape) same;
+    reads = (0, (let e = ap (λ (x : Cursor). read_of r.leases x.loaded) same in omega (arith, e)), refl);
+  }
+
+  module _ (now : BoardState) (c : Cursor) (at : Seeking r arena position old now first c) where
+    pub stands_now : Stands r now.pages arena at.es
+    stands_now = subst (λ (flash : Flash). Stands r flash arena at.es) (sym (Reads-pages _ _ old now at.reads)) at.stands
+
+    pub follows_now : Follows now.pages r at.es position c
+    follows_now = subst (λ (flash : Flash). Follows flash r at.es position c) (sym (Reads-pages _ _ old now at.reads)) at.follows
+
+    -- any list of the run is this one
+    pub follows_any : (es : List Entry) → Stands r old.pages arena es → Follows old.pages r es position c
+    follows_any es s = subst (λ (xs : List Entry). Follows old.pages r xs position c) (one_list r old.pages arena at.es es at.stands s) at.follows
+
+    -- all entries are passed
+    pub Seeking-end : (es : List Entry) → Stands r old.pages arena es → r.count ≤ c.place → None ≡ first_of (wanted (is_wanted position) es)
+    Seeking-end es s past = none_here (is_wanted position) es c.place (omega (arith, s.many, past)) (follows_any es s).left
+
+    -- a page was looked at, and the cursor has its bytes
+    pub Seeking-looked : (next : BoardState) (d : Cursor) → d ≡ record c { loaded = d.loaded; bytes = d.bytes }
+        → ((es : List Entry) (p : Position) → Follows now.pages r es p c → Follows now.pages r es p d)
+        → Reads (read_of r.leases c.loaded) (read_of r.leases d.loaded) now next → Seeking r arena position old next first d
+    Seeking-looked next d same moved reads = record {
+      es = at.es;
+      stands = at.stands;
+      follows = subst (λ (flash : Flash). Follows flash r at.es position d) (Reads-pages _ _ old now at.reads) (moved at.es position follows_now);
+      shape = ap (λ (x : Cursor). x.shape) same ∙ at.shape;
+      reads = Reads-more _ _ _ old now next at.reads reads;
+    }
+
+    -- and where no page could be read, it stands as before
+    pub follows_failed : (d : Cursor) → ((es : List Entry) (p : Position) → Follows now.pages r es p c → Follows now.pages r es p d)
+        → (es : List Entry) → Stands r old.pages arena es → Follows old.pages r es position d
+    follows_failed d moved es s =
+        subst (λ (xs : List Entry). Follows old.pages r xs position d) (one_list r old.pages arena at.es es at.stands s)
+        (subst (λ (flash : Flash). Follows flash r at.es position d) (Reads-pages _ _ old now at.reads) (moved at.es position follows_now))
+
+    -- the entry at the place is the first that is wanted
+    pub Seeking-found : (e : RustEntry) → ((es : List Entry) → Stands r now.pages arena es → slice_get es c.place ≡ Some (seen e)) → is_wanted position (key_of (seen e)) ≡ true
+        → (es : List Entry) → Stands r old.pages arena es → Some (seen e) ≡ first_of (wanted (is_wanted position) es)
+    Seeking-found e head one es s =
+        let own = one_list r old.pages arena at.es es at.stands s in
+        subst (λ (xs : List Entry). Some (seen e) ≡ first_of (wanted (is_wanted position) xs)) own (first_here (is_wanted position) at.es c.place (seen e) (head at.es stands_now) one at.follows.left)
+
+    -- the entry at the place is not wanted, and is passed
+    pub Seeking-passed : (e : RustEntry) (d : Cursor) → IsShape r.shape → ((es : List Entry) → Stands r old.pages arena es → slice_get es c.place ≡ Some (seen e)) → is_wanted position (key_of (seen e)) ≡ false
+        → d ≡ record c { place = suc c.place } → Seeking r arena position old now first d
+    Seeking-passed e d is head not_one same = subst (Seeking r arena position old now first) (sym same) (record {
+      es = at.es;
+      stands = at.stands;
+      follows = Follows-passed old.pages r at.es position c is at.follows (seen e) (head at.es at.stands) not_one;
+      shape = at.shape;
+      reads = at.reads;
+    })
+
+    -- behind the look the entry is still at the place
+    pub head_looked : (d : Cursor) (e : RustEntry) → d ≡ record c { loaded = d.loaded; bytes = d.bytes } → ((es : List Entry) → Stands r now.pages arena es → slice_get es c.place ≡ Some (seen e))
+        → (es : List Entry) → Stands r old.pages arena es → slice_get es d.place ≡ Some (seen e)
+    head_looked d e same head es s =
+        ap (λ (x : Cursor). slice_get es x.place) same ∙ head es (subst (λ (flash : Flash). Stands r flash arena es) (sym (Reads-pages _ _ old now at.reads)) s)

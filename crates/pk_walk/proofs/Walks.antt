@@ -1,0 +1,307 @@
+-- A walk over all lists: what a step leaves, and what is left behind several.
+use Rattle.std.proofs.Common.{◌≡◌, ℕ, suc, ◌+◌, ◌<◌, ◌≤◌, refl, sym, ap, subst, ◌∙◌, arith, true, false, T, is_some, List, [], ◌∷◌, length, Option, Some, None, Result, Ok, Err}
+use Rattle.std.specs.List.{flat_map}
+use Rattle.std.specs.FinMap.Entries.{is_sorted}
+use Rattle.pk_base.specs.Key.{Key, key_cmp}
+use Rattle.pk_base.specs.Shape.{Shape}
+use Rattle.pk_base.specs.Entry.{Entry, Place, key_of}
+use Rattle.pk_base.specs.Seen.{entry as seen}
+use Rattle.pk_base.specs.declared.entry.Entry.{Entry as RustEntry}
+use Rattle.pk_base.specs.Firsts.{firsts}
+use Rattle.pk_base.specs.Refusal.{Refusal}
+use Rattle.pk_base.specs.Page.{Flash, page_at}
+use Rattle.pk_meta.specs.Run.{run}
+use Rattle.pk_nand.specs.BoardState.{BoardState}
+use Rattle.pk_nand.specs.Calls.{IsReady, ReadFailed}
+use Rattle.pk_nand.specs.Erased.{after_reads}
+use Rattle.pk_pin.specs.Frames.{Frames}
+use Rattle.pk_run.specs.Kept.{Kept}
+use Rattle.pk_level.specs.Levels.{StandEach}
+use Rattle.pk_level.proofs.Looking.{reads_more}
+use Rattle.pk_model.specs.Values.{placed}
+use Rattle.pk_model.proofs.Lookups.{firsts_sorted}
+use Rattle.pk_walk.specs.declared.position.Position.{Position}
+use Rattle.pk_walk.specs.declared.position.Position.TheVariants.{First, Above}
+use Rattle.pk_walk.specs.Visible.{visible, is_wanted, wanted, first_of, lesser, least_first}
+use Rattle.pk_walk.specs.Walking.{Cursor, Walk, IsWalk, AreOfShape, FollowEach, IsLeft, Gives, Passes, Reads, ReadsFail, all_left, all_at_start, read_of, pages_read, most_read}
+use Rattle.pk_walk.proofs.Merging.{EachSorted, first_of_lists}
+use Rattle.pk_walk.proofs.Wanting.{behind_first, first_wanted, none_wanted, placed_wanted}
+use Rattle.pk_walk.proofs.Following.{Follows-above, Follows-start}
+use Rattle.pk_walk.proofs.Seeking.{Reads-none, Reads-more, Reads-pages, one_list}
+
+-- ---- lists of runs that stand
+
+pub each_rises : (flash : Flash) (arena : Frames) (rs : List Kept) (ess : List (List Entry)) → StandEach flash arena rs ess → EachSorted ess
+each_rises flash arena [] [] s = tt
+each_rises flash arena [] (es ∷ ess) s = absurd s
+each_rises flash arena (r ∷ rs) [] s = absurd s
+each_rises flash arena (r ∷ rs) (es ∷ ess) s = (s.0.rising, each_rises flash arena rs ess s.1)
+
+pub one_of_each : (flash : Flash) (arena : Frames) (rs : List Kept) (xss yss : List (List Entry)) → StandEach flash arena rs xss → StandEach flash arena rs yss → xss ≡ yss
+one_of_each flash arena [] [] [] s t = refl
+one_of_each flash arena [] [] (ys ∷ yss) s t = absurd t
+one_of_each flash arena [] (xs ∷ xss) yss s t = absurd s
+one_of_each flash arena (r ∷ rs) [] yss s t = absurd s
+one_of_each flash arena (r ∷ rs) (xs ∷ xss) [] s t = absurd t
+one_of_each flash arena (r ∷ rs) (xs ∷ xss) (ys ∷ yss) s t = λ i. one_list r flash arena xs ys s.0 t.0 i ∷ one_of_each flash arena rs xss yss s.1 t.1 i
+
+abbrev pub read_entries : Result (List Entry) Refusal → List Entry
+read_entries (Ok es) = es
+read_entries (Err refusal) = []
+
+-- the entries of runs on a flash, as they are read
+abbrev pub lists_on : Flash → List Kept → List (List Entry)
+lists_on flash [] = []
+lists_on flash (r ∷ rs) = read_entries (run r.shape (page_at flash) r.level r.count r.blocks) ∷ lists_on flash rs
+
+pub lists_are : (flash : Flash) (arena : Frames) (rs : List Kept) (ess : List (List Entry)) → StandEach flash arena rs ess → lists_on flash rs ≡ ess
+lists_are flash arena [] [] s = refl
+lists_are flash arena [] (es ∷ ess) s = absurd s
+lists_are flash arena (r ∷ rs) [] s = absurd s
+lists_are flash arena (r ∷ rs) (es ∷ ess) s = λ i. read_entries (s.0.read i) ∷ lists_are flash arena rs ess s.1 i
+
+-- how many entries of wanted keys count
+abbrev pub many_left : Flash → List Kept → List Entry → List Entry → Position → ℕ
+many_left flash rs active frozen position = length (all_left position (active ∷ frozen ∷ lists_on flash rs))
+
+-- ---- the least of all
+
+pub least_is : (flash : Flash) (arena : Frames) (rs : List Kept) (ess : List (List Entry)) (active frozen : List Entry) (position : Position) (a b c all : Option Entry)
+    → T (is_sorted key_cmp active) → T (is_sorted key_cmp frozen) → StandEach flash arena rs ess
+    → a ≡ first_of (wanted (is_wanted position) active) → b ≡ first_of (wanted (is_wanted position) frozen) → c ≡ least_first (is_wanted position) ess → all ≡ lesser a (lesser b c)
+    → all ≡ first_of (all_left position (active ∷ frozen ∷ ess))
+least_is flash arena rs ess active frozen position a b c all up down s ea eb ec is =
+    is ∙ (λ i. lesser (ea i) (lesser (eb i) (ec i))) ∙ sym (first_of_lists (is_wanted position) (active ∷ frozen ∷ ess) (up, (down, each_rises flash arena rs ess s)))
+
+-- ---- a step
+
+pub step_some : (position : Position) (lists : List (List Entry)) (e : RustEntry) → Some (seen e) ≡ first_of (all_left position lists) → Passes (Some e) (all_left position lists) (all_left (Above (key_of (seen e))) lists)
+step_some position lists e is =
+    let all = firsts (flat_map (λ es. es) lists) in
+    let split = behind_first position all (seen e) (firsts_sorted (flat_map (λ es. es) lists)) (sym is) in
+    subst (λ (xs : List Entry). Passes (Some e) xs (all_left (Above (key_of (seen e))) lists)) (sym split) (refl, refl)
+
+pub step_none : (position : Position) (lists : List (List Entry)) → None ≡ first_of (all_left position lists) → Passes None (all_left position lists) (all_left position lists)
+step_none position lists is =
+    let none = none_wanted (all_left position lists) (sym is) in
+    subst (λ (xs : List Entry). Passes None xs xs) (sym none) (refl, refl)
+
+pub step_follow : (flash : Flash) (position : Position) (key : Key) (rs : List Kept) (ess : List (List Entry)) (cs : List Cursor) → T (is_wanted position key) → FollowEach flash rs ess position cs → FollowEach flash rs ess (Above key) cs
+step_follow flash position key [] ess cs one f = tt
+step_follow flash position key (r ∷ rs) [] cs one f = tt
+step_follow flash position key (r ∷ rs) (es ∷ ess) [] one f = tt
+step_follow flash position key (r ∷ rs) (es ∷ ess) (c ∷ cs) one f = (Follows-above flash r es position c f.0 key one, step_follow flash position key rs ess cs one f.1)
+
+pub step_wanted : (position : Position) (lists : List (List Entry)) (e : RustEntry) → Some (seen e) ≡ first_of (all_left position lists) → T (is_wanted position (key_of (seen e)))
+step_wanted position lists e is = first_wanted (is_wanted position) (firsts (flat_map (λ es. es) lists)) (seen e) (sym is)
+
+-- ---- what is left
+
+-- the keys that are left are those of the entries that are
+left_is : (position : Position) (lists : List (List Entry)) → wanted (is_wanted position) (visible lists) ≡ placed (all_left position lists)
+left_is position lists = placed_wanted (is_wanted position) (firsts (flat_map (λ es. es) lists))
+
+start_length : (cs : List Cursor) → length (all_at_start cs) ≡ length cs
+start_length [] = refl
+start_length (c ∷ cs) = ap (λ (n : ℕ). suc n) (start_length cs)
+
+start_shape : (shape : Shape) (cs : List Cursor) → AreOfShape shape cs → AreOfShape shape (all_at_start cs)
+start_shape shape [] are = tt
+start_shape shape (c ∷ cs) are = (are.0, start_shape shape cs are.1)
+
+-- a walk whose cursors go back to the start is one
+pub start_walk : (shape : Shape) (position : Position) (cs cursors : List Cursor) → cursors ≡ all_at_start cs → length cs ≡ 4 → AreOfShape shape cs → IsWalk (record { shape = shape; position = position; cursors = cursors })
+start_walk shape position cs cursors same four are = record {
+  four = ap (λ (xs : List Cursor). length xs) same ∙ start_length cs ∙ four;
+  each = subst (AreOfShape shape) (sym same) (start_shape shape cs are);
+}
+
+start_follow : (flash : Flash) (position : Position) (rs : List Kept) (ess : List (List Entry)) (cs : List Cursor) → FollowEach flash rs ess position (all_at_start cs)
+start_follow flash position [] ess cs = tt
+start_follow flash position (r ∷ rs) [] cs = tt
+start_follow flash position (r ∷ rs) (es ∷ ess) [] = tt
+start_follow flash position (r ∷ rs) (es ∷ ess) (c ∷ cs) = (Follows-start flash r es position c, start_follow flash position rs ess cs)
+
+-- at the start all wanted keys are left
+pub start_left : (w : Walk) (cs : List Cursor) → w.cursors ≡ all_at_start cs → (flash : Flash) (arena : Frames) (rs : List Kept) (active frozen : List Entry) (ess : List (List Entry)) → StandEach flash arena rs ess
+    → IsLeft w flash arena rs active frozen (wanted (is_wanted w.position) (visible (active ∷ frozen ∷ ess)))
+start_left w cs same flash arena rs active frozen ess stand = record {
+  ess = ess;
+  stand = stand;
+  follow = subst (FollowEach flash rs ess w.position) (sym same) (start_follow flash w.position rs ess cs);
+  is = refl;
+}
+
+none_read_of : (leases : List ℕ) → read_of leases 0 ≡ 0
+none_read_of [] = refl
+none_read_of (l ∷ leases) = refl
+
+start_reads : (rs : List Kept) (cs : List Cursor) → pages_read rs (all_at_start cs) ≡ 0
+start_reads [] cs = refl
+start_reads (r ∷ rs) [] = refl
+start_reads (r ∷ rs) (c ∷ cs) = let rest = start_reads rs cs in let own = none_read_of r.leases in omega (arith, rest, own)
+
+-- and nothing was read
+pub start_none : (cursors cs : List Cursor) → cursors ≡ all_at_start cs → (rs : List Kept) → pages_read rs cursors ≡ 0
+start_none cursors cs same rs = ap (pages_read rs) same ∙ start_reads rs cs
+
+all_wanted : (xs : List (Key × Place)) → wanted (is_wanted First) xs ≡ xs
+all_wanted [] = refl
+all_wanted (x ∷ xs) = ap (λ (ys : List (Key × Place)). x ∷ ys) (all_wanted xs)
+
+-- from the first key on all keys are left
+pub start_all : (w : Walk) (cs : List Cursor) → w.cursors ≡ all_at_start cs → w.position ≡ First → (flash : Flash) (arena : Frames) (rs : List Kept) (active frozen : List Entry) (ess : List (List Entry)) → StandEach flash arena rs ess
+    → IsLeft w flash arena rs active frozen (visible (active ∷ frozen ∷ ess))
+start_all w cs same first flash arena rs active frozen ess stand =
+    subst (IsLeft w flash arena rs active frozen) (ap (λ (p : Position). wanted (is_wanted p) (visible (active ∷ frozen ∷ ess))) first ∙ all_wanted (visible (active ∷ frozen ∷ ess)))
+    (start_left w cs same flash arena rs active frozen ess stand)
+
+-- the cursors follow the runs on the flash of old, only entries of deleted keys were passed since, and nothing was done but reads
+pub record Walking (rs : List Kept) (arena : Frames) (active frozen : List Entry) (shape : Shape) (old now : BoardState) (first w : Walk) : Type 0 where
+  pub ess : List (List Entry)
+  pub stand : StandEach old.pages arena rs ess
+  pub follow : FollowEach old.pages rs ess w.position w.cursors
+  pub left : placed (all_left w.position (active ∷ frozen ∷ ess)) ≡ placed (all_left first.position (active ∷ frozen ∷ ess))
+  pub same_shape : w.shape ≡ first.shape
+  pub ready : IsReady now shape
+  pub reads : Reads (pages_read rs first.cursors) (pages_read rs w.cursors) old now
+
+module _ (rs : List Kept) (arena : Frames) (active frozen : List Entry) (shape : Shape) (old : BoardState) (first : Walk) where
+  pub Walking-start : (rest : List (Key × Place)) → IsReady old shape → IsLeft first old.pages arena rs active frozen rest → Walking rs arena active frozen shape old old first first
+  Walking-start rest ready left = record { ess = left.ess; stand = left.stand; follow = left.follow; left = refl; same_shape = refl; ready = ready; reads = Reads-none (pages_read rs first.cursors) old }
+
+  module _ (now : BoardState) (w : Walk) (at : Walking rs arena active frozen shape old now first w) where
+    abbrev same_pages : now.pages ≡ old.pages
+    same_pages = Reads-pages _ _ old now at.reads
+
+    pub stand_now : StandEach now.pages arena rs at.ess
+    stand_now = subst (λ (flash : Flash). StandEach flash arena rs at.ess) (sym same_pages) at.stand
+
+    pub follow_now : (ess : List (List Entry)) × StandEach now.pages arena rs ess × FollowEach now.pages rs ess w.position w.cursors
+    follow_now = (at.ess, stand_now, subst (λ (flash : Flash). FollowEach flash rs at.ess w.position w.cursors) (sym same_pages) at.follow)
+
+    abbrev lists : List (List Entry)
+    lists = active ∷ frozen ∷ at.ess
+
+    -- one more entry, of a deleted key
+    pub Walking-gone : (next : BoardState) (v : Walk) (e : RustEntry) → is_some (seen e).1 ≡ false → v.shape ≡ w.shape → IsReady next shape
+        → ((ess : List (List Entry)) → StandEach now.pages arena rs ess → Passes (Some e) (all_left w.position (active ∷ frozen ∷ ess)) (all_left v.position (active ∷ frozen ∷ ess)))
+        → ((ess : List (List Entry)) → StandEach now.pages arena rs ess → FollowEach now.pages rs ess v.position v.cursors)
+        → Reads (pages_read rs w.cursors) (pages_read rs v.cursors) now next → Walking rs arena active frozen shape old next first v
+    Walking-gone next v e gone same ready passes follow reads = record {
+      ess = at.ess;
+      stand = at.stand;
+      follow = subst (λ (flash : Flash). FollowEach flash rs at.ess v.position v.cursors) same_pages (follow at.ess stand_now);
+      left = sym (passed_gone (all_left w.position lists) (all_left v.position lists) (passes at.ess stand_now)) ∙ at.left;
+      same_shape = same ∙ at.same_shape;
+      ready = ready;
+      reads = Reads-more _ _ _ old now next at.reads reads;
+    }
+      where
+        no_place : (x : Entry) → is_some x.1 ≡ false → (xs : List Entry) → placed (x ∷ xs) ≡ placed xs
+        no_place (key, Some place) none xs = cc
+        no_place (key, None) none xs = refl
+
+        passed_gone : (xs ys : List Entry) → Passes (Some e) xs ys → placed xs ≡ placed ys
+        passed_gone [] ys p = cc
+        passed_gone (x ∷ xs) ys p = no_place x (ap (λ (y : Entry). is_some y.1) (sym p.0) ∙ gone) xs ∙ ap placed (sym p.1)
+
+    -- the keys that are left now
+    abbrev left_by : Walk → List (Key × Place)
+    left_by v = wanted (is_wanted v.position) (visible lists)
+
+    -- what is left before any list
+    rest_is : (rest : List (Key × Place)) → IsLeft first old.pages arena rs active frozen rest → rest ≡ placed (all_left w.position lists)
+    rest_is rest left =
+        let own = one_of_each old.pages arena rs left.ess at.ess left.stand at.stand in
+        left.is ∙ ap (λ (ess : List (List Entry)). wanted (is_wanted first.position) (visible (active ∷ frozen ∷ ess))) own ∙ left_is first.position lists ∙ sym at.left
+
+    left_next : (next : BoardState) (v : Walk) → next.pages ≡ now.pages → FollowEach now.pages rs at.ess v.position v.cursors → IsLeft v next.pages arena rs active frozen (placed (all_left v.position lists))
+    left_next next v pages follow = record {
+      ess = at.ess;
+      stand = subst (λ (flash : Flash). StandEach flash arena rs at.ess) (sym pages) stand_now;
+      follow = subst (λ (flash : Flash). FollowEach flash rs at.ess v.position v.cursors) (sym pages) follow;
+      is = sym (left_is v.position lists);
+    }
+
+    -- one more entry, of a key that is there
+    pub Walking-gives : (next : BoardState) (v : Walk) (e : RustEntry) → is_some (seen e).1 ≡ true → next.pages ≡ now.pages
+        → ((ess : List (List Entry)) → StandEach now.pages arena rs ess → Passes (Some e) (all_left w.position (active ∷ frozen ∷ ess)) (all_left v.position (active ∷ frozen ∷ ess)))
+        → ((ess : List (List Entry)) → StandEach now.pages arena rs ess → FollowEach now.pages rs ess v.position v.cursors)
+        → (rest : List (Key × Place)) → IsLeft first old.pages arena rs active frozen rest
+        → (later : List (Key × Place)) × Gives (Some e) rest later × IsLeft v next.pages arena rs active frozen later
+    Walking-gives next v e there pages passes follow rest left = (
+      placed (all_left v.position lists),
+      subst (λ (xs : List (Key × Place)). Gives (Some e) xs (placed (all_left v.position lists))) (sym (rest_is rest left)) (given (all_left w.position lists) (all_left v.position lists) (passes at.ess stand_now)),
+      left_next next v pages (follow at.ess stand_now),
+    )
+      where
+        given_one : (x : Entry) → is_some x.1 ≡ true → seen e ≡ x → (xs ys : List Entry) → ys ≡ xs → Gives (Some e) (placed (x ∷ xs)) (placed ys)
+        given_one (key, Some place) some is xs ys same = (is, ap placed same)
+        given_one (key, None) none is xs ys same = cc
+
+        given : (xs ys : List Entry) → Passes (Some e) xs ys → Gives (Some e) (placed xs) (placed ys)
+        given [] ys p = cc
+        given (x ∷ xs) ys p = given_one x (ap (λ (y : Entry). is_some y.1) (sym p.0) ∙ there) p.0 xs ys p.1
+
+    -- no more entry
+    pub Walking-ends : (next : BoardState) (v : Walk) → next.pages ≡ now.pages
+        → ((ess : List (List Entry)) → StandEach now.pages arena rs ess → Passes None (all_left w.position (active ∷ frozen ∷ ess)) (all_left v.position (active ∷ frozen ∷ ess)))
+        → ((ess : List (List Entry)) → StandEach now.pages arena rs ess → FollowEach now.pages rs ess v.position v.cursors)
+        → (rest : List (Key × Place)) → IsLeft first old.pages arena rs active frozen rest
+        → (later : List (Key × Place)) × Gives None rest later × IsLeft v next.pages arena rs active frozen later
+    Walking-ends next v pages passes follow rest left = (
+      placed (all_left v.position lists),
+      subst (λ (xs : List (Key × Place)). Gives None xs (placed (all_left v.position lists))) (sym (rest_is rest left)) (ended (all_left w.position lists) (all_left v.position lists) (passes at.ess stand_now)),
+      left_next next v pages (follow at.ess stand_now),
+    )
+      where
+        ended : (xs ys : List Entry) → Passes None xs ys → Gives None (placed xs) (placed ys)
+        ended [] ys p = (refl, ap placed p.1)
+        ended (x ∷ xs) ys p = absurd p
+
+    -- a read failed
+    pub Walking-fails : (next : BoardState) (v : Walk) → next.pages ≡ now.pages → v.position ≡ w.position
+        → ((ess : List (List Entry)) → StandEach now.pages arena rs ess → FollowEach now.pages rs ess v.position v.cursors)
+        → (rest : List (Key × Place)) → IsLeft first old.pages arena rs active frozen rest → IsLeft v next.pages arena rs active frozen rest
+    Walking-fails next v pages same follow rest left =
+        subst (IsLeft v next.pages arena rs active frozen) (ap (λ (p : Position). placed (all_left p lists)) same ∙ sym (rest_is rest left)) (left_next next v pages (follow at.ess stand_now))
+
+    pub fails_behind : (next : BoardState) (v : Walk) → ReadsFail (pages_read rs w.cursors) (pages_read rs v.cursors) now next → ReadsFail (pages_read rs first.cursors) (pages_read rs v.cursors) old next
+    fails_behind next v (k, page, few, failed) =
+        let h = at.reads.1 in
+        let all = ap (λ (b : BoardState). after_reads k b) at.reads.2 ∙ reads_more k at.reads.0 old in
+        (k + at.reads.0, page, omega (arith, h, few), subst (λ (b : BoardState). ReadFailed b next page) all failed)
+
+    -- never more than all pages
+    pub few_read : (v : Walk) → ((ess : List (List Entry)) → StandEach now.pages arena rs ess → FollowEach now.pages rs ess v.position v.cursors) → pages_read rs v.cursors ≤ most_read rs
+    few_read v follow = bound rs at.ess v.cursors stand_now (follow at.ess stand_now)
+      where
+        few : (leases : List ℕ) (n m : ℕ) → n ≤ m → read_of leases n ≤ read_of leases m
+        few [] n m h = h
+        few (l ∷ leases) n m h = omega arith
+
+        bound : (rs : List Kept) (ess : List (List Entry)) (cs : List Cursor) → StandEach now.pages arena rs ess → FollowEach now.pages rs ess v.position cs → pages_read rs cs ≤ most_read rs
+        bound [] ess cs s f = omega arith
+        bound (r ∷ rs) [] cs s f = absurd s
+        bound (r ∷ rs) (es ∷ ess) [] s f = omega arith
+        bound (r ∷ rs) (es ∷ ess) (c ∷ cs) s f =
+            let one = few r.leases c.loaded (length r.firsts) f.0.pages in
+            let others = bound rs ess cs s.1 f.1 in
+            omega (arith, one, others)
+
+    -- with each step fewer are left
+    pub fewer_left : (next : BoardState) (v : Walk) (e : RustEntry) → next.pages ≡ now.pages
+        → ((ess : List (List Entry)) → StandEach now.pages arena rs ess → Passes (Some e) (all_left w.position (active ∷ frozen ∷ ess)) (all_left v.position (active ∷ frozen ∷ ess)))
+        → many_left next.pages rs active frozen v.position < many_left now.pages rs active frozen w.position
+    fewer_left next v e pages passes =
+        let before = lists_are now.pages arena rs at.ess stand_now in
+        let after = lists_are next.pages arena rs at.ess (subst (λ (flash : Flash). StandEach flash arena rs at.ess) (sym pages) stand_now) in
+        let old_size : many_left now.pages rs active frozen w.position ≡ length (all_left w.position lists) = ap (λ (ess : List (List Entry)). length (all_left w.position (active ∷ frozen ∷ ess))) before in
+        let new_size : many_left next.pages rs active frozen v.position ≡ length (all_left v.position lists) = ap (λ (ess : List (List Entry)). length (all_left v.position (active ∷ frozen ∷ ess))) after in
+        let less = shorter (all_left w.position lists) (all_left v.position lists) (passes at.ess stand_now) in
+        omega (arith, old_size, new_size, less)
+      where
+        shorter : (xs ys : List Entry) → Passes (Some e) xs ys → length ys < length xs
+        shorter [] ys p = cc
+        shorter (x ∷ xs) ys p = let same = ap (λ (zs : List Entry). length zs) p.1 in omega (arith, same)

@@ -1,0 +1,59 @@
+use Rattle.std.proofs.Common.{sym, ◌∙◌}
+use Rattle.pk_walk.proofs.Walks.{Walking-gone, Walking-gives, Walking-ends, Walking-fails, fails_behind, few_read, fewer_left}
+use Rattle.pk_walk.proofs.Seeking.{Reads-more}
+use Rattle.pk_walk.proofs.walk.Walk.next.Goals as goal
+
+pub returns-then-has_place-clause-gives : goal.returns-then-has_place-clause-gives
+returns-then-has_place-clause-gives g c rest left =
+    Walking-gives c.args.levels.now.runs c.args.arena.now c.args.active.now.entries c.args.frozen.now.entries c.args.levels.now.shape (g.B.Nand.state c.args.board.now) c.args.self.now (g.B.Nand.state c.loop-entry.board) c.loop-entry.self c.loop-entry.invariant.walking
+    (g.B.Nand.state c.step.new.board) c.step.new.self c.in-Ok-Some.entry (sym c.has_place.ensures ∙ c.if-has_place.true) c.in-Ok-Some.ensures.same (rw c.in-Ok-Some.field-0-is at c.in-Ok-Some.ensures.passes) c.in-Ok-Some.ensures.follow rest left
+
+pub returns-then-has_place-clause-reads : goal.returns-then-has_place-clause-reads
+returns-then-has_place-clause-reads g c =
+    Reads-more _ _ _ (g.B.Nand.state c.args.board.now) (g.B.Nand.state c.loop-entry.board) (g.B.Nand.state c.step.new.board) c.loop-entry.invariant.walking.reads c.in-Ok-Some.ensures.reads
+
+pub returns-then-has_place-clause-few : goal.returns-then-has_place-clause-few
+returns-then-has_place-clause-few g c =
+    few_read c.args.levels.now.runs c.args.arena.now c.args.active.now.entries c.args.frozen.now.entries c.args.levels.now.shape (g.B.Nand.state c.args.board.now) c.args.self.now (g.B.Nand.state c.loop-entry.board) c.loop-entry.self c.loop-entry.invariant.walking
+    c.step.new.self c.in-Ok-Some.ensures.follow
+
+pub loop-entry-smaller : goal.loop-entry-smaller
+loop-entry-smaller g c =
+    fewer_left c.args.levels.now.runs c.args.arena.now c.args.active.now.entries c.args.frozen.now.entries c.args.levels.now.shape (g.B.Nand.state c.args.board.now) c.args.self.now (g.B.Nand.state c.loop-entry.board) c.loop-entry.self c.loop-entry.invariant.walking
+    (g.B.Nand.state c.step.new.board) c.step.new.self c.in-Ok-Some.entry c.in-Ok-Some.ensures.same (rw c.in-Ok-Some.field-0-is at c.in-Ok-Some.ensures.passes)
+
+pub loop-entry-preserved : goal.loop-entry-preserved
+loop-entry-preserved g c =
+    record {
+      walking = Walking-gone c.args.levels.now.runs c.args.arena.now c.args.active.now.entries c.args.frozen.now.entries c.args.levels.now.shape (g.B.Nand.state c.args.board.now) c.args.self.now (g.B.Nand.state c.loop-entry.board) c.loop-entry.self c.loop-entry.invariant.walking
+          (g.B.Nand.state c.step.new.board) c.step.new.self c.in-Ok-Some.entry (sym c.has_place.ensures ∙ c.if-has_place.false) c.in-Ok-Some.ensures.shape c.in-Ok-Some.ensures.ready (rw c.in-Ok-Some.field-0-is at c.in-Ok-Some.ensures.passes) c.in-Ok-Some.ensures.follow c.in-Ok-Some.ensures.reads;
+    }
+
+pub returns-in-Ok-None-clause-gives : goal.returns-in-Ok-None-clause-gives
+returns-in-Ok-None-clause-gives g c rest left =
+    Walking-ends c.args.levels.now.runs c.args.arena.now c.args.active.now.entries c.args.frozen.now.entries c.args.levels.now.shape (g.B.Nand.state c.args.board.now) c.args.self.now (g.B.Nand.state c.loop-entry.board) c.loop-entry.self c.loop-entry.invariant.walking
+    (g.B.Nand.state c.step.new.board) c.step.new.self c.in-Ok-None.ensures.same (rw c.in-Ok-None.field-0-is at c.in-Ok-None.ensures.passes) c.in-Ok-None.ensures.follow rest left
+
+pub returns-in-Ok-None-clause-reads : goal.returns-in-Ok-None-clause-reads
+returns-in-Ok-None-clause-reads g c =
+    Reads-more _ _ _ (g.B.Nand.state c.args.board.now) (g.B.Nand.state c.loop-entry.board) (g.B.Nand.state c.step.new.board) c.loop-entry.invariant.walking.reads c.in-Ok-None.ensures.reads
+
+pub returns-in-Ok-None-clause-few : goal.returns-in-Ok-None-clause-few
+returns-in-Ok-None-clause-few g c =
+    few_read c.args.levels.now.runs c.args.arena.now c.args.active.now.entries c.args.frozen.now.entries c.args.levels.now.shape (g.B.Nand.state c.args.board.now) c.args.self.now (g.B.Nand.state c.loop-entry.board) c.loop-entry.self c.loop-entry.invariant.walking
+    c.step.new.self c.in-Ok-None.ensures.follow
+
+pub returns-in-Err-clause-kept : goal.returns-in-Err-clause-kept
+returns-in-Err-clause-kept g c rest left =
+    Walking-fails c.args.levels.now.runs c.args.arena.now c.args.active.now.entries c.args.frozen.now.entries c.args.levels.now.shape (g.B.Nand.state c.args.board.now) c.args.self.now (g.B.Nand.state c.loop-entry.board) c.loop-entry.self c.loop-entry.invariant.walking
+    (g.B.Nand.state c.step.new.board) c.step.new.self c.in-Err.ensures.same c.in-Err.ensures.kept c.in-Err.ensures.follow rest left
+
+pub returns-in-Err-clause-few : goal.returns-in-Err-clause-few
+returns-in-Err-clause-few g c =
+    few_read c.args.levels.now.runs c.args.arena.now c.args.active.now.entries c.args.frozen.now.entries c.args.levels.now.shape (g.B.Nand.state c.args.board.now) c.args.self.now (g.B.Nand.state c.loop-entry.board) c.loop-entry.self c.loop-entry.invariant.walking
+    c.step.new.self c.in-Err.ensures.follow
+
+pub returns-in-Err-clause-err : goal.returns-in-Err-clause-err
+returns-in-Err-clause-err g c =
+    fails_behind c.args.levels.now.runs c.args.arena.now c.args.active.now.entries c.args.frozen.now.entries c.args.levels.now.shape (g.B.Nand.state c.args.board.now) c.args.self.now (g.B.Nand.state c.loop-entry.board) c.loop-entry.self c.loop-entry.invariant.walking
+    (g.B.Nand.state c.step.new.board) c.step.new.self c.in-Err.ensures.err

@@ -1,0 +1,127 @@
+-- A walk over two write buffers and four runs: what it keeps, and what is left of it.
+use Rattle.std.specs.Prelude.{◌≡◌, ⊤, ℕ, suc, ◌+◌, ◌/◌, ◌≤◌, List, [], ◌∷◌, length, drop, Option, Some, None}
+use Rattle.pk_base.specs.Key.{Key}
+use Rattle.pk_base.specs.Shape.{Shape, page_entries}
+use Rattle.pk_base.specs.Entry.{Entry, Place, put_entry}
+use Rattle.pk_base.specs.Firsts.{firsts}
+use Rattle.pk_base.specs.Seen.{entry}
+use Rattle.std.specs.List.{flat_map}
+use Rattle.pk_base.specs.declared.entry.Entry.{Entry as RustEntry}
+use Rattle.pk_base.specs.Page.{Flash, page_at, whole}
+use Rattle.pk_nand.specs.BoardState.{BoardState}
+use Rattle.pk_nand.specs.Calls.{ReadFailed}
+use Rattle.pk_nand.specs.Erased.{after_reads}
+use Rattle.pk_pin.specs.Frames.{Frames}
+use Rattle.pk_run.specs.Kept.{Kept, page_of}
+use Rattle.pk_level.specs.Levels.{StandEach}
+use Rattle.pk_walk.specs.Visible.{visible, is_wanted, wanted}
+use Rattle.pk_walk.specs.declared.position.Position.{Position}
+use Rattle.pk_walk.specs.declared.position.Position.TheVariants.{First, From}
+
+-- A place among the entries of a run; how many pages of the run the walk has come past, and the bytes of the last of them.
+pub record Cursor : Type 0 where
+  pub shape : Shape
+  pub place : ℕ
+  pub loaded : ℕ
+  pub bytes : List ℕ
+
+-- before all entries of a run
+abbrev pub at_start : Cursor → Cursor
+at_start c = record c { place = 0; loaded = 0 }
+
+abbrev pub all_at_start : List Cursor → List Cursor
+all_at_start [] = []
+all_at_start (c ∷ cs) = at_start c ∷ all_at_start cs
+
+-- the keys that were given are behind a position; and a cursor in each of the four runs
+pub record Walk : Type 0 where
+  pub shape : Shape
+  pub position : Position
+  pub cursors : List Cursor
+
+-- the position at which a walk from a key begins, or from the first
+abbrev pub first_position : Option Key → Position
+first_position None = First
+first_position (Some key) = From key
+
+-- at the start of a walk from this position
+abbrev pub begun : Walk → Position → Walk
+begun w position = record w { position = position; cursors = all_at_start w.cursors }
+
+abbrev pub AreOfShape : Shape → List Cursor → Type 0
+AreOfShape shape [] = ⊤
+AreOfShape shape (c ∷ cs) = (c.shape ≡ shape) × AreOfShape shape cs
+
+-- what every walk keeps to
+pub record IsWalk (w : Walk) : Type 0 where
+  pub four : length w.cursors ≡ 4
+  pub each : AreOfShape w.shape w.cursors
+
+-- ---- cursors and runs
+
+-- No wanted key of the run stands before the cursor, and it has the page of its place if it has come past it.
+pub record Follows (flash : Flash) (r : Kept) (es : List Entry) (position : Position) (c : Cursor) : Type 0 where
+  pub pages : c.loaded ≤ length r.firsts
+  pub behind : c.loaded ≤ suc (c.place / page_entries r.shape)
+  pub holds : c.loaded ≡ suc (c.place / page_entries r.shape) → page_at flash (page_of r (c.place / page_entries r.shape)) ≡ whole c.bytes
+  pub left : wanted (is_wanted position) es ≡ wanted (is_wanted position) (drop c.place es)
+
+abbrev pub FollowEach : Flash → List Kept → List (List Entry) → Position → List Cursor → Type 0
+FollowEach flash [] ess position cs = ⊤
+FollowEach flash (r ∷ rs) [] position cs = ⊤
+FollowEach flash (r ∷ rs) (es ∷ ess) position [] = ⊤
+FollowEach flash (r ∷ rs) (es ∷ ess) position (c ∷ cs) = Follows flash r es position c × FollowEach flash rs ess position cs
+
+-- ---- what is left
+
+-- The keys that the walk has still to give, with their places: those wanted of the keys that are there in the entries of the
+-- buffers and of the runs that stand on the flash.
+pub record IsLeft (w : Walk) (flash : Flash) (arena : Frames) (runs : List Kept) (active frozen : List Entry) (rest : List (Key × Place)) : Type 0 where
+  pub ess : List (List Entry)
+  pub stand : StandEach flash arena runs ess
+  pub follow : FollowEach flash runs ess w.position w.cursors
+  pub is : rest ≡ wanted (is_wanted w.position) (visible (active ∷ frozen ∷ ess))
+
+-- the first of them was answered, or that there is none; and these are left
+abbrev pub Gives : Option RustEntry → List (Key × Place) → List (Key × Place) → Type 0
+Gives found [] later = (found ≡ None) × (later ≡ [])
+Gives None (x ∷ rest) later = ⊥
+Gives (Some e) (x ∷ rest) later = (entry e ≡ put_entry x.0 x.1) × (later ≡ rest)
+
+-- ---- reads
+
+-- how many pages were read at most, of so many that were come past: none where they have frames
+abbrev pub read_of : List ℕ → ℕ → ℕ
+read_of [] pages = pages
+read_of (lease ∷ leases) pages = 0
+
+-- of all the pages that the cursors have come past
+abbrev pub pages_read : List Kept → List Cursor → ℕ
+pages_read [] cs = 0
+pages_read (r ∷ rs) [] = 0
+pages_read (r ∷ rs) (c ∷ cs) = read_of r.leases c.loaded + pages_read rs cs
+
+-- and of all the pages of the runs
+abbrev pub most_read : List Kept → ℕ
+most_read [] = 0
+most_read (r ∷ rs) = read_of r.leases (length r.firsts) + most_read rs
+
+-- Nothing was done but reads, so many at most that a number of pages rose from before to after.
+abbrev pub Reads : ℕ → ℕ → BoardState → BoardState → Type 0
+Reads before after old new = (k : ℕ) × (k + before ≤ after) × (new ≡ after_reads k old)
+
+-- a read failed behind such
+abbrev pub ReadsFail : ℕ → ℕ → BoardState → BoardState → Type 0
+ReadsFail before after old new = (k page : ℕ) × (k + before ≤ after) × ReadFailed (after_reads k old) new page
+
+-- ---- inside
+
+-- all entries of the wanted keys, with those of deleted ones, that count
+abbrev pub all_left : Position → List (List Entry) → List Entry
+all_left position lists = wanted (is_wanted position) (firsts (flat_map (λ es. es) lists))
+
+-- the first of them was found, or that there is none; and these are left
+abbrev pub Passes : Option RustEntry → List Entry → List Entry → Type 0
+Passes found [] later = (found ≡ None) × (later ≡ [])
+Passes None (x ∷ rest) later = ⊥
+Passes (Some e) (x ∷ rest) later = (entry e ≡ x) × (later ≡ rest)

@@ -1,0 +1,160 @@
+//! A place among the entries of a run, which goes forward.
+ghost use Rattle.std.specs.Prelude.{◌≡◌, ◌<◌, ◌≤◌, ◌/◌, suc, List, length, slice_get, Some, IfOk, IfErr, OnOk, OnErr};
+ghost use Rattle.pk_base.specs.Shape.{page_entries};
+ghost use Rattle.pk_base.specs.Entry.{Entry as EntrySpec};
+ghost use Rattle.pk_base.specs.Page.{Flash, page_at, whole};
+ghost use Rattle.pk_base.specs.Seen.{entry as seen};
+ghost use Rattle.pk_nand.specs.Calls.{IsReady, ReadFailed};
+ghost use Rattle.pk_nand.specs.declared.types.Fault.TheVariants.{Reading};
+ghost use Rattle.pk_pin.specs.Frames.{Frames};
+ghost use Rattle.pk_run.specs.Kept.{Stands, page_of};
+ghost use Rattle.pk_walk.specs.declared.position.Position.{Position as PositionSpec};
+ghost use Rattle.pk_walk.specs.Walking.{Follows, Reads, at_start, read_of};
+
+use crate::begin::begins_at;
+use crate::position::Position;
+use pk_base::{Entry, Shape};
+use pk_meta::entry;
+use pk_nand::{Fault, Nand};
+use pk_pin::PinArena;
+use pk_run::Run;
+use std::alloc::{AllocError, Allocator};
+use std::marker::Model;
+
+/// The place, how many pages of the run lie up to it, and the bytes of the last of them.
+#[derive(Drop)]
+pub struct Cursor<A: Allocator> {
+    shape: Shape,
+    place: u32,
+    loaded: u32,
+    page: Vec<u8, A>,
+}
+
+impl<A: Allocator> Model for Cursor<A> {
+    ghost use Rattle.std.specs.Prelude.{◌≡◌, length};
+    ghost use Rattle.pk_walk.specs.Walking as spec;
+
+    ghost Value = { spec.Cursor };
+
+    ghost view = { λ c. record { shape = c.shape; place = c.place; loaded = c.loaded; bytes = c.page.items } };
+
+    ghost invariant = { λ c. length c.page.items ≡ c.shape.page_bytes };
+}
+
+impl<A: Allocator> Cursor<A> {
+    /// A cursor before all entries. Its memory, a page's bytes, is taken here.
+    pub fn new(alloc: A, shape: Shape) -> Result<Cursor<A>, AllocError>
+        ensures shape { IfOk result (λ c. c.shape ≡ shape) }
+        ensures start { IfOk result (λ c. c ≡ at_start c) }
+    {
+        let page = Vec::from_elem(alloc, 0u8, shape.page_bytes() as usize)?;
+        Ok(Cursor {
+            shape,
+            place: 0,
+            loaded: 0,
+            page,
+        })
+    }
+
+    /// Goes back before all entries.
+    pub fn restart(&mut self)
+        ensures { self.new ≡ at_start self.old }
+    {
+        self.place = 0;
+        self.loaded = 0;
+    }
+
+    /// How many entries stand before the place.
+    pub fn place(&self) -> u32
+        ensures { result ≡ self.now.place }
+    {
+        self.place
+    }
+
+    /// Goes to the page where a walk from this position begins, unless it has come past a page.
+    pub fn begin(&mut self, run: &Run<A>, position: &Position)
+        ensures place { self.new ≡ record self.old { place = self.new.place } }
+        ensures follows { (flash : Flash) (arena : Frames) (es : List EntrySpec) → Stands run.now flash arena es → Follows flash run.now es position.now self.old → Follows flash run.now es position.now self.new }
+    {
+        run.known();
+        if self.loaded == 0 {
+            self.place = begins_at(run, position);
+        }
+    }
+
+    /// Goes behind the entry at the place, whose key is not wanted.
+    pub fn pass(&mut self)
+        requires { suc self.old.place < 4294967296 }
+        ensures { self.new ≡ record self.old { place = suc self.old.place } }
+    {
+        self.place += 1;
+    }
+
+    // Has the bytes of page `p`, the one of the place, by one read at most.
+    fn load<B: Nand>(
+        &mut self,
+        board: &mut B,
+        arena: &PinArena<A>,
+        run: &Run<A>,
+        p: u32,
+    ) -> Result<(), Fault>
+        requires ready { IsReady (B.state board.old) run.now.shape }
+        requires shape { self.old.shape ≡ run.now.shape }
+        requires stands { (es : List EntrySpec) × Stands run.now (B.state board.old).pages arena.now es }
+        requires exists { p < length run.now.firsts }
+        requires behind { self.old.loaded ≤ suc p }
+        requires holds { self.old.loaded ≡ suc p → page_at (B.state board.old).pages (page_of run.now p) ≡ whole self.old.bytes }
+        ensures loaded { OnOk result (self.new ≡ record self.old { loaded = suc p; bytes = self.new.bytes }) }
+        ensures page { OnOk result (page_at (B.state board.old).pages (page_of run.now p) ≡ whole self.new.bytes) }
+        ensures reads { OnOk result (Reads (read_of run.now.leases self.old.loaded) (read_of run.now.leases (suc p)) (B.state board.old) (B.state board.new)) }
+        ensures kept { OnErr result ((self.new ≡ record self.old { bytes = self.new.bytes }) × (self.old.loaded ≤ p)) }
+        ensures reading { IfErr result (λ fault. fault ≡ Reading) }
+        ensures err { OnErr result (ReadFailed (B.state board.old) (B.state board.new) (page_of run.now p)) }
+        ensures same { (B.state board.new).pages ≡ (B.state board.old).pages }
+        ensures ready { IsReady (B.state board.new) run.now.shape }
+    {
+        run.known();
+        if self.loaded == p + 1 {
+            Ok(())
+        } else {
+            match run.load_page(board, arena, p, &mut self.page) {
+                Ok(()) => {
+                    self.loaded = p + 1;
+                    Ok(())
+                }
+                Err(fault) => Err(fault),
+            }
+        }
+    }
+
+    /// The entry at the place, by one read at most. `Reading` where the read fails; else nothing fails.
+    pub fn head<B: Nand>(
+        &mut self,
+        board: &mut B,
+        arena: &PinArena<A>,
+        run: &Run<A>,
+    ) -> Result<Entry, Fault>
+        requires ready { IsReady (B.state board.old) run.now.shape }
+        requires shape { self.old.shape ≡ run.now.shape }
+        requires follows { (es : List EntrySpec) × (position : PositionSpec) × Stands run.now (B.state board.old).pages arena.now es × Follows (B.state board.old).pages run.now es position self.old }
+        requires exists { self.old.place < run.now.count }
+        ensures head { IfOk result (λ e. (es : List EntrySpec) → Stands run.now (B.state board.old).pages arena.now es → slice_get es self.old.place ≡ Some (seen e)) }
+        ensures place { self.new ≡ record self.old { loaded = self.new.loaded; bytes = self.new.bytes } }
+        ensures follows { (es : List EntrySpec) (position : PositionSpec) → Follows (B.state board.old).pages run.now es position self.old → Follows (B.state board.old).pages run.now es position self.new }
+        ensures reads { OnOk result (Reads (read_of run.now.leases self.old.loaded) (read_of run.now.leases self.new.loaded) (B.state board.old) (B.state board.new)) }
+        ensures kept { OnErr result (self.new.loaded ≡ self.old.loaded) }
+        ensures reading { IfErr result (λ fault. fault ≡ Reading) }
+        ensures err { OnErr result (ReadFailed (B.state board.old) (B.state board.new) (page_of run.now (self.old.place / page_entries run.now.shape))) }
+        ensures same { (B.state board.new).pages ≡ (B.state board.old).pages }
+        ensures ready { IsReady (B.state board.new) run.now.shape }
+    {
+        run.known();
+        let size = self.shape.entries();
+        let p = self.place / size;
+        match self.load(board, arena, run, p) {
+            Ok(()) => {}
+            Err(fault) => return Err(fault),
+        }
+        Ok(entry(&self.shape, &self.page, self.place % size))
+    }
+}

@@ -1,0 +1,54 @@
+//! The first wanted entry of a run, from a cursor on.
+ghost use Rattle.std.specs.Prelude.{◌≡◌, List, option_map, IfOk, IfErr, OnOk, OnErr};
+ghost use Rattle.pk_base.specs.Entry.{Entry as EntrySpec};
+ghost use Rattle.pk_base.specs.Seen.{entry as seen};
+ghost use Rattle.pk_nand.specs.Calls.{IsReady};
+ghost use Rattle.pk_nand.specs.declared.types.Fault.TheVariants.{Reading};
+ghost use Rattle.pk_run.specs.Kept.{Stands};
+ghost use Rattle.pk_walk.specs.Visible.{is_wanted, wanted, first_of};
+ghost use Rattle.pk_walk.specs.Walking.{Follows, Reads, ReadsFail, read_of};
+
+use crate::cursor::Cursor;
+use crate::position::Position;
+use pk_base::Entry;
+use pk_nand::{Fault, Nand};
+use pk_pin::PinArena;
+use pk_run::Run;
+use std::alloc::Allocator;
+
+/// The first entry of the run whose key is wanted; None where there is none. Each page is read once at most, as the cursor comes
+/// past it. `Reading` where a read fails; else nothing fails.
+pub fn seek<A: Allocator, B: Nand>(
+    cursor: &mut Cursor<A>,
+    board: &mut B,
+    arena: &PinArena<A>,
+    run: &Run<A>,
+    position: &Position,
+) -> Result<Option<Entry>, Fault>
+    requires ready { IsReady (B.state board.old) run.now.shape }
+    requires shape { cursor.old.shape ≡ run.now.shape }
+    requires follows { (es : List EntrySpec) × Stands run.now (B.state board.old).pages arena.now es × Follows (B.state board.old).pages run.now es position.now cursor.old }
+    ensures found { IfOk result (λ found. (es : List EntrySpec) → Stands run.now (B.state board.old).pages arena.now es → option_map seen found ≡ first_of (wanted (is_wanted position.now) es)) }
+    ensures follows { (es : List EntrySpec) → Stands run.now (B.state board.old).pages arena.now es → Follows (B.state board.old).pages run.now es position.now cursor.new }
+    ensures shape { cursor.new.shape ≡ cursor.old.shape }
+    ensures reads { OnOk result (Reads (read_of run.now.leases cursor.old.loaded) (read_of run.now.leases cursor.new.loaded) (B.state board.old) (B.state board.new)) }
+    ensures reading { IfErr result (λ fault. fault ≡ Reading) }
+    ensures err { OnErr result (ReadsFail (read_of run.now.leases cursor.old.loaded) (read_of run.now.leases cursor.new.loaded) (B.state board.old) (B.state board.new)) }
+    ensures same { (B.state board.new).pages ≡ (B.state board.old).pages }
+    ensures ready { IsReady (B.state board.new) run.now.shape }
+{
+    run.known();
+    cursor.begin(run, position);
+    while cursor.place() < run.entries() {
+        match cursor.head(board, arena, run) {
+            Ok(entry) => {
+                if position.wants(entry.key()) {
+                    return Ok(Some(entry));
+                }
+                cursor.pass();
+            }
+            Err(fault) => return Err(fault),
+        }
+    }
+    Ok(None)
+}

@@ -1,0 +1,216 @@
+//! The walk itself.
+ghost use Rattle.std.specs.Prelude.{◌≡◌, ◌≤◌, ◌∷◌, List, length, option_map, is_some, IfOk, IfErr, OnOk, OnErr};
+ghost use Rattle.std.specs.Option.{option_copied};
+ghost use Rattle.pk_base.specs.Entry.{Entry as EntrySpec, Place};
+ghost use Rattle.pk_base.specs.Key.{Key as KeySpec};
+ghost use Rattle.pk_base.specs.Page.{Flash};
+ghost use Rattle.pk_base.specs.Seen.{entry as seen};
+ghost use Rattle.pk_nand.specs.Calls.{IsReady};
+ghost use Rattle.pk_nand.specs.declared.types.Fault.TheVariants.{Reading};
+ghost use Rattle.pk_pin.specs.Frames.{Frames};
+ghost use Rattle.pk_run.specs.Kept.{Kept};
+ghost use Rattle.pk_level.specs.Levels.{StandEach};
+ghost use Rattle.pk_walk.specs.declared.position.Position.TheVariants.{First};
+ghost use Rattle.pk_walk.specs.Visible.{is_wanted, first_of, visible, wanted};
+ghost use Rattle.pk_walk.specs.Walking.{FollowEach, Gives, IsLeft, IsWalk, Passes, Reads, ReadsFail, AreOfShape, all_left, begun, first_position, most_read, pages_read};
+
+use crate::buffers::{first_in, least};
+use crate::cursors::Cursors;
+use crate::position::Position;
+use pk_base::{Entry, Key, Shape};
+use pk_buf::Buffer;
+use pk_level::Levels;
+use pk_nand::{Fault, Nand};
+use pk_pin::PinArena;
+use pk_region::Region;
+use std::alloc::AllocError;
+use std::marker::Model;
+
+/// A walk over the keys that are there. Contracts see its position and its cursors, and `IsLeft` says which keys it has still to
+/// give.
+#[derive(Drop)]
+pub struct Walk<A: Region> {
+    shape: Shape,
+    position: Position,
+    cursors: Cursors<A>,
+}
+
+impl<A: Region> Model for Walk<A> {
+    ghost use Rattle.pk_walk.specs.Walking as spec;
+    ghost use Rattle.pk_walk.specs.Walking.{IsWalk};
+
+    ghost Value = { spec.Walk };
+
+    ghost view = { λ w. record { shape = w.shape; position = w.position; cursors = w.cursors } };
+
+    ghost invariant = { λ w. IsWalk (record { shape = w.shape; position = w.position; cursors = w.cursors }) };
+}
+
+impl<A: Region> Walk<A> {
+    /// A walk that is at the first key of all. All its memory is taken here: the bytes of four pages.
+    pub fn new(alloc: A, shape: Shape) -> Result<Walk<A>, AllocError>
+        ensures shape { IfOk result (λ w. w.shape ≡ shape) }
+        ensures begun { IfOk result (λ w. w ≡ begun w First) }
+        ensures left { IfOk result (λ w. (flash : Flash) (arena : Frames) (runs : List Kept) (active frozen : List EntrySpec) (ess : List (List EntrySpec)) → StandEach flash arena runs ess → IsLeft w flash arena runs active frozen (visible (active ∷ frozen ∷ ess))) }
+        ensures none_read { IfOk result (λ w. (runs : List Kept) → pages_read runs w.cursors ≡ 0) }
+    {
+        let cursors = Cursors::new(alloc, shape)?;
+        cursors.known();
+        Ok(Walk {
+            shape,
+            position: Position::First,
+            cursors,
+        })
+    }
+
+    /// Every walk keeps this.
+    pub fn known(&self)
+        ensures { IsWalk self.now }
+    {
+        let _ = &self.shape;
+    }
+
+    /// Begins a walk at the first key that is not below this one, or at the first of all.
+    pub fn start(&mut self, from: Option<&Key>)
+        ensures begun { self.new ≡ begun self.old (first_position (option_copied from.entry)) }
+        ensures left { (flash : Flash) (arena : Frames) (runs : List Kept) (active frozen : List EntrySpec) (ess : List (List EntrySpec)) → StandEach flash arena runs ess → IsLeft self.new flash arena runs active frozen (wanted (is_wanted self.new.position) (visible (active ∷ frozen ∷ ess))) }
+        ensures none_read { (runs : List Kept) → pages_read runs self.new.cursors ≡ 0 }
+    {
+        self.cursors.restart();
+        match from {
+            Some(key) => {
+                self.position = Position::From(key.copy());
+            }
+            None => {
+                self.position = Position::First;
+            }
+        }
+    }
+
+    // Comes to the next entry that counts, also to one of a deleted key; None behind the last.
+    fn step<B: Nand>(
+        &mut self,
+        board: &mut B,
+        arena: &PinArena<A>,
+        levels: &Levels<A>,
+        active: &Buffer<A>,
+        frozen: &Buffer<A>,
+    ) -> Result<Option<Entry>, Fault>
+        requires ready { IsReady (B.state board.old) levels.now.shape }
+        requires shape { self.old.shape ≡ levels.now.shape }
+        requires follow { (ess : List (List EntrySpec)) × StandEach (B.state board.old).pages arena.now levels.now.runs ess × FollowEach (B.state board.old).pages levels.now.runs ess self.old.position self.old.cursors }
+        ensures passes { IfOk result (λ found. (ess : List (List EntrySpec)) → StandEach (B.state board.old).pages arena.now levels.now.runs ess → Passes found (all_left self.old.position (active.now.entries ∷ frozen.now.entries ∷ ess)) (all_left self.new.position (active.now.entries ∷ frozen.now.entries ∷ ess))) }
+        ensures follow { (ess : List (List EntrySpec)) → StandEach (B.state board.old).pages arena.now levels.now.runs ess → FollowEach (B.state board.old).pages levels.now.runs ess self.new.position self.new.cursors }
+        ensures shape { self.new.shape ≡ self.old.shape }
+        ensures kept { OnErr result (self.new.position ≡ self.old.position) }
+        ensures reads { OnOk result (Reads (pages_read levels.now.runs self.old.cursors) (pages_read levels.now.runs self.new.cursors) (B.state board.old) (B.state board.new)) }
+        ensures reading { IfErr result (λ fault. fault ≡ Reading) }
+        ensures err { OnErr result (ReadsFail (pages_read levels.now.runs self.old.cursors) (pages_read levels.now.runs self.new.cursors) (B.state board.old) (B.state board.new)) }
+        ensures same { (B.state board.new).pages ≡ (B.state board.old).pages }
+        ensures ready { IsReady (B.state board.new) levels.now.shape }
+    {
+        match least_of_all(
+            &mut self.cursors,
+            &self.position,
+            board,
+            arena,
+            levels,
+            active,
+            frozen,
+        ) {
+            Ok(Some(entry)) => {
+                self.position = Position::Above(entry.key().copy());
+                Ok(Some(entry))
+            }
+            Ok(None) => Ok(None),
+            Err(fault) => Err(fault),
+        }
+    }
+
+    /// The next key that is there, as its entry with the place of the value; None exactly after the last. `Reading` where a read
+    /// fails, and the same call may be made again then; else nothing fails.
+    ///
+    /// The parts are as at the first call since the start. A page of a run without frames is read when the walk comes to it, and
+    /// not again.
+    pub fn next<B: Nand>(
+        &mut self,
+        board: &mut B,
+        arena: &PinArena<A>,
+        levels: &Levels<A>,
+        active: &Buffer<A>,
+        frozen: &Buffer<A>,
+    ) -> Result<Option<Entry>, Fault>
+        requires ready { IsReady (B.state board.old) levels.now.shape }
+        requires shape { self.old.shape ≡ levels.now.shape }
+        requires left { (rest : List (KeySpec × Place)) × IsLeft self.old (B.state board.old).pages arena.now levels.now.runs active.now.entries frozen.now.entries rest }
+        ensures gives { IfOk result (λ found. (rest : List (KeySpec × Place)) → IsLeft self.old (B.state board.old).pages arena.now levels.now.runs active.now.entries frozen.now.entries rest → (later : List (KeySpec × Place)) × Gives found rest later × IsLeft self.new (B.state board.new).pages arena.now levels.now.runs active.now.entries frozen.now.entries later) }
+        ensures kept { OnErr result ((rest : List (KeySpec × Place)) → IsLeft self.old (B.state board.old).pages arena.now levels.now.runs active.now.entries frozen.now.entries rest → IsLeft self.new (B.state board.new).pages arena.now levels.now.runs active.now.entries frozen.now.entries rest) }
+        ensures shape { self.new.shape ≡ self.old.shape }
+        ensures reads { OnOk result (Reads (pages_read levels.now.runs self.old.cursors) (pages_read levels.now.runs self.new.cursors) (B.state board.old) (B.state board.new)) }
+        ensures few { pages_read levels.now.runs self.new.cursors ≤ most_read levels.now.runs }
+        ensures reading { IfErr result (λ fault. fault ≡ Reading) }
+        ensures err { OnErr result (ReadsFail (pages_read levels.now.runs self.old.cursors) (pages_read levels.now.runs self.new.cursors) (B.state board.old) (B.state board.new)) }
+        ensures same { (B.state board.new).pages ≡ (B.state board.old).pages }
+        ensures ready { IsReady (B.state board.new) levels.now.shape }
+    {
+        loop {
+            match self.step(board, arena, levels, active, frozen) {
+                Ok(Some(entry)) => {
+                    if has_place(&entry) {
+                        return Ok(Some(entry));
+                    }
+                }
+                Ok(None) => return Ok(None),
+                Err(fault) => return Err(fault),
+            }
+        }
+    }
+}
+
+// Whether the entry has a value's place, and is not one of a deleted key.
+fn has_place(entry: &Entry) -> bool
+    ensures { result ≡ is_some (seen entry.now).1 }
+{
+    match entry {
+        Entry::Put { .. } => true,
+        Entry::Gone { .. } => false,
+    }
+}
+
+// The wanted entry of all lists whose key is lowest, the first of its key.
+fn least_of_all<A: Region, B: Nand>(
+    cursors: &mut Cursors<A>,
+    position: &Position,
+    board: &mut B,
+    arena: &PinArena<A>,
+    levels: &Levels<A>,
+    active: &Buffer<A>,
+    frozen: &Buffer<A>,
+) -> Result<Option<Entry>, Fault>
+    requires ready { IsReady (B.state board.old) levels.now.shape }
+    requires shape { AreOfShape levels.now.shape cursors.old }
+    requires follow { (ess : List (List EntrySpec)) × StandEach (B.state board.old).pages arena.now levels.now.runs ess × FollowEach (B.state board.old).pages levels.now.runs ess position.now cursors.old }
+    ensures found { IfOk result (λ found. (ess : List (List EntrySpec)) → StandEach (B.state board.old).pages arena.now levels.now.runs ess → option_map seen found ≡ first_of (all_left position.now (active.now.entries ∷ frozen.now.entries ∷ ess))) }
+    ensures follow { (ess : List (List EntrySpec)) → StandEach (B.state board.old).pages arena.now levels.now.runs ess → FollowEach (B.state board.old).pages levels.now.runs ess position.now cursors.new }
+    ensures shape { AreOfShape levels.now.shape cursors.new }
+    ensures reads { OnOk result (Reads (pages_read levels.now.runs cursors.old) (pages_read levels.now.runs cursors.new) (B.state board.old) (B.state board.new)) }
+    ensures reading { IfErr result (λ fault. fault ≡ Reading) }
+    ensures err { OnErr result (ReadsFail (pages_read levels.now.runs cursors.old) (pages_read levels.now.runs cursors.new) (B.state board.old) (B.state board.new)) }
+    ensures same { (B.state board.new).pages ≡ (B.state board.old).pages }
+    ensures ready { IsReady (B.state board.new) levels.now.shape }
+    ensures four { length cursors.new ≡ 4 }
+{
+    let _ = active.len();
+    let _ = frozen.len();
+    match cursors.seek(board, arena, levels, position) {
+        Ok(deep) => {
+            cursors.known();
+            let upper = first_in(frozen, position);
+            Ok(least(first_in(active, position), least(upper, deep)))
+        }
+        Err(fault) => {
+            cursors.known();
+            Err(fault)
+        }
+    }
+}
