@@ -1,1 +1,4 @@
 pub mod Searching
+pub mod Keeping
+pub mod Elsewhere
+pub mod Committing
