@@ -2,3 +2,4 @@ pub mod Searching
 pub mod Keeping
 pub mod Elsewhere
 pub mod Committing
+pub mod Freezing

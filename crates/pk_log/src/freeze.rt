@@ -36,6 +36,7 @@ impl<A: Region> Log<A> {
         ensures works { OnOk result (Works (B.state board.old) (B.state board.new)) }
         ensures fits { OnOk result (Fits pool.new (B.state board.new).pages) }
         ensures shape { OnOk result ((self.new.shape ≡ self.old.shape) × (pool.new.shape ≡ self.old.shape)) }
+        ensures same_shape { self.new.shape ≡ self.old.shape }
         ensures stopped { IfErr result (λ e. e ≡ Stopped) }
         ensures went { OnErr result ((top : ℕ × RootValue) (found : Found) (m : Map) → CanFreeze self.old pool.old (B.state board.old).pages top found m → Goes self.old.shape (B.state board.old) (B.state board.new) (TickCut self.old.shape m)) }
         ensures stops { OnErr result (Stops (B.state board.old) (B.state board.new)) }
