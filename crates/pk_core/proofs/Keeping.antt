@@ -1,9 +1,11 @@
 -- Steps in a row, each of which keeps the map.
-use Rattle.std.proofs.Common.{◌≡◌, ◌⊎◌, inl, inr, ℕ, List, [], ◌++◌, Some, Ok, refl, sym, ap, subst, ◌∙◌}
+use Rattle.std.proofs.Common.{◌≡◌, ◌⊎◌, inl, inr, ℕ, List, [], ◌++◌, Some, Result, Ok, Err, refl, sym, ap, subst, ◌∙◌}
+use Rattle.std.specs.Prelude.{OnOk, OnErr}
 use Rattle.pk_base.specs.Shape.{Shape}
 use Rattle.pk_base.specs.Page.{Flash}
 use Rattle.pk_base.specs.Map.{Map}
 use Rattle.pk_base.specs.Mark.{Mark, all_posted}
+use Rattle.pk_nand.specs.declared.types.Fault.{Fault}
 use Rattle.pk_nand.specs.BoardState.{BoardState}
 use Rattle.pk_nand.specs.Calls.{IsReady}
 use Rattle.pk_nand.proofs.Reaching.{Reached-start}
@@ -68,3 +70,12 @@ KeepsAll-none a b old new same_parts same shape m stands =
     let P : Parts → Type 0 = λ p. Keeps a p shape m old old in
     let Q : BoardState → Type 0 = λ s. Keeps a b shape m old s in
     subst Q (sym same) (subst P (sym same_parts) there)
+
+-- the second step, by what it answered
+pub keeps_then_ok : (r : Result Unit Fault) (a b c : Parts) (s0 s1 s2 : BoardState) → IsReady s0 a.log.shape → KeepsAll a b s0 s1 → OnOk r (KeepsAll b c s1 s2) → OnOk r (KeepsAll a c s0 s2)
+keeps_then_ok (Ok x) a b c s0 s1 s2 ready first second = KeepsAll-then a b c s0 s1 s2 ready first second
+keeps_then_ok (Err e) a b c s0 s1 s2 ready first second = tt
+
+pub breaks_then_err : (r : Result Unit Fault) (a b : Parts) (s0 s1 s2 : BoardState) → IsReady s0 a.log.shape → KeepsAll a b s0 s1 → OnErr r (BreaksAll b s1 s2) → OnErr r (BreaksAll a s0 s2)
+breaks_then_err (Ok x) a b s0 s1 s2 ready first second = tt
+breaks_then_err (Err e) a b s0 s1 s2 ready first second = BreaksAll-then a b s0 s1 s2 ready first second

@@ -3,3 +3,4 @@ pub mod Keeping
 pub mod Elsewhere
 pub mod Committing
 pub mod Freezing
+pub mod Rooming
