@@ -1,6 +1,6 @@
 -- A commit of the pending entries keeps the map.
-use Rattle.std.proofs.Common.{◌≡◌, ◌≢◌, ◌⊎◌, inl, inr, ℕ, ◌/◌, ◌<◌, ◌≤◌, List, [], ◌∷◌, ◌++◌, length, reverse, Some, Result, Ok, Err, refl, sym, ap, subst, ◌∙◌, append-nil}
-use Rattle.std.specs.Prelude.{slice_get, OnOk, OnErr}
+use Rattle.std.proofs.Common.{◌≡◌, ◌≢◌, ◌⊎◌, inl, inr, ℕ, ◌/◌, ◌<◌, List, [], ◌++◌, length, reverse, Some, Result, Ok, Err, refl, sym, ap, subst, ◌∙◌, append-nil}
+use Rattle.std.specs.Prelude.{slice_get, IsOk, OnOk, OnErr}
 use Rattle.std.specs.List.{flat_map, concat}
 use Rattle.pk_base.specs.Shape.{Shape, epoch_pages}
 use Rattle.pk_base.specs.Page.{Flash, page_at, page_in, whole}
@@ -12,31 +12,29 @@ use Rattle.pk_base.specs.Mark.{all_posted}
 use Rattle.pk_base.proofs.ShapeLemmas.{block_pages_positive}
 use Rattle.pk_plan.specs.declared.owner.Owner.TheVariants.{Journal, Meta}
 use Rattle.pk_nand.specs.declared.types.Fault.{Fault}
-use Rattle.pk_nand.specs.BoardState.{BoardState, shape_of}
+use Rattle.pk_nand.specs.BoardState.{BoardState}
 use Rattle.pk_nand.specs.Calls.{IsReady, after_program}
-use Rattle.pk_nand.specs.Crash.{WentBy}
 use Rattle.pk_nand.proofs.Leaving.{page_at-slice_set}
 use Rattle.pk_nand.proofs.Writing.{shape_is}
 use Rattle.pk_rootfmt.specs.Root.{Root}
 use Rattle.pk_rootfmt.specs.Newest.{newest_root}
 use Rattle.pk_pool.specs.declared.state.BlockState.{BlockState}
 use Rattle.pk_pool.specs.declared.state.BlockState.TheVariants.{Owned}
-use Rattle.pk_jrn.specs.Epochs.{next_page, left_of}
+use Rattle.pk_jrn.specs.Epochs.{next_page}
 use Rattle.pk_jrn.specs.Appends.{next_bytes}
 use Rattle.pk_jrn.proofs.Appending.{page_left}
 use Rattle.pk_model.specs.Found.{Found}
 use Rattle.pk_model.specs.Values.{placed}
-use Rattle.pk_model.specs.Reading.{reading}
 use Rattle.pk_model.specs.Laws.{AnyByRecursion}
 use Rattle.pk_model.proofs.Commits.{valid_blocks, among_newest}
 use Rattle.pk_model.proofs.SamePages.{any_front}
 use Rattle.pk_steps.specs.Under.{IsUnder, IsValuePage, places}
 use Rattle.pk_steps.specs.Roots.{committed}
 use Rattle.pk_steps.proofs.Untouched.{under_reads}
-use Rattle.pk_data.specs.Placed.{Placed, HoldsValues}
+use Rattle.pk_data.specs.Placed.{Placed}
 use Rattle.pk_data.proofs.Unchanged.{flash_elsewhere}
-use Rattle.pk_drive.specs.Growth.{Reaches, Goes}
-use Rattle.pk_drive.specs.Commit.{CommitCut}
+use Rattle.pk_drive.specs.Growth.{Goes}
+use Rattle.pk_drive.specs.Commit.{CommitCut, OneProgram}
 use Rattle.pk_drive.specs.Wear.{root_number, roots}
 use Rattle.pk_drive.proofs.Growing.{weaken, weaken_went, at_end}
 use Rattle.pk_compact.specs.Working.{Works, Stops}
@@ -125,11 +123,13 @@ module _ (d : Parts) (old new : BoardState) (top : ℕ × Root) (found : Found) 
 
 module _ (shape : Shape) (top : ℕ × Root) (found : Found) (es : List Entry) (start : Flash) (m0 m1 : Map) (before : IsUnder shape start [] top found m0) where
   pub cut_of_log : (flash : Flash) (posted : List ℕ) → LogCut shape top found es m0 m1 flash posted → CommitCut shape start m1 flash posted
-  cut_of_log flash posted cut =
-      (cut.0, elim cut.1 [
-        | inl without ↦ inl (under_reads shape flash [] top found m0 without ∙ sym (under_reads shape start [] top found m0 before))
-        | inr all ↦ inr (under_reads shape flash [] top (committed found es) m1 all)
-      ])
+  cut_of_log flash posted cut = (
+    cut.0,
+    elim cut.1 [
+      | inl without ↦ inl (under_reads shape flash [] top found m0 without ∙ sym (under_reads shape start [] top found m0 before))
+      | inr all ↦ inr (under_reads shape flash [] top (committed found es) m1 all)
+    ],
+  )
 
 pub maps_of : (d : Parts) (board : BoardState) (top : ℕ × Root) (found : Found) (without m : Map) → AgreesWith d d.log.shape board.pages top found without m → Maps d.log board top found without m
 maps_of d board top found without m agrees = record { logs = agrees.logs; without = agrees.committed; all = agrees.pending }
@@ -154,8 +154,12 @@ module _ (d : Parts) (log' : LogState) (old new : BoardState) (ready : IsReady n
           with = after_is d old new stands.top stands.found stands.without m agrees all.some (next_bytes d.log.epoch d.log.pending) all.board ready (subst L all.taken logs_after) holds;
         });
         still = inr (under_reads d.log.shape new.pages [] stands.top (committed stands.found d.log.pending) m under);
-        cuts = (run.0, weaken run.0 old new (LogCut d.log.shape stands.top stands.found d.log.pending stands.without m) (CommitCut d.log.shape old.pages m)
-            (cut_of_log d.log.shape stands.top stands.found d.log.pending old.pages stands.without m agrees.committed) run.1, run.2);
+        cuts = (
+          run.0,
+          weaken run.0 old new (LogCut d.log.shape stands.top stands.found d.log.pending stands.without m) (CommitCut d.log.shape old.pages m)
+              (cut_of_log d.log.shape stands.top stands.found d.log.pending old.pages stands.without m agrees.committed) run.1,
+          run.2,
+        );
       }
 
   pub commit_keeps : CommitsNone d.log old log' new ⊎ CommitsAll d.log old log' new → KeepsAll d (with_log d log') old new
@@ -169,9 +173,12 @@ commit_breaks d old new goes shape m stands =
     let P : Shape → Type 0 = λ s. StandsFor d s old.pages m → Goes s old new (CommitCut s old.pages m) in
     subst P stands.with.shape_is (λ there.
     let maps = maps_of d old there.top there.found there.without m there.with in
-    let run = goes there.top there.found there.without m maps in
-    (run.0, weaken_went run.0 old new (LogCut d.log.shape there.top there.found d.log.pending there.without m) (CommitCut d.log.shape old.pages m)
-    (cut_of_log d.log.shape there.top there.found d.log.pending old.pages there.without m there.with.committed) run.1, run.2)) stands
+    let run = goes there.top there.found there.without m maps in (
+      run.0,
+      weaken_went run.0 old new (LogCut d.log.shape there.top there.found d.log.pending there.without m) (CommitCut d.log.shape old.pages m)
+          (cut_of_log d.log.shape there.top there.found d.log.pending old.pages there.without m there.with.committed) run.1,
+      run.2,
+    )) stands
 
 -- ---- the counts
 
@@ -227,3 +234,17 @@ pub roots_same : (r : Result Unit Fault) (d : Parts) (old new : BoardState) → 
     → OnOk r (CommitReaches d.log old new) → OnErr r (CommitGoes d.log old new) → roots new ≡ roots old
 roots_same (Ok x) d old new before after stands reaches goes = commit_roots d d.log.shape stands.0 old new before after stands.1 reaches
 roots_same (Err e) d old new before after stands reaches goes = commit_roots_err d d.log.shape stands.0 old new before after stands.1 goes
+
+-- where entries were pending, one program was made, whether or not it failed
+pub one_program : (r : Result Unit Fault) (log log' : LogState) (old new : BoardState) → OnOk r (CommitsNone log old log' new ⊎ CommitsAll log old log' new) → OnErr r (CommitFailed log old new)
+    → log.pending ≢ [] → OneProgram old new
+one_program (Ok x) log log' old new (inl none) failed some = absurd (some none.none)
+one_program (Ok x) log log' old new (inr all) failed some = record { programs = ap (λ s. s.programs) all.board; erases = ap (λ s. s.erases) all.board; reads = ap (λ s. s.reads) all.board }
+one_program (Err e) log log' old new made failed some = record { programs = ap (λ s. s.programs) failed.failed.rest; erases = ap (λ s. s.erases) failed.failed.rest; reads = ap (λ s. s.reads) failed.failed.rest }
+
+-- where none were, nothing was done
+pub nothing_done : (r : Result Unit Fault) (d : Parts) (log' : LogState) (old new : BoardState) → OnOk r (CommitsNone d.log old log' new ⊎ CommitsAll d.log old log' new) → OnErr r (CommitFailed d.log old new)
+    → d.log.pending ≡ [] → IsOk r × (with_log d log' ≡ d) × (new ≡ old)
+nothing_done (Ok x) d log' old new (inl none) failed is = (tt, ap (λ (l : LogState). with_log d l) none.kept, none.board)
+nothing_done (Ok x) d log' old new (inr all) failed is = absurd (all.some is)
+nothing_done (Err e) d log' old new made failed is = absurd (failed.some is)

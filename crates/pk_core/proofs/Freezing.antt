@@ -1,11 +1,11 @@
 -- A freeze of the log keeps the map.
-use Rattle.std.proofs.Common.{◌≡◌, ◌≢◌, ◌⊎◌, inl, inr, ℕ, zero, suc, ◌+◌, ◌-◌, ◌*◌, ◌/◌, ◌<◌, ◌≤◌, Bool, true, false, not, ◌&&◌, ◌||◌, ◌==◌, T, List, [], ◌∷◌, ◌++◌, length, reverse, nat_le, if◌then◌else◌, Some, Result, Ok, Err, refl, sym, ap, subst, ◌∙◌, arith, append-nil, leb-false, leb→le, mul-le-mul_right}
+use Rattle.std.proofs.Common.{◌≡◌, ◌≢◌, inl, inr, ℕ, ◌+◌, ◌-◌, ◌/◌, ◌<◌, ◌≤◌, Bool, true, false, not, ◌&&◌, ◌==◌, T, List, [], ◌∷◌, ◌++◌, length, reverse, if◌then◌else◌, Some, Result, Ok, Err, refl, sym, ap, subst, ◌∙◌, arith, append-nil, leb-false, mul-le-mul_right}
 use Rattle.std.specs.Prelude.{slice_get, OnOk, OnErr}
-use Rattle.std.specs.List.{flat_map, concat, list_all}
+use Rattle.std.specs.List.{concat}
 use Rattle.std.proofs.lemmas.Bool.{cases_eq}
 use Rattle.std.proofs.lemmas.Bool.Decides.{nat_tests}
 use Rattle.std.proofs.lemmas.Result.{on_ok_weaker}
-use Rattle.pk_base.specs.Shape.{Shape, IsShape, buffer, epoch_pages, page_entries}
+use Rattle.pk_base.specs.Shape.{Shape, IsShape, buffer, epoch_pages}
 use Rattle.pk_base.specs.Page.{Flash, page_at}
 use Rattle.pk_base.specs.Entry.{Entry, Place}
 use Rattle.pk_base.specs.Key.{Key}
@@ -15,43 +15,39 @@ use Rattle.pk_base.proofs.ShapeLemmas.{block_pages_positive}
 use Rattle.pk_plan.specs.declared.owner.Owner.{Owner}
 use Rattle.pk_plan.specs.declared.owner.Owner.TheVariants.{Journal, Meta, Values as for_values}
 use Rattle.pk_nand.specs.declared.types.Fault.{Fault}
-use Rattle.pk_nand.specs.BoardState.{BoardState, shape_of}
+use Rattle.pk_nand.specs.BoardState.{BoardState}
 use Rattle.pk_nand.specs.Calls.{IsReady}
 use Rattle.pk_nand.proofs.Writing.{shape_is}
-use Rattle.pk_rootfmt.specs.Root.{Root, named, differ}
+use Rattle.pk_rootfmt.specs.Root.{Root, differ}
 use Rattle.pk_rootfmt.specs.Newest.{newest_root}
 use Rattle.pk_buf.specs.Table.{Table}
-use Rattle.pk_jrn.specs.Epochs.{JournalEpoch, left_of}
+use Rattle.pk_jrn.specs.Epochs.{left_of}
 use Rattle.pk_jrn.proofs.Puts.{firsts-reverse}
-use Rattle.pk_pool.specs.declared.state.BlockState.{BlockState}
 use Rattle.pk_pool.specs.declared.state.BlockState.TheVariants.{Free, Ready, Owned}
 use Rattle.pk_pool.specs.Blocks.{Blocks, IsShared, IsSpare, IsErasedBlock, Fits, used_by, is_owned_by, with_state}
-use Rattle.pk_pool.proofs.States.{get-set_other, get-set_same, set_is, free_is_not_root, ready_is_not_root, owned_is_not_root, owned_is_not_ready, free_is_not_ready}
+use Rattle.pk_pool.proofs.States.{get-set_other, get-set_same, set_is, owned_is_not_root, owned_is_not_ready, free_is_not_ready}
 use Rattle.pk_pool.proofs.Sharing.{count-set, used_adopted, behind_roots}
-use Rattle.pk_pool.proofs.Fitting.{block_of, in_block, Fits-marked}
+use Rattle.pk_pool.proofs.Fitting.{in_block, Fits-marked}
 use Rattle.pk_model.specs.Found.{Found, entries_in_order}
 use Rattle.pk_model.specs.Values.{placed}
-use Rattle.pk_model.specs.Laws.{AnyByRecursion}
-use Rattle.pk_model.proofs.Commits.{valid_blocks, root_valid, fresh, rest_differs, differ_front}
-use Rattle.pk_model.proofs.Roots.{newest_sound}
-use Rattle.pk_model.proofs.SamePages.{any_front, any_back}
+use Rattle.pk_model.proofs.Commits.{valid_blocks, fresh, rest_differs, differ_front}
+use Rattle.pk_model.proofs.SamePages.{any_front}
 use Rattle.pk_steps.specs.Under.{IsUnder, IsValuePage, places}
 use Rattle.pk_steps.specs.Roots.{frozen_root, frozen}
 use Rattle.pk_steps.proofs.Places.{In, in_append}
 use Rattle.pk_steps.proofs.Untouched.{under_reads}
 use Rattle.pk_data.specs.State.{DataState}
-use Rattle.pk_data.specs.Placed.{Placed, HoldsValues}
+use Rattle.pk_data.specs.Placed.{Placed}
 use Rattle.pk_data.specs.Laws.{SameValues}
 use Rattle.pk_data.proofs.Unchanged.{block_elsewhere}
-use Rattle.pk_drive.specs.Growth.{Reaches, Goes}
+use Rattle.pk_drive.specs.Growth.{Goes}
 use Rattle.pk_drive.specs.Commit.{CommitCut}
 use Rattle.pk_drive.specs.Tick.{TickCut}
 use Rattle.pk_drive.proofs.Growing.{weaken, weaken_went}
 use Rattle.pk_drive.specs.Wear.{root_number, roots, is_worn}
-use Rattle.pk_compact.specs.Freezing.{IsApart, Froze, SameElsewhere, with_two, given_back}
-use Rattle.pk_log.specs.State.{LogState, is_full_for, needs_freeze}
-use Rattle.pk_log.specs.Logs.{Logs}
-use Rattle.pk_log.specs.Freezes.{CanFreeze, LogFroze, begun}
+use Rattle.pk_compact.specs.Freezing.{IsApart, with_two, given_back}
+use Rattle.pk_log.specs.State.{LogState, needs_freeze}
+use Rattle.pk_log.specs.Freezes.{CanFreeze, LogFroze}
 use Rattle.pk_log.proofs.Freezing.{none_of_firsts, none_named}
 use Rattle.pk_core.specs.Parts.{Parts}
 use Rattle.pk_core.specs.Agreeing.{AgreesWith, HaveBlocks}
@@ -260,9 +256,9 @@ module _ (d : Parts) (board : BoardState) (top : ℕ × Root) (found : Found) (w
   apart : IsApart d.log.shape d.pool top.1 found
   apart = record {
     unnamed = λ b spare among. elim (in_append b (top.1.newest ++ top.1.older) (concat top.1.runs) among) [
-        | inl journal ↦ not_spare d.pool b b Journal (agrees.journal b journal) spare refl
-        | inr run ↦ not_spare d.pool b b Meta (agrees.runs b run) spare refl
-      ];
+      | inl journal ↦ not_spare d.pool b b Journal (agrees.journal b journal) spare refl
+      | inr run ↦ not_spare d.pool b b Meta (agrees.runs b run) spare refl
+    ];
     no_value = λ b k spare here is. not_spare d.pool b (k / d.log.shape.block_pages) for_values (agrees.former k is) spare here;
   }
 

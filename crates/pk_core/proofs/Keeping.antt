@@ -4,13 +4,13 @@ use Rattle.std.specs.Prelude.{OnOk, OnErr}
 use Rattle.pk_base.specs.Shape.{Shape}
 use Rattle.pk_base.specs.Page.{Flash}
 use Rattle.pk_base.specs.Map.{Map}
-use Rattle.pk_base.specs.Mark.{Mark, all_posted}
+use Rattle.pk_base.specs.Mark.{all_posted}
 use Rattle.pk_nand.specs.declared.types.Fault.{Fault}
 use Rattle.pk_nand.specs.BoardState.{BoardState}
 use Rattle.pk_nand.specs.Calls.{IsReady}
 use Rattle.pk_nand.proofs.Reaching.{Reached-start}
 use Rattle.pk_model.specs.Reading.{reading}
-use Rattle.pk_drive.specs.Growth.{Reaches, Goes}
+use Rattle.pk_drive.specs.Growth.{Goes}
 use Rattle.pk_drive.specs.Commit.{CommitCut}
 use Rattle.pk_drive.proofs.Growing.{Reaches-then, Goes-then, at_end}
 use Rattle.pk_core.specs.Parts.{Parts}
@@ -20,11 +20,13 @@ use Rattle.pk_core.specs.Moves.{StandsFor, Keeps, KeepsAll, BreaksAll}
 cut_of_both : (shape : Shape) (m : Map) (first second flash : Flash) (front posted : List ℕ) → front ≡ []
     → (reading shape second [] ≡ reading shape first []) ⊎ (reading shape second [] ≡ Ok m)
     → CommitCut shape second m flash posted → CommitCut shape first m flash (front ++ posted)
-cut_of_both shape m first second flash front posted none still cut =
-    (ap (λ (xs : List ℕ). xs ++ posted) none ∙ cut.0, elim cut.1 [
-      | inl same ↦ elim still [ inl was ↦ inl (same ∙ was) | inr is ↦ inr (same ∙ is) ]
-      | inr is ↦ inr is
-    ])
+cut_of_both shape m first second flash front posted none still cut = (
+  ap (λ (xs : List ℕ). xs ++ posted) none ∙ cut.0,
+  elim cut.1 [
+    | inl same ↦ elim still [ inl was ↦ inl (same ∙ was) | inr is ↦ inr (same ∙ is) ]
+    | inr is ↦ inr is
+  ],
+)
 
 module _ (a b : Parts) (shape : Shape) (m : Map) (s0 s1 : BoardState) (has : s0.shape ≡ Some shape) (first : Keeps a b shape m s0 s1) where
   seen : (flash : Flash) (posted : List ℕ) → CommitCut shape s1.pages m flash posted → CommitCut shape s0.pages m flash (all_posted first.cuts.0 ++ posted)

@@ -1,6 +1,5 @@
 -- Where a freeze is wanted, none was made before it.
-use Rattle.std.proofs.Common.{◌≡◌, ℕ, ◌<◌, ◌≤◌, refl, sym, ap, subst, ◌∙◌, arith, Bool, true, false, not, ◌&&◌, ◌||◌, ◌==◌, T, List, [], ◌∷◌, length, nat_le, leb-false, le→leb, eqb→eq, is_some, Result, Ok, Err}
-use Rattle.std.specs.Prelude.{OnOk}
+use Rattle.std.proofs.Common.{◌≡◌, ℕ, ◌<◌, refl, sym, ap, subst, ◌∙◌, arith, Bool, true, false, not, ◌&&◌, ◌||◌, ◌==◌, T, List, [], ◌∷◌, length, nat_le, leb-false, le→leb, eqb→eq, is_some}
 use Rattle.std.specs.FinMap.Entries.{find}
 use Rattle.pk_base.specs.Entry.{Entry}
 use Rattle.pk_base.specs.Key.{Key, key_cmp}
@@ -12,7 +11,7 @@ use Rattle.pk_buf.specs.Table.{Table}
 use Rattle.pk_jrn.specs.Epochs.{left_of}
 use Rattle.pk_model.proofs.ValueSets.{is_true}
 use Rattle.pk_drive.specs.Wear.{roots, is_worn}
-use Rattle.pk_log.specs.State.{LogState, needs_freeze}
+use Rattle.pk_log.specs.State.{needs_freeze}
 use Rattle.pk_core.specs.Parts.{Parts, wants_second_freeze}
 use Rattle.pk_core.specs.Moves.{StandsFor, KeepsAll}
 

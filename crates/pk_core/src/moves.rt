@@ -1,9 +1,10 @@
 //! The steps inside a command. Each keeps the map, wherever it is cut.
-ghost use Rattle.std.specs.Prelude.{◌≡◌, [], IfErr, OnOk, OnErr};
+ghost use Rattle.std.specs.Prelude.{◌≡◌, ◌≢◌, [], IsOk, IfErr, OnOk, OnErr};
 ghost use Rattle.pk_base.specs.Map.{Map};
 ghost use Rattle.pk_nand.specs.Calls.{IsReady};
 ghost use Rattle.pk_nand.specs.declared.types.Fault.TheVariants.{Stopped};
 ghost use Rattle.pk_compact.specs.Working.{Works, Stops};
+ghost use Rattle.pk_drive.specs.Commit.{OneProgram};
 ghost use Rattle.pk_drive.specs.Wear.{roots};
 ghost use Rattle.pk_core.specs.Moves.{StandsFor, KeepsAll, BreaksAll};
 
@@ -22,6 +23,9 @@ impl<A: Region> Drive<A> {
         ensures buffers { OnOk result ((self.new.log.active ≡ self.old.log.active) × (self.new.log.frozen ≡ self.old.log.frozen)) }
         ensures keeps { OnOk result (KeepsAll self.old self.new (B.state board.old) (B.state board.new)) }
         ensures works { OnOk result (Works (B.state board.old) (B.state board.new)) }
+        ensures program { self.old.log.pending ≢ [] → OneProgram (B.state board.old) (B.state board.new) }
+        ensures idle { self.old.log.pending ≡ [] → IsOk result × (self.new ≡ self.old) × (B.state board.new ≡ B.state board.old) }
+        ensures kept { OnErr result (self.new ≡ self.old) }
         ensures roots { roots (B.state board.new) ≡ roots (B.state board.old) }
         ensures stopped { IfErr result (λ e. e ≡ Stopped) }
         ensures breaks { OnErr result (BreaksAll self.old (B.state board.old) (B.state board.new)) }

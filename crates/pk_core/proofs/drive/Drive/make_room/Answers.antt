@@ -1,8 +1,6 @@
 use Rattle.std.proofs.Common.{refl, sym, ap, ◌∙◌}
-use Rattle.std.specs.Prelude.{OnOk, OnErr}
-use Rattle.pk_log.specs.State.{LogState}
 use Rattle.pk_core.proofs.Keeping.{KeepsAll-none, keeps_then_ok, breaks_then_err}
-use Rattle.pk_core.proofs.Rooming.{none_frozen, still_unworn, stands_after}
+use Rattle.pk_core.proofs.Rooming.{none_frozen, stands_after}
 use Rattle.pk_core.proofs.drive.Drive.make_room.Goals as goal
 
 pub returns-then-not-needs_freeze-clause-keeps : goal.returns-then-not-needs_freeze-clause-keeps
