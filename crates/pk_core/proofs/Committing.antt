@@ -245,6 +245,6 @@ one_program (Err e) log log' old new made failed some = record { programs = ap (
 -- where none were, nothing was done
 pub nothing_done : (r : Result Unit Fault) (d : Parts) (log' : LogState) (old new : BoardState) → OnOk r (CommitsNone d.log old log' new ⊎ CommitsAll d.log old log' new) → OnErr r (CommitFailed d.log old new)
     → d.log.pending ≡ [] → IsOk r × (with_log d log' ≡ d) × (new ≡ old)
-nothing_done (Ok x) d log' old new (inl none) failed is = (tt, ap (λ (l : LogState). with_log d l) none.kept, none.board)
+nothing_done (Ok x) d log' old new (inl none) failed is = (refl, ap (λ (l : LogState). with_log d l) none.kept, none.board)
 nothing_done (Ok x) d log' old new (inr all) failed is = absurd (all.some is)
 nothing_done (Err e) d log' old new made failed is = absurd (failed.some is)
