@@ -1,6 +1,6 @@
 -- How a drive stands to its flash.
-use Rattle.std.specs.Prelude.{◌≡◌, ℕ, ◌/◌, List, [], ◌++◌, length, Option, Some, slice_get}
-use Rattle.std.specs.List.{concat}
+use Rattle.std.specs.Prelude.{◌≡◌, ℕ, ◌/◌, List, [], ◌++◌, length, map, Option, Some, slice_get}
+use Rattle.std.specs.List.{AllByRecursion, concat}
 use Rattle.pk_base.specs.Shape.{Shape, pinned}
 use Rattle.pk_base.specs.Page.{Flash, IsFlash}
 use Rattle.pk_base.specs.Map.{Map}
@@ -33,6 +33,9 @@ pub record AgreesWith (d : Parts) (shape : Shape) (flash : Flash) (top : ℕ × 
   pub journal : (b : ℕ) → AnyByRecursion (λ c. b ≡ c) (top.1.newest ++ top.1.older) → slice_get d.pool.states b ≡ Some (Owned Journal)
   pub journal_few : used_by Journal d.pool.states ≡ length (top.1.newest ++ top.1.older)
   pub runs : (b : ℕ) → AnyByRecursion (λ c. b ≡ c) (concat top.1.runs) → slice_get d.pool.states b ≡ Some (Owned Meta)
+  -- the runs in memory are those that the root names, in their blocks
+  pub run_shapes : AllByRecursion (λ r. r.shape ≡ shape) d.levels.runs
+  pub run_blocks : map (λ r. r.blocks) d.levels.runs ≡ top.1.runs
   pub keys_are : d.keys ≡ length (places found d.log.pending)
 
 -- the board has this shape and these pages, and the drive agrees with them

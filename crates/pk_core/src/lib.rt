@@ -8,6 +8,7 @@ mod drive;
 mod lookup;
 mod moves;
 mod place;
+mod placing;
 
 pub use drive::Drive;
 pub use place::ValuePlace;
