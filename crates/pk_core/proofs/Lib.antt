@@ -1,1 +1,4 @@
 pub mod Searching
+pub mod Filling
+pub mod Elsewhere
+pub mod Stills
