@@ -1,4 +1,6 @@
 pub mod Searching
 pub mod Filling
-pub mod Elsewhere
+pub mod Unread
 pub mod Stills
+pub mod Results
+pub mod Writing

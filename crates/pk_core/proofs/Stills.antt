@@ -20,7 +20,7 @@ use Rattle.pk_drive.proofs.Growing.{at_end, Reaches-then, Goes-then}
 use Rattle.pk_compact.specs.Working.{Works, Stops}
 use Rattle.pk_compact.proofs.Running.{Reaches-none, Reaches-erase, Goes-erase, Reaches-program, Goes-program}
 use Rattle.pk_compact.proofs.Counts.{works_none, works_program, works_then, stops_program, stops_then}
-use Rattle.pk_core.proofs.Elsewhere.{IsReadBy, SameRead, same_top}
+use Rattle.pk_core.proofs.Unread.{IsReadBy, SameRead, same_top}
 
 module _ (shape : Shape) (root : Root) (found : Found) (pending : List Entry) (start : Flash) where
   -- nothing was given out, and no page differs that is read
@@ -81,28 +81,28 @@ module _ (shape : Shape) (root : Root) (found : Found) (pending : List Entry) (s
       pub still_program_failed : (new : BoardState) → ProgramFailed old new page bytes → Goes shape old new StillCut
       still_program_failed new failed = Goes-program shape old StillCut has page bytes within_program grows_program new failed
 
-    -- the pages of a value
-    module _ (key : Key) (page : ℕ) (value : List ℕ) (unread : (k : ℕ) → page ≤ k → k < page + charge shape (length value) → IsReadBy shape root found pending k → ⊥) where
-      shape_stays : (n : ℕ) → (written shape key page value n old).shape ≡ Some shape
-      shape_stays zero = has
-      shape_stays (suc n) = shape_stays n
+  -- the pages of a value
+  module _ (old : BoardState) (has : old.shape ≡ Some shape) (so_far : SameRead shape root found pending start old.pages) (key : Key) (page : ℕ) (value : List ℕ) (unread : (k : ℕ) → page ≤ k → k < page + charge shape (length value) → IsReadBy shape root found pending k → ⊥) where
+    shape_stays : (n : ℕ) → (written shape key page value n old).shape ≡ Some shape
+    shape_stays zero = has
+    shape_stays (suc n) = shape_stays n
 
-      pub still_written : (n : ℕ) → n ≤ charge shape (length value) → Reaches shape old (written shape key page value n old) StillCut
-      still_written zero most = still_none old refl
-      still_written (suc n) most =
-          let before = still_written n (omega (arith, most)) in
-          let now : BoardState = written shape key page value n old in
-          still_then old now (written shape key page value (suc n) old) has before
-              (still_program now (shape_stays n) (still_end old now before) (page + n) (page_of shape key value n) (unread (page + n) (omega arith) (omega (arith, most))) (written shape key page value (suc n) old) refl)
+    pub still_written : (n : ℕ) → n ≤ charge shape (length value) → Reaches shape old (written shape key page value n old) StillCut
+    still_written zero most = still_none old has so_far old refl
+    still_written (suc n) most =
+        let before = still_written n (omega (arith, most)) in
+        let now : BoardState = written shape key page value n old in
+        still_then old now (written shape key page value (suc n) old) has before
+            (still_program now (shape_stays n) (still_end old now before) (page + n) (page_of shape key value n) (unread (page + n) (omega arith) (omega (arith, most))) (written shape key page value (suc n) old) refl)
 
-      pub still_write_failed : (new : BoardState) → WriteFailed shape key page value old new → Goes shape old new StillCut
-      still_write_failed new failed =
-          let within = failed.within in
-          let n : ℕ = failed.made in
-          let before = still_written n (omega (arith, within)) in
-          let now : BoardState = written shape key page value n old in
-          still_goes old now new has before
-              (still_program_failed now (shape_stays n) (still_end old now before) (page + n) (page_of shape key value n) (unread (page + n) (omega arith) (omega (arith, within))) new failed.failed)
+    pub still_write_failed : (new : BoardState) → WriteFailed shape key page value old new → Goes shape old new StillCut
+    still_write_failed new failed =
+        let within = failed.within in
+        let n : ℕ = failed.made in
+        let before = still_written n (omega (arith, within)) in
+        let now : BoardState = written shape key page value n old in
+        still_goes old now new has before
+            (still_program_failed now (shape_stays n) (still_end old now before) (page + n) (page_of shape key value n) (unread (page + n) (omega arith) (omega (arith, within))) new failed.failed)
 
 -- ---- counts
 

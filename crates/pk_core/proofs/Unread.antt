@@ -28,7 +28,7 @@ use Rattle.pk_log.proofs.Standing.{logs_elsewhere}
 use Rattle.pk_data.specs.State.{DataState}
 use Rattle.pk_data.specs.Placed.{HoldsValues, Placed}
 use Rattle.pk_core.specs.Parts.{Parts}
-use Rattle.pk_core.specs.Agreeing.{AgreesWith}
+use Rattle.pk_core.specs.Agreeing.{AgreesWith, HaveBlocks}
 
 -- the page is read, without the pending entries or with them
 abbrev pub IsReadBy : Shape → Root → Found → List Entry → ℕ → Type 0
@@ -53,18 +53,20 @@ module _ (shape : Shape) (positive : 0 < shape.block_pages) (root : Root) (old n
   page_same : (blocks : List ℕ) (j : ℕ) → ((P : ℕ → Type 0) → AnyByRecursion P blocks → AnyByRecursion P (named root)) → page_at new (page_in shape blocks j) ≡ page_at old (page_in shape blocks j)
   page_same blocks j within = same (page_in shape blocks j) (elim (in_some_block shape positive blocks j) [ inl low ↦ inl low | inr is ↦ inr (within (λ b. page_in shape blocks j / shape.block_pages ≡ b) is) ])
 
-  runs_stand : (rs : List Kept) (ess : List (List Entry)) → AllByRecursion (λ r. r.shape ≡ shape) rs
-      → ((P : ℕ → Type 0) → AnyByRecursion P (concat (map (λ r. r.blocks) rs)) → AnyByRecursion P (named root))
+  runs_stand : (rs : List Kept) (bss : List (List ℕ)) (ess : List (List Entry)) → HaveBlocks shape rs bss
+      → ((P : ℕ → Type 0) → AnyByRecursion P (concat bss) → AnyByRecursion P (named root))
       → StandEach old arena rs ess → StandEach new arena rs ess
-  runs_stand [] [] shapes within each = tt
-  runs_stand [] (es ∷ ess) shapes within each = absurd each
-  runs_stand (r ∷ rs) [] shapes within each = absurd each
-  runs_stand (r ∷ rs) (es ∷ ess) shapes within each = (
-    Stands-elsewhere r old new arena arena es
-        (λ j h. subst (λ (s : Shape). page_at new (page_in s r.blocks j) ≡ page_at old (page_in s r.blocks j)) (sym shapes.0) (page_same r.blocks j (λ P is. within P (any_front P r.blocks (concat (map (λ r. r.blocks) rs)) is))))
-        (λ j lease got is. (is, refl)) each.0,
-    runs_stand rs ess shapes.1 (λ P is. within P (any_back P r.blocks (concat (map (λ r. r.blocks) rs)) is)) each.1,
-  )
+  runs_stand [] bss [] have within each = tt
+  runs_stand [] bss (es ∷ ess) have within each = absurd each
+  runs_stand (r ∷ rs) [] ess have within each = absurd have
+  runs_stand (r ∷ rs) (bs ∷ bss) [] have within each = absurd each
+  runs_stand (r ∷ rs) (bs ∷ bss) (es ∷ ess) have within each =
+      let here : (j : ℕ) → page_at new (page_in shape bs j) ≡ page_at old (page_in shape bs j) = λ j. page_same bs j (λ P is. within P (any_front P bs (concat bss) is)) in
+      let S : Shape → List ℕ → Type 0 = λ s xs. (j : ℕ) → page_at new (page_in s xs j) ≡ page_at old (page_in s xs j) in
+      let own : S r.shape r.blocks = subst (λ (s : Shape). S s r.blocks) (sym have.0) (subst (λ (xs : List ℕ). S shape xs) (sym have.1) here) in (
+        Stands-elsewhere r old new arena arena es (λ j h. own j) (λ j lease got is. (is, refl)) each.0,
+        runs_stand rs bss ess have.2 (λ P is. within P (any_back P bs (concat bss) is)) each.1,
+      )
 
 -- ---- the whole
 
@@ -77,8 +79,8 @@ module _ (d : Parts) (space : DataState) (pool : Blocks) (shape : Shape) (old ne
   is_shape : IsShape shape
   is_shape = subst IsShape with.shape_is with.logs.is_shape
 
-  runs_named : (P : ℕ → Type 0) → AnyByRecursion P (concat (map (λ (r : Kept). r.blocks) d.levels.runs)) → AnyByRecursion P (named top.1)
-  runs_named P is = any_back P (top.1.newest ++ top.1.older) (concat top.1.runs) (subst (λ (bss : List (List ℕ)). AnyByRecursion P (concat bss)) with.run_blocks is)
+  runs_named : (P : ℕ → Type 0) → AnyByRecursion P (concat top.1.runs) → AnyByRecursion P (named top.1)
+  runs_named P is = any_back P (top.1.newest ++ top.1.older) (concat top.1.runs) is
 
   pub still_without : IsUnder shape new [] top found without
   still_without = read_same shape old new [] top found without is_shape with.committed (λ k is. same k (inl is))
@@ -96,13 +98,12 @@ module _ (d : Parts) (space : DataState) (pool : Blocks) (shape : Shape) (old ne
     pending = still_all;
     levels_shape = with.levels_shape;
     levels_pinned = with.levels_pinned;
-    stand = runs_stand shape (block_pages_positive shape is_shape) top.1 old new d.arena (same_named shape top.1 found d.log.pending old new same) d.levels.runs found.runs with.run_shapes runs_named with.stand;
+    stand = runs_stand shape (block_pages_positive shape is_shape) top.1 old new d.arena (same_named shape top.1 found d.log.pending old new same) d.levels.runs top.1.runs found.runs with.run_blocks runs_named with.stand;
+    run_blocks = with.run_blocks;
     placed = placed;
     former = λ k is. owners (k / shape.block_pages) Values (with.former k is);
     journal = λ b is. owners b Journal (with.journal b is);
     journal_few = journal ∙ with.journal_few;
     runs = λ b is. owners b Meta (with.runs b is);
-    run_shapes = with.run_shapes;
-    run_blocks = with.run_blocks;
     keys_are = with.keys_are;
   }
