@@ -64,10 +64,10 @@ journal_taken : (p : Blocks) (block : ℕ) → IsSpare p block → used_by Journ
 journal_taken p block (inl free) = let all = count-set (is_owned_by Journal) p.states block Free (Owned Values) free in omega (arith, all)
 journal_taken p block (inr ready) = let all = count-set (is_owned_by Journal) p.states block Ready (Owned Values) ready in omega (arith, all)
 
-journal_or_values : (p : Blocks) (b : ℕ) → slice_get p.states b ≡ Some (Owned Journal) → HoldsValues p b → ⊥
+pub journal_or_values : (p : Blocks) (b : ℕ) → slice_get p.states b ≡ Some (Owned Journal) → HoldsValues p b → ⊥
 journal_or_values p b is held = cc
 
-meta_or_values : (p : Blocks) (b : ℕ) → slice_get p.states b ≡ Some (Owned Meta) → HoldsValues p b → ⊥
+pub meta_or_values : (p : Blocks) (b : ℕ) → slice_get p.states b ≡ Some (Owned Meta) → HoldsValues p b → ⊥
 meta_or_values p b is held = cc
 
 any_split : (P : ℕ → Type 0) (xs ys : List ℕ) → AnyByRecursion P (xs ++ ys) → AnyByRecursion P xs ⊎ AnyByRecursion P ys
@@ -103,7 +103,7 @@ module _ (d : Parts) (shape : Shape) (old : Flash) (top : ℕ × Root) (found : 
   positive = block_pages_positive shape shape_ok
 
   -- a block that the root names has another owner than values
-  named_owner : (b : ℕ) → AnyByRecursion (λ c. b ≡ c) (named top.1) → (slice_get d.pool.states b ≡ Some (Owned Journal)) ⊎ (slice_get d.pool.states b ≡ Some (Owned Meta))
+  pub named_owner : (b : ℕ) → AnyByRecursion (λ c. b ≡ c) (named top.1) → (slice_get d.pool.states b ≡ Some (Owned Journal)) ⊎ (slice_get d.pool.states b ≡ Some (Owned Meta))
   named_owner b is = elim (any_split (λ c. b ≡ c) (top.1.newest ++ top.1.older) (concat top.1.runs) is) [ inl front ↦ inl (with.journal b front) | inr back ↦ inr (with.runs b back) ]
 
   -- the page of a value is in a block for values

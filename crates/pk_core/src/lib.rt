@@ -7,6 +7,7 @@
 mod drive;
 mod lookup;
 mod moves;
+mod noting;
 mod place;
 mod placing;
 
