@@ -6,3 +6,9 @@ pub mod Elsewhere
 pub mod Committing
 pub mod Freezing
 pub mod Rooming
+pub mod Filling
+pub mod Unread
+pub mod Stills
+pub mod Results
+pub mod Writing
+pub mod Entries

@@ -3,3 +3,5 @@ pub mod Agreeing
 pub mod Finding
 pub mod Done
 pub mod Moves
+pub mod Placing
+pub mod Noting

@@ -7,7 +7,9 @@
 mod drive;
 mod lookup;
 mod moves;
+mod noting;
 mod place;
+mod placing;
 mod room;
 
 pub use drive::Drive;
