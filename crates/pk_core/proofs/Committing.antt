@@ -45,6 +45,7 @@ use Rattle.pk_core.specs.Parts.{Parts}
 use Rattle.pk_core.specs.Agreeing.{AgreesWith}
 use Rattle.pk_core.specs.Moves.{StandsFor, Keeps, KeepsAll, BreaksAll}
 use Rattle.pk_core.proofs.Keeping.{KeepsAll-none}
+use Rattle.pk_core.proofs.Standing.{same_found}
 use Rattle.pk_core.proofs.Elsewhere.{StandEach-same, values_same, still_fits}
 
 -- the drive with another log
@@ -145,14 +146,15 @@ module _ (d : Parts) (log' : LogState) (old new : BoardState) (ready : IsReady n
       let under = holds stands.top stands.found stands.without m maps in
       let run = reaches stands.top stands.found stands.without m maps in
       let L : LogState → Type 0 = λ l. CommitStands d.log old l new in
-      let K : LogState → Type 0 = λ l. StandsFor (with_log d l) d.log.shape new.pages m in
-      record {
-        stands = subst K (sym all.taken) (record {
+      let K : LogState → Type 0 = λ l. Keeps d (with_log d l) d.log.shape m old new in
+      subst K (sym all.taken) (record {
+        stands = record {
           top = stands.top;
           found = committed stands.found d.log.pending;
           without = m;
           with = after_is d old new stands.top stands.found stands.without m agrees all.some (next_bytes d.log.epoch d.log.pending) all.board ready (subst L all.taken logs_after) holds;
-        });
+        };
+        same_places = λ was. places_committed stands.found d.log.pending ∙ ap (λ (f : Found). places f d.log.pending) (same_found d d.log.shape old.pages m was stands);
         still = inr (under_reads d.log.shape new.pages [] stands.top (committed stands.found d.log.pending) m under);
         cuts = (
           run.0,
@@ -160,7 +162,7 @@ module _ (d : Parts) (log' : LogState) (old new : BoardState) (ready : IsReady n
               (cut_of_log d.log.shape stands.top stands.found d.log.pending old.pages stands.without m agrees.committed) run.1,
           run.2,
         );
-      }
+      })
 
   pub commit_keeps : CommitsNone d.log old log' new ⊎ CommitsAll d.log old log' new → KeepsAll d (with_log d log') old new
   commit_keeps (inl none) shape m stands = KeepsAll-none d (with_log d log') old new (ap (λ (l : LogState). with_log d l) none.kept) none.board shape m stands

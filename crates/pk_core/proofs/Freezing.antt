@@ -53,6 +53,7 @@ use Rattle.pk_core.specs.Parts.{Parts}
 use Rattle.pk_core.specs.Agreeing.{AgreesWith, HaveBlocks}
 use Rattle.pk_core.specs.Moves.{StandsFor, Keeps, KeepsAll, BreaksAll}
 use Rattle.pk_core.proofs.Elsewhere.{StandEach-same}
+use Rattle.pk_core.proofs.Standing.{same_found}
 
 -- ---- blocks
 
@@ -69,6 +70,12 @@ module _ (p : Blocks) (b : ℕ) (spare : IsSpare p b) where
 
   taken_counts : used_by Journal taken.states ≡ used_by Journal p.states + 1
   taken_counts = used_adopted p.shape p.states b Journal spare
+
+  taken_values : used_by for_values taken.states ≡ used_by for_values p.states
+  taken_values = elim spare [
+    | inl free ↦ let one = count-set (is_owned_by for_values) p.states b Free (Owned Journal) free in omega (arith, one)
+    | inr ready ↦ let one = count-set (is_owned_by for_values) p.states b Ready (Owned Journal) ready in omega (arith, one)
+  ]
 
   taken_places : (shape : Shape) (d : DataState) (old new : Flash) (es : List (Key × Place)) → Placed shape d p old es → SameValues shape p old new → Fits taken new → Placed shape d taken new es
   taken_places shape d old new es values same fits = elim spare [
@@ -94,6 +101,13 @@ given_counts [] p differ_all all = omega arith
 given_counts (x ∷ xs) p differ_all all =
     let later = given_counts xs (with_state p x Free) (rest_differs x xs differ_all) (still_journal p x xs differ_all all) in
     let one = count-set (is_owned_by Journal) p.states x (Owned Journal) Free (all x (inl refl)) in
+    omega (arith, later, one)
+
+given_values : (xs : List ℕ) (p : Blocks) → T (differ xs) → AllJournal p xs → used_by for_values (given_back p xs).states ≡ used_by for_values p.states
+given_values [] p differ_all all = refl
+given_values (x ∷ xs) p differ_all all =
+    let later = given_values xs (with_state p x Free) (rest_differs x xs differ_all) (still_journal p x xs differ_all all) in
+    let one = count-set (is_owned_by for_values) p.states x (Owned Journal) Free (all x (inl refl)) in
     omega (arith, later, one)
 
 given_places : (xs : List ℕ) (p : Blocks) (shape : Shape) (d : DataState) (flash : Flash) (es : List (Key × Place)) → T (differ xs) → AllJournal p xs → Fits p flash → Placed shape d p flash es → Placed shape d (given_back p xs) flash es
@@ -161,6 +175,11 @@ module _ (p : Blocks) (newest : List ℕ) (first second : ℕ) (first_spare : Is
   counts_after : (empty : Bool) → used_by Journal (pool_of empty).states ≡ length ((first ∷ second ∷ []) ++ (if empty then [] else newest))
   counts_after true = let given = given_counts newest both differ_all owned_both in let all = used_both in omega (arith, given, all, two)
   counts_after false = let all = used_both in omega (arith, all, two)
+
+  -- as many blocks have values
+  values_after : (empty : Bool) → used_by for_values (pool_of empty).states ≡ used_by for_values p.states
+  values_after true = given_values newest both differ_all owned_both ∙ (taken_values one second second_spare' ∙ taken_values p first first_spare)
+  values_after false = taken_values one second second_spare' ∙ taken_values p first first_spare
 
   meta_after : (empty : Bool) (b : ℕ) → slice_get p.states b ≡ Some (Owned Meta) → slice_get (pool_of empty).states b ≡ Some (Owned Meta)
   meta_after true b is = given_other newest both b (λ among. let other_owner : slice_get p.states b ≡ Some (Owned Journal) = owned b among in cc) ∙ keeps_owner b Meta is
@@ -338,6 +357,12 @@ module _ (d : Parts) (old new : BoardState) (top : ℕ × Root) (found : Found) 
       its d.space old.pages new.pages (places found d.log.pending) empty agrees.placed (λ k held. page_same k for_values held) (subst (λ (p : Blocks). Fits p new.pages) f.froze.pool_is fits) f.froze.second_erased in
       subst (λ (es : List (Key × Place)). Placed its d.space pool' new.pages es) at_frozen (subst (λ (p : Blocks). Placed its d.space p new.pages (places found d.log.pending)) (sym f.froze.pool_is) there)
 
+  values_used : used_by for_values pool'.states ≡ used_by for_values d.pool.states
+  values_used =
+      ap (λ (p : Blocks). used_by for_values p.states) f.froze.pool_is
+      ∙ values_after d.pool top.1.newest first second f.froze.first_spare f.froze.second_spare f.froze.two.different (two d old top found without m agrees none_pending none_frozen)
+      (newest_differ d old top found without m agrees none_pending none_frozen) (newest_owned d old top found without m agrees none_pending none_frozen) (used_two d old top found without m agrees none_pending none_frozen) empty
+
   freeze_agrees : AgreesWith (with_both d log' pool') its new.pages (f.froze.page, log'.root) (frozen found) m m
   freeze_agrees = record {
     shape_is = shape_same;
@@ -395,6 +420,9 @@ module _ (d : Parts) (old new : BoardState) (before : IsReady old d.log.shape) (
           without = m;
           with = freeze_agrees d old new there.top there.found there.without m there.with none_pending none_frozen shared log' pool' f fits after;
         };
+        same_places = λ was.
+            sym (at_frozen d old new there.top there.found there.without m there.with none_pending none_frozen shared log' pool' f fits after)
+            ∙ ap (λ (x : Found). places x d.log.pending) (same_found d d.log.shape old.pages m was there);
         still = inr (under_reads d.log.shape new.pages [] (f.froze.page, log'.root) (frozen there.found) m f.froze.under);
         cuts = (run.0, weaken run.0 old new (TickCut d.log.shape m) (CommitCut d.log.shape old.pages m) (tick_is_commit d.log.shape old.pages m) run.1, run.2);
       }) stands
@@ -471,6 +499,13 @@ module _ (r : Result Unit Fault) (d : Parts) (old new : BoardState) (before : Is
   module _ (log' : LogState) (pool' : Blocks) where
     pub keeps_if : IsReady new d.log.shape → IsShared d.pool.shape d.pool.states → OnOk r (Made log' pool') → OnOk r (Fits pool' new.pages) → OnOk r (KeepsAll d (with_both d log' pool') old new)
     keeps_if after shared froze fits = on_ok_weaker r (λ f. freeze_keeps d old new before none_pending none_frozen unworn log' pool' after shared f.0 f.1) (both_ok (Made log' pool') (Fits pool' new.pages) r froze fits)
+
+    pub values_if : IsReady new d.log.shape → IsShared d.pool.shape d.pool.states → OnOk r (Made log' pool') → OnOk r (Fits pool' new.pages) → OnOk r (used_by for_values pool'.states ≡ used_by for_values d.pool.states)
+    values_if after shared froze fits =
+        on_ok_weaker r (λ f.
+        let there = witness.1 in
+        values_used d old new there.top there.found there.without witness.0 there.with none_pending none_frozen shared log' pool'
+        (f.0 there.top there.found witness.0 (can_here d old new before none_pending none_frozen unworn witness.0 there)) f.1 after) (both_ok (Made log' pool') (Fits pool' new.pages) r froze fits)
 
     pub room_if : OnOk r (Made log' pool') → OnOk r ((key : Key) → needs_freeze log' key ≡ false)
     room_if froze = on_ok_weaker r (λ f key. let can = may_here in freeze_room d.log log' d.pool pool' old new can.0 can.1 can.2 key can.3 (f can.0 can.1 can.2 can.3)) froze

@@ -13,8 +13,11 @@ use Rattle.pk_model.specs.Reading.{reading}
 use Rattle.pk_drive.specs.Growth.{Goes}
 use Rattle.pk_drive.specs.Commit.{CommitCut}
 use Rattle.pk_drive.proofs.Growing.{Reaches-then, Goes-then, at_end}
+use Rattle.pk_model.specs.Found.{Found}
+use Rattle.pk_steps.specs.Under.{places}
 use Rattle.pk_core.specs.Parts.{Parts}
 use Rattle.pk_core.specs.Moves.{StandsFor, Keeps, KeepsAll, BreaksAll}
+use Rattle.pk_core.proofs.Standing.{same_found}
 
 -- where the second flash holds what the first held, or the map, a cut behind it is one behind the first
 cut_of_both : (shape : Shape) (m : Map) (first second flash : Flash) (front posted : List ℕ) → front ≡ []
@@ -37,6 +40,7 @@ module _ (a b : Parts) (shape : Shape) (m : Map) (s0 s1 : BoardState) (has : s0.
   pub Keeps-then : (c : Parts) (s2 : BoardState) → Keeps b c shape m s1 s2 → Keeps a c shape m s0 s2
   Keeps-then c s2 second = record {
     stands = second.stands;
+    same_places = λ was. second.same_places first.stands ∙ first.same_places was;
     still = elim second.still [
       | inl same ↦ elim first.still [ inl was ↦ inl (same ∙ was) | inr is ↦ inr (same ∙ is) ]
       | inr is ↦ inr is
@@ -66,6 +70,7 @@ pub KeepsAll-none : (a b : Parts) (old new : BoardState) → b ≡ a → new ≡
 KeepsAll-none a b old new same_parts same shape m stands =
     let there : Keeps a a shape m old old = record {
       stands = stands;
+      same_places = λ was. ap (λ (f : Found). places f a.log.pending) (same_found a shape old.pages m was stands);
       still = inl refl;
       cuts = ([], Reached-start old old (CommitCut shape old.pages m) refl refl refl refl (refl, inl refl), tt);
     } in

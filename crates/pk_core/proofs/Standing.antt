@@ -38,3 +38,20 @@ stands_so d board shape m told is = record { shape_is = told; frames_is = refl; 
 
 pub agrees_so : (d : Parts) (told : Option Shape) (shape : Shape) (flash : Flash) (m : Map) → told ≡ Some shape → StandsFor d shape flash m → Agrees d told flash
 agrees_so d told shape flash m is stands = record { shape = shape; top = stands.top; found = stands.found; without = stands.without; all = m; told_is = is; with = stands.with }
+
+-- a drive agrees with one flash for one root, and for what is found under it
+found_once : (a b : Parts) (shape : Shape) (flash : Flash) (top top' : ℕ × Root) (found found' : Found) (w m w' m' : Map)
+    → AgreesWith a shape flash top found w m → AgreesWith b shape flash top' found' w' m' → found' ≡ found
+found_once a b shape flash top top' found found' w m w' m' one other =
+    let same_top : top' ≡ top = some_same top' top (sym other.committed.is_top ∙ one.committed.is_top) in
+    ok_found found' found (sym other.committed.is_found ∙ (ap (λ (t : ℕ × Root). found_under shape (page_at flash) t.1) same_top ∙ one.committed.is_found))
+  where
+    some_same : (x y : ℕ × Root) → ◌≡◌ {A = Option (ℕ × Root)} (Some x) (Some y) → x ≡ y
+    some_same x y e = cc
+
+    ok_found : (x y : Found) → ◌≡◌ {A = Result Found Refusal} (Ok x) (Ok y) → x ≡ y
+    ok_found x y e = cc
+
+-- so what it stands for was found once
+pub same_found : (d : Parts) (shape : Shape) (flash : Flash) (m : Map) (one other : StandsFor d shape flash m) → other.found ≡ one.found
+same_found d shape flash m one other = found_once d d shape flash one.top other.top one.found other.found one.without m other.without m one.with other.with

@@ -256,6 +256,7 @@ module _ (d : Parts) (key : Key) (value : List ℕ) (old : BoardState) (page : �
     pub placed_keeps : Keeps d after shape all old new
     placed_keeps = record {
       stands = record { top = top; found = found; without = without; with = placed_agrees };
+      same_places = λ was. ap (λ (f : Found). places f d.log.pending) (found_once d d shape old.pages was.top top was.found found was.without all without all was.with with);
       still = (still_commits d shape old.pages top found without all with new.pages [] (refl, same_placed)).1;
       cuts = (placed_reaches.0, weaken placed_reaches.0 old new (StillCut shape top.1 found d.log.pending old.pages) (CommitCut shape old.pages all) (still_commits d shape old.pages top found without all with) placed_reaches.1, placed_reaches.2);
     }
@@ -301,19 +302,6 @@ same_roots has_shape old new has has_new same =
     ap (λ s. root_number (shape_or_none s) new.pages) has_new ∙ ap number_of same ∙ ap (λ s. root_number (shape_or_none s) old.pages) (sym has)
 
 -- ---- where the value stands
-
--- a drive agrees with one flash for one root, and for what is found under it
-found_once : (a b : Parts) (shape : Shape) (flash : Flash) (top top' : ℕ × Root) (found found' : Found) (w m w' m' : Map)
-    → AgreesWith a shape flash top found w m → AgreesWith b shape flash top' found' w' m' → found' ≡ found
-found_once a b shape flash top top' found found' w m w' m' one other =
-    let same_top : top' ≡ top = some_same top' top (sym other.committed.is_top ∙ one.committed.is_top) in
-    ok_found found' found (sym other.committed.is_found ∙ (ap (λ (t : ℕ × Root). found_under shape (page_at flash) t.1) same_top ∙ one.committed.is_found))
-  where
-    some_same : (x y : ℕ × Root) → ◌≡◌ {A = Option (ℕ × Root)} (Some x) (Some y) → x ≡ y
-    some_same x y e = cc
-
-    ok_found : (x y : Found) → ◌≡◌ {A = Result Found Refusal} (Ok x) (Ok y) → x ≡ y
-    ok_found x y e = cc
 
 -- all that a call says that wrote a value
 pub record Written (d : Parts) (key : Key) (value : List ℕ) (old : BoardState) (page : ℕ) (after : Parts) (new : BoardState) : Type 0 where

@@ -28,6 +28,8 @@ pub record StandsFor (d : Parts) (shape : Shape) (flash : Flash) (m : Map) : Typ
 -- The map with the pending entries is the same. The flash holds what it held, or that map; and so it does at every cut.
 pub record Keeps (before after : Parts) (shape : Shape) (m : Map) (old new : BoardState) : Type 0 where
   pub stands : StandsFor after shape new.pages m
+  -- and so are the places of its values
+  pub same_places : (was : StandsFor before shape old.pages m) → places stands.found after.log.pending ≡ places was.found before.log.pending
   pub still : (reading shape new.pages [] ≡ reading shape old.pages []) ⊎ (reading shape new.pages [] ≡ Ok m)
   pub cuts : Reaches shape old new (CommitCut shape old.pages m)
 

@@ -5,6 +5,8 @@ ghost use Rattle.pk_base.specs.Map.{Map};
 ghost use Rattle.pk_base.specs.Shape.{page_entries};
 ghost use Rattle.pk_nand.specs.Calls.{IsReady};
 ghost use Rattle.pk_nand.specs.declared.types.Fault.TheVariants.{Stopped};
+ghost use Rattle.pk_plan.specs.declared.owner.Owner.TheVariants.{Values};
+ghost use Rattle.pk_pool.specs.Blocks.{used_by};
 ghost use Rattle.pk_log.specs.State.{needs_freeze as needs_freeze_for};
 ghost use Rattle.pk_compact.specs.Working.{Works, Stops};
 ghost use Rattle.pk_drive.specs.Wear.{roots, is_worn};
@@ -29,6 +31,7 @@ impl<A: Region> Drive<A> {
         ensures rest { OnOk result ((self.new.space ≡ self.old.space) × (self.new.keys ≡ self.old.keys) × (self.new.stopped ≡ self.old.stopped) × (self.new.log.shape ≡ self.old.log.shape)) }
         ensures runs { OnOk result ((self.new.levels ≡ self.old.levels) × (self.new.arena ≡ self.old.arena) × (self.new.frames ≡ self.old.frames)) }
         ensures keeps { OnOk result (KeepsAll self.old self.new (B.state board.old) (B.state board.new)) }
+        ensures values { OnOk result (used_by Values self.new.pool.states ≡ used_by Values self.old.pool.states) }
         ensures works { OnOk result (Works (B.state board.old) (B.state board.new)) }
         ensures roots { OnOk result (roots (B.state board.new) ≤ roots (B.state board.old) + 1) }
         ensures stopped { IfErr result (λ e. e ≡ Stopped) }
@@ -51,6 +54,7 @@ impl<A: Region> Drive<A> {
         ensures rest { OnOk result ((self.new.space ≡ self.old.space) × (self.new.keys ≡ self.old.keys) × (self.new.stopped ≡ self.old.stopped) × (self.new.log.shape ≡ self.old.log.shape)) }
         ensures runs { OnOk result ((self.new.levels ≡ self.old.levels) × (self.new.arena ≡ self.old.arena) × (self.new.frames ≡ self.old.frames)) }
         ensures keeps { OnOk result (KeepsAll self.old self.new (B.state board.old) (B.state board.new)) }
+        ensures values { OnOk result (used_by Values self.new.pool.states ≡ used_by Values self.old.pool.states) }
         ensures works { OnOk result (Works (B.state board.old) (B.state board.new)) }
         ensures roots { OnOk result (roots (B.state board.new) ≤ roots (B.state board.old) + 1) }
         ensures stopped { IfErr result (λ e. e ≡ Stopped) }
@@ -77,6 +81,7 @@ impl<A: Region> Drive<A> {
         ensures rest { OnOk result ((self.new.space ≡ self.old.space) × (self.new.keys ≡ self.old.keys) × (self.new.stopped ≡ self.old.stopped) × (self.new.log.shape ≡ self.old.log.shape)) }
         ensures runs { OnOk result ((self.new.levels ≡ self.old.levels) × (self.new.arena ≡ self.old.arena) × (self.new.frames ≡ self.old.frames)) }
         ensures keeps { OnOk result (KeepsAll self.old self.new (B.state board.old) (B.state board.new)) }
+        ensures values { OnOk result (used_by Values self.new.pool.states ≡ used_by Values self.old.pool.states) }
         ensures works { OnOk result (Works (B.state board.old) (B.state board.new)) }
         ensures roots { OnOk result (roots (B.state board.new) ≤ roots (B.state board.old) + 1) }
         ensures stopped { IfErr result (λ e. e ≡ Stopped) }

@@ -1,5 +1,5 @@
 use Rattle.std.specs.Prelude.{Ok}
-use Rattle.pk_core.proofs.Freezing.{may_here, keeps_if, room_if, none_if, roots_if, breaks_if}
+use Rattle.pk_core.proofs.Freezing.{may_here, keeps_if, values_if, room_if, none_if, roots_if, breaks_if}
 use Rattle.pk_core.proofs.drive.Drive.freeze_log.Goals as goal
 
 pub freeze-requires-clause-can : goal.freeze-requires-clause-can
@@ -12,6 +12,12 @@ returns-clause-keeps g c =
     let e = c.freeze.ensures in
     let r = rw (← c.self.view_is) at c.requires in
     rw (← c.self.view_is) (keeps_if c.freeze.result _ (g.B.Nand.state c.args.board.now) (g.B.Nand.state c.freeze.new.board) r.ready r.none_pending r.none_frozen r.unworn r.stands c.freeze.new.self c.freeze.new.pool e.ready c.known.ensures e.froze e.fits)
+
+pub returns-clause-values : goal.returns-clause-values
+returns-clause-values g c =
+    let e = c.freeze.ensures in
+    let r = rw (← c.self.view_is) at c.requires in
+    rw (← c.self.view_is) (values_if c.freeze.result _ (g.B.Nand.state c.args.board.now) (g.B.Nand.state c.freeze.new.board) r.ready r.none_pending r.none_frozen r.unworn r.stands c.freeze.new.self c.freeze.new.pool e.ready c.known.ensures e.froze e.fits)
 
 pub returns-clause-room : goal.returns-clause-room
 returns-clause-room g c =
