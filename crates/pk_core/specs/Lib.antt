@@ -3,3 +3,4 @@ pub mod Agreeing
 pub mod Finding
 pub mod Done
 pub mod Moves
+pub mod Quiet

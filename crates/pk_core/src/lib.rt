@@ -7,7 +7,9 @@
 mod drive;
 mod lookup;
 mod moves;
+mod numbers;
 mod place;
+mod quiet;
 
 pub use drive::Drive;
 pub use place::ValuePlace;
