@@ -1,5 +1,5 @@
 -- How a drive stands to its flash.
-use Rattle.std.specs.Prelude.{◌≡◌, ℕ, ◌/◌, [], ◌++◌, length, Option, Some, slice_get}
+use Rattle.std.specs.Prelude.{◌≡◌, ⊤, ℕ, ◌/◌, List, [], ◌∷◌, ◌++◌, length, Option, Some, slice_get}
 use Rattle.std.specs.List.{concat}
 use Rattle.pk_base.specs.Shape.{Shape, pinned}
 use Rattle.pk_base.specs.Page.{Flash, IsFlash}
@@ -8,6 +8,7 @@ use Rattle.pk_plan.specs.declared.owner.Owner.TheVariants.{Journal, Meta}
 use Rattle.pk_rootfmt.specs.Root.{Root}
 use Rattle.pk_pool.specs.declared.state.BlockState.TheVariants.{Owned}
 use Rattle.pk_pool.specs.Blocks.{used_by}
+use Rattle.pk_run.specs.Kept.{Kept}
 use Rattle.pk_level.specs.Levels.{StandEach}
 use Rattle.pk_model.specs.Found.{Found}
 use Rattle.pk_model.specs.Laws.{AnyByRecursion}
@@ -15,6 +16,13 @@ use Rattle.pk_steps.specs.Under.{IsUnder, IsValuePage, places}
 use Rattle.pk_log.specs.Logs.{Logs}
 use Rattle.pk_data.specs.Placed.{HoldsValues, Placed}
 use Rattle.pk_core.specs.Parts.{Parts}
+
+-- the runs have this shape, and these blocks
+abbrev pub HaveBlocks : Shape → List Kept → List (List ℕ) → Type 0
+HaveBlocks shape [] [] = ⊤
+HaveBlocks shape [] (bs ∷ bss) = ⊥
+HaveBlocks shape (r ∷ rs) [] = ⊥
+HaveBlocks shape (r ∷ rs) (bs ∷ bss) = (r.shape ≡ shape) × (r.blocks ≡ bs) × HaveBlocks shape rs bss
 
 -- The parts are those of what stands under the newest root: without is the map of the flash, all the one with the pending entries.
 pub record AgreesWith (d : Parts) (shape : Shape) (flash : Flash) (top : ℕ × Root) (found : Found) (without all : Map) : Type 0 where
@@ -26,6 +34,8 @@ pub record AgreesWith (d : Parts) (shape : Shape) (flash : Flash) (top : ℕ × 
   pub levels_shape : d.levels.shape ≡ shape
   pub levels_pinned : d.levels.pinned ≡ pinned shape d.frames
   pub stand : StandEach flash d.arena d.levels.runs found.runs
+  -- their blocks are those that the root names
+  pub run_blocks : HaveBlocks shape d.levels.runs top.1.runs
   -- the values of the map with the pending entries, and where those without them lie
   pub placed : Placed shape d.space d.pool flash (places found d.log.pending)
   pub former : (k : ℕ) → IsValuePage shape (places found []) k → HoldsValues d.pool (k / shape.block_pages)

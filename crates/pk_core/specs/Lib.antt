@@ -4,3 +4,4 @@ pub mod Finding
 pub mod Done
 pub mod Moves
 pub mod Quiet
+pub mod Placing

@@ -10,6 +10,7 @@ mod moves;
 mod numbers;
 mod place;
 mod quiet;
+mod placing;
 
 pub use drive::Drive;
 pub use place::ValuePlace;
