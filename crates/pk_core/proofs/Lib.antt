@@ -6,6 +6,8 @@ pub mod Elsewhere
 pub mod Committing
 pub mod Freezing
 pub mod Rooming
+pub mod Unchanging
+pub mod Counting
 pub mod Filling
 pub mod Unread
 pub mod Stills

@@ -1,12 +1,12 @@
 -- What a search in the buffers and in the runs says of all entries.
-use Rattle.std.proofs.Common.{◌≡◌, ℕ, refl, sym, ap, subst, ◌∙◌, List, [], ◌∷◌, ◌++◌, reverse, Option, Some, None, Result, Ok, Err}
+use Rattle.std.proofs.Common.{◌≡◌, ℕ, refl, sym, ap, subst, ◌∙◌, List, Option, Some, None, Result, Ok, Err}
 use Rattle.std.specs.Prelude.{IfOk}
 use Rattle.std.specs.List.{flat_map}
 use Rattle.std.specs.FinMap.{get}
 use Rattle.std.specs.FinMap.Entries.{find}
 use Rattle.pk_base.specs.Key.{Key, key_cmp}
 use Rattle.pk_base.specs.Shape.{Shape}
-use Rattle.pk_base.specs.Page.{Flash, page_at}
+use Rattle.pk_base.specs.Page.{Flash}
 use Rattle.pk_base.specs.Entry.{Entry, Place, key_of}
 use Rattle.pk_base.specs.Seen.{entry}
 use Rattle.pk_base.specs.Firsts.{firsts}
@@ -14,7 +14,6 @@ use Rattle.pk_base.specs.Map.{Map}
 use Rattle.pk_base.specs.declared.entry.Entry.{Entry as RustEntry}
 use Rattle.pk_base.specs.declared.entry.Entry.TheVariants.{Put, Gone}
 use Rattle.pk_rootfmt.specs.Root.{Root}
-use Rattle.pk_jrn.specs.Replays.{buffer_of}
 use Rattle.pk_run.specs.Search.{IsFound}
 use Rattle.pk_model.specs.Found.{Found, entries_in_order}
 use Rattle.pk_model.proofs.Lookups.{flat, find-firsts, firsts_sorted, find-placed}
@@ -23,7 +22,7 @@ use Rattle.pk_steps.specs.Lookups.{or_else, IsValueOf}
 use Rattle.pk_steps.proofs.Counting.{found_in, finds}
 use Rattle.pk_log.specs.State.{LogState, entry_of}
 use Rattle.pk_log.specs.Logs.{Logs}
-use Rattle.pk_core.specs.Finding.{named_by, place_if_some, place_of, IsThere, IsPlaceIn}
+use Rattle.pk_core.specs.Finding.{named_by, IsPlaceIn}
 
 first_two : (a f r : Option (Option Place)) (x : Option Place) → or_else a f ≡ Some x → or_else a (or_else f r) ≡ Some x
 first_two None None r x e = cc

@@ -3,5 +3,6 @@ pub mod Agreeing
 pub mod Finding
 pub mod Done
 pub mod Moves
+pub mod Quiet
 pub mod Placing
 pub mod Noting

@@ -8,8 +8,10 @@ mod drive;
 mod lookup;
 mod moves;
 mod noting;
+mod numbers;
 mod place;
 mod placing;
+mod quiet;
 mod room;
 
 pub use drive::Drive;

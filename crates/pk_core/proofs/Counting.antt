@@ -1,0 +1,102 @@
+-- The numbers of a Report, and those of the map.
+use Rattle.std.proofs.Common.{◌≡◌, ℕ, ◌+◌, ◌*◌, ◌<◌, ◌≤◌, refl, sym, ap, subst, ◌∙◌, arith, List, [], ◌++◌, length, take, get_or, false, Option, Some, None, Ok}
+use Rattle.std.specs.List.{flat_map}
+use Rattle.std.proofs.lemmas.List.{flat_map_more, take_more}
+use Rattle.pk_base.specs.Fields.{u32}
+use Rattle.pk_base.specs.Shape.{Shape, limit, pinned}
+use Rattle.pk_base.specs.Page.{Flash, page_at}
+use Rattle.pk_base.specs.Map.{Map}
+use Rattle.pk_nvme.specs.Seen.{command_of}
+use Rattle.pk_rootfmt.specs.Root.{Root}
+use Rattle.pk_rootfmt.specs.Newest.{newest_root}
+use Rattle.pk_model.specs.Answer.{Kind, kind, retrieve, flush, report, early, success}
+use Rattle.pk_model.specs.Bounds.{most_reads}
+use Rattle.pk_model.specs.Found.{Found}
+use Rattle.pk_model.specs.Reading.{reading}
+use Rattle.pk_model.specs.Run.{Step}
+use Rattle.pk_steps.specs.Under.{places}
+use Rattle.pk_steps.proofs.Untouched.{under_reads}
+use Rattle.pk_steps.proofs.Counting.{counts}
+use Rattle.pk_data.proofs.Standing.{total_of}
+use Rattle.pk_drive.specs.Wear.{root_number, number_of}
+use Rattle.pk_drive.specs.Drive.{CountsMap}
+use Rattle.pk_drive.specs.Exec.{report_of}
+use Rattle.pk_drive.specs.Seen.{reply_of}
+use Rattle.pk_drive.specs.declared.types.Outcome.{Outcome}
+use Rattle.pk_core.specs.Parts.{Parts, sight_of, counts_of}
+use Rattle.pk_core.specs.Agreeing.{AgreesWith, Agrees}
+use Rattle.pk_core.specs.Done.{Does}
+use Rattle.pk_core.specs.Quiet.{DoneWithout}
+use Rattle.pk_core.proofs.Unchanging.{own, for_its_map, same_early, does_reads, reads_none, flush_step, report_step, same_ok, ok_sound, AnswersAll}
+
+pub numbers_more : (xs into new : List ℕ) (i d : ℕ) → i < length xs → take (4 * i + 4) new ≡ take (4 * i) into ++ u32 (get_or xs i d) → take (4 * i) into ≡ flat_map u32 (take i xs)
+    → take (4 * (i + 1)) new ≡ flat_map u32 (take (i + 1) xs)
+numbers_more xs into new i d less front before =
+    let size : 4 * (i + 1) ≡ 4 * i + 4 = omega arith in
+    let x : ℕ = get_or xs i d in
+    ap (λ (n : ℕ). take n new) size ∙ front ∙ ap (λ (r : List ℕ). r ++ u32 x) before ∙ flat_map_more u32 [] (take i xs) x ∙ ap (λ (r : List ℕ). flat_map u32 r) (sym (take_more xs i d less))
+
+-- ---- the map
+
+pub counts_map : (d : Parts) (shape : Shape) (flash : Flash) (top : ℕ × Root) (found : Found) (without all : Map) → AgreesWith d shape flash top found without all → CountsMap shape d.frames all (counts_of d)
+counts_map d shape flash top found without all a =
+    let c = counts shape flash d.log.pending top found all a.placed.is_shape a.is_flash a.pending in
+    record {
+      live_is = total_of shape d.space d.pool flash (places found d.log.pending) a.placed ∙ sym c.live_is;
+      limit_is = ap (λ s. limit s) a.shape_is;
+      keys_is = a.keys_are ∙ sym c.len_is;
+      pinned_is = ap (λ s. pinned s d.frames) a.shape_is;
+      frames_is = refl;
+    }
+
+told_same : (a b : Shape) → ◌≡◌ {A = Option Shape} (Some a) (Some b) → a ≡ b
+told_same a b e = cc
+
+pub agrees_counts : (d : Parts) (shape : Shape) (flash : Flash) (m : Map) → Agrees d (Some shape) flash → reading shape flash d.log.pending ≡ Ok m → CountsMap shape d.frames m (counts_of d)
+agrees_counts d shape flash m a read =
+    let here = counts_map d a.shape flash a.top a.found a.without a.all a.with in
+    let same : a.shape ≡ shape = sym (told_same shape a.shape a.told_is) in
+    let held = under_reads a.shape flash d.log.pending a.top a.found a.all a.with.pending in
+    let T : Shape → Type 0 = λ s. reading s flash d.log.pending ≡ Ok a.all in
+    let map_is : a.all ≡ m = same_ok a.all m (sym (subst T same held) ∙ read) in
+    subst (λ s. CountsMap s d.frames m (counts_of d)) same (subst (λ x. CountsMap a.shape d.frames x (counts_of d)) map_is here)
+
+-- ---- roots
+
+pub worn_is : (d : Parts) (shape : Shape) (flash : Flash) → Agrees d (Some shape) flash → root_number shape flash ≡ d.log.root.number
+unfolding root_number
+worn_is d shape flash a =
+    let same : a.shape ≡ shape = sym (told_same shape a.shape a.told_is) in
+    subst (λ s. number_of (newest_root s (page_at flash)) ≡ d.log.root.number) same (ap number_of a.with.committed.is_top ∙ ap (λ r. r.number) (sym a.with.logs.root_is))
+
+-- ---- commands without a call of the board
+
+other_than : (k : Kind) (x : ℕ) → kind x ≡ Some k → (◌≡◌ {A = Option Kind} (Some k) (Some retrieve) → ⊥) → kind x ≡ Some retrieve → ⊥
+other_than k x is apart e = apart (sym is ∙ e)
+
+flush_other : ◌≡◌ {A = Option Kind} (Some flush) (Some retrieve) → ⊥
+flush_other e = cc
+
+report_other : ◌≡◌ {A = Option Kind} (Some report) (Some retrieve) → ⊥
+report_other e = cc
+
+pub flush_done : (d : Parts) (o : Outcome) (into : List ℕ) → o ≡ record { status = 0; result = 0; data_len = 0; reads = 0; stopped = false } → DoneWithout d 0x00 o into
+flush_done d o into told board r v a few op passed =
+    let c = command_of r v in
+    let passes : early d.log.shape c ≡ None = same_early d.log.shape r v ∙ passed in
+    let all : AnswersAll board (sight_of d) c (success 0 []) 0 =
+    for_its_map d board a (λ s f m. Step s f m c (success 0 []) m × (kind r.opcode ≡ Some retrieve → 0 ≤ most_reads s f m c))
+    (flush_step d.log.shape d.frames a.all c passes op, λ e. absurd (other_than flush r.opcode (ap kind op) flush_other e)) in
+    subst (λ (x : Outcome). Does board board (sight_of d) (sight_of d) c (reply_of x into) x.reads x.stopped) (sym told)
+    (does_reads board board (sight_of d) c (success 0 []) 0 0 few few (reads_none board few) (omega arith) ok_sound all)
+
+pub report_done : (d : Parts) (o : Outcome) (into : List ℕ) → o ≡ record { status = 0; result = 0; data_len = 64; reads = 0; stopped = false } → take 64 into ≡ report_of (counts_of d) → DoneWithout d 0xC2 o into
+report_done d o into told bytes board r v a few op passed =
+    let c = command_of r v in
+    let passes : early d.log.shape c ≡ None = same_early d.log.shape r v ∙ passed in
+    let counted = counts_map d d.log.shape board.pages a.top a.found a.without a.all (own d board a) in
+    let all : AnswersAll board (sight_of d) c (success 0 (take 64 into)) 0 =
+    for_its_map d board a (λ s f m. Step s f m c (success 0 (take 64 into)) m × (kind r.opcode ≡ Some retrieve → 0 ≤ most_reads s f m c))
+    (report_step d.log.shape d.frames a.all c passes (counts_of d) (take 64 into) op counted bytes, λ e. absurd (other_than report r.opcode (ap kind op) report_other e)) in
+    subst (λ (x : Outcome). Does board board (sight_of d) (sight_of d) c (reply_of x into) x.reads x.stopped) (sym told)
+    (does_reads board board (sight_of d) c (success 0 (take 64 into)) 0 0 few few (reads_none board few) (omega arith) ok_sound all)

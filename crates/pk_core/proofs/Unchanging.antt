@@ -1,0 +1,453 @@
+-- Commands that only read: what they leave of the board, and what they answer.
+use Rattle.std.proofs.Common.{◌≡◌, ◌≢◌, inl, inr, ℕ, zero, suc, ◌+◌, ◌-◌, ◌<◌, ◌≤◌, refl, sym, ap, subst, ◌∙◌, arith, min, cond, List, [], ◌∷◌, length, take, true, false, Option, Some, None, Ok, Result, unwrap_or}
+use Rattle.std.specs.Prelude.{is_some, OnOk, OnErr, Err}
+use Rattle.std.proofs.lemmas.List.{take_min}
+use Rattle.std.specs.List.{AllByRecursion, flat_map}
+use Rattle.pk_base.specs.Fields.{u32}
+use Rattle.std.specs.Ordering.{eq_by_cmp}
+use Rattle.std.specs.FinMap.{get}
+use Rattle.std.specs.FinMap.Entries.{find}
+use Rattle.pk_base.specs.Key.{Key, IsKey, key_cmp}
+use Rattle.pk_base.specs.Shape.{Shape, IsShape, limit, greatest, pinned, fetched}
+use Rattle.pk_base.specs.Page.{Flash, IsFlash, page_at}
+use Rattle.pk_base.proofs.ShapeLemmas.{charge-fetched, charge_most}
+use Rattle.pk_base.specs.Entry.{Place}
+use Rattle.pk_base.specs.EntryBytes.{IsPlace}
+use Rattle.pk_base.specs.Map.{Map}
+use Rattle.pk_nvme.specs.Command.{Command, key}
+use Rattle.pk_nvme.specs.Reply.{Reply, refusal}
+use Rattle.pk_nvme.specs.Seen.{command_of}
+use Rattle.pk_nvme.specs.declared.request.Request.{Request}
+use Rattle.pk_rootfmt.specs.Root.{Root}
+use Rattle.pk_segfmt.specs.Head.{IsHead}
+use Rattle.pk_segfmt.proofs.StoredLemmas.{value_found}
+use Rattle.pk_seg.specs.Stored.{IsFront}
+use Rattle.pk_seg.specs.Counts.{ReadsFailed}
+use Rattle.pk_nand.specs.BoardState.{BoardState}
+use Rattle.pk_nand.specs.Calls.{Rose, counted, last_count, ReadFailed, IsReady}
+use Rattle.pk_nand.specs.Erased.{counted_by, after_reads}
+use Rattle.pk_nand.proofs.Reaching.{Reached-start}
+use Rattle.pk_level.specs.Levels.{ReadsUpTo, ReadFailsWithin}
+use Rattle.pk_model.specs.Answer.{Kind, kind, retrieve, exist, flush, report, early, fault_of, late_of, success, reply_of, check, effect}
+use Rattle.pk_model.specs.Bounds.{most_reads, most_reads_of}
+use Rattle.pk_model.specs.Found.{Found}
+use Rattle.pk_model.specs.Reading.{reading}
+use Rattle.pk_model.specs.Run.{Step}
+use Rattle.pk_model.specs.Sight.{Sight, Counts}
+use Rattle.pk_model.proofs.Answering.{refuses_late, serves, IsKeyLength, key_sized}
+use Rattle.pk_steps.specs.Under.{places}
+use Rattle.pk_steps.proofs.Untouched.{under_reads}
+use Rattle.pk_drive.specs.Drive.{Stands, CountsMap}
+use Rattle.pk_drive.specs.Seen.{reply_of as shown}
+use Rattle.pk_drive.specs.declared.types.Outcome.{Outcome}
+use Rattle.pk_drive.specs.Exec.{ExecCut, report_of}
+use Rattle.pk_core.specs.declared.place.ValuePlace.{ValuePlace}
+use Rattle.pk_core.specs.Parts.{Parts, sight_of}
+use Rattle.pk_core.specs.Agreeing.{AgreesWith, Agrees}
+use Rattle.pk_core.specs.Finding.{IsPlaceIn, place_of}
+use Rattle.pk_core.specs.Done.{Does}
+use Rattle.pk_core.specs.Quiet.{ReadsOnly, ReadsFailing, Looks, ValueThere, eleven}
+
+-- ---- the board
+
+counted_by-min : (k n : ℕ) → n ≤ last_count → counted_by k n ≡ min (n + k) last_count
+counted_by-min zero n few = omega (arith, few)
+counted_by-min (suc k) n few = ap counted (counted_by-min k n few) ∙ omega (arith, few)
+
+pub reads_none : (old : BoardState) → old.reads ≤ last_count → ReadsOnly old old 0
+reads_none old few = record { board = refl; few = few; up = omega arith; within = omega arith }
+
+-- some more reads
+pub reads_more : (old mid new : BoardState) (most k : ℕ) → ReadsOnly old mid most → new ≡ after_reads k mid → ReadsOnly old new (most + k)
+reads_more old mid new most k before made =
+    let few' = before.few in
+    let count : new.reads ≡ min (mid.reads + k) last_count = ap (λ b. b.reads) made ∙ counted_by-min k mid.reads few' in
+    let T : BoardState → Type 0 = λ b. record b { reads = new.reads } ≡ record old { reads = new.reads } in
+    let same : record mid { reads = new.reads } ≡ record old { reads = new.reads } = subst T (sym before.board) refl in
+    let U : ℕ → Type 0 = λ n. new ≡ record mid { reads = n } in
+    let whole : new ≡ record mid { reads = new.reads } = subst U (sym (ap (λ b. b.reads) made)) made in
+    let up = before.up in
+    let within = before.within in
+    record { board = whole ∙ same; few = omega (arith, count); up = omega (arith, count, up, few'); within = omega (arith, count, within) }
+
+-- a read behind some more fails
+pub reads_break : (old mid new : BoardState) (most k n at : ℕ) → ReadsOnly old mid most → k < n → ReadFailed (after_reads k mid) new at → ReadsFailing old new (most + n)
+reads_break old mid new most k n at before less failed =
+    let few' = before.few in
+    let count : new.reads ≡ min (mid.reads + suc k) last_count = ap (λ b. b.reads) failed.rest ∙ counted_by-min (suc k) mid.reads few' in
+    let up = before.up in
+    let within = before.within in
+    let S : BoardState → Type 0 = λ b. new ≡ record b { reads = new.reads; flash_faults = new.flash_faults; read_faults = new.read_faults; failed_at = new.failed_at } in
+    let behind : S mid = broken mid new k at failed in
+    let base : S (record old { reads = mid.reads }) = subst S before.board behind in
+    let same_faults : mid.read_faults ≡ old.read_faults = ap (λ b. b.read_faults) before.board in
+    record {
+      board = base;
+      few = omega (arith, count);
+      up = omega (arith, count, up, few');
+      within = omega (arith, count, within, less);
+      rose = subst (λ f. Rose f new.read_faults) same_faults failed.read;
+    }
+  where
+    broken : (mid new : BoardState) (k at : ℕ) → ReadFailed (after_reads k mid) new at → new ≡ record mid { reads = new.reads; flash_faults = new.flash_faults; read_faults = new.read_faults; failed_at = new.failed_at }
+    broken mid new k at failed =
+        failed.rest
+        ∙ (λ i. record mid { reads = ap (λ b. b.reads) (sym failed.rest) i; flash_faults = new.flash_faults; read_faults = new.read_faults; failed_at = ap (λ b. b.failed_at) (sym failed.rest) i })
+
+-- ---- the clauses of a command that only reads
+
+yes_no : false ≡ true → ⊥
+yes_no e = cc
+
+-- it may answer this on every map that the drive stands for, and reads no more than it may
+abbrev pub AnswersAll : BoardState → Sight → Command → Reply → ℕ → Type 0
+AnswersAll old s c reply reads =
+    (shape : Shape) (frames : ℕ) (m : Map) → Stands shape frames old s m → Step shape frames m c reply m × (kind c.opcode ≡ Some retrieve → reads ≤ most_reads shape frames m c)
+
+pub does_reads : (old new : BoardState) (s : Sight) (c : Command) (reply : Reply) (most reads : ℕ) → old.reads ≤ last_count → new.reads ≤ last_count
+    → ReadsOnly old new most → reads ≡ new.reads - old.reads → reply.status ≢ 0x88 → AnswersAll old s c reply reads → Does old new s s c reply reads false
+does_reads old new s c reply most reads few few' made is sound answers =
+    let up = made.up in
+    let n : ℕ = new.reads in
+    let P : BoardState → Type 0 = λ b. Does old b s s c reply reads false in
+    subst P (sym made.board) (record {
+      stands = λ _ shape frames m st. let a = answers shape frames m st in record { left = m; stepped = a.0; stands = record { shape_is = st.shape_is; frames_is = st.frames_is; map_is = st.map_is }; bounded = a.1 };
+      cuts = λ _ shape frames m st. ([], Reached-start old (record old { reads = n }) (ExecCut shape old.pages m c) refl refl refl refl (refl, inl refl), tt);
+      cuts_stopped = λ e. absurd (yes_no e);
+      rest = refl;
+      reads_are = omega (arith, is, up, few');
+      up = omega arith;
+      unread = λ e _. absurd (sound e);
+      sound = λ _. (refl, refl, refl);
+      stop = λ e. absurd (yes_no e);
+      stop_status = λ e. absurd (yes_no e);
+      no_stop = λ _. refl;
+      installs = omega arith;
+    })
+
+pub does_unread : (old new : BoardState) (s : Sight) (c : Command) (most reads : ℕ) → old.reads ≤ last_count → new.reads ≤ last_count → old.read_faults ≤ last_count
+    → ReadsFailing old new most → reads ≡ new.reads - old.reads → AnswersAll old s c (refusal 0x88) reads → Does old new s s c (refusal 0x88) reads false
+does_unread old new s c most reads few few' faults made is answers =
+    let up = made.up in
+    let rose = made.rose in
+    let n : ℕ = new.reads in
+    let all : ℕ = new.flash_faults in
+    let unread : ℕ = new.read_faults in
+    let at : Option ℕ = new.failed_at in
+    let P : BoardState → Type 0 = λ b. Does old b s s c (refusal 0x88) reads false in
+    subst P (sym made.board) (record {
+      stands = λ _ shape frames m st. let a = answers shape frames m st in record { left = m; stepped = a.0; stands = record { shape_is = st.shape_is; frames_is = st.frames_is; map_is = st.map_is }; bounded = a.1 };
+      cuts = λ _ shape frames m st. ([], Reached-start old (record old { reads = n; flash_faults = all; read_faults = unread; failed_at = at }) (ExecCut shape old.pages m c) refl refl refl refl (refl, inl refl), tt);
+      cuts_stopped = λ e. absurd (yes_no e);
+      rest = refl;
+      reads_are = omega (arith, is, up, few');
+      up = omega (arith, rose, faults);
+      unread = λ _ _. rose;
+      sound = λ e. absurd (e refl);
+      stop = λ e. absurd (yes_no e);
+      stop_status = λ e. absurd (yes_no e);
+      no_stop = λ _. refl;
+      installs = omega arith;
+    })
+
+-- ---- the map of a drive
+
+same_some : (a b : Shape) → ◌≡◌ {A = Option Shape} (Some a) (Some b) → a ≡ b
+same_some a b e = cc
+
+pub same_ok : {E : Type 0} (x y : Map) → ◌≡◌ {A = Result Map E} (Ok x) (Ok y) → x ≡ y
+same_ok x y e = cc
+
+module _ (d : Parts) (board : BoardState) (a : Agrees d board.shape board.pages) where
+  pub own : AgreesWith d d.log.shape board.pages a.top a.found a.without a.all
+  own = subst (λ s. AgreesWith d s board.pages a.top a.found a.without a.all) (sym a.with.shape_is) a.with
+
+  -- what holds of its one map holds of every map that it stands for
+  pub for_its_map : (P : Shape → ℕ → Map → Type 0) → P d.log.shape d.frames a.all → (shape : Shape) (frames : ℕ) (m : Map) → Stands shape frames board (sight_of d) m → P shape frames m
+  for_its_map P here shape frames m st =
+      let same_shape : d.log.shape ≡ shape = a.with.shape_is ∙ same_some a.shape shape (sym a.told_is ∙ st.shape_is) in
+      let read = under_reads d.log.shape board.pages d.log.pending a.top a.found a.all own.pending in
+      let Q : Shape → Type 0 = λ s. P s frames m in
+      let R : ℕ → Type 0 = λ f. P d.log.shape f m in
+      let S : Map → Type 0 = λ x. P d.log.shape d.frames x in
+      let U : Shape → Type 0 = λ s. reading s board.pages d.log.pending ≡ Ok m in
+      let same_map : a.all ≡ m = same_ok a.all m (sym read ∙ subst U (sym same_shape) st.map_is) in
+      subst Q same_shape (subst R st.frames_is (subst S same_map here))
+
+  -- what a look-up says of this map
+  pub looked : (k : Key) (p : Option ValuePlace) → Looks d board.pages k p → IsPlaceIn d.log.shape board.pages a.found d.log.pending a.all k p
+  looked k p looks = looks a.top a.found a.all own.logs own.stand own.pending
+
+-- ---- the value at a place
+
+found_has : (P : Key × Place → Type 0) (k : Key) (p : Place) (es : List (Key × Place)) → find key_cmp k es ≡ Some p → AllByRecursion P es → (q : Key) × P (q, p)
+found_has P k p [] e all = cc
+found_has P k p (x ∷ xs) e all =
+    elim (eq_by_cmp key_cmp k x.0) as (λ b. cond b (Some x.1) (find key_cmp k xs) ≡ Some p → (q : Key) × P (q, p)) [
+      | true ↦ λ is. (x.0, subst (λ y. P (x.0, y)) (same_place x.1 p is) all.0)
+      | false ↦ λ is. found_has P k p xs is all.1
+    ] e
+  where
+    same_place : (x y : Place) → ◌≡◌ {A = Option Place} (Some x) (Some y) → x ≡ y
+    same_place x y f = cc
+
+pub value_there : (d : Parts) (flash : Flash) (top : ℕ × Root) (found : Found) (without all : Map) (k : Key) (p : ValuePlace) → IsKey k
+    → AgreesWith d d.log.shape flash top found without all → IsPlaceIn d.log.shape flash found d.log.pending all k (Some p) → ValueThere d.log.shape flash all k p
+value_there d flash top found without all k p is_key a is =
+    let shape = d.log.shape in
+    let v : List ℕ = is.there.0 in
+    let lies = (found_has (λ e. IsPlace shape e.1) k (place_of p) (places found d.log.pending) is.placed a.placed.places).1 in
+    let head : IsHead shape k p.len = record { is_key = is_key; short = lies.short } in
+    let stands = value_found shape (page_at flash) k (place_of p) v a.logs.is_shape head (λ page bytes whole. (a.is_flash.full page bytes whole).0) is.there.1 in
+    let own_head : IsHead shape k (length v) = subst (λ n. IsHead shape k n) (sym stands.0) head in
+    record {
+      value = v;
+      is_there = is.there.2;
+      size = stands.0;
+      short = lies.short;
+      front = λ n few. record { is_head = own_head; long = (let e = stands.0 in omega (arith, few, e)); stored = stands.1 };
+    }
+
+-- ---- answers
+
+pub same_early : (shape : Shape) (r : Request) (v : List ℕ) → early shape (command_of r v) ≡ early shape (command_of r [])
+same_early shape r v = elim (kind r.opcode) as (λ o. fault_of shape (command_of r v) o ≡ fault_of shape (command_of r []) o) [ None ↦ refl | Some k ↦ refl ]
+
+module _ (shape : Shape) (frames : ℕ) (m : Map) (c : Command) (passed : early shape c ≡ None) where
+  served : (k : Kind) (own : List ℕ) (a : Reply) → length own ≡ 11 → kind c.opcode ≡ Some k → late_of shape (limit shape) m c (Some k) ≡ None → effect m c (Some k) ≡ m
+      → a ≡ reply_of shape (limit shape) frames m own c (Some k) → Step shape frames m c a m
+  served k own a eleven is late left answer =
+      let s = serves shape (limit shape) frames m own c k is passed late in
+      inl (record { own = own; eleven = eleven; replied = answer ∙ sym s.replied; leaves = sym (s.leaves ∙ left) })
+
+  refused : (k : Kind) (status : ℕ) → kind c.opcode ≡ Some k → late_of shape (limit shape) m c (Some k) ≡ Some status → Step shape frames m c (refusal status) m
+  refused k status is late =
+      let s = refuses_late shape (limit shape) frames m eleven c k status is passed late in
+      inl (record { own = eleven; eleven = refl; replied = sym s.replied; leaves = sym s.leaves })
+
+  pub unread_step : Step shape frames m c (refusal 0x88) m
+  unread_step = inr (record { not_early = passed; replied = refl; leaves = refl })
+
+  pub flush_step : c.opcode ≡ 0x00 → Step shape frames m c (success 0 []) m
+  flush_step is = served flush eleven (success 0 []) refl (ap kind is) refl refl refl
+
+  pub report_step : (n : Counts) (bytes : List ℕ) → c.opcode ≡ 0xC2 → CountsMap shape frames m n → bytes ≡ report_of n → Step shape frames m c (success 0 bytes) m
+  report_step n bytes is told same =
+      let more : List ℕ = n.leased ∷ n.active ∷ n.frozen ∷ n.run1 ∷ n.run2 ∷ n.run3 ∷ n.run4 ∷ n.epoch ∷ n.blocks ∷ n.ready ∷ n.merge ∷ [] in
+      served report more (success 0 bytes) refl (ap kind is) refl refl
+      (ap (success 0) same ∙ (λ i. success 0 (flat_map u32 (told.live_is i ∷ told.limit_is i ∷ told.keys_is i ∷ told.pinned_is i ∷ told.frames_is i ∷ more))))
+
+  pub exist_there : (v : List ℕ) → c.opcode ≡ 0x14 → get m (key c) ≡ Some v → Step shape frames m c (success 0 []) m
+  exist_there v is there = served exist eleven (success 0 []) refl (ap kind is) (ap (λ o. check (is_some o) 0x87) there) refl refl
+
+  pub exist_missing : c.opcode ≡ 0x14 → get m (key c) ≡ None → Step shape frames m c (refusal 0x87) m
+  exist_missing is missing = refused exist 0x87 (ap kind is) (ap (λ o. check (is_some o) 0x87) missing)
+
+  pub retrieve_missing : c.opcode ≡ 0x02 → get m (key c) ≡ None → Step shape frames m c (refusal 0x87) m
+  retrieve_missing is missing = refused retrieve 0x87 (ap kind is) (ap (λ o. check (is_some o) 0x87) missing)
+
+  pub retrieve_there : (v bytes : List ℕ) (len : ℕ) → c.opcode ≡ 0x02 → get m (key c) ≡ Some v → length v ≡ len → bytes ≡ take c.size v → Step shape frames m c (success len bytes) m
+  retrieve_there v bytes len is there size same =
+      served retrieve eleven (success len bytes) refl (ap kind is) (ap (λ o. check (is_some o) 0x87) there) refl
+      ((λ i. success (sym size i) (same i)) ∙ ap (λ o. success (length (unwrap_or o [])) (take c.size (unwrap_or o []))) (sym there))
+
+  -- how many pages it may read
+  pub most_missing : get m (key c) ≡ None → most_reads shape frames m c ≡ 4 - pinned shape frames
+  most_missing missing = λ i. most_reads_of shape frames c (passed i) (missing i)
+
+  pub most_there : (v : List ℕ) → get m (key c) ≡ Some v → most_reads shape frames m c ≡ 4 - pinned shape frames + fetched shape (min (length v) c.size)
+  most_there v there = λ i. most_reads_of shape frames c (passed i) (there i)
+
+  pub most_least : 4 - pinned shape frames ≤ most_reads shape frames m c
+  most_least = subst (λ e. 4 - pinned shape frames ≤ most_reads_of shape frames c e (get m (key c))) (sym passed) (by_value (get m (key c)))
+    where
+      by_value : (o : Option (List ℕ)) → 4 - pinned shape frames ≤ most_reads_of shape frames c None o
+      by_value None = omega arith
+      by_value (Some v) = omega arith
+
+-- ---- what a look-up read
+
+less_reads : (old new : BoardState) (n k : ℕ) → n ≤ k → ReadsOnly old new n → ReadsOnly old new k
+less_reads old new n k less r = record { board = r.board; few = r.few; up = r.up; within = (let w = r.within in omega (arith, less, w)) }
+
+less_failing : (old new : BoardState) (n k : ℕ) → n ≤ k → ReadsFailing old new n → ReadsFailing old new k
+less_failing old new n k less r = record { board = r.board; few = r.few; up = r.up; within = (let w = r.within in omega (arith, less, w)); rose = r.rose }
+
+pub looked_reads : {X Y : Type 0} (r : Result X Y) (old new : BoardState) (n p : ℕ) → old.reads ≤ last_count → n + p ≤ 4 → OnOk r (ReadsUpTo n old new) → OnOk r (ReadsOnly old new (4 - p))
+looked_reads (Ok x) old new n p few least (k, most, made) = less_reads old new (0 + k) (4 - p) (omega (arith, most, least)) (reads_more old old new 0 k (reads_none old few) made)
+looked_reads (Err y) old new n p few least made = tt
+
+pub looked_failing : {X Y : Type 0} (r : Result X Y) (old new : BoardState) (n p : ℕ) → old.reads ≤ last_count → n + p ≤ 4 → OnErr r (ReadFailsWithin n old new) → OnErr r (ReadsFailing old new (4 - p))
+looked_failing (Ok x) old new n p few least made = tt
+looked_failing (Err y) old new n p few least (k, at, less, failed) = less_failing old new (0 + n) (4 - p) (omega (arith, least)) (reads_break old old new 0 k n at (reads_none old few) less failed)
+
+-- ---- pages of a value
+
+pub few_fetched : (shape : Shape) (n : ℕ) → IsShape shape → n ≤ greatest shape → fetched shape n ≤ 64
+few_fetched shape zero is short = omega arith
+few_fetched shape (suc n) is short =
+    let same = charge-fetched shape (suc n) (λ e. absurd (omega (arith, e))) in
+    let most = charge_most shape (suc n) is short in
+    let block = is.block_most in
+    omega (arith, same, most, block)
+
+-- ---- the answers of commands that look a key up
+
+pub agrees_ready : (d : Parts) (board : BoardState) → Agrees d board.shape board.pages → IsReady board d.log.shape
+agrees_ready d board a = record { shape_is = a.told_is ∙ ap (λ s. Some s) (sym a.with.shape_is); flash = subst (λ s. IsFlash s board.pages) (sym a.with.shape_is) a.with.is_flash }
+
+pub agrees_same : (d d' : Parts) (told told' : Option Shape) (flash flash' : Flash) → d' ≡ d → told' ≡ told → flash' ≡ flash → Agrees d told flash → Agrees d' told' flash'
+agrees_same d d' told told' flash flash' e f g a =
+    subst (λ x. Agrees x told' flash') (sym e) (subst (λ x. Agrees d x flash') (sym f) (subst (λ x. Agrees d told x) (sym g) a))
+
+pub exist_keyed : (shape : Shape) (r : Request) → r.opcode ≡ 0x14 → early shape (command_of r []) ≡ None → IsKeyLength r.key_len
+exist_keyed shape r is passed = key_sized shape (command_of r []) exist (λ n. refl) (ap kind is) passed
+
+pub retrieve_keyed : (shape : Shape) (r : Request) → r.opcode ≡ 0x02 → early shape (command_of r []) ≡ None → IsKeyLength r.key_len
+retrieve_keyed shape r is passed = key_sized shape (command_of r []) retrieve (λ n. refl) (ap kind is) passed
+
+pub ok_sound : ◌≡◌ {A = ℕ} 0 0x88 → ⊥
+ok_sound e = cc
+
+missing_sound : ◌≡◌ {A = ℕ} 0x87 0x88 → ⊥
+missing_sound e = omega (arith, e)
+
+other_kind : (x : ℕ) → x ≡ 0x14 → kind x ≡ Some retrieve → ⊥
+other_kind x is e = let f : ◌≡◌ {A = Option Kind} (Some exist) (Some retrieve) = sym (ap kind is) ∙ e in cc
+
+-- the value that a look-up found
+pub value_of : (d : Parts) (old : BoardState) (a : Agrees d old.shape old.pages) (k : Key) (p : ValuePlace) → IsKey k → Looks d old.pages k (Some p) → ValueThere d.log.shape old.pages a.all k p
+value_of d old a k p is_key looks = value_there d old.pages a.top a.found a.without a.all k p is_key (own d old a) (looked d old a k (Some p) looks)
+
+-- its pages, on an equal flash
+pub front_moved : (d d' : Parts) (flash flash' : Flash) (page n : ℕ) (q : Key) (w : List ℕ) → d' ≡ d → flash' ≡ flash → IsFront d.log.shape flash page n q w → IsFront d'.log.shape flash' page n q w
+front_moved d d' flash flash' page n q w same pages is = subst (λ x. IsFront x.log.shape flash' page n q w) (sym same) (subst (λ f. IsFront d.log.shape f page n q w) (sym pages) is)
+
+pub front_of : (d d' : Parts) (flash' : Flash) (old : BoardState) (a : Agrees d old.shape old.pages) (k : Key) (p : ValuePlace) (n size : ℕ) → IsKey k → Looks d old.pages k (Some p) → d' ≡ d → flash' ≡ old.pages → n ≡ min p.len size
+    → (q : Key) × (w : List ℕ) × IsFront d'.log.shape flash' p.page n q w
+front_of d d' flash' old a k p n size is_key looks same pages is =
+    let there = value_of d old a k p is_key looks in
+    (k, there.value, front_moved d d' old.pages flash' p.page n k there.value same pages (there.front n (omega (arith, is))))
+
+pub room_of : (d : Parts) (old : BoardState) (a : Agrees d old.shape old.pages) (k : Key) (p : ValuePlace) (n size room : ℕ) → IsKey k → Looks d old.pages k (Some p) → n ≡ min p.len size → greatest d.log.shape ≤ room → n ≤ room
+room_of d old a k p n size room is_key looks is all = (let short = (value_of d old a k p is_key looks).short in omega (arith, is, short, all))
+
+-- ---- the reads of a value behind those of a look-up
+
+pub value_reads : (d d' : Parts) (old mid new : BoardState) (n : ℕ) → d' ≡ d → ReadsOnly old mid (4 - d.levels.pinned) → new ≡ after_reads (fetched d'.log.shape n) mid → ReadsOnly old new (4 - d.levels.pinned + fetched d.log.shape n)
+value_reads d d' old mid new n same before made =
+    reads_more old mid new (4 - d.levels.pinned) (fetched d.log.shape n) before (subst (λ x. new ≡ after_reads (fetched x.log.shape n) mid) same made)
+
+pub value_breaks : (d d' : Parts) (old mid new : BoardState) (page n : ℕ) → d' ≡ d → ReadsOnly old mid (4 - d.levels.pinned) → ReadsFailed mid new page (fetched d'.log.shape n) → ReadsFailing old new (4 - d.levels.pinned + fetched d.log.shape n)
+value_breaks d d' old mid new page n same before broken =
+    let f = subst (λ x. ReadsFailed mid new page (fetched x.log.shape n)) same broken in
+    reads_break old mid new (4 - d.levels.pinned) f.made (fetched d.log.shape n) (page + f.made) before f.within f.failed
+
+-- which are few
+pub few_of : (d : Parts) (old : BoardState) (a : Agrees d old.shape old.pages) (k : Key) (p : ValuePlace) (n size : ℕ) → IsKey k → Looks d old.pages k (Some p) → n ≡ min p.len size → 4 - d.levels.pinned + fetched d.log.shape n ≤ 68
+few_of d old a k p n size is_key looks is =
+    let short = (value_of d old a k p is_key looks).short in
+    let most = few_fetched d.log.shape n (own d old a).logs.is_shape (omega (arith, is, short)) in
+    omega (arith, most)
+
+module _ (d d' : Parts) (old new : BoardState) (r : Request) (v into : List ℕ) (a : Agrees d old.shape old.pages) (same : d' ≡ d) (passed : early d.log.shape (command_of r []) ≡ None)
+    (few : old.reads ≤ last_count) (few' : new.reads ≤ last_count) where
+  shape : Shape
+  shape = d.log.shape
+
+  c : Command
+  c = command_of r v
+
+  -- what the outcome is to be
+  abbrev pub Done : Outcome → Type 0
+  Done o = Does old new (sight_of d) (sight_of d') (command_of r v) (shown o into) o.reads o.stopped
+
+  passes : early d.log.shape (command_of r v) ≡ None
+  passes = same_early d.log.shape r v ∙ passed
+
+  same_sight : (reply : Reply) (reads : ℕ) → Does old new (sight_of d) (sight_of d) (command_of r v) reply reads false → Does old new (sight_of d) (sight_of d') (command_of r v) reply reads false
+  same_sight reply reads is = subst (λ x. Does old new (sight_of d) (sight_of x) (command_of r v) reply reads false) (sym same) is
+
+  pinned_is : d.levels.pinned ≡ pinned d.log.shape d.frames
+  pinned_is = (own d old a).levels_pinned
+
+  -- the step and the bound on the map of the drive
+  abbrev Allowed : Reply → ℕ → Type 0
+  Allowed reply reads = Step d.log.shape d.frames a.all (command_of r v) reply a.all × (kind r.opcode ≡ Some retrieve → reads ≤ most_reads d.log.shape d.frames a.all (command_of r v))
+
+  on_all : (reply : Reply) (reads : ℕ) → Allowed reply reads → AnswersAll old (sight_of d) (command_of r v) reply reads
+  on_all reply reads here = for_its_map d old a (λ s f m. Step s f m (command_of r v) reply m × (kind r.opcode ≡ Some retrieve → reads ≤ most_reads s f m (command_of r v))) here
+
+  by_reads : (most reads : ℕ) (reply : Reply) → ReadsOnly old new most → reads ≡ new.reads - old.reads → reply.status ≢ 0x88 → Allowed reply reads → Does old new (sight_of d) (sight_of d') (command_of r v) reply reads false
+  by_reads most reads reply made is sound here = same_sight reply reads (does_reads old new (sight_of d) (command_of r v) reply most reads few few' made is sound (on_all reply reads here))
+
+  by_unread : (most reads : ℕ) → old.read_faults ≤ last_count → ReadsFailing old new most → reads ≡ new.reads - old.reads → (kind r.opcode ≡ Some retrieve → reads ≤ most_reads d.log.shape d.frames a.all (command_of r v))
+      → Does old new (sight_of d) (sight_of d') (command_of r v) (refusal 0x88) reads false
+  by_unread most reads faults made is bound =
+      same_sight (refusal 0x88) reads (does_unread old new (sight_of d) (command_of r v) most reads few few' faults made is (on_all (refusal 0x88) reads (unread_step d.log.shape d.frames a.all (command_of r v) passes, bound)))
+
+  -- a look-up whose read failed
+  pub unread_look : (o : Outcome) (reads : ℕ) → o ≡ record { status = 0x88; result = 0; data_len = 0; reads = reads; stopped = false } → old.read_faults ≤ last_count
+      → ReadsFailing old new (4 - d.levels.pinned) → reads ≡ new.reads - old.reads → Done o
+  unread_look o reads told faults made is =
+      let least = most_least d.log.shape d.frames a.all (command_of r v) passes in
+      let within = made.within in
+      let p = pinned_is in
+      subst Done (sym told) (by_unread (4 - d.levels.pinned) reads faults made is (λ _. omega (arith, least, within, p, is)))
+
+  pub exist_found : (o : Outcome) (reads : ℕ) (k : Key) (p : ValuePlace) → r.opcode ≡ 0x14 → k ≡ key (command_of r v) → Looks d old.pages k (Some p)
+      → o ≡ record { status = 0; result = 0; data_len = 0; reads = reads; stopped = false } → ReadsOnly old new (4 - d.levels.pinned) → reads ≡ new.reads - old.reads → Done o
+  exist_found o reads k p op named looks told made is =
+      let there = (looked d old a k (Some p) looks).there in
+      let here : get a.all (key (command_of r v)) ≡ Some there.0 = subst (λ q. get a.all q ≡ Some there.0) named there.2 in
+      subst Done (sym told) (by_reads (4 - d.levels.pinned) reads (success 0 []) made is ok_sound (exist_there d.log.shape d.frames a.all (command_of r v) passes there.0 op here, λ e. absurd (other_kind r.opcode op e)))
+
+  pub exist_none : (o : Outcome) (reads : ℕ) (k : Key) → r.opcode ≡ 0x14 → k ≡ key (command_of r v) → Looks d old.pages k None
+      → o ≡ record { status = 0x87; result = 0; data_len = 0; reads = reads; stopped = false } → ReadsOnly old new (4 - d.levels.pinned) → reads ≡ new.reads - old.reads → Done o
+  exist_none o reads k op named looks told made is =
+      let there = (looked d old a k None looks).there in
+      let here : get a.all (key (command_of r v)) ≡ None = subst (λ q. get a.all q ≡ None) named there in
+      subst Done (sym told) (by_reads (4 - d.levels.pinned) reads (refusal 0x87) made is missing_sound (exist_missing d.log.shape d.frames a.all (command_of r v) passes op here, λ e. absurd (other_kind r.opcode op e)))
+
+  pub retrieve_none : (o : Outcome) (reads : ℕ) (k : Key) → r.opcode ≡ 0x02 → k ≡ key (command_of r v) → Looks d old.pages k None
+      → o ≡ record { status = 0x87; result = 0; data_len = 0; reads = reads; stopped = false } → ReadsOnly old new (4 - d.levels.pinned) → reads ≡ new.reads - old.reads → Done o
+  retrieve_none o reads k op named looks told made is =
+      let there = (looked d old a k None looks).there in
+      let here : get a.all (key (command_of r v)) ≡ None = subst (λ q. get a.all q ≡ None) named there in
+      let least = most_least d.log.shape d.frames a.all (command_of r v) passes in
+      let within = made.within in
+      let p = pinned_is in
+      subst Done (sym told) (by_reads (4 - d.levels.pinned) reads (refusal 0x87) made is missing_sound (retrieve_missing d.log.shape d.frames a.all (command_of r v) passes op here, λ _. omega (arith, least, within, p, is)))
+
+  -- how much may be read of the value that was found
+  most_found : (k : Key) (p : ValuePlace) (n : ℕ) → IsKey k → k ≡ key (command_of r v) → Looks d old.pages k (Some p) → n ≡ min p.len r.size
+      → most_reads d.log.shape d.frames a.all (command_of r v) ≡ 4 - d.levels.pinned + fetched d.log.shape n
+  most_found k p n is_key named looks size =
+      let there = value_of d old a k p is_key looks in
+      let here : get a.all (key (command_of r v)) ≡ Some there.value = subst (λ q. get a.all q ≡ Some there.value) named there.is_there in
+      let same_n : min (length there.value) r.size ≡ n = ap (λ x. min x r.size) there.size ∙ sym size in
+      most_there d.log.shape d.frames a.all (command_of r v) passes there.value here ∙ (λ i. 4 - sym pinned_is i + fetched d.log.shape (same_n i))
+
+  pub retrieve_found : (o : Outcome) (reads : ℕ) (k : Key) (p : ValuePlace) (n : ℕ) → r.opcode ≡ 0x02 → IsKey k → k ≡ key (command_of r v) → Looks d old.pages k (Some p)
+      → n ≡ min p.len r.size
+      → ((q : Key) (w : List ℕ) → IsFront d.log.shape old.pages p.page n q w → take n into ≡ take n w)
+      → o ≡ record { status = 0; result = p.len; data_len = n; reads = reads; stopped = false } → ReadsOnly old new (4 - d.levels.pinned + fetched d.log.shape n) → reads ≡ new.reads - old.reads → Done o
+  retrieve_found o reads k p n op is_key named looks size filled told made is =
+      let there = value_of d old a k p is_key looks in
+      let here : get a.all (key (command_of r v)) ≡ Some there.value = subst (λ q. get a.all q ≡ Some there.value) named there.is_there in
+      let w = there.value in
+      let long : n ≤ p.len = omega (arith, size) in
+      let n_is : n ≡ min r.size (length w) = (let e = there.size in omega (arith, size, e)) in
+      let bytes : take n into ≡ take r.size w = filled k w (there.front n long) ∙ (ap (λ (x : ℕ). take x w) n_is ∙ take_min r.size w) in
+      let most = most_found k p n is_key named looks size in
+      let within = made.within in
+      subst Done (sym told) (by_reads (4 - d.levels.pinned + fetched d.log.shape n) reads (success p.len (take n into)) made is ok_sound
+      (retrieve_there d.log.shape d.frames a.all (command_of r v) passes w (take n into) p.len op here there.size bytes, λ _. omega (arith, most, within, is)))
+
+  pub unread_value : (o : Outcome) (reads : ℕ) (k : Key) (p : ValuePlace) (n : ℕ) → IsKey k → k ≡ key (command_of r v) → Looks d old.pages k (Some p) → n ≡ min p.len r.size
+      → o ≡ record { status = 0x88; result = 0; data_len = 0; reads = reads; stopped = false } → old.read_faults ≤ last_count
+      → ReadsFailing old new (4 - d.levels.pinned + fetched d.log.shape n) → reads ≡ new.reads - old.reads → Done o
+  unread_value o reads k p n is_key named looks size told faults made is =
+      let most = most_found k p n is_key named looks size in
+      let within = made.within in
+      subst Done (sym told) (by_unread (4 - d.levels.pinned + fetched d.log.shape n) reads faults made is (λ _. omega (arith, most, within, is)))
