@@ -518,3 +518,10 @@ module _ (r : Result Unit Fault) (d : Parts) (old new : BoardState) (before : Is
 
   pub breaks_if : OnErr r ((top : ℕ × Root) (found : Found) (m : Map) → CanFreeze d.log d.pool old.pages top found m → Goes d.log.shape old new (TickCut d.log.shape m)) → OnErr r (BreaksAll d old new)
   breaks_if went = err_weaker ((top : ℕ × Root) (found : Found) (m : Map) → CanFreeze d.log d.pool old.pages top found m → Goes d.log.shape old new (TickCut d.log.shape m)) (BreaksAll d old new) r (λ f. freeze_breaks d old new before none_pending none_frozen unworn f) went
+
+-- one that failed installed at most one root
+pub installs_if : (r : Result Unit Fault) (shape : Shape) (old new : BoardState) → IsReady old shape → IsReady new shape → OnErr r (root_number shape new.pages ≤ root_number shape old.pages + 1) → OnErr r (roots new ≤ roots old + 1)
+installs_if r shape old new before after installs = err_weaker (root_number shape new.pages ≤ root_number shape old.pages + 1) (roots new ≤ roots old + 1) r (λ less.
+    let now : roots new ≡ root_number shape new.pages = ap (λ (s : Shape). root_number s new.pages) (shape_is new shape after) in
+    let was : roots old ≡ root_number shape old.pages = ap (λ (s : Shape). root_number s old.pages) (shape_is old shape before) in
+    omega (arith, less, now, was)) installs

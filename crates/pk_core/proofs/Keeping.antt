@@ -52,7 +52,7 @@ module _ (a b : Parts) (shape : Shape) (m : Map) (s0 s1 : BoardState) (has : s0.
   Breaks-then s2 second = Goes-then shape first.cuts.0 s0 s1 (CommitCut shape s0.pages m) has first.cuts.1 first.cuts.2 s2 (CommitCut shape s1.pages m) seen second
 
 -- the board has the shape that the drive stands for
-board_has : (a : Parts) (board : BoardState) (shape : Shape) (m : Map) → IsReady board a.log.shape → StandsFor a shape board.pages m → board.shape ≡ Some shape
+pub board_has : (a : Parts) (board : BoardState) (shape : Shape) (m : Map) → IsReady board a.log.shape → StandsFor a shape board.pages m → board.shape ≡ Some shape
 board_has a board shape m ready stands = ready.shape_is ∙ ap (λ s. Some s) stands.with.shape_is
 
 pub KeepsAll-then : (a b c : Parts) (s0 s1 s2 : BoardState) → IsReady s0 a.log.shape → KeepsAll a b s0 s1 → KeepsAll b c s1 s2 → KeepsAll a c s0 s2

@@ -14,3 +14,5 @@ pub mod Stills
 pub mod Results
 pub mod Writing
 pub mod Entries
+pub mod Putting
+pub mod Served

@@ -1,12 +1,12 @@
 -- A drive that agrees with its board stands for one map.
 use Rattle.std.proofs.Common.{◌≡◌, ℕ, refl, sym, ap, subst, ◌∙◌, List, [], Option, Some, None, Result, Ok, unwrap_or}
 use Rattle.pk_base.specs.Shape.{Shape}
-use Rattle.pk_base.specs.Page.{Flash}
+use Rattle.pk_base.specs.Page.{Flash, page_at}
 use Rattle.pk_base.specs.Map.{Map}
 use Rattle.pk_base.specs.Refusal.{Refusal}
 use Rattle.pk_rootfmt.specs.Root.{Root}
 use Rattle.pk_nand.specs.BoardState.{BoardState}
-use Rattle.pk_model.specs.Found.{Found}
+use Rattle.pk_model.specs.Found.{Found, found_under}
 use Rattle.pk_model.specs.Reading.{reading}
 use Rattle.pk_steps.specs.Under.{IsUnder}
 use Rattle.pk_steps.proofs.Untouched.{under_reads}
@@ -40,7 +40,7 @@ pub agrees_so : (d : Parts) (told : Option Shape) (shape : Shape) (flash : Flash
 agrees_so d told shape flash m is stands = record { shape = shape; top = stands.top; found = stands.found; without = stands.without; all = m; told_is = is; with = stands.with }
 
 -- a drive agrees with one flash for one root, and for what is found under it
-found_once : (a b : Parts) (shape : Shape) (flash : Flash) (top top' : ℕ × Root) (found found' : Found) (w m w' m' : Map)
+pub found_once : (a b : Parts) (shape : Shape) (flash : Flash) (top top' : ℕ × Root) (found found' : Found) (w m w' m' : Map)
     → AgreesWith a shape flash top found w m → AgreesWith b shape flash top' found' w' m' → found' ≡ found
 found_once a b shape flash top top' found found' w m w' m' one other =
     let same_top : top' ≡ top = some_same top' top (sym other.committed.is_top ∙ one.committed.is_top) in

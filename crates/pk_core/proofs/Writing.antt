@@ -45,6 +45,7 @@ use Rattle.pk_core.specs.Parts.{Parts}
 use Rattle.pk_core.specs.Agreeing.{AgreesWith}
 use Rattle.pk_core.specs.Moves.{StandsFor, Keeps, KeepsAll, BreaksAll, IsWritten}
 use Rattle.pk_core.specs.Placing.{Reserves, PlacesValue, FailsToWrite, FailsToPlace}
+use Rattle.pk_core.proofs.Standing.{found_once}
 use Rattle.pk_core.proofs.Unread.{IsReadBy, SameRead, same_top, KeepsOwners, still_without, still_all, agrees_elsewhere}
 use Rattle.pk_core.proofs.Stills.{StillCut, still_then, still_goes, still_end, went_end, still_none, still_erase, still_erase_failed, still_written, still_write_failed, works_written, stops_written}
 

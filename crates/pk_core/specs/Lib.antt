@@ -6,3 +6,5 @@ pub mod Moves
 pub mod Quiet
 pub mod Placing
 pub mod Noting
+pub mod Changes
+pub mod Serving

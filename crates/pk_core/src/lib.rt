@@ -4,6 +4,7 @@
 //! flash holds what the contract of a drive says.
 #![tactic(auto)]
 
+mod change;
 mod drive;
 mod lookup;
 mod moves;
@@ -13,6 +14,7 @@ mod place;
 mod placing;
 mod quiet;
 mod room;
+mod store;
 
 pub use drive::Drive;
 pub use place::ValuePlace;

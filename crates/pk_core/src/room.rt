@@ -34,6 +34,7 @@ impl<A: Region> Drive<A> {
         ensures values { OnOk result (used_by Values self.new.pool.states ≡ used_by Values self.old.pool.states) }
         ensures works { OnOk result (Works (B.state board.old) (B.state board.new)) }
         ensures roots { OnOk result (roots (B.state board.new) ≤ roots (B.state board.old) + 1) }
+        ensures installs { OnErr result (roots (B.state board.new) ≤ roots (B.state board.old) + 1) }
         ensures stopped { IfErr result (λ e. e ≡ Stopped) }
         ensures breaks { OnErr result (BreaksAll self.old (B.state board.old) (B.state board.new)) }
         ensures stops { OnErr result (Stops (B.state board.old) (B.state board.new)) }
@@ -57,6 +58,7 @@ impl<A: Region> Drive<A> {
         ensures values { OnOk result (used_by Values self.new.pool.states ≡ used_by Values self.old.pool.states) }
         ensures works { OnOk result (Works (B.state board.old) (B.state board.new)) }
         ensures roots { OnOk result (roots (B.state board.new) ≤ roots (B.state board.old) + 1) }
+        ensures installs { OnErr result (roots (B.state board.new) ≤ roots (B.state board.old) + 1) }
         ensures stopped { IfErr result (λ e. e ≡ Stopped) }
         ensures breaks { OnErr result (BreaksAll self.old (B.state board.old) (B.state board.new)) }
         ensures stops { OnErr result (Stops (B.state board.old) (B.state board.new)) }
@@ -84,6 +86,7 @@ impl<A: Region> Drive<A> {
         ensures values { OnOk result (used_by Values self.new.pool.states ≡ used_by Values self.old.pool.states) }
         ensures works { OnOk result (Works (B.state board.old) (B.state board.new)) }
         ensures roots { OnOk result (roots (B.state board.new) ≤ roots (B.state board.old) + 1) }
+        ensures installs { OnErr result (roots (B.state board.new) ≤ roots (B.state board.old) + 1) }
         ensures stopped { IfErr result (λ e. e ≡ Stopped) }
         ensures breaks { OnErr result (BreaksAll self.old (B.state board.old) (B.state board.new)) }
         ensures stops { OnErr result (Stops (B.state board.old) (B.state board.new)) }

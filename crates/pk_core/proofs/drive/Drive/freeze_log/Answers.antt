@@ -1,5 +1,5 @@
 use Rattle.std.specs.Prelude.{Ok}
-use Rattle.pk_core.proofs.Freezing.{may_here, keeps_if, values_if, room_if, none_if, roots_if, breaks_if}
+use Rattle.pk_core.proofs.Freezing.{may_here, keeps_if, values_if, room_if, none_if, roots_if, breaks_if, installs_if}
 use Rattle.pk_core.proofs.drive.Drive.freeze_log.Goals as goal
 
 pub freeze-requires-clause-can : goal.freeze-requires-clause-can
@@ -42,3 +42,9 @@ returns-clause-breaks g c =
     let e = c.freeze.ensures in
     let r = rw (← c.self.view_is) at c.requires in
     rw (← c.self.view_is) (breaks_if c.freeze.result _ (g.B.Nand.state c.args.board.now) (g.B.Nand.state c.freeze.new.board) r.ready r.none_pending r.none_frozen r.unworn r.stands e.went)
+
+pub returns-clause-installs : goal.returns-clause-installs
+returns-clause-installs g c =
+    let e = c.freeze.ensures in
+    let r = rw (← c.self.view_is) at c.requires in
+    installs_if c.freeze.result _ (g.B.Nand.state c.args.board.now) (g.B.Nand.state c.freeze.new.board) r.ready e.ready e.installs

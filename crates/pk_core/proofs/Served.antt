@@ -1,0 +1,411 @@
+-- The answers of commands that change the map.
+use Rattle.std.proofs.Common.{◌≡◌, ◌≢◌, ◌⊎◌, inl, inr, ℕ, ◌+◌, ◌-◌, ◌/◌, ◌%◌, ◌<◌, ◌≤◌, refl, sym, ap, subst, ◌∙◌, arith, Bool, true, false, not, ◌&&◌, ◌||◌, ◌==◌, List, [], length, sum, nat_le, is_some, Option, Some, None, Result, Ok, Err, leb-true}
+use Rattle.std.specs.Prelude.{OnOk, OnErr, MatchOption}
+use Rattle.std.specs.FinMap.{get, insert, remove, contains_key}
+use Rattle.pk_base.specs.Key.{Key, IsKey}
+use Rattle.pk_base.specs.Shape.{Shape, charge, greatest, limit, page_entries}
+use Rattle.pk_base.specs.Page.{Flash, page_at}
+use Rattle.pk_base.specs.Map.{Map, live, pages_if_some}
+use Rattle.pk_nvme.specs.Command.{Command, key}
+use Rattle.pk_nvme.specs.Reply.{Reply, refusal}
+use Rattle.pk_nvme.specs.Seen.{command_of}
+use Rattle.pk_nvme.specs.declared.request.Request.{Request}
+use Rattle.pk_nand.specs.declared.types.Fault.{Fault}
+use Rattle.pk_nand.specs.BoardState.{BoardState}
+use Rattle.pk_nand.specs.Calls.{last_count}
+use Rattle.pk_nand.specs.Crash.{ReachedBy, WentBy}
+use Rattle.pk_model.specs.Answer.{Kind, kind, store, retrieve, delete, early, first_of, check, late_of, success, map_after, effect, Answer}
+use Rattle.pk_model.specs.Bounds.{most_reads}
+use Rattle.pk_model.specs.Reading.{reading}
+use Rattle.pk_model.specs.Run.{Step}
+use Rattle.pk_model.specs.Sight.{Sight}
+use Rattle.pk_model.proofs.Answering.{serves, refuses_late, store_sized, key_sized, IsKeyLength}
+use Rattle.pk_model.proofs.MapLemmas.{live-insert}
+use Rattle.pk_model.proofs.Machines.{store_check, store_late, live_stored}
+use Rattle.pk_data.specs.State.{needs_reclaim}
+use Rattle.pk_compact.specs.Working.{Works, Stops}
+use Rattle.pk_drive.specs.Drive.{Stands}
+use Rattle.pk_drive.specs.Growth.{Reaches, Goes}
+use Rattle.pk_drive.specs.Exec.{Executed, ExecCut, ExecStands, ExecReaches, ExecGoes, most_installs}
+use Rattle.pk_drive.specs.Meter.{reads_after}
+use Rattle.pk_drive.specs.Seen.{reply_of as shown}
+use Rattle.pk_drive.specs.Wear.{roots, is_worn}
+use Rattle.pk_drive.specs.declared.types.Outcome.{Outcome}
+use Rattle.pk_drive.proofs.Growing.{weaken, weaken_went}
+use Rattle.pk_core.specs.declared.place.ValuePlace.{ValuePlace}
+use Rattle.pk_core.specs.Parts.{Parts, sight_of, counts_of, wants_second_freeze, is_built_for, built_if, is_built}
+use Rattle.pk_core.specs.Agreeing.{AgreesWith, Agrees}
+use Rattle.pk_core.specs.Done.{Does}
+use Rattle.pk_core.specs.Finding.{IsPlaceIn, place_of, place_if_some, IsThere}
+use Rattle.pk_core.specs.Moves.{StandsFor, ChangeCut}
+use Rattle.pk_core.specs.Quiet.{ReadsOnly, Looks, ValueThere, eleven}
+use Rattle.pk_core.specs.Changes.{MayPut, MayTake, Changes, PutsAll, FailsToPut, TakesAll, FailsToTake}
+use Rattle.pk_core.specs.Serving.{IsServable, pages_at}
+use Rattle.pk_core.proofs.Standing.{stands_so, agrees_so}
+use Rattle.pk_core.proofs.Counting.{counts_map}
+use Rattle.pk_core.proofs.Unchanging.{own, looked, value_of, for_its_map, same_early, reads_none, does_reads, AnswersAll}
+
+-- ---- what is built
+
+both_false : (a b : Bool) → (not a && not b) ≡ true → (a ≡ false) × (b ≡ false)
+both_false false false e = (refl, refl)
+both_false false true e = cc
+both_false true b e = cc
+
+wants_of : (d : Parts) (r : Request) → is_built d r ≡ true → early d.log.shape (command_of r []) ≡ None → is_built_for d r.opcode r.size ≡ true
+wants_of d r built passed = ap (built_if d r) (sym passed) ∙ built
+
+pub store_built : (d : Parts) (r : Request) (value : List ℕ) → r.opcode ≡ 0x01 → length value ≡ r.size → is_built d r ≡ true → early d.log.shape (command_of r []) ≡ None
+    → (wants_second_freeze d ≡ false) × (needs_reclaim d.log.shape d.space d.pool (charge d.log.shape (length value)) ≡ false)
+store_built d r value op whole built passed =
+    let all : is_built_for d 0x01 r.size ≡ true = ap (λ o. is_built_for d o r.size) (sym op) ∙ wants_of d r built passed in
+    let both = both_false (wants_second_freeze d) (needs_reclaim d.log.shape d.space d.pool (charge d.log.shape r.size)) all in
+    (both.0, ap (λ n. needs_reclaim d.log.shape d.space d.pool (charge d.log.shape n)) whole ∙ both.1)
+
+pub delete_built : (d : Parts) (r : Request) → r.opcode ≡ 0x10 → is_built d r ≡ true → early d.log.shape (command_of r []) ≡ None → wants_second_freeze d ≡ false
+delete_built d r op built passed =
+    let all : is_built_for d 0x10 r.size ≡ true = ap (λ o. is_built_for d o r.size) (sym op) ∙ wants_of d r built passed in
+    (both_false (wants_second_freeze d) false all).0
+
+pub store_keyed : (shape : Shape) (r : Request) → r.opcode ≡ 0x01 → early shape (command_of r []) ≡ None → IsKeyLength r.key_len
+store_keyed shape r is passed = key_sized shape (command_of r []) store (λ n. refl) (ap kind is) passed
+
+pub delete_keyed : (shape : Shape) (r : Request) → r.opcode ≡ 0x10 → early shape (command_of r []) ≡ None → IsKeyLength r.key_len
+delete_keyed shape r is passed = key_sized shape (command_of r []) delete (λ n. refl) (ap kind is) passed
+
+pub store_short : (shape : Shape) (r : Request) → r.opcode ≡ 0x01 → early shape (command_of r []) ≡ None → r.size ≤ greatest shape
+store_short shape r is passed = store_sized shape (command_of r []) (ap kind is) passed
+
+-- ---- no other kind
+
+store_other : (x : ℕ) → x ≡ 0x01 → kind x ≡ Some retrieve → ⊥
+store_other x is e = let f : ◌≡◌ {A = Option Kind} (Some store) (Some retrieve) = sym (ap kind is) ∙ e in cc
+
+delete_other : (x : ℕ) → x ≡ 0x10 → kind x ≡ Some retrieve → ⊥
+delete_other x is e = let f : ◌≡◌ {A = Option Kind} (Some delete) (Some retrieve) = sym (ap kind is) ∙ e in cc
+
+-- ---- the clauses of a command that changed the map
+
+yes_no : false ≡ true → ⊥
+yes_no e = cc
+
+no_yes : true ≡ false → ⊥
+no_yes e = cc
+
+ok_sound : ◌≡◌ {A = ℕ} 0 0x88 → ⊥
+ok_sound e = cc
+
+module _ (d : Parts) (old new : BoardState) (a : Agrees d old.shape old.pages) (c : Command) (after : Map) (counted : old.reads ≤ last_count) (few_roots : roots new ≤ roots old + 1) (one : most_installs c.opcode c.size ≡ 65535)
+    (other : kind c.opcode ≡ Some retrieve → ⊥) (leaves : map_after d.log.shape (limit d.log.shape) a.all c ≡ after) where
+  told : old.shape ≡ Some d.log.shape
+  told = a.told_is ∙ ap (λ s. Some s) (sym a.with.shape_is)
+
+  -- where the change is cut, the command is
+  exec_cut : (f : Flash) (q : List ℕ) → ChangeCut d.log.shape old.pages a.all after f q → ExecCut d.log.shape old.pages a.all c f q
+  exec_cut f q (quiet, inl same) = (quiet, inl same)
+  exec_cut f q (quiet, inr (inl is)) = (quiet, inr (inl is))
+  exec_cut f q (quiet, inr (inr is)) = (quiet, inr (inr (is ∙ ap (λ m. Ok m) (sym leaves))))
+
+  pub does_change : (e : Parts) (reply : Reply) → Changes e d.log.shape a.all after old new → e.frames ≡ d.frames → new.shape ≡ old.shape → Works old new → reply.status ≢ 0x88 → Step d.log.shape d.frames a.all c reply after
+      → Does old new (sight_of d) (sight_of e) c reply 0 false
+  does_change e reply changed same_frames same_shape works sound step = record {
+    stands = λ _. for_its_map d old a (λ s f m. Executed s f new (sight_of e) m c reply 0) (record {
+      left = after;
+      stepped = step;
+      stands = subst (λ (f : ℕ). Stands d.log.shape f new (sight_of e) after) same_frames (stands_so e new d.log.shape after (same_shape ∙ told) changed.stands);
+      bounded = λ is. absurd (other is);
+    });
+    cuts = λ _. for_its_map d old a (λ s f m. Reaches s old new (ExecCut s old.pages m c))
+        (changed.cuts.0, weaken changed.cuts.0 old new (ChangeCut d.log.shape old.pages a.all after) (ExecCut d.log.shape old.pages a.all c) exec_cut changed.cuts.1, changed.cuts.2);
+    cuts_stopped = λ is. absurd (yes_no is);
+    rest = works.rest;
+    reads_are = let same = works.reads in omega (arith, same, counted);
+    up = let same = works.no_fault.1 in omega (arith, same);
+    unread = λ is. absurd (sound is);
+    sound = λ _. works.no_fault;
+    stop = λ is. absurd (yes_no is);
+    stop_status = λ is. absurd (yes_no is);
+    no_stop = λ _. works.no_fault.2;
+    installs = omega (arith, few_roots, one);
+  }
+
+  pub does_stop : (s : Sight) → Goes d.log.shape old new (ChangeCut d.log.shape old.pages a.all after) → Stops old new → Does old new (sight_of d) s c (refusal 0x88) 0 true
+  does_stop s went stops = record {
+    stands = λ is. absurd (no_yes is);
+    cuts = λ is. absurd (no_yes is);
+    cuts_stopped = λ _. for_its_map d old a (λ s f m. Goes s old new (ExecCut s old.pages m c))
+        (went.0, weaken_went went.0 old new (ChangeCut d.log.shape old.pages a.all after) (ExecCut d.log.shape old.pages a.all c) exec_cut went.1, went.2);
+    rest = stops.rest;
+    reads_are = let same = stops.reads in omega (arith, same, counted);
+    up = let same = stops.read in omega (arith, same);
+    unread = λ _ is. absurd (no_yes is);
+    sound = λ is. absurd (is refl);
+    stop = λ _. stops.stop;
+    stop_status = λ _. refl;
+    no_stop = λ is. absurd (no_yes is);
+    installs = omega (arith, few_roots, one);
+  }
+
+-- ---- steps of the map
+
+module _ (shape : Shape) (frames : ℕ) (m : Map) (c : Command) (passed : early shape c ≡ None) where
+  refused_step : (k : Kind) (status : ℕ) → kind c.opcode ≡ Some k → late_of shape (limit shape) m c (Some k) ≡ Some status → Step shape frames m c (refusal status) m
+  refused_step k status is late =
+      let s = refuses_late shape (limit shape) frames m eleven c k status is passed late in
+      inl (record { own = eleven; eleven = refl; replied = sym s.replied; leaves = sym s.leaves })
+
+  store_leaves : kind c.opcode ≡ Some store → late_of shape (limit shape) m c (Some store) ≡ None → map_after shape (limit shape) m c ≡ insert m (key c) c.value
+  store_leaves is late = (serves shape (limit shape) frames m eleven c store is passed late).leaves
+
+  store_step : kind c.opcode ≡ Some store → late_of shape (limit shape) m c (Some store) ≡ None → Step shape frames m c (success 0 []) (insert m (key c) c.value)
+  store_step is late =
+      let s = serves shape (limit shape) frames m eleven c store is passed late in
+      inl (record { own = eleven; eleven = refl; replied = sym s.replied; leaves = sym s.leaves })
+
+  delete_leaves : kind c.opcode ≡ Some delete → late_of shape (limit shape) m c (Some delete) ≡ None → map_after shape (limit shape) m c ≡ remove m (key c)
+  delete_leaves is late = (serves shape (limit shape) frames m eleven c delete is passed late).leaves
+
+  delete_step : kind c.opcode ≡ Some delete → late_of shape (limit shape) m c (Some delete) ≡ None → Step shape frames m c (success 0 []) (remove m (key c))
+  delete_step is late =
+      let s = serves shape (limit shape) frames m eleven c delete is passed late in
+      inl (record { own = eleven; eleven = refl; replied = sym s.replied; leaves = sym s.leaves })
+
+-- ---- the checks of a Store
+
+not_unread : (options live most status : ℕ) (there : Bool) → store_check options there live most ≡ Some status → status ≢ 0x88
+not_unread options live most status there is = by_cases (not (options % 2 == 1) || there) (not (options / 2 % 2 == 1 && there)) (nat_le live most) is
+  where
+    some_same : (x y : ℕ) → ◌≡◌ {A = Option ℕ} (Some x) (Some y) → x ≡ y
+    some_same x y e = cc
+
+    differs : (x : ℕ) → x ≢ 0x88 → ◌≡◌ {A = Option ℕ} (Some x) (Some status) → status ≢ 0x88
+    differs x ne e same = ne (some_same x status e ∙ same)
+
+    by_cases : (a b c : Bool) → first_of (check a 0x87) (first_of (check b 0x89) (check c 0x81)) ≡ Some status → status ≢ 0x88
+    by_cases false b c e = differs 0x87 (λ x. omega (arith, x)) e
+    by_cases true false c e = differs 0x89 (λ x. omega (arith, x)) e
+    by_cases true true false e = differs 0x81 (λ x. omega (arith, x)) e
+    by_cases true true true e = cc
+
+-- where none failed, the live pages are within their limit
+within : (options live most : ℕ) (there : Bool) → store_check options there live most ≡ None → live ≤ most
+within options live most there is = by_cases (not (options % 2 == 1) || there) (not (options / 2 % 2 == 1 && there)) (nat_le live most) refl is
+  where
+    by_cases : (a b c : Bool) → nat_le live most ≡ c → first_of (check a 0x87) (first_of (check b 0x89) (check c 0x81)) ≡ None → live ≤ most
+    by_cases false b c l e = cc
+    by_cases true false c l e = cc
+    by_cases true true false l e = cc
+    by_cases true true true l e = leb-true live most l
+
+-- ---- a command whose key has its value at a place
+
+module _ (d : Parts) (old : BoardState) (a : Agrees d old.shape old.pages) (k : Key) (o : Option ValuePlace) (is_key : IsKey k) (looks : Looks d old.pages k o) where
+  placed_there : IsPlaceIn d.log.shape old.pages a.found d.log.pending a.all k o
+  placed_there = looked d old a k o looks
+
+  its_drive : StandsFor d d.log.shape old.pages a.all
+  its_drive = record { top = a.top; found = a.found; without = a.without; with = own d old a }
+
+is_there_same : (d : Parts) (old : BoardState) (a : Agrees d old.shape old.pages) (k : Key) (o : Option ValuePlace) → IsKey k → Looks d old.pages k o → is_some o ≡ contains_key a.all k
+is_there_same d old a k None is_key looks = ap is_some (sym (looked d old a k None looks).there)
+is_there_same d old a k (Some p) is_key looks = ap is_some (sym (value_of d old a k p is_key looks).is_there)
+
+pages_same : (d : Parts) (old : BoardState) (a : Agrees d old.shape old.pages) (k : Key) (o : Option ValuePlace) → IsKey k → Looks d old.pages k o → pages_at d.log.shape o ≡ pages_if_some d.log.shape (get a.all k)
+pages_same d old a k None is_key looks = ap (pages_if_some d.log.shape) (sym (looked d old a k None looks).there)
+pages_same d old a k (Some p) is_key looks =
+    let there = value_of d old a k p is_key looks in
+    ap (charge d.log.shape) (sym there.size) ∙ ap (pages_if_some d.log.shape) (sym there.is_there)
+
+pub short_place : (d : Parts) (old : BoardState) (a : Agrees d old.shape old.pages) (k : Key) (o : Option ValuePlace) → IsKey k → Looks d old.pages k o → MatchOption o (Unit {0}) (λ p. p.len ≤ greatest d.log.shape)
+short_place d old a k None is_key looks = tt
+short_place d old a k (Some p) is_key looks = (value_of d old a k p is_key looks).short
+
+-- ---- a Store
+
+module _ (d : Parts) (old : BoardState) (r : Request) (value : List ℕ) (k : Key) (o : Option ValuePlace) (s : IsServable d old r) (op : r.opcode ≡ 0x01) (whole : length value ≡ r.size)
+    (named : k ≡ key (command_of r value)) (is_key : IsKey k) (looks : Looks d old.pages k o) where
+  abbrev c : Command
+  c = command_of r value
+
+  abbrev all : Map
+  all = s.agrees.all
+
+  abbrev shape : Shape
+  shape = d.log.shape
+
+  abbrev after_pages : ℕ
+  after_pages = sum d.space.live.heads - pages_at d.log.shape o + charge d.log.shape r.size
+
+  passes : early d.log.shape c ≡ None
+  passes = same_early d.log.shape r value ∙ s.passed
+
+  live_is : sum d.space.live.heads ≡ live d.log.shape all
+  live_is = (counts_map d d.log.shape old.pages s.agrees.top s.agrees.found s.agrees.without all (own d old s.agrees)).live_is
+
+  late_is : store_check r.options (is_some o) after_pages (limit d.log.shape) ≡ late_of d.log.shape (limit d.log.shape) all c (Some store)
+  late_is = store_late d.log.shape all r value (is_some o) (sum d.space.live.heads) (pages_at d.log.shape o) (charge d.log.shape r.size) (limit d.log.shape)
+      (is_there_same d old s.agrees k o is_key looks ∙ ap (contains_key all) named) live_is
+      (pages_same d old s.agrees k o is_key looks ∙ ap (λ q. pages_if_some d.log.shape (get all q)) named) refl refl
+
+  pub store_refused : (status : ℕ) (e : Parts) (into : List ℕ) (outcome : Outcome) (reads : ℕ) → store_check r.options (is_some o) after_pages (limit d.log.shape) ≡ Some status → e ≡ d
+      → outcome ≡ record { status = status; result = 0; data_len = 0; reads = reads; stopped = false }
+      → Does old old (sight_of d) (sight_of e) c (shown outcome into) 0 outcome.stopped
+  store_refused status e into outcome reads failed same told_is =
+      let step = refused_step d.log.shape d.frames all c passes store status (ap kind op) (sym late_is ∙ failed) in
+      let answers : AnswersAll old (sight_of d) c (refusal status) 0 =
+      for_its_map d old s.agrees (λ x f m. Step x f m c (refusal status) m × (kind r.opcode ≡ Some retrieve → 0 ≤ most_reads x f m c)) (step, λ is. absurd (store_other r.opcode op is)) in
+      let done = does_reads old old (sight_of d) c (refusal status) 0 0 s.counted s.counted (reads_none old s.counted) (omega arith) (not_unread r.options after_pages (limit d.log.shape) status (is_some o) failed) answers in
+      subst (λ (x : Outcome). Does old old (sight_of d) (sight_of e) c (shown x into) 0 x.stopped) (sym told_is) (subst (λ (x : Parts). Does old old (sight_of d) (sight_of x) c (refusal status) 0 false) (sym same) done)
+
+  module _ (passed : store_check r.options (is_some o) after_pages (limit d.log.shape) ≡ None) where
+    pub may_put : MayPut d d.log.shape old.pages all k value o
+    may_put =
+        let few = within r.options after_pages (limit d.log.shape) (is_some o) passed in
+        let same = live_stored d.log.shape all k value (sum d.space.live.heads) (pages_at d.log.shape o) (charge d.log.shape r.size) live_is (pages_same d old s.agrees k o is_key looks) (ap (charge d.log.shape) (sym whole)) in
+        record {
+          stands = its_drive d old s.agrees k o is_key looks;
+          old_is = (placed_there d old s.agrees k o is_key looks).placed;
+          room = omega (arith, few, same);
+        }
+
+    late_none : late_of d.log.shape (limit d.log.shape) all c (Some store) ≡ None
+    late_none = sym late_is ∙ passed
+
+    leaves_put : map_after d.log.shape (limit d.log.shape) all c ≡ insert all k value
+    leaves_put = store_leaves d.log.shape d.frames all c passes (ap kind op) late_none ∙ ap (λ q. insert all q value) (sym named)
+
+    one_root : most_installs r.opcode r.size ≡ 65535
+    one_root = ap (λ x. most_installs x r.size) op
+
+    pub store_done : (e : Parts) (new : BoardState) (into : List ℕ) (outcome : Outcome) (reads : ℕ) → PutsAll d e old new k value o → e.frames ≡ d.frames → new.shape ≡ old.shape → Works old new → roots new ≤ roots old + 1
+        → outcome ≡ record { status = 0; result = 0; data_len = 0; reads = reads; stopped = false }
+        → Does old new (sight_of d) (sight_of e) c (shown outcome into) 0 outcome.stopped
+    store_done e new into outcome reads puts same_frames same_shape works few_roots told_is =
+        let step : Step d.log.shape d.frames all c (success 0 []) (insert all k value) =
+        subst (λ q. Step d.log.shape d.frames all c (success 0 []) (insert all q value)) (sym named) (store_step d.log.shape d.frames all c passes (ap kind op) late_none) in
+        let done = does_change d old new s.agrees c (insert all k value) s.counted few_roots one_root (store_other r.opcode op) leaves_put e (success 0 []) (puts d.log.shape all may_put) same_frames same_shape works ok_sound step in
+        subst (λ (x : Outcome). Does old new (sight_of d) (sight_of e) c (shown x into) 0 x.stopped) (sym told_is) done
+
+    pub store_stopped : (e : Parts) (new : BoardState) (into : List ℕ) (outcome : Outcome) (reads : ℕ) → FailsToPut d old new k value o → Stops old new → roots new ≤ roots old + 1
+        → outcome ≡ record { status = 0x88; result = 0; data_len = 0; reads = reads; stopped = true }
+        → Does old new (sight_of d) (sight_of e) c (shown outcome into) 0 outcome.stopped
+    store_stopped e new into outcome reads fails stops few_roots told_is =
+        let done = does_stop d old new s.agrees c (insert all k value) s.counted few_roots one_root (store_other r.opcode op) leaves_put (sight_of e) (fails d.log.shape all may_put) stops in
+        subst (λ (x : Outcome). Does old new (sight_of d) (sight_of e) c (shown x into) 0 x.stopped) (sym told_is) done
+
+    pub store_agrees : (e : Parts) (new : BoardState) → PutsAll d e old new k value o → new.shape ≡ old.shape → Agrees e new.shape new.pages
+    store_agrees e new puts same_shape =
+        agrees_so e new.shape d.log.shape new.pages (insert all k value) (same_shape ∙ (s.agrees.told_is ∙ ap (λ x. Some x) (sym s.agrees.with.shape_is))) (puts d.log.shape all may_put).stands
+
+-- ---- a Delete
+
+delete_passes : (m : Map) (k : Key) (v : List ℕ) → get m k ≡ Some v → check (contains_key m k) 0x87 ≡ None
+delete_passes m k v is = ap (λ (o : Option (List ℕ)). check (is_some o) 0x87) is
+
+delete_fails : (m : Map) (k : Key) → get m k ≡ None → check (contains_key m k) 0x87 ≡ Some 0x87
+delete_fails m k is = ap (λ (o : Option (List ℕ)). check (is_some o) 0x87) is
+
+missing_sound : ◌≡◌ {A = ℕ} 0x87 0x88 → ⊥
+missing_sound e = omega (arith, e)
+
+module _ (d : Parts) (old : BoardState) (r : Request) (v : List ℕ) (k : Key) (s : IsServable d old r) (op : r.opcode ≡ 0x10) (named : k ≡ key (command_of r v)) (is_key : IsKey k) where
+  abbrev dc : Command
+  dc = command_of r v
+
+  abbrev its_map : Map
+  its_map = s.agrees.all
+
+  delete_passed : early d.log.shape dc ≡ None
+  delete_passed = same_early d.log.shape r v ∙ s.passed
+
+  pub delete_missing : (e : Parts) (into : List ℕ) (outcome : Outcome) (reads : ℕ) → Looks d old.pages k None → e ≡ d
+      → outcome ≡ record { status = 0x87; result = 0; data_len = 0; reads = reads; stopped = false }
+      → Does old old (sight_of d) (sight_of e) dc (shown outcome into) 0 outcome.stopped
+  delete_missing e into outcome reads looks same told_is =
+      let missing : get its_map (key dc) ≡ None = subst (λ q. get its_map q ≡ None) named (looked d old s.agrees k None looks).there in
+      let step = refused_step d.log.shape d.frames its_map dc delete_passed delete 0x87 (ap kind op) (delete_fails its_map (key dc) missing) in
+      let answers : AnswersAll old (sight_of d) dc (refusal 0x87) 0 =
+      for_its_map d old s.agrees (λ x f m. Step x f m dc (refusal 0x87) m × (kind r.opcode ≡ Some retrieve → 0 ≤ most_reads x f m dc)) (step, λ is. absurd (delete_other r.opcode op is)) in
+      let done = does_reads old old (sight_of d) dc (refusal 0x87) 0 0 s.counted s.counted (reads_none old s.counted) (omega arith) missing_sound answers in
+      subst (λ (x : Outcome). Does old old (sight_of d) (sight_of e) dc (shown x into) 0 x.stopped) (sym told_is) (subst (λ (x : Parts). Does old old (sight_of d) (sight_of x) dc (refusal 0x87) 0 false) (sym same) done)
+
+  module _ (p : ValuePlace) (looks : Looks d old.pages k (Some p)) where
+    pub may_take : MayTake d d.log.shape old.pages its_map k p
+    may_take = record { stands = its_drive d old s.agrees k (Some p) is_key looks; old_is = (placed_there d old s.agrees k (Some p) is_key looks).placed }
+
+    gone_late : late_of d.log.shape (limit d.log.shape) its_map dc (Some delete) ≡ None
+    gone_late =
+        let there = value_of d old s.agrees k p is_key looks in
+        delete_passes its_map (key dc) there.value (subst (λ q. get its_map q ≡ Some there.value) named there.is_there)
+
+    leaves_gone : map_after d.log.shape (limit d.log.shape) its_map dc ≡ remove its_map k
+    leaves_gone = delete_leaves d.log.shape d.frames its_map dc delete_passed (ap kind op) gone_late ∙ ap (λ q. remove its_map q) (sym named)
+
+    gone_root : most_installs r.opcode r.size ≡ 65535
+    gone_root = ap (λ x. most_installs x r.size) op
+
+    pub delete_done : (e : Parts) (new : BoardState) (into : List ℕ) (outcome : Outcome) (reads : ℕ) → TakesAll d e old new k p → e.frames ≡ d.frames → new.shape ≡ old.shape → Works old new → roots new ≤ roots old + 1
+        → outcome ≡ record { status = 0; result = 0; data_len = 0; reads = reads; stopped = false }
+        → Does old new (sight_of d) (sight_of e) dc (shown outcome into) 0 outcome.stopped
+    delete_done e new into outcome reads takes same_frames same_shape works few_roots told_is =
+        let step : Step d.log.shape d.frames its_map dc (success 0 []) (remove its_map k) =
+        subst (λ q. Step d.log.shape d.frames its_map dc (success 0 []) (remove its_map q)) (sym named) (delete_step d.log.shape d.frames its_map dc delete_passed (ap kind op) gone_late) in
+        let done = does_change d old new s.agrees dc (remove its_map k) s.counted few_roots gone_root (delete_other r.opcode op) leaves_gone e (success 0 []) (takes d.log.shape its_map may_take) same_frames same_shape works ok_sound step in
+        subst (λ (x : Outcome). Does old new (sight_of d) (sight_of e) dc (shown x into) 0 x.stopped) (sym told_is) done
+
+    pub delete_stopped : (e : Parts) (new : BoardState) (into : List ℕ) (outcome : Outcome) (reads : ℕ) → FailsToTake d old new k p → Stops old new → roots new ≤ roots old + 1
+        → outcome ≡ record { status = 0x88; result = 0; data_len = 0; reads = reads; stopped = true }
+        → Does old new (sight_of d) (sight_of e) dc (shown outcome into) 0 outcome.stopped
+    delete_stopped e new into outcome reads fails stops few_roots told_is =
+        let done = does_stop d old new s.agrees dc (remove its_map k) s.counted few_roots gone_root (delete_other r.opcode op) leaves_gone (sight_of e) (fails d.log.shape its_map may_take) stops in
+        subst (λ (x : Outcome). Does old new (sight_of d) (sight_of e) dc (shown x into) 0 x.stopped) (sym told_is) done
+
+    pub delete_agrees : (e : Parts) (new : BoardState) → TakesAll d e old new k p → new.shape ≡ old.shape → Agrees e new.shape new.pages
+    delete_agrees e new takes same_shape =
+        agrees_so e new.shape d.log.shape new.pages (remove its_map k) (same_shape ∙ (s.agrees.told_is ∙ ap (λ x. Some x) (sym s.agrees.with.shape_is))) (takes d.log.shape its_map may_take).stands
+
+-- ---- behind the reads of a look-up
+
+pub servable_behind : (d e : Parts) (old new : BoardState) (most : ℕ) (r : Request) → e ≡ d → ReadsOnly old new most → IsServable d old r → IsServable e new r
+servable_behind d e old new most r same made s =
+    let n : ℕ = new.reads in
+    let few : n ≤ last_count = made.few in
+    let here : IsServable d (record old { reads = n }) r = record { agrees = s.agrees; runs = s.runs; unworn = s.unworn; built = s.built; passed = s.passed; few = s.few; counted = few } in
+    subst (λ (x : Parts). IsServable x new r) (sym same) (subst (λ (b : BoardState). IsServable d b r) (sym made.board) here)
+
+pub does_behind : (d e f : Parts) (old mid new : BoardState) (most : ℕ) (c : Command) (into : List ℕ) (o : Outcome) (reads : ℕ) → e ≡ d → ReadsOnly old mid most → (kind c.opcode ≡ Some retrieve → ⊥)
+    → o.reads ≡ reads → reads ≡ mid.reads - old.reads
+    → Does mid new (sight_of e) (sight_of f) c (shown o into) 0 o.stopped → Does old new (sight_of d) (sight_of f) c (shown o into) o.reads o.stopped
+does_behind d e f old mid new most c into o reads same made other told_is is does =
+    let n : ℕ = mid.reads in
+    let few : n ≤ last_count = made.few in
+    let up : old.reads ≤ n = made.up in
+    let here : Does mid new (sight_of d) (sight_of f) c (shown o into) 0 o.stopped = subst (λ (x : Parts). Does mid new (sight_of x) (sight_of f) c (shown o into) 0 o.stopped) same does in
+    let x : Does (record old { reads = n }) new (sight_of d) (sight_of f) c (shown o into) 0 o.stopped = subst (λ (b : BoardState). Does b new (sight_of d) (sight_of f) c (shown o into) 0 o.stopped) made.board here in
+    let count = x.reads_are in
+    record {
+      stands = λ run shape frames m st.
+          let y = x.stands run shape frames m (record { shape_is = st.shape_is; frames_is = st.frames_is; map_is = st.map_is }) in
+          record { left = y.left; stepped = y.stepped; stands = y.stands; bounded = λ k. absurd (other k) };
+      cuts = λ run shape frames m st.
+          let y = x.cuts run shape frames m (record { shape_is = st.shape_is; frames_is = st.frames_is; map_is = st.map_is }) in
+          (y.0, record { trail = y.1.trail; posted = y.1.posted; same_shape = y.1.same_shape; cuts = y.1.cuts; stands = y.1.stands }, y.2);
+      cuts_stopped = λ run shape frames m st.
+          let y = x.cuts_stopped run shape frames m (record { shape_is = st.shape_is; frames_is = st.frames_is; map_is = st.map_is }) in
+          (y.0, record { trail = y.1.trail; posted = y.1.posted; same_shape = y.1.same_shape; cuts = y.1.cuts; stands = y.1.stands }, y.2);
+      rest = x.rest;
+      reads_are = omega (arith, count, told_is, is, few, up);
+      up = x.up;
+      unread = x.unread;
+      sound = x.sound;
+      stop = x.stop;
+      stop_status = x.stop_status;
+      no_stop = x.no_stop;
+      installs = x.installs;
+    }
+
+pub store_is_other : (r : Request) → r.opcode ≡ 0x01 → kind r.opcode ≡ Some retrieve → ⊥
+store_is_other r op = store_other r.opcode op
+
+pub delete_is_other : (r : Request) → r.opcode ≡ 0x10 → kind r.opcode ≡ Some retrieve → ⊥
+delete_is_other r op = delete_other r.opcode op
