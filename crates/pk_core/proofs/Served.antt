@@ -2,6 +2,7 @@
 use Rattle.std.proofs.Common.{◌≡◌, ◌≢◌, ◌⊎◌, inl, inr, ℕ, ◌+◌, ◌-◌, ◌/◌, ◌%◌, ◌<◌, ◌≤◌, refl, sym, ap, subst, ◌∙◌, arith, Bool, true, false, not, ◌&&◌, ◌||◌, ◌==◌, List, [], length, sum, nat_le, is_some, Option, Some, None, Result, Ok, Err, leb-true}
 use Rattle.std.specs.Prelude.{OnOk, OnErr, MatchOption}
 use Rattle.std.specs.FinMap.{get, insert, remove, contains_key}
+use Rattle.pk_base.specs.Fields.{AreBytes}
 use Rattle.pk_base.specs.Key.{Key, IsKey}
 use Rattle.pk_base.specs.Shape.{Shape, charge, greatest, limit, page_entries}
 use Rattle.pk_base.specs.Page.{Flash, page_at}
@@ -24,7 +25,7 @@ use Rattle.pk_model.proofs.MapLemmas.{live-insert}
 use Rattle.pk_model.proofs.Machines.{store_check, store_late, live_stored}
 use Rattle.pk_data.specs.State.{needs_reclaim}
 use Rattle.pk_compact.specs.Working.{Works, Stops}
-use Rattle.pk_drive.specs.Drive.{Stands}
+use Rattle.pk_drive.specs.Drive.{Stands, OnlyFlash}
 use Rattle.pk_drive.specs.Growth.{Reaches, Goes}
 use Rattle.pk_drive.specs.Exec.{Executed, ExecCut, ExecStands, ExecReaches, ExecGoes, most_installs}
 use Rattle.pk_drive.specs.Meter.{reads_after}
@@ -146,6 +147,13 @@ module _ (d : Parts) (old new : BoardState) (a : Agrees d old.shape old.pages) (
     installs = omega (arith, few_roots, one);
   }
 
+-- the shape of a board stays
+pub shape_stays : (old new : BoardState) → OnlyFlash old new → new.shape ≡ old.shape
+shape_stays old new only = ap (λ (b : BoardState). b.shape) only
+
+pub few_same : (d e : Parts) → e.log.shape ≡ d.log.shape → length e.log.pending < page_entries d.log.shape → length e.log.pending < page_entries e.log.shape
+few_same d e same few = subst (λ (s : Shape). length e.log.pending < page_entries s) (sym same) few
+
 -- ---- steps of the map
 
 module _ (shape : Shape) (frames : ℕ) (m : Map) (c : Command) (passed : early shape c ≡ None) where
@@ -223,7 +231,7 @@ short_place d old a k (Some p) is_key looks = (value_of d old a k p is_key looks
 -- ---- a Store
 
 module _ (d : Parts) (old : BoardState) (r : Request) (value : List ℕ) (k : Key) (o : Option ValuePlace) (s : IsServable d old r) (op : r.opcode ≡ 0x01) (whole : length value ≡ r.size)
-    (named : k ≡ key (command_of r value)) (is_key : IsKey k) (looks : Looks d old.pages k o) where
+    (named : k ≡ key (command_of r value)) (is_key : IsKey k) (bytes : AreBytes k) (looks : Looks d old.pages k o) where
   abbrev c : Command
   c = command_of r value
 
@@ -259,12 +267,14 @@ module _ (d : Parts) (old : BoardState) (r : Request) (value : List ℕ) (k : Ke
 
   module _ (passed : store_check r.options (is_some o) after_pages (limit d.log.shape) ≡ None) where
     pub may_put : MayPut d d.log.shape old.pages all k value o
+    unfolding its_drive
     may_put =
         let few = within r.options after_pages (limit d.log.shape) (is_some o) passed in
         let same = live_stored d.log.shape all k value (sum d.space.live.heads) (pages_at d.log.shape o) (charge d.log.shape r.size) live_is (pages_same d old s.agrees k o is_key looks) (ap (charge d.log.shape) (sym whole)) in
         record {
           stands = its_drive d old s.agrees k o is_key looks;
           old_is = (placed_there d old s.agrees k o is_key looks).placed;
+          bytes = bytes;
           room = omega (arith, few, same);
         }
 
@@ -286,12 +296,12 @@ module _ (d : Parts) (old : BoardState) (r : Request) (value : List ℕ) (k : Ke
         let done = does_change d old new s.agrees c (insert all k value) s.counted few_roots one_root (store_other r.opcode op) leaves_put e (success 0 []) (puts d.log.shape all may_put) same_frames same_shape works ok_sound step in
         subst (λ (x : Outcome). Does old new (sight_of d) (sight_of e) c (shown x into) 0 x.stopped) (sym told_is) done
 
-    pub store_stopped : (e : Parts) (new : BoardState) (into : List ℕ) (outcome : Outcome) (reads : ℕ) → FailsToPut d old new k value o → Stops old new → roots new ≤ roots old + 1
+    pub store_stopped : (behind : Sight) (new : BoardState) (into : List ℕ) (outcome : Outcome) (reads : ℕ) → FailsToPut d old new k value o → Stops old new → roots new ≤ roots old + 1
         → outcome ≡ record { status = 0x88; result = 0; data_len = 0; reads = reads; stopped = true }
-        → Does old new (sight_of d) (sight_of e) c (shown outcome into) 0 outcome.stopped
-    store_stopped e new into outcome reads fails stops few_roots told_is =
-        let done = does_stop d old new s.agrees c (insert all k value) s.counted few_roots one_root (store_other r.opcode op) leaves_put (sight_of e) (fails d.log.shape all may_put) stops in
-        subst (λ (x : Outcome). Does old new (sight_of d) (sight_of e) c (shown x into) 0 x.stopped) (sym told_is) done
+        → Does old new (sight_of d) behind c (shown outcome into) 0 outcome.stopped
+    store_stopped behind new into outcome reads fails stops few_roots told_is =
+        let done = does_stop d old new s.agrees c (insert all k value) s.counted few_roots one_root (store_other r.opcode op) leaves_put behind (fails d.log.shape all may_put) stops in
+        subst (λ (x : Outcome). Does old new (sight_of d) behind c (shown x into) 0 x.stopped) (sym told_is) done
 
     pub store_agrees : (e : Parts) (new : BoardState) → PutsAll d e old new k value o → new.shape ≡ old.shape → Agrees e new.shape new.pages
     store_agrees e new puts same_shape =
@@ -308,7 +318,7 @@ delete_fails m k is = ap (λ (o : Option (List ℕ)). check (is_some o) 0x87) is
 missing_sound : ◌≡◌ {A = ℕ} 0x87 0x88 → ⊥
 missing_sound e = omega (arith, e)
 
-module _ (d : Parts) (old : BoardState) (r : Request) (v : List ℕ) (k : Key) (s : IsServable d old r) (op : r.opcode ≡ 0x10) (named : k ≡ key (command_of r v)) (is_key : IsKey k) where
+module _ (d : Parts) (old : BoardState) (r : Request) (v : List ℕ) (k : Key) (s : IsServable d old r) (op : r.opcode ≡ 0x10) (named : k ≡ key (command_of r v)) (is_key : IsKey k) (bytes : AreBytes k) where
   abbrev dc : Command
   dc = command_of r v
 
@@ -331,7 +341,8 @@ module _ (d : Parts) (old : BoardState) (r : Request) (v : List ℕ) (k : Key) (
 
   module _ (p : ValuePlace) (looks : Looks d old.pages k (Some p)) where
     pub may_take : MayTake d d.log.shape old.pages its_map k p
-    may_take = record { stands = its_drive d old s.agrees k (Some p) is_key looks; old_is = (placed_there d old s.agrees k (Some p) is_key looks).placed }
+    unfolding its_drive
+    may_take = record { stands = its_drive d old s.agrees k (Some p) is_key looks; old_is = (placed_there d old s.agrees k (Some p) is_key looks).placed; bytes = bytes }
 
     gone_late : late_of d.log.shape (limit d.log.shape) its_map dc (Some delete) ≡ None
     gone_late =
@@ -353,18 +364,21 @@ module _ (d : Parts) (old : BoardState) (r : Request) (v : List ℕ) (k : Key) (
         let done = does_change d old new s.agrees dc (remove its_map k) s.counted few_roots gone_root (delete_other r.opcode op) leaves_gone e (success 0 []) (takes d.log.shape its_map may_take) same_frames same_shape works ok_sound step in
         subst (λ (x : Outcome). Does old new (sight_of d) (sight_of e) dc (shown x into) 0 x.stopped) (sym told_is) done
 
-    pub delete_stopped : (e : Parts) (new : BoardState) (into : List ℕ) (outcome : Outcome) (reads : ℕ) → FailsToTake d old new k p → Stops old new → roots new ≤ roots old + 1
+    pub delete_stopped : (behind : Sight) (new : BoardState) (into : List ℕ) (outcome : Outcome) (reads : ℕ) → FailsToTake d old new k p → Stops old new → roots new ≤ roots old + 1
         → outcome ≡ record { status = 0x88; result = 0; data_len = 0; reads = reads; stopped = true }
-        → Does old new (sight_of d) (sight_of e) dc (shown outcome into) 0 outcome.stopped
-    delete_stopped e new into outcome reads fails stops few_roots told_is =
-        let done = does_stop d old new s.agrees dc (remove its_map k) s.counted few_roots gone_root (delete_other r.opcode op) leaves_gone (sight_of e) (fails d.log.shape its_map may_take) stops in
-        subst (λ (x : Outcome). Does old new (sight_of d) (sight_of e) dc (shown x into) 0 x.stopped) (sym told_is) done
+        → Does old new (sight_of d) behind dc (shown outcome into) 0 outcome.stopped
+    delete_stopped behind new into outcome reads fails stops few_roots told_is =
+        let done = does_stop d old new s.agrees dc (remove its_map k) s.counted few_roots gone_root (delete_other r.opcode op) leaves_gone behind (fails d.log.shape its_map may_take) stops in
+        subst (λ (x : Outcome). Does old new (sight_of d) behind dc (shown x into) 0 x.stopped) (sym told_is) done
 
     pub delete_agrees : (e : Parts) (new : BoardState) → TakesAll d e old new k p → new.shape ≡ old.shape → Agrees e new.shape new.pages
     delete_agrees e new takes same_shape =
         agrees_so e new.shape d.log.shape new.pages (remove its_map k) (same_shape ∙ (s.agrees.told_is ∙ ap (λ x. Some x) (sym s.agrees.with.shape_is))) (takes d.log.shape its_map may_take).stands
 
 -- ---- behind the reads of a look-up
+
+pub looks_behind : (d e : Parts) (flash flash' : Flash) (k : Key) (o : Option ValuePlace) → e ≡ d → flash' ≡ flash → Looks d flash k o → Looks e flash' k o
+looks_behind d e flash flash' k o same pages looks = subst (λ (x : Parts). Looks x flash' k o) (sym same) (subst (λ (f : Flash). Looks d f k o) (sym pages) looks)
 
 pub servable_behind : (d e : Parts) (old new : BoardState) (most : ℕ) (r : Request) → e ≡ d → ReadsOnly old new most → IsServable d old r → IsServable e new r
 servable_behind d e old new most r same made s =

@@ -1,5 +1,6 @@
 //! The commands that change the map.
 ghost use Rattle.std.specs.Prelude.{◌≡◌, ◌≤◌, ◌<◌, ◌+◌, ◌-◌, ◌%◌, ◌/◌, ◌==◌, ◌||◌, ◌&&◌, not, nat_le, is_some, sum, List, ℕ, [], length, false, true, None, Some, MatchOption};
+ghost use Rattle.pk_base.specs.Fields.{AreBytes};
 ghost use Rattle.pk_base.specs.Key.{IsKey};
 ghost use Rattle.pk_base.specs.Shape as spec;
 ghost use Rattle.pk_nvme.specs.Command.{key as key_in};
@@ -45,6 +46,26 @@ fn pages_at(shape: &Shape, place: &Option<ValuePlace>) -> u32
         None => 0,
         Some(place) => shape.charge(place.len),
     }
+}
+
+// Bytes are numbers below 256.
+fn are_bytes(bytes: &[u8])
+    ensures { AreBytes bytes.now }
+{
+    let _ = bytes.len();
+}
+
+// The key that a request names.
+fn named_key(request: &Request) -> Key
+    requires some { 1 ≤ request.now.key_len }
+    requires most { request.now.key_len ≤ 16 }
+    ensures key { (v : List ℕ) → result ≡ key_in (command_of request.now v) }
+    ensures is_key { IsKey result }
+    ensures bytes { AreBytes result }
+{
+    let key = key_of(request);
+    are_bytes(key.bytes());
+    key
 }
 
 // An unrecovered error that stopped the drive, behind so many reads.
@@ -94,6 +115,7 @@ impl<A: Region> Drive<A> {
         requires whole { length value.now ≡ request.now.size }
         requires named { key ≡ key_in (command_of request.now value.now) }
         requires is_key { IsKey key }
+        requires bytes { AreBytes key }
         requires looks { Looks self.old (B.state board.old).pages key old }
         ensures stops { self.new.stopped ≡ result.stopped }
         ensures agrees { result.stopped ≡ false → Agrees self.new (B.state board.new).shape (B.state board.new).pages × (length self.new.log.pending < spec.page_entries self.new.log.shape) }
@@ -133,7 +155,7 @@ impl<A: Region> Drive<A> {
         ensures no_data { result.data_len ≡ 0 }
     {
         let before = board.read_count();
-        let key = key_of(request);
+        let key = named_key(request);
         match self.look(board, &key) {
             Ok(old) => {
                 let reads = reads_since(board, before);
@@ -156,6 +178,7 @@ impl<A: Region> Drive<A> {
         requires opcode { request.now.opcode ≡ 0x10 }
         requires named { (v : List ℕ) → key ≡ key_in (command_of request.now v) }
         requires is_key { IsKey key }
+        requires bytes { AreBytes key }
         requires looks { Looks self.old (B.state board.old).pages key old }
         ensures stops { self.new.stopped ≡ result.stopped }
         ensures agrees { result.stopped ≡ false → Agrees self.new (B.state board.new).shape (B.state board.new).pages × (length self.new.log.pending < spec.page_entries self.new.log.shape) }
@@ -189,7 +212,7 @@ impl<A: Region> Drive<A> {
         ensures no_data { result.data_len ≡ 0 }
     {
         let before = board.read_count();
-        let key = key_of(request);
+        let key = named_key(request);
         match self.look(board, &key) {
             Ok(old) => {
                 let reads = reads_since(board, before);
