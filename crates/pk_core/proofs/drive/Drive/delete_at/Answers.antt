@@ -20,28 +20,28 @@ returns-in-None-clause-does g c = λ v into.
     let looks = subst (λ p. Looks c.args.self.now (g.B.Nand.state c.args.board.now).pages c.args.key p) c.in-None.is r.looks in
     delete_missing c.args.self.now (g.B.Nand.state c.args.board.now) c.args.request.now v c.args.key r.servable r.opcode (r.named v) r.is_key r.bytes c.args.self.now into c.refusal.result c.args.reads looks refl c.refusal.ensures
 
-pub returns-in-Some-Ok-clause-agrees : goal.returns-in-Some-Ok-clause-agrees
-returns-in-Some-Ok-clause-agrees g c = λ _.
+pub returns-in-Ok-clause-agrees : goal.returns-in-Ok-clause-agrees
+returns-in-Ok-clause-agrees g c = λ _.
     let r = c.requires in
-    let e = c.in-Some-Ok.ensures in
+    let e = c.in-Ok.ensures in
     let looks = subst (λ p. Looks c.args.self.now (g.B.Nand.state c.args.board.now).pages c.args.key p) c.in-Some.is r.looks in (
       delete_agrees c.args.self.now (g.B.Nand.state c.args.board.now) c.args.request.now [] c.args.key r.servable r.opcode (r.named []) r.is_key r.bytes c.in-Some.place looks
           c.take_out.new.self (g.B.Nand.state c.take_out.new.board) e.changed (shape_stays (g.B.Nand.state c.args.board.now) (g.B.Nand.state c.take_out.new.board) e.works.rest),
       few_same c.args.self.now c.take_out.new.self e.rest.2 e.few,
     )
 
-pub returns-in-Some-Ok-clause-does : goal.returns-in-Some-Ok-clause-does
-returns-in-Some-Ok-clause-does g c = λ v into.
+pub returns-in-Ok-clause-does : goal.returns-in-Ok-clause-does
+returns-in-Ok-clause-does g c = λ v into.
     let r = c.requires in
-    let e = c.in-Some-Ok.ensures in
+    let e = c.in-Ok.ensures in
     let looks = subst (λ p. Looks c.args.self.now (g.B.Nand.state c.args.board.now).pages c.args.key p) c.in-Some.is r.looks in
     delete_done c.args.self.now (g.B.Nand.state c.args.board.now) c.args.request.now v c.args.key r.servable r.opcode (r.named v) r.is_key r.bytes c.in-Some.place looks
     c.take_out.new.self (g.B.Nand.state c.take_out.new.board) into c.served.result c.args.reads e.changed e.rest.0 (shape_stays (g.B.Nand.state c.args.board.now) (g.B.Nand.state c.take_out.new.board) e.works.rest) e.works e.roots c.served.ensures
 
-pub returns-in-Some-Err-clause-does : goal.returns-in-Some-Err-clause-does
-returns-in-Some-Err-clause-does g c = λ v into.
+pub returns-in-Err-clause-does : goal.returns-in-Err-clause-does
+returns-in-Err-clause-does g c = λ v into.
     let r = c.requires in
-    let e = c.in-Some-Err.ensures in
+    let e = c.in-Err.ensures in
     let looks = subst (λ p. Looks c.args.self.now (g.B.Nand.state c.args.board.now).pages c.args.key p) c.in-Some.is r.looks in
     delete_stopped c.args.self.now (g.B.Nand.state c.args.board.now) c.args.request.now v c.args.key r.servable r.opcode (r.named v) r.is_key r.bytes c.in-Some.place looks
     _ (g.B.Nand.state c.take_out.new.board) into c.stopping.result c.args.reads e.failed e.stops e.roots c.stopping.ensures
