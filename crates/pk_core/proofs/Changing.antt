@@ -1,16 +1,15 @@
 -- A change of the map: steps that keep it, the change in memory, and a commit.
-use Rattle.std.proofs.Common.{◌≡◌, ◌⊎◌, inl, inr, ℕ, refl, sym, ap, subst, ◌∙◌, List, [], ◌++◌, Some, Ok, Err}
+use Rattle.std.proofs.Common.{◌≡◌, ◌⊎◌, inl, inr, ℕ, ap, ◌∙◌, List, [], ◌++◌, Some, Ok}
 use Rattle.pk_base.specs.Shape.{Shape}
 use Rattle.pk_base.specs.Page.{Flash}
-use Rattle.pk_base.specs.Mark.{Mark, all_posted}
+use Rattle.pk_base.specs.Mark.{all_posted}
 use Rattle.pk_base.specs.Map.{Map}
 use Rattle.pk_nand.specs.BoardState.{BoardState}
-use Rattle.pk_nand.specs.Crash.{ReachedBy}
 use Rattle.pk_model.specs.Reading.{reading}
 use Rattle.pk_drive.specs.Growth.{Reaches, Goes}
 use Rattle.pk_drive.specs.Commit.{CommitCut}
 use Rattle.pk_core.specs.Moves.{ChangeCut}
-use Rattle.pk_drive.proofs.Growing.{weaken, weaken_went, at_end, Reaches-then, Goes-then, Goes-reaches}
+use Rattle.pk_drive.proofs.Growing.{weaken, weaken_went, at_end, Reaches-then, Goes-then}
 
 -- the flash holds what another held, or this map
 abbrev pub IsStill : Shape → Flash → Flash → Map → Type 0

@@ -1,10 +1,10 @@
 -- A key gets a value, or loses its own: the steps of that in a row.
-use Rattle.std.proofs.Common.{◌≡◌, ◌⊎◌, inl, inr, ℕ, ◌≤◌, refl, sym, ap, subst, ◌∙◌, List, [], ◌++◌, length, Bool, true, false, Option, Some, None, Result, Ok, Err}
+use Rattle.std.proofs.Common.{◌≡◌, inl, inr, ℕ, refl, sym, ap, subst, ◌∙◌, List, [], ◌++◌, length, Bool, Option, Some, Result, Ok, Err}
 use Rattle.std.specs.Prelude.{OnOk, OnErr}
 use Rattle.std.specs.FinMap.{insert, remove}
 use Rattle.std.specs.FinMap.Entries.{find}
 use Rattle.pk_base.specs.Key.{Key, key_cmp}
-use Rattle.pk_base.specs.Shape.{Shape, charge, limit}
+use Rattle.pk_base.specs.Shape.{Shape, charge}
 use Rattle.pk_base.specs.Page.{Flash}
 use Rattle.pk_base.specs.EntryBytes.{IsPlace}
 use Rattle.pk_base.specs.Map.{Map}
@@ -14,19 +14,17 @@ use Rattle.pk_nand.specs.declared.types.Fault.{Fault}
 use Rattle.pk_nand.specs.BoardState.{BoardState}
 use Rattle.pk_nand.specs.Calls.{IsReady}
 use Rattle.pk_nand.specs.Crash.{ReachedBy}
-use Rattle.pk_pool.specs.Blocks.{Blocks, used_by}
-use Rattle.pk_model.specs.Reading.{reading}
+use Rattle.pk_pool.specs.Blocks.{used_by}
 use Rattle.pk_drive.specs.Growth.{Reaches, Goes}
 use Rattle.pk_drive.specs.Commit.{CommitCut}
 use Rattle.pk_drive.proofs.Growing.{at_end, weaken, weaken_went, Reaches-then, Goes-then}
-use Rattle.pk_data.specs.State.{DataState, needs_reclaim}
+use Rattle.pk_data.specs.State.{needs_reclaim}
 use Rattle.pk_data.specs.Entries.{IsInOpen}
 use Rattle.pk_core.specs.declared.place.ValuePlace.{ValuePlace}
 use Rattle.pk_core.specs.Parts.{Parts}
-use Rattle.pk_core.specs.Finding.{place_of, place_if_some}
 use Rattle.pk_core.specs.Moves.{StandsFor, Keeps, KeepsAll, BreaksAll, ChangeCut, IsWritten}
 use Rattle.pk_core.specs.Noting.{Puts, Drops}
-use Rattle.pk_core.specs.Changes.{MayPut, MayTake, Changes, PutsAll, FailsToPut, TakesAll, FailsToTake}
+use Rattle.pk_core.specs.Changes.{MayPut, MayTake, PutsAll, FailsToPut, TakesAll, FailsToTake}
 use Rattle.pk_core.proofs.Keeping.{board_has}
 use Rattle.pk_core.proofs.Changing.{IsStill, kept_goes, changes, change_goes}
 
@@ -164,9 +162,11 @@ pub some_put : (a b c : Parts) (s0 s1 : BoardState) (key : Key) (value : List �
     → (m : Map) × StandsFor c c.log.shape s1.pages m
 some_put a b c s0 s1 key value page old may keeps same same' written place in_open noted =
     let one = keeps a.log.shape may.0 may.1.stands in
-    let mid = may_put_after a b a.log.shape may.0 s0 s1 key value old may.1 one in
-    (insert may.0 key value, subst (λ (s : Shape). StandsFor c s s1.pages (insert may.0 key value)) (sym same ∙ sym same')
-    (noted a.log.shape s1.pages may.0 (puts_of b a.log.shape a.log.shape s1.pages may.0 key value page old refl mid written place in_open)))
+    let mid = may_put_after a b a.log.shape may.0 s0 s1 key value old may.1 one in (
+      insert may.0 key value,
+      subst (λ (s : Shape). StandsFor c s s1.pages (insert may.0 key value)) (sym same ∙ sym same')
+          (noted a.log.shape s1.pages may.0 (puts_of b a.log.shape a.log.shape s1.pages may.0 key value page old refl mid written place in_open)),
+    )
 
 module _ (a b c : Parts) (s0 s1 : BoardState) (key : Key) (value : List ℕ) (page : ℕ) (old : Option ValuePlace) (ready : IsReady s0 a.log.shape) (keeps : KeepsAll a b s0 s1)
     (written : IsWritten b a.log.shape s1.pages key value page) (place : IsPlace a.log.shape (record { page = page; len = length value })) (in_open : IsInOpen a.log.shape b.space page (charge a.log.shape (length value)))

@@ -1,45 +1,40 @@
 -- The answers of commands that change the map.
-use Rattle.std.proofs.Common.{◌≡◌, ◌≢◌, ◌⊎◌, inl, inr, ℕ, ◌+◌, ◌-◌, ◌/◌, ◌%◌, ◌<◌, ◌≤◌, refl, sym, ap, subst, ◌∙◌, arith, Bool, true, false, not, ◌&&◌, ◌||◌, ◌==◌, List, [], length, sum, nat_le, is_some, Option, Some, None, Result, Ok, Err, leb-true}
-use Rattle.std.specs.Prelude.{OnOk, OnErr, MatchOption}
+use Rattle.std.proofs.Common.{◌≡◌, ◌≢◌, inl, inr, ℕ, ◌+◌, ◌-◌, ◌/◌, ◌%◌, ◌<◌, ◌≤◌, refl, sym, ap, subst, ◌∙◌, arith, Bool, true, false, not, ◌&&◌, ◌||◌, ◌==◌, List, [], length, sum, nat_le, is_some, Option, Some, None, Ok, leb-true}
+use Rattle.std.specs.Prelude.{MatchOption}
 use Rattle.std.specs.FinMap.{get, insert, remove, contains_key}
 use Rattle.pk_base.specs.Fields.{AreBytes}
 use Rattle.pk_base.specs.Key.{Key, IsKey}
 use Rattle.pk_base.specs.Shape.{Shape, charge, greatest, limit, page_entries}
-use Rattle.pk_base.specs.Page.{Flash, page_at}
+use Rattle.pk_base.specs.Page.{Flash}
 use Rattle.pk_base.specs.Map.{Map, live, pages_if_some}
 use Rattle.pk_nvme.specs.Command.{Command, key}
 use Rattle.pk_nvme.specs.Reply.{Reply, refusal}
 use Rattle.pk_nvme.specs.Seen.{command_of}
 use Rattle.pk_nvme.specs.declared.request.Request.{Request}
-use Rattle.pk_nand.specs.declared.types.Fault.{Fault}
 use Rattle.pk_nand.specs.BoardState.{BoardState}
 use Rattle.pk_nand.specs.Calls.{last_count}
-use Rattle.pk_nand.specs.Crash.{ReachedBy, WentBy}
-use Rattle.pk_model.specs.Answer.{Kind, kind, store, retrieve, delete, early, first_of, check, late_of, success, map_after, effect, Answer}
+use Rattle.pk_model.specs.Answer.{Kind, kind, store, retrieve, delete, early, first_of, check, late_of, success, map_after}
 use Rattle.pk_model.specs.Bounds.{most_reads}
-use Rattle.pk_model.specs.Reading.{reading}
 use Rattle.pk_model.specs.Run.{Step}
 use Rattle.pk_model.specs.Sight.{Sight}
 use Rattle.pk_model.proofs.Answering.{serves, refuses_late, store_sized, key_sized, IsKeyLength}
-use Rattle.pk_model.proofs.MapLemmas.{live-insert}
 use Rattle.pk_model.proofs.Machines.{store_check, store_late, live_stored}
 use Rattle.pk_data.specs.State.{needs_reclaim}
 use Rattle.pk_compact.specs.Working.{Works, Stops}
 use Rattle.pk_drive.specs.Drive.{Stands, OnlyFlash}
 use Rattle.pk_drive.specs.Growth.{Reaches, Goes}
-use Rattle.pk_drive.specs.Exec.{Executed, ExecCut, ExecStands, ExecReaches, ExecGoes, most_installs}
-use Rattle.pk_drive.specs.Meter.{reads_after}
+use Rattle.pk_drive.specs.Exec.{Executed, ExecCut, most_installs}
 use Rattle.pk_drive.specs.Seen.{reply_of as shown}
-use Rattle.pk_drive.specs.Wear.{roots, is_worn}
+use Rattle.pk_drive.specs.Wear.{roots}
 use Rattle.pk_drive.specs.declared.types.Outcome.{Outcome}
 use Rattle.pk_drive.proofs.Growing.{weaken, weaken_went}
 use Rattle.pk_core.specs.declared.place.ValuePlace.{ValuePlace}
-use Rattle.pk_core.specs.Parts.{Parts, sight_of, counts_of, wants_second_freeze, is_built_for, built_if, is_built}
-use Rattle.pk_core.specs.Agreeing.{AgreesWith, Agrees}
+use Rattle.pk_core.specs.Parts.{Parts, sight_of, wants_second_freeze, is_built_for, built_if, is_built}
+use Rattle.pk_core.specs.Agreeing.{Agrees}
 use Rattle.pk_core.specs.Done.{Does}
-use Rattle.pk_core.specs.Finding.{IsPlaceIn, place_of, place_if_some, IsThere}
+use Rattle.pk_core.specs.Finding.{IsPlaceIn}
 use Rattle.pk_core.specs.Moves.{StandsFor, ChangeCut}
-use Rattle.pk_core.specs.Quiet.{ReadsOnly, Looks, ValueThere, eleven}
+use Rattle.pk_core.specs.Quiet.{ReadsOnly, Looks, eleven}
 use Rattle.pk_core.specs.Changes.{MayPut, MayTake, Changes, PutsAll, FailsToPut, TakesAll, FailsToTake}
 use Rattle.pk_core.specs.Serving.{IsServable, pages_at}
 use Rattle.pk_core.proofs.Standing.{stands_so, agrees_so}

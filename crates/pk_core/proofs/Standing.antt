@@ -1,5 +1,5 @@
 -- A drive that agrees with its board stands for one map.
-use Rattle.std.proofs.Common.{◌≡◌, ℕ, refl, sym, ap, subst, ◌∙◌, List, [], Option, Some, None, Result, Ok, unwrap_or}
+use Rattle.std.proofs.Common.{◌≡◌, ℕ, refl, sym, ap, subst, ◌∙◌, Option, Some, Result, Ok, unwrap_or}
 use Rattle.pk_base.specs.Shape.{Shape}
 use Rattle.pk_base.specs.Page.{Flash, page_at}
 use Rattle.pk_base.specs.Map.{Map}
@@ -8,7 +8,6 @@ use Rattle.pk_rootfmt.specs.Root.{Root}
 use Rattle.pk_nand.specs.BoardState.{BoardState}
 use Rattle.pk_model.specs.Found.{Found, found_under}
 use Rattle.pk_model.specs.Reading.{reading}
-use Rattle.pk_steps.specs.Under.{IsUnder}
 use Rattle.pk_steps.proofs.Untouched.{under_reads}
 use Rattle.pk_drive.specs.Drive.{Stands}
 use Rattle.pk_core.specs.Parts.{Parts, sight_of}

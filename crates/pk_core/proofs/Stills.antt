@@ -1,21 +1,19 @@
 -- Calls of the flash that change no page that is read.
-use Rattle.std.proofs.Common.{◌≡◌, ◌⊎◌, inl, inr, ℕ, zero, suc, ◌+◌, ◌/◌, ◌<◌, ◌≤◌, refl, sym, ap, subst, ◌∙◌, arith, List, [], ◌∷◌, ◌++◌, length, Some}
+use Rattle.std.proofs.Common.{◌≡◌, inl, inr, ℕ, zero, suc, ◌+◌, ◌/◌, ◌<◌, ◌≤◌, refl, sym, ap, subst, ◌∙◌, arith, List, [], ◌++◌, length, Some}
 use Rattle.pk_base.specs.Shape.{Shape, charge}
 use Rattle.pk_base.specs.Key.{Key}
-use Rattle.pk_base.specs.Page.{Flash, page_at}
+use Rattle.pk_base.specs.Page.{Flash}
 use Rattle.pk_base.specs.Entry.{Entry}
-use Rattle.pk_base.specs.Mark.{Mark, program, erase, after, all_posted}
+use Rattle.pk_base.specs.Mark.{program, erase, after, all_posted}
 use Rattle.pk_segfmt.specs.Stored.{page_of}
 use Rattle.pk_rootfmt.specs.Root.{Root}
 use Rattle.pk_nand.specs.BoardState.{BoardState}
 use Rattle.pk_nand.specs.Cut.{Interrupted}
 use Rattle.pk_nand.specs.Calls.{after_program, after_erase, ProgramFailed, EraseFailed}
-use Rattle.pk_nand.specs.Crash.{ReachedBy, WentBy}
 use Rattle.pk_nand.proofs.Leaving.{interrupted_done}
 use Rattle.pk_seg.specs.Stored.{written, WriteFailed}
 use Rattle.pk_model.specs.Found.{Found}
 use Rattle.pk_drive.specs.Growth.{Grows, Reaches, Goes}
-use Rattle.pk_drive.specs.Drive.{OnlyFlash, NoFault}
 use Rattle.pk_drive.proofs.Growing.{at_end, Reaches-then, Goes-then}
 use Rattle.pk_compact.specs.Working.{Works, Stops}
 use Rattle.pk_compact.proofs.Running.{Reaches-none, Reaches-erase, Goes-erase, Reaches-program, Goes-program}
@@ -93,7 +91,7 @@ module _ (shape : Shape) (root : Root) (found : Found) (pending : List Entry) (s
         let before = still_written n (omega (arith, most)) in
         let now : BoardState = written shape key page value n old in
         still_then old now (written shape key page value (suc n) old) has before
-            (still_program now (shape_stays n) (still_end old now before) (page + n) (page_of shape key value n) (unread (page + n) (omega arith) (omega (arith, most))) (written shape key page value (suc n) old) refl)
+        (still_program now (shape_stays n) (still_end old now before) (page + n) (page_of shape key value n) (unread (page + n) (omega arith) (omega (arith, most))) (written shape key page value (suc n) old) refl)
 
     pub still_write_failed : (new : BoardState) → WriteFailed shape key page value old new → Goes shape old new StillCut
     still_write_failed new failed =
@@ -102,7 +100,7 @@ module _ (shape : Shape) (root : Root) (found : Found) (pending : List Entry) (s
         let before = still_written n (omega (arith, within)) in
         let now : BoardState = written shape key page value n old in
         still_goes old now new has before
-            (still_program_failed now (shape_stays n) (still_end old now before) (page + n) (page_of shape key value n) (unread (page + n) (omega arith) (omega (arith, within))) new failed.failed)
+        (still_program_failed now (shape_stays n) (still_end old now before) (page + n) (page_of shape key value n) (unread (page + n) (omega arith) (omega (arith, within))) new failed.failed)
 
 -- ---- counts
 

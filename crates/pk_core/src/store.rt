@@ -92,12 +92,7 @@ impl<A: Region> Drive<A> {
         let held = pages_at(&shape, old);
         let left = self.space.total().saturating_sub(held);
         let live = left as u64 + shape.charge(request.size) as u64;
-        store_fault(
-            request.options,
-            old.is_some(),
-            live,
-            shape.limit() as u64,
-        )
+        store_fault(request.options, old.is_some(), live, shape.limit() as u64)
     }
 
     // A Store whose key has its value at this place, behind so many reads.

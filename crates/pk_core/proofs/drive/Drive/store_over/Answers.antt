@@ -1,5 +1,4 @@
 use Rattle.std.proofs.Common.{refl, sym, ◌∙◌}
-
 use Rattle.pk_core.proofs.Served.{store_built, short_place, shape_stays, few_same, may_put, store_refused, store_done, store_stopped, store_agrees}
 use Rattle.pk_core.proofs.drive.Drive.store_over.Goals as goal
 
@@ -32,8 +31,7 @@ returns-in-Some-clause-does g c = λ into.
 pub returns-in-Ok-clause-agrees : goal.returns-in-Ok-clause-agrees
 returns-in-Ok-clause-agrees g c = λ _.
     let r = c.requires in
-    let e = c.in-Ok.ensures in
-    (
+    let e = c.in-Ok.ensures in (
       store_agrees c.args.self.now (g.B.Nand.state c.args.board.now) c.args.request.now c.args.value.now c.args.key c.args.old r.servable r.opcode r.whole r.named r.is_key r.bytes r.looks
           (sym c.fault_of_store.ensures ∙ c.in-None.is) c.put.new.self (g.B.Nand.state c.put.new.board) e.changed (shape_stays (g.B.Nand.state c.args.board.now) (g.B.Nand.state c.put.new.board) e.works.rest),
       few_same c.args.self.now c.put.new.self e.rest.2 e.few,
