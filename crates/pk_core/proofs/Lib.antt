@@ -6,3 +6,4 @@ pub mod Unread
 pub mod Stills
 pub mod Results
 pub mod Writing
+pub mod Ticking

@@ -5,3 +5,4 @@ pub mod Done
 pub mod Moves
 pub mod Quiet
 pub mod Placing
+pub mod Ticking

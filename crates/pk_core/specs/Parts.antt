@@ -1,5 +1,5 @@
 -- What a drive keeps in memory, and what contracts see of it.
-use Rattle.std.specs.Prelude.{ℕ, Bool, true, false, [], length, sum, count_by, Option, Some, None, nat_le, ◌==◌, ◌||◌, ◌&&◌, not}
+use Rattle.std.specs.Prelude.{ℕ, Bool, true, false, List, [], length, sum, count_by, Option, Some, None, nat_le, ◌==◌, ◌||◌, ◌&&◌, not}
 use Rattle.pk_base.specs.Shape.{Shape, buffer, charge, limit, pinned}
 use Rattle.pk_nvme.specs.declared.request.Request.{Request}
 use Rattle.pk_nvme.specs.Seen.{command_of}

@@ -9,8 +9,9 @@ mod lookup;
 mod moves;
 mod numbers;
 mod place;
-mod quiet;
 mod placing;
+mod quiet;
+mod tick;
 
 pub use drive::Drive;
 pub use place::ValuePlace;
