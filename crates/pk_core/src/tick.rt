@@ -1,5 +1,5 @@
 //! The background steps.
-ghost use Rattle.std.specs.Prelude.{◌≡◌, ◌≤◌, ℕ, [], true, false, Some, IfOk, IfErr, OnOk, OnErr, MatchBool, slice_get};
+ghost use Rattle.std.specs.Prelude.{◌≡◌, ◌⊎◌, ◌≤◌, ℕ, [], true, false, Some, IfOk, IfErr, OnOk, OnErr, MatchBool, slice_get};
 ghost use Rattle.pk_nand.specs.Calls.{IsReady};
 ghost use Rattle.pk_nand.specs.declared.types.Fault.TheVariants.{Stopped};
 ghost use Rattle.pk_pool.specs.Blocks.{Fits, IsShared, IsOwned};
@@ -60,6 +60,8 @@ impl<A: Region> Drive<A> {
         ensures stops { self.new.stopped ≡ stopped_by result }
         ensures none { self.new.log.pending ≡ [] }
         ensures agrees { stopped_by result ≡ false → Agrees self.new (B.state board.new).shape (B.state board.new).pages }
+        ensures erases { stopped_by result ≡ false → ErasesOne self.old.pool (B.state board.old) self.new.pool (B.state board.new) ⊎ ErasesNone self.old.pool (B.state board.old) self.new.pool (B.state board.new) }
+        ensures rest { stopped_by result ≡ false → self.new ≡ record self.old { pool = self.new.pool } }
         ensures ticks { Ticks (B.state board.old) (B.state board.new) (sight_of self.old) (sight_of self.new) result }
         ensures idle { CountsRuns self.old → TellsIdle (B.state board.old) (sight_of self.old) result }
         ensures runs { CountsRuns self.old → CountsRuns self.new }

@@ -1,4 +1,4 @@
-use Rattle.std.proofs.Common.{◌∙◌, refl, sym, ap, true}
+use Rattle.std.proofs.Common.{◌∙◌, inl, inr, refl, sym, ap, true}
 use Rattle.pk_drive.specs.declared.types.Ticked.TheVariants.{Worked, Idle, Fault}
 use Rattle.pk_core.specs.Ticking.{has_no_work}
 use Rattle.pk_core.proofs.Ticking.{runs_erased, one_erased, none_erased, kept_drive, step_agrees, step_ticks, ticks_nothing, ticks_failed, tells_where_free, tells_where_none, worked_fine, idle_fine, worked_idle, stopped_idle, yes_no}
@@ -55,3 +55,12 @@ pub returns-in-Ok-true-clause-runs : goal.returns-in-Ok-true-clause-runs
 returns-in-Ok-true-clause-runs g c =
     let one = one_erased c.args.self.now c.erase_spare.new.self (g.B.Nand.state c.args.board.now) (g.B.Nand.state c.erase_spare.new.board) c.in-Ok-true.field-0 c.in-Ok-true.ensures.erased c.in-Ok-true.field-0-test in
     runs_erased c.args.self.now c.erase_spare.new.self _ _ one c.in-Ok-true.ensures.rest
+
+pub returns-in-Ok-true-clause-erases : goal.returns-in-Ok-true-clause-erases
+returns-in-Ok-true-clause-erases g c = λ _. inl (one_erased c.args.self.now c.erase_spare.new.self (g.B.Nand.state c.args.board.now) (g.B.Nand.state c.erase_spare.new.board) c.in-Ok-true.field-0 c.in-Ok-true.ensures.erased c.in-Ok-true.field-0-test)
+
+pub returns-then-has_no_work-clause-erases : goal.returns-then-has_no_work-clause-erases
+returns-then-has_no_work-clause-erases g c = λ _. inr (none_erased c.args.self.now c.erase_spare.new.self (g.B.Nand.state c.args.board.now) (g.B.Nand.state c.erase_spare.new.board) c.in-Ok-false.field-0 c.in-Ok-false.ensures.erased c.in-Ok-false.field-0-test)
+
+pub returns-else-has_no_work-clause-erases : goal.returns-else-has_no_work-clause-erases
+returns-else-has_no_work-clause-erases g c = λ _. inr (none_erased c.args.self.now c.erase_spare.new.self (g.B.Nand.state c.args.board.now) (g.B.Nand.state c.erase_spare.new.board) c.in-Ok-false.field-0 c.in-Ok-false.ensures.erased c.in-Ok-false.field-0-test)
