@@ -456,6 +456,10 @@ both_ok : (A B : Type 0) (r : Result Unit Fault) → OnOk r A → OnOk r B → O
 both_ok A B (Ok x) a b = (a, b)
 both_ok A B (Err e) a b = tt
 
+either : (A B C : Type 0) (r : Result Unit Fault) → (A → C) → (B → C) → OnOk r A → OnErr r B → C
+either A B C (Ok x) f g a b = f a
+either A B C (Err e) f g a b = g b
+
 err_weaker : (A B : Type 0) (r : Result Unit Fault) → (A → B) → OnErr r A → OnErr r B
 err_weaker A B (Ok x) f a = tt
 err_weaker A B (Err e) f a = f a
@@ -478,8 +482,14 @@ module _ (r : Result Unit Fault) (d : Parts) (old new : BoardState) (before : Is
     pub none_if : OnOk r (Made log' pool') → OnOk r (log'.pending ≡ [])
     none_if froze = on_ok_weaker r (λ f. let can = may_here in ap (λ (l : LogState). l.pending) (f can.0 can.1 can.2 can.3).begun_is ∙ none_pending) froze
 
-    pub roots_if : IsReady new d.log.shape → OnOk r (Made log' pool') → OnOk r (roots new ≤ roots old + 1)
-    roots_if after froze = on_ok_weaker r (λ f. let one = freeze_roots d old new before none_pending none_frozen unworn log' pool' witness.0 after witness.1 f in omega (arith, one)) froze
+    pub roots_any : IsReady new d.log.shape → OnOk r (Made log' pool') → OnErr r (root_number d.log.shape new.pages ≤ root_number d.log.shape old.pages + 1) → roots new ≤ roots old + 1
+    roots_any after froze few =
+        either (Made log' pool') (root_number d.log.shape new.pages ≤ root_number d.log.shape old.pages + 1) (roots new ≤ roots old + 1) r
+        (λ f. let one = freeze_roots d old new before none_pending none_frozen unworn log' pool' witness.0 after witness.1 f in omega (arith, one))
+        (λ most.
+        let now : roots new ≡ root_number d.log.shape new.pages = ap (λ (s : Shape). root_number s new.pages) (shape_is new d.log.shape after) in
+        let was : roots old ≡ root_number d.log.shape old.pages = ap (λ (s : Shape). root_number s old.pages) (shape_is old d.log.shape before) in
+        omega (arith, most, now, was)) froze few
 
   pub breaks_if : OnErr r ((top : ℕ × Root) (found : Found) (m : Map) → CanFreeze d.log d.pool old.pages top found m → Goes d.log.shape old new (TickCut d.log.shape m)) → OnErr r (BreaksAll d old new)
   breaks_if went = err_weaker ((top : ℕ × Root) (found : Found) (m : Map) → CanFreeze d.log d.pool old.pages top found m → Goes d.log.shape old new (TickCut d.log.shape m)) (BreaksAll d old new) r (λ f. freeze_breaks d old new before none_pending none_frozen unworn f) went

@@ -30,7 +30,7 @@ impl<A: Region> Drive<A> {
         ensures runs { OnOk result ((self.new.levels ≡ self.old.levels) × (self.new.arena ≡ self.old.arena) × (self.new.frames ≡ self.old.frames)) }
         ensures keeps { OnOk result (KeepsAll self.old self.new (B.state board.old) (B.state board.new)) }
         ensures works { OnOk result (Works (B.state board.old) (B.state board.new)) }
-        ensures roots { OnOk result (roots (B.state board.new) ≤ roots (B.state board.old) + 1) }
+        ensures roots { roots (B.state board.new) ≤ roots (B.state board.old) + 1 }
         ensures stopped { IfErr result (λ e. e ≡ Stopped) }
         ensures breaks { OnErr result (BreaksAll self.old (B.state board.old) (B.state board.new)) }
         ensures stops { OnErr result (Stops (B.state board.old) (B.state board.new)) }
@@ -52,7 +52,7 @@ impl<A: Region> Drive<A> {
         ensures runs { OnOk result ((self.new.levels ≡ self.old.levels) × (self.new.arena ≡ self.old.arena) × (self.new.frames ≡ self.old.frames)) }
         ensures keeps { OnOk result (KeepsAll self.old self.new (B.state board.old) (B.state board.new)) }
         ensures works { OnOk result (Works (B.state board.old) (B.state board.new)) }
-        ensures roots { OnOk result (roots (B.state board.new) ≤ roots (B.state board.old) + 1) }
+        ensures roots { roots (B.state board.new) ≤ roots (B.state board.old) + 1 }
         ensures stopped { IfErr result (λ e. e ≡ Stopped) }
         ensures breaks { OnErr result (BreaksAll self.old (B.state board.old) (B.state board.new)) }
         ensures stops { OnErr result (Stops (B.state board.old) (B.state board.new)) }
@@ -78,7 +78,7 @@ impl<A: Region> Drive<A> {
         ensures runs { OnOk result ((self.new.levels ≡ self.old.levels) × (self.new.arena ≡ self.old.arena) × (self.new.frames ≡ self.old.frames)) }
         ensures keeps { OnOk result (KeepsAll self.old self.new (B.state board.old) (B.state board.new)) }
         ensures works { OnOk result (Works (B.state board.old) (B.state board.new)) }
-        ensures roots { OnOk result (roots (B.state board.new) ≤ roots (B.state board.old) + 1) }
+        ensures roots { roots (B.state board.new) ≤ roots (B.state board.old) + 1 }
         ensures stopped { IfErr result (λ e. e ≡ Stopped) }
         ensures breaks { OnErr result (BreaksAll self.old (B.state board.old) (B.state board.new)) }
         ensures stops { OnErr result (Stops (B.state board.old) (B.state board.new)) }

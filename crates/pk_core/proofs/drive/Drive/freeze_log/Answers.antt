@@ -1,5 +1,5 @@
 use Rattle.std.specs.Prelude.{Ok}
-use Rattle.pk_core.proofs.Freezing.{may_here, keeps_if, room_if, none_if, roots_if, breaks_if}
+use Rattle.pk_core.proofs.Freezing.{may_here, keeps_if, room_if, none_if, roots_any, breaks_if}
 use Rattle.pk_core.proofs.drive.Drive.freeze_log.Goals as goal
 
 pub freeze-requires-clause-can : goal.freeze-requires-clause-can
@@ -29,7 +29,7 @@ pub returns-clause-roots : goal.returns-clause-roots
 returns-clause-roots g c =
     let e = c.freeze.ensures in
     let r = rw (← c.self.view_is) at c.requires in
-    roots_if c.freeze.result _ (g.B.Nand.state c.args.board.now) (g.B.Nand.state c.freeze.new.board) r.ready r.none_pending r.none_frozen r.unworn r.stands c.freeze.new.self c.freeze.new.pool e.ready e.froze
+    roots_any c.freeze.result _ (g.B.Nand.state c.args.board.now) (g.B.Nand.state c.freeze.new.board) r.ready r.none_pending r.none_frozen r.unworn r.stands c.freeze.new.self c.freeze.new.pool e.ready e.froze e.installs
 
 pub returns-clause-breaks : goal.returns-clause-breaks
 returns-clause-breaks g c =
