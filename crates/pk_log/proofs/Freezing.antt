@@ -94,10 +94,10 @@ module _ (log : LogState) (pool : Blocks) (flash : Flash) (top : ℕ × Root) (f
   told =
       let logs = can.logs in
       let keys : length log.active.entries ≡ length (firsts found.newest) =
-          ap (λ (t : Table). length t.entries) logs.active_is
-          ∙ ap (λ (es : List Entry). length (firsts (reverse (found.newest ++ es)))) can.none_pending
-          ∙ ap (λ (es : List Entry). length (firsts (reverse es))) (append-nil found.newest)
-          ∙ firsts-reverse found.newest
+      ap (λ (t : Table). length t.entries) logs.active_is
+      ∙ ap (λ (es : List Entry). length (firsts (reverse (found.newest ++ es)))) can.none_pending
+      ∙ ap (λ (es : List Entry). length (firsts (reverse es))) (append-nil found.newest)
+      ∙ firsts-reverse found.newest
       in
       tells_some found.newest (length log.active.entries) keys
 
