@@ -39,6 +39,7 @@ use Rattle.pk_compact.proofs.Running.{run_then, go_then}
 use Rattle.pk_compact.proofs.Taking.{spare_before, two_works, two_leave, two_front, two_reach, two_under, failed_stops, failed_goes}
 use Rattle.pk_compact.proofs.Grammar.{Known, known, next_is_root}
 use Rattle.pk_compact.proofs.Apart.{apart_after}
+use Rattle.pk_compact.proofs.Numbering.{same_front, take_number, finish_number}
 use Rattle.pk_compact.proofs.Installing.{Finished, finish, finish_goes, works_all, stops_all, erased_behind}
 
 -- ---- lists and states
@@ -71,6 +72,10 @@ number_next : (shape : Shape) (old new : Flash) (top : ℕ × Root) (page : ℕ)
 unfolding root_number
 number_next shape old new top page root was is next = rw (was, is) next
 
+number_of_top : (shape : Shape) (flash : Flash) (top : ℕ × Root) → newest_root shape (page_at flash) ≡ Some top → root_number shape flash ≡ top.1.number
+unfolding root_number
+number_of_top shape flash top is = rw is refl
+
 module _ (pool : Blocks) (root : Held) (next : Next) (has_entries : Bool) (old : BoardState) (shared : IsShared pool.shape pool.states) (ready : IsReady old root.shape)
     (top : ℕ × Root) (found : Found) (m : Map) (may : MayFreeze pool root next old.pages has_entries top found m) where
   is_shape : IsShape root.shape
@@ -99,6 +104,9 @@ module _ (pool : Blocks) (root : Held) (next : Next) (has_entries : Bool) (old :
 
   pub take_stops : (new : BoardState) → FailsToTake pool old new → Stops old new
   take_stops new failed = failed_stops root.shape is_shape pool old new ready failed
+
+  pub take_installs : (new : BoardState) → FailsToTake pool old new → root_number root.shape new.pages ≤ root_number root.shape old.pages + 1
+  take_installs new failed = let same = take_number root.shape is_shape pool old new ready spare_behind failed in omega (arith, same)
 
   module _ (blocks : List ℕ) (pool' : Blocks) (mid : BoardState) (t : TakesTwo pool old blocks pool' mid) (ready_there : IsReady mid pool'.shape) where
     mid_ready : IsReady mid root.shape
@@ -254,3 +262,11 @@ module _ (pool : Blocks) (root : Held) (next : Next) (has_entries : Bool) (old :
       pub held_stops : (new : BoardState) → FailsToFinish held.shape held.root next mid new → Stops old new
       held_stops new i =
           stops_then old mid new (two_works root.shape is_shape pool old mid ready t.first t.second t.between t.first_taken t.second_taken) (stops_all held.shape held.root next mid new i)
+
+      pub held_installs : (new : BoardState) → FailsToFinish held.shape held.root next mid new → root_number root.shape new.pages ≤ root_number root.shape old.pages + 1
+      held_installs new failed =
+          let P : Held → Type 0 = λ h. FailsToFinish h.shape h.root next mid new in
+          let middle : root_number root.shape mid.pages ≡ root_number root.shape old.pages = same_front root.shape old.pages mid.pages (two_front root.shape is_shape pool old mid ready t.first t.second t.between t.first_taken t.second_taken two.first_least two.second_least) in
+          let was : root_number root.shape old.pages ≡ root.root.number = number_of_top root.shape old.pages top may.under.is_top ∙ ap (λ r. r.number) may.top_is in
+          let there = finish_number root.shape (next_root root.root blocks has_entries) next mid new (omega (arith, middle, was)) (subst P followed failed) in
+          omega (arith, there, middle)

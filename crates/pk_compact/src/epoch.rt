@@ -1,5 +1,5 @@
 //! Freezes.
-ghost use Rattle.std.specs.Prelude.{◌≡◌, ℕ, length, IfOk, IfErr, OnOk, OnErr};
+ghost use Rattle.std.specs.Prelude.{◌≡◌, ◌≤◌, ◌+◌, ℕ, length, IfOk, IfErr, OnOk, OnErr};
 ghost use Rattle.pk_base.specs.Map.{Map};
 ghost use Rattle.pk_nand.specs.Calls.{IsReady};
 ghost use Rattle.pk_nand.specs.declared.types.Fault.TheVariants.{Stopped};
@@ -8,6 +8,7 @@ ghost use Rattle.pk_model.specs.Found.{Found};
 ghost use Rattle.pk_pool.specs.Blocks.{Fits};
 ghost use Rattle.pk_drive.specs.Growth.{Goes};
 ghost use Rattle.pk_drive.specs.Tick.{TickCut};
+ghost use Rattle.pk_drive.specs.Wear.{root_number};
 ghost use Rattle.pk_compact.specs.Working.{Works, Stops};
 ghost use Rattle.pk_compact.specs.Freezing.{MayFreeze, Froze};
 
@@ -43,6 +44,7 @@ pub fn freeze<B: Nand, A: Allocator>(
     ensures stopped { IfErr result (λ e. e ≡ Stopped) }
     ensures went { OnErr result ((top : ℕ × RootValue) (found : Found) (m : Map) → MayFreeze pool.old root.old installer.old (B.state board.old).pages has_entries top found m → Goes root.old.shape (B.state board.old) (B.state board.new) (TickCut root.old.shape m)) }
     ensures stops { OnErr result (Stops (B.state board.old) (B.state board.new)) }
+    ensures installs { OnErr result (root_number root.old.shape (B.state board.new).pages ≤ root_number root.old.shape (B.state board.old).pages + 1) }
     ensures ready { IsReady (B.state board.new) root.old.shape }
     ensures buffer { length buf.new ≡ length buf.old }
 {

@@ -7,3 +7,8 @@ pub mod Stills
 pub mod Results
 pub mod Writing
 pub mod Ticking
+pub mod Keeping
+pub mod Elsewhere
+pub mod Committing
+pub mod Freezing
+pub mod Rooming

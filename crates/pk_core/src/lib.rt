@@ -12,6 +12,7 @@ mod place;
 mod placing;
 mod quiet;
 mod tick;
+mod room;
 
 pub use drive::Drive;
 pub use place::ValuePlace;

@@ -1,27 +1,16 @@
 //! The steps inside a command. Each keeps the map, wherever it is cut.
-ghost use Rattle.std.specs.Prelude.{◌≡◌, ◌≤◌, ◌<◌, ℕ, List, [], length, false, true, T, IfOk, IfErr, OnOk, OnErr};
-ghost use Rattle.std.specs.FinMap.{insert, remove};
-ghost use Rattle.pk_base.specs.Shape as spec;
-ghost use Rattle.pk_base.specs.Fields.{AreBytes};
-ghost use Rattle.pk_base.specs.Map.{Map, live};
-ghost use Rattle.pk_base.specs.Entry.{Place};
-ghost use Rattle.pk_base.specs.Key.{IsKey};
+ghost use Rattle.std.specs.Prelude.{◌≡◌, ◌≢◌, [], IsOk, IfErr, OnOk, OnErr};
+ghost use Rattle.pk_base.specs.Map.{Map};
 ghost use Rattle.pk_nand.specs.Calls.{IsReady};
 ghost use Rattle.pk_nand.specs.declared.types.Fault.TheVariants.{Stopped};
-ghost use Rattle.pk_log.specs.State.{needs_freeze as needs_freeze_for};
-ghost use Rattle.pk_data.specs.State.{needs_reclaim as needs_reclaim_for};
 ghost use Rattle.pk_compact.specs.Working.{Works, Stops};
-ghost use Rattle.pk_drive.specs.Wear.{roots, is_worn};
-ghost use Rattle.pk_core.specs.Finding.{place_of};
-ghost use Rattle.pk_core.specs.Moves.{StandsFor, KeepsAll, BreaksAll, IsWritten};
+ghost use Rattle.pk_drive.specs.Commit.{OneProgram};
+ghost use Rattle.pk_drive.specs.Wear.{roots};
+ghost use Rattle.pk_core.specs.Moves.{StandsFor, KeepsAll, BreaksAll};
 
 use crate::drive::Drive;
-use crate::place::ValuePlace;
-use pk_base::{Entry, Key};
-use pk_data::Span;
 use pk_nand::{Fault, Nand};
 use pk_region::Region;
-use pk_seg::write_value;
 
 impl<A: Region> Drive<A> {
     /// Commits the pending entries; nothing is done where there are none.
@@ -30,8 +19,13 @@ impl<A: Region> Drive<A> {
         requires stands { (m : Map) × StandsFor self.old self.old.log.shape (B.state board.old).pages m }
         ensures none { OnOk result (self.new.log.pending ≡ []) }
         ensures rest { OnOk result ((self.new.space ≡ self.old.space) × (self.new.pool ≡ self.old.pool) × (self.new.keys ≡ self.old.keys) × (self.new.stopped ≡ self.old.stopped) × (self.new.log.shape ≡ self.old.log.shape)) }
+        ensures runs { OnOk result ((self.new.levels ≡ self.old.levels) × (self.new.arena ≡ self.old.arena) × (self.new.frames ≡ self.old.frames)) }
+        ensures buffers { OnOk result ((self.new.log.active ≡ self.old.log.active) × (self.new.log.frozen ≡ self.old.log.frozen)) }
         ensures keeps { OnOk result (KeepsAll self.old self.new (B.state board.old) (B.state board.new)) }
         ensures works { OnOk result (Works (B.state board.old) (B.state board.new)) }
+        ensures program { self.old.log.pending ≢ [] → OneProgram (B.state board.old) (B.state board.new) }
+        ensures idle { self.old.log.pending ≡ [] → IsOk result × (self.new ≡ self.old) × (B.state board.new ≡ B.state board.old) }
+        ensures kept { OnErr result (self.new ≡ self.old) }
         ensures roots { roots (B.state board.new) ≡ roots (B.state board.old) }
         ensures stopped { IfErr result (λ e. e ≡ Stopped) }
         ensures breaks { OnErr result (BreaksAll self.old (B.state board.old) (B.state board.new)) }

@@ -39,7 +39,7 @@ put_some k v (x ∷ xs) up = let grows = put_grows k v (x ∷ xs) up in omega (a
 firsts_some : (e : Entry) (es : List Entry) → 0 < length (firsts (e ∷ es))
 firsts_some e es = put_some e.0 e.1 (firsts es) (firsts_sorted es)
 
-none_of_firsts : (es : List Entry) → length (firsts es) ≡ 0 → es ≡ []
+pub none_of_firsts : (es : List Entry) → length (firsts es) ≡ 0 → es ≡ []
 none_of_firsts [] none = refl
 none_of_firsts (e ∷ es) none = let some = firsts_some e es in absurd (omega (arith, none, some))
 
@@ -67,7 +67,7 @@ or_false false t = t
 ok_same : {A : Type 0} (x y : A) → ◌≡◌ {A = Result A Refusal} (Ok x) (Ok y) → x ≡ y
 ok_same x y e = cc
 
-none_named : (shape : Shape) (at : ℕ → Page) (root : Root) (found : Found) → found_under shape at root ≡ Ok found → found.older ≡ [] → root.older ≡ []
+pub none_named : (shape : Shape) (at : ℕ → Page) (root : Root) (found : Found) → found_under shape at root ≡ Ok found → found.older ≡ [] → root.older ≡ []
 unfolding found_under
 none_named shape at root found is none =
     let first = bind_ok (older_epoch shape at root) _ found is in
@@ -94,10 +94,10 @@ module _ (log : LogState) (pool : Blocks) (flash : Flash) (top : ℕ × Root) (f
   told =
       let logs = can.logs in
       let keys : length log.active.entries ≡ length (firsts found.newest) =
-          ap (λ (t : Table). length t.entries) logs.active_is
-          ∙ ap (λ (es : List Entry). length (firsts (reverse (found.newest ++ es)))) can.none_pending
-          ∙ ap (λ (es : List Entry). length (firsts (reverse es))) (append-nil found.newest)
-          ∙ firsts-reverse found.newest
+      ap (λ (t : Table). length t.entries) logs.active_is
+      ∙ ap (λ (es : List Entry). length (firsts (reverse (found.newest ++ es)))) can.none_pending
+      ∙ ap (λ (es : List Entry). length (firsts (reverse es))) (append-nil found.newest)
+      ∙ firsts-reverse found.newest
       in
       tells_some found.newest (length log.active.entries) keys
 

@@ -1,5 +1,5 @@
 //! The freeze of a log.
-ghost use Rattle.std.specs.Prelude.{◌≡◌, ℕ, length, IfErr, OnOk, OnErr};
+ghost use Rattle.std.specs.Prelude.{◌≡◌, ◌≤◌, ◌+◌, ℕ, length, IfErr, OnOk, OnErr};
 ghost use Rattle.pk_base.specs.Map.{Map};
 ghost use Rattle.pk_nand.specs.Calls.{IsReady};
 ghost use Rattle.pk_nand.specs.declared.types.Fault.TheVariants.{Stopped};
@@ -8,6 +8,7 @@ ghost use Rattle.pk_model.specs.Found.{Found};
 ghost use Rattle.pk_pool.specs.Blocks.{Fits};
 ghost use Rattle.pk_drive.specs.Growth.{Goes};
 ghost use Rattle.pk_drive.specs.Tick.{TickCut};
+ghost use Rattle.pk_drive.specs.Wear.{root_number};
 ghost use Rattle.pk_compact.specs.Working.{Works, Stops};
 ghost use Rattle.pk_log.specs.Freezes.{CanFreeze, LogFroze};
 
@@ -36,9 +37,11 @@ impl<A: Region> Log<A> {
         ensures works { OnOk result (Works (B.state board.old) (B.state board.new)) }
         ensures fits { OnOk result (Fits pool.new (B.state board.new).pages) }
         ensures shape { OnOk result ((self.new.shape ≡ self.old.shape) × (pool.new.shape ≡ self.old.shape)) }
+        ensures same_shape { self.new.shape ≡ self.old.shape }
         ensures stopped { IfErr result (λ e. e ≡ Stopped) }
         ensures went { OnErr result ((top : ℕ × RootValue) (found : Found) (m : Map) → CanFreeze self.old pool.old (B.state board.old).pages top found m → Goes self.old.shape (B.state board.old) (B.state board.new) (TickCut self.old.shape m)) }
         ensures stops { OnErr result (Stops (B.state board.old) (B.state board.new)) }
+        ensures installs { OnErr result (root_number self.old.shape (B.state board.new).pages ≤ root_number self.old.shape (B.state board.old).pages + 1) }
         ensures ready { IsReady (B.state board.new) self.old.shape }
         ensures buffer { length buf.new ≡ length buf.old }
     {

@@ -1,4 +1,4 @@
-use Rattle.pk_compact.proofs.Frozen.{grammar, take_goes, take_stops, former_owned, former_differ, held_valid, held_fits, held_pool, held_goes, held_froze, held_works, held_stops}
+use Rattle.pk_compact.proofs.Frozen.{grammar, take_goes, take_stops, take_installs, held_installs, former_owned, former_differ, held_valid, held_fits, held_pool, held_goes, held_froze, held_works, held_stops}
 use Rattle.pk_compact.proofs.epoch.freeze.Goals as goal
 use Rattle.std.proofs.Common.{arith}
 
@@ -69,3 +69,13 @@ pub returns-in-Err-clause-stops : goal.returns-in-Err-clause-stops
 returns-in-Err-clause-stops g c =
     let may = c.requires.may in
     take_stops c.args.pool.now c.args.root.now c.args.installer.now c.args.has_entries (g.B.Nand.state c.args.board.now) c.known.ensures c.requires.ready may.0 may.1 may.2 may.3 (g.B.Nand.state c.take_two.new.board) c.in-Err.ensures.failed
+
+pub returns-in-Err-install-clause-installs : goal.returns-in-Err-install-clause-installs
+returns-in-Err-install-clause-installs g c =
+    let may = c.requires.may in
+    held_installs c.args.pool.now c.args.root.now c.args.installer.now c.args.has_entries (g.B.Nand.state c.args.board.now) c.known.ensures c.requires.ready may.0 may.1 may.2 may.3 c.in-Ok.blocks c.take_two.new.pool (g.B.Nand.state c.take_two.new.board) c.in-Ok.ensures.taken c.take_two.ensures.ready c.follow.new.root c.follow.ensures (g.B.Nand.state c.install.new.board) c.in-Err-install.ensures.failed
+
+pub returns-in-Err-clause-installs : goal.returns-in-Err-clause-installs
+returns-in-Err-clause-installs g c =
+    let may = c.requires.may in
+    take_installs c.args.pool.now c.args.root.now c.args.installer.now c.args.has_entries (g.B.Nand.state c.args.board.now) c.known.ensures c.requires.ready may.0 may.1 may.2 may.3 (g.B.Nand.state c.take_two.new.board) c.in-Err.ensures.failed

@@ -1,0 +1,83 @@
+-- Steps in a row, each of which keeps the map.
+use Rattle.std.proofs.Common.{◌≡◌, ◌⊎◌, inl, inr, ℕ, List, [], ◌++◌, Some, Result, Ok, Err, refl, sym, ap, subst, ◌∙◌}
+use Rattle.std.specs.Prelude.{OnOk, OnErr}
+use Rattle.pk_base.specs.Shape.{Shape}
+use Rattle.pk_base.specs.Page.{Flash}
+use Rattle.pk_base.specs.Map.{Map}
+use Rattle.pk_base.specs.Mark.{all_posted}
+use Rattle.pk_nand.specs.declared.types.Fault.{Fault}
+use Rattle.pk_nand.specs.BoardState.{BoardState}
+use Rattle.pk_nand.specs.Calls.{IsReady}
+use Rattle.pk_nand.proofs.Reaching.{Reached-start}
+use Rattle.pk_model.specs.Reading.{reading}
+use Rattle.pk_drive.specs.Growth.{Goes}
+use Rattle.pk_drive.specs.Commit.{CommitCut}
+use Rattle.pk_drive.proofs.Growing.{Reaches-then, Goes-then, at_end}
+use Rattle.pk_core.specs.Parts.{Parts}
+use Rattle.pk_core.specs.Moves.{StandsFor, Keeps, KeepsAll, BreaksAll}
+
+-- where the second flash holds what the first held, or the map, a cut behind it is one behind the first
+cut_of_both : (shape : Shape) (m : Map) (first second flash : Flash) (front posted : List ℕ) → front ≡ []
+    → (reading shape second [] ≡ reading shape first []) ⊎ (reading shape second [] ≡ Ok m)
+    → CommitCut shape second m flash posted → CommitCut shape first m flash (front ++ posted)
+cut_of_both shape m first second flash front posted none still cut = (
+  ap (λ (xs : List ℕ). xs ++ posted) none ∙ cut.0,
+  elim cut.1 [
+    | inl same ↦ elim still [ inl was ↦ inl (same ∙ was) | inr is ↦ inr (same ∙ is) ]
+    | inr is ↦ inr is
+  ],
+)
+
+module _ (a b : Parts) (shape : Shape) (m : Map) (s0 s1 : BoardState) (has : s0.shape ≡ Some shape) (first : Keeps a b shape m s0 s1) where
+  seen : (flash : Flash) (posted : List ℕ) → CommitCut shape s1.pages m flash posted → CommitCut shape s0.pages m flash (all_posted first.cuts.0 ++ posted)
+  seen flash posted cut =
+      let ends = at_end first.cuts.0 s0 s1 (CommitCut shape s0.pages m) first.cuts.1 in
+      cut_of_both shape m s0.pages s1.pages flash (all_posted first.cuts.0) posted ends.0 first.still cut
+
+  pub Keeps-then : (c : Parts) (s2 : BoardState) → Keeps b c shape m s1 s2 → Keeps a c shape m s0 s2
+  Keeps-then c s2 second = record {
+    stands = second.stands;
+    still = elim second.still [
+      | inl same ↦ elim first.still [ inl was ↦ inl (same ∙ was) | inr is ↦ inr (same ∙ is) ]
+      | inr is ↦ inr is
+    ];
+    cuts = Reaches-then shape first.cuts.0 s0 s1 (CommitCut shape s0.pages m) has first.cuts.1 first.cuts.2 s2 (CommitCut shape s1.pages m) seen second.cuts;
+  }
+
+  pub Breaks-then : (s2 : BoardState) → Goes shape s1 s2 (CommitCut shape s1.pages m) → Goes shape s0 s2 (CommitCut shape s0.pages m)
+  Breaks-then s2 second = Goes-then shape first.cuts.0 s0 s1 (CommitCut shape s0.pages m) has first.cuts.1 first.cuts.2 s2 (CommitCut shape s1.pages m) seen second
+
+-- the board has the shape that the drive stands for
+board_has : (a : Parts) (board : BoardState) (shape : Shape) (m : Map) → IsReady board a.log.shape → StandsFor a shape board.pages m → board.shape ≡ Some shape
+board_has a board shape m ready stands = ready.shape_is ∙ ap (λ s. Some s) stands.with.shape_is
+
+pub KeepsAll-then : (a b c : Parts) (s0 s1 s2 : BoardState) → IsReady s0 a.log.shape → KeepsAll a b s0 s1 → KeepsAll b c s1 s2 → KeepsAll a c s0 s2
+KeepsAll-then a b c s0 s1 s2 ready first second shape m stands =
+    let one = first shape m stands in
+    Keeps-then a b shape m s0 s1 (board_has a s0 shape m ready stands) one c s2 (second shape m one.stands)
+
+pub BreaksAll-then : (a b : Parts) (s0 s1 s2 : BoardState) → IsReady s0 a.log.shape → KeepsAll a b s0 s1 → BreaksAll b s1 s2 → BreaksAll a s0 s2
+BreaksAll-then a b s0 s1 s2 ready first second shape m stands =
+    let one = first shape m stands in
+    Breaks-then a b shape m s0 s1 (board_has a s0 shape m ready stands) one s2 (second shape m one.stands)
+
+-- nothing was done
+pub KeepsAll-none : (a b : Parts) (old new : BoardState) → b ≡ a → new ≡ old → KeepsAll a b old new
+KeepsAll-none a b old new same_parts same shape m stands =
+    let there : Keeps a a shape m old old = record {
+      stands = stands;
+      still = inl refl;
+      cuts = ([], Reached-start old old (CommitCut shape old.pages m) refl refl refl refl (refl, inl refl), tt);
+    } in
+    let P : Parts → Type 0 = λ p. Keeps a p shape m old old in
+    let Q : BoardState → Type 0 = λ s. Keeps a b shape m old s in
+    subst Q (sym same) (subst P (sym same_parts) there)
+
+-- the second step, by what it answered
+pub keeps_then_ok : (r : Result Unit Fault) (a b c : Parts) (s0 s1 s2 : BoardState) → IsReady s0 a.log.shape → KeepsAll a b s0 s1 → OnOk r (KeepsAll b c s1 s2) → OnOk r (KeepsAll a c s0 s2)
+keeps_then_ok (Ok x) a b c s0 s1 s2 ready first second = KeepsAll-then a b c s0 s1 s2 ready first second
+keeps_then_ok (Err e) a b c s0 s1 s2 ready first second = tt
+
+pub breaks_then_err : (r : Result Unit Fault) (a b : Parts) (s0 s1 s2 : BoardState) → IsReady s0 a.log.shape → KeepsAll a b s0 s1 → OnErr r (BreaksAll b s1 s2) → OnErr r (BreaksAll a s0 s2)
+breaks_then_err (Ok x) a b s0 s1 s2 ready first second = tt
+breaks_then_err (Err e) a b s0 s1 s2 ready first second = BreaksAll-then a b s0 s1 s2 ready first second
