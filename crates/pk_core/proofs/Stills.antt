@@ -93,7 +93,7 @@ module _ (shape : Shape) (root : Root) (found : Found) (pending : List Entry) (s
         let before = still_written n (omega (arith, most)) in
         let now : BoardState = written shape key page value n old in
         still_then old now (written shape key page value (suc n) old) has before
-            (still_program now (shape_stays n) (still_end old now before) (page + n) (page_of shape key value n) (unread (page + n) (omega arith) (omega (arith, most))) (written shape key page value (suc n) old) refl)
+        (still_program now (shape_stays n) (still_end old now before) (page + n) (page_of shape key value n) (unread (page + n) (omega arith) (omega (arith, most))) (written shape key page value (suc n) old) refl)
 
     pub still_write_failed : (new : BoardState) → WriteFailed shape key page value old new → Goes shape old new StillCut
     still_write_failed new failed =
@@ -102,7 +102,7 @@ module _ (shape : Shape) (root : Root) (found : Found) (pending : List Entry) (s
         let before = still_written n (omega (arith, within)) in
         let now : BoardState = written shape key page value n old in
         still_goes old now new has before
-            (still_program_failed now (shape_stays n) (still_end old now before) (page + n) (page_of shape key value n) (unread (page + n) (omega arith) (omega (arith, within))) new failed.failed)
+        (still_program_failed now (shape_stays n) (still_end old now before) (page + n) (page_of shape key value n) (unread (page + n) (omega arith) (omega (arith, within))) new failed.failed)
 
 -- ---- counts
 
