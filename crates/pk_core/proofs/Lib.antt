@@ -12,3 +12,4 @@ pub mod Elsewhere
 pub mod Committing
 pub mod Freezing
 pub mod Rooming
+pub mod Entries

@@ -44,6 +44,7 @@ use Rattle.pk_data.specs.Reserving.{TakesNext, OpensBlock}
 use Rattle.pk_core.specs.Parts.{Parts}
 use Rattle.pk_core.specs.Agreeing.{AgreesWith}
 use Rattle.pk_core.specs.Moves.{StandsFor, Keeps, KeepsAll, BreaksAll, IsWritten}
+use Rattle.pk_core.specs.Noting.{KeepsFound}
 use Rattle.pk_core.specs.Placing.{Reserves, PlacesValue, FailsToWrite, FailsToPlace}
 use Rattle.pk_core.proofs.Unread.{IsReadBy, SameRead, same_top, KeepsOwners, still_without, still_all, agrees_elsewhere}
 use Rattle.pk_core.proofs.Stills.{StillCut, still_then, still_goes, still_end, went_end, still_none, still_erase, still_erase_failed, still_written, still_write_failed, works_written, stops_written}
@@ -64,10 +65,10 @@ journal_taken : (p : Blocks) (block : ℕ) → IsSpare p block → used_by Journ
 journal_taken p block (inl free) = let all = count-set (is_owned_by Journal) p.states block Free (Owned Values) free in omega (arith, all)
 journal_taken p block (inr ready) = let all = count-set (is_owned_by Journal) p.states block Ready (Owned Values) ready in omega (arith, all)
 
-journal_or_values : (p : Blocks) (b : ℕ) → slice_get p.states b ≡ Some (Owned Journal) → HoldsValues p b → ⊥
+pub journal_or_values : (p : Blocks) (b : ℕ) → slice_get p.states b ≡ Some (Owned Journal) → HoldsValues p b → ⊥
 journal_or_values p b is held = cc
 
-meta_or_values : (p : Blocks) (b : ℕ) → slice_get p.states b ≡ Some (Owned Meta) → HoldsValues p b → ⊥
+pub meta_or_values : (p : Blocks) (b : ℕ) → slice_get p.states b ≡ Some (Owned Meta) → HoldsValues p b → ⊥
 meta_or_values p b is held = cc
 
 any_split : (P : ℕ → Type 0) (xs ys : List ℕ) → AnyByRecursion P (xs ++ ys) → AnyByRecursion P xs ⊎ AnyByRecursion P ys
@@ -103,7 +104,7 @@ module _ (d : Parts) (shape : Shape) (old : Flash) (top : ℕ × Root) (found : 
   positive = block_pages_positive shape shape_ok
 
   -- a block that the root names has another owner than values
-  named_owner : (b : ℕ) → AnyByRecursion (λ c. b ≡ c) (named top.1) → (slice_get d.pool.states b ≡ Some (Owned Journal)) ⊎ (slice_get d.pool.states b ≡ Some (Owned Meta))
+  pub named_owner : (b : ℕ) → AnyByRecursion (λ c. b ≡ c) (named top.1) → (slice_get d.pool.states b ≡ Some (Owned Journal)) ⊎ (slice_get d.pool.states b ≡ Some (Owned Meta))
   named_owner b is = elim (any_split (λ c. b ≡ c) (top.1.newest ++ top.1.older) (concat top.1.runs) is) [ inl front ↦ inl (with.journal b front) | inr back ↦ inr (with.runs b back) ]
 
   -- the page of a value is in a block for values
@@ -318,6 +319,7 @@ found_once a b shape flash top top' found found' w m w' m' one other =
 -- all that a call says that wrote a value
 pub record Written (d : Parts) (key : Key) (value : List ℕ) (old : BoardState) (page : ℕ) (after : Parts) (new : BoardState) : Type 0 where
   pub keeps : KeepsAll d after old new
+  pub found : KeepsFound d after old new
   pub works : Works old new
   pub written : IsWritten after d.log.shape new.pages key value page
   pub place : IsPlace d.log.shape (record { page = page; len = length value })
@@ -346,6 +348,10 @@ value_written d key value old page space q new is ready ready_new is_key short s
     let count : ℕ = charge shape (length value) in
     record {
       keeps = placed_keeps_all d key value old page space q new is ready ready_new;
+      found = λ shape' top' found' without' all' other.
+          let same : d.log.shape ≡ shape' = other.shape_is in
+          subst (λ (s : Shape). AgreesWith after s new.pages top' found' without' all') same
+          (placed_agrees d key value old page space q new is ready ready_new top' found' without' all' (subst (λ (s : Shape). AgreesWith d s old.pages top' found' without' all') (sym same) other));
       works = works_placed d key value old page space q new is ready ready_new;
       written = record {
         there = value_again shape with.logs.is_shape key value is_key (page_at new.pages) page is.stored;

@@ -6,3 +6,4 @@ pub mod Moves
 pub mod Quiet
 pub mod Placing
 pub mod Ticking
+pub mod Noting

@@ -8,6 +8,7 @@ mod drive;
 mod lookup;
 mod moves;
 mod numbers;
+mod noting;
 mod place;
 mod placing;
 mod quiet;

@@ -61,7 +61,7 @@ below_read shape blocks at k (e ∷ es) (v ∷ vs) reads h =
     both (is_lt (key_cmp k v.0)) (below_all key_cmp k vs) (subst (λ x. T (is_lt (key_cmp k x))) (sym reads.0.0) (left_part (is_lt (key_cmp k e.0)) (below_all key_cmp k es) h))
     (below_read shape blocks at k es vs reads.1 (right_part (is_lt (key_cmp k e.0)) (below_all key_cmp k es) h))
 
-sorted_read : (shape : Shape) (blocks : List ℕ) (at : ℕ → Page) (es : List (Key × Place)) (vs : List (Key × List ℕ)) → Reads shape blocks at es vs → T (is_sorted key_cmp es) → T (is_sorted key_cmp vs)
+pub sorted_read : (shape : Shape) (blocks : List ℕ) (at : ℕ → Page) (es : List (Key × Place)) (vs : List (Key × List ℕ)) → Reads shape blocks at es vs → T (is_sorted key_cmp es) → T (is_sorted key_cmp vs)
 sorted_read shape blocks at [] [] reads h = tt
 sorted_read shape blocks at [] (v ∷ vs) reads h = absurd reads
 sorted_read shape blocks at (e ∷ es) [] reads h = absurd reads
@@ -82,7 +82,7 @@ length_read shape blocks at (e ∷ es) [] reads = absurd reads
 length_read shape blocks at (e ∷ es) (v ∷ vs) reads = ap suc (length_read shape blocks at es vs reads.1)
 
 -- the entries of the map of a rising list are the list
-entries-rising : (vs : List (Key × List ℕ)) → T (is_sorted key_cmp vs) → entries (from_entries {R = key_cmp} vs) ≡ vs
+pub entries-rising : (vs : List (Key × List ℕ)) → T (is_sorted key_cmp vs) → entries (from_entries {R = key_cmp} vs) ≡ vs
 entries-rising [] h = none_of_empty
 entries-rising (v ∷ vs) h =
     entries-insert key_total (from_entries vs) v.0 v.1

@@ -51,7 +51,7 @@ keep_all k (e ∷ es) h =
     ap (λ r. cond (not (is_eq r)) (e ∷ kept (is_other k) es) (kept (is_other k) es)) is ∙ ap (λ (xs : List (Key × Place)). e ∷ xs) (keep_all k es (right_part (is_lt (key_cmp k e.0)) (below_all key_cmp k es) h))
 
 -- to put a deleted key is to take its place away
-placed-gone : (k : Key) (es : List Entry) → T (is_sorted key_cmp es) → placed (put key_cmp k None es) ≡ kept (is_other k) (placed es)
+pub placed-gone : (k : Key) (es : List Entry) → T (is_sorted key_cmp es) → placed (put key_cmp k None es) ≡ kept (is_other k) (placed es)
 placed-gone k [] h = refl
 placed-gone k ((q, Some p) ∷ es) h =
     let below = left_part (below_all key_cmp q es) (is_sorted key_cmp es) h in

@@ -1,0 +1,52 @@
+-- An entry in memory: what must hold before it, so that the drive stands for the map with it behind it.
+use Rattle.std.specs.Prelude.{◌≡◌, ℕ, ◌+◌, ◌≤◌, List, length, Option, Some, None}
+use Rattle.std.specs.FinMap.{insert}
+use Rattle.std.specs.FinMap.Entries.{find}
+use Rattle.pk_base.specs.Fields.{AreBytes}
+use Rattle.pk_base.specs.Key.{Key, key_cmp}
+use Rattle.pk_base.specs.Shape.{Shape, charge, limit}
+use Rattle.pk_base.specs.Page.{Flash}
+use Rattle.pk_base.specs.EntryBytes.{IsPlace}
+use Rattle.pk_base.specs.Map.{Map, live}
+use Rattle.pk_rootfmt.specs.Root.{Root}
+use Rattle.pk_model.specs.Found.{Found}
+use Rattle.pk_steps.specs.Under.{places}
+use Rattle.pk_nand.specs.BoardState.{BoardState}
+use Rattle.pk_data.specs.Entries.{IsInOpen}
+use Rattle.pk_core.specs.declared.place.ValuePlace.{ValuePlace}
+use Rattle.pk_core.specs.Parts.{Parts}
+use Rattle.pk_core.specs.Agreeing.{AgreesWith}
+use Rattle.pk_core.specs.Finding.{place_of, place_if_some}
+use Rattle.pk_core.specs.Moves.{IsWritten}
+
+-- A key is to have a value that was written into the open block and is in no map yet. Until now it had the one at old, or none.
+pub record Puts (d : Parts) (shape : Shape) (flash : Flash) (m : Map) (key : Key) (value : List ℕ) (page : ℕ) (old : Option ValuePlace) : Type 0 where
+  pub top : ℕ × Root
+  pub found : Found
+  pub without : Map
+  pub with : AgreesWith d shape flash top found without m
+  pub old_is : find key_cmp key (places found d.log.pending) ≡ place_if_some old
+  pub written : IsWritten d shape flash key value page
+  pub place : IsPlace shape (record { page = page; len = length value })
+  pub in_open : IsInOpen shape d.space page (charge shape (length value))
+  pub bytes : AreBytes key
+  pub room : live shape (insert m key value) ≤ limit shape
+
+-- The value of a key stands at this place, and the key is to be removed.
+pub record Drops (d : Parts) (shape : Shape) (flash : Flash) (m : Map) (key : Key) (old : ValuePlace) : Type 0 where
+  pub top : ℕ × Root
+  pub found : Found
+  pub without : Map
+  pub with : AgreesWith d shape flash top found without m
+  pub old_is : find key_cmp key (places found d.log.pending) ≡ Some (place_of old)
+  pub bytes : AreBytes key
+
+-- one more key where there was none
+abbrev pub more_keys : ℕ → Option ValuePlace → ℕ
+more_keys keys None = keys + 1
+more_keys keys (Some p) = keys
+
+-- whatever stood under the root stands there, with the same places of values
+abbrev pub KeepsFound : Parts → Parts → BoardState → BoardState → Type 0
+KeepsFound before after old new =
+    (shape : Shape) (top : ℕ × Root) (found : Found) (without all : Map) → AgreesWith before shape old.pages top found without all → AgreesWith after shape new.pages top found without all
