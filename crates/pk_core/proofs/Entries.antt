@@ -197,6 +197,7 @@ module _ (d : Parts) (flash : Flash) (m : Map) (key : Key) (value : List ℕ) (p
       journal = p.with.journal;
       journal_few = p.with.journal_few;
       runs = p.with.runs;
+      runs_few = p.with.runs_few;
       keys_are = keys_put key place es old d.keys (rising d d.log.shape flash p.top p.found p.without m p.with) p.old_is p.with.keys_are ∙ ap length (sym places_are);
     }
 
@@ -316,6 +317,7 @@ module _ (d : Parts) (flash : Flash) (m : Map) (key : Key) (old : ValuePlace) (p
     journal = p.with.journal;
     journal_few = p.with.journal_few;
     runs = p.with.runs;
+    runs_few = p.with.runs_few;
     keys_are = gone_keys.0 ∙ ap length (sym places_gone);
   }
 

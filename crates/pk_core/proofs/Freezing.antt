@@ -70,6 +70,12 @@ module _ (p : Blocks) (b : ℕ) (spare : IsSpare p b) where
   taken_counts : used_by Journal taken.states ≡ used_by Journal p.states + 1
   taken_counts = used_adopted p.shape p.states b Journal spare
 
+  taken_meta : used_by Meta taken.states ≡ used_by Meta p.states
+  taken_meta = elim spare [
+    | inl free ↦ (let all = count-set (is_owned_by Meta) p.states b Free (Owned Journal) free in omega (arith, all))
+    | inr ready ↦ (let all = count-set (is_owned_by Meta) p.states b Ready (Owned Journal) ready in omega (arith, all))
+  ]
+
   taken_places : (shape : Shape) (d : DataState) (old new : Flash) (es : List (Key × Place)) → Placed shape d p old es → SameValues shape p old new → Fits taken new → Placed shape d taken new es
   taken_places shape d old new es values same fits = elim spare [
     | inl free ↦ block_elsewhere shape d p b Free (Owned Journal) old new es values free refl refl same fits
@@ -94,6 +100,13 @@ given_counts [] p differ_all all = omega arith
 given_counts (x ∷ xs) p differ_all all =
     let later = given_counts xs (with_state p x Free) (rest_differs x xs differ_all) (still_journal p x xs differ_all all) in
     let one = count-set (is_owned_by Journal) p.states x (Owned Journal) Free (all x (inl refl)) in
+    omega (arith, later, one)
+
+given_meta : (xs : List ℕ) (p : Blocks) → T (differ xs) → AllJournal p xs → used_by Meta (given_back p xs).states ≡ used_by Meta p.states
+given_meta [] p differ_all all = refl
+given_meta (x ∷ xs) p differ_all all =
+    let later = given_meta xs (with_state p x Free) (rest_differs x xs differ_all) (still_journal p x xs differ_all all) in
+    let one = count-set (is_owned_by Meta) p.states x (Owned Journal) Free (all x (inl refl)) in
     omega (arith, later, one)
 
 given_places : (xs : List ℕ) (p : Blocks) (shape : Shape) (d : DataState) (flash : Flash) (es : List (Key × Place)) → T (differ xs) → AllJournal p xs → Fits p flash → Placed shape d p flash es → Placed shape d (given_back p xs) flash es
@@ -161,6 +174,10 @@ module _ (p : Blocks) (newest : List ℕ) (first second : ℕ) (first_spare : Is
   counts_after : (empty : Bool) → used_by Journal (pool_of empty).states ≡ length ((first ∷ second ∷ []) ++ (if empty then [] else newest))
   counts_after true = let given = given_counts newest both differ_all owned_both in let all = used_both in omega (arith, given, all, two)
   counts_after false = let all = used_both in omega (arith, all, two)
+
+  meta_counts : (empty : Bool) → used_by Meta (pool_of empty).states ≡ used_by Meta p.states
+  meta_counts true = given_meta newest both differ_all owned_both ∙ (taken_meta one second second_spare' ∙ taken_meta p first first_spare)
+  meta_counts false = taken_meta one second second_spare' ∙ taken_meta p first first_spare
 
   meta_after : (empty : Bool) (b : ℕ) → slice_get p.states b ≡ Some (Owned Meta) → slice_get (pool_of empty).states b ≡ Some (Owned Meta)
   meta_after true b is = given_other newest both b (λ among. let other_owner : slice_get p.states b ≡ Some (Owned Journal) = owned b among in cc) ∙ keeps_owner b Meta is
@@ -361,6 +378,12 @@ module _ (d : Parts) (old new : BoardState) (top : ℕ × Root) (found : Found) 
         ∙ counts_after d.pool top.1.newest first second f.froze.first_spare f.froze.second_spare f.froze.two.different (two d old top found without m agrees none_pending none_frozen)
         (newest_differ d old top found without m agrees none_pending none_frozen) (newest_owned d old top found without m agrees none_pending none_frozen) (used_two d old top found without m agrees none_pending none_frozen) empty
         ∙ sym (ap (λ (r : Root). length (r.newest ++ r.older)) root_is);
+    runs_few =
+        ap (λ (p : Blocks). used_by Meta p.states) f.froze.pool_is
+        ∙ meta_counts d.pool top.1.newest first second f.froze.first_spare f.froze.second_spare f.froze.two.different (two d old top found without m agrees none_pending none_frozen)
+        (newest_differ d old top found without m agrees none_pending none_frozen) (newest_owned d old top found without m agrees none_pending none_frozen) (used_two d old top found without m agrees none_pending none_frozen) empty
+        ∙ agrees.runs_few
+        ∙ sym (ap (λ (r : Root). length (concat r.runs)) root_is);
     runs = λ b is.
         let was : In b (concat top.1.runs) = subst (λ (r : Root). In b (concat r.runs)) root_is is in
         let there = meta_after d.pool top.1.newest first second f.froze.first_spare f.froze.second_spare f.froze.two.different (two d old top found without m agrees none_pending none_frozen)

@@ -42,7 +42,7 @@ use Rattle.pk_drive.specs.declared.types.Ticked.TheVariants.{Worked, Idle, Fault
 use Rattle.pk_drive.proofs.Growing.{weaken, weaken_went}
 use Rattle.pk_core.specs.Parts.{Parts, sight_of, block_if_open}
 use Rattle.pk_core.specs.Agreeing.{AgreesWith, Agrees}
-use Rattle.pk_core.specs.Ticking.{Ticks, CountsRuns, has_no_work}
+use Rattle.pk_core.specs.Ticking.{Ticks, has_no_work}
 use Rattle.pk_core.proofs.Unread.{IsReadBy, SameRead, same_top, still_without, still_all, agrees_elsewhere}
 use Rattle.pk_core.proofs.Stills.{StillCut, still_end, went_end, still_erase, still_erase_failed}
 use Rattle.pk_core.proofs.Writing.{spare_unread}
@@ -154,8 +154,13 @@ module _ (d : Parts) (old new : BoardState) (a : Agrees d old.shape old.pages) (
         let all = count-set (is_owned_by Journal) d.pool.states block Free Ready free in
         ap (λ p. used_by Journal p.states) marked ∙ omega (arith, all)
 
+    meta_same : used_by Meta q.states ≡ used_by Meta d.pool.states
+    meta_same =
+        let all = count-set (is_owned_by Meta) d.pool.states block Free Ready free in
+        ap (λ p. used_by Meta p.states) marked ∙ omega (arith, all)
+
     agrees_now : AgreesWith (record d { pool = q }) d.log.shape new.pages a.top a.found a.without a.all
-    agrees_now = agrees_elsewhere d d.space q d.log.shape old.pages new.pages a.top a.found a.without a.all (own d old a) same ready.flash (λ b o is. owned b (o, is) ∙ is) journal_same placed
+    agrees_now = agrees_elsewhere d d.space q d.log.shape old.pages new.pages a.top a.found a.without a.all (own d old a) same ready.flash (λ b o is. owned b (o, is) ∙ is) journal_same meta_same placed
 
     pub agrees_erased : Agrees (record d { pool = q }) new.shape new.pages
     agrees_erased = record { shape = d.log.shape; top = a.top; found = a.found; without = a.without; all = a.all; told_is = ready.shape_is; with = agrees_now }
@@ -274,13 +279,13 @@ not_true : (b : Bool) → not b ≡ true → b ≡ false
 not_true true e = cc
 not_true false e = refl
 
-module _ (d : Parts) (old : BoardState) (a : Agrees d old.shape old.pages) (counts : CountsRuns d) (shared : IsShared d.pool.shape d.pool.states) where
+module _ (d : Parts) (old : BoardState) (a : Agrees d old.shape old.pages) (shared : IsShared d.pool.shape d.pool.states) where
   all_blocks : 2 + length (named a.top.1) + used_by Values d.pool.states + count_by is_ready d.pool.states + count_by is_free d.pool.states ≡ d.log.shape.blocks
   all_blocks =
       let all = all_counted d.pool.states in
       let split = length-append (a.top.1.newest ++ a.top.1.older) (concat a.top.1.runs) in
       let journal = a.with.journal_few in
-      let meta : used_by Meta d.pool.states ≡ length (concat a.top.1.runs) = counts ∙ ap (λ (r : Root). length (concat r.runs)) a.with.logs.root_is in
+      let meta : used_by Meta d.pool.states ≡ length (concat a.top.1.runs) = a.with.runs_few in
       let size = (own d old a).placed.size in
       let two = shared.roots in
       omega (arith, all, split, journal, meta, size, two)
@@ -356,11 +361,3 @@ module _ (d d' : Parts) (old new : BoardState) (a : Agrees d old.shape old.pages
 
   pub step_ticks : d.log.pending ≡ [] → Ticks old new (sight_of d) (sight_of d') Worked
   step_ticks none = subst (λ x. Ticks old new (sight_of d) (sight_of x) Worked) (sym rest) (ticks_erased d old new a one.block one.lowest.here shared one.erase own_ready d'.pool one.marked fits owned none)
-
--- ---- the blocks of the runs
-
-pub runs_erased : (d d' : Parts) (old new : BoardState) → ErasesOne d.pool old d'.pool new → d' ≡ record d { pool = d'.pool } → CountsRuns d → CountsRuns d'
-runs_erased d d' old new one rest counts =
-    let all = count-set (is_owned_by Meta) d.pool.states one.block Free Ready one.lowest.here in
-    let same : used_by Meta (with_state d.pool one.block Ready).states ≡ used_by Meta d.pool.states = omega (arith, all) in
-    ap (λ p. used_by Meta p.states) one.marked ∙ (same ∙ (counts ∙ ap (λ x. length (concat x.log.root.runs)) (sym rest)))

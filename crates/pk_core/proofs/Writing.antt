@@ -65,6 +65,10 @@ journal_taken : (p : Blocks) (block : ℕ) → IsSpare p block → used_by Journ
 journal_taken p block (inl free) = let all = count-set (is_owned_by Journal) p.states block Free (Owned Values) free in omega (arith, all)
 journal_taken p block (inr ready) = let all = count-set (is_owned_by Journal) p.states block Ready (Owned Values) ready in omega (arith, all)
 
+meta_taken : (p : Blocks) (block : ℕ) → IsSpare p block → used_by Meta (with_state p block (Owned Values)).states ≡ used_by Meta p.states
+meta_taken p block (inl free) = let all = count-set (is_owned_by Meta) p.states block Free (Owned Values) free in omega (arith, all)
+meta_taken p block (inr ready) = let all = count-set (is_owned_by Meta) p.states block Ready (Owned Values) ready in omega (arith, all)
+
 pub journal_or_values : (p : Blocks) (b : ℕ) → slice_get p.states b ≡ Some (Owned Journal) → HoldsValues p b → ⊥
 journal_or_values p b is held = cc
 
@@ -163,6 +167,12 @@ module _ (d : Parts) (page count : ℕ) (space : DataState) (q : Blocks) (old ne
     | inr opens ↦ ap (λ (r : Blocks). used_by Journal r.states) opens.taken ∙ journal_taken d.pool opens.block opens.spare
   ]
 
+  pub meta_reserved : used_by Meta q.states ≡ used_by Meta d.pool.states
+  meta_reserved = elim reserved.taken [
+    | inl next ↦ ap (λ (r : Blocks). used_by Meta r.states) next.same_pool
+    | inr opens ↦ ap (λ (r : Blocks). used_by Meta r.states) opens.taken ∙ meta_taken d.pool opens.block opens.spare
+  ]
+
   pub works_reserved : Works old new
   works_reserved = elim reserved.taken [
     | inl next ↦ works_none old new next.same_board
@@ -251,7 +261,7 @@ module _ (d : Parts) (key : Key) (value : List ℕ) (old : BoardState) (page : �
 
     pub placed_agrees : AgreesWith after shape new.pages top found without all
     placed_agrees = agrees_elsewhere d space q shape old.pages new.pages top found without all with same_placed ready_new.flash
-        (owners_reserved d page (charge shape (length value)) is.space q old is.between is.reserved) (journal_reserved d page (charge shape (length value)) is.space q old is.between is.reserved)
+        (owners_reserved d page (charge shape (length value)) is.space q old is.between is.reserved) (journal_reserved d page (charge shape (length value)) is.space q old is.between is.reserved) (meta_reserved d page (charge shape (length value)) is.space q old is.between is.reserved)
         (is.placed (places found d.log.pending) with.placed)
 
     pub placed_keeps : Keeps d after shape all old new

@@ -1,8 +1,7 @@
 -- A background step.
 use Rattle.std.specs.Prelude.{◌≡◌, ◌+◌, ◌-◌, ◌≤◌, Bool, true, false, ◌&&◌, not, ◌==◌, length}
-use Rattle.std.specs.List.{concat}
 use Rattle.pk_base.specs.Shape.{data_blocks, most_pages}
-use Rattle.pk_plan.specs.declared.owner.Owner.TheVariants.{Meta, Values}
+use Rattle.pk_plan.specs.declared.owner.Owner.TheVariants.{Values}
 use Rattle.pk_pool.specs.Blocks.{used_by}
 use Rattle.pk_nand.specs.BoardState.{BoardState}
 use Rattle.pk_nand.specs.Calls.{Rose}
@@ -30,10 +29,6 @@ pub record Ticks (old new : BoardState) (before after : Sight) (answer : Ticked)
   pub stop : stopped_by answer ≡ true → Rose old.stop_faults new.stop_faults
   pub no_stop : stopped_by answer ≡ false → new.stop_faults ≡ old.stop_faults
   pub installs : roots new ≤ roots old + 1
-
--- the pool has as many blocks for runs as the root names
-abbrev pub CountsRuns : Parts → Type 0
-CountsRuns d = used_by Meta d.pool.states ≡ length (concat d.log.root.runs)
 
 -- nothing is frozen, and the values have a block to go to
 abbrev pub has_no_work : Parts → Bool

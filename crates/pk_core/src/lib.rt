@@ -7,13 +7,13 @@
 mod drive;
 mod lookup;
 mod moves;
-mod numbers;
 mod noting;
+mod numbers;
 mod place;
 mod placing;
 mod quiet;
-mod tick;
 mod room;
+mod tick;
 
 pub use drive::Drive;
 pub use place::ValuePlace;

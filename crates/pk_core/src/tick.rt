@@ -9,7 +9,7 @@ ghost use Rattle.pk_drive.specs.Seen.{stopped_by};
 ghost use Rattle.pk_core.specs.Parts.{sight_of};
 ghost use Rattle.pk_core.specs.Agreeing.{Agrees};
 ghost use Rattle.pk_core.specs.Ticking as spec;
-ghost use Rattle.pk_core.specs.Ticking.{Ticks, CountsRuns};
+ghost use Rattle.pk_core.specs.Ticking.{Ticks};
 
 use crate::drive::Drive;
 use pk_drive::Ticked;
@@ -63,8 +63,7 @@ impl<A: Region> Drive<A> {
         ensures erases { stopped_by result ≡ false → ErasesOne self.old.pool (B.state board.old) self.new.pool (B.state board.new) ⊎ ErasesNone self.old.pool (B.state board.old) self.new.pool (B.state board.new) }
         ensures rest { stopped_by result ≡ false → self.new ≡ record self.old { pool = self.new.pool } }
         ensures ticks { Ticks (B.state board.old) (B.state board.new) (sight_of self.old) (sight_of self.new) result }
-        ensures idle { CountsRuns self.old → TellsIdle (B.state board.old) (sight_of self.old) result }
-        ensures runs { CountsRuns self.old → CountsRuns self.new }
+        ensures idle { TellsIdle (B.state board.old) (sight_of self.old) result }
         ensures merge { (sight_of self.new).counts.merge ≡ 0 }
     {
         match self.erase_spare(board) {
