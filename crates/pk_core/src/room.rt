@@ -39,6 +39,7 @@ impl<A: Region> Drive<A> {
         self.pool.known();
         self.log.freeze(board, &mut self.pool, &mut self.page)
     }
+
     // Freezes the active buffer where a further entry of the key wants it.
     fn freeze_if_needed<B: Nand>(&mut self, board: &mut B, key: &Key) -> Result<(), Fault>
         requires ready { IsReady (B.state board.old) self.old.log.shape }
