@@ -1,12 +1,11 @@
 -- Entries that wait for a commit: what the drive stands for behind them.
-use Rattle.std.proofs.Common.{◌≡◌, ◌⊎◌, inl, inr, ℕ, zero, suc, ◌+◌, ◌-◌, ◌*◌, ◌/◌, ◌<◌, ◌≤◌, refl, sym, ap, subst, ◌∙◌, arith, Bool, true, false, not, cond, T, List, [], ◌∷◌, ◌++◌, length, map, Option, Some, None, Ok, length-append, is_some}
+use Rattle.std.proofs.Common.{◌≡◌, inl, inr, ℕ, ◌+◌, ◌-◌, ◌*◌, ◌/◌, ◌<◌, ◌≤◌, refl, sym, ap, subst, ◌∙◌, arith, true, cond, T, List, [], ◌∷◌, ◌++◌, length, Option, Some, None, Ok, length-append, is_some}
 use Rattle.std.proofs.lemmas.List.FromFn.{length-range_with_len}
 use Rattle.std.proofs.Math.Nat.{mul-le-mul_right}
-use Rattle.std.specs.Prelude.{slice_get, MatchOption}
-use Rattle.std.specs.Ordering.{eq_by_cmp}
+use Rattle.std.specs.Prelude.{MatchOption}
 use Rattle.std.specs.Ordering as order
 use Rattle.std.specs.Cmp.{tied_itself}
-use Rattle.std.specs.FinMap.{insert, remove, entries, from_entries, entries-insert}
+use Rattle.std.specs.FinMap.{insert, remove, entries, entries-insert}
 use Rattle.std.specs.FinMap.Entries.{put, find, is_sorted, find-put, length-put, length_without}
 use Rattle.pk_base.specs.Fields.{AreBytes}
 use Rattle.pk_base.specs.Key.{Key, IsKey, key_cmp}
@@ -20,19 +19,17 @@ use Rattle.pk_base.specs.Map.{Map, live, pages_in}
 use Rattle.pk_segfmt.specs.Value.{value_pages, value_at}
 use Rattle.pk_segfmt.proofs.StoredLemmas.{charge_some}
 use Rattle.pk_rootfmt.specs.Root.{Root, named}
-use Rattle.pk_plan.specs.declared.owner.Owner.TheVariants.{Journal, Meta, Values as for_values}
-use Rattle.pk_pool.specs.Blocks.{Blocks}
 use Rattle.pk_model.specs.Found.{Found, entries_in_order}
 use Rattle.pk_model.specs.Values.{placed, fits, all_pages}
 use Rattle.pk_model.specs.Laws.{AnyByRecursion, IsPageOf, IsStorable}
 use Rattle.pk_model.proofs.MapLemmas.{key_total}
 use Rattle.pk_model.proofs.Lookups.{firsts_sorted}
-use Rattle.pk_model.proofs.ValueSets.{Reads, values_sound, fits_parts}
+use Rattle.pk_model.proofs.ValueSets.{values_sound, fits_parts}
 use Rattle.pk_model.proofs.Stores.{placed-put, reads-put, entries_in_order-push}
 use Rattle.pk_model.proofs.Merges.{placed_sorted}
 use Rattle.pk_model.proofs.Live.{live-pages}
 use Rattle.pk_model.proofs.HeldMap.{nothing_fits}
-use Rattle.pk_steps.specs.Under.{IsUnder, IsValuePage, counting, places}
+use Rattle.pk_steps.specs.Under.{IsUnder, counting, places}
 use Rattle.pk_steps.proofs.Untouched.{values_under}
 use Rattle.pk_steps.proofs.Places.{fits_more}
 use Rattle.pk_steps.proofs.Storing.{stores, deletes, placed-gone}

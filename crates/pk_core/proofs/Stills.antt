@@ -1,21 +1,19 @@
 -- Calls of the flash that change no page that is read.
-use Rattle.std.proofs.Common.{◌≡◌, ◌⊎◌, inl, inr, ℕ, zero, suc, ◌+◌, ◌/◌, ◌<◌, ◌≤◌, refl, sym, ap, subst, ◌∙◌, arith, List, [], ◌∷◌, ◌++◌, length, Some}
+use Rattle.std.proofs.Common.{◌≡◌, inl, inr, ℕ, zero, suc, ◌+◌, ◌/◌, ◌<◌, ◌≤◌, refl, sym, ap, subst, ◌∙◌, arith, List, [], ◌++◌, length, Some}
 use Rattle.pk_base.specs.Shape.{Shape, charge}
 use Rattle.pk_base.specs.Key.{Key}
-use Rattle.pk_base.specs.Page.{Flash, page_at}
+use Rattle.pk_base.specs.Page.{Flash}
 use Rattle.pk_base.specs.Entry.{Entry}
-use Rattle.pk_base.specs.Mark.{Mark, program, erase, after, all_posted}
+use Rattle.pk_base.specs.Mark.{program, erase, after, all_posted}
 use Rattle.pk_segfmt.specs.Stored.{page_of}
 use Rattle.pk_rootfmt.specs.Root.{Root}
 use Rattle.pk_nand.specs.BoardState.{BoardState}
 use Rattle.pk_nand.specs.Cut.{Interrupted}
 use Rattle.pk_nand.specs.Calls.{after_program, after_erase, ProgramFailed, EraseFailed}
-use Rattle.pk_nand.specs.Crash.{ReachedBy, WentBy}
 use Rattle.pk_nand.proofs.Leaving.{interrupted_done}
 use Rattle.pk_seg.specs.Stored.{written, WriteFailed}
 use Rattle.pk_model.specs.Found.{Found}
 use Rattle.pk_drive.specs.Growth.{Grows, Reaches, Goes}
-use Rattle.pk_drive.specs.Drive.{OnlyFlash, NoFault}
 use Rattle.pk_drive.proofs.Growing.{at_end, Reaches-then, Goes-then}
 use Rattle.pk_compact.specs.Working.{Works, Stops}
 use Rattle.pk_compact.proofs.Running.{Reaches-none, Reaches-erase, Goes-erase, Reaches-program, Goes-program}

@@ -1,10 +1,9 @@
 -- A drive agrees with a flash as before where no page differs that is read.
-use Rattle.std.proofs.Common.{◌≡◌, ◌⊎◌, inl, inr, ℕ, ◌*◌, ◌/◌, ◌<◌, refl, sym, ap, subst, ◌∙◌, List, [], ◌∷◌, ◌++◌, length, map, Some, slice_get}
-use Rattle.std.specs.List.{AllByRecursion, concat}
+use Rattle.std.proofs.Common.{◌≡◌, ◌⊎◌, inl, inr, ℕ, ◌/◌, ◌<◌, refl, sym, subst, ◌∙◌, List, [], ◌∷◌, ◌++◌, Some, slice_get}
+use Rattle.std.specs.List.{concat}
 use Rattle.pk_base.specs.Shape.{Shape, IsShape}
 use Rattle.pk_base.specs.Page.{Flash, IsFlash, page_at, page_in}
-use Rattle.pk_base.specs.Entry.{Entry, Place}
-use Rattle.pk_base.specs.Key.{Key}
+use Rattle.pk_base.specs.Entry.{Entry}
 use Rattle.pk_base.specs.Map.{Map}
 use Rattle.pk_base.proofs.ShapeLemmas.{block_pages_positive}
 use Rattle.pk_rootfmt.specs.Root.{Root, named}
@@ -14,19 +13,18 @@ use Rattle.pk_plan.specs.declared.owner.Owner.TheVariants.{Journal, Meta, Values
 use Rattle.pk_pool.specs.declared.state.BlockState.TheVariants.{Owned}
 use Rattle.pk_pool.specs.Blocks.{Blocks, used_by}
 use Rattle.pk_pin.specs.Frames.{Frames}
-use Rattle.pk_run.specs.Kept.{Kept, page_of}
+use Rattle.pk_run.specs.Kept.{Kept}
 use Rattle.pk_run.proofs.Standing.{Stands-elsewhere}
 use Rattle.pk_level.specs.Levels.{StandEach}
 use Rattle.pk_model.specs.Found.{Found, entries_in_order}
 use Rattle.pk_model.specs.Laws.{AnyByRecursion, IsRead}
 use Rattle.pk_model.proofs.SamePages.{newest_root_same, in_some_block, any_front, any_back}
-use Rattle.pk_steps.specs.Under.{IsUnder, IsNamed, places}
+use Rattle.pk_steps.specs.Under.{IsUnder, places}
 use Rattle.pk_steps.proofs.Untouched.{same as read_same}
-use Rattle.pk_log.specs.Logs.{Logs}
 use Rattle.pk_log.specs.Laws.{SameNamed}
 use Rattle.pk_log.proofs.Standing.{logs_elsewhere}
 use Rattle.pk_data.specs.State.{DataState}
-use Rattle.pk_data.specs.Placed.{HoldsValues, Placed}
+use Rattle.pk_data.specs.Placed.{Placed}
 use Rattle.pk_core.specs.Parts.{Parts}
 use Rattle.pk_core.specs.Agreeing.{AgreesWith, HaveBlocks}
 

@@ -1,17 +1,14 @@
 -- A value that was written into a block for values: what the drive stands for, at every cut and behind it.
-use Rattle.std.proofs.Common.{◌≡◌, ◌≢◌, ◌⊎◌, inl, inr, ℕ, zero, suc, ◌+◌, ◌-◌, ◌*◌, ◌/◌, ◌%◌, ◌<◌, ◌≤◌, refl, sym, ap, subst, ◌∙◌, arith, false, List, [], ◌∷◌, ◌++◌, length, Option, Some, Result, Ok, slice_get, div-lt_iff_lt-mul}
+use Rattle.std.proofs.Common.{◌≡◌, ◌⊎◌, inl, inr, ℕ, zero, suc, ◌+◌, ◌*◌, ◌/◌, ◌%◌, ◌<◌, ◌≤◌, refl, sym, ap, subst, ◌∙◌, arith, List, [], ◌∷◌, ◌++◌, length, Option, Some, Result, Ok, slice_get, div-lt_iff_lt-mul}
 use Rattle.std.specs.List.{concat}
 use Rattle.std.proofs.lemmas.Bool.{cases_eq}
 use Rattle.std.proofs.lemmas.Nat.{div-add-mod'}
-use Rattle.std.proofs.lemmas.Option.{same_Some}
-use Rattle.pk_base.specs.Shape.{Shape, IsShape, charge, greatest, page_count}
+use Rattle.pk_base.specs.Shape.{Shape, IsShape, charge, greatest}
 use Rattle.pk_base.specs.Page.{Flash, page_at, erased}
-use Rattle.pk_base.specs.Entry.{Entry, Place}
 use Rattle.pk_base.specs.EntryBytes.{IsPlace}
 use Rattle.pk_base.specs.Key.{Key, IsKey}
 use Rattle.pk_base.specs.Map.{Map}
 use Rattle.pk_base.proofs.ShapeLemmas.{block_pages_positive}
-use Rattle.pk_segfmt.specs.Stored.{IsStored}
 use Rattle.pk_base.specs.Refusal.{Refusal}
 use Rattle.pk_segfmt.proofs.StoredLemmas.{charge_some, value_again}
 use Rattle.pk_rootfmt.specs.Root.{Root, named}
@@ -21,16 +18,14 @@ use Rattle.pk_plan.specs.declared.owner.Owner.TheVariants.{Journal, Meta, Values
 use Rattle.pk_nand.specs.BoardState.{BoardState, shape_or_none}
 use Rattle.pk_nand.specs.Calls.{IsReady}
 use Rattle.pk_pool.specs.declared.state.BlockState.{BlockState}
-use Rattle.pk_pool.specs.declared.state.BlockState.TheVariants.{Root as RootBlock, Free, Ready, Owned}
+use Rattle.pk_pool.specs.declared.state.BlockState.TheVariants.{Free, Ready, Owned}
 use Rattle.pk_pool.specs.Blocks.{Blocks, IsShared, IsSpare, is_owned_by, used_by, with_state}
-use Rattle.pk_pool.specs.Taking.{FailsToErase}
 use Rattle.pk_pool.proofs.States.{get-set_other}
 use Rattle.pk_pool.proofs.Sharing.{count-set}
 use Rattle.pk_pool.proofs.Fitting.{block_of}
-use Rattle.pk_seg.specs.Stored.{written}
 use Rattle.pk_model.specs.Found.{Found, found_under}
-use Rattle.pk_model.specs.Laws.{AnyByRecursion, IsPageOf}
-use Rattle.pk_steps.specs.Under.{IsUnder, IsNamed, IsValuePage, places}
+use Rattle.pk_model.specs.Laws.{AnyByRecursion}
+use Rattle.pk_steps.specs.Under.{IsNamed, IsValuePage, places}
 use Rattle.pk_steps.proofs.Untouched.{value_page_whole, not_erased, under_reads}
 use Rattle.pk_drive.specs.Growth.{Reaches, Goes}
 use Rattle.pk_drive.specs.Commit.{CommitCut}
@@ -39,14 +34,13 @@ use Rattle.pk_drive.proofs.Growing.{weaken, weaken_went}
 use Rattle.pk_compact.specs.Working.{Works, Stops}
 use Rattle.pk_compact.proofs.Counts.{works_none, works_erase, works_then, stops_erase, stops_then}
 use Rattle.pk_data.specs.State.{DataState}
-use Rattle.pk_data.specs.Placed.{HoldsValues, Placed}
-use Rattle.pk_data.specs.Reserving.{TakesNext, OpensBlock}
+use Rattle.pk_data.specs.Placed.{HoldsValues}
 use Rattle.pk_core.specs.Parts.{Parts}
 use Rattle.pk_core.specs.Agreeing.{AgreesWith}
 use Rattle.pk_core.specs.Moves.{StandsFor, Keeps, KeepsAll, BreaksAll, IsWritten}
 use Rattle.pk_core.specs.Noting.{KeepsFound}
-use Rattle.pk_core.specs.Placing.{Reserves, PlacesValue, FailsToWrite, FailsToPlace}
-use Rattle.pk_core.proofs.Unread.{IsReadBy, SameRead, same_top, KeepsOwners, still_without, still_all, agrees_elsewhere}
+use Rattle.pk_core.specs.Placing.{Reserves, PlacesValue, FailsToPlace}
+use Rattle.pk_core.proofs.Unread.{IsReadBy, SameRead, same_top, KeepsOwners, still_without, agrees_elsewhere}
 use Rattle.pk_core.proofs.Stills.{StillCut, still_then, still_goes, still_end, went_end, still_none, still_erase, still_erase_failed, still_written, still_write_failed, works_written, stops_written}
 
 -- ---- blocks and their owners
