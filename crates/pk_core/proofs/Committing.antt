@@ -117,6 +117,7 @@ module _ (d : Parts) (old new : BoardState) (top : ℕ × Root) (found : Found) 
         journal = agrees.journal;
         journal_few = agrees.journal_few;
         runs = agrees.runs;
+        runs_few = agrees.runs_few;
         keys_are = agrees.keys_are ∙ ap length same;
       }
 

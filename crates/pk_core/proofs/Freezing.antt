@@ -77,6 +77,12 @@ module _ (p : Blocks) (b : ℕ) (spare : IsSpare p b) where
     | inr ready ↦ let one = count-set (is_owned_by for_values) p.states b Ready (Owned Journal) ready in omega (arith, one)
   ]
 
+  taken_meta : used_by Meta taken.states ≡ used_by Meta p.states
+  taken_meta = elim spare [
+    | inl free ↦ (let all = count-set (is_owned_by Meta) p.states b Free (Owned Journal) free in omega (arith, all))
+    | inr ready ↦ (let all = count-set (is_owned_by Meta) p.states b Ready (Owned Journal) ready in omega (arith, all))
+  ]
+
   taken_places : (shape : Shape) (d : DataState) (old new : Flash) (es : List (Key × Place)) → Placed shape d p old es → SameValues shape p old new → Fits taken new → Placed shape d taken new es
   taken_places shape d old new es values same fits = elim spare [
     | inl free ↦ block_elsewhere shape d p b Free (Owned Journal) old new es values free refl refl same fits
@@ -108,6 +114,13 @@ given_values [] p differ_all all = refl
 given_values (x ∷ xs) p differ_all all =
     let later = given_values xs (with_state p x Free) (rest_differs x xs differ_all) (still_journal p x xs differ_all all) in
     let one = count-set (is_owned_by for_values) p.states x (Owned Journal) Free (all x (inl refl)) in
+    omega (arith, later, one)
+
+given_meta : (xs : List ℕ) (p : Blocks) → T (differ xs) → AllJournal p xs → used_by Meta (given_back p xs).states ≡ used_by Meta p.states
+given_meta [] p differ_all all = refl
+given_meta (x ∷ xs) p differ_all all =
+    let later = given_meta xs (with_state p x Free) (rest_differs x xs differ_all) (still_journal p x xs differ_all all) in
+    let one = count-set (is_owned_by Meta) p.states x (Owned Journal) Free (all x (inl refl)) in
     omega (arith, later, one)
 
 given_places : (xs : List ℕ) (p : Blocks) (shape : Shape) (d : DataState) (flash : Flash) (es : List (Key × Place)) → T (differ xs) → AllJournal p xs → Fits p flash → Placed shape d p flash es → Placed shape d (given_back p xs) flash es
@@ -180,6 +193,10 @@ module _ (p : Blocks) (newest : List ℕ) (first second : ℕ) (first_spare : Is
   values_after : (empty : Bool) → used_by for_values (pool_of empty).states ≡ used_by for_values p.states
   values_after true = given_values newest both differ_all owned_both ∙ (taken_values one second second_spare' ∙ taken_values p first first_spare)
   values_after false = taken_values one second second_spare' ∙ taken_values p first first_spare
+
+  meta_counts : (empty : Bool) → used_by Meta (pool_of empty).states ≡ used_by Meta p.states
+  meta_counts true = given_meta newest both differ_all owned_both ∙ (taken_meta one second second_spare' ∙ taken_meta p first first_spare)
+  meta_counts false = taken_meta one second second_spare' ∙ taken_meta p first first_spare
 
   meta_after : (empty : Bool) (b : ℕ) → slice_get p.states b ≡ Some (Owned Meta) → slice_get (pool_of empty).states b ≡ Some (Owned Meta)
   meta_after true b is = given_other newest both b (λ among. let other_owner : slice_get p.states b ≡ Some (Owned Journal) = owned b among in cc) ∙ keeps_owner b Meta is
@@ -386,6 +403,12 @@ module _ (d : Parts) (old new : BoardState) (top : ℕ × Root) (found : Found) 
         ∙ counts_after d.pool top.1.newest first second f.froze.first_spare f.froze.second_spare f.froze.two.different (two d old top found without m agrees none_pending none_frozen)
         (newest_differ d old top found without m agrees none_pending none_frozen) (newest_owned d old top found without m agrees none_pending none_frozen) (used_two d old top found without m agrees none_pending none_frozen) empty
         ∙ sym (ap (λ (r : Root). length (r.newest ++ r.older)) root_is);
+    runs_few =
+        ap (λ (p : Blocks). used_by Meta p.states) f.froze.pool_is
+        ∙ meta_counts d.pool top.1.newest first second f.froze.first_spare f.froze.second_spare f.froze.two.different (two d old top found without m agrees none_pending none_frozen)
+        (newest_differ d old top found without m agrees none_pending none_frozen) (newest_owned d old top found without m agrees none_pending none_frozen) (used_two d old top found without m agrees none_pending none_frozen) empty
+        ∙ agrees.runs_few
+        ∙ sym (ap (λ (r : Root). length (concat r.runs)) root_is);
     runs = λ b is.
         let was : In b (concat top.1.runs) = subst (λ (r : Root). In b (concat r.runs)) root_is is in
         let there = meta_after d.pool top.1.newest first second f.froze.first_spare f.froze.second_spare f.froze.two.different (two d old top found without m agrees none_pending none_frozen)
@@ -484,6 +507,10 @@ both_ok : (A B : Type 0) (r : Result Unit Fault) → OnOk r A → OnOk r B → O
 both_ok A B (Ok x) a b = (a, b)
 both_ok A B (Err e) a b = tt
 
+either : (A B C : Type 0) (r : Result Unit Fault) → (A → C) → (B → C) → OnOk r A → OnErr r B → C
+either A B C (Ok x) f g a b = f a
+either A B C (Err e) f g a b = g b
+
 err_weaker : (A B : Type 0) (r : Result Unit Fault) → (A → B) → OnErr r A → OnErr r B
 err_weaker A B (Ok x) f a = tt
 err_weaker A B (Err e) f a = f a
@@ -513,15 +540,14 @@ module _ (r : Result Unit Fault) (d : Parts) (old new : BoardState) (before : Is
     pub none_if : OnOk r (Made log' pool') → OnOk r (log'.pending ≡ [])
     none_if froze = on_ok_weaker r (λ f. let can = may_here in ap (λ (l : LogState). l.pending) (f can.0 can.1 can.2 can.3).begun_is ∙ none_pending) froze
 
-    pub roots_if : IsReady new d.log.shape → OnOk r (Made log' pool') → OnOk r (roots new ≤ roots old + 1)
-    roots_if after froze = on_ok_weaker r (λ f. let one = freeze_roots d old new before none_pending none_frozen unworn log' pool' witness.0 after witness.1 f in omega (arith, one)) froze
+    pub roots_any : IsReady new d.log.shape → OnOk r (Made log' pool') → OnErr r (root_number d.log.shape new.pages ≤ root_number d.log.shape old.pages + 1) → roots new ≤ roots old + 1
+    roots_any after froze few =
+        either (Made log' pool') (root_number d.log.shape new.pages ≤ root_number d.log.shape old.pages + 1) (roots new ≤ roots old + 1) r
+        (λ f. let one = freeze_roots d old new before none_pending none_frozen unworn log' pool' witness.0 after witness.1 f in omega (arith, one))
+        (λ most.
+        let now : roots new ≡ root_number d.log.shape new.pages = ap (λ (s : Shape). root_number s new.pages) (shape_is new d.log.shape after) in
+        let was : roots old ≡ root_number d.log.shape old.pages = ap (λ (s : Shape). root_number s old.pages) (shape_is old d.log.shape before) in
+        omega (arith, most, now, was)) froze few
 
   pub breaks_if : OnErr r ((top : ℕ × Root) (found : Found) (m : Map) → CanFreeze d.log d.pool old.pages top found m → Goes d.log.shape old new (TickCut d.log.shape m)) → OnErr r (BreaksAll d old new)
   breaks_if went = err_weaker ((top : ℕ × Root) (found : Found) (m : Map) → CanFreeze d.log d.pool old.pages top found m → Goes d.log.shape old new (TickCut d.log.shape m)) (BreaksAll d old new) r (λ f. freeze_breaks d old new before none_pending none_frozen unworn f) went
-
--- one that failed installed at most one root
-pub installs_if : (r : Result Unit Fault) (shape : Shape) (old new : BoardState) → IsReady old shape → IsReady new shape → OnErr r (root_number shape new.pages ≤ root_number shape old.pages + 1) → OnErr r (roots new ≤ roots old + 1)
-installs_if r shape old new before after installs = err_weaker (root_number shape new.pages ≤ root_number shape old.pages + 1) (roots new ≤ roots old + 1) r (λ less.
-    let now : roots new ≡ root_number shape new.pages = ap (λ (s : Shape). root_number s new.pages) (shape_is new shape after) in
-    let was : roots old ≡ root_number shape old.pages = ap (λ (s : Shape). root_number s old.pages) (shape_is old shape before) in
-    omega (arith, less, now, was)) installs

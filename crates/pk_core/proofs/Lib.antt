@@ -13,6 +13,7 @@ pub mod Unread
 pub mod Stills
 pub mod Results
 pub mod Writing
+pub mod Ticking
 pub mod Entries
 pub mod Putting
 pub mod Served

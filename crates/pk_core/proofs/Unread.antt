@@ -86,9 +86,9 @@ module _ (d : Parts) (space : DataState) (pool : Blocks) (shape : Shape) (old ne
   pub still_all : IsUnder shape new d.log.pending top found all
   still_all = read_same shape old new d.log.pending top found all is_shape with.pending (λ k is. same k (inr is))
 
-  pub agrees_elsewhere : IsFlash shape new → KeepsOwners d.pool pool → used_by Journal pool.states ≡ used_by Journal d.pool.states → Placed shape space pool new (places found d.log.pending)
+  pub agrees_elsewhere : IsFlash shape new → KeepsOwners d.pool pool → used_by Journal pool.states ≡ used_by Journal d.pool.states → used_by Meta pool.states ≡ used_by Meta d.pool.states → Placed shape space pool new (places found d.log.pending)
       → AgreesWith (record d { space = space; pool = pool }) shape new top found without all
-  agrees_elsewhere is_flash owners journal placed = record {
+  agrees_elsewhere is_flash owners journal meta placed = record {
     shape_is = with.shape_is;
     is_flash = is_flash;
     logs = logs_elsewhere d.log old new top found (subst (λ (s : Shape). SameNamed s top.1 old new) (sym with.shape_is) (same_named shape top.1 found d.log.pending old new same)) with.logs;
@@ -102,6 +102,7 @@ module _ (d : Parts) (space : DataState) (pool : Blocks) (shape : Shape) (old ne
     former = λ k is. owners (k / shape.block_pages) Values (with.former k is);
     journal = λ b is. owners b Journal (with.journal b is);
     journal_few = journal ∙ with.journal_few;
+    runs_few = meta ∙ with.runs_few;
     runs = λ b is. owners b Meta (with.runs b is);
     keys_are = with.keys_are;
   }

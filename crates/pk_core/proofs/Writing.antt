@@ -37,6 +37,7 @@ use Rattle.pk_data.specs.Placed.{HoldsValues}
 use Rattle.pk_core.specs.Parts.{Parts}
 use Rattle.pk_core.specs.Agreeing.{AgreesWith}
 use Rattle.pk_core.specs.Moves.{StandsFor, Keeps, KeepsAll, BreaksAll, IsWritten}
+use Rattle.pk_core.specs.Noting.{KeepsFound}
 use Rattle.pk_core.specs.Placing.{Reserves, PlacesValue, FailsToPlace}
 use Rattle.pk_core.proofs.Standing.{found_once}
 use Rattle.pk_core.proofs.Unread.{IsReadBy, SameRead, same_top, KeepsOwners, still_without, agrees_elsewhere}
@@ -57,6 +58,10 @@ owners_taken p block s spare b o is = elim (cases_eq b block) [
 journal_taken : (p : Blocks) (block : ℕ) → IsSpare p block → used_by Journal (with_state p block (Owned Values)).states ≡ used_by Journal p.states
 journal_taken p block (inl free) = let all = count-set (is_owned_by Journal) p.states block Free (Owned Values) free in omega (arith, all)
 journal_taken p block (inr ready) = let all = count-set (is_owned_by Journal) p.states block Ready (Owned Values) ready in omega (arith, all)
+
+meta_taken : (p : Blocks) (block : ℕ) → IsSpare p block → used_by Meta (with_state p block (Owned Values)).states ≡ used_by Meta p.states
+meta_taken p block (inl free) = let all = count-set (is_owned_by Meta) p.states block Free (Owned Values) free in omega (arith, all)
+meta_taken p block (inr ready) = let all = count-set (is_owned_by Meta) p.states block Ready (Owned Values) ready in omega (arith, all)
 
 pub journal_or_values : (p : Blocks) (b : ℕ) → slice_get p.states b ≡ Some (Owned Journal) → HoldsValues p b → ⊥
 journal_or_values p b is held = cc
@@ -156,6 +161,12 @@ module _ (d : Parts) (page count : ℕ) (space : DataState) (q : Blocks) (old ne
     | inr opens ↦ ap (λ (r : Blocks). used_by Journal r.states) opens.taken ∙ journal_taken d.pool opens.block opens.spare
   ]
 
+  pub meta_reserved : used_by Meta q.states ≡ used_by Meta d.pool.states
+  meta_reserved = elim reserved.taken [
+    | inl next ↦ ap (λ (r : Blocks). used_by Meta r.states) next.same_pool
+    | inr opens ↦ ap (λ (r : Blocks). used_by Meta r.states) opens.taken ∙ meta_taken d.pool opens.block opens.spare
+  ]
+
   pub works_reserved : Works old new
   works_reserved = elim reserved.taken [
     | inl next ↦ works_none old new next.same_board
@@ -244,7 +255,7 @@ module _ (d : Parts) (key : Key) (value : List ℕ) (old : BoardState) (page : �
 
     pub placed_agrees : AgreesWith after shape new.pages top found without all
     placed_agrees = agrees_elsewhere d space q shape old.pages new.pages top found without all with same_placed ready_new.flash
-        (owners_reserved d page (charge shape (length value)) is.space q old is.between is.reserved) (journal_reserved d page (charge shape (length value)) is.space q old is.between is.reserved)
+        (owners_reserved d page (charge shape (length value)) is.space q old is.between is.reserved) (journal_reserved d page (charge shape (length value)) is.space q old is.between is.reserved) (meta_reserved d page (charge shape (length value)) is.space q old is.between is.reserved)
         (is.placed (places found d.log.pending) with.placed)
 
     pub placed_keeps : Keeps d after shape all old new
@@ -300,6 +311,7 @@ same_roots has_shape old new has has_new same =
 -- all that a call says that wrote a value
 pub record Written (d : Parts) (key : Key) (value : List ℕ) (old : BoardState) (page : ℕ) (after : Parts) (new : BoardState) : Type 0 where
   pub keeps : KeepsAll d after old new
+  pub found : KeepsFound d after old new
   pub works : Works old new
   pub written : IsWritten after d.log.shape new.pages key value page
   pub place : IsPlace d.log.shape (record { page = page; len = length value })
@@ -328,6 +340,10 @@ value_written d key value old page space q new is ready ready_new is_key short s
     let count : ℕ = charge shape (length value) in
     record {
       keeps = placed_keeps_all d key value old page space q new is ready ready_new;
+      found = λ shape' top' found' without' all' other.
+          let same : d.log.shape ≡ shape' = other.shape_is in
+          subst (λ (s : Shape). AgreesWith after s new.pages top' found' without' all') same
+          (placed_agrees d key value old page space q new is ready ready_new top' found' without' all' (subst (λ (s : Shape). AgreesWith d s old.pages top' found' without' all') (sym same) other));
       works = works_placed d key value old page space q new is ready ready_new;
       written = record {
         there = value_again shape with.logs.is_shape key value is_key (page_at new.pages) page is.stored;

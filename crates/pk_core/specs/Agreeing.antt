@@ -43,6 +43,7 @@ pub record AgreesWith (d : Parts) (shape : Shape) (flash : Flash) (top : ℕ × 
   pub journal : (b : ℕ) → AnyByRecursion (λ c. b ≡ c) (top.1.newest ++ top.1.older) → slice_get d.pool.states b ≡ Some (Owned Journal)
   pub journal_few : used_by Journal d.pool.states ≡ length (top.1.newest ++ top.1.older)
   pub runs : (b : ℕ) → AnyByRecursion (λ c. b ≡ c) (concat top.1.runs) → slice_get d.pool.states b ≡ Some (Owned Meta)
+  pub runs_few : used_by Meta d.pool.states ≡ length (concat top.1.runs)
   pub keys_are : d.keys ≡ length (places found d.log.pending)
 
 -- the board has this shape and these pages, and the drive agrees with them

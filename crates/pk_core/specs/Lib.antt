@@ -5,6 +5,7 @@ pub mod Done
 pub mod Moves
 pub mod Quiet
 pub mod Placing
+pub mod Ticking
 pub mod Noting
 pub mod Changes
 pub mod Serving

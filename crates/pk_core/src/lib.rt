@@ -15,6 +15,7 @@ mod placing;
 mod quiet;
 mod room;
 mod store;
+mod tick;
 
 pub use drive::Drive;
 pub use place::ValuePlace;

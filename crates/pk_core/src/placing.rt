@@ -13,6 +13,7 @@ ghost use Rattle.pk_data.specs.Entries.{IsInOpen};
 ghost use Rattle.pk_compact.specs.Working.{Works, Stops};
 ghost use Rattle.pk_drive.specs.Wear.{roots};
 ghost use Rattle.pk_core.specs.Moves.{StandsFor, KeepsAll, BreaksAll, IsWritten};
+ghost use Rattle.pk_core.specs.Noting.{KeepsFound};
 ghost use Rattle.pk_core.specs.Placing.{PlacesValue, FailsToPlace};
 
 use crate::drive::Drive;
@@ -75,6 +76,7 @@ impl<A: Region> Drive<A> {
         requires room { needs_reclaim_for self.old.log.shape self.old.space self.old.pool (spec.charge self.old.log.shape (length value.now)) ≡ false }
         ensures rest { self.new ≡ record self.old { space = self.new.space; pool = self.new.pool } }
         ensures keeps { OnOk result (KeepsAll self.old self.new (B.state board.old) (B.state board.new)) }
+        ensures found { OnOk result (KeepsFound self.old self.new (B.state board.old) (B.state board.new)) }
         ensures works { OnOk result (Works (B.state board.old) (B.state board.new)) }
         ensures written { IfOk result (λ page. IsWritten self.new self.old.log.shape (B.state board.new).pages key.now value.now page) }
         ensures place { IfOk result (λ page. IsPlace self.old.log.shape (record { page = page; len = length value.now })) }

@@ -33,8 +33,7 @@ impl<A: Region> Drive<A> {
         ensures keeps { OnOk result (KeepsAll self.old self.new (B.state board.old) (B.state board.new)) }
         ensures values { OnOk result (used_by Values self.new.pool.states ≡ used_by Values self.old.pool.states) }
         ensures works { OnOk result (Works (B.state board.old) (B.state board.new)) }
-        ensures roots { OnOk result (roots (B.state board.new) ≤ roots (B.state board.old) + 1) }
-        ensures installs { OnErr result (roots (B.state board.new) ≤ roots (B.state board.old) + 1) }
+        ensures roots { roots (B.state board.new) ≤ roots (B.state board.old) + 1 }
         ensures stopped { IfErr result (λ e. e ≡ Stopped) }
         ensures breaks { OnErr result (BreaksAll self.old (B.state board.old) (B.state board.new)) }
         ensures stops { OnErr result (Stops (B.state board.old) (B.state board.new)) }
@@ -43,6 +42,7 @@ impl<A: Region> Drive<A> {
         self.pool.known();
         self.log.freeze(board, &mut self.pool, &mut self.page)
     }
+
     // Freezes the active buffer where a further entry of the key wants it.
     fn freeze_if_needed<B: Nand>(&mut self, board: &mut B, key: &Key) -> Result<(), Fault>
         requires ready { IsReady (B.state board.old) self.old.log.shape }
@@ -57,8 +57,7 @@ impl<A: Region> Drive<A> {
         ensures keeps { OnOk result (KeepsAll self.old self.new (B.state board.old) (B.state board.new)) }
         ensures values { OnOk result (used_by Values self.new.pool.states ≡ used_by Values self.old.pool.states) }
         ensures works { OnOk result (Works (B.state board.old) (B.state board.new)) }
-        ensures roots { OnOk result (roots (B.state board.new) ≤ roots (B.state board.old) + 1) }
-        ensures installs { OnErr result (roots (B.state board.new) ≤ roots (B.state board.old) + 1) }
+        ensures roots { roots (B.state board.new) ≤ roots (B.state board.old) + 1 }
         ensures stopped { IfErr result (λ e. e ≡ Stopped) }
         ensures breaks { OnErr result (BreaksAll self.old (B.state board.old) (B.state board.new)) }
         ensures stops { OnErr result (Stops (B.state board.old) (B.state board.new)) }
@@ -85,8 +84,7 @@ impl<A: Region> Drive<A> {
         ensures keeps { OnOk result (KeepsAll self.old self.new (B.state board.old) (B.state board.new)) }
         ensures values { OnOk result (used_by Values self.new.pool.states ≡ used_by Values self.old.pool.states) }
         ensures works { OnOk result (Works (B.state board.old) (B.state board.new)) }
-        ensures roots { OnOk result (roots (B.state board.new) ≤ roots (B.state board.old) + 1) }
-        ensures installs { OnErr result (roots (B.state board.new) ≤ roots (B.state board.old) + 1) }
+        ensures roots { roots (B.state board.new) ≤ roots (B.state board.old) + 1 }
         ensures stopped { IfErr result (λ e. e ≡ Stopped) }
         ensures breaks { OnErr result (BreaksAll self.old (B.state board.old) (B.state board.new)) }
         ensures stops { OnErr result (Stops (B.state board.old) (B.state board.new)) }

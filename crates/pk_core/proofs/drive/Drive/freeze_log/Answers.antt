@@ -1,5 +1,5 @@
 use Rattle.std.specs.Prelude.{Ok}
-use Rattle.pk_core.proofs.Freezing.{may_here, keeps_if, values_if, room_if, none_if, roots_if, breaks_if, installs_if}
+use Rattle.pk_core.proofs.Freezing.{may_here, keeps_if, values_if, room_if, none_if, roots_any, breaks_if}
 use Rattle.pk_core.proofs.drive.Drive.freeze_log.Goals as goal
 
 pub freeze-requires-clause-can : goal.freeze-requires-clause-can
@@ -35,16 +35,10 @@ pub returns-clause-roots : goal.returns-clause-roots
 returns-clause-roots g c =
     let e = c.freeze.ensures in
     let r = rw (← c.self.view_is) at c.requires in
-    roots_if c.freeze.result _ (g.B.Nand.state c.args.board.now) (g.B.Nand.state c.freeze.new.board) r.ready r.none_pending r.none_frozen r.unworn r.stands c.freeze.new.self c.freeze.new.pool e.ready e.froze
+    roots_any c.freeze.result _ (g.B.Nand.state c.args.board.now) (g.B.Nand.state c.freeze.new.board) r.ready r.none_pending r.none_frozen r.unworn r.stands c.freeze.new.self c.freeze.new.pool e.ready e.froze e.installs
 
 pub returns-clause-breaks : goal.returns-clause-breaks
 returns-clause-breaks g c =
     let e = c.freeze.ensures in
     let r = rw (← c.self.view_is) at c.requires in
     rw (← c.self.view_is) (breaks_if c.freeze.result _ (g.B.Nand.state c.args.board.now) (g.B.Nand.state c.freeze.new.board) r.ready r.none_pending r.none_frozen r.unworn r.stands e.went)
-
-pub returns-clause-installs : goal.returns-clause-installs
-returns-clause-installs g c =
-    let e = c.freeze.ensures in
-    let r = rw (← c.self.view_is) at c.requires in
-    installs_if c.freeze.result _ (g.B.Nand.state c.args.board.now) (g.B.Nand.state c.freeze.new.board) r.ready e.ready e.installs

@@ -9,6 +9,12 @@ returns-clause-keeps g c =
     let w = rw (c.shape-shape.ensures, ← c.self.view_is) at c.write_next.ensures in
     rw (← c.self.view_is) (on_ok _ _ c.write_next.result (λ page is. (value_written _ c.args.key.now c.args.value.now (g.B.Nand.state c.args.board.now) page c.write_next.new.space c.write_next.new.pool (g.B.Nand.state c.write_next.new.board) is r.ready w.ready c.bytes.ensures.key r.short r.stands).keeps) w.places)
 
+pub returns-clause-found : goal.returns-clause-found
+returns-clause-found g c =
+    let r = rw (← c.self.view_is) at c.requires in
+    let w = rw (c.shape-shape.ensures, ← c.self.view_is) at c.write_next.ensures in
+    rw (← c.self.view_is) (on_ok _ _ c.write_next.result (λ page is. (value_written _ c.args.key.now c.args.value.now (g.B.Nand.state c.args.board.now) page c.write_next.new.space c.write_next.new.pool (g.B.Nand.state c.write_next.new.board) is r.ready w.ready c.bytes.ensures.key r.short r.stands).found) w.places)
+
 pub returns-clause-works : goal.returns-clause-works
 returns-clause-works g c =
     let r = rw (← c.self.view_is) at c.requires in
