@@ -7,6 +7,7 @@ pub mod Stills
 pub mod Results
 pub mod Writing
 pub mod Ticking
+pub mod Stepping
 pub mod Keeping
 pub mod Elsewhere
 pub mod Committing

@@ -6,4 +6,5 @@ pub mod Moves
 pub mod Quiet
 pub mod Placing
 pub mod Ticking
+pub mod Stepping
 pub mod Noting

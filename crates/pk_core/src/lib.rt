@@ -14,6 +14,7 @@ mod placing;
 mod quiet;
 mod room;
 mod tick;
+mod ticks;
 
 pub use drive::Drive;
 pub use place::ValuePlace;
