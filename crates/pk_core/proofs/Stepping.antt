@@ -9,14 +9,13 @@ use Rattle.pk_nvme.specs.Reply.{Reply, refusal}
 use Rattle.pk_nvme.specs.Seen.{command_of}
 use Rattle.pk_nvme.specs.declared.request.Request.{Request}
 use Rattle.pk_nand.specs.BoardState.{BoardState}
-use Rattle.pk_nand.specs.Calls.{Rose, last_count, counted}
+use Rattle.pk_nand.specs.Calls.{Rose, last_count}
 use Rattle.pk_nand.proofs.Reaching.{Reached-start}
 use Rattle.pk_model.specs.Answer.{Kind, kind, retrieve, tick, early, success}
 use Rattle.pk_model.specs.Reading.{reading}
 use Rattle.pk_model.specs.Run.{Step}
 use Rattle.pk_model.specs.Sight.{Sight}
 use Rattle.pk_model.proofs.Answering.{serves}
-use Rattle.pk_drive.specs.Growth.{Reaches, Goes}
 use Rattle.pk_drive.specs.Wear.{roots}
 use Rattle.pk_drive.specs.Drive.{Stands, OnlyFlash, NoFault, AtMostOneCall}
 use Rattle.pk_drive.specs.Tick.{TickCut}
