@@ -1,5 +1,5 @@
 -- Background steps in a row.
-use Rattle.std.proofs.Common.{◌≡◌, ◌≢◌, inl, inr, ℕ, ◌+◌, ◌-◌, ◌<◌, ◌≤◌, refl, sym, ap, subst, ◌∙◌, arith, Bool, true, false, List, [], ◌++◌, Option, Some, None, Ok}
+use Rattle.std.proofs.Common.{◌≡◌, ◌≢◌, ◌⊎◌, inl, inr, ℕ, ◌+◌, ◌-◌, ◌<◌, ◌≤◌, refl, sym, ap, subst, ◌∙◌, arith, Bool, true, false, List, [], ◌++◌, Option, Some, None, Ok}
 use Rattle.pk_base.specs.Shape.{Shape, limit}
 use Rattle.pk_base.specs.Page.{Flash}
 use Rattle.pk_base.specs.Map.{Map}
@@ -11,6 +11,10 @@ use Rattle.pk_nvme.specs.declared.request.Request.{Request}
 use Rattle.pk_nand.specs.BoardState.{BoardState}
 use Rattle.pk_nand.specs.Calls.{Rose, last_count}
 use Rattle.pk_nand.proofs.Reaching.{Reached-start}
+use Rattle.pk_pool.specs.declared.state.BlockState.TheVariants.{Free, Ready}
+use Rattle.pk_pool.specs.Blocks.{Blocks, IsNowhere, is_ready}
+use Rattle.pk_pool.specs.Taking.{ErasesOne, ErasesNone}
+use Rattle.pk_pool.proofs.Sharing.{count-set}
 use Rattle.pk_model.specs.Answer.{Kind, kind, retrieve, tick, early, success}
 use Rattle.pk_model.specs.Reading.{reading}
 use Rattle.pk_model.specs.Run.{Step}
@@ -30,7 +34,7 @@ use Rattle.pk_core.specs.Agreeing.{Agrees}
 use Rattle.pk_core.specs.Done.{Does}
 use Rattle.pk_core.specs.Quiet.{eleven}
 use Rattle.pk_core.specs.Ticking.{Ticks}
-use Rattle.pk_core.specs.Stepping.{has_failed, Steps, outcome_of}
+use Rattle.pk_core.specs.Stepping.{has_failed, Steps, outcome_of, erased_in, Erases}
 use Rattle.pk_core.proofs.Unchanging.{for_its_map, same_early, unread_step}
 use Rattle.pk_core.proofs.Ticking.{yes_no}
 
@@ -40,6 +44,7 @@ pub record Ongoing (first : Parts) (old : BoardState) (d : Parts) (board : Board
   pub unstopped : d.stopped ≡ false
   pub none : d.log.pending ≡ []
   pub steps : Steps old board (sight_of first) (sight_of d) Worked made
+  pub erased : erased_in d.pool ≡ erased_in first.pool + made
 
 -- ---- no step
 
@@ -225,25 +230,80 @@ module _ (old new : BoardState) (d d' : Parts) (r : Request) (v : List ℕ) (a :
       by_cases Idle w = by_answer Idle into reads w is
       by_cases (Fault stopped) w = by_answer (Fault stopped) into reads w is
 
--- the loop goes on behind a step that worked
-pub ongoing_more : (first : Parts) (old : BoardState) (d e : Parts) (board next : BoardState) (made : ℕ) (answer : Ticked) → Ongoing first old d board made → answer ≡ Worked
-    → e.stopped ≡ stopped_by answer → e.log.pending ≡ [] → (stopped_by answer ≡ false → Agrees e next.shape next.pages) → Ticks board next (sight_of d) (sight_of e) answer → Ongoing first old e next (made + 1)
-ongoing_more first old d e board next made answer o worked stops none agrees ticks =
-    let runs : stopped_by answer ≡ false = ap stopped_by worked in
-    record {
-      agrees = agrees runs;
-      unstopped = stops ∙ runs;
-      none = none;
-      steps = steps_more old board (sight_of first) (sight_of d) made o.steps next (sight_of e) Worked (subst (λ x. Ticks board next (sight_of d) (sight_of e) x) worked ticks);
-    }
+-- ---- the loop
 
--- it ends behind any step
-pub ongoing_last : (first : Parts) (old : BoardState) (d e : Parts) (board next : BoardState) (made most : ℕ) (answer : Ticked) → Ongoing first old d board made → made < most
-    → Ticks board next (sight_of d) (sight_of e) answer → Steps old next (sight_of first) (sight_of e) answer most
-ongoing_last first old d e board next made most answer o less ticks =
-    steps_within old next (sight_of first) (sight_of e) answer (made + 1) most (omega (arith, less)) (steps_more old board (sight_of first) (sight_of d) made o.steps next (sight_of e) answer ticks)
+-- a step that did not fail is as good as one that worked
+as_worked : (old new : BoardState) (s t : Sight) (answer : Ticked) (n : ℕ) → has_failed answer ≡ false → Steps old new s t answer n → Steps old new s t Worked n
+as_worked old new s t Worked n e w = w
+as_worked old new s t Idle n e w = record {
+  stands = w.stands;
+  cuts = w.cuts;
+  cuts_stopped = w.cuts_stopped;
+  rest = w.rest;
+  few = w.few;
+  more_reads = w.more_reads;
+  within = w.within;
+  up = w.up;
+  unread = λ f. absurd (worked_fault false f);
+  sound = w.sound;
+  stop = w.stop;
+  no_stop = w.no_stop;
+  installs = w.installs;
+}
+as_worked old new s t (Fault stopped) n e w = absurd (yes_no true e refl)
+
+runs_on : (answer : Ticked) → has_failed answer ≡ false → stopped_by answer ≡ false
+runs_on Worked e = refl
+runs_on Idle e = refl
+runs_on (Fault stopped) e = absurd (yes_no true e refl)
+
+-- what a step makes of the count of erased blocks
+one_more : (p q : Blocks) (old new : BoardState) → ErasesOne p old q new → erased_in q ≡ erased_in p + 1
+one_more p q old new one =
+    let all = count-set is_ready p.states one.block Free Ready one.lowest.here in
+    ap (λ x. erased_in x) one.marked ∙ omega (arith, all)
+
+module _ (first : Parts) (old : BoardState) (d e : Parts) (board next : BoardState) (made : ℕ) (answer : Ticked) (o : Ongoing first old d board made) (ticks : Ticks board next (sight_of d) (sight_of e) answer)
+    (erases : stopped_by answer ≡ false → ErasesOne d.pool board e.pool next ⊎ ErasesNone d.pool board e.pool next) where
+  behind : Steps old next (sight_of first) (sight_of e) answer (made + 1)
+  behind = steps_more old board (sight_of first) (sight_of d) made o.steps next (sight_of e) answer ticks
+
+  -- it goes on behind a step that erased a block
+  pub ongoing_more : has_failed answer ≡ false → erased_in d.pool ≢ erased_in e.pool → e.stopped ≡ stopped_by answer → e.log.pending ≡ [] → (stopped_by answer ≡ false → Agrees e next.shape next.pages) → Ongoing first old e next (made + 1)
+  ongoing_more fine other stops none agrees =
+      let runs = runs_on answer fine in
+      let before = o.erased in
+      record {
+        agrees = agrees runs;
+        unstopped = stops ∙ runs;
+        none = none;
+        steps = as_worked old next (sight_of first) (sight_of e) answer (made + 1) fine behind;
+        erased = elim (erases runs) [
+          | inl one ↦ (let more = one_more d.pool e.pool board next one in omega (arith, before, more))
+          | inr nothing ↦ absurd (other (ap (λ x. erased_in x) (sym nothing.kept)))
+        ];
+      }
+
+  -- it ends behind any step
+  pub ongoing_last : (most : ℕ) → made < most → Steps old next (sight_of first) (sight_of e) answer most
+  ongoing_last most less = steps_within old next (sight_of first) (sight_of e) answer (made + 1) most (omega (arith, less)) behind
+
+  -- behind one that erased no block, every free block is erased
+  pub ongoing_done : (most : ℕ) → has_failed answer ≡ false → erased_in d.pool ≡ erased_in e.pool → Erases first.pool e.pool most
+  ongoing_done most fine same = elim (erases (runs_on answer fine)) [
+    | inl one ↦ (let more = one_more d.pool e.pool board next one in absurd (omega (arith, same, more)))
+    | inr nothing ↦ inr (subst (λ x. IsNowhere Free x.states) (sym nothing.kept) nothing.none_free)
+  ]
 
 pub stopped_is : (o : Outcome) (answer : Ticked) (reads : ℕ) → o ≡ outcome_of answer reads → o.stopped ≡ stopped_by answer
 stopped_is o Worked reads told = ap (λ x. x.stopped) told
 stopped_is o Idle reads told = ap (λ x. x.stopped) told
 stopped_is o (Fault stopped) reads told = ap (λ x. x.stopped) told
+
+other_status : ◌≡◌ {A = ℕ} 0x88 0 → ⊥
+other_status e = cc
+
+pub not_failed : (o : Outcome) (answer : Ticked) (reads : ℕ) → o ≡ outcome_of answer reads → o.status ≡ 0 → has_failed answer ≡ false
+not_failed o Worked reads told e = refl
+not_failed o Idle reads told e = refl
+not_failed o (Fault stopped) reads told e = absurd (other_status (sym (ap (λ x. x.status) told) ∙ e))

@@ -1,7 +1,9 @@
 -- Background steps in a row, and the answer of the command that wants them.
-use Rattle.std.specs.Prelude.{◌≡◌, ℕ, ◌+◌, ◌≤◌, Bool, true, false}
+use Rattle.std.specs.Prelude.{◌≡◌, ℕ, ◌+◌, ◌≤◌, ◌⊎◌, Bool, true, false, count_by}
 use Rattle.pk_nand.specs.BoardState.{BoardState}
 use Rattle.pk_nand.specs.Calls.{Rose, last_count}
+use Rattle.pk_pool.specs.declared.state.BlockState.TheVariants.{Free}
+use Rattle.pk_pool.specs.Blocks.{Blocks, IsNowhere, is_ready}
 use Rattle.pk_model.specs.Sight.{Sight}
 use Rattle.pk_drive.specs.Wear.{roots}
 use Rattle.pk_drive.specs.Drive.{OnlyFlash, NoFault}
@@ -38,3 +40,10 @@ abbrev pub outcome_of : Ticked → ℕ → Outcome
 outcome_of Worked reads = record { status = 0; result = 0; data_len = 0; reads = reads; stopped = false }
 outcome_of Idle reads = record { status = 0; result = 0; data_len = 0; reads = reads; stopped = false }
 outcome_of (Fault stopped) reads = record { status = 0x88; result = 0; data_len = 0; reads = reads; stopped = stopped }
+
+abbrev pub erased_in : Blocks → ℕ
+erased_in p = count_by is_ready p.states
+
+-- so many more free blocks were erased, or every free block is
+abbrev pub Erases : Blocks → Blocks → ℕ → Type 0
+Erases p q most = (erased_in q ≡ erased_in p + most) ⊎ IsNowhere Free q.states

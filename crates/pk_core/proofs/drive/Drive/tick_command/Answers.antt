@@ -1,5 +1,5 @@
 use Rattle.std.proofs.Common.{◌∙◌, sym, arith}
-use Rattle.pk_core.proofs.Stepping.{tick_does, stopped_is}
+use Rattle.pk_core.proofs.Stepping.{tick_does, stopped_is, not_failed}
 use Rattle.pk_core.proofs.drive.Drive.tick_command.Goals as goal
 
 pub returns-clause-does : goal.returns-clause-does
@@ -9,3 +9,6 @@ returns-clause-does g c = λ v into.
 
 pub returns-clause-agrees : goal.returns-clause-agrees
 returns-clause-agrees g c = λ e. c.work-last.ensures.agrees (sym (stopped_is c.answer_of.result c.work-last.result c.reads_since.result c.answer_of.ensures) ∙ e)
+
+pub returns-clause-done : goal.returns-clause-done
+returns-clause-done g c = λ e. c.work-last.ensures.done (not_failed c.answer_of.result c.work-last.result c.reads_since.result c.answer_of.ensures e)
