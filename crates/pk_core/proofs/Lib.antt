@@ -14,6 +14,7 @@ pub mod Stills
 pub mod Results
 pub mod Writing
 pub mod Ticking
+pub mod Stepping
 pub mod Entries
 pub mod Putting
 pub mod Served

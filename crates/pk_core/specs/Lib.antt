@@ -6,6 +6,7 @@ pub mod Moves
 pub mod Quiet
 pub mod Placing
 pub mod Ticking
+pub mod Stepping
 pub mod Noting
 pub mod Changes
 pub mod Serving

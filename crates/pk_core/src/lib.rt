@@ -16,6 +16,7 @@ mod quiet;
 mod room;
 mod store;
 mod tick;
+mod ticks;
 
 pub use drive::Drive;
 pub use place::ValuePlace;

@@ -1,0 +1,309 @@
+-- Background steps in a row.
+use Rattle.std.proofs.Common.{◌≡◌, ◌≢◌, ◌⊎◌, inl, inr, ℕ, ◌+◌, ◌-◌, ◌<◌, ◌≤◌, refl, sym, ap, subst, ◌∙◌, arith, Bool, true, false, List, [], ◌++◌, Option, Some, None, Ok}
+use Rattle.pk_base.specs.Shape.{Shape, limit}
+use Rattle.pk_base.specs.Page.{Flash}
+use Rattle.pk_base.specs.Map.{Map}
+use Rattle.pk_base.specs.Mark.{all_posted}
+use Rattle.pk_nvme.specs.Command.{Command}
+use Rattle.pk_nvme.specs.Reply.{Reply, refusal}
+use Rattle.pk_nvme.specs.Seen.{command_of}
+use Rattle.pk_nvme.specs.declared.request.Request.{Request}
+use Rattle.pk_nand.specs.BoardState.{BoardState}
+use Rattle.pk_nand.specs.Calls.{Rose, last_count}
+use Rattle.pk_nand.proofs.Reaching.{Reached-start}
+use Rattle.pk_pool.specs.declared.state.BlockState.TheVariants.{Free, Ready}
+use Rattle.pk_pool.specs.Blocks.{Blocks, IsNowhere, is_ready}
+use Rattle.pk_pool.specs.Taking.{ErasesOne, ErasesNone}
+use Rattle.pk_pool.proofs.Sharing.{count-set}
+use Rattle.pk_model.specs.Answer.{Kind, kind, retrieve, tick, early, success}
+use Rattle.pk_model.specs.Reading.{reading}
+use Rattle.pk_model.specs.Run.{Step}
+use Rattle.pk_model.specs.Sight.{Sight}
+use Rattle.pk_model.proofs.Answering.{serves}
+use Rattle.pk_drive.specs.Wear.{roots}
+use Rattle.pk_drive.specs.Drive.{Stands, OnlyFlash, NoFault, AtMostOneCall}
+use Rattle.pk_drive.specs.Tick.{TickCut}
+use Rattle.pk_drive.specs.Exec.{ExecCut, most_installs}
+use Rattle.pk_drive.specs.Seen.{stopped_by, reply_of}
+use Rattle.pk_drive.specs.declared.types.Outcome.{Outcome}
+use Rattle.pk_drive.specs.declared.types.Ticked.{Ticked}
+use Rattle.pk_drive.specs.declared.types.Ticked.TheVariants.{Worked, Idle, Fault}
+use Rattle.pk_drive.proofs.Growing.{weaken, weaken_went, at_end, Reaches-then, Goes-then}
+use Rattle.pk_core.specs.Parts.{Parts, sight_of}
+use Rattle.pk_core.specs.Agreeing.{Agrees}
+use Rattle.pk_core.specs.Done.{Does}
+use Rattle.pk_core.specs.Quiet.{eleven}
+use Rattle.pk_core.specs.Ticking.{Ticks}
+use Rattle.pk_core.specs.Stepping.{has_failed, Steps, outcome_of, erased_in, Erases}
+use Rattle.pk_core.proofs.Unchanging.{for_its_map, same_early, unread_step}
+use Rattle.pk_core.proofs.Ticking.{yes_no}
+
+-- the drive agrees with its board after so many steps, of which none failed
+pub record Ongoing (first : Parts) (old : BoardState) (d : Parts) (board : BoardState) (made : ℕ) : Type 0 where
+  pub agrees : Agrees d board.shape board.pages
+  pub unstopped : d.stopped ≡ false
+  pub none : d.log.pending ≡ []
+  pub steps : Steps old board (sight_of first) (sight_of d) Worked made
+  pub erased : erased_in d.pool ≡ erased_in first.pool + made
+
+-- ---- no step
+
+worked_fault : (b : Bool) → Worked ≡ Fault b → ⊥
+worked_fault b e = cc
+
+pub steps_none : (old : BoardState) (s : Sight) → old.reads ≤ last_count → s.pending ≡ [] → Steps old old s s Worked 0
+steps_none old s few none = record {
+  stands = λ _ shape frames m st. st;
+  cuts = λ _ shape frames m st. ([], Reached-start old old (TickCut shape m) refl refl refl refl (refl, subst (λ p. reading shape old.pages p ≡ Ok m) none st.map_is), tt);
+  cuts_stopped = λ e. absurd (yes_no false refl e);
+  rest = refl;
+  few = few;
+  more_reads = omega arith;
+  within = omega arith;
+  up = omega arith;
+  unread = λ e. absurd (worked_fault false e);
+  sound = λ _. (refl, refl, refl);
+  stop = λ e. absurd (yes_no false refl e);
+  no_stop = λ _. refl;
+  installs = omega arith;
+}
+
+-- ---- one more step
+
+pub only_then : (a b c : BoardState) → OnlyFlash a b → OnlyFlash b c → OnlyFlash a c
+only_then a b c first second =
+    let T : BoardState → Type 0 = λ s. c ≡ record s {
+      pages = c.pages;
+      trail = c.trail;
+      reads = c.reads;
+      programs = c.programs;
+      erases = c.erases;
+      flash_faults = c.flash_faults;
+      read_faults = c.read_faults;
+      stop_faults = c.stop_faults;
+      failed_at = c.failed_at;
+    } in
+    subst T first second
+
+record OneRead (a b : BoardState) : Type 0 where
+  few : b.reads ≤ last_count
+  more : a.reads ≤ b.reads
+  within : b.reads ≤ a.reads + 1
+
+one_read : (a b : BoardState) → a.reads ≤ last_count → AtMostOneCall a b → OneRead a b
+one_read a b few calls = elim calls [
+  | inl none ↦ (let e = none.0 in record { few = omega (arith, e, few); more = omega (arith, e); within = omega (arith, e) })
+  | inr some ↦ elim some [
+    | inl one ↦ (let e = one.0 in record { few = omega (arith, e, few); more = omega (arith, e, few); within = omega (arith, e, few) })
+    | inr other ↦ elim other [
+      | inl program ↦ (let e = program.0 in record { few = omega (arith, e, few); more = omega (arith, e); within = omega (arith, e) })
+      | inr erase ↦ (let e = erase.0 in record { few = omega (arith, e, few); more = omega (arith, e); within = omega (arith, e) })
+    ]
+  ]
+]
+
+-- a step that did not fail met no fault
+sound_step : (a b : BoardState) (s t : Sight) (answer : Ticked) → Ticks a b s t answer → has_failed answer ≡ false → NoFault a b
+sound_step a b s t Worked ticks e = ticks.worked refl
+sound_step a b s t Idle ticks e = subst (λ x. NoFault a x) (sym (ticks.idle_rests refl)) (refl, refl, refl)
+sound_step a b s t (Fault stopped) ticks e = absurd (yes_no true e refl)
+
+module _ (s0 s1 : BoardState) (e0 e1 : Sight) (n : ℕ) (first : Steps s0 s1 e0 e1 Worked n) where
+  -- a cut behind the steps so far is one behind the first
+  seen : (shape : Shape) (frames : ℕ) (m : Map) (st : Stands shape frames s0 e0 m) (f : Flash) (q : List ℕ)
+      → TickCut shape m f q → TickCut shape m f (all_posted (first.cuts refl shape frames m st).0 ++ q)
+  seen shape frames m st f q cut =
+      let run = first.cuts refl shape frames m st in
+      let ends = at_end run.0 s0 s1 (TickCut shape m) run.1 in
+      (ap (λ (xs : List ℕ). xs ++ q) ends.0 ∙ cut.0, cut.1)
+
+  pub steps_more : (s2 : BoardState) (e2 : Sight) (answer : Ticked) → Ticks s1 s2 e1 e2 answer → Steps s0 s2 e0 e2 answer (n + 1)
+  steps_more s2 e2 answer ticks =
+      let calm = first.sound refl in
+      let reads = one_read s1 s2 first.few ticks.calls in
+      record {
+        stands = λ runs shape frames m st. ticks.stands runs shape frames m (first.stands refl shape frames m st);
+        cuts = λ runs shape frames m st.
+            let run = first.cuts refl shape frames m st in
+            Reaches-then shape run.0 s0 s1 (TickCut shape m) st.shape_is run.1 run.2 s2 (TickCut shape m) (seen shape frames m st) (ticks.cuts runs shape frames m (first.stands refl shape frames m st));
+        cuts_stopped = λ stops shape frames m st.
+            let run = first.cuts refl shape frames m st in
+            Goes-then shape run.0 s0 s1 (TickCut shape m) st.shape_is run.1 run.2 s2 (TickCut shape m) (seen shape frames m st) (ticks.cuts_stopped stops shape frames m (first.stands refl shape frames m st));
+        rest = only_then s0 s1 s2 first.rest ticks.rest;
+        few = reads.few;
+        more_reads = (let a = first.more_reads in let b = reads.more in omega (arith, a, b));
+        within = (let a = first.within in let b = reads.within in omega (arith, a, b));
+        up = (let a = first.up in let b = ticks.up in omega (arith, a, b));
+        unread = λ e. subst (λ k. Rose k s2.read_faults) calm.1 (ticks.unread e);
+        sound = λ e. let next = sound_step s1 s2 e1 e2 answer ticks e in (next.0 ∙ calm.0, next.1 ∙ calm.1, next.2 ∙ calm.2);
+        stop = λ e. subst (λ k. Rose k s2.stop_faults) calm.2 (ticks.stop e);
+        no_stop = λ e. ticks.no_stop e ∙ calm.2;
+        installs = (let a = first.installs in let b = ticks.installs in omega (arith, a, b));
+      }
+
+-- so many steps are within more
+pub steps_within : (old new : BoardState) (s t : Sight) (answer : Ticked) (n k : ℕ) → n ≤ k → Steps old new s t answer n → Steps old new s t answer k
+steps_within old new s t answer n k less w = record {
+  stands = w.stands;
+  cuts = w.cuts;
+  cuts_stopped = w.cuts_stopped;
+  rest = w.rest;
+  few = w.few;
+  more_reads = w.more_reads;
+  within = (let a = w.within in omega (arith, a, less));
+  up = w.up;
+  unread = w.unread;
+  sound = w.sound;
+  stop = w.stop;
+  no_stop = w.no_stop;
+  installs = (let a = w.installs in omega (arith, a, less));
+}
+
+-- ---- the answer of the command
+
+tick_step : (shape : Shape) (frames : ℕ) (m : Map) (c : Command) → early shape c ≡ None → c.opcode ≡ 0xC0 → Step shape frames m c (success 0 []) m
+tick_step shape frames m c passed is =
+    let s = serves shape (limit shape) frames m eleven c tick (ap kind is) passed refl in
+    inl (record { own = eleven; eleven = refl; replied = sym s.replied; leaves = sym s.leaves })
+
+other_kind : (x : ℕ) → x ≡ 0xC0 → kind x ≡ Some retrieve → ⊥
+other_kind x is e = let f : ◌≡◌ {A = Option Kind} (Some tick) (Some retrieve) = sym (ap kind is) ∙ e in cc
+
+ok_sound : ◌≡◌ {A = ℕ} 0 0x88 → ⊥
+ok_sound e = cc
+
+module _ (old new : BoardState) (d d' : Parts) (r : Request) (v : List ℕ) (a : Agrees d old.shape old.pages) (passed : early d.log.shape (command_of r []) ≡ None) (op : r.opcode ≡ 0xC0) where
+  passes : early d.log.shape (command_of r v) ≡ None
+  passes = same_early d.log.shape r v ∙ passed
+
+  -- the clauses that every answer has alike
+  does_steps : (answer : Ticked) (reply : Reply) (reads : ℕ) → Steps old new (sight_of d) (sight_of d') answer r.size → reads ≡ new.reads - old.reads
+      → Step d.log.shape d.frames a.all (command_of r v) reply a.all
+      → (reply.status ≡ 0x88 → stopped_by answer ≡ false → Rose old.read_faults new.read_faults)
+      → (reply.status ≢ 0x88 → NoFault old new)
+      → (stopped_by answer ≡ true → reply.status ≡ 0x88)
+      → Does old new (sight_of d) (sight_of d') (command_of r v) reply reads (stopped_by answer)
+  does_steps answer reply reads w is step unread sound status =
+      let few = w.few in
+      let more = w.more_reads in
+      record {
+        stands = λ runs shape frames m st. record {
+          left = m;
+          stepped = for_its_map d old a (λ s f x. Step s f x (command_of r v) reply x) step shape frames m st;
+          stands = w.stands runs shape frames m st;
+          bounded = λ e. absurd (other_kind r.opcode op e);
+        };
+        cuts = λ runs shape frames m st.
+            let run = w.cuts runs shape frames m st in
+            (run.0, weaken run.0 old new (TickCut shape m) (ExecCut shape old.pages m (command_of r v)) (λ f q cut. (cut.0, inr (inl cut.1))) run.1, run.2);
+        cuts_stopped = λ stops shape frames m st.
+            let run = w.cuts_stopped stops shape frames m st in
+            (run.0, weaken_went run.0 old new (TickCut shape m) (ExecCut shape old.pages m (command_of r v)) (λ f q cut. (cut.0, inr (inl cut.1))) run.1, run.2);
+        rest = w.rest;
+        reads_are = omega (arith, is, few, more);
+        up = w.up;
+        unread = unread;
+        sound = sound;
+        stop = w.stop;
+        stop_status = status;
+        no_stop = w.no_stop;
+        installs = subst (λ (x : ℕ). roots new ≤ roots old + most_installs x r.size) (sym op) w.installs;
+      }
+
+  by_answer : (answer : Ticked) (into : List ℕ) (reads : ℕ) → Steps old new (sight_of d) (sight_of d') answer r.size → reads ≡ new.reads - old.reads
+      → Does old new (sight_of d) (sight_of d') (command_of r v) (reply_of (outcome_of answer reads) into) reads (stopped_by answer)
+  by_answer Worked into reads w is =
+      does_steps Worked (success 0 []) reads w is (tick_step d.log.shape d.frames a.all (command_of r v) passes op) (λ e _. absurd (ok_sound e)) (λ _. w.sound refl) (λ e. absurd (yes_no false refl e))
+  by_answer Idle into reads w is =
+      does_steps Idle (success 0 []) reads w is (tick_step d.log.shape d.frames a.all (command_of r v) passes op) (λ e _. absurd (ok_sound e)) (λ _. w.sound refl) (λ e. absurd (yes_no false refl e))
+  by_answer (Fault stopped) into reads w is =
+      does_steps (Fault stopped) (refusal 0x88) reads w is (unread_step d.log.shape d.frames a.all (command_of r v) passes) (λ _ e. w.unread (ap (λ b. Fault b) e)) (λ e. absurd (e refl)) (λ _. refl)
+
+  pub tick_does : (answer : Ticked) (o : Outcome) (into : List ℕ) (reads : ℕ) → Steps old new (sight_of d) (sight_of d') answer r.size → reads ≡ new.reads - old.reads → o ≡ outcome_of answer reads
+      → Does old new (sight_of d) (sight_of d') (command_of r v) (reply_of o into) o.reads o.stopped
+  tick_does answer o into reads w is told =
+      subst (λ (x : Outcome). Does old new (sight_of d) (sight_of d') (command_of r v) (reply_of x into) x.reads x.stopped) (sym told) (by_cases answer w)
+    where
+      by_cases : (l : Ticked) → Steps old new (sight_of d) (sight_of d') l r.size
+          → Does old new (sight_of d) (sight_of d') (command_of r v) (reply_of (outcome_of l reads) into) (outcome_of l reads).reads (outcome_of l reads).stopped
+      by_cases Worked w = by_answer Worked into reads w is
+      by_cases Idle w = by_answer Idle into reads w is
+      by_cases (Fault stopped) w = by_answer (Fault stopped) into reads w is
+
+-- ---- the loop
+
+-- a step that did not fail is as good as one that worked
+as_worked : (old new : BoardState) (s t : Sight) (answer : Ticked) (n : ℕ) → has_failed answer ≡ false → Steps old new s t answer n → Steps old new s t Worked n
+as_worked old new s t Worked n e w = w
+as_worked old new s t Idle n e w = record {
+  stands = w.stands;
+  cuts = w.cuts;
+  cuts_stopped = w.cuts_stopped;
+  rest = w.rest;
+  few = w.few;
+  more_reads = w.more_reads;
+  within = w.within;
+  up = w.up;
+  unread = λ f. absurd (worked_fault false f);
+  sound = w.sound;
+  stop = w.stop;
+  no_stop = w.no_stop;
+  installs = w.installs;
+}
+as_worked old new s t (Fault stopped) n e w = absurd (yes_no true e refl)
+
+runs_on : (answer : Ticked) → has_failed answer ≡ false → stopped_by answer ≡ false
+runs_on Worked e = refl
+runs_on Idle e = refl
+runs_on (Fault stopped) e = absurd (yes_no true e refl)
+
+-- what a step makes of the count of erased blocks
+one_more : (p q : Blocks) (old new : BoardState) → ErasesOne p old q new → erased_in q ≡ erased_in p + 1
+one_more p q old new one =
+    let all = count-set is_ready p.states one.block Free Ready one.lowest.here in
+    ap (λ x. erased_in x) one.marked ∙ omega (arith, all)
+
+module _ (first : Parts) (old : BoardState) (d e : Parts) (board next : BoardState) (made : ℕ) (answer : Ticked) (o : Ongoing first old d board made) (ticks : Ticks board next (sight_of d) (sight_of e) answer)
+    (erases : stopped_by answer ≡ false → ErasesOne d.pool board e.pool next ⊎ ErasesNone d.pool board e.pool next) where
+  behind : Steps old next (sight_of first) (sight_of e) answer (made + 1)
+  behind = steps_more old board (sight_of first) (sight_of d) made o.steps next (sight_of e) answer ticks
+
+  -- it goes on behind a step that erased a block
+  pub ongoing_more : has_failed answer ≡ false → erased_in d.pool ≢ erased_in e.pool → e.stopped ≡ stopped_by answer → e.log.pending ≡ [] → (stopped_by answer ≡ false → Agrees e next.shape next.pages) → Ongoing first old e next (made + 1)
+  ongoing_more fine other stops none agrees =
+      let runs = runs_on answer fine in
+      let before = o.erased in
+      record {
+        agrees = agrees runs;
+        unstopped = stops ∙ runs;
+        none = none;
+        steps = as_worked old next (sight_of first) (sight_of e) answer (made + 1) fine behind;
+        erased = elim (erases runs) [
+          | inl one ↦ (let more = one_more d.pool e.pool board next one in omega (arith, before, more))
+          | inr nothing ↦ absurd (other (ap (λ x. erased_in x) (sym nothing.kept)))
+        ];
+      }
+
+  -- it ends behind any step
+  pub ongoing_last : (most : ℕ) → made < most → Steps old next (sight_of first) (sight_of e) answer most
+  ongoing_last most less = steps_within old next (sight_of first) (sight_of e) answer (made + 1) most (omega (arith, less)) behind
+
+  -- behind one that erased no block, every free block is erased
+  pub ongoing_done : (most : ℕ) → has_failed answer ≡ false → erased_in d.pool ≡ erased_in e.pool → Erases first.pool e.pool most
+  ongoing_done most fine same = elim (erases (runs_on answer fine)) [
+    | inl one ↦ (let more = one_more d.pool e.pool board next one in absurd (omega (arith, same, more)))
+    | inr nothing ↦ inr (subst (λ x. IsNowhere Free x.states) (sym nothing.kept) nothing.none_free)
+  ]
+
+pub stopped_is : (o : Outcome) (answer : Ticked) (reads : ℕ) → o ≡ outcome_of answer reads → o.stopped ≡ stopped_by answer
+stopped_is o Worked reads told = ap (λ x. x.stopped) told
+stopped_is o Idle reads told = ap (λ x. x.stopped) told
+stopped_is o (Fault stopped) reads told = ap (λ x. x.stopped) told
+
+other_status : ◌≡◌ {A = ℕ} 0x88 0 → ⊥
+other_status e = cc
+
+pub not_failed : (o : Outcome) (answer : Ticked) (reads : ℕ) → o ≡ outcome_of answer reads → o.status ≡ 0 → has_failed answer ≡ false
+not_failed o Worked reads told e = refl
+not_failed o Idle reads told e = refl
+not_failed o (Fault stopped) reads told e = absurd (other_status (sym (ap (λ x. x.status) told) ∙ e))

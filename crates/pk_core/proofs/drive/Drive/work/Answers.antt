@@ -1,0 +1,29 @@
+use Rattle.std.proofs.Common.{sym, ◌∙◌, arith}
+use Rattle.pk_core.proofs.Stepping.{steps_none, ongoing_more, ongoing_last, ongoing_done}
+use Rattle.pk_core.proofs.drive.Drive.work.Goals as goal
+
+pub loop-made-init : goal.loop-made-init
+loop-made-init g c = record {
+  agrees = c.requires.agrees;
+  unstopped = c.requires.unstopped;
+  none = c.requires.none;
+  steps = steps_none _ _ c.requires.count c.requires.none;
+  erased = omega arith;
+}
+
+pub loop-made-preserved : goal.loop-made-preserved
+loop-made-preserved g c =
+    let goes = c.goes_on.ensures.goes c.if-not-goes_on.false in
+    ongoing_more c.args.self.now (g.B.Nand.state c.args.board.now) c.loop-made.self c.step-answer.new.self (g.B.Nand.state c.loop-made.board) (g.B.Nand.state c.step-answer.new.board) c.loop-made.made
+    c.step-answer.result c.loop-made.invariant c.step-answer.ensures.ticks c.step-answer.ensures.erases goes.0 (λ e. goes.1 (c.ready_blocks-before.ensures ∙ (e ∙ sym c.ready_blocks.ensures))) c.step-answer.ensures.stops c.step-answer.ensures.none
+    c.step-answer.ensures.agrees
+
+pub returns-then-not-goes_on-clause-steps : goal.returns-then-not-goes_on-clause-steps
+returns-then-not-goes_on-clause-steps g c =
+    ongoing_last c.args.self.now (g.B.Nand.state c.args.board.now) c.loop-made.self c.step-answer.new.self (g.B.Nand.state c.loop-made.board) (g.B.Nand.state c.step-answer.new.board) c.loop-made.made
+    c.step-answer.result c.loop-made.invariant c.step-answer.ensures.ticks c.step-answer.ensures.erases c.args.steps (omega (arith, c.loop-made-test.true))
+
+pub returns-then-not-goes_on-clause-done : goal.returns-then-not-goes_on-clause-done
+returns-then-not-goes_on-clause-done g c = λ fine.
+    ongoing_done c.args.self.now (g.B.Nand.state c.args.board.now) c.loop-made.self c.step-answer.new.self (g.B.Nand.state c.loop-made.board) (g.B.Nand.state c.step-answer.new.board) c.loop-made.made
+    c.step-answer.result c.loop-made.invariant c.step-answer.ensures.ticks c.step-answer.ensures.erases c.args.steps fine (sym c.ready_blocks-before.ensures ∙ (c.goes_on.ensures.ends c.if-not-goes_on.true fine ∙ c.ready_blocks.ensures))

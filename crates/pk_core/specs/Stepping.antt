@@ -1,0 +1,49 @@
+-- Background steps in a row, and the answer of the command that wants them.
+use Rattle.std.specs.Prelude.{◌≡◌, ℕ, ◌+◌, ◌≤◌, ◌⊎◌, Bool, true, false, count_by}
+use Rattle.pk_nand.specs.BoardState.{BoardState}
+use Rattle.pk_nand.specs.Calls.{Rose, last_count}
+use Rattle.pk_pool.specs.declared.state.BlockState.TheVariants.{Free}
+use Rattle.pk_pool.specs.Blocks.{Blocks, IsNowhere, is_ready}
+use Rattle.pk_model.specs.Sight.{Sight}
+use Rattle.pk_drive.specs.Wear.{roots}
+use Rattle.pk_drive.specs.Drive.{OnlyFlash, NoFault}
+use Rattle.pk_drive.specs.Tick.{TickStands, TickReaches, TickGoes}
+use Rattle.pk_drive.specs.Seen.{stopped_by}
+use Rattle.pk_drive.specs.declared.types.Ticked.{Ticked}
+use Rattle.pk_drive.specs.declared.types.Ticked.TheVariants.{Worked, Idle, Fault}
+use Rattle.pk_drive.specs.declared.types.Outcome.{Outcome}
+
+-- a call of the flash failed
+abbrev pub has_failed : Ticked → Bool
+has_failed Worked = false
+has_failed Idle = false
+has_failed (Fault stopped) = true
+
+-- What at most so many steps did together to a drive and its board, where the last of them answered this.
+pub record Steps (old new : BoardState) (before after : Sight) (answer : Ticked) (most : ℕ) : Type 0 where
+  pub stands : stopped_by answer ≡ false → TickStands old new before after
+  pub cuts : stopped_by answer ≡ false → TickReaches old new before
+  pub cuts_stopped : stopped_by answer ≡ true → TickGoes old new before
+  pub rest : OnlyFlash old new
+  pub few : new.reads ≤ last_count
+  pub more_reads : old.reads ≤ new.reads
+  pub within : new.reads ≤ old.reads + most
+  pub up : old.read_faults ≤ new.read_faults
+  pub unread : answer ≡ Fault false → Rose old.read_faults new.read_faults
+  pub sound : has_failed answer ≡ false → NoFault old new
+  pub stop : stopped_by answer ≡ true → Rose old.stop_faults new.stop_faults
+  pub no_stop : stopped_by answer ≡ false → new.stop_faults ≡ old.stop_faults
+  pub installs : roots new ≤ roots old + most
+
+-- a success without data, or the status of a call that failed, behind so many reads
+abbrev pub outcome_of : Ticked → ℕ → Outcome
+outcome_of Worked reads = record { status = 0; result = 0; data_len = 0; reads = reads; stopped = false }
+outcome_of Idle reads = record { status = 0; result = 0; data_len = 0; reads = reads; stopped = false }
+outcome_of (Fault stopped) reads = record { status = 0x88; result = 0; data_len = 0; reads = reads; stopped = stopped }
+
+abbrev pub erased_in : Blocks → ℕ
+erased_in p = count_by is_ready p.states
+
+-- so many more free blocks were erased, or every free block is
+abbrev pub Erases : Blocks → Blocks → ℕ → Type 0
+Erases p q most = (erased_in q ≡ erased_in p + most) ⊎ IsNowhere Free q.states
