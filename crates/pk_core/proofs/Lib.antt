@@ -12,3 +12,4 @@ pub mod Stills
 pub mod Results
 pub mod Writing
 pub mod Entries
+pub mod Listing

@@ -5,3 +5,4 @@ pub mod Done
 pub mod Moves
 pub mod Placing
 pub mod Noting
+pub mod Listed

@@ -5,6 +5,8 @@
 #![tactic(auto)]
 
 mod drive;
+mod filled;
+mod list;
 mod lookup;
 mod moves;
 mod noting;
@@ -13,4 +15,5 @@ mod placing;
 mod room;
 
 pub use drive::Drive;
+pub use filled::Filled;
 pub use place::ValuePlace;
