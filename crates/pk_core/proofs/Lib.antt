@@ -13,3 +13,4 @@ pub mod Results
 pub mod Writing
 pub mod Entries
 pub mod Listing
+pub mod Replies

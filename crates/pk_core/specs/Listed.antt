@@ -1,9 +1,14 @@
 -- The data of a List: keys that stand behind their number in a buffer.
-use Rattle.std.specs.Prelude.{◌≡◌, ℕ, ◌+◌, ◌-◌, ◌<◌, ◌≤◌, List, [], ◌∷◌, ◌++◌, length, take, drop, map, flat_map, not, filter, Option, Some, None}
+use Rattle.std.specs.Prelude.{◌≡◌, ◌⊎◌, false, ℕ, ◌+◌, ◌-◌, ◌<◌, ◌≤◌, List, [], ◌∷◌, ◌++◌, length, take, drop, map, flat_map, not, filter, Option, Some, None}
 use Rattle.std.specs.Ordering.{is_lt}
 use Rattle.pk_base.specs.Key.{Key, key_cmp}
 use Rattle.pk_base.specs.Entry.{Entry, Place}
-use Rattle.pk_model.specs.Answer.{listed, fitting, list_bytes}
+use Rattle.pk_nand.specs.BoardState.{BoardState}
+use Rattle.pk_nand.specs.Calls.{Rose}
+use Rattle.pk_drive.specs.Drive.{NoFault}
+use Rattle.pk_drive.specs.Meter.{reads_after}
+use Rattle.pk_drive.specs.declared.types.Outcome.{Outcome}
+use Rattle.pk_model.specs.Answer.{listed, fitting}
 use Rattle.pk_walk.specs.Visible.{visible}
 use Rattle.pk_core.specs.declared.filled.Filled.{Filled}
 
@@ -43,3 +48,12 @@ pub record ListsAll (all : List Key) (room : ℕ) (into : List ℕ) (at : Filled
   pub count_is : at.count ≡ length (fitting (room - 4) all)
   pub end_is : at.end ≡ 4 + length (flat_map listed (fitting (room - 4) all))
   pub bytes : drop 4 (take at.end into) ≡ flat_map listed (fitting (room - 4) all)
+
+-- A List was answered with these bytes, or a read failed; nothing was done but reads.
+pub record ListsInto (old new : BoardState) (o : Outcome) (into bytes : List ℕ) : Type 0 where
+  pub runs : o.stopped ≡ false
+  pub result_is : o.result ≡ 0
+  pub board_is : new ≡ record old { reads = new.reads; flash_faults = new.flash_faults; read_faults = new.read_faults; failed_at = new.failed_at }
+  pub reads : new.reads ≡ reads_after old.reads o.reads
+  pub up : old.read_faults ≤ new.read_faults
+  pub answered : ((o.status ≡ 0) × (take o.data_len into ≡ bytes) × NoFault old new) ⊎ ((o.status ≡ 0x88) × (o.data_len ≡ 0) × Rose old.read_faults new.read_faults)

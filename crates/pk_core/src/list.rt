@@ -1,22 +1,27 @@
 //! The keys of a List, as a walk gives them.
-ghost use Rattle.std.specs.Prelude.{◌≡◌, ◌+◌, ◌-◌, ◌%◌, ◌≤◌, ℕ, List, ◌∷◌, ◌++◌, length, take, min, IfOk, IfErr, OnOk, OnErr};
+ghost use Rattle.std.specs.Prelude.{◌≡◌, ◌+◌, ◌-◌, ◌%◌, ◌≤◌, ◌<◌, ℕ, List, [], ◌∷◌, ◌++◌, length, take, min, IfOk, IfErr, OnOk, OnErr};
 ghost use Rattle.pk_base.specs.Key.{Key as KeySpec, IsKey};
 ghost use Rattle.pk_base.specs.Entry.{Entry as EntrySpec, Place};
 ghost use Rattle.pk_base.specs.Page.{Flash};
-ghost use Rattle.pk_nand.specs.Calls.{IsReady};
+ghost use Rattle.pk_nand.specs.Calls.{IsReady, last_count};
 ghost use Rattle.pk_nand.specs.declared.types.Fault.TheVariants.{Reading};
 ghost use Rattle.pk_pin.specs.Frames.{Frames};
 ghost use Rattle.pk_run.specs.Kept.{Kept};
 ghost use Rattle.pk_level.specs.Levels.{StandEach};
 ghost use Rattle.pk_walk.specs.Walking.{IsLeft, Reads, ReadsFail, pages_read, most_read};
+ghost use Rattle.pk_nvme.specs.Command.{key as key_in};
+ghost use Rattle.pk_nvme.specs.Seen.{command_of};
 ghost use Rattle.pk_model.specs.Answer.{listed, fitting, list_bytes};
-ghost use Rattle.pk_core.specs.Listed.{OffersKey, OffersFirst, ListsAll, keys_of, keys_there};
+ghost use Rattle.pk_core.specs.Listed.{OffersKey, OffersFirst, ListsAll, ListsInto, keys_of, keys_there};
 
 use crate::filled::Filled;
 use pk_base::{Key, put_text, put_u16, put_u32, put_zeros};
 use pk_buf::Buffer;
+use pk_drive::Outcome;
 use pk_level::Levels;
+use pk_log::Log;
 use pk_nand::{Fault, Nand};
+use pk_nvme::Request;
 use pk_pin::PinArena;
 use pk_region::Region;
 use pk_walk::Walk;
@@ -159,5 +164,128 @@ fn start_walk<A: Region>(walk: &mut Walk<A>, from: &[u8])
         walk.start(None);
     } else {
         walk.start(Some(&Key::of(from)));
+    }
+}
+
+/// Writes the number of keys that are there from this one on, or from the first where it is empty, and as many of them as fit into
+/// `size` bytes, of which no more than 65,536 count. Answers how many bytes they are. `Reading` where a read fails; else nothing
+/// fails.
+pub fn put_keys<B: Nand, A: Region>(
+    walk: &mut Walk<A>,
+    board: &mut B,
+    levels: &Levels<A>,
+    arena: &PinArena<A>,
+    active: &Buffer<A>,
+    frozen: &Buffer<A>,
+    from: &[u8],
+    size: u32,
+    into: &mut [u8],
+) -> Result<u32, Fault>
+    requires ready { IsReady (B.state board.old) levels.now.shape }
+    requires shape { walk.old.shape ≡ levels.now.shape }
+    requires stand { (ess : List (List EntrySpec)) × StandEach (B.state board.old).pages arena.now levels.now.runs ess }
+    requires key { length from.now ≤ 16 }
+    requires some { 4 ≤ size }
+    requires room { 65536 ≤ length into.old }
+    ensures bytes { IfOk result (λ n. (ess : List (List EntrySpec)) → StandEach (B.state board.old).pages arena.now levels.now.runs ess → take n into.new ≡ list_bytes (fitting (min size 65536 - 4) (keys_there from.now (active.now.entries ∷ frozen.now.entries ∷ ess)))) }
+    ensures within { IfOk result (λ n. n ≤ length into.new) }
+    ensures shape { walk.new.shape ≡ walk.old.shape }
+    ensures reads { OnOk result (Reads 0 (most_read levels.now.runs) (B.state board.old) (B.state board.new)) }
+    ensures reading { IfErr result (λ fault. fault ≡ Reading) }
+    ensures err { OnErr result (ReadsFail 0 (most_read levels.now.runs) (B.state board.old) (B.state board.new)) }
+    ensures same { (B.state board.new).pages ≡ (B.state board.old).pages }
+    ensures ready { IsReady (B.state board.new) levels.now.shape }
+    ensures len { length into.new ≡ length into.old }
+{
+    let room = size.min(65536);
+    start_walk(walk, from);
+    match put_left(walk, board, levels, arena, active, frozen, room, into) {
+        Ok(at) => {
+            put_u32(into, 0, at.count);
+            Ok(at.end)
+        }
+        Err(fault) => Err(fault),
+    }
+}
+
+// The pages of all runs are few.
+fn few_pages<A: Region>(levels: &Levels<A>)
+    ensures { most_read levels.now.runs ≤ 4000000 }
+{
+    levels.known();
+    levels.run(1).known();
+    levels.run(2).known();
+    levels.run(3).known();
+    levels.run(4).known();
+}
+
+// How many pages were read since the count was this.
+fn reads_since<B: Nand>(board: &B, before: u64) -> u32
+    requires up { before ≤ (B.state board.now).reads }
+    requires few { (B.state board.now).reads < before + 4294967296 }
+    ensures since { before + result ≡ (B.state board.now).reads }
+    ensures last { (B.state board.now).reads ≤ last_count }
+{
+    (board.read_count() - before) as u32
+}
+
+// How many pages were read so far.
+fn reads_so_far<B: Nand>(board: &B) -> u64
+    ensures value { result ≡ (B.state board.now).reads }
+    ensures last { (B.state board.now).reads ≤ last_count }
+    ensures faults { (B.state board.now).read_faults ≤ last_count }
+{
+    board.read_count()
+}
+
+/// Answers a List that passed the checks that read it alone: 0x88 without data where a read fails.
+pub fn answer_list<B: Nand, A: Region>(
+    walk: &mut Walk<A>,
+    board: &mut B,
+    log: &Log<A>,
+    levels: &Levels<A>,
+    arena: &PinArena<A>,
+    request: &Request,
+    into: &mut [u8],
+) -> Outcome
+    requires ready { IsReady (B.state board.old) levels.now.shape }
+    requires shape { walk.old.shape ≡ levels.now.shape }
+    requires stand { (ess : List (List EntrySpec)) × StandEach (B.state board.old).pages arena.now levels.now.runs ess }
+    requires key { request.now.key_len ≤ 16 }
+    requires some { 4 ≤ request.now.size }
+    requires room { 65536 ≤ length into.old }
+    ensures lists { (ess : List (List EntrySpec)) → StandEach (B.state board.old).pages arena.now levels.now.runs ess → ListsInto (B.state board.old) (B.state board.new) result into.new (list_bytes (fitting (min request.now.size 65536 - 4) (keys_there (key_in (command_of request.now [])) (log.now.active.entries ∷ log.now.frozen.entries ∷ ess)))) }
+    ensures fits { result.data_len ≤ length into.new }
+    ensures shape { walk.new.shape ≡ walk.old.shape }
+    ensures ready { IsReady (B.state board.new) levels.now.shape }
+    ensures len { length into.new ≡ length into.old }
+{
+    few_pages(levels);
+    let before = reads_so_far(board);
+    match put_keys(
+        walk,
+        board,
+        levels,
+        arena,
+        log.active(),
+        log.frozen(),
+        &request.key[..request.key_len as usize],
+        request.size,
+        into,
+    ) {
+        Ok(data_len) => Outcome {
+            status: 0,
+            result: 0,
+            data_len,
+            reads: reads_since(board, before),
+            stopped: false,
+        },
+        Err(_) => Outcome {
+            status: 0x88,
+            result: 0,
+            data_len: 0,
+            reads: reads_since(board, before),
+            stopped: false,
+        },
     }
 }
