@@ -14,3 +14,4 @@ pub mod Writing
 pub mod Entries
 pub mod Listing
 pub mod Replies
+pub mod Doing

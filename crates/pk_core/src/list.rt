@@ -1,5 +1,5 @@
 //! The keys of a List, as a walk gives them.
-ghost use Rattle.std.specs.Prelude.{◌≡◌, ◌+◌, ◌-◌, ◌%◌, ◌≤◌, ◌<◌, ℕ, List, [], ◌∷◌, ◌++◌, length, take, min, IfOk, IfErr, OnOk, OnErr};
+ghost use Rattle.std.specs.Prelude.{◌≡◌, ◌+◌, ◌-◌, ◌%◌, ◌≤◌, ◌<◌, ℕ, List, [], ◌∷◌, ◌++◌, length, take, min, None, false, IfOk, IfErr, OnOk, OnErr};
 ghost use Rattle.pk_base.specs.Key.{Key as KeySpec, IsKey};
 ghost use Rattle.pk_base.specs.Entry.{Entry as EntrySpec, Place};
 ghost use Rattle.pk_base.specs.Page.{Flash};
@@ -11,9 +11,14 @@ ghost use Rattle.pk_level.specs.Levels.{StandEach};
 ghost use Rattle.pk_walk.specs.Walking.{IsLeft, Reads, ReadsFail, pages_read, most_read};
 ghost use Rattle.pk_nvme.specs.Command.{key as key_in};
 ghost use Rattle.pk_nvme.specs.Seen.{command_of};
-ghost use Rattle.pk_model.specs.Answer.{listed, fitting, list_bytes};
+ghost use Rattle.pk_model.specs.Answer.{early, listed, fitting, list_bytes};
+ghost use Rattle.pk_drive.specs.Seen.{reply_of};
+ghost use Rattle.pk_core.specs.Parts.{sight_of};
+ghost use Rattle.pk_core.specs.Agreeing.{Agrees};
+ghost use Rattle.pk_core.specs.Done.{Does};
 ghost use Rattle.pk_core.specs.Listed.{OffersKey, OffersFirst, ListsAll, ListsInto, keys_of, keys_there};
 
+use crate::drive::Drive;
 use crate::filled::Filled;
 use pk_base::{Key, put_text, put_u16, put_u32, put_zeros};
 use pk_buf::Buffer;
@@ -287,5 +292,36 @@ pub fn answer_list<B: Nand, A: Region>(
             reads: reads_since(board, before),
             stopped: false,
         },
+    }
+}
+
+impl<A: Region> Drive<A> {
+    /// Executes a List that passed the checks that read it alone: 0x88 without data where a read fails.
+    pub(crate) fn list<B: Nand>(
+        &mut self,
+        board: &mut B,
+        request: &Request,
+        into: &mut [u8],
+    ) -> Outcome
+        requires opcode { request.now.opcode ≡ 0x06 }
+        requires agrees { Agrees self.old (B.state board.old).shape (B.state board.old).pages }
+        requires passed { early self.old.log.shape (command_of request.now []) ≡ None }
+        requires room { 65536 ≤ length into.old }
+        ensures same { self.new ≡ self.old }
+        ensures runs { result.stopped ≡ false }
+        ensures agrees { Agrees self.new (B.state board.new).shape (B.state board.new).pages }
+        ensures does { Does (B.state board.old) (B.state board.new) (sight_of self.old) (sight_of self.new) (command_of request.now []) (reply_of result into.new) result.reads result.stopped }
+        ensures fits { result.data_len ≤ length into.new }
+        ensures room { length into.new ≡ length into.old }
+    {
+        answer_list(
+            &mut self.walk,
+            board,
+            &self.log,
+            &self.levels,
+            &self.arena,
+            request,
+            into,
+        )
     }
 }
