@@ -48,7 +48,7 @@ eleven = 0 ∷ 0 ∷ 0 ∷ 0 ∷ 0 ∷ 0 ∷ 0 ∷ 0 ∷ 0 ∷ 0 ∷ 0 ∷ []
 
 module _ (d : Parts) (old new : BoardState) (r : Request) (o : Outcome) (into : List ℕ) (a : Agrees d old.shape old.pages) (is : r.opcode ≡ 0x06) (passed : early d.log.shape (command_of r []) ≡ None)
     (lists : (ess : List (List Entry)) → StandEach old.pages d.arena d.levels.runs ess
-        → ListsInto old new o into (list_bytes (fitting (min r.size 65536 - 4) (keys_there (key (command_of r [])) (d.log.active.entries ∷ d.log.frozen.entries ∷ ess))))) where
+    → ListsInto old new o into (list_bytes (fitting (min r.size 65536 - 4) (keys_there (key (command_of r [])) (d.log.active.entries ∷ d.log.frozen.entries ∷ ess))))) where
   abbrev c : Command
   c = command_of r []
 
@@ -126,8 +126,8 @@ module _ (d : Parts) (old new : BoardState) (r : Request) (o : Outcome) (into : 
         rest = only_flash;
         reads_are = l.reads;
         up = l.up;
-        unread = λ status runs. elim l.answered [ | inl read ↦ absurd (zero_not o.status read.0 status) | inr unread ↦ unread.2 ];
-        sound = λ sound. elim l.answered [ | inl read ↦ read.2 | inr unread ↦ absurd (sound unread.0) ];
+        unread = λ status runs. elim l.answered [ inl read ↦ absurd (zero_not o.status read.0 status) | inr unread ↦ unread.2 ];
+        sound = λ sound. elim l.answered [ inl read ↦ read.2 | inr unread ↦ absurd (sound unread.0) ];
         stop = λ stopped. absurd (not_both o.stopped l.runs stopped);
         stop_status = λ stopped. absurd (not_both o.stopped l.runs stopped);
         no_stop = λ runs. ap (λ (b : BoardState). b.stop_faults) l.board_is;

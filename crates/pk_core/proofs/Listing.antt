@@ -175,10 +175,12 @@ left_from w from flash arena rs active frozen ess at left =
 pub left_first : (w : Walk) (from : Key) (flash : Flash) (arena : Frames) (rs : List Kept) (active frozen : List Entry) (ess : List (List Entry)) → w.position ≡ First → length from ≡ 0
     → IsLeft w flash arena rs active frozen (wanted (is_wanted w.position) (visible (active ∷ frozen ∷ ess)))
     → (rest : List (Key × Place)) × IsLeft w flash arena rs active frozen rest × (keys_of rest ≡ keys_there from (active ∷ frozen ∷ ess))
-left_first w from flash arena rs active frozen ess at none left =
-    (wanted (is_wanted w.position) (visible (active ∷ frozen ∷ ess)), left,
-    ap (λ (p : Position). keys_of (wanted (is_wanted p) (visible (active ∷ frozen ∷ ess)))) at ∙ keys_all (visible (active ∷ frozen ∷ ess))
-    ∙ ap (λ (k : Key). keys_there k (active ∷ frozen ∷ ess)) (sym (empty_key from none)))
+left_first w from flash arena rs active frozen ess at none left = (
+  wanted (is_wanted w.position) (visible (active ∷ frozen ∷ ess)),
+  left,
+  ap (λ (p : Position). keys_of (wanted (is_wanted p) (visible (active ∷ frozen ∷ ess)))) at ∙ keys_all (visible (active ∷ frozen ∷ ess))
+      ∙ ap (λ (k : Key). keys_there k (active ∷ frozen ∷ ess)) (sym (empty_key from none)),
+)
 
 -- the key of the entry that the walk gave was offered
 pub gives_key : (into new : List ℕ) (at : Filled) (room : ℕ) (e : RustEntry) (key : Key) (next : Option Filled) (rest later : List (Key × Place)) → key ≡ key_of (seen e) → Gives (Some e) rest later → OffersKey into at room key next new

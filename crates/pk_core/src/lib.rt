@@ -15,5 +15,4 @@ mod placing;
 mod room;
 
 pub use drive::Drive;
-pub use filled::Filled;
 pub use place::ValuePlace;

@@ -146,9 +146,7 @@ fn put_left<B: Nand, A: Region>(
 {
     let mut at = Filled { end: 4, count: 0 };
     loop {
-        match put_next(
-            walk, board, levels, arena, active, frozen, at, room, into,
-        ) {
+        match put_next(walk, board, levels, arena, active, frozen, at, room, into) {
             Ok(Some(next)) => {
                 at = next;
             }
