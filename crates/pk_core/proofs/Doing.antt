@@ -1,5 +1,5 @@
 -- A List meets the contract of a drive.
-use Rattle.std.proofs.Common.{◌≡◌, ◌≢◌, ◌⊎◌, inl, inr, ℕ, ◌+◌, ◌-◌, ◌≤◌, min, refl, sym, ap, subst, ◌∙◌, arith, Bool, true, false, List, [], ◌∷◌, length, take, Option, Some, None, Result, Ok, Err}
+use Rattle.std.proofs.Common.{◌≡◌, inl, inr, ℕ, ◌-◌, min, refl, sym, ap, subst, ◌∙◌, arith, Bool, true, false, List, [], ◌∷◌, take, Option, Some, None, Result, Ok}
 use Rattle.pk_base.specs.Shape.{Shape, limit}
 use Rattle.pk_base.specs.Page.{Flash}
 use Rattle.pk_base.specs.Entry.{Entry}
@@ -8,18 +8,16 @@ use Rattle.pk_base.specs.Refusal.{Refusal}
 use Rattle.pk_nvme.specs.declared.request.Request.{Request}
 use Rattle.pk_nvme.specs.Seen.{command_of}
 use Rattle.pk_nvme.specs.Command.{Command, key}
-use Rattle.pk_nvme.specs.Reply.{Reply}
 use Rattle.pk_nand.specs.BoardState.{BoardState}
-use Rattle.pk_nand.specs.Calls.{Rose}
 use Rattle.pk_nand.proofs.Reaching.{Reached-start}
 use Rattle.pk_level.specs.Levels.{StandEach}
-use Rattle.pk_model.specs.Answer.{Kind, kind, list, retrieve, early, fitting, list_bytes, success}
+use Rattle.pk_model.specs.Answer.{Kind, kind, list, retrieve, early, fitting, list_bytes}
 use Rattle.pk_model.specs.Run.{Step}
 use Rattle.pk_model.specs.Reading.{reading}
 use Rattle.pk_model.proofs.Answering.{serves}
 use Rattle.pk_steps.proofs.Untouched.{under_reads}
-use Rattle.pk_drive.specs.Drive.{Stands, OnlyFlash, NoFault}
-use Rattle.pk_drive.specs.Exec.{ExecCut, Executed, ExecStands}
+use Rattle.pk_drive.specs.Drive.{OnlyFlash}
+use Rattle.pk_drive.specs.Exec.{ExecCut, ExecStands}
 use Rattle.pk_drive.specs.Growth.{Reaches}
 use Rattle.pk_drive.specs.Seen.{reply_of}
 use Rattle.pk_drive.specs.Wear.{roots}

@@ -1,25 +1,24 @@
 -- Keys that a walk gives, listed one after another.
-use Rattle.std.proofs.Common.{◌≡◌, ℕ, ◌+◌, ◌-◌, ◌<◌, ◌≤◌, refl, sym, ap, subst, ◌∙◌, arith, Bool, true, false, not, nat_le, List, [], ◌∷◌, ◌++◌, length, take, drop, map, flat_map, filter, if◌then◌else◌, Option, Some, None, T, leb-false, leb→le, ◌==◌, eqb→eq}
+use Rattle.std.proofs.Common.{◌≡◌, ℕ, ◌+◌, ◌-◌, ◌<◌, ◌≤◌, refl, sym, ap, subst, ◌∙◌, arith, Bool, true, false, not, nat_le, List, [], ◌∷◌, ◌++◌, length, take, drop, flat_map, if◌then◌else◌, Option, Some, None, T, leb-false, leb→le, ◌==◌, eqb→eq}
 use Rattle.std.specs.Ordering.{is_lt}
 use Rattle.std.proofs.lemmas.List.{append_assoc, append-nil, flat_map_more, drop-append-le, length-take-le, drop-take, length-append}
 use Rattle.std.proofs.Math.Seq.{take-add}
-use Rattle.pk_base.specs.Key.{Key, key_cmp, IsKey}
+use Rattle.pk_base.specs.Key.{Key, key_cmp}
 use Rattle.pk_base.specs.Shape.{Shape}
 use Rattle.pk_base.specs.Entry.{Entry, Place, key_of}
 use Rattle.pk_base.specs.Seen.{entry as seen}
 use Rattle.pk_base.specs.declared.entry.Entry.{Entry as RustEntry}
-use Rattle.pk_base.specs.Fields.{u16, u32}
+use Rattle.pk_base.specs.Fields.{u32}
 use Rattle.pk_base.specs.Page.{Flash}
 use Rattle.pk_nand.specs.BoardState.{BoardState}
 use Rattle.pk_nand.specs.Calls.{IsReady, ReadFailed}
 use Rattle.pk_nand.specs.Erased.{after_reads}
 use Rattle.pk_pin.specs.Frames.{Frames}
 use Rattle.pk_run.specs.Kept.{Kept}
-use Rattle.pk_level.specs.Levels.{StandEach}
 use Rattle.pk_level.proofs.Looking.{reads_more}
 use Rattle.pk_model.specs.Answer.{listed, fitting, list_bytes}
 use Rattle.pk_walk.specs.declared.position.Position.{Position}
-use Rattle.pk_walk.specs.declared.position.Position.TheVariants.{First, From, Above}
+use Rattle.pk_walk.specs.declared.position.Position.TheVariants.{First, From}
 use Rattle.pk_walk.specs.Visible.{visible, is_wanted, wanted}
 use Rattle.pk_walk.specs.Walking.{Walk, IsLeft, Gives, Reads, ReadsFail, pages_read, most_read}
 use Rattle.pk_walk.proofs.Walks.{one_of_each}

@@ -1,26 +1,24 @@
 -- What a List is answered, by the map of the drive.
-use Rattle.std.proofs.Common.{◌≡◌, ◌≢◌, ◌⊎◌, inl, inr, ℕ, zero, suc, ◌+◌, ◌-◌, ◌<◌, ◌≤◌, min, refl, sym, ap, subst, ◌∙◌, arith, Bool, true, false, List, [], ◌∷◌, ◌++◌, length, take, map, reverse, Option, Some, None, Result, Ok, Err}
+use Rattle.std.proofs.Common.{◌≡◌, inl, inr, ℕ, zero, suc, ◌+◌, ◌<◌, ◌≤◌, min, refl, sym, ap, subst, ◌∙◌, arith, false, List, [], ◌∷◌, ◌++◌, length, take, reverse, Option}
 use Rattle.std.specs.Prelude.{slice_index_or}
 use Rattle.std.specs.List.{flat_map}
-use Rattle.std.specs.FinMap.{keys}
 use Rattle.std.specs.FinMap.Entries.{find}
 use Rattle.pk_base.specs.Key.{Key, key_cmp}
 use Rattle.pk_base.specs.Shape.{Shape, IsShape}
-use Rattle.pk_base.specs.Page.{Flash, IsFlash}
+use Rattle.pk_base.specs.Page.{Flash}
 use Rattle.pk_base.specs.Entry.{Entry, Place}
 use Rattle.pk_base.specs.Firsts.{firsts}
 use Rattle.pk_base.specs.Map.{Map, keys_from}
 use Rattle.pk_rootfmt.specs.Root.{Root}
 use Rattle.pk_nand.specs.BoardState.{BoardState}
-use Rattle.pk_nand.specs.Calls.{Rose, counted, last_count, ReadFailed}
-use Rattle.pk_nand.specs.Erased.{counted_by, after_reads}
+use Rattle.pk_nand.specs.Calls.{counted, last_count}
+use Rattle.pk_nand.specs.Erased.{counted_by}
 use Rattle.pk_run.specs.Kept.{Kept, IsKept}
 use Rattle.pk_model.specs.Found.{Found, entries_in_order}
 use Rattle.pk_model.proofs.Lookups.{flat, find-firsts}
 use Rattle.pk_model.proofs.Merges.{first_some, first_some_assoc, find-append_lists, same_placed}
 use Rattle.pk_steps.specs.Under.{places}
 use Rattle.pk_steps.proofs.Counting.{counts}
-use Rattle.pk_drive.specs.Meter.{reads_after}
 use Rattle.pk_drive.specs.declared.types.Outcome.{Outcome}
 use Rattle.pk_walk.specs.Visible.{visible}
 use Rattle.pk_walk.specs.Walking.{Reads, ReadsFail, read_of, most_read}

@@ -1,4 +1,4 @@
-use Rattle.std.proofs.Common.{◌∙◌, ◌-◌, List, ◌∷◌}
+use Rattle.std.proofs.Common.{◌∙◌, ◌-◌}
 use Rattle.pk_model.specs.Answer.{fitting, list_bytes}
 use Rattle.pk_core.specs.Listed.{keys_of}
 use Rattle.pk_core.proofs.Listing.{list_done}
