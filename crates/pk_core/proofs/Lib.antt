@@ -18,3 +18,6 @@ pub mod Stepping
 pub mod Entries
 pub mod Putting
 pub mod Served
+pub mod Listing
+pub mod Replies
+pub mod Doing

@@ -10,3 +10,4 @@ pub mod Stepping
 pub mod Noting
 pub mod Changes
 pub mod Serving
+pub mod Listed

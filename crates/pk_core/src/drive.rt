@@ -9,6 +9,7 @@ use pk_log::Log;
 use pk_pin::PinArena;
 use pk_pool::Pool;
 use pk_region::Region;
+use pk_walk::Walk;
 use std::marker::Model;
 
 /// A drive. Contracts see its parts, and how they stand to the flash by `Agrees`. No call but `open` takes memory.
@@ -24,6 +25,8 @@ pub struct Drive<A: Region> {
     pub(crate) stopped: bool,
     /// The bytes of a page.
     pub(crate) page: Vec<u8, A>,
+    /// The walk of a List.
+    pub(crate) walk: Walk<A>,
 }
 
 impl<A: Region> Model for Drive<A> {
@@ -34,7 +37,7 @@ impl<A: Region> Model for Drive<A> {
 
     ghost view = { λ d. record { log = d.log; levels = d.levels; arena = d.arena; space = d.space; pool = d.pool; keys = d.keys; frames = d.frames; stopped = d.stopped } };
 
-    ghost invariant = { λ d. length d.page.items ≡ d.log.shape.page_bytes };
+    ghost invariant = { λ d. (length d.page.items ≡ d.log.shape.page_bytes) × (d.walk.shape ≡ d.log.shape) };
 }
 
 impl<A: Region> Drive<A> {

@@ -6,6 +6,8 @@
 
 mod change;
 mod drive;
+mod filled;
+mod list;
 mod lookup;
 mod moves;
 mod noting;

@@ -1,0 +1,139 @@
+-- A List meets the contract of a drive.
+use Rattle.std.proofs.Common.{◌≡◌, inl, inr, ℕ, ◌-◌, min, refl, sym, ap, subst, ◌∙◌, arith, Bool, true, false, List, [], ◌∷◌, take, Option, Some, None, Result, Ok}
+use Rattle.pk_base.specs.Shape.{Shape, limit}
+use Rattle.pk_base.specs.Page.{Flash}
+use Rattle.pk_base.specs.Entry.{Entry}
+use Rattle.pk_base.specs.Map.{Map, keys_from}
+use Rattle.pk_base.specs.Refusal.{Refusal}
+use Rattle.pk_nvme.specs.declared.request.Request.{Request}
+use Rattle.pk_nvme.specs.Seen.{command_of}
+use Rattle.pk_nvme.specs.Command.{Command, key}
+use Rattle.pk_nand.specs.BoardState.{BoardState}
+use Rattle.pk_nand.proofs.Reaching.{Reached-start}
+use Rattle.pk_level.specs.Levels.{StandEach}
+use Rattle.pk_model.specs.Answer.{Kind, kind, list, retrieve, early, fitting, list_bytes}
+use Rattle.pk_model.specs.Run.{Step}
+use Rattle.pk_model.specs.Reading.{reading}
+use Rattle.pk_model.proofs.Answering.{serves}
+use Rattle.pk_steps.proofs.Untouched.{under_reads}
+use Rattle.pk_drive.specs.Drive.{OnlyFlash}
+use Rattle.pk_drive.specs.Exec.{ExecCut, ExecStands}
+use Rattle.pk_drive.specs.Growth.{Reaches}
+use Rattle.pk_drive.specs.Seen.{reply_of}
+use Rattle.pk_drive.specs.Wear.{roots}
+use Rattle.pk_drive.specs.declared.types.Outcome.{Outcome}
+use Rattle.pk_core.specs.Parts.{Parts, sight_of}
+use Rattle.pk_core.specs.Agreeing.{Agrees}
+use Rattle.pk_core.specs.Done.{Does}
+use Rattle.pk_core.specs.Listed.{keys_there, ListsInto}
+use Rattle.pk_core.proofs.Replies.{keys_listed}
+
+some_same : (x y : Shape) → ◌≡◌ {A = Option Shape} (Some x) (Some y) → x ≡ y
+some_same x y e = cc
+
+ok_same : (x y : Map) → ◌≡◌ {A = Result Map Refusal} (Ok x) (Ok y) → x ≡ y
+ok_same x y e = cc
+
+not_both : (b : Bool) → b ≡ false → b ≡ true → ⊥
+not_both true e f = cc
+not_both false e f = cc
+
+not_retrieve : (k : Option Kind) → k ≡ Some list → k ≡ Some retrieve → ⊥
+not_retrieve k e f = cc
+
+abbrev eleven : List ℕ
+eleven = 0 ∷ 0 ∷ 0 ∷ 0 ∷ 0 ∷ 0 ∷ 0 ∷ 0 ∷ 0 ∷ 0 ∷ 0 ∷ []
+
+module _ (d : Parts) (old new : BoardState) (r : Request) (o : Outcome) (into : List ℕ) (a : Agrees d old.shape old.pages) (is : r.opcode ≡ 0x06) (passed : early d.log.shape (command_of r []) ≡ None)
+    (lists : (ess : List (List Entry)) → StandEach old.pages d.arena d.levels.runs ess
+    → ListsInto old new o into (list_bytes (fitting (min r.size 65536 - 4) (keys_there (key (command_of r [])) (d.log.active.entries ∷ d.log.frozen.entries ∷ ess))))) where
+  abbrev c : Command
+  c = command_of r []
+
+  abbrev l : ListsInto old new o into (list_bytes (fitting (min r.size 65536 - 4) (keys_there (key c) (d.log.active.entries ∷ d.log.frozen.entries ∷ a.found.runs))))
+  l = lists a.found.runs a.with.stand
+
+  is_list : kind c.opcode ≡ Some list
+  is_list = ap kind is
+
+  is_early : early a.shape c ≡ None
+  is_early = subst (λ (s : Shape). early s c ≡ None) a.with.shape_is passed
+
+  bytes_are : list_bytes (fitting (min r.size 65536 - 4) (keys_there (key c) (d.log.active.entries ∷ d.log.frozen.entries ∷ a.found.runs))) ≡ list_bytes (fitting (min c.size 65536 - 4) (keys_from (key c) a.all))
+  bytes_are = ap (λ ks. list_bytes (fitting (min r.size 65536 - 4) ks)) (keys_listed d a.shape old.pages a.top a.found a.without a.all (key c) a.with)
+
+  stepped : (frames : ℕ) → Step a.shape frames a.all c (reply_of o into) a.all
+  stepped frames =
+      let did = serves a.shape (limit a.shape) frames a.all eleven c list is_list is_early refl in
+      elim l.answered [
+        | inl read ↦ inl (record {
+          own = eleven;
+          eleven = refl;
+          replied = (λ i. record { status = read.0 i; result = l.result_is i; data_bytes = (read.1 ∙ bytes_are) i }) ∙ sym did.replied;
+          leaves = sym did.leaves;
+        })
+        | inr unread ↦ inr (record {
+          not_early = is_early;
+          replied = λ i. record { status = unread.0 i; result = l.result_is i; data_bytes = take (unread.1 i) into };
+          leaves = refl;
+        })
+      ]
+
+  same_pages : new.pages ≡ old.pages
+  same_pages = ap (λ (b : BoardState). b.pages) l.board_is
+
+  same_shape : new.shape ≡ old.shape
+  same_shape = ap (λ (b : BoardState). b.shape) l.board_is
+
+  stands : ExecStands old new (sight_of d) (sight_of d) c (reply_of o into) o.reads
+  stands shape frames m st =
+      let shape_is : a.shape ≡ shape = some_same a.shape shape (sym a.told_is ∙ st.shape_is) in
+      let map_is : a.all ≡ m = ok_same a.all m (sym (under_reads a.shape old.pages d.log.pending a.top a.found a.all a.with.pending) ∙ ap (λ (s : Shape). reading s old.pages d.log.pending) shape_is ∙ st.map_is) in
+      record {
+        left = m;
+        stepped = subst (λ (s : Shape). Step s frames m c (reply_of o into) m) shape_is (subst (λ (x : Map). Step a.shape frames x c (reply_of o into) x) map_is (stepped frames));
+        stands = record {
+          shape_is = same_shape ∙ st.shape_is;
+          frames_is = st.frames_is;
+          map_is = ap (λ (f : Flash). reading shape f d.log.pending) same_pages ∙ st.map_is;
+        };
+        bounded = λ other. absurd (not_retrieve (kind c.opcode) is_list other);
+      }
+
+  reaches : (shape : Shape) (m : Map) → Reaches shape old new (ExecCut shape old.pages m c)
+  reaches shape m = (
+    [],
+    Reached-start old new (ExecCut shape old.pages m c) same_shape same_pages (ap (λ (b : BoardState). b.trail) l.board_is) (ap (λ (b : BoardState). b.posted) l.board_is) (refl, inl refl),
+    tt,
+  )
+
+  only_flash : OnlyFlash old new
+  only_flash =
+      subst (λ (b : BoardState). OnlyFlash old b) (sym l.board_is) refl
+
+  zero_not : (n : ℕ) → n ≡ 0 → n ≡ 0x88 → ⊥
+  zero_not n e f = omega (arith, e, f)
+
+  pub list_does : Does old new (sight_of d) (sight_of d) c (reply_of o into) o.reads o.stopped
+  list_does =
+      let same_roots : roots new ≡ roots old = ap roots l.board_is in
+      record {
+        stands = λ runs. stands;
+        cuts = λ runs shape frames m st. reaches shape m;
+        cuts_stopped = λ stopped. absurd (not_both o.stopped l.runs stopped);
+        rest = only_flash;
+        reads_are = l.reads;
+        up = l.up;
+        unread = λ status runs. elim l.answered [ inl read ↦ absurd (zero_not o.status read.0 status) | inr unread ↦ unread.2 ];
+        sound = λ sound. elim l.answered [ inl read ↦ read.2 | inr unread ↦ absurd (sound unread.0) ];
+        stop = λ stopped. absurd (not_both o.stopped l.runs stopped);
+        stop_status = λ stopped. absurd (not_both o.stopped l.runs stopped);
+        no_stop = λ runs. ap (λ (b : BoardState). b.stop_faults) l.board_is;
+        installs = omega (arith, same_roots);
+      }
+
+  pub list_pages : new.pages ≡ old.pages
+  list_pages = same_pages
+
+  pub list_agrees : Agrees d new.shape new.pages
+  list_agrees = subst (λ (s : Option Shape). Agrees d s new.pages) (sym same_shape) (subst (λ (f : Flash). Agrees d old.shape f) (sym same_pages) a)
