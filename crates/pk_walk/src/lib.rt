@@ -13,3 +13,6 @@ mod walk;
 
 pub use position::Position;
 pub use walk::Walk;
+
+#[cfg(test)]
+mod tests;
