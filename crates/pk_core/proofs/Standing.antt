@@ -54,3 +54,10 @@ found_once a b shape flash top top' found found' w m w' m' one other =
 -- so what it stands for was found once
 pub same_found : (d : Parts) (shape : Shape) (flash : Flash) (m : Map) (one other : StandsFor d shape flash m) → other.found ≡ one.found
 same_found d shape flash m one other = found_once d d shape flash one.top other.top one.found other.found one.without m other.without m one.with other.with
+
+pub stands_here : (d : Parts) (told : Option Shape) (flash : Flash) → Agrees d told flash → (m : Map) × StandsFor d d.log.shape flash m
+stands_here d told flash agrees = (agrees.all, subst (λ s. StandsFor d s flash agrees.all) (sym agrees.with.shape_is) (record { top = agrees.top; found = agrees.found; without = agrees.without; with = agrees.with }))
+
+-- where the map of the drive stays, it stands for it still
+pub still_stands : (d : Parts) (board : BoardState) (shape : Shape) (frames : ℕ) (m : Map) → board.shape ≡ Some shape → d.frames ≡ frames → StandsFor d shape board.pages m → Stands shape frames board (sight_of d) m
+still_stands d board shape frames m told same is = record { shape_is = told; frames_is = same; map_is = reads_as d shape board.pages m is }

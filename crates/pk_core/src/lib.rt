@@ -5,7 +5,9 @@
 #![tactic(auto)]
 
 mod change;
+mod commit;
 mod drive;
+mod engine;
 mod filled;
 mod list;
 mod lookup;
