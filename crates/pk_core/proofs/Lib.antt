@@ -21,3 +21,4 @@ pub mod Served
 pub mod Listing
 pub mod Replies
 pub mod Doing
+pub mod Early
