@@ -1,5 +1,0 @@
-pub mod Parts
-pub mod Agreeing
-pub mod Finding
-pub mod Done
-pub mod Moves
