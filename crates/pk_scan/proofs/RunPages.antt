@@ -20,7 +20,7 @@ is_true : (b : Bool) → T b → b ≡ true
 is_true true p = refl
 is_true false p = absurd p
 
-of_true : (b : Bool) → b ≡ true → T b
+pub of_true : (b : Bool) → b ≡ true → T b
 of_true true e = tt
 of_true false e = cc
 

@@ -2,7 +2,8 @@
 use Rattle.std.specs.Prelude.{◌≡◌, ⊤, ℕ, ◌+◌, ◌-◌, ◌<◌, ◌≤◌, List, [], slice_index, slice_index_or, take, drop, Result, Ok, Err}
 use Rattle.std.specs.List.{AllByRecursion}
 use Rattle.pk_base.specs.Shape.{Shape, cap, caps, epoch_pages}
-use Rattle.pk_base.specs.Entry.{Entry}
+use Rattle.pk_base.specs.Key.{Key}
+use Rattle.pk_base.specs.Entry.{Entry, Place}
 use Rattle.pk_base.specs.EntryBytes.{IsEntry}
 use Rattle.pk_base.specs.Page.{Flash, page_at, page_in}
 use Rattle.pk_base.specs.Refusal.{Refusal, not_formatted, damaged}
@@ -19,7 +20,10 @@ use Rattle.pk_pin.specs.Frames.{Frames, free_frames}
 use Rattle.pk_run.specs.Kept.{Kept, Stands}
 use Rattle.pk_level.specs.Levels.{Levels, StandEach, with_run}
 use Rattle.pk_model.specs.Found.{Found, found_under, newest_epoch, older_epoch, runs_from}
+use Rattle.pk_live.specs.Values.{Values}
+use Rattle.pk_model.specs.Values.{values_of}
 use Rattle.pk_model.specs.Reading.{reading}
+use Rattle.pk_scan.specs.Lives.{Lives}
 use Rattle.pk_scan.specs.Runs.{RunsStand}
 use Rattle.pk_scan.specs.declared.errors.PageError.{PageError}
 use Rattle.pk_scan.specs.declared.errors.PageError.TheVariants.{Damaged as PageDamaged, Fault as PageFault}
@@ -113,3 +117,11 @@ pub record HoldsFound (shape : Shape) (flash : Flash) (root : Root) (active froz
   pub stand : StandEach flash arena levels.runs found.runs
   pub epoch_is : IsFoundEpoch shape flash root epoch
   pub epoch_fits : Fits epoch flash
+
+-- ---- values
+
+-- The reading of the flash finds values at these places, one after another, and the live map stands for them.
+pub record ReadsValues (shape : Shape) (flash : Flash) (named : List ℕ) (live : Values) (es : List (Key × Place)) : Type 0 where
+  pub values : List (Key × List ℕ)
+  pub read : values_of shape (page_at flash) named [] es ≡ Ok values
+  pub lives : Lives shape named live es

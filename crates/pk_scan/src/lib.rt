@@ -13,6 +13,7 @@ mod pages;
 mod runs;
 mod taken;
 mod values;
+mod visible;
 
 pub use accept::accept_value;
 pub use adopt::{adopt_blocks, adopt_values};
@@ -23,6 +24,7 @@ pub use lists::{find_root, read_lists};
 pub use runs::load_run;
 pub use taken::{starts_with_none, take_value};
 pub use values::check_value;
+pub use visible::read_values;
 
 #[cfg(test)]
 mod tests;
