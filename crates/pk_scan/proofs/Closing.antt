@@ -1,8 +1,8 @@
 -- The blocks of live values: a root does not name them, so they are free, and they are not too many.
-use Rattle.std.proofs.Common.{◌≡◌, ◌≢◌, ◌⊎◌, inl, inr, ℕ, zero, suc, ◌+◌, ◌-◌, ◌*◌, ◌/◌, ◌<◌, ◌≤◌, Bool, true, false, not, ◌&&◌, ◌||◌, ◌==◌, cond, List, [], ◌∷◌, ◌++◌, length, take, drop, get_or, map, refl, sym, ap, subst, ◌∙◌, arith, Option, Some, None, option_map}
-use Rattle.std.specs.Prelude.{slice_get, count_by, filter, nat_le}
-use Rattle.std.specs.List.{list_any, list_all, concat, range_with_len, AllByRecursion}
-use Rattle.std.proofs.lemmas.Bool.{false≢true, or_parts, or_cases, and_parts, eqb-true, cases_eq, cases_lt, cases_Bool}
+use Rattle.std.proofs.Common.{◌≡◌, ◌≢◌, inl, inr, ℕ, zero, suc, ◌+◌, ◌-◌, ◌/◌, ◌<◌, ◌≤◌, Bool, true, false, not, ◌&&◌, ◌||◌, ◌==◌, cond, List, [], ◌∷◌, ◌++◌, length, take, drop, get_or, map, refl, sym, ap, subst, ◌∙◌, arith, Option, Some, None, option_map}
+use Rattle.std.specs.Prelude.{slice_get, count_by, nat_le}
+use Rattle.std.specs.List.{list_any, list_all, concat, range_with_len}
+use Rattle.std.proofs.lemmas.Bool.{false≢true, or_parts, or_cases, and_parts, eqb-true, cases_eq}
 use Rattle.std.proofs.lemmas.Bool.Decides.{nat_tests, eqb_tells}
 use Rattle.std.proofs.lemmas.List.{take_all, length-take-le, take-append-drop, get_or_past}
 use Rattle.std.proofs.lemmas.List.FromFn.{length-map-range_with_len, get_or-map-range_with_len}
@@ -16,14 +16,13 @@ use Rattle.pk_base.specs.Page.{Flash}
 use Rattle.pk_live.specs.Values.{Values as LiveValues}
 use Rattle.pk_segfmt.specs.Value.{value_pages}
 use Rattle.pk_model.specs.Values.{all_pages, fits, blocks_with}
-use Rattle.pk_plan.specs.declared.owner.Owner.{Owner}
 use Rattle.pk_plan.specs.declared.owner.Owner.TheVariants.{Journal, Meta, Values}
 use Rattle.pk_plan.specs.Quotas.{quota_of}
 use Rattle.pk_pool.specs.declared.state.BlockState.{BlockState}
-use Rattle.pk_pool.specs.declared.state.BlockState.TheVariants.{Owned, Free}
+use Rattle.pk_pool.specs.declared.state.BlockState.TheVariants.{Owned}
 use Rattle.pk_pool.specs.Blocks.{Blocks, used_by, unused, with_state, IsSpare, Fits}
 use Rattle.pk_rootfmt.specs.Root.{Root, named, differ}
-use Rattle.pk_scan.specs.Lives.{head_of, is_used, live_of, Lives}
+use Rattle.pk_scan.specs.Lives.{is_used, Lives}
 use Rattle.pk_scan.specs.Adopts.{is_among, owned_if, state_of, Adopts, NamesOwned}
 use Rattle.pk_scan.proofs.Loading.{take_more}
 use Rattle.pk_scan.proofs.Standing.{count_map, value_in_block, Placed}

@@ -1,14 +1,11 @@
 -- Frames that are leased one after another.
-use Rattle.std.proofs.Common.{◌≡◌, ◌≢◌, ℕ, zero, suc, ◌+◌, ◌<◌, Bool, true, false, not, cond, List, [], ◌∷◌, ◌++◌, length, refl, ap, sym, subst, ◌∙◌, arith, Some, get_or-set_other, length-set, length-append}
-use Rattle.std.specs.Prelude.{count_by, slice_get}
+use Rattle.std.proofs.Common.{◌≡◌, ◌≢◌, ℕ, zero, suc, ◌+◌, Bool, true, false, not, cond, List, [], ◌∷◌, ◌++◌, refl, ap, sym, subst, ◌∙◌, arith, Some, get_or-set_other, length-set, length-append}
+use Rattle.std.specs.Prelude.{slice_get}
 use Rattle.std.proofs.Math.ListN.{set}
 use Rattle.std.proofs.lemmas.List.Sums.{sum_by-set}
-use Rattle.std.proofs.lemmas.Option.{slice_get_within, get_or_from_slice_get, same_Some}
-use Rattle.pk_base.specs.Entry.{Entry}
-use Rattle.pk_base.specs.Page.{Flash}
-use Rattle.pk_pin.specs.Frames.{Frames, IsLeased, frame_of, leased, filled, times, AreLeases}
+use Rattle.std.proofs.lemmas.Option.{slice_get_within, get_or_from_slice_get}
+use Rattle.pk_pin.specs.Frames.{Frames, IsLeased, frame_of, leased, filled, times}
 use Rattle.pk_pin.proofs.Leases.{times-append, leases_taken}
-use Rattle.pk_run.specs.Kept.{Kept, Stands}
 use Rattle.pk_run.proofs.Standing.{Stands-elsewhere}
 use Rattle.pk_scan.specs.Runs.{LeasedMore, RunsStand, KeepsPage}
 

@@ -16,3 +16,10 @@ pub mod Adopting
 pub mod Naming
 pub mod Closing
 pub mod TestAnswers
+pub mod RootFacts
+pub mod EpochsHeld
+pub mod RunsHeld
+pub mod Opened
+pub mod ValuesHeld
+pub mod Under
+pub mod Wanted

@@ -1,11 +1,9 @@
 -- A run whose pages are read one after another.
-use Rattle.std.proofs.Common.{◌≡◌, ℕ, zero, suc, ◌+◌, ◌-◌, ◌*◌, ◌/◌, ◌%◌, ◌^◌, ◌<◌, ◌≤◌, min, Bool, true, false, not, ◌||◌, ◌==◌, T, is_some, List, [], ◌∷◌, ◌++◌, length, take, refl, ap, sym, subst, ◌∙◌, arith, Option, Some, None, option_map, Ok, Err, append_assoc, append-nil, length-append, suc-mul, mul-le-mul_right, mul_comm, zero-mul, div-lt_iff_lt-mul}
+use Rattle.std.proofs.Common.{◌≡◌, ℕ, zero, suc, ◌+◌, ◌-◌, ◌*◌, ◌/◌, ◌^◌, ◌<◌, ◌≤◌, min, Bool, true, false, is_some, List, [], ◌∷◌, ◌++◌, length, take, refl, ap, sym, subst, ◌∙◌, arith, Option, Some, None, option_map, Err, append_assoc, append-nil, length-append, suc-mul, mul-le-mul_right, mul_comm, zero-mul, div-lt_iff_lt-mul}
 use Rattle.std.specs.Prelude.{slice_get, slice_index}
-use Rattle.std.specs.Int.{div_ceil}
 use Rattle.std.specs.List.{AllByRecursion}
-use Rattle.std.specs.FinMap.Entries.{is_sorted}
-use Rattle.pk_base.specs.Key.{Key, key_cmp}
-use Rattle.pk_base.specs.Shape.{Shape, IsShape, page_entries, page_count, run_pages, run_blocks, blocks_of, cap}
+use Rattle.pk_base.specs.Key.{Key}
+use Rattle.pk_base.specs.Shape.{Shape, IsShape, page_entries, run_pages, run_blocks, blocks_of, cap}
 use Rattle.pk_base.specs.Entry.{Entry, key_of}
 use Rattle.pk_base.specs.EntryBytes.{IsEntry}
 use Rattle.pk_base.specs.Page.{Page, Flash, IsFlash, page_at, page_in, erased, whole, torn, pages_of_blocks}
@@ -25,7 +23,7 @@ use Rattle.pk_run.specs.Kept.{Kept, empty, most_blocks, Stands, IsNext, IsPinned
 use Rattle.pk_run.proofs.Pieces.{share, meta_next}
 use Rattle.pk_scan.specs.declared.errors.PageError.{PageError}
 use Rattle.pk_scan.specs.declared.errors.PageError.TheVariants.{Damaged, Fault}
-use Rattle.pk_scan.specs.Runs.{AllExist, HasRun, ComesTo, RunRefused, RunFailed, NotRead, LeasedMore, IsPinnedIf, IsLast, GoesOn, listed, KeepsPage, PageAdded, PageTaken, PageRefused}
+use Rattle.pk_scan.specs.Runs.{AllExist, HasRun, ComesTo, NotRead, LeasedMore, IsPinnedIf, IsLast, GoesOn, listed, KeepsPage, PageAdded, PageTaken, PageRefused}
 use Rattle.pk_scan.proofs.Leasing.{leased_none, leased_more, runs_stand}
 use Rattle.pk_scan.proofs.Rereading.{meta_refused, last_of, pages_most, blocks_most, more_left, all_counted}
 

@@ -1,11 +1,10 @@
 -- The blocks that a root names, which a new pool has as free ones.
-use Rattle.std.proofs.Common.{◌≡◌, ◌≢◌, ◌⊎◌, inl, inr, ℕ, zero, suc, ◌+◌, ◌*◌, ◌<◌, ◌≤◌, Bool, true, false, not, ◌&&◌, ◌||◌, ◌==◌, cond, List, [], ◌∷◌, ◌++◌, length, map, replicate, refl, sym, ap, subst, ◌∙◌, arith, Option, Some, None, option_map, length-append, append-nil, append_assoc}
-use Rattle.std.specs.Prelude.{slice_get, count_by, nat_le, nat_lt, nat_eq, zip, bytes_eq}
-use Rattle.std.specs.List.{list_any, list_all, concat, AllByRecursion}
+use Rattle.std.proofs.Common.{◌≡◌, ◌⊎◌, inl, inr, ℕ, zero, suc, ◌+◌, ◌*◌, ◌<◌, ◌≤◌, Bool, true, false, ◌&&◌, ◌||◌, ◌==◌, cond, List, [], ◌∷◌, ◌++◌, length, map, replicate, refl, sym, ap, subst, ◌∙◌, arith, Option, Some, None, option_map, length-append}
+use Rattle.std.specs.Prelude.{slice_get, nat_le, nat_lt, nat_eq, zip, bytes_eq}
+use Rattle.std.specs.List.{list_all, concat, AllByRecursion}
 use Rattle.std.proofs.Math.ListN.{set}
 use Rattle.std.proofs.lemmas.Bool.{false≢true}
 use Rattle.std.proofs.lemmas.Bool.Decides.{nat_tests}
-use Rattle.std.proofs.lemmas.List.Folds.{list_all-append}
 use Rattle.std.proofs.lemmas.List.Sums.{sum_by-cons}
 use Rattle.std.proofs.lemmas.Slice.Eq.{bytes_eq-Decides}
 use Rattle.pk_base.specs.Shape.{Shape, IsShape, page_entries, caps, deepest, meta_blocks, run_blocks}
@@ -13,7 +12,7 @@ use Rattle.pk_plan.specs.declared.owner.Owner.{Owner}
 use Rattle.pk_plan.specs.declared.owner.Owner.TheVariants.{Journal, Meta, Values}
 use Rattle.pk_plan.specs.Quotas.{quota_of}
 use Rattle.pk_pool.specs.declared.state.BlockState.{BlockState}
-use Rattle.pk_pool.specs.declared.state.BlockState.TheVariants.{Root as RootBlock, Free, Ready, Owned}
+use Rattle.pk_pool.specs.declared.state.BlockState.TheVariants.{Root as RootBlock, Free}
 use Rattle.pk_pool.specs.Blocks.{Blocks, used_by, is_owned_by, unused, IsSpare}
 use Rattle.pk_pool.proofs.States.{get-set_other}
 use Rattle.pk_pool.proofs.Sharing.{count-set}
@@ -22,7 +21,7 @@ use Rattle.pk_rootfmt.specs.Held.{two_of, older_of, total}
 use Rattle.pk_rootfmt.proofs.PageLemmas.{Parts, root_parts}
 use Rattle.pk_rootfmt.proofs.RoomLemmas.{runs_most}
 use Rattle.pk_rootfmt.proofs.AgainLemmas.{four}
-use Rattle.pk_scan.specs.Adopts.{is_among, owned_if, state_of, Adopts, NamesOwned, MayAdopt}
+use Rattle.pk_scan.specs.Adopts.{is_among, owned_if, Adopts, NamesOwned, MayAdopt}
 use Rattle.pk_scan.proofs.Adopting.{apart, differ_front, differ_back, still_spare, spare_front, spare_back}
 
 -- ---- the blocks of the epochs
@@ -94,12 +93,12 @@ length-map : {X : Type 0} (f : X → ℕ) (xs : List X) → length (map f xs) �
 length-map f [] = refl
 length-map f (x ∷ xs) = ap suc (length-map f xs)
 
-record HasFour (shape : Shape) (counts : List ℕ) (runs : List (List ℕ)) : Type 0 where
+pub record HasFour (shape : Shape) (counts : List ℕ) (runs : List (List ℕ)) : Type 0 where
   pub four_counts : length counts ≡ 4
   pub each : list_all (λ p. nat_le p.0 (p.1 * page_entries shape)) (zip counts (caps shape)) ≡ true
   pub sizes : map length runs ≡ map (run_blocks shape) counts
 
-has_four : (shape : Shape) (root : Root) → has_runs shape root ≡ true → HasFour shape root.counts root.runs
+pub has_four : (shape : Shape) (root : Root) → has_runs shape root ≡ true → HasFour shape root.counts root.runs
 has_four shape root e =
     let p : Bool = length root.counts == 4 in
     let q : Bool = list_all (λ p. nat_le p.0 (p.1 * page_entries shape)) (zip root.counts (caps shape)) in
@@ -116,7 +115,7 @@ has_four shape root e =
     is_four : (n : ℕ) → nat_eq n 4 ≡ true → n ≡ 4
     is_four n e = grind (arith, nat_tests)
 
-four_runs : (shape : Shape) (counts : List ℕ) (runs : List (List ℕ)) → HasFour shape counts runs → length runs ≡ 4
+pub four_runs : (shape : Shape) (counts : List ℕ) (runs : List (List ℕ)) → HasFour shape counts runs → length runs ≡ 4
 four_runs shape counts runs h = sym (length-map length runs) ∙ ap length h.sizes ∙ length-map (run_blocks shape) counts ∙ h.four_counts
 
 few_blocks : (shape : Shape) → IsShape shape → (counts : List ℕ) (runs : List (List ℕ)) → HasFour shape counts runs → length (concat runs) ≤ meta_blocks shape

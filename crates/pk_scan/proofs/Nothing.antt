@@ -1,5 +1,5 @@
 -- The live map without values.
-use Rattle.std.proofs.Common.{◌≡◌, ℕ, ◌-◌, Bool, true, false, cond, List, [], ◌∷◌, length, map, replicate, refl, sym, ap, ◌∙◌, arith}
+use Rattle.std.proofs.Common.{◌≡◌, ℕ, ◌-◌, true, false, List, [], ◌∷◌, length, map, replicate, refl, arith}
 use Rattle.std.specs.Prelude.{nat_le, filter}
 use Rattle.std.specs.List.{range_with_len}
 use Rattle.std.proofs.lemmas.Bool.{le-leb}
@@ -8,7 +8,7 @@ use Rattle.std.proofs.lemmas.List.FromFn.{fill_by_all}
 use Rattle.pk_base.specs.Shape.{Shape, IsShape, page_count, limit, data_blocks}
 use Rattle.pk_live.specs.Values.{no_values}
 use Rattle.pk_model.specs.Values.{fits, blocks_with}
-use Rattle.pk_scan.specs.Lives.{head_of, is_used, live_of, Lives}
+use Rattle.pk_scan.specs.Lives.{head_of, is_used, Lives}
 
 filter_none : (xs : List ℕ) → length (filter (λ b. false) xs) ≡ 0
 filter_none [] = refl

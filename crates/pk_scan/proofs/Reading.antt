@@ -1,5 +1,5 @@
 -- The reading of a value, page by page: it goes on behind pages that are right, and refuses with the first that is not.
-use Rattle.std.proofs.Common.{◌≡◌, ℕ, zero, suc, ◌+◌, ◌-◌, ◌*◌, ◌<◌, ◌≤◌, Bool, true, false, ◌&&◌, List, [], ◌∷◌, ◌++◌, take, drop, refl, sym, ap, ◌∙◌, arith, inl, inr}
+use Rattle.std.proofs.Common.{◌≡◌, ℕ, zero, suc, ◌+◌, ◌-◌, ◌*◌, ◌<◌, ◌≤◌, Bool, true, false, ◌&&◌, List, [], ◌++◌, take, drop, refl, sym, ap, ◌∙◌, arith, inl, inr}
 use Rattle.std.specs.Prelude.{Result, Ok, Err, nat_eq, ◌==◌}
 use Rattle.std.specs.List.{list_all, starts_with}
 use Rattle.std.proofs.lemmas.Bool.{false≢true, cases_Bool}
@@ -7,7 +7,7 @@ use Rattle.pk_base.specs.Shape.{Shape}
 use Rattle.pk_base.specs.Page.{Page, erased, whole, torn}
 use Rattle.pk_base.specs.Refusal.{Refusal, damaged, ◌>>=◌, ensure}
 use Rattle.pk_segfmt.specs.Value.{value_page, value_from}
-use Rattle.pk_scan.specs.Pages.{front_of, fits_page, passes}
+use Rattle.pk_scan.specs.Pages.{front_of, passes}
 
 -- ---- one page
 

@@ -1,5 +1,5 @@
 -- The reading of a run, page by page: it goes on behind a page that goes on behind those before, and refuses with any other.
-use Rattle.std.proofs.Common.{◌≡◌, ℕ, zero, suc, ◌+◌, ◌-◌, ◌*◌, ◌<◌, ◌≤◌, min, Bool, true, false, not, ◌||◌, ◌==◌, T, List, [], ◌∷◌, ◌++◌, length, take, refl, ap, sym, subst, ◌∙◌, arith, Option, Some, None, option_map, Ok, Err, append_assoc, suc-mul, mul-le-mul_right, lt_of_mul-lt-mul_right}
+use Rattle.std.proofs.Common.{◌≡◌, ℕ, zero, suc, ◌*◌, ◌<◌, ◌≤◌, min, Bool, true, false, not, ◌||◌, ◌==◌, T, List, [], ◌∷◌, ◌++◌, length, refl, ap, sym, ◌∙◌, arith, Option, Some, None, option_map, Err, append_assoc, suc-mul, mul-le-mul_right, lt_of_mul-lt-mul_right}
 use Rattle.std.specs.Prelude.{slice_get}
 use Rattle.std.specs.Int.{div_ceil}
 use Rattle.std.specs.FinMap.Entries.{is_sorted}

@@ -1,7 +1,6 @@
 -- One page of a run, by what is found in it.
-use Rattle.std.proofs.Common.{◌≡◌, ℕ, zero, suc, ◌+◌, ◌<◌, ◌≤◌, ◌^◌, Bool, true, false, cond, not, ◌&&◌, ◌||◌, ◌==◌, T, is_some, List, [], ◌∷◌, ◌++◌, length, take, refl, ap, sym, subst, ◌∙◌, arith, Option, Some, None, option_map, Result, Ok, Err}
+use Rattle.std.proofs.Common.{◌≡◌, ℕ, zero, suc, ◌+◌, ◌<◌, ◌≤◌, ◌^◌, Bool, true, false, not, ◌&&◌, ◌||◌, ◌==◌, T, is_some, List, [], ◌∷◌, ◌++◌, length, take, refl, ap, sym, subst, ◌∙◌, arith, Option, Some, None, option_map, Result, Ok, Err}
 use Rattle.std.specs.Prelude.{slice_get}
-use Rattle.std.specs.List.{list_all}
 use Rattle.std.specs.Ordering.{is_lt}
 use Rattle.std.specs.FinMap.Entries.{is_sorted}
 use Rattle.std.proofs.lemmas.List.{take_all}
@@ -12,8 +11,8 @@ use Rattle.pk_meta.specs.Page.{meta_entries, IsMetaPage}
 use Rattle.pk_meta.specs.declared.MetaHead.{MetaHead}
 use Rattle.pk_meta.specs.declared.BadMeta.{BadMeta}
 use Rattle.pk_meta.proofs.Reading.{meta_held, sorted_true}
-use Rattle.pk_scan.specs.Runs.{IsLast, is_behind, are_put, GoesOn, GoesOnOr}
-use Rattle.pk_scan.proofs.Rises.{sorted_back, rises_behind, lies_behind}
+use Rattle.pk_scan.specs.Runs.{IsLast, is_behind, are_put, GoesOnOr}
+use Rattle.pk_scan.proofs.Rises.{rises_behind, lies_behind}
 
 -- ---- none was deleted
 
@@ -21,7 +20,7 @@ is_true : (b : Bool) → T b → b ≡ true
 is_true true p = refl
 is_true false p = absurd p
 
-of_true : (b : Bool) → b ≡ true → T b
+pub of_true : (b : Bool) → b ≡ true → T b
 of_true true e = tt
 of_true false e = cc
 

@@ -1,9 +1,9 @@
 -- A value more: whether its pages may be taken, and the live map with it.
-use Rattle.std.proofs.Common.{◌≡◌, ◌≢◌, ◌⊎◌, inl, inr, ℕ, zero, suc, ◌+◌, ◌-◌, ◌*◌, ◌/◌, ◌%◌, ◌<◌, ◌≤◌, Bool, true, false, not, ◌&&◌, ◌||◌, cond, List, [], ◌∷◌, ◌++◌, length, get_or, map, sum, refl, sym, subst, ap, ◌∙◌, arith, ◌==◌, length-append}
-use Rattle.std.specs.Prelude.{count_by, nat_le, slice_get, Some, filter, IsTrue, ◌↔◌}
-use Rattle.std.specs.List.{list_any, list_all, range_with_len, AllByRecursion}
+use Rattle.std.proofs.Common.{◌≡◌, inl, inr, ℕ, ◌+◌, ◌-◌, ◌/◌, ◌%◌, ◌<◌, ◌≤◌, Bool, true, false, not, ◌&&◌, ◌||◌, cond, List, [], ◌∷◌, ◌++◌, length, get_or, map, sum, refl, sym, ap, ◌∙◌, arith, ◌==◌, length-append}
+use Rattle.std.specs.Prelude.{count_by, nat_le, slice_get, Some, IsTrue, ◌↔◌}
+use Rattle.std.specs.List.{list_any, list_all, range_with_len}
 use Rattle.std.proofs.Math.ListN.{set}
-use Rattle.std.proofs.lemmas.Bool.{false≢true, cases_Bool, or_from, or_left, or_right, and_parts, and_from, eqb-true, eq-eqb, ne_eqb, cases_lt, cases_eq, false_from_ne_true, true_from_ne_false}
+use Rattle.std.proofs.lemmas.Bool.{false≢true, or_right, and_parts, eq-eqb, ne_eqb, cases_lt}
 use Rattle.std.proofs.lemmas.Bool.Decides.{same_from_decides}
 use Rattle.std.proofs.lemmas.List.FromFn.{length-range_with_len, length-map-range_with_len, get_or-map-range_with_len}
 use Rattle.std.proofs.lemmas.List.Folds.{list_any-append, list_all-append}
@@ -13,15 +13,15 @@ use Rattle.pk_base.specs.Key.{Key}
 use Rattle.pk_base.specs.Shape.{Shape, IsShape, page_count, charge, limit, data_blocks}
 use Rattle.pk_base.specs.Entry.{Place}
 use Rattle.pk_base.specs.EntryBytes.{IsPlace}
-use Rattle.pk_live.specs.Values.{Values, no_values, count_of, block_sum, IsLive}
+use Rattle.pk_live.specs.Values.{Values, count_of, block_sum, IsLive}
 use Rattle.pk_segfmt.specs.Value.{value_pages}
 use Rattle.pk_segfmt.proofs.StoredLemmas.{charge_some}
 use Rattle.pk_model.specs.Values.{all_pages, fits, blocks_with}
 use Rattle.pk_rootfmt.specs.Root.{differ}
-use Rattle.pk_scan.specs.Lives.{head_of, is_used, live_of, Lives}
+use Rattle.pk_scan.specs.Lives.{head_of, is_used, Lives}
 use Rattle.pk_scan.proofs.Blocks.{same_block, block_exists}
 use Rattle.pk_scan.proofs.Ranges.{all_same, has, has_range, range_has, meets, meets_told, meets_from, differ_append, differ_range}
-use Rattle.pk_scan.proofs.Standing.{map_set, count_map, all_pages-more, head_of-more, Placed, Placed-more, value_in_block, heads_read, covered, covers, total_is, block_is}
+use Rattle.pk_scan.proofs.Standing.{map_set, count_map, all_pages-more, head_of-more, Placed-more, value_in_block, heads_read, covered, covers, total_is, block_is}
 
 -- ---- the four parts of the test
 

@@ -1,11 +1,8 @@
 -- What tests know of answers and of new live maps.
-use Rattle.std.proofs.Common.{◌≡◌, ℕ, Bool, true, false, List, [], sym, subst, Result, Ok, Err}
+use Rattle.std.proofs.Common.{◌≡◌, ℕ, false, List, [], sym, subst, Result, Ok, Err}
 use Rattle.std.specs.Prelude.{OnOk}
 use Rattle.std.specs.Result.{is_err}
-use Rattle.pk_base.specs.Key.{Key}
 use Rattle.pk_base.specs.Shape.{Shape, IsShape}
-use Rattle.pk_base.specs.Entry.{Place}
-use Rattle.pk_base.specs.EntryBytes.{IsPlace}
 use Rattle.pk_live.specs.Values.{Values, no_values}
 use Rattle.pk_scan.specs.Lives.{Lives, StartsWithNone}
 

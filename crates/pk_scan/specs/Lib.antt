@@ -5,3 +5,4 @@ pub mod Lives
 pub mod Accepted
 pub mod Runs
 pub mod Adopts
+pub mod Opening

@@ -1,5 +1,5 @@
 -- The pages of a value one by one: which of them the reading of a flash accepts.
-use Rattle.std.specs.Prelude.{ℕ, zero, suc, ◌+◌, ◌-◌, ◌*◌, List, [], drop, Bool, true, false, ◌&&◌, ◌==◌, nat_eq}
+use Rattle.std.specs.Prelude.{ℕ, zero, suc, ◌+◌, ◌-◌, ◌*◌, List, [], drop, Bool, false, ◌&&◌, ◌==◌, nat_eq}
 use Rattle.std.specs.List.{list_all, starts_with}
 use Rattle.pk_base.specs.Key.{Key}
 use Rattle.pk_base.specs.Shape.{Shape}

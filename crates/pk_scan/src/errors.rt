@@ -8,3 +8,16 @@ pub enum PageError {
     /// A read failed. The board's counts tell of it.
     Fault,
 }
+
+/// Why a flash is not opened.
+#[derive(Clone, Copy, Debug, PartialEq, Eq)]
+pub enum OpenError {
+    /// There is no root.
+    NotFormatted,
+    /// This page is the first at which the reading of the flash refuses.
+    Damaged { page: u32 },
+    /// A read failed. The board's counts tell of it.
+    Fault,
+    /// There is not enough memory.
+    Memory,
+}

@@ -5,18 +5,26 @@
 
 mod accept;
 mod adopt;
+mod epochs;
 mod errors;
+mod levels;
+mod lists;
 mod pages;
 mod runs;
 mod taken;
 mod values;
+mod visible;
 
 pub use accept::accept_value;
 pub use adopt::{adopt_blocks, adopt_values};
-pub use errors::PageError;
+pub use epochs::{read_newest, read_older};
+pub use errors::{OpenError, PageError};
+pub use levels::{load_runs, opening_error};
+pub use lists::{find_root, read_lists};
 pub use runs::load_run;
 pub use taken::{starts_with_none, take_value};
 pub use values::check_value;
+pub use visible::read_values;
 
 #[cfg(test)]
 mod tests;

@@ -1,4 +1,4 @@
-use Rattle.std.proofs.Common.{◌≡◌, sym, ◌∙◌}
+use Rattle.std.proofs.Common.{sym, ◌∙◌}
 use Rattle.pk_scan.specs.Places.{place}
 use Rattle.pk_scan.proofs.Accepting.{accepted, refused_untaken, refused_value}
 use Rattle.pk_scan.proofs.accept.accept_value.Goals as goal

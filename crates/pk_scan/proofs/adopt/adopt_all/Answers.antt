@@ -1,5 +1,5 @@
 use Rattle.std.proofs.lemmas.Option.{slice_get-get_or}
-use Rattle.pk_scan.proofs.Adopting.{next_spare, Adopting-start, Adopting-next, Adopting-end}
+use Rattle.pk_scan.proofs.Adopting.{Adopting-next}
 use Rattle.pk_scan.proofs.adopt.adopt_all.Goals as goal
 
 pub loop-block-preserved : goal.loop-block-preserved

@@ -1,6 +1,6 @@
-use Rattle.std.proofs.Common.{◌≡◌, ◌+◌, ◌-◌, ℕ, subst, arith, ap, ◌∙◌, sym, Some}
+use Rattle.std.proofs.Common.{◌≡◌, ◌+◌, ◌-◌, ℕ, subst, arith, Some}
 use Rattle.std.specs.Prelude.{slice_get}
-use Rattle.pk_scan.proofs.Adopting.{may_next, RunsAdopting-start, RunsAdopting-next, RunsAdopting-end}
+use Rattle.pk_scan.proofs.Adopting.{may_next, RunsAdopting-next}
 use Rattle.pk_scan.proofs.adopt.adopt_runs.Goals as goal
 
 pub adopt_all-requires : goal.adopt_all-requires

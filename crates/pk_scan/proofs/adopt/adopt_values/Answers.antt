@@ -1,6 +1,6 @@
-use Rattle.std.proofs.Common.{◌≡◌, ◌∙◌, ◌<◌, ◌+◌, ◌≤◌, ℕ, List, Bool, true, false, length, ap, sym, subst, arith}
+use Rattle.std.proofs.Common.{◌∙◌, ◌<◌, ◌+◌, ◌≤◌, true, false, length, sym, subst, arith}
 use Rattle.pk_pool.specs.Blocks.{Blocks}
-use Rattle.pk_scan.proofs.Closing.{settled, flag_at, next_is_spare, room_left, ValuesAdopting, ValuesAdopting-start, ValuesAdopting-passed, ValuesAdopting-next, ValuesAdopting-end}
+use Rattle.pk_scan.proofs.Closing.{settled, flag_at, next_is_spare, room_left, ValuesAdopting, ValuesAdopting-passed, ValuesAdopting-next, ValuesAdopting-end}
 use Rattle.pk_scan.proofs.adopt.adopt_values.Goals as goal
 use Rattle.pk_scan.proofs.adopt.adopt_values.Goals.{then-is_closed, else-is_closed}
 

@@ -1,7 +1,4 @@
-use Rattle.std.proofs.Common.{◌≡◌, ◌∙◌, ap, sym, subst, refl}
-use Rattle.pk_pin.specs.Frames.{Frames, filled, IsLeased, leased}
-use Rattle.pk_scan.specs.Runs.{LeasedMore}
-use Rattle.pk_scan.proofs.Leasing.{leased_one, kept_in}
+use Rattle.pk_scan.proofs.Leasing.{kept_in}
 use Rattle.pk_scan.proofs.runs.keep_page.Goals as goal
 
 pub returns : goal.returns

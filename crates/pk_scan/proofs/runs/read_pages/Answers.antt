@@ -1,4 +1,4 @@
-use Rattle.std.proofs.Common.{◌≡◌, ◌∙◌, ◌<◌, ◌^◌, ◌-◌, ℕ, min, refl, sym, ap, subst, arith}
+use Rattle.std.proofs.Common.{◌≡◌, ◌∙◌, ◌<◌, ◌-◌, ℕ, min, refl, ap, subst, arith}
 use Rattle.std.specs.Int.{div_ceil}
 use Rattle.pk_base.specs.Shape.{page_entries, run_pages}
 use Rattle.pk_scan.proofs.Loading.{Loading-start, Loading-next, Loading-refused, room_left, some_left, stands_now, size_some}

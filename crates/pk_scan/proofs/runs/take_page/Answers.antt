@@ -1,4 +1,4 @@
-use Rattle.std.proofs.Common.{arith, ◌<◌, ◌^◌, sym, ◌∙◌, ap, length}
+use Rattle.std.proofs.Common.{arith}
 use Rattle.pk_scan.proofs.Loading.{page_exists, page_taken, read_whole}
 use Rattle.pk_scan.proofs.runs.take_page.Goals as goal
 

@@ -1,4 +1,4 @@
-use Rattle.std.proofs.Common.{◌≡◌, ◌∙◌, ℕ, ◌+◌, ◌-◌, ◌/◌, ◌==◌, ◌<◌, ◌≤◌, ◌&&◌, List, ap, subst, arith, cond, sum}
+use Rattle.std.proofs.Common.{◌∙◌, ℕ, ◌+◌, ◌-◌, ◌/◌, ◌==◌, ◌<◌, ◌≤◌, ◌&&◌, ap, subst, arith, cond}
 use Rattle.std.specs.Prelude.{count_by, nat_le, IsTrue, ◌↔◌}
 use Rattle.std.specs.List.{list_any}
 use Rattle.pk_base.specs.Shape.{limit, data_blocks}

@@ -1,4 +1,4 @@
-use Rattle.std.proofs.Common.{◌≡◌, ℕ, ◌+◌, ◌/◌, ◌<◌, ◌∙◌, true, length, sym, ap, subst, arith}
+use Rattle.std.proofs.Common.{◌≡◌, ℕ, ◌/◌, ◌∙◌, true, length, sym, ap}
 use Rattle.std.proofs.Math.ListN.{set}
 use Rattle.pk_base.specs.Shape.{charge}
 use Rattle.pk_live.specs.Values.{Values}

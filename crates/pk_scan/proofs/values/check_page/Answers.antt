@@ -1,5 +1,4 @@
-use Rattle.std.proofs.Common.{arith, ◌<◌, ◌+◌, ap, sym, ◌∙◌}
-use Rattle.pk_base.specs.Shape.{page_count}
+use Rattle.std.proofs.Common.{arith}
 use Rattle.pk_scan.specs.Places.{place}
 use Rattle.pk_scan.proofs.Blocks.{value_exists}
 use Rattle.pk_scan.proofs.values.check_page.Goals as goal

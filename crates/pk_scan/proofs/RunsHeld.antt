@@ -1,0 +1,261 @@
+-- Runs that were read one after another, as the reading of a flash has them.
+use Rattle.std.proofs.Common.{◌≡◌, inl, inr, ℕ, zero, suc, ◌+◌, ◌-◌, ◌<◌, ◌≤◌, Bool, true, false, List, [], ◌∷◌, ◌++◌, length, get_or, take, drop, refl, sym, ap, subst, ◌∙◌, arith, Some, Result, Ok, Err, append-nil, append_assoc}
+use Rattle.std.specs.Prelude.{nat_le, slice_get, slice_index, slice_index_or}
+use Rattle.std.proofs.Math.ListN.{set}
+use Rattle.std.proofs.lemmas.Bool.{cases_lt}
+use Rattle.std.proofs.lemmas.Bool.Decides.{nat_tests}
+use Rattle.std.proofs.lemmas.List.{take_all}
+use Rattle.std.proofs.lemmas.Option.{get_or_from_slice_get}
+use Rattle.pk_base.specs.Shape.{Shape, caps, cap}
+use Rattle.pk_base.specs.Entry.{Entry}
+use Rattle.pk_base.specs.Page.{Page, Flash, page_at}
+use Rattle.pk_base.specs.Refusal.{Refusal, damaged, ◌>>=◌}
+use Rattle.pk_nand.specs.BoardState.{BoardState}
+use Rattle.pk_nand.specs.Calls.{Rose}
+use Rattle.pk_nand.specs.Erased.{after_reads}
+use Rattle.pk_meta.specs.Run.{run}
+use Rattle.pk_rootfmt.specs.Root.{Root}
+use Rattle.pk_rootfmt.specs.Held.{total}
+use Rattle.pk_pin.specs.Frames.{Frames, free_frames}
+use Rattle.pk_run.specs.Kept.{Kept, Stands}
+use Rattle.pk_level.specs.Levels.{Levels, StandEach, with_run}
+use Rattle.pk_level.proofs.Looking.{reads_more}
+use Rattle.pk_model.specs.Found.{runs_from}
+use Rattle.pk_scan.specs.Runs.{HasRun, NotRead, IsPinnedIf, LeasedMore, RunsStand}
+use Rattle.pk_scan.specs.Opening.{OnlyReads, PartNotOpened, HoldsRuns, LoadsLevel, wanted_behind, opening_of}
+use Rattle.pk_scan.specs.declared.errors.PageError.{PageError}
+use Rattle.pk_scan.specs.declared.errors.PageError.TheVariants.{Damaged as PageDamaged, Fault as PageFault}
+use Rattle.pk_scan.specs.declared.errors.OpenError.{OpenError}
+use Rattle.pk_scan.specs.declared.errors.OpenError.TheVariants.{NotFormatted, Damaged, Fault, Memory}
+
+-- ---- boards
+
+pub reads_none : (old : BoardState) → OnlyReads old old
+reads_none old = (zero, refl)
+
+pub reads_both : (old now new : BoardState) → OnlyReads old now → OnlyReads now new → OnlyReads old new
+reads_both old now new a b = (b.0 + a.0, b.1 ∙ ap (after_reads b.0) a.1 ∙ reads_more b.0 a.0 old)
+
+-- ---- lists
+
+four_at : {X : Type 0} (xs : List X) (k : ℕ) (d : X) → k < length xs → drop k xs ≡ get_or xs k d ∷ drop (suc k) xs
+four_at [] k d h = absurd (omega (arith, h))
+four_at (x ∷ xs) zero d h = refl
+four_at (x ∷ xs) (suc k) d h = four_at xs k d (omega (arith, h))
+
+past : {X : Type 0} (xs : List X) (k : ℕ) → length xs ≤ k → drop k xs ≡ []
+past [] zero h = refl
+past [] (suc k) h = refl
+past (x ∷ xs) zero h = absurd (omega (arith, h))
+past (x ∷ xs) (suc k) h = past xs k (omega (arith, h))
+
+take_set : {X : Type 0} (xs : List X) (k : ℕ) (y : X) → k < length xs → take (suc k) (set xs k y) ≡ take k xs ++ y ∷ []
+take_set [] k y h = absurd (omega (arith, h))
+take_set (x ∷ xs) zero y h = refl
+take_set (x ∷ xs) (suc k) y h = ap (λ (ys : List _). x ∷ ys) (take_set xs k y (omega (arith, h)))
+
+set_length : {X : Type 0} (xs : List X) (k : ℕ) (y : X) → length (set xs k y) ≡ length xs
+set_length [] k y = refl
+set_length (x ∷ xs) zero y = refl
+set_length (x ∷ xs) (suc k) y = ap suc (set_length xs k y)
+
+-- what a level of those that are pinned wants
+wanted_one : (k p : ℕ) (xs : List ℕ) → k < p → total (drop k (take p xs)) ≡ get_or xs k 0 + total (drop (suc k) (take p xs))
+wanted_one k zero xs h = absurd (omega (arith, h))
+wanted_one zero (suc p) [] h = refl
+wanted_one (suc k) (suc p) [] h = refl
+wanted_one zero (suc p) (x ∷ xs) h = refl
+wanted_one (suc k) (suc p) (x ∷ xs) h = wanted_one k p xs (omega (arith, h))
+
+wanted_none : (k p : ℕ) (xs : List ℕ) → p ≤ k → total (drop k (take p xs)) ≡ 0
+wanted_none zero zero xs h = refl
+wanted_none (suc k) zero xs h = refl
+wanted_none zero (suc p) xs h = absurd (omega (arith, h))
+wanted_none (suc k) (suc p) [] h = refl
+wanted_none (suc k) (suc p) (x ∷ xs) h = wanted_none k p xs (omega (arith, h))
+
+-- ---- runs that stand
+
+stand_kept : (flash : Flash) (old new : Frames) → RunsStand old new → (rs : List Kept) (ess : List (List Entry)) → StandEach flash old rs ess → StandEach flash new rs ess
+stand_kept flash old new kept [] [] each = tt
+stand_kept flash old new kept [] (es ∷ ess) each = absurd each
+stand_kept flash old new kept (r ∷ rs) [] each = absurd each
+stand_kept flash old new kept (r ∷ rs) (es ∷ ess) each = (kept r flash es each.0, stand_kept flash old new kept rs ess each.1)
+
+stand_more : (flash : Flash) (arena : Frames) (rs : List Kept) (ess : List (List Entry)) (r : Kept) (es : List Entry) → StandEach flash arena rs ess → Stands r flash arena es → StandEach flash arena (rs ++ r ∷ []) (ess ++ es ∷ [])
+stand_more flash arena [] [] r es each one = (one, tt)
+stand_more flash arena [] (x ∷ ess) r es each one = absurd each
+stand_more flash arena (y ∷ rs) [] r es each one = absurd each
+stand_more flash arena (y ∷ rs) (x ∷ ess) r es each one = (each.0, stand_more flash arena rs ess r es each.1 one)
+
+-- ---- one level
+
+pub le_true : (x y : ℕ) → x ≤ y → nat_le x y ≡ true
+le_true x y h = grind (arith, nat_tests)
+
+pub gt_false : (x y : ℕ) → y < x → nat_le x y ≡ false
+gt_false x y h = grind (arith, nat_tests)
+
+pub le_of : (x y : ℕ) → nat_le x y ≡ true → x ≤ y
+le_of x y e = grind (arith, nat_tests)
+
+module _ (shape : Shape) (root : Root) (level count : ℕ) (bs : List ℕ) (counted : count ≡ slice_index root.counts (level - 1)) (got : slice_get root.runs (level - 1) ≡ Some bs) where
+  at_level : (at : ℕ → Page) → run shape at level (slice_index root.counts (level - 1)) (slice_index_or root.runs (level - 1) []) ≡ run shape at level count bs
+  at_level at = ap (λ (n : ℕ). run shape at level n (slice_index_or root.runs (level - 1) [])) (sym counted) ∙ ap (run shape at level count) (get_or_from_slice_get root.runs (level - 1) bs [] got)
+
+  pub level_refused : (at : ℕ → Page) (page : ℕ) → run shape at level count bs ≡ Err (damaged page) → run shape at level (slice_index root.counts (level - 1)) (slice_index_or root.runs (level - 1) []) ≡ Err (damaged page)
+  level_refused at page e = at_level at ∙ e
+
+  pub level_not_loaded : (old new : BoardState) (e : PageError) → NotRead shape level count bs old new e → PartNotOpened (run shape (page_at old.pages) level (slice_index root.counts (level - 1)) (slice_index_or root.runs (level - 1) [])) old new (opening_of e)
+  level_not_loaded old new (PageDamaged page) why = level_refused (page_at old.pages) page why.read
+  level_not_loaded old new PageFault why = why.flash
+
+  pub level_loaded : (flash : Flash) (before after : Frames) (old new : Levels) (kept : Kept) (pins : Bool) → HasRun shape level count bs flash after kept → RunsStand before after → LeasedMore before after kept.leases → IsPinnedIf pins kept
+      → (level ≤ old.pinned → pins ≡ true) → (old.pinned < level → pins ≡ false) → length kept.firsts ≤ cap shape level → new ≡ with_run old level kept → LoadsLevel shape root level flash before after old new
+  level_loaded flash before after old new kept pins has others more pinned low high few is = record {
+    entries = has.entries;
+    kept = kept;
+    finds = at_level (page_at flash) ∙ has.read;
+    stands = has.stands;
+    levels = is;
+    others = others;
+    page = more.page;
+    pinned = λ h. let same : length kept.leases ≡ length kept.firsts = subst (λ (b : Bool). IsPinnedIf b kept) (low h) pinned in let free = more.free in omega (arith, same, free, few);
+    unpinned = λ h. let none : kept.leases ≡ [] = subst (λ (b : Bool). IsPinnedIf b kept) (high h) pinned in let zero_leases = ap (λ (ls : List ℕ). length ls) none in let free = more.free in omega (arith, zero_leases, free);
+  }
+
+-- ---- the reading of the runs
+
+abbrev pub behind : List (List Entry) → Result (List (List Entry)) Refusal → Result (List (List Entry)) Refusal
+behind ess others = others >>= (λ xs. Ok (ess ++ xs))
+
+abbrev ok_list : List (List Entry) → Result (List (List Entry)) Refusal
+ok_list xs = Ok xs
+
+behind_one : (ess : List (List Entry)) (es : List Entry) (others : Result (List (List Entry)) Refusal) → behind ess (others >>= (λ xs. Ok (es ∷ xs))) ≡ behind (ess ++ es ∷ []) others
+behind_one ess es (Ok xs) = ap ok_list (sym (append_assoc ess (es ∷ []) xs))
+behind_one ess es (Err e) = refl
+
+behind_none : (others : Result (List (List Entry)) Refusal) → others ≡ behind [] others
+behind_none (Ok xs) = refl
+behind_none (Err e) = refl
+
+module _ (shape : Shape) (at : ℕ → Page) where
+  one_more : (level c : ℕ) (cs bs : List ℕ) (runs : List (List ℕ)) (es : List Entry) → run shape at level c bs ≡ Ok es → runs_from shape at level (c ∷ cs) (bs ∷ runs) ≡ (runs_from shape at (level + 1) cs runs >>= (λ xs. Ok (es ∷ xs)))
+  unfolding runs_from
+  one_more level c cs bs runs es read = rw read refl
+
+  one_refused : (level c : ℕ) (cs bs : List ℕ) (runs : List (List ℕ)) (e : Refusal) → run shape at level c bs ≡ Err e → runs_from shape at level (c ∷ cs) (bs ∷ runs) ≡ Err e
+  unfolding runs_from
+  one_refused level c cs bs runs e read = rw read refl
+
+  none_left : (level : ℕ) → runs_from shape at level [] [] ≡ Ok []
+  unfolding runs_from
+  none_left level = refl
+
+-- ---- the loop
+
+-- The first so many levels were read; the reading of the runs has these entries, and goes on with the other levels.
+pub record RunsTo (shape : Shape) (root : Root) (flash : Flash) (pinned : ℕ) (arena : Frames) (levels : Levels) (k : ℕ) : Type 0 where
+  pub ess : List (List Entry)
+  pub comes : runs_from shape (page_at flash) 1 root.counts root.runs ≡ behind ess (runs_from shape (page_at flash) (suc k) (drop k root.counts) (drop k root.runs))
+  pub stand : StandEach flash arena (take k levels.runs) ess
+  pub shape_is : levels.shape ≡ shape
+  pub pinned_is : levels.pinned ≡ pinned
+  pub four : length levels.runs ≡ 4
+  pub page : arena.page_bytes ≡ shape.page_bytes
+  pub free : wanted_behind shape pinned k ≤ free_frames arena
+
+module _ (shape : Shape) (root : Root) (counts : length root.counts ≡ 4) (runs : length root.runs ≡ 4) (flash : Flash) (pinned : ℕ) where
+  pub RunsTo-start : (arena : Frames) (levels : Levels) → levels.shape ≡ shape → levels.pinned ≡ pinned → length levels.runs ≡ 4 → arena.page_bytes ≡ shape.page_bytes → wanted_behind shape pinned 0 ≤ free_frames arena
+      → RunsTo shape root flash pinned arena levels 0
+  RunsTo-start arena levels shape_is pinned_is four page free = record {
+    ess = [];
+    comes = behind_none (runs_from shape (page_at flash) 1 root.counts root.runs);
+    stand = tt;
+    shape_is = shape_is;
+    pinned_is = pinned_is;
+    four = four;
+    page = page;
+    free = free;
+  }
+
+  module _ (arena : Frames) (levels : Levels) (k : ℕ) (t : RunsTo shape root flash pinned arena levels k) (h : k < 4) where
+    pub frame_free : (level : ℕ) → level ≡ suc k → level - 1 ≡ k → level ≤ levels.pinned → cap shape level ≤ free_frames arena
+    frame_free level e d low =
+        let inside : k < pinned = omega (arith, e, low, t.pinned_is) in
+        let one = wanted_one k pinned (caps shape) inside in
+        let same = ap (λ (j : ℕ). get_or (caps shape) j 0) d in
+        let free = t.free in
+        omega (arith, one, free, same)
+
+    split_counts : drop k root.counts ≡ get_or root.counts k 0 ∷ drop (suc k) root.counts
+    split_counts = four_at root.counts k 0 (omega (arith, counts, h))
+
+    split_runs : drop k root.runs ≡ get_or root.runs k [] ∷ drop (suc k) root.runs
+    split_runs = four_at root.runs k [] (omega (arith, runs, h))
+
+    abbrev rest_of : List ℕ → List (List ℕ) → Result (List (List Entry)) Refusal
+    rest_of cs bss = runs_from shape (page_at flash) (suc k) cs bss
+
+    split : rest_of (drop k root.counts) (drop k root.runs) ≡ rest_of (get_or root.counts k 0 ∷ drop (suc k) root.counts) (get_or root.runs k [] ∷ drop (suc k) root.runs)
+    split = ap (λ (cs : List ℕ). rest_of cs (drop k root.runs)) split_counts ∙ ap (rest_of (get_or root.counts k 0 ∷ drop (suc k) root.counts)) split_runs
+
+    module _ (level : ℕ) (e : level ≡ suc k) (d : level - 1 ≡ k) where
+      abbrev part : Result (List Entry) Refusal
+      part = run shape (page_at flash) level (slice_index root.counts (level - 1)) (slice_index_or root.runs (level - 1) [])
+
+      part_is : part ≡ run shape (page_at flash) (suc k) (get_or root.counts k 0) (get_or root.runs k [])
+      part_is = ap (λ (j : ℕ). run shape (page_at flash) level (get_or root.counts j 0) (get_or root.runs j [])) d ∙ ap (λ (n : ℕ). run shape (page_at flash) n (get_or root.counts k 0) (get_or root.runs k [])) e
+
+      module _ (arena' : Frames) (levels' : Levels) (l : LoadsLevel shape root level flash arena arena' levels levels') where
+        taken : take (suc k) levels'.runs ≡ take k levels.runs ++ l.kept ∷ []
+        taken = ap (λ (x : Levels). take (suc k) x.runs) l.levels ∙ ap (λ (j : ℕ). take (suc k) (set levels.runs j l.kept)) d ∙ take_set levels.runs k l.kept (omega (arith, t.four, h))
+
+        next_comes : runs_from shape (page_at flash) 1 root.counts root.runs ≡ behind (t.ess ++ l.entries ∷ []) (runs_from shape (page_at flash) (suc (suc k)) (drop (suc k) root.counts) (drop (suc k) root.runs))
+        next_comes =
+            let more : suc k + 1 ≡ suc (suc k) = omega arith in
+            t.comes ∙ ap (behind t.ess) (split ∙ one_more shape (page_at flash) (suc k) (get_or root.counts k 0) (drop (suc k) root.counts) (get_or root.runs k []) (drop (suc k) root.runs) l.entries (sym part_is ∙ l.finds))
+            ∙ behind_one t.ess l.entries (runs_from shape (page_at flash) (suc k + 1) (drop (suc k) root.counts) (drop (suc k) root.runs))
+            ∙ ap (λ (n : ℕ). behind (t.ess ++ l.entries ∷ []) (runs_from shape (page_at flash) n (drop (suc k) root.counts) (drop (suc k) root.runs))) more
+
+        next_free : wanted_behind shape pinned (suc k) ≤ free_frames arena'
+        next_free = elim (cases_lt k pinned) [
+          | inl low ↦
+              let one = wanted_one k pinned (caps shape) low in
+              let free = t.free in
+              let same = ap (λ (j : ℕ). get_or (caps shape) j 0) d in
+              let left = l.pinned (omega (arith, e, low, t.pinned_is)) in
+              omega (arith, one, free, left, same)
+          | inr high ↦ let none = wanted_none (suc k) pinned (caps shape) (omega (arith, high)) in omega (arith, none)
+        ]
+
+        pub RunsTo-next : RunsTo shape root flash pinned arena' levels' (suc k)
+        RunsTo-next = record {
+          ess = t.ess ++ l.entries ∷ [];
+          comes = next_comes;
+          stand = subst (λ (rs : List Kept). StandEach flash arena' rs (t.ess ++ l.entries ∷ [])) (sym taken) (stand_more flash arena' (take k levels.runs) t.ess l.kept l.entries (stand_kept flash arena arena' l.others (take k levels.runs) t.ess t.stand) l.stands);
+          shape_is = ap (λ (x : Levels). x.shape) l.levels ∙ t.shape_is;
+          pinned_is = ap (λ (x : Levels). x.pinned) l.levels ∙ t.pinned_is;
+          four = ap (λ (x : Levels). length x.runs) l.levels ∙ set_length levels.runs (level - 1) l.kept ∙ t.four;
+          page = l.page ∙ t.page;
+          free = next_free;
+        }
+
+      pub RunsTo-refused : (old now new : BoardState) (error : OpenError) → OnlyReads old now → PartNotOpened part now new error → PartNotOpened (runs_from shape (page_at flash) 1 root.counts root.runs) old new error
+      RunsTo-refused old now new NotFormatted reads why = why
+      RunsTo-refused old now new (Damaged page) reads why = t.comes ∙ ap (behind t.ess) (split ∙ one_refused shape (page_at flash) (suc k) (get_or root.counts k 0) (drop (suc k) root.counts) (get_or root.runs k []) (drop (suc k) root.runs) (damaged page) (sym part_is ∙ why))
+      RunsTo-refused old now new Fault reads why = subst (λ (b : BoardState). Rose b.flash_faults new.flash_faults) reads.1 why
+      RunsTo-refused old now new Memory reads why = tt
+
+  pub RunsTo-end : (arena : Frames) (levels : Levels) → RunsTo shape root flash pinned arena levels 4 → (ess : List (List Entry)) × HoldsRuns shape flash root arena levels ess
+  RunsTo-end arena levels t = (
+    t.ess,
+    record {
+      finds = t.comes ∙ ap (behind t.ess) (ap (λ (cs : List ℕ). runs_from shape (page_at flash) 5 cs (drop 4 root.runs)) (past root.counts 4 (omega (arith, counts))) ∙ ap (runs_from shape (page_at flash) 5 []) (past root.runs 4 (omega (arith, runs))) ∙ none_left shape (page_at flash) 5) ∙ ap ok_list (append-nil t.ess);
+      stand = subst (λ (rs : List Kept). StandEach flash arena rs t.ess) whole t.stand;
+    },
+  )
+    where
+      whole : take 4 levels.runs ≡ levels.runs
+      whole = take_all 4 levels.runs (omega (arith, t.four))

@@ -1,0 +1,201 @@
+-- Values that were accepted one after another, as the reading of a flash has them.
+use Rattle.std.proofs.Common.{◌≡◌, ℕ, ◌+◌, ◌-◌, ◌*◌, ◌≤◌, List, [], ◌∷◌, ◌++◌, length, refl, sym, ap, subst, ◌∙◌, arith, Option, Some, None, Result, Ok, Err, append-nil, append_assoc, length-append}
+use Rattle.std.specs.List.{AllByRecursion}
+use Rattle.pk_base.specs.Key.{Key}
+use Rattle.std.proofs.lemmas.List.FromFn.{length-range_with_len}
+use Rattle.pk_base.specs.Shape.{Shape, IsShape, charge, limit, dense, data_blocks}
+use Rattle.std.proofs.Math.Nat.{mul-le-mul_right}
+use Rattle.pk_base.specs.EntryBytes.{IsPlace}
+use Rattle.pk_segfmt.specs.Value.{value_pages}
+use Rattle.pk_segfmt.proofs.StoredLemmas.{charge_some}
+use Rattle.pk_pin.specs.Frames.{Frames}
+use Rattle.pk_run.specs.Kept.{Kept}
+use Rattle.pk_walk.specs.Visible.{visible, is_wanted, wanted}
+use Rattle.pk_walk.specs.Walking.{Walk, IsLeft, Gives}
+use Rattle.pk_walk.proofs.Walks.{one_of_each}
+use Rattle.pk_model.proofs.ValueSets.{fits_parts}
+use Rattle.pk_scan.proofs.RunPages.{of_true}
+use Rattle.pk_base.specs.Entry.{Entry, Place}
+use Rattle.pk_base.specs.declared.entry.Entry.{Entry as RustEntry}
+use Rattle.pk_base.specs.declared.entry.Entry.TheVariants.{Put, Gone}
+use Rattle.pk_base.specs.Page.{Flash, page_at}
+use Rattle.pk_base.specs.Refusal.{Refusal, damaged, ◌>>=◌}
+use Rattle.pk_live.specs.Values.{Values}
+use Rattle.pk_model.specs.Values.{all_pages, fits, values_of}
+use Rattle.pk_scan.specs.Lives.{Lives}
+use Rattle.pk_scan.specs.Accepted.{Accepted, NotAccepted}
+use Rattle.pk_scan.specs.Places.{place}
+use Rattle.pk_scan.specs.Opening.{OnlyReads, PartNotOpened, ReadsValues, opening_of}
+use Rattle.pk_scan.specs.declared.errors.PageError.{PageError}
+use Rattle.pk_scan.specs.declared.errors.PageError.TheVariants.{Damaged, Fault}
+use Rattle.pk_nand.specs.BoardState.{BoardState}
+use Rattle.pk_nand.specs.Calls.{Rose}
+
+abbrev pub Found : Type 0
+Found = List (Key × List ℕ)
+
+abbrev pub behind : Found → Result Found Refusal → Result Found Refusal
+behind front others = others >>= (λ vs. Ok (front ++ vs))
+
+abbrev ok_found : Found → Result Found Refusal
+ok_found vs = Ok vs
+
+behind_one : (front : Found) (v : Key × List ℕ) (others : Result Found Refusal) → behind front (others >>= (λ vs. Ok (v ∷ vs))) ≡ behind (front ++ v ∷ []) others
+behind_one front v (Ok vs) = ap ok_found (sym (append_assoc front (v ∷ []) vs))
+behind_one front v (Err e) = refl
+
+behind_none : (others : Result Found Refusal) → others ≡ behind [] others
+behind_none (Ok vs) = refl
+behind_none (Err e) = refl
+
+-- The first values were taken, and the reading goes on with the rest.
+pub record ValuesTo (shape : Shape) (flash : Flash) (named : List ℕ) (es : List (Key × Place)) (live : Values) (taken rest : List (Key × Place)) : Type 0 where
+  pub front : Found
+  pub split : taken ++ rest ≡ es
+  pub lives : Lives shape named live taken
+  pub goes : values_of shape (page_at flash) named [] es ≡ behind front (values_of shape (page_at flash) named (all_pages shape taken) rest)
+
+module _ (shape : Shape) (flash : Flash) (named : List ℕ) (es : List (Key × Place)) where
+  pub ValuesTo-start : (live : Values) → Lives shape named live [] → ValuesTo shape flash named es live [] es
+  ValuesTo-start live lives = record { front = []; split = refl; lives = lives; goes = behind_none (values_of shape (page_at flash) named [] es) }
+
+  pub ValuesTo-next : (live live' : Values) (taken rest : List (Key × Place)) (key : Key) (place : Place) → ValuesTo shape flash named es live taken ((key, place) ∷ rest) → Accepted shape flash named taken key place
+      → Lives shape named live' (taken ++ (key, place) ∷ []) → ValuesTo shape flash named es live' (taken ++ (key, place) ∷ []) rest
+  ValuesTo-next live live' taken rest key place t a lives = record {
+    front = t.front ++ (key, a.value) ∷ [];
+    split = append_assoc taken ((key, place) ∷ []) rest ∙ t.split;
+    lives = lives;
+    goes = t.goes ∙ ap (behind t.front) (a.goes_on rest) ∙ behind_one t.front (key, a.value) (values_of shape (page_at flash) named (all_pages shape (taken ++ (key, place) ∷ [])) rest);
+  }
+
+  none_left : (taken : List ℕ) → values_of shape (page_at flash) named taken [] ≡ Ok []
+  unfolding values_of
+  none_left taken = refl
+
+  pub ValuesTo-end : (live : Values) (taken : List (Key × Place)) → ValuesTo shape flash named es live taken [] → (vs : Found) × (values_of shape (page_at flash) named [] es ≡ Ok vs) × (taken ≡ es)
+  ValuesTo-end live taken t = (t.front, t.goes ∙ ap (behind t.front) (none_left (all_pages shape taken)) ∙ ap ok_found (append-nil t.front), sym (append-nil taken) ∙ t.split)
+
+  pub ValuesTo-refused : (live : Values) (taken rest : List (Key × Place)) (e : Refusal) → ValuesTo shape flash named es live taken rest → values_of shape (page_at flash) named (all_pages shape taken) rest ≡ Err e → values_of shape (page_at flash) named [] es ≡ Err e
+  ValuesTo-refused live taken rest e t refused = t.goes ∙ ap (behind t.front) refused
+
+-- ---- the walk over them
+
+-- So many values were taken of those that the walk gave at its start, and it has the rest still to give.
+pub record TakenTo (shape : Shape) (flash : Flash) (arena : Frames) (runs : List Kept) (active frozen : List Entry) (named : List ℕ) (start walk : Walk) (live : Values) (k : ℕ) : Type 0 where
+  pub es : List (Key × Place)
+  pub taken : List (Key × Place)
+  pub rest : List (Key × Place)
+  pub starts : IsLeft start flash arena runs active frozen es
+  pub all : AllByRecursion (λ e. IsPlace shape e.1) es
+  pub to : ValuesTo shape flash named es live taken rest
+  pub left : IsLeft walk flash arena runs active frozen rest
+  pub many : length taken ≡ k
+
+all_behind : (P : Key × Place → Type 0) (xs ys : List (Key × Place)) → AllByRecursion P (xs ++ ys) → AllByRecursion P ys
+all_behind P [] ys all = all
+all_behind P (x ∷ xs) ys all = all_behind P xs ys all.1
+
+pages_some : (shape : Shape) → IsShape shape → (es : List (Key × Place)) → length es ≤ length (all_pages shape es)
+pages_some shape is [] = omega arith
+pages_some shape is (e ∷ es) =
+    let rest = pages_some shape is es in
+    let one = charge_some shape is e.1.len in
+    let size = length-range_with_len e.1.page (charge shape e.1.len) in
+    let both = length-append (value_pages shape e.1) (all_pages shape es) in
+    omega (arith, rest, one, size, both)
+
+few_blocks : (shape : Shape) → IsShape shape → data_blocks shape ≤ 4096
+unfolding data_blocks
+few_blocks shape is = let most = is.blocks_most in omega (arith, most)
+
+pub limit_few : (shape : Shape) → IsShape shape → limit shape ≤ 1048576
+unfolding limit
+limit_few shape is =
+    let few = few_blocks shape is in
+    let pages = is.block_most in
+    let part : dense shape ≤ 256 = omega (arith, pages) in
+    let product : (data_blocks shape - 1) * dense shape ≤ 4096 * dense shape = mul-le-mul_right (dense shape) (omega (arith, few)) in
+    omega (arith, product, part)
+
+module _ (shape : Shape) (flash : Flash) (arena : Frames) (runs : List Kept) (active frozen : List Entry) (named : List ℕ) (start : Walk) where
+  pub left_one : (w : Walk) (xs ys : List (Key × Place)) → IsLeft w flash arena runs active frozen xs → IsLeft w flash arena runs active frozen ys → xs ≡ ys
+  left_one w xs ys a b = a.is ∙ ap (λ (ess : List (List Entry)). wanted (is_wanted w.position) (visible (active ∷ frozen ∷ ess))) (one_of_each flash arena runs a.ess b.ess a.stand b.stand) ∙ sym b.is
+
+  pub TakenTo-start : (live : Values) (es : List (Key × Place)) → IsLeft start flash arena runs active frozen es → AllByRecursion (λ e. IsPlace shape e.1) es → Lives shape named live [] → TakenTo shape flash arena runs active frozen named start start live 0
+  TakenTo-start live es left all lives = record { es = es; taken = []; rest = es; starts = left; all = all; to = ValuesTo-start shape flash named es live lives; left = left; many = refl }
+
+  pub few_taken : IsShape shape → (walk : Walk) (live : Values) (k : ℕ) → TakenTo shape flash arena runs active frozen named start walk live k → k ≤ limit shape
+  few_taken is walk live k t =
+      let parts = fits_parts shape named (all_pages shape t.taken) (of_true (fits shape named (all_pages shape t.taken)) t.to.lives.placed_well) in
+      let few = parts.few in
+      let some = pages_some shape is t.taken in
+      let many = t.many in
+      omega (arith, few, some, many)
+
+-- what an answer of the walk says of what was left
+pub gives_put : (key : Key) (page len : ℕ) (rest later : List (Key × Place)) → Gives (Some (Put key page len)) rest later → rest ≡ (key, place page len) ∷ later
+gives_put key page len [] later g = let none : ◌≡◌ {A = Option RustEntry} (Some (Put key page len)) None = g.0 in cc
+gives_put key page len (x ∷ rest) later g =
+    let same_key : key ≡ x.0 = ap (λ (e : Entry). e.0) g.0 in
+    let some : ◌≡◌ {A = Option Place} (Some (place page len)) (Some x.1) = ap (λ (e : Entry). e.1) g.0 in
+    let same_place : place page len ≡ x.1 = cc in
+    λ i. (sym same_key i, sym same_place i) ∷ sym g.1 i
+
+pub gives_gone : (key : Key) (rest later : List (Key × Place)) → Gives (Some (Gone key)) rest later → ⊥
+gives_gone key [] later g = let none : ◌≡◌ {A = Option RustEntry} (Some (Gone key)) None = g.0 in cc
+gives_gone key (x ∷ rest) later g = let some : ◌≡◌ {A = Option Place} None (Some x.1) = ap (λ (e : Entry). e.1) g.0 in cc
+
+pub gives_none : (rest later : List (Key × Place)) → Gives None rest later → rest ≡ []
+gives_none [] later g = refl
+gives_none (x ∷ rest) later g = absurd g
+
+module _ (shape : Shape) (flash : Flash) (arena : Frames) (runs : List Kept) (active frozen : List Entry) (named : List ℕ) (start walk : Walk) (live : Values) (k : ℕ) (t : TakenTo shape flash arena runs active frozen named start walk live k) where
+  abbrev of_start : List (Key × Place) → Type 0
+  of_start es = IsLeft start flash arena runs active frozen es
+
+  abbrev left_after : Walk → Flash → List (Key × Place) → Type 0
+  left_after w f rest = IsLeft w f arena runs active frozen rest
+
+  module _ (walk' : Walk) (at after : Flash) (same : at ≡ flash) where
+    here : left_after walk at t.rest
+    here = subst (λ (f : Flash). left_after walk f t.rest) (sym same) t.left
+
+    pub put_next : (key : Key) (page len : ℕ) → after ≡ flash → ((rest : List (Key × Place)) → left_after walk at rest → (later : List (Key × Place)) × Gives (Some (Put key page len)) rest later × left_after walk' after later)
+        → (later : List (Key × Place)) × (t.rest ≡ (key, place page len) ∷ later) × left_after walk' flash later
+    put_next key page len still gives = let g = gives t.rest here in (g.0, gives_put key page len t.rest g.0 g.1, subst (λ (f : Flash). left_after walk' f g.0) still g.2)
+
+    pub gone_next : (key : Key) → ((rest : List (Key × Place)) → left_after walk at rest → (later : List (Key × Place)) × Gives (Some (Gone key)) rest later × left_after walk' after later) → ⊥
+    gone_next key gives = let g = gives t.rest here in gives_gone key t.rest g.0 g.1
+
+    pub none_next : ((rest : List (Key × Place)) → left_after walk at rest → (later : List (Key × Place)) × Gives None rest later × left_after walk' after later) → t.rest ≡ []
+    none_next gives = let g = gives t.rest here in gives_none t.rest g.0 g.1
+
+  module _ (key : Key) (at : Place) (later : List (Key × Place)) (split : t.rest ≡ (key, at) ∷ later) where
+    pub place_next : IsPlace shape at
+    place_next = (subst (AllByRecursion (λ e. IsPlace shape e.1)) split (all_behind (λ e. IsPlace shape e.1) t.taken t.rest (subst (AllByRecursion (λ e. IsPlace shape e.1)) (sym t.to.split) t.all))).0
+
+    pub TakenTo-next : (walk' : Walk) (live' : Values) → IsLeft walk' flash arena runs active frozen later → Accepted shape flash named t.taken key at → Lives shape named live' (t.taken ++ (key, at) ∷ []) → TakenTo shape flash arena runs active frozen named start walk' live' (k + 1)
+    TakenTo-next walk' live' left accepted lives = record {
+      es = t.es;
+      taken = t.taken ++ (key, at) ∷ [];
+      rest = later;
+      starts = t.starts;
+      all = t.all;
+      to = ValuesTo-next shape flash named t.es live live' t.taken later key at (subst (ValuesTo shape flash named t.es live t.taken) split t.to) accepted lives;
+      left = left;
+      many = let more = length-append t.taken ((key, at) ∷ []) in let many = t.many in omega (arith, more, many);
+    }
+
+    pub TakenTo-refused : (old now new : BoardState) (e : PageError) → OnlyReads old now → now.pages ≡ flash → NotAccepted shape now new named t.taken key at e → (es : List (Key × Place)) → of_start es → PartNotOpened (values_of shape (page_at flash) named [] es) old new (opening_of e)
+    TakenTo-refused old now new (Damaged page) reads same why es left =
+        let here = subst (λ (f : Flash). values_of shape (page_at f) named (all_pages shape t.taken) ((key, at) ∷ later) ≡ Err (damaged page)) same (why.refusal later) in
+        subst (λ (xs : List (Key × Place)). values_of shape (page_at flash) named [] xs ≡ Err (damaged page)) (left_one shape flash arena runs active frozen named start start t.es es t.starts left)
+        (ValuesTo-refused shape flash named t.es live t.taken t.rest (damaged page) t.to (ap (values_of shape (page_at flash) named (all_pages shape t.taken)) split ∙ here))
+    TakenTo-refused old now new Fault reads same why es left = subst (λ (b : BoardState). Rose b.flash_faults new.flash_faults) reads.1 why.1.reads.flash
+
+  pub TakenTo-end : t.rest ≡ [] → (es : List (Key × Place)) → of_start es → ReadsValues shape flash named live es × (k ≡ length es)
+  TakenTo-end none es left =
+      let end = ValuesTo-end shape flash named t.es live t.taken (subst (ValuesTo shape flash named t.es live t.taken) none t.to) in
+      let same = left_one shape flash arena runs active frozen named start start t.es es t.starts left in
+      let all : t.taken ≡ es = end.2 ∙ same in
+      (record { values = end.0; read = sym (ap (values_of shape (page_at flash) named []) same) ∙ end.1; lives = subst (Lives shape named live) all t.to.lives }, sym t.many ∙ ap (λ (xs : List (Key × Place)). length xs) all)

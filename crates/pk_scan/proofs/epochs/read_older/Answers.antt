@@ -1,0 +1,19 @@
+use Rattle.std.proofs.Common.{◌≡◌, ◌∙◌, ◌*◌, ℕ, sym, ap, subst, Err}
+use Rattle.std.specs.Prelude.{slice_index}
+use Rattle.pk_base.specs.Shape.{Shape}
+use Rattle.pk_base.specs.Page.{page_at}
+use Rattle.pk_base.specs.Refusal.{damaged}
+use Rattle.pk_model.specs.Found.{older_epoch}
+use Rattle.pk_scan.proofs.EpochsHeld.{older_not_named, older_without}
+use Rattle.pk_scan.proofs.epochs.read_older.Goals as goal
+
+pub returns-in-None-clause-held : goal.returns-in-None-clause-held
+returns-in-None-clause-held g c =
+    older_not_named c.args.root.now.shape (g.B.Nand.state c.args.board.now).pages c.args.root.now.root c.args.into.now (sym c.in-None.is ∙ c.older.ensures) c.requires.empty
+
+pub returns-then-len-eq0-clause-err : goal.returns-then-len-eq0-clause-err
+returns-then-len-eq0-clause-err g c =
+    let size : c.block_pages.result ≡ c.args.root.now.shape.block_pages = c.block_pages.ensures.value ∙ ap (λ (s : Shape). s.block_pages) c.shape.ensures in
+    subst (λ (n : ℕ). older_epoch c.args.root.now.shape (page_at (g.B.Nand.state c.args.board.now).pages) c.args.root.now.root ≡ Err (damaged (slice_index c.in-Some.pair 0 * n))) (sym size)
+    (older_without c.args.root.now.shape (g.B.Nand.state c.args.board.now).pages c.args.root.now.root c.in-Some.pair (sym c.in-Some.is ∙ c.older.ensures) c.in-Ok.field-0 c.replay.new.into (rw (c.shape.ensures, c.epoch.ensures) at c.in-Ok.ensures.replayed)
+    (sym c.len.ensures.len ∙ c.if-len-eq0.true))

@@ -1,0 +1,51 @@
+use Rattle.std.proofs.Common.{◌≡◌, ◌∙◌, ℕ, suc, ◌+◌, refl, subst, arith}
+use Rattle.pk_scan.proofs.RootFacts.{counts_four, runs_four}
+use Rattle.pk_scan.proofs.RunsHeld.{reads_none, reads_both, RunsTo, RunsTo-start, frame_free, RunsTo-next, RunsTo-refused, RunsTo-end}
+use Rattle.pk_scan.proofs.levels.load_runs.Goals as goal
+
+pub loop-place-init : goal.loop-place-init
+loop-place-init g c = record {
+  runs = RunsTo-start c.args.root.now.shape c.args.root.now.root (counts_four c.args.root.now.shape c.args.root.now.root c.requires.grammar) (runs_four c.args.root.now.shape c.args.root.now.root c.requires.grammar)
+      (g.B.Nand.state c.args.board.now).pages c.args.levels.now.pinned c.args.arena.now c.args.levels.now c.requires.shape refl c.known.ensures.levels.four c.requires.frames c.requires.free;
+  reads = reads_none (g.B.Nand.state c.args.board.now);
+  pages = refl;
+  ready = c.requires.ready;
+  buffer = c.requires.room;
+}
+
+pub load_level-requires-clause-free : goal.load_level-requires-clause-free
+load_level-requires-clause-free g c =
+    let k = c.loop-place.place in
+    frame_free c.args.root.now.shape c.args.root.now.root (counts_four c.args.root.now.shape c.args.root.now.root c.requires.grammar) (runs_four c.args.root.now.shape c.args.root.now.root c.requires.grammar)
+    (g.B.Nand.state c.args.board.now).pages c.args.levels.now.pinned c.loop-place.arena c.loop-place.levels k c.loop-place.invariant.runs c.loop-place-test.true (k + 1) (omega arith) (omega arith)
+
+pub loop-place-preserved : goal.loop-place-preserved
+loop-place-preserved g c =
+    let k = c.loop-place.place in
+    let level : suc k ≡ k + 1 = omega arith in
+    let pages = c.loop-place.invariant.pages in
+    record {
+      runs = subst (λ (n : ℕ). RunsTo c.args.root.now.shape c.args.root.now.root (g.B.Nand.state c.args.board.now).pages c.args.levels.now.pinned c.load_level.new.arena c.load_level.new.levels n) level
+          (RunsTo-next c.args.root.now.shape c.args.root.now.root (counts_four c.args.root.now.shape c.args.root.now.root c.requires.grammar) (runs_four c.args.root.now.shape c.args.root.now.root c.requires.grammar)
+          (g.B.Nand.state c.args.board.now).pages c.args.levels.now.pinned c.loop-place.arena c.loop-place.levels k c.loop-place.invariant.runs c.loop-place-test.true (k + 1) (omega arith) (omega arith)
+          c.load_level.new.arena c.load_level.new.levels (rw pages at c.in-Ok.ensures.loaded));
+      reads = reads_both (g.B.Nand.state c.args.board.now) (g.B.Nand.state c.loop-place.board) (g.B.Nand.state c.load_level.new.board) c.loop-place.invariant.reads c.in-Ok.ensures.reads;
+      pages = c.in-Ok.ensures.pages ∙ pages;
+      ready = c.in-Ok.ensures.ready;
+      buffer = c.in-Ok.ensures.buffer ∙ c.loop-place.invariant.buffer;
+    }
+
+pub returns-in-Err-clause-err : goal.returns-in-Err-clause-err
+returns-in-Err-clause-err g c =
+    let k = c.loop-place.place in
+    let pages = c.loop-place.invariant.pages in
+    RunsTo-refused c.args.root.now.shape c.args.root.now.root (counts_four c.args.root.now.shape c.args.root.now.root c.requires.grammar) (runs_four c.args.root.now.shape c.args.root.now.root c.requires.grammar)
+    (g.B.Nand.state c.args.board.now).pages c.args.levels.now.pinned c.loop-place.arena c.loop-place.levels k c.loop-place.invariant.runs c.loop-place-test.true (k + 1) (omega arith) (omega arith)
+    (g.B.Nand.state c.args.board.now) (g.B.Nand.state c.loop-place.board) (g.B.Nand.state c.load_level.new.board) c.in-Err.error c.loop-place.invariant.reads (rw pages at c.in-Err.ensures.err)
+
+pub returns-clause-held : goal.returns-clause-held
+returns-clause-held g c =
+    let last : c.loop-place.place ≡ 4 = omega (arith, c.loop-place-test.false, c.loop-place.auto.place-end) in
+    RunsTo-end c.args.root.now.shape c.args.root.now.root (counts_four c.args.root.now.shape c.args.root.now.root c.requires.grammar) (runs_four c.args.root.now.shape c.args.root.now.root c.requires.grammar)
+    (g.B.Nand.state c.args.board.now).pages c.args.levels.now.pinned c.loop-place.arena c.loop-place.levels
+    (subst (λ (n : ℕ). RunsTo c.args.root.now.shape c.args.root.now.root (g.B.Nand.state c.args.board.now).pages c.args.levels.now.pinned c.loop-place.arena c.loop-place.levels n) last c.loop-place.invariant.runs)

@@ -1,0 +1,88 @@
+use Rattle.std.proofs.Common.{◌∙◌, [], refl, sym, subst, arith}
+use Rattle.pk_base.specs.Page.{Flash, page_at}
+use Rattle.pk_model.specs.Values.{values_of}
+use Rattle.pk_scan.specs.Places.{place}
+use Rattle.pk_scan.specs.Accepted.{Accepted}
+use Rattle.pk_scan.specs.Opening.{PartNotOpened}
+use Rattle.pk_scan.specs.declared.errors.OpenError.{OpenError}
+use Rattle.pk_scan.proofs.RunsHeld.{reads_none, reads_both}
+use Rattle.pk_scan.proofs.ValuesHeld.{limit_few, few_taken, TakenTo-start, put_next, gone_next, none_next, place_next, TakenTo-next, TakenTo-refused, TakenTo-end}
+use Rattle.pk_scan.proofs.visible.read_values.Goals as goal
+
+pub overflow_add-keys-end : goal.overflow_add-keys-end
+overflow_add-keys-end g c = let few = limit_few c.args.shape.now c.known.ensures in omega (arith, few, c.limit-keys-end.ensures.value)
+
+pub loop-keys-init : goal.loop-keys-init
+loop-keys-init g c = record {
+  taken = TakenTo-start c.args.shape.now (g.B.Nand.state c.args.board.now).pages c.args.arena.now c.args.levels.now.runs c.args.active.now.entries c.args.frozen.now.entries c.args.named.now c.args.walk.now c.args.live.now c.requires.left.0 c.requires.left.1 c.requires.left.2 c.requires.none;
+  walk = c.requires.walk;
+  reads = reads_none (g.B.Nand.state c.args.board.now);
+  pages = refl;
+  ready = c.requires.ready;
+  buffer = c.requires.room;
+}
+
+pub accept_value-requires-clause-place : goal.accept_value-requires-clause-place
+accept_value-requires-clause-place g c =
+    let pages = c.loop-keys.invariant.pages in
+    let still = c.in-Ok-Some-Put.ensures.same ∙ pages in
+    let put = put_next c.args.shape.now (g.B.Nand.state c.args.board.now).pages c.args.arena.now c.args.levels.now.runs c.args.active.now.entries c.args.frozen.now.entries c.args.named.now c.args.walk.now c.loop-keys.walk c.loop-keys.live c.loop-keys.keys c.loop-keys.invariant.taken c.next.new.self (g.B.Nand.state c.loop-keys.board).pages (g.B.Nand.state c.next.new.board).pages pages c.in-Ok-Some-Put.key c.in-Ok-Some-Put.page c.in-Ok-Some-Put.len still
+    (rw (c.in-Ok-Some-Put.field-0-is, c.in-Ok-Some-Put.field-0-0-is) at c.in-Ok-Some-Put.ensures.gives) in
+    place_next c.args.shape.now (g.B.Nand.state c.args.board.now).pages c.args.arena.now c.args.levels.now.runs c.args.active.now.entries c.args.frozen.now.entries c.args.named.now c.args.walk.now c.loop-keys.walk c.loop-keys.live c.loop-keys.keys c.loop-keys.invariant.taken c.in-Ok-Some-Put.key (place c.in-Ok-Some-Put.page c.in-Ok-Some-Put.len) put.0 put.1
+
+pub returns-in-Err-accept_value-clause-err : goal.returns-in-Err-accept_value-clause-err
+returns-in-Err-accept_value-clause-err g c es left =
+    let pages = c.loop-keys.invariant.pages in
+    let still = c.in-Ok-Some-Put.ensures.same ∙ pages in
+    let put = put_next c.args.shape.now (g.B.Nand.state c.args.board.now).pages c.args.arena.now c.args.levels.now.runs c.args.active.now.entries c.args.frozen.now.entries c.args.named.now c.args.walk.now c.loop-keys.walk c.loop-keys.live c.loop-keys.keys c.loop-keys.invariant.taken c.next.new.self (g.B.Nand.state c.loop-keys.board).pages (g.B.Nand.state c.next.new.board).pages pages c.in-Ok-Some-Put.key c.in-Ok-Some-Put.page c.in-Ok-Some-Put.len still
+    (rw (c.in-Ok-Some-Put.field-0-is, c.in-Ok-Some-Put.field-0-0-is) at c.in-Ok-Some-Put.ensures.gives) in
+    let old = g.B.Nand.state c.args.board.now in
+    let now = g.B.Nand.state c.next.new.board in
+    let step = c.in-Ok-Some-Put.ensures.reads in
+    let t = c.loop-keys.invariant.taken in
+    subst (λ (e : OpenError). PartNotOpened (values_of c.args.shape.now (page_at old.pages) c.args.named.now [] es) old (g.B.Nand.state c.accept_value.new.board) e) (sym c.opening_error.ensures)
+    (TakenTo-refused c.args.shape.now (g.B.Nand.state c.args.board.now).pages c.args.arena.now c.args.levels.now.runs c.args.active.now.entries c.args.frozen.now.entries c.args.named.now c.args.walk.now c.loop-keys.walk c.loop-keys.live c.loop-keys.keys c.loop-keys.invariant.taken c.in-Ok-Some-Put.key (place c.in-Ok-Some-Put.page c.in-Ok-Some-Put.len) put.0 put.1 old now (g.B.Nand.state c.accept_value.new.board) c.in-Err-accept_value.error
+    (reads_both old (g.B.Nand.state c.loop-keys.board) now c.loop-keys.invariant.reads (step.0, step.2)) still (c.in-Err-accept_value.ensures.err t.taken t.to.lives) es left)
+
+pub unreachable-requires : goal.unreachable-requires
+unreachable-requires g c =
+    gone_next c.args.shape.now (g.B.Nand.state c.args.board.now).pages c.args.arena.now c.args.levels.now.runs c.args.active.now.entries c.args.frozen.now.entries c.args.named.now c.args.walk.now c.loop-keys.walk c.loop-keys.live c.loop-keys.keys c.loop-keys.invariant.taken c.next.new.self (g.B.Nand.state c.loop-keys.board).pages (g.B.Nand.state c.next.new.board).pages c.loop-keys.invariant.pages c.in-Ok-Some-Gone.field-0-0-0
+    (rw (c.in-Ok-Some-Gone.field-0-is, c.in-Ok-Some-Gone.field-0-0-is) at c.in-Ok-Some-Gone.ensures.gives)
+
+pub returns-in-Ok-None-clause-read : goal.returns-in-Ok-None-clause-read
+returns-in-Ok-None-clause-read g c es left =
+    (TakenTo-end c.args.shape.now (g.B.Nand.state c.args.board.now).pages c.args.arena.now c.args.levels.now.runs c.args.active.now.entries c.args.frozen.now.entries c.args.named.now c.args.walk.now c.loop-keys.walk c.loop-keys.live c.loop-keys.keys c.loop-keys.invariant.taken (none_next c.args.shape.now (g.B.Nand.state c.args.board.now).pages c.args.arena.now c.args.levels.now.runs c.args.active.now.entries c.args.frozen.now.entries c.args.named.now c.args.walk.now c.loop-keys.walk c.loop-keys.live c.loop-keys.keys c.loop-keys.invariant.taken c.next.new.self (g.B.Nand.state c.loop-keys.board).pages (g.B.Nand.state c.next.new.board).pages c.loop-keys.invariant.pages (rw c.in-Ok-None.field-0-is at c.in-Ok-None.ensures.gives)) es left).0
+
+pub returns-in-Ok-None-clause-keys : goal.returns-in-Ok-None-clause-keys
+returns-in-Ok-None-clause-keys g c es left =
+    (TakenTo-end c.args.shape.now (g.B.Nand.state c.args.board.now).pages c.args.arena.now c.args.levels.now.runs c.args.active.now.entries c.args.frozen.now.entries c.args.named.now c.args.walk.now c.loop-keys.walk c.loop-keys.live c.loop-keys.keys c.loop-keys.invariant.taken (none_next c.args.shape.now (g.B.Nand.state c.args.board.now).pages c.args.arena.now c.args.levels.now.runs c.args.active.now.entries c.args.frozen.now.entries c.args.named.now c.args.walk.now c.loop-keys.walk c.loop-keys.live c.loop-keys.keys c.loop-keys.invariant.taken c.next.new.self (g.B.Nand.state c.loop-keys.board).pages (g.B.Nand.state c.next.new.board).pages c.loop-keys.invariant.pages (rw c.in-Ok-None.field-0-is at c.in-Ok-None.ensures.gives)) es left).1
+
+pub returns-in-Ok-None-clause-reads : goal.returns-in-Ok-None-clause-reads
+returns-in-Ok-None-clause-reads g c =
+    let step = c.in-Ok-None.ensures.reads in
+    reads_both (g.B.Nand.state c.args.board.now) (g.B.Nand.state c.loop-keys.board) (g.B.Nand.state c.next.new.board) c.loop-keys.invariant.reads (step.0, step.2)
+
+pub loop-keys-preserved : goal.loop-keys-preserved
+loop-keys-preserved g c =
+    let pages = c.loop-keys.invariant.pages in
+    let still = c.in-Ok-Some-Put.ensures.same ∙ pages in
+    let put = put_next c.args.shape.now (g.B.Nand.state c.args.board.now).pages c.args.arena.now c.args.levels.now.runs c.args.active.now.entries c.args.frozen.now.entries c.args.named.now c.args.walk.now c.loop-keys.walk c.loop-keys.live c.loop-keys.keys c.loop-keys.invariant.taken c.next.new.self (g.B.Nand.state c.loop-keys.board).pages (g.B.Nand.state c.next.new.board).pages pages c.in-Ok-Some-Put.key c.in-Ok-Some-Put.page c.in-Ok-Some-Put.len still
+    (rw (c.in-Ok-Some-Put.field-0-is, c.in-Ok-Some-Put.field-0-0-is) at c.in-Ok-Some-Put.ensures.gives) in
+    let old = g.B.Nand.state c.args.board.now in
+    let now = g.B.Nand.state c.next.new.board in
+    let step = c.in-Ok-Some-Put.ensures.reads in
+    let t = c.loop-keys.invariant.taken in
+    record {
+      taken = TakenTo-next c.args.shape.now (g.B.Nand.state c.args.board.now).pages c.args.arena.now c.args.levels.now.runs c.args.active.now.entries c.args.frozen.now.entries c.args.named.now c.args.walk.now c.loop-keys.walk c.loop-keys.live c.loop-keys.keys c.loop-keys.invariant.taken c.in-Ok-Some-Put.key (place c.in-Ok-Some-Put.page c.in-Ok-Some-Put.len) put.0 put.1 c.next.new.self c.accept_value.new.live put.2
+          (subst (λ (f : Flash). Accepted c.args.shape.now f c.args.named.now t.taken c.in-Ok-Some-Put.key (place c.in-Ok-Some-Put.page c.in-Ok-Some-Put.len)) still (c.in-Ok.ensures.accepted t.taken t.to.lives)) (c.in-Ok.ensures.lives t.taken t.to.lives);
+      walk = c.in-Ok-Some-Put.ensures.shape ∙ c.loop-keys.invariant.walk;
+      reads = reads_both old now (g.B.Nand.state c.accept_value.new.board) (reads_both old (g.B.Nand.state c.loop-keys.board) now c.loop-keys.invariant.reads (step.0, step.2)) (_, c.in-Ok.ensures.ok);
+      pages = c.in-Ok.ensures.pages ∙ still;
+      ready = c.in-Ok.ensures.ready;
+      buffer = c.in-Ok.ensures.buffer ∙ c.loop-keys.invariant.buffer;
+    }
+
+pub unreachable-requires-2 : goal.unreachable-requires-2
+unreachable-requires-2 g c =
+    let few = few_taken c.args.shape.now (g.B.Nand.state c.args.board.now).pages c.args.arena.now c.args.levels.now.runs c.args.active.now.entries c.args.frozen.now.entries c.args.named.now c.args.walk.now c.known.ensures c.loop-keys.walk c.loop-keys.live c.loop-keys.keys c.loop-keys.invariant.taken in
+    absurd (omega (arith, few, c.loop-keys-test.false, c.limit-keys-end.ensures.value))

@@ -1,0 +1,127 @@
+-- Opening, part by part: what the reading of a flash finds, and why it refuses.
+use Rattle.std.specs.Prelude.{◌≡◌, ⊤, ℕ, ◌+◌, ◌-◌, ◌<◌, ◌≤◌, List, [], slice_index, slice_index_or, take, drop, Result, Ok, Err}
+use Rattle.std.specs.List.{AllByRecursion}
+use Rattle.pk_base.specs.Shape.{Shape, cap, caps, epoch_pages}
+use Rattle.pk_base.specs.Key.{Key}
+use Rattle.pk_base.specs.Entry.{Entry, Place}
+use Rattle.pk_base.specs.EntryBytes.{IsEntry}
+use Rattle.pk_base.specs.Page.{Flash, page_at, page_in}
+use Rattle.pk_base.specs.Refusal.{Refusal, not_formatted, damaged}
+use Rattle.pk_nand.specs.BoardState.{BoardState}
+use Rattle.pk_nand.specs.Calls.{Rose}
+use Rattle.pk_nand.specs.Erased.{after_reads}
+use Rattle.pk_meta.specs.Run.{run}
+use Rattle.pk_rootfmt.specs.Root.{Root}
+use Rattle.pk_rootfmt.specs.Held.{total}
+use Rattle.pk_buf.specs.Table.{Table}
+use Rattle.pk_jrn.specs.Epochs.{JournalEpoch, IsWhole, found_at_opening, Fits}
+use Rattle.pk_jrn.specs.Replays.{buffer_of}
+use Rattle.pk_pin.specs.Frames.{Frames, free_frames}
+use Rattle.pk_run.specs.Kept.{Kept, Stands}
+use Rattle.pk_level.specs.Levels.{Levels, StandEach, with_run}
+use Rattle.pk_model.specs.Found.{Found, found_under, newest_epoch, older_epoch, runs_from}
+use Rattle.pk_live.specs.Values.{Values}
+use Rattle.pk_model.specs.Values.{values_of}
+use Rattle.pk_model.specs.Reading.{reading}
+use Rattle.pk_scan.specs.Lives.{Lives}
+use Rattle.pk_scan.specs.Runs.{RunsStand}
+use Rattle.pk_scan.specs.declared.errors.PageError.{PageError}
+use Rattle.pk_scan.specs.declared.errors.PageError.TheVariants.{Damaged as PageDamaged, Fault as PageFault}
+use Rattle.pk_scan.specs.declared.errors.OpenError.{OpenError}
+use Rattle.pk_scan.specs.declared.errors.OpenError.TheVariants.{NotFormatted, Damaged, Fault, Memory}
+
+-- nothing was done but reads
+abbrev pub OnlyReads : BoardState → BoardState → Type 0
+OnlyReads old new = (n : ℕ) × (new ≡ after_reads n old)
+
+-- ---- refusals
+
+-- why the whole was not read: the reading of the flash refuses in the same way, or a read failed; want of memory is free
+abbrev pub NotOpened : Shape → BoardState → BoardState → OpenError → Type 0
+NotOpened shape old new NotFormatted = reading shape old.pages [] ≡ Err not_formatted
+NotOpened shape old new (Damaged page) = reading shape old.pages [] ≡ Err (damaged page)
+NotOpened shape old new Fault = Rose old.flash_faults new.flash_faults
+NotOpened shape old new Memory = ⊤
+
+-- why a part was not read, by what the reading of the flash has for it
+abbrev pub PartNotOpened : {X : Type 0} → Result X Refusal → BoardState → BoardState → OpenError → Type 0
+PartNotOpened part old new NotFormatted = ⊥
+PartNotOpened part old new (Damaged page) = part ≡ Err (damaged page)
+PartNotOpened part old new Fault = Rose old.flash_faults new.flash_faults
+PartNotOpened part old new Memory = ⊤
+
+abbrev pub PartNotRead : {X : Type 0} → Result X Refusal → BoardState → BoardState → PageError → Type 0
+PartNotRead part old new (PageDamaged page) = part ≡ Err (damaged page)
+PartNotRead part old new PageFault = Rose old.flash_faults new.flash_faults
+
+-- ---- epochs
+
+-- the reading of an epoch finds these entries, and the write buffer holds them
+pub record HoldsEpoch (shape : Shape) (read : Result (List Entry) Refusal) (into : Table) (entries : List Entry) : Type 0 where
+  pub finds : read ≡ Ok entries
+  pub held : into ≡ buffer_of shape entries
+  pub each : AllByRecursion (IsEntry shape) entries
+
+-- the older epoch, where the root names one
+abbrev pub OlderHeld : Shape → Flash → Root → Table → Type 0
+OlderHeld shape flash root into = (entries : List Entry) × HoldsEpoch shape (older_epoch shape (page_at flash) root) into entries
+
+-- The newest epoch takes no more pages; those that are written are those before the first that is not Whole.
+abbrev pub IsFoundEpoch : Shape → Flash → Root → JournalEpoch → Type 0
+IsFoundEpoch shape flash root epoch =
+    (used : ℕ) × (epoch ≡ found_at_opening shape root.epoch root.newest used) × (used < epoch_pages shape → IsWhole flash (page_in shape root.newest used) → ⊥)
+
+-- and the newest one
+abbrev pub NewestHeld : Shape → Flash → Root → Table → JournalEpoch → Type 0
+NewestHeld shape flash root into epoch =
+    ((entries : List Entry) × HoldsEpoch shape (newest_epoch shape (page_at flash) root) into entries)
+    × IsFoundEpoch shape flash root epoch × Fits epoch flash
+
+-- ---- runs
+
+-- the reading of the runs finds these lists, and the levels stand for them
+pub record HoldsRuns (shape : Shape) (flash : Flash) (root : Root) (arena : Frames) (levels : Levels) (ess : List (List Entry)) : Type 0 where
+  pub finds : runs_from shape (page_at flash) 1 root.counts root.runs ≡ Ok ess
+  pub stand : StandEach flash arena levels.runs ess
+
+-- The run of a level was read, and stands at it; the frames of the others contain what they contained, and so many are free
+-- still.
+pub record LoadsLevel (shape : Shape) (root : Root) (level : ℕ) (flash : Flash) (before after : Frames) (old new : Levels) : Type 0 where
+  pub entries : List Entry
+  pub kept : Kept
+  pub finds : run shape (page_at flash) level (slice_index root.counts (level - 1)) (slice_index_or root.runs (level - 1) []) ≡ Ok entries
+  pub stands : Stands kept flash after entries
+  pub levels : new ≡ with_run old level kept
+  pub others : RunsStand before after
+  pub page : after.page_bytes ≡ before.page_bytes
+  pub pinned : level ≤ old.pinned → free_frames before ≤ free_frames after + cap shape level
+  pub unpinned : old.pinned < level → free_frames before ≤ free_frames after
+
+-- So many frames are wanted for the levels behind the first ones, where so many levels are pinned.
+abbrev pub wanted_behind : Shape → ℕ → ℕ → ℕ
+wanted_behind shape pinned levels = total (drop levels (take pinned (caps shape)))
+
+-- what a page's error is for the whole flash
+abbrev pub opening_of : PageError → OpenError
+opening_of (PageDamaged page) = Damaged page
+opening_of PageFault = Fault
+
+-- ---- all lists
+
+-- What is found under the root is in memory: the newest epoch in the active buffer, the older one in the frozen buffer, and the
+-- runs in the levels.
+pub record HoldsFound (shape : Shape) (flash : Flash) (root : Root) (active frozen : Table) (epoch : JournalEpoch) (arena : Frames) (levels : Levels) (found : Found) : Type 0 where
+  pub finds : found_under shape (page_at flash) root ≡ Ok found
+  pub active_is : active ≡ buffer_of shape found.newest
+  pub frozen_is : frozen ≡ buffer_of shape found.older
+  pub stand : StandEach flash arena levels.runs found.runs
+  pub epoch_is : IsFoundEpoch shape flash root epoch
+  pub epoch_fits : Fits epoch flash
+
+-- ---- values
+
+-- The reading of the flash finds values at these places, one after another, and the live map stands for them.
+pub record ReadsValues (shape : Shape) (flash : Flash) (named : List ℕ) (live : Values) (es : List (Key × Place)) : Type 0 where
+  pub values : List (Key × List ℕ)
+  pub read : values_of shape (page_at flash) named [] es ≡ Ok values
+  pub lives : Lives shape named live es

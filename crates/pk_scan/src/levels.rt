@@ -1,0 +1,110 @@
+//! The four runs, each read into a run of its level.
+ghost use Rattle.std.specs.Prelude.{◌≡◌, ◌-◌, ◌≤◌, List, [], length, slice_index, slice_index_or, true, OnOk, IfErr};
+ghost use Rattle.pk_base.specs.Entry.{Entry};
+ghost use Rattle.pk_meta.specs.Run.{run};
+ghost use Rattle.pk_base.specs.Shape.{cap};
+ghost use Rattle.pk_base.specs.Page.{page_at};
+ghost use Rattle.pk_model.specs.Found.{runs_from};
+ghost use Rattle.pk_nand.specs.Calls.{IsReady};
+ghost use Rattle.pk_pin.specs.Frames.{free_frames};
+ghost use Rattle.pk_rootfmt.specs.Root.{is_root};
+ghost use Rattle.pk_scan.specs.Opening.{OnlyReads, PartNotOpened, HoldsRuns, LoadsLevel, opening_of, wanted_behind};
+
+use crate::errors::{OpenError, PageError};
+use crate::runs::load_run;
+use pk_level::Levels;
+use pk_nand::Nand;
+use pk_pin::PinArena;
+use pk_region::Region;
+use pk_rootfmt::Root;
+use pk_run::Run;
+
+/// What a page's error is for the whole flash.
+pub fn opening_error(error: PageError) -> OpenError
+    ensures { result ≡ opening_of error }
+{
+    match error {
+        PageError::Damaged { page } => OpenError::Damaged { page },
+        PageError::Fault => OpenError::Fault,
+    }
+}
+
+// Reads the run of a level, which takes the place of the one that stands there.
+fn load_level<B: Nand, A: Region>(
+    alloc: A,
+    board: &mut B,
+    root: &Root<A>,
+    level: u8,
+    arena: &mut PinArena<A>,
+    levels: &mut Levels<A>,
+    buf: &mut [u8],
+) -> Result<(), OpenError>
+    requires level { 1 ≤ level × level ≤ 4 }
+    requires ready { IsReady (B.state board.old) root.now.shape }
+    requires grammar { is_root root.now.shape root.now.root ≡ true }
+    requires shape { levels.old.shape ≡ root.now.shape }
+    requires frames { arena.old.page_bytes ≡ root.now.shape.page_bytes }
+    requires free { level ≤ levels.old.pinned → cap root.now.shape level ≤ free_frames arena.old }
+    requires room { length buf.old ≡ root.now.shape.page_bytes }
+    ensures loaded { OnOk result (LoadsLevel root.now.shape root.now.root level (B.state board.old).pages arena.old arena.new levels.old levels.new) }
+    ensures reads { OnOk result (OnlyReads (B.state board.old) (B.state board.new)) }
+    ensures err { IfErr result (λ e. PartNotOpened (run root.now.shape (page_at (B.state board.old).pages) level (slice_index root.now.root.counts (level - 1)) (slice_index_or root.now.root.runs (level - 1) [])) (B.state board.old) (B.state board.new) e) }
+    ensures pages { (B.state board.new).pages ≡ (B.state board.old).pages }
+    ensures ready { IsReady (B.state board.new) root.now.shape }
+    ensures buffer { length buf.new ≡ length buf.old }
+{
+    let shape = *root.shape();
+    shape.known();
+    let pins = level <= levels.pinned();
+    match Run::new(alloc, shape, level) {
+        Ok(mut run) => {
+            let count = root.entries(level);
+            let blocks = root.blocks(level);
+            match load_run(board, arena, pins, count, blocks, &mut run, buf) {
+                Ok(()) => {
+                    run.known();
+                    levels.install_run(level, run);
+                    Ok(())
+                }
+                Err(error) => Err(opening_error(error)),
+            }
+        }
+        Err(_) => Err(OpenError::Memory),
+    }
+}
+
+/// Reads the four runs, each of which takes the place of the one that stands at its level. The arena has free frames for all
+/// pages of the levels that are pinned. `Damaged` names the first page that is wrong; `Fault` where a read failed; `Memory` where a
+/// run finds no memory. `buf` has the bytes of a page, which are lost.
+pub fn load_runs<B: Nand, A: Region>(
+    alloc: A,
+    board: &mut B,
+    root: &Root<A>,
+    arena: &mut PinArena<A>,
+    levels: &mut Levels<A>,
+    buf: &mut [u8],
+) -> Result<(), OpenError>
+    requires ready { IsReady (B.state board.old) root.now.shape }
+    requires grammar { is_root root.now.shape root.now.root ≡ true }
+    requires shape { levels.old.shape ≡ root.now.shape }
+    requires frames { arena.old.page_bytes ≡ root.now.shape.page_bytes }
+    requires free { wanted_behind root.now.shape levels.old.pinned 0 ≤ free_frames arena.old }
+    requires room { length buf.old ≡ root.now.shape.page_bytes }
+    ensures held { OnOk result ((ess : List (List Entry)) × HoldsRuns root.now.shape (B.state board.old).pages root.now.root arena.new levels.new ess) }
+    ensures pinned { OnOk result (levels.new.pinned ≡ levels.old.pinned) }
+    ensures shape { OnOk result (levels.new.shape ≡ levels.old.shape) }
+    ensures reads { OnOk result (OnlyReads (B.state board.old) (B.state board.new)) }
+    ensures err { IfErr result (λ e. PartNotOpened (runs_from root.now.shape (page_at (B.state board.old).pages) 1 root.now.root.counts root.now.root.runs) (B.state board.old) (B.state board.new) e) }
+    ensures pages { (B.state board.new).pages ≡ (B.state board.old).pages }
+    ensures ready { IsReady (B.state board.new) root.now.shape }
+    ensures buffer { length buf.new ≡ length buf.old }
+{
+    levels.known();
+    for place in 0..4u8 {
+        match load_level(alloc, board, root, place + 1, arena, levels, buf) {
+            Ok(()) => {}
+            Err(error) => return Err(error),
+        }
+    }
+    Ok(())
+}
