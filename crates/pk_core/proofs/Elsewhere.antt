@@ -19,7 +19,7 @@ use Rattle.pk_model.specs.Laws.{AnyByRecursion}
 use Rattle.pk_model.proofs.Commits.{member}
 use Rattle.pk_model.proofs.SamePages.{any_front, any_back}
 use Rattle.pk_data.specs.Laws.{SameValues}
-use Rattle.pk_core.specs.Agreeing.{HaveBlocks}
+use Rattle.pk_scan.specs.Opened.{HaveBlocks}
 
 -- ---- runs
 

@@ -50,7 +50,8 @@ use Rattle.pk_log.specs.State.{LogState, needs_freeze}
 use Rattle.pk_log.specs.Freezes.{CanFreeze, LogFroze}
 use Rattle.pk_log.proofs.Freezing.{none_of_firsts, none_named}
 use Rattle.pk_core.specs.Parts.{Parts}
-use Rattle.pk_core.specs.Agreeing.{AgreesWith, HaveBlocks}
+use Rattle.pk_scan.specs.Opened.{HaveBlocks}
+use Rattle.pk_core.specs.Agreeing.{AgreesWith}
 use Rattle.pk_core.specs.Moves.{StandsFor, Keeps, KeepsAll, BreaksAll}
 use Rattle.pk_core.proofs.Elsewhere.{StandEach-same}
 use Rattle.pk_core.proofs.Standing.{same_found}

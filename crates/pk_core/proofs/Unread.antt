@@ -26,7 +26,8 @@ use Rattle.pk_log.proofs.Standing.{logs_elsewhere}
 use Rattle.pk_data.specs.State.{DataState}
 use Rattle.pk_data.specs.Placed.{Placed}
 use Rattle.pk_core.specs.Parts.{Parts}
-use Rattle.pk_core.specs.Agreeing.{AgreesWith, HaveBlocks}
+use Rattle.pk_scan.specs.Opened.{HaveBlocks}
+use Rattle.pk_core.specs.Agreeing.{AgreesWith}
 
 -- the page is read, without the pending entries or with them
 abbrev pub IsReadBy : Shape → Root → Found → List Entry → ℕ → Type 0

@@ -8,21 +8,14 @@ use Rattle.pk_plan.specs.declared.owner.Owner.TheVariants.{Journal, Meta}
 use Rattle.pk_rootfmt.specs.Root.{Root}
 use Rattle.pk_pool.specs.declared.state.BlockState.TheVariants.{Owned}
 use Rattle.pk_pool.specs.Blocks.{used_by}
-use Rattle.pk_run.specs.Kept.{Kept}
 use Rattle.pk_level.specs.Levels.{StandEach}
 use Rattle.pk_model.specs.Found.{Found}
 use Rattle.pk_model.specs.Laws.{AnyByRecursion}
 use Rattle.pk_steps.specs.Under.{IsUnder, IsValuePage, places}
 use Rattle.pk_log.specs.Logs.{Logs}
 use Rattle.pk_data.specs.Placed.{HoldsValues, Placed}
+use Rattle.pk_scan.specs.Opened.{HaveBlocks}
 use Rattle.pk_core.specs.Parts.{Parts}
-
--- the runs have this shape, and these blocks
-abbrev pub HaveBlocks : Shape → List Kept → List (List ℕ) → Type 0
-HaveBlocks shape [] [] = ⊤
-HaveBlocks shape [] (bs ∷ bss) = ⊥
-HaveBlocks shape (r ∷ rs) [] = ⊥
-HaveBlocks shape (r ∷ rs) (bs ∷ bss) = (r.shape ≡ shape) × (r.blocks ≡ bs) × HaveBlocks shape rs bss
 
 -- The parts are those of what stands under the newest root: without is the map of the flash, all the one with the pending entries.
 pub record AgreesWith (d : Parts) (shape : Shape) (flash : Flash) (top : ℕ × Root) (found : Found) (without all : Map) : Type 0 where

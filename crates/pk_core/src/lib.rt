@@ -14,6 +14,7 @@ mod lookup;
 mod moves;
 mod noting;
 mod numbers;
+mod open;
 mod place;
 mod placing;
 mod quiet;

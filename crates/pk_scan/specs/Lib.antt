@@ -6,3 +6,5 @@ pub mod Accepted
 pub mod Runs
 pub mod Adopts
 pub mod Opening
+pub mod Reads
+pub mod Opened

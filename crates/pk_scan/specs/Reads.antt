@@ -1,0 +1,51 @@
+-- How many pages opening reads, by what stands on the flash.
+use Rattle.std.specs.Prelude.{ℕ, suc, ◌+◌, ◌*◌, List, [], ◌∷◌, length, nat_le, if◌then◌else◌, Option, Some, None, Result, Ok, Err}
+use Rattle.pk_base.specs.Key.{Key}
+use Rattle.pk_base.specs.Shape.{Shape, charge, pinned, run_pages}
+use Rattle.pk_base.specs.Entry.{Place}
+use Rattle.pk_base.specs.Page.{Page, Flash, page_at, erased, whole, torn, NumberedPages, pages_of_blocks}
+use Rattle.pk_base.specs.Refusal.{Refusal}
+use Rattle.pk_rootfmt.specs.Root.{Root}
+use Rattle.pk_rootfmt.specs.Newest.{newest_root}
+use Rattle.pk_model.specs.Found.{Found, found_under}
+use Rattle.pk_steps.specs.Under.{places}
+
+-- the pages up to the first that is not Whole, and that one
+abbrev pub pages_to_end : NumberedPages → ℕ
+pages_to_end [] = 0
+pages_to_end ((p, erased) ∷ pages) = 1
+pages_to_end ((p, torn) ∷ pages) = 1
+pages_to_end ((p, whole bytes) ∷ pages) = suc (pages_to_end pages)
+
+-- an epoch is read up to its end; one without blocks is not read
+abbrev pub epoch_reads : Shape → (ℕ → Page) → List ℕ → ℕ
+epoch_reads shape at blocks = pages_to_end (pages_of_blocks shape at blocks 0 (length blocks * shape.block_pages))
+
+-- The runs from this level on are read once for the first keys of their pages, and where they have no frames once more for their
+-- entries.
+abbrev pub run_reads : Shape → ℕ → ℕ → List ℕ → ℕ
+run_reads shape pinned level [] = 0
+run_reads shape pinned level (count ∷ counts) = (if nat_le level pinned then 1 else 2) * run_pages shape count + run_reads shape pinned (level + 1) counts
+
+-- each page of these values is read
+abbrev pub value_reads : Shape → List (Key × Place) → ℕ
+value_reads shape [] = 0
+value_reads shape (e ∷ es) = charge shape e.1.len + value_reads shape es
+
+-- All pages of the root blocks, the epochs, the runs and the values.
+unfoldable pub reads_under : Shape → (ℕ → Page) → ℕ → Root → Found → ℕ
+reads_under shape at frames root found =
+    2 * shape.block_pages + epoch_reads shape at root.older + epoch_reads shape at root.newest + run_reads shape (pinned shape frames) 1 root.counts
+    + value_reads shape (places found [])
+
+abbrev pub reads_if_found : Shape → (ℕ → Page) → ℕ → Root → Result Found Refusal → ℕ
+reads_if_found shape at frames root (Ok found) = reads_under shape at frames root found
+reads_if_found shape at frames root (Err refusal) = 0
+
+abbrev pub reads_if_root : Shape → (ℕ → Page) → ℕ → Option (ℕ × Root) → ℕ
+reads_if_root shape at frames None = 0
+reads_if_root shape at frames (Some top) = reads_if_found shape at frames top.1 (found_under shape at top.1)
+
+-- how many pages an opening with so many frames reads of a flash that holds a map
+unfoldable pub opened : Shape → Flash → ℕ → ℕ
+opened shape flash frames = reads_if_root shape (page_at flash) frames (newest_root shape (page_at flash))
