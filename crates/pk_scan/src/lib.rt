@@ -1,14 +1,18 @@
 //! Opening: what the flash holds is read part by part, by exact numbers of reads, up to the first page that is wrong.
 //! A value or a run is accepted exactly where the reading of a flash finds it; each refusal names the page that this reading
-//! names. The blocks that were found get their owners in the pool.
+//! names. The blocks that were found get their owners in the pool. `scan` does all of it in one call.
 #![tactic(auto)]
 
 mod accept;
 mod adopt;
+mod contents;
 mod epochs;
 mod errors;
 mod levels;
 mod lists;
+mod memory;
+mod names;
+mod opening;
 mod pages;
 mod runs;
 mod taken;
@@ -16,11 +20,13 @@ mod values;
 mod visible;
 
 pub use accept::accept_value;
-pub use adopt::{adopt_blocks, adopt_values};
+pub use adopt::{adopt_blocks, adopt_values, give_owners};
+pub use contents::Found;
 pub use epochs::{read_newest, read_older};
 pub use errors::{OpenError, PageError};
 pub use levels::{load_runs, opening_error};
 pub use lists::{find_root, read_lists};
+pub use opening::scan;
 pub use runs::load_run;
 pub use taken::{starts_with_none, take_value};
 pub use values::check_value;
@@ -30,3 +36,5 @@ pub use visible::read_values;
 mod tests;
 #[cfg(test)]
 mod tests_of_runs;
+#[cfg(test)]
+mod tests_of_scan;
