@@ -23,7 +23,7 @@ pub mod Opened
 pub mod ValuesHeld
 pub mod Under
 pub mod Wanted
-pub mod Names
+pub mod Listing
 pub mod Owners
 pub mod Blank
 pub mod Whole

@@ -1,8 +1,8 @@
 -- The owners of all blocks, behind those of the root's blocks and of the values'.
-use Rattle.std.proofs.Common.{◌≡◌, inl, inr, ℕ, ◌+◌, ◌-◌, ◌<◌, ◌≤◌, Bool, true, false, ◌==◌, List, [], ◌∷◌, ◌++◌, length, get_or, refl, sym, ap, subst, ◌∙◌, arith, Option, Some, option_map}
+use Rattle.std.proofs.Common.{◌≡◌, inl, inr, ℕ, ◌+◌, ◌-◌, ◌<◌, ◌≤◌, Bool, true, false, ◌==◌, List, [], ◌∷◌, ◌++◌, length, get_or, refl, sym, ap, subst, ◌∙◌, arith, Option, Some, None, option_map}
 use Rattle.std.specs.Prelude.{slice_get, count_by}
 use Rattle.std.specs.List.{list_any, concat, AllByRecursion}
-use Rattle.std.proofs.lemmas.Bool.{cases_Bool, eq-eqb, or_left, or_right, false≢true}
+use Rattle.std.proofs.lemmas.Bool.{cases_Bool, eq-eqb, or_left, or_right, false≢true, eqb-true}
 use Rattle.std.proofs.lemmas.Option.{slice_get_within, get_or_from_slice_get, same_Some}
 use Rattle.pk_base.specs.Key.{Key}
 use Rattle.pk_base.specs.Shape.{Shape, IsShape, data_blocks}
@@ -43,12 +43,9 @@ in_front b (x ∷ xs) ys (inr is) = inr (in_front b xs ys is)
 none_among : (b : ℕ) (xs ys : List ℕ) → AllByRecursion (λ c. is_among xs c ≡ false) ys → AnyByRecursion (λ c. b ≡ c) xs → is_among ys b ≡ false
 none_among b xs [] none is = refl
 none_among b xs (y ∷ ys) none is = elim (cases_Bool (y == b)) [
-  | inl same ↦ absurd (false≢true (sym none.0 ∙ among y xs (subst (λ (k : ℕ). AnyByRecursion (λ c. k ≡ c) xs) (sym (eqb_is y b same)) is)))
+  | inl same ↦ absurd (false≢true (sym none.0 ∙ among y xs (subst (λ (k : ℕ). AnyByRecursion (λ c. k ≡ c) xs) (sym (eqb-true y b same)) is)))
   | inr other ↦ rw other (none_among b xs ys none.1 is)
 ]
-  where
-    eqb_is : (x y : ℕ) → (x == y) ≡ true → x ≡ y
-    eqb_is x y e = omega (arith, e)
 
 -- ---- states
 

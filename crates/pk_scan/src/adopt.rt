@@ -95,4 +95,5 @@ pub fn give_owners<A: Allocator>(pool: &mut Pool<A>, root: &Root<A>, live: &Live
     root.shape().known();
     adopt_blocks(pool, root);
     adopt_values(pool, live);
+    pool.known();
 }
