@@ -16,6 +16,8 @@ pub mod Adopting
 pub mod Naming
 pub mod Closing
 pub mod TestAnswers
+pub mod Boards
+pub mod Exact
 pub mod RootFacts
 pub mod EpochsHeld
 pub mod RunsHeld
