@@ -16,11 +16,15 @@ pub mod Adopting
 pub mod Naming
 pub mod Closing
 pub mod TestAnswers
+pub mod Boards
+pub mod Exact
 pub mod RootFacts
 pub mod EpochsHeld
 pub mod RunsHeld
 pub mod Opened
 pub mod ValuesHeld
+pub mod ValuesRead
+pub mod RunReads
 pub mod Under
 pub mod Wanted
 pub mod Listing
