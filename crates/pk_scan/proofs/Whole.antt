@@ -1,9 +1,9 @@
 -- The whole of opening, by what its parts found.
-use Rattle.std.proofs.Common.{◌≡◌, ◌≢◌, inl, inr, ℕ, zero, suc, ◌+◌, ◌-◌, ◌*◌, ◌<◌, ◌≤◌, List, [], ◌∷◌, length, drop, take, refl, sym, ap, subst, ◌∙◌, arith, Option, Some, None, Result, Ok, Err}
+use Rattle.std.proofs.Common.{◌≡◌, ◌≢◌, inl, inr, ℕ, zero, suc, ◌+◌, ◌-◌, ◌*◌, ◌<◌, ◌≤◌, true, List, [], ◌∷◌, length, drop, take, refl, sym, ap, subst, ◌∙◌, arith, Option, Some, None, Result, Ok, Err}
 use Rattle.std.specs.Prelude.{nat_eq, ◌==◌, ◌++◌}
 use Rattle.std.specs.List.{AllByRecursion, list_all, starts_with}
 use Rattle.pk_base.specs.Key.{Key}
-use Rattle.pk_base.specs.Shape.{Shape, charge, buffer}
+use Rattle.pk_base.specs.Shape.{Shape, charge, buffer, pinned}
 use Rattle.pk_base.specs.Entry.{Entry, Place}
 use Rattle.pk_base.specs.EntryBytes.{IsEntry, IsPlace}
 use Rattle.pk_base.specs.Firsts.{firsts}
@@ -11,7 +11,7 @@ use Rattle.pk_base.specs.Page.{Page, Flash, page_at, erased, whole, torn}
 use Rattle.pk_base.specs.Refusal.{Refusal, damaged, ◌>>=◌, ensure}
 use Rattle.pk_nand.specs.BoardState.{BoardState}
 use Rattle.pk_segfmt.specs.Value.{head_bytes, value_pages, value_page, value_from, value_at}
-use Rattle.pk_rootfmt.specs.Root.{Root, named}
+use Rattle.pk_rootfmt.specs.Root.{Root, named, is_root}
 use Rattle.pk_rootfmt.specs.Newest.{newest_root}
 use Rattle.pk_buf.specs.Table.{Table}
 use Rattle.pk_jrn.specs.Epochs.{JournalEpoch}
@@ -20,7 +20,12 @@ use Rattle.pk_jrn.proofs.Puts.{firsts-reverse}
 use Rattle.pk_pin.specs.Frames.{Frames}
 use Rattle.pk_level.specs.Levels.{Levels}
 use Rattle.pk_walk.specs.Visible.{visible}
-use Rattle.pk_walk.specs.Walking.{Walk, IsLeft}
+use Rattle.pk_walk.specs.Walking.{Walk, IsLeft, most_read}
+use Rattle.pk_live.specs.Values.{Values}
+use Rattle.pk_pool.specs.Blocks.{Blocks}
+use Rattle.pk_rootfmt.specs.Held.{Held}
+use Rattle.pk_nand.specs.Erased.{after_reads}
+use Rattle.pk_base.specs.Map.{Map}
 use Rattle.pk_model.specs.Found.{Found, found_under, entries_in_order}
 use Rattle.pk_model.specs.Laws.{IsPageOf}
 use Rattle.pk_model.specs.Reading.{reading}
@@ -29,11 +34,16 @@ use Rattle.pk_model.proofs.Entries.{counting_all, journal_are, meta_are}
 use Rattle.pk_model.proofs.StrangePages.{bind_ok}
 use Rattle.pk_steps.specs.Under.{IsValuePage, places}
 use Rattle.pk_scan.specs.Blank.{IsAtStart}
-use Rattle.pk_scan.specs.Opening.{OnlyReads, NotOpened, PartNotOpened, HoldsFound}
+use Rattle.pk_scan.specs.Opening.{OnlyReads, NotOpened, PartNotOpened, HoldsFound, ReadsValues}
+use Rattle.pk_scan.specs.Adopts.{HasOwners}
+use Rattle.pk_scan.specs.Opened.{HasLists, HasBlocks, IsOpened}
+use Rattle.pk_scan.specs.Reads.{opened, reads_under, list_reads, value_reads, pages_of_runs, run_reads, epoch_reads}
+use Rattle.pk_scan.proofs.Boards.{reads_sum}
+use Rattle.pk_scan.proofs.RunReads.{run_reads_are}
 use Rattle.pk_scan.specs.declared.errors.OpenError.{OpenError}
 use Rattle.pk_scan.specs.declared.errors.OpenError.TheVariants.{NotFormatted, Damaged, Fault, Memory}
 use Rattle.pk_scan.proofs.Opened.{behind_reads}
-use Rattle.pk_scan.proofs.Under.{visible_places, found_refuses, values_refuse}
+use Rattle.pk_scan.proofs.Under.{visible_places, found_refuses, values_refuse, stands_under}
 
 -- ---- the keys that are there
 
@@ -54,7 +64,7 @@ module _ (shape : Shape) (flash : Flash) (root : Root) (active frozen : Table) (
       let all : visible (active.entries ∷ frozen.entries ∷ found.runs) ≡ places found [] =
       ap (λ (t : Table). visible (t.entries ∷ frozen.entries ∷ found.runs)) held.active_is
       ∙ ap (λ (t : Table). visible ((buffer_of shape found.newest).entries ∷ t.entries ∷ found.runs)) held.frozen_is ∙ visible_places found in
-      subst (IsLeft walk flash arena levels.runs active.entries frozen.entries) all (starts flash arena levels.runs active.entries frozen.entries found.runs held.stand)
+      subst (IsLeft walk flash arena levels.runs active.entries frozen.entries) all (starts.gives flash arena levels.runs active.entries frozen.entries found.runs held.stand)
 
   -- the entries of the newest epoch have room in a write buffer
   pub few_newest : length active.entries ≤ active.capacity → length (firsts found.newest) ≤ buffer shape
@@ -120,3 +130,72 @@ module _ (shape : Shape) (page : ℕ) (root : Root) (old : BoardState) (top : ne
       let part = values_of shape (page_at old.pages) (named root) [] (places found []) in
       as_whole part shape old new e (values_refuse shape old.pages page root top found is room)
       (behind_reads part old now new e reads same (subst (λ (f : Flash). PartNotOpened (values_of shape (page_at f) (named root) [] (places found [])) now new e) same why))
+
+-- ---- all that stands on the flash
+
+module _ (shape : Shape) (flash : Flash) (frames : ℕ) (root : Held) (page : ℕ) (active frozen : Table) (epoch : JournalEpoch) (arena : Frames) (levels : Levels) (found : Found) (held : HoldsFound shape flash root.root active frozen epoch arena levels found)
+    (top : newest_root shape (page_at flash) ≡ Some (page, root.root)) (pinned_is : levels.pinned ≡ pinned shape frames) (live : Values) (values : ReadsValues shape flash (named root.root) live (places found [])) where
+  pub is_opened : root.shape ≡ shape → is_root shape root.root ≡ true → page < 2 * shape.block_pages → levels.shape ≡ shape → length active.entries ≤ active.capacity → (pool : Blocks) → HasOwners shape root.root live pool → (keys : ℕ)
+      → keys ≡ length (places found []) → IsOpened shape flash frames root page active frozen epoch levels arena live pool keys
+  is_opened shape_is grammar place levels_shape room pool owners keys keys_are =
+      let under = stands_under shape flash page root.root top found held.finds (few_newest shape flash root.root active frozen epoch arena levels found held room) values.values values.read in
+      record {
+        found = found;
+        map = under.0;
+        lists = record {
+          shape_is = shape_is;
+          grammar = grammar;
+          place = place;
+          under = under.1;
+          active_is = held.active_is;
+          frozen_is = held.frozen_is;
+          epoch_is = held.epoch_is;
+          epoch_fits = held.epoch_fits;
+          levels_shape = levels_shape;
+          levels_pinned = pinned_is;
+          stand = held.stand;
+          run_blocks = held.run_blocks;
+        };
+        blocks = record {
+          lives = values.lives;
+          written = values_written shape (page_at flash) (named root.root) [] (places found []) values.values values.read;
+          pool_shape = owners.pool_shape;
+          pool_size = owners.pool_size;
+          pool_fits = owners.pool_fits flash;
+          journal = owners.journal;
+          journal_few = owners.journal_few;
+          runs = owners.runs;
+          runs_few = owners.runs_few;
+          closed_owned = owners.closed_owned;
+          owned_closed = owners.owned_closed;
+          values_few = owners.values_few;
+        };
+        keys_are = keys_are;
+      }
+
+  opened_is : opened shape flash frames ≡ 2 * shape.block_pages + epoch_reads shape (page_at flash) root.root.older + epoch_reads shape (page_at flash) root.root.newest + run_reads shape (pinned shape frames) 1 root.root.counts + value_reads shape (places found [])
+  unfolding opened reads_under
+  opened_is = rw (top, held.finds) refl
+
+  -- what was read, part by part
+  pub opened_reads : (old now new : BoardState) → now ≡ after_reads (2 * shape.block_pages + list_reads shape (page_at flash) root.root) old → new ≡ after_reads (most_read levels.runs + value_reads shape (places found [])) now → new ≡ after_reads (opened shape flash frames) old
+  opened_reads old now new first second =
+      let runs = run_reads_are shape flash arena levels.pinned 1 levels.runs found.runs root.root.runs root.root.counts held.stand held.run_blocks held.run_frames in
+      let pins = ap (λ (n : ℕ). run_reads shape n 1 root.root.counts) pinned_is in
+      reads_sum old now new (2 * shape.block_pages + list_reads shape (page_at flash) root.root) (most_read levels.runs + value_reads shape (places found [])) (opened shape flash frames)
+      (sum (2 * shape.block_pages) (epoch_reads shape (page_at flash) root.root.older) (epoch_reads shape (page_at flash) root.root.newest) (pages_of_runs shape root.root.counts) (most_read levels.runs) (run_reads shape (pinned shape frames) 1 root.root.counts)
+      (value_reads shape (places found [])) (runs ∙ pins) ∙ sym opened_is) first second
+    where
+      sum : (roots older newest once again all values : ℕ) → once + again ≡ all → (again + values) + (roots + (older + newest + once)) ≡ roots + older + newest + all + values
+      sum roots older newest once again all values e = omega (arith, e)
+
+-- the lists were read behind the root
+pub root_then_lists : (shape other : Shape) (root : Root) (old now new : BoardState) → other ≡ shape → now ≡ after_reads (2 * shape.block_pages) old → now.pages ≡ old.pages → new ≡ after_reads (list_reads other (page_at now.pages) root) now
+    → new ≡ after_reads (2 * shape.block_pages + list_reads shape (page_at old.pages) root) old
+root_then_lists shape other root old now new is first same second =
+    let there : new ≡ after_reads (list_reads shape (page_at now.pages) root) now = subst (λ (s : Shape). new ≡ after_reads (list_reads s (page_at now.pages) root) now) is second in
+    let here : new ≡ after_reads (list_reads shape (page_at old.pages) root) now = subst (λ (f : Flash). new ≡ after_reads (list_reads shape (page_at f) root) now) same there in
+    reads_sum old now new (2 * shape.block_pages) (list_reads shape (page_at old.pages) root) (2 * shape.block_pages + list_reads shape (page_at old.pages) root) (swap (list_reads shape (page_at old.pages) root) (2 * shape.block_pages)) first here
+  where
+    swap : (m n : ℕ) → m + n ≡ n + m
+    swap m n = omega arith

@@ -11,13 +11,15 @@ use Rattle.pk_level.specs.Levels.{Levels, StandEach, no_runs}
 use Rattle.pk_live.specs.Values.{Values, no_values}
 use Rattle.pk_pool.specs.Blocks.{Blocks, Fits, unused}
 use Rattle.pk_walk.specs.Visible.{visible}
-use Rattle.pk_walk.specs.Walking.{Walk, IsLeft}
+use Rattle.pk_walk.specs.Walking.{Walk, IsLeft, SkipsNone, pages_read}
 
--- the walk has still to give all keys that are there, whatever runs and buffers it goes over
-abbrev pub IsAtStart : Walk → Type 0
-IsAtStart walk =
-    (flash : Flash) (arena : Frames) (runs : List Kept) (active frozen : List Entry) (ess : List (List Entry))
-    → StandEach flash arena runs ess → IsLeft walk flash arena runs active frozen (visible (active ∷ frozen ∷ ess))
+-- The walk has still to give all keys that are there, whatever runs and buffers it goes over, and has come past no page.
+pub record IsAtStart (walk : Walk) : Type 0 where
+  pub gives :
+      (flash : Flash) (arena : Frames) (runs : List Kept) (active frozen : List Entry) (ess : List (List Entry))
+      → StandEach flash arena runs ess → IsLeft walk flash arena runs active frozen (visible (active ∷ frozen ∷ ess))
+  pub skips_none : SkipsNone walk
+  pub none_read : (runs : List Kept) → pages_read runs walk.cursors ≡ 0
 
 -- No entries, runs and values, no frame that is leased, no block with an owner, and a walk that is at its start.
 pub record IsBlank (shape : Shape) (frames : ℕ) (root : Held) (active frozen : Table) (levels : Levels) (arena : Frames) (live : Values) (pool : Blocks) (walk : Walk) : Type 0 where

@@ -13,10 +13,11 @@ ghost use Rattle.pk_pin.specs.Frames.{free_frames};
 ghost use Rattle.pk_rootfmt.specs.Newest.{newest_root};
 ghost use Rattle.pk_rootfmt.specs.Root.{is_root, named};
 ghost use Rattle.pk_steps.specs.Under.{places};
+ghost use Rattle.pk_walk.specs.Walking.{most_read};
 ghost use Rattle.pk_scan.specs.Blank.{IsAtStart};
 ghost use Rattle.pk_scan.specs.Opened.{IsOpened, OnlyReading};
-ghost use Rattle.pk_scan.specs.Opening.{HoldsFound, NotOpened, OnlyReads, PartNotOpened, ReadsValues, wanted_behind};
-ghost use Rattle.pk_scan.specs.Reads.{opened};
+ghost use Rattle.pk_scan.specs.Opening.{HoldsFound, NotOpened, PartNotOpened, ReadsValues, wanted_behind};
+ghost use Rattle.pk_scan.specs.Reads.{list_reads, opened, value_reads};
 
 use crate::adopt::give_owners;
 use crate::contents::Found;
@@ -53,8 +54,9 @@ fn fill_lists<B: Nand, A: Region>(
     ensures shape { memory.new.root.shape ≡ memory.old.root.shape }
     ensures kept { memory.new ≡ record memory.old { root = memory.new.root; active = memory.new.active; frozen = memory.new.frozen; levels = memory.new.levels; arena = memory.new.arena; page = memory.new.page } }
     ensures room { length memory.new.page.items ≡ memory.old.root.shape.page_bytes }
-    ensures reads { OnOk result (OnlyReads (B.state board.old) (B.state board.new)) }
+    ensures reads { OnOk result (B.state board.new ≡ after_reads (2 * memory.old.root.shape.block_pages + list_reads memory.old.root.shape (page_at (B.state board.old).pages) memory.new.root.root) (B.state board.old)) }
     ensures err { IfErr result (λ e. NotOpened memory.old.root.shape (B.state board.old) (B.state board.new) e) }
+    ensures rest { OnlyReading (B.state board.old) (B.state board.new) }
     ensures pages { (B.state board.new).pages ≡ (B.state board.old).pages }
     ensures ready { IsReady (B.state board.new) memory.old.root.shape }
 {
@@ -98,8 +100,9 @@ fn fill_values<B: Nand, A: Region>(
     ensures read { OnOk result ((epoch : JournalEpoch) (found : FoundLists) → HoldsFound memory.old.root.shape (B.state board.old).pages memory.old.root.root memory.old.active memory.old.frozen epoch memory.old.arena memory.old.levels found → ReadsValues memory.old.root.shape (B.state board.old).pages (named memory.old.root.root) memory.new.live (places found [])) }
     ensures keys { IfOk result (λ keys. (epoch : JournalEpoch) (found : FoundLists) → HoldsFound memory.old.root.shape (B.state board.old).pages memory.old.root.root memory.old.active memory.old.frozen epoch memory.old.arena memory.old.levels found → keys ≡ length (places found [])) }
     ensures kept { memory.new ≡ record memory.old { live = memory.new.live; walk = memory.new.walk; named = memory.new.named; page = memory.new.page } }
-    ensures reads { OnOk result (OnlyReads (B.state board.old) (B.state board.new)) }
+    ensures reads { OnOk result ((epoch : JournalEpoch) (found : FoundLists) → HoldsFound memory.old.root.shape (B.state board.old).pages memory.old.root.root memory.old.active memory.old.frozen epoch memory.old.arena memory.old.levels found → B.state board.new ≡ after_reads (most_read memory.old.levels.runs + value_reads memory.old.root.shape (places found [])) (B.state board.old)) }
     ensures err { IfErr result (λ e. (epoch : JournalEpoch) (found : FoundLists) → HoldsFound memory.old.root.shape (B.state board.old).pages memory.old.root.root memory.old.active memory.old.frozen epoch memory.old.arena memory.old.levels found → PartNotOpened (values_of memory.old.root.shape (page_at (B.state board.old).pages) (named memory.old.root.root) [] (places found [])) (B.state board.old) (B.state board.new) e) }
+    ensures rest { OnlyReading (B.state board.old) (B.state board.new) }
     ensures pages { (B.state board.new).pages ≡ (B.state board.old).pages }
     ensures ready { IsReady (B.state board.new) memory.old.root.shape }
 {
@@ -156,7 +159,9 @@ pub fn scan<B: Nand, A: Region>(
     requires ready { IsReady (B.state board.old) shape }
     requires frames { frames ≤ 16384 }
     ensures opened { IfOk result (λ f. IsOpened shape (B.state board.old).pages frames f.root f.root_page f.active f.frozen f.epoch f.levels f.arena f.live f.pool f.keys) }
+    ensures reads { OnOk result (B.state board.new ≡ after_reads (opened shape (B.state board.old).pages frames) (B.state board.old)) }
     ensures err { IfErr result (λ e. NotOpened shape (B.state board.old) (B.state board.new) e) }
+    ensures rest { OnlyReading (B.state board.old) (B.state board.new) }
 {
     match Memory::new(alloc, shape, frames) {
         Ok(mut memory) => match fill_lists(alloc, board, &mut memory) {
