@@ -29,5 +29,5 @@ pub mod Under
 pub mod Wanted
 pub mod Listing
 pub mod Owners
-pub mod Blank
+pub mod Room
 pub mod Whole

@@ -33,7 +33,7 @@ use Rattle.pk_model.specs.Values.{placed, fits, values_of}
 use Rattle.pk_model.proofs.Entries.{counting_all, journal_are, meta_are}
 use Rattle.pk_model.proofs.StrangePages.{bind_ok}
 use Rattle.pk_steps.specs.Under.{IsValuePage, places}
-use Rattle.pk_scan.specs.Blank.{IsAtStart}
+use Rattle.pk_scan.specs.Starting.{IsAtStart}
 use Rattle.pk_scan.specs.Opening.{OnlyReads, NotOpened, PartNotOpened, HoldsFound, ReadsValues}
 use Rattle.pk_scan.specs.Adopts.{HasOwners}
 use Rattle.pk_scan.specs.Opened.{HasLists, HasBlocks, IsOpened}

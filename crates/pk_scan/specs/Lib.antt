@@ -8,4 +8,4 @@ pub mod Adopts
 pub mod Opening
 pub mod Reads
 pub mod Opened
-pub mod Blank
+pub mod Starting

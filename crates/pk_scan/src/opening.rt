@@ -14,7 +14,7 @@ ghost use Rattle.pk_rootfmt.specs.Newest.{newest_root};
 ghost use Rattle.pk_rootfmt.specs.Root.{is_root, named};
 ghost use Rattle.pk_steps.specs.Under.{places};
 ghost use Rattle.pk_walk.specs.Walking.{most_read};
-ghost use Rattle.pk_scan.specs.Blank.{IsAtStart};
+ghost use Rattle.pk_scan.specs.Starting.{IsAtStart};
 ghost use Rattle.pk_scan.specs.Opened.{IsOpened, OnlyReading};
 ghost use Rattle.pk_scan.specs.Opening.{HoldsFound, NotOpened, PartNotOpened, ReadsValues, wanted_behind};
 ghost use Rattle.pk_scan.specs.Reads.{list_reads, opened, value_reads};
