@@ -1,1 +1,5 @@
-mod Blank
+mod Within
+mod Sessions
+mod Telling
+mod Making
+mod Runs
