@@ -22,3 +22,5 @@ pub mod Listing
 pub mod Replies
 pub mod Doing
 pub mod Early
+pub mod Opening
+pub mod Formatting

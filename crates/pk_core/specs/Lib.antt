@@ -11,3 +11,4 @@ pub mod Noting
 pub mod Changes
 pub mod Serving
 pub mod Listed
+pub mod Opening

@@ -11,6 +11,7 @@ mod engine;
 mod filled;
 mod list;
 mod lookup;
+mod making;
 mod moves;
 mod noting;
 mod numbers;
@@ -24,4 +25,8 @@ mod tick;
 mod ticks;
 
 pub use drive::Drive;
+pub use making::format;
 pub use place::ValuePlace;
+
+#[cfg(test)]
+mod tests;

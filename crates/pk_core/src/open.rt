@@ -1,23 +1,60 @@
 //! A drive is opened.
 ghost use Rattle.std.specs.Prelude.{◌≡◌, ◌≤◌, ◌<◌, [], length, false, None, IfOk, IfErr, OnOk};
+ghost use Rattle.pk_base.specs.Shape as spec;
 ghost use Rattle.pk_base.specs.Shape.{page_entries};
 ghost use Rattle.pk_base.specs.Map.{Map};
+ghost use Rattle.pk_base.specs.Page.{Flash, IsFlash};
 ghost use Rattle.pk_nand.specs.Calls.{IsReady};
 ghost use Rattle.pk_nand.specs.Erased.{after_reads};
 ghost use Rattle.pk_drive.specs.Drive.{Stands};
 ghost use Rattle.pk_scan.specs.Reads.{opened};
 ghost use Rattle.pk_scan.specs.Opening.{NotOpened};
-ghost use Rattle.pk_scan.specs.Opened.{OnlyReading};
+ghost use Rattle.pk_scan.specs.Opened.{IsOpened, OnlyReading};
 ghost use Rattle.pk_core.specs.Parts.{sight_of};
 ghost use Rattle.pk_core.specs.Agreeing.{Agrees};
+ghost use Rattle.pk_core.specs.Opening.{OpenedOn};
 
 use crate::drive::Drive;
 use pk_base::Shape;
+use pk_data::Data;
+use pk_log::Log;
 use pk_nand::Nand;
 use pk_region::Region;
-use pk_scan::OpenError;
+use pk_scan::{Found, OpenError, scan};
+use pk_walk::Walk;
+use std::alloc::AllocError;
 
 impl<A: Region> Drive<A> {
+    /// The drive over what opening found, with so many frames. The memory that opening did not need is taken here.
+    fn over(alloc: A, found: Found<A>, frames: u32) -> Result<Drive<A>, AllocError>
+        ensures { IfOk result (λ d. (shape : spec.Shape) (flash : Flash) → IsFlash shape flash → IsOpened shape flash frames found.root found.root_page found.active found.frozen found.epoch found.levels found.arena found.live found.pool found.keys → OpenedOn shape flash frames d) }
+    {
+        let shape = *found.root.shape();
+        shape.known();
+        let log = Log::new(
+            alloc,
+            found.root,
+            found.root_page,
+            found.epoch,
+            found.active,
+            found.frozen,
+        )?;
+        let page = Vec::from_elem(alloc, 0u8, shape.page_bytes() as usize)?;
+        let walk = Walk::new(alloc, shape)?;
+        Ok(Drive {
+            frames,
+            log,
+            levels: found.levels,
+            arena: found.arena,
+            space: Data::new(found.live),
+            pool: found.pool,
+            keys: found.keys,
+            stopped: false,
+            page,
+            walk,
+        })
+    }
+
     /// Opens the flash of a board of this shape, with so many frames for the pages of runs. The drive's map is the one that the
     /// flash holds, and nothing is pending. Nothing is written; all memory of the drive is taken here.
     ///
@@ -41,7 +78,13 @@ impl<A: Region> Drive<A> {
         ensures err { IfErr result (λ e. NotOpened shape (B.state board.old) (B.state board.new) e) }
         ensures rest { OnlyReading (B.state board.old) (B.state board.new) }
     {
-        let _ = (board, shape, frames, alloc);
-        Err(OpenError::Memory)
+        shape.known();
+        match scan(alloc, board, shape, frames) {
+            Err(error) => Err(error),
+            Ok(found) => match Drive::over(alloc, found, frames) {
+                Err(_) => Err(OpenError::Memory),
+                Ok(drive) => Ok(drive),
+            },
+        }
     }
 }

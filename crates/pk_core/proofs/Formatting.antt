@@ -1,0 +1,131 @@
+-- A flash with the first root in page 0 and all other pages Erased holds the empty map.
+use Rattle.std.proofs.Common.{◌≡◌, ◌⊎◌, inr, ℕ, zero, suc, ◌+◌, ◌*◌, ◌/◌, ◌%◌, ◌<◌, ◌≤◌, refl, sym, ap, subst, ◌∙◌, arith, true, List, [], ◌∷◌, length, nat_le, min, slice_index, slice_set, Some, None, Ok, le→leb, zero-mul, mul-le-mul_right}
+use Rattle.std.proofs.Math.Nat.{zero-div, zero-mod}
+use Rattle.std.specs.FinMap.{empty}
+use Rattle.pk_base.specs.Shape.{Shape, IsShape, page_count, page_entries, run_pages, buffer}
+use Rattle.pk_base.specs.Page.{Page, Flash, page_at, erased, whole, page_in}
+use Rattle.pk_base.proofs.ShapeLemmas.{block_pages_positive}
+use Rattle.pk_jrnfmt.specs.Epoch.{epoch}
+use Rattle.pk_meta.specs.Run.{run}
+use Rattle.pk_nand.specs.BoardState.{BoardState}
+use Rattle.pk_nand.specs.Calls.{IsReady, after_program}
+use Rattle.pk_nand.proofs.Leaving.{page_at-slice_set, page_at-slice_set_same}
+use Rattle.pk_rootfmt.specs.Root.{Root, root_bytes, is_root}
+use Rattle.pk_rootfmt.specs.Held.{first}
+use Rattle.pk_rootfmt.specs.Newest.{newest_root, root_of}
+use Rattle.pk_rootfmt.proofs.AgainLemmas.{reads_back}
+use Rattle.pk_model.specs.Found.{Found, found_under, older_epoch, newest_epoch, runs_from}
+use Rattle.pk_model.specs.Values.{values_of}
+use Rattle.pk_model.specs.Reading.{Holds, map_under, reading_of}
+use Rattle.pk_model.specs.Laws.{IsWholePage}
+use Rattle.pk_model.proofs.Roots.{newest_complete, inside}
+use Rattle.pk_model.proofs.Commits.{ends}
+use Rattle.pk_model.proofs.ValueSets.{is_true}
+
+-- what is found under the first root
+abbrev nothing : Found
+nothing = record { newest = []; older = []; runs = [] ∷ [] ∷ [] ∷ [] ∷ [] }
+
+-- a run without entries has no pages
+no_entries : (shape : Shape) (at : ℕ → Page) (level : ℕ) → run shape at level 0 [] ≡ Ok []
+unfolding run
+no_entries shape at level =
+    let none : run_pages shape 0 ≡ 0 = (λ i. zero-div (page_entries shape) i + min 1 (zero-mod (page_entries shape) i)) in
+    rw none refl
+
+-- a page that is not the first is numbered from 1 on
+not_first : (q : ℕ) → 0 < q → q ≡ 0 → ⊥
+not_first q some e = omega (arith, some, e)
+
+module _ (shape : Shape) (flash : Flash) (is_shape : IsShape shape) (size : length flash ≡ page_count shape)
+    (are_erased : (q : ℕ) → q < page_count shape → page_at flash q ≡ erased) (grammar : is_root shape first ≡ true) where
+  abbrev made : Flash
+  made = slice_set flash 0 (whole (root_bytes shape first))
+
+  positive : 0 < shape.block_pages
+  positive = block_pages_positive shape is_shape
+
+  -- the blocks of roots are in the flash, and a page more
+  roots_exist : 2 * shape.block_pages < page_count shape
+  roots_exist =
+      let blocks : 3 ≤ shape.blocks = let fit = is_shape.data_fits in omega (arith, fit) in
+      let thrice = mul-le-mul_right shape.block_pages blocks in
+      let some = positive in
+      omega (arith, thrice, some)
+
+  root_there : root_of shape (page_at made 0) ≡ Some first
+  root_there =
+      let inside : 0 < length flash = let some = roots_exist in omega (arith, size, some) in
+      ap (root_of shape) (page_at-slice_set_same flash 0 (whole (root_bytes shape first)) inside) ∙ reads_back shape first is_shape grammar
+
+  others_erased : (q : ℕ) → (q ≡ 0 → ⊥) → q < page_count shape → page_at made q ≡ erased
+  others_erased q other inside = page_at-slice_set flash 0 q (whole (root_bytes shape first)) other ∙ are_erased q inside
+
+  only_first : (q : ℕ) (s : Root) → 0 ≤ q → q < 0 + 2 * shape.block_pages → root_of shape (page_at made q) ≡ Some s → (s.number < first.number) ⊎ ((s.number ≡ first.number) × (0 ≤ q))
+  only_first zero s low high is = inr (ap (λ (r : Root). r.number) (inside s first (sym is ∙ root_there)), omega arith)
+  only_first (suc q) s low high is =
+      let exists = roots_exist in
+      let clash : None ≡ Some s = ap (root_of shape) (sym (others_erased (suc q) (not_first (suc q) (omega arith)) (omega (arith, high, exists)))) ∙ is in
+      cc
+
+  is_top : newest_root shape (page_at made) ≡ Some (0, first)
+  is_top = newest_complete shape (page_at made) (0, first) (record {
+    low = omega arith;
+    high = let some = positive in omega (arith, some);
+    there = root_there;
+    others = only_first;
+  })
+
+  -- the first page of the epoch is that of block 2
+  first_page : page_in shape (2 ∷ 3 ∷ []) 0 ≡ 2 * shape.block_pages
+  first_page =
+      let half : slice_index (2 ∷ 3 ∷ []) (0 / shape.block_pages) ≡ 2 = ap (slice_index (2 ∷ 3 ∷ [])) (zero-div shape.block_pages) in
+      let product : slice_index (2 ∷ 3 ∷ []) (0 / shape.block_pages) * shape.block_pages ≡ 2 * shape.block_pages = ap (λ b. b * shape.block_pages) half in
+      let rest : 0 % shape.block_pages ≡ 0 = zero-mod shape.block_pages in
+      omega (arith, product, rest)
+
+  not_written : IsWholePage (page_at made (page_in shape (2 ∷ 3 ∷ []) 0)) → ⊥
+  not_written whole_there =
+      let some = positive in
+      let exists = roots_exist in
+      let is : page_at made (page_in shape (2 ∷ 3 ∷ []) 0) ≡ erased = ap (page_at made) first_page ∙ others_erased (2 * shape.block_pages) (not_first (2 * shape.block_pages) (omega (arith, some))) exists in
+      subst IsWholePage is whole_there
+
+  newest_empty : newest_epoch shape (page_at made) first ≡ Ok []
+  unfolding epoch
+  newest_empty = ends shape (page_at made) (2 ∷ 3 ∷ []) 1 0 [] (2 * shape.block_pages) not_written
+
+  older_empty : older_epoch shape (page_at made) first ≡ Ok []
+  unfolding epoch
+  older_empty = rw (zero-mul shape.block_pages) refl
+
+  runs_empty : runs_from shape (page_at made) 1 first.counts first.runs ≡ Ok nothing.runs
+  unfolding runs_from
+  runs_empty =
+      let one = no_entries shape (page_at made) 1 in
+      let two = no_entries shape (page_at made) 2 in
+      let three = no_entries shape (page_at made) 3 in
+      let four = no_entries shape (page_at made) 4 in
+      rw (one, two, three, four) refl
+
+  is_found : found_under shape (page_at made) first ≡ Ok nothing
+  unfolding found_under
+  is_found = let older = older_empty in let newest = newest_empty in let runs = runs_empty in rw (older, newest, runs) refl
+
+  is_map : map_under shape (page_at made) first nothing [] ≡ Ok empty
+  unfolding map_under values_of
+  is_map = let room : nat_le 0 (buffer shape) ≡ true = is_true _ (le→leb 0 (buffer shape) (omega arith)) in rw room refl
+
+  pub holds_nothing : Holds shape made empty
+  unfolding reading_of
+  holds_nothing = let top = is_top in let found = is_found in let map = is_map in rw (top, found, map) refl
+
+-- so does the board behind the program of these bytes
+pub program_holds : (board new : BoardState) (shape : Shape) (bytes : List ℕ) → IsShape shape → IsReady board shape → ((q : ℕ) → q < page_count shape → page_at board.pages q ≡ erased)
+    → bytes ≡ root_bytes shape first → is_root shape first ≡ true → new ≡ after_program board 0 bytes → Holds shape new.pages empty
+program_holds board new shape bytes is_shape ready are_erased spelled grammar is =
+    let P : List ℕ → Type 0 = λ x. Holds shape (slice_set board.pages 0 (whole x)) empty in
+    subst (λ (s : BoardState). Holds shape s.pages empty) (sym is) (subst P (sym spelled) (holds_nothing shape board.pages is_shape ready.flash.size are_erased grammar))
+
+pub program_of : (board new : BoardState) (bytes written : List ℕ) → bytes ≡ written → new ≡ after_program board 0 bytes → new ≡ after_program board 0 written
+program_of board new bytes written same is = is ∙ ap (after_program board 0) same

@@ -1,0 +1,115 @@
+-- What opening found makes a drive that agrees with the flash.
+use Rattle.std.proofs.Common.{◌≡◌, ℕ, ◌+◌, ◌-◌, ◌/◌, ◌<◌, ◌≤◌, Option, Some, List, [], false, None, length, refl, sym, ap, subst, ◌∙◌, arith}
+use Rattle.pk_base.specs.Shape.{Shape, IsShape, page_entries}
+use Rattle.pk_base.specs.Page.{Flash, IsFlash}
+use Rattle.pk_base.specs.Entry.{Entry, Place}
+use Rattle.pk_base.specs.Key.{Key}
+use Rattle.pk_base.specs.Map.{Map}
+use Rattle.pk_rootfmt.specs.Root.{named}
+use Rattle.pk_rootfmt.specs.Held.{Held}
+use Rattle.pk_buf.specs.Table.{Table}
+use Rattle.pk_jrn.specs.Epochs.{JournalEpoch}
+use Rattle.pk_pin.specs.Frames.{Frames}
+use Rattle.pk_level.specs.Levels.{Levels}
+use Rattle.pk_live.specs.Values.{Values}
+use Rattle.pk_pool.specs.Blocks.{Blocks}
+use Rattle.pk_model.specs.Found.{Found}
+use Rattle.pk_steps.specs.Under.{IsUnder, places}
+use Rattle.pk_log.specs.State.{LogState, opened}
+use Rattle.pk_log.specs.Logs.{Logs, Opens}
+use Rattle.pk_data.specs.State.{DataState, with_none_open}
+use Rattle.pk_data.specs.Placed.{Placed, FoundAtOpening}
+use Rattle.pk_scan.specs.Opened.{HasLists, HasBlocks, IsOpened}
+use Rattle.pk_nand.specs.BoardState.{BoardState}
+use Rattle.pk_drive.specs.Drive.{Stands}
+use Rattle.pk_core.specs.Parts.{Parts, sight_of}
+use Rattle.pk_core.specs.Agreeing.{Agrees}
+use Rattle.pk_core.specs.Opening.{OpenedOn}
+use Rattle.pk_core.proofs.Standing.{still_stands}
+
+-- the lists are what a log is opened with
+log_opens : (shape : Shape) (flash : Flash) (frames : ℕ) (root : Held) (page : ℕ) (active frozen : Table) (epoch : JournalEpoch) (levels : Levels) (arena : Frames) (found : Found) (m : Map)
+    → HasLists shape flash frames root page active frozen epoch levels arena found m → Opens root page epoch active frozen flash found
+log_opens shape flash frames root page active frozen epoch levels arena found m has =
+    let S : Shape → Type 0 = λ s. Opens (record { shape = s; root = root.root }) page epoch active frozen flash found in
+    let epoch_is = has.epoch_is.1.0 in
+    subst S (sym has.shape_is) (record {
+      is_top = has.under.is_top;
+      is_found = has.under.is_found;
+      epoch_shape = ap (λ (e : JournalEpoch). e.shape) epoch_is;
+      epoch_number = ap (λ (e : JournalEpoch). e.number) epoch_is;
+      epoch_blocks = ap (λ (e : JournalEpoch). e.blocks) epoch_is;
+      epoch_fits = has.epoch_fits;
+      active_is = has.active_is;
+      frozen_is = has.frozen_is;
+    })
+
+-- and the blocks with their owners those that values are found in
+values_found : (shape : Shape) (flash : Flash) (root : Held) (live : Values) (pool : Blocks) (found : Found)
+    → IsShape shape → HasBlocks shape flash root live pool found → FoundAtOpening shape (named root.root) live pool flash (places found [])
+values_found shape flash root live pool found is has = record {
+  is_shape = is;
+  shape_is = has.pool_shape;
+  size = has.pool_size;
+  fits = has.pool_fits;
+  lives = has.lives;
+  written = has.written;
+  closed_owned = has.closed_owned;
+  owned_closed = has.owned_closed;
+}
+
+-- the parts of a drive behind what was found
+module _ (shape : Shape) (flash : Flash) (frames : ℕ) (root : Held) (page : ℕ) (active frozen : Table) (epoch : JournalEpoch) (levels : Levels) (arena : Frames) (live : Values) (pool : Blocks) (keys : ℕ) (log : LogState) (space : DataState) where
+  abbrev parts : Parts
+  parts = record { log = log; levels = levels; arena = arena; space = space; pool = pool; keys = keys; frames = frames; stopped = false }
+
+  pub opens_on : IsShape root.shape → IsFlash shape flash → IsOpened shape flash frames root page active frozen epoch levels arena live pool keys
+      → log ≡ opened root page epoch active frozen → ((f : Flash) (found : Found) → Opens root page epoch active frozen f found → Logs log f (page, root.root) found)
+      → space ≡ with_none_open live → ((s : Shape) (named : List ℕ) (p : Blocks) (f : Flash) (es : List (Key × Place)) → FoundAtOpening s named live p f es → Placed s space p f es)
+      → OpenedOn shape flash frames parts
+  opens_on held is_flash was log_is stands space_is places_so =
+      let is : IsShape shape = subst IsShape was.lists.shape_is held in
+      let none : log.pending ≡ [] = ap (λ (l : LogState). l.pending) log_is in
+      let placed : Placed shape space pool flash (places was.found []) = places_so shape (named root.root) pool flash (places was.found []) (values_found shape flash root live pool was.found is was.blocks) in
+      record {
+        top = (page, root.root);
+        found = was.found;
+        all = was.map;
+        with = record {
+          shape_is = ap (λ (l : LogState). l.shape) log_is ∙ was.lists.shape_is;
+          is_flash = is_flash;
+          logs = stands flash was.found (log_opens shape flash frames root page active frozen epoch levels arena was.found was.map was.lists);
+          committed = was.lists.under;
+          pending = subst (λ (es : List Entry). IsUnder shape flash es (page, root.root) was.found was.map) (sym none) was.lists.under;
+          levels_shape = was.lists.levels_shape;
+          levels_pinned = was.lists.levels_pinned;
+          stand = was.lists.stand;
+          run_blocks = was.lists.run_blocks;
+          placed = subst (λ (es : List Entry). Placed shape space pool flash (places was.found es)) (sym none) placed;
+          former = placed.owned;
+          journal = was.blocks.journal;
+          journal_few = was.blocks.journal_few;
+          runs = was.blocks.runs;
+          runs_few = was.blocks.runs_few;
+          keys_are = was.keys_are ∙ sym (ap (λ (es : List Entry). length (places was.found es)) none);
+        };
+        frames_are = refl;
+        runs = refl;
+        none_pending = none;
+        takes_none = ap (λ (l : LogState). l.epoch.takes_more) log_is ∙ ap (λ (e : JournalEpoch). e.takes_more) was.lists.epoch_is.1.0;
+        none_open = ap (λ (s : DataState). s.open_block) space_is;
+      }
+
+-- ---- what contracts say of it
+
+pub few_pending : (shape : Shape) (flash : Flash) (frames : ℕ) (d : Parts) → IsShape shape → OpenedOn shape flash frames d → length d.log.pending < page_entries d.log.shape
+few_pending shape flash frames d is o =
+    let least : 512 ≤ shape.page_bytes = is.page_least in
+    let some : 0 < page_entries shape = omega arith in
+    subst (λ (s : Shape). length d.log.pending < page_entries s) (sym o.with.shape_is) (subst (λ (es : List Entry). length es < page_entries shape) (sym o.none_pending) some)
+
+pub agrees_with : (shape : Shape) (flash : Flash) (frames : ℕ) (d : Parts) (told : Option Shape) → told ≡ Some shape → OpenedOn shape flash frames d → Agrees d told flash
+agrees_with shape flash frames d told is o = record { shape = shape; top = o.top; found = o.found; without = o.all; all = o.all; told_is = is; with = o.with }
+
+pub stands_with : (shape : Shape) (frames : ℕ) (board : BoardState) (d : Parts) → board.shape ≡ Some shape → OpenedOn shape board.pages frames d → (m : Map) × Stands shape frames board (sight_of d) m
+stands_with shape frames board d is o = (o.all, still_stands d board shape frames o.all is o.frames_are (record { top = o.top; found = o.found; without = o.all; with = o.with }))

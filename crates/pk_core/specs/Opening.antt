@@ -1,0 +1,21 @@
+-- A drive as it is behind its opening.
+use Rattle.std.specs.Prelude.{◌≡◌, ℕ, [], false, None}
+use Rattle.pk_base.specs.Shape.{Shape}
+use Rattle.pk_base.specs.Page.{Flash}
+use Rattle.pk_base.specs.Map.{Map}
+use Rattle.pk_rootfmt.specs.Root.{Root}
+use Rattle.pk_model.specs.Found.{Found}
+use Rattle.pk_core.specs.Parts.{Parts}
+use Rattle.pk_core.specs.Agreeing.{AgreesWith}
+
+-- The drive agrees with the flash and runs, with these frames. Nothing is pending, the epoch takes no more pages, and no block is open.
+pub record OpenedOn (shape : Shape) (flash : Flash) (frames : ℕ) (d : Parts) : Type 0 where
+  pub top : ℕ × Root
+  pub found : Found
+  pub all : Map
+  pub with : AgreesWith d shape flash top found all all
+  pub frames_are : d.frames ≡ frames
+  pub runs : d.stopped ≡ false
+  pub none_pending : d.log.pending ≡ []
+  pub takes_none : d.log.epoch.takes_more ≡ false
+  pub none_open : d.space.open_block ≡ None

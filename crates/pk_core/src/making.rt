@@ -1,0 +1,51 @@
+//! A flash is made to hold the empty map.
+ghost use Rattle.std.specs.Prelude.{◌≡◌, ◌<◌, ℕ, length, OnOk, OnErr};
+ghost use Rattle.std.specs.FinMap.{empty};
+ghost use Rattle.pk_base.specs.Shape.{page_count};
+ghost use Rattle.pk_nand.specs.Calls.{IsErased, IsReady, ProgramFailed, after_program};
+ghost use Rattle.pk_rootfmt.specs.Held.{first as first_root};
+ghost use Rattle.pk_rootfmt.specs.Root.{root_bytes};
+ghost use Rattle.pk_model.specs.Reading.{Holds};
+
+use pk_base::Shape;
+use pk_nand::{Nand, NandFault};
+use pk_rootfmt::first;
+use pk_seg::write_page;
+
+/// The most bytes of a page.
+const MOST_PAGE_BYTES: usize = 16384;
+
+/// Writes the first root into page 0; `page` has the bytes of a page, which are lost.
+fn write_first<B: Nand>(board: &mut B, shape: Shape, page: &mut [u8]) -> Result<(), NandFault>
+    requires room { length page.old ≡ shape.page_bytes }
+    requires ready { IsReady (B.state board.old) shape }
+    requires erased { (q : ℕ) → q < page_count shape → IsErased (B.state board.old).pages q }
+    ensures holds { OnOk result (Holds shape (B.state board.new).pages empty) }
+    ensures program { OnOk result (B.state board.new ≡ after_program (B.state board.old) 0 (root_bytes shape first_root)) }
+    ensures err { OnErr result (ProgramFailed (B.state board.old) (B.state board.new) 0 (root_bytes shape first_root)) }
+    ensures ready { IsReady (B.state board.new) shape }
+{
+    shape.known();
+    first(&shape, page);
+    match write_page(board, 0, page) {
+        Ok(()) => Ok(()),
+        Err(_) => Err(NandFault),
+    }
+}
+
+/// Makes a flash whose pages are all Erased one that holds the empty map, by one program of page 0. Takes no memory.
+///
+/// `NandFault` where the program fails; page 0 is then Erased, Torn or written.
+pub fn format<B: Nand>(board: &mut B, shape: Shape) -> Result<(), NandFault>
+    requires ready { IsReady (B.state board.old) shape }
+    requires erased { (q : ℕ) → q < page_count shape → IsErased (B.state board.old).pages q }
+    ensures holds { OnOk result (Holds shape (B.state board.new).pages empty) }
+    ensures program { OnOk result (B.state board.new ≡ after_program (B.state board.old) 0 (root_bytes shape first_root)) }
+    ensures err { OnErr result (ProgramFailed (B.state board.old) (B.state board.new) 0 (root_bytes shape first_root)) }
+    ensures ready { IsReady (B.state board.new) shape }
+{
+    shape.known();
+    let bytes = shape.page_bytes() as usize;
+    let mut page = [0u8; MOST_PAGE_BYTES];
+    write_first(board, shape, &mut page[..bytes])
+}
