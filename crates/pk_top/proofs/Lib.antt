@@ -1,5 +1,5 @@
 mod Within
 mod Sessions
 mod Telling
-mod Making
+mod Images
 mod Runs
