@@ -5,27 +5,27 @@
 
 mod accept;
 mod adopt;
+mod contents;
 mod epochs;
 mod errors;
-mod found;
 mod levels;
 mod lists;
+mod opening;
 mod pages;
 mod runs;
-mod scan;
 mod taken;
 mod values;
 mod visible;
 
 pub use accept::accept_value;
 pub use adopt::{adopt_blocks, adopt_values};
+pub use contents::Found;
 pub use epochs::{read_newest, read_older};
 pub use errors::{OpenError, PageError};
-pub use found::Found;
 pub use levels::{load_runs, opening_error};
 pub use lists::{find_root, read_lists};
+pub use opening::scan;
 pub use runs::load_run;
-pub use scan::scan;
 pub use taken::{starts_with_none, take_value};
 pub use values::check_value;
 pub use visible::read_values;

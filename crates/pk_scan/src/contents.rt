@@ -1,4 +1,4 @@
-//! All that stands on a flash.
+//! What opening finds.
 
 use pk_buf::Buffer;
 use pk_jrn::Epoch;
@@ -18,18 +18,18 @@ pub struct Found<A: Region> {
     pub root_page: u32,
     /// The entries of the newest epoch.
     pub active: Buffer<A>,
-    /// The entries of the older epoch.
+    /// The entries of the older epoch; none where the root names none.
     pub frozen: Buffer<A>,
     /// The four runs.
     pub levels: Levels<A>,
-    /// The frames of the runs that are pinned.
+    /// The frames, with the pages of the runs whose levels are pinned.
     pub arena: PinArena<A>,
-    /// The values of the keys that are there.
+    /// The pages of the values of all keys that are there, and the blocks in which they lie.
     pub live: Live<A>,
-    /// The owners of the blocks.
+    /// The blocks, of which those of the epochs, the runs and the values have their owners.
     pub pool: Pool<A>,
-    /// The newest epoch.
+    /// The newest epoch, which takes no more pages.
     pub epoch: Epoch,
-    /// How many keys there are.
+    /// How many keys are there.
     pub keys: u32,
 }

@@ -6,8 +6,8 @@ ghost use Rattle.pk_scan.specs.Opened.{IsOpened, OnlyReading};
 ghost use Rattle.pk_scan.specs.Opening.{NotOpened};
 ghost use Rattle.pk_scan.specs.Reads.{opened};
 
+use crate::contents::Found;
 use crate::errors::OpenError;
-use crate::found::Found;
 use pk_base::Shape;
 use pk_nand::Nand;
 use pk_region::Region;
@@ -26,6 +26,6 @@ pub fn scan<B: Nand, A: Region>(
     ensures err { IfErr result (λ e. NotOpened shape (B.state board.old) (B.state board.new) e) }
     ensures rest { OnlyReading (B.state board.old) (B.state board.new) }
 {
-    let _ = (alloc, board, shape, frames);
+    let _ = (alloc, board.read_count(), shape, frames);
     Err(OpenError::Memory)
 }
