@@ -21,9 +21,12 @@ use Rattle.pk_data.specs.State.{DataState, with_none_open}
 use Rattle.pk_data.specs.Placed.{Placed, FoundAtOpening}
 use Rattle.pk_scan.specs.Opened.{HasLists, HasBlocks, IsOpened}
 use Rattle.pk_nand.specs.BoardState.{BoardState}
+use Rattle.pk_nand.specs.Calls.{IsReady}
+use Rattle.pk_nand.specs.Erased.{after_reads}
 use Rattle.pk_drive.specs.Drive.{Stands}
 use Rattle.pk_core.specs.Parts.{Parts, sight_of}
 use Rattle.pk_core.specs.Agreeing.{Agrees}
+use Rattle.pk_core.specs.Moves.{StandsFor}
 use Rattle.pk_core.specs.Opening.{OpenedOn}
 use Rattle.pk_core.proofs.Standing.{still_stands}
 
@@ -32,7 +35,7 @@ log_opens : (shape : Shape) (flash : Flash) (frames : ℕ) (root : Held) (page :
     → HasLists shape flash frames root page active frozen epoch levels arena found m → Opens root page epoch active frozen flash found
 log_opens shape flash frames root page active frozen epoch levels arena found m has =
     let S : Shape → Type 0 = λ s. Opens (record { shape = s; root = root.root }) page epoch active frozen flash found in
-    let epoch_is = has.epoch_is.1.0 in
+    let epoch_is = has.epoch_is.1 in
     subst S (sym has.shape_is) (record {
       is_top = has.under.is_top;
       is_found = has.under.is_found;
@@ -96,20 +99,28 @@ module _ (shape : Shape) (flash : Flash) (frames : ℕ) (root : Held) (page : �
         frames_are = refl;
         runs = refl;
         none_pending = none;
-        takes_none = ap (λ (l : LogState). l.epoch.takes_more) log_is ∙ ap (λ (e : JournalEpoch). e.takes_more) was.lists.epoch_is.1.0;
+        takes_none = ap (λ (l : LogState). l.epoch.takes_more) log_is ∙ ap (λ (e : JournalEpoch). e.takes_more) was.lists.epoch_is.1;
         none_open = ap (λ (s : DataState). s.open_block) space_is;
       }
 
 -- ---- what contracts say of it
 
-pub few_pending : (shape : Shape) (flash : Flash) (frames : ℕ) (d : Parts) → IsShape shape → OpenedOn shape flash frames d → length d.log.pending < page_entries d.log.shape
+few_pending : (shape : Shape) (flash : Flash) (frames : ℕ) (d : Parts) → IsShape shape → OpenedOn shape flash frames d → length d.log.pending < page_entries d.log.shape
 few_pending shape flash frames d is o =
     let least : 512 ≤ shape.page_bytes = is.page_least in
     let some : 0 < page_entries shape = omega arith in
     subst (λ (s : Shape). length d.log.pending < page_entries s) (sym o.with.shape_is) (subst (λ (es : List Entry). length es < page_entries shape) (sym o.none_pending) some)
 
-pub agrees_with : (shape : Shape) (flash : Flash) (frames : ℕ) (d : Parts) (told : Option Shape) → told ≡ Some shape → OpenedOn shape flash frames d → Agrees d told flash
-agrees_with shape flash frames d told is o = record { shape = shape; top = o.top; found = o.found; without = o.all; all = o.all; told_is = is; with = o.with }
+-- behind the reads of an opening
+module _ (shape : Shape) (frames reads : ℕ) (old new : BoardState) (d : Parts) (is_shape : IsShape shape) (ready : IsReady old shape) (done : new ≡ after_reads reads old) (o : OpenedOn shape old.pages frames d) where
+  pub agrees_behind : Agrees d new.shape new.pages × (length d.log.pending < page_entries d.log.shape)
+  agrees_behind =
+      let told : new.shape ≡ Some shape = ap (λ (s : BoardState). s.shape) done ∙ ready.shape_is in
+      let here : Agrees d new.shape old.pages = record { shape = shape; top = o.top; found = o.found; without = o.all; all = o.all; told_is = told; with = o.with } in
+      (subst (Agrees d new.shape) (sym (ap (λ (s : BoardState). s.pages) done)) here, few_pending shape old.pages frames d is_shape o)
 
-pub stands_with : (shape : Shape) (frames : ℕ) (board : BoardState) (d : Parts) → board.shape ≡ Some shape → OpenedOn shape board.pages frames d → (m : Map) × Stands shape frames board (sight_of d) m
-stands_with shape frames board d is o = (o.all, still_stands d board shape frames o.all is o.frames_are (record { top = o.top; found = o.found; without = o.all; with = o.with }))
+  pub stands_behind : (m : Map) × Stands shape frames new (sight_of d) m
+  stands_behind =
+      let told : new.shape ≡ Some shape = ap (λ (s : BoardState). s.shape) done ∙ ready.shape_is in
+      let here : StandsFor d shape old.pages o.all = record { top = o.top; found = o.found; without = o.all; with = o.with } in
+      (o.all, still_stands d new shape frames o.all told o.frames_are (subst (λ (f : Flash). StandsFor d shape f o.all) (sym (ap (λ (s : BoardState). s.pages) done)) here))

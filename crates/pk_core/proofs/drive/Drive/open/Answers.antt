@@ -1,0 +1,24 @@
+use Rattle.pk_core.proofs.Opening.{agrees_behind, stands_behind}
+use Rattle.pk_core.proofs.drive.Drive.open.Goals as goal
+
+pub returns-in-Ok-over-clause-agrees : goal.returns-in-Ok-over-clause-agrees
+returns-in-Ok-over-clause-agrees g c =
+    agrees_behind c.args.shape c.args.frames _ (g.B.Nand.state c.args.board.now) (g.B.Nand.state c.scan.new.board) c.in-Ok-over.drive c.known.ensures c.requires.ready c.in-Ok.ensures.reads
+    (c.in-Ok-over.ensures c.args.shape _ c.requires.ready.flash c.in-Ok.ensures.opened)
+
+pub returns-in-Ok-over-clause-stands : goal.returns-in-Ok-over-clause-stands
+returns-in-Ok-over-clause-stands g c =
+    stands_behind c.args.shape c.args.frames _ (g.B.Nand.state c.args.board.now) (g.B.Nand.state c.scan.new.board) c.in-Ok-over.drive c.known.ensures c.requires.ready c.in-Ok.ensures.reads
+    (c.in-Ok-over.ensures c.args.shape _ c.requires.ready.flash c.in-Ok.ensures.opened)
+
+pub returns-in-Ok-over-clause-runs : goal.returns-in-Ok-over-clause-runs
+returns-in-Ok-over-clause-runs g c = (c.in-Ok-over.ensures c.args.shape _ c.requires.ready.flash c.in-Ok.ensures.opened).runs
+
+pub returns-in-Ok-over-clause-none : goal.returns-in-Ok-over-clause-none
+returns-in-Ok-over-clause-none g c = (c.in-Ok-over.ensures c.args.shape _ c.requires.ready.flash c.in-Ok.ensures.opened).none_pending
+
+pub returns-in-Ok-over-clause-fresh : goal.returns-in-Ok-over-clause-fresh
+returns-in-Ok-over-clause-fresh g c = (c.in-Ok-over.ensures c.args.shape _ c.requires.ready.flash c.in-Ok.ensures.opened).takes_none
+
+pub returns-in-Ok-over-clause-closed : goal.returns-in-Ok-over-clause-closed
+returns-in-Ok-over-clause-closed g c = (c.in-Ok-over.ensures c.args.shape _ c.requires.ready.flash c.in-Ok.ensures.opened).none_open
