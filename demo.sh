@@ -1,5 +1,6 @@
 #!/bin/sh
-# Makes a drive in a temporary folder, serves a Store and a Retrieve of three bytes, and shows the records that came back.
+# Makes a drive in a temporary folder, serves a Store and a Retrieve of three bytes, shows the records that came back, and
+# retrieves the value once more in a session of its own.
 set -eu
 
 top=$(CDPATH='' cd -- "$(dirname -- "$0")" && pwd)
@@ -23,4 +24,9 @@ echo "\$ ./pink drive.img serve 36 < script      # a Store of 'abc' under the ke
 "$top/pink" "$folder/drive.img" serve 36 <"$folder/script" >"$folder/records"
 
 echo "the answer records, $(wc -c <"$folder/records" | tr -d ' ') bytes (completion entry, pages read, bytes of data, data):"
+od -An -v -tx1 "$folder/records"
+
+entry 2 1 3 >"$folder/later"
+echo '$ ./pink drive.img serve 36 < later       # the same Retrieve in another session'
+"$top/pink" "$folder/drive.img" serve 36 <"$folder/later" >"$folder/records"
 od -An -v -tx1 "$folder/records"

@@ -1,1 +1,5 @@
-mod Blank
+mod Within
+mod Sessions
+mod Telling
+mod Images
+mod Runs

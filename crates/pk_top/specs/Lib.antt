@@ -4,3 +4,6 @@ pub mod Statuses
 pub mod Loads
 pub mod Ends
 pub mod TextRuns
+pub mod Serves
+pub mod Makes
+pub mod Sessions

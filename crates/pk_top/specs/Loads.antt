@@ -1,9 +1,34 @@
--- The status of a load or a make of an image that was refused.
-use Rattle.std.specs.Prelude.{ℕ}
+-- A load or a make of an image that was refused.
+use Rattle.std.specs.Prelude.{◌≡◌, ◌≢◌, ℕ, Some, IsSome}
+use Rattle.pk_nand.specs.BoardState.{BoardState}
+use Rattle.pk_nand.specs.Calls.{Rose, LoadFailed, MakeFailed}
 use Rattle.pk_nand.specs.declared.types.LoadFault.{LoadFault}
 use Rattle.pk_nand.specs.declared.types.LoadFault.TheVariants.{Fault, BadImage, Memory}
 
+-- its status
 abbrev pub load_status : LoadFault → ℕ
 load_status Fault = 6
 load_status (BadImage at) = 8
 load_status Memory = 7
+
+-- why: a call of the flash failed exactly where the refusal says so, and a damaged image is one that the board says to be damaged
+abbrev pub HasReason : BoardState → BoardState → LoadFault → Type 0
+HasReason old new Fault = Rose old.flash_faults new.flash_faults
+HasReason old new (BadImage at) = (new.flash_faults ≡ old.flash_faults) × (new.bad ≡ Some at) × (IsSome old.shape → ⊥)
+HasReason old new Memory = new.flash_faults ≡ old.flash_faults
+
+-- A load was refused.
+pub record LoadRefused (old new : BoardState) (status : ℕ) : Type 0 where
+  pub fault : LoadFault
+  pub tells : status ≡ load_status fault
+  pub reason : HasReason old new fault
+  pub failed : LoadFailed old new
+
+-- An image was not made; a make never says that an image is damaged.
+pub record MakeRefused (old new : BoardState) (status : ℕ) : Type 0 where
+  pub fault : LoadFault
+  pub tells : status ≡ load_status fault
+  pub not_bad : (at : ℕ) → fault ≢ BadImage at
+  pub failed : MakeFailed old new
+  pub rose : fault ≡ Fault → Rose old.flash_faults new.flash_faults
+  pub same : fault ≢ Fault → new.flash_faults ≡ old.flash_faults

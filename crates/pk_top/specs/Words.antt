@@ -1,5 +1,5 @@
 -- The words of the program, and what each form of them asks for.
-use Rattle.std.specs.Prelude.{ℕ, nat_le, if◌then◌else◌, List, [], ◌∷◌, Option, Some, None, option_map, option_and_then, codes, bytes_eq}
+use Rattle.std.specs.Prelude.{ℕ, Bool, true, false, nat_le, if◌then◌else◌, List, [], ◌∷◌, Option, Some, None, option_map, option_and_then, codes, bytes_eq}
 use Rattle.std.specs.Result.{result_ok}
 use Rattle.pk_base.specs.Shape.{Shape, checked}
 use Rattle.pk_nvme.specs.Text.{number_of, bytes_of}
@@ -96,3 +96,17 @@ plain_of name operands =
 unfoldable pub word_of : List (List ℕ) → Option Word
 word_of [] = None
 word_of (name ∷ operands) = if bytes_eq name (codes "put") then put_of operands else plain_of name operands
+
+-- a form that is not built yet
+abbrev pub is_later : Word → Bool
+is_later (make shape) = false
+is_later (serve frames) = false
+is_later (put key value) = true
+is_later (get key) = true
+is_later (delete key) = true
+is_later (has key) = true
+is_later (list from) = true
+is_later stat = true
+is_later assemble = false
+is_later show = false
+is_later (generate start count) = true

@@ -1,8 +1,10 @@
 //! The program's one call: words and a board in, a status out.
 //!
-//! Every run returns and is safe, over every board. Each status other than 0 has its cause as a clause of the call.
+//! Every run returns and is safe, over every board. Each status other than 0 has its cause as a clause of the call, and what a
+//! run of `serve` keeps at every cut is one too; `laws::sessions` says what that comes to over any number of runs.
 #![tactic(auto)]
 
+pub mod laws;
 mod making;
 mod running;
 mod serving;

@@ -1,10 +1,12 @@
 //! The word that makes an image.
-ghost use Rattle.pk_top.specs.Statuses.{Tells};
+ghost use Rattle.std.specs.Prelude.{◌≡◌, None};
 ghost use Rattle.pk_top.specs.Loads.{load_status};
-ghost use Rattle.std.specs.Prelude.{◌≡◌};
+ghost use Rattle.pk_top.specs.Makes.{MakeRun, Makes};
+ghost use Rattle.pk_top.specs.Statuses.{Tells};
 
 use crate::status::Status;
 use pk_base::Shape;
+use pk_core::format;
 use pk_nand::{Board, LoadFault};
 use std::alloc::Global;
 
@@ -19,16 +21,28 @@ pub fn of_load_fault(fault: LoadFault) -> Status
     }
 }
 
-/// Makes an image of this shape, where there is none.
+/// Makes an image where there is none, and formats its flash.
+fn make_image<B: Board>(alloc: Global, shape: Shape, board: &mut B) -> Status
+    requires { (B.state board.old).shape ≡ None }
+    ensures { Makes shape (B.state board.old) (B.state board.new) result.0 }
+{
+    match board.make(alloc, shape) {
+        Ok(()) => match format(board, shape) {
+            Ok(()) => Status::DONE,
+            Err(_) => Status::FLASH,
+        },
+        Err(fault) => of_load_fault(fault),
+    }
+}
+
+/// Makes a drive of this shape, where there is no image.
 pub fn make<B: Board>(alloc: Global, shape: Shape, board: &mut B) -> Status
-    ensures { Tells (B.state board.old) (B.state board.new) result.0 }
+    ensures runs { MakeRun shape (B.state board.old) (B.state board.new) result.0 }
+    ensures tells { Tells (B.state board.old) (B.state board.new) result.0 }
 {
     match board.load(alloc) {
         Ok(Some(_)) => Status::MADE,
-        Ok(None) => match board.make(alloc, shape) {
-            Ok(()) => Status::DONE,
-            Err(fault) => of_load_fault(fault),
-        },
+        Ok(None) => make_image(alloc, shape, board),
         Err(fault) => of_load_fault(fault),
     }
 }

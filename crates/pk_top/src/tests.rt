@@ -1,6 +1,6 @@
 use super::*;
 use pk_base::Shape;
-use pk_flash::{Flash, Room};
+use pk_flash::{Flash, Left, Room, is_flash};
 use pk_model::MapMachine;
 use pk_nvme::{Request, completion, record_head};
 use std::alloc::{AllocError, Global};
@@ -21,9 +21,14 @@ const RECORDS: [u8; 51] = [
     2, 0, 1, 0, 2, 0, 1, 0, 1, 0, 0, 0, 3, 0, 0, 0, 0x61, 0x62, 0x63,
 ];
 
+// The record of the Retrieve as the first command of a session.
+const RETRIEVED: [u8; 27] = [
+    3, 0, 0, 0, 0, 0, 0, 0, 1, 0, 1, 0, 2, 0, 1, 0, 1, 0, 0, 0, 3, 0, 0, 0, 0x61, 0x62, 0x63,
+];
+
 const ROOM: Room = Room {
-    posted: 1000,
-    marks: 20,
+    posted: 4096,
+    marks: 100,
 };
 
 // The words of a text, which single blanks divide.
@@ -86,29 +91,110 @@ fn words(rt: HostRuntime) -> Result<(), Fail> {
     Ok(())
 }
 
+// A made drive with this input.
+fn made(alloc: Global, input: Vec<u8>) -> Result<Flash, Fail> {
+    let mut flash = Flash::new(alloc, None, input, ROOM)?;
+    if run(alloc, &["make", "512", "16", "64"], &mut flash).0 == 0 {
+        Ok(flash)
+    } else {
+        Err(Fail::from("a made drive"))
+    }
+}
+
+// The board of the next session: the same pages, and another input.
+fn next(alloc: Global, flash: &Flash, input: Vec<u8>) -> Result<Flash, Fail> {
+    let Some(shape) = flash.shape() else {
+        return Err(Fail::from("an image"));
+    };
+    let pages = flash.cut(alloc, flash.marks(), &Left::Untouched)?;
+    if !is_flash(&shape, &pages) {
+        return Err(Fail::from("the pages of the shape"));
+    }
+    Ok(Flash::with_pages(alloc, shape, pages, input, ROOM)?)
+}
+
+// A Store of a byte under a key of one byte.
+fn store(alloc: Global, key: u8) -> Result<Vec<u8>, Fail> {
+    let mut script = command(0x01, 1, key, 1, 0).entry().to_vec(alloc)?;
+    script.push(key)?;
+    Ok(script)
+}
+
 // An image is made once, and a script that ends inside an entry is told so.
 #[test]
 fn makes_once(rt: HostRuntime) -> Result<(), Fail> {
     let alloc = rt.alloc();
-    let mut flash = Flash::new(alloc, None, SCRIPT[..70].to_vec(alloc)?, ROOM)?;
-    let make = ["make", "512", "16", "64"];
-    assert_eq!(rt; run(alloc, &make, &mut flash).0, 0);
-    assert_eq!(rt; run(alloc, &make, &mut flash).0, 9);
+    let mut flash = made(alloc, SCRIPT[..70].to_vec(alloc)?)?;
+    assert_eq!(rt; flash.program_count(), 1);
+    assert_eq!(rt; run(alloc, &["make", "512", "16", "64"], &mut flash).0, 9);
     assert_eq!(rt; run(alloc, &["serve", "36"], &mut flash).0, 3);
     assert_eq!(rt; flash.posted(), &RECORDS[..24]);
     Ok(())
 }
 
-// The worked script gives the worked records, and a flash with a value is not served again.
+// The worked script gives the worked records, and the next session still has the value. Two more sessions each store a new key;
+// the second of them needs a freeze while the frozen buffer has entries, which is not built.
 #[test]
-fn serves(rt: HostRuntime) -> Result<(), Fail> {
+fn sessions(rt: HostRuntime) -> Result<(), Fail> {
+    let alloc = rt.alloc();
+    let mut flash = made(alloc, SCRIPT.to_vec(alloc)?)?;
+    assert_eq!(rt; run(alloc, &["serve", "36"], &mut flash).0, 0);
+    assert_eq!(rt; flash.posted(), RECORDS.as_slice());
+    for (script, status, posted) in [
+        (SCRIPT[67..].to_vec(alloc)?, 0u8, RETRIEVED.as_slice()),
+        (
+            store(alloc, 0x62)?,
+            0,
+            &[
+                0, 0, 0, 0, 0, 0, 0, 0, 1, 0, 1, 0, 1, 0, 1, 0, 0, 0, 0, 0, 0, 0, 0, 0,
+            ],
+        ),
+        (store(alloc, 0x63)?, 11, &[]),
+        (SCRIPT[67..].to_vec(alloc)?, 0, RETRIEVED.as_slice()),
+    ] {
+        flash = next(alloc, &flash, script)?;
+        assert_eq!(rt; run(alloc, &["serve", "36"], &mut flash).0, status);
+        assert_eq!(rt; flash.posted(), posted);
+    }
+    Ok(())
+}
+
+// A Store and a Delete of one key program a root, the value's page and one page of the journal, behind the erases of the root's
+// block, of two for the journal and of one for values. The next session has no keys.
+#[test]
+fn deletes(rt: HostRuntime) -> Result<(), Fail> {
+    let alloc = rt.alloc();
+    let mut script = store(alloc, 0x61)?;
+    script.extend_from_slice(&command(0x10, 2, 0x61, 0, 0).entry())?;
+    let empty = made(alloc, Vec::new(alloc))?;
+    let mut flash = next(alloc, &empty, script)?;
+    assert_eq!(rt; run(alloc, &["serve", "36"], &mut flash).0, 0);
+    assert_eq!(rt; flash.program_count(), 3);
+    assert_eq!(rt; flash.erase_count(), 4);
+    let report = command(0xC2, 3, 0, 0, 0).entry().to_vec(alloc)?;
+    let mut later = next(alloc, &flash, report)?;
+    assert_eq!(rt; run(alloc, &["serve", "36"], &mut later).0, 0);
+    assert!(rt; later.posted().len() == 88);
+    // the third number of a Report is that of the keys
+    assert_eq!(rt; &later.posted()[32..36], [0u8; 4].as_slice());
+    Ok(())
+}
+
+// A flash without a root is no drive, and neither is a board without an image. A read that fails while the drive is opened is
+// no missing drive.
+#[test]
+fn refuses(rt: HostRuntime) -> Result<(), Fail> {
     let alloc = rt.alloc();
     let shape = Shape::new(512, 16, 64).ok().ok_or("a shape")?;
-    let mut flash = Flash::new(alloc, Some(shape), SCRIPT.to_vec(alloc)?, ROOM)?;
-    let serve = ["serve", "36"];
-    assert_eq!(rt; run(alloc, &serve, &mut flash).0, 0);
-    assert_eq!(rt; flash.posted(), RECORDS.as_slice());
-    assert_eq!(rt; run(alloc, &serve, &mut flash).0, 11);
+    let mut blank = Flash::new(alloc, Some(shape), SCRIPT.to_vec(alloc)?, ROOM)?;
+    assert_eq!(rt; run(alloc, &["serve", "36"], &mut blank).0, 8);
+    assert_eq!(rt; blank.marks(), 0);
+    assert_eq!(rt; status_of(alloc, "serve 36")?, 8);
+    let empty = made(alloc, Vec::new(alloc))?;
+    let mut failing = next(alloc, &empty, SCRIPT.to_vec(alloc)?)?;
+    failing.fail(alloc, 0, Left::Untouched)?;
+    assert_eq!(rt; run(alloc, &["serve", "36"], &mut failing).0, 6);
+    assert_eq!(rt; failing.marks(), 0);
     Ok(())
 }
 
@@ -206,11 +292,7 @@ fn as_the_machine(rt: HostRuntime) -> Result<(), Fail> {
         script.extend_from_slice(value)?;
         record_of(alloc, &mut machine, taken, &request, value, &mut records)?;
     }
-    let room = Room {
-        posted: 4096,
-        marks: 100,
-    };
-    let mut flash = Flash::new(alloc, Some(shape), script, room)?;
+    let mut flash = made(alloc, script)?;
     assert_eq!(rt; run(alloc, &["serve", "36"], &mut flash).0, 0);
     assert_eq!(rt; flash.posted(), records.as_slice());
     Ok(())

@@ -1,3 +1,0 @@
-pub mod Space
-pub mod Reads
-pub mod Served

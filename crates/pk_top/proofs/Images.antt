@@ -1,0 +1,66 @@
+-- A run of the word `make`.
+use Rattle.std.proofs.Common.{◌≡◌, ◌⊎◌, inl, inr, ℕ, Option, Some, None, IsSome, refl, sym, ◌∙◌, ap, subst, arith}
+use Rattle.pk_base.specs.Shape.{Shape}
+use Rattle.pk_nand.specs.BoardState.{BoardState}
+use Rattle.pk_nand.specs.Calls.{Rose, Loaded, Made, ProgramFailed, MakeFailed}
+use Rattle.pk_nand.specs.declared.types.LoadFault.{LoadFault}
+use Rattle.pk_nand.specs.declared.types.LoadFault.TheVariants.{Fault, BadImage, Memory}
+use Rattle.pk_rootfmt.specs.Held.{first as first_root}
+use Rattle.pk_rootfmt.specs.Root.{root_bytes}
+use Rattle.pk_top.specs.Loads.{load_status, LoadRefused, MakeRefused}
+use Rattle.pk_top.specs.Makes.{MakeRun, Makes, MakesNew, MadeImage, Formatted, FoundImage, IsMade}
+use Rattle.pk_top.specs.Statuses.{GivesNothing, Tells}
+use Rattle.pk_top.proofs.Telling.{tells_good, tells_flash, tells_memory, tells_made, tells_refused, gives_same, load_gives, load_untouched}
+
+some_shape : (shape : Shape) (o : Option Shape) → o ≡ Some shape → IsSome o
+some_shape shape o e = let T : Option Shape → Type 0 = IsSome in subst T (sym e) refl
+
+module _ (shape : Shape) (old loaded new : BoardState) (none : Loaded old loaded None) where
+  make_gives : MakeFailed loaded new → GivesNothing old new
+  make_gives failed = record { input = ap (λ (s : BoardState). s.input) failed ∙ ap (λ (s : BoardState). s.input) none.rest; posted = ap (λ (s : BoardState). s.posted) failed ∙ ap (λ (s : BoardState). s.posted) none.rest }
+
+  tells_refusal : (status : ℕ) (fault : LoadFault) → status ≡ load_status fault → ((at : ℕ) → fault ≡ BadImage at → ⊥) → (fault ≡ Fault → Rose loaded.flash_faults new.flash_faults) → MakeFailed loaded new → Tells old new status
+  tells_refusal status Fault is not_bad rose failed =
+      let T : ℕ → Type 0 = λ n. Rose n new.flash_faults in
+      tells_flash old new status is (inr (subst T (ap (λ (s : BoardState). s.flash_faults) none.rest) (rose refl), make_gives failed))
+  tells_refusal status (BadImage at) is not_bad rose failed = absurd (not_bad at refl)
+  tells_refusal status Memory is not_bad rose failed = tells_memory old new status is (make_gives failed)
+
+  tells_image : (status : ℕ) → MadeImage shape loaded new status → Tells old new status
+  tells_image status m = elim m.formats [
+    | inl done ↦ tells_good old new status (inl done.tells)
+    | inr failed ↦
+        let T : ℕ → Type 0 = λ n. Rose n new.stop_faults in
+        tells_flash old new status failed.0 (inl (subst T (ap (λ (s : BoardState). s.stop_faults) m.is_made.rest ∙ ap (λ (s : BoardState). s.stop_faults) none.rest) failed.1.stop))
+  ]
+
+  tells_makes : (status : ℕ) → Makes shape loaded new status → Tells old new status
+  tells_makes status (inl r) = tells_refusal status r.fault r.tells r.not_bad r.rose r.failed
+  tells_makes status (inr m) = tells_image status m
+
+pub tells_make : (shape : Shape) (old new : BoardState) (status : ℕ) → MakeRun shape old new status → Tells old new status
+tells_make shape old new status (inl none) = tells_memory old new status none.0 (gives_same old new none.1)
+tells_make shape old new status (inr (inl refused)) = tells_refused old new status refused
+tells_make shape old new status (inr (inr (inl there))) =
+    tells_made old new status there.tells (some_shape there.shape new.shape there.found.shape_is) (load_untouched old new (Some there.shape) there.found)
+tells_make shape old new status (inr (inr (inr run))) = tells_makes shape old run.loaded new run.none status run.makes
+
+-- ---- status 0
+
+never_done : (fault : LoadFault) → load_status fault ≡ 0 → ⊥
+never_done Fault e = omega arith
+never_done (BadImage at) e = omega arith
+never_done Memory e = omega arith
+
+formatted_made : (shape : Shape) (loaded new : BoardState) (status : ℕ) → status ≡ 0 → Makes shape loaded new status → IsMade shape new
+formatted_made shape loaded new status done (inl r) = absurd (never_done r.fault (sym r.tells ∙ done))
+formatted_made shape loaded new status done (inr m) = elim m.formats [
+  | inl f ↦ record { shape_is = ap (λ (s : BoardState). s.shape) f.program ∙ m.is_made.shape_is; holds = f.holds }
+  | inr failed ↦ absurd (let e : status ≡ 6 = failed.0 in omega arith)
+]
+
+pub made_drive : (shape : Shape) (old new : BoardState) (status : ℕ) → MakeRun shape old new status → status ≡ 0 → IsMade shape new
+made_drive shape old new status (inl none) done = absurd (let e : status ≡ 7 = none.0 in omega arith)
+made_drive shape old new status (inr (inl refused)) done = absurd (never_done refused.fault (sym refused.tells ∙ done))
+made_drive shape old new status (inr (inr (inl there))) done = absurd (let e : status ≡ 9 = there.tells in omega arith)
+made_drive shape old new status (inr (inr (inr run))) done = formatted_made shape run.loaded new status done run.makes

@@ -1,0 +1,199 @@
+-- What the status of a run tells.
+use Rattle.std.proofs.Common.{◌≡◌, ◌⊎◌, inl, inr, ℕ, List, Option, Some, None, IsSome, refl, sym, ◌∙◌, ap, subst, arith}
+use Rattle.pk_base.specs.Shape.{Shape}
+use Rattle.pk_base.specs.Page.{Page}
+use Rattle.pk_base.specs.Refusal.{Refusal, not_formatted, damaged}
+use Rattle.pk_nand.specs.BoardState.{BoardState}
+use Rattle.pk_nand.specs.Calls.{Rose, Loaded, LoadFailed}
+use Rattle.pk_nand.specs.declared.types.LoadFault.{LoadFault}
+use Rattle.pk_nand.specs.declared.types.LoadFault.TheVariants.{Fault, BadImage, Memory}
+use Rattle.pk_model.specs.Reading.{Refuses}
+use Rattle.pk_serve.specs.Ends.{Blames}
+use Rattle.pk_serve.specs.declared.end.End.{End}
+use Rattle.pk_serve.specs.declared.end.End.TheVariants.{Done, Truncated, Input, Output, Flash, Worn, NotBuilt}
+use Rattle.pk_scan.specs.Opened.{OnlyReading}
+use Rattle.pk_scan.specs.Opening.{NotOpened}
+use Rattle.pk_scan.specs.declared.errors.OpenError.{OpenError}
+use Rattle.pk_scan.specs.declared.errors.OpenError.TheVariants.{NotFormatted, Damaged, Fault as ReadFault, Memory as NoMemory}
+use Rattle.pk_top.specs.Ends.{end_status, open_status}
+use Rattle.pk_top.specs.Loads.{load_status, HasReason, LoadRefused}
+use Rattle.pk_top.specs.Serves.{ServeRun, ServesFound, Serves, NotServed, ServedTo, behind_opening}
+use Rattle.pk_top.specs.Statuses.{GivesNothing, Untouched, FlashFailed, HasNoDrive, Tells}
+
+-- ---- one status each
+
+pub tells_good : (old new : BoardState) (status : ℕ) → (status ≡ 0) ⊎ ((status ≡ 3) ⊎ ((status ≡ 10) ⊎ (status ≡ 11))) → Tells old new status
+tells_good old new status good = record {
+  no_words = λ e. absurd (omega arith);
+  input = λ e. absurd (omega arith);
+  output = λ e. absurd (omega arith);
+  flash = λ e. absurd (omega arith);
+  memory = λ e. absurd (omega arith);
+  no_drive = λ e. absurd (omega arith);
+  made = λ e. absurd (omega arith);
+}
+
+tells_input : (old new : BoardState) → Rose old.in_faults new.in_faults → Tells old new 4
+tells_input old new rose = record {
+  no_words = λ e. absurd (omega arith);
+  input = λ e. rose;
+  output = λ e. absurd (omega arith);
+  flash = λ e. absurd (omega arith);
+  memory = λ e. absurd (omega arith);
+  no_drive = λ e. absurd (omega arith);
+  made = λ e. absurd (omega arith);
+}
+
+tells_output : (old new : BoardState) → Rose old.out_faults new.out_faults → Tells old new 5
+tells_output old new rose = record {
+  no_words = λ e. absurd (omega arith);
+  input = λ e. absurd (omega arith);
+  output = λ e. rose;
+  flash = λ e. absurd (omega arith);
+  memory = λ e. absurd (omega arith);
+  no_drive = λ e. absurd (omega arith);
+  made = λ e. absurd (omega arith);
+}
+
+pub tells_flash : (old new : BoardState) (status : ℕ) → status ≡ 6 → FlashFailed old new → Tells old new status
+tells_flash old new status is failed = record {
+  no_words = λ e. absurd (omega arith);
+  input = λ e. absurd (omega arith);
+  output = λ e. absurd (omega arith);
+  flash = λ e. failed;
+  memory = λ e. absurd (omega arith);
+  no_drive = λ e. absurd (omega arith);
+  made = λ e. absurd (omega arith);
+}
+
+pub tells_memory : (old new : BoardState) (status : ℕ) → status ≡ 7 → GivesNothing old new → Tells old new status
+tells_memory old new status is gives = record {
+  no_words = λ e. absurd (omega arith);
+  input = λ e. absurd (omega arith);
+  output = λ e. absurd (omega arith);
+  flash = λ e. absurd (omega arith);
+  memory = λ e. gives;
+  no_drive = λ e. absurd (omega arith);
+  made = λ e. absurd (omega arith);
+}
+
+tells_no_drive : (old new : BoardState) (status : ℕ) → status ≡ 8 → HasNoDrive new → Untouched old new → Tells old new status
+tells_no_drive old new status is none untouched = record {
+  no_words = λ e. absurd (omega arith);
+  input = λ e. absurd (omega arith);
+  output = λ e. absurd (omega arith);
+  flash = λ e. absurd (omega arith);
+  memory = λ e. absurd (omega arith);
+  no_drive = λ e. (none, untouched);
+  made = λ e. absurd (omega arith);
+}
+
+pub tells_made : (old new : BoardState) (status : ℕ) → status ≡ 9 → IsSome new.shape → Untouched old new → Tells old new status
+tells_made old new status is some untouched = record {
+  no_words = λ e. absurd (omega arith);
+  input = λ e. absurd (omega arith);
+  output = λ e. absurd (omega arith);
+  flash = λ e. absurd (omega arith);
+  memory = λ e. absurd (omega arith);
+  no_drive = λ e. absurd (omega arith);
+  made = λ e. (some, untouched);
+}
+
+-- where nothing was done
+pub gives_same : (old new : BoardState) → new ≡ old → GivesNothing old new
+gives_same old new same = record { input = ap (λ (s : BoardState). s.input) same; posted = ap (λ (s : BoardState). s.posted) same }
+
+pub untouched_same : (old new : BoardState) → new ≡ old → Untouched old new
+untouched_same old new same = record { gives = gives_same old new same; trail = ap (λ (s : BoardState). s.trail) same; held = λ some. (ap (λ (s : BoardState). s.pages) same, ap (λ (s : BoardState). s.shape) same) }
+
+-- ---- a load
+
+pub load_gives : (old new : BoardState) (found : Option Shape) → Loaded old new found → GivesNothing old new
+load_gives old new found l = record { input = ap (λ (s : BoardState). s.input) l.rest; posted = ap (λ (s : BoardState). s.posted) l.rest }
+
+pub load_untouched : (old new : BoardState) (found : Option Shape) → Loaded old new found → Untouched old new
+load_untouched old new found l = record { gives = load_gives old new found l; trail = ap (λ (s : BoardState). s.trail) l.rest; held = l.held }
+
+pub refused_untouched : (old new : BoardState) → LoadFailed old new → Untouched old new
+refused_untouched old new l = record { gives = record { input = ap (λ (s : BoardState). s.input) l.rest; posted = ap (λ (s : BoardState). s.posted) l.rest }; trail = ap (λ (s : BoardState). s.trail) l.rest; held = l.held }
+
+some_bad : (at : ℕ) (bad : Option ℕ) → bad ≡ Some at → IsSome bad
+some_bad at bad e = let T : Option ℕ → Type 0 = IsSome in subst T (sym e) refl
+
+tells_fault : (old new : BoardState) (status : ℕ) (fault : LoadFault) → status ≡ load_status fault → HasReason old new fault → LoadFailed old new → Tells old new status
+tells_fault old new status Fault is reason failed = tells_flash old new status is (inr (reason, (refused_untouched old new failed).gives))
+tells_fault old new status (BadImage at) is reason failed = tells_no_drive old new status is (inr (inl (some_bad at new.bad reason.1))) (refused_untouched old new failed)
+tells_fault old new status Memory is reason failed = tells_memory old new status is (refused_untouched old new failed).gives
+
+pub tells_refused : (old new : BoardState) (status : ℕ) → LoadRefused old new status → Tells old new status
+tells_refused old new status r = tells_fault old new status r.fault r.tells r.reason r.failed
+
+-- ---- a drive that was not opened
+
+module _ (shape : Shape) (old loaded new : BoardState) (found : Loaded old loaded (Some shape)) where
+  reads_untouched : OnlyReading loaded new → Untouched old new
+  reads_untouched only = record {
+    gives = record { input = ap (λ (s : BoardState). s.input) only ∙ ap (λ (s : BoardState). s.input) found.rest; posted = ap (λ (s : BoardState). s.posted) only ∙ ap (λ (s : BoardState). s.posted) found.rest };
+    trail = ap (λ (s : BoardState). s.trail) only ∙ ap (λ (s : BoardState). s.trail) found.rest;
+    held = λ some. (ap (λ (s : BoardState). s.pages) only ∙ (found.held some).0, ap (λ (s : BoardState). s.shape) only ∙ (found.held some).1);
+  }
+
+  holds_none : (refusal : Refusal) → OnlyReading loaded new → Refuses shape loaded.pages refusal → HasNoDrive new
+  holds_none refusal only refuses =
+      let T : List Page → Type 0 = λ pages. Refuses shape pages refusal in
+      inr (inr (shape, refusal, ap (λ (s : BoardState). s.shape) only ∙ found.shape_is, subst T (sym (ap (λ (s : BoardState). s.pages) only)) refuses))
+
+  tells_not : (status : ℕ) (error : OpenError) → status ≡ open_status error → NotOpened shape loaded new error → OnlyReading loaded new → Tells old new status
+  tells_not status NotFormatted is reason only = tells_no_drive old new status is (holds_none not_formatted only reason) (reads_untouched only)
+  tells_not status (Damaged page) is reason only = tells_no_drive old new status is (holds_none (damaged page) only reason) (reads_untouched only)
+  tells_not status ReadFault is reason only =
+      let T : ℕ → Type 0 = λ n. Rose n new.flash_faults in
+      tells_flash old new status is (inr (subst T (ap (λ (s : BoardState). s.flash_faults) found.rest) reason, (reads_untouched only).gives))
+  tells_not status NoMemory is reason only = tells_memory old new status is (reads_untouched only).gives
+
+  -- ---- a drive that was opened
+
+  tells_end : (frames : ℕ) (end : End) → Blames (behind_opening shape frames loaded) new end → Tells old new (end_status end)
+  tells_end frames Done blames = tells_good old new 0 (inl refl)
+  tells_end frames Truncated blames = tells_good old new 3 (inr (inl refl))
+  tells_end frames Input blames = let T : ℕ → Type 0 = λ n. Rose n new.in_faults in tells_input old new (subst T (ap (λ (s : BoardState). s.in_faults) found.rest) blames.0)
+  tells_end frames Output blames = let T : ℕ → Type 0 = λ n. Rose n new.out_faults in tells_output old new (subst T (ap (λ (s : BoardState). s.out_faults) found.rest) blames)
+  tells_end frames Flash blames = let T : ℕ → Type 0 = λ n. Rose n new.stop_faults in tells_flash old new 6 refl (inl (subst T (ap (λ (s : BoardState). s.stop_faults) found.rest) blames))
+  tells_end frames Worn blames = tells_good old new 10 (inr (inr (inl refl)))
+  tells_end frames NotBuilt blames = tells_good old new 11 (inr (inr (inr refl)))
+
+  tells_serves : (frames status : ℕ) → Serves shape frames loaded new status → Tells old new status
+  tells_serves frames status s = elim s.outcome [
+    | inl n ↦ tells_not status n.error n.tells n.reason n.only_reads
+    | inr e ↦ let T : ℕ → Type 0 = λ n. Tells old new n in subst T (sym e.1) (tells_end frames e.0 e.2.blames)
+  ]
+
+  -- want of memory is met before anything is taken
+  end_memory : (end : End) → end_status end ≡ 7 → ⊥
+  end_memory Done e = omega arith
+  end_memory Truncated e = omega arith
+  end_memory Input e = omega arith
+  end_memory Output e = omega arith
+  end_memory Flash e = omega arith
+  end_memory Worn e = omega arith
+  end_memory NotBuilt e = omega arith
+
+  memory_serves : (frames status : ℕ) → Serves shape frames loaded new status → status ≡ 7 → Untouched old new
+  memory_serves frames status s is = elim s.outcome [
+    | inl n ↦ reads_untouched n.only_reads
+    | inr e ↦ absurd (end_memory e.0 (sym e.1 ∙ is))
+  ]
+
+-- ---- the word
+
+pub tells_serve : (frames : ℕ) (old new : BoardState) (status : ℕ) → ServeRun frames old new status → Tells old new status
+tells_serve frames old new status (inl none) = tells_memory old new status none.0 (gives_same old new none.1)
+tells_serve frames old new status (inr (inl refused)) = tells_refused old new status refused
+tells_serve frames old new status (inr (inr (inl missing))) = tells_no_drive old new status missing.0 (inl missing.1.shape_is) (load_untouched old new None missing.1)
+tells_serve frames old new status (inr (inr (inr found))) = tells_serves found.shape old found.loaded new found.found frames status found.serves
+
+pub memory_serve : (frames : ℕ) (old new : BoardState) (status : ℕ) → ServeRun frames old new status → status ≡ 7 → Untouched old new
+memory_serve frames old new status (inl none) is = untouched_same old new none.1
+memory_serve frames old new status (inr (inl refused)) is = refused_untouched old new refused.failed
+memory_serve frames old new status (inr (inr (inl missing))) is = load_untouched old new None missing.1
+memory_serve frames old new status (inr (inr (inr found))) is = memory_serves found.shape old found.loaded new found.found frames status found.serves is

@@ -1,0 +1,106 @@
+-- The frames that words may ask for.
+use Rattle.std.proofs.Common.{◌≡◌, ◌≤◌, ℕ, List, [], ◌∷◌, Option, None, Some, option_map, option_and_then, Bool, true, false, if◌then◌else◌, nat_le, bytes_eq, codes, subst, sym, ap, ◌∙◌, refl, arith}
+use Rattle.std.proofs.lemmas.Bool.Decides.{nat_tests}
+use Rattle.pk_nvme.specs.Text.{number_of, bytes_of}
+use Rattle.pk_asm.specs.Words.{key_of}
+use Rattle.pk_top.specs.Words.{Word, make, serve, put, get, delete, has, list, stat, assemble, show, generate, make_with, make_if, make_of, most_frames, serve_with, serve_of, put_of, only_key, list_of, alone, generate_of, plain_of, word_of}
+
+-- the frames of a word are not too many
+abbrev WordWithin : Word → Type 0
+WordWithin (make shape) = Unit {0}
+WordWithin (serve frames) = frames ≤ 16384
+WordWithin (put key value) = Unit {0}
+WordWithin (get key) = Unit {0}
+WordWithin (delete key) = Unit {0}
+WordWithin (has key) = Unit {0}
+WordWithin (list from) = Unit {0}
+WordWithin stat = Unit {0}
+WordWithin assemble = Unit {0}
+WordWithin show = Unit {0}
+WordWithin (generate start count) = Unit {0}
+
+abbrev Within : Option Word → Type 0
+Within None = Unit {0}
+Within (Some word) = WordWithin word
+
+within_if : (b : Bool) (x y : Option Word) → Within x → Within y → Within (if b then x else y)
+within_if true x y hx hy = hx
+within_if false x y hx hy = hy
+
+within_map : {A : Type 0} (f : A → Word) (o : Option A) → ((a : A) → WordWithin (f a)) → Within (option_map f o)
+within_map f None all = tt
+within_map f (Some a) all = all a
+
+within_bind : {A : Type 0} (o : Option A) (f : A → Option Word) → ((a : A) → Within (f a)) → Within (option_and_then f o)
+within_bind None f all = tt
+within_bind (Some a) f all = all a
+
+-- ---- the forms
+
+make_if-within : (p n m : Option ℕ) → Within (make_if p n m)
+make_if-within (Some p) (Some n) (Some m) = within_map make _ (λ shape. tt)
+make_if-within (Some p) (Some n) None = tt
+make_if-within (Some p) None m = tt
+make_if-within None n m = tt
+
+make-within : (operands : List (List ℕ)) → Within (make_of operands)
+make-within [] = tt
+make-within (p ∷ []) = tt
+make-within (p ∷ n ∷ []) = tt
+make-within (p ∷ n ∷ m ∷ []) = make_if-within (number_of p) (number_of n) (number_of m)
+make-within (p ∷ n ∷ m ∷ x ∷ more) = tt
+
+serve_if-within : (frames : ℕ) (b : Bool) → nat_le frames 16384 ≡ b → Within (if b then Some (serve frames) else None)
+serve_if-within frames true few = grind (arith, nat_tests, few)
+serve_if-within frames false few = tt
+
+serve-within : (operands : List (List ℕ)) → Within (serve_of operands)
+serve-within [] = tt
+serve-within (n ∷ []) = within_bind (number_of n) serve_with (λ frames. serve_if-within frames (nat_le frames 16384) refl)
+serve-within (n ∷ x ∷ more) = tt
+
+put-within : (operands : List (List ℕ)) → Within (put_of operands)
+put-within [] = tt
+put-within (k ∷ []) = tt
+put-within (k ∷ b ∷ []) = within_bind (key_of k) _ (λ key. within_bind (bytes_of b) _ (λ bytes. tt))
+put-within (k ∷ b ∷ x ∷ more) = tt
+
+list-within : (operands : List (List ℕ)) → Within (list_of operands)
+list-within [] = tt
+list-within (k ∷ []) = within_map (λ key. list (Some key)) (key_of k) (λ key. tt)
+list-within (k ∷ x ∷ more) = tt
+
+alone-within : (word : Word) (operands : List (List ℕ)) → WordWithin word → Within (alone word operands)
+alone-within word [] h = h
+alone-within word (x ∷ more) h = tt
+
+generate-within : (operands : List (List ℕ)) → Within (generate_of operands)
+generate-within [] = tt
+generate-within (s ∷ []) = tt
+generate-within (s ∷ c ∷ []) = within_bind (number_of s) _ (λ start. within_bind (number_of c) _ (λ count. tt))
+generate-within (s ∷ c ∷ x ∷ more) = tt
+
+plain-within : (name : List ℕ) (operands : List (List ℕ)) → Within (plain_of name operands)
+unfolding plain_of
+plain-within name operands =
+    within_if (bytes_eq name (codes "make")) _ _ (make-within operands)
+    (within_if (bytes_eq name (codes "serve")) _ _ (serve-within operands)
+    (within_if (bytes_eq name (codes "get")) _ _ (within_map get (only_key operands) (λ key. tt))
+    (within_if (bytes_eq name (codes "del")) _ _ (within_map delete (only_key operands) (λ key. tt))
+    (within_if (bytes_eq name (codes "has")) _ _ (within_map has (only_key operands) (λ key. tt))
+    (within_if (bytes_eq name (codes "list")) _ _ (list-within operands)
+    (within_if (bytes_eq name (codes "stat")) _ _ (alone-within stat operands tt)
+    (within_if (bytes_eq name (codes "asm")) _ _ (alone-within assemble operands tt)
+    (within_if (bytes_eq name (codes "show")) _ _ (alone-within show operands tt)
+    (within_if (bytes_eq name (codes "gen")) _ _ (generate-within operands) tt)))))))))
+
+words-within : (words : List (List ℕ)) → Within (word_of words)
+unfolding word_of
+words-within [] = tt
+words-within (name ∷ operands) = within_if (bytes_eq name (codes "put")) (put_of operands) (plain_of name operands) (put-within operands) (plain-within name operands)
+
+-- words that ask for serving ask for so many frames at most
+pub frames_within : (words : List (List ℕ)) (word : Word) → Some word ≡ word_of words → (frames : ℕ) → word ≡ serve frames → frames ≤ 16384
+frames_within words word is frames same =
+    let e : word_of words ≡ Some (serve frames) = sym is ∙ ap (λ w. Some w) same in
+    subst Within e (words-within words)

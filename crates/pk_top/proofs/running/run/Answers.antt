@@ -1,0 +1,21 @@
+use Rattle.std.proofs.Common.{◌≡◌, ℕ, List, Option, Some, map, option_map, subst, sym, ◌∙◌}
+use Rattle.pk_top.specs.Words as spec
+use Rattle.pk_top.specs.Texts.{seen}
+use Rattle.pk_top.specs.declared.word.Word.{Word}
+use Rattle.pk_top.proofs.Images.{made_drive}
+use Rattle.pk_top.proofs.Within.{frames_within}
+use Rattle.pk_top.proofs.running.run.Goals as goal
+
+pub obey-requires : goal.obey-requires
+obey-requires g c =
+    let words = map (λ w. w.now) c.args.words.now in
+    let T : Option Word → Type 0 = λ o. option_map seen o ≡ spec.word_of words in
+    frames_within words (seen c.in-Ok-Some.word) (subst T c.in-Ok-Some.field-0-is c.in-Ok-Some.ensures)
+
+pub returns-in-Ok-Some-clause-made : goal.returns-in-Ok-Some-clause-made
+returns-in-Ok-Some-clause-made g c =
+    let words = map (λ w. w.now) c.args.words.now in
+    let T : Option Word → Type 0 = λ o. option_map seen o ≡ spec.word_of words in
+    λ shape asked.
+    let same : Some (seen c.in-Ok-Some.word) ≡ Some (spec.make shape) = subst T c.in-Ok-Some.field-0-is c.in-Ok-Some.ensures ∙ asked in
+    made_drive shape (g.B.Nand.state c.args.board.now) (g.B.Nand.state c.obey.new.board) c.obey.result.0 (c.obey.ensures.makes shape (cc))

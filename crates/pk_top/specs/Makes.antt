@@ -1,0 +1,48 @@
+-- A run of the word `make`.
+use Rattle.std.specs.Prelude.{◌≡◌, ◌⊎◌, ℕ, Some, None}
+use Rattle.std.specs.FinMap.{empty}
+use Rattle.pk_base.specs.Shape.{Shape}
+use Rattle.pk_nand.specs.BoardState.{BoardState}
+use Rattle.pk_nand.specs.Calls.{Loaded, Made, ProgramFailed, after_program}
+use Rattle.pk_rootfmt.specs.Held.{first as first_root}
+use Rattle.pk_rootfmt.specs.Root.{root_bytes}
+use Rattle.pk_model.specs.Reading.{Holds}
+use Rattle.pk_top.specs.Loads.{LoadRefused, MakeRefused}
+
+-- The flash of an image that was made holds the empty map, by one program.
+pub record Formatted (shape : Shape) (made new : BoardState) (status : ℕ) : Type 0 where
+  pub tells : status ≡ 0
+  pub holds : Holds shape new.pages empty
+  pub program : new ≡ after_program made 0 (root_bytes shape first_root)
+
+-- An image of this shape was made; its flash was formatted, or the program of that failed.
+pub record MadeImage (shape : Shape) (loaded new : BoardState) (status : ℕ) : Type 0 where
+  pub made : BoardState
+  pub is_made : Made loaded made shape
+  pub formats : Formatted shape made new status ⊎ ((status ≡ 6) × ProgramFailed made new 0 (root_bytes shape first_root))
+
+-- What was done where there was no image.
+abbrev pub Makes : Shape → BoardState → BoardState → ℕ → Type 0
+Makes shape loaded new status = MakeRefused loaded new status ⊎ MadeImage shape loaded new status
+
+-- there was none
+pub record MakesNew (shape : Shape) (old new : BoardState) (status : ℕ) : Type 0 where
+  pub loaded : BoardState
+  pub none : Loaded old loaded None
+  pub makes : Makes shape loaded new status
+
+-- there was one
+pub record FoundImage (old new : BoardState) (status : ℕ) : Type 0 where
+  pub tells : status ≡ 9
+  pub shape : Shape
+  pub found : Loaded old new (Some shape)
+
+-- Memory for the words was missing and nothing was done; or the load was refused; or it found an image; or it found none.
+abbrev pub MakeRun : Shape → BoardState → BoardState → ℕ → Type 0
+MakeRun shape old new status =
+    ((status ≡ 7) × (new ≡ old)) ⊎ (LoadRefused old new status ⊎ (FoundImage old new status ⊎ MakesNew shape old new status))
+
+-- a drive of this shape with the empty map
+pub record IsMade (shape : Shape) (board : BoardState) : Type 0 where
+  pub shape_is : board.shape ≡ Some shape
+  pub holds : Holds shape board.pages empty

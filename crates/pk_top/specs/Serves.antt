@@ -1,0 +1,80 @@
+-- A run of the word `serve`: a session of a drive.
+use Rattle.std.specs.Prelude.{◌≡◌, ◌⊎◌, ℕ, List, Some, None}
+use Rattle.pk_base.specs.Shape.{Shape}
+use Rattle.pk_base.specs.Page.{Flash}
+use Rattle.pk_base.specs.Map.{Map}
+use Rattle.pk_nvme.specs.Command.{Command}
+use Rattle.pk_nand.specs.BoardState.{BoardState}
+use Rattle.pk_nand.specs.Calls.{Loaded}
+use Rattle.pk_nand.specs.Erased.{after_reads}
+use Rattle.pk_model.specs.Kept.{Kept, rise}
+use Rattle.pk_model.specs.Reading.{Holds}
+use Rattle.pk_model.specs.Script.{script}
+use Rattle.pk_drive.specs.Growth.{Goes}
+use Rattle.pk_serve.specs.Ends.{Blames}
+use Rattle.pk_serve.specs.Run.{Told, ServedBy, ServedSome}
+use Rattle.pk_serve.specs.Script.{Says}
+use Rattle.pk_serve.specs.declared.end.End.{End}
+use Rattle.pk_scan.specs.Reads.{opened}
+use Rattle.pk_scan.specs.Opening.{NotOpened}
+use Rattle.pk_scan.specs.Opened.{OnlyReading}
+use Rattle.pk_scan.specs.declared.errors.OpenError.{OpenError}
+use Rattle.pk_core.specs.Parts.{Parts, sight_of, is_built}
+use Rattle.pk_top.specs.Ends.{end_status, open_status}
+use Rattle.pk_top.specs.Loads.{LoadRefused}
+
+-- ---- the headline
+
+-- Whatever map the flash held at first: these commands were served from the front on, and what was served is kept.
+abbrev pub KeptFrom : Shape → ℕ → BoardState → BoardState → List Command → Flash → List ℕ → Type 0
+KeptFrom shape frames loaded new cs flash posted =
+    (start : Map) → Holds shape loaded.pages start → Kept shape frames start cs (rise loaded.read_faults new.read_faults) posted flash
+
+-- So at every cut of the marks since the load, of the script's commands; and from each state of the trail to the next the tree grows.
+abbrev pub KeepsScript : Shape → ℕ → BoardState → BoardState → Type 0
+KeepsScript shape frames loaded new =
+    (input : List ℕ) → loaded.input ≡ Some input → Goes shape loaded new (KeptFrom shape frames loaded new (script input).0)
+
+-- the same of some commands, also where the input is not told
+abbrev pub KeepsSome : Shape → ℕ → BoardState → BoardState → Type 0
+KeepsSome shape frames loaded new = (cs : List Command) × Goes shape loaded new (KeptFrom shape frames loaded new cs)
+
+-- ---- outcomes
+
+-- The drive was not opened: nothing was done but reads, and the status tells why.
+pub record NotServed (shape : Shape) (loaded new : BoardState) (status : ℕ) : Type 0 where
+  pub error : OpenError
+  pub tells : status ≡ open_status error
+  pub reason : NotOpened shape loaded new error
+  pub only_reads : OnlyReading loaded new
+
+-- the board behind the reads of opening
+abbrev pub behind_opening : Shape → ℕ → BoardState → BoardState
+behind_opening shape frames loaded = after_reads (opened shape loaded.pages frames) loaded
+
+-- The drive was opened, and served its map to this end.
+pub record ServedTo (shape : Shape) (frames : ℕ) (loaded new : BoardState) (end : End) : Type 0 where
+  pub start : Map
+  pub holds : Holds shape loaded.pages start
+  pub blames : Blames (behind_opening shape frames loaded) new end
+  pub says : (input : List ℕ) → loaded.input ≡ Some input → Says new input end
+  pub served : (input : List ℕ) → loaded.input ≡ Some input → ServedBy shape frames start (behind_opening shape frames loaded) new input (Told Parts sight_of is_built shape frames) end
+  pub served_some : ServedSome shape frames start (behind_opening shape frames loaded) new (Told Parts sight_of is_built shape frames) end
+
+-- What was done on an image of this shape, from its load on.
+pub record Serves (shape : Shape) (frames : ℕ) (loaded new : BoardState) (status : ℕ) : Type 0 where
+  pub kept : KeepsScript shape frames loaded new
+  pub kept_untold : KeepsSome shape frames loaded new
+  pub outcome : NotServed shape loaded new status ⊎ ((end : End) × (status ≡ end_status end) × ServedTo shape frames loaded new end)
+
+-- an image of this shape was found
+pub record ServesFound (frames : ℕ) (old new : BoardState) (status : ℕ) : Type 0 where
+  pub shape : Shape
+  pub loaded : BoardState
+  pub found : Loaded old loaded (Some shape)
+  pub serves : Serves shape frames loaded new status
+
+-- Memory for the words was missing and nothing was done; or the load was refused; or it found no image; or it found one.
+abbrev pub ServeRun : ℕ → BoardState → BoardState → ℕ → Type 0
+ServeRun frames old new status =
+    ((status ≡ 7) × (new ≡ old)) ⊎ (LoadRefused old new status ⊎ (((status ≡ 8) × Loaded old new None) ⊎ ServesFound frames old new status))
