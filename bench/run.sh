@@ -1,6 +1,7 @@
 #!/bin/sh
-# Measures the program on an image of 134 MB, shape (4096, 64, 512): a plain copy of the file, a load, and a serve of 100,000
-# Retrieves behind 1,000 Stores of 4,000 bytes. It proves nothing and is no part of the gate.
+# Measures the program on images of the two worked shapes, (512, 16, 64) and (4096, 64, 512), the second of 134 MB: a plain read
+# and a copy of the file, opening it (a serve without input), and a serve of Stores and 100,000 Retrieves within one epoch of the
+# journal. It proves nothing and is no part of the gate.
 #
 #   bench/run.sh [FOLDER]        FOLDER holds the files for the time of the run; a temporary one where none is named
 set -eu
@@ -9,11 +10,12 @@ top=$(CDPATH='' cd -- "$(dirname -- "$0")/.." && pwd)
 folder=${1:-$(mktemp -d)}
 mkdir -p "$folder"
 image=$folder/bench.img
-rm -f "$image" "$image.copy"
+script=$folder/script
 
-"$top/pink" "$image" make 4096 64 512
-python3 - "$folder/script" <<'PY'
+write_script() { # so many Stores of so many bytes, then 100,000 Retrieves of these keys
+    python3 - "$script" "$1" "$2" <<'PY'
 import struct, sys
+count, size = int(sys.argv[2]), int(sys.argv[3])
 def entry(opcode, cid, key, size):
     body = bytearray(64)
     body[0] = opcode
@@ -25,27 +27,37 @@ def entry(opcode, cid, key, size):
     body[44] = len(key)
     return bytes(body)
 with open(sys.argv[1], 'wb') as script:
-    for i in range(1000):
-        script.write(entry(1, i, b'key:%012d' % i, 4000) + bytes(4000))
+    for i in range(count):
+        script.write(entry(1, i, b'key:%012d' % i, size) + bytes(size))
     for i in range(100000):
-        script.write(entry(2, i, b'key:%012d' % (i * 7 % 1000), 4000))
+        script.write(entry(2, i, b'key:%012d' % (i * 7 % count), size))
 PY
+}
 
-seconds() { # prints the seconds that a command took; its output is dropped
+seconds() { # SOURCE COMMAND..: prints the seconds that a command took with this input; its output is dropped
     python3 - "$@" <<'PY'
 import subprocess, sys, time
 start = time.monotonic()
 source = open(sys.argv[1], 'rb')
 status = subprocess.call(sys.argv[2:], stdin=source, stdout=subprocess.DEVNULL)
-print('%.2f (status %d)' % (time.monotonic() - start, status))
+print('%.3f (status %d)' % (time.monotonic() - start, status))
 PY
 }
 
-program=$top/crates/pink/out/pink
-echo "image: $(wc -c <"$image" | tr -d ' ') bytes; script: 1,000 Stores of 4,000 bytes and 100,000 Retrieves"
-echo "cp of the image, seconds:              $(seconds /dev/null cp --sparse=never "$image" "$image.copy")"
-echo "load and an empty serve, seconds:      $(seconds /dev/null "$program" "$image" serve 36)"
-whole=$(seconds "$folder/script" "$program" "$image" serve 36)
-echo "serve of 101,000 commands, seconds:    $whole"
-echo "commands per second:                   $(python3 -c "print(int(101000 / float('$whole'.split()[0])))")"
-rm -f "$image" "$image.copy" "$folder/script"
+measure() { # PAGE_BYTES BLOCK_PAGES BLOCKS STORES VALUE_BYTES
+    rm -f "$image" "$image.copy"
+    "$top/pink" "$image" make "$1" "$2" "$3"
+    write_script "$4" "$5"
+    program=$top/crates/pink/out/pink
+    echo "shape ($1, $2, $3), $(wc -c <"$image" | tr -d ' ') bytes; $4 Stores of $5 bytes and 100,000 Retrieves"
+    whole=$(seconds "$script" "$program" "$image" serve 36)
+    echo "  serve of these commands, seconds:    $whole"
+    echo "  commands per second:                 $(python3 -c "print(int((100000 + $4) / float('$whole'.split()[0])))")"
+    echo "  cat of the image, seconds:           $(seconds /dev/null cat "$image")"
+    echo "  cp of the image, seconds:            $(seconds /dev/null cp --sparse=never "$image" "$image.copy")"
+    echo "  load and opening, seconds:           $(seconds /dev/null "$program" "$image" serve 36)"
+    rm -f "$image" "$image.copy" "$script"
+}
+
+measure 512 16 64 30 400
+measure 4096 64 512 250 4000
