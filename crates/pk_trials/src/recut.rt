@@ -1,6 +1,6 @@
 //! The second session is cut off at every mark, too, behind some cuts of the first one.
 
-use crate::board::{cut, served, small};
+use crate::board::{MAKE_SMALL, cut, made, served, small};
 use crate::cuts::{E, HELD, Held, bytes_out, first_session, left, second_session, ways};
 use crate::script::{Answer, Ask, Value, records, retrieved};
 use pk_flash::Flash;
@@ -58,7 +58,8 @@ fn third_records(
         Answer::Done,
         Answer::Found(F),
     ];
-    records(alloc, if is_frozen { &all[..5] } else { &all })
+    let count = if is_frozen { 5 } else { all.len() };
+    records(alloc, &all[..count])
 }
 
 // How many bytes the records of the four Retrieves have that begin the second session.
@@ -137,8 +138,54 @@ fn cut_twice(rt: HostRuntime) -> Result<(), Fail> {
     let alloc = rt.alloc();
     let first = first_session(alloc)?;
     let all = first.flash.marks();
-    for (k, way) in [(0usize, 0u8), (2, 1), (3, 1), (3, 2), (9, 0), (all, 0)] {
+    for (k, way) in [
+        (0usize, 0u8),
+        (2, 1),
+        (3, 1),
+        (3, 2),
+        (8, 1),
+        (14, 0),
+        (15, 2),
+        (22, 3),
+        (all, 0),
+    ] {
         check_second(&rt, alloc, &first.flash, k.min(all), way)?;
     }
+    Ok(())
+}
+
+// Sessions that are cut off one after another before an entry is on the flash, some behind a root of their own: the marks of each are
+// the erases of two blocks for the epoch and of the other root block, the root, the erase of a block for values, the value, the journal
+// page and the post. The last session is not cut.
+#[test]
+fn cut_many_times(rt: HostRuntime) -> Result<(), Fail> {
+    let alloc = rt.alloc();
+    let asks = [Ask::Store(0x66, F), Ask::Retrieve(0x66)];
+    let want = records(alloc, &[Answer::Done, Answer::Found(F)])?;
+    let mut pages = made(alloc, &MAKE_SMALL)?;
+    for (k, way) in [
+        (2usize, 1u8),
+        (3, 1),
+        (3, 2),
+        (2, 3),
+        (3, 2),
+        (4, 5),
+        (1, 4),
+        (3, 2),
+        (5, 1),
+        (6, 1),
+        (8, 0),
+    ] {
+        let done = served(alloc, small()?, pages, &asks)?;
+        assert_eq!(rt; done.status, 0, "mark {k}, way {way}");
+        assert_eq!(rt; done.flash.posted(), want.as_slice(), "mark {k}, way {way}");
+        pages = cut(alloc, &done.flash, k, &left(alloc, way)?)?;
+    }
+    let last = served(alloc, small()?, pages, &[Ask::Retrieve(0x66)])?;
+    assert_eq!(rt; last.status, 0);
+    assert_eq!(rt;
+        last.flash.posted(),
+        records(alloc, &[Answer::Found(F)])?.as_slice()
+    );
     Ok(())
 }
