@@ -61,8 +61,8 @@ const SECOND: [Ask; 6] = [
     Ask::Retrieve(0x65),
 ];
 
-/// In how many ways the mark with this number can be interrupted. A post leaves the pages whatever part of it went out, and no
-/// mark leaves them in one way.
+/// In how many ways the mark with this number can be interrupted, as far as pages tell: a post leaves them alone, whatever part of
+/// it went out. Behind the last mark there is one way.
 pub fn ways(flash: &Flash, k: usize) -> u8 {
     if k >= flash.marks() {
         return 1;
@@ -74,7 +74,7 @@ pub fn ways(flash: &Flash, k: usize) -> u8 {
     }
 }
 
-/// One of these ways.
+/// One of these ways: nothing is done, all is Torn, all is done, or each page of a block by itself.
 pub fn left(alloc: Global, way: u8) -> Result<Left, AllocError> {
     match way {
         0 => Ok(Left::Untouched),
@@ -86,7 +86,7 @@ pub fn left(alloc: Global, way: u8) -> Result<Left, AllocError> {
     }
 }
 
-/// How many bytes were posted by the marks up to the one with this number, of which all bytes may have gone out.
+/// The most bytes that may be out where the mark with this number is interrupted: those of all posts up to it.
 pub fn bytes_out(flash: &Flash, k: usize) -> usize {
     let mut bytes = 0usize;
     for i in 0..flash.marks() {

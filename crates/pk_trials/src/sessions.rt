@@ -33,7 +33,6 @@ fn serve_as(
 
 // A value is stored and deleted by one root, one page of the value and one of the journal; erased are the two blocks of the
 // new epoch, the other root block and the value's block. In the next session no key is there.
-
 #[test]
 fn store_and_delete(rt: HostRuntime) -> Result<(), Fail> {
     let alloc = rt.alloc();
@@ -49,7 +48,6 @@ fn store_and_delete(rt: HostRuntime) -> Result<(), Fail> {
 }
 
 // A value that one session stores is what the next one retrieves, byte for byte, and the one behind it.
-
 #[test]
 fn values_stay(rt: HostRuntime) -> Result<(), Fail> {
     let alloc = rt.alloc();
@@ -68,7 +66,6 @@ fn values_stay(rt: HostRuntime) -> Result<(), Fail> {
 }
 
 // Each session that stores begins an epoch. The third would freeze entries over frozen ones, which is not built.
-
 #[test]
 fn three_stores(rt: HostRuntime) -> Result<(), Fail> {
     let alloc = rt.alloc();
@@ -92,7 +89,6 @@ fn three_stores(rt: HostRuntime) -> Result<(), Fail> {
 }
 
 // Two keys, each with a commit of its own, cut at the journal page of the second, which is not begun, torn or done.
-
 #[test]
 fn journal_page(rt: HostRuntime) -> Result<(), Fail> {
     let alloc = rt.alloc();
