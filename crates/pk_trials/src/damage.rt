@@ -1,0 +1,63 @@
+//! Pages that no session left so.
+
+use crate::board::{MAKE_WORKED, made, pages_behind, served, worked};
+use crate::script::{Ask, Value};
+use pk_nand::{PageBytes, PageState};
+use std::alloc::{AllocError, Global};
+use std::test::*;
+
+// What a page is made.
+#[derive(Clone, Copy)]
+enum Damage {
+    Erased,
+    Torn,
+    /// Whole, with bytes that no page has.
+    Foreign,
+}
+
+fn page_with(alloc: Global, damage: Damage) -> Result<PageState, AllocError> {
+    match damage {
+        Damage::Erased => Ok(PageState::Erased),
+        Damage::Torn => Ok(PageState::Torn),
+        Damage::Foreign => Ok(PageState::Whole(PageBytes::of(Vec::from_elem(alloc, 7u8, 512)?))),
+    }
+}
+
+// The pages of a drive with the key `a`. Its value stands in page 32, its journal begins at page 64, and the roots stand in the pages
+// 0 and, newest, 16.
+fn with_one_key(alloc: Global) -> Result<Vec<PageState>, Fail> {
+    let value = Value { first: 1, len: 3 };
+    let pages = made(alloc, &MAKE_WORKED)?;
+    pages_behind(alloc, worked()?, pages, &[Ask::Store(0x61, value)])
+}
+
+// By the pages from one to another that are damaged: the status of a session, which posts and writes nothing where it is 8.
+#[test]
+fn damaged(rt: HostRuntime) -> Result<(), Fail> {
+    let alloc = rt.alloc();
+    for (name, from, to, damage, status) in [
+        ("the value", 32usize, 33usize, Damage::Torn, 8u8),
+        ("no value", 32, 33, Damage::Erased, 8),
+        ("another value", 32, 33, Damage::Foreign, 8),
+        ("the first journal page", 64, 65, Damage::Foreign, 8),
+        ("the page behind the journal", 65, 66, Damage::Foreign, 8),
+        ("a torn page behind the journal", 65, 66, Damage::Torn, 0),
+        ("the former root", 0, 1, Damage::Torn, 0),
+        ("a page behind the root", 17, 18, Damage::Foreign, 0),
+        ("all pages", 0, 1024, Damage::Erased, 8),
+        ("no pages", 0, 0, Damage::Torn, 0),
+    ] {
+        let mut pages = with_one_key(alloc)?;
+        for i in from..to {
+            if i < pages.len() {
+                pages[i] = page_with(alloc, damage)?;
+            }
+        }
+        let done = served(alloc, worked()?, pages, &[Ask::Retrieve(0x61)])?;
+        assert_eq!(rt; done.status, status, "{name}");
+        assert_eq!(rt; done.flash.posted().is_empty(), status == 8, "{name}");
+        assert_eq!(rt; done.flash.program_count(), 0, "{name}");
+        assert_eq!(rt; done.flash.erase_count(), 0, "{name}");
+    }
+    Ok(())
+}

@@ -1,0 +1,191 @@
+//! The second session is cut off at every mark, too, behind some cuts of the first one.
+
+use crate::board::{MAKE_SMALL, cut, made, served, small};
+use crate::cuts::{E, HELD, Held, bytes_out, first_session, left, second_session, ways};
+use crate::script::{Answer, Ask, Value, records, retrieved};
+use pk_flash::Flash;
+use pk_nand::Mark;
+use std::alloc::{AllocError, Global};
+use std::process::Abort;
+use std::test::*;
+
+const F: Value = Value { first: 7, len: 300 };
+
+const THIRD: [Ask; 7] = [
+    Ask::Retrieve(0x61),
+    Ask::Retrieve(0x62),
+    Ask::Retrieve(0x63),
+    Ask::Retrieve(0x64),
+    Ask::Retrieve(0x65),
+    Ask::Store(0x66, F),
+    Ask::Retrieve(0x66),
+];
+
+// Whether this mark is a program of a root.
+fn is_root(flash: &Flash, i: usize) -> bool {
+    if i >= flash.marks() {
+        return false;
+    }
+    match flash.mark(i) {
+        Mark::Program { page, .. } => *page < 16,
+        _ => false,
+    }
+}
+
+// Whether a root was written by the marks before this one, or by this one, where it is done.
+fn has_root(flash: &Flash, k: usize, way: u8) -> bool {
+    let mut found = is_root(flash, k) && way == 2;
+    for i in 0..k {
+        found = found || is_root(flash, i);
+    }
+    found
+}
+
+// The records of the third session on these values, with this one under the fifth key. Where the second session began an epoch over
+// one with entries, the Store would freeze a second time.
+fn third_records(
+    alloc: Global,
+    held: &Held,
+    fifth: Option<Value>,
+    is_frozen: bool,
+) -> Result<Vec<u8>, AllocError> {
+    let all = [
+        retrieved(held[0]),
+        retrieved(held[1]),
+        retrieved(held[2]),
+        retrieved(held[3]),
+        retrieved(fifth),
+        Answer::Done,
+        Answer::Found(F),
+    ];
+    let count = if is_frozen { 5 } else { all.len() };
+    records(alloc, &all[..count])
+}
+
+// How many bytes the records of the four Retrieves have that begin the second session.
+fn bytes_before_store(alloc: Global, held: &Held) -> Result<usize, AllocError> {
+    let answers = [
+        retrieved(held[0]),
+        retrieved(held[1]),
+        retrieved(held[2]),
+        retrieved(held[3]),
+    ];
+    Ok(records(alloc, &answers)?.len())
+}
+
+// Serves the third session behind a cut of the second one. The fifth key is there, if a byte of its Store's record was posted, and
+// may be there else.
+fn check_recut(
+    rt: &impl Abort,
+    alloc: Global,
+    second: &Flash,
+    commands: usize,
+    k: usize,
+    way: u8,
+) -> Result<(), Fail> {
+    let held = HELD.get(commands).ok_or("commands")?;
+    let pages = cut(alloc, second, k, &left(alloc, way)?)?;
+    let third = served(alloc, small()?, pages, &THIRD)?;
+    let is_frozen = commands > 0 && has_root(second, k, way);
+    assert_eq!(rt;
+        third.status,
+        if is_frozen { 11 } else { 0 },
+        "{commands}, mark {k}, way {way}"
+    );
+    let with = third_records(alloc, held, Some(E), is_frozen)?;
+    let without = third_records(alloc, held, None, is_frozen)?;
+    let is_told = bytes_out(second, k) > bytes_before_store(alloc, held)?;
+    let is_there = third.flash.posted() == with.as_slice();
+    let is_missing = third.flash.posted() == without.as_slice();
+    assert!(rt;
+        is_there || (is_missing && !is_told),
+        "{commands}, mark {k}, way {way}"
+    );
+    Ok(())
+}
+
+fn check_mark(
+    rt: &impl Abort,
+    alloc: Global,
+    second: &Flash,
+    commands: usize,
+    k: usize,
+) -> Result<(), Fail> {
+    for way in 0..ways(second, k) {
+        check_recut(rt, alloc, second, commands, k, way)?;
+    }
+    Ok(())
+}
+
+// Cuts the second session off at every mark, behind this cut of the first one.
+fn check_second(
+    rt: &impl Abort,
+    alloc: Global,
+    first: &Flash,
+    k: usize,
+    way: u8,
+) -> Result<(), Fail> {
+    let (second, kept) = second_session(alloc, first, k, way)?;
+    let commands = kept.ok_or("a map")?;
+    for i in 0..second.flash.marks().saturating_add(1) {
+        check_mark(rt, alloc, &second.flash, commands, i)?;
+    }
+    Ok(())
+}
+
+#[test]
+fn cut_twice(rt: HostRuntime) -> Result<(), Fail> {
+    let alloc = rt.alloc();
+    let first = first_session(alloc)?;
+    let all = first.flash.marks();
+    for (k, way) in [
+        (0usize, 0u8),
+        (2, 1),
+        (3, 1),
+        (3, 2),
+        (8, 1),
+        (14, 0),
+        (15, 2),
+        (22, 3),
+        (all, 0),
+    ] {
+        check_second(&rt, alloc, &first.flash, k.min(all), way)?;
+    }
+    Ok(())
+}
+
+// Sessions that are cut off one after another before an entry is on the flash, some behind a root of their own: the marks of each are
+// the erases of two blocks for the epoch and of the other root block, the root, the erase of a block for values, the value, the journal
+// page and the post. The last session is not cut.
+#[test]
+fn cut_many_times(rt: HostRuntime) -> Result<(), Fail> {
+    let alloc = rt.alloc();
+    let asks = [Ask::Store(0x66, F), Ask::Retrieve(0x66)];
+    let want = records(alloc, &[Answer::Done, Answer::Found(F)])?;
+    let mut pages = made(alloc, &MAKE_SMALL)?;
+    for (k, way) in [
+        (2usize, 1u8),
+        (3, 1),
+        (3, 2),
+        (2, 3),
+        (3, 2),
+        (4, 5),
+        (1, 4),
+        (3, 2),
+        (5, 1),
+        (6, 1),
+        (8, 0),
+    ] {
+        let done = served(alloc, small()?, pages, &asks)?;
+        assert_eq!(rt; done.status, 0, "mark {k}, way {way}");
+        assert_eq!(rt; done.flash.posted(), want.as_slice(), "mark {k}, way {way}");
+        pages = cut(alloc, &done.flash, k, &left(alloc, way)?)?;
+    }
+    let last = served(alloc, small()?, pages, &[Ask::Retrieve(0x66)])?;
+    assert_eq!(rt; last.status, 0);
+    assert_eq!(rt;
+        last.flash.posted(),
+        records(alloc, &[Answer::Found(F)])?.as_slice()
+    );
+    Ok(())
+}

@@ -1,0 +1,167 @@
+//! What a host asks, the bytes in which it asks, and the records that it is answered.
+
+use pk_nvme::{Request, completion, record_head};
+use std::alloc::{AllocError, Global};
+
+/// A value of `len` bytes: the first one, and each next one greater by one, 0 behind 255.
+#[derive(Clone, Copy, Debug, PartialEq, Eq)]
+pub struct Value {
+    pub first: u8,
+    pub len: u32,
+}
+
+/// What a host asks. Keys have one byte.
+#[derive(Clone, Copy)]
+pub enum Ask {
+    Store(u8, Value),
+    /// With a buffer of 1,000 bytes.
+    Retrieve(u8),
+    Delete(u8),
+    Flush,
+    /// At most so many background steps.
+    Tick(u32),
+    /// From the first key on, with a buffer of 1,000 bytes.
+    List,
+    Report,
+}
+
+/// How it is answered.
+#[derive(Clone, Copy)]
+pub enum Answer {
+    /// 00h without data.
+    Done,
+    /// 87h.
+    Missing,
+    /// 88h, behind one read.
+    Unread,
+    /// 00h with this value, whose pages were read.
+    Found(Value),
+    /// 00h with these keys of one byte.
+    Keys(&'static [u8]),
+}
+
+/// The entry of a command on a key of one or two bytes; 0 bytes name none.
+pub fn entry(cid: u16, opcode: u8, key: [u8; 2], key_len: u8, size: u32) -> [u8; 64] {
+    let mut bytes = [0u8; 16];
+    bytes[0] = key[0];
+    bytes[1] = key[1];
+    Request {
+        opcode,
+        cid,
+        namespace: 1,
+        key_len,
+        key: bytes,
+        size,
+        options: 0,
+    }
+    .entry()
+}
+
+fn entry_of(cid: u16, ask: &Ask) -> [u8; 64] {
+    match ask {
+        Ask::Store(key, value) => entry(cid, 0x01, [*key, 0], 1, value.len),
+        Ask::Retrieve(key) => entry(cid, 0x02, [*key, 0], 1, 1000),
+        Ask::Delete(key) => entry(cid, 0x10, [*key, 0], 1, 0),
+        Ask::Flush => entry(cid, 0x00, [0, 0], 0, 0),
+        Ask::Tick(steps) => entry(cid, 0xc0, [0, 0], 0, *steps),
+        Ask::List => entry(cid, 0x06, [0, 0], 0, 1000),
+        Ask::Report => entry(cid, 0xc2, [0, 0], 0, 0),
+    }
+}
+
+/// Adds the bytes of a value.
+pub fn push_value(into: &mut Vec<u8>, value: &Value) -> Result<(), AllocError> {
+    let mut next = value.first;
+    for _ in 0..value.len {
+        into.push(next)?;
+        next = next.wrapping_add(1);
+    }
+    Ok(())
+}
+
+fn push_ask(into: &mut Vec<u8>, cid: u16, ask: &Ask) -> Result<(), AllocError> {
+    into.extend_from_slice(&entry_of(cid, ask))?;
+    match ask {
+        Ask::Store(_, value) => push_value(into, value),
+        _ => Ok(()),
+    }
+}
+
+/// The bytes of a script. The CID of a command is its number, counted from 1.
+pub fn script(alloc: Global, asks: &[Ask]) -> Result<Vec<u8>, AllocError> {
+    let mut bytes = Vec::new(alloc);
+    let mut cid = 0u16;
+    for ask in asks {
+        cid = cid.wrapping_add(1);
+        push_ask(&mut bytes, cid, ask)?;
+    }
+    Ok(bytes)
+}
+
+// Adds what stands before the data of the record with this number and CID.
+fn push_head(
+    into: &mut Vec<u8>,
+    number: u16,
+    status: u8,
+    result_field: u32,
+    reads: u32,
+    data_len: u32,
+) -> Result<(), AllocError> {
+    let done = completion(number, u32::from(number), status, result_field);
+    into.extend_from_slice(&record_head(&done, reads, data_len))
+}
+
+// The pages of 512 bytes that a value of so many bytes has behind its head of 32; none are read for no bytes.
+fn pages_read(len: u32) -> u32 {
+    if len == 0 {
+        return 0;
+    }
+    len.saturating_add(32).div_ceil(512)
+}
+
+fn push_keys(into: &mut Vec<u8>, keys: &[u8]) -> Result<(), AllocError> {
+    for key in keys {
+        into.extend_from_slice(&[1, 0, *key, 0])?;
+    }
+    Ok(())
+}
+
+fn push_list(into: &mut Vec<u8>, number: u16, keys: &[u8]) -> Result<(), AllocError> {
+    let count = keys.len().min(200) as u32;
+    push_head(into, number, 0, 0, 0, 4 + 4 * count)?;
+    into.extend_from_slice(&count.to_le_bytes())?;
+    push_keys(into, keys)
+}
+
+fn push_answer(into: &mut Vec<u8>, number: u16, answer: &Answer) -> Result<(), AllocError> {
+    match answer {
+        Answer::Done => push_head(into, number, 0, 0, 0, 0),
+        Answer::Missing => push_head(into, number, 0x87, 0, 0, 0),
+        Answer::Unread => push_head(into, number, 0x88, 0, 1, 0),
+        Answer::Found(value) => {
+            let reads = pages_read(value.len);
+            push_head(into, number, 0, value.len, reads, value.len)?;
+            push_value(into, value)
+        }
+        Answer::Keys(keys) => push_list(into, number, keys),
+    }
+}
+
+/// The records of the first commands of a script, with these answers.
+pub fn records(alloc: Global, answers: &[Answer]) -> Result<Vec<u8>, AllocError> {
+    let mut bytes = Vec::new(alloc);
+    let mut number = 0u16;
+    for answer in answers {
+        number = number.wrapping_add(1);
+        push_answer(&mut bytes, number, answer)?;
+    }
+    Ok(bytes)
+}
+
+/// The answer to a Retrieve of a key under which this stands.
+pub fn retrieved(value: Option<Value>) -> Answer {
+    match value {
+        Some(value) => Answer::Found(value),
+        None => Answer::Missing,
+    }
+}

@@ -1,0 +1,194 @@
+//! An image goes from session to session.
+
+use crate::board::{
+    MAKE_WORKED, board, cut, last_program, made, pages_left, serve, served, worked,
+};
+use crate::script::{Answer, Ask, Value, entry, records};
+use pk_base::get_u32;
+use pk_flash::Left;
+use pk_nand::PageState;
+use std::alloc::{AllocError, Global};
+use std::process::Abort;
+use std::test::*;
+
+const THREE: Value = Value {
+    first: 0x61,
+    len: 3,
+};
+
+// Serves the script, and compares status and records.
+fn serve_as(
+    rt: &impl Abort,
+    alloc: Global,
+    pages: Vec<PageState>,
+    asks: &[Ask],
+    status: u8,
+    answers: &[Answer],
+) -> Result<Vec<PageState>, Fail> {
+    let done = served(alloc, worked()?, pages, asks)?;
+    assert_eq!(rt; done.status, status);
+    assert_eq!(rt; done.flash.posted(), records(alloc, answers)?.as_slice());
+    pages_left(alloc, &done.flash)
+}
+
+// A value is stored and deleted by one root, one page of the value and one of the journal; erased are the two blocks of the
+// new epoch, the other root block and the value's block. In the next session no key is there.
+#[test]
+fn store_and_delete(rt: HostRuntime) -> Result<(), Fail> {
+    let alloc = rt.alloc();
+    let pages = made(alloc, &MAKE_WORKED)?;
+    let asks = [Ask::Store(0x61, THREE), Ask::Delete(0x61)];
+    let done = served(alloc, worked()?, pages, &asks)?;
+    assert_eq!(rt; done.status, 0);
+    assert_eq!(rt; done.flash.program_count(), 3);
+    assert_eq!(rt; done.flash.erase_count(), 4);
+    let left = pages_left(alloc, &done.flash)?;
+    let _ = serve_as(&rt, alloc, left, &[Ask::List], 0, &[Answer::Keys(&[])])?;
+    Ok(())
+}
+
+// A value that one session stores is what the next one retrieves, byte for byte, and the one behind it.
+#[test]
+fn values_stay(rt: HostRuntime) -> Result<(), Fail> {
+    let alloc = rt.alloc();
+    let large = Value {
+        first: 7,
+        len: 1000,
+    };
+    let stores = [Ask::Store(0x61, THREE), Ask::Store(0x62, large)];
+    let loads = [Ask::Retrieve(0x62), Ask::Retrieve(0x61)];
+    let found = [Answer::Found(large), Answer::Found(THREE)];
+    let pages = made(alloc, &MAKE_WORKED)?;
+    let pages = serve_as(&rt, alloc, pages, &stores, 0, &[Answer::Done, Answer::Done])?;
+    let pages = serve_as(&rt, alloc, pages, &loads, 0, &found)?;
+    let _ = serve_as(&rt, alloc, pages, &loads, 0, &found)?;
+    Ok(())
+}
+
+// Each session that stores begins an epoch. The third would freeze entries over frozen ones, which is not built.
+#[test]
+fn three_stores(rt: HostRuntime) -> Result<(), Fail> {
+    let alloc = rt.alloc();
+    let mut pages = made(alloc, &MAKE_WORKED)?;
+    for (key, status, answers, keys) in [
+        (0x61u8, 0u8, [Answer::Done].as_slice(), b"a".as_slice()),
+        (0x62, 0, &[Answer::Done], b"ab"),
+        (0x63, 11, &[], b"ab"),
+    ] {
+        pages = serve_as(
+            &rt,
+            alloc,
+            pages,
+            &[Ask::Store(key, THREE)],
+            status,
+            answers,
+        )?;
+        pages = serve_as(&rt, alloc, pages, &[Ask::List], 0, &[Answer::Keys(keys)])?;
+    }
+    Ok(())
+}
+
+// Two keys, each with a commit of its own, cut at the journal page of the second, which is not begun, torn or done.
+#[test]
+fn journal_page(rt: HostRuntime) -> Result<(), Fail> {
+    let alloc = rt.alloc();
+    let asks = [
+        Ask::Store(0x61, THREE),
+        Ask::Flush,
+        Ask::Store(0x62, THREE),
+        Ask::Flush,
+    ];
+    let pages = made(alloc, &MAKE_WORKED)?;
+    let done = served(alloc, worked()?, pages, &asks)?;
+    assert_eq!(rt; done.status, 0);
+    let k = last_program(&done.flash).ok_or("a journal page")?;
+    for (left, keys) in [
+        (Left::Untouched, b"a".as_slice()),
+        (Left::Torn, b"a"),
+        (Left::Done, b"ab"),
+    ] {
+        let pages = cut(alloc, &done.flash, k, &left)?;
+        let _ = serve_as(&rt, alloc, pages, &[Ask::List], 0, &[Answer::Keys(keys)])?;
+    }
+    Ok(())
+}
+
+// 31 Stores of keys of two bytes with one page each, and a Report.
+fn many_stores(alloc: Global) -> Result<Vec<u8>, AllocError> {
+    let mut script = Vec::new(alloc);
+    for i in 0..31u8 {
+        script.extend_from_slice(&entry(u16::from(i), 0x01, [0, i], 2, 3))?;
+        script.extend_from_slice(b"abc")?;
+    }
+    script.extend_from_slice(&entry(31, 0xc2, [0, 0], 0, 0))?;
+    Ok(script)
+}
+
+// 33 Stores of one key, each with a Flush behind it, and a Report.
+fn many_commits(alloc: Global) -> Result<Vec<u8>, AllocError> {
+    let mut script = Vec::new(alloc);
+    for _ in 0..33u8 {
+        script.extend_from_slice(&entry(1, 0x01, [0x61, 0], 1, 3))?;
+        script.extend_from_slice(b"abc")?;
+        script.extend_from_slice(&entry(2, 0x00, [0, 0], 0, 0))?;
+    }
+    script.extend_from_slice(&entry(3, 0xc2, [0, 0], 0, 0))?;
+    Ok(script)
+}
+
+// The number with this place in the Report that ends the posted bytes.
+fn reported(posted: &[u8], place: usize) -> Option<u32> {
+    if posted.len() < 64 || place >= 16 {
+        return None;
+    }
+    Some(get_u32(posted, posted.len() - 64 + 4 * place))
+}
+
+// Serves a script that ends with a Report on a made drive, and compares numbers of it.
+fn check_report(
+    rt: &impl Abort,
+    alloc: Global,
+    script: Vec<u8>,
+    numbers: &[(&str, usize, u32)],
+) -> Result<(), Fail> {
+    let pages = made(alloc, &MAKE_WORKED)?;
+    let mut flash = board(alloc, worked()?, pages, script)?;
+    assert_eq!(rt; serve(alloc, &mut flash), 0);
+    for (name, place, number) in numbers {
+        assert_eq!(rt; reported(flash.posted(), *place), Some(*number), "{name}");
+    }
+    Ok(())
+}
+
+// Thirty keys fill the write buffer, and the next one is the first of a new epoch, of which one page is used behind the commit
+// before the Report.
+#[test]
+fn full_buffer(rt: HostRuntime) -> Result<(), Fail> {
+    let alloc = rt.alloc();
+    let numbers = [
+        ("live", 0usize, 31u32),
+        ("limit", 1, 492),
+        ("keys", 2, 31),
+        ("pinned", 3, 2),
+        ("frames", 4, 36),
+        ("active", 6, 1),
+        ("frozen", 7, 30),
+        ("run1", 8, 0),
+        ("epoch", 12, 1),
+    ];
+    check_report(&rt, alloc, many_stores(alloc)?, &numbers)
+}
+
+// Commits of one key fill the 32 pages of an epoch, and the next one is the first of a new epoch.
+#[test]
+fn full_epoch(rt: HostRuntime) -> Result<(), Fail> {
+    let alloc = rt.alloc();
+    let numbers = [
+        ("live", 0usize, 1u32),
+        ("keys", 2, 1),
+        ("active", 6, 1),
+        ("frozen", 7, 1),
+        ("epoch", 12, 1),
+    ];
+    check_report(&rt, alloc, many_commits(alloc)?, &numbers)
+}
