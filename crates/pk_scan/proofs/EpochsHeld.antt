@@ -11,16 +11,15 @@ use Rattle.pk_base.specs.Entry.{Entry, Place}
 use Rattle.pk_base.specs.Page.{Page, Flash, page_at, page_in, pages_of_blocks}
 use Rattle.pk_base.specs.Firsts.{firsts}
 use Rattle.pk_base.specs.Refusal.{Refusal, damaged, ensure, ◌>>=◌}
-use Rattle.pk_nand.specs.BoardState.{BoardState}
 use Rattle.pk_jrnfmt.specs.Epoch.{epoch, journal}
 use Rattle.pk_rootfmt.specs.Root.{Root}
 use Rattle.pk_rootfmt.specs.Held.{two_of, older_of}
 use Rattle.pk_buf.specs.Table.{Table, no_entries}
 use Rattle.pk_jrn.specs.Epochs.{Fits, IsWhole, found_at_opening}
-use Rattle.pk_jrn.specs.Replays.{Replayed, after_replay, buffer_of}
+use Rattle.pk_jrn.specs.Replays.{Replayed, buffer_of}
 use Rattle.pk_jrn.proofs.Puts.{firsts-reverse}
 use Rattle.pk_model.specs.Found.{older_epoch}
-use Rattle.pk_scan.specs.Opening.{OlderHeld, NewestHeld, OnlyReads}
+use Rattle.pk_scan.specs.Opening.{OlderHeld, NewestHeld}
 use Rattle.pk_scan.proofs.Naming.{two_is, older_is, older_none}
 
 -- ---- entries of a table
