@@ -199,3 +199,48 @@ root_then_lists shape other root old now new is first same second =
   where
     swap : (m n : ℕ) → m + n ≡ n + m
     swap m n = omega arith
+
+-- ---- in one call
+
+module _ (shape a : Shape) (root : Held) (is : a ≡ shape) (root_is : root.shape ≡ a) (old now : BoardState) (same : now.pages ≡ old.pages) (frames page : ℕ) (active frozen : Table) (epoch : JournalEpoch) (arena : Frames) (levels : Levels) (found : Found)
+    (held : HoldsFound a old.pages root.root active frozen epoch arena levels found) where
+  -- the lists still stand on the board behind them
+  pub held_behind : HoldsFound root.shape now.pages root.root active frozen epoch arena levels found
+  held_behind =
+      subst (λ (f : Flash). HoldsFound root.shape f root.root active frozen epoch arena levels found) (sym same)
+      (subst (λ (s : Shape). HoldsFound s old.pages root.root active frozen epoch arena levels found) (sym root_is) held)
+
+  held_here : HoldsFound shape old.pages root.root active frozen epoch arena levels found
+  held_here = subst (λ (s : Shape). HoldsFound s old.pages root.root active frozen epoch arena levels found) is held
+
+  shape_is : root.shape ≡ shape
+  shape_is = root_is ∙ is
+
+  values_here : (live : Values) → ReadsValues root.shape now.pages (named root.root) live (places found []) → ReadsValues shape old.pages (named root.root) live (places found [])
+  values_here live values =
+      subst (λ (s : Shape). ReadsValues s old.pages (named root.root) live (places found [])) shape_is
+      (subst (λ (f : Flash). ReadsValues root.shape f (named root.root) live (places found [])) same values)
+
+  module _ (top : newest_root a (page_at old.pages) ≡ Some (page, root.root)) where
+    top_here : newest_root shape (page_at old.pages) ≡ Some (page, root.root)
+    top_here = subst (λ (s : Shape). newest_root s (page_at old.pages) ≡ Some (page, root.root)) is top
+
+    pub scan_refuses : length active.entries ≤ active.capacity → OnlyReads old now → (new : BoardState) (e : OpenError) → PartNotOpened (values_of root.shape (page_at now.pages) (named root.root) [] (places found [])) now new e → NotOpened shape old new e
+    scan_refuses room reads new e why =
+        values_refused shape page root.root old top_here now reads same found held_here.finds (few_newest shape old.pages root.root active frozen epoch arena levels found held_here room) new e
+        (subst (λ (s : Shape). PartNotOpened (values_of s (page_at now.pages) (named root.root) [] (places found [])) now new e) shape_is why)
+
+    module _ (pinned_is : levels.pinned ≡ pinned shape frames) (live : Values) (values : ReadsValues root.shape now.pages (named root.root) live (places found [])) where
+      pub scan_opened : is_root a root.root ≡ true → page < 2 * a.block_pages → levels.shape ≡ a → length active.entries ≤ active.capacity → (pool : Blocks) → HasOwners root.shape root.root live pool → (keys : ℕ) → keys ≡ length (places found [])
+          → IsOpened shape old.pages frames root page active frozen epoch levels arena live pool keys
+      scan_opened grammar place levels_shape room pool owners keys keys_are =
+          is_opened shape old.pages frames root page active frozen epoch arena levels found held_here top_here pinned_is live (values_here live values) shape_is
+          (subst (λ (s : Shape). is_root s root.root ≡ true) is grammar) (subst (λ (s : Shape). page < 2 * s.block_pages) is place) (levels_shape ∙ is) room pool
+          (subst (λ (s : Shape). HasOwners s root.root live pool) shape_is owners) keys keys_are
+
+      pub scan_reads : (new : BoardState) → now ≡ after_reads (2 * a.block_pages + list_reads a (page_at old.pages) root.root) old → new ≡ after_reads (most_read levels.runs + value_reads root.shape (places found [])) now
+          → new ≡ after_reads (opened shape old.pages frames) old
+      scan_reads new first second =
+          opened_reads shape old.pages frames root page active frozen epoch arena levels found held_here top_here pinned_is live (values_here live values) old now new
+          (subst (λ (s : Shape). now ≡ after_reads (2 * s.block_pages + list_reads s (page_at old.pages) root.root) old) is first)
+          (subst (λ (s : Shape). new ≡ after_reads (most_read levels.runs + value_reads s (places found [])) now) shape_is second)

@@ -83,10 +83,7 @@ fn fill_lists<B: Nand, A: Region>(
 }
 
 // Reads the values of all keys that are there under the root, and takes their pages. Answers how many keys there are.
-fn fill_values<B: Nand, A: Region>(
-    board: &mut B,
-    memory: &mut Memory<A>,
-) -> Result<u32, OpenError>
+fn fill_values<B: Nand, A: Region>(board: &mut B, memory: &mut Memory<A>) -> Result<u32, OpenError>
     requires ready { IsReady (B.state board.old) memory.old.root.shape }
     requires grammar { is_root memory.old.root.shape memory.old.root.root ≡ true }
     requires held { (epoch : JournalEpoch) × (found : FoundLists) × HoldsFound memory.old.root.shape (B.state board.old).pages memory.old.root.root memory.old.active memory.old.frozen epoch memory.old.arena memory.old.levels found }
@@ -99,7 +96,12 @@ fn fill_values<B: Nand, A: Region>(
     requires room { length memory.old.page.items ≡ memory.old.root.shape.page_bytes }
     ensures read { OnOk result ((epoch : JournalEpoch) (found : FoundLists) → HoldsFound memory.old.root.shape (B.state board.old).pages memory.old.root.root memory.old.active memory.old.frozen epoch memory.old.arena memory.old.levels found → ReadsValues memory.old.root.shape (B.state board.old).pages (named memory.old.root.root) memory.new.live (places found [])) }
     ensures keys { IfOk result (λ keys. (epoch : JournalEpoch) (found : FoundLists) → HoldsFound memory.old.root.shape (B.state board.old).pages memory.old.root.root memory.old.active memory.old.frozen epoch memory.old.arena memory.old.levels found → keys ≡ length (places found [])) }
-    ensures kept { memory.new ≡ record memory.old { live = memory.new.live; walk = memory.new.walk; named = memory.new.named; page = memory.new.page } }
+    ensures root { memory.new.root ≡ memory.old.root }
+    ensures active { memory.new.active ≡ memory.old.active }
+    ensures frozen { memory.new.frozen ≡ memory.old.frozen }
+    ensures levels { memory.new.levels ≡ memory.old.levels }
+    ensures arena { memory.new.arena ≡ memory.old.arena }
+    ensures pool { memory.new.pool ≡ memory.old.pool }
     ensures reads { OnOk result ((epoch : JournalEpoch) (found : FoundLists) → HoldsFound memory.old.root.shape (B.state board.old).pages memory.old.root.root memory.old.active memory.old.frozen epoch memory.old.arena memory.old.levels found → B.state board.new ≡ after_reads (most_read memory.old.levels.runs + value_reads memory.old.root.shape (places found [])) (B.state board.old)) }
     ensures err { IfErr result (λ e. (epoch : JournalEpoch) (found : FoundLists) → HoldsFound memory.old.root.shape (B.state board.old).pages memory.old.root.root memory.old.active memory.old.frozen epoch memory.old.arena memory.old.levels found → PartNotOpened (values_of memory.old.root.shape (page_at (B.state board.old).pages) (named memory.old.root.root) [] (places found [])) (B.state board.old) (B.state board.new) e) }
     ensures rest { OnlyReading (B.state board.old) (B.state board.new) }

@@ -78,8 +78,18 @@ fn flashes_are_scanned(rt: HostRuntime) -> Result<(), Fail> {
     for (pages, call, answer, reads) in [
         ([root, root], none, Ok(0u32), 17u64),
         ([root, (16, Held::Torn)], none, Ok(0), 17),
-        ([(0, Held::Zeros), (1, Held::Torn)], none, Err(OpenError::NotFormatted), 16),
-        ([root, (16, Held::Zeros)], none, Err(OpenError::Damaged { page: 16 }), 17),
+        (
+            [(0, Held::Zeros), (1, Held::Torn)],
+            none,
+            Err(OpenError::NotFormatted),
+            16,
+        ),
+        (
+            [root, (16, Held::Zeros)],
+            none,
+            Err(OpenError::Damaged { page: 16 }),
+            17,
+        ),
         ([root, root], 15, Err(OpenError::Fault), 16),
         ([root, root], 16, Err(OpenError::Fault), 17),
     ] {
