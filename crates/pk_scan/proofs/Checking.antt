@@ -15,6 +15,8 @@ use Rattle.pk_scan.specs.Pages.{is_right}
 use Rattle.pk_scan.specs.Checked.{HasValue, NotFound, PageRefused}
 use Rattle.pk_scan.specs.declared.errors.PageError.{PageError}
 use Rattle.pk_scan.specs.declared.errors.PageError.TheVariants.{Damaged, Fault}
+use Rattle.pk_scan.specs.Opened.{OnlyReading}
+use Rattle.pk_scan.proofs.Boards.{rest_reads, rest_failed}
 use Rattle.pk_scan.proofs.Reading.{all_right, first_wrong, not_before}
 
 -- ---- the value, behind its head
@@ -103,3 +105,7 @@ pub refused_ready : (old new : BoardState) (shape : Shape) (key : Key) (place : 
 refused_ready old new shape key place e not_found ready =
     let same = refused_pages old new shape key place e not_found in
     record { shape_is = same.1 ∙ ready.shape_is; flash = rw same.0 ready.flash }
+
+pub refused_rest : (old new : BoardState) (shape : Shape) (key : Key) (place : Place) (e : PageError) → NotFound shape old new key place e → OnlyReading old new
+refused_rest old new shape key place (Damaged page) refused = rest_reads old new (suc (page - place.page), refused.board)
+refused_rest old new shape key place Fault refused = rest_failed old new refused.reads.made (place.page + refused.reads.made) refused.reads.failed

@@ -141,6 +141,3 @@ module _ (shape : Shape) (flash : Flash) (root : Root) where
 
   pub newest_refused : (bs : List ℕ) (page : ℕ) → length root.newest ≡ 2 → bs ≡ two_of root.newest → epoch shape at root.epoch bs ≡ Err (damaged page) → epoch shape at root.epoch root.newest ≡ Err (damaged page)
   newest_refused bs page two is read = sym (ap (epoch shape at root.epoch) (is ∙ two_is root.newest two)) ∙ read
-
-pub reads_of : (shape : Shape) (used : ℕ) (old new : BoardState) → new ≡ after_replay shape used old → OnlyReads old new
-reads_of shape used old new e = (_, e)

@@ -118,7 +118,7 @@ has_four shape root e =
 pub four_runs : (shape : Shape) (counts : List ℕ) (runs : List (List ℕ)) → HasFour shape counts runs → length runs ≡ 4
 four_runs shape counts runs h = sym (length-map length runs) ∙ ap length h.sizes ∙ length-map (run_blocks shape) counts ∙ h.four_counts
 
-few_blocks : (shape : Shape) → IsShape shape → (counts : List ℕ) (runs : List (List ℕ)) → HasFour shape counts runs → length (concat runs) ≤ meta_blocks shape
+pub few_blocks : (shape : Shape) → IsShape shape → (counts : List ℕ) (runs : List (List ℕ)) → HasFour shape counts runs → length (concat runs) ≤ meta_blocks shape
 few_blocks shape is counts runs h = let f = four counts h.four_counts in by_four f.a f.b f.c f.d (subst (λ (cs : List ℕ). HasFour shape cs runs) f.is h)
   where
     at_most : (x y : ℕ) → nat_le x y ≡ true → x ≤ y
@@ -139,7 +139,7 @@ few_blocks shape is counts runs h = let f = four counts h.four_counts in by_four
         let sum : length (concat runs) ≡ run_blocks shape a + (run_blocks shape b + (run_blocks shape c + (run_blocks shape d + 0))) = length_concat runs ∙ ap total k.sizes in
         omega (arith, few, sum)
 
-few_epochs : (newest older : List ℕ) (epoch : ℕ) → nat_eq (length newest) 2 ≡ true → (nat_eq (length older) 0 || (nat_eq (length older) 2 && nat_le 2 epoch)) ≡ true → length (newest ++ older) ≤ 4
+pub few_epochs : (newest older : List ℕ) (epoch : ℕ) → nat_eq (length newest) 2 ≡ true → (nat_eq (length older) 0 || (nat_eq (length older) 2 && nat_le 2 epoch)) ≡ true → length (newest ++ older) ≤ 4
 few_epochs newest older epoch two is =
     let e = length-append newest older in
     let n : length newest ≡ 2 = grind (arith, nat_tests) in
@@ -173,10 +173,10 @@ module _ (shape : Shape) (root : Root) (is : IsShape shape) (e : is_root shape r
   named_is : named root ≡ epochs ++ of_runs
   named_is = refl
 
-  names_differ : differ (epochs ++ of_runs) ≡ true
+  pub names_differ : differ (epochs ++ of_runs) ≡ true
   names_differ = sym (ap differ named_is) ∙ parts.differs
 
-  names_spare : AllByRecursion (IsSpare (unused shape)) (epochs ++ of_runs)
+  pub names_spare : AllByRecursion (IsSpare (unused shape)) (epochs ++ of_runs)
   names_spare = all_spare shape (epochs ++ of_runs) (sym (ap (list_all (λ b. nat_le 2 b && nat_lt b shape.blocks)) named_is) ∙ parts.blocks)
 
   pub two_newest : length root.newest ≡ 2

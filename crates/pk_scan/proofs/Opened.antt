@@ -5,7 +5,6 @@ use Rattle.pk_base.specs.Entry.{Entry}
 use Rattle.pk_base.specs.Page.{Page, Flash, page_at}
 use Rattle.pk_base.specs.Refusal.{Refusal, damaged, not_formatted}
 use Rattle.pk_nand.specs.BoardState.{BoardState}
-use Rattle.pk_nand.specs.Calls.{Rose}
 use Rattle.pk_rootfmt.specs.Root.{Root}
 use Rattle.pk_rootfmt.specs.Newest.{newest_root}
 use Rattle.pk_buf.specs.Table.{Table}
@@ -15,6 +14,7 @@ use Rattle.pk_level.specs.Levels.{Levels}
 use Rattle.pk_model.specs.Found.{Found, found_under, newest_epoch, older_epoch, runs_from}
 use Rattle.pk_model.specs.Reading.{reading, reading_of}
 use Rattle.pk_scan.specs.Opening.{OnlyReads, PartNotOpened, PartNotRead, OlderHeld, NewestHeld, HoldsRuns, HoldsFound, opening_of}
+use Rattle.pk_scan.proofs.Boards.{counted_behind}
 use Rattle.pk_scan.specs.declared.errors.PageError.{PageError}
 use Rattle.pk_scan.specs.declared.errors.PageError.TheVariants.{Damaged as PageDamaged, Fault as PageFault}
 use Rattle.pk_scan.specs.declared.errors.OpenError.{OpenError}
@@ -32,7 +32,7 @@ as_part part old new PageFault why = why
 pub behind_reads : {X : Type 0} (part : Result X Refusal) (old now new : BoardState) (e : OpenError) → OnlyReads old now → now.pages ≡ old.pages → PartNotOpened part now new e → PartNotOpened part old new e
 behind_reads part old now new NotFormatted reads same why = why
 behind_reads part old now new (Damaged page) reads same why = why
-behind_reads part old now new Fault reads same why = subst (λ (b : BoardState). Rose b.flash_faults new.flash_faults) reads.1 why
+behind_reads part old now new Fault reads same why = counted_behind old now new reads why
 behind_reads part old now new Memory reads same why = tt
 
 pub whole_refuses : {X Y : Type 0} (part : Result X Refusal) (whole : Result Y Refusal) (old new : BoardState) (e : OpenError) → ((refusal : Refusal) → part ≡ Err refusal → whole ≡ Err refusal) → PartNotOpened part old new e → PartNotOpened whole old new e
@@ -68,6 +68,8 @@ lists_held shape flash root active frozen epoch arena levels older newest runs =
     active_is = newest.0.1.held;
     frozen_is = older.1.held;
     stand = runs.1.stand;
+    run_blocks = runs.1.run_blocks;
+    run_frames = runs.1.run_frames;
     epoch_is = newest.1;
     epoch_fits = newest.2;
   },

@@ -80,7 +80,7 @@ module _ (shape : Shape) (root : Root) (e : is_root shape root ≡ true) where
   pub newest_exist : (bs : List ℕ) → bs ≡ two_of root.newest → EpochExists shape bs
   newest_exist bs is = subst (EpochExists shape) (sym (is ∙ two_is root.newest newest_two)) (two_exist shape root.newest newest_two (exist shape root.newest (all_front is_block root.newest root.older of_epochs)))
 
-  older_two : (bs : List ℕ) → Some bs ≡ older_of root.older → length root.older ≡ 2
+  pub older_two : (bs : List ℕ) → Some bs ≡ older_of root.older → length root.older ≡ 2
   older_two bs is = by_cases root.older parts.older is
     where
       by_cases : (os : List ℕ) → (nat_eq (length os) 0 || (nat_eq (length os) 2 && nat_le 2 root.epoch)) ≡ true → Some bs ≡ older_of os → length os ≡ 2

@@ -1,5 +1,5 @@
 -- Runs that were read one after another, as the reading of a flash has them.
-use Rattle.std.proofs.Common.{◌≡◌, inl, inr, ℕ, zero, suc, ◌+◌, ◌-◌, ◌<◌, ◌≤◌, Bool, true, false, List, [], ◌∷◌, ◌++◌, length, get_or, take, drop, refl, sym, ap, subst, ◌∙◌, arith, Some, Result, Ok, Err, append-nil, append_assoc}
+use Rattle.std.proofs.Common.{◌≡◌, inl, inr, ℕ, zero, suc, ◌+◌, ◌-◌, ◌<◌, ◌≤◌, Bool, true, false, List, [], ◌∷◌, ◌++◌, length, get_or, take, drop, refl, sym, ap, subst, ◌∙◌, arith, Some, Result, Ok, Err, append-nil, append_assoc, length-take}
 use Rattle.std.specs.Prelude.{nat_le, slice_get, slice_index, slice_index_or}
 use Rattle.std.proofs.Math.ListN.{set}
 use Rattle.std.proofs.lemmas.Bool.{cases_lt}
@@ -11,7 +11,6 @@ use Rattle.pk_base.specs.Entry.{Entry}
 use Rattle.pk_base.specs.Page.{Page, Flash, page_at}
 use Rattle.pk_base.specs.Refusal.{Refusal, damaged, ◌>>=◌}
 use Rattle.pk_nand.specs.BoardState.{BoardState}
-use Rattle.pk_nand.specs.Calls.{Rose}
 use Rattle.pk_nand.specs.Erased.{after_reads}
 use Rattle.pk_meta.specs.Run.{run}
 use Rattle.pk_rootfmt.specs.Root.{Root}
@@ -22,7 +21,9 @@ use Rattle.pk_level.specs.Levels.{Levels, StandEach, with_run}
 use Rattle.pk_level.proofs.Looking.{reads_more}
 use Rattle.pk_model.specs.Found.{runs_from}
 use Rattle.pk_scan.specs.Runs.{HasRun, NotRead, IsPinnedIf, LeasedMore, RunsStand}
-use Rattle.pk_scan.specs.Opening.{OnlyReads, PartNotOpened, HoldsRuns, LoadsLevel, wanted_behind, opening_of}
+use Rattle.pk_scan.specs.Opening.{OnlyReads, PartNotOpened, HaveBlocks, HaveFrames, HoldsRuns, LoadsLevel, wanted_behind, opening_of}
+use Rattle.pk_scan.proofs.Boards.{counted_behind}
+use Rattle.pk_scan.proofs.Exact.{take_next}
 use Rattle.pk_scan.specs.declared.errors.PageError.{PageError}
 use Rattle.pk_scan.specs.declared.errors.PageError.TheVariants.{Damaged as PageDamaged, Fault as PageFault}
 use Rattle.pk_scan.specs.declared.errors.OpenError.{OpenError}
@@ -88,6 +89,22 @@ stand_more flash arena [] (x ∷ ess) r es each one = absurd each
 stand_more flash arena (y ∷ rs) [] r es each one = absurd each
 stand_more flash arena (y ∷ rs) (x ∷ ess) r es each one = (each.0, stand_more flash arena rs ess r es each.1 one)
 
+-- ---- blocks and frames of runs
+
+blocks_more : (shape : Shape) (rs : List Kept) (bss : List (List ℕ)) (r : Kept) (bs : List ℕ) → HaveBlocks shape rs bss → r.shape ≡ shape → r.blocks ≡ bs → HaveBlocks shape (rs ++ r ∷ []) (bss ++ bs ∷ [])
+blocks_more shape [] [] r bs have same is = (same, is, tt)
+blocks_more shape [] (xs ∷ bss) r bs have same is = absurd have
+blocks_more shape (y ∷ rs) [] r bs have same is = absurd have
+blocks_more shape (y ∷ rs) (xs ∷ bss) r bs have same is = (have.0, have.1, blocks_more shape rs bss r bs have.2 same is)
+
+frames_more : (pinned level here : ℕ) (rs : List Kept) (counts : List ℕ) (r : Kept) (count : ℕ) → HaveFrames pinned level rs counts → here ≡ level + length rs → r.count ≡ count → IsPinnedIf (nat_le here pinned) r
+    → HaveFrames pinned level (rs ++ r ∷ []) (counts ++ count ∷ [])
+frames_more pinned level here [] [] r count have place is frames =
+    let same : here ≡ level = omega (arith, place) in (is, subst (λ (n : ℕ). IsPinnedIf (nat_le n pinned) r) same frames, tt)
+frames_more pinned level here [] (c ∷ counts) r count have place is frames = absurd have
+frames_more pinned level here (y ∷ rs) [] r count have place is frames = absurd have
+frames_more pinned level here (y ∷ rs) (c ∷ counts) r count have place is frames = (have.0, have.1, frames_more pinned (level + 1) here rs counts r count have.2 (omega (arith, place)) is frames)
+
 -- ---- one level
 
 pub le_true : (x y : ℕ) → x ≤ y → nat_le x y ≡ true
@@ -108,20 +125,24 @@ module _ (shape : Shape) (root : Root) (level count : ℕ) (bs : List ℕ) (coun
 
   pub level_not_loaded : (old new : BoardState) (e : PageError) → NotRead shape level count bs old new e → PartNotOpened (run shape (page_at old.pages) level (slice_index root.counts (level - 1)) (slice_index_or root.runs (level - 1) [])) old new (opening_of e)
   level_not_loaded old new (PageDamaged page) why = level_refused (page_at old.pages) page why.read
-  level_not_loaded old new PageFault why = why.flash
+  level_not_loaded old new PageFault why = (why.flash, why.read)
 
   pub level_loaded : (flash : Flash) (before after : Frames) (old new : Levels) (kept : Kept) (pins : Bool) → HasRun shape level count bs flash after kept → RunsStand before after → LeasedMore before after kept.leases → IsPinnedIf pins kept
-      → (level ≤ old.pinned → pins ≡ true) → (old.pinned < level → pins ≡ false) → length kept.firsts ≤ cap shape level → new ≡ with_run old level kept → LoadsLevel shape root level flash before after old new
-  level_loaded flash before after old new kept pins has others more pinned low high few is = record {
+      → kept.shape ≡ shape → kept.blocks ≡ bs → kept.count ≡ count → nat_le level old.pinned ≡ pins → length kept.firsts ≤ cap shape level → new ≡ with_run old level kept → LoadsLevel shape root level flash before after old new
+  level_loaded flash before after old new kept pins has others more pinned shape_is blocks_are count_is test few is = record {
     entries = has.entries;
     kept = kept;
     finds = at_level (page_at flash) ∙ has.read;
     stands = has.stands;
+    shape_is = shape_is;
+    blocks_are = blocks_are ∙ sym (get_or_from_slice_get root.runs (level - 1) bs [] got);
+    count_is = count_is ∙ counted;
+    frames = subst (λ (b : Bool). IsPinnedIf b kept) (sym test) pinned;
     levels = is;
     others = others;
     page = more.page;
-    pinned = λ h. let same : length kept.leases ≡ length kept.firsts = subst (λ (b : Bool). IsPinnedIf b kept) (low h) pinned in let free = more.free in omega (arith, same, free, few);
-    unpinned = λ h. let none : kept.leases ≡ [] = subst (λ (b : Bool). IsPinnedIf b kept) (high h) pinned in let zero_leases = ap (λ (ls : List ℕ). length ls) none in let free = more.free in omega (arith, zero_leases, free);
+    pinned = λ h. let same : length kept.leases ≡ length kept.firsts = subst (λ (b : Bool). IsPinnedIf b kept) (sym test ∙ le_true level old.pinned h) pinned in let free = more.free in omega (arith, same, free, few);
+    unpinned = λ h. let none : kept.leases ≡ [] = subst (λ (b : Bool). IsPinnedIf b kept) (sym test ∙ gt_false level old.pinned h) pinned in let zero_leases = ap (λ (ls : List ℕ). length ls) none in let free = more.free in omega (arith, zero_leases, free);
   }
 
 -- ---- the reading of the runs
@@ -160,6 +181,8 @@ pub record RunsTo (shape : Shape) (root : Root) (flash : Flash) (pinned : ℕ) (
   pub ess : List (List Entry)
   pub comes : runs_from shape (page_at flash) 1 root.counts root.runs ≡ behind ess (runs_from shape (page_at flash) (suc k) (drop k root.counts) (drop k root.runs))
   pub stand : StandEach flash arena (take k levels.runs) ess
+  pub blocks_are : HaveBlocks shape (take k levels.runs) (take k root.runs)
+  pub frames_are : HaveFrames pinned 1 (take k levels.runs) (take k root.counts)
   pub shape_is : levels.shape ≡ shape
   pub pinned_is : levels.pinned ≡ pinned
   pub four : length levels.runs ≡ 4
@@ -173,6 +196,8 @@ module _ (shape : Shape) (root : Root) (counts : length root.counts ≡ 4) (runs
     ess = [];
     comes = behind_none (runs_from shape (page_at flash) 1 root.counts root.runs);
     stand = tt;
+    blocks_are = tt;
+    frames_are = tt;
     shape_is = shape_is;
     pinned_is = pinned_is;
     four = four;
@@ -219,6 +244,16 @@ module _ (shape : Shape) (root : Root) (counts : length root.counts ≡ 4) (runs
             ∙ behind_one t.ess l.entries (runs_from shape (page_at flash) (suc k + 1) (drop (suc k) root.counts) (drop (suc k) root.runs))
             ∙ ap (λ (n : ℕ). behind (t.ess ++ l.entries ∷ []) (runs_from shape (page_at flash) n (drop (suc k) root.counts) (drop (suc k) root.runs))) more
 
+        more_blocks : HaveBlocks shape (take k levels.runs ++ l.kept ∷ []) (take k root.runs ++ get_or root.runs k [] ∷ [])
+        more_blocks = blocks_more shape (take k levels.runs) (take k root.runs) l.kept (get_or root.runs k []) t.blocks_are l.shape_is (l.blocks_are ∙ ap (λ (j : ℕ). get_or root.runs j []) d)
+
+        more_frames : HaveFrames pinned 1 (take k levels.runs ++ l.kept ∷ []) (take k root.counts ++ get_or root.counts k 0 ∷ [])
+        more_frames =
+            let many = length-take k levels.runs in
+            let four = t.four in
+            frames_more pinned 1 level (take k levels.runs) (take k root.counts) l.kept (get_or root.counts k 0) t.frames_are (omega (arith, e, many, four, h)) (l.count_is ∙ ap (λ (j : ℕ). get_or root.counts j 0) d)
+            (subst (λ (p : ℕ). IsPinnedIf (nat_le level p) l.kept) t.pinned_is l.frames)
+
         next_free : wanted_behind shape pinned (suc k) ≤ free_frames arena'
         next_free = elim (cases_lt k pinned) [
           | inl low ↦
@@ -235,6 +270,8 @@ module _ (shape : Shape) (root : Root) (counts : length root.counts ≡ 4) (runs
           ess = t.ess ++ l.entries ∷ [];
           comes = next_comes;
           stand = subst (λ (rs : List Kept). StandEach flash arena' rs (t.ess ++ l.entries ∷ [])) (sym taken) (stand_more flash arena' (take k levels.runs) t.ess l.kept l.entries (stand_kept flash arena arena' l.others (take k levels.runs) t.ess t.stand) l.stands);
+          blocks_are = subst (λ (rs : List Kept). HaveBlocks shape rs (take (suc k) root.runs)) (sym taken) (subst (HaveBlocks shape (take k levels.runs ++ l.kept ∷ [])) (sym (take_next root.runs k [] (omega (arith, runs, h)))) more_blocks);
+          frames_are = subst (λ (rs : List Kept). HaveFrames pinned 1 rs (take (suc k) root.counts)) (sym taken) (subst (HaveFrames pinned 1 (take k levels.runs ++ l.kept ∷ [])) (sym (take_next root.counts k 0 (omega (arith, counts, h)))) more_frames);
           shape_is = ap (λ (x : Levels). x.shape) l.levels ∙ t.shape_is;
           pinned_is = ap (λ (x : Levels). x.pinned) l.levels ∙ t.pinned_is;
           four = ap (λ (x : Levels). length x.runs) l.levels ∙ set_length levels.runs (level - 1) l.kept ∙ t.four;
@@ -245,7 +282,7 @@ module _ (shape : Shape) (root : Root) (counts : length root.counts ≡ 4) (runs
       pub RunsTo-refused : (old now new : BoardState) (error : OpenError) → OnlyReads old now → PartNotOpened part now new error → PartNotOpened (runs_from shape (page_at flash) 1 root.counts root.runs) old new error
       RunsTo-refused old now new NotFormatted reads why = why
       RunsTo-refused old now new (Damaged page) reads why = t.comes ∙ ap (behind t.ess) (split ∙ one_refused shape (page_at flash) (suc k) (get_or root.counts k 0) (drop (suc k) root.counts) (get_or root.runs k []) (drop (suc k) root.runs) (damaged page) (sym part_is ∙ why))
-      RunsTo-refused old now new Fault reads why = subst (λ (b : BoardState). Rose b.flash_faults new.flash_faults) reads.1 why
+      RunsTo-refused old now new Fault reads why = counted_behind old now new reads why
       RunsTo-refused old now new Memory reads why = tt
 
   pub RunsTo-end : (arena : Frames) (levels : Levels) → RunsTo shape root flash pinned arena levels 4 → (ess : List (List Entry)) × HoldsRuns shape flash root arena levels ess
@@ -254,6 +291,9 @@ module _ (shape : Shape) (root : Root) (counts : length root.counts ≡ 4) (runs
     record {
       finds = t.comes ∙ ap (behind t.ess) (ap (λ (cs : List ℕ). runs_from shape (page_at flash) 5 cs (drop 4 root.runs)) (past root.counts 4 (omega (arith, counts))) ∙ ap (runs_from shape (page_at flash) 5 []) (past root.runs 4 (omega (arith, runs))) ∙ none_left shape (page_at flash) 5) ∙ ap ok_list (append-nil t.ess);
       stand = subst (λ (rs : List Kept). StandEach flash arena rs t.ess) whole t.stand;
+      run_blocks = subst (λ (rs : List Kept). HaveBlocks shape rs root.runs) whole (subst (HaveBlocks shape (take 4 levels.runs)) (take_all 4 root.runs (omega (arith, runs))) t.blocks_are);
+      run_frames = subst (λ (p : ℕ). HaveFrames p 1 levels.runs root.counts) (sym t.pinned_is)
+          (subst (λ (rs : List Kept). HaveFrames pinned 1 rs root.counts) whole (subst (HaveFrames pinned 1 (take 4 levels.runs)) (take_all 4 root.counts (omega (arith, counts))) t.frames_are));
     },
   )
     where

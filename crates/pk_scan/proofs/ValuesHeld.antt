@@ -15,6 +15,7 @@ use Rattle.pk_walk.specs.Walking.{Walk, IsLeft, Gives}
 use Rattle.pk_walk.proofs.Walks.{one_of_each}
 use Rattle.pk_model.proofs.ValueSets.{fits_parts}
 use Rattle.pk_scan.proofs.RunPages.{of_true}
+use Rattle.pk_scan.proofs.Boards.{counted_behind}
 use Rattle.pk_base.specs.Entry.{Entry, Place}
 use Rattle.pk_base.specs.declared.entry.Entry.{Entry as RustEntry}
 use Rattle.pk_base.specs.declared.entry.Entry.TheVariants.{Put, Gone}
@@ -29,7 +30,6 @@ use Rattle.pk_scan.specs.Opening.{OnlyReads, PartNotOpened, ReadsValues, opening
 use Rattle.pk_scan.specs.declared.errors.PageError.{PageError}
 use Rattle.pk_scan.specs.declared.errors.PageError.TheVariants.{Damaged, Fault}
 use Rattle.pk_nand.specs.BoardState.{BoardState}
-use Rattle.pk_nand.specs.Calls.{Rose}
 
 abbrev pub Found : Type 0
 Found = List (Key × List ℕ)
@@ -121,8 +121,8 @@ module _ (shape : Shape) (flash : Flash) (arena : Frames) (runs : List Kept) (ac
   pub left_one : (w : Walk) (xs ys : List (Key × Place)) → IsLeft w flash arena runs active frozen xs → IsLeft w flash arena runs active frozen ys → xs ≡ ys
   left_one w xs ys a b = a.is ∙ ap (λ (ess : List (List Entry)). wanted (is_wanted w.position) (visible (active ∷ frozen ∷ ess))) (one_of_each flash arena runs a.ess b.ess a.stand b.stand) ∙ sym b.is
 
-  pub TakenTo-start : (live : Values) (es : List (Key × Place)) → IsLeft start flash arena runs active frozen es → AllByRecursion (λ e. IsPlace shape e.1) es → Lives shape named live [] → TakenTo shape flash arena runs active frozen named start start live 0
-  TakenTo-start live es left all lives = record { es = es; taken = []; rest = es; starts = left; all = all; to = ValuesTo-start shape flash named es live lives; left = left; many = refl }
+  pub TakenTo-start : (live : Values) (es : List (Key × Place)) → IsLeft start flash arena runs active frozen es → AllByRecursion (λ e. IsPlace shape e.1) es → Lives shape named live [] → (t : TakenTo shape flash arena runs active frozen named start start live 0) × (t.taken ≡ [])
+  TakenTo-start live es left all lives = (record { es = es; taken = []; rest = es; starts = left; all = all; to = ValuesTo-start shape flash named es live lives; left = left; many = refl }, refl)
 
   pub few_taken : IsShape shape → (walk : Walk) (live : Values) (k : ℕ) → TakenTo shape flash arena runs active frozen named start walk live k → k ≤ limit shape
   few_taken is walk live k t =
@@ -174,24 +174,32 @@ module _ (shape : Shape) (flash : Flash) (arena : Frames) (runs : List Kept) (ac
     pub place_next : IsPlace shape at
     place_next = (subst (AllByRecursion (λ e. IsPlace shape e.1)) split (all_behind (λ e. IsPlace shape e.1) t.taken t.rest (subst (AllByRecursion (λ e. IsPlace shape e.1)) (sym t.to.split) t.all))).0
 
-    pub TakenTo-next : (walk' : Walk) (live' : Values) → IsLeft walk' flash arena runs active frozen later → Accepted shape flash named t.taken key at → Lives shape named live' (t.taken ++ (key, at) ∷ []) → TakenTo shape flash arena runs active frozen named start walk' live' (k + 1)
-    TakenTo-next walk' live' left accepted lives = record {
-      es = t.es;
-      taken = t.taken ++ (key, at) ∷ [];
-      rest = later;
-      starts = t.starts;
-      all = t.all;
-      to = ValuesTo-next shape flash named t.es live live' t.taken later key at (subst (ValuesTo shape flash named t.es live t.taken) split t.to) accepted lives;
-      left = left;
-      many = let more = length-append t.taken ((key, at) ∷ []) in let many = t.many in omega (arith, more, many);
-    }
+    pub TakenTo-next : (walk' : Walk) (live' : Values) → IsLeft walk' flash arena runs active frozen later → Accepted shape flash named t.taken key at → Lives shape named live' (t.taken ++ (key, at) ∷ []) → (t' : TakenTo shape flash arena runs active frozen named start walk' live' (k + 1)) × (t'.taken ≡ t.taken ++ (key, at) ∷ [])
+    TakenTo-next walk' live' left accepted lives = (
+      record {
+        es = t.es;
+        taken = t.taken ++ (key, at) ∷ [];
+        rest = later;
+        starts = t.starts;
+        all = t.all;
+        to = ValuesTo-next shape flash named t.es live live' t.taken later key at (subst (ValuesTo shape flash named t.es live t.taken) split t.to) accepted lives;
+        left = left;
+        many = let more = length-append t.taken ((key, at) ∷ []) in let many = t.many in omega (arith, more, many);
+      },
+      refl,
+    )
 
     pub TakenTo-refused : (old now new : BoardState) (e : PageError) → OnlyReads old now → now.pages ≡ flash → NotAccepted shape now new named t.taken key at e → (es : List (Key × Place)) → of_start es → PartNotOpened (values_of shape (page_at flash) named [] es) old new (opening_of e)
     TakenTo-refused old now new (Damaged page) reads same why es left =
         let here = subst (λ (f : Flash). values_of shape (page_at f) named (all_pages shape t.taken) ((key, at) ∷ later) ≡ Err (damaged page)) same (why.refusal later) in
         subst (λ (xs : List (Key × Place)). values_of shape (page_at flash) named [] xs ≡ Err (damaged page)) (left_one shape flash arena runs active frozen named start start t.es es t.starts left)
         (ValuesTo-refused shape flash named t.es live t.taken t.rest (damaged page) t.to (ap (values_of shape (page_at flash) named (all_pages shape t.taken)) split ∙ here))
-    TakenTo-refused old now new Fault reads same why es left = subst (λ (b : BoardState). Rose b.flash_faults new.flash_faults) reads.1 why.1.reads.flash
+    TakenTo-refused old now new Fault reads same why es left = counted_behind old now new reads (why.1.reads.flash, why.1.reads.read)
+
+  -- behind the last of them all were taken
+  pub TakenTo-all : t.rest ≡ [] → (es : List (Key × Place)) → of_start es → t.taken ≡ es
+  TakenTo-all none es left =
+      (ValuesTo-end shape flash named t.es live t.taken (subst (ValuesTo shape flash named t.es live t.taken) none t.to)).2 ∙ left_one shape flash arena runs active frozen named start start t.es es t.starts left
 
   pub TakenTo-end : t.rest ≡ [] → (es : List (Key × Place)) → of_start es → ReadsValues shape flash named live es × (k ≡ length es)
   TakenTo-end none es left =

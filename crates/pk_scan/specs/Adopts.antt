@@ -1,6 +1,7 @@
 -- Blocks that get their owners at opening.
-use Rattle.std.specs.Prelude.{◌≡◌, ℕ, ◌+◌, ◌≤◌, Bool, true, false, ◌==◌, List, ◌++◌, length, slice_get, option_map}
+use Rattle.std.specs.Prelude.{◌≡◌, ℕ, ◌+◌, ◌≤◌, Bool, true, false, ◌==◌, ◌-◌, List, ◌++◌, length, slice_get, option_map, Some}
 use Rattle.std.specs.List.{list_any, concat, AllByRecursion}
+use Rattle.pk_base.specs.Shape.{Shape, data_blocks}
 use Rattle.pk_base.specs.Page.{Flash}
 use Rattle.pk_plan.specs.declared.owner.Owner.{Owner}
 use Rattle.pk_plan.specs.declared.owner.Owner.TheVariants.{Journal, Meta, Values}
@@ -9,6 +10,8 @@ use Rattle.pk_pool.specs.declared.state.BlockState.{BlockState}
 use Rattle.pk_pool.specs.declared.state.BlockState.TheVariants.{Owned}
 use Rattle.pk_pool.specs.Blocks.{Blocks, used_by, same_owner, IsSpare, Fits}
 use Rattle.pk_rootfmt.specs.Root.{Root, differ}
+use Rattle.pk_live.specs.Values.{Values as LiveValues, IsClosed}
+use Rattle.pk_model.specs.Laws.{AnyByRecursion}
 
 -- the block is one of these
 abbrev pub is_among : List ℕ → ℕ → Bool
@@ -39,6 +42,19 @@ pub record NamesOwned (root : Root) (old new : Blocks) : Type 0 where
   pub meta : used_by Meta new.states ≡ used_by Meta old.states + length (concat root.runs)
   pub values : used_by Values new.states ≡ used_by Values old.states
   pub fits : (flash : Flash) → Fits old flash → Fits new flash
+
+-- The blocks of the root's epochs are the journal's, those of its runs are meta blocks, and those that are closed are the values'.
+pub record HasOwners (shape : Shape) (root : Root) (live : LiveValues) (pool : Blocks) : Type 0 where
+  pub pool_shape : pool.shape ≡ shape
+  pub pool_size : length pool.states ≡ shape.blocks
+  pub pool_fits : (flash : Flash) → Fits pool flash
+  pub journal : (b : ℕ) → AnyByRecursion (λ c. b ≡ c) (root.newest ++ root.older) → slice_get pool.states b ≡ Some (Owned Journal)
+  pub journal_few : used_by Journal pool.states ≡ length (root.newest ++ root.older)
+  pub runs : (b : ℕ) → AnyByRecursion (λ c. b ≡ c) (concat root.runs) → slice_get pool.states b ≡ Some (Owned Meta)
+  pub runs_few : used_by Meta pool.states ≡ length (concat root.runs)
+  pub closed_owned : (b : ℕ) → IsClosed live b → slice_get pool.states b ≡ Some (Owned Values)
+  pub owned_closed : (b : ℕ) → slice_get pool.states b ≡ Some (Owned Values) → IsClosed live b
+  pub values_few : used_by Values pool.states ≤ data_blocks shape - 1
 
 -- ---- inside
 

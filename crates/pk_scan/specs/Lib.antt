@@ -8,3 +8,4 @@ pub mod Adopts
 pub mod Opening
 pub mod Reads
 pub mod Opened
+pub mod Starting

@@ -1,5 +1,5 @@
 -- All that stands on a flash, as opening has it in memory.
-use Rattle.std.specs.Prelude.{◌≡◌, ◌≢◌, ⊤, ℕ, ◌*◌, ◌/◌, ◌<◌, ◌≤◌, ◌-◌, true, List, [], ◌∷◌, ◌++◌, length, Some, slice_get}
+use Rattle.std.specs.Prelude.{◌≡◌, ◌≢◌, ℕ, ◌*◌, ◌/◌, ◌<◌, ◌≤◌, ◌-◌, true, List, [], ◌++◌, length, Some, slice_get}
 use Rattle.std.specs.List.{concat}
 use Rattle.pk_base.specs.Shape.{Shape, pinned, data_blocks}
 use Rattle.pk_base.specs.Page.{Flash, page_at, erased}
@@ -14,21 +14,14 @@ use Rattle.pk_buf.specs.Table.{Table}
 use Rattle.pk_jrn.specs.Epochs.{JournalEpoch, Fits as EpochFits}
 use Rattle.pk_jrn.specs.Replays.{buffer_of}
 use Rattle.pk_pin.specs.Frames.{Frames}
-use Rattle.pk_run.specs.Kept.{Kept}
 use Rattle.pk_level.specs.Levels.{Levels, StandEach}
 use Rattle.pk_live.specs.Values.{Values, IsClosed}
 use Rattle.pk_model.specs.Found.{Found}
 use Rattle.pk_model.specs.Laws.{AnyByRecursion}
 use Rattle.pk_steps.specs.Under.{IsUnder, IsValuePage, places}
+pub use Rattle.pk_scan.specs.Opening.{HaveBlocks}
 use Rattle.pk_scan.specs.Opening.{IsFoundEpoch}
 use Rattle.pk_scan.specs.Lives.{Lives}
-
--- the runs have this shape, and these blocks
-abbrev pub HaveBlocks : Shape → List Kept → List (List ℕ) → Type 0
-HaveBlocks shape [] [] = ⊤
-HaveBlocks shape [] (bs ∷ bss) = ⊥
-HaveBlocks shape (r ∷ rs) [] = ⊥
-HaveBlocks shape (r ∷ rs) (bs ∷ bss) = (r.shape ≡ shape) × (r.blocks ≡ bs) × HaveBlocks shape rs bss
 
 -- The lists under the newest root are in memory: the newest epoch in the active buffer, the older one in the frozen buffer, the
 -- runs in the levels, of which the upper ones have frames.

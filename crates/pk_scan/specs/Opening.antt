@@ -1,5 +1,5 @@
 -- Opening, part by part: what the reading of a flash finds, and why it refuses.
-use Rattle.std.specs.Prelude.{◌≡◌, ⊤, ℕ, ◌+◌, ◌-◌, ◌<◌, ◌≤◌, List, [], slice_index, slice_index_or, take, drop, Result, Ok, Err}
+use Rattle.std.specs.Prelude.{◌≡◌, ⊤, ℕ, ◌+◌, ◌-◌, ◌<◌, ◌≤◌, List, [], ◌∷◌, nat_le, slice_index, slice_index_or, take, drop, Result, Ok, Err}
 use Rattle.std.specs.List.{AllByRecursion}
 use Rattle.pk_base.specs.Shape.{Shape, cap, caps, epoch_pages}
 use Rattle.pk_base.specs.Key.{Key}
@@ -24,7 +24,7 @@ use Rattle.pk_live.specs.Values.{Values}
 use Rattle.pk_model.specs.Values.{values_of}
 use Rattle.pk_model.specs.Reading.{reading}
 use Rattle.pk_scan.specs.Lives.{Lives}
-use Rattle.pk_scan.specs.Runs.{RunsStand}
+use Rattle.pk_scan.specs.Runs.{IsPinnedIf, RunsStand}
 use Rattle.pk_scan.specs.declared.errors.PageError.{PageError}
 use Rattle.pk_scan.specs.declared.errors.PageError.TheVariants.{Damaged as PageDamaged, Fault as PageFault}
 use Rattle.pk_scan.specs.declared.errors.OpenError.{OpenError}
@@ -34,25 +34,29 @@ use Rattle.pk_scan.specs.declared.errors.OpenError.TheVariants.{NotFormatted, Da
 abbrev pub OnlyReads : BoardState → BoardState → Type 0
 OnlyReads old new = (n : ℕ) × (new ≡ after_reads n old)
 
+-- a read failed, and both counts of faults tell of it
+abbrev pub FaultCounted : BoardState → BoardState → Type 0
+FaultCounted old new = Rose old.flash_faults new.flash_faults × Rose old.read_faults new.read_faults
+
 -- ---- refusals
 
 -- why the whole was not read: the reading of the flash refuses in the same way, or a read failed; want of memory is free
 abbrev pub NotOpened : Shape → BoardState → BoardState → OpenError → Type 0
 NotOpened shape old new NotFormatted = reading shape old.pages [] ≡ Err not_formatted
 NotOpened shape old new (Damaged page) = reading shape old.pages [] ≡ Err (damaged page)
-NotOpened shape old new Fault = Rose old.flash_faults new.flash_faults
+NotOpened shape old new Fault = FaultCounted old new
 NotOpened shape old new Memory = ⊤
 
 -- why a part was not read, by what the reading of the flash has for it
 abbrev pub PartNotOpened : {X : Type 0} → Result X Refusal → BoardState → BoardState → OpenError → Type 0
 PartNotOpened part old new NotFormatted = ⊥
 PartNotOpened part old new (Damaged page) = part ≡ Err (damaged page)
-PartNotOpened part old new Fault = Rose old.flash_faults new.flash_faults
+PartNotOpened part old new Fault = FaultCounted old new
 PartNotOpened part old new Memory = ⊤
 
 abbrev pub PartNotRead : {X : Type 0} → Result X Refusal → BoardState → BoardState → PageError → Type 0
 PartNotRead part old new (PageDamaged page) = part ≡ Err (damaged page)
-PartNotRead part old new PageFault = Rose old.flash_faults new.flash_faults
+PartNotRead part old new PageFault = FaultCounted old new
 
 -- ---- epochs
 
@@ -79,18 +83,38 @@ NewestHeld shape flash root into epoch =
 
 -- ---- runs
 
--- the reading of the runs finds these lists, and the levels stand for them
+-- the runs have this shape, and these blocks
+abbrev pub HaveBlocks : Shape → List Kept → List (List ℕ) → Type 0
+HaveBlocks shape [] [] = ⊤
+HaveBlocks shape [] (bs ∷ bss) = ⊥
+HaveBlocks shape (r ∷ rs) [] = ⊥
+HaveBlocks shape (r ∷ rs) (bs ∷ bss) = (r.shape ≡ shape) × (r.blocks ≡ bs) × HaveBlocks shape rs bss
+
+-- The runs from this level on have so many entries; each page has a frame up to the last level that is pinned, and none behind it.
+abbrev pub HaveFrames : ℕ → ℕ → List Kept → List ℕ → Type 0
+HaveFrames pinned level [] [] = ⊤
+HaveFrames pinned level [] (count ∷ counts) = ⊥
+HaveFrames pinned level (r ∷ rs) [] = ⊥
+HaveFrames pinned level (r ∷ rs) (count ∷ counts) = (r.count ≡ count) × IsPinnedIf (nat_le level pinned) r × HaveFrames pinned (level + 1) rs counts
+
+-- the reading of the runs finds these lists, and the levels stand for them, with the blocks that the root names
 pub record HoldsRuns (shape : Shape) (flash : Flash) (root : Root) (arena : Frames) (levels : Levels) (ess : List (List Entry)) : Type 0 where
   pub finds : runs_from shape (page_at flash) 1 root.counts root.runs ≡ Ok ess
   pub stand : StandEach flash arena levels.runs ess
+  pub run_blocks : HaveBlocks shape levels.runs root.runs
+  pub run_frames : HaveFrames levels.pinned 1 levels.runs root.counts
 
--- The run of a level was read, and stands at it; the frames of the others contain what they contained, and so many are free
--- still.
+-- The run of a level was read, and stands at it with its blocks; the frames of the others contain what they contained, and so
+-- many are free still.
 pub record LoadsLevel (shape : Shape) (root : Root) (level : ℕ) (flash : Flash) (before after : Frames) (old new : Levels) : Type 0 where
   pub entries : List Entry
   pub kept : Kept
   pub finds : run shape (page_at flash) level (slice_index root.counts (level - 1)) (slice_index_or root.runs (level - 1) []) ≡ Ok entries
   pub stands : Stands kept flash after entries
+  pub shape_is : kept.shape ≡ shape
+  pub blocks_are : kept.blocks ≡ slice_index_or root.runs (level - 1) []
+  pub count_is : kept.count ≡ slice_index root.counts (level - 1)
+  pub frames : IsPinnedIf (nat_le level old.pinned) kept
   pub levels : new ≡ with_run old level kept
   pub others : RunsStand before after
   pub page : after.page_bytes ≡ before.page_bytes
@@ -109,12 +133,14 @@ opening_of PageFault = Fault
 -- ---- all lists
 
 -- What is found under the root is in memory: the newest epoch in the active buffer, the older one in the frozen buffer, and the
--- runs in the levels.
+-- runs in the levels, with the blocks that the root names.
 pub record HoldsFound (shape : Shape) (flash : Flash) (root : Root) (active frozen : Table) (epoch : JournalEpoch) (arena : Frames) (levels : Levels) (found : Found) : Type 0 where
   pub finds : found_under shape (page_at flash) root ≡ Ok found
   pub active_is : active ≡ buffer_of shape found.newest
   pub frozen_is : frozen ≡ buffer_of shape found.older
   pub stand : StandEach flash arena levels.runs found.runs
+  pub run_blocks : HaveBlocks shape levels.runs root.runs
+  pub run_frames : HaveFrames levels.pinned 1 levels.runs root.counts
   pub epoch_is : IsFoundEpoch shape flash root epoch
   pub epoch_fits : Fits epoch flash
 

@@ -27,6 +27,15 @@ abbrev pub run_reads : Shape → ℕ → ℕ → List ℕ → ℕ
 run_reads shape pinned level [] = 0
 run_reads shape pinned level (count ∷ counts) = (if nat_le level pinned then 1 else 2) * run_pages shape count + run_reads shape pinned (level + 1) counts
 
+-- each page of the runs is read once
+abbrev pub pages_of_runs : Shape → List ℕ → ℕ
+pages_of_runs shape [] = 0
+pages_of_runs shape (count ∷ counts) = run_pages shape count + pages_of_runs shape counts
+
+-- Both epochs up to their ends, and each page of the runs once.
+abbrev pub list_reads : Shape → (ℕ → Page) → Root → ℕ
+list_reads shape at root = epoch_reads shape at root.older + epoch_reads shape at root.newest + pages_of_runs shape root.counts
+
 -- each page of these values is read
 abbrev pub value_reads : Shape → List (Key × Place) → ℕ
 value_reads shape [] = 0

@@ -9,6 +9,7 @@ ghost use Rattle.pk_nand.specs.Erased.{after_reads};
 ghost use Rattle.pk_scan.specs.Places.{place};
 ghost use Rattle.pk_scan.specs.Lives.{Lives};
 ghost use Rattle.pk_scan.specs.Accepted.{Accepted, NotAccepted};
+ghost use Rattle.pk_scan.specs.Opened.{OnlyReading};
 
 use crate::errors::PageError;
 use crate::taken::take_value;
@@ -42,6 +43,7 @@ pub fn accept_value<B: Nand, A: Allocator>(
     ensures lives { OnOk result ((taken : List (KeySpec × Place)) → Lives shape.now named.now live.old taken → Lives shape.now named.now live.new (taken ++ (key.now, place page len) ∷ [])) }
     ensures ok { OnOk result (B.state board.new ≡ after_reads (spec.charge shape.now len) (B.state board.old)) }
     ensures err { IfErr result (λ e. (taken : List (KeySpec × Place)) → Lives shape.now named.now live.old taken → NotAccepted shape.now (B.state board.old) (B.state board.new) named.now taken key.now (place page len) e) }
+    ensures rest { OnlyReading (B.state board.old) (B.state board.new) }
     ensures pages { (B.state board.new).pages ≡ (B.state board.old).pages }
     ensures ready { IsReady (B.state board.new) shape.now }
     ensures buffer { length buf.new ≡ length buf.old }

@@ -4,8 +4,11 @@ ghost use Rattle.pk_base.specs.Page.{page_at};
 ghost use Rattle.pk_buf.specs.Table.{no_entries};
 ghost use Rattle.pk_model.specs.Found.{newest_epoch, older_epoch};
 ghost use Rattle.pk_nand.specs.Calls.{IsReady};
+ghost use Rattle.pk_nand.specs.Erased.{after_reads};
 ghost use Rattle.pk_rootfmt.specs.Root.{is_root};
-ghost use Rattle.pk_scan.specs.Opening.{OnlyReads, PartNotRead, OlderHeld, NewestHeld};
+ghost use Rattle.pk_scan.specs.Opened.{OnlyReading};
+ghost use Rattle.pk_scan.specs.Opening.{PartNotRead, OlderHeld, NewestHeld};
+ghost use Rattle.pk_scan.specs.Reads.{epoch_reads};
 
 use crate::errors::PageError;
 use pk_buf::Buffer;
@@ -14,8 +17,9 @@ use pk_nand::Nand;
 use pk_region::Region;
 use pk_rootfmt::Root;
 
-/// Reads the older epoch, where the root names one, into an empty write buffer. `Damaged` names the first page that is wrong, or
-/// the epoch's first page where it has no entry; `Fault` where a read failed. `buf` has the bytes of a page, which are lost.
+/// Reads the older epoch, where the root names one, into an empty write buffer: each page once, up to the first that is not
+/// Whole. `Damaged` names the first page that is wrong, or the epoch's first page where it has no entry; `Fault` where a read
+/// failed. `buf` has the bytes of a page, which are lost.
 pub fn read_older<B: Nand, A: Region>(
     board: &mut B,
     root: &Root<A>,
@@ -27,8 +31,9 @@ pub fn read_older<B: Nand, A: Region>(
     requires empty { into.old ≡ no_entries root.now.shape }
     requires room { length buf.old ≡ root.now.shape.page_bytes }
     ensures held { OnOk result (OlderHeld root.now.shape (B.state board.old).pages root.now.root into.new) }
-    ensures reads { OnOk result (OnlyReads (B.state board.old) (B.state board.new)) }
+    ensures reads { OnOk result (B.state board.new ≡ after_reads (epoch_reads root.now.shape (page_at (B.state board.old).pages) root.now.root.older) (B.state board.old)) }
     ensures err { IfErr result (λ e. PartNotRead (older_epoch root.now.shape (page_at (B.state board.old).pages) root.now.root) (B.state board.old) (B.state board.new) e) }
+    ensures rest { OnlyReading (B.state board.old) (B.state board.new) }
     ensures pages { (B.state board.new).pages ≡ (B.state board.old).pages }
     ensures ready { IsReady (B.state board.new) root.now.shape }
     ensures buffer { length buf.new ≡ length buf.old }
@@ -50,8 +55,8 @@ pub fn read_older<B: Nand, A: Region>(
     }
 }
 
-/// Reads the newest epoch into an empty write buffer. `Damaged` names the first page that is wrong; `Fault` where a read failed.
-/// `buf` has the bytes of a page, which are lost.
+/// Reads the newest epoch into an empty write buffer: each page once, up to the first that is not Whole. `Damaged` names the
+/// first page that is wrong; `Fault` where a read failed. `buf` has the bytes of a page, which are lost.
 pub fn read_newest<B: Nand, A: Region>(
     board: &mut B,
     root: &Root<A>,
@@ -63,8 +68,9 @@ pub fn read_newest<B: Nand, A: Region>(
     requires empty { into.old ≡ no_entries root.now.shape }
     requires room { length buf.old ≡ root.now.shape.page_bytes }
     ensures held { IfOk result (λ epoch. NewestHeld root.now.shape (B.state board.old).pages root.now.root into.new epoch) }
-    ensures reads { OnOk result (OnlyReads (B.state board.old) (B.state board.new)) }
+    ensures reads { OnOk result (B.state board.new ≡ after_reads (epoch_reads root.now.shape (page_at (B.state board.old).pages) root.now.root.newest) (B.state board.old)) }
     ensures err { IfErr result (λ e. PartNotRead (newest_epoch root.now.shape (page_at (B.state board.old).pages) root.now.root) (B.state board.old) (B.state board.new) e) }
+    ensures rest { OnlyReading (B.state board.old) (B.state board.new) }
     ensures pages { (B.state board.new).pages ≡ (B.state board.old).pages }
     ensures ready { IsReady (B.state board.new) root.now.shape }
     ensures buffer { length buf.new ≡ length buf.old }

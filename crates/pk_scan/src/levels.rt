@@ -2,13 +2,16 @@
 ghost use Rattle.std.specs.Prelude.{◌≡◌, ◌-◌, ◌≤◌, List, [], length, slice_index, slice_index_or, true, OnOk, IfErr};
 ghost use Rattle.pk_base.specs.Entry.{Entry};
 ghost use Rattle.pk_meta.specs.Run.{run};
-ghost use Rattle.pk_base.specs.Shape.{cap};
+ghost use Rattle.pk_base.specs.Shape.{cap, run_pages};
 ghost use Rattle.pk_base.specs.Page.{page_at};
 ghost use Rattle.pk_model.specs.Found.{runs_from};
 ghost use Rattle.pk_nand.specs.Calls.{IsReady};
+ghost use Rattle.pk_nand.specs.Erased.{after_reads};
 ghost use Rattle.pk_pin.specs.Frames.{free_frames};
 ghost use Rattle.pk_rootfmt.specs.Root.{is_root};
-ghost use Rattle.pk_scan.specs.Opening.{OnlyReads, PartNotOpened, HoldsRuns, LoadsLevel, opening_of, wanted_behind};
+ghost use Rattle.pk_scan.specs.Opened.{OnlyReading};
+ghost use Rattle.pk_scan.specs.Reads.{pages_of_runs};
+ghost use Rattle.pk_scan.specs.Opening.{PartNotOpened, HoldsRuns, LoadsLevel, opening_of, wanted_behind};
 
 use crate::errors::{OpenError, PageError};
 use crate::runs::load_run;
@@ -47,8 +50,9 @@ fn load_level<B: Nand, A: Region>(
     requires free { level ≤ levels.old.pinned → cap root.now.shape level ≤ free_frames arena.old }
     requires room { length buf.old ≡ root.now.shape.page_bytes }
     ensures loaded { OnOk result (LoadsLevel root.now.shape root.now.root level (B.state board.old).pages arena.old arena.new levels.old levels.new) }
-    ensures reads { OnOk result (OnlyReads (B.state board.old) (B.state board.new)) }
+    ensures reads { OnOk result (B.state board.new ≡ after_reads (run_pages root.now.shape (slice_index root.now.root.counts (level - 1))) (B.state board.old)) }
     ensures err { IfErr result (λ e. PartNotOpened (run root.now.shape (page_at (B.state board.old).pages) level (slice_index root.now.root.counts (level - 1)) (slice_index_or root.now.root.runs (level - 1) [])) (B.state board.old) (B.state board.new) e) }
+    ensures rest { OnlyReading (B.state board.old) (B.state board.new) }
     ensures pages { (B.state board.new).pages ≡ (B.state board.old).pages }
     ensures ready { IsReady (B.state board.new) root.now.shape }
     ensures buffer { length buf.new ≡ length buf.old }
@@ -73,9 +77,9 @@ fn load_level<B: Nand, A: Region>(
     }
 }
 
-/// Reads the four runs, each of which takes the place of the one that stands at its level. The arena has free frames for all
-/// pages of the levels that are pinned. `Damaged` names the first page that is wrong; `Fault` where a read failed; `Memory` where a
-/// run finds no memory. `buf` has the bytes of a page, which are lost.
+/// Reads the four runs, each page once; each run takes the place of the one that stands at its level. The arena has free frames
+/// for all pages of the levels that are pinned. `Damaged` names the first page that is wrong; `Fault` where a read failed;
+/// `Memory` where a run finds no memory. `buf` has the bytes of a page, which are lost.
 pub fn load_runs<B: Nand, A: Region>(
     alloc: A,
     board: &mut B,
@@ -93,8 +97,9 @@ pub fn load_runs<B: Nand, A: Region>(
     ensures held { OnOk result ((ess : List (List Entry)) × HoldsRuns root.now.shape (B.state board.old).pages root.now.root arena.new levels.new ess) }
     ensures pinned { OnOk result (levels.new.pinned ≡ levels.old.pinned) }
     ensures shape { OnOk result (levels.new.shape ≡ levels.old.shape) }
-    ensures reads { OnOk result (OnlyReads (B.state board.old) (B.state board.new)) }
+    ensures reads { OnOk result (B.state board.new ≡ after_reads (pages_of_runs root.now.shape root.now.root.counts) (B.state board.old)) }
     ensures err { IfErr result (λ e. PartNotOpened (runs_from root.now.shape (page_at (B.state board.old).pages) 1 root.now.root.counts root.now.root.runs) (B.state board.old) (B.state board.new) e) }
+    ensures rest { OnlyReading (B.state board.old) (B.state board.new) }
     ensures pages { (B.state board.new).pages ≡ (B.state board.old).pages }
     ensures ready { IsReady (B.state board.new) root.now.shape }
     ensures buffer { length buf.new ≡ length buf.old }

@@ -1,6 +1,6 @@
 //! Opening: what the flash holds is read part by part, by exact numbers of reads, up to the first page that is wrong.
 //! A value or a run is accepted exactly where the reading of a flash finds it; each refusal names the page that this reading
-//! names. The blocks that were found get their owners in the pool.
+//! names. The blocks that were found get their owners in the pool. `scan` does all of it in one call.
 #![tactic(auto)]
 
 mod accept;
@@ -10,6 +10,8 @@ mod epochs;
 mod errors;
 mod levels;
 mod lists;
+mod memory;
+mod names;
 mod opening;
 mod pages;
 mod runs;
@@ -18,7 +20,7 @@ mod values;
 mod visible;
 
 pub use accept::accept_value;
-pub use adopt::{adopt_blocks, adopt_values};
+pub use adopt::{adopt_blocks, adopt_values, give_owners};
 pub use contents::Found;
 pub use epochs::{read_newest, read_older};
 pub use errors::{OpenError, PageError};
@@ -34,3 +36,5 @@ pub use visible::read_values;
 mod tests;
 #[cfg(test)]
 mod tests_of_runs;
+#[cfg(test)]
+mod tests_of_scan;

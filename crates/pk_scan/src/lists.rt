@@ -8,7 +8,9 @@ ghost use Rattle.pk_nand.specs.Erased.{after_reads};
 ghost use Rattle.pk_pin.specs.Frames.{free_frames};
 ghost use Rattle.pk_rootfmt.specs.Newest.{newest_root};
 ghost use Rattle.pk_rootfmt.specs.Root.{is_root};
-ghost use Rattle.pk_scan.specs.Opening.{OnlyReads, NotOpened, PartNotOpened, HoldsFound, wanted_behind};
+ghost use Rattle.pk_scan.specs.Opened.{OnlyReading};
+ghost use Rattle.pk_scan.specs.Reads.{list_reads};
+ghost use Rattle.pk_scan.specs.Opening.{NotOpened, PartNotOpened, HoldsFound, wanted_behind};
 
 use crate::epochs::{read_newest, read_older};
 use crate::errors::OpenError;
@@ -38,6 +40,7 @@ pub fn find_root<B: Nand, A: Allocator>(
     ensures ok { OnOk result (B.state board.new ≡ after_reads (2 * root.old.shape.block_pages) (B.state board.old)) }
     ensures err { IfErr result (λ e. NotOpened root.old.shape (B.state board.old) (B.state board.new) e) }
     ensures shape { root.new.shape ≡ root.old.shape }
+    ensures rest { OnlyReading (B.state board.old) (B.state board.new) }
     ensures pages { (B.state board.new).pages ≡ (B.state board.old).pages }
     ensures ready { IsReady (B.state board.new) root.new.shape }
     ensures buffer { length buf.new ≡ length buf.old }
@@ -50,9 +53,9 @@ pub fn find_root<B: Nand, A: Allocator>(
 }
 
 /// Reads all lists of entries that are found under a root: the older epoch into the frozen buffer, the newest one into the active
-/// one, and the four runs into the levels. The arena has free frames for all pages of the levels that are pinned. `Damaged` names
-/// the first page that is wrong, in this order; `Fault` where a read failed; `Memory` where a run finds no memory. `buf` has the
-/// bytes of a page, which are lost.
+/// one, and the four runs into the levels. Each page of them is read once, of an epoch up to the first that is not Whole. The
+/// arena has free frames for all pages of the levels that are pinned. `Damaged` names the first page that is wrong, in this
+/// order; `Fault` where a read failed; `Memory` where a run finds no memory. `buf` has the bytes of a page, which are lost.
 pub fn read_lists<B: Nand, A: Region>(
     alloc: A,
     board: &mut B,
@@ -74,8 +77,9 @@ pub fn read_lists<B: Nand, A: Region>(
     ensures held { IfOk result (λ epoch. (found : Found) × HoldsFound root.now.shape (B.state board.old).pages root.now.root active.new frozen.new epoch arena.new levels.new found) }
     ensures pinned { OnOk result (levels.new.pinned ≡ levels.old.pinned) }
     ensures shape { OnOk result (levels.new.shape ≡ levels.old.shape) }
-    ensures reads { OnOk result (OnlyReads (B.state board.old) (B.state board.new)) }
+    ensures reads { OnOk result (B.state board.new ≡ after_reads (list_reads root.now.shape (page_at (B.state board.old).pages) root.now.root) (B.state board.old)) }
     ensures err { IfErr result (λ e. PartNotOpened (found_under root.now.shape (page_at (B.state board.old).pages) root.now.root) (B.state board.old) (B.state board.new) e) }
+    ensures rest { OnlyReading (B.state board.old) (B.state board.new) }
     ensures pages { (B.state board.new).pages ≡ (B.state board.old).pages }
     ensures ready { IsReady (B.state board.new) root.now.shape }
     ensures buffer { length buf.new ≡ length buf.old }

@@ -10,6 +10,7 @@ ghost use Rattle.pk_segfmt.specs.Value.{head_bytes};
 ghost use Rattle.pk_scan.specs.Places.{place};
 ghost use Rattle.pk_scan.specs.Pages.{front_of, fits_page, left_at, is_right};
 ghost use Rattle.pk_scan.specs.Checked.{HasValue, NotFound, PageRefused};
+ghost use Rattle.pk_scan.specs.Opened.{OnlyReading};
 
 use crate::errors::PageError;
 use pk_base::{Key, Shape};
@@ -121,6 +122,7 @@ pub fn check_value<B: Nand>(
     ensures value { OnOk result (HasValue shape.now (B.state board.old).pages key.now (place page len)) }
     ensures ok { OnOk result (B.state board.new ≡ after_reads (spec.charge shape.now len) (B.state board.old)) }
     ensures err { IfErr result (λ e. NotFound shape.now (B.state board.old) (B.state board.new) key.now (place page len) e) }
+    ensures rest { OnlyReading (B.state board.old) (B.state board.new) }
     ensures pages { (B.state board.new).pages ≡ (B.state board.old).pages }
     ensures ready { IsReady (B.state board.new) shape.now }
     ensures buffer { length buf.new ≡ length buf.old }

@@ -1,5 +1,5 @@
 //! The values of all keys that are there, each read and accepted.
-ghost use Rattle.std.specs.Prelude.{◌≡◌, List, [], length, IfOk, IfErr, OnOk};
+ghost use Rattle.std.specs.Prelude.{◌≡◌, ◌+◌, List, [], length, IfOk, IfErr, OnOk};
 ghost use Rattle.std.specs.List.{AllByRecursion};
 ghost use Rattle.pk_base.specs.Key.{Key};
 ghost use Rattle.pk_base.specs.Entry.{Place};
@@ -7,9 +7,12 @@ ghost use Rattle.pk_base.specs.EntryBytes.{IsPlace};
 ghost use Rattle.pk_base.specs.Page.{page_at};
 ghost use Rattle.pk_model.specs.Values.{values_of};
 ghost use Rattle.pk_nand.specs.Calls.{IsReady};
-ghost use Rattle.pk_walk.specs.Walking.{IsLeft};
+ghost use Rattle.pk_nand.specs.Erased.{after_reads};
+ghost use Rattle.pk_walk.specs.Walking.{IsLeft, SkipsNone, most_read, pages_read};
 ghost use Rattle.pk_scan.specs.Lives.{Lives};
+ghost use Rattle.pk_scan.specs.Opened.{OnlyReading};
 ghost use Rattle.pk_scan.specs.Opening.{OnlyReads, PartNotOpened, ReadsValues};
+ghost use Rattle.pk_scan.specs.Reads.{value_reads};
 
 use crate::accept::accept_value;
 use crate::errors::OpenError;
@@ -26,6 +29,9 @@ use pk_walk::Walk;
 /// Reads the values of all keys that the walk gives, in its order, and takes their pages: those of the blocks that the root
 /// names are not free for them. Answers how many keys there are. `Damaged` names the first value whose pages may not be taken, or
 /// its first page that is wrong; `Fault` where a read failed. `buf` has the bytes of a page, which are lost.
+///
+/// A walk that begins at the first key reads each page of the runs without frames once, and the pages of the values are read
+/// beside them.
 pub fn read_values<B: Nand, A: Region>(
     board: &mut B,
     shape: &Shape,
@@ -47,7 +53,9 @@ pub fn read_values<B: Nand, A: Region>(
     ensures read { OnOk result ((es : List (Key × Place)) → IsLeft walk.old (B.state board.old).pages arena.now levels.now.runs active.now.entries frozen.now.entries es → ReadsValues shape.now (B.state board.old).pages named.now live.new es) }
     ensures keys { IfOk result (λ keys. (es : List (Key × Place)) → IsLeft walk.old (B.state board.old).pages arena.now levels.now.runs active.now.entries frozen.now.entries es → keys ≡ length es) }
     ensures reads { OnOk result (OnlyReads (B.state board.old) (B.state board.new)) }
+    ensures exact { OnOk result (SkipsNone walk.old → pages_read levels.now.runs walk.old.cursors ≡ 0 → (es : List (Key × Place)) → IsLeft walk.old (B.state board.old).pages arena.now levels.now.runs active.now.entries frozen.now.entries es → B.state board.new ≡ after_reads (most_read levels.now.runs + value_reads shape.now es) (B.state board.old)) }
     ensures err { IfErr result (λ e. (es : List (Key × Place)) → IsLeft walk.old (B.state board.old).pages arena.now levels.now.runs active.now.entries frozen.now.entries es → PartNotOpened (values_of shape.now (page_at (B.state board.old).pages) named.now [] es) (B.state board.old) (B.state board.new) e) }
+    ensures rest { OnlyReading (B.state board.old) (B.state board.new) }
     ensures pages { (B.state board.new).pages ≡ (B.state board.old).pages }
     ensures ready { IsReady (B.state board.new) shape.now }
     ensures buffer { length buf.new ≡ length buf.old }

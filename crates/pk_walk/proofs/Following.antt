@@ -2,7 +2,9 @@
 use Rattle.std.proofs.Common.{◌≡◌, ℕ, zero, suc, ◌+◌, ◌-◌, ◌*◌, ◌/◌, ◌%◌, ◌<◌, ◌≤◌, min, refl, sym, ap, subst, ◌∙◌, arith, Bool, false, T, List, [], ◌∷◌, length, take, drop, slice_get, Some, div-lt_iff_lt-mul}
 use Rattle.std.proofs.lemmas.Nat.{div-add-mod', le-div}
 use Rattle.std.proofs.lemmas.List.{length-take, length-drop}
-use Rattle.std.proofs.Math.Nat.{mod-lt}
+use Rattle.std.proofs.lemmas.Grind.{div_ceil_times}
+use Rattle.std.proofs.Math.Nat.{mod-lt, div-le_of_le-mul, lt_of_mul-lt-mul_right}
+use Rattle.std.specs.Int.{div_ceil}
 use Rattle.pk_base.specs.Key.{Key}
 use Rattle.pk_base.specs.Shape.{Shape, IsShape, page_entries}
 use Rattle.pk_base.specs.Entry.{Entry, key_of}
@@ -18,7 +20,7 @@ use Rattle.pk_run.proofs.Lookups.{first_is, page_starts, holds_piece}
 use Rattle.pk_walk.specs.declared.position.Position.{Position}
 use Rattle.pk_walk.specs.declared.position.Position.TheVariants.{Above}
 use Rattle.pk_walk.specs.Visible.{is_wanted, wanted, WantsFrom}
-use Rattle.pk_walk.specs.Walking.{Cursor, Follows, Reads, at_start, read_of}
+use Rattle.pk_walk.specs.Walking.{Cursor, Follows, HasPassed, Reads, ReadsAll, at_start, read_of}
 use Rattle.pk_walk.proofs.Wanting.{begun_at, passed_by, narrowed_behind, above_is_narrower}
 
 -- ---- numbers
@@ -139,3 +141,51 @@ page_begins r flash arena es w key p is from for_key s =
 pub looked : (leases : List ℕ) (loaded p : ℕ) (old new : BoardState) → loaded ≤ p → new ≡ after_look leases old → Reads (read_of leases loaded) (read_of leases (suc p)) old new
 looked [] loaded p old new h e = (1, omega (arith, h), e)
 looked (l ∷ leases) loaded p old new h e = (0, omega arith, e)
+
+-- ---- a cursor that skips no page
+
+-- the page of its place is the one behind those that it has come past, or one of them
+pub page_comes : (c : Cursor) → HasPassed c → c.place / page_entries c.shape ≤ c.loaded
+page_comes c passed = div-le_of_le-mul (page_entries c.shape) (omega (arith, passed))
+
+-- with the page of its place it has come past the entry at it
+pub page_holds_place : (place size : ℕ) → 0 < size → place < suc (place / size) * size
+page_holds_place place size some = let at = div-add-mod' place size in let low = mod-lt place some in omega (arith, at, low)
+
+pub HasPassed-kept : (c d : Cursor) → d ≡ record c { loaded = d.loaded; bytes = d.bytes } → d.loaded ≡ c.loaded → HasPassed c → HasPassed d
+HasPassed-kept c d same loaded passed = subst HasPassed (sym (same ∙ (λ i. record c { loaded = loaded i; bytes = d.bytes }))) passed
+
+pub HasPassed-begun : (c d : Cursor) → d ≡ record c { place = d.place } → d.place ≡ 0 → HasPassed d
+HasPassed-begun c d same none = omega (arith, none)
+
+pub looked_all : (leases : List ℕ) (loaded p : ℕ) (old new : BoardState) → loaded ≡ p → new ≡ after_look leases old → ReadsAll (read_of leases loaded) (read_of leases (suc p)) old new
+looked_all [] loaded p old new h e = (1, omega (arith, h), e)
+looked_all (l ∷ leases) loaded p old new h e = (0, omega arith, e)
+
+-- behind a look at the page of its place
+pub head_here : (r : Kept) (c d : Cursor) → IsShape r.shape → c.shape ≡ r.shape → d ≡ record c { loaded = suc (c.place / page_entries r.shape); bytes = d.bytes } → d.place < d.loaded * page_entries d.shape
+head_here r c d is same moved =
+    subst (λ (x : Cursor). x.place < x.loaded * page_entries x.shape) (sym moved)
+    (subst (λ (shape : Shape). c.place < suc (c.place / page_entries r.shape) * page_entries shape) (sym same) (page_holds_place c.place (page_entries r.shape) (entries_some r.shape is)))
+
+pub head_all : (r : Kept) (c d : Cursor) (p : ℕ) (old new : BoardState) → c.shape ≡ r.shape → p ≡ c.place / page_entries r.shape → d.loaded ≡ suc p
+    → (p ≤ c.loaded → ReadsAll (read_of r.leases c.loaded) (read_of r.leases (suc p)) old new) → HasPassed c → ReadsAll (read_of r.leases c.loaded) (read_of r.leases d.loaded) old new
+head_all r c d p old new same page loaded every passed =
+    let comes = subst (λ (shape : Shape). c.place / page_entries shape ≤ c.loaded) same (page_comes c passed) in
+    subst (λ (n : ℕ). ReadsAll (read_of r.leases c.loaded) (read_of r.leases n) old new) (sym loaded) (every (omega (arith, page, comes)))
+
+ceil_most : (x y k : ℕ) → 0 < y → x ≤ k * y → div_ceil x y ≤ k
+ceil_most x y k some room =
+    let few : div_ceil x y * y < suc k * y = omega (arith, (div_ceil_times x y some).1) in
+    let less : div_ceil x y < suc k = lt_of_mul-lt-mul_right y few in
+    omega arith
+
+-- behind the last entry it has come past each page
+pub all_come : (r : Kept) (flash : Flash) (arena : Frames) (es : List Entry) (position : Position) (c : Cursor) → IsShape r.shape → c.shape ≡ r.shape → Stands r flash arena es → Follows flash r es position c
+    → r.count ≤ c.place → HasPassed c → c.loaded ≡ length r.firsts
+all_come r flash arena es position c is same s f past passed =
+    let own = subst (λ (shape : Shape). c.place ≤ c.loaded * page_entries shape) same passed in
+    let few = ceil_most r.count (page_entries r.shape) c.loaded (entries_some r.shape is) (omega (arith, past, own)) in
+    let pages = s.pages in
+    let most = f.pages in
+    omega (arith, few, pages, most)

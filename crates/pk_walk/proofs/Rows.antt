@@ -1,7 +1,12 @@
 -- A search through the runs, one after another, with a cursor in each.
-use Rattle.std.proofs.Common.{◌≡◌, ℕ, zero, suc, ◌+◌, ◌-◌, ◌<◌, refl, sym, ap, subst, ◌∙◌, arith, List, [], ◌∷◌, length, slice_get, slice_set, slice_index_or, Option, Some, None}
+use Rattle.std.proofs.Common.{◌≡◌, ℕ, zero, suc, ◌+◌, ◌-◌, ◌<◌, refl, sym, ap, subst, ◌∙◌, arith, Bool, true, false, if◌then◌else◌, List, [], ◌∷◌, length, slice_get, slice_set, slice_index_or, option_map, Option, Some, None}
+use Rattle.std.specs.List.{AllByRecursion}
+use Rattle.std.specs.Ordering.{is_gt}
 use Rattle.pk_base.specs.Shape.{Shape}
+use Rattle.pk_base.specs.Key.{key_cmp}
 use Rattle.pk_base.specs.Entry.{Entry}
+use Rattle.pk_base.specs.Seen.{entry as seen}
+use Rattle.pk_base.specs.declared.entry.Entry.{Entry as RustEntry}
 use Rattle.pk_base.specs.Page.{Flash}
 use Rattle.pk_nand.specs.BoardState.{BoardState}
 use Rattle.pk_nand.specs.Calls.{IsReady, ReadFailed}
@@ -12,8 +17,8 @@ use Rattle.pk_level.specs.Levels.{Levels, IsLevels, StandEach, run_of}
 use Rattle.pk_level.proofs.Looking.{stands_at, of_level_at, reads_more}
 use Rattle.pk_walk.specs.declared.position.Position.{Position}
 use Rattle.pk_walk.specs.Visible.{is_wanted, wanted, first_of, lesser, least_first}
-use Rattle.pk_walk.specs.Walking.{Cursor, AreOfShape, Follows, FollowEach, Reads, ReadsFail, read_of, pages_read}
-use Rattle.pk_walk.proofs.Seeking.{Reads-none, Reads-more, Reads-pages, one_list}
+use Rattle.pk_walk.specs.Walking.{Cursor, AreOfShape, Follows, FollowEach, HasPassed, Reads, ReadsAll, ReadsFail, SkipsNoPage, read_of, pages_read, most_read}
+use Rattle.pk_walk.proofs.Seeking.{Reads-none, Reads-more, Reads-pages, ReadsAll-none, ReadsAll-more, one_list}
 
 same_run : (x y : Kept) → ◌≡◌ {A = Option Kept} (Some x) (Some y) → x ≡ y
 same_run x y e = cc
@@ -65,6 +70,16 @@ shape_set shape [] i c are is = tt
 shape_set shape (d ∷ cs) zero c are is = (is, are.1)
 shape_set shape (d ∷ cs) (suc i) c are is = (are.0, shape_set shape cs i c are.1 is)
 
+passed_at : (cs : List Cursor) (i : ℕ) (c : Cursor) → AllByRecursion HasPassed cs → slice_get cs i ≡ Some c → HasPassed c
+passed_at [] i c passed ec = cc
+passed_at (d ∷ cs) zero c passed ec = subst HasPassed (same_cursor d c ec) passed.0
+passed_at (d ∷ cs) (suc i) c passed ec = passed_at cs i c passed.1 ec
+
+passed_set : (cs : List Cursor) (i : ℕ) (c : Cursor) → AllByRecursion HasPassed cs → HasPassed c → AllByRecursion HasPassed (slice_set cs i c)
+passed_set [] i c passed is = tt
+passed_set (d ∷ cs) zero c passed is = (is, passed.1)
+passed_set (d ∷ cs) (suc i) c passed is = (passed.0, passed_set cs i c passed.1 is)
+
 index_is : (rs : List Kept) (i : ℕ) (r : Kept) → i < length rs → slice_get rs i ≡ Some (slice_index_or rs i r)
 index_is [] i r h = absurd (omega (arith, h))
 index_is (x ∷ rs) zero r h = refl
@@ -86,10 +101,19 @@ pub record Rows (levels : Levels) (arena : Frames) (position : Position) (old no
   pub shape : AreOfShape levels.shape cs
   pub ready : IsReady now levels.shape
   pub reads : Reads (pages_read levels.runs first) (pages_read levels.runs cs) old now
+  pub all : SkipsNoPage position → AllByRecursion HasPassed first → AllByRecursion HasPassed cs × ReadsAll (pages_read levels.runs first) (pages_read levels.runs cs) old now
 
 pub Rows-start : (levels : Levels) (arena : Frames) (position : Position) (old : BoardState) (cs : List Cursor) (ess : List (List Entry)) → IsReady old levels.shape → AreOfShape levels.shape cs
     → StandEach old.pages arena levels.runs ess → FollowEach old.pages levels.runs ess position cs → Rows levels arena position old old cs cs
-Rows-start levels arena position old cs ess ready shape stand follow = record { ess = ess; stand = stand; follow = follow; shape = shape; ready = ready; reads = Reads-none (pages_read levels.runs cs) old }
+Rows-start levels arena position old cs ess ready shape stand follow = record {
+  ess = ess;
+  stand = stand;
+  follow = follow;
+  shape = shape;
+  ready = ready;
+  reads = Reads-none (pages_read levels.runs cs) old;
+  all = λ none before. (before, ReadsAll-none (pages_read levels.runs cs) old);
+}
 
 module _ (levels : Levels) (arena : Frames) (position : Position) (old now : BoardState) (first cs : List Cursor) (at : Rows levels arena position old now first cs) where
   abbrev same_pages : now.pages ≡ old.pages
@@ -136,8 +160,23 @@ module _ (levels : Levels) (arena : Frames) (position : Position) (old now : Boa
       shape_next : AreOfShape levels.shape (slice_set cs i d)
       shape_next = shape_set levels.shape cs i d at.shape (same ∙ shape_at levels.shape cs i c at.shape cursor_is)
 
-      pub Rows-next : IsLevels levels → IsReady next r.shape → Reads (read_of r.leases c.loaded) (read_of r.leases d.loaded) now next → Rows levels arena position old next first (slice_set cs i d)
-      Rows-next is ready reads =
+      pub passed_next : (SkipsNoPage position → HasPassed c → HasPassed d) → SkipsNoPage position → AllByRecursion HasPassed first → AllByRecursion HasPassed (slice_set cs i d)
+      passed_next passed none before =
+          let far = (at.all none before).0 in
+          passed_set cs i d far (passed none (passed_at cs i c far cursor_is))
+
+      all_next : (SkipsNoPage position → HasPassed c → ReadsAll (read_of r.leases c.loaded) (read_of r.leases d.loaded) now next) → SkipsNoPage position → AllByRecursion HasPassed first
+          → ReadsAll (pages_read levels.runs first) (pages_read levels.runs (slice_set cs i d)) old next
+      all_next every none before =
+          let far = at.all none before in
+          let own = every none (passed_at cs i c far.0 cursor_is) in
+          let e = read_set levels.runs cs i r c d run_is cursor_is in
+          let more : ReadsAll (pages_read levels.runs cs) (pages_read levels.runs (slice_set cs i d)) now next = (own.0, (let h = own.1 in omega (arith, e, h)), own.2) in
+          ReadsAll-more _ _ _ old now next far.1 more
+
+      pub Rows-next : IsLevels levels → IsReady next r.shape → Reads (read_of r.leases c.loaded) (read_of r.leases d.loaded) now next → (SkipsNoPage position → HasPassed c → HasPassed d)
+          → (SkipsNoPage position → HasPassed c → ReadsAll (read_of r.leases c.loaded) (read_of r.leases d.loaded) now next) → Rows levels arena position old next first (slice_set cs i d)
+      Rows-next is ready reads passed every =
           let e = read_set levels.runs cs i r c d run_is cursor_is in
           let more : Reads (pages_read levels.runs cs) (pages_read levels.runs (slice_set cs i d)) now next = (reads.0, (let h = reads.1 in omega (arith, e, h)), reads.2) in
           record {
@@ -147,6 +186,7 @@ module _ (levels : Levels) (arena : Frames) (position : Position) (old now : Boa
             shape = shape_next;
             ready = subst (IsReady next) (of_level_at levels.shape levels.pinned 1 levels.runs i r is.each run_is).same_shape ready;
             reads = Reads-more _ _ _ old now next at.reads more;
+            all = λ none before. (passed_next passed none before, all_next every none before);
           }
 
       pub follow_failed : (ess : List (List Entry)) → StandEach old.pages arena levels.runs ess → FollowEach old.pages levels.runs ess position (slice_set cs i d)
@@ -203,3 +243,44 @@ least_of_four flash arena position (r1 ∷ []) (a ∷ b ∷ c ∷ d ∷ ess) fou
 least_of_four flash arena position (r1 ∷ r2 ∷ []) (a ∷ b ∷ c ∷ d ∷ ess) four s v w x y p q o z = absurd (omega (arith, four))
 least_of_four flash arena position (r1 ∷ r2 ∷ r3 ∷ []) (a ∷ b ∷ c ∷ d ∷ ess) four s v w x y p q o z = absurd (omega (arith, four))
 least_of_four flash arena position (r1 ∷ r2 ∷ r3 ∷ r4 ∷ r5 ∷ rs) (a ∷ b ∷ c ∷ d ∷ ess) four s v w x y p q o z = absurd (omega (arith, four))
+
+-- ---- none is found
+
+no_entry : (x : Entry) → ◌≡◌ {A = Option Entry} None (Some x) → ⊥
+no_entry x e = cc
+
+neither : (b : Bool) (x y : Entry) → ◌≡◌ {A = Option Entry} None (if b then Some y else Some x) → ⊥
+neither true x y e = no_entry y e
+neither false x y e = no_entry x e
+
+-- there is no lesser of two only where there is none of both
+pub none_of : (a b found : Option RustEntry) → option_map seen found ≡ lesser (option_map seen a) (option_map seen b) → found ≡ None → (a ≡ None) × (b ≡ None)
+none_of None None found is none = (refl, refl)
+none_of None (Some y) found is none = absurd (no_entry (seen y) (sym (ap (option_map seen) none) ∙ is))
+none_of (Some x) None found is none = absurd (no_entry (seen x) (sym (ap (option_map seen) none) ∙ is))
+none_of (Some x) (Some y) found is none = absurd (neither (is_gt (key_cmp (seen x).0 (seen y).0)) (seen x) (seen y) (sym (ap (option_map seen) none) ∙ is))
+
+-- the cursor of a run has come past all its pages
+abbrev pub HasEnded : List Kept → List Cursor → ℕ → Type 0
+HasEnded rs cs i = (r : Kept) × (c : Cursor) × (slice_get rs i ≡ Some r) × (slice_get cs i ≡ Some c) × (c.loaded ≡ length r.firsts)
+
+each_ended : (rs : List Kept) (cs : List Cursor) → ((i : ℕ) → i < length rs → HasEnded rs cs i) → pages_read rs cs ≡ most_read rs
+each_ended [] cs each = refl
+each_ended (r ∷ rs) [] each = let e = (each 0 (omega arith)).3 in cc
+each_ended (r ∷ rs) (c ∷ cs) each =
+    let own = each 0 (omega arith) in
+    let loaded : c.loaded ≡ length r.firsts = ap (λ (x : Cursor). x.loaded) (same_cursor c own.1 own.3) ∙ own.4 ∙ ap (λ (x : Kept). length x.firsts) (sym (same_run r own.0 own.2)) in
+    let one = ap (read_of r.leases) loaded in
+    let rest = each_ended rs cs (λ i less. each (suc i) (omega (arith, less))) in
+    omega (arith, one, rest)
+
+-- of the four runs each was read whole
+pub all_ended : (rs : List Kept) (cs : List Cursor) → length rs ≡ 4 → HasEnded rs cs 0 → HasEnded rs cs 1 → HasEnded rs cs 2 → HasEnded rs cs 3 → pages_read rs cs ≡ most_read rs
+all_ended rs cs four one two three last = each_ended rs cs pick
+  where
+    pick : (i : ℕ) → i < length rs → HasEnded rs cs i
+    pick zero less = one
+    pick (suc zero) less = two
+    pick (suc (suc zero)) less = three
+    pick (suc (suc (suc zero))) less = last
+    pick (suc (suc (suc (suc i)))) less = absurd (omega (arith, less, four))

@@ -1,6 +1,6 @@
 -- A search in a run for the first wanted entry: what holds at each step of it, and what it finds.
-use Rattle.std.proofs.Common.{◌≡◌, ℕ, suc, ◌+◌, ◌≤◌, refl, sym, ap, subst, ◌∙◌, arith, true, false, List, slice_get, Some, None, Result, Ok}
-use Rattle.pk_base.specs.Shape.{IsShape}
+use Rattle.std.proofs.Common.{◌≡◌, ℕ, suc, ◌+◌, ◌*◌, ◌<◌, ◌≤◌, refl, sym, ap, subst, ◌∙◌, arith, true, false, List, length, slice_get, Some, None, Result, Ok}
+use Rattle.pk_base.specs.Shape.{IsShape, page_entries}
 use Rattle.pk_base.specs.Entry.{Entry, key_of}
 use Rattle.pk_base.specs.Seen.{entry as seen}
 use Rattle.pk_base.specs.declared.entry.Entry.{Entry as RustEntry}
@@ -14,9 +14,9 @@ use Rattle.pk_run.specs.Kept.{Kept, Stands}
 use Rattle.pk_level.proofs.Looking.{reads_more}
 use Rattle.pk_walk.specs.declared.position.Position.{Position}
 use Rattle.pk_walk.specs.Visible.{is_wanted, wanted, first_of}
-use Rattle.pk_walk.specs.Walking.{Cursor, Follows, Reads, ReadsFail, read_of}
+use Rattle.pk_walk.specs.Walking.{Cursor, Follows, HasPassed, Reads, ReadsAll, ReadsFail, SkipsNoPage, read_of}
 use Rattle.pk_walk.proofs.Wanting.{first_here, none_here}
-use Rattle.pk_walk.proofs.Following.{Follows-passed}
+use Rattle.pk_walk.proofs.Following.{Follows-passed, HasPassed-kept, all_come}
 
 -- ---- reads
 
@@ -32,6 +32,23 @@ Reads-failed a b old now next page first failed = (first.0, page, first.1, subst
 
 pub Reads-pages : (a b : ℕ) (old now : BoardState) → Reads a b old now → now.pages ≡ old.pages
 Reads-pages a b old now reads = ap (λ (x : BoardState). x.pages) reads.2
+
+pub ReadsAll-none : (n : ℕ) (old : BoardState) → ReadsAll n n old old
+ReadsAll-none n old = (0, omega arith, refl)
+
+pub ReadsAll-more : (a b c : ℕ) (old now next : BoardState) → ReadsAll a b old now → ReadsAll b c now next → ReadsAll a c old next
+ReadsAll-more a b c old now next first more =
+    (more.0 + first.0, omega (arith, first.1, more.1), more.2 ∙ ap (λ (x : BoardState). after_reads more.0 x) first.2 ∙ reads_more more.0 first.0 old)
+
+-- reads change their number alone, and a failed one the counts of faults
+pub Reads-rest : (a b : ℕ) (old new : BoardState) → Reads a b old new → new ≡ record old { reads = new.reads; flash_faults = new.flash_faults; read_faults = new.read_faults; failed_at = new.failed_at }
+Reads-rest a b old new reads =
+    subst (λ (x : BoardState). x ≡ record old { reads = x.reads; flash_faults = x.flash_faults; read_faults = x.read_faults; failed_at = x.failed_at }) (sym reads.2) refl
+
+pub ReadsFail-rest : (a b : ℕ) (old new : BoardState) → ReadsFail a b old new → new ≡ record old { reads = new.reads; flash_faults = new.flash_faults; read_faults = new.read_faults; failed_at = new.failed_at }
+ReadsFail-rest a b old new (k, page, few, failed) =
+    let back = sym failed.rest in
+    failed.rest ∙ (λ i. record old { reads = (back i).reads; flash_faults = new.flash_faults; read_faults = new.read_faults; failed_at = (back i).failed_at })
 
 -- ---- a run has one list of entries
 
@@ -49,17 +66,19 @@ pub record Seeking (r : Kept) (arena : Frames) (position : Position) (old now : 
   pub follows : Follows old.pages r es position c
   pub shape : c.shape ≡ first.shape
   pub reads : Reads (read_of r.leases first.loaded) (read_of r.leases c.loaded) old now
+  pub all : SkipsNoPage position → HasPassed first → HasPassed c × ReadsAll (read_of r.leases first.loaded) (read_of r.leases c.loaded) old now
 
 module _ (r : Kept) (arena : Frames) (position : Position) (old : BoardState) (first : Cursor) where
   pub Seeking-start : (c : Cursor) (es : List Entry) → Stands r old.pages arena es → Follows old.pages r es position first
       → ((flash : Flash) (arena : Frames) (es : List Entry) → Stands r flash arena es → Follows flash r es position first → Follows flash r es position c)
-      → c ≡ record first { place = c.place } → Seeking r arena position old old first c
-  Seeking-start c es s f begun same = record {
+      → c ≡ record first { place = c.place } → (SkipsNoPage position → HasPassed first → HasPassed c) → Seeking r arena position old old first c
+  Seeking-start c es s f begun same passed = record {
     es = es;
     stands = s;
     follows = begun old.pages arena es s f;
     shape = ap (λ (x : Cursor). x.shape) same;
     reads = (0, (let e = ap (λ (x : Cursor). read_of r.leases x.loaded) same in omega (arith, e)), refl);
+    all = λ none before. (passed none before, (0, (let e = ap (λ (x : Cursor). read_of r.leases x.loaded) same in omega (arith, e)), refl));
   }
 
   module _ (now : BoardState) (c : Cursor) (at : Seeking r arena position old now first c) where
@@ -80,13 +99,17 @@ module _ (r : Kept) (arena : Frames) (position : Position) (old : BoardState) (f
     -- a page was looked at, and the cursor has its bytes
     pub Seeking-looked : (next : BoardState) (d : Cursor) → d ≡ record c { loaded = d.loaded; bytes = d.bytes }
         → ((es : List Entry) (p : Position) → Follows now.pages r es p c → Follows now.pages r es p d)
-        → Reads (read_of r.leases c.loaded) (read_of r.leases d.loaded) now next → Seeking r arena position old next first d
-    Seeking-looked next d same moved reads = record {
+        → Reads (read_of r.leases c.loaded) (read_of r.leases d.loaded) now next → d.place < d.loaded * page_entries d.shape
+        → (HasPassed c → ReadsAll (read_of r.leases c.loaded) (read_of r.leases d.loaded) now next) → Seeking r arena position old next first d
+    Seeking-looked next d same moved reads here every = record {
       es = at.es;
       stands = at.stands;
       follows = subst (λ (flash : Flash). Follows flash r at.es position d) (Reads-pages _ _ old now at.reads) (moved at.es position follows_now);
       shape = ap (λ (x : Cursor). x.shape) same ∙ at.shape;
       reads = Reads-more _ _ _ old now next at.reads reads;
+      all = λ none before.
+          let far = at.all none before in
+          (omega (arith, here), ReadsAll-more _ _ _ old now next far.1 (every far.0));
     }
 
     -- and where no page could be read, it stands as before
@@ -95,6 +118,14 @@ module _ (r : Kept) (arena : Frames) (position : Position) (old : BoardState) (f
     follows_failed d moved es s =
         subst (λ (xs : List Entry). Follows old.pages r xs position d) (one_list r old.pages arena at.es es at.stands s)
         (subst (λ (flash : Flash). Follows flash r at.es position d) (Reads-pages _ _ old now at.reads) (moved at.es position follows_now))
+
+    -- nor has it come past another page
+    pub passed_failed : (d : Cursor) → d ≡ record c { loaded = d.loaded; bytes = d.bytes } → d.loaded ≡ c.loaded → SkipsNoPage position → HasPassed first → HasPassed d
+    passed_failed d same loaded none before = HasPassed-kept c d same loaded (at.all none before).0
+
+    -- behind all entries it has come past all pages
+    pub Seeking-ended : IsShape r.shape → first.shape ≡ r.shape → r.count ≤ c.place → SkipsNoPage position → HasPassed first → c.loaded ≡ length r.firsts
+    Seeking-ended is same past none before = all_come r old.pages arena at.es position c is (at.shape ∙ same) at.stands at.follows past (at.all none before).0
 
     -- the entry at the place is the first that is wanted
     pub Seeking-found : (e : RustEntry) → ((es : List Entry) → Stands r now.pages arena es → slice_get es c.place ≡ Some (seen e)) → is_wanted position (key_of (seen e)) ≡ true
@@ -105,13 +136,14 @@ module _ (r : Kept) (arena : Frames) (position : Position) (old : BoardState) (f
 
     -- the entry at the place is not wanted, and is passed
     pub Seeking-passed : (e : RustEntry) (d : Cursor) → IsShape r.shape → ((es : List Entry) → Stands r old.pages arena es → slice_get es c.place ≡ Some (seen e)) → is_wanted position (key_of (seen e)) ≡ false
-        → d ≡ record c { place = suc c.place } → Seeking r arena position old now first d
-    Seeking-passed e d is head not_one same = subst (Seeking r arena position old now first) (sym same) (record {
+        → d ≡ record c { place = suc c.place } → c.place < c.loaded * page_entries c.shape → Seeking r arena position old now first d
+    Seeking-passed e d is head not_one same here = subst (Seeking r arena position old now first) (sym same) (record {
       es = at.es;
       stands = at.stands;
       follows = Follows-passed old.pages r at.es position c is at.follows (seen e) (head at.es at.stands) not_one;
       shape = at.shape;
       reads = at.reads;
+      all = λ none before. (omega (arith, here), (at.all none before).1);
     })
 
     -- behind the look the entry is still at the place

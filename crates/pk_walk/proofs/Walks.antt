@@ -1,6 +1,6 @@
 -- A walk over all lists: what a step leaves, and what is left behind several.
 use Rattle.std.proofs.Common.{◌≡◌, ℕ, suc, ◌+◌, ◌<◌, ◌≤◌, refl, sym, ap, subst, ◌∙◌, arith, true, false, T, is_some, List, [], ◌∷◌, length, Option, Some, None, Result, Ok, Err}
-use Rattle.std.specs.List.{flat_map}
+use Rattle.std.specs.List.{AllByRecursion, flat_map}
 use Rattle.std.specs.FinMap.Entries.{is_sorted}
 use Rattle.pk_base.specs.Key.{Key, key_cmp}
 use Rattle.pk_base.specs.Shape.{Shape}
@@ -23,11 +23,11 @@ use Rattle.pk_model.proofs.Lookups.{firsts_sorted}
 use Rattle.pk_walk.specs.declared.position.Position.{Position}
 use Rattle.pk_walk.specs.declared.position.Position.TheVariants.{First, Above}
 use Rattle.pk_walk.specs.Visible.{visible, is_wanted, wanted, first_of, lesser, least_first}
-use Rattle.pk_walk.specs.Walking.{Cursor, Walk, IsWalk, AreOfShape, FollowEach, IsLeft, Gives, Passes, Reads, ReadsFail, all_left, all_at_start, read_of, pages_read, most_read}
+use Rattle.pk_walk.specs.Walking.{Cursor, Walk, IsWalk, AreOfShape, FollowEach, HasPassed, IsLeft, Gives, Passes, Reads, ReadsAll, ReadsFail, SkipsNoPage, SkipsNone, all_left, all_at_start, read_of, pages_read, most_read}
 use Rattle.pk_walk.proofs.Merging.{EachSorted, first_of_lists}
 use Rattle.pk_walk.proofs.Wanting.{behind_first, first_wanted, none_wanted, placed_wanted}
 use Rattle.pk_walk.proofs.Following.{Follows-above, Follows-start}
-use Rattle.pk_walk.proofs.Seeking.{Reads-none, Reads-more, Reads-pages, one_list}
+use Rattle.pk_walk.proofs.Seeking.{Reads-none, Reads-more, Reads-pages, ReadsAll-none, ReadsAll-more, one_list}
 
 -- ---- lists of runs that stand
 
@@ -145,6 +145,17 @@ start_reads (r ∷ rs) (c ∷ cs) = let rest = start_reads rs cs in let own = no
 pub start_none : (cursors cs : List Cursor) → cursors ≡ all_at_start cs → (rs : List Kept) → pages_read rs cursors ≡ 0
 start_none cursors cs same rs = ap (pages_read rs) same ∙ start_reads rs cs
 
+start_passed : (cs : List Cursor) → AllByRecursion HasPassed (all_at_start cs)
+start_passed [] = tt
+start_passed (c ∷ cs) = (omega arith, start_passed cs)
+
+-- from the first key on no page is skipped
+pub start_skips_none : (w : Walk) (cs : List Cursor) → w.cursors ≡ all_at_start cs → w.position ≡ First → SkipsNone w
+start_skips_none w cs same first = record {
+  position = subst SkipsNoPage (sym first) tt;
+  passed = subst (AllByRecursion HasPassed) (sym same) (start_passed cs);
+}
+
 all_wanted : (xs : List (Key × Place)) → wanted (is_wanted First) xs ≡ xs
 all_wanted [] = refl
 all_wanted (x ∷ xs) = ap (λ (ys : List (Key × Place)). x ∷ ys) (all_wanted xs)
@@ -165,10 +176,20 @@ pub record Walking (rs : List Kept) (arena : Frames) (active frozen : List Entry
   pub same_shape : w.shape ≡ first.shape
   pub ready : IsReady now shape
   pub reads : Reads (pages_read rs first.cursors) (pages_read rs w.cursors) old now
+  pub all : SkipsNone first → SkipsNone w × ReadsAll (pages_read rs first.cursors) (pages_read rs w.cursors) old now
 
 module _ (rs : List Kept) (arena : Frames) (active frozen : List Entry) (shape : Shape) (old : BoardState) (first : Walk) where
   pub Walking-start : (rest : List (Key × Place)) → IsReady old shape → IsLeft first old.pages arena rs active frozen rest → Walking rs arena active frozen shape old old first first
-  Walking-start rest ready left = record { ess = left.ess; stand = left.stand; follow = left.follow; left = refl; same_shape = refl; ready = ready; reads = Reads-none (pages_read rs first.cursors) old }
+  Walking-start rest ready left = record {
+    ess = left.ess;
+    stand = left.stand;
+    follow = left.follow;
+    left = refl;
+    same_shape = refl;
+    ready = ready;
+    reads = Reads-none (pages_read rs first.cursors) old;
+    all = λ none. (none, ReadsAll-none (pages_read rs first.cursors) old);
+  }
 
   module _ (now : BoardState) (w : Walk) (at : Walking rs arena active frozen shape old now first w) where
     abbrev same_pages : now.pages ≡ old.pages
@@ -183,12 +204,20 @@ module _ (rs : List Kept) (arena : Frames) (active frozen : List Entry) (shape :
     abbrev lists : List (List Entry)
     lists = active ∷ frozen ∷ at.ess
 
+    -- where the step skips no page, neither do all of them
+    pub Walking-all : (next : BoardState) (v : Walk) → (SkipsNone w → SkipsNone v) → (SkipsNone w → ReadsAll (pages_read rs w.cursors) (pages_read rs v.cursors) now next)
+        → SkipsNone first → SkipsNone v × ReadsAll (pages_read rs first.cursors) (pages_read rs v.cursors) old next
+    Walking-all next v skips every none =
+        let far = at.all none in
+        (skips far.0, ReadsAll-more _ _ _ old now next far.1 (every far.0))
+
     -- one more entry, of a deleted key
     pub Walking-gone : (next : BoardState) (v : Walk) (e : RustEntry) → is_some (seen e).1 ≡ false → v.shape ≡ w.shape → IsReady next shape
         → ((ess : List (List Entry)) → StandEach now.pages arena rs ess → Passes (Some e) (all_left w.position (active ∷ frozen ∷ ess)) (all_left v.position (active ∷ frozen ∷ ess)))
         → ((ess : List (List Entry)) → StandEach now.pages arena rs ess → FollowEach now.pages rs ess v.position v.cursors)
-        → Reads (pages_read rs w.cursors) (pages_read rs v.cursors) now next → Walking rs arena active frozen shape old next first v
-    Walking-gone next v e gone same ready passes follow reads = record {
+        → Reads (pages_read rs w.cursors) (pages_read rs v.cursors) now next → (SkipsNone w → SkipsNone v) → (SkipsNone w → ReadsAll (pages_read rs w.cursors) (pages_read rs v.cursors) now next)
+        → Walking rs arena active frozen shape old next first v
+    Walking-gone next v e gone same ready passes follow reads skips every = record {
       ess = at.ess;
       stand = at.stand;
       follow = subst (λ (flash : Flash). FollowEach flash rs at.ess v.position v.cursors) same_pages (follow at.ess stand_now);
@@ -196,6 +225,7 @@ module _ (rs : List Kept) (arena : Frames) (active frozen : List Entry) (shape :
       same_shape = same ∙ at.same_shape;
       ready = ready;
       reads = Reads-more _ _ _ old now next at.reads reads;
+      all = Walking-all next v skips every;
     }
       where
         no_place : (x : Entry) → is_some x.1 ≡ false → (xs : List Entry) → placed (x ∷ xs) ≡ placed xs

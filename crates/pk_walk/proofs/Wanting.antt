@@ -85,9 +85,6 @@ below_up_to a b c Greater q low le = absurd (le q)
 pub from_wants : (key : Key) → WantsFrom (is_wanted (From key)) key
 from_wants key k low = rw low refl
 
-pub above_wants : (key : Key) → WantsFrom (is_wanted (Above key)) key
-above_wants key k low = rw low refl
-
 -- nothing wanted stands before an entry that is not above the key
 pub begun_at : (w : Key → Bool) (key : Key) (es : List Entry) (n : ℕ) (e : Entry) → WantsFrom w key → T (is_sorted key_cmp es) → slice_get es n ≡ Some e → IsUpTo e.0 key → wanted w es ≡ wanted w (drop n es)
 begun_at w key es zero e from up got le = refl

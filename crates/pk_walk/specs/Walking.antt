@@ -1,11 +1,11 @@
 -- A walk over two write buffers and four runs: what it keeps, and what is left of it.
-use Rattle.std.specs.Prelude.{◌≡◌, ⊤, ℕ, suc, ◌+◌, ◌/◌, ◌≤◌, List, [], ◌∷◌, length, drop, Option, Some, None}
+use Rattle.std.specs.Prelude.{◌≡◌, ⊤, ℕ, suc, ◌+◌, ◌*◌, ◌/◌, ◌≤◌, List, [], ◌∷◌, length, drop, Option, Some, None}
 use Rattle.pk_base.specs.Key.{Key}
 use Rattle.pk_base.specs.Shape.{Shape, page_entries}
 use Rattle.pk_base.specs.Entry.{Entry, Place, put_entry}
 use Rattle.pk_base.specs.Firsts.{firsts}
 use Rattle.pk_base.specs.Seen.{entry}
-use Rattle.std.specs.List.{flat_map}
+use Rattle.std.specs.List.{AllByRecursion, flat_map}
 use Rattle.pk_base.specs.declared.entry.Entry.{Entry as RustEntry}
 use Rattle.pk_base.specs.Page.{Flash, page_at, whole}
 use Rattle.pk_nand.specs.BoardState.{BoardState}
@@ -16,7 +16,7 @@ use Rattle.pk_run.specs.Kept.{Kept, page_of}
 use Rattle.pk_level.specs.Levels.{StandEach}
 use Rattle.pk_walk.specs.Visible.{visible, is_wanted, wanted}
 use Rattle.pk_walk.specs.declared.position.Position.{Position}
-use Rattle.pk_walk.specs.declared.position.Position.TheVariants.{First, From}
+use Rattle.pk_walk.specs.declared.position.Position.TheVariants.{First, From, Above}
 
 -- A place among the entries of a run; how many pages of the run the walk has come past, and the bytes of the last of them.
 pub record Cursor : Type 0 where
@@ -72,6 +72,23 @@ FollowEach flash (r ∷ rs) [] position cs = ⊤
 FollowEach flash (r ∷ rs) (es ∷ ess) position [] = ⊤
 FollowEach flash (r ∷ rs) (es ∷ ess) position (c ∷ cs) = Follows flash r es position c × FollowEach flash rs ess position cs
 
+-- ---- walks that skip no page
+
+-- the cursor has come past the page of each entry before it
+abbrev pub HasPassed : Cursor → Type 0
+HasPassed c = c.place ≤ c.loaded * page_entries c.shape
+
+-- A run is searched from its first page on, or from where its cursor stands: only from a key on may pages be skipped.
+abbrev pub SkipsNoPage : Position → Type 0
+SkipsNoPage First = ⊤
+SkipsNoPage (From key) = ⊥
+SkipsNoPage (Above key) = ⊤
+
+-- The walk began at the first key, and so has come past each page before its cursors.
+pub record SkipsNone (w : Walk) : Type 0 where
+  pub position : SkipsNoPage w.position
+  pub passed : AllByRecursion HasPassed w.cursors
+
 -- ---- what is left
 
 -- The keys that the walk has still to give, with their places: those wanted of the keys that are there in the entries of the
@@ -110,7 +127,11 @@ most_read (r ∷ rs) = read_of r.leases (length r.firsts) + most_read rs
 abbrev pub Reads : ℕ → ℕ → BoardState → BoardState → Type 0
 Reads before after old new = (k : ℕ) × (k + before ≤ after) × (new ≡ after_reads k old)
 
--- a read failed behind such
+-- Nothing was done but reads, just as many as a number of pages rose by from before to after.
+abbrev pub ReadsAll : ℕ → ℕ → BoardState → BoardState → Type 0
+ReadsAll before after old new = (k : ℕ) × (k + before ≡ after) × (new ≡ after_reads k old)
+
+-- so many at most were done, and then a read failed
 abbrev pub ReadsFail : ℕ → ℕ → BoardState → BoardState → Type 0
 ReadsFail before after old new = (k page : ℕ) × (k + before ≤ after) × ReadFailed (after_reads k old) new page
 

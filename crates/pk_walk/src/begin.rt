@@ -6,20 +6,24 @@ ghost use Rattle.pk_base.specs.Page.{Flash};
 ghost use Rattle.pk_pin.specs.Frames.{Frames};
 ghost use Rattle.pk_run.specs.Kept.{Stands};
 ghost use Rattle.pk_walk.specs.Visible.{is_wanted, wanted, WantsFrom};
+ghost use Rattle.pk_walk.specs.Walking.{SkipsNoPage};
 
 use crate::position::Position;
 use pk_base::Key;
 use pk_run::Run;
 use std::alloc::Allocator;
 
-/// The place in a run before which no key is wanted from this position on: the start of the page that may have its key.
+/// The place in a run before which no key is wanted from this position on: where a walk begins at a key, the start of the page
+/// that may have it, else the first place. Behind its first step a walk has come to a page of each run that has one, and its
+/// cursors stand where it goes on.
 pub fn begins_at<A: Allocator>(run: &Run<A>, position: &Position) -> u32
-    ensures { (flash : Flash) (arena : Frames) (es : List EntrySpec) → Stands run.now flash arena es → wanted (is_wanted position.now) es ≡ wanted (is_wanted position.now) (drop result es) }
+    ensures begins { (flash : Flash) (arena : Frames) (es : List EntrySpec) → Stands run.now flash arena es → wanted (is_wanted position.now) es ≡ wanted (is_wanted position.now) (drop result es) }
+    ensures first { SkipsNoPage position.now → result ≡ 0 }
 {
     match position {
         Position::First => 0,
         Position::From(key) => page_start(run, key),
-        Position::Above(key) => page_start(run, key),
+        Position::Above(_) => 0,
     }
 }
 

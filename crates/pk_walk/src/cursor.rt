@@ -1,5 +1,5 @@
 //! A place among the entries of a run, which goes forward.
-ghost use Rattle.std.specs.Prelude.{◌≡◌, ◌<◌, ◌≤◌, ◌/◌, suc, List, length, slice_get, Some, IfOk, IfErr, OnOk, OnErr};
+ghost use Rattle.std.specs.Prelude.{◌≡◌, ◌<◌, ◌≤◌, ◌*◌, ◌/◌, suc, List, length, slice_get, Some, IfOk, IfErr, OnOk, OnErr};
 ghost use Rattle.pk_base.specs.Shape.{page_entries};
 ghost use Rattle.pk_base.specs.Entry.{Entry as EntrySpec};
 ghost use Rattle.pk_base.specs.Page.{Flash, page_at, whole};
@@ -9,7 +9,7 @@ ghost use Rattle.pk_nand.specs.declared.types.Fault.TheVariants.{Reading};
 ghost use Rattle.pk_pin.specs.Frames.{Frames};
 ghost use Rattle.pk_run.specs.Kept.{Stands, page_of};
 ghost use Rattle.pk_walk.specs.declared.position.Position.{Position as PositionSpec};
-ghost use Rattle.pk_walk.specs.Walking.{Follows, Reads, at_start, read_of};
+ghost use Rattle.pk_walk.specs.Walking.{Follows, HasPassed, Reads, ReadsAll, SkipsNoPage, at_start, read_of};
 
 use crate::begin::begins_at;
 use crate::position::Position;
@@ -75,6 +75,7 @@ impl<A: Allocator> Cursor<A> {
     pub fn begin(&mut self, run: &Run<A>, position: &Position)
         ensures place { self.new ≡ record self.old { place = self.new.place } }
         ensures follows { (flash : Flash) (arena : Frames) (es : List EntrySpec) → Stands run.now flash arena es → Follows flash run.now es position.now self.old → Follows flash run.now es position.now self.new }
+        ensures passed { SkipsNoPage position.now → HasPassed self.old → HasPassed self.new }
     {
         run.known();
         if self.loaded == 0 {
@@ -107,6 +108,7 @@ impl<A: Allocator> Cursor<A> {
         ensures loaded { OnOk result (self.new ≡ record self.old { loaded = suc p; bytes = self.new.bytes }) }
         ensures page { OnOk result (page_at (B.state board.old).pages (page_of run.now p) ≡ whole self.new.bytes) }
         ensures reads { OnOk result (Reads (read_of run.now.leases self.old.loaded) (read_of run.now.leases (suc p)) (B.state board.old) (B.state board.new)) }
+        ensures all { OnOk result (p ≤ self.old.loaded → ReadsAll (read_of run.now.leases self.old.loaded) (read_of run.now.leases (suc p)) (B.state board.old) (B.state board.new)) }
         ensures kept { OnErr result ((self.new ≡ record self.old { bytes = self.new.bytes }) × (self.old.loaded ≤ p)) }
         ensures reading { IfErr result (λ fault. fault ≡ Reading) }
         ensures err { OnErr result (ReadFailed (B.state board.old) (B.state board.new) (page_of run.now p)) }
@@ -142,6 +144,8 @@ impl<A: Allocator> Cursor<A> {
         ensures place { self.new ≡ record self.old { loaded = self.new.loaded; bytes = self.new.bytes } }
         ensures follows { (es : List EntrySpec) (position : PositionSpec) → Follows (B.state board.old).pages run.now es position self.old → Follows (B.state board.old).pages run.now es position self.new }
         ensures reads { OnOk result (Reads (read_of run.now.leases self.old.loaded) (read_of run.now.leases self.new.loaded) (B.state board.old) (B.state board.new)) }
+        ensures here { OnOk result (self.new.place < self.new.loaded * page_entries self.new.shape) }
+        ensures all { OnOk result (HasPassed self.old → ReadsAll (read_of run.now.leases self.old.loaded) (read_of run.now.leases self.new.loaded) (B.state board.old) (B.state board.new)) }
         ensures kept { OnErr result (self.new.loaded ≡ self.old.loaded) }
         ensures reading { IfErr result (λ fault. fault ≡ Reading) }
         ensures err { OnErr result (ReadFailed (B.state board.old) (B.state board.new) (page_of run.now (self.old.place / page_entries run.now.shape))) }

@@ -1,12 +1,12 @@
 //! The first wanted entry of a run, from a cursor on.
-ghost use Rattle.std.specs.Prelude.{◌≡◌, List, option_map, IfOk, IfErr, OnOk, OnErr};
+ghost use Rattle.std.specs.Prelude.{◌≡◌, List, length, option_map, None, IfOk, IfErr, OnOk, OnErr};
 ghost use Rattle.pk_base.specs.Entry.{Entry as EntrySpec};
 ghost use Rattle.pk_base.specs.Seen.{entry as seen};
 ghost use Rattle.pk_nand.specs.Calls.{IsReady};
 ghost use Rattle.pk_nand.specs.declared.types.Fault.TheVariants.{Reading};
 ghost use Rattle.pk_run.specs.Kept.{Stands};
 ghost use Rattle.pk_walk.specs.Visible.{is_wanted, wanted, first_of};
-ghost use Rattle.pk_walk.specs.Walking.{Follows, Reads, ReadsFail, read_of};
+ghost use Rattle.pk_walk.specs.Walking.{Follows, HasPassed, Reads, ReadsAll, ReadsFail, SkipsNoPage, read_of};
 
 use crate::cursor::Cursor;
 use crate::position::Position;
@@ -17,7 +17,7 @@ use pk_run::Run;
 use std::alloc::Allocator;
 
 /// The first entry of the run whose key is wanted; None where there is none. Each page is read once at most, as the cursor comes
-/// past it. `Reading` where a read fails; else nothing fails.
+/// past it, and once exactly where none is skipped. `Reading` where a read fails; else nothing fails.
 pub fn seek<A: Allocator, B: Nand>(
     cursor: &mut Cursor<A>,
     board: &mut B,
@@ -32,6 +32,9 @@ pub fn seek<A: Allocator, B: Nand>(
     ensures follows { (es : List EntrySpec) → Stands run.now (B.state board.old).pages arena.now es → Follows (B.state board.old).pages run.now es position.now cursor.new }
     ensures shape { cursor.new.shape ≡ cursor.old.shape }
     ensures reads { OnOk result (Reads (read_of run.now.leases cursor.old.loaded) (read_of run.now.leases cursor.new.loaded) (B.state board.old) (B.state board.new)) }
+    ensures passed { SkipsNoPage position.now → HasPassed cursor.old → HasPassed cursor.new }
+    ensures all { OnOk result (SkipsNoPage position.now → HasPassed cursor.old → ReadsAll (read_of run.now.leases cursor.old.loaded) (read_of run.now.leases cursor.new.loaded) (B.state board.old) (B.state board.new)) }
+    ensures ended { IfOk result (λ found. found ≡ None → SkipsNoPage position.now → HasPassed cursor.old → cursor.new.loaded ≡ length run.now.firsts) }
     ensures reading { IfErr result (λ fault. fault ≡ Reading) }
     ensures err { OnErr result (ReadsFail (read_of run.now.leases cursor.old.loaded) (read_of run.now.leases cursor.new.loaded) (B.state board.old) (B.state board.new)) }
     ensures same { (B.state board.new).pages ≡ (B.state board.old).pages }

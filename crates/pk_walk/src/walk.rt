@@ -1,5 +1,6 @@
 //! The walk itself.
-ghost use Rattle.std.specs.Prelude.{◌≡◌, ◌≤◌, ◌∷◌, List, length, option_map, is_some, IfOk, IfErr, OnOk, OnErr};
+ghost use Rattle.std.specs.Prelude.{◌≡◌, ◌≤◌, ◌∷◌, List, length, option_map, is_some, None, IfOk, IfErr, OnOk, OnErr};
+ghost use Rattle.std.specs.List.{AllByRecursion};
 ghost use Rattle.std.specs.Option.{option_copied};
 ghost use Rattle.pk_base.specs.Entry.{Entry as EntrySpec, Place};
 ghost use Rattle.pk_base.specs.Key.{Key as KeySpec};
@@ -12,7 +13,7 @@ ghost use Rattle.pk_run.specs.Kept.{Kept};
 ghost use Rattle.pk_level.specs.Levels.{StandEach};
 ghost use Rattle.pk_walk.specs.declared.position.Position.TheVariants.{First};
 ghost use Rattle.pk_walk.specs.Visible.{is_wanted, first_of, visible, wanted};
-ghost use Rattle.pk_walk.specs.Walking.{FollowEach, Gives, IsLeft, IsWalk, Passes, Reads, ReadsFail, AreOfShape, all_left, begun, first_position, most_read, pages_read};
+ghost use Rattle.pk_walk.specs.Walking.{FollowEach, Gives, HasPassed, IsLeft, IsWalk, Passes, Reads, ReadsAll, ReadsFail, SkipsNoPage, SkipsNone, AreOfShape, all_left, begun, first_position, most_read, pages_read};
 
 use crate::buffers::{first_in, least};
 use crate::cursors::Cursors;
@@ -53,6 +54,7 @@ impl<A: Region> Walk<A> {
         ensures begun { IfOk result (λ w. w ≡ begun w First) }
         ensures left { IfOk result (λ w. (flash : Flash) (arena : Frames) (runs : List Kept) (active frozen : List EntrySpec) (ess : List (List EntrySpec)) → StandEach flash arena runs ess → IsLeft w flash arena runs active frozen (visible (active ∷ frozen ∷ ess))) }
         ensures none_read { IfOk result (λ w. (runs : List Kept) → pages_read runs w.cursors ≡ 0) }
+        ensures skips_none { IfOk result (λ w. SkipsNone w) }
     {
         let cursors = Cursors::new(alloc, shape)?;
         cursors.known();
@@ -75,6 +77,7 @@ impl<A: Region> Walk<A> {
         ensures begun { self.new ≡ begun self.old (first_position (option_copied from.entry)) }
         ensures left { (flash : Flash) (arena : Frames) (runs : List Kept) (active frozen : List EntrySpec) (ess : List (List EntrySpec)) → StandEach flash arena runs ess → IsLeft self.new flash arena runs active frozen (wanted (is_wanted self.new.position) (visible (active ∷ frozen ∷ ess))) }
         ensures none_read { (runs : List Kept) → pages_read runs self.new.cursors ≡ 0 }
+        ensures skips_none { option_copied from.entry ≡ None → SkipsNone self.new }
     {
         self.cursors.restart();
         match from {
@@ -104,6 +107,9 @@ impl<A: Region> Walk<A> {
         ensures shape { self.new.shape ≡ self.old.shape }
         ensures kept { OnErr result (self.new.position ≡ self.old.position) }
         ensures reads { OnOk result (Reads (pages_read levels.now.runs self.old.cursors) (pages_read levels.now.runs self.new.cursors) (B.state board.old) (B.state board.new)) }
+        ensures skips_none { SkipsNone self.old → SkipsNone self.new }
+        ensures exact { OnOk result (SkipsNone self.old → ReadsAll (pages_read levels.now.runs self.old.cursors) (pages_read levels.now.runs self.new.cursors) (B.state board.old) (B.state board.new)) }
+        ensures ended { IfOk result (λ found. found ≡ None → SkipsNone self.old → pages_read levels.now.runs self.new.cursors ≡ most_read levels.now.runs) }
         ensures reading { IfErr result (λ fault. fault ≡ Reading) }
         ensures err { OnErr result (ReadsFail (pages_read levels.now.runs self.old.cursors) (pages_read levels.now.runs self.new.cursors) (B.state board.old) (B.state board.new)) }
         ensures same { (B.state board.new).pages ≡ (B.state board.old).pages }
@@ -131,7 +137,7 @@ impl<A: Region> Walk<A> {
     /// fails, and the same call may be made again then; else nothing fails.
     ///
     /// The parts are as at the first call since the start. A page of a run without frames is read when the walk comes to it, and
-    /// not again.
+    /// not again; a walk that began at the first key has read each of them once behind its last key.
     pub fn next<B: Nand>(
         &mut self,
         board: &mut B,
@@ -148,8 +154,12 @@ impl<A: Region> Walk<A> {
         ensures shape { self.new.shape ≡ self.old.shape }
         ensures reads { OnOk result (Reads (pages_read levels.now.runs self.old.cursors) (pages_read levels.now.runs self.new.cursors) (B.state board.old) (B.state board.new)) }
         ensures few { pages_read levels.now.runs self.new.cursors ≤ most_read levels.now.runs }
+        ensures skips_none { SkipsNone self.old → SkipsNone self.new }
+        ensures exact { OnOk result (SkipsNone self.old → ReadsAll (pages_read levels.now.runs self.old.cursors) (pages_read levels.now.runs self.new.cursors) (B.state board.old) (B.state board.new)) }
+        ensures ended { IfOk result (λ found. found ≡ None → SkipsNone self.old → pages_read levels.now.runs self.new.cursors ≡ most_read levels.now.runs) }
         ensures reading { IfErr result (λ fault. fault ≡ Reading) }
         ensures err { OnErr result (ReadsFail (pages_read levels.now.runs self.old.cursors) (pages_read levels.now.runs self.new.cursors) (B.state board.old) (B.state board.new)) }
+        ensures rest { B.state board.new ≡ record (B.state board.old) { reads = (B.state board.new).reads; flash_faults = (B.state board.new).flash_faults; read_faults = (B.state board.new).read_faults; failed_at = (B.state board.new).failed_at } }
         ensures same { (B.state board.new).pages ≡ (B.state board.old).pages }
         ensures ready { IsReady (B.state board.new) levels.now.shape }
     {
@@ -194,6 +204,9 @@ fn least_of_all<A: Region, B: Nand>(
     ensures follow { (ess : List (List EntrySpec)) → StandEach (B.state board.old).pages arena.now levels.now.runs ess → FollowEach (B.state board.old).pages levels.now.runs ess position.now cursors.new }
     ensures shape { AreOfShape levels.now.shape cursors.new }
     ensures reads { OnOk result (Reads (pages_read levels.now.runs cursors.old) (pages_read levels.now.runs cursors.new) (B.state board.old) (B.state board.new)) }
+    ensures passed { SkipsNoPage position.now → AllByRecursion HasPassed cursors.old → AllByRecursion HasPassed cursors.new }
+    ensures all { OnOk result (SkipsNoPage position.now → AllByRecursion HasPassed cursors.old → ReadsAll (pages_read levels.now.runs cursors.old) (pages_read levels.now.runs cursors.new) (B.state board.old) (B.state board.new)) }
+    ensures ended { IfOk result (λ found. found ≡ None → SkipsNoPage position.now → AllByRecursion HasPassed cursors.old → pages_read levels.now.runs cursors.new ≡ most_read levels.now.runs) }
     ensures reading { IfErr result (λ fault. fault ≡ Reading) }
     ensures err { OnErr result (ReadsFail (pages_read levels.now.runs cursors.old) (pages_read levels.now.runs cursors.new) (B.state board.old) (B.state board.new)) }
     ensures same { (B.state board.new).pages ≡ (B.state board.old).pages }

@@ -1,12 +1,15 @@
 use Rattle.std.proofs.Common.{◌≡◌, ◌∙◌, ℕ, ◌*◌, ◌≤◌, length, sym, ap, subst, arith}
+use Rattle.std.specs.Prelude.{nat_le}
 use Rattle.pk_base.specs.Shape.{Shape, IsShape, cap, page_entries, run_pages, run_blocks}
 use Rattle.pk_run.specs.Kept.{Kept, empty}
 use Rattle.pk_pin.specs.Frames.{free_frames}
 use Rattle.pk_scan.specs.Runs.{AllExist, HasRun, NotRead}
+use Rattle.pk_nand.specs.Erased.{after_reads}
+use Rattle.pk_scan.proofs.Boards.{rest_reads, rest_not_read}
 use Rattle.pk_scan.proofs.Loading.{size_some}
 use Rattle.pk_scan.proofs.Rereading.{pages_most}
 use Rattle.pk_scan.proofs.RootFacts.{level_few, level_blocks, level_exist}
-use Rattle.pk_scan.proofs.RunsHeld.{level_loaded, level_not_loaded, le_true, gt_false, le_of}
+use Rattle.pk_scan.proofs.RunsHeld.{level_loaded, level_not_loaded, le_of}
 use Rattle.pk_scan.proofs.levels.load_level.Goals as goal
 
 pub load_run-requires-clause-few : goal.load_run-requires-clause-few
@@ -45,10 +48,23 @@ returns-in-Ok-load_run-clause-loaded g c =
     let few = subst (λ (n : ℕ). length c.load_run.new.into.firsts ≤ cap c.args.root.now.shape n) lv (subst (λ (s : Shape). length c.load_run.new.into.firsts ≤ cap s c.load_run.new.into.level) sh c.known-in-Ok-load_run.ensures.kept.pages) in
     let has = subst (λ (r : Kept). HasRun r.shape r.level c.entries-count.result c.blocks-blocks.result.now (g.B.Nand.state c.args.board.now).pages c.load_run.new.arena c.load_run.new.into) is c.in-Ok-load_run.ensures.has_run in
     level_loaded c.args.root.now.shape c.args.root.now.root c.args.level c.entries-count.result c.blocks-blocks.result.now c.entries-count.ensures c.blocks-blocks.ensures (g.B.Nand.state c.args.board.now).pages c.args.arena.now c.load_run.new.arena c.args.levels.now c.install_run.new.self c.load_run.new.into _
-    has c.load_run.ensures.runs c.load_run.ensures.frames c.load_run.ensures.pinned (λ h. le_true c.args.level c.pinned.result (omega (arith, h, c.pinned.ensures))) (λ h. gt_false c.args.level c.pinned.result (omega (arith, h, c.pinned.ensures))) few c.install_run.ensures.installed
+    has c.load_run.ensures.runs c.load_run.ensures.frames c.load_run.ensures.pinned sh c.load_run.ensures.blocks c.in-Ok-load_run.ensures.count (ap (nat_le c.args.level) (sym c.pinned.ensures)) few c.install_run.ensures.installed
 
 pub returns-in-Err-load_run-clause-err : goal.returns-in-Err-load_run-clause-err
 returns-in-Err-load_run-clause-err g c =
     let is : c.in-Ok.run' ≡ empty c.args.root.now.shape c.args.level = rw c.shape.ensures at c.in-Ok.ensures.empty in
     let why = subst (λ (r : Kept). NotRead r.shape r.level c.entries-count.result c.blocks-blocks.result.now (g.B.Nand.state c.args.board.now) (g.B.Nand.state c.load_run.new.board) c.in-Err-load_run.error) is c.in-Err-load_run.ensures.err in
     rw c.opening_error.ensures (level_not_loaded c.args.root.now.shape c.args.root.now.root c.args.level c.entries-count.result c.blocks-blocks.result.now c.entries-count.ensures c.blocks-blocks.ensures (g.B.Nand.state c.args.board.now) (g.B.Nand.state c.load_run.new.board) c.in-Err-load_run.error why)
+
+pub returns-in-Ok-load_run-clause-reads : goal.returns-in-Ok-load_run-clause-reads
+returns-in-Ok-load_run-clause-reads g c =
+    let is : c.in-Ok.run' ≡ empty c.args.root.now.shape c.args.level = rw c.shape.ensures at c.in-Ok.ensures.empty in
+    c.in-Ok-load_run.ensures.ok
+    ∙ ap (λ (r : Kept). after_reads (run_pages r.shape c.entries-count.result) (g.B.Nand.state c.args.board.now)) is
+    ∙ ap (λ (n : ℕ). after_reads (run_pages c.args.root.now.shape n) (g.B.Nand.state c.args.board.now)) c.entries-count.ensures
+
+pub returns-in-Ok-load_run-clause-rest : goal.returns-in-Ok-load_run-clause-rest
+returns-in-Ok-load_run-clause-rest g c = rest_reads (g.B.Nand.state c.args.board.now) (g.B.Nand.state c.load_run.new.board) (_, c.in-Ok-load_run.ensures.ok)
+
+pub returns-in-Err-load_run-clause-rest : goal.returns-in-Err-load_run-clause-rest
+returns-in-Err-load_run-clause-rest g c = rest_not_read _ _ _ _ (g.B.Nand.state c.args.board.now) (g.B.Nand.state c.load_run.new.board) c.in-Err-load_run.error c.in-Err-load_run.ensures.err

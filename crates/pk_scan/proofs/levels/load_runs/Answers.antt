@@ -1,13 +1,17 @@
-use Rattle.std.proofs.Common.{◌≡◌, ◌∙◌, ℕ, suc, ◌+◌, refl, subst, arith}
+use Rattle.std.proofs.Common.{◌≡◌, ◌∙◌, ℕ, suc, ◌+◌, take, refl, subst, arith}
+use Rattle.pk_nand.specs.Erased.{after_reads}
+use Rattle.pk_scan.specs.Reads.{pages_of_runs}
+use Rattle.pk_scan.proofs.Boards.{rest_reads, rest_both}
+use Rattle.pk_scan.proofs.Exact.{runs_exact_next, runs_exact_end}
 use Rattle.pk_scan.proofs.RootFacts.{counts_four, runs_four}
-use Rattle.pk_scan.proofs.RunsHeld.{reads_none, reads_both, RunsTo, RunsTo-start, frame_free, RunsTo-next, RunsTo-refused, RunsTo-end}
+use Rattle.pk_scan.proofs.RunsHeld.{RunsTo, RunsTo-start, frame_free, RunsTo-next, RunsTo-refused, RunsTo-end}
 use Rattle.pk_scan.proofs.levels.load_runs.Goals as goal
 
 pub loop-place-init : goal.loop-place-init
 loop-place-init g c = record {
   runs = RunsTo-start c.args.root.now.shape c.args.root.now.root (counts_four c.args.root.now.shape c.args.root.now.root c.requires.grammar) (runs_four c.args.root.now.shape c.args.root.now.root c.requires.grammar)
       (g.B.Nand.state c.args.board.now).pages c.args.levels.now.pinned c.args.arena.now c.args.levels.now c.requires.shape refl c.known.ensures.levels.four c.requires.frames c.requires.free;
-  reads = reads_none (g.B.Nand.state c.args.board.now);
+  reads = refl;
   pages = refl;
   ready = c.requires.ready;
   buffer = c.requires.room;
@@ -29,7 +33,9 @@ loop-place-preserved g c =
           (RunsTo-next c.args.root.now.shape c.args.root.now.root (counts_four c.args.root.now.shape c.args.root.now.root c.requires.grammar) (runs_four c.args.root.now.shape c.args.root.now.root c.requires.grammar)
           (g.B.Nand.state c.args.board.now).pages c.args.levels.now.pinned c.loop-place.arena c.loop-place.levels k c.loop-place.invariant.runs c.loop-place-test.true (k + 1) (omega arith) (omega arith)
           c.load_level.new.arena c.load_level.new.levels (rw pages at c.in-Ok.ensures.loaded));
-      reads = reads_both (g.B.Nand.state c.args.board.now) (g.B.Nand.state c.loop-place.board) (g.B.Nand.state c.load_level.new.board) c.loop-place.invariant.reads c.in-Ok.ensures.reads;
+      reads = subst (λ (n : ℕ). g.B.Nand.state c.load_level.new.board ≡ after_reads (pages_of_runs c.args.root.now.shape (take n c.args.root.now.root.counts)) (g.B.Nand.state c.args.board.now)) level
+          (runs_exact_next c.args.root.now.shape c.args.root.now.root.counts k (k + 1) (g.B.Nand.state c.args.board.now) (g.B.Nand.state c.loop-place.board) (g.B.Nand.state c.load_level.new.board)
+          (let four = counts_four c.args.root.now.shape c.args.root.now.root c.requires.grammar in omega (arith, four, c.loop-place-test.true)) (omega arith) c.loop-place.invariant.reads c.in-Ok.ensures.reads);
       pages = c.in-Ok.ensures.pages ∙ pages;
       ready = c.in-Ok.ensures.ready;
       buffer = c.in-Ok.ensures.buffer ∙ c.loop-place.invariant.buffer;
@@ -41,7 +47,7 @@ returns-in-Err-clause-err g c =
     let pages = c.loop-place.invariant.pages in
     RunsTo-refused c.args.root.now.shape c.args.root.now.root (counts_four c.args.root.now.shape c.args.root.now.root c.requires.grammar) (runs_four c.args.root.now.shape c.args.root.now.root c.requires.grammar)
     (g.B.Nand.state c.args.board.now).pages c.args.levels.now.pinned c.loop-place.arena c.loop-place.levels k c.loop-place.invariant.runs c.loop-place-test.true (k + 1) (omega arith) (omega arith)
-    (g.B.Nand.state c.args.board.now) (g.B.Nand.state c.loop-place.board) (g.B.Nand.state c.load_level.new.board) c.in-Err.error c.loop-place.invariant.reads (rw pages at c.in-Err.ensures.err)
+    (g.B.Nand.state c.args.board.now) (g.B.Nand.state c.loop-place.board) (g.B.Nand.state c.load_level.new.board) c.in-Err.error (_, c.loop-place.invariant.reads) (rw pages at c.in-Err.ensures.err)
 
 pub returns-clause-held : goal.returns-clause-held
 returns-clause-held g c =
@@ -49,3 +55,18 @@ returns-clause-held g c =
     RunsTo-end c.args.root.now.shape c.args.root.now.root (counts_four c.args.root.now.shape c.args.root.now.root c.requires.grammar) (runs_four c.args.root.now.shape c.args.root.now.root c.requires.grammar)
     (g.B.Nand.state c.args.board.now).pages c.args.levels.now.pinned c.loop-place.arena c.loop-place.levels
     (subst (λ (n : ℕ). RunsTo c.args.root.now.shape c.args.root.now.root (g.B.Nand.state c.args.board.now).pages c.args.levels.now.pinned c.loop-place.arena c.loop-place.levels n) last c.loop-place.invariant.runs)
+
+pub returns-in-Err-clause-rest : goal.returns-in-Err-clause-rest
+returns-in-Err-clause-rest g c =
+    let old = g.B.Nand.state c.args.board.now in
+    let now = g.B.Nand.state c.loop-place.board in
+    rest_both old now (g.B.Nand.state c.load_level.new.board) (rest_reads old now (_, c.loop-place.invariant.reads)) c.in-Err.ensures.rest
+
+pub returns-clause-rest : goal.returns-clause-rest
+returns-clause-rest g c = rest_reads (g.B.Nand.state c.args.board.now) (g.B.Nand.state c.loop-place.board) (_, c.loop-place.invariant.reads)
+
+pub returns-clause-reads : goal.returns-clause-reads
+returns-clause-reads g c =
+    let last = c.loop-place-test.false in
+    let four = counts_four c.args.root.now.shape c.args.root.now.root c.requires.grammar in
+    runs_exact_end c.args.root.now.shape c.args.root.now.root.counts c.loop-place.place (g.B.Nand.state c.args.board.now) (g.B.Nand.state c.loop-place.board) (omega (arith, four, last)) c.loop-place.invariant.reads

@@ -1,7 +1,8 @@
 use Rattle.std.proofs.Common.{◌≡◌, arith}
 use Rattle.pk_base.specs.Shape.{charge}
 use Rattle.pk_scan.specs.Places.{place}
-use Rattle.pk_scan.proofs.Checking.{Checking-refused, Checking-end}
+use Rattle.pk_scan.proofs.Checking.{Checking-refused, Checking-end, refused_rest}
+use Rattle.pk_scan.proofs.Boards.{rest_reads}
 use Rattle.pk_scan.proofs.values.check_value.Goals as goal
 
 pub returns-in-Err-clause-err : goal.returns-in-Err-clause-err
@@ -14,3 +15,12 @@ returns-clause-value g c =
     let all : c.loop-i.i ≡ charge c.args.shape.now c.args.len = omega (arith, c.loop-i-test.false, c.loop-i.auto.i-end, c.charge-i-end.ensures.value) in
     let checking = rw all at c.loop-i.invariant.checking in
     Checking-end _ _ c.args.shape.now c.args.key.now (place c.args.page c.args.len) checking
+
+pub returns-in-Err-clause-rest : goal.returns-in-Err-clause-rest
+returns-in-Err-clause-rest g c =
+    let less = rw c.charge-i-end.ensures.value at c.loop-i-test.true in
+    refused_rest (g.B.Nand.state c.args.board.now) (g.B.Nand.state c.check_page.new.board) c.args.shape.now c.args.key.now (place c.args.page c.args.len) c.in-Err.error
+    (Checking-refused _ _ _ c.args.shape.now c.args.key.now (place c.args.page c.args.len) c.loop-i.i c.in-Err.error less c.loop-i.invariant.checking c.in-Err.ensures.err)
+
+pub returns-clause-rest : goal.returns-clause-rest
+returns-clause-rest g c = rest_reads (g.B.Nand.state c.args.board.now) (g.B.Nand.state c.loop-i.board) (c.loop-i.i, c.loop-i.invariant.checking.board)

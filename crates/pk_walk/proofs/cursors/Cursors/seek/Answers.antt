@@ -2,16 +2,24 @@ use Rattle.std.proofs.Common.{refl, ap, sym, ◌∙◌, arith, [], ◌∷◌, So
 use Rattle.pk_base.specs.Seen.{entry as seen}
 use Rattle.pk_run.specs.Kept.{Kept}
 use Rattle.pk_walk.specs.Visible.{lesser}
-use Rattle.pk_walk.proofs.Rows.{Rows, Rows-start, Rows-next, Rows-failed, row_follows, row_found, follow_any, follow_failed, level_is, least_of_four}
+use Rattle.pk_walk.proofs.Rows.{Rows, Rows-start, Rows-next, Rows-failed, row_follows, row_found, follow_any, follow_failed, level_is, least_of_four, none_of, all_ended}
 use Rattle.pk_walk.proofs.cursors.Cursors.seek.Goals as goal
+
+pub seek-requires-2-clause-follows : goal.seek-requires-2-clause-follows
+seek-requires-2-clause-follows g c =
+    let follow = rw (← c.self.view_is) at c.requires.follow in
+    let shape = rw (← c.self.view_is) at c.requires.shape in
+    let s0 : Rows c.args.levels.now c.args.arena.now c.args.position.now (g.B.Nand.state c.args.board.now) (g.B.Nand.state c.args.board.now) (c.self.inside.first ∷ c.self.inside.second ∷ c.self.inside.third ∷ c.self.inside.fourth ∷ []) (c.self.inside.first ∷ c.self.inside.second ∷ c.self.inside.third ∷ c.self.inside.fourth ∷ []) = Rows-start c.args.levels.now c.args.arena.now c.args.position.now (g.B.Nand.state c.args.board.now) (c.self.inside.first ∷ c.self.inside.second ∷ c.self.inside.third ∷ c.self.inside.fourth ∷ []) follow.0 c.requires.ready shape follow.1 follow.2 in
+    let s1 : Rows c.args.levels.now c.args.arena.now c.args.position.now (g.B.Nand.state c.args.board.now) (g.B.Nand.state c.seek.new.board) (c.self.inside.first ∷ c.self.inside.second ∷ c.self.inside.third ∷ c.self.inside.fourth ∷ []) (c.seek.new.cursor ∷ c.self.inside.second ∷ c.self.inside.third ∷ c.self.inside.fourth ∷ []) = Rows-next c.args.levels.now c.args.arena.now c.args.position.now (g.B.Nand.state c.args.board.now) (g.B.Nand.state c.args.board.now) (c.self.inside.first ∷ c.self.inside.second ∷ c.self.inside.third ∷ c.self.inside.fourth ∷ []) (c.self.inside.first ∷ c.self.inside.second ∷ c.self.inside.third ∷ c.self.inside.fourth ∷ []) s0 0 c.run.result.now c.self.inside.first (level_is c.args.levels.now 0 c.known.ensures.levels (omega arith) ∙ ap (λ (r : Kept). Some r) (sym c.run.ensures.run)) refl (g.B.Nand.state c.seek.new.board) c.seek.new.cursor c.in-Ok.ensures.follows c.in-Ok.ensures.shape c.known.ensures.levels c.in-Ok.ensures.ready c.in-Ok.ensures.reads c.in-Ok.ensures.passed c.in-Ok.ensures.all in
+    row_follows c.args.levels.now c.args.arena.now c.args.position.now (g.B.Nand.state c.args.board.now) (g.B.Nand.state c.seek.new.board) (c.self.inside.first ∷ c.self.inside.second ∷ c.self.inside.third ∷ c.self.inside.fourth ∷ []) (c.seek.new.cursor ∷ c.self.inside.second ∷ c.self.inside.third ∷ c.self.inside.fourth ∷ []) s1 1 c.run-2.result.now c.self.inside.second (level_is c.args.levels.now 1 c.known.ensures.levels (omega arith) ∙ ap (λ (r : Kept). Some r) (sym c.run-2.ensures.run)) refl
 
 pub seek-requires-3-clause-follows : goal.seek-requires-3-clause-follows
 seek-requires-3-clause-follows g c =
     let follow = rw (← c.self.view_is) at c.requires.follow in
     let shape = rw (← c.self.view_is) at c.requires.shape in
     let s0 : Rows c.args.levels.now c.args.arena.now c.args.position.now (g.B.Nand.state c.args.board.now) (g.B.Nand.state c.args.board.now) (c.self.inside.first ∷ c.self.inside.second ∷ c.self.inside.third ∷ c.self.inside.fourth ∷ []) (c.self.inside.first ∷ c.self.inside.second ∷ c.self.inside.third ∷ c.self.inside.fourth ∷ []) = Rows-start c.args.levels.now c.args.arena.now c.args.position.now (g.B.Nand.state c.args.board.now) (c.self.inside.first ∷ c.self.inside.second ∷ c.self.inside.third ∷ c.self.inside.fourth ∷ []) follow.0 c.requires.ready shape follow.1 follow.2 in
-    let s1 : Rows c.args.levels.now c.args.arena.now c.args.position.now (g.B.Nand.state c.args.board.now) (g.B.Nand.state c.seek.new.board) (c.self.inside.first ∷ c.self.inside.second ∷ c.self.inside.third ∷ c.self.inside.fourth ∷ []) (c.seek.new.cursor ∷ c.self.inside.second ∷ c.self.inside.third ∷ c.self.inside.fourth ∷ []) = Rows-next c.args.levels.now c.args.arena.now c.args.position.now (g.B.Nand.state c.args.board.now) (g.B.Nand.state c.args.board.now) (c.self.inside.first ∷ c.self.inside.second ∷ c.self.inside.third ∷ c.self.inside.fourth ∷ []) (c.self.inside.first ∷ c.self.inside.second ∷ c.self.inside.third ∷ c.self.inside.fourth ∷ []) s0 0 c.run.result.now c.self.inside.first (level_is c.args.levels.now 0 c.known.ensures.levels (omega arith) ∙ ap (λ (r : Kept). Some r) (sym c.run.ensures.run)) refl (g.B.Nand.state c.seek.new.board) c.seek.new.cursor c.in-Ok.ensures.follows c.in-Ok.ensures.shape c.known.ensures.levels c.in-Ok.ensures.ready c.in-Ok.ensures.reads in
-    let s2 : Rows c.args.levels.now c.args.arena.now c.args.position.now (g.B.Nand.state c.args.board.now) (g.B.Nand.state c.seek-2.new.board) (c.self.inside.first ∷ c.self.inside.second ∷ c.self.inside.third ∷ c.self.inside.fourth ∷ []) (c.seek.new.cursor ∷ c.seek-2.new.cursor ∷ c.self.inside.third ∷ c.self.inside.fourth ∷ []) = Rows-next c.args.levels.now c.args.arena.now c.args.position.now (g.B.Nand.state c.args.board.now) (g.B.Nand.state c.seek.new.board) (c.self.inside.first ∷ c.self.inside.second ∷ c.self.inside.third ∷ c.self.inside.fourth ∷ []) (c.seek.new.cursor ∷ c.self.inside.second ∷ c.self.inside.third ∷ c.self.inside.fourth ∷ []) s1 1 c.run-2.result.now c.self.inside.second (level_is c.args.levels.now 1 c.known.ensures.levels (omega arith) ∙ ap (λ (r : Kept). Some r) (sym c.run-2.ensures.run)) refl (g.B.Nand.state c.seek-2.new.board) c.seek-2.new.cursor c.in-Ok-seek.ensures.follows c.in-Ok-seek.ensures.shape c.known.ensures.levels c.in-Ok-seek.ensures.ready c.in-Ok-seek.ensures.reads in
+    let s1 : Rows c.args.levels.now c.args.arena.now c.args.position.now (g.B.Nand.state c.args.board.now) (g.B.Nand.state c.seek.new.board) (c.self.inside.first ∷ c.self.inside.second ∷ c.self.inside.third ∷ c.self.inside.fourth ∷ []) (c.seek.new.cursor ∷ c.self.inside.second ∷ c.self.inside.third ∷ c.self.inside.fourth ∷ []) = Rows-next c.args.levels.now c.args.arena.now c.args.position.now (g.B.Nand.state c.args.board.now) (g.B.Nand.state c.args.board.now) (c.self.inside.first ∷ c.self.inside.second ∷ c.self.inside.third ∷ c.self.inside.fourth ∷ []) (c.self.inside.first ∷ c.self.inside.second ∷ c.self.inside.third ∷ c.self.inside.fourth ∷ []) s0 0 c.run.result.now c.self.inside.first (level_is c.args.levels.now 0 c.known.ensures.levels (omega arith) ∙ ap (λ (r : Kept). Some r) (sym c.run.ensures.run)) refl (g.B.Nand.state c.seek.new.board) c.seek.new.cursor c.in-Ok.ensures.follows c.in-Ok.ensures.shape c.known.ensures.levels c.in-Ok.ensures.ready c.in-Ok.ensures.reads c.in-Ok.ensures.passed c.in-Ok.ensures.all in
+    let s2 : Rows c.args.levels.now c.args.arena.now c.args.position.now (g.B.Nand.state c.args.board.now) (g.B.Nand.state c.seek-2.new.board) (c.self.inside.first ∷ c.self.inside.second ∷ c.self.inside.third ∷ c.self.inside.fourth ∷ []) (c.seek.new.cursor ∷ c.seek-2.new.cursor ∷ c.self.inside.third ∷ c.self.inside.fourth ∷ []) = Rows-next c.args.levels.now c.args.arena.now c.args.position.now (g.B.Nand.state c.args.board.now) (g.B.Nand.state c.seek.new.board) (c.self.inside.first ∷ c.self.inside.second ∷ c.self.inside.third ∷ c.self.inside.fourth ∷ []) (c.seek.new.cursor ∷ c.self.inside.second ∷ c.self.inside.third ∷ c.self.inside.fourth ∷ []) s1 1 c.run-2.result.now c.self.inside.second (level_is c.args.levels.now 1 c.known.ensures.levels (omega arith) ∙ ap (λ (r : Kept). Some r) (sym c.run-2.ensures.run)) refl (g.B.Nand.state c.seek-2.new.board) c.seek-2.new.cursor c.in-Ok-seek.ensures.follows c.in-Ok-seek.ensures.shape c.known.ensures.levels c.in-Ok-seek.ensures.ready c.in-Ok-seek.ensures.reads c.in-Ok-seek.ensures.passed c.in-Ok-seek.ensures.all in
     row_follows c.args.levels.now c.args.arena.now c.args.position.now (g.B.Nand.state c.args.board.now) (g.B.Nand.state c.seek-2.new.board) (c.self.inside.first ∷ c.self.inside.second ∷ c.self.inside.third ∷ c.self.inside.fourth ∷ []) (c.seek.new.cursor ∷ c.seek-2.new.cursor ∷ c.self.inside.third ∷ c.self.inside.fourth ∷ []) s2 2 c.run-3.result.now c.self.inside.third (level_is c.args.levels.now 2 c.known.ensures.levels (omega arith) ∙ ap (λ (r : Kept). Some r) (sym c.run-3.ensures.run)) refl
 
 pub seek-requires-4-clause-follows : goal.seek-requires-4-clause-follows
@@ -19,9 +27,9 @@ seek-requires-4-clause-follows g c =
     let follow = rw (← c.self.view_is) at c.requires.follow in
     let shape = rw (← c.self.view_is) at c.requires.shape in
     let s0 : Rows c.args.levels.now c.args.arena.now c.args.position.now (g.B.Nand.state c.args.board.now) (g.B.Nand.state c.args.board.now) (c.self.inside.first ∷ c.self.inside.second ∷ c.self.inside.third ∷ c.self.inside.fourth ∷ []) (c.self.inside.first ∷ c.self.inside.second ∷ c.self.inside.third ∷ c.self.inside.fourth ∷ []) = Rows-start c.args.levels.now c.args.arena.now c.args.position.now (g.B.Nand.state c.args.board.now) (c.self.inside.first ∷ c.self.inside.second ∷ c.self.inside.third ∷ c.self.inside.fourth ∷ []) follow.0 c.requires.ready shape follow.1 follow.2 in
-    let s1 : Rows c.args.levels.now c.args.arena.now c.args.position.now (g.B.Nand.state c.args.board.now) (g.B.Nand.state c.seek.new.board) (c.self.inside.first ∷ c.self.inside.second ∷ c.self.inside.third ∷ c.self.inside.fourth ∷ []) (c.seek.new.cursor ∷ c.self.inside.second ∷ c.self.inside.third ∷ c.self.inside.fourth ∷ []) = Rows-next c.args.levels.now c.args.arena.now c.args.position.now (g.B.Nand.state c.args.board.now) (g.B.Nand.state c.args.board.now) (c.self.inside.first ∷ c.self.inside.second ∷ c.self.inside.third ∷ c.self.inside.fourth ∷ []) (c.self.inside.first ∷ c.self.inside.second ∷ c.self.inside.third ∷ c.self.inside.fourth ∷ []) s0 0 c.run.result.now c.self.inside.first (level_is c.args.levels.now 0 c.known.ensures.levels (omega arith) ∙ ap (λ (r : Kept). Some r) (sym c.run.ensures.run)) refl (g.B.Nand.state c.seek.new.board) c.seek.new.cursor c.in-Ok.ensures.follows c.in-Ok.ensures.shape c.known.ensures.levels c.in-Ok.ensures.ready c.in-Ok.ensures.reads in
-    let s2 : Rows c.args.levels.now c.args.arena.now c.args.position.now (g.B.Nand.state c.args.board.now) (g.B.Nand.state c.seek-2.new.board) (c.self.inside.first ∷ c.self.inside.second ∷ c.self.inside.third ∷ c.self.inside.fourth ∷ []) (c.seek.new.cursor ∷ c.seek-2.new.cursor ∷ c.self.inside.third ∷ c.self.inside.fourth ∷ []) = Rows-next c.args.levels.now c.args.arena.now c.args.position.now (g.B.Nand.state c.args.board.now) (g.B.Nand.state c.seek.new.board) (c.self.inside.first ∷ c.self.inside.second ∷ c.self.inside.third ∷ c.self.inside.fourth ∷ []) (c.seek.new.cursor ∷ c.self.inside.second ∷ c.self.inside.third ∷ c.self.inside.fourth ∷ []) s1 1 c.run-2.result.now c.self.inside.second (level_is c.args.levels.now 1 c.known.ensures.levels (omega arith) ∙ ap (λ (r : Kept). Some r) (sym c.run-2.ensures.run)) refl (g.B.Nand.state c.seek-2.new.board) c.seek-2.new.cursor c.in-Ok-seek.ensures.follows c.in-Ok-seek.ensures.shape c.known.ensures.levels c.in-Ok-seek.ensures.ready c.in-Ok-seek.ensures.reads in
-    let s3 : Rows c.args.levels.now c.args.arena.now c.args.position.now (g.B.Nand.state c.args.board.now) (g.B.Nand.state c.seek-3.new.board) (c.self.inside.first ∷ c.self.inside.second ∷ c.self.inside.third ∷ c.self.inside.fourth ∷ []) (c.seek.new.cursor ∷ c.seek-2.new.cursor ∷ c.seek-3.new.cursor ∷ c.self.inside.fourth ∷ []) = Rows-next c.args.levels.now c.args.arena.now c.args.position.now (g.B.Nand.state c.args.board.now) (g.B.Nand.state c.seek-2.new.board) (c.self.inside.first ∷ c.self.inside.second ∷ c.self.inside.third ∷ c.self.inside.fourth ∷ []) (c.seek.new.cursor ∷ c.seek-2.new.cursor ∷ c.self.inside.third ∷ c.self.inside.fourth ∷ []) s2 2 c.run-3.result.now c.self.inside.third (level_is c.args.levels.now 2 c.known.ensures.levels (omega arith) ∙ ap (λ (r : Kept). Some r) (sym c.run-3.ensures.run)) refl (g.B.Nand.state c.seek-3.new.board) c.seek-3.new.cursor c.in-Ok-seek-2.ensures.follows c.in-Ok-seek-2.ensures.shape c.known.ensures.levels c.in-Ok-seek-2.ensures.ready c.in-Ok-seek-2.ensures.reads in
+    let s1 : Rows c.args.levels.now c.args.arena.now c.args.position.now (g.B.Nand.state c.args.board.now) (g.B.Nand.state c.seek.new.board) (c.self.inside.first ∷ c.self.inside.second ∷ c.self.inside.third ∷ c.self.inside.fourth ∷ []) (c.seek.new.cursor ∷ c.self.inside.second ∷ c.self.inside.third ∷ c.self.inside.fourth ∷ []) = Rows-next c.args.levels.now c.args.arena.now c.args.position.now (g.B.Nand.state c.args.board.now) (g.B.Nand.state c.args.board.now) (c.self.inside.first ∷ c.self.inside.second ∷ c.self.inside.third ∷ c.self.inside.fourth ∷ []) (c.self.inside.first ∷ c.self.inside.second ∷ c.self.inside.third ∷ c.self.inside.fourth ∷ []) s0 0 c.run.result.now c.self.inside.first (level_is c.args.levels.now 0 c.known.ensures.levels (omega arith) ∙ ap (λ (r : Kept). Some r) (sym c.run.ensures.run)) refl (g.B.Nand.state c.seek.new.board) c.seek.new.cursor c.in-Ok.ensures.follows c.in-Ok.ensures.shape c.known.ensures.levels c.in-Ok.ensures.ready c.in-Ok.ensures.reads c.in-Ok.ensures.passed c.in-Ok.ensures.all in
+    let s2 : Rows c.args.levels.now c.args.arena.now c.args.position.now (g.B.Nand.state c.args.board.now) (g.B.Nand.state c.seek-2.new.board) (c.self.inside.first ∷ c.self.inside.second ∷ c.self.inside.third ∷ c.self.inside.fourth ∷ []) (c.seek.new.cursor ∷ c.seek-2.new.cursor ∷ c.self.inside.third ∷ c.self.inside.fourth ∷ []) = Rows-next c.args.levels.now c.args.arena.now c.args.position.now (g.B.Nand.state c.args.board.now) (g.B.Nand.state c.seek.new.board) (c.self.inside.first ∷ c.self.inside.second ∷ c.self.inside.third ∷ c.self.inside.fourth ∷ []) (c.seek.new.cursor ∷ c.self.inside.second ∷ c.self.inside.third ∷ c.self.inside.fourth ∷ []) s1 1 c.run-2.result.now c.self.inside.second (level_is c.args.levels.now 1 c.known.ensures.levels (omega arith) ∙ ap (λ (r : Kept). Some r) (sym c.run-2.ensures.run)) refl (g.B.Nand.state c.seek-2.new.board) c.seek-2.new.cursor c.in-Ok-seek.ensures.follows c.in-Ok-seek.ensures.shape c.known.ensures.levels c.in-Ok-seek.ensures.ready c.in-Ok-seek.ensures.reads c.in-Ok-seek.ensures.passed c.in-Ok-seek.ensures.all in
+    let s3 : Rows c.args.levels.now c.args.arena.now c.args.position.now (g.B.Nand.state c.args.board.now) (g.B.Nand.state c.seek-3.new.board) (c.self.inside.first ∷ c.self.inside.second ∷ c.self.inside.third ∷ c.self.inside.fourth ∷ []) (c.seek.new.cursor ∷ c.seek-2.new.cursor ∷ c.seek-3.new.cursor ∷ c.self.inside.fourth ∷ []) = Rows-next c.args.levels.now c.args.arena.now c.args.position.now (g.B.Nand.state c.args.board.now) (g.B.Nand.state c.seek-2.new.board) (c.self.inside.first ∷ c.self.inside.second ∷ c.self.inside.third ∷ c.self.inside.fourth ∷ []) (c.seek.new.cursor ∷ c.seek-2.new.cursor ∷ c.self.inside.third ∷ c.self.inside.fourth ∷ []) s2 2 c.run-3.result.now c.self.inside.third (level_is c.args.levels.now 2 c.known.ensures.levels (omega arith) ∙ ap (λ (r : Kept). Some r) (sym c.run-3.ensures.run)) refl (g.B.Nand.state c.seek-3.new.board) c.seek-3.new.cursor c.in-Ok-seek-2.ensures.follows c.in-Ok-seek-2.ensures.shape c.known.ensures.levels c.in-Ok-seek-2.ensures.ready c.in-Ok-seek-2.ensures.reads c.in-Ok-seek-2.ensures.passed c.in-Ok-seek-2.ensures.all in
     row_follows c.args.levels.now c.args.arena.now c.args.position.now (g.B.Nand.state c.args.board.now) (g.B.Nand.state c.seek-3.new.board) (c.self.inside.first ∷ c.self.inside.second ∷ c.self.inside.third ∷ c.self.inside.fourth ∷ []) (c.seek.new.cursor ∷ c.seek-2.new.cursor ∷ c.seek-3.new.cursor ∷ c.self.inside.fourth ∷ []) s3 3 c.run-4.result.now c.self.inside.fourth (level_is c.args.levels.now 3 c.known.ensures.levels (omega arith) ∙ ap (λ (r : Kept). Some r) (sym c.run-4.ensures.run)) refl
 
 pub returns-in-Err-clause-follow : goal.returns-in-Err-clause-follow
@@ -36,7 +44,7 @@ returns-in-Err-seek-clause-follow g c ess each =
     let follow = rw (← c.self.view_is) at c.requires.follow in
     let shape = rw (← c.self.view_is) at c.requires.shape in
     let s0 : Rows c.args.levels.now c.args.arena.now c.args.position.now (g.B.Nand.state c.args.board.now) (g.B.Nand.state c.args.board.now) (c.self.inside.first ∷ c.self.inside.second ∷ c.self.inside.third ∷ c.self.inside.fourth ∷ []) (c.self.inside.first ∷ c.self.inside.second ∷ c.self.inside.third ∷ c.self.inside.fourth ∷ []) = Rows-start c.args.levels.now c.args.arena.now c.args.position.now (g.B.Nand.state c.args.board.now) (c.self.inside.first ∷ c.self.inside.second ∷ c.self.inside.third ∷ c.self.inside.fourth ∷ []) follow.0 c.requires.ready shape follow.1 follow.2 in
-    let s1 : Rows c.args.levels.now c.args.arena.now c.args.position.now (g.B.Nand.state c.args.board.now) (g.B.Nand.state c.seek.new.board) (c.self.inside.first ∷ c.self.inside.second ∷ c.self.inside.third ∷ c.self.inside.fourth ∷ []) (c.seek.new.cursor ∷ c.self.inside.second ∷ c.self.inside.third ∷ c.self.inside.fourth ∷ []) = Rows-next c.args.levels.now c.args.arena.now c.args.position.now (g.B.Nand.state c.args.board.now) (g.B.Nand.state c.args.board.now) (c.self.inside.first ∷ c.self.inside.second ∷ c.self.inside.third ∷ c.self.inside.fourth ∷ []) (c.self.inside.first ∷ c.self.inside.second ∷ c.self.inside.third ∷ c.self.inside.fourth ∷ []) s0 0 c.run.result.now c.self.inside.first (level_is c.args.levels.now 0 c.known.ensures.levels (omega arith) ∙ ap (λ (r : Kept). Some r) (sym c.run.ensures.run)) refl (g.B.Nand.state c.seek.new.board) c.seek.new.cursor c.in-Ok.ensures.follows c.in-Ok.ensures.shape c.known.ensures.levels c.in-Ok.ensures.ready c.in-Ok.ensures.reads in
+    let s1 : Rows c.args.levels.now c.args.arena.now c.args.position.now (g.B.Nand.state c.args.board.now) (g.B.Nand.state c.seek.new.board) (c.self.inside.first ∷ c.self.inside.second ∷ c.self.inside.third ∷ c.self.inside.fourth ∷ []) (c.seek.new.cursor ∷ c.self.inside.second ∷ c.self.inside.third ∷ c.self.inside.fourth ∷ []) = Rows-next c.args.levels.now c.args.arena.now c.args.position.now (g.B.Nand.state c.args.board.now) (g.B.Nand.state c.args.board.now) (c.self.inside.first ∷ c.self.inside.second ∷ c.self.inside.third ∷ c.self.inside.fourth ∷ []) (c.self.inside.first ∷ c.self.inside.second ∷ c.self.inside.third ∷ c.self.inside.fourth ∷ []) s0 0 c.run.result.now c.self.inside.first (level_is c.args.levels.now 0 c.known.ensures.levels (omega arith) ∙ ap (λ (r : Kept). Some r) (sym c.run.ensures.run)) refl (g.B.Nand.state c.seek.new.board) c.seek.new.cursor c.in-Ok.ensures.follows c.in-Ok.ensures.shape c.known.ensures.levels c.in-Ok.ensures.ready c.in-Ok.ensures.reads c.in-Ok.ensures.passed c.in-Ok.ensures.all in
     follow_failed c.args.levels.now c.args.arena.now c.args.position.now (g.B.Nand.state c.args.board.now) (g.B.Nand.state c.seek.new.board) (c.self.inside.first ∷ c.self.inside.second ∷ c.self.inside.third ∷ c.self.inside.fourth ∷ []) (c.seek.new.cursor ∷ c.self.inside.second ∷ c.self.inside.third ∷ c.self.inside.fourth ∷ []) s1 1 c.run-2.result.now c.self.inside.second (level_is c.args.levels.now 1 c.known.ensures.levels (omega arith) ∙ ap (λ (r : Kept). Some r) (sym c.run-2.ensures.run)) refl (g.B.Nand.state c.seek-2.new.board) c.seek-2.new.cursor c.in-Err-seek.ensures.follows c.in-Err-seek.ensures.shape ess each
 
 pub returns-in-Err-seek-clause-err : goal.returns-in-Err-seek-clause-err
@@ -44,7 +52,7 @@ returns-in-Err-seek-clause-err g c =
     let follow = rw (← c.self.view_is) at c.requires.follow in
     let shape = rw (← c.self.view_is) at c.requires.shape in
     let s0 : Rows c.args.levels.now c.args.arena.now c.args.position.now (g.B.Nand.state c.args.board.now) (g.B.Nand.state c.args.board.now) (c.self.inside.first ∷ c.self.inside.second ∷ c.self.inside.third ∷ c.self.inside.fourth ∷ []) (c.self.inside.first ∷ c.self.inside.second ∷ c.self.inside.third ∷ c.self.inside.fourth ∷ []) = Rows-start c.args.levels.now c.args.arena.now c.args.position.now (g.B.Nand.state c.args.board.now) (c.self.inside.first ∷ c.self.inside.second ∷ c.self.inside.third ∷ c.self.inside.fourth ∷ []) follow.0 c.requires.ready shape follow.1 follow.2 in
-    let s1 : Rows c.args.levels.now c.args.arena.now c.args.position.now (g.B.Nand.state c.args.board.now) (g.B.Nand.state c.seek.new.board) (c.self.inside.first ∷ c.self.inside.second ∷ c.self.inside.third ∷ c.self.inside.fourth ∷ []) (c.seek.new.cursor ∷ c.self.inside.second ∷ c.self.inside.third ∷ c.self.inside.fourth ∷ []) = Rows-next c.args.levels.now c.args.arena.now c.args.position.now (g.B.Nand.state c.args.board.now) (g.B.Nand.state c.args.board.now) (c.self.inside.first ∷ c.self.inside.second ∷ c.self.inside.third ∷ c.self.inside.fourth ∷ []) (c.self.inside.first ∷ c.self.inside.second ∷ c.self.inside.third ∷ c.self.inside.fourth ∷ []) s0 0 c.run.result.now c.self.inside.first (level_is c.args.levels.now 0 c.known.ensures.levels (omega arith) ∙ ap (λ (r : Kept). Some r) (sym c.run.ensures.run)) refl (g.B.Nand.state c.seek.new.board) c.seek.new.cursor c.in-Ok.ensures.follows c.in-Ok.ensures.shape c.known.ensures.levels c.in-Ok.ensures.ready c.in-Ok.ensures.reads in
+    let s1 : Rows c.args.levels.now c.args.arena.now c.args.position.now (g.B.Nand.state c.args.board.now) (g.B.Nand.state c.seek.new.board) (c.self.inside.first ∷ c.self.inside.second ∷ c.self.inside.third ∷ c.self.inside.fourth ∷ []) (c.seek.new.cursor ∷ c.self.inside.second ∷ c.self.inside.third ∷ c.self.inside.fourth ∷ []) = Rows-next c.args.levels.now c.args.arena.now c.args.position.now (g.B.Nand.state c.args.board.now) (g.B.Nand.state c.args.board.now) (c.self.inside.first ∷ c.self.inside.second ∷ c.self.inside.third ∷ c.self.inside.fourth ∷ []) (c.self.inside.first ∷ c.self.inside.second ∷ c.self.inside.third ∷ c.self.inside.fourth ∷ []) s0 0 c.run.result.now c.self.inside.first (level_is c.args.levels.now 0 c.known.ensures.levels (omega arith) ∙ ap (λ (r : Kept). Some r) (sym c.run.ensures.run)) refl (g.B.Nand.state c.seek.new.board) c.seek.new.cursor c.in-Ok.ensures.follows c.in-Ok.ensures.shape c.known.ensures.levels c.in-Ok.ensures.ready c.in-Ok.ensures.reads c.in-Ok.ensures.passed c.in-Ok.ensures.all in
     rw (← c.self.view_is) (Rows-failed c.args.levels.now c.args.arena.now c.args.position.now (g.B.Nand.state c.args.board.now) (g.B.Nand.state c.seek.new.board) (c.self.inside.first ∷ c.self.inside.second ∷ c.self.inside.third ∷ c.self.inside.fourth ∷ []) (c.seek.new.cursor ∷ c.self.inside.second ∷ c.self.inside.third ∷ c.self.inside.fourth ∷ []) s1 1 c.run-2.result.now c.self.inside.second (level_is c.args.levels.now 1 c.known.ensures.levels (omega arith) ∙ ap (λ (r : Kept). Some r) (sym c.run-2.ensures.run)) refl (g.B.Nand.state c.seek-2.new.board) c.seek-2.new.cursor c.in-Err-seek.ensures.follows c.in-Err-seek.ensures.shape c.in-Err-seek.ensures.err)
 
 pub returns-in-Err-seek-2-clause-follow : goal.returns-in-Err-seek-2-clause-follow
@@ -52,8 +60,8 @@ returns-in-Err-seek-2-clause-follow g c ess each =
     let follow = rw (← c.self.view_is) at c.requires.follow in
     let shape = rw (← c.self.view_is) at c.requires.shape in
     let s0 : Rows c.args.levels.now c.args.arena.now c.args.position.now (g.B.Nand.state c.args.board.now) (g.B.Nand.state c.args.board.now) (c.self.inside.first ∷ c.self.inside.second ∷ c.self.inside.third ∷ c.self.inside.fourth ∷ []) (c.self.inside.first ∷ c.self.inside.second ∷ c.self.inside.third ∷ c.self.inside.fourth ∷ []) = Rows-start c.args.levels.now c.args.arena.now c.args.position.now (g.B.Nand.state c.args.board.now) (c.self.inside.first ∷ c.self.inside.second ∷ c.self.inside.third ∷ c.self.inside.fourth ∷ []) follow.0 c.requires.ready shape follow.1 follow.2 in
-    let s1 : Rows c.args.levels.now c.args.arena.now c.args.position.now (g.B.Nand.state c.args.board.now) (g.B.Nand.state c.seek.new.board) (c.self.inside.first ∷ c.self.inside.second ∷ c.self.inside.third ∷ c.self.inside.fourth ∷ []) (c.seek.new.cursor ∷ c.self.inside.second ∷ c.self.inside.third ∷ c.self.inside.fourth ∷ []) = Rows-next c.args.levels.now c.args.arena.now c.args.position.now (g.B.Nand.state c.args.board.now) (g.B.Nand.state c.args.board.now) (c.self.inside.first ∷ c.self.inside.second ∷ c.self.inside.third ∷ c.self.inside.fourth ∷ []) (c.self.inside.first ∷ c.self.inside.second ∷ c.self.inside.third ∷ c.self.inside.fourth ∷ []) s0 0 c.run.result.now c.self.inside.first (level_is c.args.levels.now 0 c.known.ensures.levels (omega arith) ∙ ap (λ (r : Kept). Some r) (sym c.run.ensures.run)) refl (g.B.Nand.state c.seek.new.board) c.seek.new.cursor c.in-Ok.ensures.follows c.in-Ok.ensures.shape c.known.ensures.levels c.in-Ok.ensures.ready c.in-Ok.ensures.reads in
-    let s2 : Rows c.args.levels.now c.args.arena.now c.args.position.now (g.B.Nand.state c.args.board.now) (g.B.Nand.state c.seek-2.new.board) (c.self.inside.first ∷ c.self.inside.second ∷ c.self.inside.third ∷ c.self.inside.fourth ∷ []) (c.seek.new.cursor ∷ c.seek-2.new.cursor ∷ c.self.inside.third ∷ c.self.inside.fourth ∷ []) = Rows-next c.args.levels.now c.args.arena.now c.args.position.now (g.B.Nand.state c.args.board.now) (g.B.Nand.state c.seek.new.board) (c.self.inside.first ∷ c.self.inside.second ∷ c.self.inside.third ∷ c.self.inside.fourth ∷ []) (c.seek.new.cursor ∷ c.self.inside.second ∷ c.self.inside.third ∷ c.self.inside.fourth ∷ []) s1 1 c.run-2.result.now c.self.inside.second (level_is c.args.levels.now 1 c.known.ensures.levels (omega arith) ∙ ap (λ (r : Kept). Some r) (sym c.run-2.ensures.run)) refl (g.B.Nand.state c.seek-2.new.board) c.seek-2.new.cursor c.in-Ok-seek.ensures.follows c.in-Ok-seek.ensures.shape c.known.ensures.levels c.in-Ok-seek.ensures.ready c.in-Ok-seek.ensures.reads in
+    let s1 : Rows c.args.levels.now c.args.arena.now c.args.position.now (g.B.Nand.state c.args.board.now) (g.B.Nand.state c.seek.new.board) (c.self.inside.first ∷ c.self.inside.second ∷ c.self.inside.third ∷ c.self.inside.fourth ∷ []) (c.seek.new.cursor ∷ c.self.inside.second ∷ c.self.inside.third ∷ c.self.inside.fourth ∷ []) = Rows-next c.args.levels.now c.args.arena.now c.args.position.now (g.B.Nand.state c.args.board.now) (g.B.Nand.state c.args.board.now) (c.self.inside.first ∷ c.self.inside.second ∷ c.self.inside.third ∷ c.self.inside.fourth ∷ []) (c.self.inside.first ∷ c.self.inside.second ∷ c.self.inside.third ∷ c.self.inside.fourth ∷ []) s0 0 c.run.result.now c.self.inside.first (level_is c.args.levels.now 0 c.known.ensures.levels (omega arith) ∙ ap (λ (r : Kept). Some r) (sym c.run.ensures.run)) refl (g.B.Nand.state c.seek.new.board) c.seek.new.cursor c.in-Ok.ensures.follows c.in-Ok.ensures.shape c.known.ensures.levels c.in-Ok.ensures.ready c.in-Ok.ensures.reads c.in-Ok.ensures.passed c.in-Ok.ensures.all in
+    let s2 : Rows c.args.levels.now c.args.arena.now c.args.position.now (g.B.Nand.state c.args.board.now) (g.B.Nand.state c.seek-2.new.board) (c.self.inside.first ∷ c.self.inside.second ∷ c.self.inside.third ∷ c.self.inside.fourth ∷ []) (c.seek.new.cursor ∷ c.seek-2.new.cursor ∷ c.self.inside.third ∷ c.self.inside.fourth ∷ []) = Rows-next c.args.levels.now c.args.arena.now c.args.position.now (g.B.Nand.state c.args.board.now) (g.B.Nand.state c.seek.new.board) (c.self.inside.first ∷ c.self.inside.second ∷ c.self.inside.third ∷ c.self.inside.fourth ∷ []) (c.seek.new.cursor ∷ c.self.inside.second ∷ c.self.inside.third ∷ c.self.inside.fourth ∷ []) s1 1 c.run-2.result.now c.self.inside.second (level_is c.args.levels.now 1 c.known.ensures.levels (omega arith) ∙ ap (λ (r : Kept). Some r) (sym c.run-2.ensures.run)) refl (g.B.Nand.state c.seek-2.new.board) c.seek-2.new.cursor c.in-Ok-seek.ensures.follows c.in-Ok-seek.ensures.shape c.known.ensures.levels c.in-Ok-seek.ensures.ready c.in-Ok-seek.ensures.reads c.in-Ok-seek.ensures.passed c.in-Ok-seek.ensures.all in
     follow_failed c.args.levels.now c.args.arena.now c.args.position.now (g.B.Nand.state c.args.board.now) (g.B.Nand.state c.seek-2.new.board) (c.self.inside.first ∷ c.self.inside.second ∷ c.self.inside.third ∷ c.self.inside.fourth ∷ []) (c.seek.new.cursor ∷ c.seek-2.new.cursor ∷ c.self.inside.third ∷ c.self.inside.fourth ∷ []) s2 2 c.run-3.result.now c.self.inside.third (level_is c.args.levels.now 2 c.known.ensures.levels (omega arith) ∙ ap (λ (r : Kept). Some r) (sym c.run-3.ensures.run)) refl (g.B.Nand.state c.seek-3.new.board) c.seek-3.new.cursor c.in-Err-seek-2.ensures.follows c.in-Err-seek-2.ensures.shape ess each
 
 pub returns-in-Err-seek-2-clause-err : goal.returns-in-Err-seek-2-clause-err
@@ -61,8 +69,8 @@ returns-in-Err-seek-2-clause-err g c =
     let follow = rw (← c.self.view_is) at c.requires.follow in
     let shape = rw (← c.self.view_is) at c.requires.shape in
     let s0 : Rows c.args.levels.now c.args.arena.now c.args.position.now (g.B.Nand.state c.args.board.now) (g.B.Nand.state c.args.board.now) (c.self.inside.first ∷ c.self.inside.second ∷ c.self.inside.third ∷ c.self.inside.fourth ∷ []) (c.self.inside.first ∷ c.self.inside.second ∷ c.self.inside.third ∷ c.self.inside.fourth ∷ []) = Rows-start c.args.levels.now c.args.arena.now c.args.position.now (g.B.Nand.state c.args.board.now) (c.self.inside.first ∷ c.self.inside.second ∷ c.self.inside.third ∷ c.self.inside.fourth ∷ []) follow.0 c.requires.ready shape follow.1 follow.2 in
-    let s1 : Rows c.args.levels.now c.args.arena.now c.args.position.now (g.B.Nand.state c.args.board.now) (g.B.Nand.state c.seek.new.board) (c.self.inside.first ∷ c.self.inside.second ∷ c.self.inside.third ∷ c.self.inside.fourth ∷ []) (c.seek.new.cursor ∷ c.self.inside.second ∷ c.self.inside.third ∷ c.self.inside.fourth ∷ []) = Rows-next c.args.levels.now c.args.arena.now c.args.position.now (g.B.Nand.state c.args.board.now) (g.B.Nand.state c.args.board.now) (c.self.inside.first ∷ c.self.inside.second ∷ c.self.inside.third ∷ c.self.inside.fourth ∷ []) (c.self.inside.first ∷ c.self.inside.second ∷ c.self.inside.third ∷ c.self.inside.fourth ∷ []) s0 0 c.run.result.now c.self.inside.first (level_is c.args.levels.now 0 c.known.ensures.levels (omega arith) ∙ ap (λ (r : Kept). Some r) (sym c.run.ensures.run)) refl (g.B.Nand.state c.seek.new.board) c.seek.new.cursor c.in-Ok.ensures.follows c.in-Ok.ensures.shape c.known.ensures.levels c.in-Ok.ensures.ready c.in-Ok.ensures.reads in
-    let s2 : Rows c.args.levels.now c.args.arena.now c.args.position.now (g.B.Nand.state c.args.board.now) (g.B.Nand.state c.seek-2.new.board) (c.self.inside.first ∷ c.self.inside.second ∷ c.self.inside.third ∷ c.self.inside.fourth ∷ []) (c.seek.new.cursor ∷ c.seek-2.new.cursor ∷ c.self.inside.third ∷ c.self.inside.fourth ∷ []) = Rows-next c.args.levels.now c.args.arena.now c.args.position.now (g.B.Nand.state c.args.board.now) (g.B.Nand.state c.seek.new.board) (c.self.inside.first ∷ c.self.inside.second ∷ c.self.inside.third ∷ c.self.inside.fourth ∷ []) (c.seek.new.cursor ∷ c.self.inside.second ∷ c.self.inside.third ∷ c.self.inside.fourth ∷ []) s1 1 c.run-2.result.now c.self.inside.second (level_is c.args.levels.now 1 c.known.ensures.levels (omega arith) ∙ ap (λ (r : Kept). Some r) (sym c.run-2.ensures.run)) refl (g.B.Nand.state c.seek-2.new.board) c.seek-2.new.cursor c.in-Ok-seek.ensures.follows c.in-Ok-seek.ensures.shape c.known.ensures.levels c.in-Ok-seek.ensures.ready c.in-Ok-seek.ensures.reads in
+    let s1 : Rows c.args.levels.now c.args.arena.now c.args.position.now (g.B.Nand.state c.args.board.now) (g.B.Nand.state c.seek.new.board) (c.self.inside.first ∷ c.self.inside.second ∷ c.self.inside.third ∷ c.self.inside.fourth ∷ []) (c.seek.new.cursor ∷ c.self.inside.second ∷ c.self.inside.third ∷ c.self.inside.fourth ∷ []) = Rows-next c.args.levels.now c.args.arena.now c.args.position.now (g.B.Nand.state c.args.board.now) (g.B.Nand.state c.args.board.now) (c.self.inside.first ∷ c.self.inside.second ∷ c.self.inside.third ∷ c.self.inside.fourth ∷ []) (c.self.inside.first ∷ c.self.inside.second ∷ c.self.inside.third ∷ c.self.inside.fourth ∷ []) s0 0 c.run.result.now c.self.inside.first (level_is c.args.levels.now 0 c.known.ensures.levels (omega arith) ∙ ap (λ (r : Kept). Some r) (sym c.run.ensures.run)) refl (g.B.Nand.state c.seek.new.board) c.seek.new.cursor c.in-Ok.ensures.follows c.in-Ok.ensures.shape c.known.ensures.levels c.in-Ok.ensures.ready c.in-Ok.ensures.reads c.in-Ok.ensures.passed c.in-Ok.ensures.all in
+    let s2 : Rows c.args.levels.now c.args.arena.now c.args.position.now (g.B.Nand.state c.args.board.now) (g.B.Nand.state c.seek-2.new.board) (c.self.inside.first ∷ c.self.inside.second ∷ c.self.inside.third ∷ c.self.inside.fourth ∷ []) (c.seek.new.cursor ∷ c.seek-2.new.cursor ∷ c.self.inside.third ∷ c.self.inside.fourth ∷ []) = Rows-next c.args.levels.now c.args.arena.now c.args.position.now (g.B.Nand.state c.args.board.now) (g.B.Nand.state c.seek.new.board) (c.self.inside.first ∷ c.self.inside.second ∷ c.self.inside.third ∷ c.self.inside.fourth ∷ []) (c.seek.new.cursor ∷ c.self.inside.second ∷ c.self.inside.third ∷ c.self.inside.fourth ∷ []) s1 1 c.run-2.result.now c.self.inside.second (level_is c.args.levels.now 1 c.known.ensures.levels (omega arith) ∙ ap (λ (r : Kept). Some r) (sym c.run-2.ensures.run)) refl (g.B.Nand.state c.seek-2.new.board) c.seek-2.new.cursor c.in-Ok-seek.ensures.follows c.in-Ok-seek.ensures.shape c.known.ensures.levels c.in-Ok-seek.ensures.ready c.in-Ok-seek.ensures.reads c.in-Ok-seek.ensures.passed c.in-Ok-seek.ensures.all in
     rw (← c.self.view_is) (Rows-failed c.args.levels.now c.args.arena.now c.args.position.now (g.B.Nand.state c.args.board.now) (g.B.Nand.state c.seek-2.new.board) (c.self.inside.first ∷ c.self.inside.second ∷ c.self.inside.third ∷ c.self.inside.fourth ∷ []) (c.seek.new.cursor ∷ c.seek-2.new.cursor ∷ c.self.inside.third ∷ c.self.inside.fourth ∷ []) s2 2 c.run-3.result.now c.self.inside.third (level_is c.args.levels.now 2 c.known.ensures.levels (omega arith) ∙ ap (λ (r : Kept). Some r) (sym c.run-3.ensures.run)) refl (g.B.Nand.state c.seek-3.new.board) c.seek-3.new.cursor c.in-Err-seek-2.ensures.follows c.in-Err-seek-2.ensures.shape c.in-Err-seek-2.ensures.err)
 
 pub returns-in-Err-seek-3-clause-follow : goal.returns-in-Err-seek-3-clause-follow
@@ -70,9 +78,9 @@ returns-in-Err-seek-3-clause-follow g c ess each =
     let follow = rw (← c.self.view_is) at c.requires.follow in
     let shape = rw (← c.self.view_is) at c.requires.shape in
     let s0 : Rows c.args.levels.now c.args.arena.now c.args.position.now (g.B.Nand.state c.args.board.now) (g.B.Nand.state c.args.board.now) (c.self.inside.first ∷ c.self.inside.second ∷ c.self.inside.third ∷ c.self.inside.fourth ∷ []) (c.self.inside.first ∷ c.self.inside.second ∷ c.self.inside.third ∷ c.self.inside.fourth ∷ []) = Rows-start c.args.levels.now c.args.arena.now c.args.position.now (g.B.Nand.state c.args.board.now) (c.self.inside.first ∷ c.self.inside.second ∷ c.self.inside.third ∷ c.self.inside.fourth ∷ []) follow.0 c.requires.ready shape follow.1 follow.2 in
-    let s1 : Rows c.args.levels.now c.args.arena.now c.args.position.now (g.B.Nand.state c.args.board.now) (g.B.Nand.state c.seek.new.board) (c.self.inside.first ∷ c.self.inside.second ∷ c.self.inside.third ∷ c.self.inside.fourth ∷ []) (c.seek.new.cursor ∷ c.self.inside.second ∷ c.self.inside.third ∷ c.self.inside.fourth ∷ []) = Rows-next c.args.levels.now c.args.arena.now c.args.position.now (g.B.Nand.state c.args.board.now) (g.B.Nand.state c.args.board.now) (c.self.inside.first ∷ c.self.inside.second ∷ c.self.inside.third ∷ c.self.inside.fourth ∷ []) (c.self.inside.first ∷ c.self.inside.second ∷ c.self.inside.third ∷ c.self.inside.fourth ∷ []) s0 0 c.run.result.now c.self.inside.first (level_is c.args.levels.now 0 c.known.ensures.levels (omega arith) ∙ ap (λ (r : Kept). Some r) (sym c.run.ensures.run)) refl (g.B.Nand.state c.seek.new.board) c.seek.new.cursor c.in-Ok.ensures.follows c.in-Ok.ensures.shape c.known.ensures.levels c.in-Ok.ensures.ready c.in-Ok.ensures.reads in
-    let s2 : Rows c.args.levels.now c.args.arena.now c.args.position.now (g.B.Nand.state c.args.board.now) (g.B.Nand.state c.seek-2.new.board) (c.self.inside.first ∷ c.self.inside.second ∷ c.self.inside.third ∷ c.self.inside.fourth ∷ []) (c.seek.new.cursor ∷ c.seek-2.new.cursor ∷ c.self.inside.third ∷ c.self.inside.fourth ∷ []) = Rows-next c.args.levels.now c.args.arena.now c.args.position.now (g.B.Nand.state c.args.board.now) (g.B.Nand.state c.seek.new.board) (c.self.inside.first ∷ c.self.inside.second ∷ c.self.inside.third ∷ c.self.inside.fourth ∷ []) (c.seek.new.cursor ∷ c.self.inside.second ∷ c.self.inside.third ∷ c.self.inside.fourth ∷ []) s1 1 c.run-2.result.now c.self.inside.second (level_is c.args.levels.now 1 c.known.ensures.levels (omega arith) ∙ ap (λ (r : Kept). Some r) (sym c.run-2.ensures.run)) refl (g.B.Nand.state c.seek-2.new.board) c.seek-2.new.cursor c.in-Ok-seek.ensures.follows c.in-Ok-seek.ensures.shape c.known.ensures.levels c.in-Ok-seek.ensures.ready c.in-Ok-seek.ensures.reads in
-    let s3 : Rows c.args.levels.now c.args.arena.now c.args.position.now (g.B.Nand.state c.args.board.now) (g.B.Nand.state c.seek-3.new.board) (c.self.inside.first ∷ c.self.inside.second ∷ c.self.inside.third ∷ c.self.inside.fourth ∷ []) (c.seek.new.cursor ∷ c.seek-2.new.cursor ∷ c.seek-3.new.cursor ∷ c.self.inside.fourth ∷ []) = Rows-next c.args.levels.now c.args.arena.now c.args.position.now (g.B.Nand.state c.args.board.now) (g.B.Nand.state c.seek-2.new.board) (c.self.inside.first ∷ c.self.inside.second ∷ c.self.inside.third ∷ c.self.inside.fourth ∷ []) (c.seek.new.cursor ∷ c.seek-2.new.cursor ∷ c.self.inside.third ∷ c.self.inside.fourth ∷ []) s2 2 c.run-3.result.now c.self.inside.third (level_is c.args.levels.now 2 c.known.ensures.levels (omega arith) ∙ ap (λ (r : Kept). Some r) (sym c.run-3.ensures.run)) refl (g.B.Nand.state c.seek-3.new.board) c.seek-3.new.cursor c.in-Ok-seek-2.ensures.follows c.in-Ok-seek-2.ensures.shape c.known.ensures.levels c.in-Ok-seek-2.ensures.ready c.in-Ok-seek-2.ensures.reads in
+    let s1 : Rows c.args.levels.now c.args.arena.now c.args.position.now (g.B.Nand.state c.args.board.now) (g.B.Nand.state c.seek.new.board) (c.self.inside.first ∷ c.self.inside.second ∷ c.self.inside.third ∷ c.self.inside.fourth ∷ []) (c.seek.new.cursor ∷ c.self.inside.second ∷ c.self.inside.third ∷ c.self.inside.fourth ∷ []) = Rows-next c.args.levels.now c.args.arena.now c.args.position.now (g.B.Nand.state c.args.board.now) (g.B.Nand.state c.args.board.now) (c.self.inside.first ∷ c.self.inside.second ∷ c.self.inside.third ∷ c.self.inside.fourth ∷ []) (c.self.inside.first ∷ c.self.inside.second ∷ c.self.inside.third ∷ c.self.inside.fourth ∷ []) s0 0 c.run.result.now c.self.inside.first (level_is c.args.levels.now 0 c.known.ensures.levels (omega arith) ∙ ap (λ (r : Kept). Some r) (sym c.run.ensures.run)) refl (g.B.Nand.state c.seek.new.board) c.seek.new.cursor c.in-Ok.ensures.follows c.in-Ok.ensures.shape c.known.ensures.levels c.in-Ok.ensures.ready c.in-Ok.ensures.reads c.in-Ok.ensures.passed c.in-Ok.ensures.all in
+    let s2 : Rows c.args.levels.now c.args.arena.now c.args.position.now (g.B.Nand.state c.args.board.now) (g.B.Nand.state c.seek-2.new.board) (c.self.inside.first ∷ c.self.inside.second ∷ c.self.inside.third ∷ c.self.inside.fourth ∷ []) (c.seek.new.cursor ∷ c.seek-2.new.cursor ∷ c.self.inside.third ∷ c.self.inside.fourth ∷ []) = Rows-next c.args.levels.now c.args.arena.now c.args.position.now (g.B.Nand.state c.args.board.now) (g.B.Nand.state c.seek.new.board) (c.self.inside.first ∷ c.self.inside.second ∷ c.self.inside.third ∷ c.self.inside.fourth ∷ []) (c.seek.new.cursor ∷ c.self.inside.second ∷ c.self.inside.third ∷ c.self.inside.fourth ∷ []) s1 1 c.run-2.result.now c.self.inside.second (level_is c.args.levels.now 1 c.known.ensures.levels (omega arith) ∙ ap (λ (r : Kept). Some r) (sym c.run-2.ensures.run)) refl (g.B.Nand.state c.seek-2.new.board) c.seek-2.new.cursor c.in-Ok-seek.ensures.follows c.in-Ok-seek.ensures.shape c.known.ensures.levels c.in-Ok-seek.ensures.ready c.in-Ok-seek.ensures.reads c.in-Ok-seek.ensures.passed c.in-Ok-seek.ensures.all in
+    let s3 : Rows c.args.levels.now c.args.arena.now c.args.position.now (g.B.Nand.state c.args.board.now) (g.B.Nand.state c.seek-3.new.board) (c.self.inside.first ∷ c.self.inside.second ∷ c.self.inside.third ∷ c.self.inside.fourth ∷ []) (c.seek.new.cursor ∷ c.seek-2.new.cursor ∷ c.seek-3.new.cursor ∷ c.self.inside.fourth ∷ []) = Rows-next c.args.levels.now c.args.arena.now c.args.position.now (g.B.Nand.state c.args.board.now) (g.B.Nand.state c.seek-2.new.board) (c.self.inside.first ∷ c.self.inside.second ∷ c.self.inside.third ∷ c.self.inside.fourth ∷ []) (c.seek.new.cursor ∷ c.seek-2.new.cursor ∷ c.self.inside.third ∷ c.self.inside.fourth ∷ []) s2 2 c.run-3.result.now c.self.inside.third (level_is c.args.levels.now 2 c.known.ensures.levels (omega arith) ∙ ap (λ (r : Kept). Some r) (sym c.run-3.ensures.run)) refl (g.B.Nand.state c.seek-3.new.board) c.seek-3.new.cursor c.in-Ok-seek-2.ensures.follows c.in-Ok-seek-2.ensures.shape c.known.ensures.levels c.in-Ok-seek-2.ensures.ready c.in-Ok-seek-2.ensures.reads c.in-Ok-seek-2.ensures.passed c.in-Ok-seek-2.ensures.all in
     follow_failed c.args.levels.now c.args.arena.now c.args.position.now (g.B.Nand.state c.args.board.now) (g.B.Nand.state c.seek-3.new.board) (c.self.inside.first ∷ c.self.inside.second ∷ c.self.inside.third ∷ c.self.inside.fourth ∷ []) (c.seek.new.cursor ∷ c.seek-2.new.cursor ∷ c.seek-3.new.cursor ∷ c.self.inside.fourth ∷ []) s3 3 c.run-4.result.now c.self.inside.fourth (level_is c.args.levels.now 3 c.known.ensures.levels (omega arith) ∙ ap (λ (r : Kept). Some r) (sym c.run-4.ensures.run)) refl (g.B.Nand.state c.seek-4.new.board) c.seek-4.new.cursor c.in-Err-seek-3.ensures.follows c.in-Err-seek-3.ensures.shape ess each
 
 pub returns-in-Err-seek-3-clause-err : goal.returns-in-Err-seek-3-clause-err
@@ -80,9 +88,9 @@ returns-in-Err-seek-3-clause-err g c =
     let follow = rw (← c.self.view_is) at c.requires.follow in
     let shape = rw (← c.self.view_is) at c.requires.shape in
     let s0 : Rows c.args.levels.now c.args.arena.now c.args.position.now (g.B.Nand.state c.args.board.now) (g.B.Nand.state c.args.board.now) (c.self.inside.first ∷ c.self.inside.second ∷ c.self.inside.third ∷ c.self.inside.fourth ∷ []) (c.self.inside.first ∷ c.self.inside.second ∷ c.self.inside.third ∷ c.self.inside.fourth ∷ []) = Rows-start c.args.levels.now c.args.arena.now c.args.position.now (g.B.Nand.state c.args.board.now) (c.self.inside.first ∷ c.self.inside.second ∷ c.self.inside.third ∷ c.self.inside.fourth ∷ []) follow.0 c.requires.ready shape follow.1 follow.2 in
-    let s1 : Rows c.args.levels.now c.args.arena.now c.args.position.now (g.B.Nand.state c.args.board.now) (g.B.Nand.state c.seek.new.board) (c.self.inside.first ∷ c.self.inside.second ∷ c.self.inside.third ∷ c.self.inside.fourth ∷ []) (c.seek.new.cursor ∷ c.self.inside.second ∷ c.self.inside.third ∷ c.self.inside.fourth ∷ []) = Rows-next c.args.levels.now c.args.arena.now c.args.position.now (g.B.Nand.state c.args.board.now) (g.B.Nand.state c.args.board.now) (c.self.inside.first ∷ c.self.inside.second ∷ c.self.inside.third ∷ c.self.inside.fourth ∷ []) (c.self.inside.first ∷ c.self.inside.second ∷ c.self.inside.third ∷ c.self.inside.fourth ∷ []) s0 0 c.run.result.now c.self.inside.first (level_is c.args.levels.now 0 c.known.ensures.levels (omega arith) ∙ ap (λ (r : Kept). Some r) (sym c.run.ensures.run)) refl (g.B.Nand.state c.seek.new.board) c.seek.new.cursor c.in-Ok.ensures.follows c.in-Ok.ensures.shape c.known.ensures.levels c.in-Ok.ensures.ready c.in-Ok.ensures.reads in
-    let s2 : Rows c.args.levels.now c.args.arena.now c.args.position.now (g.B.Nand.state c.args.board.now) (g.B.Nand.state c.seek-2.new.board) (c.self.inside.first ∷ c.self.inside.second ∷ c.self.inside.third ∷ c.self.inside.fourth ∷ []) (c.seek.new.cursor ∷ c.seek-2.new.cursor ∷ c.self.inside.third ∷ c.self.inside.fourth ∷ []) = Rows-next c.args.levels.now c.args.arena.now c.args.position.now (g.B.Nand.state c.args.board.now) (g.B.Nand.state c.seek.new.board) (c.self.inside.first ∷ c.self.inside.second ∷ c.self.inside.third ∷ c.self.inside.fourth ∷ []) (c.seek.new.cursor ∷ c.self.inside.second ∷ c.self.inside.third ∷ c.self.inside.fourth ∷ []) s1 1 c.run-2.result.now c.self.inside.second (level_is c.args.levels.now 1 c.known.ensures.levels (omega arith) ∙ ap (λ (r : Kept). Some r) (sym c.run-2.ensures.run)) refl (g.B.Nand.state c.seek-2.new.board) c.seek-2.new.cursor c.in-Ok-seek.ensures.follows c.in-Ok-seek.ensures.shape c.known.ensures.levels c.in-Ok-seek.ensures.ready c.in-Ok-seek.ensures.reads in
-    let s3 : Rows c.args.levels.now c.args.arena.now c.args.position.now (g.B.Nand.state c.args.board.now) (g.B.Nand.state c.seek-3.new.board) (c.self.inside.first ∷ c.self.inside.second ∷ c.self.inside.third ∷ c.self.inside.fourth ∷ []) (c.seek.new.cursor ∷ c.seek-2.new.cursor ∷ c.seek-3.new.cursor ∷ c.self.inside.fourth ∷ []) = Rows-next c.args.levels.now c.args.arena.now c.args.position.now (g.B.Nand.state c.args.board.now) (g.B.Nand.state c.seek-2.new.board) (c.self.inside.first ∷ c.self.inside.second ∷ c.self.inside.third ∷ c.self.inside.fourth ∷ []) (c.seek.new.cursor ∷ c.seek-2.new.cursor ∷ c.self.inside.third ∷ c.self.inside.fourth ∷ []) s2 2 c.run-3.result.now c.self.inside.third (level_is c.args.levels.now 2 c.known.ensures.levels (omega arith) ∙ ap (λ (r : Kept). Some r) (sym c.run-3.ensures.run)) refl (g.B.Nand.state c.seek-3.new.board) c.seek-3.new.cursor c.in-Ok-seek-2.ensures.follows c.in-Ok-seek-2.ensures.shape c.known.ensures.levels c.in-Ok-seek-2.ensures.ready c.in-Ok-seek-2.ensures.reads in
+    let s1 : Rows c.args.levels.now c.args.arena.now c.args.position.now (g.B.Nand.state c.args.board.now) (g.B.Nand.state c.seek.new.board) (c.self.inside.first ∷ c.self.inside.second ∷ c.self.inside.third ∷ c.self.inside.fourth ∷ []) (c.seek.new.cursor ∷ c.self.inside.second ∷ c.self.inside.third ∷ c.self.inside.fourth ∷ []) = Rows-next c.args.levels.now c.args.arena.now c.args.position.now (g.B.Nand.state c.args.board.now) (g.B.Nand.state c.args.board.now) (c.self.inside.first ∷ c.self.inside.second ∷ c.self.inside.third ∷ c.self.inside.fourth ∷ []) (c.self.inside.first ∷ c.self.inside.second ∷ c.self.inside.third ∷ c.self.inside.fourth ∷ []) s0 0 c.run.result.now c.self.inside.first (level_is c.args.levels.now 0 c.known.ensures.levels (omega arith) ∙ ap (λ (r : Kept). Some r) (sym c.run.ensures.run)) refl (g.B.Nand.state c.seek.new.board) c.seek.new.cursor c.in-Ok.ensures.follows c.in-Ok.ensures.shape c.known.ensures.levels c.in-Ok.ensures.ready c.in-Ok.ensures.reads c.in-Ok.ensures.passed c.in-Ok.ensures.all in
+    let s2 : Rows c.args.levels.now c.args.arena.now c.args.position.now (g.B.Nand.state c.args.board.now) (g.B.Nand.state c.seek-2.new.board) (c.self.inside.first ∷ c.self.inside.second ∷ c.self.inside.third ∷ c.self.inside.fourth ∷ []) (c.seek.new.cursor ∷ c.seek-2.new.cursor ∷ c.self.inside.third ∷ c.self.inside.fourth ∷ []) = Rows-next c.args.levels.now c.args.arena.now c.args.position.now (g.B.Nand.state c.args.board.now) (g.B.Nand.state c.seek.new.board) (c.self.inside.first ∷ c.self.inside.second ∷ c.self.inside.third ∷ c.self.inside.fourth ∷ []) (c.seek.new.cursor ∷ c.self.inside.second ∷ c.self.inside.third ∷ c.self.inside.fourth ∷ []) s1 1 c.run-2.result.now c.self.inside.second (level_is c.args.levels.now 1 c.known.ensures.levels (omega arith) ∙ ap (λ (r : Kept). Some r) (sym c.run-2.ensures.run)) refl (g.B.Nand.state c.seek-2.new.board) c.seek-2.new.cursor c.in-Ok-seek.ensures.follows c.in-Ok-seek.ensures.shape c.known.ensures.levels c.in-Ok-seek.ensures.ready c.in-Ok-seek.ensures.reads c.in-Ok-seek.ensures.passed c.in-Ok-seek.ensures.all in
+    let s3 : Rows c.args.levels.now c.args.arena.now c.args.position.now (g.B.Nand.state c.args.board.now) (g.B.Nand.state c.seek-3.new.board) (c.self.inside.first ∷ c.self.inside.second ∷ c.self.inside.third ∷ c.self.inside.fourth ∷ []) (c.seek.new.cursor ∷ c.seek-2.new.cursor ∷ c.seek-3.new.cursor ∷ c.self.inside.fourth ∷ []) = Rows-next c.args.levels.now c.args.arena.now c.args.position.now (g.B.Nand.state c.args.board.now) (g.B.Nand.state c.seek-2.new.board) (c.self.inside.first ∷ c.self.inside.second ∷ c.self.inside.third ∷ c.self.inside.fourth ∷ []) (c.seek.new.cursor ∷ c.seek-2.new.cursor ∷ c.self.inside.third ∷ c.self.inside.fourth ∷ []) s2 2 c.run-3.result.now c.self.inside.third (level_is c.args.levels.now 2 c.known.ensures.levels (omega arith) ∙ ap (λ (r : Kept). Some r) (sym c.run-3.ensures.run)) refl (g.B.Nand.state c.seek-3.new.board) c.seek-3.new.cursor c.in-Ok-seek-2.ensures.follows c.in-Ok-seek-2.ensures.shape c.known.ensures.levels c.in-Ok-seek-2.ensures.ready c.in-Ok-seek-2.ensures.reads c.in-Ok-seek-2.ensures.passed c.in-Ok-seek-2.ensures.all in
     rw (← c.self.view_is) (Rows-failed c.args.levels.now c.args.arena.now c.args.position.now (g.B.Nand.state c.args.board.now) (g.B.Nand.state c.seek-3.new.board) (c.self.inside.first ∷ c.self.inside.second ∷ c.self.inside.third ∷ c.self.inside.fourth ∷ []) (c.seek.new.cursor ∷ c.seek-2.new.cursor ∷ c.seek-3.new.cursor ∷ c.self.inside.fourth ∷ []) s3 3 c.run-4.result.now c.self.inside.fourth (level_is c.args.levels.now 3 c.known.ensures.levels (omega arith) ∙ ap (λ (r : Kept). Some r) (sym c.run-4.ensures.run)) refl (g.B.Nand.state c.seek-4.new.board) c.seek-4.new.cursor c.in-Err-seek-3.ensures.follows c.in-Err-seek-3.ensures.shape c.in-Err-seek-3.ensures.err)
 
 pub returns-clause-follow : goal.returns-clause-follow
@@ -90,10 +98,10 @@ returns-clause-follow g c ess each =
     let follow = rw (← c.self.view_is) at c.requires.follow in
     let shape = rw (← c.self.view_is) at c.requires.shape in
     let s0 : Rows c.args.levels.now c.args.arena.now c.args.position.now (g.B.Nand.state c.args.board.now) (g.B.Nand.state c.args.board.now) (c.self.inside.first ∷ c.self.inside.second ∷ c.self.inside.third ∷ c.self.inside.fourth ∷ []) (c.self.inside.first ∷ c.self.inside.second ∷ c.self.inside.third ∷ c.self.inside.fourth ∷ []) = Rows-start c.args.levels.now c.args.arena.now c.args.position.now (g.B.Nand.state c.args.board.now) (c.self.inside.first ∷ c.self.inside.second ∷ c.self.inside.third ∷ c.self.inside.fourth ∷ []) follow.0 c.requires.ready shape follow.1 follow.2 in
-    let s1 : Rows c.args.levels.now c.args.arena.now c.args.position.now (g.B.Nand.state c.args.board.now) (g.B.Nand.state c.seek.new.board) (c.self.inside.first ∷ c.self.inside.second ∷ c.self.inside.third ∷ c.self.inside.fourth ∷ []) (c.seek.new.cursor ∷ c.self.inside.second ∷ c.self.inside.third ∷ c.self.inside.fourth ∷ []) = Rows-next c.args.levels.now c.args.arena.now c.args.position.now (g.B.Nand.state c.args.board.now) (g.B.Nand.state c.args.board.now) (c.self.inside.first ∷ c.self.inside.second ∷ c.self.inside.third ∷ c.self.inside.fourth ∷ []) (c.self.inside.first ∷ c.self.inside.second ∷ c.self.inside.third ∷ c.self.inside.fourth ∷ []) s0 0 c.run.result.now c.self.inside.first (level_is c.args.levels.now 0 c.known.ensures.levels (omega arith) ∙ ap (λ (r : Kept). Some r) (sym c.run.ensures.run)) refl (g.B.Nand.state c.seek.new.board) c.seek.new.cursor c.in-Ok.ensures.follows c.in-Ok.ensures.shape c.known.ensures.levels c.in-Ok.ensures.ready c.in-Ok.ensures.reads in
-    let s2 : Rows c.args.levels.now c.args.arena.now c.args.position.now (g.B.Nand.state c.args.board.now) (g.B.Nand.state c.seek-2.new.board) (c.self.inside.first ∷ c.self.inside.second ∷ c.self.inside.third ∷ c.self.inside.fourth ∷ []) (c.seek.new.cursor ∷ c.seek-2.new.cursor ∷ c.self.inside.third ∷ c.self.inside.fourth ∷ []) = Rows-next c.args.levels.now c.args.arena.now c.args.position.now (g.B.Nand.state c.args.board.now) (g.B.Nand.state c.seek.new.board) (c.self.inside.first ∷ c.self.inside.second ∷ c.self.inside.third ∷ c.self.inside.fourth ∷ []) (c.seek.new.cursor ∷ c.self.inside.second ∷ c.self.inside.third ∷ c.self.inside.fourth ∷ []) s1 1 c.run-2.result.now c.self.inside.second (level_is c.args.levels.now 1 c.known.ensures.levels (omega arith) ∙ ap (λ (r : Kept). Some r) (sym c.run-2.ensures.run)) refl (g.B.Nand.state c.seek-2.new.board) c.seek-2.new.cursor c.in-Ok-seek.ensures.follows c.in-Ok-seek.ensures.shape c.known.ensures.levels c.in-Ok-seek.ensures.ready c.in-Ok-seek.ensures.reads in
-    let s3 : Rows c.args.levels.now c.args.arena.now c.args.position.now (g.B.Nand.state c.args.board.now) (g.B.Nand.state c.seek-3.new.board) (c.self.inside.first ∷ c.self.inside.second ∷ c.self.inside.third ∷ c.self.inside.fourth ∷ []) (c.seek.new.cursor ∷ c.seek-2.new.cursor ∷ c.seek-3.new.cursor ∷ c.self.inside.fourth ∷ []) = Rows-next c.args.levels.now c.args.arena.now c.args.position.now (g.B.Nand.state c.args.board.now) (g.B.Nand.state c.seek-2.new.board) (c.self.inside.first ∷ c.self.inside.second ∷ c.self.inside.third ∷ c.self.inside.fourth ∷ []) (c.seek.new.cursor ∷ c.seek-2.new.cursor ∷ c.self.inside.third ∷ c.self.inside.fourth ∷ []) s2 2 c.run-3.result.now c.self.inside.third (level_is c.args.levels.now 2 c.known.ensures.levels (omega arith) ∙ ap (λ (r : Kept). Some r) (sym c.run-3.ensures.run)) refl (g.B.Nand.state c.seek-3.new.board) c.seek-3.new.cursor c.in-Ok-seek-2.ensures.follows c.in-Ok-seek-2.ensures.shape c.known.ensures.levels c.in-Ok-seek-2.ensures.ready c.in-Ok-seek-2.ensures.reads in
-    let s4 : Rows c.args.levels.now c.args.arena.now c.args.position.now (g.B.Nand.state c.args.board.now) (g.B.Nand.state c.seek-4.new.board) (c.self.inside.first ∷ c.self.inside.second ∷ c.self.inside.third ∷ c.self.inside.fourth ∷ []) (c.seek.new.cursor ∷ c.seek-2.new.cursor ∷ c.seek-3.new.cursor ∷ c.seek-4.new.cursor ∷ []) = Rows-next c.args.levels.now c.args.arena.now c.args.position.now (g.B.Nand.state c.args.board.now) (g.B.Nand.state c.seek-3.new.board) (c.self.inside.first ∷ c.self.inside.second ∷ c.self.inside.third ∷ c.self.inside.fourth ∷ []) (c.seek.new.cursor ∷ c.seek-2.new.cursor ∷ c.seek-3.new.cursor ∷ c.self.inside.fourth ∷ []) s3 3 c.run-4.result.now c.self.inside.fourth (level_is c.args.levels.now 3 c.known.ensures.levels (omega arith) ∙ ap (λ (r : Kept). Some r) (sym c.run-4.ensures.run)) refl (g.B.Nand.state c.seek-4.new.board) c.seek-4.new.cursor c.in-Ok-seek-3.ensures.follows c.in-Ok-seek-3.ensures.shape c.known.ensures.levels c.in-Ok-seek-3.ensures.ready c.in-Ok-seek-3.ensures.reads in
+    let s1 : Rows c.args.levels.now c.args.arena.now c.args.position.now (g.B.Nand.state c.args.board.now) (g.B.Nand.state c.seek.new.board) (c.self.inside.first ∷ c.self.inside.second ∷ c.self.inside.third ∷ c.self.inside.fourth ∷ []) (c.seek.new.cursor ∷ c.self.inside.second ∷ c.self.inside.third ∷ c.self.inside.fourth ∷ []) = Rows-next c.args.levels.now c.args.arena.now c.args.position.now (g.B.Nand.state c.args.board.now) (g.B.Nand.state c.args.board.now) (c.self.inside.first ∷ c.self.inside.second ∷ c.self.inside.third ∷ c.self.inside.fourth ∷ []) (c.self.inside.first ∷ c.self.inside.second ∷ c.self.inside.third ∷ c.self.inside.fourth ∷ []) s0 0 c.run.result.now c.self.inside.first (level_is c.args.levels.now 0 c.known.ensures.levels (omega arith) ∙ ap (λ (r : Kept). Some r) (sym c.run.ensures.run)) refl (g.B.Nand.state c.seek.new.board) c.seek.new.cursor c.in-Ok.ensures.follows c.in-Ok.ensures.shape c.known.ensures.levels c.in-Ok.ensures.ready c.in-Ok.ensures.reads c.in-Ok.ensures.passed c.in-Ok.ensures.all in
+    let s2 : Rows c.args.levels.now c.args.arena.now c.args.position.now (g.B.Nand.state c.args.board.now) (g.B.Nand.state c.seek-2.new.board) (c.self.inside.first ∷ c.self.inside.second ∷ c.self.inside.third ∷ c.self.inside.fourth ∷ []) (c.seek.new.cursor ∷ c.seek-2.new.cursor ∷ c.self.inside.third ∷ c.self.inside.fourth ∷ []) = Rows-next c.args.levels.now c.args.arena.now c.args.position.now (g.B.Nand.state c.args.board.now) (g.B.Nand.state c.seek.new.board) (c.self.inside.first ∷ c.self.inside.second ∷ c.self.inside.third ∷ c.self.inside.fourth ∷ []) (c.seek.new.cursor ∷ c.self.inside.second ∷ c.self.inside.third ∷ c.self.inside.fourth ∷ []) s1 1 c.run-2.result.now c.self.inside.second (level_is c.args.levels.now 1 c.known.ensures.levels (omega arith) ∙ ap (λ (r : Kept). Some r) (sym c.run-2.ensures.run)) refl (g.B.Nand.state c.seek-2.new.board) c.seek-2.new.cursor c.in-Ok-seek.ensures.follows c.in-Ok-seek.ensures.shape c.known.ensures.levels c.in-Ok-seek.ensures.ready c.in-Ok-seek.ensures.reads c.in-Ok-seek.ensures.passed c.in-Ok-seek.ensures.all in
+    let s3 : Rows c.args.levels.now c.args.arena.now c.args.position.now (g.B.Nand.state c.args.board.now) (g.B.Nand.state c.seek-3.new.board) (c.self.inside.first ∷ c.self.inside.second ∷ c.self.inside.third ∷ c.self.inside.fourth ∷ []) (c.seek.new.cursor ∷ c.seek-2.new.cursor ∷ c.seek-3.new.cursor ∷ c.self.inside.fourth ∷ []) = Rows-next c.args.levels.now c.args.arena.now c.args.position.now (g.B.Nand.state c.args.board.now) (g.B.Nand.state c.seek-2.new.board) (c.self.inside.first ∷ c.self.inside.second ∷ c.self.inside.third ∷ c.self.inside.fourth ∷ []) (c.seek.new.cursor ∷ c.seek-2.new.cursor ∷ c.self.inside.third ∷ c.self.inside.fourth ∷ []) s2 2 c.run-3.result.now c.self.inside.third (level_is c.args.levels.now 2 c.known.ensures.levels (omega arith) ∙ ap (λ (r : Kept). Some r) (sym c.run-3.ensures.run)) refl (g.B.Nand.state c.seek-3.new.board) c.seek-3.new.cursor c.in-Ok-seek-2.ensures.follows c.in-Ok-seek-2.ensures.shape c.known.ensures.levels c.in-Ok-seek-2.ensures.ready c.in-Ok-seek-2.ensures.reads c.in-Ok-seek-2.ensures.passed c.in-Ok-seek-2.ensures.all in
+    let s4 : Rows c.args.levels.now c.args.arena.now c.args.position.now (g.B.Nand.state c.args.board.now) (g.B.Nand.state c.seek-4.new.board) (c.self.inside.first ∷ c.self.inside.second ∷ c.self.inside.third ∷ c.self.inside.fourth ∷ []) (c.seek.new.cursor ∷ c.seek-2.new.cursor ∷ c.seek-3.new.cursor ∷ c.seek-4.new.cursor ∷ []) = Rows-next c.args.levels.now c.args.arena.now c.args.position.now (g.B.Nand.state c.args.board.now) (g.B.Nand.state c.seek-3.new.board) (c.self.inside.first ∷ c.self.inside.second ∷ c.self.inside.third ∷ c.self.inside.fourth ∷ []) (c.seek.new.cursor ∷ c.seek-2.new.cursor ∷ c.seek-3.new.cursor ∷ c.self.inside.fourth ∷ []) s3 3 c.run-4.result.now c.self.inside.fourth (level_is c.args.levels.now 3 c.known.ensures.levels (omega arith) ∙ ap (λ (r : Kept). Some r) (sym c.run-4.ensures.run)) refl (g.B.Nand.state c.seek-4.new.board) c.seek-4.new.cursor c.in-Ok-seek-3.ensures.follows c.in-Ok-seek-3.ensures.shape c.known.ensures.levels c.in-Ok-seek-3.ensures.ready c.in-Ok-seek-3.ensures.reads c.in-Ok-seek-3.ensures.passed c.in-Ok-seek-3.ensures.all in
     follow_any c.args.levels.now c.args.arena.now c.args.position.now (g.B.Nand.state c.args.board.now) (g.B.Nand.state c.seek-4.new.board) (c.self.inside.first ∷ c.self.inside.second ∷ c.self.inside.third ∷ c.self.inside.fourth ∷ []) (c.seek.new.cursor ∷ c.seek-2.new.cursor ∷ c.seek-3.new.cursor ∷ c.seek-4.new.cursor ∷ []) s4 ess each
 
 pub returns-clause-reads : goal.returns-clause-reads
@@ -101,10 +109,10 @@ returns-clause-reads g c =
     let follow = rw (← c.self.view_is) at c.requires.follow in
     let shape = rw (← c.self.view_is) at c.requires.shape in
     let s0 : Rows c.args.levels.now c.args.arena.now c.args.position.now (g.B.Nand.state c.args.board.now) (g.B.Nand.state c.args.board.now) (c.self.inside.first ∷ c.self.inside.second ∷ c.self.inside.third ∷ c.self.inside.fourth ∷ []) (c.self.inside.first ∷ c.self.inside.second ∷ c.self.inside.third ∷ c.self.inside.fourth ∷ []) = Rows-start c.args.levels.now c.args.arena.now c.args.position.now (g.B.Nand.state c.args.board.now) (c.self.inside.first ∷ c.self.inside.second ∷ c.self.inside.third ∷ c.self.inside.fourth ∷ []) follow.0 c.requires.ready shape follow.1 follow.2 in
-    let s1 : Rows c.args.levels.now c.args.arena.now c.args.position.now (g.B.Nand.state c.args.board.now) (g.B.Nand.state c.seek.new.board) (c.self.inside.first ∷ c.self.inside.second ∷ c.self.inside.third ∷ c.self.inside.fourth ∷ []) (c.seek.new.cursor ∷ c.self.inside.second ∷ c.self.inside.third ∷ c.self.inside.fourth ∷ []) = Rows-next c.args.levels.now c.args.arena.now c.args.position.now (g.B.Nand.state c.args.board.now) (g.B.Nand.state c.args.board.now) (c.self.inside.first ∷ c.self.inside.second ∷ c.self.inside.third ∷ c.self.inside.fourth ∷ []) (c.self.inside.first ∷ c.self.inside.second ∷ c.self.inside.third ∷ c.self.inside.fourth ∷ []) s0 0 c.run.result.now c.self.inside.first (level_is c.args.levels.now 0 c.known.ensures.levels (omega arith) ∙ ap (λ (r : Kept). Some r) (sym c.run.ensures.run)) refl (g.B.Nand.state c.seek.new.board) c.seek.new.cursor c.in-Ok.ensures.follows c.in-Ok.ensures.shape c.known.ensures.levels c.in-Ok.ensures.ready c.in-Ok.ensures.reads in
-    let s2 : Rows c.args.levels.now c.args.arena.now c.args.position.now (g.B.Nand.state c.args.board.now) (g.B.Nand.state c.seek-2.new.board) (c.self.inside.first ∷ c.self.inside.second ∷ c.self.inside.third ∷ c.self.inside.fourth ∷ []) (c.seek.new.cursor ∷ c.seek-2.new.cursor ∷ c.self.inside.third ∷ c.self.inside.fourth ∷ []) = Rows-next c.args.levels.now c.args.arena.now c.args.position.now (g.B.Nand.state c.args.board.now) (g.B.Nand.state c.seek.new.board) (c.self.inside.first ∷ c.self.inside.second ∷ c.self.inside.third ∷ c.self.inside.fourth ∷ []) (c.seek.new.cursor ∷ c.self.inside.second ∷ c.self.inside.third ∷ c.self.inside.fourth ∷ []) s1 1 c.run-2.result.now c.self.inside.second (level_is c.args.levels.now 1 c.known.ensures.levels (omega arith) ∙ ap (λ (r : Kept). Some r) (sym c.run-2.ensures.run)) refl (g.B.Nand.state c.seek-2.new.board) c.seek-2.new.cursor c.in-Ok-seek.ensures.follows c.in-Ok-seek.ensures.shape c.known.ensures.levels c.in-Ok-seek.ensures.ready c.in-Ok-seek.ensures.reads in
-    let s3 : Rows c.args.levels.now c.args.arena.now c.args.position.now (g.B.Nand.state c.args.board.now) (g.B.Nand.state c.seek-3.new.board) (c.self.inside.first ∷ c.self.inside.second ∷ c.self.inside.third ∷ c.self.inside.fourth ∷ []) (c.seek.new.cursor ∷ c.seek-2.new.cursor ∷ c.seek-3.new.cursor ∷ c.self.inside.fourth ∷ []) = Rows-next c.args.levels.now c.args.arena.now c.args.position.now (g.B.Nand.state c.args.board.now) (g.B.Nand.state c.seek-2.new.board) (c.self.inside.first ∷ c.self.inside.second ∷ c.self.inside.third ∷ c.self.inside.fourth ∷ []) (c.seek.new.cursor ∷ c.seek-2.new.cursor ∷ c.self.inside.third ∷ c.self.inside.fourth ∷ []) s2 2 c.run-3.result.now c.self.inside.third (level_is c.args.levels.now 2 c.known.ensures.levels (omega arith) ∙ ap (λ (r : Kept). Some r) (sym c.run-3.ensures.run)) refl (g.B.Nand.state c.seek-3.new.board) c.seek-3.new.cursor c.in-Ok-seek-2.ensures.follows c.in-Ok-seek-2.ensures.shape c.known.ensures.levels c.in-Ok-seek-2.ensures.ready c.in-Ok-seek-2.ensures.reads in
-    let s4 : Rows c.args.levels.now c.args.arena.now c.args.position.now (g.B.Nand.state c.args.board.now) (g.B.Nand.state c.seek-4.new.board) (c.self.inside.first ∷ c.self.inside.second ∷ c.self.inside.third ∷ c.self.inside.fourth ∷ []) (c.seek.new.cursor ∷ c.seek-2.new.cursor ∷ c.seek-3.new.cursor ∷ c.seek-4.new.cursor ∷ []) = Rows-next c.args.levels.now c.args.arena.now c.args.position.now (g.B.Nand.state c.args.board.now) (g.B.Nand.state c.seek-3.new.board) (c.self.inside.first ∷ c.self.inside.second ∷ c.self.inside.third ∷ c.self.inside.fourth ∷ []) (c.seek.new.cursor ∷ c.seek-2.new.cursor ∷ c.seek-3.new.cursor ∷ c.self.inside.fourth ∷ []) s3 3 c.run-4.result.now c.self.inside.fourth (level_is c.args.levels.now 3 c.known.ensures.levels (omega arith) ∙ ap (λ (r : Kept). Some r) (sym c.run-4.ensures.run)) refl (g.B.Nand.state c.seek-4.new.board) c.seek-4.new.cursor c.in-Ok-seek-3.ensures.follows c.in-Ok-seek-3.ensures.shape c.known.ensures.levels c.in-Ok-seek-3.ensures.ready c.in-Ok-seek-3.ensures.reads in
+    let s1 : Rows c.args.levels.now c.args.arena.now c.args.position.now (g.B.Nand.state c.args.board.now) (g.B.Nand.state c.seek.new.board) (c.self.inside.first ∷ c.self.inside.second ∷ c.self.inside.third ∷ c.self.inside.fourth ∷ []) (c.seek.new.cursor ∷ c.self.inside.second ∷ c.self.inside.third ∷ c.self.inside.fourth ∷ []) = Rows-next c.args.levels.now c.args.arena.now c.args.position.now (g.B.Nand.state c.args.board.now) (g.B.Nand.state c.args.board.now) (c.self.inside.first ∷ c.self.inside.second ∷ c.self.inside.third ∷ c.self.inside.fourth ∷ []) (c.self.inside.first ∷ c.self.inside.second ∷ c.self.inside.third ∷ c.self.inside.fourth ∷ []) s0 0 c.run.result.now c.self.inside.first (level_is c.args.levels.now 0 c.known.ensures.levels (omega arith) ∙ ap (λ (r : Kept). Some r) (sym c.run.ensures.run)) refl (g.B.Nand.state c.seek.new.board) c.seek.new.cursor c.in-Ok.ensures.follows c.in-Ok.ensures.shape c.known.ensures.levels c.in-Ok.ensures.ready c.in-Ok.ensures.reads c.in-Ok.ensures.passed c.in-Ok.ensures.all in
+    let s2 : Rows c.args.levels.now c.args.arena.now c.args.position.now (g.B.Nand.state c.args.board.now) (g.B.Nand.state c.seek-2.new.board) (c.self.inside.first ∷ c.self.inside.second ∷ c.self.inside.third ∷ c.self.inside.fourth ∷ []) (c.seek.new.cursor ∷ c.seek-2.new.cursor ∷ c.self.inside.third ∷ c.self.inside.fourth ∷ []) = Rows-next c.args.levels.now c.args.arena.now c.args.position.now (g.B.Nand.state c.args.board.now) (g.B.Nand.state c.seek.new.board) (c.self.inside.first ∷ c.self.inside.second ∷ c.self.inside.third ∷ c.self.inside.fourth ∷ []) (c.seek.new.cursor ∷ c.self.inside.second ∷ c.self.inside.third ∷ c.self.inside.fourth ∷ []) s1 1 c.run-2.result.now c.self.inside.second (level_is c.args.levels.now 1 c.known.ensures.levels (omega arith) ∙ ap (λ (r : Kept). Some r) (sym c.run-2.ensures.run)) refl (g.B.Nand.state c.seek-2.new.board) c.seek-2.new.cursor c.in-Ok-seek.ensures.follows c.in-Ok-seek.ensures.shape c.known.ensures.levels c.in-Ok-seek.ensures.ready c.in-Ok-seek.ensures.reads c.in-Ok-seek.ensures.passed c.in-Ok-seek.ensures.all in
+    let s3 : Rows c.args.levels.now c.args.arena.now c.args.position.now (g.B.Nand.state c.args.board.now) (g.B.Nand.state c.seek-3.new.board) (c.self.inside.first ∷ c.self.inside.second ∷ c.self.inside.third ∷ c.self.inside.fourth ∷ []) (c.seek.new.cursor ∷ c.seek-2.new.cursor ∷ c.seek-3.new.cursor ∷ c.self.inside.fourth ∷ []) = Rows-next c.args.levels.now c.args.arena.now c.args.position.now (g.B.Nand.state c.args.board.now) (g.B.Nand.state c.seek-2.new.board) (c.self.inside.first ∷ c.self.inside.second ∷ c.self.inside.third ∷ c.self.inside.fourth ∷ []) (c.seek.new.cursor ∷ c.seek-2.new.cursor ∷ c.self.inside.third ∷ c.self.inside.fourth ∷ []) s2 2 c.run-3.result.now c.self.inside.third (level_is c.args.levels.now 2 c.known.ensures.levels (omega arith) ∙ ap (λ (r : Kept). Some r) (sym c.run-3.ensures.run)) refl (g.B.Nand.state c.seek-3.new.board) c.seek-3.new.cursor c.in-Ok-seek-2.ensures.follows c.in-Ok-seek-2.ensures.shape c.known.ensures.levels c.in-Ok-seek-2.ensures.ready c.in-Ok-seek-2.ensures.reads c.in-Ok-seek-2.ensures.passed c.in-Ok-seek-2.ensures.all in
+    let s4 : Rows c.args.levels.now c.args.arena.now c.args.position.now (g.B.Nand.state c.args.board.now) (g.B.Nand.state c.seek-4.new.board) (c.self.inside.first ∷ c.self.inside.second ∷ c.self.inside.third ∷ c.self.inside.fourth ∷ []) (c.seek.new.cursor ∷ c.seek-2.new.cursor ∷ c.seek-3.new.cursor ∷ c.seek-4.new.cursor ∷ []) = Rows-next c.args.levels.now c.args.arena.now c.args.position.now (g.B.Nand.state c.args.board.now) (g.B.Nand.state c.seek-3.new.board) (c.self.inside.first ∷ c.self.inside.second ∷ c.self.inside.third ∷ c.self.inside.fourth ∷ []) (c.seek.new.cursor ∷ c.seek-2.new.cursor ∷ c.seek-3.new.cursor ∷ c.self.inside.fourth ∷ []) s3 3 c.run-4.result.now c.self.inside.fourth (level_is c.args.levels.now 3 c.known.ensures.levels (omega arith) ∙ ap (λ (r : Kept). Some r) (sym c.run-4.ensures.run)) refl (g.B.Nand.state c.seek-4.new.board) c.seek-4.new.cursor c.in-Ok-seek-3.ensures.follows c.in-Ok-seek-3.ensures.shape c.known.ensures.levels c.in-Ok-seek-3.ensures.ready c.in-Ok-seek-3.ensures.reads c.in-Ok-seek-3.ensures.passed c.in-Ok-seek-3.ensures.all in
     rw (← c.self.view_is) s4.reads
 
 pub returns-clause-found : goal.returns-clause-found
@@ -112,12 +120,35 @@ returns-clause-found g c ess each =
     let follow = rw (← c.self.view_is) at c.requires.follow in
     let shape = rw (← c.self.view_is) at c.requires.shape in
     let s0 : Rows c.args.levels.now c.args.arena.now c.args.position.now (g.B.Nand.state c.args.board.now) (g.B.Nand.state c.args.board.now) (c.self.inside.first ∷ c.self.inside.second ∷ c.self.inside.third ∷ c.self.inside.fourth ∷ []) (c.self.inside.first ∷ c.self.inside.second ∷ c.self.inside.third ∷ c.self.inside.fourth ∷ []) = Rows-start c.args.levels.now c.args.arena.now c.args.position.now (g.B.Nand.state c.args.board.now) (c.self.inside.first ∷ c.self.inside.second ∷ c.self.inside.third ∷ c.self.inside.fourth ∷ []) follow.0 c.requires.ready shape follow.1 follow.2 in
-    let s1 : Rows c.args.levels.now c.args.arena.now c.args.position.now (g.B.Nand.state c.args.board.now) (g.B.Nand.state c.seek.new.board) (c.self.inside.first ∷ c.self.inside.second ∷ c.self.inside.third ∷ c.self.inside.fourth ∷ []) (c.seek.new.cursor ∷ c.self.inside.second ∷ c.self.inside.third ∷ c.self.inside.fourth ∷ []) = Rows-next c.args.levels.now c.args.arena.now c.args.position.now (g.B.Nand.state c.args.board.now) (g.B.Nand.state c.args.board.now) (c.self.inside.first ∷ c.self.inside.second ∷ c.self.inside.third ∷ c.self.inside.fourth ∷ []) (c.self.inside.first ∷ c.self.inside.second ∷ c.self.inside.third ∷ c.self.inside.fourth ∷ []) s0 0 c.run.result.now c.self.inside.first (level_is c.args.levels.now 0 c.known.ensures.levels (omega arith) ∙ ap (λ (r : Kept). Some r) (sym c.run.ensures.run)) refl (g.B.Nand.state c.seek.new.board) c.seek.new.cursor c.in-Ok.ensures.follows c.in-Ok.ensures.shape c.known.ensures.levels c.in-Ok.ensures.ready c.in-Ok.ensures.reads in
-    let s2 : Rows c.args.levels.now c.args.arena.now c.args.position.now (g.B.Nand.state c.args.board.now) (g.B.Nand.state c.seek-2.new.board) (c.self.inside.first ∷ c.self.inside.second ∷ c.self.inside.third ∷ c.self.inside.fourth ∷ []) (c.seek.new.cursor ∷ c.seek-2.new.cursor ∷ c.self.inside.third ∷ c.self.inside.fourth ∷ []) = Rows-next c.args.levels.now c.args.arena.now c.args.position.now (g.B.Nand.state c.args.board.now) (g.B.Nand.state c.seek.new.board) (c.self.inside.first ∷ c.self.inside.second ∷ c.self.inside.third ∷ c.self.inside.fourth ∷ []) (c.seek.new.cursor ∷ c.self.inside.second ∷ c.self.inside.third ∷ c.self.inside.fourth ∷ []) s1 1 c.run-2.result.now c.self.inside.second (level_is c.args.levels.now 1 c.known.ensures.levels (omega arith) ∙ ap (λ (r : Kept). Some r) (sym c.run-2.ensures.run)) refl (g.B.Nand.state c.seek-2.new.board) c.seek-2.new.cursor c.in-Ok-seek.ensures.follows c.in-Ok-seek.ensures.shape c.known.ensures.levels c.in-Ok-seek.ensures.ready c.in-Ok-seek.ensures.reads in
-    let s3 : Rows c.args.levels.now c.args.arena.now c.args.position.now (g.B.Nand.state c.args.board.now) (g.B.Nand.state c.seek-3.new.board) (c.self.inside.first ∷ c.self.inside.second ∷ c.self.inside.third ∷ c.self.inside.fourth ∷ []) (c.seek.new.cursor ∷ c.seek-2.new.cursor ∷ c.seek-3.new.cursor ∷ c.self.inside.fourth ∷ []) = Rows-next c.args.levels.now c.args.arena.now c.args.position.now (g.B.Nand.state c.args.board.now) (g.B.Nand.state c.seek-2.new.board) (c.self.inside.first ∷ c.self.inside.second ∷ c.self.inside.third ∷ c.self.inside.fourth ∷ []) (c.seek.new.cursor ∷ c.seek-2.new.cursor ∷ c.self.inside.third ∷ c.self.inside.fourth ∷ []) s2 2 c.run-3.result.now c.self.inside.third (level_is c.args.levels.now 2 c.known.ensures.levels (omega arith) ∙ ap (λ (r : Kept). Some r) (sym c.run-3.ensures.run)) refl (g.B.Nand.state c.seek-3.new.board) c.seek-3.new.cursor c.in-Ok-seek-2.ensures.follows c.in-Ok-seek-2.ensures.shape c.known.ensures.levels c.in-Ok-seek-2.ensures.ready c.in-Ok-seek-2.ensures.reads in
+    let s1 : Rows c.args.levels.now c.args.arena.now c.args.position.now (g.B.Nand.state c.args.board.now) (g.B.Nand.state c.seek.new.board) (c.self.inside.first ∷ c.self.inside.second ∷ c.self.inside.third ∷ c.self.inside.fourth ∷ []) (c.seek.new.cursor ∷ c.self.inside.second ∷ c.self.inside.third ∷ c.self.inside.fourth ∷ []) = Rows-next c.args.levels.now c.args.arena.now c.args.position.now (g.B.Nand.state c.args.board.now) (g.B.Nand.state c.args.board.now) (c.self.inside.first ∷ c.self.inside.second ∷ c.self.inside.third ∷ c.self.inside.fourth ∷ []) (c.self.inside.first ∷ c.self.inside.second ∷ c.self.inside.third ∷ c.self.inside.fourth ∷ []) s0 0 c.run.result.now c.self.inside.first (level_is c.args.levels.now 0 c.known.ensures.levels (omega arith) ∙ ap (λ (r : Kept). Some r) (sym c.run.ensures.run)) refl (g.B.Nand.state c.seek.new.board) c.seek.new.cursor c.in-Ok.ensures.follows c.in-Ok.ensures.shape c.known.ensures.levels c.in-Ok.ensures.ready c.in-Ok.ensures.reads c.in-Ok.ensures.passed c.in-Ok.ensures.all in
+    let s2 : Rows c.args.levels.now c.args.arena.now c.args.position.now (g.B.Nand.state c.args.board.now) (g.B.Nand.state c.seek-2.new.board) (c.self.inside.first ∷ c.self.inside.second ∷ c.self.inside.third ∷ c.self.inside.fourth ∷ []) (c.seek.new.cursor ∷ c.seek-2.new.cursor ∷ c.self.inside.third ∷ c.self.inside.fourth ∷ []) = Rows-next c.args.levels.now c.args.arena.now c.args.position.now (g.B.Nand.state c.args.board.now) (g.B.Nand.state c.seek.new.board) (c.self.inside.first ∷ c.self.inside.second ∷ c.self.inside.third ∷ c.self.inside.fourth ∷ []) (c.seek.new.cursor ∷ c.self.inside.second ∷ c.self.inside.third ∷ c.self.inside.fourth ∷ []) s1 1 c.run-2.result.now c.self.inside.second (level_is c.args.levels.now 1 c.known.ensures.levels (omega arith) ∙ ap (λ (r : Kept). Some r) (sym c.run-2.ensures.run)) refl (g.B.Nand.state c.seek-2.new.board) c.seek-2.new.cursor c.in-Ok-seek.ensures.follows c.in-Ok-seek.ensures.shape c.known.ensures.levels c.in-Ok-seek.ensures.ready c.in-Ok-seek.ensures.reads c.in-Ok-seek.ensures.passed c.in-Ok-seek.ensures.all in
+    let s3 : Rows c.args.levels.now c.args.arena.now c.args.position.now (g.B.Nand.state c.args.board.now) (g.B.Nand.state c.seek-3.new.board) (c.self.inside.first ∷ c.self.inside.second ∷ c.self.inside.third ∷ c.self.inside.fourth ∷ []) (c.seek.new.cursor ∷ c.seek-2.new.cursor ∷ c.seek-3.new.cursor ∷ c.self.inside.fourth ∷ []) = Rows-next c.args.levels.now c.args.arena.now c.args.position.now (g.B.Nand.state c.args.board.now) (g.B.Nand.state c.seek-2.new.board) (c.self.inside.first ∷ c.self.inside.second ∷ c.self.inside.third ∷ c.self.inside.fourth ∷ []) (c.seek.new.cursor ∷ c.seek-2.new.cursor ∷ c.self.inside.third ∷ c.self.inside.fourth ∷ []) s2 2 c.run-3.result.now c.self.inside.third (level_is c.args.levels.now 2 c.known.ensures.levels (omega arith) ∙ ap (λ (r : Kept). Some r) (sym c.run-3.ensures.run)) refl (g.B.Nand.state c.seek-3.new.board) c.seek-3.new.cursor c.in-Ok-seek-2.ensures.follows c.in-Ok-seek-2.ensures.shape c.known.ensures.levels c.in-Ok-seek-2.ensures.ready c.in-Ok-seek-2.ensures.reads c.in-Ok-seek-2.ensures.passed c.in-Ok-seek-2.ensures.all in
     c.least-3.ensures ∙ ap (lesser (option_map seen c.in-Ok.found)) (c.least-2.ensures ∙ ap (lesser (option_map seen c.in-Ok-seek.found)) c.least.ensures)
     ∙ least_of_four (g.B.Nand.state c.args.board.now).pages c.args.arena.now c.args.position.now c.args.levels.now.runs ess c.known.ensures.levels.four each (option_map seen c.in-Ok.found) (option_map seen c.in-Ok-seek.found) (option_map seen c.in-Ok-seek-2.found) (option_map seen c.in-Ok-seek-3.found)
     (row_found c.args.levels.now c.args.arena.now c.args.position.now (g.B.Nand.state c.args.board.now) (g.B.Nand.state c.args.board.now) (c.self.inside.first ∷ c.self.inside.second ∷ c.self.inside.third ∷ c.self.inside.fourth ∷ []) (c.self.inside.first ∷ c.self.inside.second ∷ c.self.inside.third ∷ c.self.inside.fourth ∷ []) s0 0 c.run.result.now c.self.inside.first (level_is c.args.levels.now 0 c.known.ensures.levels (omega arith) ∙ ap (λ (r : Kept). Some r) (sym c.run.ensures.run)) refl (option_map seen c.in-Ok.found) c.in-Ok.ensures.found ess each)
     (row_found c.args.levels.now c.args.arena.now c.args.position.now (g.B.Nand.state c.args.board.now) (g.B.Nand.state c.seek.new.board) (c.self.inside.first ∷ c.self.inside.second ∷ c.self.inside.third ∷ c.self.inside.fourth ∷ []) (c.seek.new.cursor ∷ c.self.inside.second ∷ c.self.inside.third ∷ c.self.inside.fourth ∷ []) s1 1 c.run-2.result.now c.self.inside.second (level_is c.args.levels.now 1 c.known.ensures.levels (omega arith) ∙ ap (λ (r : Kept). Some r) (sym c.run-2.ensures.run)) refl (option_map seen c.in-Ok-seek.found) c.in-Ok-seek.ensures.found ess each)
     (row_found c.args.levels.now c.args.arena.now c.args.position.now (g.B.Nand.state c.args.board.now) (g.B.Nand.state c.seek-2.new.board) (c.self.inside.first ∷ c.self.inside.second ∷ c.self.inside.third ∷ c.self.inside.fourth ∷ []) (c.seek.new.cursor ∷ c.seek-2.new.cursor ∷ c.self.inside.third ∷ c.self.inside.fourth ∷ []) s2 2 c.run-3.result.now c.self.inside.third (level_is c.args.levels.now 2 c.known.ensures.levels (omega arith) ∙ ap (λ (r : Kept). Some r) (sym c.run-3.ensures.run)) refl (option_map seen c.in-Ok-seek-2.found) c.in-Ok-seek-2.ensures.found ess each)
     (row_found c.args.levels.now c.args.arena.now c.args.position.now (g.B.Nand.state c.args.board.now) (g.B.Nand.state c.seek-3.new.board) (c.self.inside.first ∷ c.self.inside.second ∷ c.self.inside.third ∷ c.self.inside.fourth ∷ []) (c.seek.new.cursor ∷ c.seek-2.new.cursor ∷ c.seek-3.new.cursor ∷ c.self.inside.fourth ∷ []) s3 3 c.run-4.result.now c.self.inside.fourth (level_is c.args.levels.now 3 c.known.ensures.levels (omega arith) ∙ ap (λ (r : Kept). Some r) (sym c.run-4.ensures.run)) refl (option_map seen c.in-Ok-seek-3.found) c.in-Ok-seek-3.ensures.found ess each)
+
+pub returns-clause-all : goal.returns-clause-all
+returns-clause-all g c =
+    let follow = rw (← c.self.view_is) at c.requires.follow in
+    let shape = rw (← c.self.view_is) at c.requires.shape in
+    let s0 : Rows c.args.levels.now c.args.arena.now c.args.position.now (g.B.Nand.state c.args.board.now) (g.B.Nand.state c.args.board.now) (c.self.inside.first ∷ c.self.inside.second ∷ c.self.inside.third ∷ c.self.inside.fourth ∷ []) (c.self.inside.first ∷ c.self.inside.second ∷ c.self.inside.third ∷ c.self.inside.fourth ∷ []) = Rows-start c.args.levels.now c.args.arena.now c.args.position.now (g.B.Nand.state c.args.board.now) (c.self.inside.first ∷ c.self.inside.second ∷ c.self.inside.third ∷ c.self.inside.fourth ∷ []) follow.0 c.requires.ready shape follow.1 follow.2 in
+    let s1 : Rows c.args.levels.now c.args.arena.now c.args.position.now (g.B.Nand.state c.args.board.now) (g.B.Nand.state c.seek.new.board) (c.self.inside.first ∷ c.self.inside.second ∷ c.self.inside.third ∷ c.self.inside.fourth ∷ []) (c.seek.new.cursor ∷ c.self.inside.second ∷ c.self.inside.third ∷ c.self.inside.fourth ∷ []) = Rows-next c.args.levels.now c.args.arena.now c.args.position.now (g.B.Nand.state c.args.board.now) (g.B.Nand.state c.args.board.now) (c.self.inside.first ∷ c.self.inside.second ∷ c.self.inside.third ∷ c.self.inside.fourth ∷ []) (c.self.inside.first ∷ c.self.inside.second ∷ c.self.inside.third ∷ c.self.inside.fourth ∷ []) s0 0 c.run.result.now c.self.inside.first (level_is c.args.levels.now 0 c.known.ensures.levels (omega arith) ∙ ap (λ (r : Kept). Some r) (sym c.run.ensures.run)) refl (g.B.Nand.state c.seek.new.board) c.seek.new.cursor c.in-Ok.ensures.follows c.in-Ok.ensures.shape c.known.ensures.levels c.in-Ok.ensures.ready c.in-Ok.ensures.reads c.in-Ok.ensures.passed c.in-Ok.ensures.all in
+    let s2 : Rows c.args.levels.now c.args.arena.now c.args.position.now (g.B.Nand.state c.args.board.now) (g.B.Nand.state c.seek-2.new.board) (c.self.inside.first ∷ c.self.inside.second ∷ c.self.inside.third ∷ c.self.inside.fourth ∷ []) (c.seek.new.cursor ∷ c.seek-2.new.cursor ∷ c.self.inside.third ∷ c.self.inside.fourth ∷ []) = Rows-next c.args.levels.now c.args.arena.now c.args.position.now (g.B.Nand.state c.args.board.now) (g.B.Nand.state c.seek.new.board) (c.self.inside.first ∷ c.self.inside.second ∷ c.self.inside.third ∷ c.self.inside.fourth ∷ []) (c.seek.new.cursor ∷ c.self.inside.second ∷ c.self.inside.third ∷ c.self.inside.fourth ∷ []) s1 1 c.run-2.result.now c.self.inside.second (level_is c.args.levels.now 1 c.known.ensures.levels (omega arith) ∙ ap (λ (r : Kept). Some r) (sym c.run-2.ensures.run)) refl (g.B.Nand.state c.seek-2.new.board) c.seek-2.new.cursor c.in-Ok-seek.ensures.follows c.in-Ok-seek.ensures.shape c.known.ensures.levels c.in-Ok-seek.ensures.ready c.in-Ok-seek.ensures.reads c.in-Ok-seek.ensures.passed c.in-Ok-seek.ensures.all in
+    let s3 : Rows c.args.levels.now c.args.arena.now c.args.position.now (g.B.Nand.state c.args.board.now) (g.B.Nand.state c.seek-3.new.board) (c.self.inside.first ∷ c.self.inside.second ∷ c.self.inside.third ∷ c.self.inside.fourth ∷ []) (c.seek.new.cursor ∷ c.seek-2.new.cursor ∷ c.seek-3.new.cursor ∷ c.self.inside.fourth ∷ []) = Rows-next c.args.levels.now c.args.arena.now c.args.position.now (g.B.Nand.state c.args.board.now) (g.B.Nand.state c.seek-2.new.board) (c.self.inside.first ∷ c.self.inside.second ∷ c.self.inside.third ∷ c.self.inside.fourth ∷ []) (c.seek.new.cursor ∷ c.seek-2.new.cursor ∷ c.self.inside.third ∷ c.self.inside.fourth ∷ []) s2 2 c.run-3.result.now c.self.inside.third (level_is c.args.levels.now 2 c.known.ensures.levels (omega arith) ∙ ap (λ (r : Kept). Some r) (sym c.run-3.ensures.run)) refl (g.B.Nand.state c.seek-3.new.board) c.seek-3.new.cursor c.in-Ok-seek-2.ensures.follows c.in-Ok-seek-2.ensures.shape c.known.ensures.levels c.in-Ok-seek-2.ensures.ready c.in-Ok-seek-2.ensures.reads c.in-Ok-seek-2.ensures.passed c.in-Ok-seek-2.ensures.all in
+    let s4 : Rows c.args.levels.now c.args.arena.now c.args.position.now (g.B.Nand.state c.args.board.now) (g.B.Nand.state c.seek-4.new.board) (c.self.inside.first ∷ c.self.inside.second ∷ c.self.inside.third ∷ c.self.inside.fourth ∷ []) (c.seek.new.cursor ∷ c.seek-2.new.cursor ∷ c.seek-3.new.cursor ∷ c.seek-4.new.cursor ∷ []) = Rows-next c.args.levels.now c.args.arena.now c.args.position.now (g.B.Nand.state c.args.board.now) (g.B.Nand.state c.seek-3.new.board) (c.self.inside.first ∷ c.self.inside.second ∷ c.self.inside.third ∷ c.self.inside.fourth ∷ []) (c.seek.new.cursor ∷ c.seek-2.new.cursor ∷ c.seek-3.new.cursor ∷ c.self.inside.fourth ∷ []) s3 3 c.run-4.result.now c.self.inside.fourth (level_is c.args.levels.now 3 c.known.ensures.levels (omega arith) ∙ ap (λ (r : Kept). Some r) (sym c.run-4.ensures.run)) refl (g.B.Nand.state c.seek-4.new.board) c.seek-4.new.cursor c.in-Ok-seek-3.ensures.follows c.in-Ok-seek-3.ensures.shape c.known.ensures.levels c.in-Ok-seek-3.ensures.ready c.in-Ok-seek-3.ensures.reads c.in-Ok-seek-3.ensures.passed c.in-Ok-seek-3.ensures.all in
+    rw (← c.self.view_is) (λ none before. (s4.all none before).1)
+
+pub returns-clause-ended : goal.returns-clause-ended
+returns-clause-ended g c found none before =
+    let all = rw (← c.self.view_is) at before in
+    let first = none_of c.in-Ok.found c.least-2.result c.least-3.result c.least-3.ensures found in
+    let second = none_of c.in-Ok-seek.found c.least.result c.least-2.result c.least-2.ensures first.1 in
+    let third = none_of c.in-Ok-seek-2.found c.in-Ok-seek-3.found c.least.result c.least.ensures second.1 in
+    all_ended c.args.levels.now.runs (c.seek.new.cursor ∷ c.seek-2.new.cursor ∷ c.seek-3.new.cursor ∷ c.seek-4.new.cursor ∷ []) c.known.ensures.levels.four
+    (c.run.result.now, c.seek.new.cursor, level_is c.args.levels.now 0 c.known.ensures.levels (omega arith) ∙ ap (λ (r : Kept). Some r) (sym c.run.ensures.run), refl, c.in-Ok.ensures.ended first.0 none all.0)
+    (c.run-2.result.now, c.seek-2.new.cursor, level_is c.args.levels.now 1 c.known.ensures.levels (omega arith) ∙ ap (λ (r : Kept). Some r) (sym c.run-2.ensures.run), refl, c.in-Ok-seek.ensures.ended second.0 none all.1.0)
+    (c.run-3.result.now, c.seek-3.new.cursor, level_is c.args.levels.now 2 c.known.ensures.levels (omega arith) ∙ ap (λ (r : Kept). Some r) (sym c.run-3.ensures.run), refl, c.in-Ok-seek-2.ensures.ended third.0 none all.1.1.0)
+    (c.run-4.result.now, c.seek-4.new.cursor, level_is c.args.levels.now 3 c.known.ensures.levels (omega arith) ∙ ap (λ (r : Kept). Some r) (sym c.run-4.ensures.run), refl, c.in-Ok-seek-3.ensures.ended third.1 none all.1.1.1.0)

@@ -1,5 +1,5 @@
 use Rattle.std.proofs.Common.{sym, ◌∙◌}
-use Rattle.pk_walk.proofs.Walks.{Walking-gone, Walking-gives, Walking-ends, Walking-fails, fails_behind, few_read, fewer_left}
+use Rattle.pk_walk.proofs.Walks.{Walking-gone, Walking-gives, Walking-ends, Walking-fails, fails_behind, few_read, fewer_left, Walking-all}
 use Rattle.pk_walk.proofs.Seeking.{Reads-more}
 use Rattle.pk_walk.proofs.walk.Walk.next.Goals as goal
 
@@ -26,7 +26,7 @@ pub loop-entry-preserved : goal.loop-entry-preserved
 loop-entry-preserved g c =
     record {
       walking = Walking-gone c.args.levels.now.runs c.args.arena.now c.args.active.now.entries c.args.frozen.now.entries c.args.levels.now.shape (g.B.Nand.state c.args.board.now) c.args.self.now (g.B.Nand.state c.loop-entry.board) c.loop-entry.self c.loop-entry.invariant.walking
-          (g.B.Nand.state c.step.new.board) c.step.new.self c.in-Ok-Some.entry (sym c.has_place.ensures ∙ c.if-has_place.false) c.in-Ok-Some.ensures.shape c.in-Ok-Some.ensures.ready (rw c.in-Ok-Some.field-0-is at c.in-Ok-Some.ensures.passes) c.in-Ok-Some.ensures.follow c.in-Ok-Some.ensures.reads;
+          (g.B.Nand.state c.step.new.board) c.step.new.self c.in-Ok-Some.entry (sym c.has_place.ensures ∙ c.if-has_place.false) c.in-Ok-Some.ensures.shape c.in-Ok-Some.ensures.ready (rw c.in-Ok-Some.field-0-is at c.in-Ok-Some.ensures.passes) c.in-Ok-Some.ensures.follow c.in-Ok-Some.ensures.reads c.in-Ok-Some.ensures.skips_none c.in-Ok-Some.ensures.exact;
     }
 
 pub returns-in-Ok-None-clause-gives : goal.returns-in-Ok-None-clause-gives
@@ -57,3 +57,13 @@ pub returns-in-Err-clause-err : goal.returns-in-Err-clause-err
 returns-in-Err-clause-err g c =
     fails_behind c.args.levels.now.runs c.args.arena.now c.args.active.now.entries c.args.frozen.now.entries c.args.levels.now.shape (g.B.Nand.state c.args.board.now) c.args.self.now (g.B.Nand.state c.loop-entry.board) c.loop-entry.self c.loop-entry.invariant.walking
     (g.B.Nand.state c.step.new.board) c.step.new.self c.in-Err.ensures.err
+
+pub returns-then-has_place-clause-exact : goal.returns-then-has_place-clause-exact
+returns-then-has_place-clause-exact g c none =
+    (Walking-all c.args.levels.now.runs c.args.arena.now c.args.active.now.entries c.args.frozen.now.entries c.args.levels.now.shape (g.B.Nand.state c.args.board.now) c.args.self.now (g.B.Nand.state c.loop-entry.board) c.loop-entry.self c.loop-entry.invariant.walking
+    (g.B.Nand.state c.step.new.board) c.step.new.self c.in-Ok-Some.ensures.skips_none c.in-Ok-Some.ensures.exact none).1
+
+pub returns-in-Ok-None-clause-exact : goal.returns-in-Ok-None-clause-exact
+returns-in-Ok-None-clause-exact g c none =
+    (Walking-all c.args.levels.now.runs c.args.arena.now c.args.active.now.entries c.args.frozen.now.entries c.args.levels.now.shape (g.B.Nand.state c.args.board.now) c.args.self.now (g.B.Nand.state c.loop-entry.board) c.loop-entry.self c.loop-entry.invariant.walking
+    (g.B.Nand.state c.step.new.board) c.step.new.self c.in-Ok-None.ensures.skips_none c.in-Ok-None.ensures.exact none).1

@@ -1,5 +1,6 @@
+use Rattle.std.proofs.Common.{refl}
 use Rattle.pk_walk.specs.declared.position.Position.TheVariants.{First, From}
-use Rattle.pk_walk.proofs.Walks.{start_walk, start_left, start_none}
+use Rattle.pk_walk.proofs.Walks.{start_walk, start_left, start_none, start_skips_none}
 use Rattle.pk_walk.proofs.walk.Walk.start.Goals as goal
 
 pub invariant_of-self : goal.invariant_of-self
@@ -21,3 +22,6 @@ returns-in-None-clause-left g c flash arena runs active frozen ess stand =
 
 pub returns-in-None-clause-none_read : goal.returns-in-None-clause-none_read
 returns-in-None-clause-none_read g c runs = start_none c.restart.new.self c.self.inside.cursors c.restart.ensures runs
+
+pub returns-in-None-clause-skips_none : goal.returns-in-None-clause-skips_none
+returns-in-None-clause-skips_none g c none = start_skips_none (record { shape = c.self.inside.shape; position = First; cursors = c.restart.new.self }) c.self.inside.cursors c.restart.ensures refl

@@ -1,0 +1,48 @@
+-- Boards behind reads, of which the last one may have failed.
+use Rattle.std.proofs.Common.{◌≡◌, ℕ, ◌+◌, List, refl, sym, ap, subst, ◌∙◌}
+use Rattle.pk_base.specs.Shape.{Shape}
+use Rattle.pk_nand.specs.BoardState.{BoardState}
+use Rattle.pk_nand.specs.Calls.{ReadFailed}
+use Rattle.pk_nand.specs.Erased.{after_reads}
+use Rattle.pk_level.proofs.Looking.{reads_more}
+use Rattle.pk_jrn.specs.Replays.{Refused}
+use Rattle.pk_jrn.specs.declared.error.ReplayError.{ReplayError}
+use Rattle.pk_jrn.specs.declared.error.ReplayError.TheVariants.{Damaged as ReplayDamaged, Fault as ReplayFault}
+use Rattle.pk_scan.specs.Opening.{OnlyReads, FaultCounted}
+use Rattle.pk_scan.specs.Opened.{OnlyReading}
+use Rattle.pk_scan.specs.Runs.{NotRead}
+use Rattle.pk_scan.specs.declared.errors.PageError.{PageError}
+use Rattle.pk_scan.specs.declared.errors.PageError.TheVariants.{Damaged, Fault}
+
+-- ---- the frame
+
+pub rest_reads : (old new : BoardState) → OnlyReads old new → OnlyReading old new
+rest_reads old new reads = subst (λ (b : BoardState). OnlyReading old b) (sym reads.1) refl
+
+pub rest_failed : (old new : BoardState) (made page : ℕ) → ReadFailed (after_reads made old) new page → OnlyReading old new
+rest_failed old new made page failed =
+    let reads = ap (λ (b : BoardState). b.reads) failed.rest in
+    let place = ap (λ (b : BoardState). b.failed_at) failed.rest in
+    failed.rest ∙ (λ i. record old { reads = sym reads i; flash_faults = new.flash_faults; read_faults = new.read_faults; failed_at = sym place i })
+
+pub rest_both : (old now new : BoardState) → OnlyReading old now → OnlyReading now new → OnlyReading old new
+rest_both old now new a b = b ∙ ap (λ (x : BoardState). record x { reads = new.reads; flash_faults = new.flash_faults; read_faults = new.read_faults; failed_at = new.failed_at }) a
+
+pub rest_refused : (shape : Shape) (number : ℕ) (blocks : List ℕ) (old new : BoardState) (e : ReplayError) → Refused shape number blocks old new e → OnlyReading old new
+rest_refused shape number blocks old new (ReplayDamaged page) why = rest_reads old new (_, why.board)
+rest_refused shape number blocks old new ReplayFault why = rest_failed old new why.made _ why.failed
+
+pub rest_not_read : (shape : Shape) (level count : ℕ) (blocks : List ℕ) (old new : BoardState) (e : PageError) → NotRead shape level count blocks old new e → OnlyReading old new
+rest_not_read shape level count blocks old new (Damaged page) why = rest_reads old new (_, why.board)
+rest_not_read shape level count blocks old new Fault why = rest_failed old new why.made _ why.failed
+
+-- ---- faults
+
+-- the counts rose over reads that did not fail and the one that did
+pub counted_behind : (old now new : BoardState) → OnlyReads old now → FaultCounted now new → FaultCounted old new
+counted_behind old now new reads faults = subst (λ (b : BoardState). FaultCounted b new) reads.1 faults
+
+-- ---- numbers of reads
+
+pub reads_sum : (old now new : BoardState) (m n k : ℕ) → n + m ≡ k → now ≡ after_reads m old → new ≡ after_reads n now → new ≡ after_reads k old
+reads_sum old now new m n k sum a b = b ∙ ap (after_reads n) a ∙ reads_more n m old ∙ ap (λ (j : ℕ). after_reads j old) sum

@@ -1,0 +1,146 @@
+-- How many pages are read: of an epoch, and of runs.
+use Rattle.std.proofs.Common.{◌≡◌, ℕ, zero, suc, ◌+◌, ◌-◌, ◌*◌, ◌<◌, ◌≤◌, min, Bool, true, false, List, [], ◌∷◌, ◌++◌, length, take, get_or, refl, sym, ap, subst, ◌∙◌, arith, Some, None}
+use Rattle.std.specs.Prelude.{nat_le, slice_index, if◌then◌else◌}
+use Rattle.std.proofs.lemmas.List.{take_all}
+use Rattle.pk_base.specs.Shape.{Shape, epoch_pages, run_pages}
+use Rattle.pk_base.specs.Entry.{Entry}
+use Rattle.pk_base.specs.Page.{Page, Flash, NumberedPages, page_at, page_in, erased, whole, torn, pages_of_blocks}
+use Rattle.pk_nand.specs.BoardState.{BoardState}
+use Rattle.pk_nand.specs.Erased.{after_reads}
+use Rattle.pk_rootfmt.specs.Root.{Root}
+use Rattle.pk_rootfmt.specs.Held.{two_of, older_of}
+use Rattle.pk_buf.specs.Table.{Table}
+use Rattle.pk_jrn.specs.Epochs.{IsWhole}
+use Rattle.pk_jrn.specs.Replays.{Replayed, after_replay}
+use Rattle.pk_scan.specs.Reads.{pages_to_end, epoch_reads, pages_of_runs, list_reads, run_reads}
+use Rattle.pk_pin.specs.Frames.{Frames}
+use Rattle.pk_run.specs.Kept.{Kept}
+use Rattle.pk_level.specs.Levels.{StandEach}
+use Rattle.pk_walk.specs.Walking.{most_read, read_of}
+use Rattle.pk_scan.specs.Runs.{IsPinnedIf}
+use Rattle.pk_scan.specs.Opening.{HaveBlocks, HaveFrames}
+use Rattle.pk_scan.proofs.Naming.{two_is, older_is, older_none}
+use Rattle.pk_scan.proofs.Boards.{reads_sum}
+
+-- ---- an epoch
+
+ends_here : (p : ℕ) (q : Page) (later : NumberedPages) → ((bytes : List ℕ) → q ≡ whole bytes → ⊥) → pages_to_end ((p, q) ∷ later) ≡ 1
+ends_here p erased later none = refl
+ends_here p torn later none = refl
+ends_here p (whole bytes) later none = absurd (none bytes refl)
+
+module _ (shape : Shape) (flash : Flash) (blocks : List ℕ) where
+  abbrev pages : ℕ → ℕ → NumberedPages
+  pages i n = pages_of_blocks shape (page_at flash) blocks i n
+
+  abbrev IsWholeAt : ℕ → Type 0
+  IsWholeAt i = IsWhole flash (page_in shape blocks i)
+
+  -- the first n pages from i on, of which so many are Whole before the first that is not
+  to_end : (n i used : ℕ) → used ≤ n → ((j : ℕ) → j < used → IsWholeAt (i + j)) → (used < n → IsWholeAt (i + used) → ⊥) → pages_to_end (pages i n) ≡ min (used + 1) n
+  to_end zero i used few before ends = omega arith
+  to_end (suc n) i zero few before ends =
+      let here : i + 0 ≡ i = omega arith in
+      ends_here (page_in shape blocks i) (page_at flash (page_in shape blocks i)) (pages (i + 1) n) (λ bytes is. ends (omega arith) (subst IsWholeAt (sym here) (bytes, is))) ∙ omega arith
+  to_end (suc n) i (suc used) few before ends =
+      let here : i + 0 ≡ i = omega arith in
+      let first : IsWholeAt i = subst IsWholeAt here (before 0 (omega arith)) in
+      let next : (k : ℕ) → (i + 1) + k ≡ i + suc k = λ k. omega arith in
+      let rest = to_end n (i + 1) used (omega (arith, few)) (λ j less. subst IsWholeAt (sym (next j)) (before (suc j) (omega (arith, less)))) (λ less whole_there. ends (omega (arith, less)) (subst IsWholeAt (next used) whole_there)) in
+      ap (λ (q : Page). pages_to_end ((page_in shape blocks i, q) ∷ pages (i + 1) n)) first.1 ∙ omega (arith, rest)
+
+  epoch_to_end : (used : ℕ) → length blocks ≡ 2 → used ≤ epoch_pages shape → ((j : ℕ) → j < used → IsWholeAt j) → (used < epoch_pages shape → IsWholeAt used → ⊥) → min (used + 1) (epoch_pages shape) ≡ epoch_reads shape (page_at flash) blocks
+  epoch_to_end used two few before ends =
+      let all : length blocks * shape.block_pages ≡ epoch_pages shape = ap (λ (n : ℕ). n * shape.block_pages) two in
+      let from : (k : ℕ) → 0 + k ≡ k = λ k. omega arith in
+      sym (ap (λ (n : ℕ). pages_to_end (pages 0 n)) all ∙ to_end (epoch_pages shape) 0 used few (λ j less. subst IsWholeAt (sym (from j)) (before j less)) (λ less there. ends less (subst IsWholeAt (from used) there)))
+
+  -- a replay reads up to the end of the epoch
+  epoch_exact : (number used : ℕ) (into : Table) → length blocks ≡ 2 → Replayed shape number blocks flash used into → (old new : BoardState) → new ≡ after_replay shape used old → new ≡ after_reads (epoch_reads shape (page_at flash) blocks) old
+  epoch_exact number used into two r old new reads = reads ∙ ap (λ (n : ℕ). after_reads n old) (epoch_to_end used two r.within r.before r.ends)
+
+module _ (shape : Shape) (flash : Flash) (root : Root) where
+  pub none_exact : None ≡ older_of root.older → (old : BoardState) → old ≡ after_reads (epoch_reads shape (page_at flash) root.older) old
+  none_exact none old =
+      let nothing : 0 * shape.block_pages ≡ 0 = omega arith in
+      let zero_reads : epoch_reads shape (page_at flash) [] ≡ 0 = ap (λ (n : ℕ). pages_to_end (pages_of_blocks shape (page_at flash) [] 0 n)) nothing in
+      sym (ap (λ (n : ℕ). after_reads n old) (ap (epoch_reads shape (page_at flash)) (older_none root.older none) ∙ zero_reads))
+
+  module _ (bs : List ℕ) (number used : ℕ) (into : Table) (r : Replayed shape number bs flash used into) (old new : BoardState) (reads : new ≡ after_replay shape used old) where
+    named_exact : (named : List ℕ) → bs ≡ named → length named ≡ 2 → new ≡ after_reads (epoch_reads shape (page_at flash) named) old
+    named_exact named same two = subst (λ (b : List ℕ). new ≡ after_reads (epoch_reads shape (page_at flash) b) old) same (epoch_exact shape flash bs number used into (ap (λ (b : List ℕ). length b) same ∙ two) r old new reads)
+
+    pub newest_exact : bs ≡ two_of root.newest → length root.newest ≡ 2 → new ≡ after_reads (epoch_reads shape (page_at flash) root.newest) old
+    newest_exact is two = named_exact root.newest (is ∙ two_is root.newest two) two
+
+    pub older_exact : Some bs ≡ older_of root.older → length root.older ≡ 2 → new ≡ after_reads (epoch_reads shape (page_at flash) root.older) old
+    older_exact is two = named_exact root.older (older_is root.older bs is) two
+
+-- ---- runs
+
+pub take_next : {X : Type 0} (xs : List X) (k : ℕ) (d : X) → k < length xs → take (suc k) xs ≡ take k xs ++ get_or xs k d ∷ []
+take_next [] k d h = absurd (omega (arith, h))
+take_next (x ∷ xs) zero d h = refl
+take_next (x ∷ xs) (suc k) d h = ap (λ (ys : List _). x ∷ ys) (take_next xs k d (omega (arith, h)))
+
+pages_more : (shape : Shape) (counts : List ℕ) (count : ℕ) → pages_of_runs shape (counts ++ count ∷ []) ≡ run_pages shape count + pages_of_runs shape counts
+pages_more shape [] count = refl
+pages_more shape (c ∷ counts) count =
+    let more = pages_more shape counts count in
+    ap (λ (n : ℕ). run_pages shape c + n) more ∙ swap (run_pages shape c) (run_pages shape count) (pages_of_runs shape counts)
+  where
+    swap : (a b c : ℕ) → a + (b + c) ≡ b + (a + c)
+    swap a b c = omega arith
+
+-- the runs up to a level were read, and then the one of the level
+pub runs_exact_next : (shape : Shape) (counts : List ℕ) (k level : ℕ) (old now new : BoardState) → k < length counts → level - 1 ≡ k
+    → now ≡ after_reads (pages_of_runs shape (take k counts)) old → new ≡ after_reads (run_pages shape (slice_index counts (level - 1))) now → new ≡ after_reads (pages_of_runs shape (take (suc k) counts)) old
+runs_exact_next shape counts k level old now new inside place before more =
+    reads_sum old now new (pages_of_runs shape (take k counts)) (run_pages shape (slice_index counts (level - 1))) (pages_of_runs shape (take (suc k) counts))
+    (sym (ap (pages_of_runs shape) (take_next counts k 0 inside) ∙ pages_more shape (take k counts) (get_or counts k 0) ∙ ap (λ (j : ℕ). run_pages shape (slice_index counts j) + pages_of_runs shape (take k counts)) (sym place)))
+    before more
+
+-- all of them
+pub runs_exact_end : (shape : Shape) (counts : List ℕ) (k : ℕ) (old now : BoardState) → length counts ≤ k → now ≡ after_reads (pages_of_runs shape (take k counts)) old → now ≡ after_reads (pages_of_runs shape counts) old
+runs_exact_end shape counts k old now all reads = reads ∙ ap (λ (cs : List ℕ). after_reads (pages_of_runs shape cs) old) (take_all k counts all)
+
+-- ---- all lists
+
+pub lists_exact : (shape : Shape) (root : Root) (old first second new : BoardState)
+    → first ≡ after_reads (epoch_reads shape (page_at old.pages) root.older) old → first.pages ≡ old.pages → second ≡ after_reads (epoch_reads shape (page_at first.pages) root.newest) first
+    → new ≡ after_reads (pages_of_runs shape root.counts) second → new ≡ after_reads (list_reads shape (page_at old.pages) root) old
+lists_exact shape root old first second new a same b c =
+    let older : ℕ = epoch_reads shape (page_at old.pages) root.older in
+    let newest : ℕ = epoch_reads shape (page_at old.pages) root.newest in
+    let runs : ℕ = pages_of_runs shape root.counts in
+    let here : second ≡ after_reads newest first = subst (λ (f : Flash). second ≡ after_reads (epoch_reads shape (page_at f) root.newest) first) same b in
+    reads_sum old second new (older + newest) runs (list_reads shape (page_at old.pages) root) (swap runs (older + newest)) (reads_sum old first second older newest (older + newest) (swap newest older) a here) c
+  where
+    swap : (m n : ℕ) → m + n ≡ n + m
+    swap m n = omega arith
+
+-- ---- the runs, once to keep them and once for their entries
+
+-- a run whose pages have no frames is read again
+again : (shape : Shape) (pins : Bool) (r : Kept) (count : ℕ) → length r.firsts ≡ run_pages shape count → IsPinnedIf pins r → (if pins then 1 else 2) * run_pages shape count ≡ run_pages shape count + read_of r.leases (length r.firsts)
+again shape true r count pages frames = let none = none_read r.leases (length r.firsts) frames in omega (arith, none)
+  where
+    none_read : (leases : List ℕ) (n : ℕ) → length leases ≡ n → read_of leases n ≡ 0
+    none_read [] n e = sym e
+    none_read (l ∷ leases) n e = refl
+again shape false r count pages frames = let all = ap (λ (ls : List ℕ). read_of ls (length r.firsts)) frames in omega (arith, all, pages)
+
+-- reading them once and walking over all their entries reads what the reading of a flash has for them
+pub runs_twice : (shape : Shape) (flash : Flash) (arena : Frames) (pinned level : ℕ) (rs : List Kept) (ess : List (List Entry)) (bss : List (List ℕ)) (counts : List ℕ)
+    → StandEach flash arena rs ess → HaveBlocks shape rs bss → HaveFrames pinned level rs counts → run_reads shape pinned level counts ≡ pages_of_runs shape counts + most_read rs
+runs_twice shape flash arena pinned level [] ess bss [] stand blocks frames = refl
+runs_twice shape flash arena pinned level [] ess bss (c ∷ counts) stand blocks frames = absurd frames
+runs_twice shape flash arena pinned level (r ∷ rs) ess bss [] stand blocks frames = absurd frames
+runs_twice shape flash arena pinned level (r ∷ rs) [] bss (c ∷ counts) stand blocks frames = absurd stand
+runs_twice shape flash arena pinned level (r ∷ rs) (es ∷ ess) [] (c ∷ counts) stand blocks frames = absurd blocks
+runs_twice shape flash arena pinned level (r ∷ rs) (es ∷ ess) (bs ∷ bss) (c ∷ counts) stand blocks frames =
+    let pages : length r.firsts ≡ run_pages shape c = stand.0.pages ∙ ap (λ (s : Shape). run_pages s r.count) blocks.0 ∙ ap (run_pages shape) frames.0 in
+    both _ _ _ _ _ _ (again shape (nat_le level pinned) r c pages frames.1) (runs_twice shape flash arena pinned (level + 1) rs ess bss counts stand.1 blocks.2 frames.2)
+  where
+    both : (a b x y p q : ℕ) → a ≡ p + x → b ≡ q + y → a + b ≡ (p + q) + (x + y)
+    both a b x y p q e f = omega (arith, e, f)

@@ -1,0 +1,23 @@
+-- Memory into which nothing was read.
+use Rattle.std.proofs.Common.{◌≡◌, ℕ, zero, suc, ◌+◌, ◌≤◌, Bool, true, false, not, cond, List, [], ◌∷◌, replicate, sym, ap, subst, ◌∙◌, arith, refl}
+use Rattle.std.specs.Prelude.{count_by}
+use Rattle.std.proofs.lemmas.List.Sums.{sum_by-cons}
+use Rattle.pk_base.specs.Shape.{Shape, pinned}
+use Rattle.pk_pin.specs.Frames.{Frames, free_frames}
+use Rattle.pk_level.specs.Levels.{Levels, no_runs}
+use Rattle.pk_scan.specs.Opening.{wanted_behind}
+use Rattle.pk_scan.proofs.Wanted.{pinned_wants}
+
+all_free : (n : ℕ) → count_by not (replicate n false) ≡ n
+all_free zero = refl
+all_free (suc n) =
+    let step = sum_by-cons (λ b. cond {A = ℕ} (not b) 1 0) false (replicate n false) in
+    let rest = all_free n in
+    omega (arith, step, rest)
+
+-- no frame is leased, so those that are wanted are free
+pub frames_enough : (shape : Shape) (frames : ℕ) (levels : Levels) (arena : Frames) → levels ≡ no_runs shape (pinned shape frames) → arena.used ≡ replicate frames false → wanted_behind shape levels.pinned 0 ≤ free_frames arena
+frames_enough shape frames levels arena levels_are none =
+    let free : free_frames arena ≡ frames = ap (λ (us : List Bool). count_by not us) none ∙ all_free frames in
+    let wants = pinned_wants shape frames in
+    subst (λ (l : Levels). wanted_behind shape l.pinned 0 ≤ free_frames arena) (sym levels_are) (omega (arith, wants, free))
