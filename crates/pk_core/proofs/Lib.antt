@@ -24,3 +24,4 @@ pub mod Doing
 pub mod Early
 pub mod Opening
 pub mod Formatting
+pub mod TestBoards

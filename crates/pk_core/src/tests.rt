@@ -101,6 +101,7 @@ fn perform<E: Engine, B: Nand>(
     requires sized { request.now.opcode ≡ 0x01 → length value.now ≡ request.now.size }
     requires empty { request.now.opcode ≢ 0x01 → value.now ≡ [] }
     requires room { 65536 ≤ length into.old }
+    ensures len { length into.new ≡ length into.old }
     ensures agrees { IfSome result (λ o. E.agrees drive.new (B.state board.new).shape (B.state board.new).pages) }
     ensures runs { IfSome result (λ o. (E.sight drive.new).stopped ≡ false) }
 {
@@ -118,30 +119,60 @@ fn perform<E: Engine, B: Nand>(
     Some(outcome)
 }
 
-// A value that was stored and committed is found in the next session, by one read; a flash without a root is refused.
+// A session that stores "abc" and commits it.
+fn store_in_session(alloc: Global, board: &mut Flash, into: &mut [u8]) -> Result<u8, Fail>
+    requires { 65536 ≤ length into.old }
+    ensures { length into.new ≡ length into.old }
+{
+    let (mut drive, shape) = begin(alloc, board)?;
+    let store = request(0x01, 3);
+    match perform(&mut drive, board, &shape, &store, b"abc", into) {
+        None => Err("a Store")?,
+        Some(stored) => match drive.commit(board) {
+            Ok(()) => Ok(stored.status),
+            Err(_) => Err("a commit")?,
+        },
+    }
+}
+
+// A session that retrieves a value: the status, the result and the pages that were read.
+fn retrieve_in_session(
+    alloc: Global,
+    board: &mut Flash,
+    into: &mut [u8],
+) -> Result<(u8, u32, u32), Fail>
+    requires { 65536 ≤ length into.old }
+    ensures { length into.new ≡ length into.old }
+{
+    let (mut drive, shape) = begin(alloc, board)?;
+    let retrieve = request(0x02, 512);
+    match perform(&mut drive, board, &shape, &retrieve, &[], into) {
+        None => Err("a Retrieve")?,
+        Some(found) => Ok((found.status, found.result, found.reads)),
+    }
+}
+
+// A value that was stored and committed is found in the next session, by one read.
 #[test]
 fn keeps_a_value_over_sessions(rt: HostRuntime) -> Result<(), Fail> {
     let alloc = rt.alloc();
     let mut into = Vec::from_elem(alloc, 0u8, 65536)?;
     let (mut board, shape) = erased_board(alloc)?;
-    let unformatted = Drive::open(alloc, &mut board, shape, 0);
-    assert_eq!(rt; unformatted.err(), Some(OpenError::NotFormatted));
-    let (mut board, shape) = erased_board(alloc)?;
     assert_eq!(rt; format(&mut board, shape), Ok(()));
-    let (mut drive, shape) = begin(alloc, &mut board)?;
-    let store = request(0x01, 3);
-    let Some(stored) = perform(&mut drive, &mut board, &shape, &store, b"abc", &mut into) else {
-        return Err("a Store")?;
-    };
-    assert_eq!(rt; stored.status, 0);
-    assert_eq!(rt; drive.commit(&mut board), Ok(()));
-    let (mut again, shape) = begin(alloc, &mut board)?;
-    assert_eq!(rt; again.counts().keys, 1);
-    let retrieve = request(0x02, 512);
-    let Some(found) = perform(&mut again, &mut board, &shape, &retrieve, &[], &mut into) else {
-        return Err("a Retrieve")?;
-    };
-    assert_eq!(rt; (found.status, found.result, found.reads), (0, 3, 1));
+    assert_eq!(rt; store_in_session(alloc, &mut board, &mut into)?, 0);
+    assert_eq!(rt; retrieve_in_session(alloc, &mut board, &mut into)?, (0, 3, 1));
     assert_eq!(rt; &into[..3], b"abc".as_slice());
+    Ok(())
+}
+
+// A flash without a root is refused.
+#[test]
+fn opens_no_erased_flash(rt: HostRuntime) -> Result<(), Fail> {
+    let alloc = rt.alloc();
+    let (mut board, shape) = erased_board(alloc)?;
+    match Drive::open(alloc, &mut board, shape, 0) {
+        Ok(_) => Err("a drive")?,
+        Err(error) => assert_eq!(rt; error, OpenError::NotFormatted),
+    }
     Ok(())
 }
