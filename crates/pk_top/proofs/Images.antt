@@ -1,16 +1,14 @@
 -- A run of the word `make`.
-use Rattle.std.proofs.Common.{◌≡◌, ◌⊎◌, inl, inr, ℕ, Option, Some, None, IsSome, refl, sym, ◌∙◌, ap, subst, arith}
+use Rattle.std.proofs.Common.{◌≡◌, inl, inr, ℕ, Option, Some, None, IsSome, refl, sym, ◌∙◌, ap, subst, arith}
 use Rattle.pk_base.specs.Shape.{Shape}
 use Rattle.pk_nand.specs.BoardState.{BoardState}
-use Rattle.pk_nand.specs.Calls.{Rose, Loaded, Made, ProgramFailed, MakeFailed}
+use Rattle.pk_nand.specs.Calls.{Rose, Loaded, MakeFailed}
 use Rattle.pk_nand.specs.declared.types.LoadFault.{LoadFault}
 use Rattle.pk_nand.specs.declared.types.LoadFault.TheVariants.{Fault, BadImage, Memory}
-use Rattle.pk_rootfmt.specs.Held.{first as first_root}
-use Rattle.pk_rootfmt.specs.Root.{root_bytes}
-use Rattle.pk_top.specs.Loads.{load_status, LoadRefused, MakeRefused}
-use Rattle.pk_top.specs.Makes.{MakeRun, Makes, MakesNew, MadeImage, Formatted, FoundImage, IsMade}
+use Rattle.pk_top.specs.Loads.{load_status}
+use Rattle.pk_top.specs.Makes.{MakeRun, Makes, MadeImage, IsMade}
 use Rattle.pk_top.specs.Statuses.{GivesNothing, Tells}
-use Rattle.pk_top.proofs.Telling.{tells_good, tells_flash, tells_memory, tells_made, tells_refused, gives_same, load_gives, load_untouched}
+use Rattle.pk_top.proofs.Telling.{tells_good, tells_flash, tells_memory, tells_made, tells_refused, gives_same, load_untouched}
 
 some_shape : (shape : Shape) (o : Option Shape) → o ≡ Some shape → IsSome o
 some_shape shape o e = let T : Option Shape → Type 0 = IsSome in subst T (sym e) refl

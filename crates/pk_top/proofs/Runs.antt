@@ -1,16 +1,14 @@
 -- Runs one after another are sessions of a history.
-use Rattle.std.proofs.Common.{◌≡◌, inl, inr, ℕ, List, [], ◌∷◌, ◌++◌, map, Option, Some, None, Ok, IsSome, refl, sym, ◌∙◌, ap, subst, append-nil}
+use Rattle.std.proofs.Common.{◌≡◌, inl, inr, ℕ, List, [], ◌∷◌, ◌++◌, map, Option, Some, None, IsSome, refl, sym, ◌∙◌, ap, subst, append-nil}
 use Rattle.std.specs.FinMap.{empty}
 use Rattle.std.proofs.lemmas.List.{append_cancel_left}
 use Rattle.pk_base.specs.Shape.{Shape}
-use Rattle.pk_base.specs.Page.{Page, Flash}
+use Rattle.pk_base.specs.Page.{Flash}
 use Rattle.pk_base.specs.Mark.{Mark}
-use Rattle.pk_base.specs.Map.{Map}
-use Rattle.pk_nvme.specs.Command.{Command}
 use Rattle.pk_nand.specs.BoardState.{BoardState, shape_of, shape_or_none}
-use Rattle.pk_nand.specs.Calls.{Loaded, longer}
+use Rattle.pk_nand.specs.Calls.{longer}
 use Rattle.pk_nand.specs.Cut.{Cut}
-use Rattle.pk_model.specs.History.{Session, IsSound, History}
+use Rattle.pk_model.specs.History.{IsSound, History}
 use Rattle.pk_model.specs.Kept.{Kept, rise}
 use Rattle.pk_model.specs.Reading.{Holds}
 use Rattle.pk_model.specs.Script.{script}

@@ -1,5 +1,5 @@
 -- A session from its load on: what is kept of it.
-use Rattle.std.proofs.Common.{◌≡◌, inl, inr, ℕ, List, [], Some, Ok, refl, sym, ap, subst}
+use Rattle.std.proofs.Common.{◌≡◌, inl, inr, ℕ, List, [], Ok, refl, ap, subst}
 use Rattle.pk_base.specs.Shape.{Shape}
 use Rattle.pk_base.specs.Page.{Flash}
 use Rattle.pk_base.specs.Map.{Map}
@@ -7,7 +7,7 @@ use Rattle.pk_base.specs.Entry.{Entry}
 use Rattle.pk_nvme.specs.Command.{Command}
 use Rattle.pk_nand.specs.BoardState.{BoardState}
 use Rattle.pk_nand.proofs.Reaching.{Reached-start, Went-reached}
-use Rattle.pk_model.specs.Kept.{Kept, rise}
+use Rattle.pk_model.specs.Kept.{rise}
 use Rattle.pk_model.specs.Reading.{reading, Holds}
 use Rattle.pk_model.specs.Script.{script}
 use Rattle.pk_model.specs.Sight.{Sight}

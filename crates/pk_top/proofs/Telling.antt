@@ -17,7 +17,7 @@ use Rattle.pk_scan.specs.declared.errors.OpenError.{OpenError}
 use Rattle.pk_scan.specs.declared.errors.OpenError.TheVariants.{NotFormatted, Damaged, Fault as ReadFault, Memory as NoMemory}
 use Rattle.pk_top.specs.Ends.{end_status, open_status}
 use Rattle.pk_top.specs.Loads.{load_status, HasReason, LoadRefused}
-use Rattle.pk_top.specs.Serves.{ServeRun, ServesFound, Serves, NotServed, ServedTo, behind_opening}
+use Rattle.pk_top.specs.Serves.{ServeRun, Serves, behind_opening}
 use Rattle.pk_top.specs.Statuses.{GivesNothing, Untouched, FlashFailed, HasNoDrive, Tells}
 
 -- ---- one status each

@@ -3,7 +3,7 @@ use Rattle.std.proofs.Common.{◌≡◌, ◌≤◌, ℕ, List, [], ◌∷◌, Op
 use Rattle.std.proofs.lemmas.Bool.Decides.{nat_tests}
 use Rattle.pk_nvme.specs.Text.{number_of, bytes_of}
 use Rattle.pk_asm.specs.Words.{key_of}
-use Rattle.pk_top.specs.Words.{Word, make, serve, put, get, delete, has, list, stat, assemble, show, generate, make_with, make_if, make_of, most_frames, serve_with, serve_of, put_of, only_key, list_of, alone, generate_of, plain_of, word_of}
+use Rattle.pk_top.specs.Words.{Word, make, serve, put, get, delete, has, list, stat, assemble, show, generate, make_if, make_of, serve_with, serve_of, put_of, only_key, list_of, alone, generate_of, plain_of, word_of}
 
 -- the frames of a word are not too many
 abbrev WordWithin : Word → Type 0

@@ -1,4 +1,4 @@
-use Rattle.std.proofs.Common.{◌≡◌, ℕ, List, Option, Some, map, option_map, subst, sym, ◌∙◌}
+use Rattle.std.proofs.Common.{◌≡◌, Option, Some, map, option_map, subst, ◌∙◌}
 use Rattle.pk_top.specs.Words as spec
 use Rattle.pk_top.specs.Texts.{seen}
 use Rattle.pk_top.specs.declared.word.Word.{Word}
