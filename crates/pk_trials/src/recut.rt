@@ -1,4 +1,4 @@
-//! The second session is cut off at every mark, too, behind some cuts of the first one.
+//! The second session is cut off at every mark, too, behind a cut of the first one at each of its marks.
 
 use crate::board::{MAKE_SMALL, cut, made, served, small};
 use crate::cuts::{E, HELD, Held, bytes_out, first_session, left, second_session, ways};
@@ -133,23 +133,22 @@ fn check_second(
     Ok(())
 }
 
+// One way in which this mark is interrupted.
+fn one_way(flash: &Flash, k: usize) -> u8 {
+    match ways(flash, k) {
+        6 => 3 + (k % 3) as u8,
+        3 => 1,
+        _ => 0,
+    }
+}
+
 #[test]
 fn cut_twice(rt: HostRuntime) -> Result<(), Fail> {
     let alloc = rt.alloc();
     let first = first_session(alloc)?;
-    let all = first.flash.marks();
-    for (k, way) in [
-        (0usize, 0u8),
-        (2, 1),
-        (3, 1),
-        (3, 2),
-        (8, 1),
-        (14, 0),
-        (15, 2),
-        (22, 3),
-        (all, 0),
-    ] {
-        check_second(&rt, alloc, &first.flash, k.min(all), way)?;
+    for k in 0..first.flash.marks().saturating_add(1) {
+        let way = one_way(&first.flash, k);
+        check_second(&rt, alloc, &first.flash, k, way)?;
     }
     Ok(())
 }
