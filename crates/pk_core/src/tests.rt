@@ -160,7 +160,10 @@ fn keeps_a_value_over_sessions(rt: HostRuntime) -> Result<(), Fail> {
     let (mut board, shape) = erased_board(alloc)?;
     assert_eq!(rt; format(&mut board, shape), Ok(()));
     assert_eq!(rt; store_in_session(alloc, &mut board, &mut into)?, 0);
-    assert_eq!(rt; retrieve_in_session(alloc, &mut board, &mut into)?, (0, 3, 1));
+    assert_eq!(rt;
+        retrieve_in_session(alloc, &mut board, &mut into)?,
+        (0, 3, 1)
+    );
     assert_eq!(rt; &into[..3], b"abc".as_slice());
     Ok(())
 }
