@@ -148,7 +148,7 @@ module _ (shape : Shape) (old loaded new : BoardState) (found : Loaded old loade
   tells_not status (Damaged page) is reason only = tells_no_drive old new status is (holds_none (damaged page) only reason) (reads_untouched only)
   tells_not status ReadFault is reason only =
       let T : ℕ → Type 0 = λ n. Rose n new.flash_faults in
-      tells_flash old new status is (inr (subst T (ap (λ (s : BoardState). s.flash_faults) found.rest) reason, (reads_untouched only).gives))
+      tells_flash old new status is (inr (subst T (ap (λ (s : BoardState). s.flash_faults) found.rest) reason.0, (reads_untouched only).gives))
   tells_not status NoMemory is reason only = tells_memory old new status is (reads_untouched only).gives
 
   -- ---- a drive that was opened
