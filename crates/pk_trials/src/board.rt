@@ -8,9 +8,10 @@ use pk_top::run;
 use std::alloc::{AllocError, Global};
 use std::test::*;
 
-/// The words that make a drive of 33 blocks of 8 pages, and one of 64 blocks of 16 pages.
+/// The words that make a drive of 33 blocks of 8 pages.
 pub const MAKE_SMALL: [&str; 4] = ["make", "512", "8", "33"];
 
+/// The words that make a drive of 64 blocks of 16 pages.
 pub const MAKE_WORKED: [&str; 4] = ["make", "512", "16", "64"];
 
 const ROOM: Room = Room {

@@ -1,4 +1,4 @@
-//! A session that is cut off at every mark, in every way, and the session behind it.
+//! A session that is cut off at every mark, and the session behind it.
 
 use crate::board::{MAKE_SMALL, Session, cut, made, served, small};
 use crate::script::{Answer, Ask, Value, records, retrieved};
@@ -18,6 +18,7 @@ const C: Value = Value { first: 4, len: 992 };
 
 const D: Value = Value { first: 5, len: 0 };
 
+/// The value of the second session.
 pub const E: Value = Value { first: 6, len: 10 };
 
 // Values of one and two pages, seven in all, which one block takes.
@@ -61,8 +62,8 @@ const SECOND: [Ask; 6] = [
     Ask::Retrieve(0x65),
 ];
 
-/// In how many ways the mark with this number can be interrupted, as far as pages tell: a post leaves them alone, whatever part of
-/// it went out. Behind the last mark there is one way.
+/// In how many ways an interruption of the mark with this number is tried: all of a program, six of an erase, of which each page may
+/// stay, be Erased or Torn; a post leaves the pages alone, whatever part of it went out. Behind the last mark there is one way.
 pub fn ways(flash: &Flash, k: usize) -> u8 {
     if k >= flash.marks() {
         return 1;

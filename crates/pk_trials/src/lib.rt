@@ -1,7 +1,7 @@
 //! Trials of whole sessions: the program's one call over the board in memory, with words, scripts and records alone.
 //!
 //! An image goes from session to session, is cut off at every mark, fails at calls, is damaged and is worn. Each test compares
-//! the status and the posted bytes with values that were worked out by hand. The crate has nothing but these tests.
+//! the status and the posted bytes with the records of the answers that it lists. The crate has nothing but these tests.
 #![tactic(auto)]
 
 #[cfg(test)]

@@ -1,7 +1,8 @@
 //! An image goes from session to session.
 
 use crate::board::{
-    MAKE_WORKED, board, cut, last_program, made, pages_left, serve, served, worked,
+    MAKE_SMALL, MAKE_WORKED, board, cut, last_program, made, pages_left, serve, served, small,
+    worked,
 };
 use crate::script::{Answer, Ask, Value, entry, records};
 use pk_base::get_u32;
@@ -85,6 +86,28 @@ fn three_stores(rt: HostRuntime) -> Result<(), Fail> {
         )?;
         pages = serve_as(&rt, alloc, pages, &[Ask::List], 0, &[Answer::Keys(keys)])?;
     }
+    Ok(())
+}
+
+// Sixteen Stores of one key fill the two blocks that values may have; the next one wants a reclaim, which is not built. What was
+// stored before it is there.
+#[test]
+fn full_blocks(rt: HostRuntime) -> Result<(), Fail> {
+    let alloc = rt.alloc();
+    let pages = made(alloc, &MAKE_SMALL)?;
+    let done = served(alloc, small()?, pages, &[Ask::Store(0x61, THREE); 17])?;
+    assert_eq!(rt; done.status, 11);
+    assert_eq!(rt;
+        done.flash.posted(),
+        records(alloc, &[Answer::Done; 16])?.as_slice()
+    );
+    let left = pages_left(alloc, &done.flash)?;
+    let again = served(alloc, small()?, left, &[Ask::Retrieve(0x61)])?;
+    assert_eq!(rt; again.status, 0);
+    assert_eq!(rt;
+        again.flash.posted(),
+        records(alloc, &[Answer::Found(THREE)])?.as_slice()
+    );
     Ok(())
 }
 
