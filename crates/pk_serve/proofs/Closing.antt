@@ -202,6 +202,7 @@ module _ (shape : Shape) (frames : ℕ) (start : Map) (a b : BoardState) (d : Si
         let e : script (f.bytes ++ x.part) ≡ (commands f.all, x.part) = script_of (commands f.all) x.part x.part (script (f.bytes ++ x.part)) (f.spells x.part) refl x.is_part in (
           f.bytes ++ x.part,
           i.0,
+          i.1,
           i.2,
           served_as (commands f.all) (script (f.bytes ++ x.part)).0 (sym (ap (λ s. s.0) e)) (served_of x.part f none),
           (λ z. (let r = x.goes_on (λ none_left. z (ap (λ s. s.1) e ∙ none_left)) in (omega (arith, r.0, ap (λ s. length s.0) e, size_of x.part f), r.1))),

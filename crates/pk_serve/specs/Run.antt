@@ -156,7 +156,7 @@ ServedBy shape frames start a b input says Done =
 ServedBy shape frames start a b input says Truncated =
     ((script input).1 ≢ []) × TakesMore b (script input).0 × Served shape frames start a b says (script input).0 × AtEnd b.input × (b.in_faults ≡ a.in_faults)
 ServedBy shape frames start a b input says Input =
-    (taken : List ℕ) × (left : List ℕ) × (input ≡ taken ++ left) × Served shape frames start a b says (script taken).0
+    (taken : List ℕ) × (left : List ℕ) × (b.input ≡ Some left) × (input ≡ taken ++ left) × Served shape frames start a b says (script taken).0
     × ((script taken).1 ≢ [] → TakesMore b (script taken).0) × Rose a.in_faults b.in_faults
 ServedBy shape frames start a b input says Worn =
     (bytes : List ℕ) × (more : List ℕ) × (input ≡ bytes ++ more) × (more ≢ []) × (script bytes ≡ ((script bytes).0, [])) × Served shape frames start a b says (script bytes).0
