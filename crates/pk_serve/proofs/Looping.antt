@@ -31,6 +31,7 @@ Looping-start shape frames start a drive held says empty stands none =
       bytes = [];
       serving = subst T (sym empty) (Serving-start shape frames start a drive stands none);
       count = refl;
+      few = omega arith;
       accepted = refl;
       input = put_back-nil a.input;
       spells = Spells-none;
@@ -47,8 +48,8 @@ None_refused-any a b no_more refused Worn n = n
 None_refused-any a b no_more refused NotBuilt n = absurd n.0.is
 
 module _ (shape : Shape) (frames : ℕ) (start : Map) (a b c : BoardState) (d e : Sight) (held now_held : List ℕ) (taken : ℕ) (says : Map → Request → Bool → Type 0) (w : Looping shape frames start a b d held taken says) where
-  pub Looping-next : (accepts : Command → Type 0) → ((cmd : Command) → accepts cmd → Accepted says w.m cmd) → Advances b c d e held now_held taken accepts → Looping shape frames start a c e now_held (taken + 1) says
-  Looping-next accepts on n =
+  pub Looping-next : taken < most_entries → (accepts : Command → Type 0) → ((cmd : Command) → accepts cmd → Accepted says w.m cmd) → Advances b c d e held now_held taken accepts → Looping shape frames start a c e now_held (taken + 1) says
+  Looping-next few accepts on n =
       let x = n.serves shape frames start a w.all w.m w.count w.serving in
       let S : List Command → Type 0 = λ l. Spells (w.bytes ++ n.bytes) l in
       let A : Command → Type 0 = λ cmd. Accepted says w.m cmd in
@@ -58,6 +59,7 @@ module _ (shape : Shape) (frames : ℕ) (start : Map) (a b c : BoardState) (d e 
         bytes = w.bytes ++ n.bytes;
         serving = x.serving;
         count = omega (arith, w.count, length-append w.all (x.x ∷ []));
+        few = omega (arith, few);
         accepted = FoldsTo-push (λ m y m'. StepWithin shape frames m y m' × Accepted says m y.command) start w.all w.m x.x x.m w.accepted (x.step, subst A (sym x.is) (on n.c n.accepted));
         input = taken-append a.input b.input c.input w.bytes n.bytes w.input n.input;
         spells = subst S (sym (commands-push w.all x.x ∙ ap (λ cmd. commands w.all ++ cmd ∷ []) x.is)) (Spells-append w.bytes n.bytes (commands w.all) (n.c ∷ []) w.spells n.spells);
@@ -74,6 +76,7 @@ module _ (shape : Shape) (frames : ℕ) (start : Map) (a b c : BoardState) (d e 
         m = w.m;
         bytes = w.bytes;
         accepted = w.accepted;
+        few = omega (arith, w.count, w.few);
         serving = subst V (sym same_held) (subst U (sym same_drive) (subst T (sym rest) (Serving-inputs shape frames start a b d held w.all w.m w.serving c.input c.in_faults)));
         input = taken-append a.input b.input c.input w.bytes part w.input more;
         spells = w.spells;

@@ -37,6 +37,7 @@ pub record Looping (shape : Shape) (frames : ℕ) (start : Map) (a b : BoardStat
   pub serving : Serving shape frames start a b drive held all m
   pub accepted : RunAccepted shape frames says start all m
   pub count : taken ≡ length all
+  pub few : taken ≤ most_entries
   pub input : a.input ≡ put_back bytes b.input
   pub spells : Spells bytes (commands all)
 
@@ -47,6 +48,7 @@ pub record Finished (shape : Shape) (frames : ℕ) (start : Map) (a b : BoardSta
   pub bytes : List ℕ
   pub serving : Serving shape frames start a b drive held all m
   pub accepted : RunAccepted shape frames says start all m
+  pub few : length all ≤ most_entries
   pub input : a.input ≡ put_back (bytes ++ part) b.input
   pub spells : Spells bytes (commands all)
 
@@ -130,7 +132,7 @@ KeepsSome a b before =
     (shape : Shape) (frames : ℕ) (start : Map) → Stands shape frames a before start → before.pending ≡ []
     → (cs : List Command) × Goes shape a b (KeptAt shape frames start cs (rise a.read_faults b.read_faults))
 
--- These were served, with exactly their records posted, and the flash holds the map after them.
+-- These, no more than a run takes, were served, with exactly their records posted, and the flash holds the map after them.
 pub record Served (shape : Shape) (frames : ℕ) (start : Map) (a b : BoardState) (says : Map → Request → Bool → Type 0) (cs : List Command) : Type 0 where
   pub served : List Exchange
   pub are : commands served ≡ cs
@@ -143,6 +145,7 @@ pub record Served (shape : Shape) (frames : ℕ) (start : Map) (a b : BoardState
   pub metered : MeteredAll (meter a) served (meter b)
   pub few_roots : roots b ≤ roots a + installs cs
   pub no_faults : NoFaults a b
+  pub few : length cs ≤ most_entries
 
 -- fewer were taken than a run takes, and the drive is not worn
 abbrev pub TakesMore : BoardState → List Command → Type 0
