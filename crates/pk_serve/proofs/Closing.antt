@@ -37,6 +37,7 @@ module _ (shape : Shape) (frames : ℕ) (start : Map) (a b c : BoardState) (d e 
         bytes = f.bytes;
         accepted = f.accepted;
         few = f.few;
+        unworn = f.unworn;
         serving = flushed shape frames start a [] f.all f.m (subst T (sym (append-nil held)) f.serving);
         input = f.input ∙ ap (put_back (f.bytes ++ part)) (sym input);
         spells = f.spells;
@@ -158,6 +159,7 @@ module _ (shape : Shape) (frames : ℕ) (start : Map) (a b : BoardState) (d : Si
         few_roots = w.few_roots;
         no_faults = w.no_faults;
         few = omega (arith, f.few, size_of part f);
+        unworn = λ some. f.unworn (λ none. some (ap commands none));
       }
 
   served_as : (cs ds : List Command) → cs ≡ ds → Served shape frames start a b says cs → Served shape frames start a b says ds
@@ -174,6 +176,7 @@ module _ (shape : Shape) (frames : ℕ) (start : Map) (a b : BoardState) (d : Si
     few_roots = (let T : List Command → Type 0 = λ l. roots b ≤ roots a + installs l in subst T e h.few_roots);
     no_faults = h.no_faults;
     few = omega (arith, ap (λ (l : List Command). length l) e, h.few);
+    unworn = λ some. h.unworn (λ none. some (sym e ∙ none));
   }
 
   module _ (input : List ℕ) (is : a.input ≡ Some input) where
