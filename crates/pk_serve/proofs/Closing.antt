@@ -36,6 +36,8 @@ module _ (shape : Shape) (frames : ℕ) (start : Map) (a b c : BoardState) (d e 
         m = f.m;
         bytes = f.bytes;
         accepted = f.accepted;
+        few = f.few;
+        unworn = f.unworn;
         serving = flushed shape frames start a [] f.all f.m (subst T (sym (append-nil held)) f.serving);
         input = f.input ∙ ap (put_back (f.bytes ++ part)) (sym input);
         spells = f.spells;
@@ -135,6 +137,10 @@ pub script_whole : (bytes : List ℕ) (cs : List Command) → Spells bytes cs �
 script_whole bytes cs spells = ap script (sym (append-nil bytes)) ∙ script_of cs [] [] (script (bytes ++ [])) (spells []) refl script_none
 
 module _ (shape : Shape) (frames : ℕ) (start : Map) (a b : BoardState) (d : Sight) (says : Map → Request → Bool → Type 0) where
+  -- as many exchanges as commands
+  pub size_of : (part : List ℕ) (f : Finished shape frames start a b d [] part says) → length (commands f.all) ≡ length f.all
+  size_of part f = length-map f.all (λ (x : Exchange). x.command)
+
   -- what was served
   served_of : (part : List ℕ) (f : Finished shape frames start a b d [] part says) → d.pending ≡ [] → Served shape frames start a b says (commands f.all)
   served_of part f none =
@@ -152,6 +158,8 @@ module _ (shape : Shape) (frames : ℕ) (start : Map) (a b : BoardState) (d : Si
         metered = w.metered;
         few_roots = w.few_roots;
         no_faults = w.no_faults;
+        few = omega (arith, f.few, size_of part f);
+        unworn = λ some. f.unworn (λ none. some (ap commands none));
       }
 
   served_as : (cs ds : List Command) → cs ≡ ds → Served shape frames start a b says cs → Served shape frames start a b says ds
@@ -167,11 +175,9 @@ module _ (shape : Shape) (frames : ℕ) (start : Map) (a b : BoardState) (d : Si
     metered = h.metered;
     few_roots = (let T : List Command → Type 0 = λ l. roots b ≤ roots a + installs l in subst T e h.few_roots);
     no_faults = h.no_faults;
+    few = omega (arith, ap (λ (l : List Command). length l) e, h.few);
+    unworn = λ some. h.unworn (λ none. some (sym e ∙ none));
   }
-
-  -- as many exchanges as commands
-  pub size_of : (part : List ℕ) (f : Finished shape frames start a b d [] part says) → length (commands f.all) ≡ length f.all
-  size_of part f = length-map f.all (λ (x : Exchange). x.command)
 
   module _ (input : List ℕ) (is : a.input ≡ Some input) where
     -- the input that was taken, and what is left
@@ -202,6 +208,7 @@ module _ (shape : Shape) (frames : ℕ) (start : Map) (a b : BoardState) (d : Si
         let e : script (f.bytes ++ x.part) ≡ (commands f.all, x.part) = script_of (commands f.all) x.part x.part (script (f.bytes ++ x.part)) (f.spells x.part) refl x.is_part in (
           f.bytes ++ x.part,
           i.0,
+          i.1,
           i.2,
           served_as (commands f.all) (script (f.bytes ++ x.part)).0 (sym (ap (λ s. s.0) e)) (served_of x.part f none),
           (λ z. (let r = x.goes_on (λ none_left. z (ap (λ s. s.1) e ∙ none_left)) in (omega (arith, r.0, ap (λ s. length s.0) e, size_of x.part f), r.1))),

@@ -1,5 +1,5 @@
 -- The loop over the commands of the input.
-use Rattle.std.proofs.Common.{◌≡◌, ◌⊎◌, inl, inr, ℕ, ◌+◌, ◌<◌, List, [], ◌∷◌, ◌++◌, refl, sym, ◌∙◌, ap, subst, arith, append-nil, length-append, true, false, Bool}
+use Rattle.std.proofs.Common.{◌≡◌, ◌≢◌, ◌⊎◌, inl, inr, ℕ, ◌+◌, ◌<◌, List, [], ◌∷◌, ◌++◌, refl, sym, ◌∙◌, ap, subst, arith, append-nil, length-append, true, false, Bool}
 use Rattle.std.proofs.lemmas.Fn.{FoldsTo-push}
 use Rattle.pk_base.specs.Shape.{Shape}
 use Rattle.pk_base.specs.Map.{Map}
@@ -31,6 +31,8 @@ Looping-start shape frames start a drive held says empty stands none =
       bytes = [];
       serving = subst T (sym empty) (Serving-start shape frames start a drive stands none);
       count = refl;
+      few = omega arith;
+      unworn = inl (refl, refl);
       accepted = refl;
       input = put_back-nil a.input;
       spells = Spells-none;
@@ -47,8 +49,8 @@ None_refused-any a b no_more refused Worn n = n
 None_refused-any a b no_more refused NotBuilt n = absurd n.0.is
 
 module _ (shape : Shape) (frames : ℕ) (start : Map) (a b c : BoardState) (d e : Sight) (held now_held : List ℕ) (taken : ℕ) (says : Map → Request → Bool → Type 0) (w : Looping shape frames start a b d held taken says) where
-  pub Looping-next : (accepts : Command → Type 0) → ((cmd : Command) → accepts cmd → Accepted says w.m cmd) → Advances b c d e held now_held taken accepts → Looping shape frames start a c e now_held (taken + 1) says
-  Looping-next accepts on n =
+  pub Looping-next : taken < most_entries → (accepts : Command → Type 0) → ((cmd : Command) → accepts cmd → Accepted says w.m cmd) → Advances b c d e held now_held taken accepts → Looping shape frames start a c e now_held (taken + 1) says
+  Looping-next few accepts on n =
       let x = n.serves shape frames start a w.all w.m w.count w.serving in
       let S : List Command → Type 0 = λ l. Spells (w.bytes ++ n.bytes) l in
       let A : Command → Type 0 = λ cmd. Accepted says w.m cmd in
@@ -58,10 +60,16 @@ module _ (shape : Shape) (frames : ℕ) (start : Map) (a b c : BoardState) (d e 
         bytes = w.bytes ++ n.bytes;
         serving = x.serving;
         count = omega (arith, w.count, length-append w.all (x.x ∷ []));
+        few = omega (arith, few);
+        unworn = elim w.unworn [ inl none ↦ inr (sym none.1 ∙ n.unworn) | inr h ↦ inr h ];
         accepted = FoldsTo-push (λ m y m'. StepWithin shape frames m y m' × Accepted says m y.command) start w.all w.m x.x x.m w.accepted (x.step, subst A (sym x.is) (on n.c n.accepted));
         input = taken-append a.input b.input c.input w.bytes n.bytes w.input n.input;
         spells = subst S (sym (commands-push w.all x.x ∙ ap (λ cmd. commands w.all ++ cmd ∷ []) x.is)) (Spells-append w.bytes n.bytes (commands w.all) (n.c ∷ []) w.spells n.spells);
       }
+
+  -- commands were served, so the first was
+  first_unworn : w.all ≢ [] → is_worn a ≡ false
+  first_unworn some = elim w.unworn [ inl none ↦ absurd (some none.0) | inr h ↦ h ]
 
   -- bytes behind the commands were taken
   finished : (part : List ℕ) → b.input ≡ put_back part c.input → c ≡ record b { input = c.input; in_faults = c.in_faults } → e ≡ d → now_held ≡ held → Finished shape frames start a c e now_held part says
@@ -74,6 +82,8 @@ module _ (shape : Shape) (frames : ℕ) (start : Map) (a b c : BoardState) (d e 
         m = w.m;
         bytes = w.bytes;
         accepted = w.accepted;
+        few = omega (arith, w.count, w.few);
+        unworn = first_unworn;
         serving = subst V (sym same_held) (subst U (sym same_drive) (subst T (sym rest) (Serving-inputs shape frames start a b d held w.all w.m w.serving c.input c.in_faults)));
         input = taken-append a.input b.input c.input w.bytes part w.input more;
         spells = w.spells;

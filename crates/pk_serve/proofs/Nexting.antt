@@ -1,5 +1,5 @@
 -- A command is taken, entry and value.
-use Rattle.std.proofs.Common.{◌≡◌, ◌≢◌, ℕ, List, [], ◌++◌, length, sym, ◌∙◌, ap, subst, arith, length-append, ◌==◌, if◌then◌else◌, Bool, Option, Some, nat_le, inl}
+use Rattle.std.proofs.Common.{◌≡◌, ◌≢◌, ℕ, List, [], ◌++◌, length, sym, ◌∙◌, ap, subst, arith, length-append, ◌==◌, if◌then◌else◌, Bool, false, Option, Some, nat_le, inl}
 use Rattle.pk_base.specs.Shape.{Shape}
 use Rattle.pk_nvme.specs.Command.{Command, command}
 use Rattle.pk_nvme.specs.Seen.{command_of as command_seen}
@@ -46,14 +46,15 @@ module _ (a m n : BoardState) (entry : List ℕ) (entered : Entered a m entry) (
     taken_all : a.input ≡ put_back (entry ++ valued.value) b.input
     taken_all = taken-append a.input m.input n.input entry valued.value entered.input valued.input ∙ ap (put_back (entry ++ valued.value)) (sym same)
 
-    pub Advances-one : (after : Sight) (now_held : List ℕ) (accepts : Command → Type 0) → accepts (command_seen r valued.value)
+    pub Advances-one : (after : Sight) (now_held : List ℕ) (accepts : Command → Type 0) → is_worn a ≡ false → accepts (command_seen r valued.value)
         → ((v : List ℕ) → IsValue shape r.opcode r.size handed v → Serves n b before after held now_held taken (command_seen r v)) → Advances a b before after held now_held taken accepts
-    Advances-one after now_held accepts is serves = record {
+    Advances-one after now_held accepts unworn is serves = record {
       bytes = entry ++ valued.value;
       c = command_seen r valued.value;
       input = taken_all;
       spells = Spells-one entry valued.value (command_seen r valued.value) size (valued.whole ∙ sym (value_size entry r parsed)) (parsed valued.value);
       accepted = is;
+      unworn = unworn;
       serves = serves_too a n b before (input_too a m n entered.rest valued.rest) after held now_held taken (command_seen r valued.value) (serves valued.value valued.is_value);
     }
 

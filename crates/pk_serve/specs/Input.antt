@@ -40,13 +40,14 @@ pub record Left (old new : BoardState) (part : List ℕ) : Type 0 where
   pub is_part : IsPart part
   pub rest : new ≡ record old { input = new.input; in_faults = new.in_faults }
 
--- a command was taken and served
+-- a command was taken and served, on a drive that was not worn
 pub record Advances (old new : BoardState) (before after : Sight) (held now_held : List ℕ) (taken : ℕ) (accepts : Command → Type 0) : Type 0 where
   pub bytes : List ℕ
   pub c : Command
   pub input : old.input ≡ put_back bytes new.input
   pub spells : Spells bytes (c ∷ [])
   pub accepted : accepts c
+  pub unworn : is_worn old ≡ false
   pub serves : Serves old new before after held now_held taken c
 
 -- a command was taken, and serving ended in it

@@ -29,7 +29,7 @@ most_entries = 4294967295
 abbrev pub Told : (Drive : Type 0) → (Drive → Sight) → (Drive → Request → Bool) → Shape → ℕ → Map → Request → Bool → Type 0
 Told Drive sight built shape frames m request answer = (drive : Drive) × (board : BoardState) × Stands shape frames board (sight drive) m × (built drive request ≡ answer)
 
--- So many commands were taken from the input and served.
+-- So many commands were taken from the input and served, the first of them on a drive that was not worn.
 pub record Looping (shape : Shape) (frames : ℕ) (start : Map) (a b : BoardState) (drive : Sight) (held : List ℕ) (taken : ℕ) (says : Map → Request → Bool → Type 0) : Type 0 where
   pub all : List Exchange
   pub m : Map
@@ -37,6 +37,8 @@ pub record Looping (shape : Shape) (frames : ℕ) (start : Map) (a b : BoardStat
   pub serving : Serving shape frames start a b drive held all m
   pub accepted : RunAccepted shape frames says start all m
   pub count : taken ≡ length all
+  pub few : taken ≤ most_entries
+  pub unworn : ((all ≡ []) × (is_worn b ≡ is_worn a)) ⊎ (is_worn a ≡ false)
   pub input : a.input ≡ put_back bytes b.input
   pub spells : Spells bytes (commands all)
 
@@ -47,6 +49,8 @@ pub record Finished (shape : Shape) (frames : ℕ) (start : Map) (a b : BoardSta
   pub bytes : List ℕ
   pub serving : Serving shape frames start a b drive held all m
   pub accepted : RunAccepted shape frames says start all m
+  pub few : length all ≤ most_entries
+  pub unworn : all ≢ [] → is_worn a ≡ false
   pub input : a.input ≡ put_back (bytes ++ part) b.input
   pub spells : Spells bytes (commands all)
 
@@ -130,7 +134,7 @@ KeepsSome a b before =
     (shape : Shape) (frames : ℕ) (start : Map) → Stands shape frames a before start → before.pending ≡ []
     → (cs : List Command) × Goes shape a b (KeptAt shape frames start cs (rise a.read_faults b.read_faults))
 
--- These were served, with exactly their records posted, and the flash holds the map after them.
+-- These, no more than a run takes, were served from a drive that was not worn, with exactly their records posted, and the flash holds the map after them.
 pub record Served (shape : Shape) (frames : ℕ) (start : Map) (a b : BoardState) (says : Map → Request → Bool → Type 0) (cs : List Command) : Type 0 where
   pub served : List Exchange
   pub are : commands served ≡ cs
@@ -143,6 +147,8 @@ pub record Served (shape : Shape) (frames : ℕ) (start : Map) (a b : BoardState
   pub metered : MeteredAll (meter a) served (meter b)
   pub few_roots : roots b ≤ roots a + installs cs
   pub no_faults : NoFaults a b
+  pub few : length cs ≤ most_entries
+  pub unworn : cs ≢ [] → is_worn a ≡ false
 
 -- fewer were taken than a run takes, and the drive is not worn
 abbrev pub TakesMore : BoardState → List Command → Type 0
@@ -156,7 +162,7 @@ ServedBy shape frames start a b input says Done =
 ServedBy shape frames start a b input says Truncated =
     ((script input).1 ≢ []) × TakesMore b (script input).0 × Served shape frames start a b says (script input).0 × AtEnd b.input × (b.in_faults ≡ a.in_faults)
 ServedBy shape frames start a b input says Input =
-    (taken : List ℕ) × (left : List ℕ) × (input ≡ taken ++ left) × Served shape frames start a b says (script taken).0
+    (taken : List ℕ) × (left : List ℕ) × (b.input ≡ Some left) × (input ≡ taken ++ left) × Served shape frames start a b says (script taken).0
     × ((script taken).1 ≢ [] → TakesMore b (script taken).0) × Rose a.in_faults b.in_faults
 ServedBy shape frames start a b input says Worn =
     (bytes : List ℕ) × (more : List ℕ) × (input ≡ bytes ++ more) × (more ≢ []) × (script bytes ≡ ((script bytes).0, [])) × Served shape frames start a b says (script bytes).0

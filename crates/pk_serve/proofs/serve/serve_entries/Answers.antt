@@ -34,7 +34,7 @@ loop-taken-preserved g c =
       looping = λ shape frames start stands none.
           let w = c.loop-taken.invariant.looping shape frames start stands none in
           let T = Told _ g.D.Engine.sight g.D.Engine.built shape frames in
-          Looping-next shape frames start _ _ _ _ _ _ _ c.loop-taken.taken T w _ (accepted_on _ g.D.Engine.sight g.D.Engine.built shape frames w.m _ c.loop-taken.drive w.serving.stands) e.advances;
+          Looping-next shape frames start _ _ _ _ _ _ _ c.loop-taken.taken T w (omega arith) _ (accepted_on _ g.D.Engine.sight g.D.Engine.built shape frames w.m _ c.loop-taken.drive w.serving.stands) e.advances;
     }
 
 pub returns-in-Err-clause-ends : goal.returns-in-Err-clause-ends

@@ -8,7 +8,8 @@ use Rattle.pk_serve.proofs.serve.serve_next.Goals as goal
 pub returns-in-Ok-serve_one-clause-advances : goal.returns-in-Ok-serve_one-clause-advances
 returns-in-Ok-serve_one-clause-advances g c =
     let valued = rw c.in-Some.is at c.in-Ok-take_value.ensures.ok in
-    Advances-one _ _ _ _ c.in-Ok.ensures.ok c.in-Ok.ensures.len c.of-request.result c.of-request.ensures _ _ valued _ _ _ _ c.in-Ok-serve_one.ensures.input _ _ _ (c.of-request.result, refl, search rules) c.in-Ok-serve_one.ensures.serves
+    let worn = worn_is (g.D.Engine.agrees c.args.drive.now) (g.B.Nand.state c.args.board.now) c.args.shape.now _ c.requires.shape c.requires.agrees (λ s f h. c.is_worn-worn.ensures s f h c.requires.runs) in
+    Advances-one _ _ _ _ c.in-Ok.ensures.ok c.in-Ok.ensures.len c.of-request.result c.of-request.ensures _ _ valued _ _ _ _ c.in-Ok-serve_one.ensures.input _ _ _ (sym worn ∙ c.in-Ok.ensures.taken) (c.of-request.result, refl, search rules) c.in-Ok-serve_one.ensures.serves
 
 pub returns-in-Err-serve_one-clause-quits : goal.returns-in-Err-serve_one-clause-quits
 returns-in-Err-serve_one-clause-quits g c =
