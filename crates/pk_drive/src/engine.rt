@@ -81,6 +81,7 @@ pub trait Engine {
         ensures none { OnOk result ((sight self.new).pending ≡ []) }
         ensures agrees { OnOk result (agrees self.new (B.state board.new).shape (B.state board.new).pages) }
         ensures built { OnOk result ((r : Request) → r.opcode ≢ 0x01 → r.opcode ≢ 0x10 → built self.old r ≡ true → built self.new r ≡ true) }
+        ensures unbuilt { OnOk result ((r : Request) → built self.old r ≡ false → built self.new r ≡ false) }
         ensures stands { OnOk result (CommitStands (B.state board.old) (B.state board.new) (sight self.old) (sight self.new)) }
         ensures cuts { OnOk result (CommitReaches (B.state board.old) (B.state board.new) (sight self.old)) }
         ensures cuts_failed { OnErr result (CommitGoes (B.state board.old) (B.state board.new) (sight self.old)) }

@@ -51,7 +51,7 @@ fn is_of(head: JrnHead, number: u64, index: u32) -> bool
     head.epoch == number && head.index == index
 }
 
-// Writes the entries of the epoch's page of this index, unless the bytes are none or there is no room for all of them.
+/// Writes the entries of the epoch's page of this index, unless the bytes are none or there is no room for all of them.
 pub fn take_page<A: Region>(
     shape: &Shape,
     number: u64,

@@ -6,7 +6,7 @@ ghost use Rattle.pk_jrn.specs.Epochs.{AllExist};
 
 use pk_base::Shape;
 
-// The page of this index: of the first block, or of the second behind all pages of the first.
+/// The page of this index: of the first block, or of the second behind all pages of the first.
 pub fn page_of(shape: &Shape, blocks: &[u16; 2], index: u32) -> u32
     requires within { index < epoch_pages shape.now }
     ensures page { result ≡ page_in shape.now blocks.now index }

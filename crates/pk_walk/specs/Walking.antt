@@ -29,6 +29,7 @@ pub record Cursor : Type 0 where
 abbrev pub at_start : Cursor → Cursor
 at_start c = record c { place = 0; loaded = 0 }
 
+-- each cursor of a list there
 abbrev pub all_at_start : List Cursor → List Cursor
 all_at_start [] = []
 all_at_start (c ∷ cs) = at_start c ∷ all_at_start cs
@@ -48,6 +49,7 @@ first_position (Some key) = From key
 abbrev pub begun : Walk → Position → Walk
 begun w position = record w { position = position; cursors = all_at_start w.cursors }
 
+-- each cursor is for runs of this shape
 abbrev pub AreOfShape : Shape → List Cursor → Type 0
 AreOfShape shape [] = ⊤
 AreOfShape shape (c ∷ cs) = (c.shape ≡ shape) × AreOfShape shape cs
@@ -66,6 +68,7 @@ pub record Follows (flash : Flash) (r : Kept) (es : List Entry) (position : Posi
   pub holds : c.loaded ≡ suc (c.place / page_entries r.shape) → page_at flash (page_of r (c.place / page_entries r.shape)) ≡ whole c.bytes
   pub left : wanted (is_wanted position) es ≡ wanted (is_wanted position) (drop c.place es)
 
+-- the cursors follow the runs of the levels, one each
 abbrev pub FollowEach : Flash → List Kept → List (List Entry) → Position → List Cursor → Type 0
 FollowEach flash [] ess position cs = ⊤
 FollowEach flash (r ∷ rs) [] position cs = ⊤
