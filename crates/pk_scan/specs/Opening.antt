@@ -40,22 +40,24 @@ FaultCounted old new = Rose old.flash_faults new.flash_faults × Rose old.read_f
 
 -- ---- refusals
 
--- why the whole was not read: the reading of the flash refuses in the same way, or a read failed; want of memory is free
+-- why the whole was not read: the reading of the flash refuses in the same way and no read failed, or a read failed; memory may be wanting
+-- wherever none did
 abbrev pub NotOpened : Shape → BoardState → BoardState → OpenError → Type 0
-NotOpened shape old new NotFormatted = reading shape old.pages [] ≡ Err not_formatted
-NotOpened shape old new (Damaged page) = reading shape old.pages [] ≡ Err (damaged page)
+NotOpened shape old new NotFormatted = (reading shape old.pages [] ≡ Err not_formatted) × OnlyReads old new
+NotOpened shape old new (Damaged page) = (reading shape old.pages [] ≡ Err (damaged page)) × OnlyReads old new
 NotOpened shape old new Fault = FaultCounted old new
-NotOpened shape old new Memory = ⊤
+NotOpened shape old new Memory = OnlyReads old new
 
--- why a part was not read, by what the reading of the flash has for it
+-- why a part was not read, by what the reading of the flash has for it; no read failed but where one is told
 abbrev pub PartNotOpened : {X : Type 0} → Result X Refusal → BoardState → BoardState → OpenError → Type 0
 PartNotOpened part old new NotFormatted = ⊥
-PartNotOpened part old new (Damaged page) = part ≡ Err (damaged page)
+PartNotOpened part old new (Damaged page) = (part ≡ Err (damaged page)) × OnlyReads old new
 PartNotOpened part old new Fault = FaultCounted old new
-PartNotOpened part old new Memory = ⊤
+PartNotOpened part old new Memory = OnlyReads old new
 
+-- the same of a part that takes no memory
 abbrev pub PartNotRead : {X : Type 0} → Result X Refusal → BoardState → BoardState → PageError → Type 0
-PartNotRead part old new (PageDamaged page) = part ≡ Err (damaged page)
+PartNotRead part old new (PageDamaged page) = (part ≡ Err (damaged page)) × OnlyReads old new
 PartNotRead part old new PageFault = FaultCounted old new
 
 -- ---- epochs
