@@ -1,5 +1,5 @@
 -- A commit of the pending entries keeps the map.
-use Rattle.std.proofs.Common.{◌≡◌, ◌≢◌, ◌⊎◌, inl, inr, ℕ, ◌/◌, ◌<◌, List, [], ◌++◌, length, reverse, Some, Result, Ok, Err, refl, sym, ap, subst, ◌∙◌, append-nil}
+use Rattle.std.proofs.Common.{◌≡◌, ◌≢◌, ◌⊎◌, inl, inr, ℕ, ◌+◌, ◌-◌, ◌/◌, ◌<◌, ◌≤◌, if◌then◌else◌, arith, Bool, true, false, List, [], ◌++◌, length, reverse, Some, Result, Ok, Err, refl, sym, ap, subst, ◌∙◌, append-nil}
 use Rattle.std.specs.Prelude.{slice_get, IsOk, OnOk, OnErr}
 use Rattle.std.specs.List.{flat_map, concat}
 use Rattle.pk_base.specs.Shape.{Shape, epoch_pages}
@@ -20,7 +20,7 @@ use Rattle.pk_rootfmt.specs.Root.{Root}
 use Rattle.pk_rootfmt.specs.Newest.{newest_root}
 use Rattle.pk_pool.specs.declared.state.BlockState.{BlockState}
 use Rattle.pk_pool.specs.declared.state.BlockState.TheVariants.{Owned}
-use Rattle.pk_jrn.specs.Epochs.{next_page}
+use Rattle.pk_jrn.specs.Epochs.{left_of, next_page}
 use Rattle.pk_jrn.specs.Appends.{next_bytes}
 use Rattle.pk_jrn.proofs.Appending.{page_left}
 use Rattle.pk_model.specs.Found.{Found}
@@ -222,7 +222,25 @@ commit_roots_err d shape m old new before after stands goes =
     (top_in_cut d.log.shape there.top there.found d.log.pending there.without m new.pages (all_posted run.0)
     (run.1.cuts new.pages (all_posted run.0) run.1.stands))
 
+-- ---- the pages left of the epoch
+
+one_less : (more : Bool) (pages used : ℕ) → (if more then pages - (used + 1) else 0) ≤ (if more then pages - used else 0)
+one_less true pages used = omega arith
+one_less false pages used = omega arith
+
+no_more_left : (log log' : LogState) (old new : BoardState) → CommitsNone log old log' new ⊎ CommitsAll log old log' new → left_of log'.epoch ≤ left_of log.epoch
+no_more_left log log' old new (inl none) = subst (λ (l : LogState). left_of l.epoch ≤ left_of log.epoch) (sym none.kept) (le_itself (left_of log.epoch))
+  where
+    le_itself : (n : ℕ) → n ≤ n
+    le_itself n = omega arith
+no_more_left log log' old new (inr all) =
+    subst (λ (l : LogState). left_of l.epoch ≤ left_of log.epoch) (sym all.taken) (one_less log.epoch.takes_more (epoch_pages log.epoch.shape) log.epoch.used)
+
 -- ---- by what the call answered
+
+pub left_ok : (r : Result Unit Fault) (log log' : LogState) (old new : BoardState) → OnOk r (CommitsNone log old log' new ⊎ CommitsAll log old log' new) → OnOk r (left_of log'.epoch ≤ left_of log.epoch)
+left_ok (Ok x) log log' old new made = no_more_left log log' old new made
+left_ok (Err e) log log' old new made = tt
 
 pub keeps_ok : (r : Result Unit Fault) (d : Parts) (log' : LogState) (old new : BoardState) → IsReady new d.log.shape → OnOk r (CommitsNone d.log old log' new ⊎ CommitsAll d.log old log' new)
     → OnOk r (CommitStands d.log old log' new) → OnOk r (CommitHolds d.log old new) → OnOk r (CommitReaches d.log old new) → OnOk r (KeepsAll d (with_log d log') old new)

@@ -7,13 +7,10 @@ use Rattle.std.specs.Ordering as order
 use Rattle.std.specs.Cmp.{tied_itself}
 use Rattle.std.specs.FinMap.{insert, remove, entries, entries-insert}
 use Rattle.std.specs.FinMap.Entries.{put, find, is_sorted, find-put, length-put, length_without}
-use Rattle.pk_base.specs.Fields.{AreBytes}
 use Rattle.pk_base.specs.Key.{Key, IsKey, key_cmp}
-use Rattle.pk_nand.specs.BoardState.{BoardState}
 use Rattle.pk_base.specs.Shape.{Shape, IsShape, charge, greatest, buffer, limit, data_blocks, dense}
 use Rattle.pk_base.specs.Page.{Flash, page_at}
 use Rattle.pk_base.specs.Entry.{Entry, Place}
-use Rattle.pk_base.specs.EntryBytes.{IsPlace}
 use Rattle.pk_base.specs.Firsts.{firsts}
 use Rattle.pk_base.specs.Map.{Map, live, pages_in}
 use Rattle.pk_segfmt.specs.Value.{value_pages, value_at}
@@ -39,16 +36,16 @@ use Rattle.pk_log.specs.Logs.{Logs}
 use Rattle.pk_data.specs.declared.span.Span.{Span}
 use Rattle.pk_data.specs.State.{DataState}
 use Rattle.pk_data.specs.Placed.{HoldsValues, Placed, without}
-use Rattle.pk_data.specs.Entries.{span_of, span_if_some, Held, Moves, IsInOpen}
+use Rattle.pk_data.specs.Entries.{span_of, span_if_some, Held, Moves}
 use Rattle.pk_data.specs.Laws.{value_blocks}
 use Rattle.pk_data.proofs.Lists.{found_page, found_place}
 use Rattle.pk_data.proofs.Unchanged.{lie_in_few}
 use Rattle.pk_core.specs.declared.place.ValuePlace.{ValuePlace}
 use Rattle.pk_core.specs.Parts.{Parts}
 use Rattle.pk_core.specs.Agreeing.{AgreesWith}
-use Rattle.pk_core.specs.Finding.{place_of, place_if_some, IsPlaceIn}
-use Rattle.pk_core.specs.Moves.{StandsFor, IsWritten}
-use Rattle.pk_core.specs.Noting.{Puts, Drops, KeepsFound, more_keys}
+use Rattle.pk_core.specs.Finding.{place_of, place_if_some}
+use Rattle.pk_core.specs.Moves.{StandsFor}
+use Rattle.pk_core.specs.Noting.{Puts, Drops, more_keys}
 use Rattle.pk_core.proofs.Writing.{named_owner, journal_or_values, meta_or_values}
 
 -- ---- numbers
@@ -346,28 +343,3 @@ gone_stands d shape flash m key old p log space n noted n_is removed =
 
 pub gone_storable : (d : Parts) (flash : Flash) (m : Map) (key : Key) (old : ValuePlace) → Drops d d.log.shape flash m key old → IsKey key → IsStorable d.log.shape (key, None)
 gone_storable d flash m key old p is_key = ((is_key, tt), p.bytes)
-
--- ---- what the calls before it give
-
--- a value was written, and the key had this place before
-pub puts_from : (before after : Parts) (shape : Shape) (old new : BoardState) (key : Key) (value : List ℕ) (page : ℕ) (place_before : Option ValuePlace) (m : Map) (stands : StandsFor before shape old.pages m)
-    → after.log.pending ≡ before.log.pending → KeepsFound before after old new → IsPlaceIn shape old.pages stands.found before.log.pending m key place_before
-    → IsWritten after shape new.pages key value page → IsPlace shape (record { page = page; len = length value }) → IsInOpen shape after.space page (charge shape (length value))
-    → AreBytes key → live shape (insert m key value) ≤ limit shape → Puts after shape new.pages m key value page place_before
-puts_from before after shape old new key value page place_before m stands same keeps is_in written place in_open bytes room = record {
-  top = stands.top;
-  found = stands.found;
-  without = stands.without;
-  with = keeps shape stands.top stands.found stands.without m stands.with;
-  old_is = ap (λ (es : List Entry). find key_cmp key (places stands.found es)) same ∙ is_in.placed;
-  written = written;
-  place = place;
-  in_open = in_open;
-  bytes = bytes;
-  room = room;
-}
-
--- the key has this place
-pub drops_from : (d : Parts) (shape : Shape) (flash : Flash) (key : Key) (old : ValuePlace) (m : Map) (stands : StandsFor d shape flash m)
-    → IsPlaceIn shape flash stands.found d.log.pending m key (Some old) → AreBytes key → Drops d shape flash m key old
-drops_from d shape flash key old m stands is_in bytes = record { top = stands.top; found = stands.found; without = stands.without; with = stands.with; old_is = is_in.placed; bytes = bytes }

@@ -4,6 +4,7 @@ pub mod Standing
 pub mod Keeping
 pub mod Elsewhere
 pub mod Committing
+pub mod Building
 pub mod Freezing
 pub mod Rooming
 pub mod Unchanging

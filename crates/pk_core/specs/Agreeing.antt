@@ -1,7 +1,7 @@
 -- How a drive stands to its flash.
-use Rattle.std.specs.Prelude.{◌≡◌, ⊤, ℕ, ◌/◌, List, [], ◌∷◌, ◌++◌, length, Option, Some, slice_get}
+use Rattle.std.specs.Prelude.{◌≡◌, ℕ, ◌/◌, ◌<◌, List, [], ◌∷◌, ◌++◌, length, Option, Some, slice_get}
 use Rattle.std.specs.List.{concat}
-use Rattle.pk_base.specs.Shape.{Shape, pinned}
+use Rattle.pk_base.specs.Shape.{Shape, page_entries, pinned}
 use Rattle.pk_base.specs.Page.{Flash, IsFlash}
 use Rattle.pk_base.specs.Map.{Map}
 use Rattle.pk_plan.specs.declared.owner.Owner.TheVariants.{Journal, Meta}
@@ -48,3 +48,7 @@ pub record Agrees (d : Parts) (told : Option Shape) (flash : Flash) : Type 0 whe
   pub all : Map
   pub told_is : told ≡ Some shape
   pub with : AgreesWith d shape flash top found without all
+
+-- what a drive keeps to between two commands: it agrees with the board, and fewer entries are pending than a page of the journal takes
+abbrev pub AgreesBetween : Parts → Option Shape → Flash → Type 0
+AgreesBetween d told flash = Agrees d told flash × (length d.log.pending < page_entries d.log.shape)

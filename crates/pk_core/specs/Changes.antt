@@ -47,5 +47,6 @@ FailsToPut before old new key value place =
 abbrev pub TakesAll : Parts → Parts → BoardState → BoardState → Key → ValuePlace → Type 0
 TakesAll before after old new key place = (shape : Shape) (m : Map) → MayTake before shape old.pages m key place → Changes after shape m (remove m key) old new
 
+-- the same of a call that stopped the drive
 abbrev pub FailsToTake : Parts → BoardState → BoardState → Key → ValuePlace → Type 0
 FailsToTake before old new key place = (shape : Shape) (m : Map) → MayTake before shape old.pages m key place → Goes shape old new (ChangeCut shape old.pages m (remove m key))

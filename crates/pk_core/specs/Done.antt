@@ -10,6 +10,7 @@ use Rattle.pk_drive.specs.Drive.{OnlyFlash, NoFault}
 use Rattle.pk_drive.specs.Meter.{reads_after}
 use Rattle.pk_drive.specs.Exec.{ExecStands, ExecReaches, ExecGoes, most_installs}
 
+-- A command gave this reply behind so many reads, or stopped the drive; drive and board are then what the contract of a drive wants.
 pub record Does (old new : BoardState) (before after : Sight) (c : Command) (reply : Reply) (reads : ℕ) (stopped : Bool) : Type 0 where
   pub stands : stopped ≡ false → ExecStands old new before after c reply reads
   pub cuts : stopped ≡ false → ExecReaches old new before c

@@ -14,6 +14,7 @@ use Rattle.pk_model.specs.Found.{Found}
 use Rattle.pk_steps.specs.Under.{places}
 use Rattle.pk_core.specs.declared.place.ValuePlace.{ValuePlace}
 
+-- the page and the length of a value, as the entries of the map have them
 abbrev pub place_of : ValuePlace → Place
 place_of p = record { page = p.page; len = p.len }
 
@@ -23,6 +24,7 @@ named_by None = None
 named_by (Some (Put key page len)) = Some (record { page = page; len = len })
 named_by (Some (Gone key)) = None
 
+-- the same of a value that may not be there
 abbrev pub place_if_some : Option ValuePlace → Option Place
 place_if_some None = None
 place_if_some (Some p) = Some (place_of p)

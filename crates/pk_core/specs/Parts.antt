@@ -1,6 +1,6 @@
 -- What a drive keeps in memory, and what contracts see of it.
 use Rattle.std.specs.Prelude.{ℕ, Bool, true, false, [], length, sum, count_by, Option, Some, None, nat_le, ◌==◌, ◌||◌, ◌&&◌, not}
-use Rattle.pk_base.specs.Shape.{Shape, buffer, charge, limit, pinned}
+use Rattle.pk_base.specs.Shape.{buffer, charge, limit, pinned}
 use Rattle.pk_nvme.specs.declared.request.Request.{Request}
 use Rattle.pk_nvme.specs.Seen.{command_of}
 use Rattle.pk_plan.specs.declared.owner.Owner.TheVariants.{Values}
@@ -25,9 +25,6 @@ pub record Parts : Type 0 where
   pub frames : ℕ
   pub stopped : Bool
 
-abbrev pub shape_of : Parts → Shape
-shape_of d = d.log.shape
-
 -- the sixteen numbers of a Report
 abbrev pub counts_of : Parts → Counts
 counts_of d = record {
@@ -49,6 +46,7 @@ counts_of d = record {
   merge = 0;
 }
 
+-- the number of the block that takes values, where there is one
 abbrev pub block_if_open : Option OpenBlock → Option ℕ
 block_if_open None = None
 block_if_open (Some o) = Some o.block
@@ -75,6 +73,7 @@ is_built_for d opcode size =
     not ((opcode == 0x01 || opcode == 0x10) && wants_second_freeze d)
     && not (opcode == 0x01 && needs_reclaim d.log.shape d.space d.pool (charge d.log.shape size))
 
+-- what is built of a command of which those checks say this: it passes, or is refused with a status
 abbrev pub built_if : Parts → Request → Option ℕ → Bool
 built_if d r None = is_built_for d r.opcode r.size
 built_if d r (Some status) = true

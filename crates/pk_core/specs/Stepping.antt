@@ -41,6 +41,7 @@ outcome_of Worked reads = record { status = 0; result = 0; data_len = 0; reads =
 outcome_of Idle reads = record { status = 0; result = 0; data_len = 0; reads = reads; stopped = false }
 outcome_of (Fault stopped) reads = record { status = 0x88; result = 0; data_len = 0; reads = reads; stopped = stopped }
 
+-- how many free blocks were erased in this session
 abbrev pub erased_in : Blocks → ℕ
 erased_in p = count_by is_ready p.states
 

@@ -22,6 +22,7 @@ impl<A: Region> Drive<A> {
         ensures none { OnOk result (self.new.log.pending ≡ []) }
         ensures agrees { OnOk result (Agrees self.new (B.state board.new).shape (B.state board.new).pages) }
         ensures built { OnOk result ((r : RequestSpec) → r.opcode ≢ 0x01 → r.opcode ≢ 0x10 → is_built self.old r ≡ true → is_built self.new r ≡ true) }
+        ensures unbuilt { OnOk result ((r : RequestSpec) → is_built self.old r ≡ false → is_built self.new r ≡ false) }
         ensures stands { OnOk result (CommitStands (B.state board.old) (B.state board.new) (sight_of self.old) (sight_of self.new)) }
         ensures cuts { OnOk result (CommitReaches (B.state board.old) (B.state board.new) (sight_of self.old)) }
         ensures cuts_failed { OnErr result (CommitGoes (B.state board.old) (B.state board.new) (sight_of self.old)) }

@@ -1,4 +1,4 @@
-//! The drive: it executes commands, commits and makes background steps over the parts of the engine.
+//! The drive: formatting and opening, commands, commits and background steps over the parts of the engine.
 //!
 //! Its map is the one that the flash holds with the pending entries. Wherever a command, a commit or a step is cut off, the
 //! flash holds what the contract of a drive says.
@@ -26,6 +26,7 @@ mod ticks;
 
 pub use drive::Drive;
 pub use making::format;
+pub use pk_scan::OpenError;
 pub use place::ValuePlace;
 
 #[cfg(test)]

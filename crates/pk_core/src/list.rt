@@ -1,5 +1,5 @@
 //! The keys of a List, as a walk gives them.
-ghost use Rattle.std.specs.Prelude.{◌≡◌, ◌+◌, ◌-◌, ◌%◌, ◌≤◌, ◌<◌, ℕ, List, [], ◌∷◌, ◌++◌, length, take, min, None, false, IfOk, IfErr, OnOk, OnErr};
+ghost use Rattle.std.specs.Prelude.{◌≡◌, ◌+◌, ◌-◌, ◌%◌, ◌≤◌, ℕ, List, [], ◌∷◌, ◌++◌, length, take, min, None, false, IfOk, IfErr, OnOk, OnErr};
 ghost use Rattle.pk_base.specs.Key.{Key as KeySpec, IsKey};
 ghost use Rattle.pk_base.specs.Entry.{Entry as EntrySpec, Place};
 ghost use Rattle.pk_base.specs.Page.{Flash};
@@ -20,6 +20,7 @@ ghost use Rattle.pk_core.specs.Listed.{OffersKey, OffersFirst, ListsAll, ListsIn
 
 use crate::drive::Drive;
 use crate::filled::Filled;
+use crate::quiet::reads_since;
 use pk_base::{Key, put_text, put_u16, put_u32, put_zeros};
 use pk_buf::Buffer;
 use pk_drive::Outcome;
@@ -220,16 +221,6 @@ fn few_pages<A: Region>(levels: &Levels<A>)
     levels.run(2).known();
     levels.run(3).known();
     levels.run(4).known();
-}
-
-// How many pages were read since the count was this.
-fn reads_since<B: Nand>(board: &B, before: u64) -> u32
-    requires up { before ≤ (B.state board.now).reads }
-    requires few { (B.state board.now).reads < before + 4294967296 }
-    ensures since { before + result ≡ (B.state board.now).reads }
-    ensures last { (B.state board.now).reads ≤ last_count }
-{
-    (board.read_count() - before) as u32
 }
 
 // How many pages were read so far.

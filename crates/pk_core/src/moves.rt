@@ -1,8 +1,9 @@
 //! The steps inside a command. Each keeps the map, wherever it is cut.
-ghost use Rattle.std.specs.Prelude.{◌≡◌, ◌≢◌, [], IsOk, IfErr, OnOk, OnErr};
+ghost use Rattle.std.specs.Prelude.{◌≡◌, ◌≢◌, ◌≤◌, [], IsOk, IfErr, OnOk, OnErr};
 ghost use Rattle.pk_base.specs.Map.{Map};
 ghost use Rattle.pk_nand.specs.Calls.{IsReady};
 ghost use Rattle.pk_nand.specs.declared.types.Fault.TheVariants.{Stopped};
+ghost use Rattle.pk_jrn.specs.Epochs.{left_of};
 ghost use Rattle.pk_compact.specs.Working.{Works, Stops};
 ghost use Rattle.pk_drive.specs.Commit.{OneProgram};
 ghost use Rattle.pk_drive.specs.Wear.{roots};
@@ -21,6 +22,7 @@ impl<A: Region> Drive<A> {
         ensures rest { OnOk result ((self.new.space ≡ self.old.space) × (self.new.pool ≡ self.old.pool) × (self.new.keys ≡ self.old.keys) × (self.new.stopped ≡ self.old.stopped) × (self.new.log.shape ≡ self.old.log.shape)) }
         ensures runs { OnOk result ((self.new.levels ≡ self.old.levels) × (self.new.arena ≡ self.old.arena) × (self.new.frames ≡ self.old.frames)) }
         ensures buffers { OnOk result ((self.new.log.active ≡ self.old.log.active) × (self.new.log.frozen ≡ self.old.log.frozen)) }
+        ensures pages_left { OnOk result (left_of self.new.log.epoch ≤ left_of self.old.log.epoch) }
         ensures keeps { OnOk result (KeepsAll self.old self.new (B.state board.old) (B.state board.new)) }
         ensures works { OnOk result (Works (B.state board.old) (B.state board.new)) }
         ensures program { self.old.log.pending ≢ [] → OneProgram (B.state board.old) (B.state board.new) }

@@ -7,7 +7,6 @@ use pk_base::Shape;
 use pk_drive::Engine;
 use pk_flash::{Flash, Left, Room};
 use pk_nand::{Nand, NandFault};
-use pk_scan::OpenError;
 use std::alloc::Global;
 use std::test::*;
 

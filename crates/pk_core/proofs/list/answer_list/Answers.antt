@@ -1,4 +1,4 @@
-use Rattle.std.proofs.Common.{◌≡◌, ◌+◌, ◌-◌, ◌≤◌, ◌<◌, ℕ, min, [], ◌∷◌, sym, subst, ◌∙◌, refl}
+use Rattle.std.proofs.Common.{◌≡◌, ◌+◌, ◌-◌, ◌≤◌, ℕ, min, [], ◌∷◌, arith, sym, subst, ◌∙◌, refl}
 use Rattle.pk_nvme.specs.Command.{key}
 use Rattle.pk_nvme.specs.Seen.{command_of}
 use Rattle.pk_model.specs.Answer.{fitting, list_bytes}
@@ -14,8 +14,8 @@ reads_since-requires-clause-up g c =
 
 pub reads_since-requires-clause-few : goal.reads_since-requires-clause-few
 reads_since-requires-clause-few g c =
-    subst (λ (n : ℕ). (g.B.Nand.state c.put_keys.new.board).reads < n + 4294967296) (sym c.reads_so_far-before.ensures.value)
-    (reads_between (most_read c.args.levels.now.runs) (g.B.Nand.state c.args.board.now) (g.B.Nand.state c.put_keys.new.board) c.reads_so_far-before.ensures.last c.few_pages.ensures c.in-Ok.ensures.reads).1
+    let few = (reads_between (most_read c.args.levels.now.runs) (g.B.Nand.state c.args.board.now) (g.B.Nand.state c.put_keys.new.board) c.reads_so_far-before.ensures.last c.few_pages.ensures c.in-Ok.ensures.reads).1 in
+    omega (arith, few, c.reads_so_far-before.ensures.value)
 
 pub reads_since-requires-in-Err-clause-up : goal.reads_since-requires-in-Err-clause-up
 reads_since-requires-in-Err-clause-up g c =
@@ -24,21 +24,27 @@ reads_since-requires-in-Err-clause-up g c =
 
 pub reads_since-requires-in-Err-clause-few : goal.reads_since-requires-in-Err-clause-few
 reads_since-requires-in-Err-clause-few g c =
-    subst (λ (n : ℕ). (g.B.Nand.state c.put_keys.new.board).reads < n + 4294967296) (sym c.reads_so_far-before.ensures.value)
-    (reads_until (most_read c.args.levels.now.runs) (g.B.Nand.state c.args.board.now) (g.B.Nand.state c.put_keys.new.board) c.reads_so_far-before.ensures.last c.few_pages.ensures c.in-Err.ensures.err).1
+    let few = (reads_until (most_read c.args.levels.now.runs) (g.B.Nand.state c.args.board.now) (g.B.Nand.state c.put_keys.new.board) c.reads_so_far-before.ensures.last c.few_pages.ensures c.in-Err.ensures.err).1 in
+    omega (arith, few, c.reads_so_far-before.ensures.value)
 
 pub returns-in-Ok-clause-lists : goal.returns-in-Ok-clause-lists
 returns-in-Ok-clause-lists g c ess stand =
-    lists_read (most_read c.args.levels.now.runs) (g.B.Nand.state c.args.board.now) (g.B.Nand.state c.put_keys.new.board) _ c.put_keys.new.into
+    let old = g.B.Nand.state c.args.board.now in
+    let new = g.B.Nand.state c.put_keys.new.board in
+    let up = (reads_between (most_read c.args.levels.now.runs) old new c.reads_so_far-before.ensures.last c.few_pages.ensures c.in-Ok.ensures.reads).0 in
+    let since : old.reads + c.reads_since.result ≡ new.reads = omega (arith, up, c.reads_since.ensures.reads, c.reads_so_far-before.ensures.value) in
+    lists_read (most_read c.args.levels.now.runs) old new _ c.put_keys.new.into
     (list_bytes (fitting (min c.args.request.now.size 65536 - 4) (keys_there (key (command_of c.args.request.now [])) (c.args.log.now.active.entries ∷ c.args.log.now.frozen.entries ∷ ess))))
-    refl refl refl c.reads_since.ensures.last c.in-Ok.ensures.reads
-    (subst (λ (n : ℕ). n + c.reads_since.result ≡ (g.B.Nand.state c.put_keys.new.board).reads) c.reads_so_far-before.ensures.value c.reads_since.ensures.since)
+    refl refl refl c.reads_since.ensures.count c.in-Ok.ensures.reads since
     (c.in-Ok.ensures.bytes ess stand
     ∙ (λ i. list_bytes (fitting (min c.args.request.now.size 65536 - 4) (keys_there (key (command_of c.args.request.now [])) ((c.active.ensures i).entries ∷ (c.frozen.ensures i).entries ∷ ess)))))
 
 pub returns-in-Err-clause-lists : goal.returns-in-Err-clause-lists
 returns-in-Err-clause-lists g c ess stand =
-    lists_unread (most_read c.args.levels.now.runs) (g.B.Nand.state c.args.board.now) (g.B.Nand.state c.put_keys.new.board) _ c.put_keys.new.into
+    let old = g.B.Nand.state c.args.board.now in
+    let new = g.B.Nand.state c.put_keys.new.board in
+    let up = (reads_until (most_read c.args.levels.now.runs) old new c.reads_so_far-before.ensures.last c.few_pages.ensures c.in-Err.ensures.err).0 in
+    let since : old.reads + c.reads_since-in-Err.result ≡ new.reads = omega (arith, up, c.reads_since-in-Err.ensures.reads, c.reads_so_far-before.ensures.value) in
+    lists_unread (most_read c.args.levels.now.runs) old new _ c.put_keys.new.into
     (list_bytes (fitting (min c.args.request.now.size 65536 - 4) (keys_there (key (command_of c.args.request.now [])) (c.args.log.now.active.entries ∷ c.args.log.now.frozen.entries ∷ ess))))
-    refl refl refl refl c.reads_since-in-Err.ensures.last c.reads_so_far-before.ensures.faults c.in-Err.ensures.err
-    (subst (λ (n : ℕ). n + c.reads_since-in-Err.result ≡ (g.B.Nand.state c.put_keys.new.board).reads) c.reads_so_far-before.ensures.value c.reads_since-in-Err.ensures.since)
+    refl refl refl refl c.reads_since-in-Err.ensures.count c.reads_so_far-before.ensures.faults c.in-Err.ensures.err since

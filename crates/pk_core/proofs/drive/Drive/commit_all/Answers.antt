@@ -1,6 +1,7 @@
 use Rattle.std.proofs.Common.{ap, sym, ◌∙◌}
 use Rattle.pk_nand.specs.BoardState.{BoardState}
 use Rattle.pk_core.proofs.Standing.{stands_for, stands_here, still_stands, agrees_so}
+use Rattle.pk_core.proofs.Building.{still_unbuilt}
 use Rattle.pk_core.proofs.drive.Drive.commit_all.Goals as goal
 
 pub commit_pending-requires-clause-stands : goal.commit_pending-requires-clause-stands
@@ -12,6 +13,11 @@ returns-in-Ok-clause-agrees g c =
     let same = ap (λ (s : BoardState). s.shape) c.in-Ok.ensures.works.rest in
     agrees_so _ (g.B.Nand.state c.commit_pending.new.board).shape a.shape (g.B.Nand.state c.commit_pending.new.board).pages a.all (same ∙ a.told_is)
     (c.in-Ok.ensures.keeps a.shape a.all (record { top = a.top; found = a.found; without = a.without; with = a.with })).stands
+
+pub returns-in-Ok-clause-unbuilt : goal.returns-in-Ok-clause-unbuilt
+returns-in-Ok-clause-unbuilt g c =
+    let e = c.in-Ok.ensures in
+    still_unbuilt c.args.self.now c.commit_pending.new.self e.rest.4 e.buffers.1 e.buffers.0 e.rest.0 e.rest.1 e.pages_left
 
 pub returns-in-Ok-clause-stands : goal.returns-in-Ok-clause-stands
 returns-in-Ok-clause-stands g c = λ shape frames m stands.
