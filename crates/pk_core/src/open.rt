@@ -59,8 +59,8 @@ impl<A: Region> Drive<A> {
     /// flash holds, and nothing is pending. Nothing is written; all memory of the drive is taken here.
     ///
     /// `NotFormatted` exactly where the flash has no root, `Damaged` exactly where it has one and holds no map, with the page at
-    /// which its reading fails; `Fault` where a read failed. `Memory` where the allocator has none, before a read or between two;
-    /// nothing but reads was done.
+    /// which its reading fails; `Fault` where a read failed. `Memory` where the allocator has none, before a read or between two.
+    /// After every answer nothing but reads was done, of which one failed exactly at `Fault`.
     pub fn open<B: Nand>(
         alloc: A,
         board: &mut B,
