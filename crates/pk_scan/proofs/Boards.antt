@@ -1,5 +1,6 @@
 -- Boards behind reads, of which the last one may have failed.
-use Rattle.std.proofs.Common.{◌≡◌, ℕ, ◌+◌, List, refl, sym, ap, subst, ◌∙◌}
+use Rattle.std.proofs.Common.{◌≡◌, ℕ, zero, ◌+◌, Bool, true, false, List, refl, sym, ap, subst, ◌∙◌}
+use Rattle.std.specs.Prelude.{if◌then◌else◌}
 use Rattle.pk_base.specs.Shape.{Shape}
 use Rattle.pk_nand.specs.BoardState.{BoardState}
 use Rattle.pk_nand.specs.Calls.{ReadFailed}
@@ -13,6 +14,19 @@ use Rattle.pk_scan.specs.Opened.{OnlyReading}
 use Rattle.pk_scan.specs.Runs.{NotRead}
 use Rattle.pk_scan.specs.declared.errors.PageError.{PageError}
 use Rattle.pk_scan.specs.declared.errors.PageError.TheVariants.{Damaged, Fault}
+
+-- ---- reads of which none failed
+
+pub reads_none : (old : BoardState) → OnlyReads old old
+reads_none old = (zero, refl)
+
+pub reads_both : (old now new : BoardState) → OnlyReads old now → OnlyReads now new → OnlyReads old new
+reads_both old now new a b = (b.0 + a.0, b.1 ∙ ap (after_reads b.0) a.1 ∙ reads_more b.0 a.0 old)
+
+-- so many reads, or none
+pub reads_if : (b : Bool) (n : ℕ) (old new : BoardState) → new ≡ (if b then after_reads n old else old) → OnlyReads old new
+reads_if true n old new is = (n, is)
+reads_if false n old new is = (zero, is)
 
 -- ---- the frame
 

@@ -1,9 +1,8 @@
 -- How many pages are read: of an epoch, and of runs.
-use Rattle.std.proofs.Common.{◌≡◌, ℕ, zero, suc, ◌+◌, ◌-◌, ◌*◌, ◌<◌, ◌≤◌, min, Bool, true, false, List, [], ◌∷◌, ◌++◌, length, take, get_or, refl, sym, ap, subst, ◌∙◌, arith, Some, None}
-use Rattle.std.specs.Prelude.{nat_le, slice_index, if◌then◌else◌}
+use Rattle.std.proofs.Common.{◌≡◌, ℕ, zero, suc, ◌+◌, ◌-◌, ◌*◌, ◌<◌, ◌≤◌, min, List, [], ◌∷◌, ◌++◌, length, take, get_or, refl, sym, ap, subst, ◌∙◌, arith, Some, None}
+use Rattle.std.specs.Prelude.{slice_index}
 use Rattle.std.proofs.lemmas.List.{take_all}
 use Rattle.pk_base.specs.Shape.{Shape, epoch_pages, run_pages}
-use Rattle.pk_base.specs.Entry.{Entry}
 use Rattle.pk_base.specs.Page.{Page, Flash, NumberedPages, page_at, page_in, erased, whole, torn, pages_of_blocks}
 use Rattle.pk_nand.specs.BoardState.{BoardState}
 use Rattle.pk_nand.specs.Erased.{after_reads}
@@ -12,13 +11,7 @@ use Rattle.pk_rootfmt.specs.Held.{two_of, older_of}
 use Rattle.pk_buf.specs.Table.{Table}
 use Rattle.pk_jrn.specs.Epochs.{IsWhole}
 use Rattle.pk_jrn.specs.Replays.{Replayed, after_replay}
-use Rattle.pk_scan.specs.Reads.{pages_to_end, epoch_reads, pages_of_runs, list_reads, run_reads}
-use Rattle.pk_pin.specs.Frames.{Frames}
-use Rattle.pk_run.specs.Kept.{Kept}
-use Rattle.pk_level.specs.Levels.{StandEach}
-use Rattle.pk_walk.specs.Walking.{most_read, read_of}
-use Rattle.pk_scan.specs.Runs.{IsPinnedIf}
-use Rattle.pk_scan.specs.Opening.{HaveBlocks, HaveFrames}
+use Rattle.pk_scan.specs.Reads.{pages_to_end, epoch_reads, pages_of_runs, list_reads}
 use Rattle.pk_scan.proofs.Naming.{two_is, older_is, older_none}
 use Rattle.pk_scan.proofs.Boards.{reads_sum}
 
@@ -118,29 +111,3 @@ lists_exact shape root old first second new a same b c =
   where
     swap : (m n : ℕ) → m + n ≡ n + m
     swap m n = omega arith
-
--- ---- the runs, once to keep them and once for their entries
-
--- a run whose pages have no frames is read again
-again : (shape : Shape) (pins : Bool) (r : Kept) (count : ℕ) → length r.firsts ≡ run_pages shape count → IsPinnedIf pins r → (if pins then 1 else 2) * run_pages shape count ≡ run_pages shape count + read_of r.leases (length r.firsts)
-again shape true r count pages frames = let none = none_read r.leases (length r.firsts) frames in omega (arith, none)
-  where
-    none_read : (leases : List ℕ) (n : ℕ) → length leases ≡ n → read_of leases n ≡ 0
-    none_read [] n e = sym e
-    none_read (l ∷ leases) n e = refl
-again shape false r count pages frames = let all = ap (λ (ls : List ℕ). read_of ls (length r.firsts)) frames in omega (arith, all, pages)
-
--- reading them once and walking over all their entries reads what the reading of a flash has for them
-pub runs_twice : (shape : Shape) (flash : Flash) (arena : Frames) (pinned level : ℕ) (rs : List Kept) (ess : List (List Entry)) (bss : List (List ℕ)) (counts : List ℕ)
-    → StandEach flash arena rs ess → HaveBlocks shape rs bss → HaveFrames pinned level rs counts → run_reads shape pinned level counts ≡ pages_of_runs shape counts + most_read rs
-runs_twice shape flash arena pinned level [] ess bss [] stand blocks frames = refl
-runs_twice shape flash arena pinned level [] ess bss (c ∷ counts) stand blocks frames = absurd frames
-runs_twice shape flash arena pinned level (r ∷ rs) ess bss [] stand blocks frames = absurd frames
-runs_twice shape flash arena pinned level (r ∷ rs) [] bss (c ∷ counts) stand blocks frames = absurd stand
-runs_twice shape flash arena pinned level (r ∷ rs) (es ∷ ess) [] (c ∷ counts) stand blocks frames = absurd blocks
-runs_twice shape flash arena pinned level (r ∷ rs) (es ∷ ess) (bs ∷ bss) (c ∷ counts) stand blocks frames =
-    let pages : length r.firsts ≡ run_pages shape c = stand.0.pages ∙ ap (λ (s : Shape). run_pages s r.count) blocks.0 ∙ ap (run_pages shape) frames.0 in
-    both _ _ _ _ _ _ (again shape (nat_le level pinned) r c pages frames.1) (runs_twice shape flash arena pinned (level + 1) rs ess bss counts stand.1 blocks.2 frames.2)
-  where
-    both : (a b x y p q : ℕ) → a ≡ p + x → b ≡ q + y → a + b ≡ (p + q) + (x + y)
-    both a b x y p q e f = omega (arith, e, f)

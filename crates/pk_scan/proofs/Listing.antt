@@ -1,10 +1,10 @@
 -- Blocks that are listed one after another.
-use Rattle.std.proofs.Common.{◌≡◌, ℕ, ◌+◌, ◌≤◌, ◌<◌, true, List, [], ◌∷◌, ◌++◌, length, take, drop, sym, ap, subst, ◌∙◌, arith, Some, append_assoc, append-nil, length-append, refl}
+use Rattle.std.proofs.Common.{◌≡◌, ℕ, ◌+◌, ◌≤◌, true, List, [], ◌∷◌, ◌++◌, length, take, drop, sym, ap, ◌∙◌, arith, Some, append_assoc, append-nil, length-append}
 use Rattle.std.specs.Prelude.{slice_get}
 use Rattle.std.specs.List.{concat}
 use Rattle.std.proofs.lemmas.List.{take_all, take-append-drop}
 use Rattle.pk_base.specs.Shape.{Shape, IsShape, meta_blocks}
-use Rattle.pk_rootfmt.specs.Root.{Root, named, is_root}
+use Rattle.pk_rootfmt.specs.Root.{Root, is_root}
 use Rattle.pk_rootfmt.proofs.PageLemmas.{root_parts}
 use Rattle.pk_scan.proofs.Adopting.{concat_lists, drop_next}
 use Rattle.pk_scan.proofs.Loading.{take_more}

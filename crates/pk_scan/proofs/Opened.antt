@@ -14,7 +14,7 @@ use Rattle.pk_level.specs.Levels.{Levels}
 use Rattle.pk_model.specs.Found.{Found, found_under, newest_epoch, older_epoch, runs_from}
 use Rattle.pk_model.specs.Reading.{reading, reading_of}
 use Rattle.pk_scan.specs.Opening.{OnlyReads, PartNotOpened, PartNotRead, OlderHeld, NewestHeld, HoldsRuns, HoldsFound, opening_of}
-use Rattle.pk_scan.proofs.Boards.{counted_behind}
+use Rattle.pk_scan.proofs.Boards.{reads_both, counted_behind}
 use Rattle.pk_scan.specs.declared.errors.PageError.{PageError}
 use Rattle.pk_scan.specs.declared.errors.PageError.TheVariants.{Damaged as PageDamaged, Fault as PageFault}
 use Rattle.pk_scan.specs.declared.errors.OpenError.{OpenError}
@@ -24,22 +24,24 @@ pub no_root : (shape : Shape) (flash : Flash) → newest_root shape (page_at fla
 unfolding reading_of
 no_root shape flash none = rw none refl
 
--- where a part refuses, so does the whole that begins with it
+-- a part that takes no memory refuses as any part does
 pub as_part : {X : Type 0} (part : Result X Refusal) (old new : BoardState) (e : PageError) → PartNotRead part old new e → PartNotOpened part old new (opening_of e)
 as_part part old new (PageDamaged page) why = why
 as_part part old new PageFault why = why
 
+-- a refusal behind reads is one of all that was done
 pub behind_reads : {X : Type 0} (part : Result X Refusal) (old now new : BoardState) (e : OpenError) → OnlyReads old now → now.pages ≡ old.pages → PartNotOpened part now new e → PartNotOpened part old new e
 behind_reads part old now new NotFormatted reads same why = why
-behind_reads part old now new (Damaged page) reads same why = why
+behind_reads part old now new (Damaged page) reads same why = (why.0, reads_both old now new reads why.1)
 behind_reads part old now new Fault reads same why = counted_behind old now new reads why
-behind_reads part old now new Memory reads same why = tt
+behind_reads part old now new Memory reads same why = reads_both old now new reads why
 
+-- where a part refuses, so does the whole that begins with it
 pub whole_refuses : {X Y : Type 0} (part : Result X Refusal) (whole : Result Y Refusal) (old new : BoardState) (e : OpenError) → ((refusal : Refusal) → part ≡ Err refusal → whole ≡ Err refusal) → PartNotOpened part old new e → PartNotOpened whole old new e
 whole_refuses part whole old new NotFormatted passes why = why
-whole_refuses part whole old new (Damaged page) passes why = passes (damaged page) why
+whole_refuses part whole old new (Damaged page) passes why = (passes (damaged page) why.0, why.1)
 whole_refuses part whole old new Fault passes why = why
-whole_refuses part whole old new Memory passes why = tt
+whole_refuses part whole old new Memory passes why = why
 
 module _ (shape : Shape) (at : ℕ → Page) (root : Root) where
   pub older_first : (e : Refusal) → older_epoch shape at root ≡ Err e → found_under shape at root ≡ Err e

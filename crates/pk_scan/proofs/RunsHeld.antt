@@ -11,31 +11,21 @@ use Rattle.pk_base.specs.Entry.{Entry}
 use Rattle.pk_base.specs.Page.{Page, Flash, page_at}
 use Rattle.pk_base.specs.Refusal.{Refusal, damaged, ◌>>=◌}
 use Rattle.pk_nand.specs.BoardState.{BoardState}
-use Rattle.pk_nand.specs.Erased.{after_reads}
 use Rattle.pk_meta.specs.Run.{run}
 use Rattle.pk_rootfmt.specs.Root.{Root}
 use Rattle.pk_rootfmt.specs.Held.{total}
 use Rattle.pk_pin.specs.Frames.{Frames, free_frames}
 use Rattle.pk_run.specs.Kept.{Kept, Stands}
 use Rattle.pk_level.specs.Levels.{Levels, StandEach, with_run}
-use Rattle.pk_level.proofs.Looking.{reads_more}
 use Rattle.pk_model.specs.Found.{runs_from}
 use Rattle.pk_scan.specs.Runs.{HasRun, NotRead, IsPinnedIf, LeasedMore, RunsStand}
 use Rattle.pk_scan.specs.Opening.{OnlyReads, PartNotOpened, HaveBlocks, HaveFrames, HoldsRuns, LoadsLevel, wanted_behind, opening_of}
-use Rattle.pk_scan.proofs.Boards.{counted_behind}
+use Rattle.pk_scan.proofs.Boards.{reads_both, counted_behind}
 use Rattle.pk_scan.proofs.Exact.{take_next}
 use Rattle.pk_scan.specs.declared.errors.PageError.{PageError}
 use Rattle.pk_scan.specs.declared.errors.PageError.TheVariants.{Damaged as PageDamaged, Fault as PageFault}
 use Rattle.pk_scan.specs.declared.errors.OpenError.{OpenError}
 use Rattle.pk_scan.specs.declared.errors.OpenError.TheVariants.{NotFormatted, Damaged, Fault, Memory}
-
--- ---- boards
-
-pub reads_none : (old : BoardState) → OnlyReads old old
-reads_none old = (zero, refl)
-
-pub reads_both : (old now new : BoardState) → OnlyReads old now → OnlyReads now new → OnlyReads old new
-reads_both old now new a b = (b.0 + a.0, b.1 ∙ ap (after_reads b.0) a.1 ∙ reads_more b.0 a.0 old)
 
 -- ---- lists
 
@@ -124,7 +114,7 @@ module _ (shape : Shape) (root : Root) (level count : ℕ) (bs : List ℕ) (coun
   level_refused at page e = at_level at ∙ e
 
   pub level_not_loaded : (old new : BoardState) (e : PageError) → NotRead shape level count bs old new e → PartNotOpened (run shape (page_at old.pages) level (slice_index root.counts (level - 1)) (slice_index_or root.runs (level - 1) [])) old new (opening_of e)
-  level_not_loaded old new (PageDamaged page) why = level_refused (page_at old.pages) page why.read
+  level_not_loaded old new (PageDamaged page) why = (level_refused (page_at old.pages) page why.read, (why.index + 1, why.board))
   level_not_loaded old new PageFault why = (why.flash, why.read)
 
   pub level_loaded : (flash : Flash) (before after : Frames) (old new : Levels) (kept : Kept) (pins : Bool) → HasRun shape level count bs flash after kept → RunsStand before after → LeasedMore before after kept.leases → IsPinnedIf pins kept
@@ -281,9 +271,12 @@ module _ (shape : Shape) (root : Root) (counts : length root.counts ≡ 4) (runs
 
       pub RunsTo-refused : (old now new : BoardState) (error : OpenError) → OnlyReads old now → PartNotOpened part now new error → PartNotOpened (runs_from shape (page_at flash) 1 root.counts root.runs) old new error
       RunsTo-refused old now new NotFormatted reads why = why
-      RunsTo-refused old now new (Damaged page) reads why = t.comes ∙ ap (behind t.ess) (split ∙ one_refused shape (page_at flash) (suc k) (get_or root.counts k 0) (drop (suc k) root.counts) (get_or root.runs k []) (drop (suc k) root.runs) (damaged page) (sym part_is ∙ why))
+      RunsTo-refused old now new (Damaged page) reads why = (
+        t.comes ∙ ap (behind t.ess) (split ∙ one_refused shape (page_at flash) (suc k) (get_or root.counts k 0) (drop (suc k) root.counts) (get_or root.runs k []) (drop (suc k) root.runs) (damaged page) (sym part_is ∙ why.0)),
+        reads_both old now new reads why.1,
+      )
       RunsTo-refused old now new Fault reads why = counted_behind old now new reads why
-      RunsTo-refused old now new Memory reads why = tt
+      RunsTo-refused old now new Memory reads why = reads_both old now new reads why
 
   pub RunsTo-end : (arena : Frames) (levels : Levels) → RunsTo shape root flash pinned arena levels 4 → (ess : List (List Entry)) × HoldsRuns shape flash root arena levels ess
   RunsTo-end arena levels t = (

@@ -1,5 +1,5 @@
 -- Values that were accepted one after another, as the reading of a flash has them.
-use Rattle.std.proofs.Common.{◌≡◌, ℕ, ◌+◌, ◌-◌, ◌*◌, ◌≤◌, List, [], ◌∷◌, ◌++◌, length, refl, sym, ap, subst, ◌∙◌, arith, Option, Some, None, Result, Ok, Err, append-nil, append_assoc, length-append}
+use Rattle.std.proofs.Common.{◌≡◌, ℕ, suc, ◌+◌, ◌-◌, ◌*◌, ◌≤◌, List, [], ◌∷◌, ◌++◌, length, refl, sym, ap, subst, ◌∙◌, arith, Option, Some, None, Result, Ok, Err, append-nil, append_assoc, length-append}
 use Rattle.std.specs.List.{AllByRecursion}
 use Rattle.pk_base.specs.Key.{Key}
 use Rattle.std.proofs.lemmas.List.FromFn.{length-range_with_len}
@@ -15,7 +15,7 @@ use Rattle.pk_walk.specs.Walking.{Walk, IsLeft, Gives}
 use Rattle.pk_walk.proofs.Walks.{one_of_each}
 use Rattle.pk_model.proofs.ValueSets.{fits_parts}
 use Rattle.pk_scan.proofs.RunPages.{of_true}
-use Rattle.pk_scan.proofs.Boards.{counted_behind}
+use Rattle.pk_scan.proofs.Boards.{reads_both, reads_if, counted_behind}
 use Rattle.pk_base.specs.Entry.{Entry, Place}
 use Rattle.pk_base.specs.declared.entry.Entry.{Entry as RustEntry}
 use Rattle.pk_base.specs.declared.entry.Entry.TheVariants.{Put, Gone}
@@ -192,8 +192,11 @@ module _ (shape : Shape) (flash : Flash) (arena : Frames) (runs : List Kept) (ac
     pub TakenTo-refused : (old now new : BoardState) (e : PageError) → OnlyReads old now → now.pages ≡ flash → NotAccepted shape now new named t.taken key at e → (es : List (Key × Place)) → of_start es → PartNotOpened (values_of shape (page_at flash) named [] es) old new (opening_of e)
     TakenTo-refused old now new (Damaged page) reads same why es left =
         let here = subst (λ (f : Flash). values_of shape (page_at f) named (all_pages shape t.taken) ((key, at) ∷ later) ≡ Err (damaged page)) same (why.refusal later) in
-        subst (λ (xs : List (Key × Place)). values_of shape (page_at flash) named [] xs ≡ Err (damaged page)) (left_one shape flash arena runs active frozen named start start t.es es t.starts left)
-        (ValuesTo-refused shape flash named t.es live t.taken t.rest (damaged page) t.to (ap (values_of shape (page_at flash) named (all_pages shape t.taken)) split ∙ here))
+        let made = reads_if (fits shape named (all_pages shape t.taken ++ value_pages shape at)) (suc (page - at.page)) now new why.board in (
+          subst (λ (xs : List (Key × Place)). values_of shape (page_at flash) named [] xs ≡ Err (damaged page)) (left_one shape flash arena runs active frozen named start start t.es es t.starts left)
+              (ValuesTo-refused shape flash named t.es live t.taken t.rest (damaged page) t.to (ap (values_of shape (page_at flash) named (all_pages shape t.taken)) split ∙ here)),
+          reads_both old now new reads made,
+        )
     TakenTo-refused old now new Fault reads same why es left = counted_behind old now new reads (why.1.reads.flash, why.1.reads.read)
 
   -- behind the last of them all were taken

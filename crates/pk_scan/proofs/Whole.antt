@@ -1,5 +1,5 @@
 -- The whole of opening, by what its parts found.
-use Rattle.std.proofs.Common.{◌≡◌, ◌≢◌, inl, inr, ℕ, zero, suc, ◌+◌, ◌-◌, ◌*◌, ◌<◌, ◌≤◌, true, List, [], ◌∷◌, length, drop, take, refl, sym, ap, subst, ◌∙◌, arith, Option, Some, None, Result, Ok, Err}
+use Rattle.std.proofs.Common.{◌≡◌, ◌≢◌, inl, inr, ℕ, zero, suc, ◌+◌, ◌-◌, ◌*◌, ◌<◌, ◌≤◌, true, List, [], ◌∷◌, length, drop, refl, sym, ap, subst, ◌∙◌, arith, Some, None, Result, Ok, Err}
 use Rattle.std.specs.Prelude.{nat_eq, ◌==◌, ◌++◌}
 use Rattle.std.specs.List.{AllByRecursion, list_all, starts_with}
 use Rattle.pk_base.specs.Key.{Key}
@@ -8,7 +8,7 @@ use Rattle.pk_base.specs.Entry.{Entry, Place}
 use Rattle.pk_base.specs.EntryBytes.{IsEntry, IsPlace}
 use Rattle.pk_base.specs.Firsts.{firsts}
 use Rattle.pk_base.specs.Page.{Page, Flash, page_at, erased, whole, torn}
-use Rattle.pk_base.specs.Refusal.{Refusal, damaged, ◌>>=◌, ensure}
+use Rattle.pk_base.specs.Refusal.{Refusal, damaged, ensure}
 use Rattle.pk_nand.specs.BoardState.{BoardState}
 use Rattle.pk_segfmt.specs.Value.{head_bytes, value_pages, value_page, value_from, value_at}
 use Rattle.pk_rootfmt.specs.Root.{Root, named, is_root}
@@ -25,7 +25,6 @@ use Rattle.pk_live.specs.Values.{Values}
 use Rattle.pk_pool.specs.Blocks.{Blocks}
 use Rattle.pk_rootfmt.specs.Held.{Held}
 use Rattle.pk_nand.specs.Erased.{after_reads}
-use Rattle.pk_base.specs.Map.{Map}
 use Rattle.pk_model.specs.Found.{Found, found_under, entries_in_order}
 use Rattle.pk_model.specs.Laws.{IsPageOf}
 use Rattle.pk_model.specs.Reading.{reading}
@@ -36,7 +35,7 @@ use Rattle.pk_steps.specs.Under.{IsValuePage, places}
 use Rattle.pk_scan.specs.Starting.{IsAtStart}
 use Rattle.pk_scan.specs.Opening.{OnlyReads, NotOpened, PartNotOpened, HoldsFound, ReadsValues}
 use Rattle.pk_scan.specs.Adopts.{HasOwners}
-use Rattle.pk_scan.specs.Opened.{HasLists, HasBlocks, IsOpened}
+use Rattle.pk_scan.specs.Opened.{IsOpened}
 use Rattle.pk_scan.specs.Reads.{opened, reads_under, list_reads, value_reads, pages_of_runs, run_reads, epoch_reads}
 use Rattle.pk_scan.proofs.Boards.{reads_sum}
 use Rattle.pk_scan.proofs.RunReads.{run_reads_are}
@@ -113,9 +112,9 @@ module _ (shape : Shape) (at : ℕ → Page) where
 -- where a part refuses, so does the reading of the flash
 pub as_whole : {X : Type 0} (part : Result X Refusal) (shape : Shape) (old new : BoardState) (e : OpenError) → ((refusal : Refusal) → part ≡ Err refusal → reading shape old.pages [] ≡ Err refusal) → PartNotOpened part old new e → NotOpened shape old new e
 as_whole part shape old new NotFormatted passes why = absurd why
-as_whole part shape old new (Damaged page) passes why = passes (damaged page) why
+as_whole part shape old new (Damaged page) passes why = (passes (damaged page) why.0, why.1)
 as_whole part shape old new Fault passes why = why
-as_whole part shape old new Memory passes why = tt
+as_whole part shape old new Memory passes why = why
 
 module _ (shape : Shape) (page : ℕ) (root : Root) (old : BoardState) (top : newest_root shape (page_at old.pages) ≡ Some (page, root)) (now : BoardState) (reads : OnlyReads old now) (same : now.pages ≡ old.pages) where
   pub lists_refuse : (new : BoardState) (e : OpenError) → PartNotOpened (found_under shape (page_at now.pages) root) now new e → NotOpened shape old new e

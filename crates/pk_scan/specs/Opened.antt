@@ -1,5 +1,5 @@
 -- All that stands on a flash, as opening has it in memory.
-use Rattle.std.specs.Prelude.{◌≡◌, ◌≢◌, ℕ, ◌*◌, ◌/◌, ◌<◌, ◌≤◌, ◌-◌, true, List, [], ◌++◌, length, Some, slice_get}
+use Rattle.std.specs.Prelude.{◌≡◌, ◌≢◌, ℕ, ◌*◌, ◌<◌, ◌≤◌, ◌-◌, true, [], ◌++◌, length, Some, slice_get}
 use Rattle.std.specs.List.{concat}
 use Rattle.pk_base.specs.Shape.{Shape, pinned, data_blocks}
 use Rattle.pk_base.specs.Page.{Flash, page_at, erased}
@@ -54,7 +54,8 @@ pub record HasBlocks (shape : Shape) (flash : Flash) (root : Held) (live : Value
   pub owned_closed : (b : ℕ) → slice_get pool.states b ≡ Some (Owned for_values) → IsClosed live b
   pub values_few : used_by for_values pool.states ≤ data_blocks shape - 1
 
--- Both, for the same lists.
+-- The flash is opened: the lists under its newest root are in memory, the live map stands for the values of the keys that are there,
+-- each block has its owner, and so many keys are told.
 pub record IsOpened (shape : Shape) (flash : Flash) (frames : ℕ) (root : Held) (page : ℕ) (active frozen : Table) (epoch : JournalEpoch) (levels : Levels) (arena : Frames) (live : Values) (pool : Blocks) (keys : ℕ) : Type 0 where
   pub found : Found
   pub map : Map

@@ -30,7 +30,7 @@ use Rattle.pk_scan.specs.declared.errors.PageError.TheVariants.{Damaged as PageD
 use Rattle.pk_scan.specs.declared.errors.OpenError.{OpenError}
 use Rattle.pk_scan.specs.declared.errors.OpenError.TheVariants.{NotFormatted, Damaged, Fault, Memory}
 
--- nothing was done but reads
+-- nothing was done but reads, of which none failed
 abbrev pub OnlyReads : BoardState → BoardState → Type 0
 OnlyReads old new = (n : ℕ) × (new ≡ after_reads n old)
 
@@ -40,22 +40,25 @@ FaultCounted old new = Rose old.flash_faults new.flash_faults × Rose old.read_f
 
 -- ---- refusals
 
--- why the whole was not read: the reading of the flash refuses in the same way, or a read failed; want of memory is free
+-- Why the whole was not read: the reading of the flash refuses in the same way and no read failed, or a read failed, or memory was
+-- wanting and no read failed.
 abbrev pub NotOpened : Shape → BoardState → BoardState → OpenError → Type 0
-NotOpened shape old new NotFormatted = reading shape old.pages [] ≡ Err not_formatted
-NotOpened shape old new (Damaged page) = reading shape old.pages [] ≡ Err (damaged page)
+NotOpened shape old new NotFormatted = (reading shape old.pages [] ≡ Err not_formatted) × OnlyReads old new
+NotOpened shape old new (Damaged page) = (reading shape old.pages [] ≡ Err (damaged page)) × OnlyReads old new
 NotOpened shape old new Fault = FaultCounted old new
-NotOpened shape old new Memory = ⊤
+NotOpened shape old new Memory = OnlyReads old new
 
--- why a part was not read, by what the reading of the flash has for it
+-- Why a part was not read, by what the reading of the flash has for it: it refuses in the same way and no read failed, or a read
+-- failed, or memory was wanting and no read failed.
 abbrev pub PartNotOpened : {X : Type 0} → Result X Refusal → BoardState → BoardState → OpenError → Type 0
 PartNotOpened part old new NotFormatted = ⊥
-PartNotOpened part old new (Damaged page) = part ≡ Err (damaged page)
+PartNotOpened part old new (Damaged page) = (part ≡ Err (damaged page)) × OnlyReads old new
 PartNotOpened part old new Fault = FaultCounted old new
-PartNotOpened part old new Memory = ⊤
+PartNotOpened part old new Memory = OnlyReads old new
 
+-- why a part that takes no memory was not read: the reading of the flash refuses it in the same way and no read failed, or a read failed
 abbrev pub PartNotRead : {X : Type 0} → Result X Refusal → BoardState → BoardState → PageError → Type 0
-PartNotRead part old new (PageDamaged page) = part ≡ Err (damaged page)
+PartNotRead part old new (PageDamaged page) = (part ≡ Err (damaged page)) × OnlyReads old new
 PartNotRead part old new PageFault = FaultCounted old new
 
 -- ---- epochs
@@ -75,7 +78,7 @@ abbrev pub IsFoundEpoch : Shape → Flash → Root → JournalEpoch → Type 0
 IsFoundEpoch shape flash root epoch =
     (used : ℕ) × (epoch ≡ found_at_opening shape root.epoch root.newest used) × (used < epoch_pages shape → IsWhole flash (page_in shape root.newest used) → ⊥)
 
--- and the newest one
+-- the reading of the newest epoch finds entries, which the write buffer holds, and the epoch is the one that was found
 abbrev pub NewestHeld : Shape → Flash → Root → Table → JournalEpoch → Type 0
 NewestHeld shape flash root into epoch =
     ((entries : List Entry) × HoldsEpoch shape (newest_epoch shape (page_at flash) root) into entries)

@@ -32,7 +32,7 @@ abbrev pub pages_of_runs : Shape → List ℕ → ℕ
 pages_of_runs shape [] = 0
 pages_of_runs shape (count ∷ counts) = run_pages shape count + pages_of_runs shape counts
 
--- Both epochs up to their ends, and each page of the runs once.
+-- both epochs are read up to their ends, and each page of the runs once
 abbrev pub list_reads : Shape → (ℕ → Page) → Root → ℕ
 list_reads shape at root = epoch_reads shape at root.older + epoch_reads shape at root.newest + pages_of_runs shape root.counts
 
@@ -41,16 +41,18 @@ abbrev pub value_reads : Shape → List (Key × Place) → ℕ
 value_reads shape [] = 0
 value_reads shape (e ∷ es) = charge shape e.1.len + value_reads shape es
 
--- All pages of the root blocks, the epochs, the runs and the values.
+-- all reads under a root: the pages of the root blocks, of the epochs, the runs and the values
 unfoldable pub reads_under : Shape → (ℕ → Page) → ℕ → Root → Found → ℕ
 reads_under shape at frames root found =
     2 * shape.block_pages + epoch_reads shape at root.older + epoch_reads shape at root.newest + run_reads shape (pinned shape frames) 1 root.counts
     + value_reads shape (places found [])
 
+-- all reads under a root, where the lists of entries are found; else there is no map to open
 abbrev pub reads_if_found : Shape → (ℕ → Page) → ℕ → Root → Result Found Refusal → ℕ
 reads_if_found shape at frames root (Ok found) = reads_under shape at frames root found
 reads_if_found shape at frames root (Err refusal) = 0
 
+-- all reads under the newest root, if there is one
 abbrev pub reads_if_root : Shape → (ℕ → Page) → ℕ → Option (ℕ × Root) → ℕ
 reads_if_root shape at frames None = 0
 reads_if_root shape at frames (Some top) = reads_if_found shape at frames top.1 (found_under shape at top.1)

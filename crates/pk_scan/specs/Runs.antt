@@ -98,11 +98,12 @@ pub record GoesOn (shape : Shape) (level index many : ℕ) (before : List Entry)
   -- run 4 keeps no deleted keys
   pub deepest : T (not (level == 4) || are_put more)
 
--- whether it has
+-- whether some entries go on so
 abbrev pub GoesOnOr : Shape → ℕ → ℕ → ℕ → List Entry → List ℕ → Bool → Type 0
 GoesOnOr shape level index many before bytes true = (more : List Entry) × GoesOn shape level index many before bytes more
 GoesOnOr shape level index many before bytes false = (more : List Entry) → GoesOn shape level index many before bytes more → ⊥
 
+-- the frame of a page, if it has one, as a list
 abbrev pub listed : Option ℕ → List ℕ
 listed None = []
 listed (Some lease) = lease ∷ []

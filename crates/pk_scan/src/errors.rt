@@ -1,6 +1,7 @@
 //! What is answered where a flash is refused.
 
-/// Why pages of a flash are not what is looked for in them.
+/// Why pages of a flash are not what is looked for in them. Nothing but reads was done on the board, of which one failed
+/// exactly at `Fault`.
 #[derive(Clone, Copy, Debug, PartialEq, Eq)]
 pub enum PageError {
     /// This page is the first that is wrong.
@@ -9,7 +10,7 @@ pub enum PageError {
     Fault,
 }
 
-/// Why a flash is not opened.
+/// Why a flash is not opened. Nothing but reads was done on the board, of which one failed exactly at `Fault`.
 #[derive(Clone, Copy, Debug, PartialEq, Eq)]
 pub enum OpenError {
     /// There is no root.
@@ -18,6 +19,6 @@ pub enum OpenError {
     Damaged { page: u32 },
     /// A read failed. The board's counts tell of it.
     Fault,
-    /// There is not enough memory.
+    /// The allocator has not enough memory.
     Memory,
 }

@@ -151,7 +151,8 @@ fn found_in<A: Region>(memory: Memory<A>, root_page: u32, epoch: Epoch, keys: u3
 /// is taken when the run is read.
 ///
 /// `NotFormatted` exactly where the flash has no root, `Damaged` exactly where it has one and holds no map, with the page at
-/// which its reading fails; `Fault` where a read failed. Want of memory is free.
+/// which its reading fails; `Fault` where a read failed; `Memory` where the allocator has none. After every answer nothing but
+/// reads was done, of which one failed exactly at `Fault`.
 pub fn scan<B: Nand, A: Region>(
     alloc: A,
     board: &mut B,

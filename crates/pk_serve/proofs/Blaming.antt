@@ -1,11 +1,11 @@
 -- What the counts of faults tell, whatever the drive stands for.
-use Rattle.std.proofs.Common.{◌≡◌, ℕ, refl, sym, subst, ap, ◌∙◌, true, false, Bool, List}
+use Rattle.std.proofs.Common.{◌≡◌, ℕ, sym, subst, ap, ◌∙◌, Bool, List}
 use Rattle.pk_base.specs.Shape.{Shape}
 use Rattle.pk_nand.specs.BoardState.{BoardState}
-use Rattle.pk_nand.specs.Calls.{Rose, after_post, PostFailed}
+use Rattle.pk_nand.specs.Calls.{Rose, after_post}
 use Rattle.pk_drive.specs.Drive.{OnlyFlash}
 use Rattle.pk_serve.specs.Ends.{HasCause, NoFaults, IsFault, Blames}
-use Rattle.pk_serve.specs.Input.{Entered, Valued, NoValue, TookFailed, NoEntry, None_refused}
+use Rattle.pk_serve.specs.Input.{Entered, Valued, NoValue, TookFailed, NoEntry}
 use Rattle.pk_serve.specs.declared.end.End.{End}
 use Rattle.pk_serve.specs.declared.end.End.TheVariants.{Done, Truncated, Input, Output, Flash, Worn, NotBuilt}
 use Rattle.pk_serve.proofs.Giving.{rose_from}

@@ -1,6 +1,7 @@
 -- The end of a run, and what it says of the whole.
-use Rattle.std.proofs.Common.{◌≡◌, ◌≢◌, ◌⊎◌, inl, inr, ℕ, ◌≤◌, ◌+◌, List, [], ◌∷◌, ◌++◌, length, refl, sym, ◌∙◌, ap, subst, arith, append-nil, append_assoc, Option, Some, None, Ok, Bool}
+use Rattle.std.proofs.Common.{◌≡◌, ◌≢◌, ◌⊎◌, inl, inr, ℕ, ◌≤◌, ◌+◌, List, [], ◌∷◌, ◌++◌, length, refl, sym, ◌∙◌, ap, subst, arith, append-nil, append_assoc, Option, Some, None, Ok, Bool, false}
 use Rattle.pk_base.specs.Shape.{Shape}
+use Rattle.pk_base.specs.Page.{Flash as Pages}
 use Rattle.pk_base.specs.Entry.{Entry}
 use Rattle.pk_nvme.specs.Command.{Command}
 use Rattle.pk_nvme.specs.declared.request.Request.{Request}
@@ -13,17 +14,53 @@ use Rattle.pk_model.specs.Script.{script}
 use Rattle.pk_model.specs.Run.{Exchange, commands}
 use Rattle.std.proofs.lemmas.List.{length-map}
 use Rattle.pk_model.specs.Sight.{Sight}
+use Rattle.pk_drive.specs.Drive.{Stands}
 use Rattle.pk_drive.specs.Growth.{Goes}
 use Rattle.pk_drive.specs.Wear.{is_worn, roots}
 use Rattle.pk_drive.proofs.Growing.{Goes-reaches, weaken_went}
 use Rattle.pk_serve.specs.Ends.{IsFault}
-use Rattle.pk_serve.specs.Serving.{Serving, KeptAt, rise, installs, Flushed, Breaks}
+use Rattle.pk_serve.specs.Serving.{Serving, KeptAt, rise, installs, Flushed, Breaks, saying}
 use Rattle.pk_serve.specs.Input.{put_back, AtEnd, Spells, IsPart, behind}
-use Rattle.pk_serve.specs.Run.{Finished, Failed, Finish, Ends, Served, ServedBy, KeepsScript, KeepsSome, Answers, ServedSome, Causes}
+use Rattle.pk_serve.specs.Run.{HasServed, HasRefused, Told, ToldBy, Finished, Failed, Finish, Ends, Served, ServedBy, KeepsScript, KeepsSome, Answers, ServedSome, Causes}
 use Rattle.pk_serve.specs.declared.end.End.{End}
 use Rattle.pk_serve.specs.declared.end.End.TheVariants.{Done, Truncated, Input, Output, Flash, Worn, NotBuilt}
 use Rattle.pk_serve.proofs.Serves.{kept-more}
 use Rattle.pk_serve.proofs.Scripts.{IsPart-entry}
+
+-- ---- what is refused is told in other words
+
+module _ (shape : Shape) (frames : ℕ) (start : Map) (a b : BoardState) (d : Sight) (held : List ℕ) (served refused now_refused : Map → Request → Type 0) where
+  finished_says : (part : List ℕ) → Finished shape frames start a b d held part (saying served refused) → Finished shape frames start a b d held part (saying served now_refused)
+  finished_says part f = record {
+    all = f.all;
+    m = f.m;
+    bytes = f.bytes;
+    accepted = f.accepted;
+    few = f.few;
+    unworn = f.unworn;
+    serving = f.serving;
+    input = f.input;
+    spells = f.spells;
+  }
+
+  pub Finish-says : (end : End) → IsFault end ⊎ ((m : Map) (r : Request) → Stands shape frames b d m → refused m r → now_refused m r)
+      → Finish shape frames start a b d held (saying served refused) end → Finish shape frames start a b d held (saying served now_refused) end
+  unfolding finished_says
+  Finish-says Done turns f = record { finished = finished_says [] f.finished; at_end = f.at_end; same = f.same }
+  Finish-says Truncated turns f = record { part = f.part; some = f.some; is_part = f.is_part; finished = finished_says f.part f.finished; goes_on = f.goes_on; at_end = f.at_end; same = f.same }
+  Finish-says Input turns f = record { part = f.part; is_part = f.is_part; finished = finished_says f.part f.finished; goes_on = f.goes_on; rose = f.rose }
+  Finish-says Worn turns f = record { part = f.part; some = f.some; finished = finished_says f.part f.finished; cause = f.cause; same = f.same }
+  Finish-says NotBuilt (inl fault) f = absurd fault
+  Finish-says NotBuilt (inr turns) f = record {
+    entry = f.entry;
+    size = f.size;
+    finished = finished_says f.entry f.finished;
+    is = (f.is.0, f.is.1, turns f.finished.m f.is.0 f.finished.serving.stands f.is.2);
+    goes_on = f.goes_on;
+    same = f.same;
+  }
+  Finish-says Output turns f = f
+  Finish-says Flash turns f = f
 
 -- ---- what is held is posted at the end
 
@@ -73,23 +110,23 @@ module _ (shape : Shape) (frames : ℕ) (start : Map) (a b c : BoardState) (d e 
         cause = r.1;
       }
 
-  as_finish : (fault : End) → Failed shape frames start a c fault → Finish shape frames start a c e [] says fault
-  as_finish Done f = absurd f.cause
-  as_finish Truncated f = absurd f.cause
-  as_finish Input f = absurd f.cause
-  as_finish Worn f = absurd f.cause
-  as_finish NotBuilt f = absurd f.cause
-  as_finish Output f = f
-  as_finish Flash f = f
+  as_finish : (now_says : Map → Request → Bool → Type 0) (fault : End) → Failed shape frames start a c fault → Finish shape frames start a c e [] now_says fault
+  as_finish now_says Done f = absurd f.cause
+  as_finish now_says Truncated f = absurd f.cause
+  as_finish now_says Input f = absurd f.cause
+  as_finish now_says Worn f = absurd f.cause
+  as_finish now_says NotBuilt f = absurd f.cause
+  as_finish now_says Output f = f
+  as_finish now_says Flash f = f
 
-  pub Finish-broken : (end fault : End) → Breaks b c d held fault → (IsFault end → ⊥) → Finish shape frames start a b d held says end → Finish shape frames start a c e [] says fault
-  Finish-broken Done fault breaks sound f = as_finish fault (broken [] fault breaks f.finished)
-  Finish-broken Truncated fault breaks sound f = as_finish fault (broken f.part fault breaks f.finished)
-  Finish-broken Input fault breaks sound f = as_finish fault (broken f.part fault breaks f.finished)
-  Finish-broken Worn fault breaks sound f = as_finish fault (broken f.part fault breaks f.finished)
-  Finish-broken NotBuilt fault breaks sound f = as_finish fault (broken f.entry fault breaks f.finished)
-  Finish-broken Output fault breaks sound f = absurd (sound tt)
-  Finish-broken Flash fault breaks sound f = absurd (sound tt)
+  pub Finish-broken : (now_says : Map → Request → Bool → Type 0) (end fault : End) → Breaks b c d held fault → (IsFault end → ⊥) → Finish shape frames start a b d held says end → Finish shape frames start a c e [] now_says fault
+  Finish-broken now_says Done fault breaks sound f = as_finish now_says fault (broken [] fault breaks f.finished)
+  Finish-broken now_says Truncated fault breaks sound f = as_finish now_says fault (broken f.part fault breaks f.finished)
+  Finish-broken now_says Input fault breaks sound f = as_finish now_says fault (broken f.part fault breaks f.finished)
+  Finish-broken now_says Worn fault breaks sound f = as_finish now_says fault (broken f.part fault breaks f.finished)
+  Finish-broken now_says NotBuilt fault breaks sound f = as_finish now_says fault (broken f.entry fault breaks f.finished)
+  Finish-broken now_says Output fault breaks sound f = absurd (sound tt)
+  Finish-broken now_says Flash fault breaks sound f = absurd (sound tt)
 
 -- a fault leaves nothing to be closed
 pub Finish-fault : (shape : Shape) (frames : ℕ) (start : Map) (a b : BoardState) (d : Sight) (held now_held : List ℕ) (says : Map → Request → Bool → Type 0) (end : End) → IsFault end
@@ -305,6 +342,19 @@ module _ (a b : BoardState) (before after : Sight) (says : Shape → ℕ → Map
 
   pub answers_all : IsFault end ⊎ (after.pending ≡ []) → Answers a b before says end
   answers_all closed shape frames start stands none input is = served_by shape frames start a b after (says shape frames) input is end closed (h shape frames start stands none)
+
+-- where it is no fault, nothing is pending
+pub none_left : (end : End) (None_pending Agrees : Type 0) → IsFault end ⊎ (None_pending × Agrees) → IsFault end ⊎ None_pending
+none_left end None_pending Agrees (inl fault) = inl fault
+none_left end None_pending Agrees (inr ok) = inr ok.0
+
+-- the drive that refuses agrees with the board that was left, with nothing pending
+pub ends_told : (Drive : Type 0) (sight : Drive → Sight) (agrees : Drive → Option Shape → Pages → Type 0) (built : Drive → Request → Bool) (a b : BoardState) (before : Sight) (drive : Drive) (end : End)
+    → Ends a b before (sight drive) [] (ToldBy Drive sight agrees built drive) end → IsFault end ⊎ (((sight drive).pending ≡ []) × agrees drive b.shape b.pages)
+    → Ends a b before (sight drive) [] (Told Drive sight agrees built b) end
+ends_told Drive sight agrees built a b before drive end h closed shape frames start stands none =
+    Finish-says shape frames start a b (sight drive) [] (HasServed Drive sight agrees built shape frames) (λ m r. built drive r ≡ false) (HasRefused Drive sight agrees built b shape frames) end
+    (elim closed [ inl fault ↦ inl fault | inr ok ↦ inr (λ m r at unbuilt. (drive, (ok.1, at), ok.0, unbuilt)) ]) (h shape frames start stands none)
 
 -- what was served, whether the input is told or not
 served_some : (shape : Shape) (frames : ℕ) (start : Map) (a b : BoardState) (d : Sight) (says : Map → Request → Bool → Type 0) (end : End) → IsFault end ⊎ (d.pending ≡ []) → Finish shape frames start a b d [] says end

@@ -1,8 +1,9 @@
 -- Where nothing fails, the whole script is served.
-use Rattle.std.proofs.Common.{◌≡◌, ◌≢◌, ◌⊎◌, inl, inr, ℕ, zero, suc, ◌+◌, ◌-◌, ◌*◌, ◌≤◌, ◌<◌, List, [], ◌∷◌, ◌++◌, length, refl, sym, ◌∙◌, ap, subst, arith, length-append, Some, None, Bool, true, false, ◌==◌, if◌then◌else◌, nat_le, Ok}
+use Rattle.std.proofs.Common.{◌≡◌, ◌≢◌, ◌⊎◌, inl, inr, ℕ, zero, suc, ◌+◌, ◌-◌, ◌*◌, ◌≤◌, ◌<◌, List, [], ◌∷◌, ◌++◌, length, refl, sym, ◌∙◌, ap, subst, arith, length-append, Option, Some, None, Bool, true, false, ◌==◌, if◌then◌else◌, nat_le, Ok}
 use Rattle.std.proofs.lemmas.Bool.Decides.{nat_tests}
 use Rattle.std.specs.List.{FoldsTo}
 use Rattle.pk_base.specs.Shape.{Shape, limit}
+use Rattle.pk_base.specs.Page.{Flash as Pages}
 use Rattle.pk_base.specs.Map.{Map}
 use Rattle.pk_nvme.specs.Command.{Command}
 use Rattle.pk_nvme.specs.Reply.{Reply}
@@ -19,7 +20,7 @@ use Rattle.pk_model.specs.Sight.{Sight}
 use Rattle.pk_drive.specs.Exec.{most_installs}
 use Rattle.pk_drive.specs.Wear.{is_worn, roots}
 use Rattle.pk_serve.specs.Serving.{rise, installs}
-use Rattle.pk_serve.specs.Run.{Served, Told}
+use Rattle.pk_serve.specs.Run.{Served, ToldBy}
 use Rattle.pk_serve.specs.Complete.{ticks, Complete, IsServable, Completes}
 use Rattle.pk_serve.specs.declared.end.End.{End}
 use Rattle.pk_serve.specs.declared.end.End.TheVariants.{Done, Truncated, Input, Output, Flash, Worn, NotBuilt}
@@ -144,10 +145,10 @@ module _ (shape : Shape) (frames : ℕ) (start : Map) (a b : BoardState) (d : Si
       ])
 
 -- a drive that serves every request refuses none
-none_refused : (Drive : Type 0) (sight : Drive → Sight) (built : Drive → Request → Bool) → ((drive : Drive) (r : Request) → built drive r ≡ true) → (shape : Shape) (frames : ℕ) (m : Map) (r : Request) → Told Drive sight built shape frames m r false → ⊥
-none_refused Drive sight built all_built shape frames m r h = let z : true ≡ false = sym (all_built h.0 r) ∙ h.3 in cc
+none_refused : (Drive : Type 0) (built : Drive → Request → Bool) → ((drive : Drive) (r : Request) → built drive r ≡ true) → (drive : Drive) (m : Map) (r : Request) → built drive r ≡ false → ⊥
+none_refused Drive built all_built drive m r h = let z : true ≡ false = sym (all_built drive r) ∙ h in cc
 
-pub completes : (Drive : Type 0) (sight : Drive → Sight) (built : Drive → Request → Bool) (a b : BoardState) (before after : Sight) (end : End) → Ends a b before after [] (Told Drive sight built) end
-    → IsFault end ⊎ (after.pending ≡ []) → Completes Drive built a b before end
-completes Drive sight built a b before after end h closed shape frames start stands none all_built input is ok =
-    completed shape frames start a b after (Told Drive sight built shape frames) input is ok (none_refused Drive sight built all_built shape frames) end closed (h shape frames start stands none)
+pub completes : (Drive : Type 0) (sight : Drive → Sight) (agrees : Drive → Option Shape → Pages → Type 0) (built : Drive → Request → Bool) (a b : BoardState) (before : Sight) (drive : Drive) (end : End)
+    → Ends a b before (sight drive) [] (ToldBy Drive sight agrees built drive) end → IsFault end ⊎ ((sight drive).pending ≡ []) → Completes Drive built a b before end
+completes Drive sight agrees built a b before drive end h closed shape frames start stands none all_built input is ok =
+    completed shape frames start a b (sight drive) (ToldBy Drive sight agrees built drive shape frames) input is ok (none_refused Drive built all_built drive) end closed (h shape frames start stands none)

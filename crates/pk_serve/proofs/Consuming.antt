@@ -1,14 +1,14 @@
 -- What was taken of a script, whatever the drive stands for.
-use Rattle.std.proofs.Common.{◌≡◌, ◌≢◌, ◌⊎◌, inl, inr, ℕ, ◌+◌, ◌<◌, List, [], ◌∷◌, ◌++◌, length, refl, sym, ◌∙◌, ap, subst, arith, append-nil, append_assoc, length-append, true, false, Bool, Option, Some}
+use Rattle.std.proofs.Common.{◌≡◌, ◌⊎◌, inl, inr, ℕ, ◌+◌, List, [], ◌∷◌, ◌++◌, length, refl, sym, ◌∙◌, ap, subst, arith, append-nil, append_assoc, length-append, true, Bool}
 use Rattle.pk_nvme.specs.Command.{Command}
 use Rattle.pk_nand.specs.BoardState.{BoardState}
 use Rattle.pk_model.specs.Script.{script}
 use Rattle.pk_model.specs.Sight.{Sight}
 use Rattle.pk_drive.specs.Wear.{is_worn}
 use Rattle.pk_serve.specs.Ends.{IsFault}
-use Rattle.pk_serve.specs.Input.{put_back, AtEnd, Spells, Advances, Fails, NoEntry, Quits}
+use Rattle.pk_serve.specs.Input.{put_back, AtEnd, Advances, NoEntry, Quits}
 use Rattle.pk_serve.specs.Run.{most_entries}
-use Rattle.pk_serve.specs.Script.{Consumed, Consumes, Says, SaysOfScript}
+use Rattle.pk_serve.specs.Script.{Consumed, Consumes, SaysOfScript}
 use Rattle.pk_serve.specs.declared.end.End.{End}
 use Rattle.pk_serve.specs.declared.end.End.TheVariants.{Done, Truncated, Input, Output, Flash, Worn, NotBuilt}
 use Rattle.pk_serve.proofs.Scripts.{taken-append, put_back-nil, Spells-none, Spells-append}

@@ -1,7 +1,8 @@
 -- The loop over the commands of the input.
-use Rattle.std.proofs.Common.{◌≡◌, ◌≢◌, ◌⊎◌, inl, inr, ℕ, ◌+◌, ◌<◌, List, [], ◌∷◌, ◌++◌, refl, sym, ◌∙◌, ap, subst, arith, append-nil, length-append, true, false, Bool}
+use Rattle.std.proofs.Common.{◌≡◌, ◌≢◌, ◌⊎◌, inl, inr, ℕ, ◌+◌, ◌<◌, List, [], ◌∷◌, ◌++◌, refl, sym, ◌∙◌, ap, subst, arith, append-nil, length-append, true, false, Bool, Option}
 use Rattle.std.proofs.lemmas.Fn.{FoldsTo-push}
 use Rattle.pk_base.specs.Shape.{Shape}
+use Rattle.pk_base.specs.Page.{Flash as Pages}
 use Rattle.pk_base.specs.Map.{Map}
 use Rattle.pk_nvme.specs.Command.{Command, command}
 use Rattle.pk_nvme.specs.Seen.{command_of}
@@ -13,14 +14,34 @@ use Rattle.pk_model.specs.Sight.{Sight}
 use Rattle.pk_drive.specs.Drive.{Stands}
 use Rattle.pk_drive.specs.Wear.{is_worn}
 use Rattle.pk_serve.specs.Ends.{IsFault}
-use Rattle.pk_serve.specs.Serving.{Serving, StepWithin, Accepted, Refused}
+use Rattle.pk_serve.specs.Serving.{Serving, StepWithin, saying, Accepted, Refused}
 use Rattle.pk_serve.specs.Input.{put_back, Spells, Advances, Fails, NoEntry, Quits, None_refused}
-use Rattle.pk_serve.specs.Run.{Looping, Finished, Failed, Finish, Told, most_entries}
+use Rattle.pk_serve.specs.Run.{Looping, Finished, Failed, Finish, HasServed, most_entries}
 use Rattle.pk_serve.specs.declared.end.End.{End}
 use Rattle.pk_serve.specs.declared.end.End.TheVariants.{Done, Truncated, Input, Output, Flash, Worn, NotBuilt}
 use Rattle.pk_serve.proofs.Serves.{Serving-start, Serving-inputs}
 use Rattle.pk_serve.proofs.Scripts.{taken-append, put_back-nil, Spells-none, Spells-append}
 use Rattle.pk_serve.proofs.Counting.{commands-push}
+
+-- what is said while no request was refused
+abbrev pub saying_served : (Map → Request → Type 0) → Map → Request → Bool → Type 0
+saying_served served = saying served (λ m r. ⊥)
+
+-- whatever is then said of one that is refused
+pub Looping-refusing : (shape : Shape) (frames : ℕ) (start : Map) (a b : BoardState) (drive : Sight) (held : List ℕ) (taken : ℕ) (served refused : Map → Request → Type 0)
+    → Looping shape frames start a b drive held taken (saying_served served) → Looping shape frames start a b drive held taken (saying served refused)
+Looping-refusing shape frames start a b drive held taken served refused w = record {
+  all = w.all;
+  m = w.m;
+  bytes = w.bytes;
+  serving = w.serving;
+  accepted = w.accepted;
+  count = w.count;
+  few = w.few;
+  unworn = w.unworn;
+  input = w.input;
+  spells = w.spells;
+}
 
 pub Looping-start : (shape : Shape) (frames : ℕ) (start : Map) (a : BoardState) (drive : Sight) (held : List ℕ) (says : Map → Request → Bool → Type 0) → held ≡ [] → Stands shape frames a drive start → drive.pending ≡ [] → Looping shape frames start a a drive held 0 says
 Looping-start shape frames start a drive held says empty stands none =
@@ -167,22 +188,25 @@ module _ (shape : Shape) (frames : ℕ) (start : Map) (a b c : BoardState) (d e 
   command_failed Flash f = failed Flash f
 
   -- a command was not served
-  pub Finish-quits : taken < most_entries → (refused : List ℕ → Type 0) → ((entry : List ℕ) → refused entry → Refused says w.m entry) → (end : End) → b.in_faults ≡ a.in_faults
-      → IsFault end ⊎ ((e ≡ d) × (now_held ≡ held)) → Quits b c d held taken refused end → Finish shape frames start a c e now_held says end
-  Finish-quits few refused on end same idle (inr f) = command_failed end f
-  Finish-quits few refused on end same (inr o) (inl n) = none_taken (is_worn b) (λ h. inr h) (λ h. (few, h)) refused on end same o.0 o.1 n
-  Finish-quits few refused on Output same (inl o) (inl n) = absurd n
-  Finish-quits few refused on Flash same (inl o) (inl n) = absurd n
-  Finish-quits few refused on Done same (inl o) (inl n) = absurd o
-  Finish-quits few refused on Truncated same (inl o) (inl n) = absurd o
-  Finish-quits few refused on Input same (inl o) (inl n) = absurd o
-  Finish-quits few refused on Worn same (inl o) (inl n) = absurd o
-  Finish-quits few refused on NotBuilt same (inl o) (inl n) = absurd o
+  pub Finish-quits : taken < most_entries → (refused : List ℕ → Type 0) → (end : End) → b.in_faults ≡ a.in_faults
+      → IsFault end ⊎ (((entry : List ℕ) → refused entry → Refused says w.m entry) × (e ≡ d) × (now_held ≡ held)) → Quits b c d held taken refused end → Finish shape frames start a c e now_held says end
+  Finish-quits few refused end same idle (inr f) = command_failed end f
+  Finish-quits few refused end same (inr o) (inl n) = none_taken (is_worn b) (λ h. inr h) (λ h. (few, h)) refused o.0 end same o.1 o.2 n
+  Finish-quits few refused Output same (inl o) (inl n) = absurd n
+  Finish-quits few refused Flash same (inl o) (inl n) = absurd n
+  Finish-quits few refused Done same (inl o) (inl n) = absurd o
+  Finish-quits few refused Truncated same (inl o) (inl n) = absurd o
+  Finish-quits few refused Input same (inl o) (inl n) = absurd o
+  Finish-quits few refused Worn same (inl o) (inl n) = absurd o
+  Finish-quits few refused NotBuilt same (inl o) (inl n) = absurd o
 
--- the drive that stands for the map says so
-module _ (Drive : Type 0) (sight : Drive → Sight) (built : Drive → Request → Bool) (shape : Shape) (frames : ℕ) (m : Map) (board : BoardState) (drive : Drive) (stands : Stands shape frames board (sight drive) m) where
-  pub refused_on : (entry : List ℕ) → ((r : Request) × ((v : List ℕ) → command_of r v ≡ command entry v) × (built drive r ≡ false)) → Refused (Told Drive sight built shape frames) m entry
-  refused_on entry h = (h.0, h.1, (drive, board, stands, h.2))
+-- the drive that stands for the map on the board serves the request
+pub accepted_on : (Drive : Type 0) (sight : Drive → Sight) (agrees : Drive → Option Shape → Pages → Type 0) (built : Drive → Request → Bool) (shape : Shape) (frames : ℕ) (m : Map) (board : BoardState) (drive : Drive)
+    → agrees drive board.shape board.pages → Stands shape frames board (sight drive) m
+    → (c : Command) → ((r : Request) × (command_of r c.value ≡ c) × (built drive r ≡ true)) → Accepted (saying_served (HasServed Drive sight agrees built shape frames)) m c
+accepted_on Drive sight agrees built shape frames m board drive ok stands c h = (h.0, h.1, (drive, board, (ok, stands), h.2))
 
-  pub accepted_on : (c : Command) → ((r : Request) × (command_of r c.value ≡ c) × (built drive r ≡ true)) → Accepted (Told Drive sight built shape frames) m c
-  accepted_on c h = (h.0, h.1, (drive, board, stands, h.2))
+-- the drive was left, so it does not serve what it did not
+pub refused_on : (Drive : Type 0) (built : Drive → Request → Bool) (old new : Drive) (served : Map → Request → Type 0) (m : Map) → new ≡ old
+    → (entry : List ℕ) → ((r : Request) × ((v : List ℕ) → command_of r v ≡ command entry v) × (built old r ≡ false)) → Refused (saying served (λ m r. built new r ≡ false)) m entry
+refused_on Drive built old new served m same entry h = (h.0, h.1, ap (λ d. built d h.0) same ∙ h.2)

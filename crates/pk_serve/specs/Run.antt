@@ -1,6 +1,7 @@
 -- How a run over the input ends.
-use Rattle.std.specs.Prelude.{◌≡◌, ◌≢◌, ◌⊎◌, ◌<◌, ◌≤◌, ◌+◌, ℕ, List, [], ◌++◌, length, Some, Bool, true, false}
+use Rattle.std.specs.Prelude.{◌≡◌, ◌≢◌, ◌⊎◌, ◌<◌, ◌≤◌, ◌+◌, ℕ, List, [], ◌++◌, length, Option, Some, Bool, true, false}
 use Rattle.pk_base.specs.Shape.{Shape}
+use Rattle.pk_base.specs.Page.{Flash as Pages}
 use Rattle.pk_base.specs.Map.{Map}
 use Rattle.pk_nvme.specs.Command.{Command}
 use Rattle.pk_nvme.specs.declared.request.Request.{Request}
@@ -16,7 +17,7 @@ use Rattle.pk_drive.specs.Wear.{is_worn, roots}
 use Rattle.pk_drive.specs.Growth.{Goes}
 use Rattle.pk_drive.specs.Meter.{meter, MeteredAll}
 use Rattle.pk_serve.specs.Ends.{HasCause, NoFaults}
-use Rattle.pk_serve.specs.Serving.{Serving, Cutoff, KeptAt, rise, installs, RunAccepted, Refused}
+use Rattle.pk_serve.specs.Serving.{Serving, Cutoff, KeptAt, rise, installs, saying, RunAccepted, Refused}
 use Rattle.pk_serve.specs.Input.{put_back, AtEnd, Spells, IsPart}
 use Rattle.pk_serve.specs.declared.end.End.{End}
 use Rattle.pk_serve.specs.declared.end.End.TheVariants.{Done, Truncated, Input, Output, Flash, Worn, NotBuilt}
@@ -25,9 +26,33 @@ use Rattle.pk_serve.specs.declared.end.End.TheVariants.{Done, Truncated, Input, 
 abbrev pub most_entries : ℕ
 most_entries = 4294967295
 
--- a drive that stands for this map says whether it serves this request
-abbrev pub Told : (Drive : Type 0) → (Drive → Sight) → (Drive → Request → Bool) → Shape → ℕ → Map → Request → Bool → Type 0
-Told Drive sight built shape frames m request answer = (drive : Drive) × (board : BoardState) × Stands shape frames board (sight drive) m × (built drive request ≡ answer)
+-- the drive agrees with the board, and stands for this map on it
+abbrev pub StandsOn : (Drive : Type 0) → (Drive → Sight) → (Drive → Option Shape → Pages → Type 0) → Shape → ℕ → BoardState → Drive → Map → Type 0
+StandsOn Drive sight agrees shape frames board drive m = agrees drive board.shape board.pages × Stands shape frames board (sight drive) m
+
+-- a drive serves this request that stands for this map on a board
+abbrev pub HasServed : (Drive : Type 0) → (Drive → Sight) → (Drive → Option Shape → Pages → Type 0) → (Drive → Request → Bool)
+    → Shape → ℕ → Map → Request → Type 0
+HasServed Drive sight agrees built shape frames m request =
+    (drive : Drive) × (board : BoardState) × StandsOn Drive sight agrees shape frames board drive m × (built drive request ≡ true)
+
+-- a drive does not serve this request that stands for this map on the board that was left, with nothing pending
+abbrev pub HasRefused : (Drive : Type 0) → (Drive → Sight) → (Drive → Option Shape → Pages → Type 0) → (Drive → Request → Bool)
+    → BoardState → Shape → ℕ → Map → Request → Type 0
+HasRefused Drive sight agrees built left shape frames m request =
+    (drive : Drive) × StandsOn Drive sight agrees shape frames left drive m × ((sight drive).pending ≡ []) × (built drive request ≡ false)
+
+-- What is told of the requests of a run that left the board so. One that was served, a drive serves that stood for the map before it. One that was
+-- refused, a drive does not serve that stands for the map on the board that was left, with nothing pending.
+abbrev pub Told : (Drive : Type 0) → (Drive → Sight) → (Drive → Option Shape → Pages → Type 0) → (Drive → Request → Bool)
+    → BoardState → Shape → ℕ → Map → Request → Bool → Type 0
+Told Drive sight agrees built left shape frames =
+    saying (HasServed Drive sight agrees built shape frames) (HasRefused Drive sight agrees built left shape frames)
+
+-- the same while a run goes on: what is refused, the drive as it stands now does not serve
+abbrev pub ToldBy : (Drive : Type 0) → (Drive → Sight) → (Drive → Option Shape → Pages → Type 0) → (Drive → Request → Bool)
+    → Drive → Shape → ℕ → Map → Request → Bool → Type 0
+ToldBy Drive sight agrees built now shape frames = saying (HasServed Drive sight agrees built shape frames) (λ m request. built now request ≡ false)
 
 -- So many commands were taken from the input and served, the first of them on a drive that was not worn.
 pub record Looping (shape : Shape) (frames : ℕ) (start : Map) (a b : BoardState) (drive : Sight) (held : List ℕ) (taken : ℕ) (says : Map → Request → Bool → Type 0) : Type 0 where

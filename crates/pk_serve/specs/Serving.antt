@@ -85,6 +85,11 @@ Keeps old new before after held now_held =
 abbrev pub StepWithin : Shape → ℕ → Map → Exchange → Map → Type 0
 StepWithin shape frames m x m' = Step shape frames m x.command x.reply m' × (kind x.command.opcode ≡ Some retrieve → x.reads ≤ most_reads shape frames m x.command)
 
+-- what is said of a request on a map: one thing where it was served, another where it was refused
+abbrev pub saying : (Map → Request → Type 0) → (Map → Request → Type 0) → Map → Request → Bool → Type 0
+saying served refused m r true = served m r
+saying served refused m r false = refused m r
+
 -- a drive that stands for this map says of a command's request that it serves it, or of an entry's that it does not
 abbrev pub Accepted : (Map → Request → Bool → Type 0) → Map → Command → Type 0
 Accepted says m c = (r : Request) × (command_of r c.value ≡ c) × says m r true

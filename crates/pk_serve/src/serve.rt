@@ -10,7 +10,7 @@ ghost use Rattle.pk_serve.specs.Ends.{IsFault, NoFaults, Blames};
 ghost use Rattle.pk_serve.specs.Input.{Advances, Quits};
 ghost use Rattle.pk_serve.specs.Complete.{Completes};
 ghost use Rattle.pk_serve.specs.Script.{Consumes, SaysOfScript};
-ghost use Rattle.pk_serve.specs.Run.{Ends, Told, KeepsScript, KeepsSome, Answers, Causes};
+ghost use Rattle.pk_serve.specs.Run.{Ends, Told, ToldBy, KeepsScript, KeepsSome, Answers, Causes};
 
 use crate::End;
 use crate::entry::{take_entry, take_value};
@@ -52,7 +52,7 @@ pub fn serve_next<D: Engine, B: Board>(
         (λ c. (r : Request) × (command_of r c.value ≡ c) × (D.built drive.old r ≡ true))) }
     ensures quits { IfErr result (λ end. Quits (B.state board.old) (B.state board.new) (D.sight drive.old) (bytes_of held.old.heads) taken
         (λ entry. (r : Request) × ((v : List ℕ) → command_of r v ≡ command entry v) × (D.built drive.old r ≡ false)) end) }
-    ensures open { IfErr result (λ end. IsFault end ⊎ ((D.agrees drive.new (B.state board.new).shape (B.state board.new).pages) × (D.sight drive.new ≡ D.sight drive.old) × (held.new.heads ≡ held.old.heads))) }
+    ensures open { IfErr result (λ end. IsFault end ⊎ ((D.agrees drive.new (B.state board.new).shape (B.state board.new).pages) × (drive.new ≡ drive.old) × (held.new.heads ≡ held.old.heads))) }
 {
     let worn = drive.is_worn();
     let mut entry = [0u8; 64];
@@ -106,7 +106,7 @@ pub fn serve_entries<D: Engine, B: Board>(
     ensures shape { (B.state board.new).shape ≡ (B.state board.old).shape }
     ensures blames { Blames (B.state board.old) (B.state board.new) result }
     ensures consumes { Consumes (B.state board.old) (B.state board.new) result }
-    ensures ends { Ends (B.state board.old) (B.state board.new) (D.sight drive.old) (D.sight drive.new) (bytes_of held.new.heads) (Told D D.sight D.built) result }
+    ensures ends { Ends (B.state board.old) (B.state board.new) (D.sight drive.old) (D.sight drive.new) (bytes_of held.new.heads) (ToldBy D D.sight D.agrees D.built drive.new) result }
     ensures open { IsFault result ⊎ ((D.agrees drive.new (B.state board.new).shape (B.state board.new).pages) × ((D.sight drive.new).stopped ≡ false)) }
 {
     for taken in 0..u32::MAX {
@@ -141,8 +141,8 @@ pub fn serve_all<D: Engine, B: Board>(
     requires room_value { greatest shape.now ≤ length into.old }
     ensures blames { Blames (B.state board.old) (B.state board.new) result }
     ensures consumes { Consumes (B.state board.old) (B.state board.new) result }
-    ensures ends { Ends (B.state board.old) (B.state board.new) (D.sight drive.old) (D.sight drive.new) [] (Told D D.sight D.built) result }
-    ensures none { IsFault result ⊎ ((D.sight drive.new).pending ≡ []) }
+    ensures ends { Ends (B.state board.old) (B.state board.new) (D.sight drive.old) (D.sight drive.new) [] (ToldBy D D.sight D.agrees D.built drive.new) result }
+    ensures none { IsFault result ⊎ (((D.sight drive.new).pending ≡ []) × (D.agrees drive.new (B.state board.new).shape (B.state board.new).pages)) }
 {
     let end = serve_entries(drive, board, held, value, into, shape);
     match end {
@@ -175,8 +175,8 @@ pub fn serve_script<D: Engine, B: Board>(
     ensures says { SaysOfScript (B.state board.old) (B.state board.new) result }
     ensures kept { KeepsScript (B.state board.old) (B.state board.new) (D.sight drive.old) }
     ensures kept_untold { KeepsSome (B.state board.old) (B.state board.new) (D.sight drive.old) }
-    ensures served { Answers (B.state board.old) (B.state board.new) (D.sight drive.old) (Told D D.sight D.built) result }
-    ensures causes { Causes (B.state board.old) (B.state board.new) (D.sight drive.old) (Told D D.sight D.built) result }
+    ensures served { Answers (B.state board.old) (B.state board.new) (D.sight drive.old) (Told D D.sight D.agrees D.built (B.state board.new)) result }
+    ensures causes { Causes (B.state board.old) (B.state board.new) (D.sight drive.old) (Told D D.sight D.agrees D.built (B.state board.new)) result }
     ensures complete { Completes D D.built (B.state board.old) (B.state board.new) (D.sight drive.old) result }
 {
     serve_all(drive, board, held, value, into, shape)

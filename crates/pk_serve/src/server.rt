@@ -60,8 +60,8 @@ impl Server {
         ensures says { SaysOfScript (B.state board.old) (B.state board.new) result }
         ensures kept { KeepsScript (B.state board.old) (B.state board.new) (D.sight drive.old) }
         ensures kept_untold { KeepsSome (B.state board.old) (B.state board.new) (D.sight drive.old) }
-        ensures served { Answers (B.state board.old) (B.state board.new) (D.sight drive.old) (Told D D.sight D.built) result }
-        ensures causes { Causes (B.state board.old) (B.state board.new) (D.sight drive.old) (Told D D.sight D.built) result }
+        ensures served { Answers (B.state board.old) (B.state board.new) (D.sight drive.old) (Told D D.sight D.agrees D.built (B.state board.new)) result }
+        ensures causes { Causes (B.state board.old) (B.state board.new) (D.sight drive.old) (Told D D.sight D.agrees D.built (B.state board.new)) result }
         ensures complete { Completes D D.built (B.state board.old) (B.state board.new) (D.sight drive.old) result }
     {
         self.held.clear();

@@ -67,6 +67,7 @@ pub fn flush<D: Engine, B: Board>(drive: &mut D, board: &mut B, held: &mut Queue
     ensures runs { OnOk result ((D.sight drive.new).stopped ≡ false) }
     ensures none { OnOk result ((D.sight drive.new).pending ≡ []) }
     ensures built { OnOk result ((r : Request) → r.opcode ≢ 0x01 → r.opcode ≢ 0x10 → D.built drive.old r ≡ true → D.built drive.new r ≡ true) }
+    ensures unbuilt { OnOk result ((r : Request) → D.built drive.old r ≡ false → D.built drive.new r ≡ false) }
     ensures shape { (B.state board.new).shape ≡ (B.state board.old).shape }
     ensures installs { roots (B.state board.new) ≡ roots (B.state board.old) }
     ensures input { (B.state board.new).input ≡ (B.state board.old).input }

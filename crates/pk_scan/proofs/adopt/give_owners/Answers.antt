@@ -1,4 +1,3 @@
-use Rattle.std.proofs.Common.{sym, subst}
 use Rattle.pk_scan.proofs.Closing.{may_adopt_values}
 use Rattle.pk_scan.proofs.Owners.{has_owners}
 use Rattle.pk_scan.proofs.adopt.give_owners.Goals as goal

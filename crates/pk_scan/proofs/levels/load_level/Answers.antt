@@ -5,7 +5,7 @@ use Rattle.pk_run.specs.Kept.{Kept, empty}
 use Rattle.pk_pin.specs.Frames.{free_frames}
 use Rattle.pk_scan.specs.Runs.{AllExist, HasRun, NotRead}
 use Rattle.pk_nand.specs.Erased.{after_reads}
-use Rattle.pk_scan.proofs.Boards.{rest_reads, rest_not_read}
+use Rattle.pk_scan.proofs.Boards.{reads_none, rest_reads, rest_not_read}
 use Rattle.pk_scan.proofs.Loading.{size_some}
 use Rattle.pk_scan.proofs.Rereading.{pages_most}
 use Rattle.pk_scan.proofs.RootFacts.{level_few, level_blocks, level_exist}
@@ -55,6 +55,9 @@ returns-in-Err-load_run-clause-err g c =
     let is : c.in-Ok.run' ≡ empty c.args.root.now.shape c.args.level = rw c.shape.ensures at c.in-Ok.ensures.empty in
     let why = subst (λ (r : Kept). NotRead r.shape r.level c.entries-count.result c.blocks-blocks.result.now (g.B.Nand.state c.args.board.now) (g.B.Nand.state c.load_run.new.board) c.in-Err-load_run.error) is c.in-Err-load_run.ensures.err in
     rw c.opening_error.ensures (level_not_loaded c.args.root.now.shape c.args.root.now.root c.args.level c.entries-count.result c.blocks-blocks.result.now c.entries-count.ensures c.blocks-blocks.ensures (g.B.Nand.state c.args.board.now) (g.B.Nand.state c.load_run.new.board) c.in-Err-load_run.error why)
+
+pub returns-in-Err-clause-err : goal.returns-in-Err-clause-err
+returns-in-Err-clause-err g c = reads_none (g.B.Nand.state c.args.board.now)
 
 pub returns-in-Ok-load_run-clause-reads : goal.returns-in-Ok-load_run-clause-reads
 returns-in-Ok-load_run-clause-reads g c =

@@ -1,9 +1,8 @@
-use Rattle.std.proofs.Common.{◌≡◌, ◌+◌, ◌-◌, ℕ, ◌≤◌, List, length, subst, ap, arith, Some, length-append}
+use Rattle.std.proofs.Common.{◌≡◌, ◌+◌, ◌-◌, ℕ, List, length, subst, ap, arith, Some, length-append}
 use Rattle.std.specs.Prelude.{slice_get}
 use Rattle.std.specs.List.{concat}
 use Rattle.std.proofs.Common.{take}
-use Rattle.pk_scan.proofs.Listing.{run_few, run_listed, runs_few, all_runs_listed}
-use Rattle.pk_scan.proofs.Naming.{runs_are_four}
+use Rattle.pk_scan.proofs.Listing.{run_few, run_listed, runs_few}
 use Rattle.pk_scan.proofs.names.add_runs.Goals as goal
 
 pub add_all-requires : goal.add_all-requires

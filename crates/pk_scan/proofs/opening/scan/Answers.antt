@@ -1,6 +1,7 @@
-use Rattle.std.proofs.Common.{◌≡◌, ◌∙◌, ap, []}
+use Rattle.std.proofs.Common.{◌∙◌, ap, []}
 use Rattle.pk_level.specs.Levels.{Levels}
 use Rattle.pk_steps.specs.Under.{places}
+use Rattle.pk_scan.proofs.Boards.{reads_none}
 use Rattle.pk_scan.proofs.Whole.{held_behind, scan_opened, scan_reads, scan_refuses}
 use Rattle.pk_scan.proofs.opening.scan.Goals as goal
 
@@ -55,3 +56,6 @@ returns-in-Err-fill_values-clause-err g c =
     let held = held_behind c.args.shape c.in-Ok.memory.root.shape l.root c.in-Ok.ensures.root f.shape old now f.pages c.args.frames page l.active l.frozen epoch l.arena l.levels found f.held.1 in
     scan_refuses c.args.shape c.in-Ok.memory.root.shape l.root c.in-Ok.ensures.root f.shape old now f.pages c.args.frames page l.active l.frozen epoch l.arena l.levels found f.held.1 f.top f.few (_, f.reads)
     (g.B.Nand.state c.fill_values.new.board) c.in-Err-fill_values.error (c.in-Err-fill_values.ensures.err epoch found held)
+
+pub returns-in-Err-clause-err : goal.returns-in-Err-clause-err
+returns-in-Err-clause-err g c = reads_none (g.B.Nand.state c.args.board.now)

@@ -1,4 +1,4 @@
-use Rattle.std.proofs.Common.{◌≡◌, ◌⊎◌, inl, inr, ◌++◌, [], ◌∷◌, List, sym, subst}
+use Rattle.std.proofs.Common.{inl, inr, ◌++◌, [], ◌∷◌, sym, subst}
 use Rattle.std.proofs.lemmas.Bool.{cases_Bool}
 use Rattle.pk_live.specs.Values.{Values}
 use Rattle.pk_scan.specs.Lives.{Lives}

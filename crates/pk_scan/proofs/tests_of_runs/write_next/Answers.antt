@@ -1,4 +1,3 @@
-use Rattle.std.proofs.Common.{rules}
 use Rattle.pk_nand.proofs.Writing.{InOrder-next}
 use Rattle.pk_scan.proofs.tests_of_runs.write_next.Goals as goal
 

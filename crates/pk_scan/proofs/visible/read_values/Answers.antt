@@ -7,10 +7,9 @@ use Rattle.pk_scan.specs.Places.{place}
 use Rattle.pk_scan.specs.Accepted.{Accepted}
 use Rattle.pk_scan.specs.Opening.{PartNotOpened}
 use Rattle.pk_scan.specs.declared.errors.OpenError.{OpenError}
-use Rattle.pk_scan.proofs.RunsHeld.{reads_none, reads_both}
 use Rattle.pk_scan.proofs.ValuesHeld.{limit_few, few_taken, TakenTo-start, put_next, gone_next, none_next, place_next, TakenTo-next, TakenTo-refused, TakenTo-all, TakenTo-end}
 use Rattle.pk_scan.proofs.ValuesRead.{HaveRead, HaveRead-start, HaveRead-next, HaveRead-end}
-use Rattle.pk_scan.proofs.Boards.{rest_reads, rest_both}
+use Rattle.pk_scan.proofs.Boards.{reads_none, reads_both, rest_reads, rest_both}
 use Rattle.pk_scan.proofs.visible.read_values.Goals as goal
 
 pub overflow_add-keys-end : goal.overflow_add-keys-end

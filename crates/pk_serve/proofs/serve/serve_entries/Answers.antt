@@ -1,8 +1,8 @@
 use Rattle.std.proofs.Common.{◌≡◌, inl, inr, refl, ◌∙◌, ap, arith, true, false}
 use Rattle.pk_queue.specs.Queue.{bytes_of}
 use Rattle.pk_serve.specs.Input.{None_refused}
-use Rattle.pk_serve.specs.Run.{Told}
-use Rattle.pk_serve.proofs.Looping.{Looping-start, Looping-next, Finish-quits, none_taken, refused_on, accepted_on}
+use Rattle.pk_serve.specs.Run.{HasServed, ToldBy}
+use Rattle.pk_serve.proofs.Looping.{saying_served, Looping-refusing, Looping-start, Looping-next, Finish-quits, none_taken, refused_on, accepted_on}
 use Rattle.pk_serve.proofs.Blaming.{quiet-then, blames-then, blames-entry}
 use Rattle.pk_serve.proofs.Consuming.{consumed-none, consumed-next, consumes-entry, consumes-quits}
 use Rattle.pk_serve.proofs.serve.serve_entries.Goals as goal
@@ -18,7 +18,7 @@ loop-taken-init g c = record {
   in_faults = refl;
   quiet = record { output = refl; stop = refl };
   consumed = consumed-none _;
-  looping = λ shape frames start stands none. Looping-start shape frames start _ _ (bytes_of c.args.held.now.heads) (Told _ g.D.Engine.sight g.D.Engine.built shape frames) (ap bytes_of c.requires.none) stands none;
+  looping = λ shape frames start stands none. Looping-start shape frames start _ _ (bytes_of c.args.held.now.heads) (saying_served (HasServed _ g.D.Engine.sight g.D.Engine.agrees g.D.Engine.built shape frames)) (ap bytes_of c.requires.none) stands none;
 }
 
 pub loop-taken-preserved : goal.loop-taken-preserved
@@ -33,24 +33,28 @@ loop-taken-preserved g c =
       consumed = consumed-next _ _ _ c.loop-taken.taken c.loop-taken.invariant.consumed _ _ _ _ _ e.advances;
       looping = λ shape frames start stands none.
           let w = c.loop-taken.invariant.looping shape frames start stands none in
-          let T = Told _ g.D.Engine.sight g.D.Engine.built shape frames in
-          Looping-next shape frames start _ _ _ _ _ _ _ c.loop-taken.taken T w (omega arith) _ (accepted_on _ g.D.Engine.sight g.D.Engine.built shape frames w.m _ c.loop-taken.drive w.serving.stands) e.advances;
+          let T = saying_served (HasServed _ g.D.Engine.sight g.D.Engine.agrees g.D.Engine.built shape frames) in
+          Looping-next shape frames start _ _ _ _ _ _ _ c.loop-taken.taken T w (omega arith) _ (accepted_on _ g.D.Engine.sight g.D.Engine.agrees g.D.Engine.built shape frames w.m _ c.loop-taken.drive c.loop-taken.invariant.agrees w.serving.stands) e.advances;
     }
 
 pub returns-in-Err-clause-ends : goal.returns-in-Err-clause-ends
 returns-in-Err-clause-ends g c = λ shape frames start stands none.
     let e = c.in-Err.ensures in
-    let w = c.loop-taken.invariant.looping shape frames start stands none in
-    let T = Told _ g.D.Engine.sight g.D.Engine.built shape frames in
-    Finish-quits shape frames start _ _ _ _ _ _ _ c.loop-taken.taken T w (omega arith) _
-    (refused_on _ g.D.Engine.sight g.D.Engine.built shape frames w.m _ c.loop-taken.drive w.serving.stands) c.in-Err.end c.loop-taken.invariant.in_faults
-    (elim e.open [ inl f ↦ inl f | inr o ↦ inr (o.1, ap bytes_of o.2) ]) e.quits
+    let D = g.D.Engine in
+    let S = HasServed _ D.sight D.agrees D.built shape frames in
+    let T = ToldBy _ D.sight D.agrees D.built c.serve_next.new.drive shape frames in
+    let w = Looping-refusing shape frames start _ _ _ _ c.loop-taken.taken S (λ m r. D.built c.serve_next.new.drive r ≡ false) (c.loop-taken.invariant.looping shape frames start stands none) in
+    Finish-quits shape frames start _ _ (g.B.Nand.state c.serve_next.new.board) _ (D.sight c.serve_next.new.drive) _ (bytes_of c.serve_next.new.held.heads) c.loop-taken.taken T w (omega arith) _ c.in-Err.end c.loop-taken.invariant.in_faults
+    (elim e.open [ inl f ↦ inl f | inr o ↦ inr (refused_on _ D.built c.loop-taken.drive c.serve_next.new.drive S w.m o.1, ap D.sight o.1, ap bytes_of o.2) ]) e.quits
 
 pub returns-in-Err-take_entry-clause-ends : goal.returns-in-Err-take_entry-clause-ends
 returns-in-Err-take_entry-clause-ends g c = λ shape frames start stands none.
     let full : c.loop-taken.taken ≡ 4294967295 = omega arith in
-    let T = Told _ g.D.Engine.sight g.D.Engine.built shape frames in
-    none_taken shape frames start _ _ _ _ _ _ _ c.loop-taken.taken T (c.loop-taken.invariant.looping shape frames start stands none) true (λ _. inl full) (λ h. absurd (true_false h)) None_refused
+    let D = g.D.Engine in
+    let S = HasServed _ D.sight D.agrees D.built shape frames in
+    let T = ToldBy _ D.sight D.agrees D.built c.loop-taken.drive shape frames in
+    let w = Looping-refusing shape frames start _ _ _ _ c.loop-taken.taken S (λ m r. D.built c.loop-taken.drive r ≡ false) (c.loop-taken.invariant.looping shape frames start stands none) in
+    none_taken shape frames start _ _ _ _ _ _ _ c.loop-taken.taken T w true (λ _. inl full) (λ h. absurd (true_false h)) None_refused
     (λ entry h. absurd h) c.in-Err-take_entry.end c.loop-taken.invariant.in_faults refl refl c.in-Err-take_entry.ensures.err
 
 pub returns-in-Err-clause-blames : goal.returns-in-Err-clause-blames

@@ -5,7 +5,8 @@ use Rattle.pk_queue.specs.Queue.{bytes_of}
 use Rattle.pk_drive.specs.Drive.{Stands}
 use Rattle.pk_serve.specs.Ends.{NoFaults}
 use Rattle.pk_serve.specs.Script.{Consumed}
-use Rattle.pk_serve.specs.Run.{Looping, Told}
+use Rattle.pk_serve.specs.Run.{Looping, HasServed}
+use Rattle.pk_serve.proofs.Looping.{saying_served}
 use Rattle.pk_serve.proofs.serve.serve_entries.Given as goal
 
 abbrev pub invariant-loop-taken : goal.invariant-loop-taken
@@ -20,5 +21,5 @@ invariant-loop-taken g l =
       quiet : NoFaults a b;
       consumed : Consumed a b l.taken [];
       looping : (shape : Shape) (frames : ℕ) (start : Map) → Stands shape frames a (g.D.Engine.sight l.initial.drive) start → (g.D.Engine.sight l.initial.drive).pending ≡ []
-          → Looping shape frames start a b (g.D.Engine.sight l.drive) (bytes_of l.held.heads) l.taken (Told _ g.D.Engine.sight g.D.Engine.built shape frames);
+          → Looping shape frames start a b (g.D.Engine.sight l.drive) (bytes_of l.held.heads) l.taken (saying_served (HasServed _ g.D.Engine.sight g.D.Engine.agrees g.D.Engine.built shape frames));
     }
