@@ -17,12 +17,12 @@ module _ (shape : Shape) (old loaded new : BoardState) (none : Loaded old loaded
   make_gives : MakeFailed loaded new → GivesNothing old new
   make_gives failed = record { input = ap (λ (s : BoardState). s.input) failed ∙ ap (λ (s : BoardState). s.input) none.rest; posted = ap (λ (s : BoardState). s.posted) failed ∙ ap (λ (s : BoardState). s.posted) none.rest }
 
-  tells_refusal : (status : ℕ) (fault : LoadFault) → status ≡ load_status fault → ((at : ℕ) → fault ≡ BadImage at → ⊥) → (fault ≡ Fault → Rose loaded.flash_faults new.flash_faults) → MakeFailed loaded new → Tells old new status
-  tells_refusal status Fault is not_bad rose failed =
+  tells_refusal : (status : ℕ) (fault : LoadFault) → status ≡ load_status fault → ((at : ℕ) → fault ≡ BadImage at → ⊥) → (fault ≡ Fault → Rose loaded.flash_faults new.flash_faults) → (fault ≢ Fault → new.flash_faults ≡ loaded.flash_faults) → MakeFailed loaded new → Tells old new status
+  tells_refusal status Fault is not_bad rose same failed =
       let T : ℕ → Type 0 = λ n. Rose n new.flash_faults in
       tells_flash old new status is (inr (subst T (ap (λ (s : BoardState). s.flash_faults) none.rest) (rose refl), make_gives failed))
-  tells_refusal status (BadImage at) is not_bad rose failed = absurd (not_bad at refl)
-  tells_refusal status Memory is not_bad rose failed = tells_memory old new status is (make_gives failed)
+  tells_refusal status (BadImage at) is not_bad rose same failed = absurd (not_bad at refl)
+  tells_refusal status Memory is not_bad rose same failed = tells_memory old new status is (same (λ e. cc) ∙ ap (λ (s : BoardState). s.flash_faults) none.rest) (make_gives failed)
 
   tells_image : (status : ℕ) → MadeImage shape loaded new status → Tells old new status
   tells_image status m = elim m.formats [
@@ -33,11 +33,11 @@ module _ (shape : Shape) (old loaded new : BoardState) (none : Loaded old loaded
   ]
 
   tells_makes : (status : ℕ) → Makes shape loaded new status → Tells old new status
-  tells_makes status (inl r) = tells_refusal status r.fault r.tells r.not_bad r.rose r.failed
+  tells_makes status (inl r) = tells_refusal status r.fault r.tells r.not_bad r.rose r.same r.failed
   tells_makes status (inr m) = tells_image status m
 
 pub tells_make : (shape : Shape) (old new : BoardState) (status : ℕ) → MakeRun shape old new status → Tells old new status
-tells_make shape old new status (inl none) = tells_memory old new status none.0 (gives_same old new none.1)
+tells_make shape old new status (inl none) = tells_memory old new status none.0 (ap (λ (s : BoardState). s.flash_faults) none.1) (gives_same old new none.1)
 tells_make shape old new status (inr (inl refused)) = tells_refused old new status refused
 tells_make shape old new status (inr (inr (inl there))) =
     tells_made old new status there.tells (some_shape there.shape new.shape there.found.shape_is) (load_untouched old new (Some there.shape) there.found)

@@ -16,7 +16,7 @@ use Rattle.pk_model.proofs.Histories.{histories}
 use Rattle.pk_serve.proofs.Counting.{at_most-zero}
 use Rattle.pk_top.specs.Serves.{ServeRun, ServesFound}
 use Rattle.pk_top.specs.Sessions.{ServedRun, IsRun, session_of, RunOn, KeptThroughRuns}
-use Rattle.pk_top.proofs.Telling.{load_untouched, refused_untouched}
+use Rattle.pk_top.proofs.Telling.{load_untouched}
 
 -- the marks that a trail tells are those that it grew by
 same_marks : (told : Option (List Mark)) (before xs ys : List Mark) → told ≡ Some before → longer told ys ≡ Some (before ++ xs) → xs ≡ ys
@@ -76,7 +76,7 @@ module _ (shape : Shape) (r : ServedRun) (is : IsRun shape r) where
 
   sound_by : ServeRun r.frames r.old r.new r.status → IsSound shape (session_of r)
   sound_by (inl none) = sound_untouched (ap (λ (s : BoardState). s.trail) none.1)
-  sound_by (inr (inl refused)) = sound_untouched (refused_untouched r.old r.new refused.failed).trail
+  sound_by (inr (inl refused)) = sound_untouched (ap (λ (s : BoardState). s.trail) refused.failed.rest)
   sound_by (inr (inr (inl missing))) = sound_untouched (load_untouched r.old r.new None missing.1).trail
   sound_by (inr (inr (inr found))) = sound_found found
 

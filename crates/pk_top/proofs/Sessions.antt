@@ -23,6 +23,7 @@ use Rattle.pk_scan.specs.Opened.{OnlyReading}
 use Rattle.pk_scan.specs.Opening.{NotOpened}
 use Rattle.pk_scan.specs.declared.errors.OpenError.{OpenError}
 use Rattle.pk_core.specs.Parts.{Parts, sight_of, is_built}
+use Rattle.pk_core.specs.Agreeing.{AgreesBetween}
 use Rattle.pk_top.specs.Ends.{end_status, open_status}
 use Rattle.pk_top.specs.Serves.{KeptFrom, Serves, behind_opening}
 
@@ -88,7 +89,7 @@ module _ (shape : Shape) (frames : ℕ) (loaded new : BoardState) (drive : Sight
   serves-to : (status : ℕ) (end : End) → status ≡ end_status end
       → Blames (behind_opening shape frames loaded) new end → SaysOfScript (behind_opening shape frames loaded) new end
       → KeepsScriptOf (behind_opening shape frames loaded) new drive → KeepsSomeOf (behind_opening shape frames loaded) new drive
-      → Answers (behind_opening shape frames loaded) new drive (Told Parts sight_of is_built) end → Causes (behind_opening shape frames loaded) new drive (Told Parts sight_of is_built) end
+      → Answers (behind_opening shape frames loaded) new drive (Told Parts sight_of AgreesBetween is_built new) end → Causes (behind_opening shape frames loaded) new drive (Told Parts sight_of AgreesBetween is_built new) end
       → Serves shape frames loaded new status
   serves-to status end tells blames says kept kept_untold served causes =
       let some = kept_untold shape frames start stands none in
@@ -112,7 +113,7 @@ module _ (shape : Shape) (frames : ℕ) (loaded new : BoardState) (drive : Sight
 pub Serves-opened : (shape : Shape) (frames : ℕ) (loaded opened_board new : BoardState) (drive : Sight) (status : ℕ) (end : End)
     → opened_board ≡ behind_opening shape frames loaded → ((m : Map) × Stands shape frames opened_board drive m) → drive.pending ≡ [] → status ≡ end_status end
     → Blames opened_board new end → SaysOfScript opened_board new end → KeepsScriptOf opened_board new drive → KeepsSomeOf opened_board new drive
-    → Answers opened_board new drive (Told Parts sight_of is_built) end → Causes opened_board new drive (Told Parts sight_of is_built) end
+    → Answers opened_board new drive (Told Parts sight_of AgreesBetween is_built new) end → Causes opened_board new drive (Told Parts sight_of AgreesBetween is_built new) end
     → Serves shape frames loaded new status
 Serves-opened shape frames loaded opened_board new drive status end is stands none tells blames says kept kept_untold served causes =
     let T : BoardState → Type 0 = λ b. (m : Map) × Stands shape frames b drive m in
@@ -120,7 +121,7 @@ Serves-opened shape frames loaded opened_board new drive status end is stands no
     let S : BoardState → Type 0 = λ b. SaysOfScript b new end in
     let K : BoardState → Type 0 = λ b. KeepsScriptOf b new drive in
     let U : BoardState → Type 0 = λ b. KeepsSomeOf b new drive in
-    let A : BoardState → Type 0 = λ b. Answers b new drive (Told Parts sight_of is_built) end in
-    let C : BoardState → Type 0 = λ b. Causes b new drive (Told Parts sight_of is_built) end in
+    let A : BoardState → Type 0 = λ b. Answers b new drive (Told Parts sight_of AgreesBetween is_built new) end in
+    let C : BoardState → Type 0 = λ b. Causes b new drive (Told Parts sight_of AgreesBetween is_built new) end in
     let at : T (behind_opening shape frames loaded) = subst T is stands in
     serves-to shape frames loaded new drive at.0 at.1 none status end tells (subst B is blames) (subst S is says) (subst K is kept) (subst U is kept_untold) (subst A is served) (subst C is causes)

@@ -12,7 +12,7 @@ use Rattle.pk_serve.specs.Ends.{Blames}
 use Rattle.pk_serve.specs.declared.end.End.{End}
 use Rattle.pk_serve.specs.declared.end.End.TheVariants.{Done, Truncated, Input, Output, Flash, Worn, NotBuilt}
 use Rattle.pk_scan.specs.Opened.{OnlyReading}
-use Rattle.pk_scan.specs.Opening.{NotOpened}
+use Rattle.pk_scan.specs.Opening.{NotOpened, OnlyReads}
 use Rattle.pk_scan.specs.declared.errors.OpenError.{OpenError}
 use Rattle.pk_scan.specs.declared.errors.OpenError.TheVariants.{NotFormatted, Damaged, Fault as ReadFault, Memory as NoMemory}
 use Rattle.pk_top.specs.Ends.{end_status, open_status}
@@ -66,13 +66,13 @@ tells_flash old new status is failed = record {
   made = λ e. absurd (omega arith);
 }
 
-pub tells_memory : (old new : BoardState) (status : ℕ) → status ≡ 7 → GivesNothing old new → Tells old new status
-tells_memory old new status is gives = record {
+pub tells_memory : (old new : BoardState) (status : ℕ) → status ≡ 7 → new.flash_faults ≡ old.flash_faults → GivesNothing old new → Tells old new status
+tells_memory old new status is sound gives = record {
   no_words = λ e. absurd (omega arith);
   input = λ e. absurd (omega arith);
   output = λ e. absurd (omega arith);
   flash = λ e. absurd (omega arith);
-  memory = λ e. gives;
+  memory = λ e. (sound, gives);
   no_drive = λ e. absurd (omega arith);
   made = λ e. absurd (omega arith);
 }
@@ -104,7 +104,7 @@ pub gives_same : (old new : BoardState) → new ≡ old → GivesNothing old new
 gives_same old new same = record { input = ap (λ (s : BoardState). s.input) same; posted = ap (λ (s : BoardState). s.posted) same }
 
 pub untouched_same : (old new : BoardState) → new ≡ old → Untouched old new
-untouched_same old new same = record { gives = gives_same old new same; trail = ap (λ (s : BoardState). s.trail) same; held = λ some. (ap (λ (s : BoardState). s.pages) same, ap (λ (s : BoardState). s.shape) same) }
+untouched_same old new same = record { gives = gives_same old new same; trail = ap (λ (s : BoardState). s.trail) same; sound = ap (λ (s : BoardState). s.flash_faults) same; held = λ some. (ap (λ (s : BoardState). s.pages) same, ap (λ (s : BoardState). s.shape) same) }
 
 -- ---- a load
 
@@ -112,18 +112,27 @@ pub load_gives : (old new : BoardState) (found : Option Shape) → Loaded old ne
 load_gives old new found l = record { input = ap (λ (s : BoardState). s.input) l.rest; posted = ap (λ (s : BoardState). s.posted) l.rest }
 
 pub load_untouched : (old new : BoardState) (found : Option Shape) → Loaded old new found → Untouched old new
-load_untouched old new found l = record { gives = load_gives old new found l; trail = ap (λ (s : BoardState). s.trail) l.rest; held = l.held }
+load_untouched old new found l = record { gives = load_gives old new found l; trail = ap (λ (s : BoardState). s.trail) l.rest; sound = ap (λ (s : BoardState). s.flash_faults) l.rest; held = l.held }
 
-pub refused_untouched : (old new : BoardState) → LoadFailed old new → Untouched old new
-refused_untouched old new l = record { gives = record { input = ap (λ (s : BoardState). s.input) l.rest; posted = ap (λ (s : BoardState). s.posted) l.rest }; trail = ap (λ (s : BoardState). s.trail) l.rest; held = l.held }
+refused_gives : (old new : BoardState) → LoadFailed old new → GivesNothing old new
+refused_gives old new l = record { input = ap (λ (s : BoardState). s.input) l.rest; posted = ap (λ (s : BoardState). s.posted) l.rest }
+
+refused_untouched : (old new : BoardState) → new.flash_faults ≡ old.flash_faults → LoadFailed old new → Untouched old new
+refused_untouched old new sound l = record { gives = refused_gives old new l; trail = ap (λ (s : BoardState). s.trail) l.rest; sound = sound; held = l.held }
+
+-- a load that wants memory
+wants_sound : (old new : BoardState) (fault : LoadFault) → load_status fault ≡ 7 → HasReason old new fault → new.flash_faults ≡ old.flash_faults
+wants_sound old new Fault wants reason = absurd (omega arith)
+wants_sound old new (BadImage at) wants reason = absurd (omega arith)
+wants_sound old new Memory wants reason = reason
 
 some_bad : (at : ℕ) (bad : Option ℕ) → bad ≡ Some at → IsSome bad
 some_bad at bad e = let T : Option ℕ → Type 0 = IsSome in subst T (sym e) refl
 
 tells_fault : (old new : BoardState) (status : ℕ) (fault : LoadFault) → status ≡ load_status fault → HasReason old new fault → LoadFailed old new → Tells old new status
-tells_fault old new status Fault is reason failed = tells_flash old new status is (inr (reason, (refused_untouched old new failed).gives))
-tells_fault old new status (BadImage at) is reason failed = tells_no_drive old new status is (inr (inl (some_bad at new.bad reason.1))) (refused_untouched old new failed)
-tells_fault old new status Memory is reason failed = tells_memory old new status is (refused_untouched old new failed).gives
+tells_fault old new status Fault is reason failed = tells_flash old new status is (inr (reason, refused_gives old new failed))
+tells_fault old new status (BadImage at) is reason failed = tells_no_drive old new status is (inr (inl (some_bad at new.bad reason.1))) (refused_untouched old new reason.0 failed)
+tells_fault old new status Memory is reason failed = tells_memory old new status is reason (refused_gives old new failed)
 
 pub tells_refused : (old new : BoardState) (status : ℕ) → LoadRefused old new status → Tells old new status
 tells_refused old new status r = tells_fault old new status r.fault r.tells r.reason r.failed
@@ -131,10 +140,14 @@ tells_refused old new status r = tells_fault old new status r.fault r.tells r.re
 -- ---- a drive that was not opened
 
 module _ (shape : Shape) (old loaded new : BoardState) (found : Loaded old loaded (Some shape)) where
-  reads_untouched : OnlyReading loaded new → Untouched old new
-  reads_untouched only = record {
+  reads_gives : OnlyReading loaded new → GivesNothing old new
+  reads_gives only = record { input = ap (λ (s : BoardState). s.input) only ∙ ap (λ (s : BoardState). s.input) found.rest; posted = ap (λ (s : BoardState). s.posted) only ∙ ap (λ (s : BoardState). s.posted) found.rest }
+
+  reads_untouched : OnlyReads loaded new → Untouched old new
+  reads_untouched (n, only) = record {
     gives = record { input = ap (λ (s : BoardState). s.input) only ∙ ap (λ (s : BoardState). s.input) found.rest; posted = ap (λ (s : BoardState). s.posted) only ∙ ap (λ (s : BoardState). s.posted) found.rest };
     trail = ap (λ (s : BoardState). s.trail) only ∙ ap (λ (s : BoardState). s.trail) found.rest;
+    sound = ap (λ (s : BoardState). s.flash_faults) only ∙ ap (λ (s : BoardState). s.flash_faults) found.rest;
     held = λ some. (ap (λ (s : BoardState). s.pages) only ∙ (found.held some).0, ap (λ (s : BoardState). s.shape) only ∙ (found.held some).1);
   }
 
@@ -144,12 +157,18 @@ module _ (shape : Shape) (old loaded new : BoardState) (found : Loaded old loade
       inr (inr (shape, refusal, ap (λ (s : BoardState). s.shape) only ∙ found.shape_is, subst T (sym (ap (λ (s : BoardState). s.pages) only)) refuses))
 
   tells_not : (status : ℕ) (error : OpenError) → status ≡ open_status error → NotOpened shape loaded new error → OnlyReading loaded new → Tells old new status
-  tells_not status NotFormatted is reason only = tells_no_drive old new status is (holds_none not_formatted only reason) (reads_untouched only)
-  tells_not status (Damaged page) is reason only = tells_no_drive old new status is (holds_none (damaged page) only reason) (reads_untouched only)
+  tells_not status NotFormatted is reason only = tells_no_drive old new status is (holds_none not_formatted only reason.0) (reads_untouched reason.1)
+  tells_not status (Damaged page) is reason only = tells_no_drive old new status is (holds_none (damaged page) only reason.0) (reads_untouched reason.1)
   tells_not status ReadFault is reason only =
       let T : ℕ → Type 0 = λ n. Rose n new.flash_faults in
-      tells_flash old new status is (inr (subst T (ap (λ (s : BoardState). s.flash_faults) found.rest) reason.0, (reads_untouched only).gives))
-  tells_not status NoMemory is reason only = tells_memory old new status is (reads_untouched only).gives
+      tells_flash old new status is (inr (subst T (ap (λ (s : BoardState). s.flash_faults) found.rest) reason.0, reads_gives only))
+  tells_not status NoMemory is reason only = tells_memory old new status is (reads_untouched reason).sound (reads_gives only)
+
+  wants_untouched : (error : OpenError) → open_status error ≡ 7 → NotOpened shape loaded new error → Untouched old new
+  wants_untouched NotFormatted wants reason = absurd (omega arith)
+  wants_untouched (Damaged page) wants reason = absurd (omega arith)
+  wants_untouched ReadFault wants reason = absurd (omega arith)
+  wants_untouched NoMemory wants reason = reads_untouched reason
 
   -- ---- a drive that was opened
 
@@ -180,20 +199,20 @@ module _ (shape : Shape) (old loaded new : BoardState) (found : Loaded old loade
 
   memory_serves : (frames status : ℕ) → Serves shape frames loaded new status → status ≡ 7 → Untouched old new
   memory_serves frames status s is = elim s.outcome [
-    | inl n ↦ reads_untouched n.only_reads
+    | inl n ↦ wants_untouched n.error (sym n.tells ∙ is) n.reason
     | inr e ↦ absurd (end_memory e.0 (sym e.1 ∙ is))
   ]
 
 -- ---- the word
 
 pub tells_serve : (frames : ℕ) (old new : BoardState) (status : ℕ) → ServeRun frames old new status → Tells old new status
-tells_serve frames old new status (inl none) = tells_memory old new status none.0 (gives_same old new none.1)
+tells_serve frames old new status (inl none) = tells_memory old new status none.0 (ap (λ (s : BoardState). s.flash_faults) none.1) (gives_same old new none.1)
 tells_serve frames old new status (inr (inl refused)) = tells_refused old new status refused
 tells_serve frames old new status (inr (inr (inl missing))) = tells_no_drive old new status missing.0 (inl missing.1.shape_is) (load_untouched old new None missing.1)
 tells_serve frames old new status (inr (inr (inr found))) = tells_serves found.shape old found.loaded new found.found frames status found.serves
 
 pub memory_serve : (frames : ℕ) (old new : BoardState) (status : ℕ) → ServeRun frames old new status → status ≡ 7 → Untouched old new
 memory_serve frames old new status (inl none) is = untouched_same old new none.1
-memory_serve frames old new status (inr (inl refused)) is = refused_untouched old new refused.failed
+memory_serve frames old new status (inr (inl refused)) is = refused_untouched old new (wants_sound old new refused.fault (sym refused.tells ∙ is) refused.reason) refused.failed
 memory_serve frames old new status (inr (inr (inl missing))) is = load_untouched old new None missing.1
 memory_serve frames old new status (inr (inr (inr found))) is = memory_serves found.shape old found.loaded new found.found frames status found.serves is

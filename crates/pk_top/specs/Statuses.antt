@@ -11,10 +11,12 @@ pub record GivesNothing (old new : BoardState) : Type 0 where
   pub input : new.input ≡ old.input
   pub posted : new.posted ≡ old.posted
 
--- Nothing was taken or posted, and nothing programmed or erased; a board that held its pages from the start holds them still.
+-- Nothing was taken or posted, nothing was programmed or erased, and no call of the flash failed; a board that held its pages from the start
+-- holds them still.
 pub record Untouched (old new : BoardState) : Type 0 where
   pub gives : GivesNothing old new
   pub trail : new.trail ≡ old.trail
+  pub sound : new.flash_faults ≡ old.flash_faults
   pub held : IsSome old.shape → (new.pages ≡ old.pages) × (new.shape ≡ old.shape)
 
 -- A program or an erase failed; or a call of the flash failed before anything was taken or posted.
@@ -32,7 +34,7 @@ pub record Tells (old new : BoardState) (status : ℕ) : Type 0 where
   pub input : status ≡ 4 → Rose old.in_faults new.in_faults
   pub output : status ≡ 5 → Rose old.out_faults new.out_faults
   pub flash : status ≡ 6 → FlashFailed old new
-  pub memory : status ≡ 7 → GivesNothing old new
+  pub memory : status ≡ 7 → (new.flash_faults ≡ old.flash_faults) × GivesNothing old new
   pub no_drive : status ≡ 8 → HasNoDrive new × Untouched old new
   pub made : status ≡ 9 → IsSome new.shape × Untouched old new
 

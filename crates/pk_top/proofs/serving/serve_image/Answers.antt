@@ -7,7 +7,7 @@ use Rattle.pk_top.proofs.serving.serve_image.Goals as goal
 pub returns-in_default : goal.returns-in_default
 returns-in_default g c =
     let board = g.B.Nand.state c.args.board.now in
-    Serves-not c.args.shape c.args.frames board board 7 Memory refl tt refl
+    Serves-not c.args.shape c.args.frames board board 7 Memory refl (0, refl) refl
 
 pub returns-in-Ok-open : goal.returns-in-Ok-open
 returns-in-Ok-open g c =
