@@ -1,20 +1,17 @@
 -- A command that is refused by the checks that read it alone.
-use Rattle.std.proofs.Common.{◌≡◌, inl, ℕ, ◌≤◌, refl, sym, ap, subst, ◌∙◌, arith, List, [], take, Option, Some, None, unwrap_or}
-use Rattle.std.specs.Prelude.{IsSome}
+use Rattle.std.proofs.Common.{◌≡◌, inl, ℕ, refl, sym, ap, ◌∙◌, arith, Some}
 use Rattle.pk_base.specs.Shape.{Shape, limit}
 use Rattle.pk_base.specs.Map.{Map}
 use Rattle.pk_nvme.specs.Command.{Command}
-use Rattle.pk_nvme.specs.Reply.{Reply, refusal}
+use Rattle.pk_nvme.specs.Reply.{refusal}
 use Rattle.pk_nand.specs.BoardState.{BoardState, shape_of as shape_told, shape_or_none}
-use Rattle.pk_model.specs.Answer.{early, kind, retrieve}
-use Rattle.pk_model.specs.Run.{Step}
+use Rattle.pk_model.specs.Answer.{early}
 use Rattle.pk_model.proofs.Answering.{refuses_early}
 use Rattle.pk_drive.specs.Drive.{Stands}
 use Rattle.pk_drive.specs.Exec.{Executed}
 use Rattle.pk_core.specs.Parts.{Parts, sight_of}
 use Rattle.pk_core.specs.Agreeing.{Agrees}
 use Rattle.pk_core.specs.Quiet.{eleven}
-use Rattle.pk_core.specs.Moves.{StandsFor}
 use Rattle.pk_core.proofs.Standing.{stands_for}
 
 -- the board has the drive's shape

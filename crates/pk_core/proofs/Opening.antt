@@ -1,5 +1,5 @@
 -- What opening found makes a drive that agrees with the flash.
-use Rattle.std.proofs.Common.{◌≡◌, ℕ, ◌+◌, ◌-◌, ◌/◌, ◌<◌, ◌≤◌, Option, Some, List, [], false, None, length, refl, sym, ap, subst, ◌∙◌, arith}
+use Rattle.std.proofs.Common.{◌≡◌, ℕ, ◌<◌, ◌≤◌, Some, List, [], false, length, refl, sym, ap, subst, ◌∙◌, arith}
 use Rattle.pk_base.specs.Shape.{Shape, IsShape, page_entries}
 use Rattle.pk_base.specs.Page.{Flash, IsFlash}
 use Rattle.pk_base.specs.Entry.{Entry, Place}

@@ -1,5 +1,5 @@
 -- How a drive stands to its flash.
-use Rattle.std.specs.Prelude.{◌≡◌, ℕ, ◌/◌, ◌<◌, List, [], ◌∷◌, ◌++◌, length, Option, Some, slice_get}
+use Rattle.std.specs.Prelude.{◌≡◌, ℕ, ◌/◌, ◌<◌, [], ◌++◌, length, Option, Some, slice_get}
 use Rattle.std.specs.List.{concat}
 use Rattle.pk_base.specs.Shape.{Shape, page_entries, pinned}
 use Rattle.pk_base.specs.Page.{Flash, IsFlash}

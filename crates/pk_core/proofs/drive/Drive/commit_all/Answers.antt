@@ -1,4 +1,4 @@
-use Rattle.std.proofs.Common.{ap, sym, ◌∙◌}
+use Rattle.std.proofs.Common.{ap, ◌∙◌}
 use Rattle.pk_nand.specs.BoardState.{BoardState}
 use Rattle.pk_core.proofs.Standing.{stands_for, stands_here, still_stands, agrees_so}
 use Rattle.pk_core.proofs.Building.{still_unbuilt}
