@@ -1,5 +1,5 @@
 -- Over a flash on which nothing is written but roots, a drive serves every request.
-use Rattle.std.proofs.Common.{◌≡◌, inl, inr, ℕ, zero, suc, ◌+◌, ◌-◌, ◌*◌, ◌/◌, ◌%◌, ◌<◌, ◌≤◌, refl, sym, ap, subst, ◌∙◌, arith, Bool, true, false, not, ◌&&◌, ◌||◌, ◌==◌, cond, T, List, [], ◌∷◌, ◌++◌, length, nat_le, nat_lt, Option, Some, None, Ok, zero-mul, mul-le-mul_right, div-add-mod', mod-lt, leb→le}
+use Rattle.std.proofs.Common.{◌≡◌, inl, inr, ℕ, suc, ◌+◌, ◌-◌, ◌*◌, ◌/◌, ◌%◌, ◌<◌, ◌≤◌, refl, sym, ap, subst, ◌∙◌, arith, Bool, true, false, not, ◌&&◌, ◌||◌, ◌==◌, cond, T, List, [], ◌∷◌, ◌++◌, length, nat_le, nat_lt, Option, Some, None, Ok, zero-mul, mul-le-mul_right, div-add-mod', mod-lt, leb→le}
 use Rattle.std.specs.Prelude.{slice_get, MatchOption}
 use Rattle.std.specs.List.{list_all, concat}
 use Rattle.std.proofs.Math.ListN.{set}
@@ -24,7 +24,7 @@ use Rattle.pk_plan.specs.declared.owner.Owner.TheVariants.{Journal, Meta, Values
 use Rattle.pk_rootfmt.specs.Root.{Root, is_root}
 use Rattle.pk_pool.specs.declared.state.BlockState.{BlockState}
 use Rattle.pk_pool.specs.declared.state.BlockState.TheVariants.{Root as root_block, Free, Ready, Owned}
-use Rattle.pk_pool.specs.Blocks.{Blocks, IsShared, is_owned_by, used_by}
+use Rattle.pk_pool.specs.Blocks.{Blocks, is_owned_by, used_by}
 use Rattle.pk_pool.proofs.States.{get-set_other, get-set_same}
 use Rattle.pk_pool.proofs.Sharing.{used_given}
 use Rattle.pk_pool.proofs.Fitting.{apart, block_of}
@@ -134,13 +134,12 @@ and_false : (a b : Bool) → b ≡ false → (a && b) ≡ false
 and_false true b is = is
 and_false false b is = refl
 
-module _ (shape : Shape) (space : DataState) (pool : Blocks) (flash : Flash) (es : List (Key × Place)) (placed : Placed shape space pool flash es) (fresh : IsFresh shape flash)
-    (behind : (b : ℕ) → HoldsValues pool b → 2 ≤ b) where
+module _ (shape : Shape) (space : DataState) (pool : Blocks) (flash : Flash) (es : List (Key × Place)) (placed : Placed shape space pool flash es) (fresh : IsFresh shape flash) where
   only_open : (b : ℕ) → HoldsValues pool b → IsNotOpen space.open_block b → ⊥
   only_open b held other =
       let page = placed.filled b held other in
       let exists : b < shape.blocks = omega (arith, slice_get_within pool.states b (Owned for_values) held, placed.size) in
-      page.2 (page_erased shape flash placed.is_shape fresh b page.0 page.1 (behind b held) exists)
+      page.2 (page_erased shape flash placed.is_shape fresh b page.0 page.1 (placed.behind_roots b held) exists)
 
   no_reclaim : (count : ℕ) → needs_reclaim shape space pool count ≡ false
   no_reclaim count =
@@ -163,8 +162,7 @@ built_of d r second reclaim (Some status) = refl
 built_of d r second reclaim None =
     neither (r.opcode == 0x01 || r.opcode == 0x10) (wants_second_freeze d) (r.opcode == 0x01) (needs_reclaim d.log.shape d.space d.pool (charge d.log.shape r.size)) second (reclaim (charge d.log.shape r.size))
 
-module _ (shape : Shape) (d : Parts) (flash : Flash) (top : ℕ × Root) (found : Found) (without all : Map) (a : AgreesWith d shape flash top found without all) (fresh : IsFresh shape flash)
-    (behind : (b : ℕ) → HoldsValues d.pool b → 2 ≤ b) where
+module _ (shape : Shape) (d : Parts) (flash : Flash) (top : ℕ × Root) (found : Found) (without all : Map) (a : AgreesWith d shape flash top found without all) (fresh : IsFresh shape flash) where
   valid : T (is_root shape top.1)
   valid = root_valid shape (page_at flash top.0) top.1 (newest_sound shape (page_at flash) top a.committed.is_top).there
 
@@ -175,19 +173,13 @@ module _ (shape : Shape) (d : Parts) (flash : Flash) (top : ℕ × Root) (found 
       ap (λ (t : Table). nat_le 1 (length t.entries) && (nat_le (buffer d.log.shape) (length d.log.active.entries) || left_of d.log.epoch == 0)) frozen
 
   reclaims_none : (count : ℕ) → needs_reclaim d.log.shape d.space d.pool count ≡ false
-  reclaims_none count = ap (λ s. needs_reclaim s d.space d.pool count) a.shape_is ∙ no_reclaim shape d.space d.pool flash _ a.placed fresh behind count
+  reclaims_none count = ap (λ s. needs_reclaim s d.space d.pool count) a.shape_is ∙ no_reclaim shape d.space d.pool flash _ a.placed fresh count
 
   pub serves_all : (r : Request) → is_built d r ≡ true
   serves_all r = built_of d r no_second reclaims_none (early d.log.shape (command_of r []))
 
--- the root blocks are none for values
-behind_roots : (shape : Shape) (pool : Blocks) → IsShared shape pool.states → (b : ℕ) → HoldsValues pool b → 2 ≤ b
-behind_roots shape pool shared zero held = let clash : root_block ≡ Owned for_values = same_Some root_block (Owned for_values) (sym shared.first ∙ held) in cc
-behind_roots shape pool shared (suc zero) held = let clash : root_block ≡ Owned for_values = same_Some root_block (Owned for_values) (sym shared.second ∙ held) in cc
-behind_roots shape pool shared (suc (suc b)) held = omega arith
-
 pub fresh_serves : FreshServes
-fresh_serves shape d flash between shared fresh =
+fresh_serves shape d flash between fresh =
     let a : Agrees d (Some shape) flash = between.0 in
     let same : shape ≡ a.shape = same_Some shape a.shape a.told_is in
-    serves_all a.shape d flash a.top a.found a.without a.all a.with (subst (λ s. IsFresh s flash) same fresh) (behind_roots shape d.pool shared)
+    serves_all a.shape d flash a.top a.found a.without a.all a.with (subst (λ s. IsFresh s flash) same fresh)

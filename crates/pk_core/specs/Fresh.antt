@@ -3,7 +3,6 @@ use Rattle.std.specs.Prelude.{◌≡◌, ℕ, ◌*◌, ◌<◌, ◌≤◌, true,
 use Rattle.pk_base.specs.Shape.{Shape, page_count}
 use Rattle.pk_base.specs.Page.{Flash, page_at, erased}
 use Rattle.pk_nvme.specs.declared.request.Request.{Request}
-use Rattle.pk_pool.specs.Blocks.{IsShared}
 use Rattle.pk_core.specs.Parts.{Parts, is_built}
 use Rattle.pk_core.specs.Agreeing.{AgreesBetween}
 
@@ -11,8 +10,6 @@ use Rattle.pk_core.specs.Agreeing.{AgreesBetween}
 abbrev pub IsFresh : Shape → Flash → Type 0
 IsFresh shape flash = (k : ℕ) → 2 * shape.block_pages ≤ k → k < page_count shape → page_at flash k ≡ erased
 
--- Over such a flash, a drive that agrees with it serves every request, where its pool shares out the blocks.
+-- Over such a flash, a drive that agrees with it serves every request.
 abbrev pub FreshServes : Type 0
-FreshServes =
-    (shape : Shape) (d : Parts) (flash : Flash) → AgreesBetween d (Some shape) flash → IsShared shape d.pool.states → IsFresh shape flash
-    → (r : Request) → is_built d r ≡ true
+FreshServes = (shape : Shape) (d : Parts) (flash : Flash) → AgreesBetween d (Some shape) flash → IsFresh shape flash → (r : Request) → is_built d r ≡ true

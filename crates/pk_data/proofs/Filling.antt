@@ -173,6 +173,7 @@ module _ (shape : Shape) (pool : Blocks) (flash flash' : Flash) (b : ℕ) (spare
         closed_size = closed_size d.live.closed d.open_block ∙ p.closed_size;
         closed_owned = closed_owned d.live.closed d.open_block p.closed_owned p.open_is;
         owned_closed = owned_closed d.live.closed d.open_block p.closed_size p.owned_closed p.open_is;
+        behind_roots = λ c held. elim (cases_eq c b) [ inl e ↦ subst (λ k. 2 ≤ k) (sym e) low | inr ne ↦ p.behind_roots c (was c ne held) ];
         filled = filled d.open_block begun pages p.filled p.open_is;
         open_is = record {
           owned = taken;
@@ -205,6 +206,7 @@ wrote shape live (Some o) pool old new es count p room w = record {
   closed_size = p.closed_size;
   closed_owned = p.closed_owned;
   owned_closed = p.owned_closed;
+  behind_roots = p.behind_roots;
   filled = λ b held other. let page = p.filled b held other in (page.0, page.1, λ e. page.2 (sym (outside_page page.0 (λ here. other (sym page.1 ∙ here))) ∙ e));
   open_is = record {
     owned = open_is.owned;

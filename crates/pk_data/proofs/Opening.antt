@@ -1,8 +1,8 @@
 -- Values as they are found at opening.
-use Rattle.std.proofs.Common.{◌≡◌, inl, inr, ℕ, ◌+◌, ◌-◌, ◌/◌, ◌<◌, ◌≤◌, true, false, T, List, [], ◌∷◌, ◌==◌, length, filter, get_or, map, Some, refl, sym, ap, subst, ◌∙◌, arith}
+use Rattle.std.proofs.Common.{◌≡◌, inl, inr, ℕ, ◌+◌, ◌-◌, ◌*◌, ◌/◌, ◌%◌, ◌<◌, ◌≤◌, true, false, T, List, [], ◌∷◌, ◌==◌, length, filter, get_or, map, Some, refl, sym, ap, subst, ◌∙◌, arith, div-add-mod', mod-lt, mul-le-mul_right}
 use Rattle.std.specs.Prelude.{slice_get}
 use Rattle.std.specs.List.{list_any, range_with_len, AllByRecursion}
-use Rattle.std.proofs.lemmas.Bool.{false≢true, cases_Bool, or_cases, or_left, or_right, eqb-true, eq-eqb, false_from_ne_true}
+use Rattle.std.proofs.lemmas.Bool.{false≢true, cases_Bool, cases_lt, or_cases, or_left, or_right, eqb-true, eq-eqb, false_from_ne_true}
 use Rattle.std.proofs.lemmas.List.FromFn.{length-map-range_with_len, get_or-map-range_with_len}
 use Rattle.std.proofs.lemmas.Option.{slice_get-get_or, slice_get_within, same_Some}
 use Rattle.pk_base.specs.Key.{Key}
@@ -35,6 +35,26 @@ page_exists shape is_shape (e ∷ es) k places (inl here) =
     let same : e.1.page + (k - e.1.page) ≡ k = omega (arith, low) in
     subst (λ p. p < page_count shape) same (value_exists shape e.1 (k - e.1.page) is_shape places.0 (omega (arith, here.0, here.1)))
 page_exists shape is_shape (e ∷ es) k places (inr there) = page_exists shape is_shape es k places.1 there
+
+-- and lies behind the root blocks
+page_behind : (shape : Shape) (es : List (Key × Place)) (k : ℕ) → AllByRecursion (λ e. IsPlace shape e.1) es → IsValuePage shape es k → 2 * shape.block_pages ≤ k
+page_behind shape [] k places is = absurd is
+page_behind shape (e ∷ es) k places (inl here) =
+    let n : ℕ = shape.block_pages in
+    let first : e.1.page / n * n + e.1.page % n ≡ e.1.page = div-add-mod' e.1.page n in
+    let twice : 2 * n ≤ e.1.page / n * n = mul-le-mul_right n places.0.past_roots in
+    omega (arith, first, twice, here.0)
+page_behind shape (e ∷ es) k places (inr there) = page_behind shape es k places.1 there
+
+-- the block of such a page is no root block
+block_behind : (n k b : ℕ) → 0 < n → 2 * n ≤ k → k / n ≡ b → 2 ≤ b
+block_behind n k b some behind is = elim (cases_lt b 2) [
+  | inl low ↦ (
+      let whole : b * n + k % n ≡ k = subst (λ x. x * n + k % n ≡ k) is (div-add-mod' k n) in
+      let once : b * n ≤ 1 * n = mul-le-mul_right n (omega (arith, low)) in
+      absurd (omega (arith, whole, once, mod-lt k some, behind)))
+  | inr high ↦ omega (arith, high)
+]
 
 -- the block of a page among others has one of them
 pub any_block : (n k : ℕ) (pages : List ℕ) → AnyByRecursion (λ p. k ≡ p) pages → list_any (λ p. p / n == k / n) pages ≡ true
@@ -99,12 +119,21 @@ module _ (shape : Shape) (named : List ℕ) (live : Values) (pool : Blocks) (fla
       let all : length (filter (is_used shape es) (range_with_len 0 shape.blocks)) ≡ used_by for_values pool.states = subst (λ (n : ℕ). length (filter (is_used shape es) (range_with_len 0 n)) ≡ used_by for_values pool.states) f.size row in
       omega (arith, most, all)
 
-  -- and that page is written
-  filled : (b : ℕ) → HoldsValues pool b → IsWritten shape flash b
-  filled b held =
+  page_of : (b : ℕ) → HoldsValues pool b → (k : ℕ) × IsValuePage shape es k × (k / shape.block_pages ≡ b)
+  page_of b held =
       let exists : b < shape.blocks = omega (arith, slice_get_within pool.states b (Owned for_values) held, f.size) in
       let page = page_in shape.block_pages b (all_pages shape es) (owned_used b exists held) in
-      (page.0, page.2, f.written page.0 (in_value shape es page.0 page.1))
+      (page.0, in_value shape es page.0 page.1, page.2)
+
+  -- which lies behind the root blocks
+  behind_roots : (b : ℕ) → HoldsValues pool b → 2 ≤ b
+  behind_roots b held =
+      let page = page_of b held in
+      block_behind shape.block_pages page.0 b (some_pages shape f.is_shape) (page_behind shape es page.0 f.lives.places page.1) page.2
+
+  -- and is written
+  filled : (b : ℕ) → HoldsValues pool b → IsWritten shape flash b
+  filled b held = let page = page_of b held in (page.0, page.2, f.written page.0 page.1)
 
   pub found_placed : Placed shape (with_none_open live) pool flash es
   found_placed = record {
@@ -124,6 +153,7 @@ module _ (shape : Shape) (named : List ℕ) (live : Values) (pool : Blocks) (fla
     closed_size = size_is;
     closed_owned = λ b is. (f.closed_owned b is, tt);
     owned_closed = λ b held other. f.owned_closed b held;
+    behind_roots = behind_roots;
     filled = λ b held other. filled b held;
     open_is = tt;
   }

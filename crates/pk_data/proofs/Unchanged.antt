@@ -65,6 +65,7 @@ Placed-kept shape d p q old new es placed shape_is size used kept was same fits 
   closed_size = placed.closed_size;
   closed_owned = λ b is. let c = placed.closed_owned b is in (kept b c.0, c.1);
   owned_closed = λ b held other. placed.owned_closed b (was b held) other;
+  behind_roots = λ b held. placed.behind_roots b (was b held);
   filled = λ b held other. still_written b held (placed.filled b (was b held) other);
   open_is = open_same shape p q old new d.open_block kept same placed.open_is;
 }

@@ -44,8 +44,8 @@ abbrev pub AreApart : Shape → List (Key × Place) → Type 0
 AreApart shape [] = Unit {0}
 AreApart shape (e ∷ es) = ((k : ℕ) → IsPageOf shape k e.1 → IsValuePage shape es k → ⊥) × AreApart shape es
 
--- The values of these keys are live. Their pages are written, and lie in blocks that the pool has for values; of these blocks
--- all but the open one are closed and have a written page, and at most one less than all data blocks are in use.
+-- The values of these keys are live. Their pages are written, and lie in blocks that the pool has for values; these are no root
+-- blocks, all but the open one are closed and have a written page, and at most one less than all data blocks are in use.
 pub record Placed (shape : Shape) (d : DataState) (pool : Blocks) (flash : Flash) (es : List (Key × Place)) : Type 0 where
   pub is_shape : IsShape shape
   pub shape_is : pool.shape ≡ shape
@@ -63,6 +63,8 @@ pub record Placed (shape : Shape) (d : DataState) (pool : Blocks) (flash : Flash
   pub closed_size : length d.live.closed ≡ shape.blocks
   pub closed_owned : (b : ℕ) → IsClosed d.live b → HoldsValues pool b × IsNotOpen d.open_block b
   pub owned_closed : (b : ℕ) → HoldsValues pool b → IsNotOpen d.open_block b → IsClosed d.live b
+  -- the blocks for values lie behind the root blocks
+  pub behind_roots : (b : ℕ) → HoldsValues pool b → 2 ≤ b
   -- a block that is full has written pages
   pub filled : (b : ℕ) → HoldsValues pool b → IsNotOpen d.open_block b → IsWritten shape flash b
   -- the open block
