@@ -26,3 +26,4 @@ pub mod Early
 pub mod Opening
 pub mod Formatting
 pub mod TestBoards
+pub mod Fresh

@@ -12,3 +12,4 @@ pub mod Changes
 pub mod Serving
 pub mod Listed
 pub mod Opening
+pub mod Fresh

@@ -9,6 +9,7 @@ mod commit;
 mod drive;
 mod engine;
 mod filled;
+mod laws;
 mod list;
 mod lookup;
 mod making;
@@ -25,6 +26,7 @@ mod tick;
 mod ticks;
 
 pub use drive::Drive;
+pub use laws::fresh_serves;
 pub use making::format;
 pub use pk_scan::OpenError;
 pub use place::ValuePlace;

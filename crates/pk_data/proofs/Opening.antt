@@ -1,8 +1,8 @@
 -- Values as they are found at opening.
-use Rattle.std.proofs.Common.{◌≡◌, inl, inr, ℕ, ◌+◌, ◌-◌, ◌/◌, ◌<◌, ◌≤◌, true, false, T, List, [], ◌∷◌, ◌==◌, length, filter, get_or, map, Some, refl, sym, ap, subst, ◌∙◌, arith}
+use Rattle.std.proofs.Common.{◌≡◌, inl, inr, ℕ, ◌+◌, ◌-◌, ◌*◌, ◌/◌, ◌%◌, ◌<◌, ◌≤◌, true, false, T, List, [], ◌∷◌, ◌==◌, length, filter, get_or, map, Some, refl, sym, ap, subst, ◌∙◌, arith, div-add-mod', mod-lt, mul-le-mul_right}
 use Rattle.std.specs.Prelude.{slice_get}
 use Rattle.std.specs.List.{list_any, range_with_len, AllByRecursion}
-use Rattle.std.proofs.lemmas.Bool.{cases_Bool, or_left, or_right, eq-eqb, false_from_ne_true}
+use Rattle.std.proofs.lemmas.Bool.{false≢true, cases_Bool, cases_lt, or_cases, or_left, or_right, eqb-true, eq-eqb, false_from_ne_true}
 use Rattle.std.proofs.lemmas.List.FromFn.{length-map-range_with_len, get_or-map-range_with_len}
 use Rattle.std.proofs.lemmas.Option.{slice_get-get_or, slice_get_within, same_Some}
 use Rattle.pk_base.specs.Key.{Key}
@@ -19,11 +19,11 @@ use Rattle.pk_model.specs.Values.{all_pages, fits}
 use Rattle.pk_model.specs.Laws.{AnyByRecursion}
 use Rattle.pk_model.proofs.ValueSets.{fits_parts}
 use Rattle.pk_steps.specs.Under.{IsValuePage}
-use Rattle.pk_steps.proofs.Places.{value_in}
+use Rattle.pk_steps.proofs.Places.{value_in, in_value}
 use Rattle.pk_scan.specs.Lives.{is_used}
 use Rattle.pk_scan.proofs.Blocks.{value_exists, block_exists}
 use Rattle.pk_data.specs.State.{with_none_open}
-use Rattle.pk_data.specs.Placed.{Placed, FoundAtOpening, HoldsValues}
+use Rattle.pk_data.specs.Placed.{Placed, FoundAtOpening, HoldsValues, IsWritten}
 use Rattle.pk_data.proofs.Lists.{apart_from}
 use Rattle.pk_data.proofs.Unchanged.{some_pages, filter_row}
 
@@ -36,11 +36,39 @@ page_exists shape is_shape (e ∷ es) k places (inl here) =
     subst (λ p. p < page_count shape) same (value_exists shape e.1 (k - e.1.page) is_shape places.0 (omega (arith, here.0, here.1)))
 page_exists shape is_shape (e ∷ es) k places (inr there) = page_exists shape is_shape es k places.1 there
 
+-- and lies behind the root blocks
+page_behind : (shape : Shape) (es : List (Key × Place)) (k : ℕ) → AllByRecursion (λ e. IsPlace shape e.1) es → IsValuePage shape es k → 2 * shape.block_pages ≤ k
+page_behind shape [] k places is = absurd is
+page_behind shape (e ∷ es) k places (inl here) =
+    let n : ℕ = shape.block_pages in
+    let first : e.1.page / n * n + e.1.page % n ≡ e.1.page = div-add-mod' e.1.page n in
+    let twice : 2 * n ≤ e.1.page / n * n = mul-le-mul_right n places.0.past_roots in
+    omega (arith, first, twice, here.0)
+page_behind shape (e ∷ es) k places (inr there) = page_behind shape es k places.1 there
+
+-- the block of such a page is no root block
+block_behind : (n k b : ℕ) → 0 < n → 2 * n ≤ k → k / n ≡ b → 2 ≤ b
+block_behind n k b some behind is = elim (cases_lt b 2) [
+  | inl low ↦ (
+      let whole : b * n + k % n ≡ k = subst (λ x. x * n + k % n ≡ k) is (div-add-mod' k n) in
+      let once : b * n ≤ 1 * n = mul-le-mul_right n (omega (arith, low)) in
+      absurd (omega (arith, whole, once, mod-lt k some, behind)))
+  | inr high ↦ omega (arith, high)
+]
+
 -- the block of a page among others has one of them
 pub any_block : (n k : ℕ) (pages : List ℕ) → AnyByRecursion (λ p. k ≡ p) pages → list_any (λ p. p / n == k / n) pages ≡ true
 any_block n k [] is = absurd is
 any_block n k (p ∷ pages) (inl e) = or_left (p / n == k / n) (list_any (λ q. q / n == k / n) pages) (eq-eqb (p / n) (k / n) (ap (λ q. q / n) (sym e)))
 any_block n k (p ∷ pages) (inr is) = or_right (p / n == k / n) (list_any (λ q. q / n == k / n) pages) (any_block n k pages is)
+
+-- and where a block has one of these pages, this is one
+page_in : (n b : ℕ) (pages : List ℕ) → list_any (λ p. p / n == b) pages ≡ true → (k : ℕ) × AnyByRecursion (λ p. k ≡ p) pages × (k / n ≡ b)
+page_in n b [] is = absurd (false≢true is)
+page_in n b (p ∷ pages) is = elim (or_cases (p / n == b) (list_any (λ q. q / n == b) pages) is) [
+  | inl here ↦ (p, inl refl, eqb-true (p / n) b here)
+  | inr there ↦ (let more = page_in n b pages there in (more.0, inr more.1, more.2))
+]
 
 -- the state of a block for values
 owned_is : (s : BlockState) → is_owned_by for_values s ≡ true → s ≡ Owned for_values
@@ -91,6 +119,22 @@ module _ (shape : Shape) (named : List ℕ) (live : Values) (pool : Blocks) (fla
       let all : length (filter (is_used shape es) (range_with_len 0 shape.blocks)) ≡ used_by for_values pool.states = subst (λ (n : ℕ). length (filter (is_used shape es) (range_with_len 0 n)) ≡ used_by for_values pool.states) f.size row in
       omega (arith, most, all)
 
+  page_of : (b : ℕ) → HoldsValues pool b → (k : ℕ) × IsValuePage shape es k × (k / shape.block_pages ≡ b)
+  page_of b held =
+      let exists : b < shape.blocks = omega (arith, slice_get_within pool.states b (Owned for_values) held, f.size) in
+      let page = page_in shape.block_pages b (all_pages shape es) (owned_used b exists held) in
+      (page.0, in_value shape es page.0 page.1, page.2)
+
+  -- which lies behind the root blocks
+  behind_roots : (b : ℕ) → HoldsValues pool b → 2 ≤ b
+  behind_roots b held =
+      let page = page_of b held in
+      block_behind shape.block_pages page.0 b (some_pages shape f.is_shape) (page_behind shape es page.0 f.lives.places page.1) page.2
+
+  -- and is written
+  filled : (b : ℕ) → HoldsValues pool b → IsWritten shape flash b
+  filled b held = let page = page_of b held in (page.0, page.2, f.written page.0 page.1)
+
   pub found_placed : Placed shape (with_none_open live) pool flash es
   found_placed = record {
     is_shape = f.is_shape;
@@ -109,5 +153,7 @@ module _ (shape : Shape) (named : List ℕ) (live : Values) (pool : Blocks) (fla
     closed_size = size_is;
     closed_owned = λ b is. (f.closed_owned b is, tt);
     owned_closed = λ b held other. f.owned_closed b held;
+    behind_roots = behind_roots;
+    filled = λ b held other. filled b held;
     open_is = tt;
   }

@@ -82,6 +82,8 @@ module _ (shape : Shape) (d : DataState) (p : Blocks) (flash : Flash) (es : List
         let old = placed.closed_owned c (sym (get-set_other d.live.closed b c false other) ∙ is) in
         (kept c other old.0, old.1);
     owned_closed = λ c is not_open. let old = was c is in get-set_other d.live.closed b c false old.0 ∙ placed.owned_closed c old.1 not_open;
+    behind_roots = λ c is. placed.behind_roots c (was c is).1;
+    filled = λ c is not_open. placed.filled c (was c is).1 not_open;
     open_is = open_stays d.open_block (placed.closed_owned b closed).1 placed.open_is;
   }
 

@@ -92,6 +92,8 @@ module _ (shape : Shape) (d : DataState) (pool : Blocks) (flash : Flash) (es : L
     closed_size = p.closed_size;
     closed_owned = p.closed_owned;
     owned_closed = p.owned_closed;
+    behind_roots = p.behind_roots;
+    filled = p.filled;
     open_is = p.open_is;
   }
     where
@@ -129,6 +131,8 @@ module _ (shape : Shape) (d : DataState) (pool : Blocks) (flash : Flash) (es : L
     closed_size = p.closed_size;
     closed_owned = p.closed_owned;
     owned_closed = p.owned_closed;
+    behind_roots = p.behind_roots;
+    filled = p.filled;
     open_is = p.open_is;
   }
     where

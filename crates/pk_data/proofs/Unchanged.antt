@@ -20,7 +20,7 @@ use Rattle.pk_pool.proofs.Fitting.{block_of}
 use Rattle.pk_model.specs.Laws.{AnyByRecursion}
 use Rattle.pk_data.specs.declared.open_block.OpenBlock.{OpenBlock}
 use Rattle.pk_data.specs.State.{DataState}
-use Rattle.pk_data.specs.Placed.{Placed, IsOpenIn, HoldsValues}
+use Rattle.pk_data.specs.Placed.{Placed, IsOpenIn, IsWritten, HoldsValues}
 use Rattle.pk_data.specs.Laws.{SameValues, FlashElsewhere, BlockElsewhere, LieInFew, NoneInSpare, value_blocks, is_for_values}
 
 -- the block of a page has some
@@ -65,8 +65,13 @@ Placed-kept shape d p q old new es placed shape_is size used kept was same fits 
   closed_size = placed.closed_size;
   closed_owned = λ b is. let c = placed.closed_owned b is in (kept b c.0, c.1);
   owned_closed = λ b held other. placed.owned_closed b (was b held) other;
+  behind_roots = λ b held. placed.behind_roots b (was b held);
+  filled = λ b held other. still_written b held (placed.filled b (was b held) other);
   open_is = open_same shape p q old new d.open_block kept same placed.open_is;
 }
+  where
+    still_written : (b : ℕ) → HoldsValues q b → IsWritten shape old b → IsWritten shape new b
+    still_written b held page = (page.0, page.1, λ e. page.2 (sym (same page.0 (subst (λ c. HoldsValues p c) (sym page.1) (was b held))) ∙ e))
 
 pub flash_elsewhere : FlashElsewhere
 flash_elsewhere shape d p old new es placed same fits = Placed-kept shape d p p old new es placed refl refl refl (λ b held. held) (λ b held. held) same fits

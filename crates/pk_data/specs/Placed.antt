@@ -26,6 +26,10 @@ abbrev pub IsNotOpen : Option OpenBlock → ℕ → Type 0
 IsNotOpen None b = Unit {0}
 IsNotOpen (Some o) b = b ≢ o.block
 
+-- a page of the block is not Erased
+abbrev pub IsWritten : Shape → Flash → ℕ → Type 0
+IsWritten shape flash b = (k : ℕ) × (k / shape.block_pages ≡ b) × (page_at flash k ≢ erased)
+
 -- The open block is one for values. Its first pages are written, and those behind them are Erased.
 pub record IsOpenIn (shape : Shape) (pool : Blocks) (flash : Flash) (o : OpenBlock) : Type 0 where
   pub owned : HoldsValues pool o.block
@@ -40,8 +44,8 @@ abbrev pub AreApart : Shape → List (Key × Place) → Type 0
 AreApart shape [] = Unit {0}
 AreApart shape (e ∷ es) = ((k : ℕ) → IsPageOf shape k e.1 → IsValuePage shape es k → ⊥) × AreApart shape es
 
--- The values of these keys are live. Their pages are written, and lie in blocks that the pool has for values; of these blocks
--- all but the open one are closed, and at most one less than all data blocks are in use.
+-- The values of these keys are live. Their pages are written, and lie in blocks that the pool has for values; these are no root
+-- blocks, all but the open one are closed and have a written page, and at most one less than all data blocks are in use.
 pub record Placed (shape : Shape) (d : DataState) (pool : Blocks) (flash : Flash) (es : List (Key × Place)) : Type 0 where
   pub is_shape : IsShape shape
   pub shape_is : pool.shape ≡ shape
@@ -59,6 +63,10 @@ pub record Placed (shape : Shape) (d : DataState) (pool : Blocks) (flash : Flash
   pub closed_size : length d.live.closed ≡ shape.blocks
   pub closed_owned : (b : ℕ) → IsClosed d.live b → HoldsValues pool b × IsNotOpen d.open_block b
   pub owned_closed : (b : ℕ) → HoldsValues pool b → IsNotOpen d.open_block b → IsClosed d.live b
+  -- the blocks for values lie behind the root blocks
+  pub behind_roots : (b : ℕ) → HoldsValues pool b → 2 ≤ b
+  -- a block that is full has written pages
+  pub filled : (b : ℕ) → HoldsValues pool b → IsNotOpen d.open_block b → IsWritten shape flash b
   -- the open block
   pub open_is : MatchOption d.open_block (Unit {0}) (λ o. IsOpenIn shape pool flash o)
 
