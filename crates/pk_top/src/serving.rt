@@ -8,9 +8,8 @@ ghost use Rattle.pk_top.specs.Statuses.{Tells};
 use crate::making::of_load_fault;
 use crate::status::Status;
 use pk_base::Shape;
-use pk_core::Drive;
+use pk_core::{Drive, OpenError};
 use pk_nand::Board;
-use pk_scan::OpenError;
 use pk_serve::{End, Server};
 use std::alloc::Global;
 
