@@ -11,6 +11,8 @@ mod cuts;
 #[cfg(test)]
 mod damage;
 #[cfg(test)]
+mod erases;
+#[cfg(test)]
 mod faults;
 #[cfg(test)]
 mod recut;
@@ -18,5 +20,7 @@ mod recut;
 mod script;
 #[cfg(test)]
 mod sessions;
+#[cfg(test)]
+mod ways;
 #[cfg(test)]
 mod wear;
