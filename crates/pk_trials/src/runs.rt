@@ -390,7 +390,11 @@ fn torn_pages(rt: HostRuntime) -> Result<(), Fail> {
         ("the first page of run 4", 144, 8),
         ("behind run 4", 146, 0),
         ("the value of a key in run 2", place(80), 8),
-        ("the second page of a value in run 4", place(33).saturating_add(1), 8),
+        (
+            "the second page of a value in run 4",
+            place(33).saturating_add(1),
+            8,
+        ),
         ("behind a value", place(39).saturating_add(1), 0),
         ("the place of covered entries", NOTHING, 0),
         ("the older epoch", 64, 8),
