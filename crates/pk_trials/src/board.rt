@@ -79,9 +79,14 @@ pub fn made(alloc: Global, words: &[&str]) -> Result<Vec<PageState>, Fail> {
     pages_left(alloc, &flash)
 }
 
-/// The status with which the program serves the board's input.
+/// The status with which the program serves the board's input with so many frames.
+pub fn serve_with(alloc: Global, flash: &mut Flash, frames: &str) -> u8 {
+    run(alloc, &["serve", frames], flash).0
+}
+
+/// The status with which the program serves the board's input with the frames of two levels.
 pub fn serve(alloc: Global, flash: &mut Flash) -> u8 {
-    run(alloc, &["serve", "36"], flash).0
+    serve_with(alloc, flash, "36")
 }
 
 /// A session behind its end.

@@ -2,6 +2,7 @@
 
 use crate::board::{MAKE_SMALL, Session, cut, made, served, small};
 use crate::script::{Answer, Ask, Value, records, retrieved};
+use crate::ways::{Ways, ways_of_erases};
 use pk_flash::{Flash, Left};
 use pk_nand::Mark;
 use std::alloc::{AllocError, Global};
@@ -62,9 +63,10 @@ const SECOND: [Ask; 6] = [
     Ask::Retrieve(0x65),
 ];
 
-/// In how many ways an interruption of the mark with this number is tried: all of a program, six of an erase, of which each page may
-/// stay, be Erased or Torn; a post leaves the pages alone, whatever part of it went out. Behind the last mark there is one way.
-pub fn ways(flash: &Flash, k: usize) -> u8 {
+/// In how many ways an interruption of the mark with this number is tried where it is one of two: all of a program, six of an erase, of
+/// which each page may stay, be Erased or Torn (`Ways` has all of these); a post leaves the pages alone, whatever part of it went out.
+/// Behind the last mark there is one way.
+pub fn some_ways(flash: &Flash, k: usize) -> u8 {
     if k >= flash.marks() {
         return 1;
     }
@@ -75,7 +77,7 @@ pub fn ways(flash: &Flash, k: usize) -> u8 {
     }
 }
 
-/// One of these ways: nothing is done, all is Torn, all is done, or each page of a block by itself.
+/// One of these: nothing is done, all is Torn, all is done, or each page of a block by itself.
 pub fn left(alloc: Global, way: u8) -> Result<Left, AllocError> {
     match way {
         0 => Ok(Left::Untouched),
@@ -132,9 +134,9 @@ pub fn second_session(
     alloc: Global,
     first: &Flash,
     k: usize,
-    way: u8,
+    left: &Left,
 ) -> Result<(Session, Option<usize>), Fail> {
-    let pages = cut(alloc, first, k, &left(alloc, way)?)?;
+    let pages = cut(alloc, first, k, left)?;
     let second = served(alloc, small()?, pages, &SECOND)?;
     let least = bytes_out(first, k).div_ceil(24);
     let kept = commands_kept(alloc, second.flash.posted(), least)?;
@@ -142,8 +144,9 @@ pub fn second_session(
 }
 
 fn check_mark(rt: &impl Abort, alloc: Global, first: &Flash, k: usize) -> Result<(), Fail> {
-    for way in 0..ways(first, k) {
-        let (second, kept) = second_session(alloc, first, k, way)?;
+    let ways = Ways::of(alloc, first, k)?;
+    for way in 0..ways.count {
+        let (second, kept) = second_session(alloc, first, k, &ways.left(alloc, way)?)?;
         assert_eq!(rt; second.status, 0, "mark {k}, way {way}");
         assert!(rt; kept.is_some(), "mark {k}, way {way}");
     }
@@ -156,6 +159,7 @@ pub fn first_session(alloc: Global) -> Result<Session, Fail> {
     served(alloc, small()?, pages, &FIRST)
 }
 
+// Each mark is interrupted in all its ways. Seven erase blocks without a Whole page, three of them in the Tick, and have 256 each.
 #[test]
 fn every_cut(rt: HostRuntime) -> Result<(), Fail> {
     let alloc = rt.alloc();
@@ -165,6 +169,7 @@ fn every_cut(rt: HostRuntime) -> Result<(), Fail> {
         first.flash.posted(),
         records(alloc, &[Answer::Done; 10])?.as_slice()
     );
+    assert_eq!(rt; ways_of_erases(alloc, &first.flash)?, 7 * 256);
     for k in 0..first.flash.marks().saturating_add(1) {
         check_mark(&rt, alloc, &first.flash, k)?;
     }

@@ -13,13 +13,31 @@ enum Damage {
     Torn,
     /// Whole, with bytes that no page has.
     Foreign,
+    /// The same but for the byte at this place, which is one greater.
+    Byte(usize),
 }
 
-fn page_with(alloc: Global, damage: Damage) -> Result<PageState, AllocError> {
+// The same page, but for the byte at this place.
+fn raised(alloc: Global, page: &PageState, at: usize) -> Result<PageState, AllocError> {
+    match page {
+        PageState::Whole(bytes) => {
+            let mut bytes = bytes.bytes().to_vec(alloc)?;
+            if let Some(byte) = bytes.get_mut(at) {
+                *byte = byte.wrapping_add(1);
+            }
+            Ok(PageState::Whole(PageBytes::of(bytes)))
+        }
+        PageState::Erased => Ok(PageState::Erased),
+        PageState::Torn => Ok(PageState::Torn),
+    }
+}
+
+fn page_with(alloc: Global, page: &PageState, damage: Damage) -> Result<PageState, AllocError> {
     match damage {
         Damage::Erased => Ok(PageState::Erased),
         Damage::Torn => Ok(PageState::Torn),
         Damage::Foreign => Ok(PageState::Whole(PageBytes::of(Vec::from_elem(alloc, 7u8, 512)?))),
+        Damage::Byte(at) => raised(alloc, page, at),
     }
 }
 
@@ -39,6 +57,35 @@ fn damaged(rt: HostRuntime) -> Result<(), Fail> {
         ("the value", 32usize, 33usize, Damage::Torn, 8u8),
         ("no value", 32, 33, Damage::Erased, 8),
         ("another value", 32, 33, Damage::Foreign, 8),
+        (
+            "the value's head of another key",
+            32,
+            33,
+            Damage::Byte(4),
+            8,
+        ),
+        (
+            "the value's head of another length",
+            32,
+            33,
+            Damage::Byte(20),
+            8,
+        ),
+        (
+            "the value's head with another text",
+            32,
+            33,
+            Damage::Byte(24),
+            8,
+        ),
+        ("a byte behind the value", 32, 33, Damage::Byte(35), 8),
+        (
+            "the last byte behind the value",
+            32,
+            33,
+            Damage::Byte(511),
+            8,
+        ),
         ("the first journal page", 64, 65, Damage::Foreign, 8),
         ("the page behind the journal", 65, 66, Damage::Foreign, 8),
         ("a torn page behind the journal", 65, 66, Damage::Torn, 0),
@@ -50,7 +97,8 @@ fn damaged(rt: HostRuntime) -> Result<(), Fail> {
         let mut pages = with_one_key(alloc)?;
         for i in from..to {
             if i < pages.len() {
-                pages[i] = page_with(alloc, damage)?;
+                let page = page_with(alloc, &pages[i], damage)?;
+                pages[i] = page;
             }
         }
         let done = served(alloc, worked()?, pages, &[Ask::Retrieve(0x61)])?;

@@ -11,12 +11,20 @@ mod cuts;
 #[cfg(test)]
 mod damage;
 #[cfg(test)]
+mod erases;
+#[cfg(test)]
 mod faults;
 #[cfg(test)]
+mod pages;
+#[cfg(test)]
 mod recut;
+#[cfg(test)]
+mod runs;
 #[cfg(test)]
 mod script;
 #[cfg(test)]
 mod sessions;
+#[cfg(test)]
+mod ways;
 #[cfg(test)]
 mod wear;

@@ -1,9 +1,10 @@
 //! The second session is cut off at every mark, too, behind a cut of the first one at each of its marks.
 
-use crate::board::{MAKE_SMALL, cut, made, served, small};
-use crate::cuts::{E, HELD, Held, bytes_out, first_session, left, second_session, ways};
+use crate::board::{MAKE_SMALL, Session, cut, made, served, small};
+use crate::cuts::{E, HELD, Held, bytes_out, first_session, left, second_session, some_ways};
 use crate::script::{Answer, Ask, Value, records, retrieved};
-use pk_flash::Flash;
+use crate::ways::{Ways, ways_of_erases};
+use pk_flash::{Flash, Left};
 use pk_nand::Mark;
 use std::alloc::{AllocError, Global};
 use std::process::Abort;
@@ -33,8 +34,8 @@ fn is_root(flash: &Flash, i: usize) -> bool {
 }
 
 // Whether a root was written by the marks before this one, or by this one, where it is done.
-fn has_root(flash: &Flash, k: usize, way: u8) -> bool {
-    let mut found = is_root(flash, k) && way == 2;
+fn has_root(flash: &Flash, k: usize, left: &Left) -> bool {
+    let mut found = is_root(flash, k) && matches!(left, Left::Done);
     for i in 0..k {
         found = found || is_root(flash, i);
     }
@@ -81,12 +82,13 @@ fn check_recut(
     second: &Flash,
     commands: usize,
     k: usize,
-    way: u8,
+    way: u32,
+    left: &Left,
 ) -> Result<(), Fail> {
     let held = HELD.get(commands).ok_or("commands")?;
-    let pages = cut(alloc, second, k, &left(alloc, way)?)?;
+    let pages = cut(alloc, second, k, left)?;
     let third = served(alloc, small()?, pages, &THIRD)?;
-    let is_frozen = commands > 0 && has_root(second, k, way);
+    let is_frozen = commands > 0 && has_root(second, k, left);
     assert_eq!(rt;
         third.status,
         if is_frozen { 11 } else { 0 },
@@ -104,6 +106,7 @@ fn check_recut(
     Ok(())
 }
 
+// Interrupts this mark of the second session in some ways.
 fn check_mark(
     rt: &impl Abort,
     alloc: Global,
@@ -111,8 +114,25 @@ fn check_mark(
     commands: usize,
     k: usize,
 ) -> Result<(), Fail> {
-    for way in 0..ways(second, k) {
-        check_recut(rt, alloc, second, commands, k, way)?;
+    for way in 0..some_ways(second, k) {
+        let left = left(alloc, way)?;
+        check_recut(rt, alloc, second, commands, k, u32::from(way), &left)?;
+    }
+    Ok(())
+}
+
+// Interrupts this mark of the second session in all its ways.
+fn check_all_ways(
+    rt: &impl Abort,
+    alloc: Global,
+    second: &Flash,
+    commands: usize,
+    k: usize,
+) -> Result<(), Fail> {
+    let ways = Ways::of(alloc, second, k)?;
+    for way in 0..ways.count {
+        let left = ways.left(alloc, way)?;
+        check_recut(rt, alloc, second, commands, k, way, &left)?;
     }
     Ok(())
 }
@@ -123,9 +143,9 @@ fn check_second(
     alloc: Global,
     first: &Flash,
     k: usize,
-    way: u8,
+    left: &Left,
 ) -> Result<(), Fail> {
-    let (second, kept) = second_session(alloc, first, k, way)?;
+    let (second, kept) = second_session(alloc, first, k, left)?;
     let commands = kept.ok_or("a map")?;
     for i in 0..second.flash.marks().saturating_add(1) {
         check_mark(rt, alloc, &second.flash, commands, i)?;
@@ -135,7 +155,7 @@ fn check_second(
 
 // One way in which this mark is interrupted.
 fn one_way(flash: &Flash, k: usize) -> u8 {
-    match ways(flash, k) {
+    match some_ways(flash, k) {
         6 => 3 + (k % 3) as u8,
         3 => 1,
         _ => 0,
@@ -147,8 +167,32 @@ fn cut_twice(rt: HostRuntime) -> Result<(), Fail> {
     let alloc = rt.alloc();
     let first = first_session(alloc)?;
     for k in 0..first.flash.marks().saturating_add(1) {
-        let way = one_way(&first.flash, k);
-        check_second(&rt, alloc, &first.flash, k, way)?;
+        let left = left(alloc, one_way(&first.flash, k))?;
+        check_second(&rt, alloc, &first.flash, k, &left)?;
+    }
+    Ok(())
+}
+
+// The second session behind the whole first one.
+fn second_behind_first(alloc: Global) -> Result<Session, Fail> {
+    let first = first_session(alloc)?;
+    let end = first.flash.marks();
+    let (second, kept) = second_session(alloc, &first.flash, end, &Left::Untouched)?;
+    if kept != Some(10) {
+        return Err(Fail::from("all commands"));
+    }
+    Ok(second)
+}
+
+// The second session is cut off at every mark in all its ways, behind the whole first one. Of its four erases one is that of the other
+// root block, which has a root.
+#[test]
+fn every_cut_of_second(rt: HostRuntime) -> Result<(), Fail> {
+    let alloc = rt.alloc();
+    let second = second_behind_first(alloc)?;
+    assert_eq!(rt; ways_of_erases(alloc, &second.flash)?, 3 * 256 + 3 * 128);
+    for k in 0..second.flash.marks().saturating_add(1) {
+        check_all_ways(&rt, alloc, &second.flash, 10, k)?;
     }
     Ok(())
 }

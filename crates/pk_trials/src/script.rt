@@ -98,8 +98,8 @@ pub fn script(alloc: Global, asks: &[Ask]) -> Result<Vec<u8>, AllocError> {
     Ok(bytes)
 }
 
-// Adds what stands before the data of the record with this number and CID.
-fn push_head(
+/// Adds what stands before the data of the record with this number and CID.
+pub fn push_head(
     into: &mut Vec<u8>,
     number: u16,
     status: u8,
@@ -111,8 +111,8 @@ fn push_head(
     into.extend_from_slice(&record_head(&done, reads, data_len))
 }
 
-// The pages of 512 bytes that a value of so many bytes has behind its head of 32; none are read for no bytes.
-fn pages_read(len: u32) -> u32 {
+/// The pages of 512 bytes that a value of so many bytes has behind its head of 32; none are read for no bytes.
+pub fn pages_read(len: u32) -> u32 {
     if len == 0 {
         return 0;
     }
@@ -126,14 +126,21 @@ fn push_keys(into: &mut Vec<u8>, keys: &[u8]) -> Result<(), AllocError> {
     Ok(())
 }
 
-fn push_list(into: &mut Vec<u8>, number: u16, keys: &[u8]) -> Result<(), AllocError> {
+/// Adds the record of a List that gives these keys behind so many reads.
+pub fn push_list(
+    into: &mut Vec<u8>,
+    number: u16,
+    reads: u32,
+    keys: &[u8],
+) -> Result<(), AllocError> {
     let count = keys.len().min(200) as u32;
-    push_head(into, number, 0, 0, 0, 4 + 4 * count)?;
+    push_head(into, number, 0, 0, reads, 4 + 4 * count)?;
     into.extend_from_slice(&count.to_le_bytes())?;
     push_keys(into, keys)
 }
 
-fn push_answer(into: &mut Vec<u8>, number: u16, answer: &Answer) -> Result<(), AllocError> {
+/// Adds the record with this number and CID.
+pub fn push_answer(into: &mut Vec<u8>, number: u16, answer: &Answer) -> Result<(), AllocError> {
     match answer {
         Answer::Done => push_head(into, number, 0, 0, 0, 0),
         Answer::Missing => push_head(into, number, 0x87, 0, 0, 0),
@@ -143,7 +150,7 @@ fn push_answer(into: &mut Vec<u8>, number: u16, answer: &Answer) -> Result<(), A
             push_head(into, number, 0, value.len, reads, value.len)?;
             push_value(into, value)
         }
-        Answer::Keys(keys) => push_list(into, number, keys),
+        Answer::Keys(keys) => push_list(into, number, 0, keys),
     }
 }
 

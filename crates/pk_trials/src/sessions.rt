@@ -4,9 +4,9 @@ use crate::board::{
     MAKE_SMALL, MAKE_WORKED, board, cut, last_program, made, pages_left, serve, served, small,
     worked,
 };
-use crate::script::{Answer, Ask, Value, entry, records};
+use crate::script::{Answer, Ask, Value, entry, push_answer, push_head, records, script};
 use pk_base::get_u32;
-use pk_flash::Left;
+use pk_flash::{Flash, Left};
 use pk_nand::PageState;
 use std::alloc::{AllocError, Global};
 use std::process::Abort;
@@ -167,6 +167,14 @@ fn reported(posted: &[u8], place: usize) -> Option<u32> {
     Some(get_u32(posted, posted.len() - 64 + 4 * place))
 }
 
+// A made drive on which this script was served.
+fn behind(rt: &impl Abort, alloc: Global, script: Vec<u8>) -> Result<Flash, Fail> {
+    let pages = made(alloc, &MAKE_WORKED)?;
+    let mut flash = board(alloc, worked()?, pages, script)?;
+    assert_eq!(rt; serve(alloc, &mut flash), 0);
+    Ok(flash)
+}
+
 // Serves a script that ends with a Report on a made drive, and compares numbers of it.
 fn check_report(
     rt: &impl Abort,
@@ -174,9 +182,7 @@ fn check_report(
     script: Vec<u8>,
     numbers: &[(&str, usize, u32)],
 ) -> Result<(), Fail> {
-    let pages = made(alloc, &MAKE_WORKED)?;
-    let mut flash = board(alloc, worked()?, pages, script)?;
-    assert_eq!(rt; serve(alloc, &mut flash), 0);
+    let flash = behind(rt, alloc, script)?;
     for (name, place, number) in numbers {
         assert_eq!(rt; reported(flash.posted(), *place), Some(*number), "{name}");
     }
@@ -200,6 +206,67 @@ fn full_buffer(rt: HostRuntime) -> Result<(), Fail> {
         ("epoch", 12, 1),
     ];
     check_report(&rt, alloc, many_stores(alloc)?, &numbers)
+}
+
+// The first of these keys stands in the frozen buffer, so a Retrieve of it reads the value's page alone.
+#[test]
+fn first_of_full_buffer(rt: HostRuntime) -> Result<(), Fail> {
+    let alloc = rt.alloc();
+    let mut script = many_stores(alloc)?;
+    script.extend_from_slice(&entry(33, 0x02, [0, 0], 2, 3))?;
+    let flash = behind(&rt, alloc, script)?;
+    let mut record = Vec::new(alloc);
+    push_answer(&mut record, 33, &Answer::Found(THREE))?;
+    assert_eq!(rt; record.len(), 27);
+    assert!(rt; flash.posted().ends_with(&record));
+    Ok(())
+}
+
+// A value of the greatest size has all the pages that a value may have.
+#[test]
+fn greatest_value(rt: HostRuntime) -> Result<(), Fail> {
+    let alloc = rt.alloc();
+    let greatest = Value {
+        first: 9,
+        len: 2016,
+    };
+    let asks = [Ask::Store(0x61, greatest), Ask::Report];
+    let numbers = [("live", 0usize, 4u32), ("limit", 1, 492), ("keys", 2, 1)];
+    check_report(&rt, alloc, script(alloc, &asks)?, &numbers)?;
+    let done = behind(&rt, alloc, script(alloc, &asks)?)?;
+    assert!(rt; done.posted().starts_with(&records(alloc, &[Answer::Done])?));
+    assert_eq!(rt; done.posted().len(), 24 + 88);
+    Ok(())
+}
+
+// A Retrieve gives as much of a value as its buffer takes, and tells its whole length. Without a buffer it reads no page.
+#[test]
+fn short_buffers(rt: HostRuntime) -> Result<(), Fail> {
+    let alloc = rt.alloc();
+    let mut script = entry(1, 0x01, [0x61, 0], 1, 5).to_vec(alloc)?;
+    script.extend_from_slice(b"hello")?;
+    script.extend_from_slice(&entry(2, 0x02, [0x61, 0], 1, 2))?;
+    script.extend_from_slice(&entry(3, 0x02, [0x61, 0], 1, 0))?;
+    let flash = behind(&rt, alloc, script)?;
+    let mut want = Vec::new(alloc);
+    push_head(&mut want, 1, 0, 0, 0, 0)?;
+    push_head(&mut want, 2, 0, 5, 1, 2)?;
+    want.extend_from_slice(b"he")?;
+    push_head(&mut want, 3, 0, 5, 0, 0)?;
+    assert_eq!(rt; flash.posted(), want.as_slice());
+    Ok(())
+}
+
+// A session without commands posts nothing and leaves the flash alone.
+#[test]
+fn no_commands(rt: HostRuntime) -> Result<(), Fail> {
+    let alloc = rt.alloc();
+    let flash = behind(&rt, alloc, Vec::new(alloc))?;
+    assert_eq!(rt; flash.posted().len(), 0);
+    assert_eq!(rt; flash.program_count(), 0);
+    assert_eq!(rt; flash.erase_count(), 0);
+    assert_eq!(rt; flash.marks(), 0);
+    Ok(())
 }
 
 // Commits of one key fill the 32 pages of an epoch, and the next one is the first of a new epoch.

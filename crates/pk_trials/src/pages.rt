@@ -1,0 +1,155 @@
+//! Pages by hand, byte for byte as their formats say, of 512 bytes.
+
+use crate::script::{Value, push_value};
+use pk_base::{put_text, put_u8, put_u16, put_u32, put_u64};
+use pk_nand::{PageBytes, PageState};
+use std::alloc::{AllocError, Global};
+use std::test::*;
+
+/// An entry of a key of one byte.
+#[derive(Clone, Copy)]
+pub enum Note {
+    /// Its value begins at this page and has so many bytes.
+    Put(u8, u32, u32),
+    /// It was deleted.
+    Gone(u8),
+}
+
+// Writes an entry at this place among those of a page, which has room for 15.
+fn put_note(page: &mut [u8], i: usize, note: &Note) {
+    if i >= 15 || page.len() < 512 {
+        return;
+    }
+    let at = 32 + 32 * i;
+    put_u8(page, at, 1);
+    match note {
+        Note::Put(key, first, len) => {
+            put_u8(page, at + 1, 1);
+            put_u8(page, at + 4, *key);
+            put_u32(page, at + 20, *first);
+            put_u32(page, at + 24, *len);
+        }
+        Note::Gone(key) => {
+            put_u8(page, at + 1, 2);
+            put_u8(page, at + 4, *key);
+        }
+    }
+}
+
+fn put_notes(page: &mut [u8], notes: &[Note]) {
+    for i in 0..notes.len() {
+        put_note(page, i, &notes[i]);
+    }
+}
+
+/// The page of an epoch with this index.
+pub fn journal_page(epoch: u64, index: u32, notes: &[Note]) -> [u8; 512] {
+    let mut page = [0u8; 512];
+    put_text(&mut page, 0, b"PINKJRNL");
+    put_u64(&mut page, 8, epoch);
+    put_u32(&mut page, 16, index);
+    put_u16(&mut page, 20, notes.len().min(15) as u16);
+    put_notes(&mut page, notes);
+    page
+}
+
+/// The page of a run with this index.
+pub fn meta_page(level: u8, index: u32, notes: &[Note]) -> [u8; 512] {
+    let mut page = [0u8; 512];
+    put_text(&mut page, 0, b"PINKMETA");
+    put_u8(&mut page, 8, level);
+    put_u16(&mut page, 10, notes.len().min(15) as u16);
+    put_u32(&mut page, 12, index);
+    put_notes(&mut page, notes);
+    page
+}
+
+/// The root of a flash of 64 blocks of 16 pages with this number, this newest epoch, these entries of its runs, and these blocks: of the
+/// epochs, of which there are one or two, and of the runs.
+pub fn root_page(
+    number: u64,
+    epoch: u64,
+    epochs: u16,
+    runs: [u32; 4],
+    blocks: &[u16],
+) -> [u8; 512] {
+    let mut page = [0u8; 512];
+    put_text(&mut page, 0, b"PINKROOT");
+    put_u16(&mut page, 8, 1);
+    put_u16(&mut page, 10, 16);
+    put_u32(&mut page, 12, 512);
+    put_u16(&mut page, 16, 64);
+    put_u16(&mut page, 18, epochs.saturating_mul(2));
+    put_u64(&mut page, 24, number);
+    put_u64(&mut page, 32, epoch);
+    put_u32(&mut page, 40, runs[0]);
+    put_u32(&mut page, 44, runs[1]);
+    put_u32(&mut page, 48, runs[2]);
+    put_u32(&mut page, 52, runs[3]);
+    for i in 0..blocks.len().min(20) {
+        put_u16(&mut page, 64 + 2 * i, blocks[i]);
+    }
+    page
+}
+
+// The head of a value, the value, and zeros up to whole pages.
+fn value_bytes(alloc: Global, key: u8, value: &Value) -> Result<Vec<u8>, AllocError> {
+    let mut head = [0u8; 32];
+    put_u8(&mut head, 0, 1);
+    put_u8(&mut head, 1, 0x44);
+    put_u8(&mut head, 4, key);
+    put_u32(&mut head, 20, value.len);
+    put_text(&mut head, 24, b"PINKDATA");
+    let mut bytes = head.to_vec(alloc)?;
+    push_value(&mut bytes, value)?;
+    for _ in 0..512u32 {
+        if bytes.len() % 512 != 0 {
+            bytes.push(0)?;
+        }
+    }
+    Ok(bytes)
+}
+
+/// Sets one page.
+pub fn set(pages: &mut Vec<PageState>, at: u32, page: PageState) -> Result<(), Fail> {
+    let at = at as usize;
+    if at >= pages.len() {
+        return Err(Fail::from("a page"));
+    }
+    pages[at] = page;
+    Ok(())
+}
+
+/// Makes this page Whole with these bytes.
+pub fn write(alloc: Global, pages: &mut Vec<PageState>, at: u32, bytes: &[u8]) -> Result<(), Fail> {
+    let own = bytes.to_vec(alloc)?;
+    set(pages, at, PageState::Whole(PageBytes::of(own)))
+}
+
+/// Writes the pages of a value of at most 4 pages, from this one on.
+pub fn write_value(
+    alloc: Global,
+    pages: &mut Vec<PageState>,
+    first: u32,
+    key: u8,
+    value: &Value,
+) -> Result<(), Fail> {
+    let bytes = value_bytes(alloc, key, value)?;
+    for i in 0..4u8 {
+        let from = 512 * usize::from(i);
+        if from + 512 <= bytes.len() {
+            let at = first.saturating_add(u32::from(i));
+            write(alloc, pages, at, &bytes[from..from + 512])?;
+        }
+    }
+    Ok(())
+}
+
+/// So many Erased pages.
+pub fn erased(alloc: Global, count: u32) -> Result<Vec<PageState>, AllocError> {
+    let mut pages = Vec::new(alloc);
+    for _ in 0..count {
+        pages.push(PageState::Erased)?;
+    }
+    Ok(pages)
+}
