@@ -1,12 +1,12 @@
 -- What lines say.
-use Rattle.std.proofs.Common.{◌≡◌, ℕ, ◌≤◌, Bool, true, false, cond, List, [], ◌∷◌, length, get_or, refl, sym, ap, ◌∙◌, arith, Option, Some, None}
-use Rattle.std.specs.Prelude.{option_map, nat_lt, ◌==◌, ◌||◌, if◌then◌else◌, codes, bytes_eq}
+use Rattle.std.proofs.Common.{◌≡◌, ℕ, ◌≤◌, false, List, ◌∷◌, length, get_or, refl, sym, ap, ◌∙◌, arith, Option, Some, None}
+use Rattle.std.specs.Prelude.{option_map, nat_lt, ◌==◌, ◌||◌, codes, bytes_eq}
 use Rattle.std.proofs.lemmas.Bool.Decides.{nat_tests}
 use Rattle.pk_nvme.specs.Bytes.{RoomyList}
 use Rattle.pk_asm.specs.Words.{words}
 use Rattle.pk_asm.specs.Form.{form_entry}
 use Rattle.pk_asm.specs.declared.form.Form.{Form}
-use Rattle.pk_asm.specs.Line.{named_of, says, entry_said, Line, nothing, entry, entry_in, bytes_in, brought, most_bytes}
+use Rattle.pk_asm.specs.Line.{named_of, says, entry_said, entry, entry_in, bytes_in, brought}
 
 -- a line that is no comment, and not too long
 pub says_entry : (number : ℕ) (line : List ℕ) → length line ≤ 2200000 → (length line == 0 || get_or line 0 0 == 35) ≡ false

@@ -1,6 +1,6 @@
 -- What is printed, and that it is assembled to the same.
-use Rattle.std.proofs.Common.{◌≡◌, ℕ, suc, ◌+◌, ◌^◌, ◌<◌, ◌≤◌, Bool, true, false, cond, List, [], ◌∷◌, ◌++◌, length, get_or, refl, sym, ap, ◌∙◌, subst, arith, Option, Some, None}
-use Rattle.std.specs.Prelude.{nat_eq, ◌==◌, ◌&&◌, ◌||◌, codes, bytes_eq, option_map}
+use Rattle.std.proofs.Common.{◌≡◌, ℕ, suc, ◌^◌, ◌<◌, ◌≤◌, Bool, true, false, cond, List, [], ◌∷◌, ◌++◌, length, get_or, refl, sym, ap, ◌∙◌, subst, arith, Option, Some, None}
+use Rattle.std.specs.Prelude.{nat_eq, ◌==◌, ◌||◌, codes, bytes_eq, option_map}
 use Rattle.std.proofs.lemmas.Bool.{and_parts}
 use Rattle.std.proofs.lemmas.Bool.Decides.{nat_tests}
 use Rattle.pk_base.specs.Fields.{AreBytes}
@@ -8,7 +8,7 @@ use Rattle.pk_nvme.specs.Command.{command}
 use Rattle.pk_nvme.specs.Text.{hex_text, bytes_text}
 use Rattle.pk_asm.specs.Words.{words}
 use Rattle.pk_asm.specs.Form.{form_entry}
-use Rattle.pk_asm.specs.Line.{says, entry_said, named_of, raw_of, Line, entry}
+use Rattle.pk_asm.specs.Line.{says, entry_said, raw_of, entry}
 use Rattle.pk_asm.specs.Printed.{behind_blanks, line_of, form_line, raw_line, candidate, that_gives, form_that_gives, line_for, printed, IsSaid, Prints}
 use Rattle.pk_asm.specs.declared.form.Form.{Form}
 use Rattle.pk_asm.specs.declared.form.Form.TheVariants.{Store, Retrieve, Delete, Exist, ListFrom, Flush, Report, Tick}

@@ -1,18 +1,18 @@
 -- The fields of an entry that a form gives, read again.
-use Rattle.std.proofs.Common.{◌≡◌, ℕ, zero, suc, ◌+◌, ◌-◌, ◌%◌, ◌^◌, ◌<◌, ◌≤◌, Bool, true, false, cond, List, [], ◌∷◌, ◌++◌, length, take, drop, get_or, refl, sym, ap, ◌∙◌, subst, arith, inl, inr, Option, Some, None, length-append, length-drop}
-use Rattle.std.specs.Prelude.{nat_lt, nat_le, nat_eq, ◌==◌, ◌&&◌, not, option_map}
+use Rattle.std.proofs.Common.{◌≡◌, ℕ, zero, suc, ◌+◌, ◌-◌, ◌%◌, ◌^◌, ◌<◌, ◌≤◌, Bool, true, false, cond, List, [], ◌∷◌, ◌++◌, length, take, drop, refl, sym, ap, ◌∙◌, subst, arith, inl, inr, Option, Some, None, length-append, length-drop}
+use Rattle.std.specs.Prelude.{nat_lt, nat_le, ◌==◌, ◌&&◌, not, option_map}
 use Rattle.std.proofs.lemmas.Bool.{and_parts}
 use Rattle.std.proofs.lemmas.Bool.Decides.{nat_tests}
-use Rattle.std.proofs.lemmas.List.{take_at, take_all, take-append-drop, length-take-le, get_or-drop, append_assoc, length-replicate}
-use Rattle.pk_base.specs.Fields.{AreBytes, padded, zeros, u16, u32, u8_at, u32_at, number_at}
+use Rattle.std.proofs.lemmas.List.{take_at, take_all, take-append-drop, length-take-le, get_or-drop}
+use Rattle.pk_base.specs.Fields.{AreBytes, padded, zeros, u16, u32}
 use Rattle.pk_base.specs.Key.{IsKey}
 use Rattle.pk_base.proofs.Tables.{spelled_stand, stands_byte, stands_number, length-padded, number_fits, ◌⊕◌}
 use Rattle.pk_nvme.specs.Command.{Command, command}
-use Rattle.pk_asm.specs.Form.{entry_with, form_entry, key_or_none}
+use Rattle.pk_asm.specs.Form.{entry_with, form_entry}
 use Rattle.pk_asm.specs.Printed.{candidate, key_at, store_candidate, retrieve_candidate, delete_candidate, exist_candidate, list_candidate}
 use Rattle.pk_asm.specs.declared.form.Form.{Form}
 use Rattle.pk_asm.specs.declared.form.Form.TheVariants.{Store, Retrieve, Delete, Exist, ListFrom, Flush, Report, Tick}
-use Rattle.pk_asm.proofs.FormLemmas.{IsByteKey, IsFrom, IsForm, picked, held}
+use Rattle.pk_asm.proofs.FormLemmas.{IsByteKey, IsForm, picked, held}
 
 -- what a command says of its form
 pub record HasFields (c : Command) (opcode : ℕ) (key : List ℕ) (size options : ℕ) (bytes : List ℕ) : Type 0 where

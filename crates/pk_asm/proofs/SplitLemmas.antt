@@ -1,8 +1,7 @@
 -- Lines and their words.
-use Rattle.std.proofs.Common.{◌≡◌, ℕ, suc, ◌+◌, ◌-◌, ◌<◌, ◌≤◌, Bool, true, false, cond, List, [], ◌∷◌, ◌++◌, length, take, drop, refl, sym, ap, ◌∙◌, arith, Option, Some, None, inl, inr, length-drop, subst}
-use Rattle.std.specs.Prelude.{nat_lt, ◌==◌, not, option_map}
-use Rattle.std.specs.List.{slice_split, onto_first, position, position_or_len, prefix_len, AllByRecursion}
-use Rattle.std.proofs.lemmas.Bool.{cases_lt}
+use Rattle.std.proofs.Common.{◌≡◌, ℕ, suc, ◌+◌, ◌-◌, ◌<◌, ◌≤◌, Bool, true, false, cond, List, [], ◌∷◌, length, take, drop, refl, sym, ap, ◌∙◌, arith, Some, None, length-drop, subst}
+use Rattle.std.specs.Prelude.{nat_lt, ◌==◌, not}
+use Rattle.std.specs.List.{slice_split, onto_first, position, position_or_len, AllByRecursion}
 use Rattle.std.proofs.lemmas.Bool.Decides.{nat_tests}
 use Rattle.std.proofs.lemmas.List.{take_all}
 use Rattle.std.proofs.lemmas.List.Splits.{slice_split_first}

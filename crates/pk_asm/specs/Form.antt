@@ -1,5 +1,7 @@
 -- What a named line asks for, and the entry that it gives.
 use Rattle.std.specs.Prelude.{ℕ, ◌%◌, ◌^◌, List, [], length, Option, Some, None}
+use Rattle.pk_nvme.specs.declared.limits.TheConstants.{NAMESPACE}
+use Rattle.pk_nvme.specs.declared.opcode.TheConstants.{FLUSH, STORE, RETRIEVE, LIST, DELETE, EXIST, TICK, REPORT}
 use Rattle.pk_base.specs.Fields.{padded}
 use Rattle.pk_nvme.specs.Seen.{entry_of}
 use Rattle.pk_asm.specs.declared.form.Form.{Form}
@@ -8,7 +10,7 @@ use Rattle.pk_asm.specs.declared.form.Form.TheVariants.{Store, Retrieve, Delete,
 -- the entry of this number, in namespace 1, with these fields and zeros everywhere else
 unfoldable pub entry_with : ℕ → ℕ → List ℕ → ℕ → ℕ → List ℕ
 entry_with number opcode key size options =
-    entry_of (record { opcode = opcode; cid = number % 2 ^ 16; namespace = 1; key_len = length key; key = padded 16 key; size = size; options = options })
+    entry_of (record { opcode = opcode; cid = number % 2 ^ 16; namespace = NAMESPACE; key_len = length key; key = padded 16 key; size = size; options = options })
 
 -- a missing key is one of no byte
 abbrev pub key_or_none : Option (List ℕ) → List ℕ
@@ -17,11 +19,11 @@ key_or_none (Some key) = key
 
 -- the entry of this number that a form gives; a field that it does not name is 0
 abbrev pub form_entry : ℕ → Form → List ℕ
-form_entry number (Store key size options) = entry_with number 0x01 key size options
-form_entry number (Retrieve key size) = entry_with number 0x02 key size 0
-form_entry number (Delete key) = entry_with number 0x10 key 0 0
-form_entry number (Exist key) = entry_with number 0x14 key 0 0
-form_entry number (ListFrom from size) = entry_with number 0x06 (key_or_none from) size 0
-form_entry number Flush = entry_with number 0x00 [] 0 0
-form_entry number Report = entry_with number 0xC2 [] 0 0
-form_entry number (Tick steps) = entry_with number 0xC0 [] steps 0
+form_entry number (Store key size options) = entry_with number STORE key size options
+form_entry number (Retrieve key size) = entry_with number RETRIEVE key size 0
+form_entry number (Delete key) = entry_with number DELETE key 0 0
+form_entry number (Exist key) = entry_with number EXIST key 0 0
+form_entry number (ListFrom from size) = entry_with number LIST (key_or_none from) size 0
+form_entry number Flush = entry_with number FLUSH [] 0 0
+form_entry number Report = entry_with number REPORT [] 0 0
+form_entry number (Tick steps) = entry_with number TICK [] steps 0

@@ -1,6 +1,7 @@
 -- The line that is printed for an entry and its bytes.
 use Rattle.std.specs.Prelude.{◌≡◌, ℕ, ◌+◌, ◌≤◌, ◌<◌, ◌^◌, Bool, ◌==◌, ◌&&◌, not, nat_le, nat_lt, if◌then◌else◌, List, [], ◌∷◌, ◌++◌, length, take, Option, Some, None, option_map, codes, bytes_eq}
 use Rattle.std.specs.List.{flat_map}
+use Rattle.pk_nvme.specs.declared.opcode.TheConstants.{FLUSH, STORE, RETRIEVE, LIST, DELETE, EXIST, TICK, REPORT}
 use Rattle.pk_nvme.specs.Bytes.{RoomyList}
 use Rattle.pk_nvme.specs.Command.{Command, command}
 use Rattle.pk_nvme.specs.Text.{number_text, hex_text, bytes_text}
@@ -75,15 +76,15 @@ list_candidate key_len place size =
 -- the form with the fields of a command, whatever else its entry holds; a Store alone brings bytes
 unfoldable pub candidate : Command → Option Form
 candidate c =
-    if c.opcode == 0x01 then store_candidate c.key_len c.key_bytes c.size c.options (length c.value) else
+    if c.opcode == STORE then store_candidate c.key_len c.key_bytes c.size c.options (length c.value) else
     if not (length c.value == 0) then None else
-    if c.opcode == 0x02 then retrieve_candidate c.key_len c.key_bytes c.size else
-    if c.opcode == 0x10 then delete_candidate c.key_len c.key_bytes else
-    if c.opcode == 0x14 then exist_candidate c.key_len c.key_bytes else
-    if c.opcode == 0x06 then list_candidate c.key_len c.key_bytes c.size else
-    if c.opcode == 0x00 then Some Flush else
-    if c.opcode == 0xC2 then Some Report else
-    if c.opcode == 0xC0 then Some (Tick c.size) else None
+    if c.opcode == RETRIEVE then retrieve_candidate c.key_len c.key_bytes c.size else
+    if c.opcode == DELETE then delete_candidate c.key_len c.key_bytes else
+    if c.opcode == EXIST then exist_candidate c.key_len c.key_bytes else
+    if c.opcode == LIST then list_candidate c.key_len c.key_bytes c.size else
+    if c.opcode == FLUSH then Some Flush else
+    if c.opcode == REPORT then Some Report else
+    if c.opcode == TICK then Some (Tick c.size) else None
 
 -- the form, if its entry is this one
 abbrev pub that_gives : ℕ → List ℕ → Option Form → Option Form

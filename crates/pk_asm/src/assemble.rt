@@ -162,8 +162,10 @@ fn store_with(
     requires empty { value.old.items ≡ [] }
     requires fits { length bytes.now ≤ 2 * value.old.room }
     requires short { length bytes.now < 2 ^ 32 }
-    ensures form { result ≡ option_map (λ s. s.0) (spec.store_with key (bytes_of bytes.now) options) }
-    ensures value { value.new ≡ record value.old { items = spec.brought (spec.store_with key (bytes_of bytes.now) options) } }
+    ensures form { result
+        ≡ option_map (λ s. s.0) (spec.store_with key (bytes_of bytes.now) options) }
+    ensures value { value.new ≡ record value.old
+        { items = spec.brought (spec.store_with key (bytes_of bytes.now) options) } }
 {
     match key {
         Some(key) => match options {
@@ -186,7 +188,8 @@ fn store(operands: Operands, value: &mut Bytes) -> Option<Form>
     requires fits { AllByRecursion (λ word. length word ≤ 2 * value.old.room) (words_in operands) }
     requires short { AllByRecursion (λ word. length word < 2 ^ 32) (words_in operands) }
     ensures form { result ≡ option_map (λ s. s.0) (spec.store_of (words_in operands.entry)) }
-    ensures value { value.new ≡ record value.old { items = spec.brought (spec.store_of (words_in operands.entry)) } }
+    ensures value { value.new
+        ≡ record value.old { items = spec.brought (spec.store_of (words_in operands.entry)) } }
 {
     match operands {
         Operands::Two(key_word, bytes) => store_with(key(key_word), bytes, Some(0), value),
@@ -202,7 +205,8 @@ fn raw_with(entry: Option<[u8; 64]>, bytes: &[u8], value: &mut Bytes) -> Option<
     requires empty { value.old.items ≡ [] }
     requires fits { length bytes.now ≤ 2 * value.old.room }
     ensures entry { result ≡ option_map (λ s. s.0) (spec.raw_with entry (bytes_of bytes.now)) }
-    ensures value { value.new ≡ record value.old { items = spec.brought (spec.raw_with entry (bytes_of bytes.now)) } }
+    ensures value { value.new
+        ≡ record value.old { items = spec.brought (spec.raw_with entry (bytes_of bytes.now)) } }
 {
     match entry {
         Some(entry) => {
@@ -220,7 +224,8 @@ fn raw(operands: Operands, value: &mut Bytes) -> Option<[u8; 64]>
     requires empty { value.old.items ≡ [] }
     requires fits { AllByRecursion (λ word. length word ≤ 2 * value.old.room) (words_in operands) }
     ensures entry { result ≡ option_map (λ s. s.0) (spec.raw_of (words_in operands.entry)) }
-    ensures value { value.new ≡ record value.old { items = spec.brought (spec.raw_of (words_in operands.entry)) } }
+    ensures value { value.new
+        ≡ record value.old { items = spec.brought (spec.raw_of (words_in operands.entry)) } }
 {
     match operands {
         Operands::Two(entry, bytes) => raw_with(entry_word(entry), bytes, value),
@@ -233,8 +238,10 @@ fn named(name: &[u8], operands: Operands, value: &mut Bytes) -> Option<Form>
     requires empty { value.old.items ≡ [] }
     requires fits { AllByRecursion (λ word. length word ≤ 2 * value.old.room) (words_in operands) }
     requires short { AllByRecursion (λ word. length word < 2 ^ 32) (words_in operands) }
-    ensures form { result ≡ option_map (λ s. s.0) (spec.named_of name.now (words_in operands.entry)) }
-    ensures value { value.new ≡ record value.old { items = spec.brought (spec.named_of name.now (words_in operands.entry)) } }
+    ensures form { result
+        ≡ option_map (λ s. s.0) (spec.named_of name.now (words_in operands.entry)) }
+    ensures value { value.new ≡ record value.old
+        { items = spec.brought (spec.named_of name.now (words_in operands.entry)) } }
 {
     if is(name, b"store") {
         store(operands, value)
@@ -250,7 +257,8 @@ fn entry_said(line: &[u8], number: u64, value: &mut Bytes) -> Option<[u8; 64]>
     requires fits { length line.now ≤ 2 * value.old.room }
     requires short { length line.now < 2 ^ 32 }
     ensures entry { result ≡ option_map (λ s. s.0) (spec.entry_said number (words line.now)) }
-    ensures value { value.new ≡ record value.old { items = spec.brought (spec.entry_said number (words line.now)) } }
+    ensures value { value.new
+        ≡ record value.old { items = spec.brought (spec.entry_said number (words line.now)) } }
 {
     let (name, rest) = split_word(line);
     let operands = words_behind(rest);
@@ -273,8 +281,11 @@ pub fn assemble_line(
 ) -> Result<Option<[u8; 64]>, BadLine>
     requires { 1100000 ≤ value.old.room }
     // `BadLine` comes exactly outside the grammar.
-    ensures exact { MatchResult result (λ entry. option_map spec.entry_in (spec.says number line.now) ≡ Some entry) (λ _. spec.says number line.now ≡ None) }
-    ensures value { value.new ≡ record value.old { items = spec.bytes_in (spec.says number line.now) } }
+    ensures exact { MatchResult result
+        (λ entry. option_map spec.entry_in (spec.says number line.now) ≡ Some entry)
+        (λ _. spec.says number line.now ≡ None) }
+    ensures value { value.new
+        ≡ record value.old { items = spec.bytes_in (spec.says number line.now) } }
 {
     value.clear();
     if line.len() > MOST_BYTES {

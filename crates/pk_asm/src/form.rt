@@ -4,6 +4,8 @@ ghost use Rattle.pk_asm.specs.Form.{entry_with, form_entry};
 
 use pk_base::{Key, put_padded};
 use pk_nvme::Request;
+use pk_nvme::limits::NAMESPACE;
+use pk_nvme::opcode::{DELETE, EXIST, FLUSH, LIST, REPORT, RETRIEVE, STORE, TICK};
 
 /// A command as a named line gives it; the bytes of a Store stand beside it.
 #[derive(Drop)]
@@ -31,7 +33,7 @@ fn entry_of(number: u64, opcode: u8, key: &[u8], size: u32, options: u8) -> [u8;
     let request = Request {
         opcode,
         cid: (number % 65536) as u16,
-        namespace: 1,
+        namespace: NAMESPACE,
         key_len: key.len() as u8,
         key: place,
         size,
@@ -50,21 +52,21 @@ impl Form {
         match self {
             Form::Store { key, size, options } => entry_of(
                 number,
-                0x01,
+                STORE,
                 key.bytes(),
                 *size,
                 *options,
             ),
-            Form::Retrieve { key, size } => entry_of(number, 0x02, key.bytes(), *size, 0),
-            Form::Delete { key } => entry_of(number, 0x10, key.bytes(), 0, 0),
-            Form::Exist { key } => entry_of(number, 0x14, key.bytes(), 0, 0),
+            Form::Retrieve { key, size } => entry_of(number, RETRIEVE, key.bytes(), *size, 0),
+            Form::Delete { key } => entry_of(number, DELETE, key.bytes(), 0, 0),
+            Form::Exist { key } => entry_of(number, EXIST, key.bytes(), 0, 0),
             Form::ListFrom { from, size } => match from {
-                Some(key) => entry_of(number, 0x06, key.bytes(), *size, 0),
-                None => entry_of(number, 0x06, b"", *size, 0),
+                Some(key) => entry_of(number, LIST, key.bytes(), *size, 0),
+                None => entry_of(number, LIST, b"", *size, 0),
             },
-            Form::Flush => entry_of(number, 0x00, b"", 0, 0),
-            Form::Report => entry_of(number, 0xC2, b"", 0, 0),
-            Form::Tick { steps } => entry_of(number, 0xC0, b"", *steps, 0),
+            Form::Flush => entry_of(number, FLUSH, b"", 0, 0),
+            Form::Report => entry_of(number, REPORT, b"", 0, 0),
+            Form::Tick { steps } => entry_of(number, TICK, b"", *steps, 0),
         }
     }
 }

@@ -13,6 +13,3 @@ pub use form::Form;
 pub use operands::Operands;
 pub use printed::print;
 pub use words::{bytes_word, entry_word, key, number};
-
-#[cfg(test)]
-mod tests;

@@ -9,6 +9,7 @@ ghost use Rattle.pk_asm.specs.Printed as spec;
 use crate::form::Form;
 use crate::writer::{Word, put_line};
 use pk_base::Key;
+use pk_nvme::opcode::{DELETE, EXIST, FLUSH, LIST, REPORT, RETRIEVE, STORE, TICK};
 use pk_nvme::{Bytes, Request};
 
 /// The key of a request, if its length is that of a key.
@@ -24,7 +25,8 @@ fn key_of(request: &Request) -> Option<Key>
 }
 
 fn store(request: &Request, value: &[u8]) -> Option<Form>
-    ensures { result ≡ spec.store_candidate request.now.key_len request.now.key request.now.size request.now.options (length value.now) }
+    ensures { result ≡ spec.store_candidate request.now.key_len request.now.key request.now.size
+        request.now.options (length value.now) }
 {
     if request.size as usize != value.len() || request.options >= 4 {
         return None;
@@ -40,7 +42,8 @@ fn store(request: &Request, value: &[u8]) -> Option<Form>
 }
 
 fn retrieve(request: &Request) -> Option<Form>
-    ensures { result ≡ spec.retrieve_candidate request.now.key_len request.now.key request.now.size }
+    ensures { result
+        ≡ spec.retrieve_candidate request.now.key_len request.now.key request.now.size }
 {
     match key_of(request) {
         Some(key) => Some(Form::Retrieve {
@@ -91,23 +94,23 @@ fn candidate(request: &Request, value: &[u8]) -> Option<Form>
     ensures { result ≡ spec.candidate (command_of request.now value.now) }
 {
     let opcode = request.opcode;
-    if opcode == 0x01 {
+    if opcode == STORE {
         store(request, value)
     } else if !value.is_empty() {
         None
-    } else if opcode == 0x02 {
+    } else if opcode == RETRIEVE {
         retrieve(request)
-    } else if opcode == 0x10 {
+    } else if opcode == DELETE {
         delete(request)
-    } else if opcode == 0x14 {
+    } else if opcode == EXIST {
         exist(request)
-    } else if opcode == 0x06 {
+    } else if opcode == LIST {
         list(request)
-    } else if opcode == 0x00 {
+    } else if opcode == FLUSH {
         Some(Form::Flush)
-    } else if opcode == 0xC2 {
+    } else if opcode == REPORT {
         Some(Form::Report)
-    } else if opcode == 0xC0 {
+    } else if opcode == TICK {
         Some(Form::Tick {
             steps: request.size,
         })
@@ -142,7 +145,8 @@ fn form_that_gives(number: u64, entry: &[u8; 64], value: &[u8]) -> Option<Form>
 
 /// The line of a Store with these option bits, and its line feed, where they fit.
 fn put_store<'a>(key: &'a [u8], options: u8, value: &'a [u8], into: &mut Bytes) -> bool
-    ensures { WritesLine (spec.line_of (codes "store" ∷ hex_text key.now ∷ bytes_text value.now ∷ spec.option_words options)) into.old into.new result }
+    ensures { WritesLine (spec.line_of (codes "store" ∷ hex_text key.now ∷ bytes_text value.now
+        ∷ spec.option_words options)) into.old into.new result }
 {
     let key = Word::Hex(key);
     let bytes = Word::of_bytes(value);
@@ -155,7 +159,9 @@ fn put_store<'a>(key: &'a [u8], options: u8, value: &'a [u8], into: &mut Bytes) 
 }
 
 fn put_list(from: &Option<Key>, size: u32, into: &mut Bytes) -> bool
-    ensures { WritesLine (spec.line_of (codes "list" ∷ spec.from_text from.now ∷ number_text size ∷ [])) into.old into.new result }
+    ensures { WritesLine
+        (spec.line_of (codes "list" ∷ spec.from_text from.now ∷ number_text size ∷ [])) into.old
+        into.new result }
 {
     match from {
         Some(key) => put_line(b"list", &[Word::Hex(key.bytes()), Word::Number(size)], into),
@@ -191,7 +197,8 @@ fn put_form(form: &Form, value: &[u8], into: &mut Bytes) -> bool
 pub fn print(entry: &[u8; 64], value: &[u8], number: u64, into: &mut Bytes) -> bool
     ensures line { WritesLine (spec.printed number entry.now value.now) into.old into.new result }
     // The named line is printed exactly where it can be, and what is printed is assembled to the same entry and bytes.
-    ensures prints { spec.Prints number entry.now value.now (spec.printed number entry.now value.now) }
+    ensures prints { spec.Prints number entry.now value.now
+        (spec.printed number entry.now value.now) }
 {
     match form_that_gives(number, entry, value) {
         Some(form) => put_form(&form, value, into),

@@ -40,7 +40,8 @@ fn with_digit(value: u32, digit: u8) -> Option<u32>
 /// The number that these decimal digits are, below 2^32.
 fn value_of(digits: &[u8]) -> Option<u32>
     requires { list_all is_ascii_digit digits.now ≡ true }
-    ensures { result ≡ (if nat_lt (digits_value 10 digits.now) (2 ^ 32) then Some (digits_value 10 digits.now) else None) }
+    ensures { result ≡ (if nat_lt (digits_value 10 digits.now) (2 ^ 32) then Some
+        (digits_value 10 digits.now) else None) }
 {
     let mut value: u32 = 0;
     for digit in digits {
@@ -120,7 +121,8 @@ fn decode(word: &[u8], value: &mut Bytes) -> bool
     requires even { length word.now % 2 ≡ 0 }
     requires fits { length word.now ≤ 2 * value.old.room }
     ensures read { result ≡ is_some (result_ok (decode_of word.now)) }
-    ensures value { result ≡ true → value.new ≡ record value.old { items = unwrap_or (result_ok (decode_of word.now)) [] } }
+    ensures value { result ≡ true
+        → value.new ≡ record value.old { items = unwrap_or (result_ok (decode_of word.now)) [] } }
     ensures room { value.new.room ≡ value.old.room }
     ensures short { 2 * length value.new.items ≤ length word.now }
 {

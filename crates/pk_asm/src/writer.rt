@@ -47,7 +47,8 @@ impl<'a> Word<'a> {
     /// The word behind a blank.
     fn put(self, into: &mut Bytes)
         requires { length into.old.items + (1 + length (word_text self)) ≤ into.old.room }
-        ensures { into.new ≡ record into.old { items = into.old.items ++ 32 ∷ word_text self.entry } }
+        ensures { into.new
+            ≡ record into.old { items = into.old.items ++ 32 ∷ word_text self.entry } }
     {
         into.push(b' ');
         match self {
@@ -107,7 +108,8 @@ fn put_words(words: &[Word], into: &mut Bytes)
 
 /// Whether a line that begins with this word, and its line feed, fit into so many bytes.
 fn line_fits(name: &[u8], words: &[Word], left: usize) -> bool
-    ensures { result ≡ (nat_le (length (name.now ++ tail_text words.now)) 2200000 && nat_le (length (name.now ++ tail_text words.now) + 1) left) }
+    ensures { result ≡ (nat_le (length (name.now ++ tail_text words.now)) 2200000 && nat_le
+        (length (name.now ++ tail_text words.now) + 1) left) }
 {
     if left == 0 {
         return false;

@@ -46,14 +46,14 @@ impl<A: Region> Model for Buffer<A> {
 fn comes_before(slot: &Slot, key: &Key) -> bool
     ensures { result ≡ is_below_key key.now (content slot.now) }
 {
-    is_below(slot.entry.key().bytes(), key.bytes())
+    is_below(slot.entry.key(), key)
 }
 
 // Whether the slot has this key.
 fn has(slot: &Slot, key: &Key) -> bool
     ensures { result ≡ has_key key.now (content slot.now) }
 {
-    compare(slot.entry.key().bytes(), key.bytes()).is_eq()
+    compare(slot.entry.key(), key).is_eq()
 }
 
 // How many slots stand before the first key that is not below this one.
@@ -78,8 +78,10 @@ fn place(slots: &[Slot], key: &Key) -> usize
 // Where the key is, or where it would go.
 fn search(slots: &[Slot], key: &Key) -> Result<usize, usize>
     requires { T (is_sorted key_cmp (contents slots.now)) }
-    ensures found { IfOk result (λ i. (i ≡ place_of key.now (contents slots.now)) × (has_at key.now (contents slots.now) i ≡ true)) }
-    ensures absent { IfErr result (λ i. (i ≡ place_of key.now (contents slots.now)) × (has_at key.now (contents slots.now) i ≡ false)) }
+    ensures found { IfOk result (λ i. (i ≡ place_of key.now (contents slots.now))
+        × (has_at key.now (contents slots.now) i ≡ true)) }
+    ensures absent { IfErr result (λ i. (i ≡ place_of key.now (contents slots.now))
+        × (has_at key.now (contents slots.now) i ≡ false)) }
     ensures bound { MatchResult result (λ i. i < length slots.now) (λ i. i ≤ length slots.now) }
 {
     let at = place(slots, key);
@@ -134,7 +136,9 @@ impl<A: Region> Buffer<A> {
 
     /// The entry of the key.
     pub fn get(&self, key: &Key) -> Option<Entry>
-        ensures { MatchOption result (find key_cmp key.now self.now.entries ≡ None) (λ e. (key_of (entry e) ≡ key.now) × (find key_cmp key.now self.now.entries ≡ Some (entry e).1)) }
+        ensures { MatchOption result (find key_cmp key.now self.now.entries ≡ None)
+            (λ e. (key_of (entry e) ≡ key.now)
+            × (find key_cmp key.now self.now.entries ≡ Some (entry e).1)) }
     {
         match search(self.slots.as_slice(), key) {
             Ok(at) => Some(self.slots.as_slice()[at].entry.copy()),
@@ -144,8 +148,10 @@ impl<A: Region> Buffer<A> {
 
     /// Writes the entry over the one of its key, or adds it, for which there must be room.
     pub fn put(&mut self, new: Entry)
-        requires { (length self.old.entries < self.old.capacity) ⊎ IsSome (find key_cmp (key_of (entry new)) self.old.entries) }
-        ensures { self.new ≡ record self.old { entries = put key_cmp (key_of (entry new)) (entry new).1 self.old.entries } }
+        requires { (length self.old.entries < self.old.capacity)
+            ⊎ IsSome (find key_cmp (key_of (entry new)) self.old.entries) }
+        ensures { self.new ≡ record self.old
+            { entries = put key_cmp (key_of (entry new)) (entry new).1 self.old.entries } }
     {
         match search(self.slots.as_slice(), new.key()) {
             Ok(at) => {
@@ -173,6 +179,3 @@ impl<A: Region> Buffer<A> {
         mem::swap(self, other);
     }
 }
-
-#[cfg(test)]
-mod tests;

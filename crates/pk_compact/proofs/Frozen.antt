@@ -9,7 +9,7 @@ use Rattle.pk_base.specs.Page.{Flash, page_at}
 use Rattle.pk_base.specs.Map.{Map}
 use Rattle.pk_plan.specs.declared.owner.Owner.TheVariants.{Journal}
 use Rattle.pk_nand.specs.BoardState.{BoardState}
-use Rattle.pk_nand.specs.Calls.{IsReady}
+use Rattle.pk_nand.specs.Calls.{IsReady, IsErasedBlock}
 use Rattle.pk_rootfmt.specs.Root.{Root, is_root, differ}
 use Rattle.pk_rootfmt.specs.Held.{Held, two_of}
 use Rattle.pk_rootfmt.specs.Newest.{newest_root}
@@ -19,7 +19,7 @@ use Rattle.pk_model.proofs.Commits.{root_valid, member, injective, differ_front}
 use Rattle.pk_model.proofs.ValueSets.{is_true}
 use Rattle.pk_pool.specs.declared.state.BlockState.{BlockState}
 use Rattle.pk_pool.specs.declared.state.BlockState.TheVariants.{Free, Ready, Owned}
-use Rattle.pk_pool.specs.Blocks.{Blocks, IsShared, IsSpare, IsErasedBlock, Fits as PoolFits}
+use Rattle.pk_pool.specs.Blocks.{Blocks, IsShared, IsSpare, Fits as PoolFits}
 use Rattle.pk_pool.proofs.States.{get-set_other, set_is, free_is_not_root, ready_is_not_root}
 use Rattle.pk_pool.proofs.Sharing.{behind_roots}
 use Rattle.pk_pool.proofs.Fitting.{Fits-same}
@@ -28,19 +28,19 @@ use Rattle.pk_root.specs.Installing.{Fits, SameBehind}
 use Rattle.pk_root.proofs.Places.{Fits-by_same}
 use Rattle.pk_steps.specs.Under.{IsUnder}
 use Rattle.pk_steps.specs.Roots.{frozen_root, frozen}
-use Rattle.pk_drive.specs.Growth.{Reaches, Goes}
-use Rattle.pk_drive.specs.Tick.{TickCut}
-use Rattle.pk_drive.specs.Wear.{root_number}
-use Rattle.pk_compact.specs.Working.{Works, Stops}
+use Rattle.pk_model.specs.Growth.{Reaches, Goes}
+use Rattle.pk_model.specs.Crashes.{CrashFinds, background}
+use Rattle.pk_model.specs.Wear.{root_number}
+use Rattle.pk_nand.specs.Effects.{Works, Stops}
 use Rattle.pk_compact.specs.Freezing.{IsApart, MayFreeze, AreTwo, Froze, with_two, given_back}
 use Rattle.pk_compact.specs.Steps.{TakesTwo, FailsToTake, InstallsAll, FailsToFinish, next_root}
-use Rattle.pk_compact.proofs.Counts.{works_then, stops_then}
-use Rattle.pk_compact.proofs.Running.{run_then, go_then}
+use Rattle.pk_nand.proofs.Effects.{works_then, stops_then}
+use Rattle.pk_model.proofs.Running.{run_then, go_then}
 use Rattle.pk_compact.proofs.Taking.{spare_before, two_works, two_leave, two_front, two_reach, two_under, failed_stops, failed_goes}
 use Rattle.pk_compact.proofs.Grammar.{Known, known, next_is_root}
 use Rattle.pk_compact.proofs.Apart.{apart_after}
 use Rattle.pk_compact.proofs.Numbering.{same_front, take_number, finish_number}
-use Rattle.pk_compact.proofs.Installing.{Finished, finish, finish_goes, works_all, stops_all, erased_behind}
+use Rattle.pk_compact.proofs.Installing.{finish, finish_goes, works_all, stops_all, erased_behind}
 
 -- ---- lists and states
 
@@ -99,7 +99,7 @@ module _ (pool : Blocks) (root : Held) (next : Next) (has_entries : Bool) (old :
   former_is : (former : List ℕ) → former ≡ two_of root.root.newest → former ≡ root.root.newest
   former_is former e = e ∙ two_same root.root.newest grammar.two
 
-  pub take_goes : (new : BoardState) → FailsToTake pool old new → Goes root.shape old new (TickCut root.shape m)
+  pub take_goes : (new : BoardState) → FailsToTake pool old new → Goes root.shape old new (CrashFinds root.shape background old.pages m)
   take_goes new failed = failed_goes root.shape is_shape pool old new ready top found m may.under apart spare_behind failed
 
   pub take_stops : (new : BoardState) → FailsToTake pool old new → Stops old new
@@ -176,7 +176,7 @@ module _ (pool : Blocks) (root : Held) (next : Next) (has_entries : Bool) (old :
 
     -- ---- what was done
 
-    reach : Reaches root.shape old mid (TickCut root.shape m)
+    reach : Reaches root.shape old mid (CrashFinds root.shape background old.pages m)
     reach = two_reach root.shape is_shape pool old mid ready top found m may.under apart spare_behind t.first t.second t.between t.first_taken t.first_spare t.second_spare t.second_taken
 
     under : IsUnder root.shape mid.pages [] top found m
@@ -188,7 +188,7 @@ module _ (pool : Blocks) (root : Held) (next : Next) (has_entries : Bool) (old :
     second_erased : IsErasedBlock root.shape mid.pages t.second
     second_erased = let P : Shape → Type 0 = λ s. IsErasedBlock s mid.pages t.second in subst P may.pool_shape t.second_erased
 
-    install_goes : (new : BoardState) → FailsToFinish root.shape (next_root root.root blocks has_entries) next mid new → Goes root.shape old new (TickCut root.shape m)
+    install_goes : (new : BoardState) → FailsToFinish root.shape (next_root root.root blocks has_entries) next mid new → Goes root.shape old new (CrashFinds root.shape background old.pages m)
     install_goes new failed =
         let P : Root → Type 0 = λ r. FailsToFinish root.shape r next mid new in
         go_then root.shape m old mid new ready.shape_is reach
@@ -242,7 +242,7 @@ module _ (pool : Blocks) (root : Held) (next : Next) (has_entries : Bool) (old :
       pub held_pool : (new : BoardState) → SameBehind held.shape mid.pages new.pages → PoolFits pool' mid.pages → PoolFits pool' new.pages
       held_pool new same = let P : Held → Type 0 = λ h. SameBehind h.shape mid.pages new.pages in still_fits new (subst P followed same)
 
-      pub held_goes : (new : BoardState) → FailsToFinish held.shape held.root next mid new → Goes root.shape old new (TickCut root.shape m)
+      pub held_goes : (new : BoardState) → FailsToFinish held.shape held.root next mid new → Goes root.shape old new (CrashFinds root.shape background old.pages m)
       held_goes new failed = let P : Held → Type 0 = λ h. FailsToFinish h.shape h.root next mid new in install_goes new (subst P followed failed)
 
       pub held_froze : (former : List ℕ) (next' : Next) (new : BoardState) (pool'' : Blocks) → former ≡ two_of root.root.newest

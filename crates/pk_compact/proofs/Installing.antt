@@ -9,7 +9,7 @@ use Rattle.pk_base.specs.Mark.{erase, program, after}
 use Rattle.pk_base.proofs.ShapeLemmas.{block_pages_positive}
 use Rattle.pk_nand.specs.BoardState.{BoardState}
 use Rattle.pk_nand.specs.Cut.{Interrupted}
-use Rattle.pk_nand.specs.Calls.{IsReady, after_erase, after_program, ProgramFailed, EraseFailed}
+use Rattle.pk_nand.specs.Calls.{IsReady, after_erase, after_program, ProgramFailed, EraseFailed, IsErasedBlock}
 use Rattle.pk_nand.proofs.Leaving.{interrupted_done}
 use Rattle.pk_nand.proofs.Writing.{shape_is}
 use Rattle.pk_rootfmt.specs.Root.{Root, is_root, root_bytes}
@@ -23,23 +23,23 @@ use Rattle.pk_model.proofs.RootAlone.{found_alone, values_behind}
 use Rattle.pk_model.proofs.SamePages.{map_under_same}
 use Rattle.pk_model.proofs.Commits.{root_valid}
 use Rattle.pk_model.proofs.Entries.{counting_all, journal_are, meta_are}
-use Rattle.pk_pool.specs.Blocks.{IsErasedBlock}
 use Rattle.pk_root.specs.declared.next.Next.{Next}
 use Rattle.pk_root.specs.declared.next.Next.TheVariants.{Erase, Program}
 use Rattle.pk_root.specs.Installing.{other_block, Fits, SameBehind, FailsToInstall, FailsToErase}
-use Rattle.pk_root.proofs.Places.{page_below, in_block}
+use Rattle.pk_root.proofs.Places.{in_block}
+use Rattle.pk_root.proofs.Installs.{behind_block, behind_page}
 use Rattle.pk_root.proofs.Scanning.{root_page_exists}
 use Rattle.pk_pool.proofs.Fitting.{IsReady-erase}
 use Rattle.pk_steps.specs.Under.{IsUnder}
 use Rattle.pk_steps.specs.Roots.{frozen_root, frozen}
 use Rattle.pk_steps.proofs.Untouched.{under_reads}
 use Rattle.pk_steps.proofs.Freezing.{freezes}
-use Rattle.pk_drive.specs.Growth.{Grows, Reaches, Goes}
-use Rattle.pk_drive.specs.Tick.{TickCut}
-use Rattle.pk_compact.specs.Working.{Works, Stops}
+use Rattle.pk_model.specs.Growth.{Grows, Reaches, Goes}
+use Rattle.pk_model.specs.Crashes.{CrashFinds, background}
+use Rattle.pk_nand.specs.Effects.{Works, Stops}
 use Rattle.pk_compact.specs.Steps.{MayEraseOther, InstallsAll, FailsToFinish}
-use Rattle.pk_compact.proofs.Counts.{works_none, works_erase, works_program, works_then, stops_erase, stops_program, stops_then}
-use Rattle.pk_compact.proofs.Running.{Reaches-none, Reaches-erase, Goes-erase, Reaches-program, Goes-program, run_then, go_then}
+use Rattle.pk_nand.proofs.Effects.{works_none, works_erase, works_program, works_then, stops_erase, stops_program, stops_then}
+use Rattle.pk_model.proofs.Running.{Reaches-none, Reaches-erase, Goes-erase, Reaches-program, Goes-program, run_then, go_then}
 
 -- where the newest root is the same, and nothing behind the root blocks differs
 pub under_behind : (shape : Shape) (flash cut : Flash) (top : ℕ × Root) (found : Found) (m : Map) → IsShape shape → IsUnder shape flash [] top found m
@@ -61,15 +61,12 @@ module _ (shape : Shape) (is_shape : IsShape shape) (top : ℕ × Root) (found :
   other = other_block shape beside
 
   nothing_behind : (f : Flash) → Interrupted shape (erase other) old.pages f [] → SameBehind shape old.pages f
-  nothing_behind f cut k high = elim (cut.pages k) [
-    | inl same ↦ same
-    | inr is ↦ (let here : k / shape.block_pages ≡ other = is.0 in let below : k < 2 * shape.block_pages = page_below shape.block_pages k (block_pages_positive shape is_shape) (omega (arith, here)) in absurd (omega (arith, below, high)))
-  ]
+  nothing_behind f cut k high = behind_block shape (erase other) k other _ _ (block_pages_positive shape is_shape) refl (omega arith) high (cut.pages k)
 
   still_under : (f : Flash) → Interrupted shape (erase other) old.pages f [] → IsUnder shape f [] top found m
   still_under f cut = under_behind shape old.pages f top found m is_shape under (root_erase shape old.pages top other f [] fits.newest fits.possible.elsewhere (inl cut)) (nothing_behind f cut)
 
-  holds : (f : Flash) → Interrupted shape (erase other) old.pages f [] → TickCut shape m f []
+  holds : (f : Flash) → Interrupted shape (erase other) old.pages f [] → CrashFinds shape background old.pages m f []
   holds f cut = (refl, under_reads shape f [] top found m (still_under f cut))
 
   finished : Interrupted shape (erase other) old.pages (after shape (erase other) old.pages) []
@@ -78,11 +75,11 @@ module _ (shape : Shape) (is_shape : IsShape shape) (top : ℕ × Root) (found :
   grows : Grows shape old.pages (after shape (erase other) old.pages)
   grows = inl ((still_under (after shape (erase other) old.pages) finished).is_top ∙ sym under.is_top)
 
-  pub other_reaches : (new : BoardState) → new ≡ after_erase old other → Reaches shape old new (TickCut shape m)
-  other_reaches new made = Reaches-erase shape old (TickCut shape m) ready.shape_is other holds grows new made
+  pub other_reaches : (new : BoardState) → new ≡ after_erase old other → Reaches shape old new (CrashFinds shape background old.pages m)
+  other_reaches new made = Reaches-erase shape old (CrashFinds shape background old.pages m) ready.shape_is other holds grows new made
 
-  pub other_goes : (new : BoardState) → EraseFailed old new other → Goes shape old new (TickCut shape m)
-  other_goes new failed = Goes-erase shape old (TickCut shape m) ready.shape_is other holds grows new failed
+  pub other_goes : (new : BoardState) → EraseFailed old new other → Goes shape old new (CrashFinds shape background old.pages m)
+  other_goes new failed = Goes-erase shape old (CrashFinds shape background old.pages m) ready.shape_is other holds grows new failed
 
   pub other_under : (new : BoardState) → new ≡ after_erase old other → IsUnder shape new.pages [] top found m
   other_under new made =
@@ -133,15 +130,12 @@ module _ (shape : Shape) (is_shape : IsShape shape) (top : ℕ × Root) (found :
       }
 
   nothing_behind' : (f : Flash) → Interrupted shape (program page bytes) old.pages f [] → SameBehind shape old.pages f
-  nothing_behind' f cut k high = elim (cut.pages k) [
-    | inl same ↦ same
-    | inr is ↦ (let here : k ≡ page = is.0 in let below = install.in_root_blocks in absurd (omega (arith, here, below, high)))
-  ]
+  nothing_behind' f cut k high = behind_page shape page bytes k _ _ install.in_root_blocks high (cut.pages k)
 
   frozen_there : (f : Flash) → newest_root shape (page_at f) ≡ Some (page, new_root) → SameBehind shape old.pages f → IsUnder shape f [] (page, new_root) (frozen found) m × Follows shape old.pages f
   frozen_there f newest same = freezes shape old.pages f top page found m first second is_shape under none_older valid newest same (epoch_erased shape old.pages first second is_shape first_erased second_erased)
 
-  holds' : (f : Flash) → Interrupted shape (program page bytes) old.pages f [] → TickCut shape m f []
+  holds' : (f : Flash) → Interrupted shape (program page bytes) old.pages f [] → CrashFinds shape background old.pages m f []
   holds' f cut = elim (root_program shape old.pages top page bytes new_root f [] install (inl cut)) [
     | inl former ↦ (refl, under_reads shape f [] top found m (under_behind shape old.pages f top found m is_shape under former (nothing_behind' f cut)))
     | inr new ↦ (refl, under_reads shape f [] (page, new_root) (frozen found) m (frozen_there f new (nothing_behind' f cut)).0)
@@ -150,11 +144,11 @@ module _ (shape : Shape) (is_shape : IsShape shape) (top : ℕ × Root) (found :
   both_there : IsUnder shape (after shape (program page bytes) old.pages) [] (page, new_root) (frozen found) m × Follows shape old.pages (after shape (program page bytes) old.pages)
   both_there = frozen_there (after shape (program page bytes) old.pages) (root_installed shape old.pages top page bytes new_root install) (nothing_behind' (after shape (program page bytes) old.pages) (interrupted_done shape (program page bytes) old.pages))
 
-  pub root_reaches : (new : BoardState) → new ≡ after_program old page bytes → Reaches shape old new (TickCut shape m)
-  root_reaches new made = Reaches-program shape old (TickCut shape m) ready.shape_is page bytes holds' (inr both_there.1) new made
+  pub root_reaches : (new : BoardState) → new ≡ after_program old page bytes → Reaches shape old new (CrashFinds shape background old.pages m)
+  root_reaches new made = Reaches-program shape old (CrashFinds shape background old.pages m) ready.shape_is page bytes holds' (inr both_there.1) new made
 
-  pub root_goes : (new : BoardState) → ProgramFailed old new page bytes → Goes shape old new (TickCut shape m)
-  root_goes new failed = Goes-program shape old (TickCut shape m) ready.shape_is page bytes holds' (inr both_there.1) new failed
+  pub root_goes : (new : BoardState) → ProgramFailed old new page bytes → Goes shape old new (CrashFinds shape background old.pages m)
+  root_goes new failed = Goes-program shape old (CrashFinds shape background old.pages m) ready.shape_is page bytes holds' (inr both_there.1) new failed
 
   pub root_under : (new : BoardState) → new ≡ after_program old page bytes → IsUnder shape new.pages [] (page, new_root) (frozen found) m
   root_under new made = let T : BoardState → Type 0 = λ s. IsUnder shape s.pages [] (page, new_root) (frozen found) m in subst T (sym made) both_there.0
@@ -167,7 +161,7 @@ erased_behind shape b old new least same is k low high = let twice : 2 * shape.b
 
 -- the same root is the newest, and the next one can be installed
 pub record Prepared (shape : Shape) (top : ℕ × Root) (found : Found) (m : Map) (old : BoardState) (next : Next) (new : BoardState) : Type 0 where
-  pub reaches : Reaches shape old new (TickCut shape m)
+  pub reaches : Reaches shape old new (CrashFinds shape background old.pages m)
   pub ready : IsReady new shape
   pub fits : Fits shape next top new.pages
   pub under : IsUnder shape new.pages [] top found m
@@ -196,7 +190,7 @@ module _ (shape : Shape) (is_shape : IsShape shape) (top : ℕ × Root) (found :
       let T : BoardState → Type 0 = λ s. Prepared shape top found m old next' s in
       let S : Next → Type 0 = λ n. Fits shape n top old.pages in
       subst T (sym same.1) (record {
-        reaches = Reaches-none shape old (TickCut shape m) ready.shape_is old refl (refl, under_reads shape old.pages [] top found m under);
+        reaches = Reaches-none shape old (CrashFinds shape background old.pages m) ready.shape_is old refl (refl, under_reads shape old.pages [] top found m under);
         ready = ready;
         fits = subst S (sym same.0) fits;
         under = under;
@@ -220,7 +214,7 @@ module _ (shape : Shape) (is_shape : IsShape shape) (top : ℕ × Root) (found :
     -- the newest root is that of the freeze, and the map is the same
     pub record Finished (next' : Next) : Type 0 where
       pub page : ℕ
-      pub reaches : Reaches shape old new (TickCut shape m)
+      pub reaches : Reaches shape old new (CrashFinds shape background old.pages m)
       pub frozen_under : IsUnder shape new.pages [] (page, frozen_root top.1 found first second) (frozen found) m
       pub installs : Fits shape next' (page, frozen_root top.1 found first second) new.pages
 
@@ -239,7 +233,7 @@ module _ (shape : Shape) (is_shape : IsShape shape) (top : ℕ × Root) (found :
           installs = i.installed.fits;
         }
 
-    pub finish_goes : FailsToFinish shape (frozen_root top.1 found first second) next old new → Goes shape old new (TickCut shape m)
+    pub finish_goes : FailsToFinish shape (frozen_root top.1 found first second) next old new → Goes shape old new (CrashFinds shape background old.pages m)
     finish_goes i =
         let p = prepare next old i.then_next i.between ready fits under i.prepared in
         let S : Next → Type 0 = λ n. Fits shape n top i.between.pages in

@@ -1,5 +1,3 @@
-pub mod Counts
-pub mod Running
 pub mod Taking
 pub mod Installing
 pub mod Grammar

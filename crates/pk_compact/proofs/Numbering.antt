@@ -1,20 +1,21 @@
 -- The number of the newest root, where a freeze failed.
-use Rattle.std.proofs.Common.{◌≡◌, ◌⊎◌, inl, inr, ℕ, ◌+◌, ◌*◌, ◌/◌, ◌<◌, ◌≤◌, refl, sym, ap, subst, ◌∙◌, arith, Some}
+use Rattle.std.proofs.Common.{◌≡◌, ◌⊎◌, inl, inr, ℕ, ◌+◌, ◌/◌, ◌≤◌, refl, ap, subst, ◌∙◌, arith, Some}
 use Rattle.pk_base.specs.Shape.{Shape, IsShape}
 use Rattle.pk_base.specs.Page.{Flash, page_at}
-use Rattle.pk_base.specs.Mark.{all_posted}
+use Rattle.pk_base.specs.Mark.{erase, all_posted}
 use Rattle.pk_nand.specs.BoardState.{BoardState, shape_of}
 use Rattle.pk_nand.specs.Calls.{IsReady, EraseFailed}
+use Rattle.pk_nand.proofs.Touching.{untouched}
 use Rattle.pk_nand.proofs.Writing.{shape_is}
 use Rattle.pk_rootfmt.specs.Root.{Root}
 use Rattle.pk_rootfmt.specs.Newest.{newest_root}
 use Rattle.pk_model.proofs.SamePages.{newest_root_same}
 use Rattle.pk_pool.specs.Blocks.{Blocks, IsSpare}
 use Rattle.pk_root.specs.declared.next.Next.{Next}
-use Rattle.pk_root.specs.Installing.{KeepsRoot, MayInstall, FailsToInstall, FailsToErase}
+use Rattle.pk_root.specs.Installing.{KeepsRoot, FailsToInstall, FailsToErase}
 use Rattle.pk_root.specs.Laws.{SameFront}
-use Rattle.pk_drive.specs.Wear.{root_number}
-use Rattle.pk_drive.proofs.Growing.{at_end}
+use Rattle.pk_model.specs.Wear.{root_number}
+use Rattle.pk_model.proofs.Growing.{at_end}
 use Rattle.pk_compact.specs.Steps.{FailsToTake, FailsToFinish, MayEraseOther}
 use Rattle.pk_compact.proofs.Taking.{leaves_others, not_behind, still_ready}
 
@@ -34,10 +35,8 @@ same_front shape old new same = same_newest shape old new (newest_root_same shap
 module _ (shape : Shape) (is_shape : IsShape shape) (block : ℕ) (behind : 2 ≤ block) (old new : BoardState) (ready : IsReady old shape) where
   failed_front : EraseFailed old new block → SameFront shape old.pages new.pages
   failed_front failed k low = elim failed.left [
-    | inl marked ↦ elim (marked.0.pages k) [
-      | inl same ↦ same
-      | inr is ↦ absurd (not_behind shape block k is_shape behind low (subst (λ (s : Shape). k / s.block_pages ≡ block) (shape_is old shape ready) is.0))
-    ]
+    | inl marked ↦
+        untouched (shape_of old) (erase block) k _ _ (λ is. not_behind shape block k is_shape behind low (subst (λ (s : Shape). k / s.block_pages ≡ block) (shape_is old shape ready) is)) (marked.0.pages k)
     | inr same ↦ ap (λ (f : Flash). page_at f k) same.0
   ]
 

@@ -10,28 +10,34 @@ use Rattle.pk_base.proofs.ShapeLemmas.{block_pages_positive}
 use Rattle.pk_plan.specs.declared.owner.Owner.TheVariants.{Journal}
 use Rattle.pk_nand.specs.BoardState.{BoardState, shape_of}
 use Rattle.pk_nand.specs.Cut.{Interrupted}
-use Rattle.pk_nand.specs.Calls.{IsReady, EraseFailed}
+use Rattle.pk_nand.specs.Calls.{IsReady, EraseFailed, IsErasedBlock}
 use Rattle.pk_nand.proofs.Leaving.{erased_leaves, page_at-erased_from, interrupted_done}
+use Rattle.pk_nand.proofs.Touching.{untouched}
 use Rattle.pk_nand.proofs.Writing.{shape_is}
 use Rattle.pk_rootfmt.specs.Root.{Root, named}
 use Rattle.pk_model.specs.Found.{Found}
 use Rattle.pk_model.specs.Laws.{AnyByRecursion}
 use Rattle.pk_pool.specs.declared.state.BlockState.{BlockState}
 use Rattle.pk_pool.specs.declared.state.BlockState.TheVariants.{Free, Ready, Owned}
-use Rattle.pk_pool.specs.Blocks.{Blocks, IsSpare, IsErasedBlock, with_state}
+use Rattle.pk_pool.specs.Blocks.{Blocks, IsSpare, with_state}
 use Rattle.pk_pool.specs.Taking.{TakesReady, ErasesFree}
 use Rattle.pk_pool.proofs.States.{get-set_other, get-set_same, owned_is_not_free, owned_is_not_ready}
 use Rattle.pk_pool.proofs.Fitting.{IsReady-erase}
 use Rattle.pk_root.specs.Laws.{SameFront}
 use Rattle.pk_steps.specs.Under.{IsUnder, IsValuePage, places}
 use Rattle.pk_steps.proofs.Untouched.{erases, under_reads}
-use Rattle.pk_drive.specs.Growth.{Grows, Reaches, Goes}
-use Rattle.pk_drive.specs.Tick.{TickCut}
+use Rattle.pk_model.specs.Growth.{Grows, Reaches, Goes}
+use Rattle.pk_model.specs.Crashes.{CrashFinds, background}
 use Rattle.pk_compact.specs.Freezing.{IsApart}
-use Rattle.pk_compact.specs.Working.{Works, Stops}
+use Rattle.pk_nand.specs.Effects.{Works, Stops}
 use Rattle.pk_compact.specs.Steps.{AtMostErases, TakesTwo, FailsToTake}
-use Rattle.pk_compact.proofs.Counts.{works_at_most, works_then, stops_erase, stops_then}
-use Rattle.pk_compact.proofs.Running.{Reaches-none, Reaches-erase, Goes-erase, run_then, go_then}
+use Rattle.pk_nand.proofs.Effects.{works_none, works_erase, works_then, stops_erase, stops_then}
+use Rattle.pk_model.proofs.Running.{Reaches-none, Reaches-erase, Goes-erase, run_then, go_then}
+
+-- at most one erase works
+pub works_at_most : (block : ℕ) (old new : BoardState) → AtMostErases block old new → Works old new
+works_at_most block old new (inl same) = works_none old new same
+works_at_most block old new (inr made) = works_erase old new block made
 
 -- ---- the pool
 
@@ -129,9 +135,9 @@ module _ (shape : Shape) (is_shape : IsShape shape) (top : ℕ × Root) (found :
     (no_value : (k : ℕ) → k / shape.block_pages ≡ block → IsValuePage shape (places found []) k → ⊥) (old : BoardState) (ready : IsReady old shape) (under : IsUnder shape old.pages [] top found m) where
   -- an erase of a block that is not read, done or interrupted
   still_under : (f : Flash) → Interrupted shape (erase block) old.pages f [] → IsUnder shape f [] top found m
-  still_under f cut = erases shape old.pages f [] top found m block is_shape under behind unnamed no_value (λ k other. elim (cut.pages k) [ inl same ↦ same | inr is ↦ absurd (other is.0) ])
+  still_under f cut = erases shape old.pages f [] top found m block is_shape under behind unnamed no_value (λ k other. untouched shape (erase block) k _ _ other (cut.pages k))
 
-  holds : (f : Flash) → Interrupted shape (erase block) old.pages f [] → TickCut shape m f []
+  holds : (f : Flash) → Interrupted shape (erase block) old.pages f [] → CrashFinds shape background old.pages m f []
   holds f cut = (refl, under_reads shape f [] top found m (still_under f cut))
 
   under_after : IsUnder shape (after shape (erase block) old.pages) [] top found m
@@ -140,9 +146,9 @@ module _ (shape : Shape) (is_shape : IsShape shape) (top : ℕ × Root) (found :
   grows : Grows shape old.pages (after shape (erase block) old.pages)
   grows = inl (under_after.is_top ∙ sym under.is_top)
 
-  pub take_reaches : (new : BoardState) → AtMostErases block old new → Reaches shape old new (TickCut shape m)
-  take_reaches new (inl same) = Reaches-none shape old (TickCut shape m) ready.shape_is new same (refl, under_reads shape old.pages [] top found m under)
-  take_reaches new (inr made) = Reaches-erase shape old (TickCut shape m) ready.shape_is block holds grows new made
+  pub take_reaches : (new : BoardState) → AtMostErases block old new → Reaches shape old new (CrashFinds shape background old.pages m)
+  take_reaches new (inl same) = Reaches-none shape old (CrashFinds shape background old.pages m) ready.shape_is new same (refl, under_reads shape old.pages [] top found m under)
+  take_reaches new (inr made) = Reaches-erase shape old (CrashFinds shape background old.pages m) ready.shape_is block holds grows new made
 
   pub take_under : (new : BoardState) → AtMostErases block old new → IsUnder shape new.pages [] top found m
   take_under new (inl same) = let T : BoardState → Type 0 = λ s. IsUnder shape s.pages [] top found m in subst T (sym same) under
@@ -151,8 +157,8 @@ module _ (shape : Shape) (is_shape : IsShape shape) (top : ℕ × Root) (found :
       let S : Shape → Type 0 = λ s. IsUnder shape (after s (erase block) old.pages) [] top found m in
       subst T (sym made) (subst S (sym (shape_is old shape ready)) under_after)
 
-  pub take_goes : (new : BoardState) → EraseFailed old new block → Goes shape old new (TickCut shape m)
-  take_goes new failed = Goes-erase shape old (TickCut shape m) ready.shape_is block holds grows new failed
+  pub take_goes : (new : BoardState) → EraseFailed old new block → Goes shape old new (CrashFinds shape background old.pages m)
+  take_goes new failed = Goes-erase shape old (CrashFinds shape background old.pages m) ready.shape_is block holds grows new failed
 
 -- ---- two takes
 
@@ -172,7 +178,7 @@ module _ (shape : Shape) (is_shape : IsShape shape) (pool : Blocks) (old new : B
 
   module _ (top : ℕ × Root) (found : Found) (m : Map) (under : IsUnder shape old.pages [] top found m) (apart : IsApart shape pool top.1 found) (spare_behind : (b : ℕ) → IsSpare pool b → 2 ≤ b) where
     module _ (first second : ℕ) (between : BoardState) (first_taken : AtMostErases first old between) (first_spare : IsSpare pool first) (second_spare : IsSpare pool second) where
-      first_reaches : Reaches shape old between (TickCut shape m)
+      first_reaches : Reaches shape old between (CrashFinds shape background old.pages m)
       first_reaches = take_reaches shape is_shape top found m first (spare_behind first first_spare) (apart.unnamed first first_spare) (λ k. apart.no_value first k first_spare) old ready under between first_taken
 
       first_under : IsUnder shape between.pages [] top found m
@@ -181,7 +187,7 @@ module _ (shape : Shape) (is_shape : IsShape shape) (pool : Blocks) (old new : B
       first_ready : IsReady between shape
       first_ready = still_ready shape first old between first_taken ready is_shape
 
-      pub two_reach : AtMostErases second between new → Reaches shape old new (TickCut shape m)
+      pub two_reach : AtMostErases second between new → Reaches shape old new (CrashFinds shape background old.pages m)
       two_reach taken =
           run_then shape m old between new ready.shape_is first_reaches
           (take_reaches shape is_shape top found m second (spare_behind second second_spare) (apart.unnamed second second_spare) (λ k. apart.no_value second k second_spare) between first_ready first_under new taken)
@@ -189,10 +195,10 @@ module _ (shape : Shape) (is_shape : IsShape shape) (pool : Blocks) (old new : B
       pub two_under : AtMostErases second between new → IsUnder shape new.pages [] top found m
       two_under taken = take_under shape is_shape top found m second (spare_behind second second_spare) (apart.unnamed second second_spare) (λ k. apart.no_value second k second_spare) between first_ready first_under new taken
 
-      two_go : EraseFailed between new second → Goes shape old new (TickCut shape m)
+      two_go : EraseFailed between new second → Goes shape old new (CrashFinds shape background old.pages m)
       two_go failed =
           go_then shape m old between new ready.shape_is first_reaches
           (take_goes shape is_shape top found m second (spare_behind second second_spare) (apart.unnamed second second_spare) (λ k. apart.no_value second k second_spare) between first_ready first_under new failed)
 
-    pub failed_goes : FailsToTake pool old new → Goes shape old new (TickCut shape m)
+    pub failed_goes : FailsToTake pool old new → Goes shape old new (CrashFinds shape background old.pages m)
     failed_goes f = two_go f.first f.second f.between f.first_taken f.first_spare f.second_spare f.failed

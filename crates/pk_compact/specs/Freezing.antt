@@ -10,14 +10,15 @@ use Rattle.pk_rootfmt.specs.Held.{Held}
 use Rattle.pk_model.specs.Found.{Found}
 use Rattle.pk_model.specs.Laws.{AnyByRecursion}
 use Rattle.pk_pool.specs.declared.state.BlockState.TheVariants.{Free, Owned}
-use Rattle.pk_pool.specs.Blocks.{Blocks, used_by, with_state, IsSpare, IsErasedBlock, Fits as PoolFits}
+use Rattle.pk_pool.specs.Blocks.{Blocks, used_by, with_state, IsSpare, Fits as PoolFits}
+use Rattle.pk_nand.specs.Calls.{IsErasedBlock}
 use Rattle.pk_root.specs.declared.next.Next.{Next}
 use Rattle.pk_root.specs.Installing.{Fits}
 use Rattle.pk_steps.specs.Under.{IsUnder, IsValuePage, places}
 use Rattle.pk_steps.specs.Roots.{frozen_root, frozen}
-use Rattle.pk_drive.specs.Growth.{Reaches}
-use Rattle.pk_drive.specs.Tick.{TickCut}
-use Rattle.pk_drive.specs.Wear.{root_number}
+use Rattle.pk_model.specs.Growth.{Reaches, Goes}
+use Rattle.pk_model.specs.Crashes.{CrashFinds, background}
+use Rattle.pk_model.specs.Wear.{root_number}
 
 -- no spare block is read: the root names none, and none has a page of a value
 pub record IsApart (shape : Shape) (pool : Blocks) (root : Root) (found : Found) : Type 0 where
@@ -81,4 +82,16 @@ pub record Froze (shape : Shape) (pool : Blocks) (old : BoardState) (has_entries
   pub apart : IsApart shape pool' root' (frozen found)
   pub number : root_number shape new.pages ≡ root_number shape old.pages + 1
   pub elsewhere : SameElsewhere shape first second old.pages new.pages
-  pub cuts : Reaches shape old new (TickCut shape m)
+  pub cuts : Reaches shape old new (CrashFinds shape background old.pages m)
+
+-- the freeze was made, for each of the maps for which it might be
+abbrev pub FreezesAll : Blocks → Held → Next → BoardState → Bool → List ℕ → Blocks → Held → Next → BoardState → Type 0
+FreezesAll pool root next old has_entries blocks pool' root' next' new =
+    (top : ℕ × Root) (found : Found) (m : Map) → MayFreeze pool root next old.pages has_entries top found m
+    → Froze root.shape pool old has_entries top found m blocks pool' root'.root next' new
+
+-- the same of a freeze that was broken off
+abbrev pub FreezeBreaks : Blocks → Held → Next → Bool → BoardState → BoardState → Type 0
+FreezeBreaks pool root next has_entries old new =
+    (top : ℕ × Root) (found : Found) (m : Map) → MayFreeze pool root next old.pages has_entries top found m
+    → Goes root.shape old new (CrashFinds root.shape background old.pages m)

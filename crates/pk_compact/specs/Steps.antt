@@ -2,9 +2,9 @@
 use Rattle.std.specs.Prelude.{◌≡◌, ◌⊎◌, ℕ, ◌+◌, List, [], ◌∷◌, Bool, if◌then◌else◌}
 use Rattle.pk_base.specs.Shape.{Shape}
 use Rattle.pk_nand.specs.BoardState.{BoardState}
-use Rattle.pk_nand.specs.Calls.{after_erase, EraseFailed}
+use Rattle.pk_nand.specs.Calls.{after_erase, EraseFailed, IsErasedBlock}
 use Rattle.pk_rootfmt.specs.Root.{Root}
-use Rattle.pk_pool.specs.Blocks.{Blocks, IsSpare, IsErasedBlock}
+use Rattle.pk_pool.specs.Blocks.{Blocks, IsSpare}
 use Rattle.pk_root.specs.declared.next.Next.{Next}
 use Rattle.pk_root.specs.Installing.{Installs, ErasesOther, FailsToInstall, FailsToErase}
 use Rattle.pk_compact.specs.Freezing.{with_two, AreTwo}

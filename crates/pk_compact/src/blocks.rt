@@ -21,7 +21,8 @@ pub(crate) fn take_two<B: Nand, A: Allocator>(
     requires room { used_by Journal pool.old.states ≤ 2 }
     requires ready { IsReady (B.state board.old) pool.old.shape }
     requires fits { Fits pool.old (B.state board.old).pages }
-    ensures taken { IfOk result (λ blocks. TakesTwo pool.old (B.state board.old) blocks pool.new (B.state board.new)) }
+    ensures taken { IfOk result (λ blocks. TakesTwo pool.old (B.state board.old) blocks pool.new
+        (B.state board.new)) }
     ensures stopped { IfErr result (λ e. e ≡ Stopped) }
     ensures failed { OnErr result (FailsToTake pool.old (B.state board.old) (B.state board.new)) }
     ensures ready { IsReady (B.state board.new) pool.new.shape }
@@ -43,7 +44,8 @@ pub(crate) fn give_back<A: Allocator>(pool: &mut Pool<A>, blocks: [u16; 2], has_
     requires first { slice_get pool.old.states (slice_index blocks 0) ≡ Some (Owned Journal) }
     requires second { slice_get pool.old.states (slice_index blocks 1) ≡ Some (Owned Journal) }
     requires different { slice_index blocks 1 ≢ slice_index blocks 0 }
-    ensures given { pool.new ≡ given_back pool.old (if has_entries then [] else slice_index blocks 0 ∷ slice_index blocks 1 ∷ []) }
+    ensures given { pool.new ≡ given_back pool.old
+        (if has_entries then [] else slice_index blocks 0 ∷ slice_index blocks 1 ∷ []) }
     ensures fits { (flash : Flash) → Fits pool.old flash → Fits pool.new flash }
 {
     if has_entries {

@@ -8,6 +8,3 @@ mod install;
 mod next;
 
 pub use epoch::freeze;
-
-#[cfg(test)]
-mod tests;

@@ -1,6 +1,6 @@
 -- A commit of the pending entries keeps the map.
 use Rattle.std.proofs.Common.{◌≡◌, ◌≢◌, ◌⊎◌, inl, inr, ℕ, ◌+◌, ◌-◌, ◌/◌, ◌<◌, ◌≤◌, if◌then◌else◌, arith, Bool, true, false, List, [], ◌++◌, length, reverse, Some, Result, Ok, Err, refl, sym, ap, subst, ◌∙◌, append-nil}
-use Rattle.std.specs.Prelude.{slice_get, IsOk, OnOk, OnErr}
+use Rattle.std.specs.Prelude.{slice_get, IsOk, IfErr, OnOk, OnErr}
 use Rattle.std.specs.List.{flat_map, concat}
 use Rattle.pk_base.specs.Shape.{Shape, epoch_pages}
 use Rattle.pk_base.specs.Page.{Flash, page_at, page_in, whole}
@@ -12,6 +12,7 @@ use Rattle.pk_base.specs.Mark.{all_posted}
 use Rattle.pk_base.proofs.ShapeLemmas.{block_pages_positive}
 use Rattle.pk_plan.specs.declared.owner.Owner.TheVariants.{Journal, Meta}
 use Rattle.pk_nand.specs.declared.types.Fault.{Fault}
+use Rattle.pk_nand.specs.declared.types.Fault.TheVariants.{Stopped}
 use Rattle.pk_nand.specs.BoardState.{BoardState}
 use Rattle.pk_nand.specs.Calls.{IsReady, after_program}
 use Rattle.pk_nand.proofs.Leaving.{page_at-slice_set}
@@ -33,17 +34,17 @@ use Rattle.pk_steps.specs.Roots.{committed}
 use Rattle.pk_steps.proofs.Untouched.{under_reads}
 use Rattle.pk_data.specs.Placed.{Placed}
 use Rattle.pk_data.proofs.Unchanged.{flash_elsewhere}
-use Rattle.pk_drive.specs.Growth.{Goes}
-use Rattle.pk_drive.specs.Commit.{CommitCut, OneProgram}
-use Rattle.pk_drive.specs.Wear.{root_number, roots}
-use Rattle.pk_drive.proofs.Growing.{weaken, weaken_went, at_end}
-use Rattle.pk_compact.specs.Working.{Works, Stops}
-use Rattle.pk_compact.proofs.Counts.{works_none, works_program, stops_program}
+use Rattle.pk_model.specs.Growth.{Goes}
+use Rattle.pk_model.specs.Crashes.{CrashFinds, commit}
+use Rattle.pk_nand.specs.Effects.{OneProgram, Works, Stops}
+use Rattle.pk_model.specs.Wear.{root_number, roots}
+use Rattle.pk_model.proofs.Growing.{weaken, weaken_went, at_end}
+use Rattle.pk_nand.proofs.Effects.{works_none, works_program, stops_program}
 use Rattle.pk_log.specs.State.{LogState, all_committed}
 use Rattle.pk_log.specs.Commits.{CommitsNone, CommitsAll, CommitFailed, CommitStands, CommitHolds, CommitReaches, CommitGoes, CommitCut as LogCut, Maps}
-use Rattle.pk_core.specs.Parts.{Parts}
+use Rattle.pk_core.specs.Parts.{Parts, jobs_of}
 use Rattle.pk_core.specs.Agreeing.{AgreesWith}
-use Rattle.pk_core.specs.Moves.{StandsFor, Keeps, KeepsAll, BreaksAll}
+use Rattle.pk_core.specs.Moves.{MayStep, StepKeeps, OnlyCommits, StandsFor, Keeps, KeepsAll, BreaksAll}
 use Rattle.pk_core.proofs.Keeping.{KeepsAll-none}
 use Rattle.pk_core.proofs.Standing.{same_found}
 use Rattle.pk_core.proofs.Elsewhere.{StandEach-same, values_same, still_fits}
@@ -99,8 +100,8 @@ module _ (d : Parts) (old new : BoardState) (top : ℕ × Root) (found : Found) 
   after_is =
       let under = holds top found without m maps in
       let same = sym (places_committed found d.log.pending) in
-      let values : Placed its d.space d.pool new.pages (places found d.log.pending) =
-      flash_elsewhere its d.space d.pool old.pages new.pages (places found d.log.pending) agrees.placed (values_same its d.pool old.pages new.pages at owned others)
+      let values : Placed its d.space d.pool (jobs_of d).blocks.values new.pages (places found d.log.pending) =
+      flash_elsewhere its d.space d.pool (jobs_of d).blocks.values old.pages new.pages (places found d.log.pending) agrees.placed (values_same its d.pool old.pages new.pages at owned others (jobs_of d).blocks.values)
       (still_fits its d.pool old.pages new.pages at owned others agrees.placed.shape_is agrees.placed.fits) in
       record {
         shape_is = refl;
@@ -112,19 +113,22 @@ module _ (d : Parts) (old new : BoardState) (top : ℕ × Root) (found : Found) 
         levels_pinned = agrees.levels_pinned;
         stand = StandEach-same its old.pages new.pages d.arena d.levels.runs top.1.runs found.runs positive agrees.run_blocks run_page agrees.stand;
         run_blocks = agrees.run_blocks;
-        placed = subst (λ (es : List (Key × Place)). Placed its d.space d.pool new.pages es) same values;
+        arena_is = agrees.arena_is;
+        placed = subst (λ (es : List (Key × Place)). Placed its d.space d.pool (jobs_of d).blocks.values new.pages es) same values;
         former = λ k is. agrees.placed.owned k (subst (λ (es : List (Key × Place)). IsValuePage its es k) (sym same) is);
+        former_read = λ k is. agrees.placed.outputs_are.unread k (subst (λ (es : List (Key × Place)). IsValuePage its es k) (sym same) is);
         journal = agrees.journal;
         journal_few = agrees.journal_few;
         runs = agrees.runs;
         runs_few = agrees.runs_few;
+        jobs_hold = agrees.jobs_hold;
         keys_are = agrees.keys_are ∙ ap length same;
       }
 
 -- ---- cuts
 
 module _ (shape : Shape) (top : ℕ × Root) (found : Found) (es : List Entry) (start : Flash) (m0 m1 : Map) (before : IsUnder shape start [] top found m0) where
-  pub cut_of_log : (flash : Flash) (posted : List ℕ) → LogCut shape top found es m0 m1 flash posted → CommitCut shape start m1 flash posted
+  pub cut_of_log : (flash : Flash) (posted : List ℕ) → LogCut shape top found es m0 m1 flash posted → CrashFinds shape commit start m1 flash posted
   cut_of_log flash posted cut = (
     cut.0,
     elim cut.1 [
@@ -159,7 +163,7 @@ module _ (d : Parts) (log' : LogState) (old new : BoardState) (ready : IsReady n
         still = inr (under_reads d.log.shape new.pages [] stands.top (committed stands.found d.log.pending) m under);
         cuts = (
           run.0,
-          weaken run.0 old new (LogCut d.log.shape stands.top stands.found d.log.pending stands.without m) (CommitCut d.log.shape old.pages m)
+          weaken run.0 old new (LogCut d.log.shape stands.top stands.found d.log.pending stands.without m) (CrashFinds d.log.shape commit old.pages m)
               (cut_of_log d.log.shape stands.top stands.found d.log.pending old.pages stands.without m agrees.committed) run.1,
           run.2,
         );
@@ -173,12 +177,12 @@ module _ (d : Parts) (log' : LogState) (old new : BoardState) (ready : IsReady n
 
 pub commit_breaks : (d : Parts) (old new : BoardState) → CommitGoes d.log old new → BreaksAll d old new
 commit_breaks d old new goes shape m stands =
-    let P : Shape → Type 0 = λ s. StandsFor d s old.pages m → Goes s old new (CommitCut s old.pages m) in
+    let P : Shape → Type 0 = λ s. StandsFor d s old.pages m → Goes s old new (CrashFinds s commit old.pages m) in
     subst P stands.with.shape_is (λ there.
     let maps = maps_of d old there.top there.found there.without m there.with in
     let run = goes there.top there.found there.without m maps in (
       run.0,
-      weaken_went run.0 old new (LogCut d.log.shape there.top there.found d.log.pending there.without m) (CommitCut d.log.shape old.pages m)
+      weaken_went run.0 old new (LogCut d.log.shape there.top there.found d.log.pending there.without m) (CrashFinds d.log.shape commit old.pages m)
           (cut_of_log d.log.shape there.top there.found d.log.pending old.pages there.without m there.with.committed) run.1,
       run.2,
     )) stands
@@ -242,20 +246,6 @@ pub left_ok : (r : Result Unit Fault) (log log' : LogState) (old new : BoardStat
 left_ok (Ok x) log log' old new made = no_more_left log log' old new made
 left_ok (Err e) log log' old new made = tt
 
-pub keeps_ok : (r : Result Unit Fault) (d : Parts) (log' : LogState) (old new : BoardState) → IsReady new d.log.shape → OnOk r (CommitsNone d.log old log' new ⊎ CommitsAll d.log old log' new)
-    → OnOk r (CommitStands d.log old log' new) → OnOk r (CommitHolds d.log old new) → OnOk r (CommitReaches d.log old new) → OnOk r (KeepsAll d (with_log d log') old new)
-keeps_ok (Ok x) d log' old new ready made stands holds reaches = commit_keeps d log' old new ready stands holds reaches made
-keeps_ok (Err e) d log' old new ready made stands holds reaches = tt
-
-pub breaks_err : (r : Result Unit Fault) (d : Parts) (old new : BoardState) → OnErr r (CommitGoes d.log old new) → OnErr r (BreaksAll d old new)
-breaks_err (Ok x) d old new goes = tt
-breaks_err (Err e) d old new goes = commit_breaks d old new goes
-
-pub roots_same : (r : Result Unit Fault) (d : Parts) (old new : BoardState) → IsReady old d.log.shape → IsReady new d.log.shape → (m : Map) × StandsFor d d.log.shape old.pages m
-    → OnOk r (CommitReaches d.log old new) → OnErr r (CommitGoes d.log old new) → roots new ≡ roots old
-roots_same (Ok x) d old new before after stands reaches goes = commit_roots d d.log.shape stands.0 old new before after stands.1 reaches
-roots_same (Err e) d old new before after stands reaches goes = commit_roots_err d d.log.shape stands.0 old new before after stands.1 goes
-
 -- where entries were pending, one program was made, whether or not it failed
 pub one_program : (r : Result Unit Fault) (log log' : LogState) (old new : BoardState) → OnOk r (CommitsNone log old log' new ⊎ CommitsAll log old log' new) → OnErr r (CommitFailed log old new)
     → log.pending ≢ [] → OneProgram old new
@@ -269,3 +259,32 @@ pub nothing_done : (r : Result Unit Fault) (d : Parts) (log' : LogState) (old ne
 nothing_done (Ok x) d log' old new (inl none) failed is = (refl, ap (λ (l : LogState). with_log d l) none.kept, none.board)
 nothing_done (Ok x) d log' old new (inr all) failed is = absurd (all.some is)
 nothing_done (Err e) d log' old new made failed is = absurd (failed.some is)
+
+-- ---- the step
+
+pub rest_ok : (r : Result Unit Fault) (d : Parts) (log' : LogState) (old new : BoardState) → OnOk r (CommitsNone d.log old log' new ⊎ CommitsAll d.log old log' new) → OnOk r (OnlyCommits d (with_log d log'))
+rest_ok (Ok x) d log' old new (inl none) = let P : LogState → Type 0 = λ l. OnlyCommits d (with_log d l) in subst P (sym none.kept) refl
+rest_ok (Ok x) d log' old new (inr all) = let P : LogState → Type 0 = λ l. OnlyCommits d (with_log d l) in subst P (sym all.taken) refl
+rest_ok (Err e) d log' old new made = tt
+
+pub commit_step : (r : Result Unit Fault) (d : Parts) (log' : LogState) (old new : BoardState) → MayStep d old → IsReady new d.log.shape
+    → OnOk r (CommitsNone d.log old log' new ⊎ CommitsAll d.log old log' new) → OnOk r (CommitStands d.log old log' new) → OnOk r (CommitHolds d.log old new) → OnOk r (CommitReaches d.log old new)
+    → IfErr r (λ e. e ≡ Stopped) → OnErr r (CommitFailed d.log old new) → OnErr r (CommitGoes d.log old new) → StepKeeps d (with_log d log') 0 old new r
+commit_step (Ok x) d log' old new may after made stands holds reaches stopped failed goes = record {
+  ended = commit_keeps d log' old new after stands holds reaches made;
+  broken = tt;
+  works = commit_works d.log log' old new made;
+  stops = tt;
+  stopped = tt;
+  roots_few = commit_roots d d.log.shape may.stands.0 old new may.ready after may.stands.1 reaches;
+  ready = after;
+}
+commit_step (Err e) d log' old new may after made stands holds reaches stopped failed goes = record {
+  ended = tt;
+  broken = commit_breaks d old new goes;
+  works = tt;
+  stops = commit_stops d.log old new failed;
+  stopped = stopped;
+  roots_few = commit_roots_err d d.log.shape may.stands.0 old new may.ready after may.stands.1 goes;
+  ready = after;
+}

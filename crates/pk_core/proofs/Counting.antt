@@ -9,7 +9,10 @@ use Rattle.pk_base.specs.Map.{Map}
 use Rattle.pk_nvme.specs.Seen.{command_of}
 use Rattle.pk_rootfmt.specs.Root.{Root}
 use Rattle.pk_rootfmt.specs.Newest.{newest_root}
-use Rattle.pk_model.specs.Answer.{Kind, kind, retrieve, flush, report, early, success}
+use Rattle.pk_nvme.specs.Opcode.{op_of}
+use Rattle.pk_nvme.specs.declared.opcode.Opcode.{Opcode}
+use Rattle.pk_nvme.specs.declared.opcode.Opcode.TheVariants.{Flush, Retrieve, Report}
+use Rattle.pk_model.specs.Answer.{early, success}
 use Rattle.pk_model.specs.Bounds.{most_reads}
 use Rattle.pk_model.specs.Found.{Found}
 use Rattle.pk_model.specs.Reading.{reading}
@@ -18,12 +21,12 @@ use Rattle.pk_steps.specs.Under.{places}
 use Rattle.pk_steps.proofs.Untouched.{under_reads}
 use Rattle.pk_steps.proofs.Counting.{counts}
 use Rattle.pk_data.proofs.Standing.{total_of}
-use Rattle.pk_drive.specs.Wear.{root_number, number_of}
+use Rattle.pk_model.specs.Wear.{root_number, number_of}
 use Rattle.pk_drive.specs.Drive.{CountsMap}
 use Rattle.pk_drive.specs.Exec.{report_of}
 use Rattle.pk_drive.specs.Seen.{reply_of}
 use Rattle.pk_drive.specs.declared.types.Outcome.{Outcome}
-use Rattle.pk_core.specs.Parts.{Parts, sight_of, counts_of}
+use Rattle.pk_core.specs.Parts.{Parts, sight_of, counts_of, jobs_of}
 use Rattle.pk_core.specs.Agreeing.{AgreesWith, Agrees}
 use Rattle.pk_core.specs.Done.{Does}
 use Rattle.pk_core.specs.Quiet.{DoneWithout}
@@ -42,7 +45,7 @@ pub counts_map : (d : Parts) (shape : Shape) (flash : Flash) (top : ℕ × Root)
 counts_map d shape flash top found without all a =
     let c = counts shape flash d.log.pending top found all a.placed.is_shape a.is_flash a.pending in
     record {
-      live_is = total_of shape d.space d.pool flash (places found d.log.pending) a.placed ∙ sym c.live_is;
+      live_is = total_of shape d.space d.pool (jobs_of d).blocks.values flash (places found d.log.pending) a.placed ∙ sym c.live_is;
       limit_is = ap (λ s. limit s) a.shape_is;
       keys_is = a.keys_are ∙ sym c.len_is;
       pinned_is = ap (λ s. pinned s d.frames) a.shape_is;
@@ -71,13 +74,13 @@ worn_is d shape flash a =
 
 -- ---- commands without a call of the board
 
-other_than : (k : Kind) (x : ℕ) → kind x ≡ Some k → (◌≡◌ {A = Option Kind} (Some k) (Some retrieve) → ⊥) → kind x ≡ Some retrieve → ⊥
+other_than : (k : Opcode) (x : ℕ) → op_of x ≡ Some k → (◌≡◌ {A = Option Opcode} (Some k) (Some Retrieve) → ⊥) → op_of x ≡ Some Retrieve → ⊥
 other_than k x is apart e = apart (sym is ∙ e)
 
-flush_other : ◌≡◌ {A = Option Kind} (Some flush) (Some retrieve) → ⊥
+flush_other : ◌≡◌ {A = Option Opcode} (Some Flush) (Some Retrieve) → ⊥
 flush_other e = cc
 
-report_other : ◌≡◌ {A = Option Kind} (Some report) (Some retrieve) → ⊥
+report_other : ◌≡◌ {A = Option Opcode} (Some Report) (Some Retrieve) → ⊥
 report_other e = cc
 
 pub flush_done : (d : Parts) (o : Outcome) (into : List ℕ) → o ≡ record { status = 0; result = 0; data_len = 0; reads = 0; stopped = false } → DoneWithout d 0x00 o into
@@ -85,8 +88,8 @@ flush_done d o into told board r v a few op passed =
     let c = command_of r v in
     let passes : early d.log.shape c ≡ None = same_early d.log.shape r v ∙ passed in
     let all : AnswersAll board (sight_of d) c (success 0 []) 0 =
-    for_its_map d board a (λ s f m. Step s f m c (success 0 []) m × (kind r.opcode ≡ Some retrieve → 0 ≤ most_reads s f m c))
-    (flush_step d.log.shape d.frames a.all c passes op, λ e. absurd (other_than flush r.opcode (ap kind op) flush_other e)) in
+    for_its_map d board a (λ s f m. Step s f m c (success 0 []) m × (op_of r.opcode ≡ Some Retrieve → 0 ≤ most_reads s f m c))
+    (flush_step d.log.shape d.frames a.all c passes op, λ e. absurd (other_than Flush r.opcode (ap op_of op) flush_other e)) in
     subst (λ (x : Outcome). Does board board (sight_of d) (sight_of d) c (reply_of x into) x.reads x.stopped) (sym told)
     (does_reads board board (sight_of d) c (success 0 []) 0 0 few few (reads_none board few) (omega arith) ok_sound all)
 
@@ -96,7 +99,7 @@ report_done d o into told bytes board r v a few op passed =
     let passes : early d.log.shape c ≡ None = same_early d.log.shape r v ∙ passed in
     let counted = counts_map d d.log.shape board.pages a.top a.found a.without a.all (own d board a) in
     let all : AnswersAll board (sight_of d) c (success 0 (take 64 into)) 0 =
-    for_its_map d board a (λ s f m. Step s f m c (success 0 (take 64 into)) m × (kind r.opcode ≡ Some retrieve → 0 ≤ most_reads s f m c))
-    (report_step d.log.shape d.frames a.all c passes (counts_of d) (take 64 into) op counted bytes, λ e. absurd (other_than report r.opcode (ap kind op) report_other e)) in
+    for_its_map d board a (λ s f m. Step s f m c (success 0 (take 64 into)) m × (op_of r.opcode ≡ Some Retrieve → 0 ≤ most_reads s f m c))
+    (report_step d.log.shape d.frames a.all c passes (counts_of d) (take 64 into) op counted bytes, λ e. absurd (other_than Report r.opcode (ap op_of op) report_other e)) in
     subst (λ (x : Outcome). Does board board (sight_of d) (sight_of d) c (reply_of x into) x.reads x.stopped) (sym told)
     (does_reads board board (sight_of d) c (success 0 (take 64 into)) 0 0 few few (reads_none board few) (omega arith) ok_sound all)

@@ -11,16 +11,20 @@ use Rattle.pk_nvme.specs.Command.{Command, key}
 use Rattle.pk_nand.specs.BoardState.{BoardState}
 use Rattle.pk_nand.proofs.Reaching.{Reached-start}
 use Rattle.pk_level.specs.Levels.{StandEach}
-use Rattle.pk_model.specs.Answer.{Kind, kind, list, retrieve, early, fitting, list_bytes}
+use Rattle.pk_nvme.specs.Opcode.{op_of}
+use Rattle.pk_nvme.specs.declared.opcode.Opcode.{Opcode}
+use Rattle.pk_nvme.specs.declared.opcode.Opcode.TheVariants.{Retrieve, List as ListKeys}
+use Rattle.pk_model.specs.Answer.{early, fitting, list_bytes}
 use Rattle.pk_model.specs.Run.{Step}
 use Rattle.pk_model.specs.Reading.{reading}
 use Rattle.pk_model.proofs.Answering.{serves}
 use Rattle.pk_steps.proofs.Untouched.{under_reads}
-use Rattle.pk_drive.specs.Drive.{OnlyFlash}
-use Rattle.pk_drive.specs.Exec.{ExecCut, ExecStands}
-use Rattle.pk_drive.specs.Growth.{Reaches}
+use Rattle.pk_nand.specs.Effects.{OnlyFlash, OnlyReading}
+use Rattle.pk_drive.specs.Exec.{ExecStands}
+use Rattle.pk_model.specs.Crashes.{CrashFinds, command}
+use Rattle.pk_model.specs.Growth.{Reaches}
 use Rattle.pk_drive.specs.Seen.{reply_of}
-use Rattle.pk_drive.specs.Wear.{roots}
+use Rattle.pk_model.specs.Wear.{roots}
 use Rattle.pk_drive.specs.declared.types.Outcome.{Outcome}
 use Rattle.pk_core.specs.Parts.{Parts, sight_of}
 use Rattle.pk_core.specs.Agreeing.{Agrees}
@@ -38,7 +42,7 @@ not_both : (b : Bool) → b ≡ false → b ≡ true → ⊥
 not_both true e f = cc
 not_both false e f = cc
 
-not_retrieve : (k : Option Kind) → k ≡ Some list → k ≡ Some retrieve → ⊥
+not_retrieve : (k : Option Opcode) → k ≡ Some ListKeys → k ≡ Some Retrieve → ⊥
 not_retrieve k e f = cc
 
 abbrev eleven : List ℕ
@@ -53,8 +57,8 @@ module _ (d : Parts) (old new : BoardState) (r : Request) (o : Outcome) (into : 
   abbrev l : ListsInto old new o into (list_bytes (fitting (min r.size 65536 - 4) (keys_there (key c) (d.log.active.entries ∷ d.log.frozen.entries ∷ a.found.runs))))
   l = lists a.found.runs a.with.stand
 
-  is_list : kind c.opcode ≡ Some list
-  is_list = ap kind is
+  is_list : op_of c.opcode ≡ Some ListKeys
+  is_list = ap op_of is
 
   is_early : early a.shape c ≡ None
   is_early = subst (λ (s : Shape). early s c ≡ None) a.with.shape_is passed
@@ -64,7 +68,7 @@ module _ (d : Parts) (old new : BoardState) (r : Request) (o : Outcome) (into : 
 
   stepped : (frames : ℕ) → Step a.shape frames a.all c (reply_of o into) a.all
   stepped frames =
-      let did = serves a.shape (limit a.shape) frames a.all eleven c list is_list is_early refl in
+      let did = serves a.shape (limit a.shape) frames a.all eleven c ListKeys is_list is_early refl in
       elim l.answered [
         | inl read ↦ inl (record {
           own = eleven;
@@ -97,13 +101,13 @@ module _ (d : Parts) (old new : BoardState) (r : Request) (o : Outcome) (into : 
           frames_is = st.frames_is;
           map_is = ap (λ (f : Flash). reading shape f d.log.pending) same_pages ∙ st.map_is;
         };
-        bounded = λ other. absurd (not_retrieve (kind c.opcode) is_list other);
+        bounded = λ other. absurd (not_retrieve (op_of c.opcode) is_list other);
       }
 
-  reaches : (shape : Shape) (m : Map) → Reaches shape old new (ExecCut shape old.pages m c)
+  reaches : (shape : Shape) (m : Map) → Reaches shape old new (CrashFinds shape (command c) old.pages m)
   reaches shape m = (
     [],
-    Reached-start old new (ExecCut shape old.pages m c) same_shape same_pages (ap (λ (b : BoardState). b.trail) l.board_is) (ap (λ (b : BoardState). b.posted) l.board_is) (refl, inl refl),
+    Reached-start old new (CrashFinds shape (command c) old.pages m) same_shape same_pages (ap (λ (b : BoardState). b.trail) l.board_is) (ap (λ (b : BoardState). b.posted) l.board_is) (refl, inl refl),
     tt,
   )
 
@@ -124,6 +128,7 @@ module _ (d : Parts) (old new : BoardState) (r : Request) (o : Outcome) (into : 
         rest = only_flash;
         reads_are = l.reads;
         up = l.up;
+        flash_up = l.flash_up;
         unread = λ status runs. elim l.answered [ inl read ↦ absurd (zero_not o.status read.0 status) | inr unread ↦ unread.2 ];
         sound = λ sound. elim l.answered [ inl read ↦ read.2 | inr unread ↦ absurd (sound unread.0) ];
         stop = λ stopped. absurd (not_both o.stopped l.runs stopped);
@@ -131,6 +136,12 @@ module _ (d : Parts) (old new : BoardState) (r : Request) (o : Outcome) (into : 
         no_stop = λ runs. ap (λ (b : BoardState). b.stop_faults) l.board_is;
         installs = omega (arith, same_roots);
       }
+
+  pub list_runs : o.stopped ≡ false
+  list_runs = l.runs
+
+  pub list_reading : OnlyReading old new
+  list_reading = l.board_is
 
   pub list_pages : new.pages ≡ old.pages
   list_pages = same_pages

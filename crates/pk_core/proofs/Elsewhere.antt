@@ -68,8 +68,8 @@ module _ (shape : Shape) (pool : Blocks) (old new : Flash) (at : ℕ) (owned : s
   in_another : (k : ℕ) → (slice_get pool.states (k / shape.block_pages) ≡ Some (Owned Journal) → ⊥) → page_at new k ≡ page_at old k
   in_another k not = others k (λ e. not (subst (λ (x : ℕ). slice_get pool.states (x / shape.block_pages) ≡ Some (Owned Journal)) (sym e) owned))
 
-  pub values_same : SameValues shape pool old new
-  values_same k held = in_another k (λ other. values_not_journal pool.states (k / shape.block_pages) held other)
+  pub values_same : (outputs : List ℕ) → SameValues shape pool outputs old new
+  values_same outputs k held no_output = in_another k (λ other. values_not_journal pool.states (k / shape.block_pages) held other)
 
   pub still_fits : pool.shape ≡ shape → Fits pool old → Fits pool new
   still_fits same fits = Fits-same pool old new (λ b k is inside.

@@ -41,7 +41,7 @@ use Rattle.pk_data.specs.Laws.{value_blocks}
 use Rattle.pk_data.proofs.Lists.{found_page, found_place}
 use Rattle.pk_data.proofs.Unchanged.{lie_in_few}
 use Rattle.pk_core.specs.declared.place.ValuePlace.{ValuePlace}
-use Rattle.pk_core.specs.Parts.{Parts}
+use Rattle.pk_core.specs.Parts.{Parts, jobs_of}
 use Rattle.pk_core.specs.Agreeing.{AgreesWith}
 use Rattle.pk_core.specs.Finding.{place_of, place_if_some}
 use Rattle.pk_core.specs.Moves.{StandsFor}
@@ -112,7 +112,7 @@ module _ (d : Parts) (shape : Shape) (flash : Flash) (top : ℕ × Root) (found 
 -- ---- a key gets a value
 
 -- the place of a key that was put
-found_put : (key : Key) (place : Place) (es : List (Key × Place)) → find key_cmp key (put key_cmp key place es) ≡ Some place
+pub found_put : (key : Key) (place : Place) (es : List (Key × Place)) → find key_cmp key (put key_cmp key place es) ≡ Some place
 found_put key place es = find-put key_cmp key_total key key place es ∙ ap (λ b. cond b (Some place) (find key_cmp key es)) (ap order.is_eq (tied_itself key_total key))
 
 keys_put : (key : Key) (place : Place) (es : List (Key × Place)) (old : Option ValuePlace) (keys : ℕ) → T (is_sorted key_cmp es) → find key_cmp key es ≡ place_if_some old → keys ≡ length es
@@ -136,6 +136,7 @@ module _ (d : Parts) (flash : Flash) (m : Map) (key : Key) (value : List ℕ) (p
   puts_moves o n o_is n_is = record {
     shape = d.log.shape;
     pool = d.pool;
+    outputs = (jobs_of d).blocks.values;
     flash = flash;
     es = es;
     key = key;
@@ -152,7 +153,7 @@ module _ (d : Parts) (flash : Flash) (m : Map) (key : Key) (value : List ℕ) (p
   places_are : places p.found (d.log.pending ++ e ∷ []) ≡ put key_cmp key place es
   places_are = ap (λ xs. placed (firsts xs)) (entries_in_order-push p.found d.log.pending e) ∙ placed-put key place (counting p.found d.log.pending) (firsts_sorted (entries_in_order p.found d.log.pending))
 
-  module _ (space : DataState) (placed_now : Placed d.log.shape space d.pool flash (put key_cmp key place es)) where
+  module _ (space : DataState) (placed_now : Placed d.log.shape space d.pool (jobs_of d).blocks.values flash (put key_cmp key place es)) where
     -- no page of the value is in a block that the root names
     unnamed : (k : ℕ) → IsPageOf d.log.shape k place → AnyByRecursion (λ b. k / d.log.shape.block_pages ≡ b) (named p.top.1) → ⊥
     unnamed k is in_named =
@@ -164,10 +165,10 @@ module _ (d : Parts) (flash : Flash) (m : Map) (key : Key) (value : List ℕ) (p
 
     fit_now : fits d.log.shape (named p.top.1) (all_pages d.log.shape (put key_cmp key place es)) ≡ true
     fit_now =
-        let few = lie_in_few d.log.shape space d.pool flash (put key_cmp key place es) placed_now in
+        let few = lie_in_few d.log.shape space d.pool (jobs_of d).blocks.values flash (put key_cmp key place es) placed_now in
         let most = p.room in
         let same = live_put d d.log.shape flash p.top p.found p.without m p.with key place value p.written.there in
-        fits_more d.log.shape (named p.top.1) (value_blocks d.pool) es key place (fit d d.log.shape flash p.top p.found p.without m p.with)
+        fits_more d.log.shape (named p.top.1) (value_blocks d.pool (jobs_of d).blocks.values) es key place (fit d d.log.shape flash p.top p.found p.without m p.with)
         unnamed (λ k is is_value. p.written.apart p.top p.found p.without m p.with k is is_value)
         (omega (arith, most, same)) few.1 few.0
 
@@ -186,12 +187,15 @@ module _ (d : Parts) (flash : Flash) (m : Map) (key : Key) (value : List ℕ) (p
       levels_pinned = p.with.levels_pinned;
       stand = p.with.stand;
       run_blocks = p.with.run_blocks;
-      placed = subst (λ (xs : List (Key × Place)). Placed d.log.shape space d.pool flash xs) (sym places_are) placed_now;
+      arena_is = p.with.arena_is;
+      placed = subst (λ (xs : List (Key × Place)). Placed d.log.shape space d.pool (jobs_of d).blocks.values flash xs) (sym places_are) placed_now;
       former = p.with.former;
+      former_read = p.with.former_read;
       journal = p.with.journal;
       journal_few = p.with.journal_few;
       runs = p.with.runs;
       runs_few = p.with.runs_few;
+      jobs_hold = p.with.jobs_hold;
       keys_are = keys_put key place es old d.keys (rising d d.log.shape flash p.top p.found p.without m p.with) p.old_is p.with.keys_are ∙ ap length (sym places_are);
     }
 
@@ -208,7 +212,7 @@ placed_at page len = record { page = page; len = len }
 put_stands_at : (d : Parts) (flash : Flash) (m : Map) (key : Key) (value : List ℕ) (page : ℕ) (old : Option ValuePlace) → Puts d d.log.shape flash m key value page old
     → (log : LogState) (space : DataState) (keys : ℕ) (o : Option Span) (n : Span) → Noted d (key, Some (placed_at page (length value))) log
     → o ≡ span_if_some d.log.shape (place_if_some old) → n ≡ span_of d.log.shape (placed_at page (length value))
-    → ((mv : Moves d.space o n) → Placed mv.shape space mv.pool mv.flash (put key_cmp mv.key mv.place mv.es))
+    → ((mv : Moves d.space o n) → Placed mv.shape space mv.pool mv.outputs mv.flash (put key_cmp mv.key mv.place mv.es))
     → keys ≡ more_keys d.keys old
     → StandsFor (record d { log = log; space = space; keys = keys }) d.log.shape flash (insert m key value)
 unfolding puts_moves
@@ -228,7 +232,7 @@ put_stands_at d flash m key value page old p log space keys o n noted o_is n_is 
 pub put_stands : (d : Parts) (shape : Shape) (flash : Flash) (m : Map) (key : Key) (value : List ℕ) (page len : ℕ) (old : Option ValuePlace) → length value ≡ len → Puts d shape flash m key value page old
     → (log : LogState) (space : DataState) (keys : ℕ) (o : Option Span) (n : Span) → Noted d (key, Some (placed_at page len)) log
     → o ≡ span_if_some d.log.shape (place_if_some old) → n ≡ span_of d.log.shape (placed_at page len)
-    → ((mv : Moves d.space o n) → Placed mv.shape space mv.pool mv.flash (put key_cmp mv.key mv.place mv.es))
+    → ((mv : Moves d.space o n) → Placed mv.shape space mv.pool mv.outputs mv.flash (put key_cmp mv.key mv.place mv.es))
     → keys ≡ more_keys d.keys old
     → StandsFor (record d { log = log; space = space; keys = keys }) shape flash (insert m key value)
 put_stands d shape flash m key value page len old is_len p log space keys o n noted o_is n_is moved keys_are =
@@ -274,6 +278,7 @@ module _ (d : Parts) (flash : Flash) (m : Map) (key : Key) (old : ValuePlace) (p
   drops_held n n_is = record {
     shape = d.log.shape;
     pool = d.pool;
+    outputs = (jobs_of d).blocks.values;
     flash = flash;
     es = values_before;
     key = key;
@@ -293,7 +298,7 @@ module _ (d : Parts) (flash : Flash) (m : Map) (key : Key) (old : ValuePlace) (p
   places_gone : places p.found (d.log.pending ++ gone ∷ []) ≡ without key values_before
   places_gone = ap (λ xs. placed (firsts xs)) (entries_in_order-push p.found d.log.pending gone) ∙ placed-gone key (counting p.found d.log.pending) (firsts_sorted (entries_in_order p.found d.log.pending))
 
-  pub gone_agrees : (space : DataState) → Placed d.log.shape space d.pool flash (without key values_before) → Logs (pushed d.log gone) flash p.top p.found
+  pub gone_agrees : (space : DataState) → Placed d.log.shape space d.pool (jobs_of d).blocks.values flash (without key values_before) → Logs (pushed d.log gone) flash p.top p.found
       → length (firsts (p.found.newest ++ (d.log.pending ++ gone ∷ []))) ≤ buffer d.log.shape
       → AgreesWith (record d { log = pushed d.log gone; space = space; keys = d.keys - 1 }) d.log.shape flash p.top p.found p.without (remove m key)
   gone_agrees space placed_now logs room = record {
@@ -306,18 +311,21 @@ module _ (d : Parts) (flash : Flash) (m : Map) (key : Key) (old : ValuePlace) (p
     levels_pinned = p.with.levels_pinned;
     stand = p.with.stand;
     run_blocks = p.with.run_blocks;
-    placed = subst (λ (xs : List (Key × Place)). Placed d.log.shape space d.pool flash xs) (sym places_gone) placed_now;
+    arena_is = p.with.arena_is;
+    placed = subst (λ (xs : List (Key × Place)). Placed d.log.shape space d.pool (jobs_of d).blocks.values flash xs) (sym places_gone) placed_now;
     former = p.with.former;
+    former_read = p.with.former_read;
     journal = p.with.journal;
     journal_few = p.with.journal_few;
     runs = p.with.runs;
     runs_few = p.with.runs_few;
+    jobs_hold = p.with.jobs_hold;
     keys_are = gone_keys.0 ∙ ap length (sym places_gone);
   }
 
 gone_stands_at : (d : Parts) (flash : Flash) (m : Map) (key : Key) (old : ValuePlace) → Drops d d.log.shape flash m key old
     → (log : LogState) (space : DataState) (n : Span) → Noted d (key, None) log → n ≡ span_of d.log.shape (place_of old)
-    → ((h : Held d.space n) → Placed h.shape space h.pool h.flash (without h.key h.es))
+    → ((h : Held d.space n) → Placed h.shape space h.pool h.outputs h.flash (without h.key h.es))
     → StandsFor (record d { log = log; space = space; keys = d.keys - 1 }) d.log.shape flash (remove m key)
 unfolding drops_held
 gone_stands_at d flash m key old p log space n noted n_is removed =
@@ -334,7 +342,7 @@ gone_stands_at d flash m key old p log space n noted n_is removed =
 
 pub gone_stands : (d : Parts) (shape : Shape) (flash : Flash) (m : Map) (key : Key) (old : ValuePlace) → Drops d shape flash m key old
     → (log : LogState) (space : DataState) (n : Span) → Noted d (key, None) log → n ≡ span_of d.log.shape (place_of old)
-    → ((h : Held d.space n) → Placed h.shape space h.pool h.flash (without h.key h.es))
+    → ((h : Held d.space n) → Placed h.shape space h.pool h.outputs h.flash (without h.key h.es))
     → StandsFor (record d { log = log; space = space; keys = d.keys - 1 }) shape flash (remove m key)
 gone_stands d shape flash m key old p log space n noted n_is removed =
     let is : d.log.shape ≡ shape = p.with.shape_is in

@@ -7,11 +7,11 @@ use Rattle.pk_base.specs.Entry.{Place}
 use Rattle.pk_segfmt.specs.Stored.{page_of, IsStored}
 use Rattle.pk_nand.specs.BoardState.{BoardState}
 use Rattle.pk_nand.specs.Crash.{Reached, SameOutside}
-use Rattle.pk_drive.proofs.Growing.{at_end}
+use Rattle.pk_model.proofs.Growing.{at_end}
 use Rattle.pk_pool.specs.Blocks.{Blocks}
 use Rattle.pk_seg.specs.Stored.{written}
 use Rattle.pk_data.specs.State.{DataState, with_written, next_page}
-use Rattle.pk_data.specs.Placed.{Placed}
+use Rattle.pk_data.specs.Placed.{Placed, StayPlaced}
 use Rattle.pk_data.specs.Reserving.{WritesNext}
 use Rattle.pk_data.specs.Entries.{IsInOpen}
 use Rattle.pk_core.specs.Placing.{Reserves, PlacesValue}
@@ -44,7 +44,7 @@ pub places_value : (shape : Shape) (key : Key) (value : List ℕ) (d : DataState
     → count ≡ charge shape (length value)
     → Reserves shape d p old page count space q between
     → d' ≡ with_written space count → IsInOpen shape d' (next_page shape space) count
-    → ((pool : Blocks) (f g : Flash) (es : List (Key × Place)) → Placed shape space pool f es → WritesNext shape space count f g → Placed shape d' pool g es)
+    → ((pool : Blocks) (f g : Flash) → WritesNext shape space count f g → StayPlaced shape space pool f d' pool g)
     → IsStored shape (page_at new.pages) key page value
     → new ≡ written shape key page value (charge shape (length value)) between
     → Reached between new (λ flash _. SameOutside page (charge shape (length value)) between.pages flash)
@@ -60,6 +60,7 @@ places_value shape key value d p old page count space d' q between new is_count 
       in_open = subst (λ (a : ℕ). IsInOpen shape d' a n) (sym next) (subst (λ (c : ℕ). IsInOpen shape d' (next_page shape space) c) is_count in_open);
       writes = writes;
       stored = stored;
-      placed = λ es placed. after q between.pages new.pages es (reserved.placed es placed)
-          (subst (λ (c : ℕ). WritesNext shape space c between.pages new.pages) (sym is_count) (writes_next shape key value page space between new next run stored));
+      placed = λ outputs es placed.
+          after q between.pages new.pages (subst (λ (c : ℕ). WritesNext shape space c between.pages new.pages) (sym is_count) (writes_next shape key value page space between new next run stored))
+          outputs es (reserved.placed outputs es placed);
     }

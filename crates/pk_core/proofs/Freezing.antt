@@ -16,7 +16,7 @@ use Rattle.pk_plan.specs.declared.owner.Owner.{Owner}
 use Rattle.pk_plan.specs.declared.owner.Owner.TheVariants.{Journal, Meta, Values as for_values}
 use Rattle.pk_nand.specs.declared.types.Fault.{Fault}
 use Rattle.pk_nand.specs.BoardState.{BoardState}
-use Rattle.pk_nand.specs.Calls.{IsReady}
+use Rattle.pk_nand.specs.Calls.{IsReady, IsErasedBlock}
 use Rattle.pk_nand.proofs.Writing.{shape_is}
 use Rattle.pk_rootfmt.specs.Root.{Root, differ}
 use Rattle.pk_rootfmt.specs.Newest.{newest_root}
@@ -24,7 +24,7 @@ use Rattle.pk_buf.specs.Table.{Table}
 use Rattle.pk_jrn.specs.Epochs.{left_of}
 use Rattle.pk_jrn.proofs.Puts.{firsts-reverse}
 use Rattle.pk_pool.specs.declared.state.BlockState.TheVariants.{Free, Ready, Owned}
-use Rattle.pk_pool.specs.Blocks.{Blocks, IsShared, IsSpare, IsErasedBlock, Fits, used_by, is_owned_by, with_state}
+use Rattle.pk_pool.specs.Blocks.{Blocks, IsShared, IsSpare, Fits, used_by, is_owned_by, with_state}
 use Rattle.pk_pool.proofs.States.{get-set_other, get-set_same, set_is, owned_is_not_root, owned_is_not_ready, free_is_not_ready}
 use Rattle.pk_pool.proofs.Sharing.{count-set, used_adopted, behind_roots}
 use Rattle.pk_pool.proofs.Fitting.{in_block, Fits-marked}
@@ -40,21 +40,25 @@ use Rattle.pk_data.specs.State.{DataState}
 use Rattle.pk_data.specs.Placed.{Placed}
 use Rattle.pk_data.specs.Laws.{SameValues}
 use Rattle.pk_data.proofs.Unchanged.{block_elsewhere}
-use Rattle.pk_drive.specs.Growth.{Goes}
-use Rattle.pk_drive.specs.Commit.{CommitCut}
-use Rattle.pk_drive.specs.Tick.{TickCut}
-use Rattle.pk_drive.proofs.Growing.{weaken, weaken_went}
-use Rattle.pk_drive.specs.Wear.{root_number, roots, is_worn}
+use Rattle.pk_model.specs.Growth.{Goes}
+use Rattle.pk_model.specs.Crashes.{CrashFinds, background, commit}
+use Rattle.pk_model.proofs.Growing.{weaken, weaken_went}
+use Rattle.pk_model.specs.Wear.{root_number, roots, is_worn}
 use Rattle.pk_compact.specs.Freezing.{IsApart, with_two, given_back}
 use Rattle.pk_log.specs.State.{LogState, needs_freeze}
-use Rattle.pk_log.specs.Freezes.{CanFreeze, LogFroze}
-use Rattle.pk_log.proofs.Freezing.{none_of_firsts, none_named}
-use Rattle.pk_core.specs.Parts.{Parts}
+use Rattle.pk_model.specs.Steps.{Step}
+use Rattle.pk_log.specs.Freezes.{LogFreezes, LogFreezeBreaks, CanFreeze, LogFroze}
+use Rattle.pk_log.proofs.Freezing.{none_of_firsts}
+use Rattle.pk_steps.proofs.UnderRoot.{none_named}
+use Rattle.pk_core.specs.Parts.{Parts, jobs_of}
 use Rattle.pk_scan.specs.Opened.{HaveBlocks}
+use Rattle.pk_core.specs.Staying.{Stays}
+use Rattle.pk_core.proofs.Staying.{freeze_stays}
 use Rattle.pk_core.specs.Agreeing.{AgreesWith}
-use Rattle.pk_core.specs.Moves.{StandsFor, Keeps, KeepsAll, BreaksAll}
+use Rattle.pk_core.specs.Moves.{StepKeeps, LeavesValues, StandsFor, Keeps, KeepsAll, BreaksAll}
 use Rattle.pk_core.proofs.Elsewhere.{StandEach-same}
 use Rattle.pk_core.proofs.Standing.{same_found}
+use Rattle.pk_core.proofs.Holding.{none_held}
 
 -- ---- blocks
 
@@ -84,10 +88,10 @@ module _ (p : Blocks) (b : ℕ) (spare : IsSpare p b) where
     | inr ready ↦ (let all = count-set (is_owned_by Meta) p.states b Ready (Owned Journal) ready in omega (arith, all))
   ]
 
-  taken_places : (shape : Shape) (d : DataState) (old new : Flash) (es : List (Key × Place)) → Placed shape d p old es → SameValues shape p old new → Fits taken new → Placed shape d taken new es
-  taken_places shape d old new es values same fits = elim spare [
-    | inl free ↦ block_elsewhere shape d p b Free (Owned Journal) old new es values free refl refl same fits
-    | inr ready ↦ block_elsewhere shape d p b Ready (Owned Journal) old new es values ready refl refl same fits
+  taken_places : (shape : Shape) (d : DataState) (outputs : List ℕ) (old new : Flash) (es : List (Key × Place)) → Placed shape d p outputs old es → SameValues shape p outputs old new → Fits taken new → Placed shape d taken outputs new es
+  taken_places shape d outputs old new es values same fits = elim spare [
+    | inl free ↦ block_elsewhere shape d p outputs b Free (Owned Journal) old new es values free refl refl same fits
+    | inr ready ↦ block_elsewhere shape d p outputs b Ready (Owned Journal) old new es values ready refl refl same fits
   ]
 
 -- ---- blocks that the journal gives back
@@ -124,12 +128,13 @@ given_meta (x ∷ xs) p differ_all all =
     let one = count-set (is_owned_by Meta) p.states x (Owned Journal) Free (all x (inl refl)) in
     omega (arith, later, one)
 
-given_places : (xs : List ℕ) (p : Blocks) (shape : Shape) (d : DataState) (flash : Flash) (es : List (Key × Place)) → T (differ xs) → AllJournal p xs → Fits p flash → Placed shape d p flash es → Placed shape d (given_back p xs) flash es
-given_places [] p shape d flash es differ_all all fits values = values
-given_places (x ∷ xs) p shape d flash es differ_all all fits values =
+given_places : (xs : List ℕ) (p : Blocks) (shape : Shape) (d : DataState) (outputs : List ℕ) (flash : Flash) (es : List (Key × Place)) → T (differ xs) → AllJournal p xs → Fits p flash → Placed shape d p outputs flash es
+    → Placed shape d (given_back p xs) outputs flash es
+given_places [] p shape d outputs flash es differ_all all fits values = values
+given_places (x ∷ xs) p shape d outputs flash es differ_all all fits values =
     let fits' = Fits-marked p flash x Free free_is_not_ready fits in
-    given_places xs (with_state p x Free) shape d flash es (rest_differs x xs differ_all) (still_journal p x xs differ_all all) fits'
-    (block_elsewhere shape d p x (Owned Journal) Free flash flash es values (all x (inl refl)) refl refl (λ k held. refl) fits')
+    given_places xs (with_state p x Free) shape d outputs flash es (rest_differs x xs differ_all) (still_journal p x xs differ_all all) fits'
+    (block_elsewhere shape d p outputs x (Owned Journal) Free flash flash es values (all x (inl refl)) refl refl (λ k held no_output. refl) fits')
 
 -- ---- the pool behind a freeze
 
@@ -214,7 +219,7 @@ module _ (p : Blocks) (newest : List ℕ) (first second : ℕ) (first_spare : Is
       let ne : b ≢ c = λ e. owned_is_not_ready {o = Journal} (sym (get-set_same q.states c (Owned Journal) Ready (subst P e is))) in
       (ne, sym (get-set_other q.states c b (Owned Journal) ne) ∙ is)
 
-  module _ (shape : Shape) (d : DataState) (old new : Flash) (es : List (Key × Place)) (empty : Bool) (values : Placed shape d p old es) (same : SameValues shape p old new)
+  module _ (shape : Shape) (d : DataState) (outputs : List ℕ) (old new : Flash) (es : List (Key × Place)) (empty : Bool) (values : Placed shape d p outputs old es) (same : SameValues shape p outputs old new)
       (fits : Fits (pool_of empty) new) (second_erased : IsErasedBlock shape new second) where
     pool_shape_same : (pool_of empty).shape ≡ p.shape
     pool_shape_same = given_shape (if not empty then [] else newest) both
@@ -244,14 +249,14 @@ module _ (p : Blocks) (newest : List ℕ) (first second : ℕ) (first_spare : Is
           was_ready b was.1 was.0 later.0;
     }
 
-    places_after : Placed shape d (pool_of empty) new es
+    places_after : Placed shape d (pool_of empty) outputs new es
     places_after =
-        let in_one = taken_places p first first_spare shape d old new es values same fits_one in
-        let in_both = taken_places one second second_spare' shape d new new es in_one (λ k held. refl) fits_both in
+        let in_one = taken_places p first first_spare shape d outputs old new es values same fits_one in
+        let in_both = taken_places one second second_spare' shape d outputs new new es in_one (λ k held no_output. refl) fits_both in
         turned empty in_both
       where
-        turned : (e : Bool) → Placed shape d both new es → Placed shape d (pool_of e) new es
-        turned true there = given_places newest both shape d new es differ_all owned_both fits_both there
+        turned : (e : Bool) → Placed shape d both outputs new es → Placed shape d (pool_of e) outputs new es
+        turned true there = given_places newest both shape d outputs new es differ_all owned_both fits_both there
         turned false there = there
 
 -- ---- when a freeze may be made
@@ -285,7 +290,10 @@ module _ (d : Parts) (board : BoardState) (top : ℕ × Root) (found : Found) (w
   newest_differ = differ_front top.1.newest top.1.older (differ_front (top.1.newest ++ top.1.older) (concat top.1.runs) (valid_blocks d.log.shape (page_at board.pages) top agrees.logs.is_top).different)
 
   used_two : used_by Journal d.pool.states ≡ 2
-  used_two = agrees.journal_few ∙ ap length (ap (λ (o : List ℕ). top.1.newest ++ o) older_none ∙ append-nil top.1.newest) ∙ two
+  used_two =
+      let all = agrees.journal_few in
+      let named_two : length (top.1.newest ++ top.1.older) ≡ 2 = ap length (ap (λ (o : List ℕ). top.1.newest ++ o) older_none ∙ append-nil top.1.newest) ∙ two in
+      omega (arith, all, named_two)
 
   newest_owned : AllJournal d.pool top.1.newest
   newest_owned b among = agrees.journal b (any_front (λ c. b ≡ c) top.1.newest top.1.older among)
@@ -325,6 +333,9 @@ module _ (d : Parts) (board : BoardState) (top : ℕ × Root) (found : Found) (w
       omega (arith, least, same)
 
 -- ---- behind a freeze
+
+with_none : {a b : ℕ} → a ≡ b → a ≡ b + 0
+with_none e = omega (arith, e)
 
 -- the drive with another log and another pool
 abbrev pub with_both : Parts → LogState → Blocks → Parts
@@ -368,12 +379,12 @@ module _ (d : Parts) (old new : BoardState) (top : ℕ × Root) (found : Found) 
   at_frozen : places found d.log.pending ≡ places (frozen found) log'.pending
   at_frozen = ap (places found) none_pending ∙ sym (same_places found (none_older d old top found without m agrees none_pending none_frozen)) ∙ ap (places (frozen found)) (sym pending_is)
 
-  values : Placed its d.space pool' new.pages (places (frozen found) log'.pending)
+  values : Placed its d.space pool' (jobs_of d).blocks.values new.pages (places (frozen found) log'.pending)
   values =
       let there = places_after d.pool top.1.newest first second f.froze.first_spare f.froze.second_spare f.froze.two.different (two d old top found without m agrees none_pending none_frozen)
       (newest_differ d old top found without m agrees none_pending none_frozen) (newest_owned d old top found without m agrees none_pending none_frozen) (used_two d old top found without m agrees none_pending none_frozen)
-      its d.space old.pages new.pages (places found d.log.pending) empty agrees.placed (λ k held. page_same k for_values held) (subst (λ (p : Blocks). Fits p new.pages) f.froze.pool_is fits) f.froze.second_erased in
-      subst (λ (es : List (Key × Place)). Placed its d.space pool' new.pages es) at_frozen (subst (λ (p : Blocks). Placed its d.space p new.pages (places found d.log.pending)) (sym f.froze.pool_is) there)
+      its d.space (jobs_of d).blocks.values old.pages new.pages (places found d.log.pending) empty agrees.placed (λ k held no_output. page_same k for_values held) (subst (λ (p : Blocks). Fits p new.pages) f.froze.pool_is fits) f.froze.second_erased in
+      subst (λ (es : List (Key × Place)). Placed its d.space pool' (jobs_of d).blocks.values new.pages es) at_frozen (subst (λ (p : Blocks). Placed its d.space p (jobs_of d).blocks.values new.pages (places found d.log.pending)) (sym f.froze.pool_is) there)
 
   values_used : used_by for_values pool'.states ≡ used_by for_values d.pool.states
   values_used =
@@ -392,24 +403,27 @@ module _ (d : Parts) (old new : BoardState) (top : ℕ × Root) (found : Found) 
     levels_pinned = agrees.levels_pinned;
     stand = StandEach-same its old.pages new.pages d.arena d.levels.runs top.1.runs found.runs positive agrees.run_blocks (λ k is. page_same k Meta (agrees.runs (k / its.block_pages) is)) agrees.stand;
     run_blocks = subst (λ (r : Root). HaveBlocks its d.levels.runs r.runs) (sym root_is) agrees.run_blocks;
+    arena_is = agrees.arena_is;
     placed = values;
     former = λ k is. values.owned k (subst (λ (es : List Entry). IsValuePage its (places (frozen found) es) k) (sym pending_is) is);
+    former_read = λ k is. values.outputs_are.unread k (subst (λ (es : List Entry). IsValuePage its (places (frozen found) es) k) (sym pending_is) is);
+    jobs_hold = none_held pool' log'.root;
     journal = λ b is.
         let there = journal_after d.pool top.1.newest first second f.froze.first_spare f.froze.second_spare f.froze.two.different (two d old top found without m agrees none_pending none_frozen)
         (newest_differ d old top found without m agrees none_pending none_frozen) (newest_owned d old top found without m agrees none_pending none_frozen) (used_two d old top found without m agrees none_pending none_frozen)
         empty b (subst (λ (r : Root). In b (r.newest ++ r.older)) root_is is) in
         subst (λ (p : Blocks). slice_get p.states b ≡ Some (Owned Journal)) (sym f.froze.pool_is) there;
-    journal_few =
+    journal_few = with_none (
         ap (λ (p : Blocks). used_by Journal p.states) f.froze.pool_is
         ∙ counts_after d.pool top.1.newest first second f.froze.first_spare f.froze.second_spare f.froze.two.different (two d old top found without m agrees none_pending none_frozen)
         (newest_differ d old top found without m agrees none_pending none_frozen) (newest_owned d old top found without m agrees none_pending none_frozen) (used_two d old top found without m agrees none_pending none_frozen) empty
-        ∙ sym (ap (λ (r : Root). length (r.newest ++ r.older)) root_is);
+        ∙ sym (ap (λ (r : Root). length (r.newest ++ r.older)) root_is));
     runs_few =
         ap (λ (p : Blocks). used_by Meta p.states) f.froze.pool_is
         ∙ meta_counts d.pool top.1.newest first second f.froze.first_spare f.froze.second_spare f.froze.two.different (two d old top found without m agrees none_pending none_frozen)
         (newest_differ d old top found without m agrees none_pending none_frozen) (newest_owned d old top found without m agrees none_pending none_frozen) (used_two d old top found without m agrees none_pending none_frozen) empty
         ∙ agrees.runs_few
-        ∙ sym (ap (λ (r : Root). length (concat r.runs)) root_is);
+        ∙ sym (ap (λ (r : Root). length (concat r.runs) + 0) root_is);
     runs = λ b is.
         let was : In b (concat top.1.runs) = subst (λ (r : Root). In b (concat r.runs)) root_is is in
         let there = meta_after d.pool top.1.newest first second f.froze.first_spare f.froze.second_spare f.froze.two.different (two d old top found without m agrees none_pending none_frozen)
@@ -421,7 +435,7 @@ module _ (d : Parts) (old new : BoardState) (top : ℕ × Root) (found : Found) 
 
 -- ---- the map
 
-tick_is_commit : (shape : Shape) (start : Flash) (m : Map) (flash : Flash) (posted : List ℕ) → TickCut shape m flash posted → CommitCut shape start m flash posted
+tick_is_commit : (shape : Shape) (start : Flash) (m : Map) (flash : Flash) (posted : List ℕ) → CrashFinds shape background start m flash posted → CrashFinds shape commit start m flash posted
 tick_is_commit shape start m flash posted cut = (cut.0, inr cut.1)
 
 module _ (d : Parts) (old new : BoardState) (before : IsReady old d.log.shape) (none_pending : d.log.pending ≡ []) (none_frozen : d.log.frozen.entries ≡ []) (unworn : is_worn old ≡ false) where
@@ -448,22 +462,15 @@ module _ (d : Parts) (old new : BoardState) (before : IsReady old d.log.shape) (
             sym (at_frozen d old new there.top there.found there.without m there.with none_pending none_frozen shared log' pool' f fits after)
             ∙ ap (λ (x : Found). places x d.log.pending) (same_found d d.log.shape old.pages m was there);
         still = inr (under_reads d.log.shape new.pages [] (f.froze.page, log'.root) (frozen there.found) m f.froze.under);
-        cuts = (run.0, weaken run.0 old new (TickCut d.log.shape m) (CommitCut d.log.shape old.pages m) (tick_is_commit d.log.shape old.pages m) run.1, run.2);
+        cuts = (run.0, weaken run.0 old new (CrashFinds d.log.shape background old.pages m) (CrashFinds d.log.shape commit old.pages m) (tick_is_commit d.log.shape old.pages m) run.1, run.2);
       }) stands
 
-  pub freeze_breaks : ((top : ℕ × Root) (found : Found) (m : Map) → CanFreeze d.log d.pool old.pages top found m → Goes d.log.shape old new (TickCut d.log.shape m)) → BreaksAll d old new
+  pub freeze_breaks : ((top : ℕ × Root) (found : Found) (m : Map) → CanFreeze d.log d.pool old.pages top found m → Goes d.log.shape old new (CrashFinds d.log.shape background old.pages m)) → BreaksAll d old new
   freeze_breaks went shape m stands =
-      let P : Shape → Type 0 = λ s. StandsFor d s old.pages m → Goes s old new (CommitCut s old.pages m) in
+      let P : Shape → Type 0 = λ s. StandsFor d s old.pages m → Goes s old new (CrashFinds s commit old.pages m) in
       subst P stands.with.shape_is (λ there.
       let run = went there.top there.found m (can_here m there) in
-      (run.0, weaken_went run.0 old new (TickCut d.log.shape m) (CommitCut d.log.shape old.pages m) (tick_is_commit d.log.shape old.pages m) run.1, run.2)) stands
-
-  pub freeze_roots : (log' : LogState) (pool' : Blocks) (m : Map) → IsReady new d.log.shape → StandsFor d d.log.shape old.pages m
-      → ((top : ℕ × Root) (found : Found) (m : Map) → CanFreeze d.log d.pool old.pages top found m → LogFroze d.log d.pool old top found m log' pool' new)
-      → roots new ≡ roots old + 1
-  freeze_roots log' pool' m after there froze =
-      let f = froze there.top there.found m (can_here m there) in
-      ap (λ (s : Shape). root_number s new.pages) (shape_is new d.log.shape after) ∙ f.froze.number ∙ ap (λ (s : Shape). root_number s old.pages + 1) (sym (shape_is old d.log.shape before))
+      (run.0, weaken_went run.0 old new (CrashFinds d.log.shape background old.pages m) (CrashFinds d.log.shape commit old.pages m) (tick_is_commit d.log.shape old.pages m) run.1, run.2)) stands
 
 -- ---- there is room
 
@@ -508,14 +515,6 @@ both_ok : (A B : Type 0) (r : Result Unit Fault) → OnOk r A → OnOk r B → O
 both_ok A B (Ok x) a b = (a, b)
 both_ok A B (Err e) a b = tt
 
-either : (A B C : Type 0) (r : Result Unit Fault) → (A → C) → (B → C) → OnOk r A → OnErr r B → C
-either A B C (Ok x) f g a b = f a
-either A B C (Err e) f g a b = g b
-
-err_weaker : (A B : Type 0) (r : Result Unit Fault) → (A → B) → OnErr r A → OnErr r B
-err_weaker A B (Ok x) f a = tt
-err_weaker A B (Err e) f a = f a
-
 module _ (r : Result Unit Fault) (d : Parts) (old new : BoardState) (before : IsReady old d.log.shape) (none_pending : d.log.pending ≡ []) (none_frozen : d.log.frozen.entries ≡ []) (unworn : is_worn old ≡ false)
     (witness : (m : Map) × StandsFor d d.log.shape old.pages m) where
   abbrev Made : LogState → Blocks → Type 0
@@ -525,15 +524,24 @@ module _ (r : Result Unit Fault) (d : Parts) (old new : BoardState) (before : Is
   may_here = (witness.1.top, witness.1.found, witness.0, can_here d old new before none_pending none_frozen unworn witness.0 witness.1)
 
   module _ (log' : LogState) (pool' : Blocks) where
-    pub keeps_if : IsReady new d.log.shape → IsShared d.pool.shape d.pool.states → OnOk r (Made log' pool') → OnOk r (Fits pool' new.pages) → OnOk r (KeepsAll d (with_both d log' pool') old new)
-    keeps_if after shared froze fits = on_ok_weaker r (λ f. freeze_keeps d old new before none_pending none_frozen unworn log' pool' after shared f.0 f.1) (both_ok (Made log' pool') (Fits pool' new.pages) r froze fits)
-
-    pub values_if : IsReady new d.log.shape → IsShared d.pool.shape d.pool.states → OnOk r (Made log' pool') → OnOk r (Fits pool' new.pages) → OnOk r (used_by for_values pool'.states ≡ used_by for_values d.pool.states)
-    values_if after shared froze fits =
+    pub leaves_if : IsReady new d.log.shape → IsShared d.pool.shape d.pool.states → OnOk r (Made log' pool') → OnOk r (Fits pool' new.pages) → log'.shape ≡ d.log.shape → OnOk r (LeavesValues d (with_both d log' pool'))
+    leaves_if after shared froze fits same =
         on_ok_weaker r (λ f.
         let there = witness.1 in
-        values_used d old new there.top there.found there.without witness.0 there.with none_pending none_frozen shared log' pool'
-        (f.0 there.top there.found witness.0 (can_here d old new before none_pending none_frozen unworn witness.0 there)) f.1 after) (both_ok (Made log' pool') (Fits pool' new.pages) r froze fits)
+        record {
+          rest = refl;
+          same_shape = same;
+          as_many = values_used d old new there.top there.found there.without witness.0 there.with none_pending none_frozen shared log' pool'
+              (f.0 there.top there.found witness.0 (can_here d old new before none_pending none_frozen unworn witness.0 there)) f.1 after;
+        }) (both_ok (Made log' pool') (Fits pool' new.pages) r froze fits)
+
+    pub stays_if : IsReady new d.log.shape → IsShared d.pool.shape d.pool.states → OnOk r (Made log' pool') → OnOk r (Fits pool' new.pages) → OnOk r (Stays d (with_both d log' pool'))
+    stays_if after shared froze fits =
+        on_ok_weaker r (λ f.
+        let there = witness.1 in
+        let made = f.0 there.top there.found witness.0 (can_here d old new before none_pending none_frozen unworn witness.0 there) in
+        freeze_stays d log' pool' old new there.top there.found witness.0 made
+        (values_used d old new there.top there.found there.without witness.0 there.with none_pending none_frozen shared log' pool' made f.1 after)) (both_ok (Made log' pool') (Fits pool' new.pages) r froze fits)
 
     pub room_if : OnOk r (Made log' pool') → OnOk r ((key : Key) → needs_freeze log' key ≡ false)
     room_if froze = on_ok_weaker r (λ f key. let can = may_here in freeze_room d.log log' d.pool pool' old new can.0 can.1 can.2 key can.3 (f can.0 can.1 can.2 can.3)) froze
@@ -541,14 +549,25 @@ module _ (r : Result Unit Fault) (d : Parts) (old new : BoardState) (before : Is
     pub none_if : OnOk r (Made log' pool') → OnOk r (log'.pending ≡ [])
     none_if froze = on_ok_weaker r (λ f. let can = may_here in ap (λ (l : LogState). l.pending) (f can.0 can.1 can.2 can.3).begun_is ∙ none_pending) froze
 
-    pub roots_any : IsReady new d.log.shape → OnOk r (Made log' pool') → OnErr r (root_number d.log.shape new.pages ≤ root_number d.log.shape old.pages + 1) → roots new ≤ roots old + 1
-    roots_any after froze few =
-        either (Made log' pool') (root_number d.log.shape new.pages ≤ root_number d.log.shape old.pages + 1) (roots new ≤ roots old + 1) r
-        (λ f. let one = freeze_roots d old new before none_pending none_frozen unworn log' pool' witness.0 after witness.1 f in omega (arith, one))
-        (λ most.
-        let now : roots new ≡ root_number d.log.shape new.pages = ap (λ (s : Shape). root_number s new.pages) (shape_is new d.log.shape after) in
-        let was : roots old ≡ root_number d.log.shape old.pages = ap (λ (s : Shape). root_number s old.pages) (shape_is old d.log.shape before) in
-        omega (arith, most, now, was)) froze few
-
-  pub breaks_if : OnErr r ((top : ℕ × Root) (found : Found) (m : Map) → CanFreeze d.log d.pool old.pages top found m → Goes d.log.shape old new (TickCut d.log.shape m)) → OnErr r (BreaksAll d old new)
-  breaks_if went = err_weaker ((top : ℕ × Root) (found : Found) (m : Map) → CanFreeze d.log d.pool old.pages top found m → Goes d.log.shape old new (TickCut d.log.shape m)) (BreaksAll d old new) r (λ f. freeze_breaks d old new before none_pending none_frozen unworn f) went
+-- the step
+pub freeze_step : (r : Result Unit Fault) (d : Parts) (log' : LogState) (pool' : Blocks) (old new : BoardState) → IsReady old d.log.shape → d.log.pending ≡ [] → d.log.frozen.entries ≡ [] → is_worn old ≡ false
+    → IsShared d.pool.shape d.pool.states → OnOk r (Fits pool' new.pages) → Step (λ (u : Unit). LogFreezes d.log d.pool old log' pool' new) (LogFreezeBreaks d.log d.pool old new) d.log.shape 1 old new r
+    → StepKeeps d (with_both d log' pool') 1 old new r
+freeze_step (Ok x) d log' pool' old new before none_pending none_frozen unworn shared fits step = record {
+  ended = freeze_keeps d old new before none_pending none_frozen unworn log' pool' step.ready shared step.ended fits;
+  broken = tt;
+  works = step.works;
+  stops = tt;
+  stopped = tt;
+  roots_few = step.roots_few;
+  ready = step.ready;
+}
+freeze_step (Err e) d log' pool' old new before none_pending none_frozen unworn shared fits step = record {
+  ended = tt;
+  broken = freeze_breaks d old new before none_pending none_frozen unworn step.broken;
+  works = tt;
+  stops = step.stops;
+  stopped = step.stopped;
+  roots_few = step.roots_few;
+  ready = step.ready;
+}

@@ -4,7 +4,7 @@ use Rattle.std.specs.Prelude.{slice_get, MatchOption}
 use Rattle.std.specs.List.{list_all, concat}
 use Rattle.std.proofs.Math.ListN.{set}
 use Rattle.std.proofs.Math.Nat.{zero-div, zero-mod, mul_comm}
-use Rattle.std.proofs.lemmas.Bool.{cases_eq, ne_eqb}
+use Rattle.std.proofs.lemmas.Bool.{cases_eq, ne_eqb, false_from_ne_true}
 use Rattle.std.proofs.lemmas.List.Sums.{sum_by-cons}
 use Rattle.std.proofs.lemmas.Option.{slice_get_within, same_Some}
 use Rattle.pk_base.specs.Key.{Key}
@@ -134,10 +134,10 @@ and_false : (a b : Bool) → b ≡ false → (a && b) ≡ false
 and_false true b is = is
 and_false false b is = refl
 
-module _ (shape : Shape) (space : DataState) (pool : Blocks) (flash : Flash) (es : List (Key × Place)) (placed : Placed shape space pool flash es) (fresh : IsFresh shape flash) where
+module _ (shape : Shape) (space : DataState) (pool : Blocks) (flash : Flash) (es : List (Key × Place)) (placed : Placed shape space pool [] flash es) (fresh : IsFresh shape flash) where
   only_open : (b : ℕ) → HoldsValues pool b → IsNotOpen space.open_block b → ⊥
   only_open b held other =
-      let page = placed.filled b held other in
+      let page = placed.filled b held other (λ output. output) in
       let exists : b < shape.blocks = omega (arith, slice_get_within pool.states b (Owned for_values) held, placed.size) in
       page.2 (page_erased shape flash placed.is_shape fresh b page.0 page.1 (placed.behind_roots b held) exists)
 
@@ -145,8 +145,8 @@ module _ (shape : Shape) (space : DataState) (pool : Blocks) (flash : Flash) (es
   no_reclaim count =
       let few = few_used shape pool flash space.open_block only_open placed.open_is in
       let least = data_least shape placed.is_shape in
-      and_false (not (fits_open shape space count)) (used_by for_values pool.states == data_blocks shape - 1)
-      (ne_eqb (used_by for_values pool.states) (data_blocks shape - 1) (λ e. omega (arith, few, least, e)))
+      and_false (not (fits_open shape space count)) (nat_le (data_blocks shape - 1) (used_by for_values pool.states))
+      (false_from_ne_true (nat_le (data_blocks shape - 1) (used_by for_values pool.states)) (λ e. let all = leb→le (data_blocks shape - 1) (used_by for_values pool.states) (subst T (sym e) tt) in absurd (omega (arith, few, least, all))))
 
 -- ---- requests
 

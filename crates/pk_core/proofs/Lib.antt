@@ -2,7 +2,9 @@ pub mod Searching
 pub mod Changing
 pub mod Standing
 pub mod Keeping
+pub mod Leased
 pub mod Elsewhere
+pub mod Holding
 pub mod Committing
 pub mod Building
 pub mod Freezing
@@ -25,5 +27,16 @@ pub mod Doing
 pub mod Early
 pub mod Opening
 pub mod Formatting
-pub mod TestBoards
 pub mod Fresh
+pub mod Steps
+pub mod Executing
+pub mod Places
+pub mod Callings
+pub mod Noted
+pub mod Statuses
+pub mod Programming
+pub mod Performing
+pub mod Quieting
+pub mod Sights
+pub mod Staying
+pub mod Steadying

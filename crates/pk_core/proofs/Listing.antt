@@ -99,6 +99,7 @@ lists_stop all room into at ks none l =
 -- what the next key left
 pub record ListsMore (all : List Key) (room : ℕ) (new : List ℕ) (at next : Filled) (later : List (Key × Place)) : Type 0 where
   pub lists : Lists all room new next (keys_of later)
+  pub same_room : next.room ≡ at.room
   pub longer : at.end < next.end
   pub within : next.end ≤ room
   pub few : next.count ≤ next.end
@@ -115,6 +116,7 @@ lists_next all room into new at next (x ∷ rest) later least within few l o =
     let count : next.count ≡ at.count + 1 = ap (λ (n : Filled). n.count) o.0.0 in
     record {
       lists = subst (λ (ys : List (Key × Place)). Lists all room new next (keys_of ys)) (sym o.1) (lists_more all room into new at next x.0 (keys_of rest) least within l o.0);
+      same_room = ap (λ (n : Filled). n.room) o.0.0;
       longer = omega (arith, end, some);
       within = o.0.1;
       few = omega (arith, end, some, count, few);
@@ -205,6 +207,7 @@ pub record Fills (rs : List Kept) (arena : Frames) (active frozen : List Entry) 
   pub left : IsLeft w now.pages arena rs active frozen rest
   pub lists : Lists (keys_of all) room into at (keys_of rest)
   pub least : 4 ≤ at.end
+  pub room_is : at.room ≡ room
   pub within : at.end ≤ room
   pub few : at.count ≤ at.end
   pub same_shape : w.shape ≡ first.shape
@@ -213,9 +216,10 @@ pub record Fills (rs : List Kept) (arena : Frames) (active frozen : List Entry) 
   pub size : length into ≡ length start
 
 module _ (rs : List Kept) (arena : Frames) (active frozen : List Entry) (shape : Shape) (old : BoardState) (first : Walk) (room : ℕ) (start : List ℕ) where
-  pub fills_start : (at : Filled) → at.end ≡ 4 → at.count ≡ 0 → 4 ≤ room → IsReady old shape → (rest : List (Key × Place)) × IsLeft first old.pages arena rs active frozen rest
+  pub fills_start : (at : Filled) → at.end ≡ 4 → at.count ≡ 0 → at.room ≡ room → 4 ≤ room → IsReady old shape → (rest : List (Key × Place)) × IsLeft first old.pages arena rs active frozen rest
       → Fills rs arena active frozen shape old old first first room start start at
-  fills_start at end count least ready left = record {
+  fills_start at end count room_is least ready left = record {
+    room_is = room_is;
     all = left.0;
     all_left = left.1;
     rest = left.0;
@@ -234,6 +238,12 @@ module _ (rs : List Kept) (arena : Frames) (active frozen : List Entry) (shape :
     abbrev pub Offers : BoardState → Walk → Option Filled → List ℕ → Type 0
     Offers board v next new =
         (rest : List (Key × Place)) → IsLeft w now.pages arena rs active frozen rest → (later : List (Key × Place)) × OffersFirst into at room rest next new later × IsLeft v board.pages arena rs active frozen later
+
+    -- the room is the one that the loop began with
+    pub offers_in : (board : BoardState) (v : Walk) (next : Option Filled) (new : List ℕ)
+        → ((rest : List (Key × Place)) → IsLeft w now.pages arena rs active frozen rest → (later : List (Key × Place)) × OffersFirst into at at.room rest next new later × IsLeft v board.pages arena rs active frozen later)
+        → Offers board v next new
+    offers_in board v next new o rest left = let x = o rest left in (x.0, subst (λ (n : ℕ). OffersFirst into at n rest next new x.0) f.room_is x.1, x.2)
 
     more : (board : BoardState) (v : Walk) (next : Filled) (new : List ℕ) (o : Offers board v (Some next) new) → ListsMore (keys_of f.all) room new at next (o f.rest f.left).0
     more board v next new o =
@@ -254,6 +264,7 @@ module _ (rs : List Kept) (arena : Frames) (active frozen : List Entry) (shape :
           left = (o f.rest f.left).2;
           lists = m.lists;
           least = omega (arith, least, longer);
+          room_is = m.same_room ∙ f.room_is;
           within = m.within;
           few = m.few;
           same_shape = same ∙ f.same_shape;

@@ -6,12 +6,7 @@ use Rattle.pk_base.specs.Entry.{Entry, Place}
 use Rattle.pk_base.specs.Key.{Key}
 use Rattle.pk_base.specs.Map.{Map}
 use Rattle.pk_rootfmt.specs.Root.{named}
-use Rattle.pk_rootfmt.specs.Held.{Held}
-use Rattle.pk_buf.specs.Table.{Table}
 use Rattle.pk_jrn.specs.Epochs.{JournalEpoch}
-use Rattle.pk_pin.specs.Frames.{Frames}
-use Rattle.pk_level.specs.Levels.{Levels}
-use Rattle.pk_live.specs.Values.{Values}
 use Rattle.pk_pool.specs.Blocks.{Blocks}
 use Rattle.pk_model.specs.Found.{Found}
 use Rattle.pk_steps.specs.Under.{IsUnder, places}
@@ -20,6 +15,7 @@ use Rattle.pk_log.specs.Logs.{Logs, Opens}
 use Rattle.pk_data.specs.State.{DataState, with_none_open}
 use Rattle.pk_data.specs.Placed.{Placed, FoundAtOpening}
 use Rattle.pk_scan.specs.Opened.{HasLists, HasBlocks, IsOpened}
+use Rattle.pk_scan.specs.declared.contents.Found.{Found as Opened}
 use Rattle.pk_nand.specs.BoardState.{BoardState}
 use Rattle.pk_nand.specs.Calls.{IsReady}
 use Rattle.pk_nand.specs.Erased.{after_reads}
@@ -29,12 +25,12 @@ use Rattle.pk_core.specs.Agreeing.{Agrees}
 use Rattle.pk_core.specs.Moves.{StandsFor}
 use Rattle.pk_core.specs.Opening.{OpenedOn}
 use Rattle.pk_core.proofs.Standing.{still_stands}
+use Rattle.pk_core.proofs.Holding.{none_held}
 
 -- the lists are what a log is opened with
-log_opens : (shape : Shape) (flash : Flash) (frames : ℕ) (root : Held) (page : ℕ) (active frozen : Table) (epoch : JournalEpoch) (levels : Levels) (arena : Frames) (found : Found) (m : Map)
-    → HasLists shape flash frames root page active frozen epoch levels arena found m → Opens root page epoch active frozen flash found
-log_opens shape flash frames root page active frozen epoch levels arena found m has =
-    let S : Shape → Type 0 = λ s. Opens (record { shape = s; root = root.root }) page epoch active frozen flash found in
+log_opens : {A : Type 0} (shape : Shape) (flash : Flash) (frames : ℕ) (f : Opened A) (found : Found) (m : Map) → HasLists shape flash frames f found m → Opens f.root f.root_page f.epoch f.active f.frozen flash found
+log_opens shape flash frames f found m has =
+    let S : Shape → Type 0 = λ s. Opens (record { shape = s; root = f.root.root }) f.root_page f.epoch f.active f.frozen flash found in
     let epoch_is = has.epoch_is.1 in
     subst S (sym has.shape_is) (record {
       is_top = has.under.is_top;
@@ -48,52 +44,54 @@ log_opens shape flash frames root page active frozen epoch levels arena found m 
     })
 
 -- and the blocks with their owners those that values are found in
-values_found : (shape : Shape) (flash : Flash) (root : Held) (live : Values) (pool : Blocks) (found : Found)
-    → IsShape shape → HasBlocks shape flash root live pool found → FoundAtOpening shape (named root.root) live pool flash (places found [])
-values_found shape flash root live pool found is has = record {
+values_found : {A : Type 0} (shape : Shape) (flash : Flash) (f : Opened A) (found : Found) → IsShape shape → HasBlocks shape flash f found → FoundAtOpening shape (named f.root.root) f.live f.pool flash (places found [])
+values_found shape flash f found is has = record {
   is_shape = is;
-  shape_is = has.pool_shape;
-  size = has.pool_size;
-  fits = has.pool_fits;
+  shape_is = has.owners.pool_shape;
+  size = has.owners.pool_size;
+  fits = has.owners.pool_fits flash;
   lives = has.lives;
   written = has.written;
-  closed_owned = has.closed_owned;
-  owned_closed = has.owned_closed;
+  closed_owned = has.owners.closed_owned;
+  owned_closed = has.owners.owned_closed;
 }
 
 -- the parts of a drive behind what was found
-module _ (shape : Shape) (flash : Flash) (frames : ℕ) (root : Held) (page : ℕ) (active frozen : Table) (epoch : JournalEpoch) (levels : Levels) (arena : Frames) (live : Values) (pool : Blocks) (keys : ℕ) (log : LogState) (space : DataState) where
+module _ {A : Type 0} (shape : Shape) (flash : Flash) (frames : ℕ) (f : Opened A) (log : LogState) (space : DataState) where
   abbrev parts : Parts
-  parts = record { log = log; levels = levels; arena = arena; space = space; pool = pool; keys = keys; frames = frames; stopped = false }
+  parts = record { log = log; levels = f.levels; arena = f.arena; space = space; pool = f.pool; keys = f.keys; frames = frames; stopped = false }
 
-  pub opens_on : IsShape root.shape → IsFlash shape flash → IsOpened shape flash frames root page active frozen epoch levels arena live pool keys
-      → log ≡ opened root page epoch active frozen → ((f : Flash) (found : Found) → Opens root page epoch active frozen f found → Logs log f (page, root.root) found)
-      → space ≡ with_none_open live → ((s : Shape) (named : List ℕ) (p : Blocks) (f : Flash) (es : List (Key × Place)) → FoundAtOpening s named live p f es → Placed s space p f es)
+  pub opens_on : IsShape f.root.shape → IsFlash shape flash → IsOpened shape flash frames f
+      → log ≡ opened f.root f.root_page f.epoch f.active f.frozen → ((x : Flash) (found : Found) → Opens f.root f.root_page f.epoch f.active f.frozen x found → Logs log x (f.root_page, f.root.root) found)
+      → space ≡ with_none_open f.live → ((s : Shape) (named : List ℕ) (p : Blocks) (x : Flash) (es : List (Key × Place)) → FoundAtOpening s named f.live p x es → Placed s space p [] x es)
       → OpenedOn shape flash frames parts
   opens_on held is_flash was log_is stands space_is places_so =
       let is : IsShape shape = subst IsShape was.lists.shape_is held in
       let none : log.pending ≡ [] = ap (λ (l : LogState). l.pending) log_is in
-      let placed : Placed shape space pool flash (places was.found []) = places_so shape (named root.root) pool flash (places was.found []) (values_found shape flash root live pool was.found is was.blocks) in
+      let placed : Placed shape space f.pool [] flash (places was.found []) = places_so shape (named f.root.root) f.pool flash (places was.found []) (values_found shape flash f was.found is was.blocks) in
       record {
-        top = (page, root.root);
+        top = (f.root_page, f.root.root);
         found = was.found;
         all = was.map;
         with = record {
           shape_is = ap (λ (l : LogState). l.shape) log_is ∙ was.lists.shape_is;
           is_flash = is_flash;
-          logs = stands flash was.found (log_opens shape flash frames root page active frozen epoch levels arena was.found was.map was.lists);
+          logs = stands flash was.found (log_opens shape flash frames f was.found was.map was.lists);
           committed = was.lists.under;
-          pending = subst (λ (es : List Entry). IsUnder shape flash es (page, root.root) was.found was.map) (sym none) was.lists.under;
+          pending = subst (λ (es : List Entry). IsUnder shape flash es (f.root_page, f.root.root) was.found was.map) (sym none) was.lists.under;
           levels_shape = was.lists.levels_shape;
           levels_pinned = was.lists.levels_pinned;
           stand = was.lists.stand;
           run_blocks = was.lists.run_blocks;
-          placed = subst (λ (es : List Entry). Placed shape space pool flash (places was.found es)) (sym none) placed;
+          arena_is = was.lists.arena_is;
+          placed = subst (λ (es : List Entry). Placed shape space f.pool [] flash (places was.found es)) (sym none) placed;
           former = placed.owned;
-          journal = was.blocks.journal;
-          journal_few = was.blocks.journal_few;
-          runs = was.blocks.runs;
-          runs_few = was.blocks.runs_few;
+          former_read = λ k is output. output;
+          journal = was.blocks.owners.journal;
+          journal_few = omega (arith, was.blocks.owners.journal_few);
+          runs = was.blocks.owners.runs;
+          runs_few = omega (arith, was.blocks.owners.runs_few);
+          jobs_hold = none_held f.pool f.root.root;
           keys_are = was.keys_are ∙ sym (ap (λ (es : List Entry). length (places was.found es)) none);
         };
         frames_are = refl;

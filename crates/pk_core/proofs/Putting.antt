@@ -15,14 +15,14 @@ use Rattle.pk_nand.specs.BoardState.{BoardState}
 use Rattle.pk_nand.specs.Calls.{IsReady}
 use Rattle.pk_nand.specs.Crash.{ReachedBy}
 use Rattle.pk_pool.specs.Blocks.{used_by}
-use Rattle.pk_drive.specs.Growth.{Reaches, Goes}
-use Rattle.pk_drive.specs.Commit.{CommitCut}
-use Rattle.pk_drive.proofs.Growing.{at_end, weaken, weaken_went, Reaches-then, Goes-then}
+use Rattle.pk_model.specs.Growth.{Reaches, Goes}
+use Rattle.pk_model.specs.Crashes.{CrashFinds, commit, change}
+use Rattle.pk_model.proofs.Growing.{at_end, weaken, weaken_went, Reaches-then, Goes-then}
 use Rattle.pk_data.specs.State.{needs_reclaim}
 use Rattle.pk_data.specs.Entries.{IsInOpen}
 use Rattle.pk_core.specs.declared.place.ValuePlace.{ValuePlace}
 use Rattle.pk_core.specs.Parts.{Parts}
-use Rattle.pk_core.specs.Moves.{StandsFor, Keeps, KeepsAll, BreaksAll, ChangeCut, IsWritten}
+use Rattle.pk_core.specs.Moves.{StandsFor, Keeps, KeepsAll, BreaksAll, IsWritten}
 use Rattle.pk_core.specs.Noting.{Puts, Drops}
 use Rattle.pk_core.specs.Changes.{MayPut, MayTake, PutsAll, FailsToPut, TakesAll, FailsToTake}
 use Rattle.pk_core.proofs.Keeping.{board_has}
@@ -52,27 +52,27 @@ reclaim_same a b count is shapes spaces used needs = rw (shapes, spaces, used) n
 
 -- ---- a step that keeps the map, and a change behind it
 
-module _ (shape : Shape) (s0 s1 : BoardState) (has : s0.shape ≡ Some shape) (m m' : Map) (first : Reaches shape s0 s1 (CommitCut shape s0.pages m)) (still : IsStill shape s1.pages s0.pages m) where
+module _ (shape : Shape) (s0 s1 : BoardState) (has : s0.shape ≡ Some shape) (m m' : Map) (first : Reaches shape s0 s1 (CrashFinds shape commit s0.pages m)) (still : IsStill shape s1.pages s0.pages m) where
   silent : all_posted first.0 ≡ []
-  silent = (at_end first.0 s0 s1 (CommitCut shape s0.pages m) first.1).0
+  silent = (at_end first.0 s0 s1 (CrashFinds shape commit s0.pages m) first.1).0
 
-  kept_cut : (f : Flash) (q : List ℕ) → CommitCut shape s0.pages m f q → ChangeCut shape s0.pages m m' f q
+  kept_cut : (f : Flash) (q : List ℕ) → CrashFinds shape commit s0.pages m f q → CrashFinds shape (change m') s0.pages m f q
   kept_cut f q (quiet, inl same) = (quiet, inl same)
   kept_cut f q (quiet, inr is) = (quiet, inr (inl is))
 
-  begun : ReachedBy first.0 s0 s1 (ChangeCut shape s0.pages m m')
-  begun = weaken first.0 s0 s1 (CommitCut shape s0.pages m) (ChangeCut shape s0.pages m m') kept_cut first.1
+  begun : ReachedBy first.0 s0 s1 (CrashFinds shape (change m') s0.pages m)
+  begun = weaken first.0 s0 s1 (CrashFinds shape commit s0.pages m) (CrashFinds shape (change m') s0.pages m) kept_cut first.1
 
-  later_cut : (f : Flash) (q : List ℕ) → ChangeCut shape s1.pages m m' f q → ChangeCut shape s0.pages m m' f (all_posted first.0 ++ q)
+  later_cut : (f : Flash) (q : List ℕ) → CrashFinds shape (change m') s1.pages m f q → CrashFinds shape (change m') s0.pages m f (all_posted first.0 ++ q)
   later_cut f q (quiet, inl same) =
       (ap (λ (p : List ℕ). p ++ q) silent ∙ quiet, elim still [ inl as_before ↦ inl (same ∙ as_before) | inr is ↦ inr (inl (same ∙ is)) ])
   later_cut f q (quiet, inr is) = (ap (λ (p : List ℕ). p ++ q) silent ∙ quiet, inr is)
 
-  pub later_reaches : (s2 : BoardState) → Reaches shape s1 s2 (ChangeCut shape s1.pages m m') → Reaches shape s0 s2 (ChangeCut shape s0.pages m m')
-  later_reaches s2 second = Reaches-then shape first.0 s0 s1 (ChangeCut shape s0.pages m m') has begun first.2 s2 (ChangeCut shape s1.pages m m') later_cut second
+  pub later_reaches : (s2 : BoardState) → Reaches shape s1 s2 (CrashFinds shape (change m') s1.pages m) → Reaches shape s0 s2 (CrashFinds shape (change m') s0.pages m)
+  later_reaches s2 second = Reaches-then shape first.0 s0 s1 (CrashFinds shape (change m') s0.pages m) has begun first.2 s2 (CrashFinds shape (change m') s1.pages m) later_cut second
 
-  pub later_goes : (s2 : BoardState) → Goes shape s1 s2 (ChangeCut shape s1.pages m m') → Goes shape s0 s2 (ChangeCut shape s0.pages m m')
-  later_goes s2 second = Goes-then shape first.0 s0 s1 (ChangeCut shape s0.pages m m') has begun first.2 s2 (ChangeCut shape s1.pages m m') later_cut second
+  pub later_goes : (s2 : BoardState) → Goes shape s1 s2 (CrashFinds shape (change m') s1.pages m) → Goes shape s0 s2 (CrashFinds shape (change m') s0.pages m)
+  later_goes s2 second = Goes-then shape first.0 s0 s1 (CrashFinds shape (change m') s0.pages m) has begun first.2 s2 (CrashFinds shape (change m') s1.pages m) later_cut second
 
 pub puts_later : (r : Result Unit Fault) (a b e : Parts) (s0 s1 s2 : BoardState) (key : Key) (value : List ℕ) (place : Option ValuePlace) → IsReady s0 a.log.shape → KeepsAll a b s0 s1
     → OnOk r (PutsAll b e s1 s2 key value place) → OnOk r (PutsAll a e s0 s2 key value place)
@@ -198,18 +198,18 @@ module _ (a c : Parts) (s0 : BoardState) (key : Key) (old : ValuePlace) (ready :
       (remove may.0 key, subst (λ (s : Shape). StandsFor c s s0.pages (remove may.0 key)) (sym same) (noted a.log.shape s0.pages may.0 (drops_of a a.log.shape s0.pages may.0 key old may.1)))
 
   -- what is cut behind a change in memory
-  taken_cut : (shape : Shape) (m : Map) (f : Flash) (q : List ℕ) → CommitCut shape s0.pages (remove m key) f q → ChangeCut shape s0.pages m (remove m key) f q
+  taken_cut : (shape : Shape) (m : Map) (f : Flash) (q : List ℕ) → CrashFinds shape commit s0.pages (remove m key) f q → CrashFinds shape (change (remove m key)) s0.pages m f q
   taken_cut shape m f q (quiet, inl same) = (quiet, inl same)
   taken_cut shape m f q (quiet, inr is) = (quiet, inr (inr is))
 
   pub take_changed : (r : Result Unit Fault) (e : Parts) (s2 : BoardState) → OnOk r (KeepsAll c e s0 s2) → OnOk r (TakesAll a e s0 s2 key old)
   take_changed (Ok x) e s2 kept = λ shape m may.
       let two = kept shape (remove m key) (noted shape s0.pages m (drops_of a shape s0.pages m key old may)) in
-      record { stands = two.stands; cuts = (two.cuts.0, weaken two.cuts.0 s0 s2 (CommitCut shape s0.pages (remove m key)) (ChangeCut shape s0.pages m (remove m key)) (taken_cut shape m) two.cuts.1, two.cuts.2) }
+      record { stands = two.stands; cuts = (two.cuts.0, weaken two.cuts.0 s0 s2 (CrashFinds shape commit s0.pages (remove m key)) (CrashFinds shape (change (remove m key)) s0.pages m) (taken_cut shape m) two.cuts.1, two.cuts.2) }
   take_changed (Err f) e s2 kept = tt
 
   pub take_failed : (r : Result Unit Fault) (s2 : BoardState) → OnErr r (BreaksAll c s0 s2) → OnErr r (FailsToTake a s0 s2 key old)
   take_failed (Ok x) s2 breaks = tt
   take_failed (Err f) s2 breaks = λ shape m may.
       let two = breaks shape (remove m key) (noted shape s0.pages m (drops_of a shape s0.pages m key old may)) in
-      (two.0, weaken_went two.0 s0 s2 (CommitCut shape s0.pages (remove m key)) (ChangeCut shape s0.pages m (remove m key)) (taken_cut shape m) two.1, two.2)
+      (two.0, weaken_went two.0 s0 s2 (CrashFinds shape commit s0.pages (remove m key)) (CrashFinds shape (change (remove m key)) s0.pages m) (taken_cut shape m) two.1, two.2)

@@ -102,13 +102,15 @@ lists_read most old new o into bytes status result runs few reads count data_is 
   board_is = subst (λ (b : BoardState). b ≡ record old { reads = b.reads; flash_faults = b.flash_faults; read_faults = b.read_faults; failed_at = b.failed_at }) (sym reads.2) refl;
   reads = omega (arith, few, count);
   up = let same = ap (λ (b : BoardState). b.read_faults) reads.2 in omega (arith, same);
-  answered = inl (status, data_is, (ap (λ (b : BoardState). b.flash_faults) reads.2, ap (λ (b : BoardState). b.read_faults) reads.2, ap (λ (b : BoardState). b.stop_faults) reads.2));
+  flash_up = λ _. let same = ap (λ (b : BoardState). b.flash_faults) reads.2 in omega (arith, same);
+  answered = inl (status, data_is, (ap (λ (b : BoardState). b.flash_faults) reads.2, ap (λ (b : BoardState). b.read_faults) reads.2, ap (λ (b : BoardState). b.stop_faults) reads.2, ap (λ (b : BoardState). b.failed_at) reads.2));
 }
 
 pub lists_unread : (most : ℕ) (old new : BoardState) (o : Outcome) (into bytes : List ℕ) → o.status ≡ 0x88 → o.result ≡ 0 → o.data_len ≡ 0 → o.stopped ≡ false → new.reads ≤ last_count → old.read_faults ≤ last_count → ReadsFail 0 most old new → old.reads + o.reads ≡ new.reads
     → ListsInto old new o into bytes
 lists_unread most old new o into bytes status result none runs few faults (k, page, upto, failed) count =
     let rose = failed.read in
+    let flash = failed.flash in
     record {
       runs = runs;
       result_is = result;
@@ -116,5 +118,6 @@ lists_unread most old new o into bytes status result none runs few faults (k, pa
           ∙ ap (λ (n : ℕ). record old { reads = n; flash_faults = new.flash_faults; read_faults = new.read_faults; failed_at = new.failed_at }) (sym (ap (λ (b : BoardState). b.reads) failed.rest));
       reads = omega (arith, few, count);
       up = omega (arith, rose, faults);
+      flash_up = λ most. omega (arith, flash, most);
       answered = inr (status, none, failed.read);
     }

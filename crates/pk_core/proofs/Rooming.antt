@@ -10,7 +10,7 @@ use Rattle.pk_nand.specs.BoardState.{BoardState}
 use Rattle.pk_buf.specs.Table.{Table}
 use Rattle.pk_jrn.specs.Epochs.{left_of}
 use Rattle.pk_model.proofs.ValueSets.{is_true}
-use Rattle.pk_drive.specs.Wear.{roots, is_worn}
+use Rattle.pk_model.specs.Wear.{roots, is_worn}
 use Rattle.pk_log.specs.State.{needs_freeze}
 use Rattle.pk_core.specs.Parts.{Parts, wants_second_freeze}
 use Rattle.pk_core.specs.Moves.{StandsFor, KeepsAll}

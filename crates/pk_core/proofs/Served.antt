@@ -13,33 +13,37 @@ use Rattle.pk_nvme.specs.Seen.{command_of}
 use Rattle.pk_nvme.specs.declared.request.Request.{Request}
 use Rattle.pk_nand.specs.BoardState.{BoardState}
 use Rattle.pk_nand.specs.Calls.{last_count}
-use Rattle.pk_model.specs.Answer.{Kind, kind, store, retrieve, delete, early, first_of, check, late_of, success, map_after}
+use Rattle.pk_nvme.specs.Opcode.{op_of}
+use Rattle.pk_nvme.specs.declared.opcode.Opcode.{Opcode}
+use Rattle.pk_nvme.specs.declared.opcode.Opcode.TheVariants.{Store, Retrieve, Delete}
+use Rattle.pk_model.specs.Answer.{early, first_of, check, late_of, success, map_after}
 use Rattle.pk_model.specs.Bounds.{most_reads}
 use Rattle.pk_model.specs.Run.{Step}
 use Rattle.pk_model.specs.Sight.{Sight}
 use Rattle.pk_model.proofs.Answering.{serves, refuses_late, store_sized, key_sized, IsKeyLength}
 use Rattle.pk_model.proofs.Machines.{store_check, store_late, live_stored}
 use Rattle.pk_data.specs.State.{needs_reclaim}
-use Rattle.pk_compact.specs.Working.{Works, Stops}
-use Rattle.pk_drive.specs.Drive.{Stands, OnlyFlash}
-use Rattle.pk_drive.specs.Growth.{Reaches, Goes}
-use Rattle.pk_drive.specs.Exec.{Executed, ExecCut, most_installs}
+use Rattle.pk_nand.specs.Effects.{Works, Stops, OnlyFlash}
+use Rattle.pk_drive.specs.Drive.{Stands}
+use Rattle.pk_model.specs.Growth.{Reaches, Goes}
+use Rattle.pk_drive.specs.Exec.{Executed, most_installs}
+use Rattle.pk_model.specs.Crashes.{CrashFinds, change, command}
 use Rattle.pk_drive.specs.Seen.{reply_of as shown}
-use Rattle.pk_drive.specs.Wear.{roots}
+use Rattle.pk_model.specs.Wear.{roots}
 use Rattle.pk_drive.specs.declared.types.Outcome.{Outcome}
-use Rattle.pk_drive.proofs.Growing.{weaken, weaken_went}
+use Rattle.pk_model.proofs.Growing.{weaken, weaken_went}
 use Rattle.pk_core.specs.declared.place.ValuePlace.{ValuePlace}
 use Rattle.pk_core.specs.Parts.{Parts, sight_of, wants_second_freeze, is_built_for, built_if, is_built}
 use Rattle.pk_core.specs.Agreeing.{Agrees}
 use Rattle.pk_core.specs.Done.{Does}
 use Rattle.pk_core.specs.Finding.{IsPlaceIn}
-use Rattle.pk_core.specs.Moves.{StandsFor, ChangeCut}
+use Rattle.pk_core.specs.Moves.{StandsFor}
 use Rattle.pk_core.specs.Quiet.{ReadsOnly, Looks, eleven}
-use Rattle.pk_core.specs.Changes.{MayPut, MayTake, Changes, PutsAll, FailsToPut, TakesAll, FailsToTake}
+use Rattle.pk_core.specs.Changes.{MayPut, MayTake, CanPut, CanTake, Changes, PutsAll, FailsToPut, TakesAll, FailsToTake}
 use Rattle.pk_core.specs.Serving.{IsServable, pages_at}
 use Rattle.pk_core.proofs.Standing.{stands_so, agrees_so}
 use Rattle.pk_core.proofs.Counting.{counts_map}
-use Rattle.pk_core.proofs.Unchanging.{own, looked, value_of, for_its_map, same_early, reads_none, does_reads, AnswersAll}
+use Rattle.pk_core.proofs.Unchanging.{own, looked, value_of, for_its_map, same_early, reads_none, does_reads, AnswersAll, agrees_ready}
 
 -- ---- what is built
 
@@ -64,21 +68,21 @@ delete_built d r op built passed =
     (both_false (wants_second_freeze d) false all).0
 
 pub store_keyed : (shape : Shape) (r : Request) → r.opcode ≡ 0x01 → early shape (command_of r []) ≡ None → IsKeyLength r.key_len
-store_keyed shape r is passed = key_sized shape (command_of r []) store (λ n. refl) (ap kind is) passed
+store_keyed shape r is passed = key_sized shape (command_of r []) Store (λ n. refl) (ap op_of is) passed
 
 pub delete_keyed : (shape : Shape) (r : Request) → r.opcode ≡ 0x10 → early shape (command_of r []) ≡ None → IsKeyLength r.key_len
-delete_keyed shape r is passed = key_sized shape (command_of r []) delete (λ n. refl) (ap kind is) passed
+delete_keyed shape r is passed = key_sized shape (command_of r []) Delete (λ n. refl) (ap op_of is) passed
 
 pub store_short : (shape : Shape) (r : Request) → r.opcode ≡ 0x01 → early shape (command_of r []) ≡ None → r.size ≤ greatest shape
-store_short shape r is passed = store_sized shape (command_of r []) (ap kind is) passed
+store_short shape r is passed = store_sized shape (command_of r []) (ap op_of is) passed
 
 -- ---- no other kind
 
-store_other : (x : ℕ) → x ≡ 0x01 → kind x ≡ Some retrieve → ⊥
-store_other x is e = let f : ◌≡◌ {A = Option Kind} (Some store) (Some retrieve) = sym (ap kind is) ∙ e in cc
+store_other : (x : ℕ) → x ≡ 0x01 → op_of x ≡ Some Retrieve → ⊥
+store_other x is e = let f : ◌≡◌ {A = Option Opcode} (Some Store) (Some Retrieve) = sym (ap op_of is) ∙ e in cc
 
-delete_other : (x : ℕ) → x ≡ 0x10 → kind x ≡ Some retrieve → ⊥
-delete_other x is e = let f : ◌≡◌ {A = Option Kind} (Some delete) (Some retrieve) = sym (ap kind is) ∙ e in cc
+delete_other : (x : ℕ) → x ≡ 0x10 → op_of x ≡ Some Retrieve → ⊥
+delete_other x is e = let f : ◌≡◌ {A = Option Opcode} (Some Delete) (Some Retrieve) = sym (ap op_of is) ∙ e in cc
 
 -- ---- the clauses of a command that changed the map
 
@@ -92,12 +96,12 @@ ok_sound : ◌≡◌ {A = ℕ} 0 0x88 → ⊥
 ok_sound e = cc
 
 module _ (d : Parts) (old new : BoardState) (a : Agrees d old.shape old.pages) (c : Command) (after : Map) (counted : old.reads ≤ last_count) (few_roots : roots new ≤ roots old + 1) (one : most_installs c.opcode c.size ≡ 65535)
-    (other : kind c.opcode ≡ Some retrieve → ⊥) (leaves : map_after d.log.shape (limit d.log.shape) a.all c ≡ after) where
+    (other : op_of c.opcode ≡ Some Retrieve → ⊥) (leaves : map_after d.log.shape (limit d.log.shape) a.all c ≡ after) where
   told : old.shape ≡ Some d.log.shape
   told = a.told_is ∙ ap (λ s. Some s) (sym a.with.shape_is)
 
   -- where the change is cut, the command is
-  exec_cut : (f : Flash) (q : List ℕ) → ChangeCut d.log.shape old.pages a.all after f q → ExecCut d.log.shape old.pages a.all c f q
+  exec_cut : (f : Flash) (q : List ℕ) → CrashFinds d.log.shape (change after) old.pages a.all f q → CrashFinds d.log.shape (command c) old.pages a.all f q
   exec_cut f q (quiet, inl same) = (quiet, inl same)
   exec_cut f q (quiet, inr (inl is)) = (quiet, inr (inl is))
   exec_cut f q (quiet, inr (inr is)) = (quiet, inr (inr (is ∙ ap (λ m. Ok m) (sym leaves))))
@@ -111,12 +115,13 @@ module _ (d : Parts) (old new : BoardState) (a : Agrees d old.shape old.pages) (
       stands = subst (λ (f : ℕ). Stands d.log.shape f new (sight_of e) after) same_frames (stands_so e new d.log.shape after (same_shape ∙ told) changed.stands);
       bounded = λ is. absurd (other is);
     });
-    cuts = λ _. for_its_map d old a (λ s f m. Reaches s old new (ExecCut s old.pages m c))
-        (changed.cuts.0, weaken changed.cuts.0 old new (ChangeCut d.log.shape old.pages a.all after) (ExecCut d.log.shape old.pages a.all c) exec_cut changed.cuts.1, changed.cuts.2);
+    cuts = λ _. for_its_map d old a (λ s f m. Reaches s old new (CrashFinds s (command c) old.pages m))
+        (changed.cuts.0, weaken changed.cuts.0 old new (CrashFinds d.log.shape (change after) old.pages a.all) (CrashFinds d.log.shape (command c) old.pages a.all) exec_cut changed.cuts.1, changed.cuts.2);
     cuts_stopped = λ is. absurd (yes_no is);
     rest = works.rest;
     reads_are = let same = works.reads in omega (arith, same, counted);
     up = let same = works.no_fault.1 in omega (arith, same);
+    flash_up = λ _. let same = works.no_fault.0 in omega (arith, same);
     unread = λ is. absurd (sound is);
     sound = λ _. works.no_fault;
     stop = λ is. absurd (yes_no is);
@@ -125,15 +130,16 @@ module _ (d : Parts) (old new : BoardState) (a : Agrees d old.shape old.pages) (
     installs = omega (arith, few_roots, one);
   }
 
-  pub does_stop : (s : Sight) → Goes d.log.shape old new (ChangeCut d.log.shape old.pages a.all after) → Stops old new → Does old new (sight_of d) s c (refusal 0x88) 0 true
+  pub does_stop : (s : Sight) → Goes d.log.shape old new (CrashFinds d.log.shape (change after) old.pages a.all) → Stops old new → Does old new (sight_of d) s c (refusal 0x88) 0 true
   does_stop s went stops = record {
     stands = λ is. absurd (no_yes is);
     cuts = λ is. absurd (no_yes is);
-    cuts_stopped = λ _. for_its_map d old a (λ s f m. Goes s old new (ExecCut s old.pages m c))
-        (went.0, weaken_went went.0 old new (ChangeCut d.log.shape old.pages a.all after) (ExecCut d.log.shape old.pages a.all c) exec_cut went.1, went.2);
+    cuts_stopped = λ _. for_its_map d old a (λ s f m. Goes s old new (CrashFinds s (command c) old.pages m))
+        (went.0, weaken_went went.0 old new (CrashFinds d.log.shape (change after) old.pages a.all) (CrashFinds d.log.shape (command c) old.pages a.all) exec_cut went.1, went.2);
     rest = stops.rest;
     reads_are = let same = stops.reads in omega (arith, same, counted);
     up = let same = stops.read in omega (arith, same);
+    flash_up = λ few. let rose = stops.flash in omega (arith, rose, few);
     unread = λ _ is. absurd (no_yes is);
     sound = λ is. absurd (is refl);
     stop = λ _. stops.stop;
@@ -152,25 +158,25 @@ few_same d e same few = subst (λ (s : Shape). length e.log.pending < page_entri
 -- ---- steps of the map
 
 module _ (shape : Shape) (frames : ℕ) (m : Map) (c : Command) (passed : early shape c ≡ None) where
-  refused_step : (k : Kind) (status : ℕ) → kind c.opcode ≡ Some k → late_of shape (limit shape) m c (Some k) ≡ Some status → Step shape frames m c (refusal status) m
+  refused_step : (k : Opcode) (status : ℕ) → op_of c.opcode ≡ Some k → late_of shape (limit shape) m c (Some k) ≡ Some status → Step shape frames m c (refusal status) m
   refused_step k status is late =
       let s = refuses_late shape (limit shape) frames m eleven c k status is passed late in
       inl (record { own = eleven; eleven = refl; replied = sym s.replied; leaves = sym s.leaves })
 
-  store_leaves : kind c.opcode ≡ Some store → late_of shape (limit shape) m c (Some store) ≡ None → map_after shape (limit shape) m c ≡ insert m (key c) c.value
-  store_leaves is late = (serves shape (limit shape) frames m eleven c store is passed late).leaves
+  store_leaves : op_of c.opcode ≡ Some Store → late_of shape (limit shape) m c (Some Store) ≡ None → map_after shape (limit shape) m c ≡ insert m (key c) c.value
+  store_leaves is late = (serves shape (limit shape) frames m eleven c Store is passed late).leaves
 
-  store_step : kind c.opcode ≡ Some store → late_of shape (limit shape) m c (Some store) ≡ None → Step shape frames m c (success 0 []) (insert m (key c) c.value)
+  store_step : op_of c.opcode ≡ Some Store → late_of shape (limit shape) m c (Some Store) ≡ None → Step shape frames m c (success 0 []) (insert m (key c) c.value)
   store_step is late =
-      let s = serves shape (limit shape) frames m eleven c store is passed late in
+      let s = serves shape (limit shape) frames m eleven c Store is passed late in
       inl (record { own = eleven; eleven = refl; replied = sym s.replied; leaves = sym s.leaves })
 
-  delete_leaves : kind c.opcode ≡ Some delete → late_of shape (limit shape) m c (Some delete) ≡ None → map_after shape (limit shape) m c ≡ remove m (key c)
-  delete_leaves is late = (serves shape (limit shape) frames m eleven c delete is passed late).leaves
+  delete_leaves : op_of c.opcode ≡ Some Delete → late_of shape (limit shape) m c (Some Delete) ≡ None → map_after shape (limit shape) m c ≡ remove m (key c)
+  delete_leaves is late = (serves shape (limit shape) frames m eleven c Delete is passed late).leaves
 
-  delete_step : kind c.opcode ≡ Some delete → late_of shape (limit shape) m c (Some delete) ≡ None → Step shape frames m c (success 0 []) (remove m (key c))
+  delete_step : op_of c.opcode ≡ Some Delete → late_of shape (limit shape) m c (Some Delete) ≡ None → Step shape frames m c (success 0 []) (remove m (key c))
   delete_step is late =
-      let s = serves shape (limit shape) frames m eleven c delete is passed late in
+      let s = serves shape (limit shape) frames m eleven c Delete is passed late in
       inl (record { own = eleven; eleven = refl; replied = sym s.replied; leaves = sym s.leaves })
 
 -- ---- the checks of a Store
@@ -245,7 +251,7 @@ module _ (d : Parts) (old : BoardState) (r : Request) (value : List ℕ) (k : Ke
   live_is : sum d.space.live.heads ≡ live d.log.shape all
   live_is = (counts_map d d.log.shape old.pages s.agrees.top s.agrees.found s.agrees.without all (own d old s.agrees)).live_is
 
-  late_is : store_check r.options (is_some o) after_pages (limit d.log.shape) ≡ late_of d.log.shape (limit d.log.shape) all c (Some store)
+  late_is : store_check r.options (is_some o) after_pages (limit d.log.shape) ≡ late_of d.log.shape (limit d.log.shape) all c (Some Store)
   late_is = store_late d.log.shape all r value (is_some o) (sum d.space.live.heads) (pages_at d.log.shape o) (charge d.log.shape r.size) (limit d.log.shape)
       (is_there_same d old s.agrees k o is_key looks ∙ ap (contains_key all) named) live_is
       (pages_same d old s.agrees k o is_key looks ∙ ap (λ q. pages_if_some d.log.shape (get all q)) named) refl refl
@@ -254,9 +260,9 @@ module _ (d : Parts) (old : BoardState) (r : Request) (value : List ℕ) (k : Ke
       → outcome ≡ record { status = status; result = 0; data_len = 0; reads = reads; stopped = false }
       → Does old old (sight_of d) (sight_of e) c (shown outcome into) 0 outcome.stopped
   store_refused status e into outcome reads failed same told_is =
-      let step = refused_step d.log.shape d.frames all c passes store status (ap kind op) (sym late_is ∙ failed) in
+      let step = refused_step d.log.shape d.frames all c passes Store status (ap op_of op) (sym late_is ∙ failed) in
       let answers : AnswersAll old (sight_of d) c (refusal status) 0 =
-      for_its_map d old s.agrees (λ x f m. Step x f m c (refusal status) m × (kind r.opcode ≡ Some retrieve → 0 ≤ most_reads x f m c)) (step, λ is. absurd (store_other r.opcode op is)) in
+      for_its_map d old s.agrees (λ x f m. Step x f m c (refusal status) m × (op_of r.opcode ≡ Some Retrieve → 0 ≤ most_reads x f m c)) (step, λ is. absurd (store_other r.opcode op is)) in
       let done = does_reads old old (sight_of d) c (refusal status) 0 0 s.counted s.counted (reads_none old s.counted) (omega arith) (not_unread r.options after_pages (limit d.log.shape) status (is_some o) failed) answers in
       subst (λ (x : Outcome). Does old old (sight_of d) (sight_of e) c (shown x into) 0 x.stopped) (sym told_is) (subst (λ (x : Parts). Does old old (sight_of d) (sight_of x) c (refusal status) 0 false) (sym same) done)
 
@@ -273,11 +279,20 @@ module _ (d : Parts) (old : BoardState) (r : Request) (value : List ℕ) (k : Ke
           room = omega (arith, few, same);
         }
 
-    late_none : late_of d.log.shape (limit d.log.shape) all c (Some store) ≡ None
+    pub can_put : CanPut d old k value o
+    can_put = record {
+      ready = agrees_ready d old s.agrees;
+      may = (all, may_put);
+      short = let short = store_short d.log.shape r op s.passed in omega (arith, short, whole);
+      no_reclaim = (store_built d r value op whole s.built s.passed).1;
+      few = s.few;
+    }
+
+    late_none : late_of d.log.shape (limit d.log.shape) all c (Some Store) ≡ None
     late_none = sym late_is ∙ passed
 
     leaves_put : map_after d.log.shape (limit d.log.shape) all c ≡ insert all k value
-    leaves_put = store_leaves d.log.shape d.frames all c passes (ap kind op) late_none ∙ ap (λ q. insert all q value) (sym named)
+    leaves_put = store_leaves d.log.shape d.frames all c passes (ap op_of op) late_none ∙ ap (λ q. insert all q value) (sym named)
 
     one_root : most_installs r.opcode r.size ≡ 65535
     one_root = ap (λ x. most_installs x r.size) op
@@ -287,7 +302,7 @@ module _ (d : Parts) (old : BoardState) (r : Request) (value : List ℕ) (k : Ke
         → Does old new (sight_of d) (sight_of e) c (shown outcome into) 0 outcome.stopped
     store_done e new into outcome reads puts same_frames same_shape works few_roots told_is =
         let step : Step d.log.shape d.frames all c (success 0 []) (insert all k value) =
-        subst (λ q. Step d.log.shape d.frames all c (success 0 []) (insert all q value)) (sym named) (store_step d.log.shape d.frames all c passes (ap kind op) late_none) in
+        subst (λ q. Step d.log.shape d.frames all c (success 0 []) (insert all q value)) (sym named) (store_step d.log.shape d.frames all c passes (ap op_of op) late_none) in
         let done = does_change d old new s.agrees c (insert all k value) s.counted few_roots one_root (store_other r.opcode op) leaves_put e (success 0 []) (puts d.log.shape all may_put) same_frames same_shape works ok_sound step in
         subst (λ (x : Outcome). Does old new (sight_of d) (sight_of e) c (shown x into) 0 x.stopped) (sym told_is) done
 
@@ -328,9 +343,9 @@ module _ (d : Parts) (old : BoardState) (r : Request) (v : List ℕ) (k : Key) (
       → Does old old (sight_of d) (sight_of e) dc (shown outcome into) 0 outcome.stopped
   delete_missing e into outcome reads looks same told_is =
       let missing : get its_map (key dc) ≡ None = subst (λ q. get its_map q ≡ None) named (looked d old s.agrees k None looks).there in
-      let step = refused_step d.log.shape d.frames its_map dc delete_passed delete 0x87 (ap kind op) (delete_fails its_map (key dc) missing) in
+      let step = refused_step d.log.shape d.frames its_map dc delete_passed Delete 0x87 (ap op_of op) (delete_fails its_map (key dc) missing) in
       let answers : AnswersAll old (sight_of d) dc (refusal 0x87) 0 =
-      for_its_map d old s.agrees (λ x f m. Step x f m dc (refusal 0x87) m × (kind r.opcode ≡ Some retrieve → 0 ≤ most_reads x f m dc)) (step, λ is. absurd (delete_other r.opcode op is)) in
+      for_its_map d old s.agrees (λ x f m. Step x f m dc (refusal 0x87) m × (op_of r.opcode ≡ Some Retrieve → 0 ≤ most_reads x f m dc)) (step, λ is. absurd (delete_other r.opcode op is)) in
       let done = does_reads old old (sight_of d) dc (refusal 0x87) 0 0 s.counted s.counted (reads_none old s.counted) (omega arith) missing_sound answers in
       subst (λ (x : Outcome). Does old old (sight_of d) (sight_of e) dc (shown x into) 0 x.stopped) (sym told_is) (subst (λ (x : Parts). Does old old (sight_of d) (sight_of x) dc (refusal 0x87) 0 false) (sym same) done)
 
@@ -339,13 +354,16 @@ module _ (d : Parts) (old : BoardState) (r : Request) (v : List ℕ) (k : Key) (
     unfolding its_drive
     may_take = record { stands = its_drive d old s.agrees k (Some p) is_key looks; old_is = (placed_there d old s.agrees k (Some p) is_key looks).placed; bytes = bytes }
 
-    gone_late : late_of d.log.shape (limit d.log.shape) its_map dc (Some delete) ≡ None
+    pub can_take : CanTake d old k p
+    can_take = record { ready = agrees_ready d old s.agrees; may = (its_map, may_take); few = s.few }
+
+    gone_late : late_of d.log.shape (limit d.log.shape) its_map dc (Some Delete) ≡ None
     gone_late =
         let there = value_of d old s.agrees k p is_key looks in
         delete_passes its_map (key dc) there.value (subst (λ q. get its_map q ≡ Some there.value) named there.is_there)
 
     leaves_gone : map_after d.log.shape (limit d.log.shape) its_map dc ≡ remove its_map k
-    leaves_gone = delete_leaves d.log.shape d.frames its_map dc delete_passed (ap kind op) gone_late ∙ ap (λ q. remove its_map q) (sym named)
+    leaves_gone = delete_leaves d.log.shape d.frames its_map dc delete_passed (ap op_of op) gone_late ∙ ap (λ q. remove its_map q) (sym named)
 
     gone_root : most_installs r.opcode r.size ≡ 65535
     gone_root = ap (λ x. most_installs x r.size) op
@@ -355,7 +373,7 @@ module _ (d : Parts) (old : BoardState) (r : Request) (v : List ℕ) (k : Key) (
         → Does old new (sight_of d) (sight_of e) dc (shown outcome into) 0 outcome.stopped
     delete_done e new into outcome reads takes same_frames same_shape works few_roots told_is =
         let step : Step d.log.shape d.frames its_map dc (success 0 []) (remove its_map k) =
-        subst (λ q. Step d.log.shape d.frames its_map dc (success 0 []) (remove its_map q)) (sym named) (delete_step d.log.shape d.frames its_map dc delete_passed (ap kind op) gone_late) in
+        subst (λ q. Step d.log.shape d.frames its_map dc (success 0 []) (remove its_map q)) (sym named) (delete_step d.log.shape d.frames its_map dc delete_passed (ap op_of op) gone_late) in
         let done = does_change d old new s.agrees dc (remove its_map k) s.counted few_roots gone_root (delete_other r.opcode op) leaves_gone e (success 0 []) (takes d.log.shape its_map may_take) same_frames same_shape works ok_sound step in
         subst (λ (x : Outcome). Does old new (sight_of d) (sight_of e) dc (shown x into) 0 x.stopped) (sym told_is) done
 
@@ -382,7 +400,7 @@ servable_behind d e old new most r same made s =
     let here : IsServable d (record old { reads = n }) r = record { agrees = s.agrees; runs = s.runs; unworn = s.unworn; built = s.built; passed = s.passed; few = s.few; counted = few } in
     subst (λ (x : Parts). IsServable x new r) (sym same) (subst (λ (b : BoardState). IsServable d b r) (sym made.board) here)
 
-pub does_behind : (d e f : Parts) (old mid new : BoardState) (most : ℕ) (c : Command) (into : List ℕ) (o : Outcome) (reads : ℕ) → e ≡ d → ReadsOnly old mid most → (kind c.opcode ≡ Some retrieve → ⊥)
+pub does_behind : (d e f : Parts) (old mid new : BoardState) (most : ℕ) (c : Command) (into : List ℕ) (o : Outcome) (reads : ℕ) → e ≡ d → ReadsOnly old mid most → (op_of c.opcode ≡ Some Retrieve → ⊥)
     → o.reads ≡ reads → reads ≡ mid.reads - old.reads
     → Does mid new (sight_of e) (sight_of f) c (shown o into) 0 o.stopped → Does old new (sight_of d) (sight_of f) c (shown o into) o.reads o.stopped
 does_behind d e f old mid new most c into o reads same made other told_is is does =
@@ -405,6 +423,7 @@ does_behind d e f old mid new most c into o reads same made other told_is is doe
       rest = x.rest;
       reads_are = omega (arith, count, told_is, is, few, up);
       up = x.up;
+      flash_up = x.flash_up;
       unread = x.unread;
       sound = x.sound;
       stop = x.stop;
@@ -413,8 +432,8 @@ does_behind d e f old mid new most c into o reads same made other told_is is doe
       installs = x.installs;
     }
 
-pub store_is_other : (r : Request) → r.opcode ≡ 0x01 → kind r.opcode ≡ Some retrieve → ⊥
+pub store_is_other : (r : Request) → r.opcode ≡ 0x01 → op_of r.opcode ≡ Some Retrieve → ⊥
 store_is_other r op = store_other r.opcode op
 
-pub delete_is_other : (r : Request) → r.opcode ≡ 0x10 → kind r.opcode ≡ Some retrieve → ⊥
+pub delete_is_other : (r : Request) → r.opcode ≡ 0x10 → op_of r.opcode ≡ Some Retrieve → ⊥
 delete_is_other r op = delete_other r.opcode op

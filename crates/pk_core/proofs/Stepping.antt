@@ -15,27 +15,34 @@ use Rattle.pk_pool.specs.declared.state.BlockState.TheVariants.{Free, Ready}
 use Rattle.pk_pool.specs.Blocks.{Blocks, IsNowhere, is_ready}
 use Rattle.pk_pool.specs.Taking.{ErasesOne, ErasesNone}
 use Rattle.pk_pool.proofs.Sharing.{count-set}
-use Rattle.pk_model.specs.Answer.{Kind, kind, retrieve, tick, early, success}
+use Rattle.pk_nvme.specs.Opcode.{op_of}
+use Rattle.pk_nvme.specs.declared.opcode.Opcode.{Opcode}
+use Rattle.pk_nvme.specs.declared.opcode.Opcode.TheVariants.{Retrieve, Tick}
+use Rattle.pk_model.specs.Answer.{early, success}
 use Rattle.pk_model.specs.Reading.{reading}
 use Rattle.pk_model.specs.Run.{Step}
 use Rattle.pk_model.specs.Sight.{Sight}
 use Rattle.pk_model.proofs.Answering.{serves}
-use Rattle.pk_drive.specs.Wear.{roots}
-use Rattle.pk_drive.specs.Drive.{Stands, OnlyFlash, NoFault, AtMostOneCall}
-use Rattle.pk_drive.specs.Tick.{TickCut}
-use Rattle.pk_drive.specs.Exec.{ExecCut, most_installs}
+use Rattle.pk_model.specs.Wear.{roots}
+use Rattle.pk_drive.specs.Drive.{Stands}
+use Rattle.pk_nand.specs.Effects.{OnlyFlash, NoFault, AtMostOneCall}
+use Rattle.pk_model.specs.Crashes.{CrashFinds, background, command}
+use Rattle.pk_drive.specs.Exec.{most_installs}
 use Rattle.pk_drive.specs.Seen.{stopped_by, reply_of}
 use Rattle.pk_drive.specs.declared.types.Outcome.{Outcome}
 use Rattle.pk_drive.specs.declared.types.Ticked.{Ticked}
 use Rattle.pk_drive.specs.declared.types.Ticked.TheVariants.{Worked, Idle, Fault}
-use Rattle.pk_drive.proofs.Growing.{weaken, weaken_went, at_end, Reaches-then, Goes-then}
+use Rattle.pk_model.proofs.Growing.{weaken, weaken_went, at_end, Reaches-then, Goes-then}
 use Rattle.pk_core.specs.Parts.{Parts, sight_of}
 use Rattle.pk_core.specs.Agreeing.{Agrees}
 use Rattle.pk_core.specs.Done.{Does}
 use Rattle.pk_core.specs.Quiet.{eleven}
+use Rattle.pk_core.specs.Staying.{Stays}
 use Rattle.pk_core.specs.Ticking.{Ticks}
 use Rattle.pk_core.specs.Stepping.{has_failed, Steps, outcome_of, erased_in, Erases}
 use Rattle.pk_core.proofs.Unchanging.{for_its_map, same_early, unread_step}
+use Rattle.pk_core.proofs.Staying.{stays_then}
+use Rattle.pk_core.proofs.Callings.{few_none, few_more, few_within}
 use Rattle.pk_core.proofs.Ticking.{yes_no}
 
 -- the drive agrees with its board after so many steps, of which none failed
@@ -45,6 +52,7 @@ pub record Ongoing (first : Parts) (old : BoardState) (d : Parts) (board : Board
   pub none : d.log.pending ≡ []
   pub steps : Steps old board (sight_of first) (sight_of d) Worked made
   pub erased : erased_in d.pool ≡ erased_in first.pool + made
+  pub stays : Stays first d
 
 -- ---- no step
 
@@ -54,15 +62,17 @@ worked_fault b e = cc
 pub steps_none : (old : BoardState) (s : Sight) → old.reads ≤ last_count → s.pending ≡ [] → Steps old old s s Worked 0
 steps_none old s few none = record {
   stands = λ _ shape frames m st. st;
-  cuts = λ _ shape frames m st. ([], Reached-start old old (TickCut shape m) refl refl refl refl (refl, subst (λ p. reading shape old.pages p ≡ Ok m) none st.map_is), tt);
+  cuts = λ _ shape frames m st. ([], Reached-start old old (CrashFinds shape background old.pages m) refl refl refl refl (refl, subst (λ p. reading shape old.pages p ≡ Ok m) none st.map_is), tt);
   cuts_stopped = λ e. absurd (yes_no false refl e);
   rest = refl;
+  calls = few_none old;
   few = few;
   more_reads = omega arith;
   within = omega arith;
   up = omega arith;
+  flash_up = λ _. omega arith;
   unread = λ e. absurd (worked_fault false e);
-  sound = λ _. (refl, refl, refl);
+  sound = λ _. (refl, refl, refl, refl);
   stop = λ e. absurd (yes_no false refl e);
   no_stop = λ _. refl;
   installs = omega arith;
@@ -105,16 +115,16 @@ one_read a b few calls = elim calls [
 -- a step that did not fail met no fault
 sound_step : (a b : BoardState) (s t : Sight) (answer : Ticked) → Ticks a b s t answer → has_failed answer ≡ false → NoFault a b
 sound_step a b s t Worked ticks e = ticks.worked refl
-sound_step a b s t Idle ticks e = subst (λ x. NoFault a x) (sym (ticks.idle_rests refl)) (refl, refl, refl)
+sound_step a b s t Idle ticks e = subst (λ x. NoFault a x) (sym (ticks.idle_rests refl).0) (refl, refl, refl, refl)
 sound_step a b s t (Fault stopped) ticks e = absurd (yes_no true e refl)
 
 module _ (s0 s1 : BoardState) (e0 e1 : Sight) (n : ℕ) (first : Steps s0 s1 e0 e1 Worked n) where
   -- a cut behind the steps so far is one behind the first
   seen : (shape : Shape) (frames : ℕ) (m : Map) (st : Stands shape frames s0 e0 m) (f : Flash) (q : List ℕ)
-      → TickCut shape m f q → TickCut shape m f (all_posted (first.cuts refl shape frames m st).0 ++ q)
+      → CrashFinds shape background s0.pages m f q → CrashFinds shape background s0.pages m f (all_posted (first.cuts refl shape frames m st).0 ++ q)
   seen shape frames m st f q cut =
       let run = first.cuts refl shape frames m st in
-      let ends = at_end run.0 s0 s1 (TickCut shape m) run.1 in
+      let ends = at_end run.0 s0 s1 (CrashFinds shape background s0.pages m) run.1 in
       (ap (λ (xs : List ℕ). xs ++ q) ends.0 ∙ cut.0, cut.1)
 
   pub steps_more : (s2 : BoardState) (e2 : Sight) (answer : Ticked) → Ticks s1 s2 e1 e2 answer → Steps s0 s2 e0 e2 answer (n + 1)
@@ -125,17 +135,19 @@ module _ (s0 s1 : BoardState) (e0 e1 : Sight) (n : ℕ) (first : Steps s0 s1 e0 
         stands = λ runs shape frames m st. ticks.stands runs shape frames m (first.stands refl shape frames m st);
         cuts = λ runs shape frames m st.
             let run = first.cuts refl shape frames m st in
-            Reaches-then shape run.0 s0 s1 (TickCut shape m) st.shape_is run.1 run.2 s2 (TickCut shape m) (seen shape frames m st) (ticks.cuts runs shape frames m (first.stands refl shape frames m st));
+            Reaches-then shape run.0 s0 s1 (CrashFinds shape background s0.pages m) st.shape_is run.1 run.2 s2 (CrashFinds shape background s0.pages m) (seen shape frames m st) (ticks.cuts runs shape frames m (first.stands refl shape frames m st));
         cuts_stopped = λ stops shape frames m st.
             let run = first.cuts refl shape frames m st in
-            Goes-then shape run.0 s0 s1 (TickCut shape m) st.shape_is run.1 run.2 s2 (TickCut shape m) (seen shape frames m st) (ticks.cuts_stopped stops shape frames m (first.stands refl shape frames m st));
+            Goes-then shape run.0 s0 s1 (CrashFinds shape background s0.pages m) st.shape_is run.1 run.2 s2 (CrashFinds shape background s0.pages m) (seen shape frames m st) (ticks.cuts_stopped stops shape frames m (first.stands refl shape frames m st));
         rest = only_then s0 s1 s2 first.rest ticks.rest;
+        calls = few_more n s0 s1 s2 first.calls ticks.calls;
         few = reads.few;
         more_reads = (let a = first.more_reads in let b = reads.more in omega (arith, a, b));
         within = (let a = first.within in let b = reads.within in omega (arith, a, b));
         up = (let a = first.up in let b = ticks.up in omega (arith, a, b));
+        flash_up = λ few. (let same = calm.0 in let b = ticks.flash_up (omega (arith, same, few)) in omega (arith, same, b));
         unread = λ e. subst (λ k. Rose k s2.read_faults) calm.1 (ticks.unread e);
-        sound = λ e. let next = sound_step s1 s2 e1 e2 answer ticks e in (next.0 ∙ calm.0, next.1 ∙ calm.1, next.2 ∙ calm.2);
+        sound = λ e. let next = sound_step s1 s2 e1 e2 answer ticks e in (next.0 ∙ calm.0, next.1 ∙ calm.1, next.2 ∙ calm.2, next.3 ∙ calm.3);
         stop = λ e. subst (λ k. Rose k s2.stop_faults) calm.2 (ticks.stop e);
         no_stop = λ e. ticks.no_stop e ∙ calm.2;
         installs = (let a = first.installs in let b = ticks.installs in omega (arith, a, b));
@@ -148,10 +160,12 @@ steps_within old new s t answer n k less w = record {
   cuts = w.cuts;
   cuts_stopped = w.cuts_stopped;
   rest = w.rest;
+  calls = few_within n k old new less w.calls;
   few = w.few;
   more_reads = w.more_reads;
   within = (let a = w.within in omega (arith, a, less));
   up = w.up;
+  flash_up = w.flash_up;
   unread = w.unread;
   sound = w.sound;
   stop = w.stop;
@@ -163,11 +177,11 @@ steps_within old new s t answer n k less w = record {
 
 tick_step : (shape : Shape) (frames : ℕ) (m : Map) (c : Command) → early shape c ≡ None → c.opcode ≡ 0xC0 → Step shape frames m c (success 0 []) m
 tick_step shape frames m c passed is =
-    let s = serves shape (limit shape) frames m eleven c tick (ap kind is) passed refl in
+    let s = serves shape (limit shape) frames m eleven c Tick (ap op_of is) passed refl in
     inl (record { own = eleven; eleven = refl; replied = sym s.replied; leaves = sym s.leaves })
 
-other_kind : (x : ℕ) → x ≡ 0xC0 → kind x ≡ Some retrieve → ⊥
-other_kind x is e = let f : ◌≡◌ {A = Option Kind} (Some tick) (Some retrieve) = sym (ap kind is) ∙ e in cc
+other_kind : (x : ℕ) → x ≡ 0xC0 → op_of x ≡ Some Retrieve → ⊥
+other_kind x is e = let f : ◌≡◌ {A = Option Opcode} (Some Tick) (Some Retrieve) = sym (ap op_of is) ∙ e in cc
 
 ok_sound : ◌≡◌ {A = ℕ} 0 0x88 → ⊥
 ok_sound e = cc
@@ -195,13 +209,14 @@ module _ (old new : BoardState) (d d' : Parts) (r : Request) (v : List ℕ) (a :
         };
         cuts = λ runs shape frames m st.
             let run = w.cuts runs shape frames m st in
-            (run.0, weaken run.0 old new (TickCut shape m) (ExecCut shape old.pages m (command_of r v)) (λ f q cut. (cut.0, inr (inl cut.1))) run.1, run.2);
+            (run.0, weaken run.0 old new (CrashFinds shape background old.pages m) (CrashFinds shape (command (command_of r v)) old.pages m) (λ f q cut. (cut.0, inr (inl cut.1))) run.1, run.2);
         cuts_stopped = λ stops shape frames m st.
             let run = w.cuts_stopped stops shape frames m st in
-            (run.0, weaken_went run.0 old new (TickCut shape m) (ExecCut shape old.pages m (command_of r v)) (λ f q cut. (cut.0, inr (inl cut.1))) run.1, run.2);
+            (run.0, weaken_went run.0 old new (CrashFinds shape background old.pages m) (CrashFinds shape (command (command_of r v)) old.pages m) (λ f q cut. (cut.0, inr (inl cut.1))) run.1, run.2);
         rest = w.rest;
         reads_are = omega (arith, is, few, more);
         up = w.up;
+        flash_up = w.flash_up;
         unread = unread;
         sound = sound;
         stop = w.stop;
@@ -240,10 +255,12 @@ as_worked old new s t Idle n e w = record {
   cuts = w.cuts;
   cuts_stopped = w.cuts_stopped;
   rest = w.rest;
+  calls = w.calls;
   few = w.few;
   more_reads = w.more_reads;
   within = w.within;
   up = w.up;
+  flash_up = w.flash_up;
   unread = λ f. absurd (worked_fault false f);
   sound = w.sound;
   stop = w.stop;
@@ -269,8 +286,8 @@ module _ (first : Parts) (old : BoardState) (d e : Parts) (board next : BoardSta
   behind = steps_more old board (sight_of first) (sight_of d) made o.steps next (sight_of e) answer ticks
 
   -- it goes on behind a step that erased a block
-  pub ongoing_more : has_failed answer ≡ false → erased_in d.pool ≢ erased_in e.pool → e.stopped ≡ stopped_by answer → e.log.pending ≡ [] → (stopped_by answer ≡ false → Agrees e next.shape next.pages) → Ongoing first old e next (made + 1)
-  ongoing_more fine other stops none agrees =
+  pub ongoing_more : has_failed answer ≡ false → erased_in d.pool ≢ erased_in e.pool → e.stopped ≡ stopped_by answer → e.log.pending ≡ [] → (stopped_by answer ≡ false → Agrees e next.shape next.pages) → (stopped_by answer ≡ false → Stays d e) → Ongoing first old e next (made + 1)
+  ongoing_more fine other stops none agrees stays =
       let runs = runs_on answer fine in
       let before = o.erased in
       record {
@@ -282,6 +299,7 @@ module _ (first : Parts) (old : BoardState) (d e : Parts) (board next : BoardSta
           | inl one ↦ (let more = one_more d.pool e.pool board next one in omega (arith, before, more))
           | inr nothing ↦ absurd (other (ap (λ x. erased_in x) (sym nothing.kept)))
         ];
+        stays = stays_then first d e o.stays (stays runs);
       }
 
   -- it ends behind any step

@@ -11,13 +11,14 @@ use Rattle.pk_nand.specs.BoardState.{BoardState}
 use Rattle.pk_nand.specs.Cut.{Interrupted}
 use Rattle.pk_nand.specs.Calls.{after_program, after_erase, ProgramFailed, EraseFailed}
 use Rattle.pk_nand.proofs.Leaving.{interrupted_done}
+use Rattle.pk_nand.proofs.Touching.{untouched}
 use Rattle.pk_seg.specs.Stored.{written, WriteFailed}
 use Rattle.pk_model.specs.Found.{Found}
-use Rattle.pk_drive.specs.Growth.{Grows, Reaches, Goes}
-use Rattle.pk_drive.proofs.Growing.{at_end, Reaches-then, Goes-then}
-use Rattle.pk_compact.specs.Working.{Works, Stops}
-use Rattle.pk_compact.proofs.Running.{Reaches-none, Reaches-erase, Goes-erase, Reaches-program, Goes-program}
-use Rattle.pk_compact.proofs.Counts.{works_none, works_program, works_then, stops_program, stops_then}
+use Rattle.pk_model.specs.Growth.{Grows, Reaches, Goes}
+use Rattle.pk_model.proofs.Growing.{at_end, Reaches-then, Goes-then}
+use Rattle.pk_nand.specs.Effects.{Works, Stops}
+use Rattle.pk_model.proofs.Running.{Reaches-none, Reaches-erase, Goes-erase, Reaches-program, Goes-program}
+use Rattle.pk_nand.proofs.Effects.{works_none, works_program, works_then, stops_program, stops_then}
 use Rattle.pk_core.proofs.Unread.{IsReadBy, SameRead, same_top}
 
 module _ (shape : Shape) (root : Root) (found : Found) (pending : List Entry) (start : Flash) where
@@ -54,7 +55,7 @@ module _ (shape : Shape) (root : Root) (found : Found) (pending : List Entry) (s
     -- an erase of a block of which no page is read
     module _ (block : ℕ) (unread : (k : ℕ) → k / shape.block_pages ≡ block → IsReadBy shape root found pending k → ⊥) where
       within_erase : (f : Flash) → Interrupted shape (erase block) old.pages f [] → StillCut f []
-      within_erase f cut = (refl, λ k is. elim (cut.pages k) [ inl same ↦ same ∙ so_far k is | inr here ↦ absurd (unread k here.0 is) ])
+      within_erase f cut = (refl, λ k is. untouched shape (erase block) k _ _ (λ here. unread k here is) (cut.pages k) ∙ so_far k is)
 
       grows_erase : Grows shape old.pages (after shape (erase block) old.pages)
       grows_erase = grows_still old.pages (after shape (erase block) old.pages) so_far (within_erase (after shape (erase block) old.pages) (interrupted_done shape (erase block) old.pages)).1
@@ -68,7 +69,7 @@ module _ (shape : Shape) (root : Root) (found : Found) (pending : List Entry) (s
     -- a program of a page that is not read
     module _ (page : ℕ) (bytes : List ℕ) (unread : IsReadBy shape root found pending page → ⊥) where
       within_program : (f : Flash) → Interrupted shape (program page bytes) old.pages f [] → StillCut f []
-      within_program f cut = (refl, λ k is. elim (cut.pages k) [ inl same ↦ same ∙ so_far k is | inr here ↦ absurd (unread (subst (λ (j : ℕ). IsReadBy shape root found pending j) here.0 is)) ])
+      within_program f cut = (refl, λ k is. untouched shape (program page bytes) k _ _ (λ here. unread (subst (λ (j : ℕ). IsReadBy shape root found pending j) here is)) (cut.pages k) ∙ so_far k is)
 
       grows_program : Grows shape old.pages (after shape (program page bytes) old.pages)
       grows_program = grows_still old.pages (after shape (program page bytes) old.pages) so_far (within_program (after shape (program page bytes) old.pages) (interrupted_done shape (program page bytes) old.pages)).1

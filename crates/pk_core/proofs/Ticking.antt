@@ -16,7 +16,7 @@ use Rattle.pk_nand.specs.BoardState.{BoardState, shape_or_none}
 use Rattle.pk_nand.specs.Calls.{IsReady, after_erase, EraseFailed}
 use Rattle.pk_nand.specs.Cut.{MayLeave}
 use Rattle.pk_nand.proofs.Reaching.{Reached-start}
-use Rattle.pk_nand.proofs.Leaving.{done_leaves}
+use Rattle.pk_nand.proofs.Touching.{untouched_after}
 use Rattle.pk_pool.specs.declared.state.BlockState.{BlockState}
 use Rattle.pk_pool.specs.declared.state.BlockState.TheVariants.{Root as RootBlock, Free, Ready, Owned}
 use Rattle.pk_pool.specs.Blocks.{Blocks, Fits, IsShared, IsOwned, IsNowhere, is_root, is_free, is_ready, is_owned_by, used_by, with_state}
@@ -27,20 +27,23 @@ use Rattle.pk_model.specs.Reading.{reading}
 use Rattle.pk_model.specs.Sight.{is_erased, has_open_room, IsIdle}
 use Rattle.pk_steps.specs.Under.{places}
 use Rattle.pk_steps.proofs.Untouched.{under_reads}
-use Rattle.pk_compact.proofs.Counts.{works_erase, stops_erase}
+use Rattle.pk_nand.proofs.Effects.{works_erase, stops_erase}
 use Rattle.pk_data.specs.State.{fits_open, has_left}
 use Rattle.pk_data.specs.Placed.{HoldsValues, Placed, IsOpenIn}
 use Rattle.pk_data.specs.declared.open_block.OpenBlock.{OpenBlock}
 use Rattle.pk_data.proofs.Unchanged.{block_elsewhere}
-use Rattle.pk_drive.specs.Growth.{Reaches, Goes}
-use Rattle.pk_drive.specs.Wear.{number_of, root_number, roots}
-use Rattle.pk_drive.specs.Drive.{Stands, AtMostOneCall}
+use Rattle.pk_model.specs.Growth.{Grows, Reaches, Goes}
+use Rattle.pk_model.specs.Wear.{number_of, root_number, roots}
+use Rattle.pk_drive.specs.Drive.{Stands}
+use Rattle.pk_nand.specs.Effects.{AtMostOneCall}
 use Rattle.pk_drive.specs.Seen.{stopped_by}
-use Rattle.pk_drive.specs.Tick.{TickCut, TellsIdle}
+use Rattle.pk_drive.specs.Tick.{TellsIdle}
+use Rattle.pk_model.specs.Crashes.{CrashFinds, background}
 use Rattle.pk_drive.specs.declared.types.Ticked.{Ticked}
 use Rattle.pk_drive.specs.declared.types.Ticked.TheVariants.{Worked, Idle, Fault}
-use Rattle.pk_drive.proofs.Growing.{weaken, weaken_went}
-use Rattle.pk_core.specs.Parts.{Parts, sight_of, block_if_open}
+use Rattle.pk_model.proofs.Growing.{weaken, weaken_went}
+use Rattle.pk_data.specs.Laws.{SameValues}
+use Rattle.pk_core.specs.Parts.{Parts, sight_of, block_if_open, jobs_of}
 use Rattle.pk_core.specs.Agreeing.{AgreesWith, Agrees}
 use Rattle.pk_core.specs.Ticking.{Ticks, has_no_work}
 use Rattle.pk_core.proofs.Unread.{IsReadBy, SameRead, same_top, still_without, still_all, agrees_elsewhere}
@@ -60,14 +63,17 @@ ticks_nothing d old new d' answer same_drive same_board none runs fine =
     let U : Parts → Type 0 = λ x. Ticks old old (sight_of d) (sight_of x) answer in
     subst T (sym same_board) (subst U (sym same_drive) (record {
       stands = λ _ shape frames m st. st;
-      cuts = λ _ shape frames m st. ([], Reached-start old old (TickCut shape m) refl refl refl refl (refl, subst (λ p. reading shape old.pages p ≡ Ok m) none st.map_is), tt);
+      cuts = λ _ shape frames m st. ([], Reached-start old old (CrashFinds shape background old.pages m) refl refl refl refl (refl, subst (λ p. reading shape old.pages p ≡ Ok m) none st.map_is), tt);
       cuts_stopped = λ e. absurd (yes_no (stopped_by answer) runs e);
-      idle_rests = λ _. refl;
+      idle_rests = λ _. (refl, refl);
+      unmade = λ e. absurd (fine e);
+      grows = inl refl;
       rest = refl;
       calls = inl (refl, refl, refl);
       unread = λ e. absurd (fine e);
       up = omega arith;
-      worked = λ _. (refl, refl, refl);
+      flash_up = λ _. omega arith;
+      worked = λ _. (refl, refl, refl, refl);
       stop = λ e. absurd (yes_no (stopped_by answer) runs e);
       no_stop = λ _. refl;
       installs = omega arith;
@@ -108,11 +114,15 @@ module _ (d : Parts) (old new : BoardState) (a : Agrees d old.shape old.pages) (
   has : old.shape ≡ Some d.log.shape
   has = a.told_is ∙ ap (λ s. Some s) (sym a.with.shape_is)
 
+  -- the tree is as it was
+  grown : (new : BoardState) → newest_root d.log.shape (page_at new.pages) ≡ newest_root d.log.shape (page_at old.pages) → Grows (shape_or_none old.shape) old.pages new.pages
+  grown new same = inl (subst (λ o. newest_root (shape_or_none o) (page_at new.pages) ≡ newest_root (shape_or_none o) (page_at old.pages)) (sym has) same)
+
   unread : (k : ℕ) → k / d.log.shape.block_pages ≡ block → IsReadBy d.log.shape a.top.1 a.found d.log.pending k → ⊥
   unread = spare_unread d d.log.shape old.pages a.top a.found a.without a.all (own d old a) block (inl free) (behind_roots d.pool.shape d.pool.states block Free free_is_not_root free shared)
 
   -- a cut at which no page differs that is read is one of the step
-  cut_is : d.log.pending ≡ [] → (f : Flash) (q : List ℕ) → Still f q → TickCut d.log.shape a.all f q
+  cut_is : d.log.pending ≡ [] → (f : Flash) (q : List ℕ) → Still f q → CrashFinds d.log.shape background old.pages a.all f q
   cut_is none f q is =
       let w = own d old a in
       let s = d.log.shape in
@@ -134,20 +144,16 @@ module _ (d : Parts) (old new : BoardState) (a : Agrees d old.shape old.pages) (
     same : SameRead d.log.shape a.top.1 a.found d.log.pending old.pages new.pages
     same = still_end d.log.shape a.top.1 a.found d.log.pending old.pages old new reached
 
-    values_same : (k : ℕ) → HoldsValues d.pool (k / d.log.shape.block_pages) → page_at new.pages k ≡ page_at old.pages k
-    values_same k held =
+    values_same : SameValues d.log.shape d.pool (jobs_of d).blocks.values old.pages new.pages
+    values_same k held no_output =
         let pages : new.pages ≡ after (shape_or_none old.shape) (erase block) old.pages = ap (λ b. b.pages) made in
         let in_shape : new.pages ≡ after d.log.shape (erase block) old.pages = pages ∙ ap (λ o. after (shape_or_none o) (erase block) old.pages) has in
-        ap (λ f. page_at f k) in_shape ∙ by_case (done_leaves d.log.shape (erase block) old.pages k)
-      where
-        by_case : MayLeave d.log.shape (erase block) k (page_at old.pages k) (page_at (after d.log.shape (erase block) old.pages) k) → page_at (after d.log.shape (erase block) old.pages) k ≡ page_at old.pages k
-        by_case (inl is) = is
-        by_case (inr here) = absurd (free_or_values d.pool block free (subst (λ b. HoldsValues d.pool b) here.0 held))
+        ap (λ f. page_at f k) in_shape ∙ untouched_after d.log.shape (erase block) old.pages k (λ here. free_or_values d.pool block free (subst (λ b. HoldsValues d.pool b) here held))
 
-    placed : Placed d.log.shape d.space q new.pages (places a.found d.log.pending)
+    placed : Placed d.log.shape d.space q (jobs_of d).blocks.values new.pages (places a.found d.log.pending)
     placed =
-        subst (λ p. Placed d.log.shape d.space p new.pages (places a.found d.log.pending)) (sym marked)
-        (block_elsewhere d.log.shape d.space d.pool block Free Ready old.pages new.pages (places a.found d.log.pending) (own d old a).placed free refl refl values_same (subst (λ p. Fits p new.pages) marked fits))
+        subst (λ p. Placed d.log.shape d.space p (jobs_of d).blocks.values new.pages (places a.found d.log.pending)) (sym marked)
+        (block_elsewhere d.log.shape d.space d.pool (jobs_of d).blocks.values block Free Ready old.pages new.pages (places a.found d.log.pending) (own d old a).placed free refl refl values_same (subst (λ p. Fits p new.pages) marked fits))
 
     journal_same : used_by Journal q.states ≡ used_by Journal d.pool.states
     journal_same =
@@ -171,13 +177,16 @@ module _ (d : Parts) (old new : BoardState) (a : Agrees d old.shape old.pages) (
         record {
           stands = λ _. for_its_map d old a (λ s f m. Stands s f new (sight_of (record d { pool = q })) m)
               (record { shape_is = ready.shape_is; frames_is = refl; map_is = under_reads d.log.shape new.pages d.log.pending a.top a.found a.all (still_all d d.space d.pool d.log.shape old.pages new.pages a.top a.found a.without a.all (own d old a) same) });
-          cuts = λ _. for_its_map d old a (λ s f m. Reaches s old new (TickCut s m)) (reached.0, weaken reached.0 old new Still (TickCut d.log.shape a.all) (cut_is none) reached.1, reached.2);
+          cuts = λ _. for_its_map d old a (λ s f m. Reaches s old new (CrashFinds s background old.pages m)) (reached.0, weaken reached.0 old new Still (CrashFinds d.log.shape background old.pages a.all) (cut_is none) reached.1, reached.2);
           cuts_stopped = λ e. absurd (yes_no false refl e);
           idle_rests = λ e. absurd (worked_idle e);
+          unmade = λ e. absurd (worked_fine e);
+          grows = grown new (same_top d.log.shape a.top.1 a.found d.log.pending old.pages new.pages same);
           rest = works.rest;
           calls = subst (λ b. AtMostOneCall old b) (sym made) (inr (inr (inr (refl, refl, refl))));
           unread = λ e. absurd (worked_fine e);
           up = (let e = works.no_fault.1 in omega (arith, e));
+          flash_up = λ _. (let e = works.no_fault.0 in omega (arith, e));
           worked = λ _. works.no_fault;
           stop = λ e. absurd (yes_no false refl e);
           no_stop = λ _. works.no_fault.2;
@@ -194,12 +203,15 @@ module _ (d : Parts) (old new : BoardState) (a : Agrees d old.shape old.pages) (
       record {
         stands = λ e. absurd (yes_no true e refl);
         cuts = λ e. absurd (yes_no true e refl);
-        cuts_stopped = λ _. for_its_map d old a (λ s f m. Goes s old new (TickCut s m)) (went.0, weaken_went went.0 old new Still (TickCut d.log.shape a.all) (cut_is none) went.1, went.2);
+        cuts_stopped = λ _. for_its_map d old a (λ s f m. Goes s old new (CrashFinds s background old.pages m)) (went.0, weaken_went went.0 old new Still (CrashFinds d.log.shape background old.pages a.all) (cut_is none) went.1, went.2);
         idle_rests = λ e. absurd (stopped_idle true e);
+        unmade = λ e. absurd (stopped_fine e);
+        grows = grown new (same_top d.log.shape a.top.1 a.found d.log.pending old.pages new.pages (went_end d.log.shape a.top.1 a.found d.log.pending old.pages old new went));
         rest = stops.rest;
         calls = inr (inr (inr (ap (λ b. b.reads) made, ap (λ b. b.programs) made, ap (λ b. b.erases) made)));
         unread = λ e. absurd (stopped_fine e);
         up = (let e = stops.read in omega (arith, e));
+        flash_up = λ few. (let e = stops.flash in omega (arith, e, few));
         worked = λ e. absurd (stopped_worked true e);
         stop = λ _. stops.stop;
         no_stop = λ e. absurd (yes_no true e refl);
@@ -234,7 +246,7 @@ some_free states b free =
 
 -- ---- the room of the open block
 
-count_free : (flash : Flash) (a n u : ℕ) → u ≤ n → ((k : ℕ) → a ≤ k → k < a + u → page_at flash k ≢ erased) → ((k : ℕ) → a + u ≤ k → k < a + n → page_at flash k ≡ erased)
+pub count_free : (flash : Flash) (a n u : ℕ) → u ≤ n → ((k : ℕ) → a ≤ k → k < a + u → page_at flash k ≢ erased) → ((k : ℕ) → a + u ≤ k → k < a + n → page_at flash k ≡ erased)
     → length (filter (λ p. is_erased (page_at flash p)) (range_with_len a n)) ≡ n - u
 count_free flash a zero u less before behind = omega (arith, less)
 count_free flash a (suc n) zero less before behind =
@@ -251,7 +263,7 @@ count_free flash a (suc n) (suc u) less before behind =
     not_erased (whole bytes) not = refl
     not_erased torn not = refl
 
-le_same : (m n u : ℕ) → u ≤ n → nat_le m (n - u) ≡ nat_le (u + m) n
+pub le_same : (m n u : ℕ) → u ≤ n → nat_le m (n - u) ≡ nat_le (u + m) n
 le_same m n u within = elim (leb_tells m (n - u)) [
   | inl first ↦ first.0 ∙ sym (le-leb (u + m) n (let e = first.1 in omega (arith, e, within)))
   | inr past ↦ elim (leb_tells (u + m) n) [
@@ -285,7 +297,7 @@ module _ (d : Parts) (old : BoardState) (a : Agrees d old.shape old.pages) (shar
       let all = all_counted d.pool.states in
       let split = length-append (a.top.1.newest ++ a.top.1.older) (concat a.top.1.runs) in
       let journal = a.with.journal_few in
-      let meta : used_by Meta d.pool.states ≡ length (concat a.top.1.runs) = a.with.runs_few in
+      let meta : used_by Meta d.pool.states ≡ length (concat a.top.1.runs) + 0 = a.with.runs_few in
       let size = (own d old a).placed.size in
       let two = shared.roots in
       omega (arith, all, split, journal, meta, size, two)

@@ -10,7 +10,7 @@ use Rattle.std.specs.FinMap.Entries.{find}
 use Rattle.pk_base.specs.Key.{Key, IsKey, key_cmp}
 use Rattle.pk_base.specs.Shape.{Shape, IsShape, limit, greatest, pinned, fetched}
 use Rattle.pk_base.specs.Page.{Flash, IsFlash, page_at}
-use Rattle.pk_base.proofs.ShapeLemmas.{charge-fetched, charge_most}
+use Rattle.pk_base.proofs.ShapeLemmas.{fetched_charge, charge_most}
 use Rattle.pk_base.specs.Entry.{Place}
 use Rattle.pk_base.specs.EntryBytes.{IsPlace}
 use Rattle.pk_base.specs.Map.{Map}
@@ -28,7 +28,10 @@ use Rattle.pk_nand.specs.Calls.{Rose, counted, last_count, ReadFailed, IsReady}
 use Rattle.pk_nand.specs.Erased.{counted_by, after_reads}
 use Rattle.pk_nand.proofs.Reaching.{Reached-start}
 use Rattle.pk_level.specs.Levels.{ReadsUpTo, ReadFailsWithin}
-use Rattle.pk_model.specs.Answer.{Kind, kind, retrieve, exist, flush, report, early, fault_of, late_of, success, reply_of, check, effect}
+use Rattle.pk_nvme.specs.Opcode.{op_of}
+use Rattle.pk_nvme.specs.declared.opcode.Opcode.{Opcode}
+use Rattle.pk_nvme.specs.declared.opcode.Opcode.TheVariants.{Flush, Retrieve, Exist, Report}
+use Rattle.pk_model.specs.Answer.{early, fault_of, late_of, success, reply_of, check, effect}
 use Rattle.pk_model.specs.Bounds.{most_reads, most_reads_of}
 use Rattle.pk_model.specs.Found.{Found}
 use Rattle.pk_model.specs.Reading.{reading}
@@ -40,7 +43,8 @@ use Rattle.pk_steps.proofs.Untouched.{under_reads}
 use Rattle.pk_drive.specs.Drive.{Stands, CountsMap}
 use Rattle.pk_drive.specs.Seen.{reply_of as shown}
 use Rattle.pk_drive.specs.declared.types.Outcome.{Outcome}
-use Rattle.pk_drive.specs.Exec.{ExecCut, report_of}
+use Rattle.pk_drive.specs.Exec.{report_of}
+use Rattle.pk_model.specs.Crashes.{CrashFinds, command}
 use Rattle.pk_core.specs.declared.place.ValuePlace.{ValuePlace}
 use Rattle.pk_core.specs.Parts.{Parts, sight_of}
 use Rattle.pk_core.specs.Agreeing.{AgreesWith, Agrees}
@@ -50,7 +54,7 @@ use Rattle.pk_core.specs.Quiet.{ReadsOnly, ReadsFailing, Looks, ValueThere, elev
 
 -- ---- the board
 
-counted_by-min : (k n : ℕ) → n ≤ last_count → counted_by k n ≡ min (n + k) last_count
+pub counted_by-min : (k n : ℕ) → n ≤ last_count → counted_by k n ≡ min (n + k) last_count
 counted_by-min zero n few = omega (arith, few)
 counted_by-min (suc k) n few = ap counted (counted_by-min k n few) ∙ omega (arith, few)
 
@@ -81,12 +85,14 @@ reads_break old mid new most k n at before less failed =
     let behind : S mid = broken mid new k at failed in
     let base : S (record old { reads = mid.reads }) = subst S before.board behind in
     let same_faults : mid.read_faults ≡ old.read_faults = ap (λ b. b.read_faults) before.board in
+    let same_flash : mid.flash_faults ≡ old.flash_faults = ap (λ b. b.flash_faults) before.board in
     record {
       board = base;
       few = omega (arith, count);
       up = omega (arith, count, up, few');
       within = omega (arith, count, within, less);
       rose = subst (λ f. Rose f new.read_faults) same_faults failed.read;
+      flash = subst (λ f. Rose f new.flash_faults) same_flash failed.flash;
     }
   where
     broken : (mid new : BoardState) (k at : ℕ) → ReadFailed (after_reads k mid) new at → new ≡ record mid { reads = new.reads; flash_faults = new.flash_faults; read_faults = new.read_faults; failed_at = new.failed_at }
@@ -102,7 +108,7 @@ yes_no e = cc
 -- it may answer this on every map that the drive stands for, and reads no more than it may
 abbrev pub AnswersAll : BoardState → Sight → Command → Reply → ℕ → Type 0
 AnswersAll old s c reply reads =
-    (shape : Shape) (frames : ℕ) (m : Map) → Stands shape frames old s m → Step shape frames m c reply m × (kind c.opcode ≡ Some retrieve → reads ≤ most_reads shape frames m c)
+    (shape : Shape) (frames : ℕ) (m : Map) → Stands shape frames old s m → Step shape frames m c reply m × (op_of c.opcode ≡ Some Retrieve → reads ≤ most_reads shape frames m c)
 
 pub does_reads : (old new : BoardState) (s : Sight) (c : Command) (reply : Reply) (most reads : ℕ) → old.reads ≤ last_count → new.reads ≤ last_count
     → ReadsOnly old new most → reads ≡ new.reads - old.reads → reply.status ≢ 0x88 → AnswersAll old s c reply reads → Does old new s s c reply reads false
@@ -112,13 +118,14 @@ does_reads old new s c reply most reads few few' made is sound answers =
     let P : BoardState → Type 0 = λ b. Does old b s s c reply reads false in
     subst P (sym made.board) (record {
       stands = λ _ shape frames m st. let a = answers shape frames m st in record { left = m; stepped = a.0; stands = record { shape_is = st.shape_is; frames_is = st.frames_is; map_is = st.map_is }; bounded = a.1 };
-      cuts = λ _ shape frames m st. ([], Reached-start old (record old { reads = n }) (ExecCut shape old.pages m c) refl refl refl refl (refl, inl refl), tt);
+      cuts = λ _ shape frames m st. ([], Reached-start old (record old { reads = n }) (CrashFinds shape (command c) old.pages m) refl refl refl refl (refl, inl refl), tt);
       cuts_stopped = λ e. absurd (yes_no e);
       rest = refl;
       reads_are = omega (arith, is, up, few');
       up = omega arith;
+      flash_up = λ _. omega arith;
       unread = λ e _. absurd (sound e);
-      sound = λ _. (refl, refl, refl);
+      sound = λ _. (refl, refl, refl, refl);
       stop = λ e. absurd (yes_no e);
       stop_status = λ e. absurd (yes_no e);
       no_stop = λ _. refl;
@@ -130,6 +137,7 @@ pub does_unread : (old new : BoardState) (s : Sight) (c : Command) (most reads :
 does_unread old new s c most reads few few' faults made is answers =
     let up = made.up in
     let rose = made.rose in
+    let flash = made.flash in
     let n : ℕ = new.reads in
     let all : ℕ = new.flash_faults in
     let unread : ℕ = new.read_faults in
@@ -137,11 +145,12 @@ does_unread old new s c most reads few few' faults made is answers =
     let P : BoardState → Type 0 = λ b. Does old b s s c (refusal 0x88) reads false in
     subst P (sym made.board) (record {
       stands = λ _ shape frames m st. let a = answers shape frames m st in record { left = m; stepped = a.0; stands = record { shape_is = st.shape_is; frames_is = st.frames_is; map_is = st.map_is }; bounded = a.1 };
-      cuts = λ _ shape frames m st. ([], Reached-start old (record old { reads = n; flash_faults = all; read_faults = unread; failed_at = at }) (ExecCut shape old.pages m c) refl refl refl refl (refl, inl refl), tt);
+      cuts = λ _ shape frames m st. ([], Reached-start old (record old { reads = n; flash_faults = all; read_faults = unread; failed_at = at }) (CrashFinds shape (command c) old.pages m) refl refl refl refl (refl, inl refl), tt);
       cuts_stopped = λ e. absurd (yes_no e);
       rest = refl;
       reads_are = omega (arith, is, up, few');
       up = omega (arith, rose, faults);
+      flash_up = λ most. omega (arith, flash, most);
       unread = λ _ _. rose;
       sound = λ e. absurd (e refl);
       stop = λ e. absurd (yes_no e);
@@ -211,16 +220,16 @@ value_there d flash top found without all k p is_key a is =
 -- ---- answers
 
 pub same_early : (shape : Shape) (r : Request) (v : List ℕ) → early shape (command_of r v) ≡ early shape (command_of r [])
-same_early shape r v = elim (kind r.opcode) as (λ o. fault_of shape (command_of r v) o ≡ fault_of shape (command_of r []) o) [ None ↦ refl | Some k ↦ refl ]
+same_early shape r v = elim (op_of r.opcode) as (λ o. fault_of shape (command_of r v) o ≡ fault_of shape (command_of r []) o) [ None ↦ refl | Some k ↦ refl ]
 
 module _ (shape : Shape) (frames : ℕ) (m : Map) (c : Command) (passed : early shape c ≡ None) where
-  served : (k : Kind) (own : List ℕ) (a : Reply) → length own ≡ 11 → kind c.opcode ≡ Some k → late_of shape (limit shape) m c (Some k) ≡ None → effect m c (Some k) ≡ m
+  served : (k : Opcode) (own : List ℕ) (a : Reply) → length own ≡ 11 → op_of c.opcode ≡ Some k → late_of shape (limit shape) m c (Some k) ≡ None → effect m c (Some k) ≡ m
       → a ≡ reply_of shape (limit shape) frames m own c (Some k) → Step shape frames m c a m
   served k own a eleven is late left answer =
       let s = serves shape (limit shape) frames m own c k is passed late in
       inl (record { own = own; eleven = eleven; replied = answer ∙ sym s.replied; leaves = sym (s.leaves ∙ left) })
 
-  refused : (k : Kind) (status : ℕ) → kind c.opcode ≡ Some k → late_of shape (limit shape) m c (Some k) ≡ Some status → Step shape frames m c (refusal status) m
+  refused : (k : Opcode) (status : ℕ) → op_of c.opcode ≡ Some k → late_of shape (limit shape) m c (Some k) ≡ Some status → Step shape frames m c (refusal status) m
   refused k status is late =
       let s = refuses_late shape (limit shape) frames m eleven c k status is passed late in
       inl (record { own = eleven; eleven = refl; replied = sym s.replied; leaves = sym s.leaves })
@@ -229,26 +238,26 @@ module _ (shape : Shape) (frames : ℕ) (m : Map) (c : Command) (passed : early 
   unread_step = inr (record { not_early = passed; replied = refl; leaves = refl })
 
   pub flush_step : c.opcode ≡ 0x00 → Step shape frames m c (success 0 []) m
-  flush_step is = served flush eleven (success 0 []) refl (ap kind is) refl refl refl
+  flush_step is = served Flush eleven (success 0 []) refl (ap op_of is) refl refl refl
 
   pub report_step : (n : Counts) (bytes : List ℕ) → c.opcode ≡ 0xC2 → CountsMap shape frames m n → bytes ≡ report_of n → Step shape frames m c (success 0 bytes) m
   report_step n bytes is told same =
       let more : List ℕ = n.leased ∷ n.active ∷ n.frozen ∷ n.run1 ∷ n.run2 ∷ n.run3 ∷ n.run4 ∷ n.epoch ∷ n.blocks ∷ n.ready ∷ n.merge ∷ [] in
-      served report more (success 0 bytes) refl (ap kind is) refl refl
+      served Report more (success 0 bytes) refl (ap op_of is) refl refl
       (ap (success 0) same ∙ (λ i. success 0 (flat_map u32 (told.live_is i ∷ told.limit_is i ∷ told.keys_is i ∷ told.pinned_is i ∷ told.frames_is i ∷ more))))
 
   pub exist_there : (v : List ℕ) → c.opcode ≡ 0x14 → get m (key c) ≡ Some v → Step shape frames m c (success 0 []) m
-  exist_there v is there = served exist eleven (success 0 []) refl (ap kind is) (ap (λ o. check (is_some o) 0x87) there) refl refl
+  exist_there v is there = served Exist eleven (success 0 []) refl (ap op_of is) (ap (λ o. check (is_some o) 0x87) there) refl refl
 
   pub exist_missing : c.opcode ≡ 0x14 → get m (key c) ≡ None → Step shape frames m c (refusal 0x87) m
-  exist_missing is missing = refused exist 0x87 (ap kind is) (ap (λ o. check (is_some o) 0x87) missing)
+  exist_missing is missing = refused Exist 0x87 (ap op_of is) (ap (λ o. check (is_some o) 0x87) missing)
 
   pub retrieve_missing : c.opcode ≡ 0x02 → get m (key c) ≡ None → Step shape frames m c (refusal 0x87) m
-  retrieve_missing is missing = refused retrieve 0x87 (ap kind is) (ap (λ o. check (is_some o) 0x87) missing)
+  retrieve_missing is missing = refused Retrieve 0x87 (ap op_of is) (ap (λ o. check (is_some o) 0x87) missing)
 
   pub retrieve_there : (v bytes : List ℕ) (len : ℕ) → c.opcode ≡ 0x02 → get m (key c) ≡ Some v → length v ≡ len → bytes ≡ take c.size v → Step shape frames m c (success len bytes) m
   retrieve_there v bytes len is there size same =
-      served retrieve eleven (success len bytes) refl (ap kind is) (ap (λ o. check (is_some o) 0x87) there) refl
+      served Retrieve eleven (success len bytes) refl (ap op_of is) (ap (λ o. check (is_some o) 0x87) there) refl
       ((λ i. success (sym size i) (same i)) ∙ ap (λ o. success (length (unwrap_or o [])) (take c.size (unwrap_or o []))) (sym there))
 
   -- how many pages it may read
@@ -271,7 +280,7 @@ less_reads : (old new : BoardState) (n k : ℕ) → n ≤ k → ReadsOnly old ne
 less_reads old new n k less r = record { board = r.board; few = r.few; up = r.up; within = (let w = r.within in omega (arith, less, w)) }
 
 less_failing : (old new : BoardState) (n k : ℕ) → n ≤ k → ReadsFailing old new n → ReadsFailing old new k
-less_failing old new n k less r = record { board = r.board; few = r.few; up = r.up; within = (let w = r.within in omega (arith, less, w)); rose = r.rose }
+less_failing old new n k less r = record { board = r.board; few = r.few; up = r.up; within = (let w = r.within in omega (arith, less, w)); rose = r.rose; flash = r.flash }
 
 pub looked_reads : {X Y : Type 0} (r : Result X Y) (old new : BoardState) (n p : ℕ) → old.reads ≤ last_count → n + p ≤ 4 → OnOk r (ReadsUpTo n old new) → OnOk r (ReadsOnly old new (4 - p))
 looked_reads (Ok x) old new n p few least (k, most, made) = less_reads old new (0 + k) (4 - p) (omega (arith, most, least)) (reads_more old old new 0 k (reads_none old few) made)
@@ -284,12 +293,11 @@ looked_failing (Err y) old new n p few least (k, at, less, failed) = less_failin
 -- ---- pages of a value
 
 pub few_fetched : (shape : Shape) (n : ℕ) → IsShape shape → n ≤ greatest shape → fetched shape n ≤ 64
-few_fetched shape zero is short = omega arith
-few_fetched shape (suc n) is short =
-    let same = charge-fetched shape (suc n) (λ e. absurd (omega (arith, e))) in
-    let most = charge_most shape (suc n) is short in
+few_fetched shape n is short =
+    let few = fetched_charge shape n in
+    let most = charge_most shape n is short in
     let block = is.block_most in
-    omega (arith, same, most, block)
+    omega (arith, few, most, block)
 
 -- ---- the answers of commands that look a key up
 
@@ -301,10 +309,10 @@ agrees_same d d' told told' flash flash' e f g a =
     subst (λ x. Agrees x told' flash') (sym e) (subst (λ x. Agrees d x flash') (sym f) (subst (λ x. Agrees d told x) (sym g) a))
 
 pub exist_keyed : (shape : Shape) (r : Request) → r.opcode ≡ 0x14 → early shape (command_of r []) ≡ None → IsKeyLength r.key_len
-exist_keyed shape r is passed = key_sized shape (command_of r []) exist (λ n. refl) (ap kind is) passed
+exist_keyed shape r is passed = key_sized shape (command_of r []) Exist (λ n. refl) (ap op_of is) passed
 
 pub retrieve_keyed : (shape : Shape) (r : Request) → r.opcode ≡ 0x02 → early shape (command_of r []) ≡ None → IsKeyLength r.key_len
-retrieve_keyed shape r is passed = key_sized shape (command_of r []) retrieve (λ n. refl) (ap kind is) passed
+retrieve_keyed shape r is passed = key_sized shape (command_of r []) Retrieve (λ n. refl) (ap op_of is) passed
 
 pub ok_sound : ◌≡◌ {A = ℕ} 0 0x88 → ⊥
 ok_sound e = cc
@@ -312,8 +320,8 @@ ok_sound e = cc
 missing_sound : ◌≡◌ {A = ℕ} 0x87 0x88 → ⊥
 missing_sound e = omega (arith, e)
 
-other_kind : (x : ℕ) → x ≡ 0x14 → kind x ≡ Some retrieve → ⊥
-other_kind x is e = let f : ◌≡◌ {A = Option Kind} (Some exist) (Some retrieve) = sym (ap kind is) ∙ e in cc
+other_kind : (x : ℕ) → x ≡ 0x14 → op_of x ≡ Some Retrieve → ⊥
+other_kind x is e = let f : ◌≡◌ {A = Option Opcode} (Some Exist) (Some Retrieve) = sym (ap op_of is) ∙ e in cc
 
 -- the value that a look-up found
 pub value_of : (d : Parts) (old : BoardState) (a : Agrees d old.shape old.pages) (k : Key) (p : ValuePlace) → IsKey k → Looks d old.pages k (Some p) → ValueThere d.log.shape old.pages a.all k p
@@ -373,15 +381,15 @@ module _ (d d' : Parts) (old new : BoardState) (r : Request) (v into : List ℕ)
 
   -- the step and the bound on the map of the drive
   abbrev Allowed : Reply → ℕ → Type 0
-  Allowed reply reads = Step d.log.shape d.frames a.all (command_of r v) reply a.all × (kind r.opcode ≡ Some retrieve → reads ≤ most_reads d.log.shape d.frames a.all (command_of r v))
+  Allowed reply reads = Step d.log.shape d.frames a.all (command_of r v) reply a.all × (op_of r.opcode ≡ Some Retrieve → reads ≤ most_reads d.log.shape d.frames a.all (command_of r v))
 
   on_all : (reply : Reply) (reads : ℕ) → Allowed reply reads → AnswersAll old (sight_of d) (command_of r v) reply reads
-  on_all reply reads here = for_its_map d old a (λ s f m. Step s f m (command_of r v) reply m × (kind r.opcode ≡ Some retrieve → reads ≤ most_reads s f m (command_of r v))) here
+  on_all reply reads here = for_its_map d old a (λ s f m. Step s f m (command_of r v) reply m × (op_of r.opcode ≡ Some Retrieve → reads ≤ most_reads s f m (command_of r v))) here
 
   by_reads : (most reads : ℕ) (reply : Reply) → ReadsOnly old new most → reads ≡ new.reads - old.reads → reply.status ≢ 0x88 → Allowed reply reads → Does old new (sight_of d) (sight_of d') (command_of r v) reply reads false
   by_reads most reads reply made is sound here = same_sight reply reads (does_reads old new (sight_of d) (command_of r v) reply most reads few few' made is sound (on_all reply reads here))
 
-  by_unread : (most reads : ℕ) → old.read_faults ≤ last_count → ReadsFailing old new most → reads ≡ new.reads - old.reads → (kind r.opcode ≡ Some retrieve → reads ≤ most_reads d.log.shape d.frames a.all (command_of r v))
+  by_unread : (most reads : ℕ) → old.read_faults ≤ last_count → ReadsFailing old new most → reads ≡ new.reads - old.reads → (op_of r.opcode ≡ Some Retrieve → reads ≤ most_reads d.log.shape d.frames a.all (command_of r v))
       → Does old new (sight_of d) (sight_of d') (command_of r v) (refusal 0x88) reads false
   by_unread most reads faults made is bound =
       same_sight (refusal 0x88) reads (does_unread old new (sight_of d) (command_of r v) most reads few few' faults made is (on_all (refusal 0x88) reads (unread_step d.log.shape d.frames a.all (command_of r v) passes, bound)))

@@ -25,9 +25,10 @@ use Rattle.pk_log.specs.Laws.{SameNamed}
 use Rattle.pk_log.proofs.Standing.{logs_elsewhere}
 use Rattle.pk_data.specs.State.{DataState}
 use Rattle.pk_data.specs.Placed.{Placed}
-use Rattle.pk_core.specs.Parts.{Parts}
+use Rattle.pk_core.specs.Parts.{Parts, jobs_of}
 use Rattle.pk_scan.specs.Opened.{HaveBlocks}
 use Rattle.pk_core.specs.Agreeing.{AgreesWith}
+use Rattle.pk_core.proofs.Holding.{KeepsOwners, still_held}
 
 -- the page is read, without the pending entries or with them
 abbrev pub IsReadBy : Shape → Root → Found → List Entry → ℕ → Type 0
@@ -69,10 +70,6 @@ module _ (shape : Shape) (positive : 0 < shape.block_pages) (root : Root) (old n
 
 -- ---- the whole
 
--- what others own stays with them
-abbrev pub KeepsOwners : Blocks → Blocks → Type 0
-KeepsOwners p q = (b : ℕ) (o : Owner) → slice_get p.states b ≡ Some (Owned o) → slice_get q.states b ≡ Some (Owned o)
-
 module _ (d : Parts) (space : DataState) (pool : Blocks) (shape : Shape) (old new : Flash) (top : ℕ × Root) (found : Found) (without all : Map)
     (with : AgreesWith d shape old top found without all) (same : SameRead shape top.1 found d.log.pending old new) where
   is_shape : IsShape shape
@@ -87,7 +84,7 @@ module _ (d : Parts) (space : DataState) (pool : Blocks) (shape : Shape) (old ne
   pub still_all : IsUnder shape new d.log.pending top found all
   still_all = read_same shape old new d.log.pending top found all is_shape with.pending (λ k is. same k (inr is))
 
-  pub agrees_elsewhere : IsFlash shape new → KeepsOwners d.pool pool → used_by Journal pool.states ≡ used_by Journal d.pool.states → used_by Meta pool.states ≡ used_by Meta d.pool.states → Placed shape space pool new (places found d.log.pending)
+  pub agrees_elsewhere : IsFlash shape new → KeepsOwners d.pool pool → used_by Journal pool.states ≡ used_by Journal d.pool.states → used_by Meta pool.states ≡ used_by Meta d.pool.states → Placed shape space pool (jobs_of d).blocks.values new (places found d.log.pending)
       → AgreesWith (record d { space = space; pool = pool }) shape new top found without all
   agrees_elsewhere is_flash owners journal meta placed = record {
     shape_is = with.shape_is;
@@ -99,11 +96,14 @@ module _ (d : Parts) (space : DataState) (pool : Blocks) (shape : Shape) (old ne
     levels_pinned = with.levels_pinned;
     stand = runs_stand shape (block_pages_positive shape is_shape) top.1 old new d.arena (same_named shape top.1 found d.log.pending old new same) d.levels.runs top.1.runs found.runs with.run_blocks runs_named with.stand;
     run_blocks = with.run_blocks;
+    arena_is = with.arena_is;
     placed = placed;
     former = λ k is. owners (k / shape.block_pages) Values (with.former k is);
+    former_read = with.former_read;
     journal = λ b is. owners b Journal (with.journal b is);
     journal_few = journal ∙ with.journal_few;
     runs_few = meta ∙ with.runs_few;
     runs = λ b is. owners b Meta (with.runs b is);
+    jobs_hold = still_held d.pool pool top.1 (jobs_of d).blocks owners with.jobs_hold;
     keys_are = with.keys_are;
   }

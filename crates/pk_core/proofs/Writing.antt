@@ -1,11 +1,10 @@
 -- A value that was written into a block for values: what the drive stands for, at every cut and behind it.
-use Rattle.std.proofs.Common.{◌≡◌, ◌⊎◌, inl, inr, ℕ, zero, suc, ◌+◌, ◌*◌, ◌/◌, ◌%◌, ◌<◌, ◌≤◌, refl, sym, ap, subst, ◌∙◌, arith, List, [], ◌∷◌, ◌++◌, length, Some, slice_get, div-lt_iff_lt-mul}
+use Rattle.std.proofs.Common.{◌≡◌, ◌⊎◌, inl, inr, ℕ, zero, suc, ◌+◌, ◌*◌, ◌/◌, ◌%◌, ◌<◌, ◌≤◌, refl, sym, ap, subst, ◌∙◌, arith, List, [], ◌∷◌, ◌++◌, length, Some, Result, Ok, Err, slice_get, div-lt_iff_lt-mul}
 use Rattle.std.specs.List.{concat}
 use Rattle.std.proofs.lemmas.Bool.{cases_eq}
 use Rattle.std.proofs.lemmas.Nat.{div-add-mod'}
 use Rattle.pk_base.specs.Shape.{Shape, IsShape, charge, greatest}
 use Rattle.pk_base.specs.Page.{Flash, page_at, erased}
-use Rattle.pk_base.specs.EntryBytes.{IsPlace}
 use Rattle.pk_base.specs.Key.{Key, IsKey}
 use Rattle.pk_base.specs.Map.{Map}
 use Rattle.pk_base.proofs.ShapeLemmas.{block_pages_positive}
@@ -14,6 +13,10 @@ use Rattle.pk_rootfmt.specs.Root.{Root, named}
 use Rattle.pk_rootfmt.specs.Newest.{newest_root}
 use Rattle.pk_plan.specs.declared.owner.Owner.{Owner}
 use Rattle.pk_plan.specs.declared.owner.Owner.TheVariants.{Journal, Meta, Values}
+use Rattle.std.specs.Prelude.{IfOk, IfErr, OnErr}
+use Rattle.pk_nand.specs.declared.types.Fault.{Fault}
+use Rattle.pk_nand.specs.declared.types.Fault.TheVariants.{Stopped}
+use Rattle.pk_model.specs.Steps.{Step}
 use Rattle.pk_nand.specs.BoardState.{BoardState, shape_or_none}
 use Rattle.pk_nand.specs.Calls.{IsReady}
 use Rattle.pk_pool.specs.declared.state.BlockState.{BlockState}
@@ -26,21 +29,22 @@ use Rattle.pk_model.specs.Found.{Found}
 use Rattle.pk_model.specs.Laws.{AnyByRecursion}
 use Rattle.pk_steps.specs.Under.{IsNamed, IsValuePage, places}
 use Rattle.pk_steps.proofs.Untouched.{value_page_whole, not_erased, under_reads}
-use Rattle.pk_drive.specs.Growth.{Reaches, Goes}
-use Rattle.pk_drive.specs.Commit.{CommitCut}
-use Rattle.pk_drive.specs.Wear.{number_of, root_number, roots}
-use Rattle.pk_drive.proofs.Growing.{weaken, weaken_went}
-use Rattle.pk_compact.specs.Working.{Works, Stops}
-use Rattle.pk_compact.proofs.Counts.{works_none, works_erase, works_then, stops_erase, stops_then}
+use Rattle.pk_model.specs.Growth.{Reaches, Goes}
+use Rattle.pk_model.specs.Crashes.{CrashFinds, commit}
+use Rattle.pk_model.specs.Wear.{number_of, root_number, roots}
+use Rattle.pk_model.proofs.Growing.{weaken, weaken_went}
+use Rattle.pk_nand.specs.Effects.{Works, Stops}
+use Rattle.pk_nand.proofs.Effects.{works_none, works_erase, works_then, stops_erase, stops_then}
 use Rattle.pk_data.specs.State.{DataState}
 use Rattle.pk_data.specs.Placed.{HoldsValues}
-use Rattle.pk_core.specs.Parts.{Parts}
+use Rattle.pk_core.specs.Parts.{Parts, jobs_of}
 use Rattle.pk_core.specs.Agreeing.{AgreesWith}
-use Rattle.pk_core.specs.Moves.{StandsFor, Keeps, KeepsAll, BreaksAll, IsWritten}
-use Rattle.pk_core.specs.Noting.{KeepsFound}
+use Rattle.pk_core.specs.Moves.{StandsFor, Keeps, KeepsAll, BreaksAll, MayStep}
+use Rattle.pk_core.specs.Noting.{IsPlaced, StepPlaces}
 use Rattle.pk_core.specs.Placing.{Reserves, PlacesValue, FailsToPlace}
 use Rattle.pk_core.proofs.Standing.{found_once}
-use Rattle.pk_core.proofs.Unread.{IsReadBy, SameRead, same_top, KeepsOwners, still_without, agrees_elsewhere}
+use Rattle.pk_core.proofs.Unread.{IsReadBy, SameRead, same_top, still_without, agrees_elsewhere}
+use Rattle.pk_core.proofs.Holding.{KeepsOwners}
 use Rattle.pk_core.proofs.Stills.{StillCut, still_then, still_goes, still_end, went_end, still_none, still_erase, still_erase_failed, still_written, still_write_failed, works_written, stops_written}
 
 -- ---- blocks and their owners
@@ -214,14 +218,14 @@ keeps_for before after old new f shape m stands =
     let is : before.log.shape ≡ shape = stands.with.shape_is in
     subst (λ (s : Shape). Keeps before after s m old new) is (f m (subst (λ (s : Shape). StandsFor before s old.pages m) (sym is) stands))
 
-pub breaks_for : (before : Parts) (old new : BoardState) → ((m : Map) → StandsFor before before.log.shape old.pages m → Goes before.log.shape old new (CommitCut before.log.shape old.pages m)) → BreaksAll before old new
+pub breaks_for : (before : Parts) (old new : BoardState) → ((m : Map) → StandsFor before before.log.shape old.pages m → Goes before.log.shape old new (CrashFinds before.log.shape commit old.pages m)) → BreaksAll before old new
 breaks_for before old new f shape m stands =
     let is : before.log.shape ≡ shape = stands.with.shape_is in
-    subst (λ (s : Shape). Goes s old new (CommitCut s old.pages m)) is (f m (subst (λ (s : Shape). StandsFor before s old.pages m) (sym is) stands))
+    subst (λ (s : Shape). Goes s old new (CrashFinds s commit old.pages m)) is (f m (subst (λ (s : Shape). StandsFor before s old.pages m) (sym is) stands))
 
 -- a cut at which no page differs that is read is one of a step that keeps the map
 pub still_commits : (d : Parts) (shape : Shape) (old : Flash) (top : ℕ × Root) (found : Found) (without all : Map) → AgreesWith d shape old top found without all
-    → (f : Flash) (q : List ℕ) → StillCut shape top.1 found d.log.pending old f q → CommitCut shape old all f q
+    → (f : Flash) (q : List ℕ) → StillCut shape top.1 found d.log.pending old f q → CrashFinds shape commit old all f q
 still_commits d shape old top found without all with f q is =
     (is.0, inl (under_reads shape f [] top found without (still_without d d.space d.pool shape old f top found without all with is.1) ∙ sym (under_reads shape old [] top found without with.committed)))
 
@@ -256,14 +260,14 @@ module _ (d : Parts) (key : Key) (value : List ℕ) (old : BoardState) (page : �
     pub placed_agrees : AgreesWith after shape new.pages top found without all
     placed_agrees = agrees_elsewhere d space q shape old.pages new.pages top found without all with same_placed ready_new.flash
         (owners_reserved d page (charge shape (length value)) is.space q old is.between is.reserved) (journal_reserved d page (charge shape (length value)) is.space q old is.between is.reserved) (meta_reserved d page (charge shape (length value)) is.space q old is.between is.reserved)
-        (is.placed (places found d.log.pending) with.placed)
+        (is.placed (jobs_of d).blocks.values (places found d.log.pending) with.placed)
 
     pub placed_keeps : Keeps d after shape all old new
     placed_keeps = record {
       stands = record { top = top; found = found; without = without; with = placed_agrees };
       same_places = λ was. ap (λ (f : Found). places f d.log.pending) (found_once d d shape old.pages was.top top was.found found was.without all without all was.with with);
       still = (still_commits d shape old.pages top found without all with new.pages [] (refl, same_placed)).1;
-      cuts = (placed_reaches.0, weaken placed_reaches.0 old new (StillCut shape top.1 found d.log.pending old.pages) (CommitCut shape old.pages all) (still_commits d shape old.pages top found without all with) placed_reaches.1, placed_reaches.2);
+      cuts = (placed_reaches.0, weaken placed_reaches.0 old new (StillCut shape top.1 found d.log.pending old.pages) (CrashFinds shape commit old.pages all) (still_commits d shape old.pages top found without all with) placed_reaches.1, placed_reaches.2);
     }
 
   pub placed_keeps_all : KeepsAll d after old new
@@ -296,7 +300,7 @@ module _ (d : Parts) (key : Key) (value : List ℕ) (old new : BoardState) (shar
   breaks_placing failed = breaks_for d old new (λ m stands.
       let with = stands.with in
       let went = placing_goes stands.top stands.found stands.without m with failed in
-      (went.0, weaken_went went.0 old new (StillCut d.log.shape stands.top.1 stands.found d.log.pending old.pages) (CommitCut d.log.shape old.pages m) (still_commits d d.log.shape old.pages stands.top stands.found stands.without m with) went.1, went.2))
+      (went.0, weaken_went went.0 old new (StillCut d.log.shape stands.top.1 stands.found d.log.pending old.pages) (CrashFinds d.log.shape commit old.pages m) (still_commits d d.log.shape old.pages stands.top stands.found stands.without m with) went.1, went.2))
 
 -- ---- the roots
 
@@ -308,25 +312,10 @@ same_roots has_shape old new has has_new same =
 
 -- ---- where the value stands
 
--- all that a call says that wrote a value
-pub record Written (d : Parts) (key : Key) (value : List ℕ) (old : BoardState) (page : ℕ) (after : Parts) (new : BoardState) : Type 0 where
-  pub keeps : KeepsAll d after old new
-  pub found : KeepsFound d after old new
-  pub works : Works old new
-  pub written : IsWritten after d.log.shape new.pages key value page
-  pub place : IsPlace d.log.shape (record { page = page; len = length value })
-  pub roots_are : roots new ≡ roots old
-
--- and one that failed
-pub record Broken (d : Parts) (old new : BoardState) : Type 0 where
-  pub breaks : BreaksAll d old new
-  pub stops : Stops old new
-  pub roots_are : roots new ≡ roots old
-
 pub value_written : (d : Parts) (key : Key) (value : List ℕ) (old : BoardState) (page : ℕ) (space : DataState) (q : Blocks) (new : BoardState)
     → PlacesValue d.log.shape key value d.space d.pool old page space q new → IsReady old d.log.shape → IsReady new d.log.shape
     → IsKey key → length value ≤ greatest d.log.shape → (m : Map) × StandsFor d d.log.shape old.pages m
-    → Written d key value old page (record d { space = space; pool = q }) new
+    → Step (λ (p : ℕ). IsPlaced d (record d { space = space; pool = q }) old new key value p) (BreaksAll d old new) d.log.shape 0 old new (Ok page)
 value_written d key value old page space q new is ready ready_new is_key short stands =
     let shape : Shape = d.log.shape in
     let with = stands.1.with in
@@ -338,18 +327,17 @@ value_written d key value old page space q new is ready ready_new is_key short s
     let same = still_end shape top.1 found d.log.pending old.pages old new run in
     let agrees = placed_agrees d key value old page space q new is ready ready_new top found without stands.0 with in
     let count : ℕ = charge shape (length value) in
-    record {
+    let placed : IsPlaced d after old new key value page = record {
       keeps = placed_keeps_all d key value old page space q new is ready ready_new;
       found = λ shape' top' found' without' all' other.
           let same : d.log.shape ≡ shape' = other.shape_is in
           subst (λ (s : Shape). AgreesWith after s new.pages top' found' without' all') same
           (placed_agrees d key value old page space q new is ready ready_new top' found' without' all' (subst (λ (s : Shape). AgreesWith d s old.pages top' found' without' all') (sym same) other));
-      works = works_placed d key value old page space q new is ready ready_new;
       written = record {
         there = value_again shape with.logs.is_shape key value is_key (page_at new.pages) page is.stored;
         apart = λ top' found' without' all' other k here is_value.
             let same_found : found' ≡ found = found_once after after shape new.pages top top' found found' without stands.0 without' all' agrees other in
-            is.reserved.free (places found d.log.pending) with.placed k here.0 here.1 (subst (λ (f : Found). IsValuePage shape (places f d.log.pending) k) same_found is_value);
+            is.reserved.free (jobs_of d).blocks.values (places found d.log.pending) with.placed k here.0 here.1 (subst (λ (f : Found). IsValuePage shape (places f d.log.pending) k) same_found is_value);
       };
       place = record {
         exists = let e = is.reserved.pages.exists in let some = charge_some shape with.logs.is_shape (length value) in omega (arith, e, some);
@@ -357,17 +345,41 @@ value_written d key value old page space q new is ready ready_new is_key short s
         short = short;
         inside = is.reserved.pages.inside;
       };
-      roots_are = same_roots shape old new ready.shape_is ready_new.shape_is (same_top shape top.1 found d.log.pending old.pages new.pages same);
+      owned = is.reserved.pages.owned;
+      in_open = is.in_open;
+    } in
+    record {
+      ended = placed;
+      broken = tt;
+      works = works_placed d key value old page space q new is ready ready_new;
+      stops = tt;
+      stopped = tt;
+      ready = ready_new;
+      roots_few = same_roots shape old new ready.shape_is ready_new.shape_is (same_top shape top.1 found d.log.pending old.pages new.pages same);
     }
 
-pub value_broken : (d : Parts) (key : Key) (value : List ℕ) (old new : BoardState) → FailsToPlace d.log.shape key value d.space d.pool old new
-    → IsShared d.pool.shape d.pool.states → IsReady old d.log.shape → IsReady new d.log.shape → (m : Map) × StandsFor d d.log.shape old.pages m → Broken d old new
-value_broken d key value old new failed shared ready ready_new stands =
+pub value_broken : (d behind : Parts) (key : Key) (value : List ℕ) (old new : BoardState) (e : Fault) → FailsToPlace d.log.shape key value d.space d.pool old new → e ≡ Stopped
+    → IsShared d.pool.shape d.pool.states → IsReady old d.log.shape → IsReady new d.log.shape → (m : Map) × StandsFor d d.log.shape old.pages m
+    → StepPlaces d behind old new key value (Err e)
+value_broken d behind key value old new e failed is_stopped shared ready ready_new stands =
     let with = stands.1.with in
     let went = placing_goes d key value old new shared ready stands.1.top stands.1.found stands.1.without stands.0 with failed in
     let same = went_end d.log.shape stands.1.top.1 stands.1.found d.log.pending old.pages old new went in
     record {
-      breaks = breaks_placing d key value old new shared ready failed;
+      ended = tt;
+      broken = breaks_placing d key value old new shared ready failed;
+      works = tt;
       stops = stops_placing d key value old new shared ready failed;
-      roots_are = same_roots d.log.shape old new ready.shape_is ready_new.shape_is (same_top d.log.shape stands.1.top.1 stands.1.found d.log.pending old.pages new.pages same);
+      stopped = is_stopped;
+      roots_few = same_roots d.log.shape old new ready.shape_is ready_new.shape_is (same_top d.log.shape stands.1.top.1 stands.1.found d.log.pending old.pages new.pages same);
+      ready = ready_new;
     }
+
+-- by what the call answered
+pub place_step : (r : Result ℕ Fault) (d : Parts) (key : Key) (value : List ℕ) (old : BoardState) (space : DataState) (q : Blocks) (new : BoardState)
+    → IfOk r (λ page. PlacesValue d.log.shape key value d.space d.pool old page space q new) → OnErr r (FailsToPlace d.log.shape key value d.space d.pool old new) → IfErr r (λ e. e ≡ Stopped)
+    → IsShared d.pool.shape d.pool.states → MayStep d old → IsReady new d.log.shape → IsKey key → length value ≤ greatest d.log.shape
+    → StepPlaces d (record d { space = space; pool = q }) old new key value r
+place_step (Ok page) d key value old space q new places fails stopped shared may after is_key short = value_written d key value old page space q new places may.ready after is_key short may.stands
+place_step (Err e) d key value old space q new places fails stopped shared may after is_key short =
+    value_broken d (record d { space = space; pool = q }) key value old new e fails stopped shared may.ready after may.stands

@@ -1,26 +1,41 @@
 -- What a command did to a drive and its board: the clauses of the drive's contract, as one record.
-use Rattle.std.specs.Prelude.{◌≡◌, ◌≢◌, ℕ, ◌+◌, ◌≤◌, Bool, true, false}
+use Rattle.std.specs.Prelude.{◌≡◌, ◌≢◌, ℕ, ◌+◌, ◌≤◌, Bool, true, false, List}
+use Rattle.pk_nvme.specs.declared.status.TheConstants.{UNRECOVERED_ERROR}
 use Rattle.pk_nvme.specs.Command.{Command}
 use Rattle.pk_nvme.specs.Reply.{Reply}
 use Rattle.pk_nand.specs.BoardState.{BoardState}
-use Rattle.pk_nand.specs.Calls.{Rose}
+use Rattle.pk_nand.specs.Calls.{Rose, last_count}
 use Rattle.pk_model.specs.Sight.{Sight}
-use Rattle.pk_drive.specs.Wear.{roots}
-use Rattle.pk_drive.specs.Drive.{OnlyFlash, NoFault}
+use Rattle.pk_model.specs.Wear.{roots}
+use Rattle.pk_nand.specs.Effects.{OnlyFlash, NoFault}
 use Rattle.pk_drive.specs.Meter.{reads_after}
-use Rattle.pk_drive.specs.Exec.{ExecStands, ExecReaches, ExecGoes, most_installs}
+use Rattle.pk_drive.specs.Seen.{reply_of}
+use Rattle.pk_drive.specs.declared.types.Outcome.{Outcome}
+use Rattle.pk_model.specs.Crashes.{command}
+use Rattle.pk_drive.specs.Call.{CallReaches, CallGoes}
+use Rattle.pk_drive.specs.Exec.{ExecStands, most_installs}
+use Rattle.pk_core.specs.Parts.{Parts, sight_of}
+use Rattle.pk_core.specs.Agreeing.{AgreesBetween}
 
 -- A command gave this reply behind so many reads, or stopped the drive; drive and board are then what the contract of a drive wants.
 pub record Does (old new : BoardState) (before after : Sight) (c : Command) (reply : Reply) (reads : ℕ) (stopped : Bool) : Type 0 where
   pub stands : stopped ≡ false → ExecStands old new before after c reply reads
-  pub cuts : stopped ≡ false → ExecReaches old new before c
-  pub cuts_stopped : stopped ≡ true → ExecGoes old new before c
+  pub cuts : stopped ≡ false → CallReaches old new before (command c)
+  pub cuts_stopped : stopped ≡ true → CallGoes old new before (command c)
   pub rest : OnlyFlash old new
   pub reads_are : new.reads ≡ reads_after old.reads reads
   pub up : old.read_faults ≤ new.read_faults
-  pub unread : reply.status ≡ 0x88 → stopped ≡ false → Rose old.read_faults new.read_faults
-  pub sound : reply.status ≢ 0x88 → NoFault old new
+  pub flash_up : old.flash_faults ≤ last_count → old.flash_faults ≤ new.flash_faults
+  pub unread : reply.status ≡ UNRECOVERED_ERROR → stopped ≡ false → Rose old.read_faults new.read_faults
+  pub sound : reply.status ≢ UNRECOVERED_ERROR → NoFault old new
   pub stop : stopped ≡ true → Rose old.stop_faults new.stop_faults
-  pub stop_status : stopped ≡ true → reply.status ≡ 0x88
+  pub stop_status : stopped ≡ true → reply.status ≡ UNRECOVERED_ERROR
   pub no_stop : stopped ≡ false → new.stop_faults ≡ old.stop_faults
   pub installs : roots new ≤ roots old + most_installs c.opcode c.size
+
+-- A command came to this. The drive is stopped, or stands for its board with fewer entries pending than a journal page takes; it
+-- answered as the contract of a drive wants, behind so many reads.
+pub record Executes (before after : Parts) (old new : BoardState) (c : Command) (o : Outcome) (into : List ℕ) (reads : ℕ) : Type 0 where
+  pub stops : after.stopped ≡ o.stopped
+  pub agrees : o.stopped ≡ false → AgreesBetween after new.shape new.pages
+  pub does : Does old new (sight_of before) (sight_of after) c (reply_of o into) reads o.stopped

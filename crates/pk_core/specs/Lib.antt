@@ -1,8 +1,12 @@
+pub mod Jobs
 pub mod Parts
 pub mod Agreeing
 pub mod Finding
 pub mod Done
 pub mod Moves
+pub mod Staying
+pub mod Programming
+pub mod Performing
 pub mod Quiet
 pub mod Placing
 pub mod Ticking

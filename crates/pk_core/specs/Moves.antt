@@ -1,18 +1,23 @@
 -- Steps inside a command, each of which keeps the map: a commit, a freeze, the write of a value.
-use Rattle.std.specs.Prelude.{◌≡◌, ◌⊎◌, ℕ, List, [], length, Ok}
+use Rattle.std.specs.Prelude.{◌≡◌, ◌⊎◌, ℕ, List, [], length, Result, Ok}
 use Rattle.pk_base.specs.Key.{Key}
 use Rattle.pk_base.specs.Shape.{Shape}
 use Rattle.pk_base.specs.Page.{Flash, page_at}
 use Rattle.pk_base.specs.Map.{Map}
 use Rattle.pk_segfmt.specs.Value.{value_at}
 use Rattle.pk_rootfmt.specs.Root.{Root}
+use Rattle.pk_plan.specs.declared.owner.Owner.TheVariants.{Values}
+use Rattle.pk_nand.specs.declared.types.Fault.{Fault}
 use Rattle.pk_nand.specs.BoardState.{BoardState}
+use Rattle.pk_nand.specs.Calls.{IsReady}
+use Rattle.pk_pool.specs.Blocks.{used_by}
 use Rattle.pk_model.specs.Found.{Found}
 use Rattle.pk_model.specs.Reading.{reading}
 use Rattle.pk_model.specs.Laws.{IsPageOf}
 use Rattle.pk_steps.specs.Under.{IsValuePage, places}
-use Rattle.pk_drive.specs.Growth.{Reaches, Goes}
-use Rattle.pk_drive.specs.Commit.{CommitCut}
+use Rattle.pk_model.specs.Growth.{Reaches, Goes}
+use Rattle.pk_model.specs.Crashes.{CrashFinds, commit}
+use Rattle.pk_model.specs.Steps.{Step}
 use Rattle.pk_core.specs.Parts.{Parts}
 use Rattle.pk_core.specs.Agreeing.{AgreesWith}
 
@@ -29,7 +34,7 @@ pub record Keeps (before after : Parts) (shape : Shape) (m : Map) (old new : Boa
   -- and so are the places of its values
   pub same_places : (was : StandsFor before shape old.pages m) → places stands.found after.log.pending ≡ places was.found before.log.pending
   pub still : (reading shape new.pages [] ≡ reading shape old.pages []) ⊎ (reading shape new.pages [] ≡ Ok m)
-  pub cuts : Reaches shape old new (CommitCut shape old.pages m)
+  pub cuts : Reaches shape old new (CrashFinds shape commit old.pages m)
 
 -- for every map for which the drive stood
 abbrev pub KeepsAll : Parts → Parts → BoardState → BoardState → Type 0
@@ -37,15 +42,34 @@ KeepsAll before after old new = (shape : Shape) (m : Map) → StandsFor before s
 
 -- the same of a step that stopped the drive
 abbrev pub BreaksAll : Parts → BoardState → BoardState → Type 0
-BreaksAll before old new = (shape : Shape) (m : Map) → StandsFor before shape old.pages m → Goes shape old new (CommitCut shape old.pages m)
+BreaksAll before old new = (shape : Shape) (m : Map) → StandsFor before shape old.pages m → Goes shape old new (CrashFinds shape commit old.pages m)
+
+-- ---- steps
+
+-- what a step inside a command asks: a board that is ready, and on it the drive stands for some map
+pub record MayStep (d : Parts) (board : BoardState) : Type 0 where
+  pub ready : IsReady board d.log.shape
+  pub stands : (m : Map) × StandsFor d d.log.shape board.pages m
+
+-- a step that keeps the map
+abbrev pub StepKeeps : {T : Type 0} → Parts → Parts → ℕ → BoardState → BoardState → Result T Fault → Type 0
+StepKeeps {T} before after most old new result =
+    Step (λ (x : T). KeepsAll before after old new) (BreaksAll before old new) before.log.shape most old new result
+
+-- nothing differs but the pending entries, and the epoch that took them
+abbrev pub OnlyCommits : Parts → Parts → Type 0
+OnlyCommits before after = after ≡ record before { log = record before.log { epoch = after.log.epoch; pending = after.log.pending } }
+
+-- nothing differs but the log and the blocks, of which as many are for values
+pub record LeavesValues (before after : Parts) : Type 0 where
+  pub rest : after ≡ record before { log = after.log; pool = after.pool }
+  pub same_shape : after.log.shape ≡ before.log.shape
+  pub as_many : used_by Values after.pool.states ≡ used_by Values before.pool.states
+
+-- ---- values
 
 -- From this page on stands a value of this key that is not in the map yet: in a block for values, at pages of no other value.
 pub record IsWritten (d : Parts) (shape : Shape) (flash : Flash) (key : Key) (value : List ℕ) (page : ℕ) : Type 0 where
   pub there : value_at shape (page_at flash) key (record { page = page; len = length value }) ≡ Ok value
   pub apart : (top : ℕ × Root) (found : Found) (without all : Map) → AgreesWith d shape flash top found without all
       → (k : ℕ) → IsPageOf shape k (record { page = page; len = length value }) → IsValuePage shape (places found d.log.pending) k → ⊥
-
--- Where a change of the map is cut off, the flash holds what it held, or the map before it, or the one after it; and nothing was given out.
-abbrev pub ChangeCut : Shape → Flash → Map → Map → Flash → List ℕ → Type 0
-ChangeCut shape start m after flash posted =
-    (posted ≡ []) × ((reading shape flash [] ≡ reading shape start []) ⊎ ((reading shape flash [] ≡ Ok m) ⊎ (reading shape flash [] ≡ Ok after)))

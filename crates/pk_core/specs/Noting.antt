@@ -1,5 +1,5 @@
 -- An entry in memory: what must hold before it, so that the drive stands for the map with it behind it.
-use Rattle.std.specs.Prelude.{◌≡◌, ℕ, ◌+◌, ◌≤◌, List, length, Option, Some, None}
+use Rattle.std.specs.Prelude.{◌≡◌, ℕ, ◌+◌, ◌/◌, ◌≤◌, List, length, Option, Some, None, Result}
 use Rattle.std.specs.FinMap.{insert}
 use Rattle.std.specs.FinMap.Entries.{find}
 use Rattle.pk_base.specs.Fields.{AreBytes}
@@ -12,12 +12,15 @@ use Rattle.pk_rootfmt.specs.Root.{Root}
 use Rattle.pk_model.specs.Found.{Found}
 use Rattle.pk_steps.specs.Under.{places}
 use Rattle.pk_nand.specs.BoardState.{BoardState}
+use Rattle.pk_nand.specs.declared.types.Fault.{Fault}
+use Rattle.pk_model.specs.Steps.{Step}
+use Rattle.pk_data.specs.Placed.{HoldsValues}
 use Rattle.pk_data.specs.Entries.{IsInOpen}
 use Rattle.pk_core.specs.declared.place.ValuePlace.{ValuePlace}
 use Rattle.pk_core.specs.Parts.{Parts}
 use Rattle.pk_core.specs.Agreeing.{AgreesWith}
 use Rattle.pk_core.specs.Finding.{place_of, place_if_some}
-use Rattle.pk_core.specs.Moves.{IsWritten}
+use Rattle.pk_core.specs.Moves.{KeepsAll, BreaksAll, IsWritten}
 
 -- A key is to have a value that was written into the open block and is in no map yet. Until now it had the one at old, or none.
 pub record Puts (d : Parts) (shape : Shape) (flash : Flash) (m : Map) (key : Key) (value : List ℕ) (page : ℕ) (old : Option ValuePlace) : Type 0 where
@@ -50,3 +53,17 @@ more_keys keys (Some p) = keys
 abbrev pub KeepsFound : Parts → Parts → BoardState → BoardState → Type 0
 KeepsFound before after old new =
     (shape : Shape) (top : ℕ × Root) (found : Found) (without all : Map) → AgreesWith before shape old.pages top found without all → AgreesWith after shape new.pages top found without all
+
+-- A value was written that is in no map: it begins at this page, in the open block.
+pub record IsPlaced (before after : Parts) (old new : BoardState) (key : Key) (value : List ℕ) (page : ℕ) : Type 0 where
+  pub keeps : KeepsAll before after old new
+  pub found : KeepsFound before after old new
+  pub written : IsWritten after before.log.shape new.pages key value page
+  pub place : IsPlace before.log.shape (record { page = page; len = length value })
+  pub owned : HoldsValues after.pool (page / before.log.shape.block_pages)
+  pub in_open : IsInOpen before.log.shape after.space page (charge before.log.shape (length value))
+
+-- a step that writes it
+abbrev pub StepPlaces : Parts → Parts → BoardState → BoardState → Key → List ℕ → Result ℕ Fault → Type 0
+StepPlaces before after old new key value result =
+    Step (λ (page : ℕ). IsPlaced before after old new key value page) (BreaksAll before old new) before.log.shape 0 old new result

@@ -1,11 +1,12 @@
 -- What a drive keeps in memory, and what contracts see of it.
 use Rattle.std.specs.Prelude.{ℕ, Bool, true, false, [], length, sum, count_by, Option, Some, None, nat_le, ◌==◌, ◌||◌, ◌&&◌, not}
+use Rattle.pk_nvme.specs.declared.opcode.TheConstants.{STORE, DELETE}
 use Rattle.pk_base.specs.Shape.{buffer, charge, limit, pinned}
 use Rattle.pk_nvme.specs.declared.request.Request.{Request}
 use Rattle.pk_nvme.specs.Seen.{command_of}
 use Rattle.pk_plan.specs.declared.owner.Owner.TheVariants.{Values}
 use Rattle.pk_pin.specs.Frames.{Frames, leased_frames}
-use Rattle.pk_pool.specs.Blocks.{Blocks, is_ready, used_by}
+use Rattle.pk_pool.specs.Blocks.{Blocks, is_free, is_ready, used_by}
 use Rattle.pk_level.specs.Levels.{Levels, run_of}
 use Rattle.pk_jrn.specs.Epochs.{left_of}
 use Rattle.pk_model.specs.Answer.{early}
@@ -13,6 +14,7 @@ use Rattle.pk_model.specs.Sight.{Sight, Counts}
 use Rattle.pk_log.specs.State.{LogState}
 use Rattle.pk_data.specs.State.{DataState, needs_reclaim}
 use Rattle.pk_data.specs.declared.open_block.OpenBlock.{OpenBlock}
+use Rattle.pk_core.specs.Jobs.{Jobs, no_jobs, all_but}
 
 -- the log, the runs with the arena of their frames, where values lie, the blocks, how many keys there are, the frames, and whether it stopped
 pub record Parts : Type 0 where
@@ -24,6 +26,10 @@ pub record Parts : Type 0 where
   pub keys : ℕ
   pub frames : ℕ
   pub stopped : Bool
+
+-- what runs: no job is built
+abbrev pub jobs_of : Parts → Jobs
+jobs_of d = no_jobs
 
 -- the sixteen numbers of a Report
 abbrev pub counts_of : Parts → Counts
@@ -41,9 +47,9 @@ counts_of d = record {
   run3 = (run_of d.levels 3).count;
   run4 = (run_of d.levels 4).count;
   epoch = d.log.epoch.used;
-  blocks = used_by Values d.pool.states;
+  blocks = all_but (used_by Values d.pool.states) (jobs_of d).blocks.values;
   ready = count_by is_ready d.pool.states;
-  merge = 0;
+  merge = (jobs_of d).merge;
 }
 
 -- the number of the block that takes values, where there is one
@@ -51,7 +57,7 @@ abbrev pub block_if_open : Option OpenBlock → Option ℕ
 block_if_open None = None
 block_if_open (Some o) = Some o.block
 
--- merges and reclaims are not built, so none runs
+-- a background step that is left erases a free block
 abbrev pub sight_of : Parts → Sight
 sight_of d = record {
   frames = d.frames;
@@ -59,8 +65,9 @@ sight_of d = record {
   stopped = d.stopped;
   counts = counts_of d;
   open_block = block_if_open d.space.open_block;
-  reclaims = false;
+  reclaims = (jobs_of d).reclaims;
   fresh = d.log.epoch.takes_more;
+  work = count_by is_free d.pool.states;
 }
 
 -- a Store or Delete may want a freeze while the frozen buffer has entries: the active one is full, or the epoch takes no more pages
@@ -70,8 +77,8 @@ wants_second_freeze d = nat_le 1 (length d.log.frozen.entries) && (nat_le (buffe
 -- What is built of a command that passed the checks that read it alone: all but a second freeze and a reclaim.
 abbrev pub is_built_for : Parts → ℕ → ℕ → Bool
 is_built_for d opcode size =
-    not ((opcode == 0x01 || opcode == 0x10) && wants_second_freeze d)
-    && not (opcode == 0x01 && needs_reclaim d.log.shape d.space d.pool (charge d.log.shape size))
+    not ((opcode == STORE || opcode == DELETE) && wants_second_freeze d)
+    && not (opcode == STORE && needs_reclaim d.log.shape d.space d.pool (charge d.log.shape size))
 
 -- what is built of a command of which those checks say this: it passes, or is refused with a status
 abbrev pub built_if : Parts → Request → Option ℕ → Bool

@@ -2,7 +2,6 @@
 use Rattle.std.specs.Prelude.{◌≡◌, ◌⊎◌, ℕ, List, length}
 use Rattle.pk_base.specs.Key.{Key}
 use Rattle.pk_base.specs.Shape.{Shape, charge}
-use Rattle.pk_base.specs.Entry.{Place}
 use Rattle.pk_base.specs.Page.{page_at}
 use Rattle.pk_segfmt.specs.Stored.{IsStored}
 use Rattle.pk_nand.specs.BoardState.{BoardState}
@@ -11,8 +10,8 @@ use Rattle.pk_pool.specs.Blocks.{Blocks}
 use Rattle.pk_pool.specs.Taking.{FailsToErase}
 use Rattle.pk_seg.specs.Stored.{written, WriteFailed}
 use Rattle.pk_data.specs.State.{DataState, with_written}
-use Rattle.pk_data.specs.Placed.{Placed}
-use Rattle.pk_data.specs.Reserving.{IsReserved, TakesNext, OpensBlock, IsFreeOf}
+use Rattle.pk_data.specs.Placed.{StayPlaced}
+use Rattle.pk_data.specs.Reserving.{IsReserved, TakesNext, OpensBlock, AreFree}
 use Rattle.pk_data.specs.Entries.{IsInOpen}
 
 -- The pages of a value were found: the next ones of the open block, or of one that was opened for it.
@@ -20,8 +19,8 @@ pub record Reserves (shape : Shape) (d : DataState) (p : Blocks) (old : BoardSta
   pub taken : TakesNext shape d p old count d' q new ⊎ OpensBlock shape d p old count d' q new
   pub pages : IsReserved shape d' q new.pages page count
   pub ready : IsReady new shape
-  pub free : (es : List (Key × Place)) → Placed shape d p old.pages es → IsFreeOf shape es page count
-  pub placed : (es : List (Key × Place)) → Placed shape d p old.pages es → Placed shape d' q new.pages es
+  pub free : AreFree shape d p old.pages page count
+  pub placed : StayPlaced shape d p old.pages d' q new.pages
 
 -- The pages were found and written, one after another.
 pub record PlacesValue (shape : Shape) (key : Key) (value : List ℕ) (d : DataState) (p : Blocks) (old : BoardState) (page : ℕ) (d' : DataState) (q : Blocks) (new : BoardState) : Type 0 where
@@ -32,7 +31,7 @@ pub record PlacesValue (shape : Shape) (key : Key) (value : List ℕ) (d : DataS
   pub in_open : IsInOpen shape d' page (charge shape (length value))
   pub writes : new ≡ written shape key page value (charge shape (length value)) between
   pub stored : IsStored shape (page_at new.pages) key page value
-  pub placed : (es : List (Key × Place)) → Placed shape d p old.pages es → Placed shape d' q new.pages es
+  pub placed : StayPlaced shape d p old.pages d' q new.pages
 
 -- they were found, and a program of one of them failed
 pub record FailsToWrite (shape : Shape) (key : Key) (value : List ℕ) (d : DataState) (p : Blocks) (old new : BoardState) : Type 0 where

@@ -38,6 +38,7 @@ pub record ReadsFailing (old new : BoardState) (most : ℕ) : Type 0 where
   pub up : old.reads ≤ new.reads
   pub within : new.reads ≤ old.reads + most
   pub rose : Rose old.read_faults new.read_faults
+  pub flash : Rose old.flash_faults new.flash_faults
 
 -- what a look-up of a drive says of its map
 abbrev pub Looks : Parts → Flash → Key → Option ValuePlace → Type 0

@@ -6,7 +6,7 @@ use Rattle.pk_nvme.specs.declared.request.Request.{Request}
 use Rattle.pk_nand.specs.BoardState.{BoardState}
 use Rattle.pk_nand.specs.Calls.{last_count}
 use Rattle.pk_model.specs.Answer.{early}
-use Rattle.pk_drive.specs.Wear.{is_worn}
+use Rattle.pk_model.specs.Wear.{is_worn}
 use Rattle.pk_core.specs.declared.place.ValuePlace.{ValuePlace}
 use Rattle.pk_core.specs.Parts.{Parts, is_built}
 use Rattle.pk_core.specs.Agreeing.{Agrees}

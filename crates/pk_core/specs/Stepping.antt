@@ -1,13 +1,16 @@
 -- Background steps in a row, and the answer of the command that wants them.
 use Rattle.std.specs.Prelude.{◌≡◌, ℕ, ◌+◌, ◌≤◌, ◌⊎◌, Bool, true, false, count_by}
+use Rattle.pk_nvme.specs.declared.status.TheConstants.{SUCCESSFUL_COMPLETION, UNRECOVERED_ERROR}
 use Rattle.pk_nand.specs.BoardState.{BoardState}
 use Rattle.pk_nand.specs.Calls.{Rose, last_count}
 use Rattle.pk_pool.specs.declared.state.BlockState.TheVariants.{Free}
 use Rattle.pk_pool.specs.Blocks.{Blocks, IsNowhere, is_ready}
 use Rattle.pk_model.specs.Sight.{Sight}
-use Rattle.pk_drive.specs.Wear.{roots}
-use Rattle.pk_drive.specs.Drive.{OnlyFlash, NoFault}
-use Rattle.pk_drive.specs.Tick.{TickStands, TickReaches, TickGoes}
+use Rattle.pk_model.specs.Wear.{roots}
+use Rattle.pk_nand.specs.Effects.{OnlyFlash, NoFault}
+use Rattle.pk_drive.specs.Calling.{FewCalls}
+use Rattle.pk_model.specs.Crashes.{background}
+use Rattle.pk_drive.specs.Call.{KeepsMap, CallReaches, CallGoes}
 use Rattle.pk_drive.specs.Seen.{stopped_by}
 use Rattle.pk_drive.specs.declared.types.Ticked.{Ticked}
 use Rattle.pk_drive.specs.declared.types.Ticked.TheVariants.{Worked, Idle, Fault}
@@ -21,14 +24,16 @@ has_failed (Fault stopped) = true
 
 -- What at most so many steps did together to a drive and its board, where the last of them answered this.
 pub record Steps (old new : BoardState) (before after : Sight) (answer : Ticked) (most : ℕ) : Type 0 where
-  pub stands : stopped_by answer ≡ false → TickStands old new before after
-  pub cuts : stopped_by answer ≡ false → TickReaches old new before
-  pub cuts_stopped : stopped_by answer ≡ true → TickGoes old new before
+  pub stands : stopped_by answer ≡ false → KeepsMap old new before after
+  pub cuts : stopped_by answer ≡ false → CallReaches old new before background
+  pub cuts_stopped : stopped_by answer ≡ true → CallGoes old new before background
   pub rest : OnlyFlash old new
+  pub calls : FewCalls most old new
   pub few : new.reads ≤ last_count
   pub more_reads : old.reads ≤ new.reads
   pub within : new.reads ≤ old.reads + most
   pub up : old.read_faults ≤ new.read_faults
+  pub flash_up : old.flash_faults ≤ last_count → old.flash_faults ≤ new.flash_faults
   pub unread : answer ≡ Fault false → Rose old.read_faults new.read_faults
   pub sound : has_failed answer ≡ false → NoFault old new
   pub stop : stopped_by answer ≡ true → Rose old.stop_faults new.stop_faults
@@ -37,9 +42,9 @@ pub record Steps (old new : BoardState) (before after : Sight) (answer : Ticked)
 
 -- a success without data, or the status of a call that failed, behind so many reads
 abbrev pub outcome_of : Ticked → ℕ → Outcome
-outcome_of Worked reads = record { status = 0; result = 0; data_len = 0; reads = reads; stopped = false }
-outcome_of Idle reads = record { status = 0; result = 0; data_len = 0; reads = reads; stopped = false }
-outcome_of (Fault stopped) reads = record { status = 0x88; result = 0; data_len = 0; reads = reads; stopped = stopped }
+outcome_of Worked reads = record { status = SUCCESSFUL_COMPLETION; result = 0; data_len = 0; reads = reads; stopped = false }
+outcome_of Idle reads = record { status = SUCCESSFUL_COMPLETION; result = 0; data_len = 0; reads = reads; stopped = false }
+outcome_of (Fault stopped) reads = record { status = UNRECOVERED_ERROR; result = 0; data_len = 0; reads = reads; stopped = stopped }
 
 -- how many free blocks were erased in this session
 abbrev pub erased_in : Blocks → ℕ

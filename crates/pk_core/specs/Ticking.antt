@@ -3,12 +3,14 @@ use Rattle.std.specs.Prelude.{◌≡◌, ◌+◌, ◌-◌, ◌≤◌, Bool, true
 use Rattle.pk_base.specs.Shape.{data_blocks, most_pages}
 use Rattle.pk_plan.specs.declared.owner.Owner.TheVariants.{Values}
 use Rattle.pk_pool.specs.Blocks.{used_by}
-use Rattle.pk_nand.specs.BoardState.{BoardState}
-use Rattle.pk_nand.specs.Calls.{Rose}
+use Rattle.pk_nand.specs.BoardState.{BoardState, shape_of}
+use Rattle.pk_nand.specs.Calls.{Rose, last_count}
 use Rattle.pk_model.specs.Sight.{Sight}
-use Rattle.pk_drive.specs.Wear.{roots}
-use Rattle.pk_drive.specs.Drive.{OnlyFlash, NoFault, AtMostOneCall}
-use Rattle.pk_drive.specs.Tick.{TickStands, TickReaches, TickGoes}
+use Rattle.pk_model.specs.Growth.{Grows}
+use Rattle.pk_model.specs.Wear.{roots}
+use Rattle.pk_nand.specs.Effects.{OnlyFlash, OnlyReading, NoFault, AtMostOneCall}
+use Rattle.pk_model.specs.Crashes.{background}
+use Rattle.pk_drive.specs.Call.{KeepsMap, CallReaches, CallGoes}
 use Rattle.pk_drive.specs.Seen.{stopped_by}
 use Rattle.pk_drive.specs.declared.types.Ticked.{Ticked}
 use Rattle.pk_drive.specs.declared.types.Ticked.TheVariants.{Worked, Idle, Fault}
@@ -17,14 +19,17 @@ use Rattle.pk_core.specs.Parts.{Parts}
 
 -- what a step did to a drive and its board: the clauses of the drive's contract, as one record
 pub record Ticks (old new : BoardState) (before after : Sight) (answer : Ticked) : Type 0 where
-  pub stands : stopped_by answer ≡ false → TickStands old new before after
-  pub cuts : stopped_by answer ≡ false → TickReaches old new before
-  pub cuts_stopped : stopped_by answer ≡ true → TickGoes old new before
-  pub idle_rests : answer ≡ Idle → new ≡ old
+  pub stands : stopped_by answer ≡ false → KeepsMap old new before after
+  pub cuts : stopped_by answer ≡ false → CallReaches old new before background
+  pub cuts_stopped : stopped_by answer ≡ true → CallGoes old new before background
+  pub idle_rests : answer ≡ Idle → (new ≡ old) × (after ≡ before)
+  pub unmade : answer ≡ Fault false → (after ≡ before) × OnlyReading old new
+  pub grows : Grows (shape_of old) old.pages new.pages
   pub rest : OnlyFlash old new
   pub calls : AtMostOneCall old new
   pub unread : answer ≡ Fault false → Rose old.read_faults new.read_faults
   pub up : old.read_faults ≤ new.read_faults
+  pub flash_up : old.flash_faults ≤ last_count → old.flash_faults ≤ new.flash_faults
   pub worked : answer ≡ Worked → NoFault old new
   pub stop : stopped_by answer ≡ true → Rose old.stop_faults new.stop_faults
   pub no_stop : stopped_by answer ≡ false → new.stop_faults ≡ old.stop_faults

@@ -1,16 +1,15 @@
 //! Changes of the map: a key gets a value, or loses its own.
-ghost use Rattle.std.specs.Prelude.{◌≡◌, ◌≤◌, ◌<◌, ◌+◌, List, ℕ, [], length, false, true, IfErr, OnOk, OnErr};
+ghost use Rattle.std.specs.Prelude.{◌≡◌, ◌+◌, length, true, false, OnOk};
 ghost use Rattle.pk_base.specs.Shape as spec;
-ghost use Rattle.pk_base.specs.Map.{Map};
-ghost use Rattle.pk_plan.specs.declared.owner.Owner.TheVariants.{Values};
-ghost use Rattle.pk_nand.specs.Calls.{IsReady};
-ghost use Rattle.pk_nand.specs.declared.types.Fault.TheVariants.{Stopped};
+ghost use Rattle.pk_model.specs.Wear.{is_worn};
 ghost use Rattle.pk_log.specs.State.{needs_freeze as needs_freeze_for};
-ghost use Rattle.pk_data.specs.State.{needs_reclaim as needs_reclaim_for};
-ghost use Rattle.pk_compact.specs.Working.{Works, Stops};
-ghost use Rattle.pk_drive.specs.Wear.{roots, is_worn};
 ghost use Rattle.pk_core.specs.Parts.{wants_second_freeze};
-ghost use Rattle.pk_core.specs.Changes.{MayPut, MayTake, PutsAll, FailsToPut, TakesAll, FailsToTake};
+ghost use Rattle.pk_core.specs.Changes.{CanPut, CanTake, StepPuts, StepTakes, StaysBetween};
+ghost use Rattle.pk_core.specs.Parts.{sight_of};
+ghost use Rattle.pk_core.specs.Staying.{Stays, StaysOrOpens, IsNoted};
+ghost use Rattle.pk_data.specs.State.{fits_open};
+ghost use Rattle.pk_drive.specs.Moving.{commits_for};
+ghost use Rattle.pk_core.specs.Programming.{Programs};
 
 use crate::drive::Drive;
 use crate::place::ValuePlace;
@@ -27,21 +26,19 @@ impl<A: Region> Drive<A> {
         value: &[u8],
         old: Option<ValuePlace>,
     ) -> Result<(), Fault>
-        requires ready { IsReady (B.state board.old) self.old.log.shape }
-        requires may { (m : Map) × MayPut self.old self.old.log.shape (B.state board.old).pages m key value.now old }
-        requires short { length value.now ≤ spec.greatest self.old.log.shape }
-        requires no_reclaim { needs_reclaim_for self.old.log.shape self.old.space self.old.pool (spec.charge self.old.log.shape (length value.now)) ≡ false }
+        requires can { CanPut self.old (B.state board.old) key value.now old }
         requires no_freeze { needs_freeze_for self.old.log key ≡ false }
-        requires few { length self.old.log.pending < spec.page_entries self.old.log.shape }
-        ensures changed { OnOk result (PutsAll self.old self.new (B.state board.old) (B.state board.new) key value.now old) }
-        ensures rest { OnOk result ((self.new.frames ≡ self.old.frames) × (self.new.stopped ≡ self.old.stopped) × (self.new.log.shape ≡ self.old.log.shape)) }
-        ensures few { OnOk result (length self.new.log.pending < spec.page_entries self.old.log.shape) }
-        ensures works { OnOk result (Works (B.state board.old) (B.state board.new)) }
-        ensures roots { roots (B.state board.new) ≡ roots (B.state board.old) }
-        ensures stopped { IfErr result (λ e. e ≡ Stopped) }
-        ensures failed { OnErr result (FailsToPut self.old (B.state board.old) (B.state board.new) key value.now old) }
-        ensures stops { OnErr result (Stops (B.state board.old) (B.state board.new)) }
-        ensures ready { IsReady (B.state board.new) self.old.log.shape }
+        ensures step { StepPuts self.old self.new 0 (B.state board.old) (B.state board.new)
+            key value.now old result }
+        ensures stays { OnOk result (StaysBetween self.old self.new) }
+        ensures opens { OnOk result (StaysOrOpens self.old self.new
+            (spec.charge self.old.log.shape (length value.now))) }
+        ensures noted { OnOk result (IsNoted self.new key) }
+        ensures programs { OnOk result (fits_open self.old.log.shape self.old.space
+            (spec.charge self.old.log.shape (length value.now)) ≡ true
+            → Programs (spec.charge self.old.log.shape (length value.now)
+            + commits_for self.old.log.shape (sight_of self.old)) (B.state board.old)
+            (B.state board.new)) }
     {
         let shape = self.shape();
         // so that the number of bytes is known to fit
@@ -63,22 +60,21 @@ impl<A: Region> Drive<A> {
         value: &[u8],
         old: Option<ValuePlace>,
     ) -> Result<(), Fault>
-        requires ready { IsReady (B.state board.old) self.old.log.shape }
-        requires may { (m : Map) × MayPut self.old self.old.log.shape (B.state board.old).pages m key value.now old }
-        requires short { length value.now ≤ spec.greatest self.old.log.shape }
-        requires no_reclaim { needs_reclaim_for self.old.log.shape self.old.space self.old.pool (spec.charge self.old.log.shape (length value.now)) ≡ false }
+        requires can { CanPut self.old (B.state board.old) key value.now old }
         requires one_freeze { wants_second_freeze self.old ≡ false }
         requires unworn { is_worn (B.state board.old) ≡ false }
-        requires few { length self.old.log.pending < spec.page_entries self.old.log.shape }
-        ensures changed { OnOk result (PutsAll self.old self.new (B.state board.old) (B.state board.new) key value.now old) }
-        ensures rest { OnOk result ((self.new.frames ≡ self.old.frames) × (self.new.stopped ≡ self.old.stopped) × (self.new.log.shape ≡ self.old.log.shape)) }
-        ensures few { OnOk result (length self.new.log.pending < spec.page_entries self.old.log.shape) }
-        ensures works { OnOk result (Works (B.state board.old) (B.state board.new)) }
-        ensures roots { roots (B.state board.new) ≤ roots (B.state board.old) + 1 }
-        ensures stopped { IfErr result (λ e. e ≡ Stopped) }
-        ensures failed { OnErr result (FailsToPut self.old (B.state board.old) (B.state board.new) key value.now old) }
-        ensures stops { OnErr result (Stops (B.state board.old) (B.state board.new)) }
-        ensures ready { IsReady (B.state board.new) self.old.log.shape }
+        ensures step { StepPuts self.old self.new 1 (B.state board.old) (B.state board.new)
+            key value.now old result }
+        ensures stays { OnOk result (StaysBetween self.old self.new) }
+        ensures opens { OnOk result (StaysOrOpens self.old self.new
+            (spec.charge self.old.log.shape (length value.now))) }
+        ensures noted { OnOk result (IsNoted self.new key) }
+        ensures programs { OnOk result (needs_freeze_for self.old.log key ≡ false
+            → fits_open self.old.log.shape self.old.space
+            (spec.charge self.old.log.shape (length value.now)) ≡ true
+            → Programs (spec.charge self.old.log.shape (length value.now)
+            + commits_for self.old.log.shape (sight_of self.old)) (B.state board.old)
+            (B.state board.new)) }
     {
         match self.make_room(board, &key) {
             Ok(()) => self.put_with_room(board, key, value, old),
@@ -93,19 +89,15 @@ impl<A: Region> Drive<A> {
         key: Key,
         old: ValuePlace,
     ) -> Result<(), Fault>
-        requires ready { IsReady (B.state board.old) self.old.log.shape }
-        requires may { (m : Map) × MayTake self.old self.old.log.shape (B.state board.old).pages m key old }
+        requires can { CanTake self.old (B.state board.old) key old }
         requires no_freeze { needs_freeze_for self.old.log key ≡ false }
-        requires few { length self.old.log.pending < spec.page_entries self.old.log.shape }
-        ensures changed { OnOk result (TakesAll self.old self.new (B.state board.old) (B.state board.new) key old) }
-        ensures rest { OnOk result ((self.new.frames ≡ self.old.frames) × (self.new.stopped ≡ self.old.stopped) × (self.new.log.shape ≡ self.old.log.shape)) }
-        ensures few { OnOk result (length self.new.log.pending < spec.page_entries self.old.log.shape) }
-        ensures works { OnOk result (Works (B.state board.old) (B.state board.new)) }
-        ensures roots { roots (B.state board.new) ≡ roots (B.state board.old) }
-        ensures stopped { IfErr result (λ e. e ≡ Stopped) }
-        ensures failed { OnErr result (FailsToTake self.old (B.state board.old) (B.state board.new) key old) }
-        ensures stops { OnErr result (Stops (B.state board.old) (B.state board.new)) }
-        ensures ready { IsReady (B.state board.new) self.old.log.shape }
+        ensures step { StepTakes self.old self.new 0 (B.state board.old) (B.state board.new)
+            key old result }
+        ensures stays { OnOk result (StaysBetween self.old self.new) }
+        ensures moves { OnOk result (Stays self.old self.new) }
+        ensures programs { OnOk result (Programs
+            (commits_for self.old.log.shape (sight_of self.old)) (B.state board.old)
+            (B.state board.new)) }
     {
         self.note_gone(key, old);
         self.commit_if_full(board)
@@ -118,20 +110,16 @@ impl<A: Region> Drive<A> {
         key: Key,
         old: ValuePlace,
     ) -> Result<(), Fault>
-        requires ready { IsReady (B.state board.old) self.old.log.shape }
-        requires may { (m : Map) × MayTake self.old self.old.log.shape (B.state board.old).pages m key old }
+        requires can { CanTake self.old (B.state board.old) key old }
         requires one_freeze { wants_second_freeze self.old ≡ false }
         requires unworn { is_worn (B.state board.old) ≡ false }
-        requires few { length self.old.log.pending < spec.page_entries self.old.log.shape }
-        ensures changed { OnOk result (TakesAll self.old self.new (B.state board.old) (B.state board.new) key old) }
-        ensures rest { OnOk result ((self.new.frames ≡ self.old.frames) × (self.new.stopped ≡ self.old.stopped) × (self.new.log.shape ≡ self.old.log.shape)) }
-        ensures few { OnOk result (length self.new.log.pending < spec.page_entries self.old.log.shape) }
-        ensures works { OnOk result (Works (B.state board.old) (B.state board.new)) }
-        ensures roots { roots (B.state board.new) ≤ roots (B.state board.old) + 1 }
-        ensures stopped { IfErr result (λ e. e ≡ Stopped) }
-        ensures failed { OnErr result (FailsToTake self.old (B.state board.old) (B.state board.new) key old) }
-        ensures stops { OnErr result (Stops (B.state board.old) (B.state board.new)) }
-        ensures ready { IsReady (B.state board.new) self.old.log.shape }
+        ensures step { StepTakes self.old self.new 1 (B.state board.old) (B.state board.new)
+            key old result }
+        ensures stays { OnOk result (StaysBetween self.old self.new) }
+        ensures moves { OnOk result (Stays self.old self.new) }
+        ensures programs { OnOk result (needs_freeze_for self.old.log key ≡ false
+            → Programs (commits_for self.old.log.shape (sight_of self.old)) (B.state board.old)
+            (B.state board.new)) }
     {
         match self.make_room(board, &key) {
             Ok(()) => self.take_with_room(board, key, old),

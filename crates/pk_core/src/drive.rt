@@ -35,9 +35,19 @@ impl<A: Region> Model for Drive<A> {
 
     ghost Value = { Parts };
 
-    ghost view = { λ d. record { log = d.log; levels = d.levels; arena = d.arena; space = d.space; pool = d.pool; keys = d.keys; frames = d.frames; stopped = d.stopped } };
+    ghost view = { λ d. record {
+      log = d.log;
+      levels = d.levels;
+      arena = d.arena;
+      space = d.space;
+      pool = d.pool;
+      keys = d.keys;
+      frames = d.frames;
+      stopped = d.stopped;
+    } };
 
-    ghost invariant = { λ d. (length d.page.items ≡ d.log.shape.page_bytes) × (d.walk.shape ≡ d.log.shape) };
+    ghost invariant = { λ d. (length d.page.items ≡ d.log.shape.page_bytes) × (d.walk.shape
+        ≡ d.log.shape) };
 }
 
 impl<A: Region> Drive<A> {

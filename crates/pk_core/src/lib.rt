@@ -5,7 +5,6 @@
 #![tactic(auto)]
 
 mod change;
-mod commit;
 mod drive;
 mod engine;
 mod filled;
@@ -30,6 +29,3 @@ pub use laws::fresh_serves;
 pub use making::format;
 pub use pk_scan::OpenError;
 pub use place::ValuePlace;
-
-#[cfg(test)]
-mod tests;

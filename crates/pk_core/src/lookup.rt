@@ -32,12 +32,19 @@ pub fn find_entry<B: Nand, A: Region>(
 ) -> Result<Option<Entry>, Fault>
     requires ready { IsReady (B.state board.old) log.now.shape }
     requires shape { levels.now.shape ≡ log.now.shape }
-    requires stand { (top : ℕ × RootValue) × (found : Found) × Logs log.now (B.state board.old).pages top found × StandEach (B.state board.old).pages arena.now levels.now.runs found.runs }
+    requires stand { (top : ℕ × RootValue) × (found : Found)
+        × Logs log.now (B.state board.old).pages top found
+        × StandEach (B.state board.old).pages arena.now levels.now.runs found.runs }
     requires room { length buf.old ≡ log.now.shape.page_bytes }
-    ensures found { IfOk result (λ e. (top : ℕ × RootValue) (found : Found) → Logs log.now (B.state board.old).pages top found → StandEach (B.state board.old).pages arena.now levels.now.runs found.runs → IsFound key.now (entries_in_order found log.now.pending) e) }
-    ensures reads { OnOk result (ReadsUpTo (reads_through levels.now.runs) (B.state board.old) (B.state board.new)) }
+    ensures found { IfOk result (λ e. (top : ℕ × RootValue) (found : Found)
+        → Logs log.now (B.state board.old).pages top found
+        → StandEach (B.state board.old).pages arena.now levels.now.runs found.runs
+        → IsFound key.now (entries_in_order found log.now.pending) e) }
+    ensures reads { OnOk result (ReadsUpTo (reads_through levels.now.runs)
+        (B.state board.old) (B.state board.new)) }
     ensures reading { IfErr result (λ fault. fault ≡ Reading) }
-    ensures err { OnErr result (ReadFailsWithin (reads_through levels.now.runs) (B.state board.old) (B.state board.new)) }
+    ensures err { OnErr result (ReadFailsWithin (reads_through levels.now.runs)
+        (B.state board.old) (B.state board.new)) }
     ensures same { (B.state board.new).pages ≡ (B.state board.old).pages }
     ensures ready { IsReady (B.state board.new) log.now.shape }
     ensures buffer { length buf.new ≡ length buf.old }
@@ -60,12 +67,20 @@ pub fn find_place<B: Nand, A: Region>(
 ) -> Result<Option<ValuePlace>, Fault>
     requires ready { IsReady (B.state board.old) log.now.shape }
     requires shape { levels.now.shape ≡ log.now.shape }
-    requires stand { (top : ℕ × RootValue) × (found : Found) × Logs log.now (B.state board.old).pages top found × StandEach (B.state board.old).pages arena.now levels.now.runs found.runs }
+    requires stand { (top : ℕ × RootValue) × (found : Found)
+        × Logs log.now (B.state board.old).pages top found
+        × StandEach (B.state board.old).pages arena.now levels.now.runs found.runs }
     requires room { length buf.old ≡ log.now.shape.page_bytes }
-    ensures place { IfOk result (λ p. (top : ℕ × RootValue) (found : Found) (m : Map) → Logs log.now (B.state board.old).pages top found → StandEach (B.state board.old).pages arena.now levels.now.runs found.runs → IsUnder log.now.shape (B.state board.old).pages log.now.pending top found m → IsPlaceIn log.now.shape (B.state board.old).pages found log.now.pending m key.now p) }
-    ensures reads { OnOk result (ReadsUpTo (reads_through levels.now.runs) (B.state board.old) (B.state board.new)) }
+    ensures place { IfOk result (λ p. (top : ℕ × RootValue) (found : Found) (m : Map)
+        → Logs log.now (B.state board.old).pages top found
+        → StandEach (B.state board.old).pages arena.now levels.now.runs found.runs
+        → IsUnder log.now.shape (B.state board.old).pages log.now.pending top found m
+        → IsPlaceIn log.now.shape (B.state board.old).pages found log.now.pending m key.now p) }
+    ensures reads { OnOk result (ReadsUpTo (reads_through levels.now.runs)
+        (B.state board.old) (B.state board.new)) }
     ensures reading { IfErr result (λ fault. fault ≡ Reading) }
-    ensures err { OnErr result (ReadFailsWithin (reads_through levels.now.runs) (B.state board.old) (B.state board.new)) }
+    ensures err { OnErr result (ReadFailsWithin (reads_through levels.now.runs)
+        (B.state board.old) (B.state board.new)) }
     ensures same { (B.state board.new).pages ≡ (B.state board.old).pages }
     ensures ready { IsReady (B.state board.new) log.now.shape }
     ensures buffer { length buf.new ≡ length buf.old }

@@ -21,8 +21,10 @@ fn write_first<B: Nand>(board: &mut B, shape: Shape, page: &mut [u8]) -> Result<
     requires ready { IsReady (B.state board.old) shape }
     requires erased { (q : ℕ) → q < page_count shape → IsErased (B.state board.old).pages q }
     ensures holds { OnOk result (Holds shape (B.state board.new).pages empty) }
-    ensures program { OnOk result (B.state board.new ≡ after_program (B.state board.old) 0 (root_bytes shape first_root)) }
-    ensures err { OnErr result (ProgramFailed (B.state board.old) (B.state board.new) 0 (root_bytes shape first_root)) }
+    ensures program { OnOk result (B.state board.new ≡ after_program (B.state board.old) 0
+        (root_bytes shape first_root)) }
+    ensures err { OnErr result (ProgramFailed (B.state board.old) (B.state board.new) 0
+        (root_bytes shape first_root)) }
     ensures ready { IsReady (B.state board.new) shape }
 {
     shape.known();
@@ -40,8 +42,10 @@ pub fn format<B: Nand>(board: &mut B, shape: Shape) -> Result<(), NandFault>
     requires ready { IsReady (B.state board.old) shape }
     requires erased { (q : ℕ) → q < page_count shape → IsErased (B.state board.old).pages q }
     ensures holds { OnOk result (Holds shape (B.state board.new).pages empty) }
-    ensures program { OnOk result (B.state board.new ≡ after_program (B.state board.old) 0 (root_bytes shape first_root)) }
-    ensures err { OnErr result (ProgramFailed (B.state board.old) (B.state board.new) 0 (root_bytes shape first_root)) }
+    ensures program { OnOk result (B.state board.new ≡ after_program (B.state board.old) 0
+        (root_bytes shape first_root)) }
+    ensures err { OnErr result (ProgramFailed (B.state board.old) (B.state board.new) 0
+        (root_bytes shape first_root)) }
     ensures ready { IsReady (B.state board.new) shape }
 {
     shape.known();

@@ -9,6 +9,7 @@ ghost use Rattle.pk_data.specs.Entries.{span_of, span_if_some};
 ghost use Rattle.pk_core.specs.Finding.{place_of, place_if_some};
 ghost use Rattle.pk_core.specs.Moves.{StandsFor};
 ghost use Rattle.pk_core.specs.Noting.{Puts, Drops, more_keys as more_keys_by};
+ghost use Rattle.pk_core.specs.Staying.{Stays, IsNoted};
 
 use crate::drive::Drive;
 use crate::place::ValuePlace;
@@ -54,9 +55,19 @@ impl<A: Region> Drive<A> {
     pub(crate) fn note_put(&mut self, key: Key, page: u32, len: u32, old: Option<ValuePlace>)
         requires room { needs_freeze_for self.old.log key ≡ false }
         requires few { length self.old.log.pending < spec.page_entries self.old.log.shape }
-        requires puts { (flash : Flash) × (m : Map) × (value : List ℕ) × (length value ≡ len) × Puts self.old self.old.log.shape flash m key value page old }
-        ensures rest { self.new ≡ record self.old { log = pushed self.old.log (key, Some (record { page = page; len = len })); space = self.new.space; keys = more_keys_by self.old.keys old } }
-        ensures stands { (shape : spec.Shape) (flash : Flash) (m : Map) (value : List ℕ) → length value ≡ len → Puts self.old shape flash m key value page old → StandsFor self.new shape flash (insert m key value) }
+        requires puts { (flash : Flash) × (m : Map) × (value : List ℕ) × (length value ≡ len)
+            × Puts self.old self.old.log.shape flash m key value page old }
+        ensures rest { self.new ≡ record self.old {
+          log = pushed self.old.log (key, Some (record { page = page; len = len }));
+          space = self.new.space;
+          keys = more_keys_by self.old.keys old;
+        } }
+        ensures stands { (shape : spec.Shape) (flash : Flash) (m : Map) (value : List ℕ)
+            → length value ≡ len → Puts self.old shape flash m key value page old
+            → StandsFor self.new shape flash (insert m key value) }
+        ensures moves { Stays self.old self.new }
+        ensures noted { IsNoted self.new key }
+        ensures more { length self.new.log.pending ≡ length self.old.log.pending + 1 }
     {
         let shape = self.shape();
         let _ = key.bytes();
@@ -71,9 +82,17 @@ impl<A: Region> Drive<A> {
     pub(crate) fn note_gone(&mut self, key: Key, old: ValuePlace)
         requires room { needs_freeze_for self.old.log key ≡ false }
         requires few { length self.old.log.pending < spec.page_entries self.old.log.shape }
-        requires drops { (flash : Flash) × (m : Map) × Drops self.old self.old.log.shape flash m key old }
-        ensures rest { self.new ≡ record self.old { log = pushed self.old.log (key, None); space = self.new.space; keys = self.old.keys - 1 } }
-        ensures stands { (shape : spec.Shape) (flash : Flash) (m : Map) → Drops self.old shape flash m key old → StandsFor self.new shape flash (remove m key) }
+        requires drops { (flash : Flash) × (m : Map)
+            × Drops self.old self.old.log.shape flash m key old }
+        ensures rest { self.new ≡ record self.old {
+          log = pushed self.old.log (key, None);
+          space = self.new.space;
+          keys = self.old.keys - 1;
+        } }
+        ensures stands { (shape : spec.Shape) (flash : Flash) (m : Map)
+            → Drops self.old shape flash m key old → StandsFor self.new shape flash (remove m key) }
+        ensures moves { Stays self.old self.new }
+        ensures more { length self.new.log.pending ≡ length self.old.log.pending + 1 }
     {
         let shape = self.shape();
         let _ = key.bytes();

@@ -4,7 +4,7 @@ ghost use Rattle.pk_base.specs.Shape as shape_spec;
 ghost use Rattle.pk_base.specs.Page.{Flash};
 ghost use Rattle.pk_base.specs.Map.{Map, live};
 ghost use Rattle.pk_model.specs.Sight.{map_of};
-ghost use Rattle.pk_drive.specs.Wear.{root_number};
+ghost use Rattle.pk_model.specs.Wear.{root_number};
 ghost use Rattle.pk_drive.specs.Drive.{CountsMap};
 ghost use Rattle.pk_drive.specs.Exec.{report_of};
 ghost use Rattle.pk_drive.specs.Seen.{counts_of};
@@ -12,6 +12,8 @@ ghost use Rattle.pk_core.specs.Parts as spec;
 ghost use Rattle.pk_core.specs.Parts.{sight_of};
 ghost use Rattle.pk_core.specs.Agreeing.{Agrees};
 ghost use Rattle.pk_core.specs.Quiet.{DoneWithout};
+ghost use Rattle.pk_nvme.specs.declared.status.TheConstants.{SUCCESSFUL_COMPLETION};
+ghost use Rattle.pk_nvme.specs.declared.opcode.TheConstants.{REPORT};
 
 use crate::drive::Drive;
 use crate::quiet::served;
@@ -19,6 +21,7 @@ use pk_base::put_u32;
 use pk_drive::{Counts, Outcome};
 use pk_model::early::early_fault;
 use pk_nvme::Request;
+use pk_nvme::opcode::{DELETE, STORE};
 use pk_plan::{Owner, Plan};
 use pk_region::Region;
 
@@ -55,7 +58,9 @@ impl<A: Region> Drive<A> {
     /// The sixteen numbers of a Report. The first five are those of the map and of the frames.
     pub(crate) fn numbers(&self) -> Counts
         ensures numbers { counts_of result ≡ spec.counts_of self.now }
-        ensures map { (shape : shape_spec.Shape) (flash : Flash) (m : Map) → Agrees self.now (Some shape) flash → map_of shape flash (sight_of self.now) ≡ Ok m → CountsMap shape self.now.frames m (spec.counts_of self.now) }
+        ensures map { (shape : shape_spec.Shape) (flash : Flash) (m : Map)
+            → Agrees self.now (Some shape) flash → map_of shape flash (sight_of self.now) ≡ Ok m
+            → CountsMap shape self.now.frames m (spec.counts_of self.now) }
     {
         let shape = self.shape();
         Counts {
@@ -81,14 +86,17 @@ impl<A: Region> Drive<A> {
     /// The live pages of the map.
     pub(crate) fn live(&self) -> u32
         ensures number { result ≡ (sight_of self.now).counts.live }
-        ensures map { (shape : shape_spec.Shape) (flash : Flash) (m : Map) → Agrees self.now (Some shape) flash → map_of shape flash (sight_of self.now) ≡ Ok m → result ≡ live shape m }
+        ensures map { (shape : shape_spec.Shape) (flash : Flash) (m : Map)
+            → Agrees self.now (Some shape) flash → map_of shape flash (sight_of self.now) ≡ Ok m
+            → result ≡ live shape m }
     {
         self.space.total()
     }
 
     /// The numbers of roots are used up: the newest root's number is at least 2^63.
     pub(crate) fn is_worn_out(&self) -> bool
-        ensures { (shape : shape_spec.Shape) (flash : Flash) → Agrees self.now (Some shape) flash → result ≡ nat_le 9223372036854775808 (root_number shape flash) }
+        ensures { (shape : shape_spec.Shape) (flash : Flash) → Agrees self.now (Some shape) flash
+            → result ≡ nat_le 9223372036854775808 (root_number shape flash) }
     {
         self.log.root().number() >= 0x8000_0000_0000_0000
     }
@@ -96,8 +104,8 @@ impl<A: Region> Drive<A> {
     /// Writes the numbers of a Report.
     pub(crate) fn report(&self, into: &mut [u8]) -> Outcome
         requires room { 64 ≤ length into.old }
-        ensures does { DoneWithout self.now 0xC2 result into.new }
-        ensures told { (result.status ≡ 0) × (result.stopped ≡ false) }
+        ensures does { DoneWithout self.now REPORT result into.new }
+        ensures told { (result.status ≡ SUCCESSFUL_COMPLETION) × (result.stopped ≡ false) }
         ensures bytes { take result.data_len into.new ≡ report_of (spec.counts_of self.now) }
         ensures fits { result.data_len ≤ length into.new }
         ensures len { length into.new ≡ length into.old }
@@ -116,12 +124,12 @@ impl<A: Region> Drive<A> {
 
     // What is built of a command that passed the checks that read it alone.
     fn is_built_for(&self, opcode: u8, size: u32) -> bool
-        requires { opcode ≡ 0x01 → size ≤ shape_spec.greatest self.now.log.shape }
+        requires { opcode ≡ STORE → size ≤ shape_spec.greatest self.now.log.shape }
         ensures { result ≡ spec.is_built_for self.now opcode size }
     {
         let shape = self.shape();
-        !((opcode == 0x01 || opcode == 0x10) && self.wants_second_freeze())
-            && !(opcode == 0x01
+        !((opcode == STORE || opcode == DELETE) && self.wants_second_freeze())
+            && !(opcode == STORE
                 && self
                     .space
                     .needs_reclaim(&shape, &self.pool, shape.charge(size)))

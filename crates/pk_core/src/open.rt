@@ -9,10 +9,12 @@ ghost use Rattle.pk_nand.specs.Erased.{after_reads};
 ghost use Rattle.pk_drive.specs.Drive.{Stands};
 ghost use Rattle.pk_scan.specs.Reads.{opened};
 ghost use Rattle.pk_scan.specs.Opening.{NotOpened};
-ghost use Rattle.pk_scan.specs.Opened.{IsOpened, OnlyReading};
+ghost use Rattle.pk_scan.specs.Opened.{IsOpened};
+ghost use Rattle.pk_nand.specs.Effects.{OnlyReading};
 ghost use Rattle.pk_core.specs.Parts.{sight_of};
 ghost use Rattle.pk_core.specs.Agreeing.{Agrees};
 ghost use Rattle.pk_core.specs.Opening.{OpenedOn};
+ghost use Rattle.pk_drive.specs.Steady.{IsSteady};
 
 use crate::drive::Drive;
 use pk_base::Shape;
@@ -27,7 +29,9 @@ use std::alloc::AllocError;
 impl<A: Region> Drive<A> {
     /// The drive over what opening found, with so many frames. The memory that opening did not need is taken here.
     fn over(alloc: A, found: Found<A>, frames: u32) -> Result<Drive<A>, AllocError>
-        ensures { IfOk result (λ d. (shape : spec.Shape) (flash : Flash) → IsFlash shape flash → IsOpened shape flash frames found.root found.root_page found.active found.frozen found.epoch found.levels found.arena found.live found.pool found.keys → OpenedOn shape flash frames d) }
+        ensures { IfOk result (λ d. (shape : spec.Shape) (flash : Flash)
+            → IsFlash shape flash → IsOpened shape flash frames found
+            → OpenedOn shape flash frames d) }
     {
         let shape = *found.root.shape();
         shape.known();
@@ -69,14 +73,19 @@ impl<A: Region> Drive<A> {
     ) -> Result<Drive<A>, OpenError>
         requires ready { IsReady (B.state board.old) shape }
         requires frames { frames ≤ 16384 }
-        ensures agrees { IfOk result (λ d. Agrees d (B.state board.new).shape (B.state board.new).pages × (length d.log.pending < page_entries d.log.shape)) }
-        ensures stands { IfOk result (λ d. (m : Map) × Stands shape frames (B.state board.new) (sight_of d) m) }
+        ensures agrees { IfOk result (λ d. Agrees d (B.state board.new).shape
+            (B.state board.new).pages × (length d.log.pending < page_entries d.log.shape)) }
+        ensures stands { IfOk result (λ d. (m : Map)
+            × Stands shape frames (B.state board.new) (sight_of d) m) }
+        ensures steady { IfOk result (λ d. IsSteady shape (B.state board.new).pages (sight_of d)) }
         ensures runs { IfOk result (λ d. d.stopped ≡ false) }
         ensures none { IfOk result (λ d. d.log.pending ≡ []) }
         ensures fresh { IfOk result (λ d. d.log.epoch.takes_more ≡ false) }
         ensures closed { IfOk result (λ d. d.space.open_block ≡ None) }
-        ensures reads { OnOk result (B.state board.new ≡ after_reads (opened shape (B.state board.old).pages frames) (B.state board.old)) }
-        ensures err { IfErr result (λ e. NotOpened shape (B.state board.old) (B.state board.new) e) }
+        ensures reads { OnOk result (B.state board.new ≡ after_reads (opened shape
+            (B.state board.old).pages frames) (B.state board.old)) }
+        ensures err { IfErr result (λ e. NotOpened shape (B.state board.old)
+            (B.state board.new) e) }
         ensures rest { OnlyReading (B.state board.old) (B.state board.new) }
     {
         shape.known();
@@ -84,7 +93,10 @@ impl<A: Region> Drive<A> {
             Err(error) => Err(error),
             Ok(found) => match Drive::over(alloc, found, frames) {
                 Err(_) => Err(OpenError::Memory),
-                Ok(drive) => Ok(drive),
+                Ok(drive) => {
+                    drive.pool.known();
+                    Ok(drive)
+                }
             },
         }
     }

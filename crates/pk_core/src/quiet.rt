@@ -1,7 +1,7 @@
 //! The commands that change nothing.
 ghost use Rattle.std.specs.Prelude.{◌≡◌, ◌≢◌, ◌≤◌, ◌<◌, ◌-◌, ◌+◌, ◌^◌, ℕ, List, [], length, take, min, false, true, None, Some, Option, IfOk, IfErr, OnOk, OnErr};
 ghost use Rattle.pk_base.specs.Key.{IsKey};
-ghost use Rattle.pk_base.specs.Shape.{greatest, fetched};
+ghost use Rattle.pk_base.specs.Shape.{greatest, fetched, most_calls};
 ghost use Rattle.pk_nvme.specs.Command.{key as key_in};
 ghost use Rattle.pk_nvme.specs.Seen.{command_of};
 ghost use Rattle.pk_nand.specs.BoardState.{shape_of};
@@ -13,9 +13,13 @@ ghost use Rattle.pk_model.specs.Answer.{early};
 ghost use Rattle.pk_drive.specs.Seen.{reply_of};
 ghost use Rattle.pk_core.specs.Parts.{sight_of};
 ghost use Rattle.pk_core.specs.Agreeing.{Agrees};
-ghost use Rattle.pk_core.specs.Done.{Does};
+ghost use Rattle.pk_core.specs.Serving.{IsServable};
+ghost use Rattle.pk_core.specs.Done.{Executes};
 ghost use Rattle.pk_core.specs.Quiet.{ReadsOnly, ReadsFailing, Looks, DoneWithout};
 ghost use Rattle.pk_core.specs.declared.place.ValuePlace.{ValuePlace};
+ghost use Rattle.pk_nvme.specs.declared.opcode.TheConstants.{FLUSH, RETRIEVE, EXIST};
+ghost use Rattle.pk_nand.specs.Effects.{OnlyReading};
+ghost use Rattle.pk_drive.specs.Calling.{FewCalls};
 
 use crate::drive::Drive;
 use crate::lookup::find_place;
@@ -24,15 +28,22 @@ use pk_base::Key;
 use pk_drive::Outcome;
 use pk_nand::{Fault, Nand};
 use pk_nvme::Request;
+use pk_nvme::status::{KEY_DOES_NOT_EXIST, SUCCESSFUL_COMPLETION, UNRECOVERED_ERROR};
 use pk_region::Region;
 use pk_seg::read_value;
 
 /// A success with this result and so many bytes of data, behind so many reads.
 pub(crate) fn served(answer: u32, data_len: u32, reads: u32) -> Outcome
-    ensures { result ≡ record { status = 0; result = answer; data_len = data_len; reads = reads; stopped = false } }
+    ensures { result ≡ record {
+      status = SUCCESSFUL_COMPLETION;
+      result = answer;
+      data_len = data_len;
+      reads = reads;
+      stopped = false;
+    } }
 {
     Outcome {
-        status: 0,
+        status: SUCCESSFUL_COMPLETION,
         result: answer,
         data_len,
         reads,
@@ -42,7 +53,13 @@ pub(crate) fn served(answer: u32, data_len: u32, reads: u32) -> Outcome
 
 /// A status alone, behind so many reads.
 pub(crate) fn refusal(status: u8, reads: u32) -> Outcome
-    ensures { result ≡ record { status = status; result = 0; data_len = 0; reads = reads; stopped = false } }
+    ensures { result ≡ record {
+      status = status;
+      result = 0;
+      data_len = 0;
+      reads = reads;
+      stopped = false;
+    } }
 {
     Outcome {
         status,
@@ -88,8 +105,10 @@ impl<A: Region> Drive<A> {
         ensures same { self.new ≡ self.old }
         ensures pages { (B.state board.new).pages ≡ (B.state board.old).pages }
         ensures looks { IfOk result (λ p. Looks self.old (B.state board.old).pages key.now p) }
-        ensures reads { OnOk result (ReadsOnly (B.state board.old) (B.state board.new) (4 - self.old.levels.pinned)) }
-        ensures failing { OnErr result (ReadsFailing (B.state board.old) (B.state board.new) (4 - self.old.levels.pinned)) }
+        ensures reads { OnOk result (ReadsOnly (B.state board.old) (B.state board.new)
+            (4 - self.old.levels.pinned)) }
+        ensures failing { OnErr result (ReadsFailing (B.state board.old) (B.state board.new)
+            (4 - self.old.levels.pinned)) }
         ensures ready { IsReady (B.state board.new) self.old.log.shape }
     {
         self.levels.known();
@@ -112,13 +131,18 @@ impl<A: Region> Drive<A> {
         into: &mut [u8],
     ) -> Result<(), Fault>
         requires ready { IsReady (B.state board.old) self.old.log.shape }
-        requires value { (key : List ℕ) × (value : List ℕ) × IsFront self.old.log.shape (B.state board.old).pages page count key value }
+        requires value { (key : List ℕ) × (value : List ℕ)
+            × IsFront self.old.log.shape (B.state board.old).pages page count key value }
         requires room { count ≤ length into.old }
         ensures same { self.new ≡ self.old }
         ensures pages { (B.state board.new).pages ≡ (B.state board.old).pages }
-        ensures front { OnOk result ((key value : List ℕ) → IsFront self.old.log.shape (B.state board.old).pages page count key value → take count into.new ≡ take count value) }
-        ensures ok { OnOk result (B.state board.new ≡ after_reads (fetched self.old.log.shape count) (B.state board.old)) }
-        ensures err { OnErr result (ReadsFailed (B.state board.old) (B.state board.new) page (fetched self.old.log.shape count)) }
+        ensures front { OnOk result ((key value : List ℕ)
+            → IsFront self.old.log.shape (B.state board.old).pages page count key value
+            → take count into.new ≡ take count value) }
+        ensures ok { OnOk result (B.state board.new ≡ after_reads (fetched self.old.log.shape count)
+            (B.state board.old)) }
+        ensures err { OnErr result (ReadsFailed (B.state board.old) (B.state board.new) page
+            (fetched self.old.log.shape count)) }
         ensures len { length into.new ≡ length into.old }
     {
         let shape = self.shape();
@@ -133,8 +157,8 @@ impl<A: Region> Drive<A> {
 
     /// Nothing is to be done: all that was answered before is committed by then.
     pub(crate) fn flush(&self) -> Outcome
-        ensures does { (into : List ℕ) → DoneWithout self.now 0x00 result into }
-        ensures told { (result.status ≡ 0) × (result.stopped ≡ false) }
+        ensures does { (into : List ℕ) → DoneWithout self.now FLUSH result into }
+        ensures told { (result.status ≡ SUCCESSFUL_COMPLETION) × (result.stopped ≡ false) }
         ensures no_data { result.data_len ≡ 0 }
     {
         let _ = &self.frames;
@@ -143,22 +167,23 @@ impl<A: Region> Drive<A> {
 
     /// Whether a key is there.
     pub(crate) fn exist<B: Nand>(&mut self, board: &mut B, request: &Request) -> Outcome
-        requires agrees { Agrees self.old (B.state board.old).shape (B.state board.old).pages }
-        requires passed { early self.old.log.shape (command_of request.now []) ≡ None }
-        requires opcode { request.now.opcode ≡ 0x14 }
-        ensures does { (v into : List ℕ) → Does (B.state board.old) (B.state board.new) (sight_of self.old) (sight_of self.new) (command_of request.now v) (reply_of result into) result.reads result.stopped }
+        requires servable { IsServable self.old (B.state board.old) request.now }
+        requires opcode { request.now.opcode ≡ EXIST }
+        ensures executes { (v into : List ℕ)
+            → Executes self.old self.new (B.state board.old) (B.state board.new)
+            (command_of request.now v) result into result.reads }
         ensures same { self.new ≡ self.old }
-        ensures pages { (B.state board.new).pages ≡ (B.state board.old).pages }
-        ensures agrees { Agrees self.new (B.state board.new).shape (B.state board.new).pages }
-        ensures runs { result.stopped ≡ false }
+        ensures rest { OnlyReading (B.state board.old) (B.state board.new) }
+        ensures few { FewCalls (most_calls self.old.log.shape) (B.state board.old)
+            (B.state board.new) }
         ensures no_data { result.data_len ≡ 0 }
     {
         let before = board.read_count();
         let key = key_of(request);
         match self.look(board, &key) {
             Ok(Some(_)) => served(0, 0, reads_since(board, before)),
-            Ok(None) => refusal(0x87, reads_since(board, before)),
-            Err(_) => refusal(0x88, reads_since(board, before)),
+            Ok(None) => refusal(KEY_DOES_NOT_EXIST, reads_since(board, before)),
+            Err(_) => refusal(UNRECOVERED_ERROR, reads_since(board, before)),
         }
     }
 
@@ -169,15 +194,16 @@ impl<A: Region> Drive<A> {
         request: &Request,
         into: &mut [u8],
     ) -> Outcome
-        requires agrees { Agrees self.old (B.state board.old).shape (B.state board.old).pages }
-        requires passed { early self.old.log.shape (command_of request.now []) ≡ None }
-        requires opcode { request.now.opcode ≡ 0x02 }
+        requires servable { IsServable self.old (B.state board.old) request.now }
+        requires opcode { request.now.opcode ≡ RETRIEVE }
         requires room { greatest self.old.log.shape ≤ length into.old }
-        ensures does { (v : List ℕ) → Does (B.state board.old) (B.state board.new) (sight_of self.old) (sight_of self.new) (command_of request.now v) (reply_of result into.new) result.reads result.stopped }
+        ensures executes { (v : List ℕ)
+            → Executes self.old self.new (B.state board.old) (B.state board.new)
+            (command_of request.now v) result into.new result.reads }
         ensures same { self.new ≡ self.old }
-        ensures pages { (B.state board.new).pages ≡ (B.state board.old).pages }
-        ensures agrees { Agrees self.new (B.state board.new).shape (B.state board.new).pages }
-        ensures runs { result.stopped ≡ false }
+        ensures rest { OnlyReading (B.state board.old) (B.state board.new) }
+        ensures few { FewCalls (most_calls self.old.log.shape) (B.state board.old)
+            (B.state board.new) }
         ensures fits { result.data_len ≤ length into.new }
         ensures len { length into.new ≡ length into.old }
     {
@@ -188,11 +214,11 @@ impl<A: Region> Drive<A> {
                 let count = place.len.min(request.size);
                 match self.hand_over(board, place.page, count, into) {
                     Ok(()) => served(place.len, count, reads_since(board, before)),
-                    Err(_) => refusal(0x88, reads_since(board, before)),
+                    Err(_) => refusal(UNRECOVERED_ERROR, reads_since(board, before)),
                 }
             }
-            Ok(None) => refusal(0x87, reads_since(board, before)),
-            Err(_) => refusal(0x88, reads_since(board, before)),
+            Ok(None) => refusal(KEY_DOES_NOT_EXIST, reads_since(board, before)),
+            Err(_) => refusal(UNRECOVERED_ERROR, reads_since(board, before)),
         }
     }
 }

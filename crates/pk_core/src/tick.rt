@@ -10,6 +10,7 @@ ghost use Rattle.pk_core.specs.Parts.{sight_of};
 ghost use Rattle.pk_core.specs.Agreeing.{Agrees};
 ghost use Rattle.pk_core.specs.Ticking as spec;
 ghost use Rattle.pk_core.specs.Ticking.{Ticks};
+ghost use Rattle.pk_core.specs.Staying.{Stays};
 
 use crate::drive::Drive;
 use pk_drive::Ticked;
@@ -22,13 +23,17 @@ impl<A: Region> Drive<A> {
     fn erase_spare<B: Nand>(&mut self, board: &mut B) -> Result<bool, Fault>
         requires ready { IsReady (B.state board.old) self.old.pool.shape }
         requires fits { Fits self.old.pool (B.state board.old).pages }
-        ensures erased { IfOk result (λ erased. MatchBool erased (ErasesOne self.old.pool (B.state board.old) self.new.pool (B.state board.new)) (ErasesNone self.old.pool (B.state board.old) self.new.pool (B.state board.new))) }
+        ensures erased { IfOk result (λ erased. MatchBool erased
+            (ErasesOne self.old.pool (B.state board.old) self.new.pool (B.state board.new))
+            (ErasesNone self.old.pool (B.state board.old) self.new.pool (B.state board.new))) }
         ensures rest { OnOk result (self.new ≡ record self.old { pool = self.new.pool }) }
-        ensures failed { OnErr result (FailsToErase self.old.pool (B.state board.old) (B.state board.new)) }
+        ensures failed { OnErr result (FailsToErase self.old.pool (B.state board.old)
+            (B.state board.new)) }
         ensures stops { OnErr result (self.new ≡ record self.old { stopped = true }) }
         ensures shared { IsShared self.old.pool.shape self.old.pool.states }
         ensures ready { IsReady (B.state board.new) self.old.pool.shape }
-        ensures owned { (b : ℕ) → IsOwned self.old.pool b → slice_get self.new.pool.states b ≡ slice_get self.old.pool.states b }
+        ensures owned { (b : ℕ) → IsOwned self.old.pool b
+            → slice_get self.new.pool.states b ≡ slice_get self.old.pool.states b }
         ensures fits { Fits self.new.pool (B.state board.new).pages }
     {
         self.pool.known();
@@ -59,12 +64,17 @@ impl<A: Region> Drive<A> {
         requires none { self.old.log.pending ≡ [] }
         ensures stops { self.new.stopped ≡ stopped_by result }
         ensures none { self.new.log.pending ≡ [] }
-        ensures agrees { stopped_by result ≡ false → Agrees self.new (B.state board.new).shape (B.state board.new).pages }
-        ensures erases { stopped_by result ≡ false → ErasesOne self.old.pool (B.state board.old) self.new.pool (B.state board.new) ⊎ ErasesNone self.old.pool (B.state board.old) self.new.pool (B.state board.new) }
-        ensures rest { stopped_by result ≡ false → self.new ≡ record self.old { pool = self.new.pool } }
-        ensures ticks { Ticks (B.state board.old) (B.state board.new) (sight_of self.old) (sight_of self.new) result }
+        ensures agrees { stopped_by result ≡ false
+            → Agrees self.new (B.state board.new).shape (B.state board.new).pages }
+        ensures erases { stopped_by result ≡ false
+            → ErasesOne self.old.pool (B.state board.old) self.new.pool (B.state board.new)
+            ⊎ ErasesNone self.old.pool (B.state board.old) self.new.pool (B.state board.new) }
+        ensures rest { stopped_by result ≡ false
+            → self.new ≡ record self.old { pool = self.new.pool } }
+        ensures ticks { Ticks (B.state board.old) (B.state board.new) (sight_of self.old)
+            (sight_of self.new) result }
         ensures idle { TellsIdle (B.state board.old) (sight_of self.old) result }
-        ensures merge { (sight_of self.new).counts.merge ≡ 0 }
+        ensures moves { stopped_by result ≡ false → Stays self.old self.new }
     {
         match self.erase_spare(board) {
             Ok(true) => Ticked::Worked,

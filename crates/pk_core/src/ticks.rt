@@ -6,14 +6,20 @@ ghost use Rattle.pk_model.specs.Answer.{early};
 ghost use Rattle.pk_drive.specs.Seen.{reply_of, stopped_by};
 ghost use Rattle.pk_core.specs.Parts.{sight_of};
 ghost use Rattle.pk_core.specs.Agreeing.{Agrees};
-ghost use Rattle.pk_core.specs.Done.{Does};
+ghost use Rattle.pk_core.specs.Serving.{IsServable};
+ghost use Rattle.pk_core.specs.Done.{Executes};
 ghost use Rattle.pk_core.specs.Stepping.{Steps, Erases, erased_in, has_failed, outcome_of};
+ghost use Rattle.pk_nvme.specs.declared.status.TheConstants.{SUCCESSFUL_COMPLETION};
+ghost use Rattle.pk_nvme.specs.declared.opcode.TheConstants.{TICK};
+ghost use Rattle.pk_drive.specs.Calling.{FewCalls};
+ghost use Rattle.pk_core.specs.Staying.{Stays};
 
 use crate::drive::Drive;
 use crate::quiet::reads_since;
 use pk_drive::{Outcome, Ticked};
 use pk_nand::Nand;
 use pk_nvme::Request;
+use pk_nvme::status::UNRECOVERED_ERROR;
 use pk_region::Region;
 
 // A further step may do more: this one did something, as the counts of erased blocks before and behind it tell.
@@ -32,7 +38,7 @@ fn answer_of(last: Ticked, reads: u32) -> Outcome
     ensures { result ≡ outcome_of last reads }
 {
     let (status, stopped) = match last {
-        Ticked::Fault { stopped } => (0x88, stopped),
+        Ticked::Fault { stopped } => (UNRECOVERED_ERROR, stopped),
         _ => (0, false),
     };
     Outcome {
@@ -60,9 +66,12 @@ impl<A: Region> Drive<A> {
         requires count { (B.state board.old).reads ≤ last_count }
         ensures stops { self.new.stopped ≡ stopped_by result }
         ensures none { self.new.log.pending ≡ [] }
-        ensures agrees { stopped_by result ≡ false → Agrees self.new (B.state board.new).shape (B.state board.new).pages }
-        ensures steps { Steps (B.state board.old) (B.state board.new) (sight_of self.old) (sight_of self.new) result steps }
+        ensures agrees { stopped_by result ≡ false
+            → Agrees self.new (B.state board.new).shape (B.state board.new).pages }
+        ensures steps { Steps (B.state board.old) (B.state board.new) (sight_of self.old)
+            (sight_of self.new) result steps }
         ensures done { has_failed result ≡ false → Erases self.old.pool self.new.pool steps }
+        ensures moves { stopped_by result ≡ false → Stays self.old self.new }
     {
         for made in 0..steps {
             let before = self.ready_blocks();
@@ -76,17 +85,18 @@ impl<A: Region> Drive<A> {
 
     /// Makes as many background steps as the command wants, fewer where a further one would do nothing: each erases a block.
     pub(crate) fn tick_command<B: Nand>(&mut self, board: &mut B, request: &Request) -> Outcome
-        requires agrees { Agrees self.old (B.state board.old).shape (B.state board.old).pages }
-        requires unstopped { self.old.stopped ≡ false }
+        requires servable { IsServable self.old (B.state board.old) request.now }
         requires none { self.old.log.pending ≡ [] }
-        requires passed { early self.old.log.shape (command_of request.now []) ≡ None }
-        requires opcode { request.now.opcode ≡ 0xC0 }
-        ensures does { (v into : List ℕ) → Does (B.state board.old) (B.state board.new) (sight_of self.old) (sight_of self.new) (command_of request.now v) (reply_of result into) result.reads result.stopped }
-        ensures stops { self.new.stopped ≡ result.stopped }
-        ensures agrees { result.stopped ≡ false → Agrees self.new (B.state board.new).shape (B.state board.new).pages }
+        requires opcode { request.now.opcode ≡ TICK }
+        ensures executes { (v into : List ℕ)
+            → Executes self.old self.new (B.state board.old) (B.state board.new)
+            (command_of request.now v) result into result.reads }
         ensures none { self.new.log.pending ≡ [] }
-        ensures done { result.status ≡ 0 → Erases self.old.pool self.new.pool request.now.size }
+        ensures done { result.status ≡ SUCCESSFUL_COMPLETION
+            → Erases self.old.pool self.new.pool request.now.size }
         ensures no_data { result.data_len ≡ 0 }
+        ensures moves { result.stopped ≡ false → Stays self.old self.new }
+        ensures calls { FewCalls request.now.size (B.state board.old) (B.state board.new) }
     {
         let before = board.read_count();
         let last = self.work(board, request.size);

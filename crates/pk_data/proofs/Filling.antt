@@ -1,10 +1,10 @@
 -- The open block: its next pages, another block in its place, and pages that were written.
-use Rattle.std.proofs.Common.{◌≡◌, ◌≢◌, inl, inr, ℕ, ◌+◌, ◌-◌, ◌*◌, ◌/◌, ◌%◌, ◌<◌, ◌≤◌, Bool, true, false, not, ◌&&◌, ◌==◌, cond, T, nat_le, List, length, Option, Some, None, refl, sym, ap, subst, ◌∙◌, arith, length-set, leb→le, le→leb}
+use Rattle.std.proofs.Common.{◌≡◌, ◌≢◌, inl, inr, ℕ, ◌+◌, ◌-◌, ◌*◌, ◌/◌, ◌%◌, ◌<◌, ◌≤◌, Bool, true, false, not, ◌&&◌, cond, T, nat_le, List, length, Option, Some, None, refl, sym, ap, subst, ◌∙◌, arith, length-set, leb→le, le→leb}
 use Rattle.std.specs.Prelude.{slice_get, MatchOption}
 use Rattle.std.proofs.Math.ListN.{set}
 use Rattle.std.proofs.Math.Nat.{mul_comm}
 use Rattle.std.proofs.lemmas.Nat.{div-add-mod'}
-use Rattle.std.proofs.lemmas.Bool.{cases_eq, cases_lt, eq-eqb}
+use Rattle.std.proofs.lemmas.Bool.{cases_eq, cases_lt}
 use Rattle.std.proofs.lemmas.Option.{slice_get-get_or}
 use Rattle.pk_base.specs.Key.{Key}
 use Rattle.pk_base.specs.Shape.{Shape, IsShape, data_blocks, most_pages}
@@ -15,7 +15,8 @@ use Rattle.pk_base.specs.Mark.{all_posted}
 use Rattle.pk_nand.proofs.Reaching.{Went-reached}
 use Rattle.pk_plan.specs.declared.owner.Owner.TheVariants.{Values as for_values}
 use Rattle.pk_pool.specs.declared.state.BlockState.TheVariants.{Free, Ready, Owned}
-use Rattle.pk_pool.specs.Blocks.{Blocks, Fits, IsSpare, IsErasedBlock, used_by, with_state}
+use Rattle.pk_pool.specs.Blocks.{Blocks, Fits, IsSpare, used_by, with_state}
+use Rattle.pk_nand.specs.Calls.{IsErasedBlock}
 use Rattle.pk_pool.specs.Taking.{SameButBlock, ReachesIn, WentIn, FailsToErase}
 use Rattle.pk_pool.proofs.States.{get-set_other, set_is}
 use Rattle.pk_pool.proofs.Fitting.{block_of, apart, Fits-outside, owned_not_ready}
@@ -24,7 +25,7 @@ use Rattle.pk_model.proofs.ValueSets.{is_true}
 use Rattle.pk_steps.specs.Under.{IsValuePage}
 use Rattle.pk_data.specs.declared.open_block.OpenBlock.{OpenBlock}
 use Rattle.pk_data.specs.State.{DataState, has_left, page_behind, fits_open, next_page, closed_with, opened, more_used, with_written, needs_reclaim}
-use Rattle.pk_data.specs.Placed.{Placed, IsOpenIn, IsNotOpen, IsWritten, HoldsValues}
+use Rattle.pk_data.specs.Placed.{Placed, AreOutputs, IsOpenIn, IsNotOpen, IsOutput, IsWritten, HoldsValues}
 use Rattle.pk_data.specs.Reserving.{IsReserved, WritesNext, IsFreeOf}
 use Rattle.pk_data.specs.Entries.{IsInOpen}
 use Rattle.pk_data.specs.Laws.{SameValues}
@@ -35,11 +36,11 @@ state_of live open_block = record { live = live; open_block = open_block }
 
 -- ---- the next pages
 
-reserved : (shape : Shape) (live : Values) (open_block : Option OpenBlock) (pool : Blocks) (flash : Flash) (es : List (Key × Place)) (page count : ℕ)
-    → Placed shape (state_of live open_block) pool flash es → 1 ≤ count → has_left shape open_block count ≡ true → page ≡ page_behind shape open_block
+reserved : (shape : Shape) (live : Values) (open_block : Option OpenBlock) (pool : Blocks) (outputs : List ℕ) (flash : Flash) (es : List (Key × Place)) (page count : ℕ)
+    → Placed shape (state_of live open_block) pool outputs flash es → 1 ≤ count → has_left shape open_block count ≡ true → page ≡ page_behind shape open_block
     → IsReserved shape (state_of live open_block) pool flash page count
-reserved shape live None pool flash es page count p some room is = cc
-reserved shape live (Some o) pool flash es page count p some room is =
+reserved shape live None pool outputs flash es page count p some room is = cc
+reserved shape live (Some o) pool outputs flash es page count p some room is =
     let n : ℕ = shape.block_pages in
     let open_is : IsOpenIn shape pool flash o = p.open_is in
     let left : o.used + count ≤ n = leb→le (o.used + count) n (subst T (sym room) tt) in
@@ -60,9 +61,9 @@ reserved shape live (Some o) pool flash es page count p some room is =
       };
     }
 
-pub reserved_next : (shape : Shape) (d : DataState) (pool : Blocks) (flash : Flash) (es : List (Key × Place)) (page count : ℕ)
-    → Placed shape d pool flash es → 1 ≤ count → fits_open shape d count ≡ true → page ≡ next_page shape d → IsReserved shape d pool flash page count
-reserved_next shape d pool flash es page count p = reserved shape d.live d.open_block pool flash es page count p
+pub reserved_next : (shape : Shape) (d : DataState) (pool : Blocks) (outputs : List ℕ) (flash : Flash) (es : List (Key × Place)) (page count : ℕ)
+    → Placed shape d pool outputs flash es → 1 ≤ count → fits_open shape d count ≡ true → page ≡ next_page shape d → IsReserved shape d pool flash page count
+reserved_next shape d pool outputs flash es page count p = reserved shape d.live d.open_block pool outputs flash es page count p
 
 -- what a page that was found tells
 pub found_next : (b : Bool) (next page : ℕ) (answer : Option ℕ) → answer ≡ cond b (Some next) None → answer ≡ Some page → (b ≡ true) × (page ≡ next)
@@ -86,7 +87,7 @@ has_begun shape (Some o) count most no_room = elim (cases_lt o.used 1) [
   | inr some ↦ omega (arith, some)
 ]
 
-module _ (shape : Shape) (pool : Blocks) (flash flash' : Flash) (b : ℕ) (spare : IsSpare pool b) where
+module _ (shape : Shape) (pool : Blocks) (outputs : List ℕ) (flash flash' : Flash) (b : ℕ) (spare : IsSpare pool b) where
   abbrev then_pool : Blocks
   then_pool = with_state pool b (Owned for_values)
 
@@ -105,36 +106,40 @@ module _ (shape : Shape) (pool : Blocks) (flash flash' : Flash) (b : ℕ) (spare
   taken = elim spare [ inl free ↦ set_is pool.states b Free (Owned for_values) free | inr ready ↦ set_is pool.states b Ready (Owned for_values) ready ]
 
   -- a page of a block for values that was written is so still
-  still_written : SameValues shape pool flash flash' → (c : ℕ) → HoldsValues pool c → IsWritten shape flash c → IsWritten shape flash' c
-  still_written same c held page = (page.0, page.1, λ e. page.2 (sym (same page.0 (subst (λ k. HoldsValues pool k) (sym page.1) held)) ∙ e))
+  still_written : SameValues shape pool outputs flash flash' → (c : ℕ) → HoldsValues pool c → (IsOutput outputs c → ⊥) → IsWritten shape flash c → IsWritten shape flash' c
+  still_written same c held other page =
+      (page.0, page.1, λ e. page.2 (sym (same page.0 (subst (λ k. HoldsValues pool k) (sym page.1) held) (subst (λ k. IsOutput outputs k → ⊥) (sym page.1) other)) ∙ e))
 
-  closed_owned : (closed : List Bool) (open_block : Option OpenBlock) → ((c : ℕ) → slice_get closed c ≡ Some true → HoldsValues pool c × IsNotOpen open_block c)
-      → MatchOption open_block (Unit {0}) (λ o. IsOpenIn shape pool flash o) → (c : ℕ) → slice_get (closed_with open_block closed) c ≡ Some true → HoldsValues then_pool c × (c ≢ b)
-  closed_owned closed None old open_is c is = let held = (old c is).0 in (kept c held, another c held)
-  closed_owned closed (Some o) old open_is c is = elim (cases_eq c o.block) [
-    | inl e ↦ (let held = subst (λ k. HoldsValues pool k) (sym e) open_is.owned in (kept c held, another c held))
-    | inr ne ↦ (let held = (old c (sym (get-set_other closed o.block c true ne) ∙ is)).0 in (kept c held, another c held))
+  closed_owned : (closed : List Bool) (open_block : Option OpenBlock) → ((c : ℕ) → slice_get closed c ≡ Some true → HoldsValues pool c × IsNotOpen open_block c × (IsOutput outputs c → ⊥))
+      → MatchOption open_block (Unit {0}) (λ o. IsOpenIn shape pool flash o) → ((c : ℕ) → IsOutput outputs c → IsNotOpen open_block c)
+      → (c : ℕ) → slice_get (closed_with open_block closed) c ≡ Some true → HoldsValues then_pool c × (c ≢ b) × (IsOutput outputs c → ⊥)
+  closed_owned closed None old open_is not_open c is = let was_so = old c is in (kept c was_so.0, another c was_so.0, was_so.2)
+  closed_owned closed (Some o) old open_is not_open c is = elim (cases_eq c o.block) [
+    | inl e ↦ (let held = subst (λ k. HoldsValues pool k) (sym e) open_is.owned in (kept c held, another c held, λ output. not_open c output e))
+    | inr ne ↦ (let was_so = old c (sym (get-set_other closed o.block c true ne) ∙ is) in (kept c was_so.0, another c was_so.0, was_so.2))
   ]
 
-  owned_closed : (closed : List Bool) (open_block : Option OpenBlock) → length closed ≡ shape.blocks → ((c : ℕ) → HoldsValues pool c → IsNotOpen open_block c → slice_get closed c ≡ Some true)
-      → MatchOption open_block (Unit {0}) (λ o. IsOpenIn shape pool flash o) → (c : ℕ) → HoldsValues then_pool c → c ≢ b → slice_get (closed_with open_block closed) c ≡ Some true
-  owned_closed closed None size old open_is c held ne = old c (was c ne held) tt
-  owned_closed closed (Some o) size old open_is c held ne = elim (cases_eq c o.block) [
+  owned_closed : (closed : List Bool) (open_block : Option OpenBlock) → length closed ≡ shape.blocks
+      → ((c : ℕ) → HoldsValues pool c → IsNotOpen open_block c → (IsOutput outputs c → ⊥) → slice_get closed c ≡ Some true) → MatchOption open_block (Unit {0}) (λ o. IsOpenIn shape pool flash o)
+      → (c : ℕ) → HoldsValues then_pool c → c ≢ b → (IsOutput outputs c → ⊥) → slice_get (closed_with open_block closed) c ≡ Some true
+  owned_closed closed None size old open_is c held ne no_output = old c (was c ne held) tt no_output
+  owned_closed closed (Some o) size old open_is c held ne no_output = elim (cases_eq c o.block) [
     | inl e ↦ (let there = slice_get-get_or closed o.block false (omega (arith, size, open_is.exists)) in
         ap (λ k. slice_get (set closed o.block true) k) e ∙ set_is closed o.block _ true there)
-    | inr other ↦ get-set_other closed o.block c true other ∙ old c (was c ne held) other
+    | inr other ↦ get-set_other closed o.block c true other ∙ old c (was c ne held) other no_output
   ]
 
   -- every other block has a written page, also the one that was open
-  filled : (open_block : Option OpenBlock) → IsBegun open_block → SameValues shape pool flash flash' → ((c : ℕ) → HoldsValues pool c → IsNotOpen open_block c → IsWritten shape flash c)
-      → MatchOption open_block (Unit {0}) (λ o. IsOpenIn shape pool flash o) → (c : ℕ) → HoldsValues then_pool c → c ≢ b → IsWritten shape flash' c
-  filled None begun same old open_is c held ne = still_written same c (was c ne held) (old c (was c ne held) tt)
-  filled (Some o) begun same old open_is c held ne = elim (cases_eq c o.block) [
+  filled : (open_block : Option OpenBlock) → IsBegun open_block → SameValues shape pool outputs flash flash'
+      → ((c : ℕ) → HoldsValues pool c → IsNotOpen open_block c → (IsOutput outputs c → ⊥) → IsWritten shape flash c) → MatchOption open_block (Unit {0}) (λ o. IsOpenIn shape pool flash o)
+      → (c : ℕ) → HoldsValues then_pool c → c ≢ b → (IsOutput outputs c → ⊥) → IsWritten shape flash' c
+  filled None begun same old open_is c held ne no_output = still_written same c (was c ne held) no_output (old c (was c ne held) tt no_output)
+  filled (Some o) begun same old open_is c held ne no_output = elim (cases_eq c o.block) [
     | inl e ↦ (
         let page : ℕ = o.block * shape.block_pages in
         let in_block : page / shape.block_pages ≡ o.block = block_of shape.block_pages page o.block (omega arith) (omega (arith, begun, open_is.within)) in
-        still_written same c (was c ne held) (page, in_block ∙ sym e, open_is.written page (omega arith) (omega (arith, begun))))
-    | inr other ↦ still_written same c (was c ne held) (old c (was c ne held) other)
+        still_written same c (was c ne held) no_output (page, in_block ∙ sym e, open_is.written page (omega arith) (omega (arith, begun))))
+    | inr other ↦ still_written same c (was c ne held) no_output (old c (was c ne held) other no_output)
   ]
 
   closed_size : (closed : List Bool) (open_block : Option OpenBlock) → length (closed_with open_block closed) ≡ length closed
@@ -142,8 +147,8 @@ module _ (shape : Shape) (pool : Blocks) (flash flash' : Flash) (b : ℕ) (spare
   closed_size closed (Some o) = length-set closed o.block true
 
   -- pages of other blocks are the same
-  pub same_values : IsShape shape → SameButBlock shape b flash flash' → SameValues shape pool flash flash'
-  same_values is_shape same k held =
+  pub same_values : IsShape shape → SameButBlock shape b flash flash' → SameValues shape pool outputs flash flash'
+  same_values is_shape same k held no_output =
       let n : ℕ = shape.block_pages in
       elim (cases_lt k (b * n)) [
         | inl below ↦ same.below k below
@@ -153,9 +158,18 @@ module _ (shape : Shape) (pool : Blocks) (flash flash' : Flash) (b : ℕ) (spare
         ]
       ]
 
-  pub Placed-opened : (d : DataState) (es : List (Key × Place)) → Placed shape d pool flash es → IsBegun d.open_block → 2 ≤ b → b < shape.blocks
-      → used_by for_values then_pool.states ≤ data_blocks shape - 1 → Fits then_pool flash' → IsErasedBlock shape flash' b → SameButBlock shape b flash flash'
-      → Placed shape (opened d b) then_pool flash' es
+  -- the blocks of a reclaim are others
+  outputs_stay : (open_block : Option OpenBlock) (es : List (Key × Place)) → AreOutputs shape open_block pool outputs es → AreOutputs shape (Some (record { block = b; used = 0 })) then_pool outputs es
+  outputs_stay open_block es are = record {
+    different = are.different;
+    owned = λ c is. kept c (are.owned c is);
+    not_open = λ c is. another c (are.owned c is);
+    unread = are.unread;
+  }
+
+  pub Placed-opened : (d : DataState) (es : List (Key × Place)) → Placed shape d pool outputs flash es → IsBegun d.open_block → 2 ≤ b → b < shape.blocks
+      → used_by for_values then_pool.states ≤ data_blocks shape - 1 + length outputs → Fits then_pool flash' → IsErasedBlock shape flash' b → SameButBlock shape b flash flash'
+      → Placed shape (opened d b) then_pool outputs flash' es
   Placed-opened d es p begun low exists few fits is_erased same =
       let pages = same_values p.is_shape same in
       record {
@@ -167,11 +181,11 @@ module _ (shape : Shape) (pool : Blocks) (flash flash' : Flash) (b : ℕ) (spare
         places = p.places;
         apart = p.apart;
         owned = λ k is. kept (k / shape.block_pages) (p.owned k is);
-        written = λ k is e. p.written k is (sym (pages k (p.owned k is)) ∙ e);
+        written = λ k is e. p.written k is (sym (pages k (p.owned k is) (p.outputs_are.unread k is)) ∙ e);
         block_pages_is = p.block_pages_is;
         heads_are = p.heads_are;
         closed_size = closed_size d.live.closed d.open_block ∙ p.closed_size;
-        closed_owned = closed_owned d.live.closed d.open_block p.closed_owned p.open_is;
+        closed_owned = closed_owned d.live.closed d.open_block p.closed_owned p.open_is p.outputs_are.not_open;
         owned_closed = owned_closed d.live.closed d.open_block p.closed_size p.owned_closed p.open_is;
         behind_roots = λ c held. elim (cases_eq c b) [ inl e ↦ subst (λ k. 2 ≤ k) (sym e) low | inr ne ↦ p.behind_roots c (was c ne held) ];
         filled = filled d.open_block begun pages p.filled p.open_is;
@@ -183,15 +197,16 @@ module _ (shape : Shape) (pool : Blocks) (flash flash' : Flash) (b : ℕ) (spare
           written = λ k low' high. absurd (omega (arith, low', high));
           unwritten = λ k low' high. is_erased k (omega (arith, low')) high;
         };
+        outputs_are = outputs_stay d.open_block es p.outputs_are;
       }
 
 -- ---- pages that were written
 
-wrote : (shape : Shape) (live : Values) (open_block : Option OpenBlock) (pool : Blocks) (old new : Flash) (es : List (Key × Place)) (count : ℕ)
-    → Placed shape (state_of live open_block) pool old es → has_left shape open_block count ≡ true → WritesNext shape (state_of live open_block) count old new
-    → Placed shape (state_of live (more_used open_block count)) pool new es
-wrote shape live None pool old new es count p room w = cc
-wrote shape live (Some o) pool old new es count p room w = record {
+wrote : (shape : Shape) (live : Values) (open_block : Option OpenBlock) (pool : Blocks) (outputs : List ℕ) (old new : Flash) (es : List (Key × Place)) (count : ℕ)
+    → Placed shape (state_of live open_block) pool outputs old es → has_left shape open_block count ≡ true → WritesNext shape (state_of live open_block) count old new
+    → Placed shape (state_of live (more_used open_block count)) pool outputs new es
+wrote shape live None pool outputs old new es count p room w = cc
+wrote shape live (Some o) pool outputs old new es count p room w = record {
   is_shape = p.is_shape;
   shape_is = p.shape_is;
   size = p.size;
@@ -207,7 +222,7 @@ wrote shape live (Some o) pool old new es count p room w = record {
   closed_owned = p.closed_owned;
   owned_closed = p.owned_closed;
   behind_roots = p.behind_roots;
-  filled = λ b held other. let page = p.filled b held other in (page.0, page.1, λ e. page.2 (sym (outside_page page.0 (λ here. other (sym page.1 ∙ here))) ∙ e));
+  filled = λ b held other no_output. let page = p.filled b held other no_output in (page.0, page.1, λ e. page.2 (sym (outside_page page.0 (λ here. other (sym page.1 ∙ here))) ∙ e));
   open_is = record {
     owned = open_is.owned;
     behind_roots = open_is.behind_roots;
@@ -218,6 +233,12 @@ wrote shape live (Some o) pool old new es count p room w = record {
       | inr above ↦ w.written k (omega (arith, above)) (omega (arith, high))
     ];
     unwritten = λ k low high. w.outside.above k (omega (arith, low)) ∙ open_is.unwritten k (omega (arith, low)) high;
+  };
+  outputs_are = record {
+    different = p.outputs_are.different;
+    owned = p.outputs_are.owned;
+    not_open = p.outputs_are.not_open;
+    unread = p.outputs_are.unread;
   };
 }
   where
@@ -254,9 +275,9 @@ wrote shape live (Some o) pool old new es count p room w = record {
     ]
 
 pub wrote_as : (shape : Shape) (d : DataState) (count : ℕ) (d' : DataState) → fits_open shape d count ≡ true → d' ≡ with_written d count
-    → (pool : Blocks) (old new : Flash) (es : List (Key × Place)) → Placed shape d pool old es → WritesNext shape d count old new → Placed shape d' pool new es
-wrote_as shape d count d' room is pool old new es p w =
-    subst (λ (v : DataState). Placed shape v pool new es) (sym is) (wrote shape d.live d.open_block pool old new es count p room w)
+    → (pool : Blocks) (outputs : List ℕ) (old new : Flash) (es : List (Key × Place)) → Placed shape d pool outputs old es → WritesNext shape d count old new → Placed shape d' pool outputs new es
+wrote_as shape d count d' room is pool outputs old new es p w =
+    subst (λ (v : DataState). Placed shape v pool outputs new es) (sym is) (wrote shape d.live d.open_block pool outputs old new es count p room w)
 
 -- they lie in the part that is written now
 in_written : (shape : Shape) (open_block : Option OpenBlock) (count : ℕ) → has_left shape open_block count ≡ true
@@ -281,32 +302,37 @@ went_in shape b old new went = went.1.cuts new.pages (all_posted went.0) went.1.
 pub reached_in : (shape : Shape) (b : ℕ) (old new : BoardState) → ReachesIn shape b old new → SameButBlock shape b old.pages new.pages
 reached_in shape b old new reached = went_in shape b old new (reached.0, Went-reached reached.0 old new (λ flash _. SameButBlock shape b old.pages flash) reached.1)
 
+below : (a n : ℕ) → nat_le a n ≡ false → n < a
+below a n is = elim (cases_lt n a) [
+  | inl less ↦ less
+  | inr not_less ↦ (let clash : true ≡ false = sym (is_true (nat_le a n) (le→leb a n (omega (arith, not_less)))) ∙ is in cc)
+]
+
 -- one more block is not the last one
 few_more : (room last : Bool) → not room && last ≡ false → room ≡ false → last ≡ false
 few_more true last e no_room = cc
 few_more false last e no_room = e
 
 -- a block that was taken is open from now on
-module _ (shape : Shape) (d : DataState) (p q : Blocks) (old new : BoardState) (b : ℕ) (es : List (Key × Place)) (placed : Placed shape d p old.pages es)
+module _ (shape : Shape) (d : DataState) (p q : Blocks) (outputs : List ℕ) (old new : BoardState) (b : ℕ) (es : List (Key × Place)) (placed : Placed shape d p outputs old.pages es)
     (spare : IsSpare p b) (place : 2 ≤ b × b < p.shape.blocks) (taken_is : q ≡ with_state p b (Owned for_values)) (counted : used_by for_values q.states ≡ used_by for_values p.states + 1)
     (is_erased : IsErasedBlock p.shape new.pages b) (cuts : ReachesIn p.shape b old new) (fits : Fits q new.pages) where
   in_shape : (P : Shape → Type 0) → P p.shape → P shape
   in_shape P is = subst P placed.shape_is is
 
-  pub opened_by : (count : ℕ) → needs_reclaim shape d p count ≡ false → fits_open shape d count ≡ false → count ≤ most_pages shape → Placed shape (opened d b) q new.pages es
+  pub opened_by : (count : ℕ) → needs_reclaim shape d p count ≡ false → fits_open shape d count ≡ false → count ≤ most_pages shape → Placed shape (opened d b) q outputs new.pages es
   opened_by count room no_room most =
-      let one_less : used_by for_values p.states ≢ data_blocks shape - 1 = λ e.
-      let clash : true ≡ false = sym (eq-eqb (used_by for_values p.states) (data_blocks shape - 1) e) ∙ few_more (fits_open shape d count) (used_by for_values p.states == data_blocks shape - 1) room no_room in cc in
-      let few = placed.few in
+      let one_less : used_by for_values p.states < data_blocks shape - 1 =
+      below (data_blocks shape - 1) (used_by for_values p.states) (few_more (fits_open shape d count) (nat_le (data_blocks shape - 1) (used_by for_values p.states)) room no_room) in
       let counted' : used_by for_values (with_state p b (Owned for_values)).states ≡ used_by for_values p.states + 1 = subst (λ (r : Blocks). used_by for_values r.states ≡ used_by for_values p.states + 1) taken_is counted in
-      subst (λ (r : Blocks). Placed shape (opened d b) r new.pages es) (sym taken_is)
-      (Placed-opened shape p old.pages new.pages b spare d es placed (has_begun shape d.open_block count most no_room) place.0 (in_shape (λ s. b < s.blocks) place.1) (omega (arith, few, one_less, counted'))
+      subst (λ (r : Blocks). Placed shape (opened d b) r outputs new.pages es) (sym taken_is)
+      (Placed-opened shape p outputs old.pages new.pages b spare d es placed (has_begun shape d.open_block count most no_room) place.0 (in_shape (λ s. b < s.blocks) place.1) (omega (arith, one_less, counted'))
       (subst (λ (r : Blocks). Fits r new.pages) taken_is fits) (in_shape (λ s. IsErasedBlock s new.pages b) is_erased) (in_shape (λ s. SameButBlock s b old.pages new.pages) (reached_in p.shape b old new cuts)))
 
   pub opened_reserved : (count : ℕ) → needs_reclaim shape d p count ≡ false → fits_open shape d count ≡ false → 1 ≤ count → count ≤ most_pages shape
       → IsReserved shape (opened d b) q new.pages (b * shape.block_pages) count
   opened_reserved count room no_room some most =
-      reserved_next shape (opened d b) q new.pages es (b * shape.block_pages) count (opened_by count room no_room most) some
+      reserved_next shape (opened d b) q outputs new.pages es (b * shape.block_pages) count (opened_by count room no_room most) some
       (true_is (0 + count) shape.block_pages (omega (arith, most))) (omega arith)
     where
       true_is : (a n : ℕ) → a ≤ n → nat_le a n ≡ true
@@ -317,8 +343,9 @@ module _ (shape : Shape) (d : DataState) (p q : Blocks) (old new : BoardState) (
       (opened_by count room no_room most).written k is ((opened_reserved count room no_room some most).free k low high)
 
 -- an erase that failed leaves the values placed
-pub failed_keeps : (shape : Shape) (d : DataState) (p : Blocks) (old new : BoardState) (es : List (Key × Place)) → Placed shape d p old.pages es → FailsToErase p old new → Fits p new.pages → Placed shape d p new.pages es
-failed_keeps shape d p old new es placed fails fits =
-    flash_elsewhere shape d p old.pages new.pages es placed
-    (same_values shape p old.pages new.pages fails.block (inl fails.lowest.here) placed.is_shape
+pub failed_keeps : (shape : Shape) (d : DataState) (p : Blocks) (outputs : List ℕ) (old new : BoardState) (es : List (Key × Place)) → Placed shape d p outputs old.pages es → FailsToErase p old new → Fits p new.pages
+    → Placed shape d p outputs new.pages es
+failed_keeps shape d p outputs old new es placed fails fits =
+    flash_elsewhere shape d p outputs old.pages new.pages es placed
+    (same_values shape p outputs old.pages new.pages fails.block (inl fails.lowest.here) placed.is_shape
     (subst (λ s. SameButBlock s fails.block old.pages new.pages) placed.shape_is (went_in p.shape fails.block old new fails.cuts))) fits

@@ -6,3 +6,4 @@ pub mod Opening
 pub mod Releasing
 pub mod Nothing
 pub mod Storing
+pub mod Outputs

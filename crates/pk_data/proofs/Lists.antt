@@ -20,7 +20,7 @@ use Rattle.pk_model.proofs.MapLemmas.{key_total, key_antisymm, left_part, right_
 use Rattle.pk_model.proofs.Commits.{apart, rest_differs}
 use Rattle.pk_steps.specs.Under.{IsValuePage}
 use Rattle.pk_steps.proofs.Places.{range_in, value_in}
-use Rattle.pk_scan.specs.Lives.{head_of}
+use Rattle.pk_live.specs.Lives.{head_of}
 use Rattle.pk_data.specs.Placed.{AreApart, without}
 
 less : (r : Ordering) → T (is_lt r) → r ≡ Less

@@ -10,7 +10,7 @@ use Rattle.pk_plan.specs.declared.owner.Owner.TheVariants.{Values as for_values}
 use Rattle.pk_pool.specs.declared.state.BlockState.TheVariants.{Root, Free, Owned}
 use Rattle.pk_pool.specs.Blocks.{unused}
 use Rattle.pk_pool.proofs.States.{get-set_other, get-set_same, none_ready_unused}
-use Rattle.pk_scan.proofs.Nothing.{Lives-none}
+use Rattle.pk_live.proofs.Nothing.{Lives-none}
 use Rattle.pk_data.specs.Placed.{HoldsValues}
 use Rattle.pk_data.specs.Laws.{StartsWithNone}
 

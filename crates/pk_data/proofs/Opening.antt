@@ -20,8 +20,8 @@ use Rattle.pk_model.specs.Laws.{AnyByRecursion}
 use Rattle.pk_model.proofs.ValueSets.{fits_parts}
 use Rattle.pk_steps.specs.Under.{IsValuePage}
 use Rattle.pk_steps.proofs.Places.{value_in, in_value}
-use Rattle.pk_scan.specs.Lives.{is_used}
-use Rattle.pk_scan.proofs.Blocks.{value_exists, block_exists}
+use Rattle.pk_live.specs.Lives.{is_used}
+use Rattle.pk_live.proofs.Blocks.{value_exists, block_exists}
 use Rattle.pk_data.specs.State.{with_none_open}
 use Rattle.pk_data.specs.Placed.{Placed, FoundAtOpening, HoldsValues, IsWritten}
 use Rattle.pk_data.proofs.Lists.{apart_from}
@@ -135,13 +135,13 @@ module _ (shape : Shape) (named : List ℕ) (live : Values) (pool : Blocks) (fla
   filled : (b : ℕ) → HoldsValues pool b → IsWritten shape flash b
   filled b held = let page = page_of b held in (page.0, page.2, f.written page.0 page.1)
 
-  pub found_placed : Placed shape (with_none_open live) pool flash es
+  pub found_placed : Placed shape (with_none_open live) pool [] flash es
   found_placed = record {
     is_shape = f.is_shape;
     shape_is = f.shape_is;
     size = f.size;
     fits = f.fits;
-    few = few_blocks;
+    few = omega (arith, few_blocks);
     places = f.lives.places;
     apart = apart_from shape es (fits_parts shape named (all_pages shape es) parts).different;
     owned = λ k is. used_owned (k / shape.block_pages)
@@ -151,9 +151,10 @@ module _ (shape : Shape) (named : List ℕ) (live : Values) (pool : Blocks) (fla
     block_pages_is = ap (λ (v : Values). v.block_pages) f.lives.map_is;
     heads_are = ap (λ (v : Values). v.heads) f.lives.map_is;
     closed_size = size_is;
-    closed_owned = λ b is. (f.closed_owned b is, tt);
-    owned_closed = λ b held other. f.owned_closed b held;
+    closed_owned = λ b is. (f.closed_owned b is, tt, λ output. output);
+    owned_closed = λ b held other no_output. f.owned_closed b held;
     behind_roots = behind_roots;
-    filled = λ b held other. filled b held;
+    filled = λ b held other no_output. filled b held;
     open_is = tt;
+    outputs_are = record { different = refl; owned = λ b is. absurd is; not_open = λ b is. absurd is; unread = λ k is output. output };
   }

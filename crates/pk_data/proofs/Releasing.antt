@@ -18,14 +18,14 @@ use Rattle.pk_live.specs.Values.{IsClosed, count_of, block_sum}
 use Rattle.pk_model.specs.Values.{all_pages}
 use Rattle.pk_steps.specs.Under.{IsValuePage}
 use Rattle.pk_steps.proofs.Places.{value_in}
-use Rattle.pk_scan.specs.Lives.{is_used}
-use Rattle.pk_scan.proofs.Standing.{block_is}
+use Rattle.pk_live.specs.Lives.{is_used}
+use Rattle.pk_live.proofs.Standing.{block_is}
 use Rattle.pk_data.specs.declared.open_block.OpenBlock.{OpenBlock}
 use Rattle.pk_data.specs.State.{DataState, with_closed}
-use Rattle.pk_data.specs.Placed.{Placed, IsOpenIn, IsNotOpen, HoldsValues}
+use Rattle.pk_data.specs.Placed.{Placed, IsOpenIn, IsNotOpen, IsOutput, HoldsValues}
 use Rattle.pk_data.proofs.Opening.{any_block}
 
-module _ (shape : Shape) (d : DataState) (p : Blocks) (flash : Flash) (es : List (Key × Place)) (b : ℕ) (placed : Placed shape d p flash es) (closed : IsClosed d.live b) where
+module _ (shape : Shape) (d : DataState) (p : Blocks) (outputs : List ℕ) (flash : Flash) (es : List (Key × Place)) (b : ℕ) (placed : Placed shape d p outputs flash es) (closed : IsClosed d.live b) where
   abbrev then_pool : Blocks
   then_pool = with_state p b Free
 
@@ -63,7 +63,7 @@ module _ (shape : Shape) (d : DataState) (p : Blocks) (flash : Flash) (es : List
     unwritten = open_is.unwritten;
   }
 
-  pub Placed-released : count_of d.live b ≡ 0 → Placed shape (with_closed d (set d.live.closed b false)) then_pool flash es
+  pub Placed-released : count_of d.live b ≡ 0 → Placed shape (with_closed d (set d.live.closed b false)) then_pool outputs flash es
   Placed-released empty = record {
     is_shape = placed.is_shape;
     shape_is = placed.shape_is;
@@ -80,15 +80,21 @@ module _ (shape : Shape) (d : DataState) (p : Blocks) (flash : Flash) (es : List
     closed_owned = λ c is.
         let other : c ≢ b = λ e. let clash : true ≡ false = get-set_same d.live.closed b false true (subst (λ k. slice_get (set d.live.closed b false) k ≡ Some true) e is) in cc in
         let old = placed.closed_owned c (sym (get-set_other d.live.closed b c false other) ∙ is) in
-        (kept c other old.0, old.1);
-    owned_closed = λ c is not_open. let old = was c is in get-set_other d.live.closed b c false old.0 ∙ placed.owned_closed c old.1 not_open;
+        (kept c other old.0, old.1, old.2);
+    owned_closed = λ c is not_open no_output. let old = was c is in get-set_other d.live.closed b c false old.0 ∙ placed.owned_closed c old.1 not_open no_output;
     behind_roots = λ c is. placed.behind_roots c (was c is).1;
-    filled = λ c is not_open. placed.filled c (was c is).1 not_open;
+    filled = λ c is not_open no_output. placed.filled c (was c is).1 not_open no_output;
     open_is = open_stays d.open_block (placed.closed_owned b closed).1 placed.open_is;
+    outputs_are = record {
+      different = placed.outputs_are.different;
+      owned = λ c is. kept c (λ e. (placed.closed_owned b closed).2 (subst (λ k. IsOutput outputs k) e is)) (placed.outputs_are.owned c is);
+      not_open = placed.outputs_are.not_open;
+      unread = placed.outputs_are.unread;
+    };
   }
 
-pub released_as : (shape : Shape) (d : DataState) (p q : Blocks) (flash : Flash) (es : List (Key × Place)) (b : ℕ) (d' : DataState) → IsClosed d.live b → count_of d.live b ≡ 0
-    → d' ≡ with_closed d (set d.live.closed b false) → q ≡ with_state p b Free → Placed shape d p flash es → Placed shape d' q flash es
-released_as shape d p q flash es b d' closed empty is is_pool placed =
-    subst (λ (v : DataState). Placed shape v q flash es) (sym is)
-    (subst (λ (r : Blocks). Placed shape (with_closed d (set d.live.closed b false)) r flash es) (sym is_pool) (Placed-released shape d p flash es b placed closed empty))
+pub released_as : (shape : Shape) (d : DataState) (p q : Blocks) (outputs : List ℕ) (flash : Flash) (es : List (Key × Place)) (b : ℕ) (d' : DataState) → IsClosed d.live b → count_of d.live b ≡ 0
+    → d' ≡ with_closed d (set d.live.closed b false) → q ≡ with_state p b Free → Placed shape d p outputs flash es → Placed shape d' q outputs flash es
+released_as shape d p q outputs flash es b d' closed empty is is_pool placed =
+    subst (λ (v : DataState). Placed shape v q outputs flash es) (sym is)
+    (subst (λ (r : Blocks). Placed shape (with_closed d (set d.live.closed b false)) r outputs flash es) (sym is_pool) (Placed-released shape d p outputs flash es b placed closed empty))

@@ -19,26 +19,27 @@ use Rattle.pk_pool.proofs.Fitting.{block_of, apart}
 use Rattle.pk_model.specs.Values.{all_pages}
 use Rattle.pk_model.specs.Laws.{IsPageOf}
 use Rattle.pk_steps.specs.Under.{IsValuePage}
-use Rattle.pk_scan.specs.Lives.{head_of}
-use Rattle.pk_scan.proofs.Standing.{map_set, heads_read, total_is}
+use Rattle.pk_live.specs.Lives.{head_of}
+use Rattle.pk_live.proofs.Standing.{map_set, heads_read, total_is}
 use Rattle.pk_data.specs.declared.open_block.OpenBlock.{OpenBlock}
 use Rattle.pk_data.specs.declared.span.Span.{Span}
 use Rattle.pk_data.specs.State.{DataState, with_head, with_heads}
-use Rattle.pk_data.specs.Placed.{Placed, IsOpenIn, HoldsValues, without}
+use Rattle.pk_data.specs.Placed.{Placed, IsOpenIn, IsOutput, IsNotOpen, HoldsValues, without}
 use Rattle.pk_data.specs.Entries.{span_if_some, heads_without, Held, Moves}
 use Rattle.pk_data.proofs.Lists.{put_without, nothing_out, find_gone, page_put, page_without, apart_put, apart_without, places_put, places_without, found_place, head_put, head_without, head_none, head_found}
 
 -- pages that were written into a block for values
-pub record InBlock (shape : Shape) (pool : Blocks) (flash : Flash) (place : Place) : Type 0 where
+pub record InBlock (shape : Shape) (pool : Blocks) (outputs : List ℕ) (flash : Flash) (place : Place) : Type 0 where
   pub is_place : IsPlace shape place
   pub owned : (k : ℕ) → IsPageOf shape k place → HoldsValues pool (k / shape.block_pages)
+  pub no_output : (k : ℕ) → IsPageOf shape k place → IsOutput outputs (k / shape.block_pages) → ⊥
   pub written : (k : ℕ) → IsPageOf shape k place → page_at flash k ≢ erased
 
-in_block : (shape : Shape) (pool : Blocks) (flash : Flash) (place : Place) (open_block : Option OpenBlock) → IsShape shape → place.len ≤ greatest shape
-    → MatchOption open_block (Unit {0}) (λ o. IsOpenIn shape pool flash o)
-    → MatchOption open_block ⊥ (λ o. (o.block * shape.block_pages ≤ place.page) × (place.page + charge shape place.len ≤ o.block * shape.block_pages + o.used)) → InBlock shape pool flash place
-in_block shape pool flash place None is_shape short open_is inside = absurd inside
-in_block shape pool flash place (Some o) is_shape short open_is inside =
+in_block : (shape : Shape) (pool : Blocks) (outputs : List ℕ) (flash : Flash) (place : Place) (open_block : Option OpenBlock) → IsShape shape → place.len ≤ greatest shape
+    → MatchOption open_block (Unit {0}) (λ o. IsOpenIn shape pool flash o) → ((b : ℕ) → IsOutput outputs b → IsNotOpen open_block b)
+    → MatchOption open_block ⊥ (λ o. (o.block * shape.block_pages ≤ place.page) × (place.page + charge shape place.len ≤ o.block * shape.block_pages + o.used)) → InBlock shape pool outputs flash place
+in_block shape pool outputs flash place None is_shape short open_is not_open inside = absurd inside
+in_block shape pool outputs flash place (Some o) is_shape short open_is not_open inside =
     let n : ℕ = shape.block_pages in
     let some = charge_some shape is_shape place.len in
     let low = inside.0 in
@@ -55,10 +56,11 @@ in_block shape pool flash place (Some o) is_shape short open_is inside =
         inside = omega (arith, whole, high, open_is.within);
       };
       owned = λ k is. subst (λ b. HoldsValues pool b) (sym (block k is)) open_is.owned;
+      no_output = λ k is output. not_open (k / n) output (block k is);
       written = λ k is. open_is.written k (omega (arith, low, is.0)) (omega (arith, high, is.1));
     }
 
-module _ (shape : Shape) (d : DataState) (pool : Blocks) (flash : Flash) (es : List (Key × Place)) (p : Placed shape d pool flash es) where
+module _ (shape : Shape) (d : DataState) (pool : Blocks) (outputs : List ℕ) (flash : Flash) (es : List (Key × Place)) (p : Placed shape d pool outputs flash es) where
   -- what the live map has for a page
   head_at : (h : ℕ) → h < page_count shape → slice_get d.live.heads h ≡ Some (head_of shape es h)
   head_at h exists =
@@ -75,7 +77,7 @@ module _ (shape : Shape) (d : DataState) (pool : Blocks) (flash : Flash) (es : L
       head_at place.page is.exists ∙ ap Some (head_none shape p.is_shape es place.page (free place.page (omega arith, omega (arith, charge_some shape p.is_shape place.len))))
 
   -- a key less
-  pub Placed-removed : (key : Key) (place : Place) → T (is_sorted key_cmp es) → find key_cmp key es ≡ Some place → Placed shape (with_head d place.page 0) pool flash (without key es)
+  pub Placed-removed : (key : Key) (place : Place) → T (is_sorted key_cmp es) → find key_cmp key es ≡ Some place → Placed shape (with_head d place.page 0) pool outputs flash (without key es)
   Placed-removed key place rising found = record {
     is_shape = p.is_shape;
     shape_is = p.shape_is;
@@ -95,6 +97,12 @@ module _ (shape : Shape) (d : DataState) (pool : Blocks) (flash : Flash) (es : L
     behind_roots = p.behind_roots;
     filled = p.filled;
     open_is = p.open_is;
+    outputs_are = record {
+      different = p.outputs_are.different;
+      owned = p.outputs_are.owned;
+      not_open = p.outputs_are.not_open;
+      unread = λ k is. p.outputs_are.unread k (page_without shape key es k is);
+    };
   }
     where
       here : head_of shape (without key es) place.page ≡ 0
@@ -113,8 +121,8 @@ module _ (shape : Shape) (d : DataState) (pool : Blocks) (flash : Flash) (es : L
           omega (arith, all')
 
   -- a key more
-  pub Placed-added : (key : Key) (place : Place) → find key_cmp key es ≡ None → InBlock shape pool flash place → ((k : ℕ) → IsPageOf shape k place → IsValuePage shape es k → ⊥)
-      → Placed shape (with_head d place.page (charge shape place.len)) pool flash (put key_cmp key place es)
+  pub Placed-added : (key : Key) (place : Place) → find key_cmp key es ≡ None → InBlock shape pool outputs flash place → ((k : ℕ) → IsPageOf shape k place → IsValuePage shape es k → ⊥)
+      → Placed shape (with_head d place.page (charge shape place.len)) pool outputs flash (put key_cmp key place es)
   Placed-added key place none within free = record {
     is_shape = p.is_shape;
     shape_is = p.shape_is;
@@ -134,6 +142,12 @@ module _ (shape : Shape) (d : DataState) (pool : Blocks) (flash : Flash) (es : L
     behind_roots = p.behind_roots;
     filled = p.filled;
     open_is = p.open_is;
+    outputs_are = record {
+      different = p.outputs_are.different;
+      owned = p.outputs_are.owned;
+      not_open = p.outputs_are.not_open;
+      unread = λ k is. elim (page_put shape key place es k is) [ inl new ↦ within.no_output k new | inr old ↦ p.outputs_are.unread k old ];
+    };
   }
     where
       here : head_of shape (put key_cmp key place es) place.page ≡ charge shape place.len
@@ -156,36 +170,36 @@ module _ (shape : Shape) (d : DataState) (pool : Blocks) (flash : Flash) (es : L
 -- the head of a value that is held
 pub held_head : (d : DataState) (span : Span) → Held d span → slice_get d.live.heads span.page ≡ Some span.count
 held_head d span h =
-    subst (λ (s : Span). slice_get d.live.heads s.page ≡ Some s.count) h.span_is (head_is h.shape d h.pool h.flash h.es h.placed h.key h.place h.found)
+    subst (λ (s : Span). slice_get d.live.heads s.page ≡ Some s.count) h.span_is (head_is h.shape d h.pool h.outputs h.flash h.es h.placed h.key h.place h.found)
 
-pub removed : (d : DataState) (span : Span) (h : Held d span) → Placed h.shape (with_head d span.page 0) h.pool h.flash (without h.key h.es)
+pub removed : (d : DataState) (span : Span) (h : Held d span) → Placed h.shape (with_head d span.page 0) h.pool h.outputs h.flash (without h.key h.es)
 removed d span h =
-    subst (λ (s : Span). Placed h.shape (with_head d s.page 0) h.pool h.flash (without h.key h.es)) h.span_is
-    (Placed-removed h.shape d h.pool h.flash h.es h.placed h.key h.place h.rising h.found)
+    subst (λ (s : Span). Placed h.shape (with_head d s.page 0) h.pool h.outputs h.flash (without h.key h.es)) h.span_is
+    (Placed-removed h.shape d h.pool h.outputs h.flash h.es h.placed h.key h.place h.rising h.found)
 
 -- the state without the value that a key had
 abbrev before : DataState → Option Span → DataState
 before d old = with_heads d (heads_without old d.live.heads)
 
 module _ (d : DataState) (old : Option Span) (new : Span) (m : Moves d old new) where
-  within : InBlock m.shape m.pool m.flash m.place
-  within = in_block m.shape m.pool m.flash m.place d.open_block m.placed.is_shape m.short m.placed.open_is m.in_open
+  within : InBlock m.shape m.pool m.outputs m.flash m.place
+  within = in_block m.shape m.pool m.outputs m.flash m.place d.open_block m.placed.is_shape m.short m.placed.open_is m.placed.outputs_are.not_open m.in_open
 
   pub old_head : MatchOption old (Unit {0}) (λ s. slice_get d.live.heads s.page ≡ Some s.count)
   old_head =
       subst (λ (o : Option Span). MatchOption o (Unit {0}) (λ s. slice_get d.live.heads s.page ≡ Some s.count)) m.old_is
       (elim (find key_cmp m.key m.es) as (λ f. find key_cmp m.key m.es ≡ f → MatchOption (span_if_some m.shape f) (Unit {0}) (λ s. slice_get d.live.heads s.page ≡ Some s.count)) [
         | None ↦ λ f. tt
-        | Some place ↦ λ f. head_is m.shape d m.pool m.flash m.es m.placed m.key place f
+        | Some place ↦ λ f. head_is m.shape d m.pool m.outputs m.flash m.es m.placed m.key place f
       ] refl)
 
   -- the values without the key, whether or not it was there
-  placed_before : Placed m.shape (before d old) m.pool m.flash (without m.key m.es)
+  placed_before : Placed m.shape (before d old) m.pool m.outputs m.flash (without m.key m.es)
   placed_before =
-      subst (λ (o : Option Span). Placed m.shape (before d o) m.pool m.flash (without m.key m.es)) m.old_is
-      (elim (find key_cmp m.key m.es) as (λ f. find key_cmp m.key m.es ≡ f → Placed m.shape (before d (span_if_some m.shape f)) m.pool m.flash (without m.key m.es)) [
-        | None ↦ λ f. subst (λ es. Placed m.shape d m.pool m.flash es) (sym (nothing_out m.key m.es f)) m.placed
-        | Some place ↦ λ f. Placed-removed m.shape d m.pool m.flash m.es m.placed m.key place m.rising f
+      subst (λ (o : Option Span). Placed m.shape (before d o) m.pool m.outputs m.flash (without m.key m.es)) m.old_is
+      (elim (find key_cmp m.key m.es) as (λ f. find key_cmp m.key m.es ≡ f → Placed m.shape (before d (span_if_some m.shape f)) m.pool m.outputs m.flash (without m.key m.es)) [
+        | None ↦ λ f. subst (λ es. Placed m.shape d m.pool m.outputs m.flash es) (sym (nothing_out m.key m.es f)) m.placed
+        | Some place ↦ λ f. Placed-removed m.shape d m.pool m.outputs m.flash m.es m.placed m.key place m.rising f
       ] refl)
 
   free_before : (k : ℕ) → IsPageOf m.shape k m.place → IsValuePage m.shape (without m.key m.es) k → ⊥
@@ -194,27 +208,27 @@ module _ (d : DataState) (old : Option Span) (new : Span) (m : Moves d old new) 
   pub new_head : slice_get (heads_without old d.live.heads) new.page ≡ Some 0
   new_head =
       ap (λ (s : Span). slice_get (heads_without old d.live.heads) s.page) (sym m.new_is)
-      ∙ head_free m.shape (before d old) m.pool m.flash (without m.key m.es) placed_before m.place within.is_place free_before
+      ∙ head_free m.shape (before d old) m.pool m.outputs m.flash (without m.key m.es) placed_before m.place within.is_place free_before
 
   pub new_inside : new.page % d.live.block_pages + new.count ≤ d.live.block_pages
   new_inside =
       subst (λ (s : Span). s.page % d.live.block_pages + s.count ≤ d.live.block_pages) m.new_is
       (subst (λ (n : ℕ). m.place.page % n + charge m.shape m.place.len ≤ n) (sym m.placed.block_pages_is) within.is_place.inside)
 
-  pub moved : Placed m.shape (with_head (before d old) new.page new.count) m.pool m.flash (put key_cmp m.key m.place m.es)
+  pub moved : Placed m.shape (with_head (before d old) new.page new.count) m.pool m.outputs m.flash (put key_cmp m.key m.place m.es)
   moved =
-      subst (λ (s : Span). Placed m.shape (with_head (before d old) s.page s.count) m.pool m.flash (put key_cmp m.key m.place m.es)) m.new_is
-      (subst (λ es. Placed m.shape (with_head (before d old) m.place.page (charge m.shape m.place.len)) m.pool m.flash es) (put_without m.key m.place m.es m.rising)
-      (Placed-added m.shape (before d old) m.pool m.flash (without m.key m.es) placed_before m.key m.place (find_gone m.key m.es) within free_before))
+      subst (λ (s : Span). Placed m.shape (with_head (before d old) s.page s.count) m.pool m.outputs m.flash (put key_cmp m.key m.place m.es)) m.new_is
+      (subst (λ es. Placed m.shape (with_head (before d old) m.place.page (charge m.shape m.place.len)) m.pool m.outputs m.flash es) (put_without m.key m.place m.es m.rising)
+      (Placed-added m.shape (before d old) m.pool m.outputs m.flash (without m.key m.es) placed_before m.key m.place (find_gone m.key m.es) within free_before))
 
 -- the same, where the state is known by an equation
-pub removed_as : (d : DataState) (span : Span) (d' : DataState) → d' ≡ with_head d span.page 0 → (h : Held d span) → Placed h.shape d' h.pool h.flash (without h.key h.es)
-removed_as d span d' is h = subst (λ (v : DataState). Placed h.shape v h.pool h.flash (without h.key h.es)) (sym is) (removed d span h)
+pub removed_as : (d : DataState) (span : Span) (d' : DataState) → d' ≡ with_head d span.page 0 → (h : Held d span) → Placed h.shape d' h.pool h.outputs h.flash (without h.key h.es)
+removed_as d span d' is h = subst (λ (v : DataState). Placed h.shape v h.pool h.outputs h.flash (without h.key h.es)) (sym is) (removed d span h)
 
 pub moved_as : (d : DataState) (old : Option Span) (new : Span) (d' : DataState) → d' ≡ with_head (with_heads d (heads_without old d.live.heads)) new.page new.count
-    → (m : Moves d old new) → Placed m.shape d' m.pool m.flash (put key_cmp m.key m.place m.es)
-moved_as d old new d' is m = subst (λ (v : DataState). Placed m.shape v m.pool m.flash (put key_cmp m.key m.place m.es)) (sym is) (moved d old new m)
+    → (m : Moves d old new) → Placed m.shape d' m.pool m.outputs m.flash (put key_cmp m.key m.place m.es)
+moved_as d old new d' is m = subst (λ (v : DataState). Placed m.shape v m.pool m.outputs m.flash (put key_cmp m.key m.place m.es)) (sym is) (moved d old new m)
 
 -- all live pages
-pub total_of : (shape : Shape) (d : DataState) (pool : Blocks) (flash : Flash) (es : List (Key × Place)) → Placed shape d pool flash es → sum d.live.heads ≡ length (all_pages shape es)
-total_of shape d pool flash es p = ap sum p.heads_are ∙ total_is shape p.is_shape es p.places
+pub total_of : (shape : Shape) (d : DataState) (pool : Blocks) (outputs : List ℕ) (flash : Flash) (es : List (Key × Place)) → Placed shape d pool outputs flash es → sum d.live.heads ≡ length (all_pages shape es)
+total_of shape d pool outputs flash es p = ap sum p.heads_are ∙ total_is shape p.is_shape es p.places

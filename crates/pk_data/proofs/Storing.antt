@@ -38,9 +38,9 @@ writes_value shape d pool old new key value page count reserved count_is outside
 }
 
 -- then a key may have it
-module _ (shape : Shape) (before d : DataState) (pool : Blocks) (earlier flash : Flash) (es : List (Key × Place)) (key : Key) (value : List ℕ) (page count : ℕ) (old : Option Span)
+module _ (shape : Shape) (before d : DataState) (pool : Blocks) (outputs : List ℕ) (earlier flash : Flash) (es : List (Key × Place)) (key : Key) (value : List ℕ) (page count : ℕ) (old : Option Span)
     (reserved : IsReserved shape before pool earlier page count) (count_is : count ≡ charge shape (length value)) (short : length value ≤ greatest shape)
-    (placed : Placed shape d pool flash es) (rising : T (is_sorted key_cmp es)) (old_is : span_if_some shape (find key_cmp key es) ≡ old)
+    (placed : Placed shape d pool outputs flash es) (rising : T (is_sorted key_cmp es)) (old_is : span_if_some shape (find key_cmp key es) ≡ old)
     (free : IsFreeOf shape es page count) (in_open : IsInOpen shape d (next_page shape before) count) where
   abbrev pub place_of : Place
   place_of = record { page = page; len = length value }
@@ -52,6 +52,7 @@ module _ (shape : Shape) (before d : DataState) (pool : Blocks) (earlier flash :
   moves = record {
     shape = shape;
     pool = pool;
+    outputs = outputs;
     flash = flash;
     es = es;
     key = key;

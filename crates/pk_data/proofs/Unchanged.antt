@@ -1,9 +1,9 @@
 -- Placed values, after others changed the flash or the pool; and the blocks in which they lie.
-use Rattle.std.proofs.Common.{◌≡◌, inl, inr, ℕ, zero, suc, ◌+◌, ◌-◌, ◌*◌, ◌/◌, ◌<◌, ◌≤◌, Bool, true, false, cond, List, [], ◌∷◌, length, filter, Option, Some, None, refl, sym, ap, subst, ◌∙◌, arith, length-set, eq-or-lt_of_le}
+use Rattle.std.proofs.Common.{◌≡◌, inl, inr, ℕ, zero, suc, ◌+◌, ◌-◌, ◌*◌, ◌/◌, ◌<◌, ◌≤◌, Bool, true, false, not, ◌&&◌, cond, List, [], ◌∷◌, length, filter, Option, Some, None, refl, sym, ap, subst, ◌∙◌, arith, length-set, eq-or-lt_of_le}
 use Rattle.std.specs.Prelude.{count_by, slice_get, MatchOption}
 use Rattle.std.specs.List.{range_with_len}
 use Rattle.std.proofs.Math.ListN.{set}
-use Rattle.std.proofs.lemmas.Bool.{cases_eq}
+use Rattle.std.proofs.lemmas.Bool.{cases_eq, and_from, not_from_false}
 use Rattle.std.proofs.lemmas.List.Sums.{sum_by-cons}
 use Rattle.std.proofs.lemmas.Option.{slice_get_within, same_Some}
 use Rattle.pk_base.specs.Key.{Key}
@@ -20,22 +20,24 @@ use Rattle.pk_pool.proofs.Fitting.{block_of}
 use Rattle.pk_model.specs.Laws.{AnyByRecursion}
 use Rattle.pk_data.specs.declared.open_block.OpenBlock.{OpenBlock}
 use Rattle.pk_data.specs.State.{DataState}
-use Rattle.pk_data.specs.Placed.{Placed, IsOpenIn, IsWritten, HoldsValues}
+use Rattle.pk_data.specs.Placed.{Placed, IsNotOpen, IsOpenIn, IsOutput, IsWritten, HoldsValues}
+use Rattle.pk_live.proofs.Ranges.{has}
 use Rattle.pk_data.specs.Laws.{SameValues, FlashElsewhere, BlockElsewhere, LieInFew, NoneInSpare, value_blocks, is_for_values}
+use Rattle.pk_data.proofs.Outputs.{freed, length-freed, freed_is, used_freed, no_member}
 
 -- the block of a page has some
 pub some_pages : (shape : Shape) → IsShape shape → 0 < shape.block_pages
 some_pages shape is_shape = let least : 8 ≤ shape.block_pages = is_shape.block_least in omega (arith, least)
 
 -- the open block, where the pool has it still and its pages are the same
-open_same : (shape : Shape) (p q : Blocks) (old new : Flash) (open_block : Option OpenBlock)
-    → ((b : ℕ) → HoldsValues p b → HoldsValues q b) → SameValues shape p old new
+open_same : (shape : Shape) (p q : Blocks) (outputs : List ℕ) (old new : Flash) (open_block : Option OpenBlock)
+    → ((b : ℕ) → HoldsValues p b → HoldsValues q b) → SameValues shape p outputs old new → ((b : ℕ) → IsOutput outputs b → IsNotOpen open_block b)
     → MatchOption open_block (Unit {0}) (λ o. IsOpenIn shape p old o) → MatchOption open_block (Unit {0}) (λ o. IsOpenIn shape q new o)
-open_same shape p q old new None kept same open_is = tt
-open_same shape p q old new (Some o) kept same open_is =
+open_same shape p q outputs old new None kept same not_open open_is = tt
+open_same shape p q outputs old new (Some o) kept same not_open open_is =
     let n : ℕ = shape.block_pages in
     let page : (k : ℕ) → o.block * n ≤ k → k < o.block * n + n → page_at new k ≡ page_at old k =
-    λ k low high. same k (subst (λ b. HoldsValues p b) (sym (block_of n k o.block low high)) open_is.owned) in
+    λ k low high. same k (subst (λ b. HoldsValues p b) (sym (block_of n k o.block low high)) open_is.owned) (λ output. not_open (k / n) output (block_of n k o.block low high)) in
     record {
       owned = kept o.block open_is.owned;
       behind_roots = open_is.behind_roots;
@@ -46,11 +48,11 @@ open_same shape p q old new (Some o) kept same open_is =
     }
 
 -- where the pool has the same blocks for values, and their pages are the same
-pub Placed-kept : (shape : Shape) (d : DataState) (p q : Blocks) (old new : Flash) (es : List (Key × Place)) → Placed shape d p old es
+pub Placed-kept : (shape : Shape) (d : DataState) (p q : Blocks) (outputs : List ℕ) (old new : Flash) (es : List (Key × Place)) → Placed shape d p outputs old es
     → q.shape ≡ p.shape → length q.states ≡ length p.states → used_by for_values q.states ≡ used_by for_values p.states
     → ((b : ℕ) → HoldsValues p b → HoldsValues q b) → ((b : ℕ) → HoldsValues q b → HoldsValues p b)
-    → SameValues shape p old new → Fits q new → Placed shape d q new es
-Placed-kept shape d p q old new es placed shape_is size used kept was same fits = record {
+    → SameValues shape p outputs old new → Fits q new → Placed shape d q outputs new es
+Placed-kept shape d p q outputs old new es placed shape_is size used kept was same fits = record {
   is_shape = placed.is_shape;
   shape_is = shape_is ∙ placed.shape_is;
   size = size ∙ placed.size;
@@ -59,30 +61,37 @@ Placed-kept shape d p q old new es placed shape_is size used kept was same fits 
   places = placed.places;
   apart = placed.apart;
   owned = λ k is. kept (k / shape.block_pages) (placed.owned k is);
-  written = λ k is e. placed.written k is (sym (same k (placed.owned k is)) ∙ e);
+  written = λ k is e. placed.written k is (sym (same k (placed.owned k is) (placed.outputs_are.unread k is)) ∙ e);
   block_pages_is = placed.block_pages_is;
   heads_are = placed.heads_are;
   closed_size = placed.closed_size;
-  closed_owned = λ b is. let c = placed.closed_owned b is in (kept b c.0, c.1);
-  owned_closed = λ b held other. placed.owned_closed b (was b held) other;
+  closed_owned = λ b is. let c = placed.closed_owned b is in (kept b c.0, c.1, c.2);
+  owned_closed = λ b held other no_output. placed.owned_closed b (was b held) other no_output;
   behind_roots = λ b held. placed.behind_roots b (was b held);
-  filled = λ b held other. still_written b held (placed.filled b (was b held) other);
-  open_is = open_same shape p q old new d.open_block kept same placed.open_is;
+  filled = λ b held other no_output. still_written b held no_output (placed.filled b (was b held) other no_output);
+  open_is = open_same shape p q outputs old new d.open_block kept same placed.outputs_are.not_open placed.open_is;
+  outputs_are = record {
+    different = placed.outputs_are.different;
+    owned = λ b is. kept b (placed.outputs_are.owned b is);
+    not_open = placed.outputs_are.not_open;
+    unread = placed.outputs_are.unread;
+  };
 }
   where
-    still_written : (b : ℕ) → HoldsValues q b → IsWritten shape old b → IsWritten shape new b
-    still_written b held page = (page.0, page.1, λ e. page.2 (sym (same page.0 (subst (λ c. HoldsValues p c) (sym page.1) (was b held))) ∙ e))
+    still_written : (b : ℕ) → HoldsValues q b → (IsOutput outputs b → ⊥) → IsWritten shape old b → IsWritten shape new b
+    still_written b held no_output page =
+        (page.0, page.1, λ e. page.2 (sym (same page.0 (subst (λ c. HoldsValues p c) (sym page.1) (was b held)) (subst (λ c. IsOutput outputs c → ⊥) (sym page.1) no_output)) ∙ e))
 
 pub flash_elsewhere : FlashElsewhere
-flash_elsewhere shape d p old new es placed same fits = Placed-kept shape d p p old new es placed refl refl refl (λ b held. held) (λ b held. held) same fits
+flash_elsewhere shape d p outputs old new es placed same fits = Placed-kept shape d p p outputs old new es placed refl refl refl (λ b held. held) (λ b held. held) same fits
 
 -- a block of which the state says that it is for values
 for_values_is : (s : BlockState) → Some s ≡ Some (Owned for_values) → is_owned_by for_values s ≡ true
 for_values_is s e = ap (is_owned_by for_values) (same_Some s (Owned for_values) e)
 
 pub block_elsewhere : BlockElsewhere
-block_elsewhere shape d p b s t old new es placed is not_s not_t same fits =
-    Placed-kept shape d p (with_state p b t) old new es placed refl (length-set p.states b t) used kept was same fits
+block_elsewhere shape d p outputs b s t old new es placed is not_s not_t same fits =
+    Placed-kept shape d p (with_state p b t) outputs old new es placed refl (length-set p.states b t) used kept was same fits
   where
     none : (x : BlockState) → is_owned_by for_values x ≡ false → is_owned_by for_values x ≡ true → ⊥
     none x is_not is_one = let clash : true ≡ false = sym is_one ∙ is_not in cc
@@ -138,19 +147,31 @@ filter_has f k a (suc n) low high is =
           elim (f a) as (λ b. AnyByRecursion (λ c. k ≡ c) (cond b (a ∷ filter f (range_with_len (a + 1) n)) (filter f (range_with_len (a + 1) n)))) [ true ↦ inr there | false ↦ there ])
     ]
 
-pub lie_in_few : LieInFew
-lie_in_few shape d pool flash es placed = (few, λ k is. among k (placed.owned k is))
-  where
-    few : length (value_blocks pool) ≤ data_blocks shape - 1
-    few =
-        let all = filter_row (λ b. is_for_values (slice_get pool.states b)) (is_owned_by for_values) pool.states 0 (λ i x is. let e : 0 + i ≡ i = omega arith in ap (λ k. is_for_values (slice_get pool.states k)) e ∙ ap is_for_values is) in
-        let most = placed.few in
-        omega (arith, all, most)
+-- what such a block is
+abbrev counts : Blocks → List ℕ → ℕ → Bool
+counts pool outputs b = is_for_values (slice_get pool.states b) && not (has b outputs)
 
-    among : (k : ℕ) → HoldsValues pool (k / shape.block_pages) → AnyByRecursion (λ b. k / shape.block_pages ≡ b) (value_blocks pool)
-    among k held = filter_has (λ b. is_for_values (slice_get pool.states b)) (k / shape.block_pages) 0 (length pool.states) (omega arith) (omega (arith, slice_get_within pool.states (k / shape.block_pages) (Owned for_values) held)) (ap is_for_values held)
+pub lie_in_few : LieInFew
+lie_in_few shape d pool outputs flash es placed = (few, λ k is. among k (placed.owned k is) (placed.outputs_are.unread k is))
+  where
+    few : length (value_blocks pool outputs) ≤ data_blocks shape - 1
+    few =
+        let rest : List BlockState = freed pool.states outputs in
+        let size : length rest ≡ length pool.states = length-freed outputs pool.states in
+        let row : length (filter (counts pool outputs) (range_with_len 0 (length rest))) ≡ count_by (is_owned_by for_values) rest =
+        filter_row (counts pool outputs) (is_owned_by for_values) rest 0 (λ i x is. let e : 0 + i ≡ i = omega arith in ap (counts pool outputs) e ∙ (sym (freed_is outputs pool.states i) ∙ ap is_for_values is)) in
+        let all : length (value_blocks pool outputs) ≡ used_by for_values rest = subst (λ n. length (filter (counts pool outputs) (range_with_len 0 n)) ≡ used_by for_values rest) size row in
+        let less = used_freed outputs pool.states placed.outputs_are.different placed.outputs_are.owned in
+        let most = placed.few in
+        omega (arith, all, less, most)
+
+    among : (k : ℕ) → HoldsValues pool (k / shape.block_pages) → (IsOutput outputs (k / shape.block_pages) → ⊥) → AnyByRecursion (λ b. k / shape.block_pages ≡ b) (value_blocks pool outputs)
+    among k held no_output =
+        filter_has (counts pool outputs) (k / shape.block_pages) 0 (length pool.states) (omega arith) (omega (arith, slice_get_within pool.states (k / shape.block_pages) (Owned for_values) held))
+        (and_from (is_for_values (slice_get pool.states (k / shape.block_pages))) (not (has (k / shape.block_pages) outputs)) (ap is_for_values held)
+        (not_from_false (has (k / shape.block_pages) outputs) (no_member (k / shape.block_pages) outputs no_output)))
 
 pub none_in_spare : NoneInSpare
-none_in_spare shape d pool flash es b placed spare k here is =
+none_in_spare shape d pool outputs flash es b placed spare k here is =
     let held : slice_get pool.states b ≡ Some (Owned for_values) = subst (λ c. HoldsValues pool c) here (placed.owned k is) in
     elim spare [ inl free ↦ cc | inr ready ↦ cc ]

@@ -33,11 +33,12 @@ heads_without (Some span) heads = slice_set heads span.page 0
 pub record Held (d : DataState) (span : Span) : Type 0 where
   pub shape : Shape
   pub pool : Blocks
+  pub outputs : List ℕ
   pub flash : Flash
   pub es : List (Key × Place)
   pub key : Key
   pub place : Place
-  pub placed : Placed shape d pool flash es
+  pub placed : Placed shape d pool outputs flash es
   pub rising : T (is_sorted key_cmp es)
   pub found : find key_cmp key es ≡ Some place
   pub span_is : span_of shape place ≡ span
@@ -47,11 +48,12 @@ pub record Held (d : DataState) (span : Span) : Type 0 where
 pub record Moves (d : DataState) (old : Option Span) (new : Span) : Type 0 where
   pub shape : Shape
   pub pool : Blocks
+  pub outputs : List ℕ
   pub flash : Flash
   pub es : List (Key × Place)
   pub key : Key
   pub place : Place
-  pub placed : Placed shape d pool flash es
+  pub placed : Placed shape d pool outputs flash es
   pub rising : T (is_sorted key_cmp es)
   pub old_is : span_if_some shape (find key_cmp key es) ≡ old
   pub new_is : span_of shape place ≡ new

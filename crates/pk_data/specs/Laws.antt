@@ -1,6 +1,6 @@
 -- What others do to the flash and to the pool, and what the values' blocks are: the statements.
-use Rattle.std.specs.Prelude.{◌≡◌, ℕ, ◌-◌, ◌/◌, ◌≤◌, List, [], length, filter, Bool, false, Option, Some, None, slice_get}
-use Rattle.std.specs.List.{range_with_len}
+use Rattle.std.specs.Prelude.{◌≡◌, ℕ, ◌-◌, ◌/◌, ◌≤◌, List, [], length, filter, Bool, false, not, ◌&&◌, ◌==◌, Option, Some, None, slice_get}
+use Rattle.std.specs.List.{list_any, range_with_len}
 use Rattle.pk_base.specs.Key.{Key}
 use Rattle.pk_base.specs.Shape.{Shape, IsShape, data_blocks}
 use Rattle.pk_base.specs.Page.{Flash, page_at}
@@ -12,45 +12,47 @@ use Rattle.pk_live.specs.Values.{no_values}
 use Rattle.pk_model.specs.Laws.{AnyByRecursion}
 use Rattle.pk_steps.specs.Under.{IsValuePage}
 use Rattle.pk_data.specs.State.{DataState}
-use Rattle.pk_data.specs.Placed.{HoldsValues, Placed, FoundAtOpening}
+use Rattle.pk_data.specs.Placed.{HoldsValues, IsOutput, Placed, FoundAtOpening}
 
--- no page differs of a block that the pool has for values
-abbrev pub SameValues : Shape → Blocks → Flash → Flash → Type 0
-SameValues shape pool old new = (k : ℕ) → HoldsValues pool (k / shape.block_pages) → page_at new k ≡ page_at old k
+-- no page differs of a block that the pool has for values and that no running reclaim holds
+abbrev pub SameValues : Shape → Blocks → List ℕ → Flash → Flash → Type 0
+SameValues shape pool outputs old new =
+    (k : ℕ) → HoldsValues pool (k / shape.block_pages) → (IsOutput outputs (k / shape.block_pages) → ⊥) → page_at new k ≡ page_at old k
 
 -- where nothing differs in blocks for values, and none that counts as erased is written, the values stay placed
 abbrev pub FlashElsewhere : Type 0
 FlashElsewhere =
-    (shape : Shape) (d : DataState) (p : Blocks) (old new : Flash) (es : List (Key × Place)) → Placed shape d p old es
-    → SameValues shape p old new → Fits p new → Placed shape d p new es
+    (shape : Shape) (d : DataState) (p : Blocks) (outputs : List ℕ) (old new : Flash) (es : List (Key × Place)) → Placed shape d p outputs old es
+    → SameValues shape p outputs old new → Fits p new → Placed shape d p outputs new es
 
 -- the same where a block changes its state that neither was nor is one for values
 abbrev pub BlockElsewhere : Type 0
 BlockElsewhere =
-    (shape : Shape) (d : DataState) (p : Blocks) (b : ℕ) (s t : BlockState) (old new : Flash) (es : List (Key × Place)) → Placed shape d p old es
-    → slice_get p.states b ≡ Some s → is_owned_by for_values s ≡ false → is_owned_by for_values t ≡ false
-    → SameValues shape p old new → Fits (with_state p b t) new → Placed shape d (with_state p b t) new es
+    (shape : Shape) (d : DataState) (p : Blocks) (outputs : List ℕ) (b : ℕ) (s t : BlockState) (old new : Flash) (es : List (Key × Place))
+    → Placed shape d p outputs old es → slice_get p.states b ≡ Some s → is_owned_by for_values s ≡ false → is_owned_by for_values t ≡ false
+    → SameValues shape p outputs old new → Fits (with_state p b t) new → Placed shape d (with_state p b t) outputs new es
 
 -- the block is one for values
 abbrev pub is_for_values : Option BlockState → Bool
 is_for_values None = false
 is_for_values (Some s) = is_owned_by for_values s
 
--- the blocks that the pool has for values
-abbrev pub value_blocks : Blocks → List ℕ
-value_blocks pool = filter (λ b. is_for_values (slice_get pool.states b)) (range_with_len 0 (length pool.states))
+-- the blocks that the pool has for values and that no running reclaim holds
+abbrev pub value_blocks : Blocks → List ℕ → List ℕ
+value_blocks pool outputs =
+    filter (λ b. is_for_values (slice_get pool.states b) && not (list_any (λ c. b == c) outputs)) (range_with_len 0 (length pool.states))
 
 -- Placed values lie in these blocks, which are at most one less than all data blocks.
 abbrev pub LieInFew : Type 0
 LieInFew =
-    (shape : Shape) (d : DataState) (pool : Blocks) (flash : Flash) (es : List (Key × Place)) → Placed shape d pool flash es
-    → (length (value_blocks pool) ≤ data_blocks shape - 1)
-    × ((k : ℕ) → IsValuePage shape es k → AnyByRecursion (λ b. k / shape.block_pages ≡ b) (value_blocks pool))
+    (shape : Shape) (d : DataState) (pool : Blocks) (outputs : List ℕ) (flash : Flash) (es : List (Key × Place)) → Placed shape d pool outputs flash es
+    → (length (value_blocks pool outputs) ≤ data_blocks shape - 1)
+    × ((k : ℕ) → IsValuePage shape es k → AnyByRecursion (λ b. k / shape.block_pages ≡ b) (value_blocks pool outputs))
 
 -- No page of a placed value lies in a block without an owner.
 abbrev pub NoneInSpare : Type 0
 NoneInSpare =
-    (shape : Shape) (d : DataState) (pool : Blocks) (flash : Flash) (es : List (Key × Place)) (b : ℕ) → Placed shape d pool flash es → IsSpare pool b
+    (shape : Shape) (d : DataState) (pool : Blocks) (outputs : List ℕ) (flash : Flash) (es : List (Key × Place)) (b : ℕ) → Placed shape d pool outputs flash es → IsSpare pool b
     → (k : ℕ) → k / shape.block_pages ≡ b → IsValuePage shape es k → ⊥
 
 -- Where no block has an owner and no value is live, there are none.

@@ -1,5 +1,5 @@
 -- The values of a flash, as the live map, the pool and the open block tell them.
-use Rattle.std.specs.Prelude.{◌≡◌, ◌≢◌, ℕ, ◌+◌, ◌-◌, ◌*◌, ◌/◌, ◌<◌, ◌≤◌, List, [], ◌∷◌, length, map, filter, not, Option, Some, None, MatchOption, slice_get}
+use Rattle.std.specs.Prelude.{◌≡◌, ◌≢◌, ℕ, ◌+◌, ◌-◌, ◌*◌, ◌/◌, ◌<◌, ◌≤◌, List, [], ◌∷◌, length, map, filter, not, true, Option, Some, None, MatchOption, slice_get}
 use Rattle.std.specs.List.{range_with_len, AllByRecursion}
 use Rattle.std.specs.Ordering.{eq_by_cmp}
 use Rattle.pk_base.specs.Key.{Key, key_cmp}
@@ -11,9 +11,10 @@ use Rattle.pk_plan.specs.declared.owner.Owner.TheVariants.{Values as for_values}
 use Rattle.pk_pool.specs.declared.state.BlockState.TheVariants.{Owned}
 use Rattle.pk_pool.specs.Blocks.{Blocks, Fits, used_by}
 use Rattle.pk_live.specs.Values.{Values, IsClosed}
-use Rattle.pk_model.specs.Laws.{IsPageOf}
+use Rattle.pk_rootfmt.specs.Root.{differ}
+use Rattle.pk_model.specs.Laws.{AnyByRecursion, IsPageOf}
 use Rattle.pk_steps.specs.Under.{IsValuePage}
-use Rattle.pk_scan.specs.Lives.{head_of, Lives}
+use Rattle.pk_live.specs.Lives.{head_of, Lives}
 use Rattle.pk_data.specs.declared.open_block.OpenBlock.{OpenBlock}
 use Rattle.pk_data.specs.State.{DataState}
 
@@ -25,6 +26,10 @@ HoldsValues pool b = slice_get pool.states b ≡ Some (Owned for_values)
 abbrev pub IsNotOpen : Option OpenBlock → ℕ → Type 0
 IsNotOpen None b = Unit {0}
 IsNotOpen (Some o) b = b ≢ o.block
+
+-- it is one of those that a running reclaim holds
+abbrev pub IsOutput : List ℕ → ℕ → Type 0
+IsOutput outputs b = AnyByRecursion (λ c. b ≡ c) outputs
 
 -- a page of the block is not Erased
 abbrev pub IsWritten : Shape → Flash → ℕ → Type 0
@@ -44,14 +49,23 @@ abbrev pub AreApart : Shape → List (Key × Place) → Type 0
 AreApart shape [] = Unit {0}
 AreApart shape (e ∷ es) = ((k : ℕ) → IsPageOf shape k e.1 → IsValuePage shape es k → ⊥) × AreApart shape es
 
--- The values of these keys are live. Their pages are written, and lie in blocks that the pool has for values; these are no root
--- blocks, all but the open one are closed and have a written page, and at most one less than all data blocks are in use.
-pub record Placed (shape : Shape) (d : DataState) (pool : Blocks) (flash : Flash) (es : List (Key × Place)) : Type 0 where
+-- The blocks that a running reclaim holds are different ones, which the pool has for values; none is the open block, and no page of a
+-- value lies in one.
+pub record AreOutputs (shape : Shape) (open_block : Option OpenBlock) (pool : Blocks) (outputs : List ℕ) (es : List (Key × Place)) : Type 0 where
+  pub different : differ outputs ≡ true
+  pub owned : (b : ℕ) → IsOutput outputs b → HoldsValues pool b
+  pub not_open : (b : ℕ) → IsOutput outputs b → IsNotOpen open_block b
+  pub unread : (k : ℕ) → IsValuePage shape es k → IsOutput outputs (k / shape.block_pages) → ⊥
+
+-- The values of these keys are live. Their pages are written, and lie in blocks that the pool has for values. These blocks are no root
+-- blocks. But for the outputs of a running reclaim, all of them other than the open one are closed and have a written page, and at most
+-- one less than all data blocks are in use.
+pub record Placed (shape : Shape) (d : DataState) (pool : Blocks) (outputs : List ℕ) (flash : Flash) (es : List (Key × Place)) : Type 0 where
   pub is_shape : IsShape shape
   pub shape_is : pool.shape ≡ shape
   pub size : length pool.states ≡ shape.blocks
   pub fits : Fits pool flash
-  pub few : used_by for_values pool.states ≤ data_blocks shape - 1
+  pub few : used_by for_values pool.states ≤ data_blocks shape - 1 + length outputs
   -- the values
   pub places : AllByRecursion (λ e. IsPlace shape e.1) es
   pub apart : AreApart shape es
@@ -61,14 +75,24 @@ pub record Placed (shape : Shape) (d : DataState) (pool : Blocks) (flash : Flash
   pub block_pages_is : d.live.block_pages ≡ shape.block_pages
   pub heads_are : d.live.heads ≡ map (head_of shape es) (range_with_len 0 (page_count shape))
   pub closed_size : length d.live.closed ≡ shape.blocks
-  pub closed_owned : (b : ℕ) → IsClosed d.live b → HoldsValues pool b × IsNotOpen d.open_block b
-  pub owned_closed : (b : ℕ) → HoldsValues pool b → IsNotOpen d.open_block b → IsClosed d.live b
+  pub closed_owned : (b : ℕ) → IsClosed d.live b → HoldsValues pool b × IsNotOpen d.open_block b × (IsOutput outputs b → ⊥)
+  pub owned_closed : (b : ℕ) → HoldsValues pool b → IsNotOpen d.open_block b → (IsOutput outputs b → ⊥) → IsClosed d.live b
   -- the blocks for values lie behind the root blocks
   pub behind_roots : (b : ℕ) → HoldsValues pool b → 2 ≤ b
   -- a block that is full has written pages
-  pub filled : (b : ℕ) → HoldsValues pool b → IsNotOpen d.open_block b → IsWritten shape flash b
+  pub filled : (b : ℕ) → HoldsValues pool b → IsNotOpen d.open_block b → (IsOutput outputs b → ⊥) → IsWritten shape flash b
   -- the open block
   pub open_is : MatchOption d.open_block (Unit {0}) (λ o. IsOpenIn shape pool flash o)
+  -- the blocks of a running reclaim
+  pub outputs_are : AreOutputs shape d.open_block pool outputs es
+
+-- some values are placed
+abbrev pub HasPlaced : Shape → DataState → Blocks → Flash → Type 0
+HasPlaced shape d pool flash = (outputs : List ℕ) × (es : List (Key × Place)) × Placed shape d pool outputs flash es
+
+-- values that were placed are placed still
+abbrev pub StayPlaced : Shape → DataState → Blocks → Flash → DataState → Blocks → Flash → Type 0
+StayPlaced shape d p old d' q new = (outputs : List ℕ) (es : List (Key × Place)) → Placed shape d p outputs old es → Placed shape d' q outputs new es
 
 -- As it is at opening: these values were taken one after another, their pages are written, and the pool has the blocks for
 -- values that are closed.

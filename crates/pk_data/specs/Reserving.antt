@@ -13,7 +13,7 @@ use Rattle.pk_pool.specs.Blocks.{Blocks, IsSpare, with_state}
 use Rattle.pk_pool.specs.Taking.{TakesReady, ErasesFree, ReachesIn}
 use Rattle.pk_steps.specs.Under.{IsValuePage}
 use Rattle.pk_data.specs.State.{DataState, fits_open, next_page, opened}
-use Rattle.pk_data.specs.Placed.{HoldsValues}
+use Rattle.pk_data.specs.Placed.{HoldsValues, Placed}
 
 -- From this page on so many are the next Erased ones of the open block, which is one for values.
 pub record IsReserved (shape : Shape) (d : DataState) (pool : Blocks) (flash : Flash) (page count : ℕ) : Type 0 where
@@ -29,6 +29,10 @@ pub record IsReserved (shape : Shape) (d : DataState) (pool : Blocks) (flash : F
 -- none of these pages belongs to a value
 abbrev pub IsFreeOf : Shape → List (Key × Place) → ℕ → ℕ → Type 0
 IsFreeOf shape es page count = (k : ℕ) → page ≤ k → k < page + count → IsValuePage shape es k → ⊥
+
+-- nor to one that was placed before
+abbrev pub AreFree : Shape → DataState → Blocks → Flash → ℕ → ℕ → Type 0
+AreFree shape d pool flash page count = (outputs : List ℕ) (es : List (Key × Place)) → Placed shape d pool outputs flash es → IsFreeOf shape es page count
 
 -- The open block had room, and nothing was done.
 pub record TakesNext (shape : Shape) (d : DataState) (p : Blocks) (old : BoardState) (count : ℕ) (d' : DataState) (q : Blocks) (new : BoardState) : Type 0 where
@@ -47,6 +51,10 @@ pub record OpensBlock (shape : Shape) (d : DataState) (p : Blocks) (old : BoardS
   pub taken : q ≡ with_state p block (Owned for_values)
   pub choice : TakesReady p old block new ⊎ ErasesFree p old block new
   pub cuts : ReachesIn p.shape block old new
+
+-- either of both
+abbrev pub TakesNextOrOpens : Shape → DataState → Blocks → BoardState → ℕ → DataState → Blocks → BoardState → Type 0
+TakesNextOrOpens shape d p old count d' q new = TakesNext shape d p old count d' q new ⊎ OpensBlock shape d p old count d' q new
 
 -- nothing but the next so many pages differs, and these are written now
 pub record WritesNext (shape : Shape) (d : DataState) (count : ℕ) (old new : Flash) : Type 0 where

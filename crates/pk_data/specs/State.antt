@@ -1,5 +1,5 @@
 -- Where values go: the live values, and the block that is being filled.
-use Rattle.std.specs.Prelude.{ℕ, ◌+◌, ◌-◌, ◌*◌, ◌≤◌, List, Bool, true, false, not, ◌&&◌, ◌==◌, nat_le, slice_set, Option, Some, None}
+use Rattle.std.specs.Prelude.{ℕ, ◌+◌, ◌-◌, ◌*◌, ◌≤◌, List, Bool, true, false, not, ◌&&◌, nat_le, slice_set, Option, Some, None}
 use Rattle.pk_base.specs.Shape.{Shape, data_blocks}
 use Rattle.pk_plan.specs.declared.owner.Owner.TheVariants.{Values as for_values}
 use Rattle.pk_pool.specs.Blocks.{Blocks, used_by}
@@ -31,9 +31,10 @@ page_behind shape (Some o) = o.block * shape.block_pages + o.used
 abbrev pub next_page : Shape → DataState → ℕ
 next_page shape d = page_behind shape d.open_block
 
--- A value of so many pages has no room in the open block, and one more block would be the last one, which is kept for reclaims.
+-- A value of so many pages has no room in the open block, and one more block would be the last one, which is kept for reclaims and which
+-- a running one holds.
 abbrev pub needs_reclaim : Shape → DataState → Blocks → ℕ → Bool
-needs_reclaim shape d pool count = not (fits_open shape d count) && (used_by for_values pool.states == data_blocks shape - 1)
+needs_reclaim shape d pool count = not (fits_open shape d count) && nat_le (data_blocks shape - 1) (used_by for_values pool.states)
 
 -- the open block is closed, if there is one
 abbrev pub closed_with : Option OpenBlock → List Bool → List Bool

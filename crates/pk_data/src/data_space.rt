@@ -1,5 +1,5 @@
 //! The data blocks of a drive.
-ghost use Rattle.std.specs.Prelude.{◌≡◌, ℕ, List, ◌+◌, ◌<◌, ◌≤◌, ◌⊎◌, false, true, sum, length, slice_get, slice_set, Some, None, IfOk, IfErr, OnOk, OnErr, MatchOption, if◌then◌else◌};
+ghost use Rattle.std.specs.Prelude.{◌≡◌, ℕ, List, [], ◌+◌, ◌<◌, ◌≤◌, ◌⊎◌, false, true, sum, length, slice_get, slice_set, Some, None, IfOk, IfErr, OnOk, OnErr, MatchOption, if◌then◌else◌};
 ghost use Rattle.std.specs.FinMap.Entries.{put};
 ghost use Rattle.pk_base.specs.Key.{Key, key_cmp};
 ghost use Rattle.pk_base.specs.Shape as spec;
@@ -14,8 +14,8 @@ ghost use Rattle.pk_live.specs.Values.{IsClosed, count_of};
 ghost use Rattle.pk_model.specs.Values.{all_pages};
 ghost use Rattle.pk_data.specs.State.{DataState, IsSmall, with_none_open, closed_with, opened, more_used, with_written, with_head, with_heads, with_closed};
 ghost use Rattle.pk_data.specs.State as state;
-ghost use Rattle.pk_data.specs.Placed.{Placed, FoundAtOpening, without};
-ghost use Rattle.pk_data.specs.Reserving.{IsReserved, TakesNext, OpensBlock, WritesNext, IsFreeOf};
+ghost use Rattle.pk_data.specs.Placed.{Placed, HasPlaced, StayPlaced, FoundAtOpening, without};
+ghost use Rattle.pk_data.specs.Reserving.{IsReserved, TakesNextOrOpens, WritesNext, AreFree};
 ghost use Rattle.pk_data.specs.Entries.{Held, Moves, IsInOpen, heads_without};
 
 use crate::open_block::OpenBlock;
@@ -88,7 +88,9 @@ impl<A: Allocator> Data<A> {
     /// As after opening: the values are live, and no block takes values. Takes no memory.
     pub fn new(live: Live<A>) -> Data<A>
         ensures value { result ≡ with_none_open live }
-        ensures placed { (shape : spec.Shape) (named : List ℕ) (pool : Blocks) (flash : Flash) (es : List (Key × Place)) → FoundAtOpening shape named live pool flash es → Placed shape result pool flash es }
+        ensures placed { (shape : spec.Shape) (named : List ℕ) (pool : Blocks) (flash : Flash)
+            (es : List (Key × Place)) → FoundAtOpening shape named live pool flash es
+            → Placed shape result pool [] flash es }
     {
         Data {
             live,
@@ -99,7 +101,9 @@ impl<A: Allocator> Data<A> {
     /// All live pages.
     pub fn total(&self) -> u32
         ensures value { result ≡ sum self.now.live.heads }
-        ensures placed { (shape : spec.Shape) (pool : Blocks) (flash : Flash) (es : List (Key × Place)) → Placed shape self.now pool flash es → result ≡ length (all_pages shape es) }
+        ensures placed { (shape : spec.Shape) (pool : Blocks) (outputs : List ℕ) (flash : Flash)
+            (es : List (Key × Place)) → Placed shape self.now pool outputs flash es
+            → result ≡ length (all_pages shape es) }
     {
         self.live.total()
     }
@@ -136,13 +140,14 @@ impl<A: Allocator> Data<A> {
         requires { count ≤ spec.most_pages shape.now }
         ensures { result ≡ state.needs_reclaim shape.now self.now pool.now count }
     {
-        !self.fits_open(shape, count) && pool.used(Owner::Values) == shape.data_blocks() - 1
+        !self.fits_open(shape, count) && pool.used(Owner::Values) >= shape.data_blocks() - 1
     }
 
     // The next page of the open block, where it has room for so many.
     fn next_in_open(&self, shape: &Shape, count: u32) -> Option<u32>
         requires { count ≤ spec.most_pages shape.now }
-        ensures { result ≡ (if state.fits_open shape.now self.now count then Some (state.next_page shape.now self.now) else None) }
+        ensures { result ≡ (if state.fits_open shape.now self.now count
+            then Some (state.next_page shape.now self.now) else None) }
     {
         let pages = shape.block_pages();
         match self.open_block {
@@ -160,7 +165,8 @@ impl<A: Allocator> Data<A> {
     // This block takes values from now on, and the one before is closed.
     fn open_next(&mut self, block: u32)
         requires small { block ≤ 4096 }
-        requires closes { MatchOption self.old.open_block (Unit {0}) (λ o. o.block < length self.old.live.closed) }
+        requires closes { MatchOption self.old.open_block (Unit {0})
+            (λ o. o.block < length self.old.live.closed) }
         ensures { self.new ≡ opened self.old block }
     {
         close(&mut self.live, self.open_block);
@@ -180,17 +186,22 @@ impl<A: Allocator> Data<A> {
         requires some { 1 ≤ count }
         requires most { count ≤ spec.most_pages shape.now }
         requires ready { IsReady (B.state board.old) shape.now }
-        requires placed { (es : List (Key × Place)) × Placed shape.now self.old pool.old (B.state board.old).pages es }
+        requires placed { HasPlaced shape.now self.old pool.old (B.state board.old).pages }
         requires room { state.needs_reclaim shape.now self.old pool.old count ≡ false }
-        ensures reserved { IfOk result (λ page. IsReserved shape.now self.new pool.new (B.state board.new).pages page count) }
-        ensures cases { OnOk result (TakesNext shape.now self.old pool.old (B.state board.old) count self.new pool.new (B.state board.new) ⊎ OpensBlock shape.now self.old pool.old (B.state board.old) count self.new pool.new (B.state board.new)) }
-        ensures free { IfOk result (λ page. (es : List (Key × Place)) → Placed shape.now self.old pool.old (B.state board.old).pages es → IsFreeOf shape.now es page count) }
+        ensures reserved { IfOk result
+            (λ page. IsReserved shape.now self.new pool.new (B.state board.new).pages page count) }
+        ensures cases { OnOk result (TakesNextOrOpens shape.now self.old pool.old
+            (B.state board.old) count self.new pool.new (B.state board.new)) }
+        ensures free { IfOk result
+            (λ page. AreFree shape.now self.old pool.old (B.state board.old).pages page count) }
         ensures stopped { IfErr result (λ e. e ≡ Stopped) }
-        ensures failed { OnErr result (FailsToErase pool.old (B.state board.old) (B.state board.new)) }
+        ensures failed { OnErr result
+            (FailsToErase pool.old (B.state board.old) (B.state board.new)) }
         ensures had_no_room { OnErr result (state.fits_open shape.now self.old count ≡ false) }
         ensures kept { OnErr result (self.new ≡ self.old) }
         ensures kept_pool { OnErr result (pool.new ≡ pool.old) }
-        ensures placed { (es : List (Key × Place)) → Placed shape.now self.old pool.old (B.state board.old).pages es → Placed shape.now self.new pool.new (B.state board.new).pages es }
+        ensures placed { StayPlaced shape.now self.old pool.old (B.state board.old).pages
+            self.new pool.new (B.state board.new).pages }
         ensures ready { IsReady (B.state board.new) shape.now }
     {
         match self.next_in_open(shape, count) {
@@ -210,7 +221,9 @@ impl<A: Allocator> Data<A> {
         requires { state.fits_open shape.now self.old count ≡ true }
         ensures written { self.new ≡ with_written self.old count }
         ensures in_open { IsInOpen shape.now self.new (state.next_page shape.now self.old) count }
-        ensures placed { (pool : Blocks) (old new : Flash) (es : List (Key × Place)) → Placed shape.now self.old pool old es → WritesNext shape.now self.old count old new → Placed shape.now self.new pool new es }
+        ensures placed { (pool : Blocks) (old new : Flash)
+            → WritesNext shape.now self.old count old new → StayPlaced shape.now self.old pool old
+            self.new pool new }
     {
         self.open_block = more(shape, self.open_block, count);
     }
@@ -218,8 +231,10 @@ impl<A: Allocator> Data<A> {
     /// A key has its value at the pages of `new` from now on, and no more at those of `old`.
     pub fn replace(&mut self, old: Option<Span>, new: Span)
         requires { Moves self.old old new }
-        ensures moved { self.new ≡ with_head (with_heads self.old (heads_without old self.old.live.heads)) new.page new.count }
-        ensures placed { (m : Moves self.old old new) → Placed m.shape self.new m.pool m.flash (put key_cmp m.key m.place m.es) }
+        ensures moved { self.new ≡ with_head (with_heads self.old
+            (heads_without old self.old.live.heads)) new.page new.count }
+        ensures placed { (m : Moves self.old old new)
+            → Placed m.shape self.new m.pool m.outputs m.flash (put key_cmp m.key m.place m.es) }
     {
         clear(&mut self.live, old);
         self.live.set(new.page, new.count);
@@ -229,7 +244,8 @@ impl<A: Allocator> Data<A> {
     pub fn remove(&mut self, span: Span)
         requires { Held self.old span }
         ensures removed { self.new ≡ with_head self.old span.page 0 }
-        ensures placed { (h : Held self.old span) → Placed h.shape self.new h.pool h.flash (without h.key h.es) }
+        ensures placed { (h : Held self.old span) → Placed h.shape self.new h.pool h.outputs h.flash
+            (without h.key h.es) }
     {
         self.live.clear(span.page, span.count);
     }
@@ -238,10 +254,13 @@ impl<A: Allocator> Data<A> {
     pub fn release(&mut self, pool: &mut Pool<A>, block: u32)
         requires closed { IsClosed self.old.live block }
         requires empty { count_of self.old.live block ≡ 0 }
-        requires placed { (shape : spec.Shape) × (flash : Flash) × (es : List (Key × Place)) × Placed shape self.old pool.old flash es }
-        ensures released { self.new ≡ with_closed self.old (slice_set self.old.live.closed block false) }
+        requires placed { (shape : spec.Shape) × (flash : Flash)
+            × HasPlaced shape self.old pool.old flash }
+        ensures released { self.new
+            ≡ with_closed self.old (slice_set self.old.live.closed block false) }
         ensures given { pool.new ≡ with_state pool.old block Free }
-        ensures placed { (shape : spec.Shape) (flash : Flash) (es : List (Key × Place)) → Placed shape self.old pool.old flash es → Placed shape self.new pool.new flash es }
+        ensures placed { (shape : spec.Shape) (flash : Flash)
+            → StayPlaced shape self.old pool.old flash self.new pool.new flash }
     {
         self.live.forget(block);
         pool.give(block);

@@ -13,6 +13,3 @@ pub use data_space::Data;
 pub use laws::{elsewhere, starts_with_none, value_blocks};
 pub use open_block::OpenBlock;
 pub use span::Span;
-
-#[cfg(test)]
-mod tests;

@@ -1,51 +1,34 @@
 -- What one command does, for every map that the drive may stand for.
-use Rattle.std.specs.Prelude.{◌≡◌, ◌≢◌, ◌⊎◌, ℕ, ◌≤◌, ◌<◌, List, [], ◌∷◌, flat_map, Ok, Some, ◌==◌, if◌then◌else◌}
-use Rattle.pk_base.specs.Shape.{Shape, limit, greatest}
-use Rattle.pk_base.specs.Page.{Flash}
+use Rattle.std.specs.Prelude.{◌≡◌, ◌≢◌, ◌⊎◌, ℕ, ◌≤◌, ◌<◌, List, [], ◌∷◌, flat_map, Some, ◌==◌, if◌then◌else◌}
+use Rattle.pk_nvme.specs.declared.opcode.TheConstants.{STORE, TICK}
+use Rattle.pk_base.specs.Shape.{Shape, greatest}
 use Rattle.pk_base.specs.Map.{Map}
 use Rattle.pk_base.specs.Merge.{next_merge}
 use Rattle.pk_base.specs.Fields.{u32}
 use Rattle.pk_nvme.specs.Command.{Command}
 use Rattle.pk_nvme.specs.Reply.{Reply}
 use Rattle.pk_nand.specs.BoardState.{BoardState}
-use Rattle.pk_model.specs.Answer.{kind, retrieve, map_after}
+use Rattle.pk_nvme.specs.Opcode.{op_of}
+use Rattle.pk_nvme.specs.declared.opcode.Opcode.TheVariants.{Retrieve}
 use Rattle.pk_model.specs.Run.{Step}
 use Rattle.pk_model.specs.Bounds.{most_reads}
-use Rattle.pk_model.specs.Reading.{reading}
 use Rattle.pk_model.specs.Sight.{Sight, Counts, numbers}
 use Rattle.pk_drive.specs.Drive.{Stands}
-use Rattle.pk_drive.specs.Growth.{Reaches, Goes}
-
--- Where a command is cut off the flash holds what it held, with none or all of the entries that were pending, or the map after the
--- command; and nothing was given out.
-abbrev pub ExecCut : Shape → Flash → Map → Command → Flash → List ℕ → Type 0
-ExecCut shape start m c flash posted =
-    (posted ≡ [])
-    × ((reading shape flash [] ≡ reading shape start []) ⊎ ((reading shape flash [] ≡ Ok m) ⊎ (reading shape flash [] ≡ Ok (map_after shape (limit shape) m c))))
 
 -- a command that did not stop the drive
 pub record Executed (shape : Shape) (frames : ℕ) (new : BoardState) (drive : Sight) (m : Map) (c : Command) (reply : Reply) (reads : ℕ) : Type 0 where
   pub left : Map
   pub stepped : Step shape frames m c reply left
   pub stands : Stands shape frames new drive left
-  pub bounded : kind c.opcode ≡ Some retrieve → reads ≤ most_reads shape frames m c
+  pub bounded : op_of c.opcode ≡ Some Retrieve → reads ≤ most_reads shape frames m c
 
 abbrev pub ExecStands : BoardState → BoardState → Sight → Sight → Command → Reply → ℕ → Type 0
 ExecStands old new before after c reply reads =
     (shape : Shape) (frames : ℕ) (m : Map) → Stands shape frames old before m → Executed shape frames new after m c reply reads
 
-abbrev pub ExecReaches : BoardState → BoardState → Sight → Command → Type 0
-ExecReaches old new before c =
-    (shape : Shape) (frames : ℕ) (m : Map) → Stands shape frames old before m → Reaches shape old new (ExecCut shape old.pages m c)
-
--- a command that stopped it
-abbrev pub ExecGoes : BoardState → BoardState → Sight → Command → Type 0
-ExecGoes old new before c =
-    (shape : Shape) (frames : ℕ) (m : Map) → Stands shape frames old before m → Goes shape old new (ExecCut shape old.pages m c)
-
 -- most roots that a command installs: a Tick one for each step, another fewer than 2^16
 abbrev pub most_installs : ℕ → ℕ → ℕ
-most_installs opcode size = if opcode == 0xC0 then size else 65535
+most_installs opcode size = if opcode == TICK then size else 65535
 
 -- the bytes of a Report
 abbrev pub report_of : Counts → List ℕ
@@ -57,4 +40,4 @@ IsNextMerge shape c = c.merge ≢ 0 → next_merge shape c.frozen (c.run1 ∷ c.
 
 -- The value of a command, and what is handed over of it: nothing where it is too large.
 abbrev pub IsValue : Shape → ℕ → ℕ → List ℕ → List ℕ → Type 0
-IsValue shape opcode size handed value = (value ≡ handed) ⊎ ((opcode ≡ 0x01) × (greatest shape < size))
+IsValue shape opcode size handed value = (value ≡ handed) ⊎ ((opcode ≡ STORE) × (greatest shape < size))

@@ -1,8 +1,10 @@
-pub mod Wear
-pub mod Growth
 pub mod Drive
+pub mod Call
 pub mod Meter
 pub mod Exec
 pub mod Commit
 pub mod Tick
 pub mod Seen
+pub mod Calling
+pub mod Steady
+pub mod Moving

@@ -1,27 +1,34 @@
--- The reads of a board around each command.
-use Rattle.std.specs.Prelude.{◌≡◌, ◌≢◌, ℕ, ◌+◌, min, List}
+-- What each command does to the counts of a board.
+use Rattle.std.specs.Prelude.{◌≡◌, ◌≢◌, ℕ, ◌+◌, ◌≤◌, ◌<◌, min, List}
 use Rattle.std.specs.List.{FoldsTo}
+use Rattle.pk_nvme.specs.declared.status.TheConstants.{UNRECOVERED_ERROR}
 use Rattle.pk_nand.specs.BoardState.{BoardState}
 use Rattle.pk_nand.specs.Calls.{Rose, last_count}
 use Rattle.pk_model.specs.Run.{Exchange}
+use Rattle.pk_model.specs.Wear.{roots}
+use Rattle.pk_drive.specs.Exec.{most_installs}
 
--- how many pages were read, and the count of reads that failed
+-- how many pages were read, the count of reads that failed, and the number of the newest root
 pub record Meter : Type 0 where
   pub reads : ℕ
   pub read_faults : ℕ
+  pub roots : ℕ
 
 abbrev pub meter : BoardState → Meter
-meter board = record { reads = board.reads; read_faults = board.read_faults }
+meter board = record { reads = board.reads; read_faults = board.read_faults; roots = roots board }
 
 -- so many more reads, up to the last value
 abbrev pub reads_after : ℕ → ℕ → ℕ
 reads_after before more = min (before + more) last_count
 
--- Around one command: its number of reads is exact, and a read failed only where it is answered so.
+-- Around one command: its number of reads is exact, a read failed only where it is answered so, and the numbers of roots were not used up when it
+-- began.
 pub record Metered (before : Meter) (x : Exchange) (after : Meter) : Type 0 where
   pub reads : after.reads ≡ reads_after before.reads x.reads
-  pub failed : x.reply.status ≡ 0x88 → Rose before.read_faults after.read_faults
-  pub sound : x.reply.status ≢ 0x88 → after.read_faults ≡ before.read_faults
+  pub failed : x.reply.status ≡ UNRECOVERED_ERROR → Rose before.read_faults after.read_faults
+  pub sound : x.reply.status ≢ UNRECOVERED_ERROR → after.read_faults ≡ before.read_faults
+  pub unworn : before.roots < 9223372036854775808
+  pub installs : after.roots ≤ before.roots + most_installs x.command.opcode x.command.size
 
 -- each command begins where the one before it ended
 abbrev pub MeteredAll : Meter → List Exchange → Meter → Type 0

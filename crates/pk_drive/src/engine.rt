@@ -1,22 +1,32 @@
 //! The trait of a drive over the board that it is handed.
 ghost use Rattle.std.specs.Prelude.{◌≡◌, ◌≢◌, ◌≤◌, ◌<◌, ◌+◌, ℕ, List, [], length, take, Bool, true, false, nat_le, OnOk, OnErr, IsOk, IsSome, Some, Option, Ok};
-ghost use Rattle.pk_base.specs.Shape.{Shape, greatest};
+ghost use Rattle.pk_base.specs.Shape.{Shape, greatest, charge};
 ghost use Rattle.pk_base.specs.Page.{Flash};
 ghost use Rattle.pk_base.specs.Map.{Map, live};
+ghost use Rattle.pk_nvme.specs.Command.{key};
 ghost use Rattle.pk_nvme.specs.Seen.{command_of};
 ghost use Rattle.pk_nvme.specs.declared.request.Request.{Request};
 ghost use Rattle.pk_nand.specs.BoardState.{shape_of};
 ghost use Rattle.pk_nand.specs.Calls.{Rose};
 ghost use Rattle.pk_model.specs.Answer.{early};
 ghost use Rattle.pk_model.specs.Sight.{Sight, map_of};
-ghost use Rattle.pk_drive.specs.Wear.{root_number, roots, is_worn};
-ghost use Rattle.pk_drive.specs.Drive.{OnlyFlash, NoFault, AtMostOneCall, CountsMap};
+ghost use Rattle.pk_model.specs.Wear.{root_number, roots, is_worn};
+ghost use Rattle.pk_drive.specs.Drive.{CountsMap};
+ghost use Rattle.pk_nand.specs.Effects.{OnlyFlash, OnlyReading, NoFault, AtMostOneCall};
 ghost use Rattle.pk_drive.specs.Meter.{reads_after};
-ghost use Rattle.pk_drive.specs.Exec.{ExecStands, ExecReaches, ExecGoes, most_installs, report_of, IsNextMerge};
-ghost use Rattle.pk_drive.specs.Commit.{CommitStands, CommitReaches, CommitGoes, CommitPrograms};
-ghost use Rattle.pk_drive.specs.Tick.{TickStands, TickReaches, TickGoes, TellsIdle};
+ghost use Rattle.pk_model.specs.Crashes.{background, commit, command};
+ghost use Rattle.pk_drive.specs.Call.{KeepsMap, CallReaches, CallGoes};
+ghost use Rattle.pk_drive.specs.Exec.{ExecStands, most_installs, report_of, IsNextMerge};
+ghost use Rattle.pk_drive.specs.Commit.{CommitPrograms};
+ghost use Rattle.pk_drive.specs.Tick.{TellsIdle};
 ghost use Rattle.pk_drive.specs.Seen.{reply_of, stopped_by, counts_of};
+ghost use Rattle.pk_model.specs.Growth.{Grows};
+ghost use Rattle.pk_drive.specs.Calling.{FewCalls, most_calls_of, only_looks};
+ghost use Rattle.pk_drive.specs.Steady.{IsSteady, Steadies};
+ghost use Rattle.pk_drive.specs.Moving.{Commits, KeepsFresh, BlocksGrow, Stores, IsQuiet, HasOpenRoom, Quietly, commits_for};
 ghost use Rattle.pk_drive.specs.declared.types.Ticked.{Ticked};
+ghost use Rattle.pk_nvme.specs.declared.status.TheConstants.{SUCCESSFUL_COMPLETION, UNRECOVERED_ERROR};
+ghost use Rattle.pk_nvme.specs.declared.opcode.TheConstants.{STORE, DELETE, TICK, REPORT};
 
 use crate::{Counts, Outcome, Ticked};
 use pk_nand::{Nand, NandFault};
@@ -45,32 +55,87 @@ pub trait Engine {
         requires runs { (sight self.old).stopped ≡ false }
         requires unworn { is_worn (B.state board.old) ≡ false }
         requires is_built { built self.old request.now ≡ true }
-        requires tick { request.now.opcode ≡ 0xC0 → (sight self.old).pending ≡ [] }
-        requires sized { request.now.opcode ≡ 0x01 → request.now.size ≤ greatest (shape_of (B.state board.old)) → length value.now ≡ request.now.size }
-        requires empty { request.now.opcode ≢ 0x01 → value.now ≡ [] }
-        requires too_large { greatest (shape_of (B.state board.old)) < request.now.size → value.now ≡ [] }
+        requires tick { request.now.opcode ≡ TICK → (sight self.old).pending ≡ [] }
+        requires sized { request.now.opcode ≡ STORE
+            → request.now.size ≤ greatest (shape_of (B.state board.old))
+            → length value.now ≡ request.now.size }
+        requires empty { request.now.opcode ≢ STORE → value.now ≡ [] }
+        requires too_large { greatest (shape_of (B.state board.old)) < request.now.size
+            → value.now ≡ [] }
         requires room { 65536 ≤ length into.old }
         requires room_value { greatest (shape_of (B.state board.old)) ≤ length into.old }
         ensures stops { (sight self.new).stopped ≡ result.stopped }
-        ensures agrees { result.stopped ≡ false → agrees self.new (B.state board.new).shape (B.state board.new).pages }
-        ensures stands { result.stopped ≡ false → ExecStands (B.state board.old) (B.state board.new) (sight self.old) (sight self.new) (command_of request.now value.now) (reply_of result into.new) result.reads }
-        ensures cuts { result.stopped ≡ false → ExecReaches (B.state board.old) (B.state board.new) (sight self.old) (command_of request.now value.now) }
-        ensures cuts_stopped { result.stopped ≡ true → ExecGoes (B.state board.old) (B.state board.new) (sight self.old) (command_of request.now value.now) }
+        ensures agrees { result.stopped ≡ false
+            → agrees self.new (B.state board.new).shape (B.state board.new).pages }
+        ensures stands { result.stopped ≡ false → ExecStands (B.state board.old) (B.state board.new)
+            (sight self.old) (sight self.new) (command_of request.now value.now)
+            (reply_of result into.new) result.reads }
+        ensures cuts { result.stopped ≡ false → CallReaches (B.state board.old) (B.state board.new)
+            (sight self.old) (command (command_of request.now value.now)) }
+        ensures cuts_stopped { result.stopped ≡ true → CallGoes (B.state board.old)
+            (B.state board.new) (sight self.old) (command (command_of request.now value.now)) }
         ensures fits { result.data_len ≤ length into.new }
         ensures room { length into.new ≡ length into.old }
         ensures rest { OnlyFlash (B.state board.old) (B.state board.new) }
-        ensures reads { (B.state board.new).reads ≡ reads_after (B.state board.old).reads result.reads }
+        ensures reads { (B.state board.new).reads
+            ≡ reads_after (B.state board.old).reads result.reads }
         ensures up { (B.state board.old).read_faults ≤ (B.state board.new).read_faults }
-        ensures unread { result.status ≡ 0x88 → result.stopped ≡ false → Rose (B.state board.old).read_faults (B.state board.new).read_faults }
-        ensures sound { result.status ≢ 0x88 → NoFault (B.state board.old) (B.state board.new) }
-        ensures stop { result.stopped ≡ true → Rose (B.state board.old).stop_faults (B.state board.new).stop_faults }
-        ensures stop_status { result.stopped ≡ true → result.status ≡ 0x88 }
-        ensures no_stop { result.stopped ≡ false → (B.state board.new).stop_faults ≡ (B.state board.old).stop_faults }
-        ensures early { IsSome (early (shape_of (B.state board.old)) (command_of request.now value.now)) → (result.stopped ≡ false) × (B.state board.new ≡ B.state board.old) }
-        ensures report { request.now.opcode ≡ 0xC2 → (result.status ≢ 0x88) × (B.state board.new ≡ B.state board.old) }
-        ensures report_data { request.now.opcode ≡ 0xC2 → result.status ≡ 0 → take result.data_len into.new ≡ report_of (sight self.new).counts }
-        ensures installs { roots (B.state board.new) ≤ roots (B.state board.old) + most_installs request.now.opcode request.now.size }
-        ensures merge { result.stopped ≡ false → IsNextMerge (shape_of (B.state board.new)) (sight self.new).counts };
+        ensures unread { result.status ≡ UNRECOVERED_ERROR → result.stopped ≡ false
+            → Rose (B.state board.old).read_faults (B.state board.new).read_faults }
+        ensures sound { result.status ≢ UNRECOVERED_ERROR
+            → NoFault (B.state board.old) (B.state board.new) }
+        ensures stop { result.stopped ≡ true
+            → Rose (B.state board.old).stop_faults (B.state board.new).stop_faults }
+        ensures stop_status { result.stopped ≡ true → result.status ≡ UNRECOVERED_ERROR }
+        ensures no_stop { result.stopped ≡ false
+            → (B.state board.new).stop_faults ≡ (B.state board.old).stop_faults }
+        ensures early { IsSome (early (shape_of (B.state board.old))
+            (command_of request.now value.now)) → (result.stopped ≡ false)
+            × (B.state board.new ≡ B.state board.old) × (sight self.new ≡ sight self.old) }
+        ensures report { request.now.opcode ≡ REPORT
+            → (result.status ≢ UNRECOVERED_ERROR) × (B.state board.new ≡ B.state board.old) }
+        ensures report_data { request.now.opcode ≡ REPORT → result.status ≡ SUCCESSFUL_COMPLETION
+            → take result.data_len into.new ≡ report_of (sight self.new).counts }
+        ensures installs { roots (B.state board.new)
+            ≤ roots (B.state board.old) + most_installs request.now.opcode request.now.size }
+        ensures merge { result.stopped ≡ false
+            → IsNextMerge (shape_of (B.state board.new)) (sight self.new).counts }
+        // the newest epoch, and the blocks for values
+        ensures fresh { result.stopped ≡ false → KeepsFresh (shape_of (B.state board.old))
+            (B.state board.old).pages (B.state board.new).pages (sight self.old) (sight self.new) }
+        ensures blocks { result.stopped ≡ false
+            → BlocksGrow request.now.opcode (sight self.old) (sight self.new) }
+        ensures stores { request.now.opcode ≡ STORE → result.status ≡ SUCCESSFUL_COMPLETION
+            → Stores (B.state board.old) (B.state board.new) (sight self.old) (sight self.new)
+            (command_of request.now value.now) }
+        ensures deletes { request.now.opcode ≡ DELETE → result.stopped ≡ false
+            → (sight self.new).open_block ≡ (sight self.old).open_block }
+        // a Store or a Delete that waits for nothing
+        ensures quiet_store { request.now.opcode ≡ STORE → result.status ≡ SUCCESSFUL_COMPLETION
+            → IsQuiet (shape_of (B.state board.old)) (B.state board.old).pages (sight self.old) (key
+            (command_of request.now value.now))
+            → HasOpenRoom (shape_of (B.state board.old)) (B.state board.old).pages (sight self.old)
+            (charge (shape_of (B.state board.old)) request.now.size)
+            → Quietly (shape_of (B.state board.old)) (B.state board.old) (B.state board.new)
+            (sight self.old).frames result.reads
+            (charge (shape_of (B.state board.old)) request.now.size + commits_for (shape_of
+            (B.state board.old)) (sight self.old)) }
+        ensures quiet_delete { request.now.opcode ≡ DELETE → result.status ≡ SUCCESSFUL_COMPLETION
+            → IsQuiet (shape_of (B.state board.old)) (B.state board.old).pages (sight self.old) (key
+            (command_of request.now value.now))
+            → Quietly (shape_of (B.state board.old)) (B.state board.old) (B.state board.new)
+            (sight self.old).frames result.reads (commits_for (shape_of (B.state board.old))
+            (sight self.old)) }
+        ensures calls { request.now.opcode ≢ STORE → request.now.opcode ≢ DELETE
+            → FewCalls
+            (most_calls_of (shape_of (B.state board.old)) request.now.opcode request.now.size)
+            (B.state board.old) (B.state board.new) }
+        // what only reads changes nothing, and between two commands the drive is steady
+        ensures looks { only_looks request.now.opcode ≡ true → (sight self.new ≡ sight self.old)
+            × OnlyReading (B.state board.old) (B.state board.new) }
+        ensures steady { result.stopped ≡ false
+            → Steadies (B.state board.old) (B.state board.new) (sight self.old) (sight self.new) }
+        ensures flash_up { (B.state board.old).flash_faults ≤ (B.state board.new).flash_faults };
 
     /// Commits the pending entries by one program; where there are none it does nothing. A failure stops the drive.
     fn commit<B: Nand>(&mut self, board: &mut B) -> Result<(), NandFault>
@@ -79,19 +144,33 @@ pub trait Engine {
         ensures runs { OnOk result ((sight self.new).stopped ≡ false) }
         ensures stops { OnErr result ((sight self.new).stopped ≡ true) }
         ensures none { OnOk result ((sight self.new).pending ≡ []) }
-        ensures agrees { OnOk result (agrees self.new (B.state board.new).shape (B.state board.new).pages) }
-        ensures built { OnOk result ((r : Request) → r.opcode ≢ 0x01 → r.opcode ≢ 0x10 → built self.old r ≡ true → built self.new r ≡ true) }
-        ensures unbuilt { OnOk result ((r : Request) → built self.old r ≡ false → built self.new r ≡ false) }
-        ensures stands { OnOk result (CommitStands (B.state board.old) (B.state board.new) (sight self.old) (sight self.new)) }
-        ensures cuts { OnOk result (CommitReaches (B.state board.old) (B.state board.new) (sight self.old)) }
-        ensures cuts_failed { OnErr result (CommitGoes (B.state board.old) (B.state board.new) (sight self.old)) }
+        ensures agrees { OnOk result
+            (agrees self.new (B.state board.new).shape (B.state board.new).pages) }
+        ensures built { OnOk result ((r : Request) → r.opcode ≢ STORE → r.opcode ≢ DELETE
+            → built self.old r ≡ true → built self.new r ≡ true) }
+        ensures unbuilt { OnOk result
+            ((r : Request) → built self.old r ≡ false → built self.new r ≡ false) }
+        ensures stands { OnOk result
+            (KeepsMap (B.state board.old) (B.state board.new) (sight self.old) (sight self.new)) }
+        ensures cuts { OnOk result
+            (CallReaches (B.state board.old) (B.state board.new) (sight self.old) commit) }
+        ensures cuts_failed { OnErr result
+            (CallGoes (B.state board.old) (B.state board.new) (sight self.old) commit) }
         ensures rest { OnlyFlash (B.state board.old) (B.state board.new) }
         ensures reads { (B.state board.new).reads ≡ (B.state board.old).reads }
         ensures read_faults { (B.state board.new).read_faults ≡ (B.state board.old).read_faults }
-        ensures stop { OnErr result (Rose (B.state board.old).stop_faults (B.state board.new).stop_faults) }
-        ensures no_stop { OnOk result ((B.state board.new).stop_faults ≡ (B.state board.old).stop_faults) }
-        ensures sound { OnOk result ((B.state board.new).flash_faults ≡ (B.state board.old).flash_faults) }
-        ensures idle { (sight self.old).pending ≡ [] → IsOk result × (B.state board.new ≡ B.state board.old) }
+        ensures stop { OnErr result
+            (Rose (B.state board.old).stop_faults (B.state board.new).stop_faults) }
+        ensures no_stop { OnOk result
+            ((B.state board.new).stop_faults ≡ (B.state board.old).stop_faults) }
+        ensures sound { OnOk result
+            ((B.state board.new).flash_faults ≡ (B.state board.old).flash_faults) }
+        ensures idle { (sight self.old).pending ≡ [] → IsOk result
+            × (B.state board.new ≡ B.state board.old) × (sight self.new ≡ sight self.old) }
+        ensures seen { OnOk result (Commits (sight self.old) (sight self.new)) }
+        ensures steady { OnOk result
+            (Steadies (B.state board.old) (B.state board.new) (sight self.old) (sight self.new)) }
+        ensures flash_up { (B.state board.old).flash_faults ≤ (B.state board.new).flash_faults }
         ensures program { CommitPrograms (B.state board.old) (B.state board.new) (sight self.old) }
         ensures installs { roots (B.state board.new) ≡ roots (B.state board.old) };
 
@@ -103,21 +182,41 @@ pub trait Engine {
         requires none { (sight self.old).pending ≡ [] }
         ensures stops { (sight self.new).stopped ≡ stopped_by result }
         ensures none { (sight self.new).pending ≡ [] }
-        ensures agrees { stopped_by result ≡ false → agrees self.new (B.state board.new).shape (B.state board.new).pages }
-        ensures stands { stopped_by result ≡ false → TickStands (B.state board.old) (B.state board.new) (sight self.old) (sight self.new) }
-        ensures cuts { stopped_by result ≡ false → TickReaches (B.state board.old) (B.state board.new) (sight self.old) }
-        ensures cuts_stopped { stopped_by result ≡ true → TickGoes (B.state board.old) (B.state board.new) (sight self.old) }
+        ensures agrees { stopped_by result ≡ false
+            → agrees self.new (B.state board.new).shape (B.state board.new).pages }
+        ensures stands { stopped_by result ≡ false
+            → KeepsMap (B.state board.old) (B.state board.new) (sight self.old) (sight self.new) }
+        ensures cuts { stopped_by result ≡ false
+            → CallReaches (B.state board.old) (B.state board.new) (sight self.old) background }
+        ensures cuts_stopped { stopped_by result ≡ true
+            → CallGoes (B.state board.old) (B.state board.new) (sight self.old) background }
         ensures idle { TellsIdle (B.state board.old) (sight self.old) result }
-        ensures idle_rests { result ≡ Ticked.Idle → B.state board.new ≡ B.state board.old }
+        ensures idle_rests { result ≡ Ticked.Idle
+            → (B.state board.new ≡ B.state board.old) × (sight self.new ≡ sight self.old) }
+        ensures unmade { result ≡ Ticked.Fault false → (sight self.new ≡ sight self.old)
+            × OnlyReading (B.state board.old) (B.state board.new) }
+        ensures grows { Grows (shape_of (B.state board.old)) (B.state board.old).pages
+            (B.state board.new).pages }
+        ensures fresh { stopped_by result ≡ false → KeepsFresh (shape_of (B.state board.old))
+            (B.state board.old).pages (B.state board.new).pages (sight self.old) (sight self.new) }
+        ensures blocks { stopped_by result ≡ false
+            → (sight self.new).counts.blocks ≤ (sight self.old).counts.blocks }
+        ensures steady { stopped_by result ≡ false
+            → Steadies (B.state board.old) (B.state board.new) (sight self.old) (sight self.new) }
+        ensures flash_up { (B.state board.old).flash_faults ≤ (B.state board.new).flash_faults }
         ensures rest { OnlyFlash (B.state board.old) (B.state board.new) }
         ensures calls { AtMostOneCall (B.state board.old) (B.state board.new) }
-        ensures unread { result ≡ Ticked.Fault false → Rose (B.state board.old).read_faults (B.state board.new).read_faults }
+        ensures unread { result ≡ Ticked.Fault false
+            → Rose (B.state board.old).read_faults (B.state board.new).read_faults }
         ensures up { (B.state board.old).read_faults ≤ (B.state board.new).read_faults }
         ensures worked { result ≡ Ticked.Worked → NoFault (B.state board.old) (B.state board.new) }
-        ensures stop { stopped_by result ≡ true → Rose (B.state board.old).stop_faults (B.state board.new).stop_faults }
-        ensures no_stop { stopped_by result ≡ false → (B.state board.new).stop_faults ≡ (B.state board.old).stop_faults }
+        ensures stop { stopped_by result ≡ true
+            → Rose (B.state board.old).stop_faults (B.state board.new).stop_faults }
+        ensures no_stop { stopped_by result ≡ false
+            → (B.state board.new).stop_faults ≡ (B.state board.old).stop_faults }
         ensures installs { roots (B.state board.new) ≤ roots (B.state board.old) + 1 }
-        ensures merge { stopped_by result ≡ false → IsNextMerge (shape_of (B.state board.new)) (sight self.new).counts };
+        ensures merge { stopped_by result ≡ false
+            → IsNextMerge (shape_of (B.state board.new)) (sight self.new).counts };
 
     /// Whether it can serve this request.
     fn is_built(&self, request: &Request) -> bool
@@ -133,15 +232,25 @@ pub trait Engine {
 
     /// The numbers of roots are used up: on a drive that is not stopped, the newest root's number is at least 2^63.
     fn is_worn(&self) -> bool
-        ensures { (shape : Shape) (flash : Flash) → agrees self.now (Some shape) flash → (sight self.now).stopped ≡ false → result ≡ nat_le 9223372036854775808 (root_number shape flash) };
+        ensures { (shape : Shape) (flash : Flash) → agrees self.now (Some shape) flash
+            → (sight self.now).stopped ≡ false
+            → result ≡ nat_le 9223372036854775808 (root_number shape flash) };
 
-    /// The numbers of a Report. On a drive that is not stopped the first five are those of its map and its frames.
+    /// The numbers of a Report. On a drive that is not stopped the first five are those of its map and its frames, and the others
+    /// those of what stands on its flash.
     fn counts(&self) -> Counts
         ensures numbers { counts_of result ≡ (sight self.now).counts }
-        ensures map { (shape : Shape) (flash : Flash) (m : Map) → agrees self.now (Some shape) flash → (sight self.now).stopped ≡ false → map_of shape flash (sight self.now) ≡ Ok m → CountsMap shape (sight self.now).frames m (sight self.now).counts };
+        ensures map { (shape : Shape) (flash : Flash) (m : Map) → agrees self.now (Some shape) flash
+            → (sight self.now).stopped ≡ false → map_of shape flash (sight self.now) ≡ Ok m
+            → CountsMap shape (sight self.now).frames m (sight self.now).counts }
+        ensures steady { (shape : Shape) (flash : Flash) (m : Map)
+            → agrees self.now (Some shape) flash → (sight self.now).stopped ≡ false
+            → map_of shape flash (sight self.now) ≡ Ok m → IsSteady shape flash (sight self.now) };
 
     /// The live pages of its map, on a drive that is not stopped.
     fn live_pages(&self) -> u32
         ensures number { result ≡ (sight self.now).counts.live }
-        ensures map { (shape : Shape) (flash : Flash) (m : Map) → agrees self.now (Some shape) flash → (sight self.now).stopped ≡ false → map_of shape flash (sight self.now) ≡ Ok m → result ≡ live shape m };
+        ensures map { (shape : Shape) (flash : Flash) (m : Map) → agrees self.now (Some shape) flash
+            → (sight self.now).stopped ≡ false → map_of shape flash (sight self.now) ≡ Ok m
+            → result ≡ live shape m };
 }

@@ -1,5 +1,6 @@
 -- What the slots of a board over a file mean.
 use Rattle.std.specs.Prelude.{◌≡◌, ◌⊎◌, ℕ, ◌+◌, ◌<◌, ◌≤◌, List, length, map, All}
+use Rattle.pk_image.specs.declared.tag.TheConstants.{ERASED, WHOLE, TORN}
 use Rattle.pk_base.specs.Shape.{Shape}
 use Rattle.pk_base.specs.Page.{Page, Flash, erased, whole, torn, page_at, IsPage}
 use Rattle.pk_nand.specs.declared.types.PageRead.{PageRead}
@@ -20,9 +21,9 @@ pages_of slots = map page_of slots
 
 -- the byte that says a state in an image file
 abbrev pub byte_by : PageRead → ℕ
-byte_by Erased = 0
-byte_by Whole = 1
-byte_by Torn = 2
+byte_by Erased = ERASED
+byte_by Whole = WHOLE
+byte_by Torn = TORN
 
 -- the state bytes of slots
 abbrev pub bytes_of : List Slot → List ℕ

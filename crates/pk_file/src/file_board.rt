@@ -57,8 +57,10 @@ fn program_page(
     requires count { length slots.old.items ≡ spec.page_count (shape_or_none shape.now) }
     requires full { length bytes.now ≡ (shape_or_none shape.now).page_bytes }
     requires fit { AllFit (shape_or_none shape.now) slots.old.items }
-    ensures pages { OnOk result (pages_of slots.new.items ≡ slice_set (pages_of slots.old.items) page (whole bytes.now)) }
-    ensures left { OnErr result (LeftBehind (shape_or_none shape.now) (program page bytes.now) (pages_of slots.old.items) (pages_of slots.new.items) None None) }
+    ensures pages { OnOk result
+        (pages_of slots.new.items ≡ slice_set (pages_of slots.old.items) page (whole bytes.now)) }
+    ensures left { OnErr result (LeftBehind (shape_or_none shape.now) (program page bytes.now)
+        (pages_of slots.old.items) (pages_of slots.new.items) None None) }
     ensures count { length slots.new.items ≡ length slots.old.items }
     ensures fit { AllFit (shape_or_none shape.now) slots.new.items }
 {
@@ -88,8 +90,10 @@ fn erase_block(
     requires exists { block < (shape_or_none shape.now).blocks }
     requires count { length slots.old.items ≡ spec.page_count (shape_or_none shape.now) }
     requires fit { AllFit (shape_or_none shape.now) slots.old.items }
-    ensures pages { OnOk result (pages_of slots.new.items ≡ after (shape_or_none shape.now) (erase block) (pages_of slots.old.items)) }
-    ensures left { OnErr result (LeftBehind (shape_or_none shape.now) (erase block) (pages_of slots.old.items) (pages_of slots.new.items) None None) }
+    ensures pages { OnOk result (pages_of slots.new.items
+        ≡ after (shape_or_none shape.now) (erase block) (pages_of slots.old.items)) }
+    ensures left { OnErr result (LeftBehind (shape_or_none shape.now) (erase block)
+        (pages_of slots.old.items) (pages_of slots.new.items) None None) }
     ensures count { length slots.new.items ≡ length slots.old.items }
     ensures fit { AllFit (shape_or_none shape.now) slots.new.items }
 {
@@ -235,8 +239,9 @@ impl Nand for FileBoard<'_> {
     }
 
     fn read_count(&self) -> u64 {
-        // so that this count is known to be one of 64 bits
-        let _faults = self.read_faults;
+        // so that these counts are known to be of 64 bits
+        let _read_faults = self.read_faults;
+        let _flash_faults = self.flash_faults;
         self.reads
     }
 }

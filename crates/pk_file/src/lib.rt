@@ -9,6 +9,3 @@ mod slot;
 mod slots;
 
 pub use file_board::FileBoard;
-
-#[cfg(test)]
-mod tests;

@@ -7,7 +7,9 @@ ghost use Rattle.pk_file.specs.Slots.{AllFit};
 use crate::slot::Slot;
 use crate::slots::{known, slots_of};
 use pk_base::Shape;
-use pk_image::{ImageError, file_len, header, page_at, read_header, state_at};
+use pk_image::{
+    HEADER_BYTES, ImageError, PageTag, file_len, header, page_at, read_header, state_at,
+};
 use pk_nand::{LoadFault, PageRead};
 use std::alloc::Global;
 use std::fs::{File, OpenOptions};
@@ -40,8 +42,8 @@ fn opened(rt: &HostRuntime, path: &str) -> Result<Option<(File, u64)>, LoadFault
 
 /// The shape of a file of this length, by its header. Of a shorter file than a header nothing is read.
 fn shape_of(file: &File, len: u64) -> Result<Shape, LoadFault> {
-    let mut head = [0u8; 32];
-    if len >= 32 && file.read_exact_at(&mut head, 0).is_err() {
+    let mut head = [0u8; HEADER_BYTES];
+    if len >= HEADER_BYTES as u64 && file.read_exact_at(&mut head, 0).is_err() {
         return Err(LoadFault::Fault);
     }
     match read_header(&head, len) {
@@ -58,7 +60,10 @@ fn slots_in(alloc: Global, file: &File, shape: &Shape) -> Result<Vec<Slot>, Load
     let Ok(mut states) = Vec::from_elem(alloc, 0u8, shape.page_count() as usize) else {
         return Err(LoadFault::Memory);
     };
-    if file.read_exact_at(states.as_mut_slice(), 32).is_err() {
+    if file
+        .read_exact_at(states.as_mut_slice(), HEADER_BYTES as u64)
+        .is_err()
+    {
         return Err(LoadFault::Fault);
     }
     slots_of(alloc, shape, states.as_slice())
@@ -67,7 +72,8 @@ fn slots_in(alloc: Global, file: &File, shape: &Shape) -> Result<Vec<Slot>, Load
 /// Reads the bytes of a page, if it is Whole.
 fn fill(file: &File, at: u64, slot: &mut Slot) -> io::Result<()>
     ensures state { slot.new.state ≡ slot.old.state }
-    ensures fit { (shape : spec.Shape) → IsPage shape slot.old.bytes.items → IsPage shape slot.new.bytes.items }
+    ensures fit { (shape : spec.Shape) → IsPage shape slot.old.bytes.items
+        → IsPage shape slot.new.bytes.items }
 {
     if slot.state != PageRead::Whole {
         return Ok(());
@@ -148,31 +154,32 @@ pub enum Written {
     Whole,
 }
 
-/// Sets the page's state byte to 2, writes the page, then sets the state byte to 1.
+/// Writes a page. It counts as Torn until its bytes are written, so that a kill in between leaves a Torn page and never a
+/// wrong one.
 pub fn write_page(file: &File, shape: &Shape, page: u32, bytes: &[u8]) -> Written
     requires { page < spec.page_count shape.now }
 {
     let state = state_at(shape, page);
-    if file.write_all_at(&[2], state).is_err() {
+    if file.write_all_at(&[PageTag::Torn.byte()], state).is_err() {
         return Written::Nothing;
     }
     if file.write_all_at(bytes, page_at(shape, page)).is_err() {
         return Written::Torn;
     }
-    match file.write_all_at(&[1], state) {
+    match file.write_all_at(&[PageTag::Whole.byte()], state) {
         Ok(()) => Written::Whole,
         Err(_) => Written::Torn,
     }
 }
 
-/// Sets the state bytes of pages in a row to 0, and answers how many of them were set.
+/// Sets the state bytes of pages in a row to Erased, and answers how many of them were set.
 pub fn erase_pages(file: &File, shape: &Shape, first: u32, count: u32) -> u32
     requires small { count ≤ 256 }
     requires exists { first < spec.page_count shape.now }
     ensures { result ≤ count }
 {
-    let zeros = [0u8; 256];
-    match file.write_at(&zeros[..count as usize], state_at(shape, first)) {
+    let states = [PageTag::Erased.byte(); 256];
+    match file.write_at(&states[..count as usize], state_at(shape, first)) {
         Ok(done) => done as u32,
         Err(_) => 0,
     }

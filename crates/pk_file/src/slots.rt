@@ -7,6 +7,8 @@ ghost use Rattle.pk_nand.specs.Calls.{filled};
 ghost use Rattle.pk_nand.specs.Seen.{answer};
 ghost use Rattle.pk_nand.specs.declared.types.LoadFault.{LoadFault};
 ghost use Rattle.pk_nand.specs.declared.types.PageRead.{PageRead};
+ghost use Rattle.pk_image.specs.declared.head.TheConstants.{HEADER_BYTES};
+ghost use Rattle.pk_image.specs.declared.tag.TheConstants.{TORN};
 ghost use Rattle.pk_image.specs.Image.{bad_state, byte_of};
 ghost use Rattle.pk_file.specs.Slots.{byte_by, pages_of, bytes_of, AllFit, ErasedRow};
 
@@ -38,7 +40,8 @@ fn erased_slot(alloc: Global, shape: &Shape) -> Result<Slot, AllocError>
 
 /// All pages of a shape, Erased.
 pub fn erased_slots(alloc: Global, shape: &Shape) -> Result<Vec<Slot>, AllocError>
-    ensures pages { IfOk result (λ v. pages_of v.items ≡ replicate (spec.page_count shape.now) erased) }
+    ensures pages { IfOk result
+        (λ v. pages_of v.items ≡ replicate (spec.page_count shape.now) erased) }
     ensures count { IfOk result (λ v. length v.items ≡ spec.page_count shape.now) }
     ensures fit { IfOk result (λ v. AllFit shape.now v.items) }
 {
@@ -66,7 +69,8 @@ fn read_of(tag: PageTag) -> PageRead
 fn state_by(shape: &Shape, byte: u8, page: u32) -> Result<PageRead, LoadFault>
     requires { page < spec.page_count shape.now }
     ensures ok { IfOk result (λ state. byte_by state ≡ byte) }
-    ensures bad { (at : ℕ) → result ≡ Err (LoadFault.BadImage at) → (2 < byte) × (at ≡ 32 + page) }
+    ensures bad { (at : ℕ) → result ≡ Err (LoadFault.BadImage at)
+        → (TORN < byte) × (at ≡ HEADER_BYTES + page) }
 {
     match state(byte, state_at(shape, page)) {
         Ok(tag) => Ok(read_of(tag)),
@@ -79,7 +83,8 @@ fn slot_by(alloc: Global, shape: &Shape, byte: u8, page: u32) -> Result<Slot, Lo
     requires { page < spec.page_count shape.now }
     ensures state { IfOk result (λ slot. byte_by slot.state ≡ byte) }
     ensures fit { IfOk result (λ slot. IsPage shape.now slot.bytes.items) }
-    ensures bad { (at : ℕ) → result ≡ Err (LoadFault.BadImage at) → (2 < byte) × (at ≡ 32 + page) }
+    ensures bad { (at : ℕ) → result ≡ Err (LoadFault.BadImage at)
+        → (TORN < byte) × (at ≡ HEADER_BYTES + page) }
 {
     match state_by(shape, byte, page) {
         Ok(state) => match erased_slot(alloc, shape) {
@@ -98,7 +103,8 @@ pub fn slots_of(alloc: Global, shape: &Shape, states: &[u8]) -> Result<Vec<Slot>
     requires { length states.now ≡ spec.page_count shape.now }
     ensures states { IfOk result (λ v. bytes_of v.items ≡ states.now) }
     ensures fit { IfOk result (λ v. AllFit shape.now v.items) }
-    ensures bad { (at : ℕ) → result ≡ Err (LoadFault.BadImage at) → bad_state 32 states.now ≡ Some at }
+    ensures bad { (at : ℕ) → result ≡ Err (LoadFault.BadImage at)
+        → bad_state HEADER_BYTES states.now ≡ Some at }
 {
     let Ok(mut slots) = Vec::with_capacity(alloc, shape.page_count() as usize) else {
         return Err(LoadFault::Memory);
@@ -118,7 +124,8 @@ pub fn slots_of(alloc: Global, shape: &Shape, states: &[u8]) -> Result<Vec<Slot>
 /// Reads a page. A whole one fills `into`, another leaves it.
 pub fn read_slot(slots: &Vec<Slot>, page: usize, into: &mut [u8]) -> PageRead
     requires exists { page < length slots.now.items }
-    requires full { (shape : spec.Shape) × (length into.old ≡ shape.page_bytes) × AllFit shape slots.now.items }
+    requires full { (shape : spec.Shape) × (length into.old ≡ shape.page_bytes)
+        × AllFit shape slots.now.items }
     ensures found { result ≡ answer (page_at (pages_of slots.now.items) page) }
     ensures bytes { into.new ≡ filled (page_at (pages_of slots.now.items) page) into.old }
 {
@@ -139,10 +146,13 @@ fn overwrite(into: &mut Vec<u8>, bytes: &[u8])
 /// The page becomes Whole.
 pub fn write_slot(slots: &mut Vec<Slot>, page: usize, bytes: &[u8])
     requires exists { page < length slots.old.items }
-    requires fits { (shape : spec.Shape) × (length bytes.now ≡ shape.page_bytes) × AllFit shape slots.old.items }
-    ensures pages { pages_of slots.new.items ≡ slice_set (pages_of slots.old.items) page (whole bytes.now) }
+    requires fits { (shape : spec.Shape) × (length bytes.now ≡ shape.page_bytes)
+        × AllFit shape slots.old.items }
+    ensures pages { pages_of slots.new.items
+        ≡ slice_set (pages_of slots.old.items) page (whole bytes.now) }
     ensures count { length slots.new.items ≡ length slots.old.items }
-    ensures fit { (shape : spec.Shape) → AllFit shape slots.old.items → AllFit shape slots.new.items }
+    ensures fit { (shape : spec.Shape) → AllFit shape slots.old.items
+        → AllFit shape slots.new.items }
 {
     let slot = &mut slots[page];
     overwrite(&mut slot.bytes, bytes);
@@ -154,7 +164,8 @@ pub fn tear_slot(slots: &mut Vec<Slot>, page: usize)
     requires { page < length slots.old.items }
     ensures pages { pages_of slots.new.items ≡ slice_set (pages_of slots.old.items) page torn }
     ensures count { length slots.new.items ≡ length slots.old.items }
-    ensures fit { (shape : spec.Shape) → AllFit shape slots.old.items → AllFit shape slots.new.items }
+    ensures fit { (shape : spec.Shape) → AllFit shape slots.old.items
+        → AllFit shape slots.new.items }
 {
     slots[page].state = PageRead::Torn;
 }
@@ -164,7 +175,8 @@ fn erase_slot(slots: &mut Vec<Slot>, page: usize)
     requires { page < length slots.old.items }
     ensures pages { pages_of slots.new.items ≡ slice_set (pages_of slots.old.items) page erased }
     ensures count { length slots.new.items ≡ length slots.old.items }
-    ensures fit { (shape : spec.Shape) → AllFit shape slots.old.items → AllFit shape slots.new.items }
+    ensures fit { (shape : spec.Shape) → AllFit shape slots.old.items
+        → AllFit shape slots.new.items }
 {
     slots[page].state = PageRead::Erased;
 }
@@ -174,7 +186,8 @@ pub fn erase_slots(slots: &mut Vec<Slot>, first: usize, count: usize)
     requires { first + count ≤ length slots.old.items }
     ensures pages { ErasedRow first count (pages_of slots.old.items) (pages_of slots.new.items) }
     ensures count { length slots.new.items ≡ length slots.old.items }
-    ensures fit { (shape : spec.Shape) → AllFit shape slots.old.items → AllFit shape slots.new.items }
+    ensures fit { (shape : spec.Shape) → AllFit shape slots.old.items
+        → AllFit shape slots.new.items }
 {
     for i in 0..count {
         erase_slot(slots, first + i);

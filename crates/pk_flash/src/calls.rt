@@ -9,7 +9,7 @@ ghost use Rattle.pk_nand.specs.Seen.{state as seen, states, marks as seen_marks}
 ghost use Rattle.pk_flash.specs.Plan.{left_of};
 ghost use Rattle.pk_flash.specs.Outcomes.{choice as choice_of, program_choice as program_choice_of};
 ghost use Rattle.pk_flash.specs.Rows.{RowChosen};
-ghost use Rattle.pk_flash.specs.Exact.{ActsBy, PostsBy, part as part_of};
+ghost use Rattle.pk_flash.specs.Exact.{ActsBy, HasRoomFor, PostsBy, part as part_of};
 
 use crate::pages::{block_pages_of, choose, choose_row, program_choice};
 use crate::trail::Trail;
@@ -26,7 +26,8 @@ pub fn raise(count: &mut u64)
 }
 
 fn programmed(bytes: PageBytes, left: Option<&Left>) -> Option<PageState>
-    ensures { option_map seen result ≡ program_choice_of bytes (left_of (option_copied left.entry)) }
+    ensures { option_map seen result
+        ≡ program_choice_of bytes (left_of (option_copied left.entry)) }
 {
     match left {
         None => Some(PageState::Whole(bytes)),
@@ -43,11 +44,18 @@ pub fn program_page(
     left: Option<&Left>,
 ) -> Result<(), NandFault>
     requires { length bytes.now ≡ trail.old.page_bytes }
-    ensures exact { (shape : spec.Shape) → ActsBy shape (program at bytes.now) trail.old.room (option_copied left.entry) (states pages.old.items) (states pages.new.items) (seen_marks trail.old.marks.items) (seen_marks trail.new.marks.items) result }
-    ensures pages { OnOk result (states pages.new.items ≡ slice_set (states pages.old.items) at (whole bytes.now)) }
-    ensures marks { OnOk result (seen_marks trail.new.marks.items ≡ seen_marks trail.old.marks.items ++ program at bytes.now ∷ []) }
-    ensures flash { (shape : spec.Shape) → IsPage shape bytes.now → IsFlash shape (states pages.old.items) → IsFlash shape (states pages.new.items) }
-    ensures left { OnErr result ((shape : spec.Shape) → LeftBehind shape (program at bytes.now) (states pages.old.items) (states pages.new.items) (Some (seen_marks trail.old.marks.items)) (Some (seen_marks trail.new.marks.items))) }
+    ensures exact { (shape : spec.Shape) → ActsBy shape (program at bytes.now) trail.old.room
+        (option_copied left.entry) (states pages.old.items) (states pages.new.items)
+        (seen_marks trail.old.marks.items) (seen_marks trail.new.marks.items) result }
+    ensures pages { OnOk result
+        (states pages.new.items ≡ slice_set (states pages.old.items) at (whole bytes.now)) }
+    ensures marks { OnOk result (seen_marks trail.new.marks.items
+        ≡ seen_marks trail.old.marks.items ++ program at bytes.now ∷ []) }
+    ensures flash { (shape : spec.Shape) → IsPage shape bytes.now
+        → IsFlash shape (states pages.old.items) → IsFlash shape (states pages.new.items) }
+    ensures left { OnErr result ((shape : spec.Shape) → LeftBehind shape (program at bytes.now)
+        (states pages.old.items) (states pages.new.items) (Some (seen_marks trail.old.marks.items))
+        (Some (seen_marks trail.new.marks.items))) }
     ensures room { trail.new.room ≡ trail.old.room }
     ensures page_bytes { trail.new.page_bytes ≡ trail.old.page_bytes }
 {
@@ -71,11 +79,18 @@ pub fn erase_block(
     left: Option<&Left>,
 ) -> Result<(), NandFault>
     requires { block < (shape_or_none shape.now).blocks }
-    ensures exact { ActsBy (shape_or_none shape.now) (erase block) trail.old.room (option_copied left.entry) (states pages.old.items) (states pages.new.items) (seen_marks trail.old.marks.items) (seen_marks trail.new.marks.items) result }
-    ensures pages { OnOk result (states pages.new.items ≡ after (shape_or_none shape.now) (erase block) (states pages.old.items)) }
-    ensures marks { OnOk result (seen_marks trail.new.marks.items ≡ seen_marks trail.old.marks.items ++ erase block ∷ []) }
-    ensures flash { IsFlash (shape_or_none shape.now) (states pages.old.items) → IsFlash (shape_or_none shape.now) (states pages.new.items) }
-    ensures left { OnErr result (LeftBehind (shape_or_none shape.now) (erase block) (states pages.old.items) (states pages.new.items) (Some (seen_marks trail.old.marks.items)) (Some (seen_marks trail.new.marks.items))) }
+    ensures exact { ActsBy (shape_or_none shape.now) (erase block) trail.old.room
+        (option_copied left.entry) (states pages.old.items) (states pages.new.items)
+        (seen_marks trail.old.marks.items) (seen_marks trail.new.marks.items) result }
+    ensures pages { OnOk result (states pages.new.items
+        ≡ after (shape_or_none shape.now) (erase block) (states pages.old.items)) }
+    ensures marks { OnOk result
+        (seen_marks trail.new.marks.items ≡ seen_marks trail.old.marks.items ++ erase block ∷ []) }
+    ensures flash { IsFlash (shape_or_none shape.now) (states pages.old.items)
+        → IsFlash (shape_or_none shape.now) (states pages.new.items) }
+    ensures left { OnErr result (LeftBehind (shape_or_none shape.now) (erase block)
+        (states pages.old.items) (states pages.new.items) (Some (seen_marks trail.old.marks.items))
+        (Some (seen_marks trail.new.marks.items))) }
     ensures room { trail.new.room ≡ trail.old.room }
     ensures page_bytes { trail.new.page_bytes ≡ trail.old.page_bytes }
 {
@@ -107,12 +122,15 @@ fn give(
 ) -> Result<(), AllocError>
     requires { posted_room ≤ vec_capacity posted.old }
     ensures posted { OnOk result (posted.new.items ≡ posted.old.items ++ bytes.now) }
-    ensures marks { OnOk result (seen_marks trail.new.marks.items ≡ seen_marks trail.old.marks.items ++ post bytes.now ∷ []) }
-    ensures within { OnOk result (length posted.old.items + length bytes.now ≤ posted_room) }
-    ensures below { OnOk result (length trail.old.marks.items < trail.old.room) }
+    ensures marks { OnOk result (seen_marks trail.new.marks.items
+        ≡ seen_marks trail.old.marks.items ++ post bytes.now ∷ []) }
+    ensures had_room { OnOk result (HasRoomFor (length bytes.now) posted_room trail.old.room
+        posted.old.items trail.old.marks.items) }
     ensures posted_err { OnErr result (posted.new.items ≡ posted.old.items) }
     ensures marks_err { OnErr result (trail.new.marks.items ≡ trail.old.marks.items) }
-    ensures cause { OnErr result ((posted_room < length posted.old.items + length bytes.now) ⊎ (trail.old.room ≤ length trail.old.marks.items) ⊎ (trail.old.page_bytes < length bytes.now)) }
+    ensures cause { OnErr result ((posted_room < length posted.old.items + length bytes.now)
+        ⊎ (trail.old.room ≤ length trail.old.marks.items)
+        ⊎ (trail.old.page_bytes < length bytes.now)) }
     ensures holds { posted_room ≤ vec_capacity posted.new }
     ensures room { trail.new.room ≡ trail.old.room }
     ensures page_bytes { trail.new.page_bytes ≡ trail.old.page_bytes }
@@ -155,10 +173,14 @@ pub fn post_bytes(
     left: Option<&Left>,
 ) -> Result<(), HostFault>
     requires { posted_room ≤ vec_capacity posted.old }
-    ensures exact { PostsBy trail.old.page_bytes posted_room trail.old.room (option_copied left.entry) bytes.now posted.old.items posted.new.items (seen_marks trail.old.marks.items) (seen_marks trail.new.marks.items) result }
+    ensures exact { PostsBy trail.old.page_bytes posted_room trail.old.room
+        (option_copied left.entry) bytes.now posted.old.items posted.new.items
+        (seen_marks trail.old.marks.items) (seen_marks trail.new.marks.items) result }
     ensures posted { OnOk result (posted.new.items ≡ posted.old.items ++ bytes.now) }
-    ensures marks { OnOk result (seen_marks trail.new.marks.items ≡ seen_marks trail.old.marks.items ++ post bytes.now ∷ []) }
-    ensures left { OnErr result (PostLeft bytes.now (Some posted.old.items) (Some posted.new.items) (Some (seen_marks trail.old.marks.items)) (Some (seen_marks trail.new.marks.items))) }
+    ensures marks { OnOk result (seen_marks trail.new.marks.items
+        ≡ seen_marks trail.old.marks.items ++ post bytes.now ∷ []) }
+    ensures left { OnErr result (PostLeft bytes.now (Some posted.old.items) (Some posted.new.items)
+        (Some (seen_marks trail.old.marks.items)) (Some (seen_marks trail.new.marks.items))) }
     ensures holds { posted_room ≤ vec_capacity posted.new }
     ensures room { trail.new.room ≡ trail.old.room }
     ensures page_bytes { trail.new.page_bytes ≡ trail.old.page_bytes }

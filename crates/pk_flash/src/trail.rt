@@ -66,7 +66,8 @@ impl Trail {
     /// Adds a mark.
     pub fn note(&mut self, mark: Mark)
         requires { length self.old.marks.items < self.old.room }
-        ensures marks { seen_marks self.new.marks.items ≡ seen_marks self.old.marks.items ++ seen_mark mark ∷ [] }
+        ensures marks { seen_marks self.new.marks.items
+            ≡ seen_marks self.old.marks.items ++ seen_mark mark ∷ [] }
         ensures room { self.new.room ≡ self.old.room }
         ensures page { self.new.page_bytes ≡ self.old.page_bytes }
     {
@@ -78,7 +79,8 @@ impl Trail {
         requires space { length self.old.marks.items < self.old.room }
         requires full { length bytes.now ≡ self.old.page_bytes }
         ensures bytes { result ≡ bytes.now }
-        ensures marks { seen_marks self.new.marks.items ≡ seen_marks self.old.marks.items ++ program page bytes.now ∷ [] }
+        ensures marks { seen_marks self.new.marks.items
+            ≡ seen_marks self.old.marks.items ++ program page bytes.now ∷ [] }
         ensures room { self.new.room ≡ self.old.room }
         ensures page { self.new.page_bytes ≡ self.old.page_bytes }
     {
@@ -92,7 +94,8 @@ impl Trail {
     /// Adds the mark of a post. Bytes that fit a page have a buffer for them; more take memory, and nothing is done without.
     pub fn note_post(&mut self, alloc: Global, bytes: &[u8]) -> Result<(), AllocError>
         requires { length self.old.marks.items < self.old.room }
-        ensures marks { OnOk result (seen_marks self.new.marks.items ≡ seen_marks self.old.marks.items ++ post bytes.now ∷ []) }
+        ensures marks { OnOk result (seen_marks self.new.marks.items
+            ≡ seen_marks self.old.marks.items ++ post bytes.now ∷ []) }
         ensures err { OnErr result (self.new.marks.items ≡ self.old.marks.items) }
         ensures small { OnErr result (self.old.page_bytes < length bytes.now) }
         ensures room { self.new.room ≡ self.old.room }

@@ -5,7 +5,6 @@ use Rattle.std.proofs.lemmas.List.{append_assoc, append-nil}
 use Rattle.pk_nvme.specs.Bytes.{RoomyList}
 use Rattle.pk_nvme.specs.Text.{number_text}
 use Rattle.pk_gen.specs.Workload.{letters, value_len, opening, value_text}
-use Rattle.pk_gen.proofs.Keys.{few_digits}
 
 pub length-letters : (c j : ℕ) → length (letters c j) ≡ j
 length-letters c zero = refl

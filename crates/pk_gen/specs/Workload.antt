@@ -1,7 +1,9 @@
 -- The generated workload: draws from a start, and the command of each turn.
 use Rattle.std.specs.Prelude.{ℕ, zero, suc, ◌+◌, ◌-◌, ◌*◌, ◌/◌, ◌%◌, ◌^◌, ◌==◌, nat_lt, if◌then◌else◌, Bool, List, [], ◌∷◌, ◌++◌, length, replicate, codes}
+use Rattle.pk_nvme.specs.declared.limits.TheConstants.{NAMESPACE}
+use Rattle.pk_nvme.specs.declared.opcode.TheConstants.{STORE, RETRIEVE, LIST, DELETE, EXIST, TICK}
 use Rattle.pk_nvme.specs.Command.{Command}
-use Rattle.pk_nvme.specs.Seen.{command_of, entry_of}
+use Rattle.pk_nvme.specs.Seen.{command_of}
 use Rattle.pk_nvme.specs.Text.{number_text, padded_number}
 use Rattle.pk_nvme.specs.declared.request.Request.{Request}
 
@@ -51,20 +53,20 @@ abbrev pub value_text : ℕ → ℕ → List ℕ
 value_text b c = opening b ++ letters c (value_len c - (length (opening b) + 2)) ++ codes "\"}"
 
 abbrev pub request : ℕ → ℕ → ℕ → ℕ → Request
-request opcode cid b size = record { opcode = opcode; cid = cid; namespace = 1; key_len = 16; key = key_text b; size = size; options = 0 }
+request opcode cid b size = record { opcode = opcode; cid = cid; namespace = NAMESPACE; key_len = 16; key = key_text b; size = size; options = 0 }
 
 abbrev pub tick : ℕ → Request
-tick cid = record { opcode = 0xC0; cid = cid; namespace = 1; key_len = 0; key = replicate 16 0; size = 16; options = 0 }
+tick cid = record { opcode = TICK; cid = cid; namespace = NAMESPACE; key_len = 0; key = replicate 16 0; size = 16; options = 0 }
 
 -- the command of a turn by its draws: Store, Retrieve, Delete, Exist, and Tick or List
 abbrev pub drawn_request : ℕ → ℕ → ℕ → ℕ → Request
 drawn_request cid a b c =
-    if is_store a then request 0x01 cid b (value_len c)
-    else if nat_lt (a % 10) 7 then request 0x02 cid b 4096
-    else if a % 10 == 7 then request 0x10 cid b 0
-    else if a % 10 == 8 then request 0x14 cid b 0
+    if is_store a then request STORE cid b (value_len c)
+    else if nat_lt (a % 10) 7 then request RETRIEVE cid b 4096
+    else if a % 10 == 7 then request DELETE cid b 0
+    else if a % 10 == 8 then request EXIST cid b 0
     else if b % 2 == 1 then tick cid
-    else request 0x06 cid b 1024
+    else request LIST cid b 1024
 
 abbrev pub request_of : Generator → Request
 request_of g = drawn_request g.cid (a_of g) (b_of g) (c_of g)

@@ -4,6 +4,8 @@ ghost use Rattle.pk_nvme.specs.Text.{padded_number};
 ghost use Rattle.pk_gen.specs.Workload.{request, drawn_request, tick as spec_tick};
 
 use pk_nvme::Request;
+use pk_nvme::limits::NAMESPACE;
+use pk_nvme::opcode::{DELETE, EXIST, LIST, RETRIEVE, STORE, TICK};
 
 /// The command by the numbers that its turn drew.
 pub fn command(cid: u16, a: u32, b: u32, c: u32) -> Request
@@ -11,12 +13,12 @@ pub fn command(cid: u16, a: u32, b: u32, c: u32) -> Request
     ensures { result ≡ drawn_request cid a b c }
 {
     match a % 10 {
-        0..=4 => keyed(0x01, cid, b, 200 + c % 3801),
-        5 | 6 => keyed(0x02, cid, b, 4096),
-        7 => keyed(0x10, cid, b, 0),
-        8 => keyed(0x14, cid, b, 0),
+        0..=4 => keyed(STORE, cid, b, 200 + c % 3801),
+        5 | 6 => keyed(RETRIEVE, cid, b, 4096),
+        7 => keyed(DELETE, cid, b, 0),
+        8 => keyed(EXIST, cid, b, 0),
         _ if b % 2 == 1 => tick(cid),
-        _ => keyed(0x06, cid, b, 1024),
+        _ => keyed(LIST, cid, b, 1024),
     }
 }
 
@@ -27,7 +29,7 @@ fn keyed(opcode: u8, cid: u16, number: u32, size: u32) -> Request
     Request {
         opcode,
         cid,
-        namespace: 1,
+        namespace: NAMESPACE,
         key_len: 16,
         key: key(u64::from(number % 5000)),
         size,
@@ -40,9 +42,9 @@ fn tick(cid: u16) -> Request
     ensures { result ≡ spec_tick cid }
 {
     Request {
-        opcode: 0xC0,
+        opcode: TICK,
         cid,
-        namespace: 1,
+        namespace: NAMESPACE,
         key_len: 0,
         key: [0; 16],
         size: 16,

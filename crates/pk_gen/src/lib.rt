@@ -4,8 +4,6 @@
 mod command;
 mod draw;
 pub mod laws;
-#[cfg(test)]
-mod tests;
 mod value;
 mod workload;
 

@@ -1,5 +1,6 @@
 -- The header of an image file: its bytes, and the first field that is wrong.
 use Rattle.std.specs.Prelude.{◌≡◌, ℕ, ◌+◌, ◌*◌, List, [], ◌∷◌, Bool, ◌==◌, ◌&&◌, nat_le, if◌then◌else◌, is_ok, Option, Some}
+use Rattle.pk_image.specs.declared.head.TheConstants.{HEADER_BYTES}
 use Rattle.pk_base.specs.Fields.{u32, u32_at, unlike, unless, first_of, spelled, zeros}
 use Rattle.pk_base.specs.Shape.{Shape, IsShape, page_count, checked}
 use Rattle.pk_image.specs.declared.head.ImageError.{ImageError}
@@ -11,9 +12,9 @@ magic = 80 ∷ 73 ∷ 78 ∷ 75 ∷ 73 ∷ 77 ∷ 71 ∷ 49 ∷ []
 
 -- the bytes of a file of this shape: the header, and for each page a state byte and its bytes
 abbrev pub file_size : Shape → ℕ
-file_size shape = 32 + page_count shape * (shape.page_bytes + 1)
+file_size shape = HEADER_BYTES + page_count shape * (shape.page_bytes + 1)
 
--- the 32 bytes of the header of this shape
+-- the bytes of the header of this shape
 unfoldable pub header_bytes : Shape → List ℕ
 header_bytes shape = spelled (magic ∷ u32 shape.page_bytes ∷ u32 shape.block_pages ∷ u32 shape.blocks ∷ zeros 12 ∷ [])
 
@@ -38,11 +39,11 @@ pub record IsHeader (shape : Shape) (bytes : List ℕ) (size : ℕ) : Type 0 whe
 -- the fields of a header in order, each with its place; then the length of the file
 abbrev pub header_checks : List ℕ → ℕ → List (Option ℕ)
 header_checks bytes size =
-    unlike 0 magic bytes ∷ unless 8 (is_shape (named_shape bytes)) ∷ unlike 20 (zeros 12) bytes ∷ unless 32 (has_size (named_shape bytes) size) ∷ []
+    unlike 0 magic bytes ∷ unless 8 (is_shape (named_shape bytes)) ∷ unlike 20 (zeros 12) bytes ∷ unless HEADER_BYTES (has_size (named_shape bytes) size) ∷ []
 
 -- The first wrong field of a file's header. A file that is shorter than a header is wrong at its length.
 unfoldable pub header_fault : List ℕ → ℕ → Option ℕ
-header_fault bytes size = if nat_le 32 size then first_of (header_checks bytes size) else Some size
+header_fault bytes size = if nat_le HEADER_BYTES size then first_of (header_checks bytes size) else Some size
 
 -- the place that a refusal names
 abbrev pub place_of : ImageError → ℕ

@@ -1,5 +1,7 @@
 -- An image file: a header, a state byte for each page, and the pages.
 use Rattle.std.specs.Prelude.{◌≡◌, ℕ, zero, suc, ◌+◌, ◌*◌, ◌<◌, List, [], ◌∷◌, length, take, drop, slice_index, ◌==◌, nat_le, if◌then◌else◌, Option, Some, None}
+use Rattle.pk_image.specs.declared.head.TheConstants.{HEADER_BYTES}
+use Rattle.pk_image.specs.declared.tag.TheConstants.{ERASED, WHOLE, TORN}
 use Rattle.pk_base.specs.Fields.{AreBytes, first_of}
 use Rattle.pk_base.specs.Shape.{Shape, page_count}
 use Rattle.pk_base.specs.Page.{Page, Flash, erased, whole, torn, page_at}
@@ -11,24 +13,24 @@ use Rattle.pk_image.specs.Header.{named_shape, header_fault, IsHeader}
 
 -- the state bytes stand behind the header, one for each page
 abbrev pub state_place : ℕ → ℕ
-state_place page = 32 + page
+state_place page = HEADER_BYTES + page
 
 -- the pages stand behind the state bytes
 abbrev pub page_place : Shape → ℕ → ℕ
-page_place shape page = 32 + page_count shape + page * shape.page_bytes
+page_place shape page = HEADER_BYTES + page_count shape + page * shape.page_bytes
 
 -- ---- what a file is the image of
 
 abbrev pub byte_of : PageTag → ℕ
-byte_of Erased = 0
-byte_of Whole = 1
-byte_of Torn = 2
+byte_of Erased = ERASED
+byte_of Whole = WHOLE
+byte_of Torn = TORN
 
 -- the state byte of a page
 abbrev pub state_byte : Page → ℕ
-state_byte erased = 0
-state_byte (whole bytes) = 1
-state_byte torn = 2
+state_byte erased = ERASED
+state_byte (whole bytes) = WHOLE
+state_byte torn = TORN
 
 -- These bytes stand where a page has its place: its own where it is whole, else any.
 abbrev pub StandsFor : Page → List ℕ → Type 0
@@ -38,7 +40,7 @@ StandsFor torn bytes = Unit {0}
 
 -- the file is an image of these pages of this shape
 pub record IsImage (shape : Shape) (flash : Flash) (file : List ℕ) : Type 0 where
-  pub header : IsHeader shape (take 32 file) (length file)
+  pub header : IsHeader shape (take HEADER_BYTES file) (length file)
   pub count : length flash ≡ page_count shape
   pub states : (k : ℕ) → k < page_count shape → slice_index file (state_place k) ≡ state_byte (page_at flash k)
   pub pages : (k : ℕ) → k < page_count shape → StandsFor (page_at flash k) (take shape.page_bytes (drop (page_place shape k) file))
@@ -47,7 +49,7 @@ pub record IsImage (shape : Shape) (flash : Flash) (file : List ℕ) : Type 0 wh
 
 -- the page of this state byte and these bytes
 abbrev pub page_by : ℕ → List ℕ → Page
-page_by byte bytes = if byte == 0 then erased else if byte == 1 then whole bytes else torn
+page_by byte bytes = if byte == ERASED then erased else if byte == WHOLE then whole bytes else torn
 
 -- the page of this number in a file
 abbrev pub page_in_file : Shape → List ℕ → ℕ → Page
@@ -67,25 +69,25 @@ flash_in_file shape file = pages_in_file shape file 0 (page_count shape)
 -- the first of these state bytes that is none, where they begin at a place
 abbrev pub bad_state : ℕ → List ℕ → Option ℕ
 bad_state at [] = None
-bad_state at (byte ∷ bytes) = if nat_le byte 2 then bad_state (at + 1) bytes else Some at
+bad_state at (byte ∷ bytes) = if nat_le byte TORN then bad_state (at + 1) bytes else Some at
 
 -- the first byte at which a file is no image: one of the header, then a state byte
 unfoldable pub image_fault : List ℕ → Option ℕ
 image_fault file =
-    let header : List ℕ = take 32 file in
-    first_of (header_fault header (length file) ∷ bad_state 32 (take (page_count (named_shape header)) (drop 32 file)) ∷ [])
+    let header : List ℕ = take HEADER_BYTES file in
+    first_of (header_fault header (length file) ∷ bad_state HEADER_BYTES (take (page_count (named_shape header)) (drop HEADER_BYTES file)) ∷ [])
 
 -- ---- laws
 
 -- a file without a wrong byte is an image of the pages that are read of it
 abbrev pub WhatIsReadIsAnImage : Type 0
 WhatIsReadIsAnImage =
-    (file : List ℕ) → AreBytes file → image_fault file ≡ None → IsImage (named_shape (take 32 file)) (flash_in_file (named_shape (take 32 file)) file) file
+    (file : List ℕ) → AreBytes file → image_fault file ≡ None → IsImage (named_shape (take HEADER_BYTES file)) (flash_in_file (named_shape (take HEADER_BYTES file)) file) file
 
 -- an image has no wrong byte, and is read as its shape and its pages
 pub record IsRead (shape : Shape) (flash : Flash) (file : List ℕ) : Type 0 where
   pub good : image_fault file ≡ None
-  pub of_shape : named_shape (take 32 file) ≡ shape
+  pub of_shape : named_shape (take HEADER_BYTES file) ≡ shape
   pub of_pages : flash_in_file shape file ≡ flash
 
 abbrev pub EveryImageIsRead : Type 0

@@ -9,6 +9,9 @@ use pk_base::{
 };
 use thiserror::Error;
 
+/// The bytes of a header; the state bytes stand behind it.
+pub const HEADER_BYTES: usize = 32;
+
 const MAGIC: [u8; 8] = *b"PINKIMG1";
 
 /// Bytes are no image: the place of the first wrong one.
@@ -18,25 +21,25 @@ pub enum ImageError {
     Bad { at: u64 },
 }
 
-/// The first 32 bytes of an image of this shape.
-pub fn header(shape: &Shape) -> [u8; 32]
+/// The header of an image of this shape.
+pub fn header(shape: &Shape) -> [u8; HEADER_BYTES]
     ensures { result ≡ header_bytes shape.now }
 {
-    let mut bytes = [0u8; 32];
+    let mut bytes = [0u8; HEADER_BYTES];
     put_header(shape, &mut bytes);
     bytes
 }
 
 /// Writes a header over these bytes.
 fn put_header(shape: &Shape, into: &mut [u8])
-    requires { length into.old ≡ 32 }
+    requires { length into.old ≡ HEADER_BYTES }
     ensures { into.new ≡ header_bytes shape.now }
 {
     put_text(into, 0, &MAGIC);
     put_u32(into, 8, shape.page_bytes());
     put_u32(into, 12, shape.block_pages());
     put_u32(into, 16, shape.blocks());
-    put_zeros(into, 20, 32);
+    put_zeros(into, 20, HEADER_BYTES);
 }
 
 /// The length in bytes of an image file of this shape.
@@ -45,12 +48,12 @@ pub fn file_len(shape: &Shape) -> u64
 {
     let pages = u64::from(shape.page_count());
     let bytes = u64::from(shape.page_bytes());
-    32 + pages * (bytes + 1)
+    HEADER_BYTES as u64 + pages * (bytes + 1)
 }
 
 /// The shape of the numbers of a header.
 fn shape_in(bytes: &[u8]) -> Result<Shape, ShapeError>
-    requires { length bytes.now ≡ 32 }
+    requires { length bytes.now ≡ HEADER_BYTES }
     ensures value { result ≡ spec.checked (named_shape bytes.now) }
     ensures named { IfOk result (λ shape. shape ≡ named_shape bytes.now) }
 {
@@ -59,7 +62,7 @@ fn shape_in(bytes: &[u8]) -> Result<Shape, ShapeError>
 
 /// The numbers of a header are those of a shape.
 fn names_shape(bytes: &[u8]) -> bool
-    requires { length bytes.now ≡ 32 }
+    requires { length bytes.now ≡ HEADER_BYTES }
     ensures { result ≡ is_shape (named_shape bytes.now) }
 {
     match shape_in(bytes) {
@@ -70,7 +73,7 @@ fn names_shape(bytes: &[u8]) -> bool
 
 /// A file of this length has room for exactly the pages that a header names.
 fn fits(bytes: &[u8], size: u64) -> bool
-    requires { length bytes.now ≡ 32 }
+    requires { length bytes.now ≡ HEADER_BYTES }
     ensures { result ≡ has_size (named_shape bytes.now) size }
 {
     match shape_in(bytes) {
@@ -82,22 +85,24 @@ fn fits(bytes: &[u8], size: u64) -> bool
 /// The first wrong field of a header, in a file of this length.
 #[tactic(auto, unfolding(crate::specs::Header::header_fault))]
 fn checked(bytes: &[u8], size: u64) -> Result<(), Wrong>
-    requires sized { length bytes.now ≡ 32 }
-    requires long { 32 ≤ size }
+    requires sized { length bytes.now ≡ HEADER_BYTES }
+    requires long { HEADER_BYTES ≤ size }
     ensures { Finds result (header_fault bytes.now size) }
 {
     text(bytes, 0, &MAGIC)?;
     passes(8, names_shape(bytes))?;
-    zeros(bytes, 20, 32)?;
-    passes(32, fits(bytes, size))
+    zeros(bytes, 20, HEADER_BYTES)?;
+    passes(HEADER_BYTES as u32, fits(bytes, size))
 }
 
 /// The shape that a header names, or the first wrong field.
 fn shape_of(bytes: &[u8], file_len: u64) -> Result<Shape, ImageError>
-    requires { length bytes.now ≡ 32 }
-    ensures { MatchResult result (λ shape. (header_fault bytes.now file_len ≡ None) × (shape ≡ named_shape bytes.now)) (λ bad. header_fault bytes.now file_len ≡ Some (place_of bad)) }
+    requires { length bytes.now ≡ HEADER_BYTES }
+    ensures { MatchResult result
+        (λ shape. (header_fault bytes.now file_len ≡ None) × (shape ≡ named_shape bytes.now))
+        (λ bad. header_fault bytes.now file_len ≡ Some (place_of bad)) }
 {
-    if file_len < 32 {
+    if file_len < HEADER_BYTES as u64 {
         return Err(ImageError::Bad { at: file_len });
     }
     match checked(bytes, file_len) {
@@ -111,8 +116,8 @@ fn shape_of(bytes: &[u8], file_len: u64) -> Result<Shape, ImageError>
     }
 }
 
-/// The shape of an image, of its first 32 bytes and the length of its file. Of a shorter file the bytes past its end do not matter.
-pub fn read_header(bytes: &[u8; 32], file_len: u64) -> Result<Shape, ImageError>
+/// The shape of an image, of its header and the length of its file. Of a shorter file the bytes past its end do not matter.
+pub fn read_header(bytes: &[u8; HEADER_BYTES], file_len: u64) -> Result<Shape, ImageError>
     // What is read is a shape whose header this is, in a file of its length.
     ensures found { IfOk result (λ shape. IsHeader shape bytes.now file_len) }
     // The header of a shape is read as this shape.

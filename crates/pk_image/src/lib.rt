@@ -7,9 +7,6 @@ mod head;
 mod laws;
 mod tag;
 
-pub use head::{ImageError, file_len, header, read_header};
+pub use head::{HEADER_BYTES, ImageError, file_len, header, read_header};
 pub use laws::{every_image_is_read, what_is_read_is_an_image};
 pub use tag::{PageTag, page_at, state, state_at};
-
-#[cfg(test)]
-mod tests;

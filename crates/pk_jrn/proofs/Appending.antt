@@ -6,7 +6,7 @@ use Rattle.pk_base.specs.declared.entry.Entry.{Entry as RustEntry}
 use Rattle.pk_base.specs.Seen.{entries as seen_all}
 use Rattle.pk_base.specs.EntryBytes.{IsEntry}
 use Rattle.pk_base.specs.Shape.{Shape, IsShape, epoch_pages, page_entries}
-use Rattle.pk_base.specs.Page.{Flash, page_at, erased, whole, page_in, pages_of_blocks}
+use Rattle.pk_base.specs.Page.{Flash, page_at, erased, whole, page_in, commits_of}
 use Rattle.pk_base.specs.Entry.{Entry}
 use Rattle.pk_base.specs.Mark.{program, after}
 use Rattle.pk_nand.specs.BoardState.{BoardState, shape_of}
@@ -14,11 +14,12 @@ use Rattle.pk_nand.specs.Cut.{MayLeave, Interrupted}
 use Rattle.pk_nand.specs.Calls.{IsReady, ProgramFailed, after_program}
 use Rattle.pk_nand.proofs.Leaving.{page_at-slice_set, page_at-slice_set_same}
 use Rattle.pk_nand.proofs.Reaching.{Reached-program, Went-program_failed}
+use Rattle.pk_nand.proofs.Touching.{untouched}
 use Rattle.pk_nand.proofs.Writing.{SameOutside-set, SameOutside-cut}
 use Rattle.pk_jrnfmt.specs.Page.{journal_entries}
 use Rattle.pk_jrnfmt.specs.Epoch.{journal, epoch}
 use Rattle.pk_jrnfmt.proofs.PageLemmas.{journal_entries_again, length-seen}
-use Rattle.pk_jrn.specs.Epochs.{JournalEpoch, Fits, Reads, IsWhole, AreBlocks, left_of, next_page}
+use Rattle.pk_jrn.specs.Epochs.{JournalEpoch, Fits, Reads, HasCommit, AreBlocks, left_of, next_page}
 use Rattle.pk_jrn.specs.Appends.{next_bytes, AddsAll, AddsAllOrNone, IsCommitCut, CommitReached, CommitWent}
 use Rattle.pk_jrn.proofs.Places.{only_index, page_exists}
 use Rattle.pk_jrn.proofs.Journals.{IsNotWhole, erased_not_whole, torn_not_whole, epoch_is, reads_on, goes_on, ends}
@@ -67,7 +68,7 @@ module _ (e : JournalEpoch) (flash : Flash) (es : List Entry) (bytes : List ℕ)
     same j small other = others (page_in e.shape e.blocks j) (λ is. other (only_index e.shape e.blocks e.used j different inside small is))
 
     read_up : (before : List Entry) → Reads e flash before
-        → epoch e.shape (page_at cut) e.number e.blocks ≡ journal e.shape e.number e.used before (pages_of_blocks e.shape (page_at cut) e.blocks e.used (suc rest))
+        → epoch e.shape (page_at cut) e.number e.blocks ≡ journal e.shape e.number e.used before (commits_of e.shape (page_at cut) e.blocks e.used (suc rest))
     read_up before is =
         let first : 0 + e.used ≡ e.used = zero-add e.used in
         epoch_is e.shape (page_at cut) e.number e.blocks (e.used + suc rest) fits.two size
@@ -75,13 +76,13 @@ module _ (e : JournalEpoch) (flash : Flash) (es : List Entry) (bytes : List ℕ)
         (λ j low high. same j (omega (arith, high, inside)) (λ is. omega (arith, high, is)))
         (erased_not_whole (page_at flash (page_in e.shape e.blocks (0 + e.used))) (ap (λ k. page_at flash (page_in e.shape e.blocks k)) first ∙ was_erased))
         (sym (epoch_is e.shape (page_at flash) e.number e.blocks (e.used + suc rest) fits.two size) ∙ is)
-        ∙ (λ i. journal e.shape e.number (first i) before (pages_of_blocks e.shape (page_at cut) e.blocks (first i) (suc rest)))
+        ∙ (λ i. journal e.shape e.number (first i) before (commits_of e.shape (page_at cut) e.blocks (first i) (suc rest)))
 
     -- a page that is not whole adds nothing
     without : IsNotWhole (page_at cut (next_page e)) → (before : List Entry) → Reads e flash before → Reads e cut before
     without not_whole before is = read_up before is ∙ ends e.shape e.number e.blocks (page_at cut) e.used before (suc rest) not_whole
 
-    ends_behind : (so_far : List Entry) (n : ℕ) → n ≡ rest → journal e.shape e.number (e.used + 1) so_far (pages_of_blocks e.shape (page_at cut) e.blocks (e.used + 1) n) ≡ Ok so_far
+    ends_behind : (so_far : List Entry) (n : ℕ) → n ≡ rest → journal e.shape e.number (e.used + 1) so_far (commits_of e.shape (page_at cut) e.blocks (e.used + 1) n) ≡ Ok so_far
     unfolding rest
     ends_behind so_far zero is = refl
     ends_behind so_far (suc n) is =
@@ -99,15 +100,15 @@ module _ (e : JournalEpoch) (flash : Flash) (es : List Entry) (bytes : List ℕ)
       two = fits.two;
       within = omega (arith, inside);
       before =
-          let below : (j : ℕ) → j < e.used → IsWhole cut (page_in e.shape e.blocks j) = λ j small. let w = fits.before j small in (w.0, same j (omega (arith, small, inside)) (λ is. omega (arith, small, is)) ∙ w.1) in
-          λ j small. below_more (λ (j : ℕ). IsWhole cut (page_in e.shape e.blocks j)) e.used below (bytes, here) j (omega (arith, small));
+          let below : (j : ℕ) → j < e.used → HasCommit e.shape cut e.blocks j = λ j small. let w = fits.before j small in (w.0, same j (omega (arith, small, inside)) (λ is. omega (arith, small, is)) ∙ w.1) in
+          λ j small. below_more (λ (j : ℕ). HasCommit e.shape cut e.blocks j) e.used below (bytes, here) j (omega (arith, small));
       behind = λ _ j low high. same j high (λ is. omega (arith, low, is)) ∙ fits.behind more j (omega (arith, low)) high;
     }
 
   -- what an interrupted program of the page may leave
   all_or_none : (cut : Flash) → ((k : ℕ) → MayLeave e.shape (program (next_page e) bytes) k (page_at flash k) (page_at cut k)) → AddsAllOrNone e es flash cut
   all_or_none cut leaves before is room =
-      let others : (k : ℕ) → (k ≡ next_page e → ⊥) → page_at cut k ≡ page_at flash k = λ k other. elim (leaves k) [ inl stays ↦ stays | inr changed ↦ absurd (other changed.0) ] in
+      let others : (k : ℕ) → (k ≡ next_page e → ⊥) → page_at cut k ≡ page_at flash k = λ k other. untouched e.shape (program (next_page e) bytes) k _ _ other (leaves k) in
       elim (leaves (next_page e)) [
         | inl stays ↦ inl (without cut others (erased_not_whole _ (stays ∙ was_erased)) before is)
         | inr changed ↦ elim changed.1 [

@@ -3,7 +3,7 @@ use Rattle.std.proofs.Common.{◌≡◌, ℕ, zero, suc, ◌+◌, ◌*◌, ◌<�
 use Rattle.std.specs.Prelude.{⊤}
 use Rattle.std.proofs.lemmas.Bool.Decides.{nat_tests}
 use Rattle.pk_base.specs.Shape.{Shape, buffer, epoch_pages}
-use Rattle.pk_base.specs.Page.{Page, Flash, page_at, erased, whole, torn, page_in, pages_of_blocks}
+use Rattle.pk_base.specs.Page.{Page, Flash, page_at, erased, whole, torn, page_in, commits_of}
 use Rattle.pk_base.specs.Entry.{Entry}
 use Rattle.pk_base.specs.Refusal.{Refusal, damaged, ◌>>=◌, ensure, some_or}
 use Rattle.pk_base.specs.Firsts.{firsts}
@@ -38,35 +38,35 @@ module _ (shape : Shape) (number : ℕ) where
   ends_at index before p (whole bytes) pages not_whole = absurd (not_whole bytes refl)
 
   module _ (blocks : List ℕ) where
-    pub ends : (at : ℕ → Page) (index : ℕ) (before : List Entry) (n : ℕ) → IsNotWhole (at (page_in shape blocks index)) → journal shape number index before (pages_of_blocks shape at blocks index n) ≡ Ok before
+    pub ends : (at : ℕ → Page) (index : ℕ) (before : List Entry) (n : ℕ) → IsNotWhole (at (page_in shape blocks index)) → journal shape number index before (commits_of shape at blocks index n) ≡ Ok before
     ends at index before zero not_whole = refl
-    ends at index before (suc n) not_whole = ends_at index before (page_in shape blocks index) (at (page_in shape blocks index)) (pages_of_blocks shape at blocks (index + 1) n) not_whole
+    ends at index before (suc n) not_whole = ends_at index before (page_in shape blocks index) (at (page_in shape blocks index)) (commits_of shape at blocks (index + 1) n) not_whole
 
     -- the page of this index is whole
     module _ (at : ℕ → Page) (index : ℕ) (before : List Entry) (n : ℕ) (bytes : List ℕ) (here : at (page_in shape blocks index) ≡ whole bytes) where
       p : ℕ
       p = page_in shape blocks index
 
-      step : journal shape number index before (pages_of_blocks shape at blocks index (suc n))
-          ≡ (some_or (journal_entries shape number index bytes) (damaged p) >>= (λ es. ensure (nat_le (length (firsts (before ++ es))) (buffer shape)) p >>= (λ _. journal shape number (index + 1) (before ++ es) (pages_of_blocks shape at blocks (index + 1) n))))
+      step : journal shape number index before (commits_of shape at blocks index (suc n))
+          ≡ (some_or (journal_entries shape number index bytes) (damaged p) >>= (λ es. ensure (nat_le (length (firsts (before ++ es))) (buffer shape)) p >>= (λ _. journal shape number (index + 1) (before ++ es) (commits_of shape at blocks (index + 1) n))))
       unfolding p
-      step = ap (λ (page : Page). journal shape number index before ((p, page) ∷ pages_of_blocks shape at blocks (index + 1) n)) here
+      step = ap (λ (page : Page). journal shape number index before ((p, page) ∷ commits_of shape at blocks (index + 1) n)) here
 
       -- it adds its entries
       pub goes_on : (es : List Entry) → journal_entries shape number index bytes ≡ Some es → length (firsts (before ++ es)) ≤ buffer shape
-          → journal shape number index before (pages_of_blocks shape at blocks index (suc n)) ≡ journal shape number (index + 1) (before ++ es) (pages_of_blocks shape at blocks (index + 1) n)
+          → journal shape number index before (commits_of shape at blocks index (suc n)) ≡ journal shape number (index + 1) (before ++ es) (commits_of shape at blocks (index + 1) n)
       goes_on es spells within =
           let test : nat_le (length (firsts (before ++ es))) (buffer shape) ≡ true = grind (arith, nat_tests) in
           step ∙ rw (spells, test) refl
 
       -- or it refuses
       pub refuses : ((es : List Entry) → journal_entries shape number index bytes ≡ Some es → buffer shape < length (firsts (before ++ es)))
-          → journal shape number index before (pages_of_blocks shape at blocks index (suc n)) ≡ Err (damaged (page_in shape blocks index))
+          → journal shape number index before (commits_of shape at blocks index (suc n)) ≡ Err (damaged (page_in shape blocks index))
       unfolding p
       refuses many = step ∙ by_cases (journal_entries shape number index bytes) refl
         where
           by_cases : (o : Option (List Entry)) → journal_entries shape number index bytes ≡ o
-              → (some_or o (damaged p) >>= (λ es. ensure (nat_le (length (firsts (before ++ es))) (buffer shape)) p >>= (λ _. journal shape number (index + 1) (before ++ es) (pages_of_blocks shape at blocks (index + 1) n)))) ≡ Err (damaged p)
+              → (some_or o (damaged p) >>= (λ es. ensure (nat_le (length (firsts (before ++ es))) (buffer shape)) p >>= (λ _. journal shape number (index + 1) (before ++ es) (commits_of shape at blocks (index + 1) n)))) ≡ Err (damaged p)
           by_cases None e = refl
           by_cases (Some es) e =
               let more = many es e in
@@ -74,9 +74,9 @@ module _ (shape : Shape) (number : ℕ) where
               rw test refl
 
       -- where all is read, its entries are there
-      went_on : (all : List Entry) → journal shape number index before (pages_of_blocks shape at blocks index (suc n)) ≡ Ok all
+      went_on : (all : List Entry) → journal shape number index before (commits_of shape at blocks index (suc n)) ≡ Ok all
           → (es : List Entry) × (journal_entries shape number index bytes ≡ Some es) × (nat_le (length (firsts (before ++ es))) (buffer shape) ≡ true)
-          × (journal shape number (index + 1) (before ++ es) (pages_of_blocks shape at blocks (index + 1) n) ≡ Ok all)
+          × (journal shape number (index + 1) (before ++ es) (commits_of shape at blocks (index + 1) n) ≡ Ok all)
       went_on all is =
           let read = bind_ok (some_or (journal_entries shape number index bytes) (damaged p)) _ all (sym step ∙ is) in
           let tested = bind_ok (ensure (nat_le (length (firsts (before ++ read.0))) (buffer shape)) p) _ all read.2 in
@@ -95,36 +95,36 @@ module _ (shape : Shape) (number : ℕ) where
         → ((j : ℕ) → index ≤ j → j < index + n → (bytes : List ℕ) × (at (page_in shape blocks j) ≡ whole bytes))
         → ((j : ℕ) → index ≤ j → j < index + n → at' (page_in shape blocks j) ≡ at (page_in shape blocks j))
         → IsNotWhole (at (page_in shape blocks (index + n)))
-        → journal shape number index before (pages_of_blocks shape at blocks index (n + rest)) ≡ Ok all
-        → journal shape number index before (pages_of_blocks shape at' blocks index (n + rest)) ≡ journal shape number (index + n) all (pages_of_blocks shape at' blocks (index + n) rest)
+        → journal shape number index before (commits_of shape at blocks index (n + rest)) ≡ Ok all
+        → journal shape number index before (commits_of shape at' blocks index (n + rest)) ≡ journal shape number (index + n) all (commits_of shape at' blocks (index + n) rest)
     reads_on at at' zero rest index before all are_whole same stop is =
         let e : rest ≡ zero + rest = omega arith in
         let z : index + zero ≡ index = add-zero index in
         let not_whole : IsNotWhole (at (page_in shape blocks index)) = subst (λ (k : ℕ). IsNotWhole (at (page_in shape blocks k))) z stop in
         let b : before ≡ all = ok_same before all (sym (ends at index before (zero + rest) not_whole) ∙ is) in
-        λ i. journal shape number (sym z i) (b i) (pages_of_blocks shape at' blocks (sym z i) (sym e i))
+        λ i. journal shape number (sym z i) (b i) (commits_of shape at' blocks (sym z i) (sym e i))
     reads_on at at' (suc n) rest index before all are_whole same stop is =
         let e : suc n + rest ≡ suc (n + rest) = omega arith in
         let m : index + 1 + n ≡ index + suc n = omega arith in
         let w = are_whole index (le_refl index) (omega arith) in
-        let is' : journal shape number index before (pages_of_blocks shape at blocks index (suc (n + rest))) ≡ Ok all = subst (λ (k : ℕ). journal shape number index before (pages_of_blocks shape at blocks index k) ≡ Ok all) e is in
+        let is' : journal shape number index before (commits_of shape at blocks index (suc (n + rest))) ≡ Ok all = subst (λ (k : ℕ). journal shape number index before (commits_of shape at blocks index k) ≡ Ok all) e is in
         let g = went_on at index before (n + rest) w.0 w.1 all is' in
         let within : length (firsts (before ++ g.0)) ≤ buffer shape = grind (arith, nat_tests, g.2) in
-        ap (λ (k : ℕ). journal shape number index before (pages_of_blocks shape at' blocks index k)) e
+        ap (λ (k : ℕ). journal shape number index before (commits_of shape at' blocks index k)) e
         ∙ goes_on at' index before (n + rest) w.0 (same index (le_refl index) (omega arith) ∙ w.1) g.0 g.1 within
         ∙ reads_on at at' n rest (index + 1) (before ++ g.0) all (λ j low high. are_whole j (omega (arith, low)) (omega (arith, high))) (λ j low high. same j (omega (arith, low)) (omega (arith, high)))
         (subst (λ (k : ℕ). IsNotWhole (at (page_in shape blocks k))) (sym m) stop) g.3
-        ∙ (λ i. journal shape number (m i) all (pages_of_blocks shape at' blocks (m i) rest))
+        ∙ (λ i. journal shape number (m i) all (commits_of shape at' blocks (m i) rest))
 
 -- ---- whole epochs
 
-pub epoch_is : (shape : Shape) (at : ℕ → Page) (number : ℕ) (blocks : List ℕ) (n : ℕ) → length blocks ≡ 2 → epoch_pages shape ≡ n → epoch shape at number blocks ≡ journal shape number 0 [] (pages_of_blocks shape at blocks 0 n)
+pub epoch_is : (shape : Shape) (at : ℕ → Page) (number : ℕ) (blocks : List ℕ) (n : ℕ) → length blocks ≡ 2 → epoch_pages shape ≡ n → epoch shape at number blocks ≡ journal shape number 0 [] (commits_of shape at blocks 0 n)
 unfolding epoch
 epoch_is shape at number blocks n two size =
     let all : length blocks * shape.block_pages ≡ n = ap (λ k. k * shape.block_pages) two ∙ size in
-    ap (λ k. journal shape number 0 [] (pages_of_blocks shape at blocks 0 k)) all
+    ap (λ k. journal shape number 0 [] (commits_of shape at blocks 0 k)) all
 
-pages_from_same : (shape : Shape) (at at' : ℕ → Page) (blocks : List ℕ) (i n : ℕ) → ((j : ℕ) → i ≤ j → j < i + n → at' (page_in shape blocks j) ≡ at (page_in shape blocks j)) → pages_of_blocks shape at' blocks i n ≡ pages_of_blocks shape at blocks i n
+pages_from_same : (shape : Shape) (at at' : ℕ → Page) (blocks : List ℕ) (i n : ℕ) → ((j : ℕ) → i ≤ j → j < i + n → at' (page_in shape blocks j) ≡ at (page_in shape blocks j)) → commits_of shape at' blocks i n ≡ commits_of shape at blocks i n
 pages_from_same shape at at' blocks i zero same = refl
 pages_from_same shape at at' blocks i (suc n) same = λ k. (page_in shape blocks i, same i (le_refl i) (omega arith) k) ∷ pages_from_same shape at at' blocks (i + 1) n (λ j low high. same j (omega arith) (omega arith)) k
 

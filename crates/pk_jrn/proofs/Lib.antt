@@ -3,4 +3,3 @@ pub mod Places
 pub mod Journals
 pub mod Appending
 pub mod Replaying
-pub mod TestBoards

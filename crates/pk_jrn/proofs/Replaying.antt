@@ -1,12 +1,12 @@
 -- The pages of an epoch that are read one after another into a write buffer.
-use Rattle.std.proofs.Common.{◌≡◌, ℕ, zero, suc, ◌+◌, ◌-◌, ◌^◌, ◌<◌, ◌≤◌, refl, sym, ap, subst, ◌∙◌, arith, Bool, true, false, T, List, [], ◌∷◌, ◌++◌, length, take, Some, Result, Ok, Err, below_more}
-use Rattle.std.specs.Prelude.{slice_get, min}
+use Rattle.std.proofs.Common.{◌≡◌, ℕ, zero, suc, ◌+◌, ◌-◌, ◌^◌, ◌<◌, ◌≤◌, refl, sym, ap, subst, ◌∙◌, arith, Bool, true, false, T, List, [], ◌∷◌, ◌++◌, length, take, Some, Result, Ok, Err, below_more, zero-add}
+use Rattle.std.specs.Prelude.{slice_get, ◌*◌}
 use Rattle.std.specs.List.{AllByRecursion}
 use Rattle.std.specs.FinMap.Entries.{put, is_sorted}
 use Rattle.std.proofs.lemmas.List.{take_all, take-append-drop}
 use Rattle.pk_base.specs.Key.{key_cmp}
 use Rattle.pk_base.specs.Shape.{Shape, buffer, epoch_pages}
-use Rattle.pk_base.specs.Page.{Page, page_at, erased, whole, torn, page_in, pages_of_blocks}
+use Rattle.pk_base.specs.Page.{Page, page_at, erased, whole, torn, page_in, NumberedPages, commits_of}
 use Rattle.pk_base.specs.Entry.{Entry, key_of}
 use Rattle.pk_base.specs.EntryBytes.{IsEntry}
 use Rattle.pk_base.specs.Firsts.{firsts}
@@ -23,8 +23,8 @@ use Rattle.pk_nand.specs.Erased.{after_reads}
 use Rattle.pk_nand.specs.Seen.{answer}
 use Rattle.pk_nand.specs.declared.types.PageRead.{PageRead}
 use Rattle.pk_nand.specs.declared.types.PageRead.TheVariants.{Erased as ReadErased, Whole as ReadWhole, Torn as ReadTorn}
-use Rattle.pk_jrn.specs.Epochs.{IsWhole}
-use Rattle.pk_jrn.specs.Replays.{puts, PutOrFull, PutsOrFull, TakesPage, buffer_of, Replayed, after_replay, ReplayRefused}
+use Rattle.pk_jrn.specs.Epochs.{HasCommit}
+use Rattle.pk_jrn.specs.Replays.{puts, PutOrFull, PutsOrFull, TakesPage, buffer_of, Replayed, pages_to_end, epoch_reads, ReplayRefused}
 use Rattle.pk_jrn.proofs.Puts.{puts-snoc, puts_are_firsts, puts_too_many, firsts-reverse}
 use Rattle.pk_jrn.proofs.Journals.{IsNotWhole, ends, goes_on, refuses, epoch_is}
 
@@ -139,14 +139,28 @@ all_append : (P : Entry → Type 0) (xs ys : List Entry) → AllByRecursion P xs
 all_append P [] ys front back = back
 all_append P (x ∷ xs) ys front back = (front.0, all_append P xs ys front.1 back)
 
+-- a page that is not Whole is the last that is read
+ends_here : (p : ℕ) (page : Page) (later : NumberedPages) → IsNotWhole page → pages_to_end ((p, page) ∷ later) ≡ 1
+ends_here p erased later not_whole = refl
+ends_here p torn later not_whole = refl
+ends_here p (whole bytes) later not_whole = absurd (not_whole bytes refl)
+
+-- behind a Whole page the reads go on
+whole_counts : (p i : ℕ) (page : Page) (bytes : List ℕ) (later : NumberedPages) → page ≡ whole bytes → i + pages_to_end ((p, page) ∷ later) ≡ i + 1 + pages_to_end later
+whole_counts p i page bytes later is = ap (λ (q : Page). i + pages_to_end ((p, q) ∷ later)) is ∙ omega arith
+
+reads_are : (shape : Shape) (at : ℕ → Page) (blocks : List ℕ) (rest : ℕ) → length blocks ≡ 2 → epoch_pages shape ≡ rest → epoch_reads shape at blocks ≡ pages_to_end (commits_of shape at blocks 0 rest)
+reads_are shape at blocks rest two all = ap (λ (n : ℕ). pages_to_end (commits_of shape at blocks 0 (n * shape.block_pages))) two ∙ ap (λ (n : ℕ). pages_to_end (commits_of shape at blocks 0 n)) all
+
 module _ (shape : Shape) (number : ℕ) (blocks : List ℕ) (old : BoardState) where
   -- i pages were read and their entries written, and what is left to be read is the rest of the epoch
   pub record Replaying (now : BoardState) (i : ℕ) (into : Table) : Type 0 where
     pub entries : List Entry
     pub board : now ≡ after_reads i old
     pub held : into ≡ buffer_of shape entries
-    pub left : epoch shape (page_at old.pages) number blocks ≡ journal shape number i entries (pages_of_blocks shape (page_at old.pages) blocks i (epoch_pages shape - i))
-    pub before : (j : ℕ) → j < i → IsWhole old.pages (page_in shape blocks j)
+    pub left : epoch shape (page_at old.pages) number blocks ≡ journal shape number i entries (commits_of shape (page_at old.pages) blocks i (epoch_pages shape - i))
+    pub reads : epoch_reads shape (page_at old.pages) blocks ≡ i + pages_to_end (commits_of shape (page_at old.pages) blocks i (epoch_pages shape - i))
+    pub before : (j : ℕ) → j < i → HasCommit shape old.pages blocks j
     pub each : AllByRecursion (IsEntry shape) entries
 
   pub Replaying-start : (into : Table) → length blocks ≡ 2 → into ≡ no_entries shape → Replaying old 0 into
@@ -155,6 +169,7 @@ module _ (shape : Shape) (number : ℕ) (blocks : List ℕ) (old : BoardState) w
     board = refl;
     held = empty;
     left = epoch_is shape (page_at old.pages) number blocks (epoch_pages shape - 0) two (omega arith);
+    reads = reads_are shape (page_at old.pages) blocks (epoch_pages shape - 0) two (omega arith) ∙ sym (zero-add _);
     before = λ j small. absurd (omega (arith, small));
     each = tt;
   }
@@ -170,8 +185,11 @@ module _ (shape : Shape) (number : ℕ) (blocks : List ℕ) (old : BoardState) w
     keys : (es : List Entry) → length (puts es into.entries) ≡ length (firsts (r.entries ++ es))
     keys es = ap (λ (t : Table). length (puts es t.entries)) r.held ∙ ap length (puts_are_firsts r.entries es) ∙ firsts-reverse (r.entries ++ es)
 
-    left_here : (rest : ℕ) → epoch_pages shape - i ≡ rest → epoch shape (page_at old.pages) number blocks ≡ journal shape number i r.entries (pages_of_blocks shape (page_at old.pages) blocks i rest)
-    left_here rest e = r.left ∙ ap (λ k. journal shape number i r.entries (pages_of_blocks shape (page_at old.pages) blocks i k)) e
+    reads_here : (rest : ℕ) → epoch_pages shape - i ≡ rest → epoch_reads shape (page_at old.pages) blocks ≡ i + pages_to_end (commits_of shape (page_at old.pages) blocks i rest)
+    reads_here rest e = r.reads ∙ ap (λ k. i + pages_to_end (commits_of shape (page_at old.pages) blocks i k)) e
+
+    left_here : (rest : ℕ) → epoch_pages shape - i ≡ rest → epoch shape (page_at old.pages) number blocks ≡ journal shape number i r.entries (commits_of shape (page_at old.pages) blocks i rest)
+    left_here rest e = r.left ∙ ap (λ k. journal shape number i r.entries (commits_of shape (page_at old.pages) blocks i k)) e
 
     pub Replaying-next : (bytes : List ℕ) (new : BoardState) (into' : Table) → number < 2 ^ 64 → i < epoch_pages shape → page_at old.pages (page_in shape blocks i) ≡ whole bytes
         → new ≡ after_read now → TakesPage shape number i bytes into true into' → Replaying new (i + 1) into'
@@ -188,7 +206,8 @@ module _ (shape : Shape) (number : ℕ) (blocks : List ℕ) (old : BoardState) w
           board = read ∙ ap after_read r.board ∙ ap (λ k. after_reads k old) one;
           held = takes.2.0 ∙ ap (λ (t : Table). record t { entries = puts es t.entries }) r.held ∙ ap (λ (xs : List Entry). record { capacity = buffer shape; entries = xs }) (puts_are_firsts r.entries es);
           left = left_here (suc (epoch_pages shape - (i + 1))) step ∙ goes_on shape number blocks (page_at old.pages) i r.entries (epoch_pages shape - (i + 1)) bytes here es takes.1 within;
-          before = λ j small. below_more (λ (j : ℕ). IsWhole old.pages (page_in shape blocks j)) i r.before (bytes, here) j (omega (arith, small));
+          reads = reads_here (suc (epoch_pages shape - (i + 1))) step ∙ whole_counts (page_in shape blocks i) i _ bytes (commits_of shape (page_at old.pages) blocks (i + 1) (epoch_pages shape - (i + 1))) here;
+          before = λ j small. below_more (λ (j : ℕ). HasCommit shape old.pages blocks j) i r.before (bytes, here) j (omega (arith, small));
           each = all_append (IsEntry shape) r.entries es r.each (journal_held shape number i bytes es fits inside takes.1).content.each;
         }
 
@@ -220,7 +239,18 @@ module _ (shape : Shape) (number : ℕ) (blocks : List ℕ) (old : BoardState) w
       ends = λ _ is. not_whole is.0 is.1;
     }
 
-    pub reads_to_end : (new : BoardState) → i < epoch_pages shape → new ≡ after_read now → new ≡ after_replay shape i old
-    reads_to_end new inside read =
-        let k : suc i ≡ min (i + 1) (epoch_pages shape) = omega (arith, inside) in
+    -- the page that is not Whole is read too
+    pub reads_to_end : (new : BoardState) → i < epoch_pages shape → IsNotWhole (page_at old.pages (page_in shape blocks i)) → new ≡ after_read now
+        → new ≡ after_reads (epoch_reads shape (page_at old.pages) blocks) old
+    reads_to_end new inside not_whole read =
+        let step : epoch_pages shape - i ≡ suc (epoch_pages shape - (i + 1)) = omega (arith, inside) in
+        let all = reads_here (suc (epoch_pages shape - (i + 1))) step ∙ ap (λ (n : ℕ). i + n) (ends_here (page_in shape blocks i) _ (commits_of shape (page_at old.pages) blocks (i + 1) (epoch_pages shape - (i + 1))) not_whole) in
+        let k : suc i ≡ epoch_reads shape (page_at old.pages) blocks = omega (arith, all) in
         read ∙ ap after_read r.board ∙ ap (λ n. after_reads n old) k
+
+    -- a full epoch has no such page
+    pub reads_all : epoch_pages shape ≤ i → now ≡ after_reads (epoch_reads shape (page_at old.pages) blocks) old
+    reads_all full =
+        let all = reads_here 0 (omega (arith, full)) in
+        let k : i ≡ epoch_reads shape (page_at old.pages) blocks = omega (arith, all) in
+        r.board ∙ ap (λ n. after_reads n old) k

@@ -1,11 +1,12 @@
--- An epoch of the journal: its pages, how many of them are written, and how it stands to a flash.
+-- An epoch of the journal: its commits, how many it has, and how it stands to a flash.
 use Rattle.std.specs.Prelude.{◌≡◌, ◌≢◌, ℕ, ◌+◌, ◌-◌, ◌*◌, ◌<◌, ◌≤◌, Bool, true, false, if◌then◌else◌, List, length, slice_index, Ok}
-use Rattle.pk_base.specs.Shape.{Shape, epoch_pages}
-use Rattle.pk_base.specs.Page.{Flash, page_at, erased, whole, page_in}
+use Rattle.pk_base.specs.Shape.{Shape, epoch_pages, epoch_commits}
+use Rattle.pk_base.specs.Page.{Flash, page_at, erased, whole, page_in, commit_page, commit_at}
 use Rattle.pk_base.specs.Entry.{Entry}
+use Rattle.pk_nand.specs.Calls.{IsErasedBlock}
 use Rattle.pk_jrnfmt.specs.Epoch.{epoch}
 
--- its number, its blocks in their order, how many of its pages are written, and whether it takes more
+-- its number, its blocks in their order, how many commits it has, and whether it takes more
 pub record JournalEpoch : Type 0 where
   pub shape : Shape
   pub number : ℕ
@@ -13,21 +14,21 @@ pub record JournalEpoch : Type 0 where
   pub used : ℕ
   pub takes_more : Bool
 
--- an epoch of which no page is written
+-- an epoch without a commit
 abbrev pub started : Shape → ℕ → List ℕ → JournalEpoch
 started shape number blocks = record { shape = shape; number = number; blocks = blocks; used = 0; takes_more = true }
 
--- an epoch as it is found at opening: it takes no more pages
+-- an epoch as it is found at opening: it takes no more commits
 abbrev pub found_at_opening : Shape → ℕ → List ℕ → ℕ → JournalEpoch
 found_at_opening shape number blocks used = record { shape = shape; number = number; blocks = blocks; used = used; takes_more = false }
 
--- how many more pages it takes
+-- how many more commits it takes
 abbrev pub left_of : JournalEpoch → ℕ
-left_of e = if e.takes_more then epoch_pages e.shape - e.used else 0
+left_of e = if e.takes_more then epoch_commits e.shape - e.used else 0
 
--- the page of the flash that is its first not written
+-- the first page of its next commit
 abbrev pub next_page : JournalEpoch → ℕ
-next_page e = page_in e.shape e.blocks e.used
+next_page e = commit_page e.shape e.blocks e.used
 
 -- the blocks of an epoch are blocks of the flash
 abbrev pub AllExist : Shape → List ℕ → Type 0
@@ -38,23 +39,19 @@ pub record AreBlocks (shape : Shape) (blocks : List ℕ) : Type 0 where
   pub exist : AllExist shape blocks
   pub different : slice_index blocks 0 ≢ slice_index blocks 1
 
--- the page is Whole
-abbrev pub IsWhole : Flash → ℕ → Type 0
-IsWhole flash at = (bytes : List ℕ) × (page_at flash at ≡ whole bytes)
-
--- every page of the block is Erased
-abbrev pub IsErasedBlock : Shape → Flash → ℕ → Type 0
-IsErasedBlock shape flash b = (k : ℕ) → b * shape.block_pages ≤ k → k < b * shape.block_pages + shape.block_pages → page_at flash k ≡ erased
+-- the epoch of these blocks has a commit of this index: the page by which it is read is Whole
+abbrev pub HasCommit : Shape → Flash → List ℕ → ℕ → Type 0
+HasCommit shape flash blocks j = (bytes : List ℕ) × ((commit_at shape (page_at flash) blocks j).1 ≡ whole bytes)
 
 -- both blocks of an epoch are Erased
 abbrev pub AreErased : Shape → Flash → List ℕ → Type 0
 AreErased shape flash blocks = (n : ℕ) → n < 2 → IsErasedBlock shape flash (slice_index blocks n)
 
--- The written pages of the epoch are Whole, and where it takes more, all others are Erased.
+-- The epoch's commits can be read, and where it takes more, all pages behind them are Erased.
 pub record Fits (e : JournalEpoch) (flash : Flash) : Type 0 where
   pub two : length e.blocks ≡ 2
-  pub within : e.used ≤ epoch_pages e.shape
-  pub before : (j : ℕ) → j < e.used → IsWhole flash (page_in e.shape e.blocks j)
+  pub within : e.used ≤ epoch_commits e.shape
+  pub before : (j : ℕ) → j < e.used → HasCommit e.shape flash e.blocks j
   pub behind : e.takes_more ≡ true → (j : ℕ) → e.used ≤ j → j < epoch_pages e.shape → page_at flash (page_in e.shape e.blocks j) ≡ erased
 
 -- these are the entries of the epoch of this flash

@@ -1,10 +1,10 @@
 -- An epoch that is read from a flash into a write buffer.
-use Rattle.std.specs.Prelude.{◌≡◌, ℕ, ◌+◌, ◌<◌, ◌≤◌, Bool, true, false, List, [], ◌∷◌, length, min, reverse, Some, Ok, Err}
+use Rattle.std.specs.Prelude.{◌≡◌, ℕ, suc, ◌+◌, ◌*◌, ◌<◌, ◌≤◌, Bool, true, false, List, [], ◌∷◌, length, reverse, Some, Ok, Err}
 use Rattle.std.specs.FinMap.Entries.{put}
 use Rattle.std.specs.List.{AllByRecursion}
 use Rattle.pk_base.specs.Key.{key_cmp}
-use Rattle.pk_base.specs.Shape.{Shape, buffer, epoch_pages}
-use Rattle.pk_base.specs.Page.{Flash, page_at, page_in}
+use Rattle.pk_base.specs.Shape.{Shape, buffer, epoch_commits}
+use Rattle.pk_base.specs.Page.{Page, erased, whole, torn, Flash, page_at, NumberedPages, commit_page, commit_at, commits_of}
 use Rattle.pk_base.specs.Entry.{Entry, key_of}
 use Rattle.pk_base.specs.EntryBytes.{IsEntry}
 use Rattle.pk_base.specs.Firsts.{firsts}
@@ -17,41 +17,48 @@ use Rattle.pk_nand.specs.Calls.{Rose, ReadFailed}
 use Rattle.pk_nand.specs.Erased.{after_reads}
 use Rattle.pk_jrn.specs.declared.error.ReplayError.{ReplayError}
 use Rattle.pk_jrn.specs.declared.error.ReplayError.TheVariants.{Damaged, Fault}
-use Rattle.pk_jrn.specs.Epochs.{IsWhole}
+use Rattle.pk_jrn.specs.Epochs.{HasCommit}
 
 -- a write buffer that holds these entries, of which the later one of a key counts
 abbrev pub buffer_of : Shape → List Entry → Table
 buffer_of shape es = record { capacity = buffer shape; entries = firsts (reverse es) }
 
--- the board behind a replay of so many pages: the page that ends it is read too, unless the epoch is full
-abbrev pub after_replay : Shape → ℕ → BoardState → BoardState
-after_replay shape used old = after_reads (min (used + 1) (epoch_pages shape)) old
+-- the pages up to the first that is not Whole, and that one
+abbrev pub pages_to_end : NumberedPages → ℕ
+pages_to_end [] = 0
+pages_to_end ((p, erased) ∷ pages) = 1
+pages_to_end ((p, torn) ∷ pages) = 1
+pages_to_end ((p, whole bytes) ∷ pages) = suc (pages_to_end pages)
+
+-- an epoch is read up to its end; one without blocks is not read
+abbrev pub epoch_reads : Shape → (ℕ → Page) → List ℕ → ℕ
+epoch_reads shape at blocks = pages_to_end (commits_of shape at blocks 0 (length blocks * shape.block_pages))
 
 module _ (shape : Shape) (number : ℕ) (blocks : List ℕ) where
-  -- so many pages were replayed: they are those before the first that is not Whole, and the buffer holds the epoch's entries
+  -- so many commits were replayed: they are those before the first whose page is not Whole, and the buffer holds the epoch's entries
   pub record Replayed (flash : Flash) (used : ℕ) (into : Table) : Type 0 where
     pub entries : List Entry
     pub read : epoch shape (page_at flash) number blocks ≡ Ok entries
     pub held : into ≡ buffer_of shape entries
     pub each : AllByRecursion (IsEntry shape) entries
-    pub within : used ≤ epoch_pages shape
-    pub before : (j : ℕ) → j < used → IsWhole flash (page_in shape blocks j)
-    pub ends : used < epoch_pages shape → IsWhole flash (page_in shape blocks used) → ⊥
+    pub within : used ≤ epoch_commits shape
+    pub before : (j : ℕ) → j < used → HasCommit shape flash blocks j
+    pub ends : used < epoch_commits shape → HasCommit shape flash blocks used → ⊥
 
   -- the reading of the epoch refuses with this page, behind which nothing was read
   pub record ReplayRefused (old new : BoardState) (page : ℕ) : Type 0 where
     pub index : ℕ
-    pub within : index < epoch_pages shape
-    pub page_is : page ≡ page_in shape blocks index
+    pub within : index < epoch_commits shape
+    pub page_is : page ≡ (commit_at shape (page_at old.pages) blocks index).0
     pub read : epoch shape (page_at old.pages) number blocks ≡ Err (damaged page)
     pub board : new ≡ after_reads (index + 1) old
 
   -- a read failed, behind others that did not
   pub record ReplayFailed (old new : BoardState) : Type 0 where
     pub made : ℕ
-    pub within : made < epoch_pages shape
-    pub before : (j : ℕ) → j < made → IsWhole old.pages (page_in shape blocks j)
-    pub failed : ReadFailed (after_reads made old) new (page_in shape blocks made)
+    pub within : made < epoch_commits shape
+    pub before : (j : ℕ) → j < made → HasCommit shape old.pages blocks j
+    pub failed : ReadFailed (after_reads made old) new (commit_page shape blocks made)
     pub flash : Rose old.flash_faults new.flash_faults
     pub read : Rose old.read_faults new.read_faults
 
@@ -77,7 +84,7 @@ abbrev pub PutsOrFull : Table → List Entry → Bool → Table → Type 0
 PutsOrFull old es true new = (new ≡ record old { entries = puts es old.entries }) × (length new.entries ≤ old.capacity)
 PutsOrFull old es false new = (new.capacity ≡ old.capacity) × (old.capacity < length (puts es old.entries))
 
--- The entries of the epoch's page of this index were written; or the bytes are none, or there is no room for all its entries.
+-- The entries of the epoch's commit of this index were written; or the bytes are none, or there is no room for all its entries.
 abbrev pub TakesPage : Shape → ℕ → ℕ → List ℕ → Table → Bool → Table → Type 0
 TakesPage shape number index page old true new = (es : List Entry) × (journal_entries shape number index page ≡ Some es) × PutsOrFull old es true new
 TakesPage shape number index page old false new = (new.capacity ≡ old.capacity) × ((es : List Entry) → journal_entries shape number index page ≡ Some es → old.capacity < length (puts es old.entries))

@@ -1,7 +1,7 @@
 //! The entries of a journal page, written into a write buffer.
 ghost use Rattle.std.specs.Prelude.{◌≡◌, ℕ, ◌<◌, List, length, MatchBool};
 ghost use Rattle.pk_base.specs.Fields.{number_at};
-ghost use Rattle.pk_base.specs.Shape.{epoch_pages};
+ghost use Rattle.pk_base.specs.Shape.{epoch_commits};
 ghost use Rattle.pk_base.specs.Entry.{Entry as EntrySpec};
 ghost use Rattle.pk_base.specs.Seen.{entry as seen};
 ghost use Rattle.pk_jrnfmt.specs.Page.{Decodes, IsJournalPage};
@@ -31,7 +31,9 @@ fn put_all<A: Region>(shape: &Shape, page: &[u8], count: u32, into: &mut Buffer<
     requires sized { length page.now ≡ shape.now.page_bytes }
     requires decodes { Decodes shape.now page.now }
     requires count { count ≡ number_at 2 20 page.now }
-    ensures { (epoch index : ℕ) (es : List EntrySpec) → IsJournalPage shape.now page.now epoch index es → length es ≡ count → PutsOrFull into.old es result into.new }
+    ensures { (epoch index : ℕ) (es : List EntrySpec)
+        → IsJournalPage shape.now page.now epoch index es → length es ≡ count
+        → PutsOrFull into.old es result into.new }
 {
     // so that the entries are known to rise
     let _ = into.len();
@@ -46,7 +48,8 @@ fn put_all<A: Region>(shape: &Shape, page: &[u8], count: u32, into: &mut Buffer<
 
 // Whether a page is the one of this epoch and index.
 fn is_of(head: JrnHead, number: u64, index: u32) -> bool
-    ensures { MatchBool result ((head.epoch ≡ number) × (head.index ≡ index)) ((head.epoch ≡ number) × (head.index ≡ index) → ⊥) }
+    ensures { MatchBool result ((head.epoch ≡ number) × (head.index ≡ index)) ((head.epoch ≡ number)
+        × (head.index ≡ index) → ⊥) }
 {
     head.epoch == number && head.index == index
 }
@@ -60,7 +63,7 @@ pub fn take_page<A: Region>(
     into: &mut Buffer<A>,
 ) -> bool
     requires sized { length page.now ≡ shape.now.page_bytes }
-    requires within { index < epoch_pages shape.now }
+    requires within { index < epoch_commits shape.now }
     ensures { TakesPage shape.now number index page.now into.old result into.new }
 {
     match decode(shape, page) {

@@ -1,7 +1,7 @@
 //! An epoch and its next page.
 ghost use Rattle.std.specs.Prelude.{◌≡◌, ℕ, ◌+◌, ◌<◌, ◌≤◌, length, [], Some, IfErr, OnOk, OnErr};
 ghost use Rattle.std.specs.List.{AllByRecursion};
-ghost use Rattle.pk_base.specs.Shape.{page_entries, epoch_pages};
+ghost use Rattle.pk_base.specs.Shape.{page_entries, epoch_commits};
 ghost use Rattle.pk_base.specs.Page.{Flash};
 ghost use Rattle.pk_base.specs.EntryBytes.{IsEntry};
 ghost use Rattle.pk_base.specs.Seen.{entries as seen_all};
@@ -30,14 +30,20 @@ pub struct Epoch {
 
 impl Model for Epoch {
     ghost use Rattle.std.specs.Prelude.{◌≡◌, ◌≤◌, length};
-    ghost use Rattle.pk_base.specs.Shape.{epoch_pages};
+    ghost use Rattle.pk_base.specs.Shape.{epoch_commits};
     ghost use Rattle.pk_jrn.specs.Epochs.{JournalEpoch};
 
     ghost Value = { JournalEpoch };
 
-    ghost view = { λ e. record { shape = e.shape; number = e.number; blocks = e.blocks; used = e.used; takes_more = e.takes_more } };
+    ghost view = { λ e. record {
+      shape = e.shape;
+      number = e.number;
+      blocks = e.blocks;
+      used = e.used;
+      takes_more = e.takes_more;
+    } };
 
-    ghost invariant = { λ e. (length e.blocks ≡ 2) × (e.used ≤ epoch_pages e.shape) };
+    ghost invariant = { λ e. (length e.blocks ≡ 2) × (e.used ≤ epoch_commits e.shape) };
 }
 
 impl Epoch {
@@ -58,7 +64,7 @@ impl Epoch {
 
     /// An epoch as it is found at opening, of which so many pages are Whole. It takes no more pages.
     pub fn found(shape: Shape, number: u64, blocks: [u16; 2], used: u32) -> Epoch
-        requires { used ≤ epoch_pages shape }
+        requires { used ≤ epoch_commits shape }
         ensures { result ≡ found_at_opening shape number blocks used }
     {
         Epoch {
@@ -76,7 +82,7 @@ impl Epoch {
     {
         self.shape.known();
         if self.takes_more {
-            2 * self.shape.block_pages() - self.used
+            self.shape.epoch_commits() - self.used
         } else {
             0
         }
@@ -85,7 +91,7 @@ impl Epoch {
     /// How many of its pages are written.
     pub fn used(&self) -> u32
         ensures value { result ≡ self.now.used }
-        ensures most { result ≤ epoch_pages self.now.shape }
+        ensures most { result ≤ epoch_commits self.now.shape }
     {
         self.used
     }
@@ -129,15 +135,22 @@ impl Epoch {
         requires fits { Fits self.old (B.state board.old).pages }
         requires blocks { AreBlocks self.old.shape self.old.blocks }
         requires room { length buf.old ≡ self.old.shape.page_bytes }
-        ensures ok { OnOk result (B.state board.new ≡ after_program (B.state board.old) (next_page self.old) (next_bytes self.old (seen_all entries.now))) }
+        ensures ok { OnOk result (B.state board.new
+            ≡ after_program (B.state board.old) (next_page self.old)
+            (next_bytes self.old (seen_all entries.now))) }
         ensures taken { OnOk result (self.new ≡ record self.old { used = self.old.used + 1 }) }
         ensures fits { OnOk result (Fits self.new (B.state board.new).pages) }
-        ensures spells { journal_entries self.old.shape self.old.number self.old.used (next_bytes self.old (seen_all entries.now)) ≡ Some (seen_all entries.now) }
-        ensures list { OnOk result (AddsAll self.old (seen_all entries.now) (B.state board.old).pages (B.state board.new).pages) }
-        ensures cuts { OnOk result (CommitReached self.old (seen_all entries.now) (B.state board.old) (B.state board.new)) }
+        ensures spells { journal_entries self.old.shape self.old.number self.old.used
+            (next_bytes self.old (seen_all entries.now)) ≡ Some (seen_all entries.now) }
+        ensures list { OnOk result (AddsAll self.old (seen_all entries.now)
+            (B.state board.old).pages (B.state board.new).pages) }
+        ensures cuts { OnOk result (CommitReached self.old (seen_all entries.now)
+            (B.state board.old) (B.state board.new)) }
         ensures stopped { IfErr result (λ e. e ≡ Stopped) }
-        ensures err { OnErr result (ProgramFailed (B.state board.old) (B.state board.new) (next_page self.old) (next_bytes self.old (seen_all entries.now))) }
-        ensures cuts_err { OnErr result (CommitWent self.old (seen_all entries.now) (B.state board.old) (B.state board.new)) }
+        ensures err { OnErr result (ProgramFailed (B.state board.old) (B.state board.new)
+            (next_page self.old) (next_bytes self.old (seen_all entries.now))) }
+        ensures cuts_err { OnErr result (CommitWent self.old (seen_all entries.now)
+            (B.state board.old) (B.state board.new)) }
         ensures kept { OnErr result (self.new ≡ self.old) }
         ensures ready { IsReady (B.state board.new) self.old.shape }
         ensures buffer { length buf.new ≡ length buf.old }

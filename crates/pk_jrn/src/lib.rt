@@ -14,6 +14,3 @@ pub use epoch::Epoch;
 pub use error::ReplayError;
 pub use laws::{changes_elsewhere, fits_elsewhere, reads_elsewhere};
 pub use reading::replay;
-
-#[cfg(test)]
-mod tests;

@@ -1,11 +1,13 @@
 //! An epoch that is read from a board.
-ghost use Rattle.std.specs.Prelude.{◌≡◌, ℕ, List, length, IfOk, IfErr, OnErr, MatchBool};
+ghost use Rattle.std.specs.Prelude.{◌≡◌, ℕ, List, length, IfOk, IfErr, OnOk, OnErr, MatchBool};
 ghost use Rattle.pk_base.specs.Shape.{epoch_pages};
+ghost use Rattle.pk_base.specs.Page.{page_at};
 ghost use Rattle.pk_nand.specs.Calls.{IsReady};
+ghost use Rattle.pk_nand.specs.Erased.{after_reads};
 ghost use Rattle.pk_nand.specs.declared.types.PageRead.TheVariants.{Whole};
 ghost use Rattle.pk_buf.specs.Table.{no_entries};
 ghost use Rattle.pk_jrn.specs.Epochs.{AllExist, Fits, found_at_opening};
-ghost use Rattle.pk_jrn.specs.Replays.{Replayed, Refused, after_replay};
+ghost use Rattle.pk_jrn.specs.Replays.{Replayed, Refused, epoch_reads};
 
 use crate::entries::take_page;
 use crate::error::ReplayError;
@@ -38,17 +40,22 @@ pub fn replay<B: Nand, A: Region>(
     requires blocks { AllExist shape.now blocks }
     requires empty { into.old ≡ no_entries shape.now }
     requires room { length buf.old ≡ shape.now.page_bytes }
-    ensures replayed { IfOk result (λ used. Replayed shape.now number blocks (B.state board.old).pages used into.new) }
-    ensures fits { IfOk result (λ used. Fits (found_at_opening shape.now number blocks used) (B.state board.old).pages) }
-    ensures reads { IfOk result (λ used. B.state board.new ≡ after_replay shape.now used (B.state board.old)) }
-    ensures refused { IfErr result (λ e. Refused shape.now number blocks (B.state board.old) (B.state board.new) e) }
+    ensures replayed { IfOk result (λ used.
+        Replayed shape.now number blocks (B.state board.old).pages used into.new) }
+    ensures fits { IfOk result (λ used. Fits (found_at_opening shape.now number blocks used)
+        (B.state board.old).pages) }
+    ensures reads { OnOk result (B.state board.new
+        ≡ after_reads (epoch_reads shape.now (page_at (B.state board.old).pages) blocks)
+        (B.state board.old)) }
+    ensures refused { IfErr result (λ e. Refused shape.now number blocks (B.state board.old)
+        (B.state board.new) e) }
     ensures cleared { OnErr result (into.new ≡ into.old) }
     ensures flash { (B.state board.new).pages ≡ (B.state board.old).pages }
     ensures ready { IsReady (B.state board.new) shape.now }
     ensures buffer { length buf.new ≡ length buf.old }
 {
     shape.known();
-    for index in 0..2 * shape.block_pages() {
+    for index in 0..shape.epoch_commits() {
         let page = page_of(shape, &blocks, index);
         match board.read(page, buf) {
             Ok(found) => {
@@ -66,5 +73,5 @@ pub fn replay<B: Nand, A: Region>(
             }
         }
     }
-    Ok(2 * shape.block_pages())
+    Ok(shape.epoch_commits())
 }

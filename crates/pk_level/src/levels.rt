@@ -46,7 +46,8 @@ impl<A: Allocator + Clone> Levels<A> {
     /// Four runs without entries, for an arena of so many frames. All memory of the runs is taken here.
     pub fn new(alloc: A, plan: Plan, frames: u32) -> Result<Levels<A>, AllocError>
         ensures empty { IfOk result (λ l. l ≡ no_runs plan (pinned_by plan frames)) }
-        ensures stands { IfOk result (λ l. (flash : Flash) (arena : Frames) → StandEach flash arena l.runs ([] ∷ [] ∷ [] ∷ [] ∷ [])) }
+        ensures stands { IfOk result (λ l. (flash : Flash) (arena : Frames)
+            → StandEach flash arena l.runs ([] ∷ [] ∷ [] ∷ [] ∷ [])) }
     {
         let shape = plan.shape();
         let first = Run::new(alloc.clone()?, shape, 1)?;
@@ -136,12 +137,17 @@ impl<A: Allocator> Levels<A> {
         buf: &mut [u8],
     ) -> Result<Option<Entry>, Fault>
         requires ready { IsReady (B.state board.old) self.now.shape }
-        requires stand { (ess : List (List EntrySpec)) × StandEach (B.state board.old).pages arena.now self.now.runs ess }
+        requires stand { (ess : List (List EntrySpec))
+            × StandEach (B.state board.old).pages arena.now self.now.runs ess }
         requires room { length buf.old ≡ self.now.shape.page_bytes }
-        ensures found { IfOk result (λ found. (ess : List (List EntrySpec)) → StandEach (B.state board.old).pages arena.now self.now.runs ess → IsFound key.now (all_entries ess) found) }
-        ensures reads { OnOk result (ReadsUpTo (reads_through self.now.runs) (B.state board.old) (B.state board.new)) }
+        ensures found { IfOk result (λ found. (ess : List (List EntrySpec))
+            → StandEach (B.state board.old).pages arena.now self.now.runs ess
+            → IsFound key.now (all_entries ess) found) }
+        ensures reads { OnOk result
+            (ReadsUpTo (reads_through self.now.runs) (B.state board.old) (B.state board.new)) }
         ensures reading { IfErr result (λ fault. fault ≡ Reading) }
-        ensures err { OnErr result (ReadFailsWithin (reads_through self.now.runs) (B.state board.old) (B.state board.new)) }
+        ensures err { OnErr result (ReadFailsWithin (reads_through self.now.runs)
+            (B.state board.old) (B.state board.new)) }
         ensures same { (B.state board.new).pages ≡ (B.state board.old).pages }
         ensures ready { IsReady (B.state board.new) self.now.shape }
     {

@@ -154,7 +154,8 @@ impl<A: Allocator> Live<A> {
 
     /// The closed block with the fewest live pages, of equals the lowest.
     pub fn least_closed(&self) -> Option<u32>
-        ensures { MatchOption result ((b : ℕ) → IsClosed self.now b → ⊥) (λ b. IsLeastClosed self.now b) }
+        ensures { MatchOption result ((b : ℕ) → IsClosed self.now b → ⊥)
+            (λ b. IsLeastClosed self.now b) }
     {
         let least = least(&self.counts, &self.closed)?;
         Some(least as u32)
@@ -215,6 +216,3 @@ fn covers(heads: &[u16], page: usize) -> bool
     }
     false
 }
-
-#[cfg(test)]
-mod tests;

@@ -30,12 +30,14 @@ use Rattle.pk_model.proofs.Commits.{Blocks, valid_blocks, behind_roots, roots_st
 use Rattle.pk_steps.specs.Under.{IsUnder}
 use Rattle.pk_steps.specs.Roots.{committed}
 use Rattle.pk_steps.proofs.Committing.{commits, commit_done}
-use Rattle.pk_drive.specs.Growth.{Grows, Reaches, Goes}
+use Rattle.pk_model.specs.Growth.{Grows, Reaches, Goes}
 use Rattle.pk_log.specs.State.{LogState, all_committed}
 use Rattle.pk_log.specs.Logs.{Logs}
 use Rattle.pk_log.specs.Commits.{CommitStands, CommitCut, CommitHolds, CommitReaches}
-use Rattle.pk_log.proofs.Going.{Reaches-program, Goes-program_failed}
-use Rattle.pk_log.proofs.Standing.{blocks_are, valid_root, newest_found}
+use Rattle.pk_model.proofs.Running.{Reaches-program, Goes-program}
+use Rattle.pk_steps.proofs.NewestBlocks.{valid_root}
+use Rattle.pk_log.proofs.Standing.{blocks_are}
+use Rattle.pk_steps.proofs.UnderRoot.{newest_found}
 
 -- ---- the program
 
@@ -101,10 +103,9 @@ module _ (log : LogState) (board : BoardState) (top : ℕ × Root) (found : Foun
     abbrev Holds : Flash → List ℕ → Type 0
     Holds = CommitCut shape top found log.pending m0 m1
 
-    cut_holds : (cut : Flash) → Interrupted (shape_of board) (program (next_page e) bytes) board.pages cut [] → Holds cut []
+    cut_holds : (cut : Flash) → Interrupted shape (program (next_page e) bytes) board.pages cut [] → Holds cut []
     cut_holds cut i =
-        let here : Interrupted shape (program (next_page e) bytes) board.pages cut [] = subst (λ s. Interrupted s (program (next_page e) bytes) board.pages cut []) (shape_is board shape ready) i in
-        let there : Interrupted shape (program (page_in shape top.1.newest e.used) bytes) board.pages cut [] = subst (λ (k : ℕ). Interrupted shape (program k bytes) board.pages cut []) (sym (page_is e.used)) here in
+        let there : Interrupted shape (program (page_in shape top.1.newest e.used) bytes) board.pages cut [] = subst (λ (k : ℕ). Interrupted shape (program k bytes) board.pages cut []) (sym (page_is e.used)) i in
         (refl, commits shape board.pages cut top found log.pending m0 m1 e.used bytes [] logs.is_shape first second commit_is (inl there))
 
     pub holds_done : IsUnder shape (after_program board (next_page e) bytes).pages [] top (committed found log.pending) m1
@@ -112,10 +113,10 @@ module _ (log : LogState) (board : BoardState) (top : ℕ × Root) (found : Foun
         (commit_done shape board.pages top found log.pending m0 m1 e.used bytes logs.is_shape first second commit_is)
 
     pub reaches : Reaches shape board (after_program board (next_page e) bytes) (CommitCut shape top found log.pending m0 m1)
-    reaches = Reaches-program shape board Holds (next_page e) bytes cut_holds (refl, inr holds_done) grows
+    reaches = Reaches-program shape board Holds ready.shape_is (next_page e) bytes cut_holds grows (after_program board (next_page e) bytes) refl
 
     pub goes : (after' : BoardState) → ProgramFailed board after' (next_page e) bytes → Goes shape board after' (CommitCut shape top found log.pending m0 m1)
-    goes = Goes-program_failed shape board Holds (next_page e) bytes cut_holds (refl, inr holds_done) grows
+    goes = Goes-program shape board Holds ready.shape_is (next_page e) bytes cut_holds grows
 
   -- ---- the log
 

@@ -1,14 +1,13 @@
 -- A freeze of a log.
-use Rattle.std.proofs.Common.{◌≡◌, ℕ, zero, suc, ◌-◌, ◌<◌, refl, sym, ap, subst, ◌∙◌, arith, Bool, true, false, not, ◌||◌, ◌==◌, T, List, [], ◌∷◌, ◌++◌, length, reverse, nat_le, nat_lt, Option, Result, Ok, append-nil, eqb→eq}
+use Rattle.std.proofs.Common.{◌≡◌, ℕ, zero, suc, ◌-◌, ◌<◌, refl, sym, ap, subst, ◌∙◌, arith, Bool, true, false, not, ◌==◌, T, List, [], ◌∷◌, ◌++◌, length, reverse, nat_lt, Option, append-nil}
 use Rattle.std.proofs.lemmas.Bool.Decides.{nat_tests}
 use Rattle.std.specs.FinMap.Entries.{put, is_sorted}
 use Rattle.pk_base.specs.Key.{Key, key_cmp}
 use Rattle.pk_base.specs.Shape.{Shape}
-use Rattle.pk_base.specs.Page.{Page, Flash, page_at, page_in}
+use Rattle.pk_base.specs.Page.{Flash, page_at}
 use Rattle.pk_base.specs.Entry.{Entry, Place}
 use Rattle.pk_base.specs.Firsts.{firsts}
 use Rattle.pk_base.specs.Map.{Map}
-use Rattle.pk_base.specs.Refusal.{Refusal, ensure}
 use Rattle.pk_nand.specs.BoardState.{BoardState}
 use Rattle.pk_rootfmt.specs.Root.{Root}
 use Rattle.pk_root.specs.declared.next.Next.{Next}
@@ -17,11 +16,11 @@ use Rattle.pk_jrnfmt.specs.Epoch.{epoch}
 use Rattle.pk_jrn.specs.Epochs.{started, AreErased, Fits as EpochFits}
 use Rattle.pk_jrn.specs.Replays.{buffer_of}
 use Rattle.pk_jrn.proofs.Puts.{put_grows, firsts_sorted, firsts-reverse}
-use Rattle.pk_model.specs.Found.{Found, older_epoch, newest_epoch, runs_from, found_under}
-use Rattle.pk_model.proofs.StrangePages.{bind_ok}
-use Rattle.pk_model.proofs.Commits.{passed}
-use Rattle.pk_pool.specs.Blocks.{Blocks, IsErasedBlock}
+use Rattle.pk_model.specs.Found.{Found}
+use Rattle.pk_pool.specs.Blocks.{Blocks}
+use Rattle.pk_nand.specs.Calls.{IsErasedBlock}
 use Rattle.pk_steps.specs.Roots.{frozen}
+use Rattle.pk_steps.proofs.UnderRoot.{none_named}
 use Rattle.pk_compact.specs.Freezing.{MayFreeze, Froze}
 use Rattle.pk_log.specs.State.{LogState}
 use Rattle.pk_log.specs.Logs.{Logs}
@@ -51,32 +50,6 @@ tells_some (e ∷ es) n is = both_some (length (e ∷ es)) n (omega arith) (let 
         let one : (k == 0) ≡ false = grind (arith, nat_tests) in
         let two : nat_lt 0 n ≡ true = grind (arith, nat_tests) in
         rw (one, two) refl
-
--- ---- an older epoch without entries is not named
-
-length_none : (xs : List ℕ) → length xs ≡ 0 → xs ≡ []
-length_none [] none = refl
-length_none (x ∷ xs) none = absurd (omega (arith, none))
-
-or_false : (b : Bool) → T (b || false) → T b
-or_false true t = tt
-or_false false t = t
-
-ok_same : {A : Type 0} (x y : A) → ◌≡◌ {A = Result A Refusal} (Ok x) (Ok y) → x ≡ y
-ok_same x y e = cc
-
-pub none_named : (shape : Shape) (at : ℕ → Page) (root : Root) (found : Found) → found_under shape at root ≡ Ok found → found.older ≡ [] → root.older ≡ []
-unfolding found_under
-none_named shape at root found is none =
-    let first = bind_ok (older_epoch shape at root) _ found is in
-    let second = bind_ok (newest_epoch shape at root) _ found first.2 in
-    let third = bind_ok (runs_from shape at 1 root.counts root.runs) _ found second.2 in
-    let es = bind_ok (epoch shape at (root.epoch - 1) root.older) _ first.0 first.1 in
-    let tested = bind_ok (ensure (length root.older == 0 || nat_le 1 (length es.0)) (page_in shape root.older 0)) _ first.0 es.2 in
-    let older_is : first.0 ≡ found.older = ap (λ (f : Found). f.older) (ok_same (record { newest = second.0; older = first.0; runs = third.0 }) found third.2) in
-    let empty : es.0 ≡ [] = ok_same es.0 first.0 tested.2 ∙ older_is ∙ none in
-    let passes : T (length root.older == 0 || nat_le 1 (length es.0)) = passed _ _ tested.0 tested.1 in
-    length_none root.older (eqb→eq _ _ (or_false (length root.older == 0) (subst (λ (xs : List Entry). T (length root.older == 0 || nat_le 1 (length xs))) empty passes)))
 
 -- ---- before a freeze
 

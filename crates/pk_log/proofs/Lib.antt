@@ -1,4 +1,3 @@
-pub mod Going
 pub mod Standing
 pub mod Pushing
 pub mod Committing

@@ -1,11 +1,10 @@
 -- A log and the flash that it stands on.
-use Rattle.std.proofs.Common.{◌≡◌, inl, inr, ℕ, ◌+◌, ◌-◌, ◌*◌, ◌/◌, ◌<◌, ◌≤◌, refl, sym, ap, subst, ◌∙◌, arith, Bool, true, false, ◌&&◌, ◌||◌, T, List, ◌++◌, length, nat_le, nat_lt, slice_index, ◌==◌, Some, Result, Ok, append-nil}
+use Rattle.std.proofs.Common.{◌≡◌, inl, inr, ℕ, ◌+◌, ◌-◌, ◌*◌, ◌/◌, ◌<◌, ◌≤◌, refl, sym, ap, subst, ◌∙◌, arith, Bool, true, false, ◌&&◌, ◌||◌, T, List, ◌++◌, length, nat_le, nat_lt, slice_index, ◌==◌, Some, append-nil}
 use Rattle.std.specs.List.{list_all, concat}
 use Rattle.std.proofs.lemmas.Nat.{div-mul-add}
 use Rattle.std.proofs.lemmas.Bool.{ltb-true}
 use Rattle.pk_base.specs.Shape.{Shape, IsShape}
 use Rattle.pk_base.specs.Page.{Page, Flash, page_at, page_in}
-use Rattle.pk_base.specs.Refusal.{Refusal}
 use Rattle.pk_base.proofs.ShapeLemmas.{block_pages_positive}
 use Rattle.pk_rootfmt.specs.Root.{Root, named, is_root, is_number, has_runs, differ}
 use Rattle.pk_rootfmt.specs.Held.{Held}
@@ -16,11 +15,11 @@ use Rattle.pk_jrn.specs.Epochs.{JournalEpoch, AreBlocks}
 use Rattle.pk_jrn.specs.Laws.{SameBlocks}
 use Rattle.pk_jrn.specs.Replays.{buffer_of}
 use Rattle.pk_jrn.proofs.Places.{Fits-same}
-use Rattle.pk_model.specs.Found.{Found, older_epoch, newest_epoch, runs_from, found_under}
+use Rattle.pk_model.specs.Found.{Found, found_under}
 use Rattle.pk_model.specs.Laws.{AnyByRecursion}
 use Rattle.pk_model.proofs.Roots.{newest_sound}
-use Rattle.pk_model.proofs.StrangePages.{bind_ok}
 use Rattle.pk_model.proofs.SamePages.{newest_root_same, found_same, in_some_block, agree_runs, any_front, any_back, any_in_concat}
+use Rattle.pk_steps.proofs.NewestBlocks.{newest_exist, newest_differ, valid_root}
 use Rattle.pk_model.proofs.Commits.{right_part, all_at, all_front, root_valid, blocks_of_root, differ_front, injective, member}
 use Rattle.pk_log.specs.State.{LogState, opened}
 use Rattle.pk_log.specs.Logs.{Logs, Opens}
@@ -28,58 +27,15 @@ use Rattle.pk_log.specs.Laws.{SameNamed, LogsElsewhere}
 
 -- ---- the blocks of a newest epoch
 
-all_of_root : (a b c d e f g h : Bool) → T (a && b && c && d && e && f && g && h) → T g
-all_of_root true true true true true true true true is = tt
-all_of_root false b c d e f g h is = absurd is
-all_of_root true false c d e f g h is = absurd is
-all_of_root true true false d e f g h is = absurd is
-all_of_root true true true false e f g h is = absurd is
-all_of_root true true true true false f g h is = absurd is
-all_of_root true true true true true false g h is = absurd is
-all_of_root true true true true true true false h is = absurd is
-all_of_root true true true true true true true false is = absurd is
-
-is_true : (b : Bool) → T b → b ≡ true
-is_true true t = refl
-is_true false t = absurd t
-
 -- they are two different blocks of the flash
 pub blocks_are : (shape : Shape) (root : Root) → T (is_root shape root) → AreBlocks shape root.newest
-blocks_are shape root is =
-    let in_flash : ℕ → Bool = λ b. nat_le 2 b && nat_lt b shape.blocks in
-    let blocks = blocks_of_root shape root is in
-    let two : length root.newest ≡ 2 = blocks.two in
-    let every : T (list_all in_flash (named root)) = all_of_root (is_number root.number) (nat_le 1 root.epoch) (nat_le root.epoch root.number) (length root.newest == 2) (length root.older == 0 || (length root.older == 2 && nat_le 2 root.epoch))
-    (has_runs shape root) (list_all in_flash (named root)) (differ (named root)) is in
-    let newest : T (list_all in_flash root.newest) = all_front in_flash root.newest root.older (all_front in_flash (root.newest ++ root.older) (concat root.runs) every) in
-    let distinct : T (differ root.newest) = differ_front root.newest root.older (differ_front (root.newest ++ root.older) (concat root.runs) blocks.different) in
-    record {
-      exist = λ n small. ltb-true (slice_index root.newest n) shape.blocks (is_true (nat_lt (slice_index root.newest n) shape.blocks) (right_part (nat_le 2 (slice_index root.newest n)) (nat_lt (slice_index root.newest n) shape.blocks)
-          (all_at in_flash root.newest n newest (omega (arith, small, two)))));
-      different = λ same. let clash : 0 ≡ 1 = injective root.newest 0 1 distinct (omega (arith, two)) (omega (arith, two)) same in omega (arith, clash);
-    }
-
-pub valid_root : (shape : Shape) (at : ℕ → Page) (top : ℕ × Root) → newest_root shape at ≡ Some top → T (is_root shape top.1)
-valid_root shape at top is_top = root_valid shape (at top.0) top.1 (newest_sound shape at top is_top).there
+blocks_are shape root is = record { exist = newest_exist shape root is; different = newest_differ shape root is }
 
 -- the blocks of the epoch that a log writes
 pub epoch_blocks_are : (log : LogState) (flash : Flash) (top : ℕ × Root) (found : Found) → Logs log flash top found → AreBlocks log.epoch.shape log.epoch.blocks
 epoch_blocks_are log flash top found logs =
     let there : AreBlocks log.shape top.1.newest = blocks_are log.shape top.1 (valid_root log.shape (page_at flash) top logs.is_top) in
     subst (λ (s : Shape). AreBlocks s log.epoch.blocks) (sym logs.epoch_shape) (subst (λ (bs : List ℕ). AreBlocks log.shape bs) (sym logs.epoch_blocks) there)
-
--- ---- the entries of the newest epoch
-
-pub newest_found : (shape : Shape) (at : ℕ → Page) (root : Root) (found : Found) → found_under shape at root ≡ Ok found → newest_epoch shape at root ≡ Ok found.newest
-unfolding found_under
-newest_found shape at root found is =
-    let first = bind_ok (older_epoch shape at root) _ found is in
-    let second = bind_ok (newest_epoch shape at root) _ found first.2 in
-    let third = bind_ok (runs_from shape at 1 root.counts root.runs) _ found second.2 in
-    second.1 ∙ (λ i. Ok (same_newest _ _ third.2 i))
-  where
-    same_newest : (x y : Found) → ◌≡◌ {A = Result Found Refusal} (Ok x) (Ok y) → x.newest ≡ y.newest
-    same_newest x y e = let s : x ≡ y = cc in ap (λ (f : Found). f.newest) s
 
 -- ---- at opening
 

@@ -12,7 +12,7 @@ use Rattle.pk_jrn.specs.Appends.{next_bytes}
 use Rattle.pk_model.specs.Found.{Found}
 use Rattle.pk_steps.specs.Under.{IsUnder}
 use Rattle.pk_steps.specs.Roots.{committed}
-use Rattle.pk_drive.specs.Growth.{Reaches, Goes}
+use Rattle.pk_model.specs.Growth.{Reaches, Goes}
 use Rattle.pk_log.specs.State.{LogState, all_committed}
 use Rattle.pk_log.specs.Logs.{Logs}
 

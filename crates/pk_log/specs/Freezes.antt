@@ -8,6 +8,8 @@ use Rattle.pk_rootfmt.specs.Root.{Root}
 use Rattle.pk_root.specs.declared.next.Next.{Next}
 use Rattle.pk_jrn.specs.Epochs.{started}
 use Rattle.pk_model.specs.Found.{Found}
+use Rattle.pk_model.specs.Growth.{Goes}
+use Rattle.pk_model.specs.Crashes.{CrashFinds, background}
 use Rattle.pk_model.specs.Laws.{AnyByRecursion}
 use Rattle.pk_pool.specs.declared.state.BlockState.TheVariants.{Owned}
 use Rattle.pk_pool.specs.Blocks.{Blocks, used_by, Fits as PoolFits}
@@ -40,3 +42,14 @@ pub record LogFroze (log : LogState) (pool : Blocks) (old : BoardState) (top : �
   pub froze : Froze log.shape pool old (not (length found.newest == 0)) top found m blocks pool' log'.root log'.next new
   pub begun_is : log' ≡ begun log log'.root log'.next blocks
   pub logs : Logs log' new.pages (froze.page, log'.root) (frozen found)
+
+-- the freeze was made, for each of the maps for which it might be
+abbrev pub LogFreezes : LogState → Blocks → BoardState → LogState → Blocks → BoardState → Type 0
+LogFreezes log pool old log' pool' new =
+    (top : ℕ × Root) (found : Found) (m : Map) → CanFreeze log pool old.pages top found m → LogFroze log pool old top found m log' pool' new
+
+-- the same of a freeze that was broken off
+abbrev pub LogFreezeBreaks : LogState → Blocks → BoardState → BoardState → Type 0
+LogFreezeBreaks log pool old new =
+    (top : ℕ × Root) (found : Found) (m : Map) → CanFreeze log pool old.pages top found m
+    → Goes log.shape old new (CrashFinds log.shape background old.pages m)

@@ -1,16 +1,12 @@
 //! The freeze of a log.
-ghost use Rattle.std.specs.Prelude.{◌≡◌, ◌≤◌, ◌+◌, ℕ, length, IfErr, OnOk, OnErr};
+ghost use Rattle.std.specs.Prelude.{◌≡◌, ℕ, length, OnOk};
 ghost use Rattle.pk_base.specs.Map.{Map};
 ghost use Rattle.pk_nand.specs.Calls.{IsReady};
-ghost use Rattle.pk_nand.specs.declared.types.Fault.TheVariants.{Stopped};
 ghost use Rattle.pk_rootfmt.specs.Root.{Root as RootValue};
 ghost use Rattle.pk_model.specs.Found.{Found};
 ghost use Rattle.pk_pool.specs.Blocks.{Fits};
-ghost use Rattle.pk_drive.specs.Growth.{Goes};
-ghost use Rattle.pk_drive.specs.Tick.{TickCut};
-ghost use Rattle.pk_drive.specs.Wear.{root_number};
-ghost use Rattle.pk_compact.specs.Working.{Works, Stops};
-ghost use Rattle.pk_log.specs.Freezes.{CanFreeze, LogFroze};
+ghost use Rattle.pk_model.specs.Steps.{Step};
+ghost use Rattle.pk_log.specs.Freezes.{CanFreeze, LogFreezes, LogFreezeBreaks};
 
 use crate::log::Log;
 use pk_compact::freeze as freeze_root;
@@ -31,18 +27,17 @@ impl<A: Region> Log<A> {
         buf: &mut [u8],
     ) -> Result<(), Fault>
         requires ready { IsReady (B.state board.old) self.old.shape }
-        requires can { (top : ℕ × RootValue) × (found : Found) × (m : Map) × CanFreeze self.old pool.old (B.state board.old).pages top found m }
+        requires can { (top : ℕ × RootValue) × (found : Found) × (m : Map)
+            × CanFreeze self.old pool.old (B.state board.old).pages top found m }
         requires room { length buf.old ≡ self.old.shape.page_bytes }
-        ensures froze { OnOk result ((top : ℕ × RootValue) (found : Found) (m : Map) → CanFreeze self.old pool.old (B.state board.old).pages top found m → LogFroze self.old pool.old (B.state board.old) top found m self.new pool.new (B.state board.new)) }
-        ensures works { OnOk result (Works (B.state board.old) (B.state board.new)) }
+        ensures step { Step
+            (λ u. LogFreezes self.old pool.old (B.state board.old)
+            self.new pool.new (B.state board.new))
+            (LogFreezeBreaks self.old pool.old (B.state board.old) (B.state board.new))
+            self.old.shape 1 (B.state board.old) (B.state board.new) result }
         ensures fits { OnOk result (Fits pool.new (B.state board.new).pages) }
-        ensures shape { OnOk result ((self.new.shape ≡ self.old.shape) × (pool.new.shape ≡ self.old.shape)) }
+        ensures pool_shape { OnOk result (pool.new.shape ≡ self.old.shape) }
         ensures same_shape { self.new.shape ≡ self.old.shape }
-        ensures stopped { IfErr result (λ e. e ≡ Stopped) }
-        ensures went { OnErr result ((top : ℕ × RootValue) (found : Found) (m : Map) → CanFreeze self.old pool.old (B.state board.old).pages top found m → Goes self.old.shape (B.state board.old) (B.state board.new) (TickCut self.old.shape m)) }
-        ensures stops { OnErr result (Stops (B.state board.old) (B.state board.new)) }
-        ensures installs { OnErr result (root_number self.old.shape (B.state board.new).pages ≤ root_number self.old.shape (B.state board.old).pages + 1) }
-        ensures ready { IsReady (B.state board.new) self.old.shape }
         ensures buffer { length buf.new ≡ length buf.old }
     {
         let has_entries = self.active.len() > 0;

@@ -9,6 +9,3 @@ mod log;
 
 pub use laws::elsewhere;
 pub use log::Log;
-
-#[cfg(test)]
-mod tests;

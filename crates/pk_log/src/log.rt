@@ -75,7 +75,9 @@ impl<A: Region> Log<A> {
         frozen: Buffer<A>,
     ) -> Result<Log<A>, AllocError>
         ensures value { IfOk result (λ l. l ≡ opened root root_page epoch active frozen) }
-        ensures stands { IfOk result (λ l. (flash : Flash) (found : Found) → Opens root root_page epoch active frozen flash found → Logs l flash (root_page, root.root) found) }
+        ensures stands { IfOk result (λ l. (flash : Flash) (found : Found)
+            → Opens root root_page epoch active frozen flash found
+            → Logs l flash (root_page, root.root) found) }
     {
         root.shape().known();
         let pending = Vec::with_capacity(alloc, root.shape().entries() as usize)?;
@@ -143,7 +145,8 @@ impl<A: Region> Log<A> {
 
     /// The entry that the buffers have of the key: the active one's, or else the frozen one's.
     pub fn get(&self, key: &Key) -> Option<Entry>
-        ensures { MatchOption result (entry_of self.now key.now ≡ None) (λ e. (key_of (seen e) ≡ key.now) × (entry_of self.now key.now ≡ Some (seen e).1)) }
+        ensures { MatchOption result (entry_of self.now key.now ≡ None)
+            (λ e. (key_of (seen e) ≡ key.now) × (entry_of self.now key.now ≡ Some (seen e).1)) }
     {
         match self.active.get(key) {
             Some(found) => Some(found),
@@ -165,8 +168,12 @@ impl<A: Region> Log<A> {
         requires few { length self.old.pending < page_entries self.old.shape }
         requires storable { IsStorable self.old.shape (seen new) }
         ensures pushed { self.new ≡ pushed self.old (seen new) }
-        ensures stands { (flash : Flash) (top : ℕ × RootValue) (found : Found) → Logs self.old flash top found → Logs self.new flash top found }
-        ensures fits { (flash : Flash) (top : ℕ × RootValue) (found : Found) → Logs self.old flash top found → length (firsts (found.newest ++ (self.old.pending ++ seen new ∷ []))) ≤ buffer self.old.shape }
+        ensures stands { (flash : Flash) (top : ℕ × RootValue) (found : Found)
+            → Logs self.old flash top found → Logs self.new flash top found }
+        ensures fits { (flash : Flash) (top : ℕ × RootValue) (found : Found)
+            → Logs self.old flash top found
+            → length (firsts (found.newest ++ (self.old.pending ++ seen new ∷ [])))
+            ≤ buffer self.old.shape }
     {
         let _ = self.active.len();
         self.active.put(new.copy());
@@ -179,16 +186,22 @@ impl<A: Region> Log<A> {
     /// fails; the log is as before then. `buf` has the bytes of a page, which are lost.
     pub fn commit<B: Nand>(&mut self, board: &mut B, buf: &mut [u8]) -> Result<(), Fault>
         requires ready { IsReady (B.state board.old) self.old.shape }
-        requires stands { (top : ℕ × RootValue) × (found : Found) × Logs self.old (B.state board.old).pages top found }
+        requires stands { (top : ℕ × RootValue) × (found : Found)
+            × Logs self.old (B.state board.old).pages top found }
         requires room { length buf.old ≡ self.old.shape.page_bytes }
-        ensures ok { OnOk result (CommitsNone self.old (B.state board.old) self.new (B.state board.new) ⊎ CommitsAll self.old (B.state board.old) self.new (B.state board.new)) }
+        ensures ok { OnOk result
+            (CommitsNone self.old (B.state board.old) self.new (B.state board.new)
+            ⊎ CommitsAll self.old (B.state board.old) self.new (B.state board.new)) }
         ensures none { OnOk result (self.new.pending ≡ []) }
-        ensures stands { OnOk result (CommitStands self.old (B.state board.old) self.new (B.state board.new)) }
+        ensures stands { OnOk result (CommitStands self.old (B.state board.old) self.new
+            (B.state board.new)) }
         ensures holds { OnOk result (CommitHolds self.old (B.state board.old) (B.state board.new)) }
-        ensures cuts { OnOk result (CommitReaches self.old (B.state board.old) (B.state board.new)) }
+        ensures cuts { OnOk result (CommitReaches self.old (B.state board.old)
+            (B.state board.new)) }
         ensures stopped { IfErr result (λ e. e ≡ Stopped) }
         ensures err { OnErr result (CommitFailed self.old (B.state board.old) (B.state board.new)) }
-        ensures cuts_err { OnErr result (CommitGoes self.old (B.state board.old) (B.state board.new)) }
+        ensures cuts_err { OnErr result (CommitGoes self.old (B.state board.old)
+            (B.state board.new)) }
         ensures kept { OnErr result (self.new ≡ self.old) }
         ensures ready { IsReady (B.state board.new) self.old.shape }
         ensures buffer { length buf.new ≡ length buf.old }

@@ -16,7 +16,7 @@ use Rattle.pk_base.proofs.EntryLemmas.{is_place}
 use Rattle.pk_meta.specs.declared.MetaHead.{MetaHead}
 use Rattle.pk_meta.specs.declared.BadMeta.{BadMeta}
 use Rattle.pk_meta.specs.Page.{IsContent, IsMetaPage, meta_bytes, meta_entries}
-use Rattle.pk_meta.proofs.Sound.{both_true, if_some, are_sound}
+use Rattle.pk_base.proofs.Sound.{both_true, if_some, are_sound}
 use Rattle.pk_meta.proofs.PageLemmas.{meta_again, Exact, found, only}
 
 -- ---- rising keys

@@ -1,13 +1,15 @@
 //! The entry of a key in a page, by halving.
 ghost use Rattle.std.specs.Prelude.{◌≡◌, ◌≤◌, ◌<◌, ◌+◌, ◌*◌, ◌^◌, List, ℕ, length, option_map, Some, None};
 ghost use Rattle.pk_base.specs.Entry.{Entry as EntrySpec};
+ghost use Rattle.pk_base.specs.declared.sizes.TheConstants.{HEAD_BYTES, ENTRY_BYTES};
 ghost use Rattle.pk_base.specs.EntryBytes.{cell_at, cell_key};
 ghost use Rattle.pk_base.specs.Fields.{number_at};
+ghost use Rattle.pk_base.specs.Key.{key_cmp};
 ghost use Rattle.pk_base.specs.Seen.{entry as seen};
 ghost use Rattle.pk_meta.specs.Page.{IsMetaPage, Decodes, IsEntryOf, IsPlaceOf};
 
 use crate::entry;
-use pk_base::{Entry, Key, Shape, cell_of, compare, get_u16};
+use pk_base::{Entry, Key, Shape, cell_of, compare_cell, get_u16};
 use std::cmp::Ordering;
 
 /// Where a key stands among the entries of a page, and how many keys it was compared with.
@@ -17,17 +19,17 @@ struct Search {
     probes: u32,
 }
 
-/// The key of an entry.
-fn key_at<'a>(shape: &Shape, page: &'a [u8], i: usize) -> &'a [u8]
+/// How the key of an entry stands to this one.
+fn compare_at(shape: &Shape, page: &[u8], i: usize, key: &Key) -> Ordering
     requires sized { length page.now ≡ shape.now.page_bytes }
     requires decodes { Decodes shape.now page.now }
     requires within { i < number_at 2 10 page.now }
-    ensures { result.now ≡ cell_key (cell_at (32 + 32 * i) page.now) }
+    ensures { result
+        ≡ key_cmp (cell_key (cell_at (HEAD_BYTES + ENTRY_BYTES * i) page.now)) key.now }
 {
     shape.known();
     let cell = cell_of(page, i);
-    let size = cell[0] as usize;
-    &cell[4..4 + size]
+    compare_cell(cell, key)
 }
 
 /// The place of a key. Of n entries at most the binary logarithm of 2n are compared.
@@ -44,7 +46,7 @@ fn place_of(shape: &Shape, page: &[u8], key: &Key) -> Search
     while low < high {
         let middle = low + (high - low) / 2;
         probes += 1;
-        match compare(key_at(shape, page, middle), key.bytes()) {
+        match compare_at(shape, page, middle, key) {
             Ordering::Less => low = middle + 1,
             Ordering::Greater => high = middle,
             Ordering::Equal => {
@@ -65,7 +67,9 @@ fn place_of(shape: &Shape, page: &[u8], key: &Key) -> Search
 pub fn find(shape: &Shape, page: &[u8], key: &Key) -> Option<Entry>
     requires sized { length page.now ≡ shape.now.page_bytes }
     requires decodes { Decodes shape.now page.now }
-    ensures { (level index : ℕ) (entries : List EntrySpec) → IsMetaPage shape.now page.now level index entries → IsEntryOf key.now entries (option_map seen result) }
+    ensures { (level index : ℕ) (entries : List EntrySpec)
+        → IsMetaPage shape.now page.now level index entries
+        → IsEntryOf key.now entries (option_map seen result) }
 {
     shape.known();
     match place_of(shape, page, key).place {

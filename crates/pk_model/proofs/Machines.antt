@@ -15,7 +15,10 @@ use Rattle.pk_nvme.specs.declared.request.Request.{Request}
 use Rattle.pk_nvme.specs.Seen.{command_of}
 use Rattle.pk_nvme.specs.Command.{Command, key}
 use Rattle.pk_nvme.specs.Reply.{refusal}
-use Rattle.pk_model.specs.Answer.{Kind, kind, store, first_of, check, early, late_of, reply_of, effect, success, report_bytes}
+use Rattle.pk_nvme.specs.Opcode.{op_of}
+use Rattle.pk_nvme.specs.declared.opcode.Opcode.{Opcode}
+use Rattle.pk_nvme.specs.declared.opcode.Opcode.TheVariants.{Store}
+use Rattle.pk_model.specs.Answer.{first_of, check, early, late_of, reply_of, effect, success, report_bytes}
 use Rattle.pk_model.specs.Machine.{Machine, replied, no_numbers, Answers}
 use Rattle.pk_model.specs.declared.answer.Answer.{Answer}
 use Rattle.pk_model.proofs.Answering.{refuses_early, refuses_late, serves}
@@ -25,18 +28,18 @@ use Rattle.pk_base.specs.Map.{Map, live, pages_in, pages_of, pages_if_some}
 pub live-empty : (shape : Shape) → live shape empty ≡ 0
 live-empty shape = ap (pages_in shape) (nil_from_length (entries {R = key_cmp} empty) (sym (len-entries empty) ∙ len-empty key_cmp (List ℕ)))
 
-module _ (old : Machine) (r : Request) (k : Kind) where
+module _ (old : Machine) (r : Request) (k : Opcode) where
   -- the command of the request passed its early checks, whatever value follows
   abbrev pub Passes : Type 0
   Passes = (v : List ℕ) → early old.shape (command_of r v) ≡ None
 
-  pub refused_answer : (status : ℕ) → kind r.opcode ≡ Some k → Passes → ((v : List ℕ) → late_of old.shape (limit old.shape) old.map (command_of r v) (Some k) ≡ Some status)
+  pub refused_answer : (status : ℕ) → op_of r.opcode ≡ Some k → Passes → ((v : List ℕ) → late_of old.shape (limit old.shape) old.map (command_of r v) (Some k) ≡ Some status)
       → (a : Answer) → replied a ≡ refusal status → (v : List ℕ) → Answers old old (command_of r v) a
   refused_answer status is passes late a answer v =
       let refuses = refuses_late old.shape (limit old.shape) 0 old.map no_numbers (command_of r v) k status is (passes v) (late v) in
       record { reply_is = answer ∙ sym refuses.replied; map_is = ap (λ (m : Map). record old { map = m }) (sym refuses.leaves) }
 
-  pub served_answer : (new : Machine) → kind r.opcode ≡ Some k → Passes → (a : Answer) (v : List ℕ) → late_of old.shape (limit old.shape) old.map (command_of r v) (Some k) ≡ None
+  pub served_answer : (new : Machine) → op_of r.opcode ≡ Some k → Passes → (a : Answer) (v : List ℕ) → late_of old.shape (limit old.shape) old.map (command_of r v) (Some k) ≡ None
       → replied a ≡ reply_of old.shape (limit old.shape) 0 old.map no_numbers (command_of r v) (Some k) → new ≡ record old { map = effect old.map (command_of r v) (Some k) } → Answers old new (command_of r v) a
   served_answer new is passes a v late answer left =
       let serves_it = serves old.shape (limit old.shape) 0 old.map no_numbers (command_of r v) k is (passes v) late in
@@ -149,7 +152,7 @@ store_check options is_there live_pages most =
 
 pub store_late : (shape : Shape) (m : Map) (r : Request) (v : List ℕ) (is_there : Bool) (before held charged most : ℕ)
     → is_there ≡ contains_key m (key (command_of r v)) → before ≡ live shape m → held ≡ pages_if_some shape (get m (key (command_of r v))) → charged ≡ charge shape r.size → most ≡ limit shape
-    → store_check r.options is_there (before - held + charged) most ≡ late_of shape (limit shape) m (command_of r v) (Some store)
+    → store_check r.options is_there (before - held + charged) most ≡ late_of shape (limit shape) m (command_of r v) (Some Store)
 store_late shape m r v is_there before held charged most t b h n l = λ i. store_check r.options (t i) (b i - h i + n i) (l i)
 
 -- ---- the replies

@@ -2,6 +2,7 @@
 ghost use Rattle.std.specs.Prelude.{◌≡◌, ◌≤◌, ◌++◌, length, IfOk};
 
 use pk_nvme::Bytes;
+use pk_nvme::status::SUCCESSFUL_COMPLETION;
 use std::alloc::{AllocError, Global};
 
 /// What a command is answered: the status code, the result and the data.
@@ -42,7 +43,7 @@ impl Answer {
         bytes.extend(front);
         bytes.extend(rest);
         Ok(Answer {
-            status: 0,
+            status: SUCCESSFUL_COMPLETION,
             result: result_field,
             bytes,
         })

@@ -5,7 +5,7 @@ ghost use Rattle.pk_base.specs.Fields.{u16 as u16_bytes};
 ghost use Rattle.pk_model.specs.Answer.{listed as listed_bytes};
 ghost use Rattle.pk_model.specs.Listing.{offered, offered_from};
 
-use pk_base::is_below;
+use pk_base::{Key, is_below_bytes};
 use pk_nvme::Bytes;
 use std::alloc::{AllocError, Global};
 use std::marker::Model;
@@ -34,7 +34,8 @@ impl Page {
     /// No keys, and room for so many bytes; an error where the memory for them is missing.
     pub fn with_room(alloc: Global, room: usize) -> Result<Page, AllocError>
         requires { room < 2 ^ 31 }
-        ensures { IfOk result (λ p. p ≡ record { bytes = []; count = 0; left = room; full = false }) }
+        ensures { IfOk result
+            (λ p. p ≡ record { bytes = []; count = 0; left = room; full = false }) }
     {
         Ok(Page {
             bytes: Bytes::with_room(alloc, room)?,
@@ -77,12 +78,11 @@ impl Page {
     }
 
     /// One more key, unless it is below the first that is wanted.
-    pub fn offer_from(&mut self, from: &[u8], key: &[u8])
-        requires { IsKey key.now }
+    pub fn offer_from(&mut self, from: &[u8], key: &Key)
         ensures { self.new ≡ offered_from from.now self.old key.now }
     {
-        if !is_below(key, from) {
-            self.offer(key);
+        if !is_below_bytes(key, from) {
+            self.offer(key.bytes());
         }
     }
 }

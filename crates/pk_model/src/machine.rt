@@ -5,18 +5,21 @@ ghost use Rattle.pk_base.specs.Fields.{u32 as u32_bytes};
 ghost use Rattle.pk_base.specs.Shape.{charge, limit};
 ghost use Rattle.pk_base.specs.Map.{pages_of, pages_if_some, live as live_of};
 ghost use Rattle.std.specs.FinMap as map;
-ghost use Rattle.pk_nvme.specs.Command.{command, key as key_in, IsWhole};
+ghost use Rattle.pk_nvme.specs.Command.{command, IsWhole};
 ghost use Rattle.pk_nvme.specs.Seen.{command_of};
-ghost use Rattle.pk_model.specs.Answer.{check, early, first_of, success};
+ghost use Rattle.pk_model.specs.Answer.{early, success};
 ghost use Rattle.pk_model.specs.Machine.{Machine, Answers, replied};
 
 use crate::answer::Answer;
-use crate::early::early_fault;
+use crate::early::{early_fault, store_fault};
 use crate::listing::Page;
 use crate::table::Table;
 use crate::value::Value;
-use pk_base::{Key, Shape};
+use pk_base::{HEAD_BYTES, Key, Shape};
 use pk_nvme::Request;
+use pk_nvme::limits::{COUNT_BYTES, MOST_LIST_BYTES};
+use pk_nvme::opcode::{DELETE, EXIST, FLUSH, LIST, REPORT, RETRIEVE, STORE, TICK};
+use pk_nvme::status::{INVALID_COMMAND_OPCODE, KEY_DOES_NOT_EXIST};
 use std::alloc::{AllocError, Global};
 use std::marker::Model;
 
@@ -51,20 +54,7 @@ impl Model for MapMachine {
 fn pages(shape: &Shape, value: &[u8]) -> u64
     ensures { result ≡ pages_of shape.now value.now }
 {
-    (32 + value.len() as u64).div_ceil(shape.page_bytes() as u64)
-}
-
-/// The first check of a Store that fails on the map: of its options, then of the live pages that it would leave.
-fn store_fault(options: u8, is_there: bool, live: u64, most: u64) -> Option<u8>
-    ensures { result ≡ first_of (check (not (options % 2 == 1) || is_there) 0x87) (first_of (check (not (options / 2 % 2 == 1 && is_there)) 0x89) (check (nat_le live most) 0x81)) }
-{
-    if options % 2 == 1 && !is_there {
-        return Some(0x87);
-    }
-    if options / 2 % 2 == 1 && is_there {
-        return Some(0x89);
-    }
-    if live > most { Some(0x81) } else { None }
+    (HEAD_BYTES as u64 + value.len() as u64).div_ceil(shape.page_bytes() as u64)
 }
 
 /// The numbers of a Report that are not 0: the live pages, their limit and the keys.
@@ -79,18 +69,10 @@ fn report_front(live: u32, limit: u32, keys: u32) -> [u8; 12]
 
 /// The answer of a List: how many keys there are, and they.
 fn answer_of(alloc: Global, page: &Page) -> Result<Answer, AllocError>
-    ensures { IfOk result (λ a. replied a ≡ success 0 (u32_bytes page.now.count ++ page.now.bytes)) }
+    ensures { IfOk result
+        (λ a. replied a ≡ success 0 (u32_bytes page.now.count ++ page.now.bytes)) }
 {
     Answer::of_parts(alloc, 0, &page.count().to_le_bytes(), page.bytes())
-}
-
-/// The key that a request names.
-fn key_of(request: &Request) -> Key
-    requires some { 1 ≤ request.now.key_len }
-    requires most { request.now.key_len ≤ 16 }
-    ensures { result ≡ key_in (command_of request.now []) }
-{
-    Key::of(&request.key[..request.key_len as usize])
 }
 
 /// Whether a value stands under a key, and its pages; none where no value does.
@@ -140,18 +122,19 @@ impl MapMachine {
     ) -> Result<Answer, AllocError>
         requires passed { (v : List ℕ) → early self.old.shape (command_of request.now v) ≡ None }
         requires whole { IsWhole (command_of request.now value.now) }
-        ensures ok { IfOk result (λ a. Answers self.old self.new (command_of request.now value.now) a) }
+        ensures ok { IfOk result
+            (λ a. Answers self.old self.new (command_of request.now value.now) a) }
         ensures err { OnErr result (self.new ≡ self.old) }
     {
         match request.opcode {
-            0x00 | 0xc0 => self.done(alloc, request),
-            0x01 => self.store(alloc, request, value),
-            0x02 => self.retrieve(alloc, request),
-            0x06 => self.list(alloc, request),
-            0x10 => self.delete(alloc, request),
-            0x14 => self.exist(alloc, request),
-            0xc2 => self.report(alloc, request),
-            _ => Answer::of_status(alloc, 0x01),
+            FLUSH | TICK => self.done(alloc, request),
+            STORE => self.store(alloc, request, value),
+            RETRIEVE => self.retrieve(alloc, request),
+            LIST => self.list(alloc, request),
+            DELETE => self.delete(alloc, request),
+            EXIST => self.exist(alloc, request),
+            REPORT => self.report(alloc, request),
+            _ => Answer::of_status(alloc, INVALID_COMMAND_OPCODE),
         }
     }
 
@@ -180,17 +163,18 @@ impl MapMachine {
         request: &Request,
         value: &[u8],
     ) -> Result<Answer, AllocError>
-        requires opcode { request.now.opcode ≡ 0x01 }
+        requires opcode { request.now.opcode ≡ STORE }
         requires passed { (v : List ℕ) → early self.old.shape (command_of request.now v) ≡ None }
         requires whole { length value.now ≡ request.now.size }
-        ensures ok { IfOk result (λ a. Answers self.old self.new (command_of request.now value.now) a) }
+        ensures ok { IfOk result
+            (λ a. Answers self.old self.new (command_of request.now value.now) a) }
         ensures err { OnErr result (self.new ≡ self.old) }
     {
         let limit = self.shape.limit() as u64;
-        let key = key_of(request);
+        let key = request.key();
         let held = self.held(&key);
         let live = self.live - held.pages + self.shape.charge(request.size) as u64;
-        match store_fault(request.options, held.is_there, live, limit) {
+        match store_fault(request, held.is_there, live, limit) {
             Some(status) => Answer::of_status(alloc, status),
             None => self.put(alloc, key, value, live),
         }
@@ -208,7 +192,8 @@ impl MapMachine {
         requires live { live ≡ live_of self.old.shape (map.insert self.old.map key value.now) }
         requires most { live ≤ limit self.old.shape }
         ensures ok { IfOk result (λ a. replied a ≡ success 0 []) }
-        ensures left { OnOk result (self.new ≡ record self.old { map = map.insert self.old.map key value.now }) }
+        ensures left { OnOk result
+            (self.new ≡ record self.old { map = map.insert self.old.map key value.now }) }
         ensures err { OnErr result (self.new ≡ self.old) }
     {
         let answer = Answer::of_parts(alloc, 0, &[], &[])?;
@@ -223,15 +208,16 @@ impl MapMachine {
 
     /// Takes a key away.
     fn delete(&mut self, alloc: Global, request: &Request) -> Result<Answer, AllocError>
-        requires opcode { request.now.opcode ≡ 0x10 }
+        requires opcode { request.now.opcode ≡ DELETE }
         requires passed { (v : List ℕ) → early self.old.shape (command_of request.now v) ≡ None }
-        ensures ok { IfOk result (λ a. (v : List ℕ) → Answers self.old self.new (command_of request.now v) a) }
+        ensures ok { IfOk result
+            (λ a. (v : List ℕ) → Answers self.old self.new (command_of request.now v) a) }
         ensures err { OnErr result (self.new ≡ self.old) }
     {
-        let key = key_of(request);
+        let key = request.key();
         let held = self.held(&key);
         if !held.is_there {
-            return Answer::of_status(alloc, 0x87);
+            return Answer::of_status(alloc, KEY_DOES_NOT_EXIST);
         }
         match Answer::of_parts(alloc, 0, &[], &[]) {
             Ok(answer) => {
@@ -245,38 +231,44 @@ impl MapMachine {
 
     /// The front of the value of a key.
     fn retrieve(&self, alloc: Global, request: &Request) -> Result<Answer, AllocError>
-        requires opcode { request.now.opcode ≡ 0x02 }
+        requires opcode { request.now.opcode ≡ RETRIEVE }
         requires passed { (v : List ℕ) → early self.now.shape (command_of request.now v) ≡ None }
-        ensures { IfOk result (λ a. (v : List ℕ) → Answers self.now self.now (command_of request.now v) a) }
+        ensures { IfOk result
+            (λ a. (v : List ℕ) → Answers self.now self.now (command_of request.now v) a) }
     {
-        match self.map.get(&key_of(request)) {
+        match self.map.get(&request.key()) {
             Some(value) => {
                 let size = (request.size as usize).min(value.bytes().len());
                 Answer::of_parts(alloc, value.len(), &[], &value.bytes()[..size])
             }
-            None => Answer::of_status(alloc, 0x87),
+            None => Answer::of_status(alloc, KEY_DOES_NOT_EXIST),
         }
     }
 
     /// Whether the key of a request is there.
     fn exist(&self, alloc: Global, request: &Request) -> Result<Answer, AllocError>
-        requires opcode { request.now.opcode ≡ 0x14 }
+        requires opcode { request.now.opcode ≡ EXIST }
         requires passed { (v : List ℕ) → early self.now.shape (command_of request.now v) ≡ None }
-        ensures { IfOk result (λ a. (v : List ℕ) → Answers self.now self.now (command_of request.now v) a) }
+        ensures { IfOk result
+            (λ a. (v : List ℕ) → Answers self.now self.now (command_of request.now v) a) }
     {
-        match self.map.get(&key_of(request)) {
+        match self.map.get(&request.key()) {
             Some(_) => Answer::of_parts(alloc, 0, &[], &[]),
-            None => Answer::of_status(alloc, 0x87),
+            None => Answer::of_status(alloc, KEY_DOES_NOT_EXIST),
         }
     }
 
     /// The keys from a key on, as many as fit.
     fn list(&self, alloc: Global, request: &Request) -> Result<Answer, AllocError>
-        requires opcode { request.now.opcode ≡ 0x06 }
+        requires opcode { request.now.opcode ≡ LIST }
         requires passed { (v : List ℕ) → early self.now.shape (command_of request.now v) ≡ None }
-        ensures { IfOk result (λ a. (v : List ℕ) → Answers self.now self.now (command_of request.now v) a) }
+        ensures { IfOk result
+            (λ a. (v : List ℕ) → Answers self.now self.now (command_of request.now v) a) }
     {
-        let mut page = Page::with_room(alloc, request.size.min(65536) as usize - 4)?;
+        let mut page = Page::with_room(
+            alloc,
+            (request.size.min(MOST_LIST_BYTES) - COUNT_BYTES) as usize,
+        )?;
         self.map
             .list(&request.key[..request.key_len as usize], &mut page);
         answer_of(alloc, &page)
@@ -284,9 +276,10 @@ impl MapMachine {
 
     /// A success that leaves the map: of a Flush or a Tick.
     fn done(&self, alloc: Global, request: &Request) -> Result<Answer, AllocError>
-        requires opcode { (request.now.opcode ≡ 0x00) ⊎ (request.now.opcode ≡ 0xC0) }
+        requires opcode { (request.now.opcode ≡ FLUSH) ⊎ (request.now.opcode ≡ TICK) }
         requires passed { (v : List ℕ) → early self.now.shape (command_of request.now v) ≡ None }
-        ensures { IfOk result (λ a. (v : List ℕ) → Answers self.now self.now (command_of request.now v) a) }
+        ensures { IfOk result
+            (λ a. (v : List ℕ) → Answers self.now self.now (command_of request.now v) a) }
     {
         let _ = request;
         Answer::of_parts(alloc, 0, &[], &[])
@@ -294,9 +287,10 @@ impl MapMachine {
 
     /// The numbers of the map, and zeros for those of a drive.
     fn report(&self, alloc: Global, request: &Request) -> Result<Answer, AllocError>
-        requires opcode { request.now.opcode ≡ 0xC2 }
+        requires opcode { request.now.opcode ≡ REPORT }
         requires passed { (v : List ℕ) → early self.now.shape (command_of request.now v) ≡ None }
-        ensures { IfOk result (λ a. (v : List ℕ) → Answers self.now self.now (command_of request.now v) a) }
+        ensures { IfOk result
+            (λ a. (v : List ℕ) → Answers self.now self.now (command_of request.now v) a) }
     {
         let _ = request;
         let limit = self.shape.limit();

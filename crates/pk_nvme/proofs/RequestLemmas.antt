@@ -1,7 +1,7 @@
 -- The fields of a request, read from the entry that is made of them.
-use Rattle.std.proofs.Common.{◌≡◌, ℕ, ◌+◌, ◌<◌, ◌≤◌, ◌^◌, List, [], ◌∷◌, ◌++◌, length, take, drop, get_or, refl, sym, ap, ◌∙◌, arith, length-drop}
+use Rattle.std.proofs.Common.{◌≡◌, ℕ, ◌<◌, ◌^◌, List, [], ◌∷◌, ◌++◌, length, take, drop, get_or, refl, ap, ◌∙◌, arith, length-drop}
 use Rattle.std.proofs.lemmas.List.{length-take-le, take_all, take_at, take-append-drop}
-use Rattle.pk_base.specs.Fields.{u16, u32, zeros, spelled, number_at}
+use Rattle.pk_base.specs.Fields.{u16, u32, zeros, number_at}
 use Rattle.pk_base.proofs.Tables.{spelled_stand, stands_byte, stands_number, Stand, AreSized}
 use Rattle.pk_nvme.specs.Command.{Command, command}
 use Rattle.pk_nvme.specs.Seen.{command_of, entry_of}

@@ -6,7 +6,8 @@ use Rattle.std.proofs.lemmas.List.Sums.{sum_by-set, sum_by-cons}
 use Rattle.std.proofs.lemmas.Bool.{cases_eq}
 use Rattle.std.proofs.lemmas.Bool.Decides.{eqb_tells}
 use Rattle.std.proofs.lemmas.Option.{slice_get_within, get_or_from_slice_get}
-use Rattle.pk_pin.specs.Frames.{Frames, leased_frames, IsLeased, frame_of, leased, given, filled, times, AreLeases}
+use Rattle.pk_pin.specs.Frames.{Frames, free_frames, leased_frames, IsLeased, frame_of, leased, given, filled, times, AreLeases}
+use Rattle.pk_pin.proofs.Cuts.{free-and-leased}
 
 pub times-append : (i : ℕ) (xs ys : List ℕ) → times i (xs ++ ys) ≡ times i xs + times i ys
 times-append i [] ys = omega arith
@@ -104,6 +105,14 @@ leases_counted a (l ∷ ls) all =
     let change = sum_by-set (λ b. cond b 1 0) a.used l false true (slice_get_within a.used l true own) in
     let was = get_or_from_slice_get a.used l true true own in
     ap suc rest ∙ fewer _ _ _ was change
+
+-- free and leased frames together are all frames
+pub frames_counted : (a : Frames) → free_frames a + leased_frames a ≡ length a.used
+frames_counted a = free-and-leased a.used
+
+-- a frame that is filled is leased as before, and so are all others
+pub leases_filled : (a : Frames) (ls : List ℕ) (l : ℕ) (bytes : List ℕ) → AreLeases a ls → AreLeases (filled a l bytes) ls
+leases_filled a ls l bytes all = all
 
 had : (n : ℕ) → suc n ≡ 0 → ⊥
 had n h = omega arith

@@ -7,6 +7,11 @@
 ghost use Rattle.std.specs.Prelude.{◌≡◌, ◌≢◌, ℕ, ◌+◌, ◌*◌, ◌<◌, ◌↔◌, length, replicate, true, false, slice_get, slice_set, IfOk, IfSome, IfNone, IsNone, Some, count_by, not, slice_index_or, []};
 ghost use Rattle.pk_pin.specs.Frames.{Frames, free_frames, leased_frames, IsLeased, frame_of, leased, given, filled, chunks};
 
+mod laws;
+
+pub use laws::{
+    free_and_leased, lease_given, lease_taken, leases_counted, leases_filled, none_leased,
+};
 use std::alloc::{AllocError, Allocator};
 use std::marker::Model;
 
@@ -180,6 +185,3 @@ impl<A: Allocator> PinArena<A> {
         self.free
     }
 }
-
-#[cfg(test)]
-mod tests;

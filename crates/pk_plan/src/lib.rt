@@ -6,6 +6,3 @@ mod plan;
 
 pub use owner::Owner;
 pub use plan::Plan;
-
-#[cfg(test)]
-mod tests;

@@ -5,7 +5,7 @@ ghost use Rattle.pk_base.specs.Merge as merge;
 ghost use Rattle.pk_plan.specs.Quotas.{quota_of, IsPlan};
 
 use crate::owner::Owner;
-use pk_base::Shape;
+use pk_base::{EPOCH_BLOCKS, Shape};
 use std::marker::Model;
 
 /// What a drive of a shape plans with. Contracts see the shape.
@@ -54,7 +54,7 @@ impl Plan {
         ensures most { result ≤ 4096 }
     {
         match owner {
-            Owner::Journal => 4,
+            Owner::Journal => 2 * EPOCH_BLOCKS,
             Owner::Meta => self.shape.meta_blocks(),
             Owner::Values => self.shape.data_blocks(),
         }
@@ -65,13 +65,16 @@ impl Plan {
         requires { levels ≤ 4 }
         ensures { result ≡ spec.need self.now levels }
     {
+        let first = self.shape.cap(1);
+        let second = self.shape.cap(2);
+        let third = self.shape.cap(3);
         let deepest = self.shape.cap(4);
         match levels {
             0 => 0,
-            1 => 4 + 4,
-            2 => 4 + 16 + 16,
-            3 => 4 + 16 + 64 + 64,
-            _ => 4 + 16 + 64 + deepest + deepest.max(64),
+            1 => first + first,
+            2 => first + second + second,
+            3 => first + second + third + third,
+            _ => first + second + third + deepest + deepest.max(third),
         }
     }
 
@@ -100,7 +103,9 @@ impl Plan {
     pub fn calls(&self) -> u64
         ensures { result ≡ spec.most_calls self.now }
     {
-        8 * (4 + 16 + 64 + self.shape.cap(4) as u64) + 4 * self.shape.block_pages() as u64 + 64
+        let upper = self.shape.cap(1) + self.shape.cap(2) + self.shape.cap(3);
+        let pages = (upper + self.shape.cap(4)) as u64;
+        8 * pages + 4 * self.shape.block_pages() as u64 + 64
     }
 
     /// The level into which the next merge goes, for so many frozen keys and so many entries of each run. None exactly where

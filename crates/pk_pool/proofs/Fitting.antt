@@ -10,15 +10,16 @@ use Rattle.pk_base.specs.Shape.{Shape, IsShape, page_count}
 use Rattle.pk_base.specs.Page.{Page, Flash, page_at, erased}
 use Rattle.pk_base.specs.Mark.{Mark, program, erase, after}
 use Rattle.pk_nand.specs.BoardState.{BoardState, shape_of}
-use Rattle.pk_nand.specs.Cut.{Interrupted, MayLeave}
-use Rattle.pk_nand.specs.Calls.{IsReady, InOrder, LeftBehind, after_erase, EraseFailed}
+use Rattle.pk_nand.specs.Cut.{Interrupted, MayLeave, touched_block}
+use Rattle.pk_nand.specs.Calls.{IsReady, InOrder, LeftBehind, after_erase, EraseFailed, IsErasedBlock}
 use Rattle.pk_nand.specs.Crash.{SameOutside, Reached, Went}
 use Rattle.pk_nand.proofs.Leaving.{erased_leaves, page-erased_in, interrupted_done, IsFlash-after, IsFlash-left, full_erase}
 use Rattle.pk_nand.proofs.Reaching.{Reached-start, Reached-erase, Went-erase_failed}
+use Rattle.pk_nand.proofs.Touching.{elsewhere}
 use Rattle.pk_nand.proofs.Writing.{shape_is}
 use Rattle.pk_pool.specs.declared.state.BlockState.{BlockState}
 use Rattle.pk_pool.specs.declared.state.BlockState.TheVariants.{Root, Free, Ready, Owned}
-use Rattle.pk_pool.specs.Blocks.{Blocks, Fits, IsErasedBlock, IsOwned, IsShared, IsSpare, with_state}
+use Rattle.pk_pool.specs.Blocks.{Blocks, Fits, IsOwned, IsShared, IsSpare, with_state}
 use Rattle.pk_pool.specs.Laws.{IsNotReady, IsInBlock}
 use Rattle.pk_pool.specs.Taking.{SameButBlock, ReachesIn, WentIn, FailsToErase}
 use Rattle.pk_pool.proofs.States.{get-set_other, get-set_same, free_is_not_ready, owned_is_not_ready}
@@ -79,15 +80,18 @@ owned_not_ready p b owned is = owned_is_not_ready {o = owned.0} (same_Some (Owne
 pub free_not_ready : (states : List BlockState) (b : ℕ) → slice_get states b ≡ Some Free → slice_get states b ≡ Some Ready → ⊥
 free_not_ready states b free is = free_is_not_ready (same_Some Free Ready (sym free ∙ is))
 
+-- a mark, done or not, leaves all pages of other blocks
+but_block : (shape : Shape) (f g : Flash) (b : ℕ) (mark : Mark) (out : List ℕ) → 0 < shape.block_pages → touched_block shape mark ≡ Some b → Interrupted shape mark f g out → SameButBlock shape b f g
+but_block shape f g b mark out some touched cut = record {
+  size = cut.same_size;
+  below = λ k low. elsewhere shape mark k b _ _ touched (λ is. omega (arith, low, (in_block shape.block_pages k b some is).0)) (cut.pages k);
+  above = λ k high. elsewhere shape mark k b _ _ touched (λ is. omega (arith, high, (in_block shape.block_pages k b some is).1)) (cut.pages k);
+}
+
 -- an erase, done or not, leaves all pages of other blocks
 pub erase_leaves : (shape : Shape) (f g : Flash) (b : ℕ) (out : List ℕ) → 0 < shape.block_pages → Interrupted shape (erase b) f g out → SameButBlock shape b f g
 erase_leaves shape f g b out some cut =
-    let n : ℕ = shape.block_pages in
-    record {
-      size = cut.same_size;
-      below = λ k low. elim (cut.pages k) [ inl same ↦ same | inr is ↦ absurd (omega (arith, low, (in_block n k b some is.0).0)) ];
-      above = λ k high. elim (cut.pages k) [ inl same ↦ same | inr is ↦ absurd (omega (arith, high, (in_block n k b some is.0).1)) ];
-    }
+    but_block shape f g b (erase b) out some refl cut
 
 pub erased_leaves_others : (shape : Shape) (f : Flash) (b : ℕ) → 0 < shape.block_pages → SameButBlock shape b f (after shape (erase b) f)
 erased_leaves_others shape f b some = erase_leaves shape f (after shape (erase b) f) b [] some (interrupted_done shape (erase b) f)
@@ -114,11 +118,8 @@ Fits-erase p f g b out some not_ready cut fits = Fits-but_block p f g b not_read
 -- a program in a block that does not count as erased, done or not
 pub Fits-program : (p : Blocks) (f g : Flash) (b at : ℕ) (bytes out : List ℕ) → IsNotReady p b → IsInBlock p.shape b at
     → Interrupted p.shape (program at bytes) f g out → Fits p f → Fits p g
-Fits-program p f g b at bytes out not_ready inside cut fits = Fits-but_block p f g b not_ready (record {
-  size = cut.same_size;
-  below = λ k low. elim (cut.pages k) [ inl same ↦ same | inr is ↦ (let e = is.0 in absurd (omega (arith, low, inside.0, e))) ];
-  above = λ k high. elim (cut.pages k) [ inl same ↦ same | inr is ↦ (let e = is.0 in absurd (omega (arith, high, inside.1, e))) ];
-}) fits
+Fits-program p f g b at bytes out not_ready inside cut fits =
+    Fits-but_block p f g b not_ready (but_block p.shape f g b (program at bytes) out (omega (arith, inside.0, inside.1)) (ap Some (block_of p.shape.block_pages at b inside.0 inside.1)) cut) fits
 
 pub Fits-programmed : (p : Blocks) (f : Flash) (b at : ℕ) (bytes : List ℕ) → IsNotReady p b → IsInBlock p.shape b at
     → Fits p f → Fits p (after p.shape (program at bytes) f)

@@ -2,6 +2,7 @@
 use Rattle.std.specs.Prelude.{◌≡◌, ◌⊎◌, ℕ, ◌+◌, ◌*◌, ◌<◌, ◌≤◌, Bool, true, false, List, length, count_by, slice_get, slice_set, Some, replicate}
 use Rattle.pk_base.specs.Shape.{Shape, IsShape}
 use Rattle.pk_base.specs.Page.{Flash, page_at, erased}
+use Rattle.pk_nand.specs.Calls.{IsErasedBlock}
 use Rattle.pk_plan.specs.declared.owner.Owner.{Owner}
 use Rattle.pk_plan.specs.declared.owner.Owner.TheVariants.{Journal, Meta, Values}
 use Rattle.pk_plan.specs.Quotas.{quota_of, IsPlan}
@@ -90,10 +91,6 @@ pub record IsLowest (s : BlockState) (states : List BlockState) (b : ℕ) : Type
 
 abbrev pub IsNowhere : BlockState → List BlockState → Type 0
 IsNowhere s states = (k : ℕ) → slice_get states k ≡ Some s → ⊥
-
--- every page of the block is Erased
-abbrev pub IsErasedBlock : Shape → Flash → ℕ → Type 0
-IsErasedBlock shape flash b = (k : ℕ) → b * shape.block_pages ≤ k → k < b * shape.block_pages + shape.block_pages → page_at flash k ≡ erased
 
 -- every block that the pool counts as erased is Erased on the flash
 pub record Fits (p : Blocks) (flash : Flash) : Type 0 where

@@ -10,6 +10,3 @@ pub use laws::{changes_elsewhere, erase_elsewhere, erased_in_order, program_else
 pub use pk_plan::Owner;
 pub use pool::Pool;
 pub use state::BlockState;
-
-#[cfg(test)]
-mod tests;

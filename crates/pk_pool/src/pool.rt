@@ -3,11 +3,11 @@ ghost use Rattle.std.specs.Prelude.{◌≡◌, ℕ, ◌+◌, ◌*◌, ◌<◌, �
 ghost use Rattle.pk_base.specs.Page.{Flash};
 ghost use Rattle.pk_plan.specs.Quotas.{quota_of};
 ghost use Rattle.pk_plan.specs.declared.owner.Owner.{Owner};
-ghost use Rattle.pk_nand.specs.Calls.{IsReady};
+ghost use Rattle.pk_nand.specs.Calls.{IsReady, IsErasedBlock};
 ghost use Rattle.pk_nand.specs.declared.types.Fault.TheVariants.{Stopped};
 ghost use Rattle.pk_pool.specs.declared.state.BlockState.TheVariants.{Free, Ready, Owned};
 ghost use Rattle.pk_pool.specs.Blocks as spec;
-ghost use Rattle.pk_pool.specs.Blocks.{is_ready, used_by, unused, with_state, IsOwned, IsSpare, IsShared, IsLowest, IsNowhere, IsErasedBlock, Fits};
+ghost use Rattle.pk_pool.specs.Blocks.{is_ready, used_by, unused, with_state, IsOwned, IsSpare, IsShared, IsLowest, IsNowhere, Fits};
 ghost use Rattle.pk_pool.specs.Taking.{ReachesIn, TakesReady, ErasesFree, FailsToErase, ErasesOne, ErasesNone};
 
 use crate::state::BlockState;
@@ -105,18 +105,23 @@ impl<A: Allocator> Pool<A> {
         requires below { used_by owner self.old.states < quota_of self.old.shape owner }
         requires ready { IsReady (B.state board.old) self.old.shape }
         requires fits { Fits self.old (B.state board.old).pages }
-        ensures choice { IfOk result (λ b. TakesReady self.old (B.state board.old) b (B.state board.new) ⊎ ErasesFree self.old (B.state board.old) b (B.state board.new)) }
+        ensures choice { IfOk result (λ b. TakesReady self.old (B.state board.old) b
+            (B.state board.new) ⊎ ErasesFree self.old (B.state board.old) b (B.state board.new)) }
         ensures spare { IfOk result (λ b. IsSpare self.old b) }
         ensures place { IfOk result (λ b. 2 ≤ b × b < self.old.shape.blocks) }
         ensures taken { IfOk result (λ b. self.new ≡ with_state self.old b (Owned owner)) }
-        ensures counted { OnOk result (used_by owner self.new.states ≡ used_by owner self.old.states + 1) }
+        ensures counted { OnOk result
+            (used_by owner self.new.states ≡ used_by owner self.old.states + 1) }
         ensures owned { IfOk result (λ b. slice_get self.new.states b ≡ Some (Owned owner)) }
         ensures shape { self.new.shape ≡ self.old.shape }
-        ensures erased { IfOk result (λ b. IsErasedBlock self.old.shape (B.state board.new).pages b) }
-        ensures cuts { IfOk result (λ b. ReachesIn self.old.shape b (B.state board.old) (B.state board.new)) }
+        ensures erased { IfOk result
+            (λ b. IsErasedBlock self.old.shape (B.state board.new).pages b) }
+        ensures cuts { IfOk result
+            (λ b. ReachesIn self.old.shape b (B.state board.old) (B.state board.new)) }
         ensures stopped { IfErr result (λ e. e ≡ Stopped) }
         ensures none_ready { OnErr result (IsNowhere Ready self.old.states) }
-        ensures failed { OnErr result (FailsToErase self.old (B.state board.old) (B.state board.new)) }
+        ensures failed { OnErr result
+            (FailsToErase self.old (B.state board.old) (B.state board.new)) }
         ensures kept { OnErr result (self.new ≡ self.old) }
         ensures ready { IsReady (B.state board.new) self.new.shape }
         ensures fits { Fits self.new (B.state board.new).pages }
@@ -143,7 +148,8 @@ impl<A: Allocator> Pool<A> {
     pub fn give(&mut self, block: u32)
         requires { IsOwned self.old block }
         ensures given { self.new ≡ with_state self.old block Free }
-        ensures counted { (o : Owner) → slice_get self.old.states block ≡ Some (Owned o) → used_by o self.new.states + 1 ≡ used_by o self.old.states }
+        ensures counted { (o : Owner) → slice_get self.old.states block ≡ Some (Owned o)
+            → used_by o self.new.states + 1 ≡ used_by o self.old.states }
         ensures fits { (flash : Flash) → Fits self.old flash → Fits self.new flash }
     {
         self.states[block as usize] = BlockState::Free;
@@ -154,13 +160,17 @@ impl<A: Allocator> Pool<A> {
     pub fn erase_one<B: Nand>(&mut self, board: &mut B) -> Result<bool, Fault>
         requires ready { IsReady (B.state board.old) self.old.shape }
         requires fits { Fits self.old (B.state board.old).pages }
-        ensures cases { IfOk result (λ erased. MatchBool erased (ErasesOne self.old (B.state board.old) self.new (B.state board.new)) (ErasesNone self.old (B.state board.old) self.new (B.state board.new))) }
+        ensures cases { IfOk result (λ erased. MatchBool erased
+            (ErasesOne self.old (B.state board.old) self.new (B.state board.new))
+            (ErasesNone self.old (B.state board.old) self.new (B.state board.new))) }
         ensures stopped { IfErr result (λ e. e ≡ Stopped) }
-        ensures failed { OnErr result (FailsToErase self.old (B.state board.old) (B.state board.new)) }
+        ensures failed { OnErr result
+            (FailsToErase self.old (B.state board.old) (B.state board.new)) }
         ensures kept { OnErr result (self.new ≡ self.old) }
         ensures ready { IsReady (B.state board.new) self.new.shape }
         ensures shape { self.new.shape ≡ self.old.shape }
-        ensures owned { (b : ℕ) → IsOwned self.old b → slice_get self.new.states b ≡ slice_get self.old.states b }
+        ensures owned { (b : ℕ) → IsOwned self.old b
+            → slice_get self.new.states b ≡ slice_get self.old.states b }
         ensures fits { Fits self.new (B.state board.new).pages }
     {
         match lowest(&self.states, BlockState::Free) {

@@ -1,26 +1,38 @@
 -- Erases and programs of root blocks.
-use Rattle.std.proofs.Common.{◌≡◌, inl, inr, ℕ, ◌+◌, ◌*◌, ◌/◌, ◌%◌, ◌<◌, Bool, true, false, List, [], ◌∷◌, length, Some, nat_lt, if◌then◌else◌, refl, sym, ap, ◌∙◌, subst, arith, le_refl}
+use Rattle.std.proofs.Common.{◌≡◌, inl, inr, ℕ, ◌+◌, ◌*◌, ◌/◌, ◌%◌, ◌<◌, ◌≤◌, Bool, true, false, List, [], ◌∷◌, length, Some, nat_lt, if◌then◌else◌, refl, sym, ap, ◌∙◌, subst, arith, le_refl}
 use Rattle.std.proofs.Math.ListN.{set}
 use Rattle.std.proofs.Math.Nat.{mul-le-mul_right}
 use Rattle.std.proofs.lemmas.Nat.{div-add-mod'}
 use Rattle.std.proofs.lemmas.Bool.{ltb-true}
 use Rattle.pk_base.specs.Shape.{Shape, IsShape}
-use Rattle.pk_base.specs.Page.{Flash, whole}
-use Rattle.pk_base.specs.Mark.{program, erase, after}
+use Rattle.pk_base.specs.Page.{Page, Flash, whole}
+use Rattle.pk_base.specs.Mark.{Mark, program, erase, after}
 use Rattle.pk_nand.specs.BoardState.{BoardState, shape_of}
-use Rattle.pk_nand.specs.Cut.{Interrupted}
+use Rattle.pk_nand.specs.Cut.{Interrupted, MayLeave, touched_block}
 use Rattle.pk_nand.specs.Calls.{IsReady, LeftBehind, after_program, after_erase, ProgramFailed, EraseFailed}
 use Rattle.pk_nand.specs.Crash.{Reached, Went}
 use Rattle.pk_nand.proofs.Leaving.{interrupted_done, IsFlash-left, full_erase}
 use Rattle.pk_nand.proofs.Reaching.{Reached-program, Went-program_failed, Reached-erase, Went-erase_failed}
+use Rattle.pk_nand.proofs.Touching.{elsewhere}
 use Rattle.pk_nand.proofs.Writing.{shape_is, InOrder-next}
 use Rattle.pk_rootfmt.specs.Root.{Root, root_page}
 use Rattle.pk_model.specs.Laws.{IsInstall, RootErase, RootProgram, RootInstalled}
-use Rattle.pk_seg.proofs.TestBoards.{order_erased}
+use Rattle.pk_seg.proofs.ErasedBlocks.{order_erased}
 use Rattle.pk_root.specs.declared.next.Next.TheVariants.{Erase, Program}
 use Rattle.pk_root.specs.Installing.{other_block, next_behind, IsPossible, Fits, KeepsRoot, MayInstall}
 use Rattle.pk_root.proofs.Scanning.{root_page_exists}
-use Rattle.pk_root.proofs.Places.{block_below, page_below, not_other, in_block, first_below}
+use Rattle.pk_root.proofs.Places.{some_pages, block_below, page_below, not_other, in_block, first_below}
+
+-- ---- pages behind the root blocks
+
+-- a mark in a root block leaves them
+pub behind_block : (shape : Shape) (mark : Mark) (k block : ℕ) (old new : Page) → 0 < shape.block_pages → touched_block shape mark ≡ Some block → block < 2 → 2 * shape.block_pages ≤ k
+    → MayLeave shape mark k old new → new ≡ old
+behind_block shape mark k block old new some touched low high =
+    elsewhere shape mark k block old new touched (λ (e : k / shape.block_pages ≡ block). let below : k < 2 * shape.block_pages = page_below shape.block_pages k some (omega (arith, e, low)) in omega (arith, below, high))
+
+pub behind_page : (shape : Shape) (page : ℕ) (bytes : List ℕ) (k : ℕ) (old new : Page) → page < 2 * shape.block_pages → 2 * shape.block_pages ≤ k → MayLeave shape (program page bytes) k old new → new ≡ old
+behind_page shape page bytes k old new low = behind_block shape (program page bytes) k (page / shape.block_pages) old new (some_pages shape.block_pages page low) refl (block_below shape.block_pages page low)
 
 -- ---- erases
 
@@ -43,10 +55,7 @@ module _ (law : RootErase) (shape : Shape) (board : BoardState) (beside : ℕ) (
   left : (f : Flash) → Interrupted shape (erase block) board.pages f [] → KeepsRoot shape board.pages f
   left f cut = record {
     newest = law shape board.pages top block f [] fits.newest fits.possible.elsewhere (inl cut) ∙ sym fits.newest;
-    behind = λ k high. elim (cut.pages k) [
-      | inl same ↦ same
-      | inr is ↦ (let here : k / shape.block_pages ≡ block = is.0 in let below : k < 2 * shape.block_pages = page_below shape.block_pages k some (omega (arith, here)) in absurd (omega (arith, below, high)))
-    ];
+    behind = λ k high. behind_block shape (erase block) k block _ _ some refl (omega arith) high (cut.pages k);
     size = cut.same_size;
   }
 
@@ -114,10 +123,7 @@ module _ (law : RootProgram) (shape : Shape) (board : BoardState) (page : ℕ) (
   program_cut : (f : Flash) → Interrupted shape (program page bytes) board.pages f [] → MayInstall shape page root board.pages f
   program_cut f cut = record {
     newest = elim (law shape board.pages top page bytes root f [] install (inl cut)) [ inl former ↦ inl (former ∙ sym install.was) | inr new ↦ inr new ];
-    behind = λ k high. elim (cut.pages k) [
-      | inl same ↦ same
-      | inr is ↦ (let here : k ≡ page = is.0 in let below = install.in_root_blocks in absurd (omega (arith, here, below, high)))
-    ];
+    behind = λ k high. behind_page shape page bytes k _ _ install.in_root_blocks high (cut.pages k);
     size = cut.same_size;
   }
 

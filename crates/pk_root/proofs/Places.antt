@@ -15,7 +15,7 @@ use Rattle.pk_root.proofs.Scanning.{newest_among, newest_root_same}
 -- ---- two blocks of n pages
 
 -- there is a page
-some_pages : (n page : ℕ) → page < 2 * n → 0 < n
+pub some_pages : (n page : ℕ) → page < 2 * n → 0 < n
 some_pages zero page less = absurd (omega (arith, less))
 some_pages (suc n) page less = omega arith
 

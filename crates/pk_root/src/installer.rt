@@ -2,13 +2,12 @@
 ghost use Rattle.std.specs.Prelude.{◌≡◌, ◌*◌, ◌<◌, ◌⊎◌, ℕ, length, not, true, false, Some, MatchBool, OnOk, OnErr, IfOk, IfErr};
 ghost use Rattle.pk_base.specs.Shape as spec;
 ghost use Rattle.pk_base.specs.Page.{Flash, page_at};
-ghost use Rattle.pk_nand.specs.Calls.{IsReady, after_program, after_erase, ProgramFailed, EraseFailed};
-ghost use Rattle.pk_nand.specs.Crash.{Reached, Went};
+ghost use Rattle.pk_nand.specs.Calls.{IsReady};
 ghost use Rattle.pk_nand.specs.declared.types.Fault.TheVariants.{Stopped};
-ghost use Rattle.pk_rootfmt.specs.Root.{Root as RootValue, is_root, root_bytes};
+ghost use Rattle.pk_rootfmt.specs.Root.{Root as RootValue, is_root};
 ghost use Rattle.pk_rootfmt.specs.Newest.{newest_root};
 ghost use Rattle.pk_root.specs.declared.next.Next.TheVariants.{Erase, Program};
-ghost use Rattle.pk_root.specs.Installing.{erases_next, other_block, next_behind as next_behind_of, Fits, SameBehind, KeepsRoot, MayInstall, Installs, ErasesOther, FailsToInstall, FailsToErase};
+ghost use Rattle.pk_root.specs.Installing.{erases_next, next_behind as next_behind_of, Fits, SameBehind, Installs, ErasesOther, FailsToInstall, FailsToErase};
 
 use crate::next::Next;
 use pk_base::Shape;
@@ -36,14 +35,13 @@ impl Model for Installer {
 // Erases the root block in which this page does not lie, and answers its first page. `Stopped` where the erase fails.
 fn erase_other<B: Nand>(board: &mut B, shape: &Shape, beside: u32) -> Result<u32, Fault>
     requires ready { IsReady (B.state board.old) shape.now }
-    requires fits { (top : ℕ × RootValue) × Fits shape.now (Erase beside) top (B.state board.old).pages }
-    ensures first { IfOk result (λ page. page ≡ other_block shape.now beside * shape.now.block_pages) }
-    ensures ok { OnOk result (B.state board.new ≡ after_erase (B.state board.old) (other_block shape.now beside)) }
-    ensures cuts { OnOk result (Reached (B.state board.old) (B.state board.new) (λ cut _. KeepsRoot shape.now (B.state board.old).pages cut)) }
-    ensures fits { OnOk result ((top : ℕ × RootValue) → Fits shape.now (Erase beside) top (B.state board.old).pages → Fits shape.now (Program (other_block shape.now beside * shape.now.block_pages)) top (B.state board.new).pages) }
+    requires fits { (top : ℕ × RootValue)
+        × Fits shape.now (Erase beside) top (B.state board.old).pages }
+    ensures erases { IfOk result (λ page.
+        ErasesOther shape.now (Erase beside) (B.state board.old) (Program page) (B.state board.new)) }
     ensures stopped { IfErr result (λ e. e ≡ Stopped) }
-    ensures err { OnErr result (EraseFailed (B.state board.old) (B.state board.new) (other_block shape.now beside)) }
-    ensures cuts_err { OnErr result (Went (B.state board.old) (B.state board.new) (λ cut _. KeepsRoot shape.now (B.state board.old).pages cut)) }
+    ensures failed { OnErr result (FailsToErase shape.now (Erase beside) (B.state board.old)
+        (B.state board.new)) }
     ensures behind { SameBehind shape.now (B.state board.old).pages (B.state board.new).pages }
     ensures ready { IsReady (B.state board.new) shape.now }
 {
@@ -65,14 +63,15 @@ fn program_root<B: Nand, A: Allocator>(
 ) -> Result<(), Fault>
     requires ready { IsReady (B.state board.old) root.now.shape }
     requires grammar { is_root root.now.shape root.now.root ≡ true }
-    requires fits { (top : ℕ × RootValue) × Fits root.now.shape (Program page) top (B.state board.old).pages × (top.1.number < root.now.root.number) }
+    requires fits { (top : ℕ × RootValue)
+        × Fits root.now.shape (Program page) top (B.state board.old).pages
+        × (top.1.number < root.now.root.number) }
     requires room { length buf.old ≡ root.now.shape.page_bytes }
-    ensures ok { OnOk result (B.state board.new ≡ after_program (B.state board.old) page (root_bytes root.now.shape root.now.root)) }
-    ensures cuts { OnOk result (Reached (B.state board.old) (B.state board.new) (λ cut _. MayInstall root.now.shape page root.now.root (B.state board.old).pages cut)) }
-    ensures fits { OnOk result (Fits root.now.shape (next_behind_of root.now.shape page) (page, root.now.root) (B.state board.new).pages) }
+    ensures installs { OnOk result (Installs root.now.shape root.now.root (Program page)
+        (B.state board.old) (next_behind_of root.now.shape page) (B.state board.new)) }
     ensures stopped { IfErr result (λ e. e ≡ Stopped) }
-    ensures err { OnErr result (ProgramFailed (B.state board.old) (B.state board.new) page (root_bytes root.now.shape root.now.root)) }
-    ensures cuts_err { OnErr result (Went (B.state board.old) (B.state board.new) (λ cut _. MayInstall root.now.shape page root.now.root (B.state board.old).pages cut)) }
+    ensures failed { OnErr result (FailsToInstall root.now.shape root.now.root (Program page)
+        (B.state board.old) (B.state board.new)) }
     ensures behind { SameBehind root.now.shape (B.state board.old).pages (B.state board.new).pages }
     ensures ready { IsReady (B.state board.new) root.now.shape }
     ensures buffer { length buf.new ≡ length buf.old }
@@ -105,10 +104,51 @@ impl Installer {
     /// programs that block's first page.
     pub fn after(page: u32) -> Installer
         ensures value { result ≡ Erase page }
-        ensures fits { (shape : spec.Shape) (flash : Flash) (root : RootValue) → newest_root shape (page_at flash) ≡ Some (page, root) → Fits shape result (page, root) flash }
+        ensures fits { (shape : spec.Shape) (flash : Flash) (root : RootValue)
+            → newest_root shape (page_at flash) ≡ Some (page, root)
+            → Fits shape result (page, root) flash }
     {
         Installer {
             next: Next::Erase { beside: page },
+        }
+    }
+
+    /// Whether the next step erases a root block, and not the one that programs the root.
+    pub fn erases(&self) -> bool
+        ensures { result ≡ erases_next self.now }
+    {
+        match self.next {
+            Next::Erase { .. } => true,
+            Next::Program { .. } => false,
+        }
+    }
+
+    /// Erases the root block that is next, behind which the next step programs: the newest root stays, wherever it is cut, and
+    /// no page behind the root blocks differs. `Stopped` where the erase fails; the installer is as before then.
+    pub fn erase<B: Nand>(&mut self, board: &mut B, shape: &Shape) -> Result<(), Fault>
+        requires ready { IsReady (B.state board.old) shape.now }
+        requires erases { erases_next self.old ≡ true }
+        requires fits { (top : ℕ × RootValue)
+            × Fits shape.now self.old top (B.state board.old).pages }
+        ensures erased { OnOk result
+            (ErasesOther shape.now self.old (B.state board.old) self.new (B.state board.new)) }
+        ensures programs_next { OnOk result (erases_next self.new ≡ false) }
+        ensures stopped { IfErr result (λ e. e ≡ Stopped) }
+        ensures failed { OnErr result
+            (FailsToErase shape.now self.old (B.state board.old) (B.state board.new)) }
+        ensures kept { OnErr result (self.new ≡ self.old) }
+        ensures behind { SameBehind shape.now (B.state board.old).pages (B.state board.new).pages }
+        ensures ready { IsReady (B.state board.new) shape.now }
+    {
+        match self.next {
+            Next::Erase { beside } => match erase_other(board, shape, beside) {
+                Ok(page) => {
+                    self.next = Next::Program { page };
+                    Ok(())
+                }
+                Err(fault) => Err(fault),
+            },
+            Next::Program { .. } => unreachable!(),
         }
     }
 
@@ -124,24 +164,31 @@ impl Installer {
     ) -> Result<bool, Fault>
         requires ready { IsReady (B.state board.old) root.now.shape }
         requires grammar { is_root root.now.shape root.now.root ≡ true }
-        requires fits { (top : ℕ × RootValue) × Fits root.now.shape self.old top (B.state board.old).pages × (top.1.number < root.now.root.number) }
+        requires fits { (top : ℕ × RootValue)
+            × Fits root.now.shape self.old top (B.state board.old).pages
+            × (top.1.number < root.now.root.number) }
         requires room { length buf.old ≡ root.now.shape.page_bytes }
-        ensures cases { IfOk result (λ installed. MatchBool installed (Installs root.now.shape root.now.root self.old (B.state board.old) self.new (B.state board.new)) (ErasesOther root.now.shape self.old (B.state board.old) self.new (B.state board.new))) }
+        ensures cases { IfOk result (λ installed. MatchBool installed
+            (Installs root.now.shape root.now.root self.old (B.state board.old) self.new
+            (B.state board.new))
+            (ErasesOther root.now.shape self.old (B.state board.old) self.new (B.state board.new))) }
         ensures turn { IfOk result (λ installed. installed ≡ not (erases_next self.old)) }
-        ensures programs_next { IfOk result (λ installed. installed ≡ false → erases_next self.new ≡ false) }
+        ensures programs_next { IfOk result (λ installed. installed ≡ false
+            → erases_next self.new ≡ false) }
         ensures stopped { IfErr result (λ e. e ≡ Stopped) }
-        ensures failed { OnErr result (FailsToInstall root.now.shape root.now.root self.old (B.state board.old) (B.state board.new) ⊎ FailsToErase root.now.shape self.old (B.state board.old) (B.state board.new)) }
+        ensures failed { OnErr result (
+            FailsToInstall root.now.shape root.now.root self.old (B.state board.old)
+            (B.state board.new)
+            ⊎ FailsToErase root.now.shape self.old (B.state board.old) (B.state board.new)) }
         ensures kept { OnErr result (self.new ≡ self.old) }
-        ensures behind { SameBehind root.now.shape (B.state board.old).pages (B.state board.new).pages }
+        ensures behind { SameBehind root.now.shape (B.state board.old).pages
+            (B.state board.new).pages }
         ensures ready { IsReady (B.state board.new) root.now.shape }
         ensures buffer { length buf.new ≡ length buf.old }
     {
         match self.next {
-            Next::Erase { beside } => match erase_other(board, root.shape(), beside) {
-                Ok(page) => {
-                    self.next = Next::Program { page };
-                    Ok(false)
-                }
+            Next::Erase { .. } => match self.erase(board, root.shape()) {
+                Ok(()) => Ok(false),
                 Err(fault) => Err(fault),
             },
             Next::Program { page } => match program_root(board, root, page, buf) {

@@ -11,6 +11,3 @@ mod scan;
 pub use installer::Installer;
 pub use laws::changes_behind;
 pub use scan::newest;
-
-#[cfg(test)]
-mod tests;

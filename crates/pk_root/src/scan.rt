@@ -33,7 +33,9 @@ fn newer<A: Allocator>(
     into: &mut Root<A>,
 ) -> Option<u32>
     requires { length bytes.now ≡ into.old.shape.page_bytes }
-    ensures newer { found_at result into.new.root ≡ newer_of (found_at best into.old.root) (at_page page (root_page into.old.shape bytes.now)) }
+    ensures newer { found_at result into.new.root
+        ≡ newer_of (found_at best into.old.root)
+        (at_page page (root_page into.old.shape bytes.now)) }
     ensures kept { result ≡ None → (best ≡ None) × (into.new ≡ into.old) }
     ensures shape { into.new.shape ≡ into.old.shape }
 {
@@ -56,7 +58,9 @@ fn newer_read<A: Allocator>(
     into: &mut Root<A>,
 ) -> Option<u32>
     requires { length bytes.now ≡ into.old.shape.page_bytes }
-    ensures newer { found_at result into.new.root ≡ newer_of (found_at best into.old.root) (at_page page (root_in into.old.shape found bytes.now)) }
+    ensures newer { found_at result into.new.root
+        ≡ newer_of (found_at best into.old.root)
+        (at_page page (root_in into.old.shape found bytes.now)) }
     ensures kept { result ≡ None → (best ≡ None) × (into.new ≡ into.old) }
     ensures shape { into.new.shape ≡ into.old.shape }
 {
@@ -76,13 +80,19 @@ pub fn newest<B: Nand, A: Allocator>(
 ) -> Result<Option<u32>, Fault>
     requires ready { IsReady (B.state board.old) into.old.shape }
     requires room { length buf.old ≡ into.old.shape.page_bytes }
-    ensures found { IfOk result (λ r. MatchOption r (newest_root into.old.shape (page_at (B.state board.old).pages) ≡ None) (λ page. newest_root into.old.shape (page_at (B.state board.old).pages) ≡ Some (page, into.new.root))) }
+    ensures found { IfOk result (λ r. MatchOption r
+        (newest_root into.old.shape (page_at (B.state board.old).pages) ≡ None) (λ page.
+        newest_root into.old.shape (page_at (B.state board.old).pages)
+        ≡ Some (page, into.new.root))) }
     ensures kept { IfOk result (λ r. r ≡ None → into.new ≡ into.old) }
     ensures place { IfOk result (λ r. IfSome r (λ page. page < 2 * into.old.shape.block_pages)) }
-    ensures grammar { IfOk result (λ r. IfSome r (λ page. is_root into.new.shape into.new.root ≡ true)) }
-    ensures ok { OnOk result (B.state board.new ≡ after_reads (2 * into.old.shape.block_pages) (B.state board.old)) }
+    ensures grammar { IfOk result (λ r. IfSome r (λ page. is_root into.new.shape into.new.root
+        ≡ true)) }
+    ensures ok { OnOk result (B.state board.new
+        ≡ after_reads (2 * into.old.shape.block_pages) (B.state board.old)) }
     ensures reading { IfErr result (λ e. e ≡ Reading) }
-    ensures err { OnErr result (ReadsFailed (B.state board.old) (B.state board.new) 0 (2 * into.old.shape.block_pages)) }
+    ensures err { OnErr result (ReadsFailed (B.state board.old) (B.state board.new) 0
+        (2 * into.old.shape.block_pages)) }
     ensures shape { into.new.shape ≡ into.old.shape }
     ensures ready { IsReady (B.state board.new) into.new.shape }
     ensures buffer { length buf.new ≡ length buf.old }

@@ -2,6 +2,8 @@
 use Rattle.std.specs.Prelude.{ℕ, ◌+◌, ◌-◌, ◌*◌, List, [], ◌∷◌, ◌++◌, drop, Bool, ◌&&◌, ◌||◌, not, ◌==◌, nat_le, nat_lt, Option, None}
 use Rattle.std.specs.List.{list_any}
 use Rattle.pk_base.specs.Fields.{u16_at, u32_at, u64_at, unlike, unless, first_of, zeros}
+use Rattle.pk_base.specs.declared.sizes.TheConstants.{ROOT_BLOCKS, EPOCH_BLOCKS}
+use Rattle.pk_rootfmt.specs.declared.layout.TheConstants.{VERSION, LIST_FROM}
 use Rattle.pk_base.specs.Shape.{Shape, page_entries, cap, run_blocks}
 use Rattle.pk_rootfmt.specs.Root.{u16s_at}
 
@@ -11,7 +13,7 @@ magic = 80 ∷ 73 ∷ 78 ∷ 75 ∷ 82 ∷ 79 ∷ 79 ∷ 84 ∷ []
 
 -- a block behind the root blocks that none of the blocks before is
 abbrev pub is_other_block : Shape → List ℕ → ℕ → Bool
-is_other_block shape before block = nat_le 2 block && nat_lt block shape.blocks && not (list_any (λ other. block == other) before)
+is_other_block shape before block = nat_le ROOT_BLOCKS block && nat_lt block shape.blocks && not (list_any (λ other. block == other) before)
 
 -- the first wrong one of these block numbers, which begin at a place behind other ones
 abbrev pub blocks_fault : Shape → ℕ → List ℕ → List ℕ → Option ℕ
@@ -20,7 +22,7 @@ blocks_fault shape at before (b ∷ bs) = first_of (unless at (is_other_block sh
 
 -- an older epoch has the number before, so the newest is at least 2 where there is one
 abbrev pub is_epoch : ℕ → ℕ → ℕ → Bool
-is_epoch journal number epoch = nat_le 1 epoch && nat_le epoch number && (journal == 2 || nat_le 2 epoch)
+is_epoch journal number epoch = nat_le 1 epoch && nat_le epoch number && (journal == EPOCH_BLOCKS || nat_le 2 epoch)
 
 -- the entries of the run of this level
 abbrev pub is_run_count : Shape → ℕ → ℕ → Bool
@@ -30,8 +32,8 @@ module _ (shape : Shape) (page : List ℕ) where
   -- the fields before the numbers in order, each with its place
   abbrev pub shape_checks : List (Option ℕ)
   shape_checks =
-      unlike 0 magic page ∷ unless 8 (u16_at page 8 == 1) ∷ unless 10 (u16_at page 10 == shape.block_pages) ∷ unless 12 (u32_at page 12 == shape.page_bytes)
-      ∷ unless 16 (u16_at page 16 == shape.blocks) ∷ unless 18 (u16_at page 18 == 2 || u16_at page 18 == 4) ∷ unlike 20 (zeros 4) page ∷ []
+      unlike 0 magic page ∷ unless 8 (u16_at page 8 == VERSION) ∷ unless 10 (u16_at page 10 == shape.block_pages) ∷ unless 12 (u32_at page 12 == shape.page_bytes)
+      ∷ unless 16 (u16_at page 16 == shape.blocks) ∷ unless 18 (u16_at page 18 == EPOCH_BLOCKS || u16_at page 18 == 2 * EPOCH_BLOCKS) ∷ unlike 20 (zeros 4) page ∷ []
 
   -- the numbers of the root, of its newest epoch and of the entries of its runs
   abbrev pub number_checks : List (Option ℕ)
@@ -47,7 +49,7 @@ module _ (shape : Shape) (page : List ℕ) where
 
   -- the blocks, and the zeros behind them
   abbrev pub list_checks : List (Option ℕ)
-  list_checks = blocks_fault shape 64 [] (u16s_at listed (drop 64 page)) ∷ unlike (64 + 2 * listed) (zeros (shape.page_bytes - (64 + 2 * listed))) page ∷ []
+  list_checks = blocks_fault shape LIST_FROM [] (u16s_at listed (drop LIST_FROM page)) ∷ unlike (LIST_FROM + 2 * listed) (zeros (shape.page_bytes - (LIST_FROM + 2 * listed))) page ∷ []
 
   unfoldable pub shape_fault : Option ℕ
   shape_fault = first_of shape_checks

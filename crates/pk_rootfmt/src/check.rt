@@ -6,7 +6,10 @@ ghost use Rattle.pk_base.specs.Shape.{run_blocks};
 ghost use Rattle.pk_rootfmt.specs.Root.{u16s_at};
 ghost use Rattle.pk_rootfmt.specs.Fault.{is_run_count, is_epoch, is_other_block, blocks_fault, listed as listed_of, shape_fault, number_fault, list_fault, root_fault};
 
-use pk_base::{Shape, Wrong, get_u16, get_u32, get_u64, passes, text, zeros};
+use crate::layout::{LIST_FROM, VERSION};
+use pk_base::{
+    EPOCH_BLOCKS, ROOT_BLOCKS, Shape, Wrong, get_u16, get_u32, get_u64, passes, text, zeros,
+};
 
 pub(crate) const MAGIC: [u8; 8] = *b"PINKROOT";
 
@@ -30,13 +33,13 @@ fn is_count(shape: &Shape, level: u8, entries: u32) -> bool
 fn is_newest(journal: u16, number: u64, epoch: u64) -> bool
     ensures { result ≡ is_epoch journal number epoch }
 {
-    epoch >= 1 && epoch <= number && (journal == 2 || epoch >= 2)
+    epoch >= 1 && epoch <= number && (journal as u32 == EPOCH_BLOCKS || epoch >= 2)
 }
 
 /// As many blocks as the fields of the page name.
 #[tactic(auto, unfolding(crate::specs::Fault::listed))]
 fn listed(shape: &Shape, page: &[u8]) -> usize
-    requires { 64 ≤ length page.now }
+    requires { LIST_FROM ≤ length page.now }
     ensures { result ≡ listed_of shape.now page.now }
 {
     let deep = run_size(shape, get_u32(page, 48)) as usize
@@ -48,11 +51,12 @@ fn listed(shape: &Shape, page: &[u8]) -> usize
 
 /// None of so many blocks is this one.
 fn is_new(page: &[u8], count: usize, block: u16) -> bool
-    requires { 64 + 2 * count ≤ length page.now }
-    ensures { result ≡ not (list_any (λ other. block == other) (u16s_at count (drop 64 page.now))) }
+    requires { LIST_FROM + 2 * count ≤ length page.now }
+    ensures { result
+        ≡ not (list_any (λ other. block == other) (u16s_at count (drop LIST_FROM page.now))) }
 {
     for i in 0..count {
-        if get_u16(page, 64 + 2 * i) == block {
+        if get_u16(page, LIST_FROM + 2 * i) == block {
             return false;
         }
     }
@@ -61,20 +65,21 @@ fn is_new(page: &[u8], count: usize, block: u16) -> bool
 
 /// The block number behind so many others may stand there.
 fn is_block(shape: &Shape, page: &[u8], count: usize, block: u16) -> bool
-    requires { 64 + 2 * count ≤ length page.now }
-    ensures { result ≡ is_other_block shape.now (u16s_at count (drop 64 page.now)) block }
+    requires { LIST_FROM + 2 * count ≤ length page.now }
+    ensures { result ≡ is_other_block shape.now (u16s_at count (drop LIST_FROM page.now)) block }
 {
-    block >= 2 && (block as u32) < shape.blocks() && is_new(page, count, block)
+    block as u32 >= ROOT_BLOCKS && (block as u32) < shape.blocks() && is_new(page, count, block)
 }
 
 /// So many block numbers stand in the page.
 fn check_blocks(shape: &Shape, page: &[u8], count: usize) -> Result<(), Wrong>
-    requires fits { 64 + 2 * count ≤ length page.now }
+    requires fits { LIST_FROM + 2 * count ≤ length page.now }
     requires small { length page.now < 2 ^ 31 }
-    ensures { Finds result (blocks_fault shape.now 64 [] (u16s_at count (drop 64 page.now))) }
+    ensures { Finds result
+        (blocks_fault shape.now LIST_FROM [] (u16s_at count (drop LIST_FROM page.now))) }
 {
     for i in 0..count {
-        let at = 64 + 2 * i;
+        let at = LIST_FROM + 2 * i;
         if !is_block(shape, page, i, get_u16(page, at)) {
             return Err(Wrong { at: at as u32 });
         }
@@ -89,12 +94,12 @@ fn check_shape(shape: &Shape, page: &[u8]) -> Result<(), Wrong>
 {
     shape.known();
     text(page, 0, &MAGIC)?;
-    passes(8, get_u16(page, 8) == 1)?;
+    passes(8, get_u16(page, 8) == VERSION)?;
     passes(10, get_u16(page, 10) as u32 == shape.block_pages())?;
     passes(12, get_u32(page, 12) == shape.page_bytes())?;
     passes(16, get_u16(page, 16) as u32 == shape.blocks())?;
-    let journal = get_u16(page, 18);
-    passes(18, journal == 2 || journal == 4)?;
+    let journal = get_u16(page, 18) as u32;
+    passes(18, journal == EPOCH_BLOCKS || journal == 2 * EPOCH_BLOCKS)?;
     zeros(page, 20, 24)
 }
 
@@ -111,19 +116,19 @@ fn check_numbers(shape: &Shape, page: &[u8]) -> Result<(), Wrong>
     passes(44, is_count(shape, 2, get_u32(page, 44)))?;
     passes(48, is_count(shape, 3, get_u32(page, 48)))?;
     passes(52, is_count(shape, 4, get_u32(page, 52)))?;
-    zeros(page, 56, 64)
+    zeros(page, 56, LIST_FROM)
 }
 
 #[tactic(auto, unfolding(crate::specs::Fault::list_fault))]
 fn check_lists(shape: &Shape, page: &[u8]) -> Result<(), Wrong>
     requires sized { length page.now ≡ shape.now.page_bytes }
-    requires room { 64 + 2 * listed_of shape.now page.now ≤ length page.now }
+    requires room { LIST_FROM + 2 * listed_of shape.now page.now ≤ length page.now }
     ensures { Finds result (list_fault shape.now page.now) }
 {
     shape.known();
     let count = listed(shape, page);
     check_blocks(shape, page, count)?;
-    zeros(page, 64 + 2 * count, page.len())
+    zeros(page, LIST_FROM + 2 * count, page.len())
 }
 
 /// The first wrong field.

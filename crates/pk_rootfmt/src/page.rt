@@ -8,6 +8,7 @@ ghost use Rattle.pk_rootfmt.specs.Held.{first as first_root, ReadsBack};
 
 use crate::check::MAGIC;
 use crate::copy::put_blocks;
+use crate::layout::{LIST_FROM, VERSION};
 use pk_base::{Shape, put_text, put_u16, put_u32, put_u64, put_zeros};
 
 /// Writes the entries of the four runs.
@@ -31,13 +32,16 @@ pub(crate) fn put_numbers(
     entries: &[u32; 4],
     into: &mut [u8],
 )
-    requires { 64 ≤ length into.old }
-    ensures front { take 64 into.new ≡ spelled (magic ∷ two_bytes 1 ∷ two_bytes shape.now.block_pages ∷ four_bytes shape.now.page_bytes ∷ two_bytes shape.now.blocks ∷ two_bytes journal ∷ zeros_of 4 ∷ eight_bytes number ∷ eight_bytes epoch ∷ flat_map four_bytes entries.now ∷ zeros_of 8 ∷ []) }
+    requires { LIST_FROM ≤ length into.old }
+    ensures front { take LIST_FROM into.new ≡ spelled (magic ∷ two_bytes VERSION
+        ∷ two_bytes shape.now.block_pages ∷ four_bytes shape.now.page_bytes
+        ∷ two_bytes shape.now.blocks ∷ two_bytes journal ∷ zeros_of 4 ∷ eight_bytes number
+        ∷ eight_bytes epoch ∷ flat_map four_bytes entries.now ∷ zeros_of 8 ∷ []) }
     ensures len { length into.new ≡ length into.old }
 {
     shape.known();
     put_text(into, 0, &MAGIC);
-    put_u16(into, 8, 1);
+    put_u16(into, 8, VERSION);
     put_u16(into, 10, shape.block_pages() as u16);
     put_u32(into, 12, shape.page_bytes());
     put_u16(into, 16, shape.blocks() as u16);
@@ -46,7 +50,7 @@ pub(crate) fn put_numbers(
     put_u64(into, 24, number);
     put_u64(into, 32, epoch);
     put_counts(into, entries);
-    put_zeros(into, 56, 64);
+    put_zeros(into, 56, LIST_FROM);
 }
 
 /// Writes a page with these numbers, the blocks of the epochs and those of the runs.
@@ -60,12 +64,17 @@ pub(crate) fn put_page(
     into: &mut [u8],
 )
     requires small { length epochs.now ≤ 4 }
-    requires fits { 64 + 2 * length epochs.now + 2 * length runs.now ≤ length into.old }
-    ensures { into.new ≡ spelled (magic ∷ two_bytes 1 ∷ two_bytes shape.now.block_pages ∷ four_bytes shape.now.page_bytes ∷ two_bytes shape.now.blocks ∷ two_bytes (length epochs.now) ∷ zeros_of 4 ∷ eight_bytes number ∷ eight_bytes epoch ∷ flat_map four_bytes entries.now ∷ zeros_of 8 ∷ []) ++ flat_map two_bytes epochs.now ++ flat_map two_bytes runs.now ++ zeros_of (length into.old - (64 + 2 * length epochs.now + 2 * length runs.now)) }
+    requires fits { LIST_FROM + 2 * length epochs.now + 2 * length runs.now ≤ length into.old }
+    ensures { into.new ≡ spelled (magic ∷ two_bytes VERSION ∷ two_bytes shape.now.block_pages
+        ∷ four_bytes shape.now.page_bytes ∷ two_bytes shape.now.blocks
+        ∷ two_bytes (length epochs.now) ∷ zeros_of 4 ∷ eight_bytes number ∷ eight_bytes epoch
+        ∷ flat_map four_bytes entries.now ∷ zeros_of 8 ∷ []) ++ flat_map two_bytes epochs.now
+        ++ flat_map two_bytes runs.now
+        ++ zeros_of (length into.old - (LIST_FROM + 2 * length epochs.now + 2 * length runs.now)) }
 {
     put_numbers(shape, epochs.len() as u16, number, epoch, entries, into);
-    put_blocks(into, 64, epochs);
-    let at = 64 + 2 * epochs.len();
+    put_blocks(into, LIST_FROM, epochs);
+    let at = LIST_FROM + 2 * epochs.len();
     put_blocks(into, at, runs);
     let all = into.len();
     put_zeros(into, at + 2 * runs.len(), all);
@@ -79,9 +88,9 @@ pub fn first(shape: &Shape, into: &mut [u8])
 {
     shape.known();
     put_numbers(shape, 2, 1, 1, &[0, 0, 0, 0], into);
-    put_blocks(into, 64, &[2, 3]);
+    put_blocks(into, LIST_FROM, &[2, 3]);
     let all = into.len();
-    put_zeros(into, 68, all);
+    put_zeros(into, LIST_FROM + 4, all);
 }
 
 /// The page of a root of the grammar is read as the root.

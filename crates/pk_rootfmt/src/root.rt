@@ -8,6 +8,7 @@ ghost use Rattle.pk_rootfmt.specs.Held.{Held, none, total as total_of, two_of, o
 
 use crate::check::{checked, run_size};
 use crate::copy::{read_blocks, replace_blocks};
+use crate::layout::LIST_FROM;
 use crate::page::put_page;
 use pk_base::{Shape, get_u16, get_u32, get_u64};
 use std::alloc::{AllocError, Allocator};
@@ -42,7 +43,18 @@ impl<A: Allocator> Model for Root<A> {
 
     ghost Value = { Held };
 
-    ghost view = { λ r. record { shape = r.shape; root = record { number = r.number; epoch = r.epoch; newest = take 2 (take r.journal r.epochs); older = drop 2 (take r.journal r.epochs); counts = r.entries; runs = parts r.sizes r.blocks.items } } };
+    ghost view = { λ r. record {
+      shape = r.shape;
+      root = record {
+        number = r.number;
+        epoch = r.epoch;
+        newest = take 2 (take r.journal r.epochs);
+        older = drop 2 (take r.journal
+            r.epochs);
+        counts = r.entries;
+        runs = parts r.sizes r.blocks.items;
+      };
+    } };
 
     ghost invariant = { λ r. HasRoom r.shape r.journal r.epochs r.entries r.sizes r.blocks.items };
 }
@@ -134,7 +146,13 @@ impl<A: Allocator> Root<A> {
 
     /// Names the newest epoch with its two blocks, and those of the older one.
     pub fn set_epochs(&mut self, epoch: u64, newest: [u16; 2], older: Option<[u16; 2]>)
-        ensures { self.new ≡ record self.old { root = record self.old.root { epoch = epoch; newest = newest; older = blocks_or_none older } } }
+        ensures { self.new ≡ record self.old {
+          root = record self.old.root {
+            epoch = epoch;
+            newest = newest;
+            older = blocks_or_none older;
+          };
+        } }
     {
         self.epoch = epoch;
         self.journal = journal_size(older);
@@ -144,8 +162,16 @@ impl<A: Allocator> Root<A> {
     /// Gives the run of this level, 1 to 4, these entries and blocks.
     pub fn set_run(&mut self, level: u8, entries: u32, blocks: &[u16])
         requires level { 1 ≤ level × level ≤ 4 }
-        requires room { length (concat (slice_set self.old.root.runs (level - 1) blocks.now)) ≤ meta_blocks self.old.shape }
-        ensures { self.new ≡ record self.old { root = record self.old.root { counts = slice_set self.old.root.counts (level - 1) entries; runs = slice_set self.old.root.runs (level - 1) blocks.now } } }
+        requires room { length (concat (slice_set self.old.root.runs (level - 1) blocks.now))
+            ≤ meta_blocks self.old.shape }
+        ensures { self.new ≡ record self.old {
+          root = record self.old.root {
+            counts = slice_set
+                self.old.root.counts (level - 1) entries;
+            runs = slice_set self.old.root.runs
+                (level - 1) blocks.now;
+          };
+        } }
     {
         self.shape.known();
         put_run(&mut self.sizes, &mut self.blocks, level, blocks);
@@ -211,8 +237,13 @@ impl<A: Allocator> Root<A> {
         ];
         let sizes = sizes_of(&self.shape, &entries);
         let journal = get_u16(page, 18) as usize;
-        read_blocks(page, 64, journal, &mut self.epochs);
-        read_blocks(page, 64 + 2 * journal, total(&sizes), &mut self.blocks);
+        read_blocks(page, LIST_FROM, journal, &mut self.epochs);
+        read_blocks(
+            page,
+            LIST_FROM + 2 * journal,
+            total(&sizes),
+            &mut self.blocks,
+        );
         self.number = get_u64(page, 24);
         self.epoch = get_u64(page, 32);
         self.journal = journal;
@@ -272,8 +303,10 @@ fn put_run(sizes: &mut [usize; 4], items: &mut [u16], level: u8, blocks: &[u16])
     requires level { 1 ≤ level × level ≤ 4 }
     requires small { total_of sizes.old ≤ 1000000 }
     requires fits { total_of sizes.old ≤ length items.old }
-    requires room { total_of (slice_set sizes.old (level - 1) (length blocks.now)) ≤ length items.old }
-    ensures runs { parts sizes.new items.new ≡ slice_set (parts sizes.old items.old) (level - 1) blocks.now }
+    requires room { total_of (slice_set sizes.old (level - 1) (length blocks.now))
+        ≤ length items.old }
+    ensures runs { parts sizes.new items.new
+        ≡ slice_set (parts sizes.old items.old) (level - 1) blocks.now }
     ensures sizes { sizes.new ≡ slice_set sizes.old (level - 1) (length blocks.now) }
     ensures len { length items.new ≡ length items.old }
 {
@@ -298,7 +331,8 @@ fn journal_size(older: Option<[u16; 2]>) -> usize
 /// The blocks of the newest epoch, and behind them those of the older one.
 fn all_epochs(newest: [u16; 2], older: Option<[u16; 2]>) -> [u16; 4]
     ensures newest { take 2 (take (2 + length (blocks_or_none older)) result) ≡ newest }
-    ensures older { drop 2 (take (2 + length (blocks_or_none older)) result) ≡ blocks_or_none older }
+    ensures older { drop 2 (take (2 + length (blocks_or_none older)) result)
+        ≡ blocks_or_none older }
 {
     match older {
         None => [newest[0], newest[1], 0, 0],

@@ -3,4 +3,3 @@ pub mod Pieces
 pub mod Standing
 pub mod Lookups
 pub mod Others
-pub mod TestRuns

@@ -9,6 +9,3 @@ mod search;
 
 pub use laws::{frame_filled, frame_given, frame_taken, stands_elsewhere, stands_outside};
 pub use run::Run;
-
-#[cfg(test)]
-mod tests;

@@ -47,7 +47,8 @@ impl<A: Allocator + Clone> Run<A> {
     pub fn new(alloc: A, shape: Shape, level: u8) -> Result<Run<A>, AllocError>
         requires { 1 ≤ level × level ≤ 4 }
         ensures empty { IfOk result (λ r. r ≡ empty shape level) }
-        ensures stands { IfOk result (λ r. (flash : Flash) (arena : Frames) → Stands r flash arena []) }
+        ensures stands { IfOk result (λ r. (flash : Flash) (arena : Frames)
+            → Stands r flash arena []) }
     {
         shape.known();
         let pages = shape.cap(level);
@@ -128,7 +129,8 @@ impl<A: Allocator> Run<A> {
 
     /// The frame of a page; None where it has none.
     pub fn lease(&self, i: u32) -> Option<&Lease>
-        ensures { MatchOption result (length self.now.leases ≤ i) (λ l. slice_get self.now.leases i ≡ Some l.now) }
+        ensures { MatchOption result (length self.now.leases ≤ i) (λ l. slice_get self.now.leases i
+            ≡ Some l.now) }
     {
         if (i as usize) < self.leases.len() {
             Some(&self.leases[i as usize])
@@ -153,7 +155,8 @@ impl<A: Allocator> Run<A> {
     pub fn push_block(&mut self, block: u16)
         requires { length self.old.blocks < most_blocks self.old }
         ensures added { self.new ≡ record self.old { blocks = self.old.blocks ++ block ∷ [] } }
-        ensures stands { (flash : Flash) (arena : Frames) (es : List EntrySpec) → Stands self.old flash arena es → Stands self.new flash arena es }
+        ensures stands { (flash : Flash) (arena : Frames) (es : List EntrySpec)
+            → Stands self.old flash arena es → Stands self.new flash arena es }
     {
         self.shape.known();
         self.blocks.push_reserved(block);
@@ -163,12 +166,15 @@ impl<A: Allocator> Run<A> {
     /// many entries it has.
     pub fn push_page(&mut self, first: Key, lease: Option<Lease>, entries: u32)
         requires room { length self.old.firsts < most_pages self.old }
-        requires within { length self.old.firsts < length self.old.blocks * self.old.shape.block_pages }
+        requires within { length self.old.firsts
+            < length self.old.blocks * self.old.shape.block_pages }
         requires full { self.old.count ≡ length self.old.firsts * page_entries self.old.shape }
         requires some { 1 ≤ entries × entries ≤ page_entries self.old.shape }
         requires alike { MatchOption lease (self.old.leases ≡ []) (λ _. IsPinned self.old) }
         ensures added { self.new ≡ with_page self.old first lease entries }
-        ensures stands { (flash : Flash) (arena : Frames) (es more : List EntrySpec) → Stands self.old flash arena es → IsNext self.old flash arena es more first lease → length more ≡ entries → Stands self.new flash arena (es ++ more) }
+        ensures stands { (flash : Flash) (arena : Frames) (es more : List EntrySpec)
+            → Stands self.old flash arena es → IsNext self.old flash arena es more first lease
+            → length more ≡ entries → Stands self.new flash arena (es ++ more) }
     {
         self.shape.known();
         self.count += entries;
@@ -181,7 +187,8 @@ impl<A: Allocator> Run<A> {
 
     /// Takes the last lease out, whose frame the caller has then; None where there is none.
     pub fn pop_lease(&mut self) -> Option<Lease>
-        ensures taken { MatchOption result (self.old.leases ≡ []) (λ l. self.old.leases ≡ self.new.leases ++ l ∷ []) }
+        ensures taken { MatchOption result (self.old.leases ≡ []) (λ l. self.old.leases
+            ≡ self.new.leases ++ l ∷ []) }
         ensures kept { self.new ≡ record self.old { leases = self.new.leases } }
         ensures none { IsNone result → self.new ≡ self.old }
     {
@@ -191,7 +198,8 @@ impl<A: Allocator> Run<A> {
     /// The page that may have the key: it begins at or before the key, and the next one above it. None where no page begins at or
     /// before the key.
     pub fn page_for(&self, key: &Key) -> Option<u32>
-        ensures { MatchOption result (IsBeforeAll key.now self.now.firsts) (λ p. IsPageFor key.now self.now.firsts p) }
+        ensures { MatchOption result (IsBeforeAll key.now self.now.firsts) (λ p.
+            IsPageFor key.now self.now.firsts p) }
     {
         self.known();
         match page_for(&self.firsts, key) {
@@ -210,14 +218,19 @@ impl<A: Allocator> Run<A> {
         buf: &mut [u8],
     ) -> Result<Option<Entry>, Fault>
         requires ready { IsReady (B.state board.old) self.now.shape }
-        requires stands { (es : List EntrySpec) × Stands self.now (B.state board.old).pages arena.now es }
+        requires stands { (es : List EntrySpec)
+            × Stands self.now (B.state board.old).pages arena.now es }
         requires room { length buf.old ≡ self.now.shape.page_bytes }
-        ensures found { IfOk result (λ found. (es : List EntrySpec) → Stands self.now (B.state board.old).pages arena.now es → IsFound key.now es found) }
-        ensures looks { OnOk result (Looks self.now key.now (B.state board.old) (B.state board.new)) }
-        ensures calls { OnOk result ((B.state board.new ≡ B.state board.old) ⊎ (B.state board.new ≡ after_read (B.state board.old))) }
+        ensures found { IfOk result (λ found. (es : List EntrySpec)
+            → Stands self.now (B.state board.old).pages arena.now es → IsFound key.now es found) }
+        ensures looks { OnOk result (Looks self.now key.now (B.state board.old)
+            (B.state board.new)) }
+        ensures calls { OnOk result ((B.state board.new ≡ B.state board.old)
+            ⊎ (B.state board.new ≡ after_read (B.state board.old))) }
         ensures pinned { IsPinned self.now → B.state board.new ≡ B.state board.old }
         ensures reading { IfErr result (λ fault. fault ≡ Reading) }
-        ensures err { OnErr result ((p : ℕ) × IsPageFor key.now self.now.firsts p × ReadFailed (B.state board.old) (B.state board.new) (page_of self.now p)) }
+        ensures err { OnErr result ((p : ℕ) × IsPageFor key.now self.now.firsts p
+            × ReadFailed (B.state board.old) (B.state board.new) (page_of self.now p)) }
         ensures unpinned { OnErr result (self.now.leases ≡ []) }
         ensures same { (B.state board.new).pages ≡ (B.state board.old).pages }
         ensures ready { IsReady (B.state board.new) self.now.shape }
@@ -245,14 +258,18 @@ impl<A: Allocator> Run<A> {
         buf: &mut [u8],
     ) -> Result<(), Fault>
         requires ready { IsReady (B.state board.old) self.now.shape }
-        requires stands { (es : List EntrySpec) × Stands self.now (B.state board.old).pages arena.now es }
+        requires stands { (es : List EntrySpec)
+            × Stands self.now (B.state board.old).pages arena.now es }
         requires exists { i < length self.now.firsts }
         requires room { length buf.old ≡ self.now.shape.page_bytes }
-        ensures page { OnOk result (page_at (B.state board.old).pages (page_of self.now i) ≡ whole buf.new) }
-        ensures ok { OnOk result (B.state board.new ≡ after_look self.now.leases (B.state board.old)) }
+        ensures page { OnOk result (page_at (B.state board.old).pages (page_of self.now i)
+            ≡ whole buf.new) }
+        ensures ok { OnOk result (B.state board.new
+            ≡ after_look self.now.leases (B.state board.old)) }
         ensures pinned { IsPinned self.now → B.state board.new ≡ B.state board.old }
         ensures reading { IfErr result (λ fault. fault ≡ Reading) }
-        ensures err { OnErr result (ReadFailed (B.state board.old) (B.state board.new) (page_of self.now i)) }
+        ensures err { OnErr result (ReadFailed (B.state board.old) (B.state board.new)
+            (page_of self.now i)) }
         ensures unpinned { OnErr result (self.now.leases ≡ []) }
         ensures same { (B.state board.new).pages ≡ (B.state board.old).pages }
         ensures ready { IsReady (B.state board.new) self.now.shape }

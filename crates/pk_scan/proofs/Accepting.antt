@@ -14,7 +14,7 @@ use Rattle.pk_scan.specs.Checked.{HasValue, NotFound}
 use Rattle.pk_scan.specs.Accepted.{Accepted, RefusedWith, NotAccepted}
 use Rattle.pk_scan.specs.declared.errors.PageError.{PageError}
 use Rattle.pk_scan.specs.declared.errors.PageError.TheVariants.{Damaged, Fault}
-use Rattle.pk_scan.proofs.Standing.{all_pages-more}
+use Rattle.pk_live.proofs.Standing.{all_pages-more}
 
 module _ (shape : Shape) (named : List ℕ) (taken : List (Key × Place)) (key : Key) (place : Place) where
   abbrev now : List ℕ

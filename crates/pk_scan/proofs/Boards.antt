@@ -2,15 +2,17 @@
 use Rattle.std.proofs.Common.{◌≡◌, ℕ, zero, ◌+◌, Bool, true, false, List, refl, sym, ap, subst, ◌∙◌}
 use Rattle.std.specs.Prelude.{if◌then◌else◌}
 use Rattle.pk_base.specs.Shape.{Shape}
+use Rattle.pk_base.specs.Page.{IsFlash}
 use Rattle.pk_nand.specs.BoardState.{BoardState}
-use Rattle.pk_nand.specs.Calls.{ReadFailed}
+use Rattle.pk_nand.specs.Calls.{IsReady, ReadFailed}
 use Rattle.pk_nand.specs.Erased.{after_reads}
 use Rattle.pk_level.proofs.Looking.{reads_more}
 use Rattle.pk_jrn.specs.Replays.{Refused}
 use Rattle.pk_jrn.specs.declared.error.ReplayError.{ReplayError}
 use Rattle.pk_jrn.specs.declared.error.ReplayError.TheVariants.{Damaged as ReplayDamaged, Fault as ReplayFault}
 use Rattle.pk_scan.specs.Opening.{OnlyReads, FaultCounted}
-use Rattle.pk_scan.specs.Opened.{OnlyReading}
+use Rattle.pk_nand.specs.Effects.{OnlyReading}
+use Rattle.pk_scan.specs.Board.{StaysReady}
 use Rattle.pk_scan.specs.Runs.{NotRead}
 use Rattle.pk_scan.specs.declared.errors.PageError.{PageError}
 use Rattle.pk_scan.specs.declared.errors.PageError.TheVariants.{Damaged, Fault}
@@ -49,6 +51,25 @@ rest_refused shape number blocks old new ReplayFault why = rest_failed old new w
 pub rest_not_read : (shape : Shape) (level count : ℕ) (blocks : List ℕ) (old new : BoardState) (e : PageError) → NotRead shape level count blocks old new e → OnlyReading old new
 rest_not_read shape level count blocks old new (Damaged page) why = rest_reads old new (_, why.board)
 rest_not_read shape level count blocks old new Fault why = rest_failed old new why.made _ why.failed
+
+-- so the board may be called as before
+pub stays_ready_behind : (shape : Shape) (old new : BoardState) → OnlyReading old new → IsReady old shape → StaysReady shape old new
+stays_ready_behind shape old new rest ready =
+    let pages : new.pages ≡ old.pages = ap (λ (b : BoardState). b.pages) rest in
+    record {
+      rest = rest;
+      pages = pages;
+      ready = record { shape_is = ap (λ (b : BoardState). b.shape) rest ∙ ready.shape_is; flash = subst (IsFlash shape) (sym pages) ready.flash };
+    }
+
+pub stays_same : (shape : Shape) (old : BoardState) → IsReady old shape → StaysReady shape old old
+stays_same shape old ready = stays_ready_behind shape old old refl ready
+
+pub stays_reads : (shape : Shape) (old new : BoardState) → OnlyReads old new → IsReady old shape → StaysReady shape old new
+stays_reads shape old new reads ready = stays_ready_behind shape old new (rest_reads old new reads) ready
+
+pub stays_both : (shape : Shape) (old now new : BoardState) → StaysReady shape old now → StaysReady shape now new → StaysReady shape old new
+stays_both shape old now new a b = record { rest = rest_both old now new a.rest b.rest; pages = b.pages ∙ a.pages; ready = b.ready }
 
 -- ---- faults
 

@@ -15,7 +15,7 @@ use Rattle.pk_scan.specs.Pages.{is_right}
 use Rattle.pk_scan.specs.Checked.{HasValue, NotFound, PageRefused}
 use Rattle.pk_scan.specs.declared.errors.PageError.{PageError}
 use Rattle.pk_scan.specs.declared.errors.PageError.TheVariants.{Damaged, Fault}
-use Rattle.pk_scan.specs.Opened.{OnlyReading}
+use Rattle.pk_nand.specs.Effects.{OnlyReading}
 use Rattle.pk_scan.proofs.Boards.{rest_reads, rest_failed}
 use Rattle.pk_scan.proofs.Reading.{all_right, first_wrong, not_before}
 

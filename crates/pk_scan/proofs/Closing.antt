@@ -22,10 +22,10 @@ use Rattle.pk_pool.specs.declared.state.BlockState.{BlockState}
 use Rattle.pk_pool.specs.declared.state.BlockState.TheVariants.{Owned}
 use Rattle.pk_pool.specs.Blocks.{Blocks, used_by, unused, with_state, IsSpare, Fits}
 use Rattle.pk_rootfmt.specs.Root.{Root, named, differ}
-use Rattle.pk_scan.specs.Lives.{is_used, Lives}
+use Rattle.pk_live.specs.Lives.{is_used, Lives}
 use Rattle.pk_scan.specs.Adopts.{is_among, owned_if, state_of, Adopts, NamesOwned}
 use Rattle.pk_scan.proofs.Loading.{take_more}
-use Rattle.pk_scan.proofs.Standing.{count_map, value_in_block, Placed}
+use Rattle.pk_live.proofs.Standing.{count_map, value_in_block, Placed}
 use Rattle.pk_scan.proofs.Adopting.{still_spare, adopts_none, adopts_both, adopts_same, adopts_one}
 use Rattle.pk_scan.proofs.Naming.{unused_free, unused_none}
 

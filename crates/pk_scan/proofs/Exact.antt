@@ -3,71 +3,35 @@ use Rattle.std.proofs.Common.{◌≡◌, ℕ, zero, suc, ◌+◌, ◌-◌, ◌*�
 use Rattle.std.specs.Prelude.{slice_index}
 use Rattle.std.proofs.lemmas.List.{take_all}
 use Rattle.pk_base.specs.Shape.{Shape, epoch_pages, run_pages}
-use Rattle.pk_base.specs.Page.{Page, Flash, NumberedPages, page_at, page_in, erased, whole, torn, pages_of_blocks}
+use Rattle.pk_base.specs.Page.{Page, Flash, NumberedPages, page_at, page_in, erased, whole, torn, commits_of}
 use Rattle.pk_nand.specs.BoardState.{BoardState}
 use Rattle.pk_nand.specs.Erased.{after_reads}
 use Rattle.pk_rootfmt.specs.Root.{Root}
 use Rattle.pk_rootfmt.specs.Held.{two_of, older_of}
 use Rattle.pk_buf.specs.Table.{Table}
-use Rattle.pk_jrn.specs.Epochs.{IsWhole}
-use Rattle.pk_jrn.specs.Replays.{Replayed, after_replay}
-use Rattle.pk_scan.specs.Reads.{pages_to_end, epoch_reads, pages_of_runs, list_reads}
+use Rattle.pk_jrn.specs.Replays.{pages_to_end, epoch_reads}
+use Rattle.pk_scan.specs.Reads.{pages_of_runs, list_reads}
 use Rattle.pk_scan.proofs.Naming.{two_is, older_is, older_none}
 use Rattle.pk_scan.proofs.Boards.{reads_sum}
 
 -- ---- an epoch
 
-ends_here : (p : ℕ) (q : Page) (later : NumberedPages) → ((bytes : List ℕ) → q ≡ whole bytes → ⊥) → pages_to_end ((p, q) ∷ later) ≡ 1
-ends_here p erased later none = refl
-ends_here p torn later none = refl
-ends_here p (whole bytes) later none = absurd (none bytes refl)
-
-module _ (shape : Shape) (flash : Flash) (blocks : List ℕ) where
-  abbrev pages : ℕ → ℕ → NumberedPages
-  pages i n = pages_of_blocks shape (page_at flash) blocks i n
-
-  abbrev IsWholeAt : ℕ → Type 0
-  IsWholeAt i = IsWhole flash (page_in shape blocks i)
-
-  -- the first n pages from i on, of which so many are Whole before the first that is not
-  to_end : (n i used : ℕ) → used ≤ n → ((j : ℕ) → j < used → IsWholeAt (i + j)) → (used < n → IsWholeAt (i + used) → ⊥) → pages_to_end (pages i n) ≡ min (used + 1) n
-  to_end zero i used few before ends = omega arith
-  to_end (suc n) i zero few before ends =
-      let here : i + 0 ≡ i = omega arith in
-      ends_here (page_in shape blocks i) (page_at flash (page_in shape blocks i)) (pages (i + 1) n) (λ bytes is. ends (omega arith) (subst IsWholeAt (sym here) (bytes, is))) ∙ omega arith
-  to_end (suc n) i (suc used) few before ends =
-      let here : i + 0 ≡ i = omega arith in
-      let first : IsWholeAt i = subst IsWholeAt here (before 0 (omega arith)) in
-      let next : (k : ℕ) → (i + 1) + k ≡ i + suc k = λ k. omega arith in
-      let rest = to_end n (i + 1) used (omega (arith, few)) (λ j less. subst IsWholeAt (sym (next j)) (before (suc j) (omega (arith, less)))) (λ less whole_there. ends (omega (arith, less)) (subst IsWholeAt (next used) whole_there)) in
-      ap (λ (q : Page). pages_to_end ((page_in shape blocks i, q) ∷ pages (i + 1) n)) first.1 ∙ omega (arith, rest)
-
-  epoch_to_end : (used : ℕ) → length blocks ≡ 2 → used ≤ epoch_pages shape → ((j : ℕ) → j < used → IsWholeAt j) → (used < epoch_pages shape → IsWholeAt used → ⊥) → min (used + 1) (epoch_pages shape) ≡ epoch_reads shape (page_at flash) blocks
-  epoch_to_end used two few before ends =
-      let all : length blocks * shape.block_pages ≡ epoch_pages shape = ap (λ (n : ℕ). n * shape.block_pages) two in
-      let from : (k : ℕ) → 0 + k ≡ k = λ k. omega arith in
-      sym (ap (λ (n : ℕ). pages_to_end (pages 0 n)) all ∙ to_end (epoch_pages shape) 0 used few (λ j less. subst IsWholeAt (sym (from j)) (before j less)) (λ less there. ends less (subst IsWholeAt (from used) there)))
-
-  -- a replay reads up to the end of the epoch
-  epoch_exact : (number used : ℕ) (into : Table) → length blocks ≡ 2 → Replayed shape number blocks flash used into → (old new : BoardState) → new ≡ after_replay shape used old → new ≡ after_reads (epoch_reads shape (page_at flash) blocks) old
-  epoch_exact number used into two r old new reads = reads ∙ ap (λ (n : ℕ). after_reads n old) (epoch_to_end used two r.within r.before r.ends)
-
 module _ (shape : Shape) (flash : Flash) (root : Root) where
   pub none_exact : None ≡ older_of root.older → (old : BoardState) → old ≡ after_reads (epoch_reads shape (page_at flash) root.older) old
   none_exact none old =
       let nothing : 0 * shape.block_pages ≡ 0 = omega arith in
-      let zero_reads : epoch_reads shape (page_at flash) [] ≡ 0 = ap (λ (n : ℕ). pages_to_end (pages_of_blocks shape (page_at flash) [] 0 n)) nothing in
+      let zero_reads : epoch_reads shape (page_at flash) [] ≡ 0 = ap (λ (n : ℕ). pages_to_end (commits_of shape (page_at flash) [] 0 n)) nothing in
       sym (ap (λ (n : ℕ). after_reads n old) (ap (epoch_reads shape (page_at flash)) (older_none root.older none) ∙ zero_reads))
 
-  module _ (bs : List ℕ) (number used : ℕ) (into : Table) (r : Replayed shape number bs flash used into) (old new : BoardState) (reads : new ≡ after_replay shape used old) where
-    named_exact : (named : List ℕ) → bs ≡ named → length named ≡ 2 → new ≡ after_reads (epoch_reads shape (page_at flash) named) old
-    named_exact named same two = subst (λ (b : List ℕ). new ≡ after_reads (epoch_reads shape (page_at flash) b) old) same (epoch_exact shape flash bs number used into (ap (λ (b : List ℕ). length b) same ∙ two) r old new reads)
+  module _ (bs : List ℕ) (old new : BoardState) (reads : new ≡ after_reads (epoch_reads shape (page_at flash) bs) old) where
+    named_exact : (named : List ℕ) → bs ≡ named → new ≡ after_reads (epoch_reads shape (page_at flash) named) old
+    named_exact named same = subst (λ (b : List ℕ). new ≡ after_reads (epoch_reads shape (page_at flash) b) old) same reads
 
     pub newest_exact : bs ≡ two_of root.newest → length root.newest ≡ 2 → new ≡ after_reads (epoch_reads shape (page_at flash) root.newest) old
-    newest_exact is two = named_exact root.newest (is ∙ two_is root.newest two) two
+    newest_exact is two = named_exact root.newest (is ∙ two_is root.newest two)
 
-    pub older_exact : Some bs ≡ older_of root.older → length root.older ≡ 2 → new ≡ after_reads (epoch_reads shape (page_at flash) root.older) old
-    older_exact is two = named_exact root.older (older_is root.older bs is) two
+    pub older_exact : Some bs ≡ older_of root.older → new ≡ after_reads (epoch_reads shape (page_at flash) root.older) old
+    older_exact is = named_exact root.older (older_is root.older bs is)
 
 -- ---- runs
 

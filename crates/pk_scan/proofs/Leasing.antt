@@ -1,13 +1,19 @@
 -- Frames that are leased one after another.
-use Rattle.std.proofs.Common.{◌≡◌, ◌≢◌, ℕ, zero, suc, ◌+◌, Bool, true, false, not, cond, List, [], ◌∷◌, ◌++◌, refl, ap, sym, subst, ◌∙◌, arith, Some, get_or-set_other, length-set, length-append}
+use Rattle.std.proofs.Common.{◌≡◌, ◌≢◌, ℕ, zero, suc, ◌+◌, Bool, true, false, not, cond, List, [], ◌∷◌, ◌++◌, length, replicate, refl, ap, sym, subst, ◌∙◌, arith, Some, get_or-set_other, length-set, length-append}
 use Rattle.std.specs.Prelude.{slice_get}
 use Rattle.std.proofs.Math.ListN.{set}
+use Rattle.std.proofs.lemmas.List.{length-replicate}
 use Rattle.std.proofs.lemmas.List.Sums.{sum_by-set}
 use Rattle.std.proofs.lemmas.Option.{slice_get_within, get_or_from_slice_get}
-use Rattle.pk_pin.specs.Frames.{Frames, IsLeased, frame_of, leased, filled, times}
-use Rattle.pk_pin.proofs.Leases.{times-append, leases_taken}
+use Rattle.pk_base.specs.Shape.{Shape}
+use Rattle.pk_pin.specs.Frames.{Frames, IsLeased, frame_of, leased, filled, times, AreLeases}
+use Rattle.pk_pin.proofs.Leases.{times-append, leases_none, leases_taken}
+use Rattle.pk_run.specs.Kept.{Kept}
+use Rattle.pk_level.specs.Levels.{Levels}
+use Rattle.pk_level.specs.Arenas.{HasArena, ArePinnedTo, leases_of}
 use Rattle.pk_run.proofs.Standing.{Stands-elsewhere}
 use Rattle.pk_scan.specs.Runs.{LeasedMore, RunsStand, KeepsPage}
+use Rattle.pk_scan.specs.Opening.{HaveFrames}
 
 pub leased_none : (a : Frames) → LeasedMore a a []
 leased_none a = record { page = refl; size = refl; kept = λ i is. (is, refl); free = omega arith; leases = λ ls all. all }
@@ -63,3 +69,26 @@ kept_in old mid new l bytes pins free is_mid is_new holds is_leased wanted =
       more = subst (λ (a : Frames). LeasedMore old a (l ∷ [])) (sym is) (leased_one old l bytes free);
       kept = (subst (λ (a : Frames). IsLeased a l) (sym is_new) is_leased, holds);
     }
+
+-- ---- the arena of an opening
+
+-- the frames of each run are those that its level has
+pins_of : (pinned level : ℕ) (rs : List Kept) (counts : List ℕ) → HaveFrames pinned level rs counts → ArePinnedTo pinned level rs
+pins_of pinned level [] [] have = tt
+pins_of pinned level [] (count ∷ counts) have = absurd have
+pins_of pinned level (r ∷ rs) [] have = absurd have
+pins_of pinned level (r ∷ rs) (count ∷ counts) have =
+    (have.1, subst (λ (n : ℕ). ArePinnedTo pinned n rs) (let e : level + 1 ≡ suc level = omega arith in e) (pins_of pinned (level + 1) rs counts have.2))
+
+-- frames of an arena that was free were leased for the runs, and no others
+pub arena_opened : (shape : Shape) (frames : ℕ) (free arena : Frames) (levels : Levels) (counts : List ℕ) → HaveFrames levels.pinned 1 levels.runs counts
+    → free.page_bytes ≡ shape.page_bytes → free.used ≡ replicate frames false → LeasedMore free arena (leases_of levels.runs) → HasArena shape frames levels arena []
+arena_opened shape frames free arena levels counts have page unused more = record {
+  page_bytes_is = more.page ∙ page;
+  size = more.size ∙ ap (λ (us : List Bool). length us) unused ∙ length-replicate frames false;
+  pins = pins_of levels.pinned 1 levels.runs counts have;
+  only_these = more.leases [] none;
+}
+  where
+    none : AreLeases free []
+    none = subst (λ (us : List Bool). AreLeases (record free { used = us }) []) (sym unused) (leases_none free.page_bytes frames free.frames)

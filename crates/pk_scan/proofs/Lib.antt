@@ -1,12 +1,8 @@
-pub mod Blocks
 pub mod Heads
 pub mod Reading
 pub mod Checking
-pub mod Ranges
-pub mod Standing
 pub mod Taking
 pub mod Accepting
-pub mod Nothing
 pub mod Rises
 pub mod RunPages
 pub mod Leasing
@@ -15,7 +11,6 @@ pub mod Loading
 pub mod Adopting
 pub mod Naming
 pub mod Closing
-pub mod TestAnswers
 pub mod Boards
 pub mod Exact
 pub mod RootFacts

@@ -23,7 +23,11 @@ use Rattle.pk_run.specs.Kept.{Kept, empty, most_blocks, Stands, IsNext, IsPinned
 use Rattle.pk_run.proofs.Pieces.{share, meta_next}
 use Rattle.pk_scan.specs.declared.errors.PageError.{PageError}
 use Rattle.pk_scan.specs.declared.errors.PageError.TheVariants.{Damaged, Fault}
-use Rattle.pk_scan.specs.Runs.{AllExist, HasRun, ComesTo, NotRead, LeasedMore, IsPinnedIf, IsLast, GoesOn, listed, KeepsPage, PageAdded, PageTaken, PageRefused}
+use Rattle.pk_level.specs.Arenas.{IsPinnedIf}
+use Rattle.pk_scan.specs.Runs.{AllExist, HasRun, ComesTo, NotRead, LeasedMore, LoadsPages, AwaitsPages, AwaitsPage, IsLast, GoesOn, listed, KeepsPage, PageAdded, PageTaken, PageRefused}
+use Rattle.pk_scan.specs.Board.{StaysReady}
+use Rattle.pk_scan.proofs.Boards.{rest_reads, rest_not_read, stays_ready_behind}
+use Rattle.std.proofs.lemmas.Grind.{div_ceil_times}
 use Rattle.pk_scan.proofs.Leasing.{leased_none, leased_more, runs_stand}
 use Rattle.pk_scan.proofs.Rereading.{meta_refused, last_of, pages_most, blocks_most, more_left, all_counted}
 
@@ -187,6 +191,39 @@ module _ (shape : Shape) (level count : ℕ) (blocks : List ℕ) (pins : Bool) (
         let pinned : IsPinned r = subst (λ (b : Bool). IsPinnedIf b r) wanted l.pinned in
         omega (arith, enough, inside, pinned, l.pages, l.more.free)
 
+    pages_within : 0 < shape.block_pages → length blocks ≡ run_blocks shape count → i < run_pages shape count → i < length blocks * shape.block_pages
+    pages_within positive places inside =
+        let all = (div_ceil_times (run_pages shape count) shape.block_pages positive).0 in
+        let same = ap (λ (n : ℕ). n * shape.block_pages) places in
+        omega (arith, all, same, inside)
+
+    -- all that the next page asks for
+    pub page_awaited : (many : ℕ) → 0 < size → 0 < shape.block_pages → i < run_pages shape count → many ≡ min (count - r.count) size → AllExist shape blocks → count ≤ cap shape level * size → length blocks ≡ run_blocks shape count
+        → arena.page_bytes ≡ shape.page_bytes → (pins ≡ true → run_pages shape count ≤ free_frames arena) → AwaitsPage pins many frames r
+    page_awaited many some positive inside is exist few places page free = record {
+      exist = rw (l.shape_is, l.blocks_are) exist;
+      within = rw (l.shape_is, l.blocks_are, l.pages) (pages_within positive places inside);
+      room = room_left some few inside;
+      full = is_full some inside;
+      some = rw l.shape_is (let left = some_left many some inside is in (left.0, left.1));
+      pinned = l.pinned;
+      page_bytes = rw l.shape_is (l.more.page ∙ page);
+      free = λ wanted. frame_left (free wanted) wanted inside;
+    }
+
+    -- what the pages so far leave
+    pub pages_loaded : (was : Kept) → was.shape ≡ shape → was.level ≡ level → was.blocks ≡ blocks → LoadsPages pins old.pages blocks arena frames was r
+    pages_loaded was shape_was level_was blocks_was = record {
+      es = l.es;
+      stands = l.stands;
+      shape_is = l.shape_is ∙ sym shape_was;
+      level_is = l.level_is ∙ sym level_was;
+      blocks_are = l.blocks_are;
+      pinned = l.pinned;
+      more = l.more;
+      others = runs_stand arena frames r.leases l.more;
+    }
+
     -- ---- the page goes on
 
     pinned_more : (pins : Bool) (first : Key) (lease : Option ℕ) (many : ℕ) → IsPinnedIf pins r → is_some lease ≡ pins → IsPinnedIf pins (with_page r first lease many)
@@ -247,16 +284,24 @@ module _ (shape : Shape) (level count : ℕ) (blocks : List ℕ) (pins : Bool) (
 
     -- ---- all pages were read
 
-    pub Loading-end : i ≡ run_pages shape count → HasRun shape level count blocks old.pages frames r
-    Loading-end all = record {
+    pub all_entries : 0 < size → i ≡ run_pages shape count → r.count ≡ count
+    all_entries some all = l.counted ∙ ap (λ (k : ℕ). min count (k * size)) all ∙ all_counted count size some
+
+    pub Loading-end : 0 < size → i ≡ run_pages shape count → HasRun shape level count blocks old.pages frames r
+    Loading-end some all = record {
       entries = l.es;
       read = let none : run_pages shape count - i ≡ 0 = omega (arith, all) in l.comes ∙ ap (λ k. meta shape level count i l.es (pages_of_blocks shape (page_at old.pages) blocks i k)) none;
       each = l.each;
+      counted = all_entries some all;
       stands = l.stands;
     }
 
-    pub all_entries : 0 < size → i ≡ run_pages shape count → r.count ≡ count
-    all_entries some all = l.counted ∙ ap (λ (k : ℕ). min count (k * size)) all ∙ all_counted count size some
+  -- the board behind
+  pub stays_behind : (made : ℕ) (new : BoardState) → new ≡ after_reads made old → IsReady old shape → StaysReady shape old new
+  stays_behind made new is ready = stays_ready_behind shape old new (rest_reads old new (made, is)) ready
+
+  pub stays_not_read : (new : BoardState) (e : PageError) → NotRead shape level count blocks old new e → IsReady old shape → StaysReady shape old new
+  stays_not_read new e not_read ready = stays_ready_behind shape old new (rest_not_read shape level count blocks old new e not_read) ready
 
   -- the pages stay
   pub not_read_pages : (new : BoardState) (e : PageError) → NotRead shape level count blocks old new e → (new.pages ≡ old.pages) × (new.shape ≡ old.shape)
@@ -298,3 +343,38 @@ room_for_blocks r blocks count is none few many =
 
 pub empty_stands : (r : Kept) (flash : Flash) (arena : Frames) → IsShape r.shape → r ≡ empty r.shape r.level → Stands r flash arena []
 empty_stands r flash arena is none = subst (λ (k : Kept). Stands k flash arena []) (sym none) (Stands-empty r.shape r.level flash arena is)
+
+-- a run that had nothing and got its blocks awaits their pages
+pub awaits_pages : (r r' : Kept) (blocks : List ℕ) (pins : Bool) (count : ℕ) (flash : Flash) (arena : Frames) → IsShape r.shape → r ≡ empty r.shape r.level → r' ≡ record r { blocks = r.blocks ++ blocks }
+    → AllExist r.shape blocks → count ≤ cap r.shape r.level * page_entries r.shape → length blocks ≡ run_blocks r.shape count
+    → arena.page_bytes ≡ r.shape.page_bytes → (pins ≡ true → run_pages r.shape count ≤ free_frames arena) → Stands r' flash arena [] → AwaitsPages pins count flash arena r'
+awaits_pages r r' blocks pins count flash arena is none added exist few places page free stands =
+    let no_blocks : r.blocks ≡ [] = ap (λ (k : Kept). k.blocks) none in
+    let now : r' ≡ record (empty r.shape r.level) { blocks = blocks } = added ∙ (λ i. record (none i) { blocks = no_blocks i ++ blocks }) in
+    subst (λ (k : Kept). AwaitsPages pins count flash arena k) (sym now) (record {
+      exist = exist;
+      few = few;
+      places = places;
+      no_entries = refl;
+      no_pages = refl;
+      no_leases = refl;
+      stands = subst (λ (k : Kept). Stands k flash arena []) now stands;
+      page_bytes = page;
+      free = free;
+    })
+
+-- the blocks that were added are all of the run
+pub loads_behind : (pins : Bool) (flash : Flash) (blocks : List ℕ) (before after : Frames) (old mid new : Kept) → old ≡ empty old.shape old.level → mid ≡ record old { blocks = old.blocks ++ blocks }
+    → LoadsPages pins flash mid.blocks before after mid new → LoadsPages pins flash blocks before after old new
+loads_behind pins flash blocks before after old mid new none added loads =
+    let no_blocks : old.blocks ≡ [] = ap (λ (k : Kept). k.blocks) none in
+    record {
+      es = loads.es;
+      stands = loads.stands;
+      shape_is = loads.shape_is ∙ ap (λ (k : Kept). k.shape) added;
+      level_is = loads.level_is ∙ ap (λ (k : Kept). k.level) added;
+      blocks_are = loads.blocks_are ∙ ap (λ (k : Kept). k.blocks) added ∙ ap (λ (bs : List ℕ). bs ++ blocks) no_blocks;
+      pinned = loads.pinned;
+      more = loads.more;
+      others = loads.others;
+    }

@@ -17,7 +17,7 @@ use Rattle.pk_pool.proofs.Sharing.{used_given}
 use Rattle.pk_live.specs.Values.{Values as LiveValues, IsClosed}
 use Rattle.pk_rootfmt.specs.Root.{Root, named, is_root}
 use Rattle.pk_model.specs.Laws.{AnyByRecursion}
-use Rattle.pk_scan.specs.Lives.{Lives}
+use Rattle.pk_live.specs.Lives.{Lives}
 use Rattle.pk_scan.specs.Adopts.{is_among, owned_if, state_of, Adopts, NamesOwned, HasOwners}
 use Rattle.pk_scan.proofs.Adopting.{apart, spare_front, spare_back}
 use Rattle.pk_scan.proofs.Naming.{names_differ, names_spare}

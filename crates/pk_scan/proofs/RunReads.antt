@@ -8,7 +8,7 @@ use Rattle.pk_pin.specs.Frames.{Frames}
 use Rattle.pk_run.specs.Kept.{Kept}
 use Rattle.pk_level.specs.Levels.{StandEach}
 use Rattle.pk_walk.specs.Walking.{read_of, most_read}
-use Rattle.pk_scan.specs.Runs.{IsPinnedIf}
+use Rattle.pk_level.specs.Arenas.{IsPinnedIf}
 use Rattle.pk_scan.specs.Opening.{HaveBlocks, HaveFrames}
 use Rattle.pk_scan.specs.Reads.{pages_of_runs, run_reads}
 

@@ -12,16 +12,19 @@ use Rattle.pk_base.specs.Page.{Page, Flash, page_at}
 use Rattle.pk_base.specs.Refusal.{Refusal, damaged, ◌>>=◌}
 use Rattle.pk_nand.specs.BoardState.{BoardState}
 use Rattle.pk_meta.specs.Run.{run}
-use Rattle.pk_rootfmt.specs.Root.{Root}
-use Rattle.pk_rootfmt.specs.Held.{total}
+use Rattle.pk_rootfmt.specs.Root.{Root, is_root}
+use Rattle.pk_rootfmt.specs.Held.{Held, total}
 use Rattle.pk_pin.specs.Frames.{Frames, free_frames}
 use Rattle.pk_run.specs.Kept.{Kept, Stands}
 use Rattle.pk_level.specs.Levels.{Levels, StandEach, with_run}
+use Rattle.pk_level.specs.Arenas.{IsPinnedIf, leases_of}
+use Rattle.pk_level.proofs.Arenas.{leases-append}
 use Rattle.pk_model.specs.Found.{runs_from}
-use Rattle.pk_scan.specs.Runs.{HasRun, NotRead, IsPinnedIf, LeasedMore, RunsStand}
-use Rattle.pk_scan.specs.Opening.{OnlyReads, PartNotOpened, HaveBlocks, HaveFrames, HoldsRuns, LoadsLevel, wanted_behind, opening_of}
+use Rattle.pk_scan.specs.Runs.{HasRun, NotRead, LeasedMore, RunsStand}
+use Rattle.pk_scan.specs.Opening.{OnlyReads, PartNotOpened, HaveBlocks, HaveFrames, HoldsRuns, LoadsLevel, LoadsRuns, MayLoadLevel, wanted_behind, opening_of}
 use Rattle.pk_scan.proofs.Boards.{reads_both, counted_behind}
 use Rattle.pk_scan.proofs.Exact.{take_next}
+use Rattle.pk_scan.proofs.Leasing.{leased_none, leased_more}
 use Rattle.pk_scan.specs.declared.errors.PageError.{PageError}
 use Rattle.pk_scan.specs.declared.errors.PageError.TheVariants.{Damaged as PageDamaged, Fault as PageFault}
 use Rattle.pk_scan.specs.declared.errors.OpenError.{OpenError}
@@ -130,7 +133,7 @@ module _ (shape : Shape) (root : Root) (level count : ℕ) (bs : List ℕ) (coun
     frames = subst (λ (b : Bool). IsPinnedIf b kept) (sym test) pinned;
     levels = is;
     others = others;
-    page = more.page;
+    more = more;
     pinned = λ h. let same : length kept.leases ≡ length kept.firsts = subst (λ (b : Bool). IsPinnedIf b kept) (sym test ∙ le_true level old.pinned h) pinned in let free = more.free in omega (arith, same, free, few);
     unpinned = λ h. let none : kept.leases ≡ [] = subst (λ (b : Bool). IsPinnedIf b kept) (sym test ∙ gt_false level old.pinned h) pinned in let zero_leases = ap (λ (ls : List ℕ). length ls) none in let free = more.free in omega (arith, zero_leases, free);
   }
@@ -166,8 +169,9 @@ module _ (shape : Shape) (at : ℕ → Page) where
 
 -- ---- the loop
 
--- The first so many levels were read; the reading of the runs has these entries, and goes on with the other levels.
-pub record RunsTo (shape : Shape) (root : Root) (flash : Flash) (pinned : ℕ) (arena : Frames) (levels : Levels) (k : ℕ) : Type 0 where
+-- The first so many levels were read, for which frames were leased since the start; the reading of the runs has these entries,
+-- and goes on with the other levels.
+pub record RunsTo (shape : Shape) (root : Root) (flash : Flash) (pinned : ℕ) (start arena : Frames) (levels : Levels) (k : ℕ) : Type 0 where
   pub ess : List (List Entry)
   pub comes : runs_from shape (page_at flash) 1 root.counts root.runs ≡ behind ess (runs_from shape (page_at flash) (suc k) (drop k root.counts) (drop k root.runs))
   pub stand : StandEach flash arena (take k levels.runs) ess
@@ -177,11 +181,12 @@ pub record RunsTo (shape : Shape) (root : Root) (flash : Flash) (pinned : ℕ) (
   pub pinned_is : levels.pinned ≡ pinned
   pub four : length levels.runs ≡ 4
   pub page : arena.page_bytes ≡ shape.page_bytes
+  pub more : LeasedMore start arena (leases_of (take k levels.runs))
   pub free : wanted_behind shape pinned k ≤ free_frames arena
 
 module _ (shape : Shape) (root : Root) (counts : length root.counts ≡ 4) (runs : length root.runs ≡ 4) (flash : Flash) (pinned : ℕ) where
   pub RunsTo-start : (arena : Frames) (levels : Levels) → levels.shape ≡ shape → levels.pinned ≡ pinned → length levels.runs ≡ 4 → arena.page_bytes ≡ shape.page_bytes → wanted_behind shape pinned 0 ≤ free_frames arena
-      → RunsTo shape root flash pinned arena levels 0
+      → RunsTo shape root flash pinned arena arena levels 0
   RunsTo-start arena levels shape_is pinned_is four page free = record {
     ess = [];
     comes = behind_none (runs_from shape (page_at flash) 1 root.counts root.runs);
@@ -192,10 +197,11 @@ module _ (shape : Shape) (root : Root) (counts : length root.counts ≡ 4) (runs
     pinned_is = pinned_is;
     four = four;
     page = page;
+    more = leased_none arena;
     free = free;
   }
 
-  module _ (arena : Frames) (levels : Levels) (k : ℕ) (t : RunsTo shape root flash pinned arena levels k) (h : k < 4) where
+  module _ (start arena : Frames) (levels : Levels) (k : ℕ) (t : RunsTo shape root flash pinned start arena levels k) (h : k < 4) where
     pub frame_free : (level : ℕ) → level ≡ suc k → level - 1 ≡ k → level ≤ levels.pinned → cap shape level ≤ free_frames arena
     frame_free level e d low =
         let inside : k < pinned = omega (arith, e, low, t.pinned_is) in
@@ -255,7 +261,10 @@ module _ (shape : Shape) (root : Root) (counts : length root.counts ≡ 4) (runs
           | inr high ↦ let none = wanted_none (suc k) pinned (caps shape) (omega (arith, high)) in omega (arith, none)
         ]
 
-        pub RunsTo-next : RunsTo shape root flash pinned arena' levels' (suc k)
+        next_more : LeasedMore start arena' (leases_of (take k levels.runs) ++ l.kept.leases)
+        next_more = leased_more start arena arena' (leases_of (take k levels.runs)) l.kept.leases t.more l.more
+
+        pub RunsTo-next : RunsTo shape root flash pinned start arena' levels' (suc k)
         RunsTo-next = record {
           ess = t.ess ++ l.entries ∷ [];
           comes = next_comes;
@@ -265,7 +274,9 @@ module _ (shape : Shape) (root : Root) (counts : length root.counts ≡ 4) (runs
           shape_is = ap (λ (x : Levels). x.shape) l.levels ∙ t.shape_is;
           pinned_is = ap (λ (x : Levels). x.pinned) l.levels ∙ t.pinned_is;
           four = ap (λ (x : Levels). length x.runs) l.levels ∙ set_length levels.runs (level - 1) l.kept ∙ t.four;
-          page = l.page ∙ t.page;
+          page = l.more.page ∙ t.page;
+          more = subst (λ (rs : List Kept). LeasedMore start arena' (leases_of rs)) (sym taken)
+              (subst (LeasedMore start arena') (sym (leases-append (take k levels.runs) (l.kept ∷ []) ∙ ap (λ (ls : List ℕ). leases_of (take k levels.runs) ++ ls) (append-nil l.kept.leases))) next_more);
           free = next_free;
         }
 
@@ -278,8 +289,8 @@ module _ (shape : Shape) (root : Root) (counts : length root.counts ≡ 4) (runs
       RunsTo-refused old now new Fault reads why = counted_behind old now new reads why
       RunsTo-refused old now new Memory reads why = reads_both old now new reads why
 
-  pub RunsTo-end : (arena : Frames) (levels : Levels) → RunsTo shape root flash pinned arena levels 4 → (ess : List (List Entry)) × HoldsRuns shape flash root arena levels ess
-  RunsTo-end arena levels t = (
+  pub RunsTo-end : (start arena : Frames) (levels : Levels) → RunsTo shape root flash pinned start arena levels 4 → (ess : List (List Entry)) × HoldsRuns shape flash root arena levels ess
+  RunsTo-end start arena levels t = (
     t.ess,
     record {
       finds = t.comes ∙ ap (behind t.ess) (ap (λ (cs : List ℕ). runs_from shape (page_at flash) 5 cs (drop 4 root.runs)) (past root.counts 4 (omega (arith, counts))) ∙ ap (runs_from shape (page_at flash) 5 []) (past root.runs 4 (omega (arith, runs))) ∙ none_left shape (page_at flash) 5) ∙ ap ok_list (append-nil t.ess);
@@ -292,3 +303,31 @@ module _ (shape : Shape) (root : Root) (counts : length root.counts ≡ 4) (runs
     where
       whole : take 4 levels.runs ≡ levels.runs
       whole = take_all 4 levels.runs (omega (arith, t.four))
+
+  pub RunsTo-leased : (start arena : Frames) (levels : Levels) → RunsTo shape root flash pinned start arena levels 4 → LeasedMore start arena (leases_of levels.runs)
+  RunsTo-leased start arena levels t = subst (λ (rs : List Kept). LeasedMore start arena (leases_of rs)) (take_all 4 levels.runs (omega (arith, t.four))) t.more
+
+module _ (root : Held) (counts : length root.root.counts ≡ 4) (runs : length root.root.runs ≡ 4) where
+  -- the next level may be read
+  pub level_may : is_root root.shape root.root ≡ true → (flash : Flash) (pinned : ℕ) (start arena : Frames) (levels : Levels) (k : ℕ) → RunsTo root.shape root.root flash pinned start arena levels k → k < 4
+      → (level : ℕ) → level ≡ suc k → level - 1 ≡ k → MayLoadLevel root level arena levels
+  level_may grammar flash pinned start arena levels k t h level e d = record {
+    least = omega (arith, e);
+    most = omega (arith, e, h);
+    grammar = grammar;
+    shape_is = t.shape_is;
+    page_bytes = t.page;
+    free = frame_free root.shape root.root counts runs flash pinned start arena levels k t h level e d;
+  }
+
+  -- all levels were read
+  pub runs_loaded : (flash : Flash) (start : Frames) (old : Levels) (arena : Frames) (levels : Levels) → old.shape ≡ root.shape → RunsTo root.shape root.root flash old.pinned start arena levels 4 → LoadsRuns root flash start arena old levels
+  runs_loaded flash start old arena levels same t =
+      let held = RunsTo-end root.shape root.root counts runs flash old.pinned start arena levels t in
+      record {
+        ess = held.0;
+        held = held.1;
+        more = RunsTo-leased root.shape root.root counts runs flash old.pinned start arena levels t;
+        pinned_is = t.pinned_is;
+        shape_is = t.shape_is ∙ sym same;
+      }

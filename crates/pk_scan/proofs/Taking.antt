@@ -18,10 +18,10 @@ use Rattle.pk_segfmt.specs.Value.{value_pages}
 use Rattle.pk_segfmt.proofs.StoredLemmas.{charge_some}
 use Rattle.pk_model.specs.Values.{all_pages, fits, blocks_with}
 use Rattle.pk_rootfmt.specs.Root.{differ}
-use Rattle.pk_scan.specs.Lives.{head_of, is_used, Lives}
-use Rattle.pk_scan.proofs.Blocks.{same_block, block_exists}
-use Rattle.pk_scan.proofs.Ranges.{all_same, has, has_range, range_has, meets, meets_told, meets_from, differ_append, differ_range}
-use Rattle.pk_scan.proofs.Standing.{map_set, count_map, all_pages-more, head_of-more, Placed-more, value_in_block, heads_read, covered, covers, total_is, block_is}
+use Rattle.pk_live.specs.Lives.{head_of, is_used, Lives}
+use Rattle.pk_live.proofs.Blocks.{same_block, block_exists}
+use Rattle.pk_live.proofs.Ranges.{all_same, has, has_range, range_has, meets, meets_told, meets_from, differ_append, differ_range}
+use Rattle.pk_live.proofs.Standing.{map_set, count_map, all_pages-more, head_of-more, Placed-more, value_in_block, heads_read, covered, covers, total_is, block_is}
 
 -- ---- the four parts of the test
 

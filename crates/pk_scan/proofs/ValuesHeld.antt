@@ -23,7 +23,7 @@ use Rattle.pk_base.specs.Page.{Flash, page_at}
 use Rattle.pk_base.specs.Refusal.{Refusal, damaged, ◌>>=◌}
 use Rattle.pk_live.specs.Values.{Values}
 use Rattle.pk_model.specs.Values.{all_pages, fits, values_of}
-use Rattle.pk_scan.specs.Lives.{Lives}
+use Rattle.pk_live.specs.Lives.{Lives}
 use Rattle.pk_scan.specs.Accepted.{Accepted, NotAccepted}
 use Rattle.pk_scan.specs.Places.{place}
 use Rattle.pk_scan.specs.Opening.{OnlyReads, PartNotOpened, ReadsValues, opening_of}

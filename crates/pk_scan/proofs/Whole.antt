@@ -19,6 +19,9 @@ use Rattle.pk_jrn.specs.Replays.{buffer_of}
 use Rattle.pk_jrn.proofs.Puts.{firsts-reverse}
 use Rattle.pk_pin.specs.Frames.{Frames}
 use Rattle.pk_level.specs.Levels.{Levels}
+use Rattle.pk_level.specs.Arenas.{HasArena, leases_of}
+use Rattle.pk_live.specs.Values.{no_values}
+use Rattle.pk_pin.specs.Frames.{free_frames}
 use Rattle.pk_walk.specs.Visible.{visible}
 use Rattle.pk_walk.specs.Walking.{Walk, IsLeft, most_read}
 use Rattle.pk_live.specs.Values.{Values}
@@ -33,14 +36,21 @@ use Rattle.pk_model.proofs.Entries.{counting_all, journal_are, meta_are}
 use Rattle.pk_model.proofs.StrangePages.{bind_ok}
 use Rattle.pk_steps.specs.Under.{IsValuePage, places}
 use Rattle.pk_scan.specs.Starting.{IsAtStart}
-use Rattle.pk_scan.specs.Opening.{OnlyReads, NotOpened, PartNotOpened, HoldsFound, ReadsValues}
+use Rattle.pk_scan.specs.Opening.{OnlyReads, NotOpened, PartNotOpened, HoldsFound, ReadsValues, wanted_behind}
+use Rattle.pk_scan.specs.Runs.{LeasedMore}
+use Rattle.pk_scan.specs.Memory.{FoundNothing, IsUnread, AwaitsLists, HoldsLists, LoadsLists, FindsLists, AwaitsValues}
+use Rattle.pk_scan.specs.declared.contents.Found.{Found as Opened}
+use Rattle.pk_scan.specs.declared.contents.Memory.{Memory as Working}
 use Rattle.pk_scan.specs.Adopts.{HasOwners}
 use Rattle.pk_scan.specs.Opened.{IsOpened}
-use Rattle.pk_scan.specs.Reads.{opened, reads_under, list_reads, value_reads, pages_of_runs, run_reads, epoch_reads}
+use Rattle.pk_scan.specs.Reads.{opened, reads_under, list_reads, value_reads, pages_of_runs, run_reads}
+use Rattle.pk_jrn.specs.Replays.{epoch_reads}
 use Rattle.pk_scan.proofs.Boards.{reads_sum}
 use Rattle.pk_scan.proofs.RunReads.{run_reads_are}
 use Rattle.pk_scan.specs.declared.errors.OpenError.{OpenError}
 use Rattle.pk_scan.specs.declared.errors.OpenError.TheVariants.{NotFormatted, Damaged, Fault, Memory}
+use Rattle.pk_scan.proofs.Leasing.{arena_opened}
+use Rattle.pk_scan.proofs.Room.{frames_enough}
 use Rattle.pk_scan.proofs.Opened.{behind_reads}
 use Rattle.pk_scan.proofs.Under.{visible_places, found_refuses, values_refuse, stands_under}
 
@@ -132,12 +142,13 @@ module _ (shape : Shape) (page : ℕ) (root : Root) (old : BoardState) (top : ne
 
 -- ---- all that stands on the flash
 
-module _ (shape : Shape) (flash : Flash) (frames : ℕ) (root : Held) (page : ℕ) (active frozen : Table) (epoch : JournalEpoch) (arena : Frames) (levels : Levels) (found : Found) (held : HoldsFound shape flash root.root active frozen epoch arena levels found)
-    (top : newest_root shape (page_at flash) ≡ Some (page, root.root)) (pinned_is : levels.pinned ≡ pinned shape frames) (live : Values) (values : ReadsValues shape flash (named root.root) live (places found [])) where
-  pub is_opened : root.shape ≡ shape → is_root shape root.root ≡ true → page < 2 * shape.block_pages → levels.shape ≡ shape → length active.entries ≤ active.capacity → (pool : Blocks) → HasOwners shape root.root live pool → (keys : ℕ)
-      → keys ≡ length (places found []) → IsOpened shape flash frames root page active frozen epoch levels arena live pool keys
-  is_opened shape_is grammar place levels_shape room pool owners keys keys_are =
-      let under = stands_under shape flash page root.root top found held.finds (few_newest shape flash root.root active frozen epoch arena levels found held room) values.values values.read in
+module _ {A : Type 0} (shape : Shape) (flash : Flash) (frames : ℕ) (f : Opened A) (found : Found) (held : HoldsFound shape flash f.root.root f.active f.frozen f.epoch f.arena f.levels found)
+    (top : newest_root shape (page_at flash) ≡ Some (f.root_page, f.root.root)) (pinned_is : f.levels.pinned ≡ pinned shape frames) (live : Values) (values : ReadsValues shape flash (named f.root.root) live (places found [])) where
+  pub is_opened : f.root.shape ≡ shape → is_root shape f.root.root ≡ true → f.root_page < 2 * shape.block_pages → f.levels.shape ≡ shape → length f.active.entries ≤ f.active.capacity
+      → HasArena shape frames f.levels f.arena [] → (pool : Blocks) → HasOwners shape f.root.root live pool → (keys : ℕ) → keys ≡ length (places found [])
+      → IsOpened shape flash frames (record f { live = live; pool = pool; keys = keys })
+  is_opened shape_is grammar place levels_shape room arena_is pool owners keys keys_are =
+      let under = stands_under shape flash f.root_page f.root.root top found held.finds (few_newest shape flash f.root.root f.active f.frozen f.epoch f.arena f.levels found held room) values.values values.read in
       record {
         found = found;
         map = under.0;
@@ -154,35 +165,28 @@ module _ (shape : Shape) (flash : Flash) (frames : ℕ) (root : Held) (page : �
           levels_pinned = pinned_is;
           stand = held.stand;
           run_blocks = held.run_blocks;
+          arena_is = arena_is;
         };
         blocks = record {
           lives = values.lives;
-          written = values_written shape (page_at flash) (named root.root) [] (places found []) values.values values.read;
-          pool_shape = owners.pool_shape;
-          pool_size = owners.pool_size;
-          pool_fits = owners.pool_fits flash;
-          journal = owners.journal;
-          journal_few = owners.journal_few;
-          runs = owners.runs;
-          runs_few = owners.runs_few;
-          closed_owned = owners.closed_owned;
-          owned_closed = owners.owned_closed;
-          values_few = owners.values_few;
+          written = values_written shape (page_at flash) (named f.root.root) [] (places found []) values.values values.read;
+          owners = owners;
         };
         keys_are = keys_are;
       }
 
-  opened_is : opened shape flash frames ≡ 2 * shape.block_pages + epoch_reads shape (page_at flash) root.root.older + epoch_reads shape (page_at flash) root.root.newest + run_reads shape (pinned shape frames) 1 root.root.counts + value_reads shape (places found [])
+  opened_is : opened shape flash frames ≡ 2 * shape.block_pages + epoch_reads shape (page_at flash) f.root.root.older + epoch_reads shape (page_at flash) f.root.root.newest + run_reads shape (pinned shape frames) 1 f.root.root.counts + value_reads shape (places found [])
   unfolding opened reads_under
   opened_is = rw (top, held.finds) refl
 
   -- what was read, part by part
-  pub opened_reads : (old now new : BoardState) → now ≡ after_reads (2 * shape.block_pages + list_reads shape (page_at flash) root.root) old → new ≡ after_reads (most_read levels.runs + value_reads shape (places found [])) now → new ≡ after_reads (opened shape flash frames) old
+  pub opened_reads : (old now new : BoardState) → now ≡ after_reads (2 * shape.block_pages + list_reads shape (page_at flash) f.root.root) old → new ≡ after_reads (most_read f.levels.runs + value_reads shape (places found [])) now → new ≡ after_reads (opened shape flash frames) old
   opened_reads old now new first second =
-      let runs = run_reads_are shape flash arena levels.pinned 1 levels.runs found.runs root.root.runs root.root.counts held.stand held.run_blocks held.run_frames in
-      let pins = ap (λ (n : ℕ). run_reads shape n 1 root.root.counts) pinned_is in
-      reads_sum old now new (2 * shape.block_pages + list_reads shape (page_at flash) root.root) (most_read levels.runs + value_reads shape (places found [])) (opened shape flash frames)
-      (sum (2 * shape.block_pages) (epoch_reads shape (page_at flash) root.root.older) (epoch_reads shape (page_at flash) root.root.newest) (pages_of_runs shape root.root.counts) (most_read levels.runs) (run_reads shape (pinned shape frames) 1 root.root.counts)
+      let root = f.root.root in
+      let runs = run_reads_are shape flash f.arena f.levels.pinned 1 f.levels.runs found.runs root.runs root.counts held.stand held.run_blocks held.run_frames in
+      let pins = ap (λ (n : ℕ). run_reads shape n 1 root.counts) pinned_is in
+      reads_sum old now new (2 * shape.block_pages + list_reads shape (page_at flash) root) (most_read f.levels.runs + value_reads shape (places found [])) (opened shape flash frames)
+      (sum (2 * shape.block_pages) (epoch_reads shape (page_at flash) root.older) (epoch_reads shape (page_at flash) root.newest) (pages_of_runs shape root.counts) (most_read f.levels.runs) (run_reads shape (pinned shape frames) 1 root.counts)
       (value_reads shape (places found [])) (runs ∙ pins) ∙ sym opened_is) first second
     where
       sum : (roots older newest once again all values : ℕ) → once + again ≡ all → (again + values) + (roots + (older + newest + once)) ≡ roots + older + newest + all + values
@@ -199,47 +203,102 @@ root_then_lists shape other root old now new is first same second =
     swap : (m n : ℕ) → m + n ≡ n + m
     swap m n = omega arith
 
+-- the root was found, and behind it the lists
+pub finds_lists : {A : Type 0} (flash now : Flash) (old mid new : Opened A) (found : Found) → new ≡ record mid { active = new.active; frozen = new.frozen; levels = new.levels; arena = new.arena; epoch = new.epoch }
+    → mid.root.shape ≡ old.root.shape → mid.levels ≡ old.levels → mid.arena ≡ old.arena → now ≡ flash → newest_root old.root.shape (page_at flash) ≡ Some (mid.root_page, mid.root.root) → mid.root_page < 2 * old.root.shape.block_pages
+    → is_root old.root.shape mid.root.root ≡ true → old.levels.shape ≡ old.root.shape → length new.active.entries ≤ new.active.capacity → LoadsLists now mid new found → FindsLists flash old new found
+finds_lists flash now old mid new found kept shape levels arena same top place grammar levels_shape few loads =
+    let root_is : new.root ≡ mid.root = ap (λ x. x.root) kept in
+    let page_is : new.root_page ≡ mid.root_page = ap (λ x. x.root_page) kept in
+    record {
+      top = subst (λ (p : ℕ). newest_root old.root.shape (page_at flash) ≡ Some (p, new.root.root)) (sym page_is)
+          (subst (λ (r : Held). newest_root old.root.shape (page_at flash) ≡ Some (mid.root_page, r.root)) (sym root_is) top);
+      place = subst (λ (p : ℕ). p < 2 * old.root.shape.block_pages) (sym page_is) place;
+      grammar = subst (λ (r : Held). is_root old.root.shape r.root ≡ true) (sym root_is) grammar;
+      held = subst (λ (r : Held). HoldsFound old.root.shape flash r.root new.active new.frozen new.epoch new.arena new.levels found) (sym root_is)
+          (subst (λ (f : Flash). HoldsFound old.root.shape f mid.root.root new.active new.frozen new.epoch new.arena new.levels found) same
+          (subst (λ (s : Shape). HoldsFound s now mid.root.root new.active new.frozen new.epoch new.arena new.levels found) shape loads.held));
+      few = few;
+      more = subst (λ (a : Frames). LeasedMore a new.arena (leases_of new.levels.runs)) arena loads.more;
+      pinned_is = loads.pinned_is ∙ ap (λ (l : Levels). l.pinned) levels;
+      levels_shape = loads.levels_shape ∙ ap (λ (l : Levels). l.shape) levels ∙ levels_shape;
+    }
+
 -- ---- in one call
 
-module _ (shape a : Shape) (root : Held) (is : a ≡ shape) (root_is : root.shape ≡ a) (old now : BoardState) (same : now.pages ≡ old.pages) (frames page : ℕ) (active frozen : Table) (epoch : JournalEpoch) (arena : Frames) (levels : Levels) (found : Found)
-    (held : HoldsFound a old.pages root.root active frozen epoch arena levels found) where
+module _ {A : Type 0} (shape a : Shape) (f : Opened A) (is : a ≡ shape) (root_is : f.root.shape ≡ a) (old now : BoardState) (same : now.pages ≡ old.pages) (frames : ℕ) (before : Opened A) (before_is : before.root.shape ≡ a) (found : Found)
+    (finds : FindsLists old.pages before f found) where
+  held_old : HoldsFound a old.pages f.root.root f.active f.frozen f.epoch f.arena f.levels found
+  held_old = subst (λ (s : Shape). HoldsFound s old.pages f.root.root f.active f.frozen f.epoch f.arena f.levels found) before_is finds.held
+
   -- the lists still stand on the board behind them
-  pub held_behind : HoldsFound root.shape now.pages root.root active frozen epoch arena levels found
+  pub held_behind : HoldsLists now.pages f found
   held_behind =
-      subst (λ (f : Flash). HoldsFound root.shape f root.root active frozen epoch arena levels found) (sym same)
-      (subst (λ (s : Shape). HoldsFound s old.pages root.root active frozen epoch arena levels found) (sym root_is) held)
+      subst (λ (x : Flash). HoldsFound f.root.shape x f.root.root f.active f.frozen f.epoch f.arena f.levels found) (sym same)
+      (subst (λ (s : Shape). HoldsFound s old.pages f.root.root f.active f.frozen f.epoch f.arena f.levels found) (sym root_is) held_old)
 
-  held_here : HoldsFound shape old.pages root.root active frozen epoch arena levels found
-  held_here = subst (λ (s : Shape). HoldsFound s old.pages root.root active frozen epoch arena levels found) is held
+  held_here : HoldsFound shape old.pages f.root.root f.active f.frozen f.epoch f.arena f.levels found
+  held_here = subst (λ (s : Shape). HoldsFound s old.pages f.root.root f.active f.frozen f.epoch f.arena f.levels found) is held_old
 
-  shape_is : root.shape ≡ shape
+  shape_is : f.root.shape ≡ shape
   shape_is = root_is ∙ is
 
-  values_here : (live : Values) → ReadsValues root.shape now.pages (named root.root) live (places found []) → ReadsValues shape old.pages (named root.root) live (places found [])
+  from_before : before.root.shape ≡ shape
+  from_before = before_is ∙ is
+
+  values_here : (live : Values) → ReadsValues f.root.shape now.pages (named f.root.root) live (places found []) → ReadsValues shape old.pages (named f.root.root) live (places found [])
   values_here live values =
-      subst (λ (s : Shape). ReadsValues s old.pages (named root.root) live (places found [])) shape_is
-      (subst (λ (f : Flash). ReadsValues root.shape f (named root.root) live (places found [])) same values)
+      subst (λ (s : Shape). ReadsValues s old.pages (named f.root.root) live (places found [])) shape_is
+      (subst (λ (x : Flash). ReadsValues f.root.shape x (named f.root.root) live (places found [])) same values)
 
-  module _ (top : newest_root a (page_at old.pages) ≡ Some (page, root.root)) where
-    top_here : newest_root shape (page_at old.pages) ≡ Some (page, root.root)
-    top_here = subst (λ (s : Shape). newest_root s (page_at old.pages) ≡ Some (page, root.root)) is top
+  top_here : newest_root shape (page_at old.pages) ≡ Some (f.root_page, f.root.root)
+  top_here = subst (λ (s : Shape). newest_root s (page_at old.pages) ≡ Some (f.root_page, f.root.root)) from_before finds.top
 
-    pub scan_refuses : length active.entries ≤ active.capacity → OnlyReads old now → (new : BoardState) (e : OpenError) → PartNotOpened (values_of root.shape (page_at now.pages) (named root.root) [] (places found [])) now new e → NotOpened shape old new e
-    scan_refuses room reads new e why =
-        values_refused shape page root.root old top_here now reads same found held_here.finds (few_newest shape old.pages root.root active frozen epoch arena levels found held_here room) new e
-        (subst (λ (s : Shape). PartNotOpened (values_of s (page_at now.pages) (named root.root) [] (places found [])) now new e) shape_is why)
+  pub scan_refuses : OnlyReads old now → (new : BoardState) (e : OpenError) → PartNotOpened (values_of f.root.shape (page_at now.pages) (named f.root.root) [] (places found [])) now new e → NotOpened shape old new e
+  scan_refuses reads new e why =
+      values_refused shape f.root_page f.root.root old top_here now reads same found held_here.finds (few_newest shape old.pages f.root.root f.active f.frozen f.epoch f.arena f.levels found held_here finds.few) new e
+      (subst (λ (s : Shape). PartNotOpened (values_of s (page_at now.pages) (named f.root.root) [] (places found [])) now new e) shape_is why)
 
-    module _ (pinned_is : levels.pinned ≡ pinned shape frames) (live : Values) (values : ReadsValues root.shape now.pages (named root.root) live (places found [])) where
-      pub scan_opened : is_root a root.root ≡ true → page < 2 * a.block_pages → levels.shape ≡ a → length active.entries ≤ active.capacity → (pool : Blocks) → HasOwners root.shape root.root live pool → (keys : ℕ) → keys ≡ length (places found [])
-          → IsOpened shape old.pages frames root page active frozen epoch levels arena live pool keys
-      scan_opened grammar place levels_shape room pool owners keys keys_are =
-          is_opened shape old.pages frames root page active frozen epoch arena levels found held_here top_here pinned_is live (values_here live values) shape_is
-          (subst (λ (s : Shape). is_root s root.root ≡ true) is grammar) (subst (λ (s : Shape). page < 2 * s.block_pages) is place) (levels_shape ∙ is) room pool
-          (subst (λ (s : Shape). HasOwners s root.root live pool) shape_is owners) keys keys_are
+  module _ (unread : FoundNothing shape frames before) (live : Values) (values : ReadsValues f.root.shape now.pages (named f.root.root) live (places found [])) where
+    pinned_here : f.levels.pinned ≡ pinned shape frames
+    pinned_here = finds.pinned_is ∙ ap (λ (l : Levels). l.pinned) unread.no_run
 
-      pub scan_reads : (new : BoardState) → now ≡ after_reads (2 * a.block_pages + list_reads a (page_at old.pages) root.root) old → new ≡ after_reads (most_read levels.runs + value_reads root.shape (places found [])) now
-          → new ≡ after_reads (opened shape old.pages frames) old
-      scan_reads new first second =
-          opened_reads shape old.pages frames root page active frozen epoch arena levels found held_here top_here pinned_is live (values_here live values) old now new
-          (subst (λ (s : Shape). now ≡ after_reads (2 * s.block_pages + list_reads s (page_at old.pages) root.root) old) is first)
-          (subst (λ (s : Shape). new ≡ after_reads (most_read levels.runs + value_reads s (places found [])) now) shape_is second)
+    pub scan_opened : (pool : Blocks) → HasOwners f.root.shape f.root.root live pool → (keys : ℕ) → keys ≡ length (places found []) → IsOpened shape old.pages frames (record f { live = live; pool = pool; keys = keys })
+    scan_opened pool owners keys keys_are =
+        is_opened shape old.pages frames f found held_here top_here pinned_here live (values_here live values) shape_is
+        (subst (λ (s : Shape). is_root s f.root.root ≡ true) from_before finds.grammar) (subst (λ (s : Shape). f.root_page < 2 * s.block_pages) from_before finds.place) (finds.levels_shape ∙ from_before) finds.few
+        (arena_opened shape frames before.arena f.arena f.levels f.root.root.counts finds.held.run_frames unread.page_bytes unread.all_free finds.more)
+        pool (subst (λ (s : Shape). HasOwners s f.root.root live pool) shape_is owners) keys keys_are
+
+    pub scan_reads : (new : BoardState) → now ≡ after_reads (2 * before.root.shape.block_pages + list_reads before.root.shape (page_at old.pages) f.root.root) old
+        → new ≡ after_reads (most_read f.levels.runs + value_reads f.root.shape (places found [])) now → new ≡ after_reads (opened shape old.pages frames) old
+    scan_reads new first second =
+        opened_reads shape old.pages frames f found held_here top_here pinned_here live (values_here live values) old now new
+        (subst (λ (s : Shape). now ≡ after_reads (2 * s.block_pages + list_reads s (page_at old.pages) f.root.root) old) from_before first)
+        (subst (λ (s : Shape). new ≡ after_reads (most_read f.levels.runs + value_reads s (places found [])) now) shape_is second)
+
+-- an arena of free frames has those that are wanted
+pub awaits_lists : {A : Type 0} (shape : Shape) (frames : ℕ) (f : Opened A) → FoundNothing shape frames f → AwaitsLists f
+awaits_lists shape frames f none = record {
+  active_none = rw none.root_shape none.active_none;
+  frozen_none = rw none.root_shape none.frozen_none;
+  levels_shape = ap (λ (l : Levels). l.shape) none.no_run ∙ sym none.root_shape;
+  page_bytes = rw none.root_shape none.page_bytes;
+  free = subst (λ (s : Shape). wanted_behind s f.levels.pinned 0 ≤ free_frames f.arena) (sym none.root_shape) (frames_enough shape frames f.levels f.arena none.no_run none.all_free);
+}
+
+-- behind the lists the values may be read
+pub awaits_values : {A : Type 0} (shape : Shape) (frames : ℕ) (flash : Flash) (was now : Working A) (found : Found) → IsUnread shape frames was → FindsLists flash was.found now.found found
+    → now.found.root.shape ≡ was.found.root.shape → now.found.live ≡ was.found.live → now.walk ≡ was.walk → now.named ≡ was.named → length now.page.items ≡ was.found.root.shape.page_bytes → AwaitsValues now
+awaits_values shape frames flash was now found unread finds root_is live walk names room =
+    let is : now.found.root.shape ≡ shape = root_is ∙ unread.nothing.root_shape in
+    record {
+      grammar = rw root_is finds.grammar;
+      levels_shape = finds.levels_shape ∙ sym root_is;
+      walk_shape = ap (λ w. w.shape) walk ∙ unread.walk_shape ∙ sym is;
+      starts = subst (λ w. IsAtStart w) (sym walk) unread.starts;
+      none_live = live ∙ unread.nothing.none_live ∙ ap (λ (s : Shape). no_values s) (sym is);
+      none_named = ap (λ n. n.items) names ∙ unread.none_named;
+      named_room = rw (is, names) unread.named_room;
+      page_room = room ∙ ap (λ (s : Shape). s.page_bytes) (sym root_is);
+    }

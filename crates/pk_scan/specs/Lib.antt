@@ -1,11 +1,13 @@
 pub mod Places
 pub mod Pages
 pub mod Checked
-pub mod Lives
 pub mod Accepted
 pub mod Runs
 pub mod Adopts
 pub mod Opening
 pub mod Reads
 pub mod Opened
+pub mod Board
+pub mod Memory
+pub mod Taken
 pub mod Starting

@@ -1,30 +1,31 @@
 -- Opening, part by part: what the reading of a flash finds, and why it refuses.
-use Rattle.std.specs.Prelude.{◌≡◌, ⊤, ℕ, ◌+◌, ◌-◌, ◌<◌, ◌≤◌, List, [], ◌∷◌, nat_le, slice_index, slice_index_or, take, drop, Result, Ok, Err}
+use Rattle.std.specs.Prelude.{◌≡◌, ⊤, ℕ, ◌+◌, ◌-◌, ◌<◌, ◌≤◌, List, [], ◌∷◌, nat_le, true, slice_index, slice_index_or, take, drop, Result, Ok, Err}
 use Rattle.std.specs.List.{AllByRecursion}
-use Rattle.pk_base.specs.Shape.{Shape, cap, caps, epoch_pages}
+use Rattle.pk_base.specs.Shape.{Shape, cap, caps, epoch_commits, epoch_pages, run_pages}
 use Rattle.pk_base.specs.Key.{Key}
 use Rattle.pk_base.specs.Entry.{Entry, Place}
 use Rattle.pk_base.specs.EntryBytes.{IsEntry}
-use Rattle.pk_base.specs.Page.{Flash, page_at, page_in}
+use Rattle.pk_base.specs.Page.{Flash, page_at, Page, page_in}
 use Rattle.pk_base.specs.Refusal.{Refusal, not_formatted, damaged}
 use Rattle.pk_nand.specs.BoardState.{BoardState}
 use Rattle.pk_nand.specs.Calls.{Rose}
 use Rattle.pk_nand.specs.Erased.{after_reads}
 use Rattle.pk_meta.specs.Run.{run}
-use Rattle.pk_rootfmt.specs.Root.{Root}
-use Rattle.pk_rootfmt.specs.Held.{total}
+use Rattle.pk_rootfmt.specs.Root.{Root, is_root}
+use Rattle.pk_rootfmt.specs.Held.{Held, total}
 use Rattle.pk_buf.specs.Table.{Table}
-use Rattle.pk_jrn.specs.Epochs.{JournalEpoch, IsWhole, found_at_opening, Fits}
+use Rattle.pk_jrn.specs.Epochs.{JournalEpoch, HasCommit, found_at_opening, Fits}
 use Rattle.pk_jrn.specs.Replays.{buffer_of}
 use Rattle.pk_pin.specs.Frames.{Frames, free_frames}
 use Rattle.pk_run.specs.Kept.{Kept, Stands}
 use Rattle.pk_level.specs.Levels.{Levels, StandEach, with_run}
+use Rattle.pk_level.specs.Arenas.{IsPinnedIf, leases_of}
 use Rattle.pk_model.specs.Found.{Found, found_under, newest_epoch, older_epoch, runs_from}
 use Rattle.pk_live.specs.Values.{Values}
 use Rattle.pk_model.specs.Values.{values_of}
 use Rattle.pk_model.specs.Reading.{reading}
-use Rattle.pk_scan.specs.Lives.{Lives}
-use Rattle.pk_scan.specs.Runs.{IsPinnedIf, RunsStand}
+use Rattle.pk_live.specs.Lives.{Lives}
+use Rattle.pk_scan.specs.Runs.{LeasedMore, RunsStand}
 use Rattle.pk_scan.specs.declared.errors.PageError.{PageError}
 use Rattle.pk_scan.specs.declared.errors.PageError.TheVariants.{Damaged as PageDamaged, Fault as PageFault}
 use Rattle.pk_scan.specs.declared.errors.OpenError.{OpenError}
@@ -76,7 +77,7 @@ OlderHeld shape flash root into = (entries : List Entry) × HoldsEpoch shape (ol
 -- The newest epoch takes no more pages; those that are written are those before the first that is not Whole.
 abbrev pub IsFoundEpoch : Shape → Flash → Root → JournalEpoch → Type 0
 IsFoundEpoch shape flash root epoch =
-    (used : ℕ) × (epoch ≡ found_at_opening shape root.epoch root.newest used) × (used < epoch_pages shape → IsWhole flash (page_in shape root.newest used) → ⊥)
+    (used : ℕ) × (epoch ≡ found_at_opening shape root.epoch root.newest used) × (used < epoch_commits shape → HasCommit shape flash root.newest used → ⊥)
 
 -- the reading of the newest epoch finds entries, which the write buffer holds, and the epoch is the one that was found
 abbrev pub NewestHeld : Shape → Flash → Root → Table → JournalEpoch → Type 0
@@ -107,8 +108,16 @@ pub record HoldsRuns (shape : Shape) (flash : Flash) (root : Root) (arena : Fram
   pub run_blocks : HaveBlocks shape levels.runs root.runs
   pub run_frames : HaveFrames levels.pinned 1 levels.runs root.counts
 
--- The run of a level was read, and stands at it with its blocks; the frames of the others contain what they contained, and so
--- many are free still.
+-- the reading of the run of a level under a root
+abbrev pub level_of : Held → (ℕ → Page) → ℕ → Result (List Entry) Refusal
+level_of root at level = run root.shape at level (slice_index root.root.counts (level - 1)) (slice_index_or root.root.runs (level - 1) [])
+
+-- how many pages it has
+abbrev pub level_reads : Held → ℕ → ℕ
+level_reads root level = run_pages root.shape (slice_index root.root.counts (level - 1))
+
+-- The run of a level was read, and stands at it with its blocks; its frames were free, those of the others contain what they
+-- contained, and so many are free still.
 pub record LoadsLevel (shape : Shape) (root : Root) (level : ℕ) (flash : Flash) (before after : Frames) (old new : Levels) : Type 0 where
   pub entries : List Entry
   pub kept : Kept
@@ -120,13 +129,37 @@ pub record LoadsLevel (shape : Shape) (root : Root) (level : ℕ) (flash : Flash
   pub frames : IsPinnedIf (nat_le level old.pinned) kept
   pub levels : new ≡ with_run old level kept
   pub others : RunsStand before after
-  pub page : after.page_bytes ≡ before.page_bytes
+  pub more : LeasedMore before after kept.leases
   pub pinned : level ≤ old.pinned → free_frames before ≤ free_frames after + cap shape level
   pub unpinned : old.pinned < level → free_frames before ≤ free_frames after
 
 -- So many frames are wanted for the levels behind the first ones, where so many levels are pinned.
 abbrev pub wanted_behind : Shape → ℕ → ℕ → ℕ
 wanted_behind shape pinned levels = total (drop levels (take pinned (caps shape)))
+
+-- The run of a level may be read under a root: the levels and the arena have its shape, and frames are free where the level is pinned.
+pub record MayLoadLevel (root : Held) (level : ℕ) (arena : Frames) (levels : Levels) : Type 0 where
+  pub least : 1 ≤ level
+  pub most : level ≤ 4
+  pub grammar : is_root root.shape root.root ≡ true
+  pub shape_is : levels.shape ≡ root.shape
+  pub page_bytes : arena.page_bytes ≡ root.shape.page_bytes
+  pub free : level ≤ levels.pinned → cap root.shape level ≤ free_frames arena
+
+-- All four runs may be read under a root: frames are free for all levels that are pinned.
+pub record MayLoadRuns (root : Held) (arena : Frames) (levels : Levels) : Type 0 where
+  pub grammar : is_root root.shape root.root ≡ true
+  pub shape_is : levels.shape ≡ root.shape
+  pub page_bytes : arena.page_bytes ≡ root.shape.page_bytes
+  pub free : wanted_behind root.shape levels.pinned 0 ≤ free_frames arena
+
+-- The four runs were read, each at its level, and their frames were free.
+pub record LoadsRuns (root : Held) (flash : Flash) (before after : Frames) (old new : Levels) : Type 0 where
+  pub ess : List (List Entry)
+  pub held : HoldsRuns root.shape flash root.root after new ess
+  pub more : LeasedMore before after (leases_of new.runs)
+  pub pinned_is : new.pinned ≡ old.pinned
+  pub shape_is : new.shape ≡ old.shape
 
 -- what a page's error is for the whole flash
 abbrev pub opening_of : PageError → OpenError

@@ -1,25 +1,15 @@
 -- How many pages opening reads, by what stands on the flash.
-use Rattle.std.specs.Prelude.{ℕ, suc, ◌+◌, ◌*◌, List, [], ◌∷◌, length, nat_le, if◌then◌else◌, Option, Some, None, Result, Ok, Err}
+use Rattle.std.specs.Prelude.{ℕ, ◌+◌, ◌*◌, List, [], ◌∷◌, nat_le, if◌then◌else◌, Option, Some, None, Result, Ok, Err}
 use Rattle.pk_base.specs.Key.{Key}
 use Rattle.pk_base.specs.Shape.{Shape, charge, pinned, run_pages}
 use Rattle.pk_base.specs.Entry.{Place}
-use Rattle.pk_base.specs.Page.{Page, Flash, page_at, erased, whole, torn, NumberedPages, pages_of_blocks}
+use Rattle.pk_base.specs.Page.{Page, Flash, page_at}
 use Rattle.pk_base.specs.Refusal.{Refusal}
 use Rattle.pk_rootfmt.specs.Root.{Root}
 use Rattle.pk_rootfmt.specs.Newest.{newest_root}
 use Rattle.pk_model.specs.Found.{Found, found_under}
+use Rattle.pk_jrn.specs.Replays.{epoch_reads}
 use Rattle.pk_steps.specs.Under.{places}
-
--- the pages up to the first that is not Whole, and that one
-abbrev pub pages_to_end : NumberedPages → ℕ
-pages_to_end [] = 0
-pages_to_end ((p, erased) ∷ pages) = 1
-pages_to_end ((p, torn) ∷ pages) = 1
-pages_to_end ((p, whole bytes) ∷ pages) = suc (pages_to_end pages)
-
--- an epoch is read up to its end; one without blocks is not read
-abbrev pub epoch_reads : Shape → (ℕ → Page) → List ℕ → ℕ
-epoch_reads shape at blocks = pages_to_end (pages_of_blocks shape at blocks 0 (length blocks * shape.block_pages))
 
 -- The runs from this level on are read once for the first keys of their pages, and where they have no frames once more for their
 -- entries.

@@ -1,10 +1,10 @@
 -- A run of meta pages that is read from a flash, page by page.
-use Rattle.std.specs.Prelude.{◌≡◌, ℕ, ◌+◌, ◌-◌, ◌<◌, T, Bool, true, false, not, ◌||◌, ◌==◌, is_some, List, [], ◌∷◌, ◌++◌, length, slice_index, Option, Some, None, Ok, Err}
+use Rattle.std.specs.Prelude.{◌≡◌, ℕ, ◌+◌, ◌-◌, ◌*◌, ◌<◌, ◌≤◌, T, Bool, true, false, not, ◌||◌, ◌==◌, is_some, List, [], ◌∷◌, ◌++◌, length, slice_index, Option, Some, None, Ok, Err}
 use Rattle.std.specs.List.{list_all, AllByRecursion}
 use Rattle.std.specs.Ordering.{is_lt}
 use Rattle.std.specs.FinMap.Entries.{is_sorted}
 use Rattle.pk_base.specs.Key.{Key, key_cmp}
-use Rattle.pk_base.specs.Shape.{Shape, run_pages}
+use Rattle.pk_base.specs.Shape.{Shape, cap, page_entries, run_pages, run_blocks}
 use Rattle.pk_base.specs.Entry.{Entry, key_of}
 use Rattle.pk_base.specs.EntryBytes.{IsEntry}
 use Rattle.pk_base.specs.Page.{Flash, page_at, page_in, whole, pages_of_blocks}
@@ -15,7 +15,8 @@ use Rattle.pk_nand.specs.BoardState.{BoardState}
 use Rattle.pk_nand.specs.Calls.{Rose, ReadFailed, after_read}
 use Rattle.pk_nand.specs.Erased.{after_reads}
 use Rattle.pk_pin.specs.Frames.{Frames, IsLeased, frame_of, free_frames, AreLeases}
-use Rattle.pk_run.specs.Kept.{Kept, IsPinned, Stands, page_of, with_page}
+use Rattle.pk_run.specs.Kept.{Kept, Stands, page_of, most_pages, with_page}
+use Rattle.pk_level.specs.Arenas.{IsPinnedIf}
 use Rattle.pk_scan.specs.declared.errors.PageError.{PageError}
 use Rattle.pk_scan.specs.declared.errors.PageError.TheVariants.{Damaged, Fault}
 
@@ -23,17 +24,13 @@ use Rattle.pk_scan.specs.declared.errors.PageError.TheVariants.{Damaged, Fault}
 abbrev pub AllExist : Shape → List ℕ → Type 0
 AllExist shape blocks = (n : ℕ) → n < length blocks → slice_index blocks n < shape.blocks
 
--- every page of the run has a frame, or none has
-abbrev pub IsPinnedIf : Bool → Kept → Type 0
-IsPinnedIf true r = IsPinned r
-IsPinnedIf false r = r.leases ≡ []
-
 module _ (shape : Shape) (level count : ℕ) (blocks : List ℕ) where
   -- The reading of the run finds entries, and what is kept of it stands for them.
   pub record HasRun (flash : Flash) (arena : Frames) (r : Kept) : Type 0 where
     pub entries : List Entry
     pub read : run shape (page_at flash) level count blocks ≡ Ok entries
     pub each : AllByRecursion (IsEntry shape) entries
+    pub counted : r.count ≡ count
     pub stands : Stands r flash arena entries
 
   -- behind so many pages the reading of the run has these entries, and goes on with the other pages
@@ -75,7 +72,43 @@ pub record LeasedMore (old new : Frames) (more : List ℕ) : Type 0 where
 abbrev pub RunsStand : Frames → Frames → Type 0
 RunsStand old new = (r : Kept) (flash : Flash) (es : List Entry) → Stands r flash old es → Stands r flash new es
 
+-- Pages of a run were read into it: it stands for those, and their frames were free, if they have some. Its blocks are these, and
+-- all other runs stand as they did.
+pub record LoadsPages (pins : Bool) (flash : Flash) (blocks : List ℕ) (before after : Frames) (old new : Kept) : Type 0 where
+  pub es : List Entry
+  pub stands : Stands new flash after es
+  pub shape_is : new.shape ≡ old.shape
+  pub level_is : new.level ≡ old.level
+  pub blocks_are : new.blocks ≡ blocks
+  pub pinned : IsPinnedIf pins new
+  pub more : LeasedMore before after new.leases
+  pub others : RunsStand before after
+
 -- ---- inside
+
+-- The run has the blocks of so many entries, and none of their pages yet; where frames are wanted, enough are free.
+pub record AwaitsPages (pins : Bool) (count : ℕ) (flash : Flash) (arena : Frames) (r : Kept) : Type 0 where
+  pub exist : AllExist r.shape r.blocks
+  pub few : count ≤ cap r.shape r.level * page_entries r.shape
+  pub places : length r.blocks ≡ run_blocks r.shape count
+  pub no_entries : r.count ≡ 0
+  pub no_pages : r.firsts ≡ []
+  pub no_leases : r.leases ≡ []
+  pub stands : Stands r flash arena []
+  pub page_bytes : arena.page_bytes ≡ r.shape.page_bytes
+  pub free : pins ≡ true → run_pages r.shape count ≤ free_frames arena
+
+-- The run may take a next page with so many entries: all pages before are full, it has room and a block for one more, and where a
+-- frame is wanted one is free.
+pub record AwaitsPage (pins : Bool) (many : ℕ) (arena : Frames) (r : Kept) : Type 0 where
+  pub exist : AllExist r.shape r.blocks
+  pub within : length r.firsts < length r.blocks * r.shape.block_pages
+  pub room : length r.firsts < most_pages r
+  pub full : r.count ≡ length r.firsts * page_entries r.shape
+  pub some : (1 ≤ many) × (many ≤ page_entries r.shape)
+  pub pinned : IsPinnedIf pins r
+  pub page_bytes : arena.page_bytes ≡ r.shape.page_bytes
+  pub free : pins ≡ true → 0 < free_frames arena
 
 -- the last of these entries has this key; there is none where there is no key
 abbrev pub IsLast : Option Key → List Entry → Type 0

@@ -7,9 +7,10 @@ ghost use Rattle.pk_base.specs.EntryBytes.{IsPlace};
 ghost use Rattle.pk_nand.specs.Calls.{IsReady};
 ghost use Rattle.pk_nand.specs.Erased.{after_reads};
 ghost use Rattle.pk_scan.specs.Places.{place};
-ghost use Rattle.pk_scan.specs.Lives.{Lives};
+ghost use Rattle.pk_live.specs.Lives.{Lives};
 ghost use Rattle.pk_scan.specs.Accepted.{Accepted, NotAccepted};
-ghost use Rattle.pk_scan.specs.Opened.{OnlyReading};
+ghost use Rattle.pk_nand.specs.Effects.{OnlyReading};
+ghost use Rattle.pk_scan.specs.Board.{StaysReady};
 
 use crate::errors::PageError;
 use crate::taken::take_value;
@@ -39,13 +40,19 @@ pub fn accept_value<B: Nand, A: Allocator>(
     requires place { IsPlace shape.now (place page len) }
     requires lives { (taken : List (KeySpec × Place)) × Lives shape.now named.now live.old taken }
     requires room { length buf.old ≡ shape.now.page_bytes }
-    ensures accepted { OnOk result ((taken : List (KeySpec × Place)) → Lives shape.now named.now live.old taken → Accepted shape.now (B.state board.old).pages named.now taken key.now (place page len)) }
-    ensures lives { OnOk result ((taken : List (KeySpec × Place)) → Lives shape.now named.now live.old taken → Lives shape.now named.now live.new (taken ++ (key.now, place page len) ∷ [])) }
-    ensures ok { OnOk result (B.state board.new ≡ after_reads (spec.charge shape.now len) (B.state board.old)) }
-    ensures err { IfErr result (λ e. (taken : List (KeySpec × Place)) → Lives shape.now named.now live.old taken → NotAccepted shape.now (B.state board.old) (B.state board.new) named.now taken key.now (place page len) e) }
-    ensures rest { OnlyReading (B.state board.old) (B.state board.new) }
-    ensures pages { (B.state board.new).pages ≡ (B.state board.old).pages }
-    ensures ready { IsReady (B.state board.new) shape.now }
+    ensures accepted { OnOk result ((taken : List (KeySpec × Place))
+        → Lives shape.now named.now live.old taken
+        → Accepted shape.now (B.state board.old).pages named.now taken key.now (place page len)) }
+    ensures lives { OnOk result ((taken : List (KeySpec × Place))
+        → Lives shape.now named.now live.old taken
+        → Lives shape.now named.now live.new (taken ++ (key.now, place page len) ∷ [])) }
+    ensures ok { OnOk result
+        (B.state board.new ≡ after_reads (spec.charge shape.now len) (B.state board.old)) }
+    ensures err { IfErr result (λ e. (taken : List (KeySpec × Place))
+        → Lives shape.now named.now live.old taken
+        → NotAccepted shape.now (B.state board.old) (B.state board.new)
+        named.now taken key.now (place page len) e) }
+    ensures board { StaysReady shape.now (B.state board.old) (B.state board.new) }
     ensures buffer { length buf.new ≡ length buf.old }
 {
     if !take_value(shape, named, live, page, len) {

@@ -9,7 +9,7 @@ ghost use Rattle.pk_plan.specs.declared.owner.Owner.TheVariants.{Journal, Meta, 
 ghost use Rattle.pk_pool.specs.Blocks.{Fits, used_by, unused};
 ghost use Rattle.pk_rootfmt.specs.Root as spec;
 ghost use Rattle.pk_rootfmt.specs.Root.{named, is_root};
-ghost use Rattle.pk_scan.specs.Lives.{Lives};
+ghost use Rattle.pk_live.specs.Lives.{Lives};
 ghost use Rattle.pk_scan.specs.Adopts.{is_among, Adopts, HasOwners, NamesOwned, MayAdopt};
 
 use pk_live::Live;
@@ -31,7 +31,8 @@ fn adopt_all<A: Allocator>(pool: &mut Pool<A>, blocks: &[u16], owner: Owner)
 fn adopt_epochs<A: Allocator>(pool: &mut Pool<A>, root: &Root<A>)
     requires two { length root.now.root.newest ≡ 2 }
     requires may { MayAdopt Journal (root.now.root.newest ++ root.now.root.older) pool.old }
-    ensures { Adopts Journal (is_among (root.now.root.newest ++ root.now.root.older)) (length (root.now.root.newest ++ root.now.root.older)) pool.old pool.new }
+    ensures { Adopts Journal (is_among (root.now.root.newest ++ root.now.root.older))
+        (length (root.now.root.newest ++ root.now.root.older)) pool.old pool.new }
 {
     adopt_all(pool, &root.newest(), Owner::Journal);
     match root.older() {
@@ -44,7 +45,8 @@ fn adopt_epochs<A: Allocator>(pool: &mut Pool<A>, root: &Root<A>)
 fn adopt_runs<A: Allocator>(pool: &mut Pool<A>, root: &Root<A>)
     requires four { length root.now.root.runs ≡ 4 }
     requires may { MayAdopt Meta (concat root.now.root.runs) pool.old }
-    ensures { Adopts Meta (is_among (concat root.now.root.runs)) (length (concat root.now.root.runs)) pool.old pool.new }
+    ensures { Adopts Meta (is_among (concat root.now.root.runs))
+        (length (concat root.now.root.runs)) pool.old pool.new }
 {
     for i in 0..4u8 {
         adopt_all(pool, root.blocks(i + 1), Owner::Meta);
@@ -57,7 +59,8 @@ pub fn adopt_blocks<A: Allocator>(pool: &mut Pool<A>, root: &Root<A>)
     requires unused { pool.old ≡ unused root.now.shape }
     requires root { is_root root.now.shape root.now.root ≡ true }
     ensures named { NamesOwned root.now.root pool.old pool.new }
-    ensures journal { used_by Journal pool.new.states ≡ length (root.now.root.newest ++ root.now.root.older) }
+    ensures journal { used_by Journal pool.new.states
+        ≡ length (root.now.root.newest ++ root.now.root.older) }
     ensures meta { used_by Meta pool.new.states ≡ length (concat root.now.root.runs) }
     ensures values { used_by Values pool.new.states ≡ 0 }
 {
@@ -69,8 +72,11 @@ pub fn adopt_blocks<A: Allocator>(pool: &mut Pool<A>, root: &Root<A>)
 /// Makes the blocks that have a live page the values'. The live map stands for values in none of the blocks that the root
 /// names, whose blocks have their owners; so they are free, and leave the owner at least one more block.
 pub fn adopt_values<A: Allocator>(pool: &mut Pool<A>, live: &Live<A>)
-    requires named { (root : spec.Root) × (taken : List (Key × Place)) × NamesOwned root (unused pool.old.shape) pool.old × Lives pool.old.shape (named root) live.now taken }
-    ensures adopted { Adopts Values (λ b. slice_index_or live.now.closed b false) (count_by (λ b. b) live.now.closed) pool.old pool.new }
+    requires named { (root : spec.Root) × (taken : List (Key × Place))
+        × NamesOwned root (unused pool.old.shape) pool.old
+        × Lives pool.old.shape (named root) live.now taken }
+    ensures adopted { Adopts Values (λ b. slice_index_or live.now.closed b false)
+        (count_by (λ b. b) live.now.closed) pool.old pool.new }
     ensures counted { used_by Values pool.new.states ≡ count_by (λ b. b) live.now.closed }
     ensures few { used_by Values pool.new.states ≤ data_blocks pool.old.shape - 1 }
 {
@@ -89,7 +95,8 @@ pub fn give_owners<A: Allocator>(pool: &mut Pool<A>, root: &Root<A>, live: &Live
     requires unused { pool.old ≡ unused root.now.shape }
     requires fits { (flash : Flash) → Fits pool.old flash }
     requires root { is_root root.now.shape root.now.root ≡ true }
-    requires lives { (taken : List (Key × Place)) × Lives root.now.shape (named root.now.root) live.now taken }
+    requires lives { (taken : List (Key × Place))
+        × Lives root.now.shape (named root.now.root) live.now taken }
     ensures { HasOwners root.now.shape root.now.root live.now pool.new }
 {
     root.shape().known();

@@ -1,4 +1,4 @@
-//! What opening finds.
+//! What opening finds, and what it reads into.
 
 use pk_buf::Buffer;
 use pk_jrn::Epoch;
@@ -8,6 +8,7 @@ use pk_pin::PinArena;
 use pk_pool::Pool;
 use pk_region::Region;
 use pk_rootfmt::Root;
+use pk_walk::Walk;
 
 /// All that stands on a flash, in memory.
 #[derive(Drop)]
@@ -32,4 +33,17 @@ pub struct Found<A: Region> {
     pub epoch: Epoch,
     /// How many keys are there.
     pub keys: u32,
+}
+
+/// What opening reads into, and what it works with.
+#[derive(Drop)]
+pub struct Memory<A: Region> {
+    /// What is found.
+    pub found: Found<A>,
+    /// The walk over all keys that are there.
+    pub walk: Walk<A>,
+    /// The blocks that the root names.
+    pub named: Vec<u16, A>,
+    /// The bytes of a page.
+    pub page: Vec<u8, A>,
 }

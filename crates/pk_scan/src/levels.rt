@@ -1,19 +1,17 @@
 //! The four runs, each read into a run of its level.
-ghost use Rattle.std.specs.Prelude.{◌≡◌, ◌-◌, ◌≤◌, List, [], length, slice_index, slice_index_or, true, OnOk, IfErr};
-ghost use Rattle.pk_base.specs.Entry.{Entry};
-ghost use Rattle.pk_meta.specs.Run.{run};
-ghost use Rattle.pk_base.specs.Shape.{cap, run_pages};
+ghost use Rattle.std.specs.Prelude.{◌≡◌, length, OnOk, IfErr};
 ghost use Rattle.pk_base.specs.Page.{page_at};
 ghost use Rattle.pk_model.specs.Found.{runs_from};
 ghost use Rattle.pk_nand.specs.Calls.{IsReady};
 ghost use Rattle.pk_nand.specs.Erased.{after_reads};
 ghost use Rattle.pk_pin.specs.Frames.{free_frames};
 ghost use Rattle.pk_rootfmt.specs.Root.{is_root};
-ghost use Rattle.pk_scan.specs.Opened.{OnlyReading};
+ghost use Rattle.pk_nand.specs.Effects.{OnlyReading};
+ghost use Rattle.pk_scan.specs.Board.{StaysReady};
 ghost use Rattle.pk_scan.specs.Reads.{pages_of_runs};
-ghost use Rattle.pk_scan.specs.Opening.{PartNotOpened, HoldsRuns, LoadsLevel, opening_of, wanted_behind};
+ghost use Rattle.pk_scan.specs.Opening.{PartNotOpened, MayLoadLevel, MayLoadRuns, LoadsLevel, LoadsRuns, level_of, level_reads};
 
-use crate::errors::{OpenError, PageError};
+use crate::errors::OpenError;
 use crate::runs::load_run;
 use pk_level::Levels;
 use pk_nand::Nand;
@@ -21,16 +19,6 @@ use pk_pin::PinArena;
 use pk_region::Region;
 use pk_rootfmt::Root;
 use pk_run::Run;
-
-/// What a page's error is for the whole flash.
-pub fn opening_error(error: PageError) -> OpenError
-    ensures { result ≡ opening_of error }
-{
-    match error {
-        PageError::Damaged { page } => OpenError::Damaged { page },
-        PageError::Fault => OpenError::Fault,
-    }
-}
 
 // Reads the run of a level, which takes the place of the one that stands there.
 fn load_level<B: Nand, A: Region>(
@@ -42,19 +30,17 @@ fn load_level<B: Nand, A: Region>(
     levels: &mut Levels<A>,
     buf: &mut [u8],
 ) -> Result<(), OpenError>
-    requires level { 1 ≤ level × level ≤ 4 }
     requires ready { IsReady (B.state board.old) root.now.shape }
-    requires grammar { is_root root.now.shape root.now.root ≡ true }
-    requires shape { levels.old.shape ≡ root.now.shape }
-    requires frames { arena.old.page_bytes ≡ root.now.shape.page_bytes }
-    requires free { level ≤ levels.old.pinned → cap root.now.shape level ≤ free_frames arena.old }
+    requires may { MayLoadLevel root.now level arena.old levels.old }
     requires room { length buf.old ≡ root.now.shape.page_bytes }
-    ensures loaded { OnOk result (LoadsLevel root.now.shape root.now.root level (B.state board.old).pages arena.old arena.new levels.old levels.new) }
-    ensures reads { OnOk result (B.state board.new ≡ after_reads (run_pages root.now.shape (slice_index root.now.root.counts (level - 1))) (B.state board.old)) }
-    ensures err { IfErr result (λ e. PartNotOpened (run root.now.shape (page_at (B.state board.old).pages) level (slice_index root.now.root.counts (level - 1)) (slice_index_or root.now.root.runs (level - 1) [])) (B.state board.old) (B.state board.new) e) }
-    ensures rest { OnlyReading (B.state board.old) (B.state board.new) }
-    ensures pages { (B.state board.new).pages ≡ (B.state board.old).pages }
-    ensures ready { IsReady (B.state board.new) root.now.shape }
+    ensures loaded { OnOk result (LoadsLevel root.now.shape root.now.root level
+        (B.state board.old).pages arena.old arena.new levels.old levels.new) }
+    ensures reads { OnOk result (B.state board.new
+        ≡ after_reads (level_reads root.now level) (B.state board.old)) }
+    ensures err { IfErr result (λ e. PartNotOpened
+        (level_of root.now (page_at (B.state board.old).pages) level)
+        (B.state board.old) (B.state board.new) e) }
+    ensures board { StaysReady root.now.shape (B.state board.old) (B.state board.new) }
     ensures buffer { length buf.new ≡ length buf.old }
 {
     let shape = *root.shape();
@@ -70,7 +56,7 @@ fn load_level<B: Nand, A: Region>(
                     levels.install_run(level, run);
                     Ok(())
                 }
-                Err(error) => Err(opening_error(error)),
+                Err(error) => Err(OpenError::from(error)),
             }
         }
         Err(_) => Err(OpenError::Memory),
@@ -89,19 +75,17 @@ pub fn load_runs<B: Nand, A: Region>(
     buf: &mut [u8],
 ) -> Result<(), OpenError>
     requires ready { IsReady (B.state board.old) root.now.shape }
-    requires grammar { is_root root.now.shape root.now.root ≡ true }
-    requires shape { levels.old.shape ≡ root.now.shape }
-    requires frames { arena.old.page_bytes ≡ root.now.shape.page_bytes }
-    requires free { wanted_behind root.now.shape levels.old.pinned 0 ≤ free_frames arena.old }
+    requires may { MayLoadRuns root.now arena.old levels.old }
     requires room { length buf.old ≡ root.now.shape.page_bytes }
-    ensures held { OnOk result ((ess : List (List Entry)) × HoldsRuns root.now.shape (B.state board.old).pages root.now.root arena.new levels.new ess) }
-    ensures pinned { OnOk result (levels.new.pinned ≡ levels.old.pinned) }
-    ensures shape { OnOk result (levels.new.shape ≡ levels.old.shape) }
-    ensures reads { OnOk result (B.state board.new ≡ after_reads (pages_of_runs root.now.shape root.now.root.counts) (B.state board.old)) }
-    ensures err { IfErr result (λ e. PartNotOpened (runs_from root.now.shape (page_at (B.state board.old).pages) 1 root.now.root.counts root.now.root.runs) (B.state board.old) (B.state board.new) e) }
-    ensures rest { OnlyReading (B.state board.old) (B.state board.new) }
-    ensures pages { (B.state board.new).pages ≡ (B.state board.old).pages }
-    ensures ready { IsReady (B.state board.new) root.now.shape }
+    ensures loaded { OnOk result (LoadsRuns root.now
+        (B.state board.old).pages arena.old arena.new levels.old levels.new) }
+    ensures reads { OnOk result (B.state board.new
+        ≡ after_reads (pages_of_runs root.now.shape root.now.root.counts) (B.state board.old)) }
+    ensures err { IfErr result (λ e. PartNotOpened
+        (runs_from root.now.shape (page_at (B.state board.old).pages)
+        1 root.now.root.counts root.now.root.runs)
+        (B.state board.old) (B.state board.new) e) }
+    ensures board { StaysReady root.now.shape (B.state board.old) (B.state board.new) }
     ensures buffer { length buf.new ≡ length buf.old }
 {
     levels.known();

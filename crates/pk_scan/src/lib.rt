@@ -14,6 +14,7 @@ mod memory;
 mod names;
 mod opening;
 mod pages;
+mod refused;
 mod runs;
 mod taken;
 mod values;
@@ -24,17 +25,10 @@ pub use adopt::{adopt_blocks, adopt_values, give_owners};
 pub use contents::Found;
 pub use epochs::{read_newest, read_older};
 pub use errors::{OpenError, PageError};
-pub use levels::{load_runs, opening_error};
+pub use levels::load_runs;
 pub use lists::{find_root, read_lists};
 pub use opening::scan;
 pub use runs::load_run;
 pub use taken::{starts_with_none, take_value};
 pub use values::check_value;
-pub use visible::read_values;
-
-#[cfg(test)]
-mod tests;
-#[cfg(test)]
-mod tests_of_runs;
-#[cfg(test)]
-mod tests_of_scan;
+pub use visible::{Lists, read_values};

@@ -1,25 +1,22 @@
 //! The newest root, and all lists of entries that are found under it.
-ghost use Rattle.std.specs.Prelude.{◌≡◌, ◌*◌, ◌≤◌, ◌<◌, length, true, Some, IfOk, IfErr, OnOk};
+ghost use Rattle.std.specs.Prelude.{◌≡◌, ◌*◌, ◌<◌, length, true, Some, IfOk, IfErr, OnOk};
 ghost use Rattle.pk_base.specs.Page.{page_at};
-ghost use Rattle.pk_buf.specs.Table.{no_entries};
-ghost use Rattle.pk_model.specs.Found.{Found, found_under};
+ghost use Rattle.pk_model.specs.Found.{Found as FoundLists, found_under};
 ghost use Rattle.pk_nand.specs.Calls.{IsReady};
 ghost use Rattle.pk_nand.specs.Erased.{after_reads};
-ghost use Rattle.pk_pin.specs.Frames.{free_frames};
 ghost use Rattle.pk_rootfmt.specs.Newest.{newest_root};
 ghost use Rattle.pk_rootfmt.specs.Root.{is_root};
-ghost use Rattle.pk_scan.specs.Opened.{OnlyReading};
+ghost use Rattle.pk_nand.specs.Effects.{OnlyReading};
+ghost use Rattle.pk_scan.specs.Board.{StaysReady};
+ghost use Rattle.pk_scan.specs.Memory.{AwaitsLists, LoadsLists};
+ghost use Rattle.pk_scan.specs.Opening.{NotOpened, PartNotOpened};
 ghost use Rattle.pk_scan.specs.Reads.{list_reads};
-ghost use Rattle.pk_scan.specs.Opening.{NotOpened, PartNotOpened, HoldsFound, wanted_behind};
 
+use crate::contents::Found;
 use crate::epochs::{read_newest, read_older};
 use crate::errors::OpenError;
-use crate::levels::{load_runs, opening_error};
-use pk_buf::Buffer;
-use pk_jrn::Epoch;
-use pk_level::Levels;
+use crate::levels::load_runs;
 use pk_nand::Nand;
-use pk_pin::PinArena;
 use pk_region::Region;
 use pk_root::newest;
 use pk_rootfmt::Root;
@@ -34,15 +31,17 @@ pub fn find_root<B: Nand, A: Allocator>(
 ) -> Result<u32, OpenError>
     requires ready { IsReady (B.state board.old) root.old.shape }
     requires room { length buf.old ≡ root.old.shape.page_bytes }
-    ensures found { IfOk result (λ page. newest_root root.old.shape (page_at (B.state board.old).pages) ≡ Some (page, root.new.root)) }
+    ensures found { IfOk result (λ page.
+        newest_root root.old.shape (page_at (B.state board.old).pages)
+        ≡ Some (page, root.new.root)) }
     ensures place { IfOk result (λ page. page < 2 * root.old.shape.block_pages) }
-    ensures grammar { OnOk result (is_root root.new.shape root.new.root ≡ true) }
-    ensures ok { OnOk result (B.state board.new ≡ after_reads (2 * root.old.shape.block_pages) (B.state board.old)) }
-    ensures err { IfErr result (λ e. NotOpened root.old.shape (B.state board.old) (B.state board.new) e) }
+    ensures grammar { OnOk result (is_root root.old.shape root.new.root ≡ true) }
+    ensures reads { OnOk result (B.state board.new
+        ≡ after_reads (2 * root.old.shape.block_pages) (B.state board.old)) }
+    ensures err { IfErr result (λ e.
+        NotOpened root.old.shape (B.state board.old) (B.state board.new) e) }
     ensures shape { root.new.shape ≡ root.old.shape }
-    ensures rest { OnlyReading (B.state board.old) (B.state board.new) }
-    ensures pages { (B.state board.new).pages ≡ (B.state board.old).pages }
-    ensures ready { IsReady (B.state board.new) root.new.shape }
+    ensures board { StaysReady root.old.shape (B.state board.old) (B.state board.new) }
     ensures buffer { length buf.new ≡ length buf.old }
 {
     match newest(board, root, buf) {
@@ -59,39 +58,50 @@ pub fn find_root<B: Nand, A: Allocator>(
 pub fn read_lists<B: Nand, A: Region>(
     alloc: A,
     board: &mut B,
-    root: &Root<A>,
-    active: &mut Buffer<A>,
-    frozen: &mut Buffer<A>,
-    arena: &mut PinArena<A>,
-    levels: &mut Levels<A>,
+    found: &mut Found<A>,
     buf: &mut [u8],
-) -> Result<Epoch, OpenError>
-    requires ready { IsReady (B.state board.old) root.now.shape }
-    requires grammar { is_root root.now.shape root.now.root ≡ true }
-    requires active { active.old ≡ no_entries root.now.shape }
-    requires frozen { frozen.old ≡ no_entries root.now.shape }
-    requires shape { levels.old.shape ≡ root.now.shape }
-    requires frames { arena.old.page_bytes ≡ root.now.shape.page_bytes }
-    requires free { wanted_behind root.now.shape levels.old.pinned 0 ≤ free_frames arena.old }
-    requires room { length buf.old ≡ root.now.shape.page_bytes }
-    ensures held { IfOk result (λ epoch. (found : Found) × HoldsFound root.now.shape (B.state board.old).pages root.now.root active.new frozen.new epoch arena.new levels.new found) }
-    ensures pinned { OnOk result (levels.new.pinned ≡ levels.old.pinned) }
-    ensures shape { OnOk result (levels.new.shape ≡ levels.old.shape) }
-    ensures reads { OnOk result (B.state board.new ≡ after_reads (list_reads root.now.shape (page_at (B.state board.old).pages) root.now.root) (B.state board.old)) }
-    ensures err { IfErr result (λ e. PartNotOpened (found_under root.now.shape (page_at (B.state board.old).pages) root.now.root) (B.state board.old) (B.state board.new) e) }
-    ensures rest { OnlyReading (B.state board.old) (B.state board.new) }
-    ensures pages { (B.state board.new).pages ≡ (B.state board.old).pages }
-    ensures ready { IsReady (B.state board.new) root.now.shape }
+) -> Result<(), OpenError>
+    requires ready { IsReady (B.state board.old) found.old.root.shape }
+    requires grammar { is_root found.old.root.shape found.old.root.root ≡ true }
+    requires awaits { AwaitsLists found.old }
+    requires room { length buf.old ≡ found.old.root.shape.page_bytes }
+
+    ensures loads { OnOk result ((lists : FoundLists)
+        × LoadsLists (B.state board.old).pages found.old found.new lists) }
+    ensures kept { found.new ≡ record found.old {
+      active = found.new.active;
+      frozen = found.new.frozen;
+      levels = found.new.levels;
+      arena = found.new.arena;
+      epoch = found.new.epoch;
+    } }
+    ensures reads { OnOk result (B.state board.new ≡ after_reads
+        (list_reads found.old.root.shape (page_at (B.state board.old).pages) found.old.root.root)
+        (B.state board.old)) }
+    ensures err { IfErr result (λ e. PartNotOpened
+        (found_under found.old.root.shape (page_at (B.state board.old).pages) found.old.root.root)
+        (B.state board.old) (B.state board.new) e) }
+    ensures board { StaysReady found.old.root.shape (B.state board.old) (B.state board.new) }
     ensures buffer { length buf.new ≡ length buf.old }
 {
-    match read_older(board, root, frozen, buf) {
-        Ok(()) => match read_newest(board, root, active, buf) {
-            Ok(epoch) => match load_runs(alloc, board, root, arena, levels, buf) {
-                Ok(()) => Ok(epoch),
-                Err(error) => Err(error),
-            },
-            Err(error) => Err(opening_error(error)),
+    match read_older(board, &found.root, &mut found.frozen, buf) {
+        Ok(()) => match read_newest(board, &found.root, &mut found.active, buf) {
+            Ok(epoch) => {
+                found.epoch = epoch;
+                match load_runs(
+                    alloc,
+                    board,
+                    &found.root,
+                    &mut found.arena,
+                    &mut found.levels,
+                    buf,
+                ) {
+                    Ok(()) => Ok(()),
+                    Err(error) => Err(error),
+                }
+            }
+            Err(error) => Err(OpenError::from(error)),
         },
-        Err(error) => Err(opening_error(error)),
+        Err(error) => Err(OpenError::from(error)),
     }
 }

@@ -22,7 +22,8 @@ fn add_all<A: Allocator>(blocks: &[u16], into: &mut Vec<u16, A>)
 fn add_epochs<A: Allocator>(root: &Root<A>, into: &mut Vec<u16, A>)
     requires grammar { is_root root.now.shape root.now.root ≡ true }
     requires room { length into.old.items + 4 ≤ vec_capacity into.old }
-    ensures items { into.new.items ≡ into.old.items ++ (root.now.root.newest ++ root.now.root.older) }
+    ensures items { into.new.items
+        ≡ into.old.items ++ (root.now.root.newest ++ root.now.root.older) }
     ensures room { vec_capacity into.new ≡ vec_capacity into.old }
 {
     add_all(&root.newest(), into);

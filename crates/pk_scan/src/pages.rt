@@ -25,7 +25,7 @@ fn is_behind(last: &Option<Key>, key: &Key) -> bool
 {
     match last {
         None => true,
-        Some(last) => is_below(last.bytes(), key.bytes()),
+        Some(last) => is_below(last, key),
     }
 }
 
@@ -44,7 +44,8 @@ fn are_put(shape: &Shape, page: &[u8], count: u32) -> bool
     requires sized { length page.now ≡ shape.now.page_bytes }
     requires decodes { Decodes shape.now page.now }
     requires count { count ≡ number_at 2 10 page.now }
-    ensures { (level index : ℕ) (es : List EntrySpec) → IsMetaPage shape.now page.now level index es → length es ≡ count → result ≡ runs.are_put es }
+    ensures { (level index : ℕ) (es : List EntrySpec) → IsMetaPage shape.now page.now level index es
+        → length es ≡ count → result ≡ runs.are_put es }
 {
     for i in 0..count {
         if !is_put(&entry(shape, page, i)) {
@@ -59,7 +60,8 @@ fn may_stand(shape: &Shape, level: u8, page: &[u8], count: u32) -> bool
     requires sized { length page.now ≡ shape.now.page_bytes }
     requires decodes { Decodes shape.now page.now }
     requires count { count ≡ number_at 2 10 page.now }
-    ensures { (index : ℕ) (es : List EntrySpec) → IsMetaPage shape.now page.now level index es → length es ≡ count → result ≡ (not (level == 4) || runs.are_put es) }
+    ensures { (index : ℕ) (es : List EntrySpec) → IsMetaPage shape.now page.now level index es
+        → length es ≡ count → result ≡ (not (level == 4) || runs.are_put es) }
 {
     level != 4 || are_put(shape, page, count)
 }
@@ -69,7 +71,8 @@ pub fn key_at(shape: &Shape, page: &[u8], i: u32) -> Key
     requires sized { length page.now ≡ shape.now.page_bytes }
     requires decodes { Decodes shape.now page.now }
     requires within { i < number_at 2 10 page.now }
-    ensures { (level index : ℕ) (es : List EntrySpec) → IsMetaPage shape.now page.now level index es → option_map key_of (slice_get es i) ≡ Some result }
+    ensures { (level index : ℕ) (es : List EntrySpec) → IsMetaPage shape.now page.now level index es
+        → option_map key_of (slice_get es i) ≡ Some result }
 {
     entry(shape, page, i).key().copy()
 }
@@ -86,7 +89,8 @@ pub fn goes_on(
 ) -> bool
     requires level { 1 ≤ level × level ≤ 4 }
     requires sized { length page.now ≡ shape.now.page_bytes }
-    ensures goes_on { (before : List EntrySpec) → T (is_sorted key_cmp before) → IsLast last.now before → GoesOnOr shape.now level index count before page.now result }
+    ensures goes_on { (before : List EntrySpec) → T (is_sorted key_cmp before)
+        → IsLast last.now before → GoesOnOr shape.now level index count before page.now result }
     ensures decodes { result ≡ true → Decodes shape.now page.now }
     ensures count { result ≡ true → count ≡ number_at 2 10 page.now }
 {

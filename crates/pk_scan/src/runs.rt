@@ -1,13 +1,15 @@
 //! Runs, each read from its pages.
-ghost use Rattle.std.specs.Prelude.{◌≡◌, ◌+◌, ◌*◌, ◌<◌, ◌≤◌, ◌++◌, [], ℕ, List, length, true, false, IfOk, IfErr, OnOk, OnErr};
+ghost use Rattle.std.specs.Prelude.{◌≡◌, ◌+◌, ◌*◌, ◌<◌, ◌≤◌, ◌++◌, List, length, true, IfOk, IfErr, OnOk, OnErr};
 ghost use Rattle.pk_base.specs.Shape.{cap, page_entries, run_pages, run_blocks};
 ghost use Rattle.pk_base.specs.Entry.{Entry as EntrySpec};
 ghost use Rattle.pk_base.specs.Page.{Flash};
 ghost use Rattle.pk_nand.specs.Calls.{IsReady, after_read};
 ghost use Rattle.pk_nand.specs.Erased.{after_reads};
 ghost use Rattle.pk_pin.specs.Frames.{Frames, free_frames};
-ghost use Rattle.pk_run.specs.Kept.{Kept, IsPinned, Stands, empty, most_pages, most_blocks};
-ghost use Rattle.pk_scan.specs.Runs.{AllExist, HasRun, NotRead, LeasedMore, RunsStand, IsPinnedIf, IsLast, KeepsPage, PageAdded, PageTaken, PageRefused};
+ghost use Rattle.pk_run.specs.Kept.{Stands, empty, most_blocks};
+ghost use Rattle.pk_scan.specs.Board.{StaysReady};
+ghost use Rattle.pk_scan.specs.Runs.{AllExist, HasRun, NotRead, LoadsPages, IsLast};
+ghost use Rattle.pk_scan.specs.Runs.{AwaitsPages, AwaitsPage, KeepsPage, PageAdded, PageTaken, PageRefused};
 
 use crate::errors::PageError;
 use crate::pages::{goes_on, key_at};
@@ -39,7 +41,8 @@ fn keep_page<A: Allocator>(arena: &mut PinArena<A>, pins: bool, bytes: &[u8]) ->
 fn add_blocks<A: Allocator>(blocks: &[u16], into: &mut Run<A>)
     requires { length into.old.blocks + length blocks.now ≤ most_blocks into.old }
     ensures added { into.new ≡ record into.old { blocks = into.old.blocks ++ blocks.now } }
-    ensures stands { (flash : Flash) (arena : Frames) (es : List EntrySpec) → Stands into.old flash arena es → Stands into.new flash arena es }
+    ensures stands { (flash : Flash) (arena : Frames) (es : List EntrySpec)
+        → Stands into.old flash arena es → Stands into.new flash arena es }
 {
     for block in blocks {
         into.push_block(*block);
@@ -57,22 +60,19 @@ fn take_page<B: Nand, A: Allocator>(
     buf: &mut [u8],
 ) -> Result<Key, PageError>
     requires ready { IsReady (B.state board.old) into.old.shape }
-    requires exist { AllExist into.old.shape into.old.blocks }
-    requires within { length into.old.firsts < length into.old.blocks * into.old.shape.block_pages }
-    requires room { length into.old.firsts < most_pages into.old }
-    requires full { into.old.count ≡ length into.old.firsts * page_entries into.old.shape }
-    requires some { 1 ≤ entries × entries ≤ page_entries into.old.shape }
-    requires frames { arena.old.page_bytes ≡ into.old.shape.page_bytes }
-    requires free { pins ≡ true → 0 < free_frames arena.old }
-    requires pinned { IsPinnedIf pins into.old }
-    requires before { (es : List EntrySpec) × Stands into.old (B.state board.old).pages arena.old es × IsLast last.now es }
+    requires next { AwaitsPage pins entries arena.old into.old }
+    requires before { (es : List EntrySpec)
+        × Stands into.old (B.state board.old).pages arena.old es × IsLast last.now es }
     requires sized { length buf.old ≡ into.old.shape.page_bytes }
-    ensures taken { IfOk result (λ key. (es : List EntrySpec) → Stands into.old (B.state board.old).pages arena.old es → IsLast last.now es → PageTaken (B.state board.old).pages arena.new into.old into.new es entries key) }
+    ensures taken { IfOk result (λ key. (es : List EntrySpec)
+        → Stands into.old (B.state board.old).pages arena.old es → IsLast last.now es
+        → PageTaken (B.state board.old).pages arena.new into.old into.new es entries key) }
     ensures added { OnOk result (PageAdded pins arena.old arena.new into.old into.new entries) }
     ensures ok { OnOk result (B.state board.new ≡ after_read (B.state board.old)) }
-    ensures err { IfErr result (λ e. (es : List EntrySpec) → Stands into.old (B.state board.old).pages arena.old es → IsLast last.now es → PageRefused (B.state board.old) (B.state board.new) into.old es entries e) }
-    ensures kept { OnErr result (into.new ≡ into.old) }
-    ensures frames { OnErr result (arena.new ≡ arena.old) }
+    ensures err { IfErr result (λ e. (es : List EntrySpec)
+        → Stands into.old (B.state board.old).pages arena.old es → IsLast last.now es
+        → PageRefused (B.state board.old) (B.state board.new) into.old es entries e) }
+    ensures kept { OnErr result ((into.new ≡ into.old) × (arena.new ≡ arena.old)) }
     ensures buffer { length buf.new ≡ length buf.old }
 {
     into.known();
@@ -103,28 +103,17 @@ fn read_pages<B: Nand, A: Allocator>(
     buf: &mut [u8],
 ) -> Result<(), PageError>
     requires ready { IsReady (B.state board.old) into.old.shape }
-    requires exist { AllExist into.old.shape into.old.blocks }
-    requires few { count ≤ cap into.old.shape into.old.level * page_entries into.old.shape }
-    requires places { length into.old.blocks ≡ run_blocks into.old.shape count }
-    requires none { into.old.count ≡ 0 }
-    requires no_pages { into.old.firsts ≡ [] }
-    requires no_leases { into.old.leases ≡ [] }
-    requires stands { Stands into.old (B.state board.old).pages arena.old [] }
-    requires frames { arena.old.page_bytes ≡ into.old.shape.page_bytes }
-    requires free { pins ≡ true → run_pages into.old.shape count ≤ free_frames arena.old }
+    requires awaits { AwaitsPages pins count (B.state board.old).pages arena.old into.old }
     requires sized { length buf.old ≡ into.old.shape.page_bytes }
-    ensures has_run { OnOk result (HasRun into.old.shape into.old.level count into.old.blocks (B.state board.old).pages arena.new into.new) }
-    ensures count { OnOk result (into.new.count ≡ count) }
-    ensures ok { OnOk result (B.state board.new ≡ after_reads (run_pages into.old.shape count) (B.state board.old)) }
-    ensures err { IfErr result (λ e. NotRead into.old.shape into.old.level count into.old.blocks (B.state board.old) (B.state board.new) e) }
-    ensures shape { into.new.shape ≡ into.old.shape }
-    ensures level { into.new.level ≡ into.old.level }
-    ensures blocks { into.new.blocks ≡ into.old.blocks }
-    ensures pinned { IsPinnedIf pins into.new }
-    ensures stands { (es : List EntrySpec) × Stands into.new (B.state board.old).pages arena.new es }
-    ensures frames { LeasedMore arena.old arena.new into.new.leases }
-    ensures pages { (B.state board.new).pages ≡ (B.state board.old).pages }
-    ensures ready { IsReady (B.state board.new) into.old.shape }
+    ensures has_run { OnOk result (HasRun into.old.shape into.old.level count into.old.blocks
+        (B.state board.old).pages arena.new into.new) }
+    ensures reads { OnOk result (B.state board.new
+        ≡ after_reads (run_pages into.old.shape count) (B.state board.old)) }
+    ensures err { IfErr result (λ e. NotRead into.old.shape into.old.level count into.old.blocks
+        (B.state board.old) (B.state board.new) e) }
+    ensures loads { LoadsPages pins (B.state board.old).pages into.old.blocks
+        arena.old arena.new into.old into.new }
+    ensures board { StaysReady into.old.shape (B.state board.old) (B.state board.new) }
     ensures buffer { length buf.new ≡ length buf.old }
 {
     into.known();
@@ -165,19 +154,16 @@ pub fn load_run<B: Nand, A: Allocator>(
     requires frames { arena.old.page_bytes ≡ into.old.shape.page_bytes }
     requires free { pins ≡ true → run_pages into.old.shape count ≤ free_frames arena.old }
     requires sized { length buf.old ≡ into.old.shape.page_bytes }
-    ensures has_run { OnOk result (HasRun into.old.shape into.old.level count blocks.now (B.state board.old).pages arena.new into.new) }
-    ensures count { OnOk result (into.new.count ≡ count) }
-    ensures ok { OnOk result (B.state board.new ≡ after_reads (run_pages into.old.shape count) (B.state board.old)) }
-    ensures err { IfErr result (λ e. NotRead into.old.shape into.old.level count blocks.now (B.state board.old) (B.state board.new) e) }
-    ensures shape { into.new.shape ≡ into.old.shape }
-    ensures level { into.new.level ≡ into.old.level }
-    ensures blocks { into.new.blocks ≡ blocks.now }
-    ensures pinned { IsPinnedIf pins into.new }
-    ensures stands { (es : List EntrySpec) × Stands into.new (B.state board.old).pages arena.new es }
-    ensures frames { LeasedMore arena.old arena.new into.new.leases }
-    ensures runs { RunsStand arena.old arena.new }
-    ensures pages { (B.state board.new).pages ≡ (B.state board.old).pages }
-    ensures ready { IsReady (B.state board.new) into.old.shape }
+
+    ensures has_run { OnOk result (HasRun into.old.shape into.old.level count blocks.now
+        (B.state board.old).pages arena.new into.new) }
+    ensures reads { OnOk result (B.state board.new
+        ≡ after_reads (run_pages into.old.shape count) (B.state board.old)) }
+    ensures err { IfErr result (λ e. NotRead into.old.shape into.old.level count blocks.now
+        (B.state board.old) (B.state board.new) e) }
+    ensures loads { LoadsPages pins (B.state board.old).pages blocks.now
+        arena.old arena.new into.old into.new }
+    ensures board { StaysReady into.old.shape (B.state board.old) (B.state board.new) }
     ensures buffer { length buf.new ≡ length buf.old }
 {
     into.known();

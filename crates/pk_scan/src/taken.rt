@@ -9,7 +9,7 @@ ghost use Rattle.pk_live.specs.Values.{IsLive, count_of};
 ghost use Rattle.pk_segfmt.specs.Value.{value_pages};
 ghost use Rattle.pk_model.specs.Values.{fits, all_pages};
 ghost use Rattle.pk_scan.specs.Places.{place};
-ghost use Rattle.pk_scan.specs.Lives.{Lives, StartsWithNone};
+ghost use Rattle.pk_live.specs.Lives.{Lives, StartsWithNone};
 
 use pk_base::Shape;
 use pk_live::Live;
@@ -29,7 +29,8 @@ fn is_named(named: &[u16], block: u32) -> bool
 
 // Whether a live value begins at one of the pages from here up to `end`.
 fn begins_before<A: Allocator>(live: &Live<A>, from: u32, end: u32) -> bool
-    ensures { IsTrue result ↔ ((p : ℕ) × (from ≤ p) × (p < end) × (0 < slice_index live.now.heads p)) }
+    ensures { IsTrue result
+        ↔ ((p : ℕ) × (from ≤ p) × (p < end) × (0 < slice_index live.now.heads p)) }
 {
     for page in from..end {
         if live.is_head(page) {
@@ -50,7 +51,8 @@ fn overlaps<A: Allocator>(live: &Live<A>, page: u32, count: u32) -> bool
 
 // How many blocks have a live page, with this one.
 fn blocks_used<A: Allocator>(live: &Live<A>, block: u32) -> u32
-    ensures value { result ≡ count_by (λ b. b) live.now.closed + (if count_of live.now block == 0 then 1 else 0) }
+    ensures value { result
+        ≡ count_by (λ b. b) live.now.closed + (if count_of live.now block == 0 then 1 else 0) }
 {
     live.known();
     let closed = live.closed();
@@ -63,7 +65,8 @@ fn blocks_used<A: Allocator>(live: &Live<A>, block: u32) -> u32
 
 // Whether so many live pages, in so many blocks, are not too many.
 fn are_few(shape: &Shape, pages: u32, blocks: u32) -> bool
-    ensures { result ≡ (nat_le pages (limit shape.now) && nat_le blocks (data_blocks shape.now - 1)) }
+    ensures { result
+        ≡ (nat_le pages (limit shape.now) && nat_le blocks (data_blocks shape.now - 1)) }
 {
     pages <= shape.limit() && blocks <= shape.data_blocks() - 1
 }
@@ -72,7 +75,9 @@ fn are_few(shape: &Shape, pages: u32, blocks: u32) -> bool
 fn has_room<A: Allocator>(shape: &Shape, named: &[u16], live: &Live<A>, page: u32, len: u32) -> bool
     requires place { IsPlace shape.now (place page len) }
     requires lives { (taken : List (Key × Place)) × Lives shape.now named.now live.now taken }
-    ensures { (taken : List (Key × Place)) → Lives shape.now named.now live.now taken → result ≡ fits shape.now named.now (all_pages shape.now taken ++ value_pages shape.now (place page len)) }
+    ensures { (taken : List (Key × Place)) → Lives shape.now named.now live.now taken
+        → result ≡ fits shape.now named.now
+        (all_pages shape.now taken ++ value_pages shape.now (place page len)) }
 {
     live.known();
     // so that the numbers of pages are known to fit
@@ -103,8 +108,12 @@ pub fn take_value<A: Allocator>(
 ) -> bool
     requires place { IsPlace shape.now (place page len) }
     requires lives { (taken : List (Key × Place)) × Lives shape.now named.now live.old taken }
-    ensures fits { (taken : List (Key × Place)) → Lives shape.now named.now live.old taken → result ≡ fits shape.now named.now (all_pages shape.now taken ++ value_pages shape.now (place page len)) }
-    ensures taken { result ≡ true → (taken : List (Key × Place)) (key : Key) → Lives shape.now named.now live.old taken → Lives shape.now named.now live.new (taken ++ (key, place page len) ∷ []) }
+    ensures fits { (taken : List (Key × Place)) → Lives shape.now named.now live.old taken
+        → result ≡ fits shape.now named.now
+        (all_pages shape.now taken ++ value_pages shape.now (place page len)) }
+    ensures taken { result ≡ true → (taken : List (Key × Place)) (key : Key)
+        → Lives shape.now named.now live.old taken
+        → Lives shape.now named.now live.new (taken ++ (key, place page len) ∷ []) }
     ensures left { result ≡ false → live.new ≡ live.old }
 {
     if !has_room(shape, named, live, page, len) {

@@ -10,7 +10,8 @@ ghost use Rattle.pk_segfmt.specs.Value.{head_bytes};
 ghost use Rattle.pk_scan.specs.Places.{place};
 ghost use Rattle.pk_scan.specs.Pages.{front_of, fits_page, left_at, is_right};
 ghost use Rattle.pk_scan.specs.Checked.{HasValue, NotFound, PageRefused};
-ghost use Rattle.pk_scan.specs.Opened.{OnlyReading};
+ghost use Rattle.pk_nand.specs.Effects.{OnlyReading};
+ghost use Rattle.pk_scan.specs.Board.{StaysReady};
 
 use crate::errors::PageError;
 use pk_base::{Key, Shape};
@@ -58,7 +59,8 @@ fn fits(shape: &Shape, key: &Key, len: u32, i: u32, bytes: &[u8]) -> bool
     requires short { len ≤ spec.greatest shape.now }
     requires within { i < spec.charge shape.now len }
     requires sized { length bytes.now ≡ shape.now.page_bytes }
-    ensures { result ≡ fits_page (front_of (head_bytes key.now len) i) (left_at shape.now len i) bytes.now }
+    ensures { result
+        ≡ fits_page (front_of (head_bytes key.now len) i) (left_at shape.now len i) bytes.now }
 {
     shape.known();
     let left = (32 + len as usize).saturating_sub(i as usize * bytes.len());
@@ -83,9 +85,11 @@ fn check_page<B: Nand>(
     requires place { IsPlace shape.now (place page len) }
     requires within { i < spec.charge shape.now len }
     requires room { length buf.old ≡ shape.now.page_bytes }
-    ensures right { OnOk result (is_right shape.now (page_at (B.state board.old).pages) key.now (place page len) i ≡ true) }
+    ensures right { OnOk result (is_right shape.now (page_at (B.state board.old).pages)
+        key.now (place page len) i ≡ true) }
     ensures ok { OnOk result (B.state board.new ≡ after_read (B.state board.old)) }
-    ensures err { IfErr result (λ e. PageRefused shape.now (B.state board.old) (B.state board.new) key.now (place page len) i e) }
+    ensures err { IfErr result (λ e. PageRefused shape.now
+        (B.state board.old) (B.state board.new) key.now (place page len) i e) }
     ensures buffer { length buf.new ≡ length buf.old }
 {
     // so that the numbers of pages are known to fit
@@ -119,12 +123,13 @@ pub fn check_value<B: Nand>(
     requires ready { IsReady (B.state board.old) shape.now }
     requires place { IsPlace shape.now (place page len) }
     requires room { length buf.old ≡ shape.now.page_bytes }
-    ensures value { OnOk result (HasValue shape.now (B.state board.old).pages key.now (place page len)) }
-    ensures ok { OnOk result (B.state board.new ≡ after_reads (spec.charge shape.now len) (B.state board.old)) }
-    ensures err { IfErr result (λ e. NotFound shape.now (B.state board.old) (B.state board.new) key.now (place page len) e) }
-    ensures rest { OnlyReading (B.state board.old) (B.state board.new) }
-    ensures pages { (B.state board.new).pages ≡ (B.state board.old).pages }
-    ensures ready { IsReady (B.state board.new) shape.now }
+    ensures value { OnOk result
+        (HasValue shape.now (B.state board.old).pages key.now (place page len)) }
+    ensures ok { OnOk result
+        (B.state board.new ≡ after_reads (spec.charge shape.now len) (B.state board.old)) }
+    ensures err { IfErr result (λ e. NotFound shape.now
+        (B.state board.old) (B.state board.new) key.now (place page len) e) }
+    ensures board { StaysReady shape.now (B.state board.old) (B.state board.new) }
     ensures buffer { length buf.new ≡ length buf.old }
 {
     shape.known();

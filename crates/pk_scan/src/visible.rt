@@ -1,5 +1,5 @@
 //! The values of all keys that are there, each read and accepted.
-ghost use Rattle.std.specs.Prelude.{◌≡◌, ◌+◌, List, [], length, IfOk, IfErr, OnOk};
+ghost use Rattle.std.specs.Prelude.{◌≡◌, List, [], length, IfOk, IfErr, OnOk};
 ghost use Rattle.std.specs.List.{AllByRecursion};
 ghost use Rattle.pk_base.specs.Key.{Key};
 ghost use Rattle.pk_base.specs.Entry.{Place};
@@ -9,14 +9,15 @@ ghost use Rattle.pk_model.specs.Values.{values_of};
 ghost use Rattle.pk_nand.specs.Calls.{IsReady};
 ghost use Rattle.pk_nand.specs.Erased.{after_reads};
 ghost use Rattle.pk_walk.specs.Walking.{IsLeft, SkipsNone, most_read, pages_read};
-ghost use Rattle.pk_scan.specs.Lives.{Lives};
-ghost use Rattle.pk_scan.specs.Opened.{OnlyReading};
+ghost use Rattle.pk_live.specs.Lives.{Lives};
+ghost use Rattle.pk_nand.specs.Effects.{OnlyReading};
 ghost use Rattle.pk_scan.specs.Opening.{OnlyReads, PartNotOpened, ReadsValues};
 ghost use Rattle.pk_scan.specs.Reads.{value_reads};
+ghost use Rattle.pk_scan.specs.Board.{StaysReady};
+ghost use Rattle.pk_scan.specs.Taken.{TakesValues, ReadsExactly};
 
 use crate::accept::accept_value;
 use crate::errors::OpenError;
-use crate::levels::opening_error;
 use pk_base::{Entry, Shape};
 use pk_buf::Buffer;
 use pk_level::Levels;
@@ -25,6 +26,15 @@ use pk_nand::Nand;
 use pk_pin::PinArena;
 use pk_region::Region;
 use pk_walk::Walk;
+
+/// The lists of entries that a walk goes over, and the frames of the runs.
+#[derive(Drop)]
+pub struct Lists<'a, A: Region> {
+    pub arena: &'a PinArena<A>,
+    pub levels: &'a Levels<A>,
+    pub active: &'a Buffer<A>,
+    pub frozen: &'a Buffer<A>,
+}
 
 /// Reads the values of all keys that the walk gives, in its order, and takes their pages: those of the blocks that the root
 /// names are not free for them. Answers how many keys there are. `Damaged` names the first value whose pages may not be taken, or
@@ -37,36 +47,44 @@ pub fn read_values<B: Nand, A: Region>(
     shape: &Shape,
     named: &[u16],
     walk: &mut Walk<A>,
-    arena: &PinArena<A>,
-    levels: &Levels<A>,
-    active: &Buffer<A>,
-    frozen: &Buffer<A>,
+    lists: &Lists<A>,
     live: &mut Live<A>,
     buf: &mut [u8],
 ) -> Result<u32, OpenError>
     requires ready { IsReady (B.state board.old) shape.now }
-    requires levels { levels.now.shape ≡ shape.now }
-    requires walk { walk.old.shape ≡ shape.now }
-    requires left { (es : List (Key × Place)) × IsLeft walk.old (B.state board.old).pages arena.now levels.now.runs active.now.entries frozen.now.entries es × AllByRecursion (λ e. IsPlace shape.now e.1) es }
+    requires shapes { (lists.now.levels.now.shape ≡ shape.now) × (walk.old.shape ≡ shape.now) }
+    requires left { (es : List (Key × Place))
+        × IsLeft walk.old (B.state board.old).pages lists.now.arena.now lists.now.levels.now.runs
+        lists.now.active.now.entries lists.now.frozen.now.entries es
+        × AllByRecursion (λ e. IsPlace shape.now e.1) es }
     requires none { Lives shape.now named.now live.old [] }
     requires room { length buf.old ≡ shape.now.page_bytes }
-    ensures read { OnOk result ((es : List (Key × Place)) → IsLeft walk.old (B.state board.old).pages arena.now levels.now.runs active.now.entries frozen.now.entries es → ReadsValues shape.now (B.state board.old).pages named.now live.new es) }
-    ensures keys { IfOk result (λ keys. (es : List (Key × Place)) → IsLeft walk.old (B.state board.old).pages arena.now levels.now.runs active.now.entries frozen.now.entries es → keys ≡ length es) }
-    ensures reads { OnOk result (OnlyReads (B.state board.old) (B.state board.new)) }
-    ensures exact { OnOk result (SkipsNone walk.old → pages_read levels.now.runs walk.old.cursors ≡ 0 → (es : List (Key × Place)) → IsLeft walk.old (B.state board.old).pages arena.now levels.now.runs active.now.entries frozen.now.entries es → B.state board.new ≡ after_reads (most_read levels.now.runs + value_reads shape.now es) (B.state board.old)) }
-    ensures err { IfErr result (λ e. (es : List (Key × Place)) → IsLeft walk.old (B.state board.old).pages arena.now levels.now.runs active.now.entries frozen.now.entries es → PartNotOpened (values_of shape.now (page_at (B.state board.old).pages) named.now [] es) (B.state board.old) (B.state board.new) e) }
-    ensures rest { OnlyReading (B.state board.old) (B.state board.new) }
-    ensures pages { (B.state board.new).pages ≡ (B.state board.old).pages }
-    ensures ready { IsReady (B.state board.new) shape.now }
+
+    ensures read { IfOk result (λ keys. (es : List (Key × Place))
+        → IsLeft walk.old (B.state board.old).pages lists.now.arena.now lists.now.levels.now.runs
+        lists.now.active.now.entries lists.now.frozen.now.entries es
+        → TakesValues shape.now (B.state board.old).pages named.now live.new keys es) }
+    ensures exact { OnOk result ((es : List (Key × Place))
+        → IsLeft walk.old (B.state board.old).pages lists.now.arena.now lists.now.levels.now.runs
+        lists.now.active.now.entries lists.now.frozen.now.entries es
+        → ReadsExactly shape.now lists.now.levels.now.runs walk.old es
+        (B.state board.old) (B.state board.new)) }
+    ensures err { IfErr result (λ e. (es : List (Key × Place))
+        → IsLeft walk.old (B.state board.old).pages lists.now.arena.now lists.now.levels.now.runs
+        lists.now.active.now.entries lists.now.frozen.now.entries es
+        → PartNotOpened
+        (values_of shape.now (page_at (B.state board.old).pages) named.now [] es)
+        (B.state board.old) (B.state board.new) e) }
+    ensures board { StaysReady shape.now (B.state board.old) (B.state board.new) }
     ensures buffer { length buf.new ≡ length buf.old }
 {
     shape.known();
     for keys in 0..shape.limit() + 1 {
-        match walk.next(board, arena, levels, active, frozen) {
+        match walk.next(board, lists.arena, lists.levels, lists.active, lists.frozen) {
             Ok(Some(Entry::Put { key, page, len })) => {
                 match accept_value(board, shape, named, live, &key, page, len, buf) {
                     Ok(()) => {}
-                    Err(error) => return Err(opening_error(error)),
+                    Err(error) => return Err(OpenError::from(error)),
                 }
             }
             Ok(Some(Entry::Gone { .. })) => unreachable!(),

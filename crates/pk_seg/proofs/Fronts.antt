@@ -8,11 +8,11 @@ use Rattle.std.proofs.lemmas.Bool.{cases_lt}
 use Rattle.pk_base.specs.Fields.{zeros}
 use Rattle.pk_base.specs.Key.{Key, IsKey}
 use Rattle.pk_base.specs.Shape.{Shape, IsShape, charge, fetched}
-use Rattle.pk_base.proofs.ShapeLemmas.{charge-fetched}
+use Rattle.pk_base.proofs.ShapeLemmas.{fetched_needed}
 use Rattle.pk_base.proofs.Tables.{length-padded}
 use Rattle.pk_segfmt.specs.Value.{head_bytes, value_bytes}
 use Rattle.pk_segfmt.specs.Stored.{page_of}
-use Rattle.pk_segfmt.proofs.StoredLemmas.{charge_needed, charge_room, length-head_bytes, page_is}
+use Rattle.pk_segfmt.proofs.StoredLemmas.{charge_room, length-head_bytes, page_is}
 
 -- a piece that is cut from a page of a text, where the text goes on behind the first h bytes
 cut_piece : (h d s p a m : ℕ) (text : List ℕ) → s + a ≡ h + d → s ≤ p → take m (drop s (take p (drop a text))) ≡ take m (take (p - s) (drop d (drop h text)))
@@ -56,25 +56,12 @@ value_front shape key value n is_key short =
     ap (λ (r : List ℕ). take n (drop 32 r)) (append_assoc front value more)
     ∙ (ap (λ (r : List ℕ). take n r) (drop_at front (value ++ more) 32 (length-head_bytes key (length value) is_key)) ∙ take-append-le n value more short)
 
--- each page that is fetched has a byte that is wanted
-pub fetched_needed : (shape : Shape) (i n : ℕ) → IsShape shape → i < fetched shape n → i * shape.page_bytes < 32 + n
-fetched_needed shape i zero is less = absurd (omega (arith, less))
-fetched_needed shape i (suc n) is less = charge_needed shape is (suc n) i (rw (charge-fetched shape (suc n) (λ e. absurd (omega (arith, e)))) less)
-
 -- the pages that are fetched are some of the value's
 pub fetched_within : (shape : Shape) (i n len : ℕ) → IsShape shape → i < fetched shape n → n ≤ len → i < charge shape len
 fetched_within shape i n len is less short =
     let needed : i * shape.page_bytes < 32 + n = fetched_needed shape i n is less in
     let room : 32 + len ≤ charge shape len * shape.page_bytes = charge_room shape is len in
     lt_of_mul-lt-mul_right shape.page_bytes (omega arith)
-
--- all that is wanted stands in them
-pub fetched_room : (shape : Shape) (n : ℕ) → IsShape shape → n ≤ fetched shape n * shape.page_bytes - 32
-fetched_room shape zero is = omega arith
-fetched_room shape (suc n) is =
-    let room : 32 + suc n ≤ fetched shape (suc n) * shape.page_bytes =
-    subst (λ (k : ℕ). 32 + suc n ≤ k * shape.page_bytes) (charge-fetched shape (suc n) (λ e. absurd (omega (arith, e)))) (charge_room shape is (suc n)) in
-    omega arith
 
 -- a value's page is full
 pub length-page_of : (shape : Shape) (key : Key) (value : List ℕ) (i : ℕ) → IsShape shape → IsKey key → i < charge shape (length value) → length (page_of shape key value i) ≡ shape.page_bytes

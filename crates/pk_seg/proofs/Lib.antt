@@ -1,4 +1,4 @@
 pub mod Fronts
 pub mod Programs
 pub mod Readings
-pub mod TestBoards
+pub mod ErasedBlocks

@@ -12,7 +12,8 @@ use Rattle.pk_segfmt.specs.Stored.{page_of}
 use Rattle.pk_nand.specs.Erased.{after_reads}
 use Rattle.pk_seg.specs.Counts.{ReadsFailed}
 use Rattle.pk_seg.specs.Stored.{IsFront}
-use Rattle.pk_seg.proofs.Fronts.{front_next, value_front, fetched_within, fetched_needed, fetched_room}
+use Rattle.pk_base.proofs.ShapeLemmas.{fetched_needed, fetched_room}
+use Rattle.pk_seg.proofs.Fronts.{front_next, value_front, fetched_within}
 
 whole_not_torn : (bytes : List ℕ) → torn ≡ whole bytes → ⊥
 whole_not_torn bytes e = cc

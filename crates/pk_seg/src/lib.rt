@@ -7,6 +7,3 @@ mod values;
 
 pub use pages::{read_page, write_page};
 pub use values::{read_head, read_value, write_value};
-
-#[cfg(test)]
-mod tests;

@@ -33,11 +33,15 @@ pub fn write_page<B: Nand>(board: &mut B, page: u32, buf: &[u8]) -> Result<(), F
     requires order { InOrder (shape_of (B.state board.old)) (B.state board.old).pages page }
     ensures ok { OnOk result (B.state board.new ≡ after_program (B.state board.old) page buf.now) }
     ensures written { OnOk result (page_at (B.state board.new).pages page ≡ whole buf.now) }
-    ensures cuts { OnOk result (Reached (B.state board.old) (B.state board.new) (λ flash _. SameOutside page 1 (B.state board.old).pages flash)) }
+    ensures cuts { OnOk result (Reached (B.state board.old) (B.state board.new) (λ flash _.
+        SameOutside page 1 (B.state board.old).pages flash)) }
     ensures stopped { IfErr result (λ e. e ≡ Stopped) }
-    ensures err { OnErr result (ProgramFailed (B.state board.old) (B.state board.new) page buf.now) }
-    ensures cuts_err { OnErr result (Went (B.state board.old) (B.state board.new) (λ flash _. SameOutside page 1 (B.state board.old).pages flash)) }
-    ensures ready { (shape : spec.Shape) → IsReady (B.state board.old) shape → IsReady (B.state board.new) shape }
+    ensures err { OnErr result (ProgramFailed (B.state board.old) (B.state board.new) page
+        buf.now) }
+    ensures cuts_err { OnErr result (Went (B.state board.old) (B.state board.new) (λ flash _.
+        SameOutside page 1 (B.state board.old).pages flash)) }
+    ensures ready { (shape : spec.Shape) → IsReady (B.state board.old) shape
+        → IsReady (B.state board.new) shape }
 {
     match board.program(page, buf) {
         Ok(()) => Ok(()),

@@ -28,16 +28,28 @@ pub fn write_value<B: Nand>(
     requires ready { IsReady (B.state board.old) shape.now }
     requires short { length value.now ≤ spec.greatest shape.now }
     requires exist { page + spec.charge shape.now (length value.now) ≤ spec.page_count shape.now }
-    requires block { page % shape.now.block_pages + spec.charge shape.now (length value.now) ≤ shape.now.block_pages }
+    requires block { page % shape.now.block_pages + spec.charge shape.now (length value.now)
+        ≤ shape.now.block_pages }
     requires order { InOrder shape.now (B.state board.old).pages page }
     requires room { length buf.old ≡ shape.now.page_bytes }
-    ensures stored { OnOk result (IsStored shape.now (page_at (B.state board.new).pages) key.now page value.now) }
-    ensures ok { OnOk result (B.state board.new ≡ written shape.now key.now page value.now (spec.charge shape.now (length value.now)) (B.state board.old)) }
-    ensures order { OnOk result (page % shape.now.block_pages + spec.charge shape.now (length value.now) < shape.now.block_pages → InOrder shape.now (B.state board.new).pages (page + spec.charge shape.now (length value.now))) }
-    ensures cuts { OnOk result (Reached (B.state board.old) (B.state board.new) (λ flash _. SameOutside page (spec.charge shape.now (length value.now)) (B.state board.old).pages flash)) }
+    ensures stored { OnOk result (IsStored shape.now (page_at (B.state board.new).pages) key.now
+        page value.now) }
+    ensures ok { OnOk result (B.state board.new
+        ≡ written shape.now key.now page value.now (spec.charge shape.now (length value.now))
+        (B.state board.old)) }
+    ensures order { OnOk result (page % shape.now.block_pages + spec.charge shape.now
+        (length value.now) < shape.now.block_pages
+        → InOrder shape.now (B.state board.new).pages
+        (page + spec.charge shape.now (length value.now))) }
+    ensures cuts { OnOk result (Reached (B.state board.old) (B.state board.new) (λ flash _.
+        SameOutside page (spec.charge shape.now (length value.now)) (B.state board.old).pages
+        flash)) }
     ensures stopped { IfErr result (λ e. e ≡ Stopped) }
-    ensures err { OnErr result (WriteFailed shape.now key.now page value.now (B.state board.old) (B.state board.new)) }
-    ensures cuts_err { OnErr result (Went (B.state board.old) (B.state board.new) (λ flash _. SameOutside page (spec.charge shape.now (length value.now)) (B.state board.old).pages flash)) }
+    ensures err { OnErr result (WriteFailed shape.now key.now page value.now (B.state board.old)
+        (B.state board.new)) }
+    ensures cuts_err { OnErr result (Went (B.state board.old) (B.state board.new) (λ flash _.
+        SameOutside page (spec.charge shape.now (length value.now)) (B.state board.old).pages
+        flash)) }
     ensures ready { IsReady (B.state board.new) shape.now }
     ensures buffer { length buf.new ≡ length buf.old }
 {
@@ -60,7 +72,10 @@ fn copy_page(into: &mut [u8], i: u32, page: &[u8])
     requires within { i * length page.now - 32 ≤ length into.old }
     requires head { 32 ≤ length page.now }
     requires small { length page.now ≤ 16384 }
-    ensures front { take (min (length into.old) ((i + 1) * length page.now - 32)) into.new ≡ take (i * length page.now - 32) into.old ++ take (length into.old - (i * length page.now - 32)) (drop (32 - i * length page.now) page.now) }
+    ensures front { take (min (length into.old) ((i + 1) * length page.now - 32)) into.new
+        ≡ take (i * length page.now - 32) into.old
+        ++ take (length into.old - (i * length page.now - 32))
+        (drop (32 - i * length page.now) page.now) }
     ensures len { length into.new ≡ length into.old }
 {
     let done = (i as usize * page.len()).saturating_sub(32);
@@ -79,12 +94,17 @@ pub fn read_value<B: Nand>(
     buf: &mut [u8],
 ) -> Result<(), Fault>
     requires ready { IsReady (B.state board.old) shape.now }
-    requires value { (key : List ℕ) × (value : List ℕ) × IsFront shape.now (B.state board.old).pages page (length into.old) key value }
+    requires value { (key : List ℕ) × (value : List ℕ)
+        × IsFront shape.now (B.state board.old).pages page (length into.old) key value }
     requires room { length buf.old ≡ shape.now.page_bytes }
-    ensures front { OnOk result ((key value : List ℕ) → IsFront shape.now (B.state board.old).pages page (length into.old) key value → into.new ≡ take (length into.old) value) }
-    ensures ok { OnOk result (B.state board.new ≡ after_reads (spec.fetched shape.now (length into.old)) (B.state board.old)) }
+    ensures front { OnOk result ((key value : List ℕ)
+        → IsFront shape.now (B.state board.old).pages page (length into.old) key value
+        → into.new ≡ take (length into.old) value) }
+    ensures ok { OnOk result (B.state board.new
+        ≡ after_reads (spec.fetched shape.now (length into.old)) (B.state board.old)) }
     ensures reading { IfErr result (λ e. e ≡ Reading) }
-    ensures err { OnErr result (ReadsFailed (B.state board.old) (B.state board.new) page (spec.fetched shape.now (length into.old))) }
+    ensures err { OnErr result (ReadsFailed (B.state board.old) (B.state board.new) page
+        (spec.fetched shape.now (length into.old))) }
     ensures ready { IsReady (B.state board.new) shape.now }
     ensures len { length into.new ≡ length into.old }
     ensures buffer { length buf.new ≡ length buf.old }
@@ -110,10 +130,13 @@ pub fn read_head<B: Nand>(
     buf: &mut [u8],
 ) -> Result<Head, Fault>
     requires ready { IsReady (B.state board.old) shape.now }
-    requires head { (key : List ℕ) × (len : ℕ) × HasHead shape.now (B.state board.old).pages page key len }
+    requires head { (key : List ℕ) × (len : ℕ)
+        × HasHead shape.now (B.state board.old).pages page key len }
     requires room { length buf.old ≡ shape.now.page_bytes }
     ensures head { IfOk result (λ h. HasHead shape.now (B.state board.old).pages page h.key h.len) }
-    ensures only { IfOk result (λ h. (key : List ℕ) (len : ℕ) → HasHead shape.now (B.state board.old).pages page key len → h ≡ record { key = key; len = len }) }
+    ensures only { IfOk result (λ h. (key : List ℕ) (len : ℕ)
+        → HasHead shape.now (B.state board.old).pages page key len
+        → h ≡ record { key = key; len = len }) }
     ensures ok { OnOk result (B.state board.new ≡ after_read (B.state board.old)) }
     ensures reading { IfErr result (λ e. e ≡ Reading) }
     ensures err { OnErr result (ReadFailed (B.state board.old) (B.state board.new) page) }

@@ -37,16 +37,6 @@ module _ (shape : Shape) (is : IsShape shape) (len : ℕ) where
       some zero h = absurd (omega arith)
       some (suc n) h = omega arith
 
-  -- each page has a byte of the head or the value
-  pub charge_needed : (i : ℕ) → i < charge shape len → i * shape.page_bytes < 32 + len
-  unfolding charge
-  charge_needed i less =
-      let least = is.page_least in
-      let most = (div_ceil_times (32 + len) shape.page_bytes (omega arith)).1 in
-      let product : suc i * shape.page_bytes ≤ div_ceil (32 + len) shape.page_bytes * shape.page_bytes = mul-le-mul_right shape.page_bytes less in
-      let split : suc i * shape.page_bytes ≡ i * shape.page_bytes + shape.page_bytes = omega arith in
-      omega arith
-
 -- a front of a page of a text is a front of the text
 take_front : (n size : ℕ) (xs : List ℕ) → n ≤ size → n ≤ length xs → take n (cut size xs) ≡ take n xs
 take_front n size xs room short =

@@ -1,5 +1,6 @@
 -- The pages of a value, each by its number, and a flash in which they stand.
 use Rattle.std.specs.Prelude.{◌≡◌, ℕ, ◌+◌, ◌*◌, ◌<◌, List, length, take, drop, Ok}
+use Rattle.pk_base.specs.declared.sizes.TheConstants.{HEAD_BYTES}
 use Rattle.pk_base.specs.Key.{Key}
 use Rattle.pk_base.specs.Shape.{Shape, IsShape, charge}
 use Rattle.pk_base.specs.Entry.{Place}
@@ -33,4 +34,4 @@ StandsWhereRead =
 
 -- the first page of a value begins with its head
 abbrev pub BeginsWithHead : Type 0
-BeginsWithHead = (shape : Shape) (key : Key) (value : List ℕ) → IsShape shape → IsHead shape key (length value) → take 32 (page_of shape key value 0) ≡ head_bytes key (length value)
+BeginsWithHead = (shape : Shape) (key : Key) (value : List ℕ) → IsShape shape → IsHead shape key (length value) → take HEAD_BYTES (page_of shape key value 0) ≡ head_bytes key (length value)

@@ -1,5 +1,6 @@
 //! The head in front of a value.
 ghost use Rattle.std.specs.Prelude.{◌≡◌, ◌≤◌, List, ℕ, length, take, nat_le, IfOk, IfErr, MatchResult, Ok, Some, None, slice_index, drop};
+ghost use Rattle.pk_base.specs.declared.sizes.TheConstants.{HEAD_BYTES};
 ghost use Rattle.pk_base.specs.Fields.{Finds, number_at};
 ghost use Rattle.pk_base.specs.Key.{IsKey};
 ghost use Rattle.pk_base.specs.Shape.{IsShape, greatest};
@@ -9,8 +10,8 @@ ghost use Rattle.pk_segfmt.specs.Stored.{page_of};
 
 use crate::found::{BadHead, Head};
 use pk_base::{
-    Key, Shape, Wrong, get_u32, padding, passes, put_padded, put_text, put_u8, put_u32, put_zeros,
-    text, zeros,
+    HEAD_BYTES, KEY_BYTES, Key, Shape, Wrong, get_u32, padding, passes, put_padded, put_text,
+    put_u8, put_u32, put_zeros, text, zeros,
 };
 
 const KIND: [u8; 1] = [0x44];
@@ -27,11 +28,11 @@ fn is_len(shape: &Shape, len: u32) -> bool
 /// The first wrong field.
 #[tactic(auto, unfolding(crate::specs::Head::head_fault))]
 fn checked(shape: &Shape, bytes: &[u8]) -> Result<(), Wrong>
-    requires { length bytes.now ≡ 32 }
+    requires { length bytes.now ≡ HEAD_BYTES }
     ensures { Finds result (head_fault shape.now bytes.now) }
 {
     let size = bytes[0];
-    passes(0, size >= 1 && size <= 16)?;
+    passes(0, size >= 1 && size as usize <= KEY_BYTES)?;
     text(bytes, 1, &KIND)?;
     zeros(bytes, 2, 4)?;
     padding(bytes, 4, 4 + size as usize, 20)?;
@@ -41,9 +42,12 @@ fn checked(shape: &Shape, bytes: &[u8]) -> Result<(), Wrong>
 
 /// The head of bytes that are one.
 fn read(shape: &Shape, bytes: &[u8]) -> Head
-    requires sized { length bytes.now ≡ 32 }
+    requires sized { length bytes.now ≡ HEAD_BYTES }
     requires good { head_fault shape.now bytes.now ≡ None }
-    ensures { result ≡ record { key = take (slice_index bytes.now 0) (drop 4 bytes.now); len = number_at 4 20 bytes.now } }
+    ensures { result ≡ record {
+      key = take (slice_index bytes.now 0) (drop 4 bytes.now);
+      len = number_at 4 20 bytes.now;
+    } }
 {
     let _ = shape;
     let size = bytes[0] as usize;
@@ -55,8 +59,13 @@ fn read(shape: &Shape, bytes: &[u8]) -> Head
 
 /// The head of these bytes, or the first wrong field.
 fn head_of(shape: &Shape, bytes: &[u8]) -> Result<Head, BadHead>
-    requires { length bytes.now ≡ 32 }
-    ensures exact { MatchResult result (λ h. (head_fault shape.now bytes.now ≡ None) × (h ≡ record { key = take (slice_index bytes.now 0) (drop 4 bytes.now); len = number_at 4 20 bytes.now })) (λ bad. head_fault shape.now bytes.now ≡ Some bad.at) }
+    requires { length bytes.now ≡ HEAD_BYTES }
+    ensures exact { MatchResult result (λ h. (head_fault shape.now bytes.now ≡ None) × (h
+        ≡ record {
+          key = take (slice_index bytes.now 0) (drop 4 bytes.now);
+          len = number_at 4 20
+              bytes.now;
+        })) (λ bad. head_fault shape.now bytes.now ≡ Some bad.at) }
     ensures shape { IsShape shape.now }
 {
     shape.known();
@@ -66,11 +75,13 @@ fn head_of(shape: &Shape, bytes: &[u8]) -> Result<Head, BadHead>
     }
 }
 
-/// The head of 32 bytes.
+/// The head of its bytes.
 fn decode(shape: &Shape, bytes: &[u8]) -> Result<Head, BadHead>
-    requires { length bytes.now ≡ 32 }
-    ensures found { IfOk result (λ h. IsHead shape.now h.key h.len × (bytes.now ≡ head_bytes h.key h.len)) }
-    ensures only { (key : List ℕ) (len : ℕ) → IsHead shape.now key len → bytes.now ≡ head_bytes key len → result ≡ Ok (record { key = key; len = len }) }
+    requires { length bytes.now ≡ HEAD_BYTES }
+    ensures found { IfOk result
+        (λ h. IsHead shape.now h.key h.len × (bytes.now ≡ head_bytes h.key h.len)) }
+    ensures only { (key : List ℕ) (len : ℕ) → IsHead shape.now key len
+        → bytes.now ≡ head_bytes key len → result ≡ Ok (record { key = key; len = len }) }
     ensures exact { IfErr result (λ bad. head_fault shape.now bytes.now ≡ Some bad.at) }
 {
     head_of(shape, bytes)
@@ -80,29 +91,35 @@ fn decode(shape: &Shape, bytes: &[u8]) -> Result<Head, BadHead>
 pub fn head(shape: &Shape, page: &[u8]) -> Result<Head, BadHead>
     requires { length page.now ≡ shape.now.page_bytes }
     // What is found may be a head, and its bytes stand in front.
-    ensures found { IfOk result (λ h. IsHead shape.now h.key h.len × (take 32 page.now ≡ head_bytes h.key h.len)) }
+    ensures found { IfOk result
+        (λ h. IsHead shape.now h.key h.len × (take HEAD_BYTES page.now ≡ head_bytes h.key h.len)) }
     // A head that stands in front is found.
-    ensures only { (key : List ℕ) (len : ℕ) → IsHead shape.now key len → take 32 page.now ≡ head_bytes key len → result ≡ Ok (record { key = key; len = len }) }
+    ensures only { (key : List ℕ) (len : ℕ) → IsHead shape.now key len
+        → take HEAD_BYTES page.now ≡ head_bytes key len
+        → result ≡ Ok (record { key = key; len = len }) }
     // The head of a value that was written is found.
-    ensures written { (key value : List ℕ) → IsHead shape.now key (length value) → page.now ≡ page_of shape.now key value 0 → result ≡ Ok (record { key = key; len = length value }) }
+    ensures written { (key value : List ℕ) → IsHead shape.now key (length value)
+        → page.now ≡ page_of shape.now key value 0
+        → result ≡ Ok (record { key = key; len = length value }) }
     // Else the first wrong field is named.
-    ensures exact { IfErr result (λ bad. head_fault shape.now (take 32 page.now) ≡ Some bad.at) }
+    ensures exact { IfErr result
+        (λ bad. head_fault shape.now (take HEAD_BYTES page.now) ≡ Some bad.at) }
 {
     shape.known();
-    decode(shape, &page[..32])
+    decode(shape, &page[..HEAD_BYTES])
 }
 
 /// Writes the head of a value of so many bytes.
 pub(crate) fn put_head(key: &[u8], len: u32, into: &mut [u8])
     requires key { IsKey key.now }
-    requires room { 32 ≤ length into.old }
-    ensures front { take 32 into.new ≡ head_bytes key.now len }
+    requires room { HEAD_BYTES ≤ length into.old }
+    ensures front { take HEAD_BYTES into.new ≡ head_bytes key.now len }
     ensures len { length into.new ≡ length into.old }
 {
     put_u8(into, 0, key.len() as u8);
     put_text(into, 1, &KIND);
     put_zeros(into, 2, 4);
-    put_padded(into, 4, 16, key);
+    put_padded(into, 4, KEY_BYTES, key);
     put_u32(into, 20, len);
     put_text(into, 24, &MAGIC);
 }

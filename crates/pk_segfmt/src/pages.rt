@@ -6,16 +6,24 @@ ghost use Rattle.pk_segfmt.specs.Value.{head_bytes};
 ghost use Rattle.pk_segfmt.specs.Stored.{page_of, ReadsBack, StandsWhereRead, BeginsWithHead};
 
 use crate::heads::put_head;
-use pk_base::{Key, Shape, put_padded};
+use pk_base::{HEAD_BYTES, Key, Shape, put_padded};
 
 /// Writes a text from this place on, as much as there is room for, and zeros behind it.
 fn put_rest(into: &mut [u8], at: usize, text: &[u8])
     requires { at ≤ length into.old }
-    ensures { into.new ≡ take at into.old ++ padded (length into.old - at) (take (length into.old - at) text.now) }
+    ensures { into.new
+        ≡ take at into.old ++ padded (length into.old - at) (take (length into.old - at) text.now) }
 {
     let room = into.len() - at;
     let size = text.len().min(room);
     put_padded(into, at, room, &text[..size]);
+}
+
+/// The text from this place on; nothing where it ends before.
+fn rest_of(text: &[u8], from: usize) -> &[u8]
+    ensures { result.now ≡ drop from text.now }
+{
+    text.get(from..).unwrap_or(&[])
 }
 
 /// Writes page `i` of a value's pages; `into` has the bytes of a page.
@@ -29,10 +37,10 @@ pub fn page(shape: &Shape, key: &Key, value: &[u8], i: u32, into: &mut [u8])
     let key = key.bytes();
     if i == 0 {
         put_head(key, value.len() as u32, into);
-        put_rest(into, 32, value);
+        put_rest(into, HEAD_BYTES, value);
     } else {
-        let start = i as usize * into.len() - 32;
-        put_rest(into, 0, &value[start..]);
+        let start = i as usize * into.len() - HEAD_BYTES;
+        put_rest(into, 0, rest_of(value, start));
     }
 }
 

@@ -4,7 +4,10 @@ use Rattle.std.specs.FinMap.{contains_key}
 use Rattle.pk_base.specs.Shape.{Shape, greatest}
 use Rattle.pk_nvme.specs.Command.{Command, key, must_exist, must_be_new}
 use Rattle.pk_base.specs.Map.{Map}
-use Rattle.pk_model.specs.Answer.{Kind, flush, store, retrieve, list, delete, exist, tick, report, kind, first_of, check, is_namespace, is_key_length, size_fault, fault_of, early, late_of, live_after, refused, reply, reply_of, Answer, map_after}
+use Rattle.pk_nvme.specs.Opcode.{op_of}
+use Rattle.pk_nvme.specs.declared.opcode.Opcode.{Opcode}
+use Rattle.pk_nvme.specs.declared.opcode.Opcode.TheVariants.{Flush, Store, Retrieve, List as ListKeys, Delete, Exist, Tick, Report}
+use Rattle.pk_model.specs.Answer.{first_of, check, is_namespace, is_key_length, size_fault, fault_of, early, late_of, live_after, refused, reply, reply_of, Answer, map_after}
 
 -- not this status
 abbrev Other : Option ℕ → Type 0
@@ -21,17 +24,17 @@ check_other false s h = h
 differ : (s t : ℕ) → s ≢ t → Some s ≢ Some t
 differ s t h e = h (ap (λ o. unwrap_or o s) e)
 
-size_other : (shape : Shape) (k : Kind) (size : ℕ) → Other (size_fault shape k size)
-size_other shape flush size = λ e. cc
-size_other shape store size = check_other (nat_le size (greatest shape)) 0x85 (differ 0x85 0x88 (omega arith))
-size_other shape retrieve size = λ e. cc
-size_other shape list size = check_other (nat_le 4 size) 0x02 (differ 0x02 0x88 (omega arith))
-size_other shape delete size = λ e. cc
-size_other shape exist size = λ e. cc
-size_other shape tick size = λ e. cc
-size_other shape report size = λ e. cc
+size_other : (shape : Shape) (k : Opcode) (size : ℕ) → Other (size_fault shape k size)
+size_other shape Flush size = λ e. cc
+size_other shape Store size = check_other (nat_le size (greatest shape)) 0x85 (differ 0x85 0x88 (omega arith))
+size_other shape Retrieve size = λ e. cc
+size_other shape ListKeys size = check_other (nat_le 4 size) 0x02 (differ 0x02 0x88 (omega arith))
+size_other shape Delete size = λ e. cc
+size_other shape Exist size = λ e. cc
+size_other shape Tick size = λ e. cc
+size_other shape Report size = λ e. cc
 
-fault_other : (shape : Shape) (c : Command) (k : Option Kind) → Other (fault_of shape c k)
+fault_other : (shape : Shape) (c : Command) (k : Option Opcode) → Other (fault_of shape c k)
 fault_other shape c None = differ 0x01 0x88 (omega arith)
 fault_other shape c (Some k) =
     first_other (check (is_namespace k c.namespace) 0x0B) _ (check_other (is_namespace k c.namespace) 0x0B (differ 0x0B 0x88 (omega arith)))
@@ -40,30 +43,30 @@ fault_other shape c (Some k) =
 missing : (b : Bool) → Other (check b 0x87)
 missing b = check_other b 0x87 (differ 0x87 0x88 (omega arith))
 
-late_other : (shape : Shape) (most : ℕ) (m : Map) (c : Command) (k : Option Kind) → Other (late_of shape most m c k)
+late_other : (shape : Shape) (most : ℕ) (m : Map) (c : Command) (k : Option Opcode) → Other (late_of shape most m c k)
 late_other shape most m c None = λ e. cc
-late_other shape most m c (Some store) =
+late_other shape most m c (Some Store) =
     first_other (check (not (must_exist c) || contains_key m (key c)) 0x87) _ (missing (not (must_exist c) || contains_key m (key c)))
     (first_other (check (not (must_be_new c && contains_key m (key c))) 0x89) _ (check_other (not (must_be_new c && contains_key m (key c))) 0x89 (differ 0x89 0x88 (omega arith)))
     (check_other (nat_le (live_after shape m c) most) 0x81 (differ 0x81 0x88 (omega arith))))
-late_other shape most m c (Some retrieve) = missing (contains_key m (key c))
-late_other shape most m c (Some delete) = missing (contains_key m (key c))
-late_other shape most m c (Some exist) = missing (contains_key m (key c))
-late_other shape most m c (Some flush) = λ e. cc
-late_other shape most m c (Some list) = λ e. cc
-late_other shape most m c (Some tick) = λ e. cc
-late_other shape most m c (Some report) = λ e. cc
+late_other shape most m c (Some Retrieve) = missing (contains_key m (key c))
+late_other shape most m c (Some Delete) = missing (contains_key m (key c))
+late_other shape most m c (Some Exist) = missing (contains_key m (key c))
+late_other shape most m c (Some Flush) = λ e. cc
+late_other shape most m c (Some ListKeys) = λ e. cc
+late_other shape most m c (Some Tick) = λ e. cc
+late_other shape most m c (Some Report) = λ e. cc
 
-success_of : (shape : Shape) (most frames : ℕ) (m : Map) (own : List ℕ) (c : Command) (k : Option Kind) → (reply_of shape most frames m own c k).status ≡ 0
+success_of : (shape : Shape) (most frames : ℕ) (m : Map) (own : List ℕ) (c : Command) (k : Option Opcode) → (reply_of shape most frames m own c k).status ≡ 0
 success_of shape most frames m own c None = refl
-success_of shape most frames m own c (Some store) = refl
-success_of shape most frames m own c (Some retrieve) = refl
-success_of shape most frames m own c (Some delete) = refl
-success_of shape most frames m own c (Some exist) = refl
-success_of shape most frames m own c (Some flush) = refl
-success_of shape most frames m own c (Some list) = refl
-success_of shape most frames m own c (Some tick) = refl
-success_of shape most frames m own c (Some report) = refl
+success_of shape most frames m own c (Some Store) = refl
+success_of shape most frames m own c (Some Retrieve) = refl
+success_of shape most frames m own c (Some Delete) = refl
+success_of shape most frames m own c (Some Exist) = refl
+success_of shape most frames m own c (Some Flush) = refl
+success_of shape most frames m own c (Some ListKeys) = refl
+success_of shape most frames m own c (Some Tick) = refl
+success_of shape most frames m own c (Some Report) = refl
 
 differ_from_success : {n : ℕ} → n ≡ 0 → n ≢ 0x88
 differ_from_success e x = omega arith
@@ -71,11 +74,11 @@ differ_from_success e x = omega arith
 -- the reply of the definition is no unrecovered read error
 pub reply_other : (shape : Shape) (most frames : ℕ) (m : Map) (own : List ℕ) (c : Command) → (reply shape most frames m own c).status ≢ 0x88
 unfolding reply
-reply_other shape most frames m own c = by (refused shape most m c) refl (first_other (early shape c) (late_of shape most m c (kind c.opcode)) (fault_other shape c (kind c.opcode)) (late_other shape most m c (kind c.opcode)))
+reply_other shape most frames m own c = by (refused shape most m c) refl (first_other (early shape c) (late_of shape most m c (op_of c.opcode)) (fault_other shape c (op_of c.opcode)) (late_other shape most m c (op_of c.opcode)))
   where
     by : (o : Option ℕ) → refused shape most m c ≡ o → Other o → (reply shape most frames m own c).status ≢ 0x88
     by (Some s) e h = rw e (λ x. h (ap (λ n. Some n) x))
-    by None e h = rw e (λ x. differ_from_success (success_of shape most frames m own c (kind c.opcode)) x)
+    by None e h = rw e (λ x. differ_from_success (success_of shape most frames m own c (op_of c.opcode)) x)
 
 -- the map after a command, by the definition
 pub answers : (shape : Shape) (most frames : ℕ) (m : Map) (c : Command) → Answer shape most frames m c (reply shape most frames m (replicate 11 0) c) (map_after shape most m c)

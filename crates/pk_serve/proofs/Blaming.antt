@@ -3,7 +3,7 @@ use Rattle.std.proofs.Common.{◌≡◌, ℕ, sym, subst, ap, ◌∙◌, Bool, L
 use Rattle.pk_base.specs.Shape.{Shape}
 use Rattle.pk_nand.specs.BoardState.{BoardState}
 use Rattle.pk_nand.specs.Calls.{Rose, after_post}
-use Rattle.pk_drive.specs.Drive.{OnlyFlash}
+use Rattle.pk_nand.specs.Effects.{OnlyFlash}
 use Rattle.pk_serve.specs.Ends.{HasCause, NoFaults, IsFault, Blames}
 use Rattle.pk_serve.specs.Input.{Entered, Valued, NoValue, TookFailed, NoEntry}
 use Rattle.pk_serve.specs.declared.end.End.{End}

@@ -7,7 +7,7 @@ use Rattle.pk_nvme.specs.Command.{Command}
 use Rattle.pk_nvme.specs.declared.request.Request.{Request}
 use Rattle.pk_nand.specs.BoardState.{BoardState}
 use Rattle.pk_base.specs.Mark.{all_posted}
-use Rattle.pk_nand.specs.Calls.{Rose, longer}
+use Rattle.pk_nand.specs.Calls.{Rose, longer, put_back, AtEnd}
 use Rattle.pk_base.specs.Map.{Map}
 use Rattle.pk_model.specs.Reading.{reading}
 use Rattle.pk_model.specs.Script.{script}
@@ -15,16 +15,23 @@ use Rattle.pk_model.specs.Run.{Exchange, commands}
 use Rattle.std.proofs.lemmas.List.{length-map}
 use Rattle.pk_model.specs.Sight.{Sight}
 use Rattle.pk_drive.specs.Drive.{Stands}
-use Rattle.pk_drive.specs.Growth.{Goes}
-use Rattle.pk_drive.specs.Wear.{is_worn, roots}
-use Rattle.pk_drive.proofs.Growing.{Goes-reaches, weaken_went}
+use Rattle.pk_model.specs.Growth.{Goes}
+use Rattle.pk_model.specs.Wear.{is_worn, roots}
+use Rattle.pk_model.proofs.Growing.{Goes-reaches, weaken_went}
 use Rattle.pk_serve.specs.Ends.{IsFault}
-use Rattle.pk_serve.specs.Serving.{Serving, KeptAt, rise, installs, Flushed, Breaks, saying}
-use Rattle.pk_serve.specs.Input.{put_back, AtEnd, Spells, IsPart, behind}
-use Rattle.pk_serve.specs.Run.{HasServed, HasRefused, Told, ToldBy, Finished, Failed, Finish, Ends, Served, ServedBy, KeepsScript, KeepsSome, Answers, ServedSome, Causes}
+use Rattle.pk_serve.specs.Serving.{Serving, Answered, KeptAt, installs, Flushed, Breaks, saying}
+use Rattle.pk_model.specs.Kept.{rise}
+use Rattle.pk_serve.specs.Input.{Spells, IsPart, behind}
+use Rattle.pk_serve.specs.Told.{HasServed, HasRefused, Told, ToldBy}
+use Rattle.pk_serve.specs.Loop.{Finished, Failed, Finish, Ends}
+use Rattle.pk_serve.specs.Run.{Served, ServedBy, KeepsScript, KeepsSome, Answers, ServedSome, Causes}
+use Rattle.pk_nand.specs.Calls.{put_back, AtEnd}
 use Rattle.pk_serve.specs.declared.end.End.{End}
 use Rattle.pk_serve.specs.declared.end.End.TheVariants.{Done, Truncated, Input, Output, Flash, Worn, NotBuilt}
+use Rattle.pk_drive.specs.Meter.{meter}
+use Rattle.pk_serve.proofs.Counting.{metered-roots, metered-unworn, few_unworn}
 use Rattle.pk_serve.proofs.Serves.{kept-more}
+use Rattle.pk_serve.proofs.Commanding.{answered-more}
 use Rattle.pk_serve.proofs.Scripts.{IsPart-entry}
 
 -- ---- what is refused is told in other words
@@ -37,7 +44,6 @@ module _ (shape : Shape) (frames : ℕ) (start : Map) (a b : BoardState) (d : Si
     bytes = f.bytes;
     accepted = f.accepted;
     few = f.few;
-    unworn = f.unworn;
     serving = f.serving;
     input = f.input;
     spells = f.spells;
@@ -74,7 +80,6 @@ module _ (shape : Shape) (frames : ℕ) (start : Map) (a b c : BoardState) (d e 
         bytes = f.bytes;
         accepted = f.accepted;
         few = f.few;
-        unworn = f.unworn;
         serving = flushed shape frames start a [] f.all f.m (subst T (sym (append-nil held)) f.serving);
         input = f.input ∙ ap (put_back (f.bytes ++ part)) (sym input);
         spells = f.spells;
@@ -193,10 +198,10 @@ module _ (shape : Shape) (frames : ℕ) (start : Map) (a b : BoardState) (d : Si
         holds = subst M none w.stands.map_is;
         few_faults = w.few_faults;
         metered = w.metered;
-        few_roots = w.few_roots;
+        few_roots = metered-roots f.all (meter a) (meter b) w.metered;
         no_faults = w.no_faults;
         few = omega (arith, f.few, size_of part f);
-        unworn = λ some. f.unworn (λ none. some (ap commands none));
+        unworn = λ some. few_unworn a (metered-unworn f.all (meter a) (meter b) (λ none. some (ap commands none)) w.metered);
       }
 
   served_as : (cs ds : List Command) → cs ≡ ds → Served shape frames start a b says cs → Served shape frames start a b says ds
@@ -223,6 +228,14 @@ module _ (shape : Shape) (frames : ℕ) (start : Map) (a b : BoardState) (d : Si
 
     at_end_of : (left : List ℕ) → b.input ≡ Some left → AtEnd b.input → left ≡ []
     at_end_of left e h = subst AtEnd e h
+
+    -- what was answered of these commands is so of the script
+    answered_script : (cs : List Command) (bytes part : List ℕ) → Spells bytes cs → a.input ≡ put_back (bytes ++ part) b.input → Answered shape frames start a b cs → Answered shape frames start a b (script input).0
+    answered_script cs bytes part spells e answered =
+        let i = input_of (bytes ++ part) e in
+        let s : (script input).0 ≡ cs ++ (script (part ++ i.0)).0 = ap (λ r. r.0) (script_is bytes part i.0 input cs spells i.2) in
+        let T : List Command → Type 0 = λ l. Answered shape frames start a b l in
+        subst T (sym s) (answered-more shape frames start a b cs (script (part ++ i.0)).0 answered)
 
     pub served_by : (end : End) → IsFault end ⊎ (d.pending ≡ []) → Finish shape frames start a b d [] says end → ServedBy shape frames start a b input says end
     unfolding served_of served_as
@@ -282,8 +295,8 @@ module _ (shape : Shape) (frames : ℕ) (start : Map) (a b : BoardState) (d : Si
           (omega (arith, x.goes_on.0, ap (λ s. length s.0) e, size_of x.entry f), x.goes_on.1),
           x.same,
         )
-    served_by Output p x = x.cause
-    served_by Flash p x = x.cause
+    served_by Output p x = (x.cause, answered_script x.cs x.bytes x.part x.spells x.input x.cutoff.answered)
+    served_by Flash p x = (x.cause, answered_script x.cs x.bytes x.part x.spells x.input x.cutoff.answered)
 
     -- a run of these commands is one of the script
     went_script : (cs : List Command) (bytes part : List ℕ) → Spells bytes cs → a.input ≡ put_back (bytes ++ part) b.input
@@ -374,8 +387,8 @@ served_some shape frames start a b d says Truncated (inl f) x = absurd f
 served_some shape frames start a b d says Input (inl f) x = absurd f
 served_some shape frames start a b d says Worn (inl f) x = absurd f
 served_some shape frames start a b d says NotBuilt (inl f) x = absurd f
-served_some shape frames start a b d says Output closed x = x.cause
-served_some shape frames start a b d says Flash closed x = x.cause
+served_some shape frames start a b d says Output closed x = (x.cs, x.cutoff.answered, x.cause)
+served_some shape frames start a b d says Flash closed x = (x.cs, x.cutoff.answered, x.cause)
 
 pub causes_all : (a b : BoardState) (before after : Sight) (says : Shape → ℕ → Map → Request → Bool → Type 0) (end : End) → Ends a b before after [] says end → IsFault end ⊎ (after.pending ≡ []) → Causes a b before says end
 causes_all a b before after says end h closed shape frames start stands none = served_some shape frames start a b after (says shape frames) end closed (h shape frames start stands none)

@@ -1,5 +1,5 @@
 -- One command, from what is held before it to what is held after it.
-use Rattle.std.proofs.Common.{◌≡◌, ◌≢◌, ℕ, suc, ◌+◌, ◌≤◌, List, [], ◌∷◌, ◌++◌, length, sym, ap, ◌∙◌, subst, append-nil, arith}
+use Rattle.std.proofs.Common.{◌≡◌, ◌≢◌, inl, inr, refl, ℕ, suc, ◌+◌, ◌≤◌, ◌<◌, List, [], ◌∷◌, ◌++◌, length, sym, ap, ◌∙◌, subst, append-nil, append_assoc, arith}
 use Rattle.pk_base.specs.Shape.{Shape}
 use Rattle.pk_base.specs.Map.{Map}
 use Rattle.pk_nvme.specs.Command.{Command}
@@ -8,19 +8,43 @@ use Rattle.pk_nand.specs.BoardState.{BoardState}
 use Rattle.pk_nand.specs.Calls.{Rose}
 use Rattle.pk_model.specs.Run.{Exchange, commands}
 use Rattle.pk_model.specs.Sight.{Sight}
-use Rattle.pk_drive.specs.Drive.{OnlyFlash}
-use Rattle.pk_drive.specs.Wear.{roots}
+use Rattle.pk_nand.specs.Effects.{OnlyFlash}
+use Rattle.pk_model.specs.Wear.{roots}
 use Rattle.pk_drive.specs.Meter.{reads_after}
-use Rattle.pk_drive.specs.Exec.{ExecStands, ExecReaches, ExecGoes, most_installs}
-use Rattle.pk_drive.proofs.Growing.{weaken_went}
-use Rattle.pk_serve.specs.Serving.{rise, Serving, Cutoff, Next, Breaks, Keeps, Serves, Stops, KeptAt}
+use Rattle.pk_model.specs.Crashes.{command}
+use Rattle.pk_drive.specs.Call.{CallReaches, CallGoes}
+use Rattle.pk_drive.specs.Exec.{ExecStands, most_installs}
+use Rattle.pk_model.proofs.Growing.{weaken_went}
+use Rattle.pk_serve.specs.Serving.{Serving, Answered, Cutoff, Next, Breaks, Keeps, Serves, Stops, KeptAt}
+use Rattle.pk_model.specs.Kept.{rise}
 use Rattle.pk_serve.specs.declared.end.End.{End}
 use Rattle.pk_serve.specs.declared.end.End.TheVariants.{Flash as FlashFailed}
 use Rattle.pk_serve.proofs.Serves.{Serving-exec, Cutoff-exec, kept-more}
 use Rattle.pk_serve.proofs.Counting.{commands-push}
 use Rattle.pk_serve.proofs.Giving.{rose_from}
 
+append-some : (xs ys : List Command) → xs ≢ [] → xs ++ ys ≢ []
+append-some [] ys some e = some refl
+append-some (x ∷ xs) ys some e = cc
+
 -- more commands were taken
+pub answered-more : (shape : Shape) (frames : ℕ) (start : Map) (a c : BoardState) (cs more : List Command) → Answered shape frames start a c cs → Answered shape frames start a c (cs ++ more)
+answered-more shape frames start a c cs more h = record {
+  served = h.served;
+  unserved = h.unserved ++ more;
+  from_front = sym (append_assoc (commands h.served) h.unserved more) ∙ ap (λ l. l ++ more) h.from_front;
+  left = h.left;
+  ran = h.ran;
+  last = h.last;
+  metered = h.metered;
+  behind = elim h.behind [ inl same ↦ inl same | inr more_read ↦ inr (more_read.0, more_read.1, append-some h.unserved more more_read.2) ];
+  up = h.up;
+  posted = h.posted;
+  unposted = h.unposted;
+  begins = h.begins;
+  posted_are = h.posted_are;
+}
+
 pub cutoff-more : (shape : Shape) (frames : ℕ) (start : Map) (a c : BoardState) (cs more : List Command) → Cutoff shape frames start a c cs → Cutoff shape frames start a c (cs ++ more)
 cutoff-more shape frames start a c cs more h = record {
   went = (
@@ -29,6 +53,7 @@ cutoff-more shape frames start a c cs more h = record {
         (kept-more shape frames start cs more (rise a.read_faults c.read_faults) (rise a.read_faults c.read_faults) (λ k h. h)) h.went.1,
     h.went.2,
   );
+  answered = answered-more shape frames start a c cs more h.answered;
 }
 
 -- what is held, with nothing behind it
@@ -43,21 +68,21 @@ stops_before b c d held taken end cmd h shape frames start a all m size w =
 
 module _ (b c f : BoardState) (d e : Sight) (held now_held : List ℕ) (taken : ℕ) (cmd : Command) (keeps : Keeps b c d e held now_held) where
   -- the command stops the drive
-  pub stops_in : ExecGoes c f e cmd → c.read_faults ≤ f.read_faults → Rose c.stop_faults f.stop_faults → Stops b f d held taken FlashFailed cmd
-  stops_in went up rose shape frames start a all m size w =
+  pub stops_in : CallGoes c f e (command cmd) → c.read_faults ≤ f.read_faults → (reads : ℕ) → f.reads ≡ reads_after c.reads reads → Rose c.stop_faults f.stop_faults → Stops b f d held taken FlashFailed cmd
+  stops_in went up reads read rose shape frames start a all m size w =
       let v = keeps shape frames start a all m w in
-      (Cutoff-exec shape frames start a c e now_held all m v f cmd (went shape frames m v.stands) up, rose_from v.no_faults.stop rose)
+      (Cutoff-exec shape frames start a c e now_held all m v f cmd (went shape frames m v.stands) up reads read, rose_from v.no_faults.stop rose)
 
-  module _ (g : Sight) (rep : Reply) (reads count : ℕ) (one : count ≡ taken + 1) (reaches : ExecReaches c f e cmd) (stands : ExecStands c f e g cmd rep reads) (rest : OnlyFlash c f)
+  module _ (g : Sight) (rep : Reply) (reads count : ℕ) (one : count ≡ taken + 1) (reaches : CallReaches c f e (command cmd)) (stands : ExecStands c f e g cmd rep reads) (rest : OnlyFlash c f)
       (up : c.read_faults ≤ f.read_faults) (unread : rep.status ≡ 0x88 → Rose c.read_faults f.read_faults) (sound : rep.status ≢ 0x88 → f.read_faults ≡ c.read_faults)
-      (no_stop : f.stop_faults ≡ c.stop_faults) (read : f.reads ≡ reads_after c.reads reads) (few_roots : roots f ≤ roots c + most_installs cmd.opcode cmd.size) where
+      (no_stop : f.stop_faults ≡ c.stop_faults) (read : f.reads ≡ reads_after c.reads reads) (unworn : roots c < 9223372036854775808) (few_roots : roots f ≤ roots c + most_installs cmd.opcode cmd.size) where
     executed : (shape : Shape) (frames : ℕ) (start : Map) (a : BoardState) (all : List Exchange) (m : Map) → taken ≡ length all → Serving shape frames start a b d held all m
         → Next shape frames start a f g (now_held ++ reply_record count cmd.cid rep reads) all m cmd
     executed shape frames start a all m size w =
         let v = keeps shape frames start a all m w in
         let T : ℕ → Type 0 = λ n. Next shape frames start a f g (now_held ++ reply_record n cmd.cid rep reads) all m cmd in
         let e' : suc taken ≡ count = omega arith in
-        subst T e' (Serving-exec shape frames start a c e now_held all m v f g cmd rep reads taken size (reaches shape frames m v.stands) (stands shape frames m v.stands) rest up unread sound no_stop read few_roots)
+        subst T e' (Serving-exec shape frames start a c e now_held all m v f g cmd rep reads taken size (reaches shape frames m v.stands) (stands shape frames m v.stands) rest up unread sound no_stop read unworn few_roots)
 
     pub serves_all : (h : BoardState) (i : Sight) (last : List ℕ) → Keeps f h g i (now_held ++ reply_record count cmd.cid rep reads) last → Serves b h d i held last taken cmd
     serves_all h i last more shape frames start a all m size w =

@@ -10,24 +10,28 @@ use Rattle.pk_nvme.specs.Reply.{Reply}
 use Rattle.pk_nvme.specs.declared.request.Request.{Request}
 use Rattle.pk_nand.specs.BoardState.{BoardState}
 use Rattle.pk_nand.specs.Calls.{Rose, last_count}
-use Rattle.pk_model.specs.Answer.{Answer, kind, retrieve}
+use Rattle.pk_nvme.specs.Opcode.{op_of}
+use Rattle.pk_nvme.specs.declared.opcode.Opcode.TheVariants.{Retrieve}
+use Rattle.pk_model.specs.Answer.{Answer}
 use Rattle.pk_model.specs.Bounds.{most_reads}
 use Rattle.pk_model.specs.Run.{Exchange, Step, commands, faults, map_after_all}
 use Rattle.pk_model.specs.Reading.{reading}
 use Rattle.pk_model.specs.Script.{script, commands_in, begins_whole}
-use Rattle.pk_model.specs.Kept.{AtMost}
+use Rattle.pk_model.specs.Kept.{AtMost, rise}
 use Rattle.pk_model.specs.Sight.{Sight}
 use Rattle.pk_drive.specs.Exec.{most_installs}
-use Rattle.pk_drive.specs.Wear.{is_worn, roots}
-use Rattle.pk_serve.specs.Serving.{rise, installs}
-use Rattle.pk_serve.specs.Run.{Served, ToldBy}
+use Rattle.pk_model.specs.Wear.{is_worn, roots}
+use Rattle.pk_serve.specs.Serving.{installs}
+use Rattle.pk_serve.specs.Run.{Served}
+use Rattle.pk_serve.specs.Told.{ToldBy}
 use Rattle.pk_serve.specs.Complete.{ticks, Complete, IsServable, Completes}
 use Rattle.pk_serve.specs.declared.end.End.{End}
 use Rattle.pk_serve.specs.declared.end.End.TheVariants.{Done, Truncated, Input, Output, Flash, Worn, NotBuilt}
-use Rattle.pk_serve.proofs.Counting.{faults-one}
+use Rattle.pk_drive.specs.Meter.{meter}
+use Rattle.pk_serve.proofs.Counting.{faults-one, metered-roots}
 use Rattle.pk_serve.specs.Ends.{IsFault}
 use Rattle.pk_serve.specs.Input.{behind}
-use Rattle.pk_serve.specs.Run.{Ends, Finish}
+use Rattle.pk_serve.specs.Loop.{Ends, Finish}
 use Rattle.pk_serve.proofs.Closing.{told, script_is, front_none, served_by, size_of}
 
 -- ---- answers without a read error
@@ -35,7 +39,7 @@ use Rattle.pk_serve.proofs.Closing.{told, script_is, front_none, served_by, size
 module _ (shape : Shape) (frames : ℕ) where
   -- where no reply tells of a read error, each is an answer, and the map is known
   answered : (xs : List Exchange) (m m' : Map) → faults xs ≡ 0
-      → FoldsTo (λ m x m'. Step shape frames m x.command x.reply m' × (kind x.command.opcode ≡ Some retrieve → x.reads ≤ most_reads shape frames m x.command)) m xs m'
+      → FoldsTo (λ m x m'. Step shape frames m x.command x.reply m' × (op_of x.command.opcode ≡ Some Retrieve → x.reads ≤ most_reads shape frames m x.command)) m xs m'
       → FoldsTo (λ m x m'. Answer shape (limit shape) frames m x.command x.reply m') m xs m' × (m' ≡ map_after_all shape m (commands xs))
   answered [] m m' none ran = (ran, sym ran)
   answered (x ∷ xs) m m' none ran =
@@ -141,7 +145,7 @@ module _ (shape : Shape) (frames : ℕ) (start : Map) (a b : BoardState) (d : Si
       let t : ticks (script input).0 ≡ ticks (commands f.all) + ticks (script (x.part ++ i.0)).0 = ap (λ s. ticks s.0) e ∙ ticks-append (commands f.all) (script (x.part ++ i.0)).0 in
       absurd (elim x.cause [
         | inl full ↦ omega (arith, full, n, more, ok.few)
-        | inr worn ↦ unworn a b (commands f.all) f.serving.few_roots ok.far_from_worn (omega (arith, t, ok.few_ticks)) (omega (arith, more, ok.few)) worn
+        | inr worn ↦ unworn a b (commands f.all) (metered-roots f.all (meter a) (meter b) f.serving.metered) ok.far_from_worn (omega (arith, t, ok.few_ticks)) (omega (arith, more, ok.few)) worn
       ])
 
 -- a drive that serves every request refuses none

@@ -4,10 +4,11 @@ use Rattle.pk_nvme.specs.Command.{Command}
 use Rattle.pk_nand.specs.BoardState.{BoardState}
 use Rattle.pk_model.specs.Script.{script}
 use Rattle.pk_model.specs.Sight.{Sight}
-use Rattle.pk_drive.specs.Wear.{is_worn}
+use Rattle.pk_model.specs.Wear.{is_worn}
 use Rattle.pk_serve.specs.Ends.{IsFault}
-use Rattle.pk_serve.specs.Input.{put_back, AtEnd, Advances, NoEntry, Quits}
-use Rattle.pk_serve.specs.Run.{most_entries}
+use Rattle.pk_serve.specs.Input.{Advances, NoEntry, Quits}
+use Rattle.pk_nand.specs.Calls.{put_back, AtEnd}
+use Rattle.pk_serve.specs.Loop.{most_entries}
 use Rattle.pk_serve.specs.Script.{Consumed, Consumes, SaysOfScript}
 use Rattle.pk_serve.specs.declared.end.End.{End}
 use Rattle.pk_serve.specs.declared.end.End.TheVariants.{Done, Truncated, Input, Output, Flash, Worn, NotBuilt}

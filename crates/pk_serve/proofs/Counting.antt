@@ -3,11 +3,12 @@ use Rattle.std.proofs.Common.{◌≢◌, ◌⊎◌, inl, inr, ◌≡◌, ℕ, su
 use Rattle.std.proofs.lemmas.Bool.Decides.{nat_tests}
 use Rattle.pk_nand.specs.Calls.{Rose}
 use Rattle.pk_nvme.specs.Reply.{reply_record}
-use Rattle.pk_model.specs.Kept.{AtMost}
+use Rattle.pk_model.specs.Kept.{AtMost, rise}
 use Rattle.pk_model.specs.Run.{Exchange, commands, records, faults}
-use Rattle.pk_nvme.specs.Command.{Command}
-use Rattle.pk_drive.specs.Exec.{most_installs}
-use Rattle.pk_serve.specs.Serving.{rise, installs}
+use Rattle.pk_nand.specs.BoardState.{BoardState}
+use Rattle.pk_drive.specs.Meter.{Meter, MeteredAll}
+use Rattle.pk_model.specs.Wear.{is_worn, roots}
+use Rattle.pk_serve.specs.Serving.{installs}
 
 pub at_most-zero : (n : Option ℕ) → AtMost n 0
 at_most-zero None = tt
@@ -65,6 +66,22 @@ faults-one x = by (x.reply.status == 0x88) refl
 
 -- ---- counts of roots
 
-pub installs-push : (cs : List Command) (c : Command) → installs (cs ++ c ∷ []) ≡ installs cs + most_installs c.opcode c.size
-installs-push [] c = omega arith
-installs-push (d ∷ cs) c = let rest : installs (cs ++ c ∷ []) ≡ installs cs + most_installs c.opcode c.size = installs-push cs c in omega arith
+-- the roots that commands installed, and what they began with
+pub metered-roots : (xs : List Exchange) (before after : Meter) → MeteredAll before xs after → after.roots ≤ before.roots + installs (commands xs)
+metered-roots [] before after same = omega (arith, ap (λ (m : Meter). m.roots) same)
+metered-roots (x ∷ xs) before after all =
+    let rest = metered-roots xs all.0 after all.2 in
+    omega (arith, rest, all.1.installs)
+
+pub metered-unworn : (xs : List Exchange) (before after : Meter) → xs ≢ [] → MeteredAll before xs after → before.roots < 9223372036854775808
+metered-unworn [] before after some all = absurd (some refl)
+metered-unworn (x ∷ xs) before after some all = all.1.unworn
+
+-- a board on which the numbers of roots are not used up
+pub unworn_few : (a b : BoardState) → is_worn a ≡ false → roots b ≡ roots a → roots b < 9223372036854775808
+unworn_few a b unworn same =
+    let few : roots a < 9223372036854775808 = grind (arith, nat_tests, unworn) in
+    omega (arith, few, same)
+
+pub few_unworn : (a : BoardState) → roots a < 9223372036854775808 → is_worn a ≡ false
+few_unworn a few = grind (arith, nat_tests, few)

@@ -4,6 +4,9 @@ use Rattle.pk_base.specs.Fields.{u32}
 use Rattle.pk_nvme.specs.Reply.{reply_record, completion}
 use Rattle.pk_nand.specs.BoardState.{BoardState}
 use Rattle.pk_queue.specs.Queue.{bytes_of}
+use Rattle.pk_base.specs.Shape.{Shape}
+use Rattle.pk_base.specs.Map.{Map}
+use Rattle.pk_model.specs.Run.{Exchange}
 use Rattle.pk_model.specs.Sight.{Sight}
 use Rattle.pk_drive.specs.Seen.{reply_of}
 use Rattle.pk_drive.specs.declared.types.Outcome.{Outcome}
@@ -23,54 +26,48 @@ record_is count cid o into entry head is_entry is_head fits =
     ∙ (append_assoc (completion cid count o.status o.result) (u32 o.reads ++ u32 o.data_len) (take o.data_len into)
     ∙ ap (λ t. completion cid count o.status o.result ++ t) (append_assoc (u32 o.reads) (u32 o.data_len) (take o.data_len into)))))
 
--- where there are no data
-record_bare : (count cid : ℕ) (o : Outcome) (into entry head : List ℕ) → entry ≡ completion cid count o.status o.result → head ≡ entry ++ u32 o.reads ++ u32 o.data_len → o.data_len ≤ length into → o.data_len ≡ 0
-    → reply_record count cid (reply_of o into) o.reads ≡ head
-record_bare count cid o into entry head is_entry is_head fits none =
-    record_is count cid o into entry head is_entry is_head fits ∙ (ap (λ n. head ++ take n into) none ∙ append-nil head)
-
--- what is held, with a record behind it
-pub record_whole : (heads : List ℕ) (count cid : ℕ) (o : Outcome) (into entry head : List ℕ) → entry ≡ completion cid count o.status o.result → head ≡ entry ++ u32 o.reads ++ u32 o.data_len → o.data_len ≤ length into
-    → heads ++ reply_record count cid (reply_of o into) o.reads ≡ heads ++ (head ++ take o.data_len into)
-record_whole heads count cid o into entry head is_entry is_head fits = ap (λ t. heads ++ t) (record_is count cid o into entry head is_entry is_head fits)
-
 -- the record is held
-pub keeps_held : (b : BoardState) (d : Sight) (heads now_heads : List (List ℕ)) (count cid : ℕ) (o : Outcome) (into entry head : List ℕ) → entry ≡ completion cid count o.status o.result → head ≡ entry ++ u32 o.reads ++ u32 o.data_len
-    → o.data_len ≤ length into → o.data_len ≡ 0 → now_heads ≡ heads ++ head ∷ [] → Keeps b b d d (bytes_of heads ++ reply_record count cid (reply_of o into) o.reads) (bytes_of now_heads)
-keeps_held b d heads now_heads count cid o into entry head is_entry is_head fits none is shape frames start a all m w =
+pub keeps_held : (b : BoardState) (d : Sight) (heads now_heads : List (List ℕ)) (head more : List ℕ) → more ≡ [] → now_heads ≡ heads ++ head ∷ [] → Keeps b b d d (bytes_of heads ++ (head ++ more)) (bytes_of now_heads)
+keeps_held b d heads now_heads head more none is shape frames start a all m w =
     let T : List ℕ → Type 0 = λ t. Serving shape frames start a b d t all m in
-    let e : bytes_of heads ++ reply_record count cid (reply_of o into) o.reads ≡ bytes_of now_heads =
-    ap (λ t. bytes_of heads ++ t) (record_bare count cid o into entry head is_entry is_head fits none) ∙ (sym (bytes_of-push heads head) ∙ ap bytes_of (sym is)) in
+    let e : bytes_of heads ++ (head ++ more) ≡ bytes_of now_heads =
+    ap (λ t. bytes_of heads ++ t) (ap (λ t. head ++ t) none ∙ append-nil head) ∙ (sym (bytes_of-push heads head) ∙ ap bytes_of (sym is)) in
     subst T e w
 
-module _ (b c : BoardState) (d e : Sight) (heads head more : List ℕ) (whole : List ℕ) (is : whole ≡ heads ++ (head ++ more)) where
+module _ (b c : BoardState) (d e : Sight) (heads head more : List ℕ) where
   -- the commit, or a post of what is held, failed
-  pub breaks_held : (end : End) → Breaks b c d heads end → Breaks b c d whole end
+  pub breaks_held : (end : End) → Breaks b c d heads end → Breaks b c d (heads ++ (head ++ more)) end
   breaks_held end breaks shape frames start a behind all m w =
       let T : List ℕ → Type 0 = λ t. Serving shape frames start a b d t all m in
-      breaks shape frames start a ((head ++ more) ++ behind) all m (subst T (ap (λ t. t ++ behind) is ∙ append_assoc heads (head ++ more) behind) w)
+      breaks shape frames start a ((head ++ more) ++ behind) all m (subst T (append_assoc heads (head ++ more) behind) w)
 
   module _ (flushed : Flushed b c d e heads) (none : e.pending ≡ []) where
     -- the head and the data are posted too
-    pub posts_all : (f g : BoardState) → Posts c f head → Posts f g more → (left : List (List ℕ)) → left ≡ [] → Keeps b g d e whole (bytes_of left)
+    pub posts_all : (f g : BoardState) → Posts c f head → Posts f g more → (left : List (List ℕ)) → left ≡ [] → Keeps b g d e (heads ++ (head ++ more)) (bytes_of left)
     posts_all f g p q left empty shape frames start a all m w =
-        let T : List ℕ → Type 0 = λ t. Serving shape frames start a b d t all m in
-        let U : List ℕ → Type 0 = λ t. Serving shape frames start a c e t all m in
         let V : List ℕ → Type 0 = λ t. Serving shape frames start a f e t all m in
         let L : List (List ℕ) → Type 0 = λ l. Serving shape frames start a g e (bytes_of l) all m in
-        subst L (sym empty) (q e none shape frames start a [] all m (subst V (sym (append-nil more)) (p e none shape frames start a more all m
-        (flushed shape frames start a (head ++ more) all m (subst T is w)))))
+        subst L (sym empty) (q e none shape frames start a [] all m (subst V (sym (append-nil more)) (p e none shape frames start a more all m (flushed shape frames start a (head ++ more) all m w))))
 
-    pub breaks_head : (f : BoardState) (end : End) → PostBreaks c f head end → Breaks b f d whole end
-    breaks_head f end breaks shape frames start a behind all m w =
+    -- what was held is posted
+    behind_held : (shape : Shape) (frames : ℕ) (start : Map) (a : BoardState) (behind : List ℕ) (all : List Exchange) (m : Map)
+        → Serving shape frames start a b d ((heads ++ (head ++ more)) ++ behind) all m → Serving shape frames start a c e (head ++ (more ++ behind)) all m
+    behind_held shape frames start a behind all m w =
         let T : List ℕ → Type 0 = λ t. Serving shape frames start a b d t all m in
         let U : List ℕ → Type 0 = λ t. Serving shape frames start a c e t all m in
-        breaks e none shape frames start a (more ++ behind) all m
-        (subst U (append_assoc head more behind) (flushed shape frames start a ((head ++ more) ++ behind) all m (subst T (ap (λ t. t ++ behind) is ∙ append_assoc heads (head ++ more) behind) w)))
+        subst U (append_assoc head more behind) (flushed shape frames start a ((head ++ more) ++ behind) all m (subst T (append_assoc heads (head ++ more) behind) w))
 
-    pub breaks_data : (f g : BoardState) (end : End) → Posts c f head → PostBreaks f g more end → Breaks b g d whole end
+    pub breaks_head : (f : BoardState) (end : End) → PostBreaks c f head end → Breaks b f d (heads ++ (head ++ more)) end
+    breaks_head f end breaks shape frames start a behind all m w = breaks e none shape frames start a (more ++ behind) all m (behind_held shape frames start a behind all m w)
+
+    pub breaks_data : (f g : BoardState) (end : End) → Posts c f head → PostBreaks f g more end → Breaks b g d (heads ++ (head ++ more)) end
     breaks_data f g end p breaks shape frames start a behind all m w =
-        let T : List ℕ → Type 0 = λ t. Serving shape frames start a b d t all m in
-        let U : List ℕ → Type 0 = λ t. Serving shape frames start a c e t all m in
-        breaks e none shape frames start a behind all m (p e none shape frames start a (more ++ behind) all m
-        (subst U (append_assoc head more behind) (flushed shape frames start a ((head ++ more) ++ behind) all m (subst T (ap (λ t. t ++ behind) is ∙ append_assoc heads (head ++ more) behind) w))))
+        breaks e none shape frames start a behind all m (p e none shape frames start a (more ++ behind) all m (behind_held shape frames start a behind all m w))
+
+-- ---- a record, and its head with the data
+
+pub keeps_record : (b c : BoardState) (d e : Sight) (held last reply bytes : List ℕ) → reply ≡ bytes → Keeps b c d e (held ++ bytes) last → Keeps b c d e (held ++ reply) last
+keeps_record b c d e held last reply bytes is keeps = let T : List ℕ → Type 0 = λ t. Keeps b c d e (held ++ t) last in subst T (sym is) keeps
+
+pub breaks_record : (b c : BoardState) (d : Sight) (held reply bytes : List ℕ) (end : End) → reply ≡ bytes → Breaks b c d (held ++ bytes) end → Breaks b c d (held ++ reply) end
+breaks_record b c d held reply bytes end is breaks = let T : List ℕ → Type 0 = λ t. Breaks b c d (held ++ t) end in subst T (sym is) breaks

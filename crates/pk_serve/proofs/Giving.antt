@@ -6,9 +6,10 @@ use Rattle.pk_nand.specs.BoardState.{BoardState}
 use Rattle.pk_nand.specs.Calls.{Rose, after_post, PostFailed}
 use Rattle.pk_model.specs.Run.{Exchange}
 use Rattle.pk_model.specs.Sight.{Sight}
-use Rattle.pk_drive.specs.Drive.{OnlyFlash}
-use Rattle.pk_drive.specs.Wear.{roots}
-use Rattle.pk_drive.specs.Commit.{CommitStands, CommitReaches, CommitGoes}
+use Rattle.pk_nand.specs.Effects.{OnlyFlash}
+use Rattle.pk_model.specs.Wear.{roots}
+use Rattle.pk_model.specs.Crashes.{commit}
+use Rattle.pk_drive.specs.Call.{KeepsMap, CallReaches, CallGoes}
 use Rattle.pk_serve.specs.Serving.{Serving, Flushed, Breaks, Posts, PostBreaks}
 use Rattle.pk_serve.specs.declared.end.End.{End}
 use Rattle.pk_serve.specs.declared.end.End.TheVariants.{Output, Flash}
@@ -48,11 +49,11 @@ breaks_second b c d xs ys more whole end is p q drive idle shape frames start a 
 
 -- ---- a commit
 
-pub commit-breaks : (b c : BoardState) (drive : Sight) (heads : List ℕ) → CommitGoes b c drive → c.read_faults ≡ b.read_faults → Rose b.stop_faults c.stop_faults → Breaks b c drive heads Flash
-commit-breaks b c drive heads went reading rose shape frames start a behind all m w =
-    (Cutoff-commit shape frames start a b drive (heads ++ behind) all m w c (went shape frames m w.stands) reading, rose_from w.no_faults.stop rose)
+pub commit-breaks : (b c : BoardState) (drive : Sight) (heads : List ℕ) → CallGoes b c drive commit → c.read_faults ≡ b.read_faults → c.reads ≡ b.reads → Rose b.stop_faults c.stop_faults → Breaks b c drive heads Flash
+commit-breaks b c drive heads went reading read rose shape frames start a behind all m w =
+    (Cutoff-commit shape frames start a b drive (heads ++ behind) all m w c (went shape frames m w.stands) reading read, rose_from w.no_faults.stop rose)
 
-module _ (b c : BoardState) (drive after : Sight) (reaches : CommitReaches b c drive) (stands : CommitStands b c drive after)
+module _ (b c : BoardState) (drive after : Sight) (reaches : CallReaches b c drive commit) (stands : KeepsMap b c drive after)
     (rest : OnlyFlash b c) (reading : c.read_faults ≡ b.read_faults) (no_stop : c.stop_faults ≡ b.stop_faults) (read : c.reads ≡ b.reads) (same : roots c ≡ roots b) where
   committed : (shape : Shape) (frames : ℕ) (start : Map) (a : BoardState) (unposted : List ℕ) (all : List Exchange) (m : Map)
       → Serving shape frames start a b drive unposted all m → Serving shape frames start a c after unposted all m

@@ -3,6 +3,7 @@ pub mod Answering
 pub mod Serves
 pub mod Giving
 pub mod Blaming
+pub mod Parting
 pub mod Queueing
 pub mod Finishing
 pub mod Commanding
@@ -16,4 +17,3 @@ pub mod Closing
 pub mod Consuming
 pub mod Completing
 pub mod Submitting
-pub mod Rootless

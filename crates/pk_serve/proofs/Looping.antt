@@ -8,15 +8,17 @@ use Rattle.pk_nvme.specs.Command.{Command, command}
 use Rattle.pk_nvme.specs.Seen.{command_of}
 use Rattle.pk_nvme.specs.declared.request.Request.{Request}
 use Rattle.pk_nand.specs.BoardState.{BoardState}
-use Rattle.pk_nand.specs.Calls.{Rose}
+use Rattle.pk_nand.specs.Calls.{Rose, put_back}
 use Rattle.pk_model.specs.Run.{commands}
 use Rattle.pk_model.specs.Sight.{Sight}
 use Rattle.pk_drive.specs.Drive.{Stands}
-use Rattle.pk_drive.specs.Wear.{is_worn}
+use Rattle.pk_model.specs.Wear.{is_worn}
 use Rattle.pk_serve.specs.Ends.{IsFault}
 use Rattle.pk_serve.specs.Serving.{Serving, StepWithin, saying, Accepted, Refused}
-use Rattle.pk_serve.specs.Input.{put_back, Spells, Advances, Fails, NoEntry, Quits, None_refused}
-use Rattle.pk_serve.specs.Run.{Looping, Finished, Failed, Finish, HasServed, most_entries}
+use Rattle.pk_serve.specs.Input.{Spells, Advances, Fails, NoEntry, Quits, NoneRefused}
+use Rattle.pk_serve.specs.Loop.{Looping, Finished, Failed, Finish, most_entries}
+use Rattle.pk_serve.specs.Told.{HasServed}
+use Rattle.pk_nand.specs.Calls.{put_back}
 use Rattle.pk_serve.specs.declared.end.End.{End}
 use Rattle.pk_serve.specs.declared.end.End.TheVariants.{Done, Truncated, Input, Output, Flash, Worn, NotBuilt}
 use Rattle.pk_serve.proofs.Serves.{Serving-start, Serving-inputs}
@@ -38,7 +40,6 @@ Looping-refusing shape frames start a b drive held taken served refused w = reco
   accepted = w.accepted;
   count = w.count;
   few = w.few;
-  unworn = w.unworn;
   input = w.input;
   spells = w.spells;
 }
@@ -53,21 +54,20 @@ Looping-start shape frames start a drive held says empty stands none =
       serving = subst T (sym empty) (Serving-start shape frames start a drive stands none);
       count = refl;
       few = omega arith;
-      unworn = inl (refl, refl);
       accepted = refl;
       input = put_back-nil a.input;
       spells = Spells-none;
     }
 
 -- no entry is refused by what refuses none
-pub None_refused-any : (a b : BoardState) (no_more : Bool) (refused : List ℕ → Type 0) (end : End) → NoEntry a b no_more None_refused end → NoEntry a b no_more refused end
-None_refused-any a b no_more refused Done n = n
-None_refused-any a b no_more refused Truncated n = n
-None_refused-any a b no_more refused Input n = n
-None_refused-any a b no_more refused Output n = n
-None_refused-any a b no_more refused Flash n = n
-None_refused-any a b no_more refused Worn n = n
-None_refused-any a b no_more refused NotBuilt n = absurd n.0.is
+pub NoneRefused-any : (a b : BoardState) (no_more : Bool) (refused : List ℕ → Type 0) (end : End) → NoEntry a b no_more NoneRefused end → NoEntry a b no_more refused end
+NoneRefused-any a b no_more refused Done n = n
+NoneRefused-any a b no_more refused Truncated n = n
+NoneRefused-any a b no_more refused Input n = n
+NoneRefused-any a b no_more refused Output n = n
+NoneRefused-any a b no_more refused Flash n = n
+NoneRefused-any a b no_more refused Worn n = n
+NoneRefused-any a b no_more refused NotBuilt n = absurd n.0.is
 
 module _ (shape : Shape) (frames : ℕ) (start : Map) (a b c : BoardState) (d e : Sight) (held now_held : List ℕ) (taken : ℕ) (says : Map → Request → Bool → Type 0) (w : Looping shape frames start a b d held taken says) where
   pub Looping-next : taken < most_entries → (accepts : Command → Type 0) → ((cmd : Command) → accepts cmd → Accepted says w.m cmd) → Advances b c d e held now_held taken accepts → Looping shape frames start a c e now_held (taken + 1) says
@@ -82,15 +82,10 @@ module _ (shape : Shape) (frames : ℕ) (start : Map) (a b c : BoardState) (d e 
         serving = x.serving;
         count = omega (arith, w.count, length-append w.all (x.x ∷ []));
         few = omega (arith, few);
-        unworn = elim w.unworn [ inl none ↦ inr (sym none.1 ∙ n.unworn) | inr h ↦ inr h ];
         accepted = FoldsTo-push (λ m y m'. StepWithin shape frames m y m' × Accepted says m y.command) start w.all w.m x.x x.m w.accepted (x.step, subst A (sym x.is) (on n.c n.accepted));
         input = taken-append a.input b.input c.input w.bytes n.bytes w.input n.input;
         spells = subst S (sym (commands-push w.all x.x ∙ ap (λ cmd. commands w.all ++ cmd ∷ []) x.is)) (Spells-append w.bytes n.bytes (commands w.all) (n.c ∷ []) w.spells n.spells);
       }
-
-  -- commands were served, so the first was
-  first_unworn : w.all ≢ [] → is_worn a ≡ false
-  first_unworn some = elim w.unworn [ inl none ↦ absurd (some none.0) | inr h ↦ h ]
 
   -- bytes behind the commands were taken
   finished : (part : List ℕ) → b.input ≡ put_back part c.input → c ≡ record b { input = c.input; in_faults = c.in_faults } → e ≡ d → now_held ≡ held → Finished shape frames start a c e now_held part says
@@ -104,7 +99,6 @@ module _ (shape : Shape) (frames : ℕ) (start : Map) (a b c : BoardState) (d e 
         bytes = w.bytes;
         accepted = w.accepted;
         few = omega (arith, w.count, w.few);
-        unworn = first_unworn;
         serving = subst V (sym same_held) (subst U (sym same_drive) (subst T (sym rest) (Serving-inputs shape frames start a b d held w.all w.m w.serving c.input c.in_faults)));
         input = taken-append a.input b.input c.input w.bytes part w.input more;
         spells = w.spells;

@@ -6,19 +6,20 @@ use Rattle.pk_nvme.specs.Seen.{command_of as command_seen}
 use Rattle.pk_nvme.specs.declared.request.Request.{Request}
 use Rattle.pk_base.specs.Page.{Flash}
 use Rattle.pk_nand.specs.BoardState.{BoardState, shape_or_none}
-use Rattle.pk_drive.specs.Wear.{root_number, is_worn}
-use Rattle.pk_nand.specs.Calls.{Rose}
+use Rattle.pk_model.specs.Wear.{root_number, is_worn}
+use Rattle.pk_nand.specs.Calls.{Rose, put_back}
 use Rattle.pk_base.specs.Map.{Map}
-use Rattle.pk_model.specs.Script.{value_size as value_bytes}
+use Rattle.pk_model.specs.Script.{value_follows as value_bytes}
 use Rattle.pk_model.specs.Run.{Exchange}
 use Rattle.pk_model.specs.Sight.{Sight}
 use Rattle.pk_drive.specs.Exec.{IsValue}
 use Rattle.pk_serve.specs.Serving.{Serving, Serves, Stops}
 use Rattle.pk_serve.specs.declared.end.End.{End}
 use Rattle.pk_serve.specs.Ends.{IsFault}
-use Rattle.pk_serve.specs.Input.{put_back, TookFailed, Entered, Valued, NoValue, Advances, Fails, Breaks_off, Fails_at, Rejects, NoEntry, None_refused, Quits}
+use Rattle.pk_serve.specs.Input.{TookFailed, Entered, Valued, NoValue, Advances, Fails, BreaksOff, FailsAt, Rejects, NoEntry, NoneRefused, Quits}
+use Rattle.pk_nand.specs.Calls.{put_back}
 use Rattle.pk_serve.proofs.Serves.{Serving-inputs}
-use Rattle.pk_serve.proofs.Looping.{None_refused-any}
+use Rattle.pk_serve.proofs.Looping.{NoneRefused-any}
 use Rattle.pk_serve.proofs.Scripts.{taken-append, Spells-one, IsPart-value}
 use Rattle.pk_serve.proofs.Entering.{input_too, failed_too, both_too}
 
@@ -46,15 +47,14 @@ module _ (a m n : BoardState) (entry : List ℕ) (entered : Entered a m entry) (
     taken_all : a.input ≡ put_back (entry ++ valued.value) b.input
     taken_all = taken-append a.input m.input n.input entry valued.value entered.input valued.input ∙ ap (put_back (entry ++ valued.value)) (sym same)
 
-    pub Advances-one : (after : Sight) (now_held : List ℕ) (accepts : Command → Type 0) → is_worn a ≡ false → accepts (command_seen r valued.value)
+    pub Advances-one : (after : Sight) (now_held : List ℕ) (accepts : Command → Type 0) → accepts (command_seen r valued.value)
         → ((v : List ℕ) → IsValue shape r.opcode r.size handed v → Serves n b before after held now_held taken (command_seen r v)) → Advances a b before after held now_held taken accepts
-    Advances-one after now_held accepts unworn is serves = record {
+    Advances-one after now_held accepts is serves = record {
       bytes = entry ++ valued.value;
       c = command_seen r valued.value;
       input = taken_all;
       spells = Spells-one entry valued.value (command_seen r valued.value) size (valued.whole ∙ sym (value_size entry r parsed)) (parsed valued.value);
       accepted = is;
-      unworn = unworn;
       serves = serves_too a n b before (input_too a m n entered.rest valued.rest) after held now_held taken (command_seen r valued.value) (serves valued.value valued.is_value);
     }
 
@@ -71,8 +71,8 @@ module _ (a m n : BoardState) (entry : List ℕ) (entered : Entered a m entry) (
   some_entry : (more : List ℕ) → entry ++ more ≢ []
   some_entry more e = absurd (omega (arith, ap (λ l. length l) e, length-append entry more, size))
 
-  pub Breaks_off-value : NoValue m n r.opcode r.size → Breaks_off a n
-  Breaks_off-value h = record {
+  pub BreaksOff-value : NoValue m n r.opcode r.size → BreaksOff a n
+  BreaksOff-value h = record {
     part = entry ++ h.bytes;
     left = record {
       input = taken-append a.input m.input n.input entry h.bytes entered.input h.input;
@@ -84,8 +84,8 @@ module _ (a m n : BoardState) (entry : List ℕ) (entered : Entered a m entry) (
     at_end = h.at_end;
   }
 
-  pub Fails_at-value : TookFailed m n (if r.opcode == 0x01 then r.size else 0) → Fails_at a n
-  Fails_at-value h = record {
+  pub FailsAt-value : TookFailed m n (if r.opcode == 0x01 then r.size else 0) → FailsAt a n
+  FailsAt-value h = record {
     part = entry ++ h.bytes;
     left = record {
       input = taken-append a.input m.input n.input entry h.bytes entered.input h.input;
@@ -106,7 +106,7 @@ worn_is agrees board shape worn has ok told =
     told shape board.pages (subst T has ok) ∙ ap (λ s. nat_le 9223372036854775808 (root_number (shape_or_none s) board.pages)) (sym has)
 
 -- no entry was taken
-pub Quits-entry : (a b : BoardState) (drive : Sight) (held : List ℕ) (taken : ℕ) (refused : List ℕ → Type 0) (end : End) (worn : Bool) → worn ≡ is_worn a → NoEntry a b worn None_refused end → Quits a b drive held taken refused end
+pub Quits-entry : (a b : BoardState) (drive : Sight) (held : List ℕ) (taken : ℕ) (refused : List ℕ → Type 0) (end : End) (worn : Bool) → worn ≡ is_worn a → NoEntry a b worn NoneRefused end → Quits a b drive held taken refused end
 Quits-entry a b drive held taken refused end worn is n =
-    let T : Bool → Type 0 = λ r. NoEntry a b r None_refused end in
-    inl (None_refused-any a b (is_worn a) refused end (subst T is n))
+    let T : Bool → Type 0 = λ r. NoEntry a b r NoneRefused end in
+    inl (NoneRefused-any a b (is_worn a) refused end (subst T is n))

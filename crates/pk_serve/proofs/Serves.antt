@@ -1,5 +1,5 @@
 -- The steps of serving: what was kept is kept.
-use Rattle.std.proofs.Common.{◌≡◌, ◌≢◌, inl, inr, ℕ, suc, ◌+◌, ◌≤◌, List, [], ◌∷◌, ◌++◌, length, Option, Ok, refl, sym, ◌∙◌, ap, subst, arith, append_assoc, append-nil, replicate}
+use Rattle.std.proofs.Common.{◌≡◌, ◌≢◌, ◌⊎◌, inl, inr, ℕ, suc, ◌+◌, ◌≤◌, ◌<◌, List, [], ◌∷◌, ◌++◌, length, Option, Some, None, Ok, refl, sym, ◌∙◌, ap, subst, arith, append_assoc, append-nil, replicate}
 use Rattle.std.proofs.lemmas.Fn.{FoldsTo-push}
 use Rattle.pk_base.specs.Shape.{Shape, limit}
 use Rattle.pk_base.specs.Page.{Flash}
@@ -9,24 +9,25 @@ use Rattle.pk_base.specs.Map.{Map}
 use Rattle.pk_nvme.specs.Command.{Command}
 use Rattle.pk_nvme.specs.Reply.{Reply, reply_record}
 use Rattle.pk_nand.specs.BoardState.{BoardState}
-use Rattle.pk_nand.specs.Calls.{Rose, after_post, PostFailed}
+use Rattle.pk_nand.specs.Calls.{Rose, longer, after_post, PostFailed}
 use Rattle.pk_nand.specs.Crash.{ReachedBy}
 use Rattle.pk_nand.proofs.Reaching.{Reached-start, Reached-post, Reached-then}
 use Rattle.pk_nand.proofs.CutLemmas.{posted-append}
 use Rattle.pk_model.specs.Answer.{reply, map_after}
 use Rattle.pk_model.specs.Run.{Exchange, commands, faults}
 use Rattle.pk_model.specs.Reading.{reading}
-use Rattle.pk_model.specs.Kept.{AtMost}
+use Rattle.pk_model.specs.Kept.{AtMost, rise}
 use Rattle.pk_model.specs.Sight.{Sight}
-use Rattle.pk_drive.specs.Drive.{Stands, OnlyFlash}
-use Rattle.pk_drive.specs.Wear.{roots}
-use Rattle.pk_drive.specs.Growth.{GrowsAlong, Reaches, Goes}
+use Rattle.pk_drive.specs.Drive.{Stands}
+use Rattle.pk_nand.specs.Effects.{OnlyFlash}
+use Rattle.pk_model.specs.Wear.{roots}
+use Rattle.pk_model.specs.Growth.{GrowsAlong, Reaches, Goes}
 use Rattle.pk_drive.specs.Meter.{Meter, Metered, MeteredAll, meter, reads_after}
-use Rattle.pk_drive.specs.Exec.{ExecCut, Executed, most_installs}
-use Rattle.pk_drive.specs.Commit.{CommitCut}
-use Rattle.pk_drive.proofs.Growing.{weaken, at_end, grows_behind, Goes-then, GrowsAlong-post, Goes-post_failed}
-use Rattle.pk_serve.specs.Serving.{rise, KeptAt, Serving, Cutoff, Next, StepWithin, installs}
-use Rattle.pk_serve.proofs.Counting.{at_most-zero, at_most-more, at_most-one, commands-push, records-push, faults-push, faults-one, installs-push}
+use Rattle.pk_drive.specs.Exec.{Executed, most_installs}
+use Rattle.pk_model.specs.Crashes.{CrashFinds, commit, command}
+use Rattle.pk_model.proofs.Growing.{weaken, at_end, grows_behind, Goes-then, GrowsAlong-post, Goes-post_failed}
+use Rattle.pk_serve.specs.Serving.{KeptAt, Serving, Answered, Cutoff, Next, StepWithin}
+use Rattle.pk_serve.proofs.Counting.{at_most-zero, at_most-more, at_most-one, commands-push, records-push, faults-push, faults-one}
 use Rattle.pk_serve.proofs.Answering.{reply_other, answers}
 
 -- more commands and more faults
@@ -43,6 +44,15 @@ kept-more shape frames start cs more n later up f q k = record {
   begins = k.begins;
   few_faults = up (faults k.served) k.few_faults;
 }
+
+-- two posts in a row
+longer-append : (told : Option (List ℕ)) (xs ys : List ℕ) → longer (longer told xs) ys ≡ longer told (xs ++ ys)
+longer-append None xs ys = refl
+longer-append (Some told) xs ys = ap (λ l. Some l) (append_assoc told xs ys)
+
+-- what was read from one board to another: nothing, or by one more command
+abbrev ReadBehind : BoardState → BoardState → List Command → Type 0
+ReadBehind b c more = (c.reads ≡ b.reads) ⊎ ((n : ℕ) × (c.reads ≡ reads_after b.reads n) × (more ≢ []))
 
 -- nothing more was given out
 none_more : (P : List ℕ → Type 0) (out q : List ℕ) → q ≡ [] → P out → P (out ++ q)
@@ -109,7 +119,7 @@ module _ (shape : Shape) (frames : ℕ) (start : Map) (a b : BoardState) (drive 
   -- ---- a command
 
   -- every cut of a command
-  exec_cut : (c : Command) (later : ℕ) → b.read_faults ≤ later → (f : Flash) (q : List ℕ) → ExecCut shape b.pages m c f q
+  exec_cut : (c : Command) (later : ℕ) → b.read_faults ≤ later → (f : Flash) (q : List ℕ) → CrashFinds shape (command c) b.pages m f q
       → KeptAt shape frames start (commands all ++ c ∷ []) (rise a.read_faults later) f (all_posted w.marks ++ q)
   exec_cut c later up f q cut =
       let P : List ℕ → Type 0 = λ t. KeptAt shape frames start (commands all ++ c ∷ []) (rise a.read_faults later) f t in
@@ -151,22 +161,47 @@ module _ (shape : Shape) (frames : ℕ) (start : Map) (a b : BoardState) (drive 
   grown : (ms : List Mark) → GrowsAlong shape b.pages ms → GrowsAlong shape a.pages (w.marks ++ ms)
   grown ms more = grows_behind shape w.marks a b (KeptAt shape frames start (commands all) (rise a.read_faults b.read_faults)) w.shape_is w.run w.grows ms more
 
+  -- what was answered, where these bytes were posted behind
+  answered_by : (c : BoardState) (more : List Command) (out rest : List ℕ) → out ++ rest ≡ unposted → c.posted ≡ longer b.posted out → b.read_faults ≤ c.read_faults → ReadBehind b c more
+      → Answered shape frames start a c (commands all ++ more)
+  answered_by c more out rest front is up read = record {
+    served = all;
+    unserved = more;
+    from_front = refl;
+    left = m;
+    ran = w.ran;
+    last = meter b;
+    metered = w.metered;
+    behind = read;
+    up = up;
+    posted = all_posted w.marks ++ out;
+    unposted = rest;
+    begins = append_assoc (all_posted w.marks) out rest ∙ (ap (λ t. all_posted w.marks ++ t) front ∙ w.records_are);
+    posted_are = is ∙ (ap (λ o. longer o out) w.run.posted ∙ longer-append a.posted (all_posted w.marks) out);
+  }
+
   extend_went : (more : List Command) (c : BoardState) (P : Flash → List ℕ → Type 0) → b.read_faults ≤ c.read_faults
       → ((f : Flash) (q : List ℕ) → P f q → KeptAt shape frames start (commands all ++ more) (rise a.read_faults c.read_faults) f (all_posted w.marks ++ q))
+      → ((f : Flash) (q : List ℕ) → P f q → (rest : List ℕ) × (q ++ rest ≡ unposted)) → ReadBehind b c more
       → Goes shape b c P → Cutoff shape frames start a c (commands all ++ more)
-  extend_went more c P up kept went =
-      record { went = Goes-then shape w.marks a b (KeptAt shape frames start (commands all ++ more) (rise a.read_faults c.read_faults)) w.shape_is (before more c.read_faults up) w.grows c P kept went }
+  extend_went more c P up kept fronts read went =
+      let out = all_posted went.0 in
+      let front = fronts c.pages out (went.1.cuts c.pages out went.1.stands) in
+      record {
+        went = Goes-then shape w.marks a b (KeptAt shape frames start (commands all ++ more) (rise a.read_faults c.read_faults)) w.shape_is (before more c.read_faults up) w.grows c P kept went;
+        answered = answered_by c more out front.0 front.1 went.1.posted up read;
+      }
 
   -- a command was served
   pub Serving-exec : (c : BoardState) (e : Sight) (cmd : Command) (rep : Reply) (reads taken : ℕ) → taken ≡ length all
-      → Reaches shape b c (ExecCut shape b.pages m cmd) → Executed shape frames c e m cmd rep reads → OnlyFlash b c
+      → Reaches shape b c (CrashFinds shape (command cmd) b.pages m) → Executed shape frames c e m cmd rep reads → OnlyFlash b c
       → b.read_faults ≤ c.read_faults → (rep.status ≡ 0x88 → Rose b.read_faults c.read_faults) → (rep.status ≢ 0x88 → c.read_faults ≡ b.read_faults)
-      → c.stop_faults ≡ b.stop_faults → c.reads ≡ reads_after b.reads reads → roots c ≤ roots b + most_installs cmd.opcode cmd.size
+      → c.stop_faults ≡ b.stop_faults → c.reads ≡ reads_after b.reads reads → roots b < 9223372036854775808 → roots c ≤ roots b + most_installs cmd.opcode cmd.size
       → Next shape frames start a c e (unposted ++ reply_record (suc taken) cmd.cid rep reads) all m cmd
-  Serving-exec c e cmd rep reads taken size reached done rest up unread sound no_stop read few_roots =
+  Serving-exec c e cmd rep reads taken size reached done rest up unread sound no_stop read unworn few_roots =
       let x : Exchange = record { command = cmd; reply = rep; reads = reads } in
-      let silent : all_posted reached.0 ≡ [] = (at_end reached.0 b c (ExecCut shape b.pages m cmd) reached.1).0 in
-      let more = extend (cmd ∷ []) c (ExecCut shape b.pages m cmd) up (exec_cut cmd c.read_faults up) reached.0 reached.1 in
+      let silent : all_posted reached.0 ≡ [] = (at_end reached.0 b c (CrashFinds shape (command cmd) b.pages m) reached.1).0 in
+      let more = extend (cmd ∷ []) c (CrashFinds shape (command cmd) b.pages m) up (exec_cut cmd c.read_faults up) reached.0 reached.1 in
       let R : List Command → Type 0 = λ l. ReachedBy (w.marks ++ reached.0) a c (KeptAt shape frames start l (rise a.read_faults c.read_faults)) in
       record {
         x = x;
@@ -190,8 +225,7 @@ module _ (shape : Shape) (frames : ℕ) (start : Map) (a b : BoardState) (drive 
             | inr bad ↦ few_more (rise a.read_faults c.read_faults) all x 1 bad.1 (at_most-one a.read_faults b.read_faults c.read_faults (faults all) w.rose (unread bad.0) w.few_faults)
           ];
           rose = omega (arith, w.rose, up);
-          metered = FoldsTo-push Metered (meter a) all (meter b) x (meter c) w.metered (record { reads = read; failed = unread; sound = sound });
-          few_roots = omega (arith, w.few_roots, few_roots, ap installs (commands-push all x), installs-push (commands all) cmd);
+          metered = FoldsTo-push Metered (meter a) all (meter b) x (meter c) w.metered (record { reads = read; failed = unread; sound = sound; unworn = unworn; installs = few_roots });
           no_faults = record {
             output = ap (λ s. s.out_faults) rest ∙ w.no_faults.output;
             stop = no_stop ∙ w.no_faults.stop;
@@ -200,12 +234,12 @@ module _ (shape : Shape) (frames : ℕ) (start : Map) (a b : BoardState) (drive 
       }
 
   -- a command stopped the drive
-  pub Cutoff-exec : (c : BoardState) (cmd : Command) → Goes shape b c (ExecCut shape b.pages m cmd) → b.read_faults ≤ c.read_faults → Cutoff shape frames start a c (commands all ++ cmd ∷ [])
-  Cutoff-exec c cmd went up = extend_went (cmd ∷ []) c (ExecCut shape b.pages m cmd) up (exec_cut cmd c.read_faults up) went
+  pub Cutoff-exec : (c : BoardState) (cmd : Command) → Goes shape b c (CrashFinds shape (command cmd) b.pages m) → b.read_faults ≤ c.read_faults → (reads : ℕ) → c.reads ≡ reads_after b.reads reads → Cutoff shape frames start a c (commands all ++ cmd ∷ [])
+  Cutoff-exec c cmd went up reads read = extend_went (cmd ∷ []) c (CrashFinds shape (command cmd) b.pages m) up (exec_cut cmd c.read_faults up) (λ f q cut. (unposted, ap (λ t. t ++ unposted) cut.0)) (inr (reads, read, λ e. cc)) went
 
   -- ---- a commit
 
-  commit_cut : (later : ℕ) → b.read_faults ≤ later → (f : Flash) (q : List ℕ) → CommitCut shape b.pages m f q
+  commit_cut : (later : ℕ) → b.read_faults ≤ later → (f : Flash) (q : List ℕ) → CrashFinds shape commit b.pages m f q
       → KeptAt shape frames start (commands all ++ []) (rise a.read_faults later) f (all_posted w.marks ++ q)
   commit_cut later up f q cut =
       let P : List ℕ → Type 0 = λ t. KeptAt shape frames start (commands all ++ []) (rise a.read_faults later) f t in
@@ -216,14 +250,14 @@ module _ (shape : Shape) (frames : ℕ) (start : Map) (a b : BoardState) (drive 
       ])
 
   -- what was pending is on the flash
-  pub Serving-commit : (c : BoardState) (e : Sight) → Reaches shape b c (CommitCut shape b.pages m) → Stands shape frames c e m → OnlyFlash b c
+  pub Serving-commit : (c : BoardState) (e : Sight) → Reaches shape b c (CrashFinds shape commit b.pages m) → Stands shape frames c e m → OnlyFlash b c
       → c.read_faults ≡ b.read_faults → c.stop_faults ≡ b.stop_faults → c.reads ≡ b.reads → roots c ≡ roots b → Serving shape frames start a c e unposted all m
   Serving-commit c e reached stands rest same_reads no_stop read same_roots =
       let up : b.read_faults ≤ c.read_faults = omega (arith, same_reads) in
-      let silent : all_posted reached.0 ≡ [] = (at_end reached.0 b c (CommitCut shape b.pages m) reached.1).0 in
-      let more = extend [] c (CommitCut shape b.pages m) up (commit_cut c.read_faults up) reached.0 reached.1 in
+      let silent : all_posted reached.0 ≡ [] = (at_end reached.0 b c (CrashFinds shape commit b.pages m) reached.1).0 in
+      let more = extend [] c (CrashFinds shape commit b.pages m) up (commit_cut c.read_faults up) reached.0 reached.1 in
       let R : List Command → Type 0 = λ l. ReachedBy (w.marks ++ reached.0) a c (KeptAt shape frames start l (rise a.read_faults c.read_faults)) in
-      let same : meter b ≡ meter c = λ k. record { reads = sym read k; read_faults = sym same_reads k } in
+      let same : meter b ≡ meter c = λ k. record { reads = sym read k; read_faults = sym same_reads k; roots = sym same_roots k } in
       let M : Meter → Type 0 = λ t. MeteredAll (meter a) all t in
       record {
         ran = w.ran;
@@ -236,18 +270,17 @@ module _ (shape : Shape) (frames : ℕ) (start : Map) (a b : BoardState) (drive 
         few_faults = at_most-more a.read_faults b.read_faults c.read_faults (faults all) up w.few_faults;
         rose = omega (arith, w.rose, up);
         metered = subst M same w.metered;
-        few_roots = omega (arith, w.few_roots, same_roots);
         no_faults = record {
           output = ap (λ s. s.out_faults) rest ∙ w.no_faults.output;
           stop = no_stop ∙ w.no_faults.stop;
         };
       }
 
-  pub Cutoff-commit : (c : BoardState) → Goes shape b c (CommitCut shape b.pages m) → c.read_faults ≡ b.read_faults → Cutoff shape frames start a c (commands all)
-  Cutoff-commit c went same_reads =
+  pub Cutoff-commit : (c : BoardState) → Goes shape b c (CrashFinds shape commit b.pages m) → c.read_faults ≡ b.read_faults → c.reads ≡ b.reads → Cutoff shape frames start a c (commands all)
+  Cutoff-commit c went same_reads read =
       let up : b.read_faults ≤ c.read_faults = omega (arith, same_reads) in
       let R : List Command → Type 0 = λ l. Cutoff shape frames start a c l in
-      subst R (append-nil (commands all)) (extend_went [] c (CommitCut shape b.pages m) up (commit_cut c.read_faults up) went)
+      subst R (append-nil (commands all)) (extend_went [] c (CrashFinds shape commit b.pages m) up (commit_cut c.read_faults up) (λ f q cut. (unposted, ap (λ t. t ++ unposted) cut.0)) (inl read) went)
 
   -- ---- a post of a front of what is not posted, where nothing is pending
 
@@ -277,18 +310,19 @@ module _ (shape : Shape) (frames : ℕ) (start : Map) (a b : BoardState) (drive 
         few_faults = w.few_faults;
         rose = w.rose;
         metered = w.metered;
-        few_roots = w.few_roots;
         no_faults = record { output = w.no_faults.output; stop = w.no_faults.stop };
       }
 
   pub Cutoff-post : (c : BoardState) (bytes behind : List ℕ) → drive.pending ≡ [] → bytes ++ behind ≡ unposted → PostFailed b c bytes → Cutoff shape frames start a c (commands all)
   Cutoff-post c bytes behind none front failed =
       let same : c.read_faults ≡ b.read_faults = ap (λ s. s.read_faults) failed.rest in
-      let P : Flash → List ℕ → Type 0 = λ f q. KeptAt shape frames start (commands all ++ []) (rise a.read_faults b.read_faults) f (all_posted w.marks ++ q) in
+      let K : Flash → List ℕ → Type 0 = λ f q. KeptAt shape frames start (commands all ++ []) (rise a.read_faults b.read_faults) f (all_posted w.marks ++ q) in
+      let P : Flash → List ℕ → Type 0 = λ f q. K f q × ((rest : List ℕ) × (q ++ rest ≡ unposted)) in
       let up : b.read_faults ≤ c.read_faults = omega (arith, same) in
       let R : List Command → Type 0 = λ l. Cutoff shape frames start a c l in
       let N : ℕ → Type 0 = λ n. (f : Flash) (q : List ℕ) → P f q → KeptAt shape frames start (commands all ++ []) (rise a.read_faults n) f (all_posted w.marks ++ q) in
-      subst R (append-nil (commands all)) (extend_went [] c P up (subst N (sym same) (λ f q h. h)) (Goes-post_failed shape b bytes P (post_cut (held_now none) bytes behind front) c failed))
+      subst R (append-nil (commands all)) (extend_went [] c P up (subst N (sym same) (λ f q h. h.0)) (λ f q h. h.1) (inl (ap (λ s. s.reads) failed.rest))
+      (Goes-post_failed shape b bytes P (λ out rest is. (post_cut (held_now none) bytes behind front out rest is, (rest ++ behind, sym (append_assoc out rest behind) ∙ (ap (λ t. t ++ behind) is ∙ front)))) c failed))
 
   -- ---- calls that leave the flash and the host's bytes
 
@@ -305,7 +339,6 @@ module _ (shape : Shape) (frames : ℕ) (start : Map) (a b : BoardState) (drive 
     few_faults = w.few_faults;
     rose = w.rose;
     metered = w.metered;
-    few_roots = w.few_roots;
     no_faults = record { output = w.no_faults.output; stop = w.no_faults.stop };
   }
 
@@ -335,6 +368,5 @@ Serving-start shape frames start a drive stands none =
       few_faults = at_most-zero (rise a.read_faults a.read_faults);
       rose = omega arith;
       metered = refl;
-      few_roots = omega arith;
       no_faults = record { output = refl; stop = refl };
     }

@@ -7,19 +7,23 @@ use Rattle.pk_nvme.specs.Command.{Command}
 use Rattle.pk_nvme.specs.Reply.{Reply, refusal}
 use Rattle.pk_nand.specs.BoardState.{BoardState, shape_or_none}
 use Rattle.pk_base.specs.Map.{Map}
-use Rattle.pk_model.specs.Answer.{store, retrieve, kind, first_of, check, is_namespace, is_key_length, fault_of, early, late_of, refused, reply, map_after}
+use Rattle.pk_nvme.specs.Opcode.{op_of}
+use Rattle.pk_nvme.specs.declared.opcode.Opcode.TheVariants.{Store, Retrieve}
+use Rattle.pk_model.specs.Answer.{first_of, check, is_namespace, is_key_length, fault_of, early, late_of, refused, reply, map_after}
 use Rattle.pk_model.specs.Run.{Step}
 use Rattle.pk_model.specs.Sight.{Sight}
-use Rattle.pk_drive.specs.Growth.{Reaches, Goes}
-use Rattle.pk_drive.specs.Exec.{Executed, ExecCut, ExecStands, ExecReaches, ExecGoes, IsValue}
-use Rattle.pk_drive.proofs.Growing.{weaken, weaken_went}
+use Rattle.pk_model.specs.Growth.{Reaches, Goes}
+use Rattle.pk_model.specs.Crashes.{CrashFinds, command}
+use Rattle.pk_drive.specs.Call.{CallReaches, CallGoes}
+use Rattle.pk_drive.specs.Exec.{Executed, ExecStands, IsValue}
+use Rattle.pk_model.proofs.Growing.{weaken, weaken_went}
 
 abbrev store_early : Shape → ℕ → ℕ → ℕ → Option ℕ
 store_early shape namespace key_len size =
-    first_of (check (is_namespace store namespace) 0x0B) (first_of (check (is_key_length store key_len) 0x86) (check (nat_le size (greatest shape)) 0x85))
+    first_of (check (is_namespace Store namespace) 0x0B) (first_of (check (is_key_length Store key_len) 0x86) (check (nat_le size (greatest shape)) 0x85))
 
 early_is : (shape : Shape) (c : Command) → c.opcode ≡ 0x01 → early shape c ≡ store_early shape c.namespace c.key_len c.size
-early_is shape c e = ap (λ o. fault_of shape c (kind o)) e
+early_is shape c e = ap (λ o. fault_of shape c (op_of o)) e
 
 first_some : (p q : Option ℕ) → (s : ℕ) × (q ≡ Some s) → (s : ℕ) × (first_of p q ≡ Some s)
 first_some (Some t) q h = (t, refl)
@@ -28,13 +32,13 @@ first_some None q h = h
 too_large : (shape : Shape) (namespace key_len size : ℕ) → greatest shape < size → (s : ℕ) × (store_early shape namespace key_len size ≡ Some s)
 too_large shape namespace key_len size large =
     let e : nat_le size (greatest shape) ≡ false = grind (arith, nat_tests) in
-    first_some (check (is_namespace store namespace) 0x0B) (first_of (check (is_key_length store key_len) 0x86) (check (nat_le size (greatest shape)) 0x85))
-    (first_some (check (is_key_length store key_len) 0x86) (check (nat_le size (greatest shape)) 0x85) (0x85, ap (λ b. check b 0x85) e))
+    first_some (check (is_namespace Store namespace) 0x0B) (first_of (check (is_key_length Store key_len) 0x86) (check (nat_le size (greatest shape)) 0x85))
+    (first_some (check (is_key_length Store key_len) 0x86) (check (nat_le size (greatest shape)) 0x85) (0x85, ap (λ b. check b 0x85) e))
 
 -- a command that is refused early
 module _ (shape : Shape) (most frames : ℕ) (m : Map) (own : List ℕ) (c : Command) (s : ℕ) (e : early shape c ≡ Some s) where
   refused_is : refused shape most m c ≡ Some s
-  refused_is = ap (λ o. first_of o (late_of shape most m c (kind c.opcode))) e
+  refused_is = ap (λ o. first_of o (late_of shape most m c (op_of c.opcode))) e
 
   leaves : map_after shape most m c ≡ m
   unfolding map_after
@@ -55,7 +59,7 @@ module _ (shape : Shape) (frames : ℕ) (c d : Command) (s : ℕ) (ec : early sh
   })
   step_too m a m' (inr x) = absurd (let h : None ≡ Some s = sym x.not_early ∙ ec in cc)
 
-  cut_too : (start : Flash) (m : Map) (f : Flash) (q : List ℕ) → ExecCut shape start m c f q → ExecCut shape start m d f q
+  cut_too : (start : Flash) (m : Map) (f : Flash) (q : List ℕ) → CrashFinds shape (command c) start m f q → CrashFinds shape (command d) start m f q
   cut_too start m f q cut = (
     cut.0,
     elim cut.1 [
@@ -68,8 +72,8 @@ module _ (shape : Shape) (frames : ℕ) (c d : Command) (s : ℕ) (ec : early sh
   )
 
 -- a Retrieve is no Store
-no_retrieve : (opcode : ℕ) → opcode ≡ 0x01 → kind opcode ≢ Some retrieve
-no_retrieve opcode e h = let g : Some store ≡ Some retrieve = sym (ap kind e) ∙ h in cc
+no_retrieve : (opcode : ℕ) → opcode ≡ 0x01 → op_of opcode ≢ Some Retrieve
+no_retrieve opcode e h = let g : Some Store ≡ Some Retrieve = sym (ap op_of e) ∙ h in cc
 
 module _ (old new : BoardState) (before after : Sight) (c : Command) (v : List ℕ) (is : IsValue (shape_or_none old.shape) c.opcode c.size c.value v) where
   -- the two refusals
@@ -90,16 +94,16 @@ module _ (old new : BoardState) (before after : Sight) (c : Command) (v : List �
     })
   ]
 
-  pub reaches_value : ExecReaches old new before c → ExecReaches old new before (record c { value = v })
+  pub reaches_value : CallReaches old new before (command c) → CallReaches old new before (command (record c { value = v }))
   reaches_value h shape frames m s = elim is [
-    | inl same ↦ (let T : List ℕ → Type 0 = λ x. Reaches shape old new (ExecCut shape old.pages m (record c { value = x })) in subst T (sym same) (h shape frames m s))
+    | inl same ↦ (let T : List ℕ → Type 0 = λ x. Reaches shape old new (CrashFinds shape (command (record c { value = x })) old.pages m) in subst T (sym same) (h shape frames m s))
     | inr large ↦ (let r = refused_both shape s.shape_is large in let x = h shape frames m s in
-        (x.0, weaken x.0 old new (ExecCut shape old.pages m c) (ExecCut shape old.pages m (record c { value = v })) (cut_too shape frames c (record c { value = v }) r.0 r.1 r.2 old.pages m) x.1, x.2))
+        (x.0, weaken x.0 old new (CrashFinds shape (command c) old.pages m) (CrashFinds shape (command (record c { value = v })) old.pages m) (cut_too shape frames c (record c { value = v }) r.0 r.1 r.2 old.pages m) x.1, x.2))
   ]
 
-  pub went_value : ExecGoes old new before c → ExecGoes old new before (record c { value = v })
+  pub went_value : CallGoes old new before (command c) → CallGoes old new before (command (record c { value = v }))
   went_value h shape frames m s = elim is [
-    | inl same ↦ (let T : List ℕ → Type 0 = λ x. Goes shape old new (ExecCut shape old.pages m (record c { value = x })) in subst T (sym same) (h shape frames m s))
+    | inl same ↦ (let T : List ℕ → Type 0 = λ x. Goes shape old new (CrashFinds shape (command (record c { value = x })) old.pages m) in subst T (sym same) (h shape frames m s))
     | inr large ↦ (let r = refused_both shape s.shape_is large in let x = h shape frames m s in
-        (x.0, weaken_went x.0 old new (ExecCut shape old.pages m c) (ExecCut shape old.pages m (record c { value = v })) (cut_too shape frames c (record c { value = v }) r.0 r.1 r.2 old.pages m) x.1, x.2))
+        (x.0, weaken_went x.0 old new (CrashFinds shape (command c) old.pages m) (CrashFinds shape (command (record c { value = v })) old.pages m) (cut_too shape frames c (record c { value = v }) r.0 r.1 r.2 old.pages m) x.1, x.2))
   ]

@@ -13,10 +13,11 @@ use Rattle.pk_model.specs.Run.{Step}
 use Rattle.pk_model.specs.Reading.{reading, Holds}
 use Rattle.pk_model.specs.Sight.{Sight}
 use Rattle.pk_drive.specs.Drive.{Stands}
-use Rattle.pk_drive.specs.Growth.{Reaches}
-use Rattle.pk_drive.specs.Exec.{ExecCut, ExecStands, ExecReaches, ExecGoes}
-use Rattle.pk_drive.specs.Commit.{CommitCut, CommitStands, CommitReaches, CommitGoes}
-use Rattle.pk_drive.proofs.Growing.{weaken, weaken_went, at_end, Reaches-then, Goes-then}
+use Rattle.pk_model.specs.Growth.{Reaches}
+use Rattle.pk_model.specs.Crashes.{CrashFinds, commit, command}
+use Rattle.pk_drive.specs.Call.{KeepsMap, CallReaches, CallGoes}
+use Rattle.pk_drive.specs.Exec.{ExecStands}
+use Rattle.pk_model.proofs.Growing.{weaken, weaken_went, at_end, Reaches-then, Goes-then}
 use Rattle.pk_serve.specs.Port.{StepCut, Submits, SubmitStops}
 
 module _ (a b : BoardState) (d : Sight) (c : Command) (shape : Shape) (frames : ℕ) (m : Map) (s : Stands shape frames a d m) (none : d.pending ≡ []) where
@@ -24,7 +25,7 @@ module _ (a b : BoardState) (d : Sight) (c : Command) (shape : Shape) (frames : 
   held = let M : List Entry → Type 0 = λ p. reading shape a.pages p ≡ Ok m in subst M none s.map_is
 
   -- cuts of the command
-  exec_step : (f : Flash) (q : List ℕ) → ExecCut shape a.pages m c f q → StepCut shape m c f q
+  exec_step : (f : Flash) (q : List ℕ) → CrashFinds shape (command c) a.pages m f q → StepCut shape m c f q
   exec_step f q cut = (
     cut.0,
     elim cut.1 [
@@ -39,7 +40,7 @@ module _ (a b : BoardState) (d : Sight) (c : Command) (shape : Shape) (frames : 
   left_of r left (inr x) = inl x.leaves
 
   -- cuts of the commit behind it
-  commit_step : (left : Map) → StepCut shape m c b.pages [] → (left ≡ m) ⊎ (left ≡ map_after shape (limit shape) m c) → (f : Flash) (q : List ℕ) → CommitCut shape b.pages left f q → StepCut shape m c f q
+  commit_step : (left : Map) → StepCut shape m c b.pages [] → (left ≡ m) ⊎ (left ≡ map_after shape (limit shape) m c) → (f : Flash) (q : List ℕ) → CrashFinds shape commit b.pages left f q → StepCut shape m c f q
   commit_step left here from f q cut = (
     cut.0,
     elim cut.1 [
@@ -48,14 +49,14 @@ module _ (a b : BoardState) (d : Sight) (c : Command) (shape : Shape) (frames : 
     ],
   )
 
-pub stops_exec : (a b : BoardState) (d : Sight) (c : Command) → ExecGoes a b d c → SubmitStops a b d c
+pub stops_exec : (a b : BoardState) (d : Sight) (c : Command) → CallGoes a b d (command c) → SubmitStops a b d c
 stops_exec a b d c went shape frames m s none = let w = went shape frames m s in
-    (w.0, weaken_went w.0 a b (ExecCut shape a.pages m c) (StepCut shape m c) (exec_step a b d c shape frames m s none) w.1, w.2)
+    (w.0, weaken_went w.0 a b (CrashFinds shape (command c) a.pages m) (StepCut shape m c) (exec_step a b d c shape frames m s none) w.1, w.2)
 
-module _ (a b f : BoardState) (d e : Sight) (c : Command) (r : Reply) (reads : ℕ) (reaches : ExecReaches a b d c) (stands : ExecStands a b d e c r reads) where
+module _ (a b f : BoardState) (d e : Sight) (c : Command) (r : Reply) (reads : ℕ) (reaches : CallReaches a b d (command c)) (stands : ExecStands a b d e c r reads) where
   module _ (shape : Shape) (frames : ℕ) (m : Map) (s : Stands shape frames a d m) (none : d.pending ≡ []) where
     first : Reaches shape a b (StepCut shape m c)
-    first = let w = reaches shape frames m s in (w.0, weaken w.0 a b (ExecCut shape a.pages m c) (StepCut shape m c) (exec_step a b d c shape frames m s none) w.1, w.2)
+    first = let w = reaches shape frames m s in (w.0, weaken w.0 a b (CrashFinds shape (command c) a.pages m) (StepCut shape m c) (exec_step a b d c shape frames m s none) w.1, w.2)
 
     quiet : all_posted first.0 ≡ []
     quiet = (at_end first.0 a b (StepCut shape m c) first.1).0
@@ -64,13 +65,13 @@ module _ (a b f : BoardState) (d e : Sight) (c : Command) (r : Reply) (reads : �
     seen : (g : Flash) (q : List ℕ) → StepCut shape m c g q → StepCut shape m c g (all_posted first.0 ++ q)
     seen g q h = (ap (λ t. t ++ q) quiet ∙ h.0, h.1)
 
-    second : (g : Flash) (q : List ℕ) → CommitCut shape b.pages (stands shape frames m s).left g q → StepCut shape m c g (all_posted first.0 ++ q)
+    second : (g : Flash) (q : List ℕ) → CrashFinds shape commit b.pages (stands shape frames m s).left g q → StepCut shape m c g (all_posted first.0 ++ q)
     second g q h =
         let x = stands shape frames m s in
         let here : StepCut shape m c b.pages [] = (refl, (at_end first.0 a b (StepCut shape m c) first.1).1) in
         seen g q (commit_step a b d c shape frames m s none x.left here (left_of a b d c shape frames m s none r x.left x.stepped) g q h)
 
-  pub submits_both : (h : Sight) → CommitReaches b f e → CommitStands b f e h → h.pending ≡ [] → Submits a f d h c r
+  pub submits_both : (h : Sight) → CallReaches b f e commit → KeepsMap b f e h → h.pending ≡ [] → Submits a f d h c r
   submits_both h more after done shape frames m s none =
       let x = stands shape frames m s in
       let w = more shape frames x.left x.stands in
@@ -82,12 +83,12 @@ module _ (a b f : BoardState) (d e : Sight) (c : Command) (r : Reply) (reads : �
         stepped = x.stepped;
         stands = y;
         holds = subst M done y.map_is;
-        reached = Reaches-then shape g.0 a b (StepCut shape m c) s.shape_is g.1 g.2 f (CommitCut shape b.pages x.left) (second shape frames m s none) w;
+        reached = Reaches-then shape g.0 a b (StepCut shape m c) s.shape_is g.1 g.2 f (CrashFinds shape commit b.pages x.left) (second shape frames m s none) w;
       }
 
-  pub stops_commit : CommitGoes b f e → SubmitStops a f d c
+  pub stops_commit : CallGoes b f e commit → SubmitStops a f d c
   stops_commit more shape frames m s none =
       let x = stands shape frames m s in
       let w = more shape frames x.left x.stands in
       let g = first shape frames m s none in
-      Goes-then shape g.0 a b (StepCut shape m c) s.shape_is g.1 g.2 f (CommitCut shape b.pages x.left) (second shape frames m s none) w
+      Goes-then shape g.0 a b (StepCut shape m c) s.shape_is g.1 g.2 f (CrashFinds shape commit b.pages x.left) (second shape frames m s none) w

@@ -1,6 +1,7 @@
 -- When every command of a script is served.
 use Rattle.std.specs.Prelude.{◌≡◌, ◌<◌, ◌+◌, ℕ, List, [], ◌∷◌, length, Some, Bool, true, ◌==◌, if◌then◌else◌}
 use Rattle.std.specs.List.{FoldsTo}
+use Rattle.pk_nvme.specs.declared.opcode.TheConstants.{TICK}
 use Rattle.pk_base.specs.Shape.{Shape, limit}
 use Rattle.pk_base.specs.Map.{Map}
 use Rattle.pk_nvme.specs.Command.{Command}
@@ -13,14 +14,14 @@ use Rattle.pk_model.specs.Reading.{Holds}
 use Rattle.pk_model.specs.Script.{script}
 use Rattle.pk_model.specs.Sight.{Sight}
 use Rattle.pk_drive.specs.Drive.{Stands}
-use Rattle.pk_drive.specs.Wear.{roots}
+use Rattle.pk_model.specs.Wear.{roots}
 use Rattle.pk_serve.specs.declared.end.End.{End}
 use Rattle.pk_serve.specs.declared.end.End.TheVariants.{Done}
 
 -- the steps that the Ticks of these commands ask for
 abbrev pub ticks : List Command → ℕ
 ticks [] = 0
-ticks (c ∷ cs) = (if c.opcode == 0xC0 then c.size else 0) + ticks cs
+ticks (c ∷ cs) = (if c.opcode == TICK then c.size else 0) + ticks cs
 
 -- no count of faults rose
 pub record NoneRose (a b : BoardState) : Type 0 where

@@ -1,26 +1,19 @@
 -- What is taken of the input.
 use Rattle.std.specs.Prelude.{◌≡◌, ◌≢◌, ◌⊎◌, ℕ, ◌<◌, ◌≤◌, ◌+◌, ◌-◌, take, List, [], ◌∷◌, ◌++◌, length, Option, Some, None, IfSome, true, false, Bool, ◌==◌, if◌then◌else◌}
+use Rattle.pk_nvme.specs.declared.opcode.TheConstants.{STORE}
 use Rattle.pk_nvme.specs.Command.{Command}
 use Rattle.pk_nand.specs.BoardState.{BoardState}
-use Rattle.pk_nand.specs.Calls.{Rose}
+use Rattle.pk_nand.specs.Calls.{Rose, put_back, AtEnd}
 use Rattle.pk_model.specs.Script.{script}
-use Rattle.pk_base.specs.Shape.{Shape, greatest}
+use Rattle.pk_base.specs.Shape.{Shape}
 use Rattle.pk_model.specs.Sight.{Sight}
-use Rattle.pk_drive.specs.Wear.{is_worn}
+use Rattle.pk_model.specs.Wear.{is_worn}
 use Rattle.pk_drive.specs.Exec.{IsValue}
 use Rattle.pk_serve.specs.Ends.{IsFault}
+use Rattle.pk_serve.specs.Part.{IsHanded}
 use Rattle.pk_serve.specs.Serving.{Serves, Stops}
 use Rattle.pk_serve.specs.declared.end.End.{End}
 use Rattle.pk_serve.specs.declared.end.End.TheVariants.{Done, Truncated, Input, Output, Flash, Worn, NotBuilt}
-
--- the input with these bytes in front, where it is told
-abbrev pub put_back : List ℕ → Option (List ℕ) → Option (List ℕ)
-put_back taken None = None
-put_back taken (Some left) = Some (taken ++ left)
-
--- the input is at its end, where it is told
-abbrev pub AtEnd : Option (List ℕ) → Type 0
-AtEnd input = IfSome input (λ bytes. bytes ≡ [])
 
 -- a script behind these commands
 abbrev pub behind : List Command → (List Command × List ℕ) → (List Command × List ℕ)
@@ -40,14 +33,13 @@ pub record Left (old new : BoardState) (part : List ℕ) : Type 0 where
   pub is_part : IsPart part
   pub rest : new ≡ record old { input = new.input; in_faults = new.in_faults }
 
--- a command was taken and served, on a drive that was not worn
+-- a command was taken and served
 pub record Advances (old new : BoardState) (before after : Sight) (held now_held : List ℕ) (taken : ℕ) (accepts : Command → Type 0) : Type 0 where
   pub bytes : List ℕ
   pub c : Command
   pub input : old.input ≡ put_back bytes new.input
   pub spells : Spells bytes (c ∷ [])
   pub accepted : accepts c
-  pub unworn : is_worn old ≡ false
   pub serves : Serves old new before after held now_held taken c
 
 -- a command was taken, and serving ended in it
@@ -66,7 +58,7 @@ pub record Finds (old new : BoardState) : Type 0 where
   pub at_end : AtEnd new.input
 
 -- it ends inside a command
-pub record Breaks_off (old new : BoardState) : Type 0 where
+pub record BreaksOff (old new : BoardState) : Type 0 where
   pub part : List ℕ
   pub left : Left old new part
   pub some : part ≢ []
@@ -74,13 +66,13 @@ pub record Breaks_off (old new : BoardState) : Type 0 where
   pub at_end : AtEnd new.input
 
 -- it failed
-pub record Fails_at (old new : BoardState) : Type 0 where
+pub record FailsAt (old new : BoardState) : Type 0 where
   pub part : List ℕ
   pub left : Left old new part
   pub rose : Rose old.in_faults new.in_faults
 
 -- another command begins, and no more are taken
-pub record Refuses_more (old new : BoardState) : Type 0 where
+pub record RefusesMore (old new : BoardState) : Type 0 where
   pub part : List ℕ
   pub some : part ≢ []
   pub input : old.input ≡ put_back part new.input
@@ -97,16 +89,16 @@ pub record Rejects (old new : BoardState) (refused : List ℕ → Type 0) : Type
 -- how no command was taken; none is where no more are
 abbrev pub NoEntry : BoardState → BoardState → Bool → (List ℕ → Type 0) → End → Type 0
 NoEntry old new no_more refused Done = Finds old new
-NoEntry old new no_more refused Truncated = Breaks_off old new × (no_more ≡ false)
-NoEntry old new no_more refused Input = (f : Fails_at old new) × (f.part ≢ [] → no_more ≡ false)
+NoEntry old new no_more refused Truncated = BreaksOff old new × (no_more ≡ false)
+NoEntry old new no_more refused Input = (f : FailsAt old new) × (f.part ≢ [] → no_more ≡ false)
 NoEntry old new no_more refused Output = ⊥
 NoEntry old new no_more refused Flash = ⊥
-NoEntry old new no_more refused Worn = Refuses_more old new × (no_more ≡ true)
+NoEntry old new no_more refused Worn = RefusesMore old new × (no_more ≡ true)
 NoEntry old new no_more refused NotBuilt = Rejects old new refused × (no_more ≡ false)
 
 -- no entry is refused
-abbrev pub None_refused : List ℕ → Type 0
-None_refused entry = ⊥
+abbrev pub NoneRefused : List ℕ → Type 0
+NoneRefused entry = ⊥
 
 -- an entry was taken
 pub record Entered (old new : BoardState) (entry : List ℕ) : Type 0 where
@@ -146,18 +138,16 @@ pub record Skipped (old new : BoardState) (size n : ℕ) : Type 0 where
 -- The value behind an entry was taken, and this is handed to the drive.
 pub record Valued (old new : BoardState) (shape : Shape) (opcode size : ℕ) (handed : List ℕ) : Type 0 where
   pub value : List ℕ
-  pub whole : length value ≡ (if opcode == 0x01 then size else 0)
+  pub whole : length value ≡ (if opcode == STORE then size else 0)
   pub is_value : IsValue shape opcode size handed value
-  pub sized : opcode ≡ 0x01 → size ≤ greatest shape → length handed ≡ size
-  pub empty : opcode ≢ 0x01 → handed ≡ []
-  pub too_large : greatest shape < size → handed ≡ []
+  pub is_handed : IsHanded shape opcode size handed
   pub input : old.input ≡ put_back value new.input
   pub rest : new ≡ record old { input = new.input }
 
 -- the input ends inside it
 pub record NoValue (old new : BoardState) (opcode size : ℕ) : Type 0 where
   pub bytes : List ℕ
-  pub few : length bytes < (if opcode == 0x01 then size else 0)
+  pub few : length bytes < (if opcode == STORE then size else 0)
   pub input : old.input ≡ put_back bytes new.input
   pub at_end : AtEnd new.input
   pub rest : new ≡ record old { input = new.input }

@@ -1,8 +1,10 @@
 pub mod Ends
+pub mod Part
 pub mod Serving
 pub mod Input
+pub mod Told
+pub mod Loop
 pub mod Run
 pub mod Script
 pub mod Complete
 pub mod Port
-pub mod Rootless

@@ -11,7 +11,7 @@ use Rattle.pk_model.specs.Run.{Step}
 use Rattle.pk_model.specs.Reading.{Holds}
 use Rattle.pk_model.specs.Sight.{Sight}
 use Rattle.pk_drive.specs.Drive.{Stands}
-use Rattle.pk_drive.specs.Growth.{Reaches, Goes}
+use Rattle.pk_model.specs.Growth.{Reaches, Goes}
 
 -- where it is cut off the flash holds the map before the command or the one after it
 abbrev pub StepCut : Shape → Map → Command → Flash → List ℕ → Type 0

@@ -1,5 +1,5 @@
 -- What stands after some commands were served.
-use Rattle.std.specs.Prelude.{◌≡◌, ℕ, ◌+◌, ◌-◌, ◌≤◌, List, [], ◌∷◌, ◌++◌, length, Option, Some, None, Bool, true, false, nat_le, if◌then◌else◌}
+use Rattle.std.specs.Prelude.{◌≡◌, ◌≢◌, ◌⊎◌, ℕ, ◌+◌, ◌-◌, ◌≤◌, List, [], ◌∷◌, ◌++◌, length, Option, Some, None, Bool, true, false}
 use Rattle.pk_base.specs.Shape.{Shape}
 use Rattle.pk_base.specs.Page.{Flash}
 use Rattle.pk_base.specs.Mark.{Mark, all_posted}
@@ -8,25 +8,21 @@ use Rattle.pk_nvme.specs.Command.{Command, command}
 use Rattle.pk_nvme.specs.Seen.{command_of}
 use Rattle.pk_nvme.specs.declared.request.Request.{Request}
 use Rattle.pk_nand.specs.BoardState.{BoardState}
-use Rattle.pk_nand.specs.Calls.{last_count}
+use Rattle.pk_nand.specs.Calls.{longer}
 use Rattle.pk_nand.specs.Crash.{ReachedBy}
 use Rattle.std.specs.List.{FoldsTo}
-use Rattle.pk_model.specs.Answer.{kind, retrieve}
+use Rattle.pk_nvme.specs.Opcode.{op_of}
+use Rattle.pk_nvme.specs.declared.opcode.Opcode.TheVariants.{Retrieve}
 use Rattle.pk_model.specs.Bounds.{most_reads}
 use Rattle.pk_model.specs.Run.{Exchange, Step, RunWithin, commands, records, faults}
-use Rattle.pk_model.specs.Kept.{Kept, AtMost}
+use Rattle.pk_model.specs.Kept.{Kept, AtMost, rise}
 use Rattle.pk_model.specs.Sight.{Sight}
 use Rattle.pk_drive.specs.Drive.{Stands}
-use Rattle.pk_drive.specs.Wear.{roots}
-use Rattle.pk_drive.specs.Growth.{GrowsAlong, Goes}
-use Rattle.pk_drive.specs.Meter.{meter, MeteredAll}
+use Rattle.pk_model.specs.Growth.{GrowsAlong, Goes}
+use Rattle.pk_drive.specs.Meter.{Meter, meter, MeteredAll, reads_after}
 use Rattle.pk_drive.specs.Exec.{most_installs}
 use Rattle.pk_serve.specs.Ends.{NoFaults, HasCause}
 use Rattle.pk_serve.specs.declared.end.End.{End}
-
--- what a count rose by, or no bound where it has reached its last value
-abbrev pub rise : ℕ → ℕ → Option ℕ
-rise before now = if nat_le last_count now then None else Some (now - before)
 
 -- most roots that these commands install
 abbrev pub installs : List Command → ℕ
@@ -49,12 +45,29 @@ pub record Serving (shape : Shape) (frames : ℕ) (start : Map) (a b : BoardStat
   pub few_faults : AtMost (rise a.read_faults b.read_faults) (faults all)
   pub rose : a.read_faults ≤ b.read_faults
   pub metered : MeteredAll (meter a) all (meter b)
-  pub few_roots : roots b ≤ roots a + installs (commands all)
   pub no_faults : NoFaults a b
+
+-- A front of these commands was answered, each with its number of reads, and what was posted is a front of their records. Behind them nothing was
+-- read, but by the command in which the run ended.
+pub record Answered (shape : Shape) (frames : ℕ) (start : Map) (a b : BoardState) (cs : List Command) : Type 0 where
+  pub served : List Exchange
+  pub unserved : List Command
+  pub from_front : commands served ++ unserved ≡ cs
+  pub left : Map
+  pub ran : RunWithin shape frames start served left
+  pub last : Meter
+  pub metered : MeteredAll (meter a) served last
+  pub behind : (b.reads ≡ last.reads) ⊎ ((more : ℕ) × (b.reads ≡ reads_after last.reads more) × (unserved ≢ []))
+  pub up : last.read_faults ≤ b.read_faults
+  pub posted : List ℕ
+  pub unposted : List ℕ
+  pub begins : posted ++ unposted ≡ records 0 served
+  pub posted_are : b.posted ≡ longer a.posted posted
 
 -- It ended in a fault, or may have. Wherever it was cut, it was kept.
 pub record Cutoff (shape : Shape) (frames : ℕ) (start : Map) (a b : BoardState) (cs : List Command) : Type 0 where
   pub went : Goes shape a b (KeptAt shape frames start cs (rise a.read_faults b.read_faults))
+  pub answered : Answered shape frames start a b cs
 
 -- A call posts these bytes: what was served stays, and those behind them are left.
 abbrev pub Flushed : BoardState → BoardState → Sight → Sight → List ℕ → Type 0
@@ -83,7 +96,7 @@ Keeps old new before after held now_held =
 
 -- one command, with the bound of a Retrieve's reads
 abbrev pub StepWithin : Shape → ℕ → Map → Exchange → Map → Type 0
-StepWithin shape frames m x m' = Step shape frames m x.command x.reply m' × (kind x.command.opcode ≡ Some retrieve → x.reads ≤ most_reads shape frames m x.command)
+StepWithin shape frames m x m' = Step shape frames m x.command x.reply m' × (op_of x.command.opcode ≡ Some Retrieve → x.reads ≤ most_reads shape frames m x.command)
 
 -- what is said of a request on a map: one thing where it was served, another where it was refused
 abbrev pub saying : (Map → Request → Type 0) → (Map → Request → Type 0) → Map → Request → Bool → Type 0

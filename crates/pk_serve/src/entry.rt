@@ -1,13 +1,23 @@
 //! Entries and their values, taken from the input.
 ghost use Rattle.std.specs.Prelude.{◌≡◌, ◌≢◌, ◌≤◌, ◌<◌, ◌+◌, ◌-◌, ◌^◌, ℕ, List, [], length, take, true, false, OnOk, OnErr, IfOk, IfErr, IfSome, Some, None, Ok, MatchOption, ◌==◌, if◌then◌else◌};
 ghost use Rattle.pk_base.specs.Shape.{greatest};
-ghost use Rattle.pk_serve.specs.Input.{NoEntry, None_refused, Entered, Valued, NoValue, TookFailed};
+ghost use Rattle.pk_serve.specs.Input.{NoEntry, NoneRefused, Entered, Valued, NoValue, TookFailed};
 
 use crate::End;
 use crate::input::{fill, skip};
 use pk_base::Shape;
 use pk_nand::{Board, HostFault};
 use pk_nvme::Request;
+use pk_nvme::opcode::STORE;
+
+/// A command that is served as the next one.
+#[derive(Clone, Copy)]
+pub struct Numbered {
+    /// Its entry's fields.
+    pub request: Request,
+    /// How many commands were taken before it.
+    pub before: u32,
+}
 
 /// Takes an entry, or tells why none was taken. None is where no more are to be.
 pub fn take_entry<B: Board>(board: &mut B, entry: &mut [u8], no_more: bool) -> Result<(), End>
@@ -15,7 +25,8 @@ pub fn take_entry<B: Board>(board: &mut B, entry: &mut [u8], no_more: bool) -> R
     ensures ok { OnOk result (Entered (B.state board.old) (B.state board.new) entry.new) }
     ensures taken { OnOk result (no_more ≡ false) }
     ensures len { length entry.new ≡ 64 }
-    ensures err { IfErr result (λ end. NoEntry (B.state board.old) (B.state board.new) no_more None_refused end) }
+    ensures err { IfErr result
+        (λ end. NoEntry (B.state board.old) (B.state board.new) no_more NoneRefused end) }
 {
     let first = match board.fetch(entry) {
         Ok(n) => n,
@@ -47,13 +58,16 @@ pub fn take_value<B: Board>(
 ) -> Result<Option<usize>, HostFault>
     requires room { greatest shape.now ≤ length value.old }
     requires some { 0 < length value.old }
-    ensures ok { IfOk result (λ o. MatchOption o (NoValue (B.state board.old) (B.state board.new) request.now.opcode request.now.size)
-        (λ n. Valued (B.state board.old) (B.state board.new) shape.now request.now.opcode request.now.size (take n value.new))) }
+    ensures ok { IfOk result (λ o. MatchOption o
+        (NoValue (B.state board.old) (B.state board.new) request.now.opcode request.now.size)
+        (λ n. Valued (B.state board.old) (B.state board.new) shape.now request.now.opcode
+        request.now.size (take n value.new))) }
     ensures within { IfOk result (λ o. IfSome o (λ n. n ≤ length value.new)) }
     ensures len { length value.new ≡ length value.old }
-    ensures err { OnErr result (TookFailed (B.state board.old) (B.state board.new) (if request.now.opcode == 0x01 then request.now.size else 0)) }
+    ensures err { OnErr result (TookFailed (B.state board.old) (B.state board.new)
+        (if request.now.opcode == STORE then request.now.size else 0)) }
 {
-    if request.opcode != 0x01 {
+    if request.opcode != STORE {
         return Ok(Some(0));
     }
     if request.size > shape.greatest() {

@@ -15,6 +15,3 @@ mod step;
 pub use end::End;
 pub use port::submit;
 pub use server::Server;
-
-#[cfg(test)]
-mod tests;

@@ -1,19 +1,18 @@
 //! The serving loop.
-ghost use Rattle.std.specs.Prelude.{◌≡◌, ◌≢◌, ◌≤◌, ◌<◌, ◌+◌, ◌-◌, ◌^◌, ◌⊎◌, ℕ, List, [], length, take, true, false, OnOk, OnErr, IfErr, Some};
-ghost use Rattle.pk_base.specs.Shape.{greatest};
+ghost use Rattle.std.specs.Prelude.{◌≡◌, ◌<◌, ◌-◌, ◌^◌, ◌⊎◌, ℕ, List, [], true, false, OnOk, IfErr};
 ghost use Rattle.pk_nvme.specs.Command.{command};
 ghost use Rattle.pk_nvme.specs.Seen.{command_of};
 ghost use Rattle.pk_nvme.specs.declared.request.Request.{Request};
 ghost use Rattle.pk_queue.specs.Queue.{bytes_of};
-ghost use Rattle.pk_drive.specs.Wear.{is_worn};
-ghost use Rattle.pk_serve.specs.Ends.{IsFault, NoFaults, Blames};
+ghost use Rattle.pk_serve.specs.Ends.{IsFault, Blames};
+ghost use Rattle.pk_serve.specs.Part.{IsRunning, HasBuffers, KeepsRunning, SameSizes};
 ghost use Rattle.pk_serve.specs.Input.{Advances, Quits};
-ghost use Rattle.pk_serve.specs.Complete.{Completes};
-ghost use Rattle.pk_serve.specs.Script.{Consumes, SaysOfScript};
-ghost use Rattle.pk_serve.specs.Run.{Ends, Told, ToldBy, KeepsScript, KeepsSome, Answers, Causes};
+ghost use Rattle.pk_serve.specs.Script.{Consumes};
+ghost use Rattle.pk_serve.specs.Told.{ToldBy};
+ghost use Rattle.pk_serve.specs.Loop.{Ends};
 
 use crate::End;
-use crate::entry::{take_entry, take_value};
+use crate::entry::{Numbered, take_entry, take_value};
 use crate::step::{flush, serve_one};
 use pk_base::Shape;
 use pk_drive::Engine;
@@ -31,28 +30,28 @@ pub fn serve_next<D: Engine, B: Board>(
     shape: &Shape,
     taken: u32,
 ) -> Result<(), End>
-    requires agrees { D.agrees drive.old (B.state board.old).shape (B.state board.old).pages }
-    requires runs { (D.sight drive.old).stopped ≡ false }
-    requires shape { (B.state board.old).shape ≡ Some shape.now }
+    requires running { IsRunning (D.agrees drive.old) (D.sight drive.old) (B.state board.old) }
     requires count { taken < 2 ^ 32 - 1 }
-    requires value { greatest shape.now ≤ length value.old }
-    requires some { 0 < length value.old }
-    requires room_list { 65536 ≤ length into.old }
-    requires room_value { greatest shape.now ≤ length into.old }
-    ensures agrees { OnOk result (D.agrees drive.new (B.state board.new).shape (B.state board.new).pages) }
-    ensures runs { OnOk result ((D.sight drive.new).stopped ≡ false) }
-    ensures shape { (B.state board.new).shape ≡ (B.state board.old).shape }
-    ensures room { held.new.room ≡ held.old.room }
-    ensures value { length value.new ≡ length value.old }
-    ensures into { length into.new ≡ length into.old }
-    ensures in_faults { OnOk result ((B.state board.new).in_faults ≡ (B.state board.old).in_faults) }
-    ensures quiet { OnOk result (NoFaults (B.state board.old) (B.state board.new)) }
+    requires buffers { HasBuffers (B.state board.old) shape.now value.old into.old }
+    // The drive, the board and the buffers.
+    ensures runs_on { OnOk result (KeepsRunning (D.agrees drive.new) (D.sight drive.new)
+        (B.state board.old) (B.state board.new)) }
+    ensures sizes { SameSizes (B.state board.old) (B.state board.new) held.old.room held.new.room
+        value.old value.new into.old into.new }
+    ensures in_faults { OnOk result
+        ((B.state board.new).in_faults ≡ (B.state board.old).in_faults) }
+    // The command that was served.
+    ensures advances { OnOk result (Advances (B.state board.old) (B.state board.new)
+        (D.sight drive.old) (D.sight drive.new) (bytes_of held.old.heads) (bytes_of held.new.heads)
+        taken (λ c. (r : Request) × (command_of r c.value ≡ c) × (D.built drive.old r ≡ true))) }
+    // How none was.
     ensures blames { IfErr result (Blames (B.state board.old) (B.state board.new)) }
-    ensures advances { OnOk result (Advances (B.state board.old) (B.state board.new) (D.sight drive.old) (D.sight drive.new) (bytes_of held.old.heads) (bytes_of held.new.heads) taken
-        (λ c. (r : Request) × (command_of r c.value ≡ c) × (D.built drive.old r ≡ true))) }
-    ensures quits { IfErr result (λ end. Quits (B.state board.old) (B.state board.new) (D.sight drive.old) (bytes_of held.old.heads) taken
-        (λ entry. (r : Request) × ((v : List ℕ) → command_of r v ≡ command entry v) × (D.built drive.old r ≡ false)) end) }
-    ensures open { IfErr result (λ end. IsFault end ⊎ ((D.agrees drive.new (B.state board.new).shape (B.state board.new).pages) × (drive.new ≡ drive.old) × (held.new.heads ≡ held.old.heads))) }
+    ensures quits { IfErr result (λ end. Quits (B.state board.old) (B.state board.new)
+        (D.sight drive.old) (bytes_of held.old.heads) taken
+        (λ entry. (r : Request) × ((v : List ℕ) → command_of r v ≡ command entry v)
+        × (D.built drive.old r ≡ false)) end) }
+    ensures open { IfErr result (λ end. IsFault end ⊎ ((D.agrees drive.new (B.state board.new).shape
+        (B.state board.new).pages) × (drive.new ≡ drive.old) × (held.new.heads ≡ held.old.heads))) }
 {
     let worn = drive.is_worn();
     let mut entry = [0u8; 64];
@@ -69,19 +68,16 @@ pub fn serve_next<D: Engine, B: Board>(
         Err(_) => return Err(End::Input),
     };
     match handed {
-        Some(n) => match serve_one(
-            drive,
-            board,
-            held,
-            into,
-            shape,
-            taken,
-            &request,
-            &value[..n],
-        ) {
-            Ok(()) => Ok(()),
-            Err(end) => Err(end),
-        },
+        Some(n) => {
+            let numbered = Numbered {
+                request,
+                before: taken,
+            };
+            match serve_one(drive, board, held, into, shape, &numbered, &value[..n]) {
+                Ok(()) => Ok(()),
+                Err(end) => Err(end),
+            }
+        }
         None => Err(End::Truncated),
     }
 }
@@ -95,19 +91,17 @@ pub fn serve_entries<D: Engine, B: Board>(
     into: &mut [u8],
     shape: &Shape,
 ) -> End
-    requires agrees { D.agrees drive.old (B.state board.old).shape (B.state board.old).pages }
-    requires runs { (D.sight drive.old).stopped ≡ false }
-    requires shape { (B.state board.old).shape ≡ Some shape.now }
+    requires running { IsRunning (D.agrees drive.old) (D.sight drive.old) (B.state board.old) }
     requires none { held.old.heads ≡ [] }
-    requires value { greatest shape.now ≤ length value.old }
-    requires some { 0 < length value.old }
-    requires room_list { 65536 ≤ length into.old }
-    requires room_value { greatest shape.now ≤ length into.old }
+    requires buffers { HasBuffers (B.state board.old) shape.now value.old into.old }
     ensures shape { (B.state board.new).shape ≡ (B.state board.old).shape }
     ensures blames { Blames (B.state board.old) (B.state board.new) result }
     ensures consumes { Consumes (B.state board.old) (B.state board.new) result }
-    ensures ends { Ends (B.state board.old) (B.state board.new) (D.sight drive.old) (D.sight drive.new) (bytes_of held.new.heads) (ToldBy D D.sight D.agrees D.built drive.new) result }
-    ensures open { IsFault result ⊎ ((D.agrees drive.new (B.state board.new).shape (B.state board.new).pages) × ((D.sight drive.new).stopped ≡ false)) }
+    ensures ends { Ends (B.state board.old) (B.state board.new) (D.sight drive.old)
+        (D.sight drive.new) (bytes_of held.new.heads) (ToldBy D D.sight D.agrees D.built drive.new)
+        result }
+    ensures open { IsFault result
+        ⊎ IsRunning (D.agrees drive.new) (D.sight drive.new) (B.state board.new) }
 {
     for taken in 0..u32::MAX {
         match serve_next(drive, board, held, value, into, shape, taken) {
@@ -131,18 +125,15 @@ pub fn serve_all<D: Engine, B: Board>(
     into: &mut [u8],
     shape: &Shape,
 ) -> End
-    requires agrees { D.agrees drive.old (B.state board.old).shape (B.state board.old).pages }
-    requires runs { (D.sight drive.old).stopped ≡ false }
-    requires shape { (B.state board.old).shape ≡ Some shape.now }
+    requires running { IsRunning (D.agrees drive.old) (D.sight drive.old) (B.state board.old) }
     requires none { held.old.heads ≡ [] }
-    requires value { greatest shape.now ≤ length value.old }
-    requires some { 0 < length value.old }
-    requires room_list { 65536 ≤ length into.old }
-    requires room_value { greatest shape.now ≤ length into.old }
+    requires buffers { HasBuffers (B.state board.old) shape.now value.old into.old }
     ensures blames { Blames (B.state board.old) (B.state board.new) result }
     ensures consumes { Consumes (B.state board.old) (B.state board.new) result }
-    ensures ends { Ends (B.state board.old) (B.state board.new) (D.sight drive.old) (D.sight drive.new) [] (ToldBy D D.sight D.agrees D.built drive.new) result }
-    ensures none { IsFault result ⊎ (((D.sight drive.new).pending ≡ []) × (D.agrees drive.new (B.state board.new).shape (B.state board.new).pages)) }
+    ensures ends { Ends (B.state board.old) (B.state board.new) (D.sight drive.old)
+        (D.sight drive.new) [] (ToldBy D D.sight D.agrees D.built drive.new) result }
+    ensures none { IsFault result ⊎ (((D.sight drive.new).pending ≡ [])
+        × (D.agrees drive.new (B.state board.new).shape (B.state board.new).pages)) }
 {
     let end = serve_entries(drive, board, held, value, into, shape);
     match end {
@@ -152,32 +143,4 @@ pub fn serve_all<D: Engine, B: Board>(
             Err(fault) => fault,
         },
     }
-}
-
-/// Serves the script of the input: what is said of the whole.
-pub fn serve_script<D: Engine, B: Board>(
-    drive: &mut D,
-    board: &mut B,
-    held: &mut Queue,
-    value: &mut [u8],
-    into: &mut [u8],
-    shape: &Shape,
-) -> End
-    requires agrees { D.agrees drive.old (B.state board.old).shape (B.state board.old).pages }
-    requires runs { (D.sight drive.old).stopped ≡ false }
-    requires shape { (B.state board.old).shape ≡ Some shape.now }
-    requires none { held.old.heads ≡ [] }
-    requires value { greatest shape.now ≤ length value.old }
-    requires some { 0 < length value.old }
-    requires room_list { 65536 ≤ length into.old }
-    requires room_value { greatest shape.now ≤ length into.old }
-    ensures blames { Blames (B.state board.old) (B.state board.new) result }
-    ensures says { SaysOfScript (B.state board.old) (B.state board.new) result }
-    ensures kept { KeepsScript (B.state board.old) (B.state board.new) (D.sight drive.old) }
-    ensures kept_untold { KeepsSome (B.state board.old) (B.state board.new) (D.sight drive.old) }
-    ensures served { Answers (B.state board.old) (B.state board.new) (D.sight drive.old) (Told D D.sight D.agrees D.built (B.state board.new)) result }
-    ensures causes { Causes (B.state board.old) (B.state board.new) (D.sight drive.old) (Told D D.sight D.agrees D.built (B.state board.new)) result }
-    ensures complete { Completes D D.built (B.state board.old) (B.state board.new) (D.sight drive.old) result }
-{
-    serve_all(drive, board, held, value, into, shape)
 }

@@ -3,10 +3,11 @@ ghost use Rattle.std.specs.Prelude.{◌≡◌, ◌⊎◌, [], false, IfOk, Some}
 ghost use Rattle.pk_serve.specs.Ends.{IsFault, Blames};
 ghost use Rattle.pk_serve.specs.Complete.{Completes};
 ghost use Rattle.pk_serve.specs.Script.{SaysOfScript};
-ghost use Rattle.pk_serve.specs.Run.{Told, KeepsScript, KeepsSome, Answers, Causes};
+ghost use Rattle.pk_serve.specs.Told.{Told};
+ghost use Rattle.pk_serve.specs.Run.{KeepsScript, KeepsSome, Answers, Causes};
 
 use crate::End;
-use crate::serve::serve_script;
+use crate::serve::serve_all;
 use pk_base::Shape;
 use pk_drive::Engine;
 use pk_nand::Board;
@@ -31,7 +32,10 @@ impl Model for Server {
 
     ghost view = { λ s. s.shape };
 
-    ghost invariant = { λ s. (spec.greatest s.shape ≤ length s.value.items) × (0 < length s.value.items) × (spec.greatest s.shape ≤ length s.into.items) × (65536 ≤ length s.into.items) };
+    ghost invariant = { λ s. (spec.greatest s.shape ≤ length s.value.items)
+        × (0 < length s.value.items)
+        × (spec.greatest s.shape ≤ length s.into.items)
+        × (65536 ≤ length s.into.items) };
 }
 
 impl Server {
@@ -59,13 +63,17 @@ impl Server {
         ensures blames { Blames (B.state board.old) (B.state board.new) result }
         ensures says { SaysOfScript (B.state board.old) (B.state board.new) result }
         ensures kept { KeepsScript (B.state board.old) (B.state board.new) (D.sight drive.old) }
-        ensures kept_untold { KeepsSome (B.state board.old) (B.state board.new) (D.sight drive.old) }
-        ensures served { Answers (B.state board.old) (B.state board.new) (D.sight drive.old) (Told D D.sight D.agrees D.built (B.state board.new)) result }
-        ensures causes { Causes (B.state board.old) (B.state board.new) (D.sight drive.old) (Told D D.sight D.agrees D.built (B.state board.new)) result }
-        ensures complete { Completes D D.built (B.state board.old) (B.state board.new) (D.sight drive.old) result }
+        ensures kept_untold { KeepsSome (B.state board.old) (B.state board.new)
+            (D.sight drive.old) }
+        ensures served { Answers (B.state board.old) (B.state board.new) (D.sight drive.old)
+            (Told D D.sight D.agrees D.built (B.state board.new)) result }
+        ensures causes { Causes (B.state board.old) (B.state board.new) (D.sight drive.old)
+            (Told D D.sight D.agrees D.built (B.state board.new)) result }
+        ensures complete { Completes D D.built (B.state board.old) (B.state board.new)
+            (D.sight drive.old) result }
     {
         self.held.clear();
-        serve_script(
+        serve_all(
             drive,
             board,
             &mut self.held,

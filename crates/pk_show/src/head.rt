@@ -13,7 +13,8 @@ pub fn show_head(head: &[u8; 24], into: &mut Bytes) -> bool
     ensures fits { IsTrue result
         ↔ (length into.old.items + length (shown_head head.now) ≤ into.old.room) }
     ensures written { into.new
-        ≡ (if result then record into.old { items = into.old.items ++ shown_head head.now } else into.old) }
+        ≡ (if result then record into.old { items = into.old.items ++ shown_head head.now } else
+        into.old) }
 {
     let head = Head::of(head);
     if into.left() < head.len() {

@@ -5,8 +5,6 @@
 mod head;
 pub mod laws;
 mod piece;
-#[cfg(test)]
-mod tests;
 
 pub use head::show_head;
 pub use piece::show_piece;

@@ -11,7 +11,8 @@ pub fn show_piece(piece: &[u8], into: &mut Bytes) -> bool
     ensures fits { IsTrue result
         ↔ (length into.old.items + 2 * length piece.now ≤ into.old.room) }
     ensures written { into.new
-        ≡ (if result then record into.old { items = into.old.items ++ hex_text piece.now } else into.old) }
+        ≡ (if result then record into.old { items = into.old.items ++ hex_text piece.now } else
+        into.old) }
 {
     if into.left() / 2 < piece.len() {
         return false;

@@ -1,12 +1,13 @@
 -- A commit that is cut leaves what stands under the root, or has its entries in the newest epoch.
 use Rattle.std.proofs.Common.{◌≡◌, inl, inr, ℕ, zero, suc, ◌+◌, ◌-◌, ◌<◌, ◌≤◌, refl, sym, subst, ◌∙◌, arith, List, [], ◌++◌, Some, Ok, append-nil, le_refl, le_of_eq}
 use Rattle.pk_base.specs.Shape.{Shape, epoch_pages}
-use Rattle.pk_base.specs.Page.{Page, Flash, page_at, erased, whole, page_in, pages_of_blocks}
+use Rattle.pk_base.specs.Page.{Page, Flash, page_at, erased, whole, page_in, commits_of}
 use Rattle.pk_base.specs.Entry.{Entry}
 use Rattle.pk_base.specs.Map.{Map}
 use Rattle.pk_base.specs.Mark.{program, after}
 use Rattle.pk_nand.specs.Cut.{MayLeave}
-use Rattle.pk_nand.proofs.Leaving.{page_at-slice_set_same, cut_leaves, done_leaves}
+use Rattle.pk_nand.proofs.Leaving.{page_at-slice_set_same, cut_leaves}
+use Rattle.pk_nand.proofs.Touching.{untouched, untouched_after}
 use Rattle.pk_jrnfmt.specs.Page.{journal_entries}
 use Rattle.pk_jrnfmt.specs.Epoch.{journal}
 use Rattle.pk_rootfmt.specs.Root.{Root}
@@ -15,8 +16,8 @@ use Rattle.pk_model.specs.Found.{Found, newest_epoch, found_under}
 use Rattle.pk_model.specs.Reading.{map_under}
 use Rattle.pk_model.specs.Laws.{IsWholePage}
 use Rattle.pk_base.proofs.ShapeLemmas.{block_pages_positive}
-use Rattle.pk_model.proofs.SamePages.{pages_same}
-use Rattle.pk_model.proofs.Commits.{Blocks, valid_blocks, ends, epoch_split, only_index, roots_stay, former, same_before, stands_apart, under, within_buffer, apart_or_same}
+use Rattle.pk_model.proofs.SamePages.{commits_same}
+use Rattle.pk_model.proofs.Commits.{Blocks, valid_blocks, ends, epoch_split, only_index, roots_stay, former, same_before, stands_apart, under, within_buffer}
 use Rattle.pk_steps.specs.Under.{IsUnder}
 use Rattle.pk_steps.specs.Roots.{committed, Commits, Committed}
 
@@ -35,14 +36,14 @@ module _ (shape : Shape) (flash cut : Flash) (top : ℕ × Root) (found : Found)
   here = page_in shape top.1.newest index
 
   -- the epoch as it is read up to the page, and from it on
-  split : (rest : ℕ) → epoch_pages shape ≡ index + suc rest → newest_epoch shape at' top.1 ≡ journal shape top.1.epoch index found.newest (pages_of_blocks shape at' top.1.newest index (suc rest))
+  split : (rest : ℕ) → epoch_pages shape ≡ index + suc rest → newest_epoch shape at' top.1 ≡ journal shape top.1.epoch index found.newest (commits_of shape at' top.1.newest index (suc rest))
   split rest size =
       let same = same_before shape at at' top found es index bytes positive is_top is_found blocks inside before behind others in
       epoch_split shape at' top.1.epoch top.1.newest blocks.two index rest size (λ j small. rw (same j small) (before j small))
-      ∙ rw (pages_same shape at at' top.1.newest index same, former shape at at' top found es index bytes positive is_top is_found blocks inside before behind others) refl
+      ∙ rw (commits_same shape at at' top.1.newest index same, former shape at at' top found es index bytes positive is_top is_found blocks inside before behind others) refl
 
   -- no page stands behind it
-  ends_behind : (so_far : List Entry) (n : ℕ) → index + suc n ≤ epoch_pages shape → journal shape top.1.epoch (index + 1) so_far (pages_of_blocks shape at' top.1.newest (index + 1) n) ≡ Ok so_far
+  ends_behind : (so_far : List Entry) (n : ℕ) → index + suc n ≤ epoch_pages shape → journal shape top.1.epoch (index + 1) so_far (commits_of shape at' top.1.newest (index + 1) n) ≡ Ok so_far
   ends_behind so_far zero room = refl
   ends_behind so_far (suc n) room = ends shape at' top.1.newest top.1.epoch (index + 1) so_far (suc n) (λ w. subst IsWholePage (unchanged ∙ behind (index + 1) (omega arith) in_it) w)
     where
@@ -85,7 +86,7 @@ pub commits : Commits
 commits shape flash cut top found es m0 m1 index bytes posted is_shape first second commit cut_off =
     let p = page_in shape top.1.newest index in
     let leaves : (k : ℕ) → MayLeave shape (program p bytes) k (page_at flash k) (page_at cut k) = λ k. cut_leaves shape (program p bytes) flash cut posted k cut_off in
-    let others : (k : ℕ) → (k ≡ p → ⊥) → page_at cut k ≡ page_at flash k = λ k other. apart_or_same shape p k bytes _ _ (leaves k) other in
+    let others : (k : ℕ) → (k ≡ p → ⊥) → page_at cut k ≡ page_at flash k = λ k other. untouched shape (program p bytes) k _ _ other (leaves k) in
     let positive = block_pages_positive shape is_shape in
     let blocks = valid_blocks shape (page_at flash) top first.is_top in
     let was_erased = commit.behind index (le_refl index) commit.in_epoch in
@@ -103,6 +104,6 @@ pub commit_done : Committed
 commit_done shape flash top found es m0 m1 index bytes is_shape first second commit =
     let p = page_in shape top.1.newest index in
     let cut = after shape (program p bytes) flash in
-    let others : (k : ℕ) → (k ≡ p → ⊥) → page_at cut k ≡ page_at flash k = λ k other. apart_or_same shape p k bytes _ _ (done_leaves shape (program p bytes) flash k) other in
+    let others : (k : ℕ) → (k ≡ p → ⊥) → page_at cut k ≡ page_at flash k = λ k other. untouched_after shape (program p bytes) flash k other in
     present shape flash cut top found es index bytes (block_pages_positive shape is_shape) first.is_top first.is_found (valid_blocks shape (page_at flash) top first.is_top)
     commit.in_epoch commit.before commit.behind others m1 (page_at-slice_set_same flash p (whole bytes) commit.exists) commit.spells second.is_map

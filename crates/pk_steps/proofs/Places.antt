@@ -90,7 +90,7 @@ any_front_test p (x ∷ xs) ys is = elim (or_cases (p x) (list_any p (xs ++ ys))
 absent : (x : ℕ) (xs : List ℕ) → T (differ (x ∷ xs)) → In x xs → ⊥
 absent x xs d is = refuted (list_any (λ c. x == c) xs) (left_part (not (list_any (λ c. x == c) xs)) (differ xs) d) (is_any x xs is)
 
-differ_cons : (x : ℕ) (xs : List ℕ) → (In x xs → ⊥) → T (differ xs) → T (differ (x ∷ xs))
+pub differ_cons : (x : ℕ) (xs : List ℕ) → (In x xs → ⊥) → T (differ xs) → T (differ (x ∷ xs))
 differ_cons x xs new d = both (not (list_any (λ c. x == c) xs)) (differ xs) (not_of (list_any (λ c. x == c) xs) (λ t. new (any_in x xs t))) d
 
 differ_back : (xs ys : List ℕ) → T (differ (xs ++ ys)) → T (differ ys)
@@ -179,7 +179,7 @@ module _ (shape : Shape) where
     | inr there ↦ let more = any_page pages b there in (more.0, inr more.1, more.2)
   ]
 
-  few_blocks : (pages used : List ℕ) → ((k : ℕ) → In k pages → AnyByRecursion (λ b. k / shape.block_pages ≡ b) used) → length (blocks_with shape pages) ≤ length used
+  pub few_blocks : (pages used : List ℕ) → ((k : ℕ) → In k pages → AnyByRecursion (λ b. k / shape.block_pages ≡ b) used) → length (blocks_with shape pages) ≤ length used
   few_blocks pages used among = no_more (blocks_with shape pages) used (differ_filter (λ b. list_any (λ p. p / shape.block_pages == b) pages) (range_with_len 0 shape.blocks) (differ_range 0 shape.blocks)) (λ b is.
       let with_page = (in_filter (λ c. list_any (λ p. p / shape.block_pages == c) pages) b (range_with_len 0 shape.blocks) is).1 in
       let page = any_page pages b with_page in

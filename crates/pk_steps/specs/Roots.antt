@@ -1,7 +1,7 @@
 -- What a commit and a freeze make of what stands under the root: the statements.
 use Rattle.std.specs.Prelude.{◌≡◌, ◌⊎◌, ℕ, ◌+◌, ◌*◌, ◌<◌, ◌≤◌, List, [], ◌∷◌, ◌++◌, length, true, ◌==◌, if◌then◌else◌, Some}
 use Rattle.pk_base.specs.Shape.{Shape, IsShape, epoch_pages}
-use Rattle.pk_base.specs.Page.{Flash, page_at, erased, page_in}
+use Rattle.pk_base.specs.Page.{Flash, page_at, erased, page_in, commit_page}
 use Rattle.pk_base.specs.Entry.{Entry}
 use Rattle.pk_base.specs.Map.{Map}
 use Rattle.pk_base.specs.Mark.{program, after}
@@ -22,7 +22,7 @@ abbrev pub Commits : Type 0
 Commits =
     (shape : Shape) (flash cut : Flash) (top : ℕ × Root) (found : Found) (es : List Entry) (m0 m1 : Map) (index : ℕ) (bytes posted : List ℕ) → IsShape shape
     → IsUnder shape flash [] top found m0 → IsUnder shape flash es top found m1 → IsCommit shape flash top.1 es index bytes
-    → Cut shape flash (program (page_in shape top.1.newest index) bytes ∷ []) cut posted
+    → Cut shape flash (program (commit_page shape top.1.newest index) bytes ∷ []) cut posted
     → IsUnder shape cut [] top found m0 ⊎ IsUnder shape cut [] top (committed found es) m1
 
 -- the root of a freeze: an empty epoch in these blocks, and the newest one as the older where it has entries
@@ -52,4 +52,4 @@ abbrev pub Committed : Type 0
 Committed =
     (shape : Shape) (flash : Flash) (top : ℕ × Root) (found : Found) (es : List Entry) (m0 m1 : Map) (index : ℕ) (bytes : List ℕ) → IsShape shape
     → IsUnder shape flash [] top found m0 → IsUnder shape flash es top found m1 → IsCommit shape flash top.1 es index bytes
-    → IsUnder shape (after shape (program (page_in shape top.1.newest index) bytes) flash) [] top (committed found es) m1
+    → IsUnder shape (after shape (program (commit_page shape top.1.newest index) bytes) flash) [] top (committed found es) m1

@@ -7,8 +7,9 @@ use Rattle.std.proofs.Math.Seq.{take-append_seam}
 use Rattle.std.proofs.Math.ListN.{drop_of_length-le}
 use Rattle.pk_base.specs.Mark.{Mark}
 use Rattle.pk_nand.specs.BoardState.{BoardState}
-use Rattle.pk_nand.specs.Calls.{Rose, longer, Fetched, FetchFailed, Takes}
-use Rattle.pk_text.specs.Turns.{put_back, AtEnd, Touched}
+use Rattle.pk_nand.specs.Calls.{Rose, longer, Fetched, FetchFailed, Takes, put_back, AtEnd}
+use Rattle.pk_nand.proofs.Resting.{Rests-start}
+use Rattle.pk_text.specs.Turns.{Touched}
 use Rattle.pk_text.specs.Steps.{ahead, Moved, Fed, IsOver, FeedFailed, Filled, Nexted, HeadTaken}
 use Rattle.pk_text.proofs.Turning.{put_back-nil, put_back-append, longer-nil, Fed-then, Fed-none}
 
@@ -28,6 +29,7 @@ Moved-fetched a b n bytes f =
         taken = take n bytes;
         left = takes_back a.input b.input n bytes f.bytes;
         posted = p ∙ longer-nil a.posted;
+        rests = Rests-start a b (ap (λ s. s.shape) f.rest) (ap (λ s. s.pages) f.rest) t p;
         rest = f.rest ∙ ap (λ (x : Option (List ℕ) × Option (List Mark) × ℕ × ℕ). record a { input = b.input; posted = x.0; trail = x.1; in_faults = x.2; out_faults = x.3 }) (λ k. (sym p k, sym t k, sym i k, sym o k));
       };
       in_same = i;
@@ -45,6 +47,7 @@ Feed-failed a b f =
         taken = [];
         left = sym h ∙ put_back-nil b.input;
         posted = p ∙ longer-nil a.posted;
+        rests = Rests-start a b (ap (λ s. s.shape) f.rest) (ap (λ s. s.pages) f.rest) t p;
         rest = f.rest ∙ ap (λ (x : Option (List ℕ) × Option (List ℕ) × Option (List Mark) × ℕ). record a { input = x.0; posted = x.1; trail = x.2; in_faults = b.in_faults; out_faults = x.3 }) (λ k. (sym h k, sym p k, sym t k, sym o k));
       };
       rose = f.faults;

@@ -10,10 +10,10 @@ use Rattle.pk_nvme.proofs.TextLemmas.{hex_text-append, length-hex_text, number_t
 use Rattle.pk_show.specs.Shown.{shown_head, shown as record_line, words, front, head_of}
 use Rattle.pk_nvme.specs.Bytes.{RoomyList}
 use Rattle.pk_nand.specs.BoardState.{BoardState}
-use Rattle.pk_nand.specs.Calls.{after_post, PostFailed}
+use Rattle.pk_nand.specs.Calls.{after_post, PostFailed, put_back, AtEnd}
 use Rattle.pk_text.specs.Written.{Written, ended, before}
 use Rattle.pk_text.specs.Records.{cut_short, data_shown, head_shown, record_shown, records_shown, shown_from}
-use Rattle.pk_text.specs.Turns.{put_back, AtEnd, TurnsFrom}
+use Rattle.pk_text.specs.Turns.{TurnsFrom}
 use Rattle.pk_text.specs.Steps.{ahead, Moved, Advances, Fed, IsOver, Filled, FeedFailed, HeadTaken, Stops}
 use Rattle.pk_text.specs.declared.end.TextEnd.{TextEnd}
 use Rattle.pk_text.specs.declared.end.TextEnd.TheVariants.{Done, Truncated, Input, Output, TooMany, BadLine}

@@ -2,10 +2,11 @@
 use Rattle.std.proofs.Common.{◌≡◌, ℕ, suc, ◌+◌, Bool, true, false, arith, ◌<◌, ◌≤◌, List, [], ◌∷◌, ◌++◌, length, refl, sym, ◌∙◌, ap, subst, append_assoc, append-nil, Option, Some, None}
 use Rattle.std.specs.Prelude.{IfSome, IfErr, OnOk, OnErr, IsTrue, Result, Ok, Err, ◌↔◌}
 use Rattle.pk_nand.specs.BoardState.{BoardState}
-use Rattle.pk_nand.specs.Calls.{Rose, longer, after_post, PostFailed}
+use Rattle.pk_nand.specs.Calls.{Rose, longer, after_post, PostFailed, put_back, AtEnd}
+use Rattle.pk_nand.proofs.Resting.{Rests-same, Rests-then, Rests-post, Rests-post_failed}
 use Rattle.pk_text.specs.Written.{Written, ended, before}
-use Rattle.pk_text.specs.Turns.{put_back, AtEnd, Touched, IsFront, IsAll, InputFailed, OutputFailed, Ends, TurnsFrom, Turns}
-use Rattle.pk_text.specs.Steps.{ahead, Moved, Advances, Fed, IsOver, FeedFailed, Stops}
+use Rattle.pk_text.specs.Turns.{Touched, IsFront, IsAll, InputFailed, OutputFailed, Ends, TurnsFrom, Turns}
+use Rattle.pk_text.specs.Steps.{ahead, Moved, Advances, Fed, IsOver, FeedFailed, Nexted, Stops}
 use Rattle.pk_text.specs.declared.end.TextEnd.{TextEnd}
 use Rattle.pk_text.specs.declared.end.TextEnd.TheVariants.{Done, Truncated, Input, Output, TooMany, BadLine}
 
@@ -41,12 +42,19 @@ Touched-then a b c x y p q = record {
   taken = p.taken ++ q.taken;
   left = taken-append a.input b.input c.input p.taken q.taken p.left q.left;
   posted = q.posted ∙ (ap (λ o. longer o y) p.posted ∙ longer-append a.posted x y);
+  rests = Rests-then a b c (ap (λ (s : BoardState). s.pages) p.rest) p.rests q.rests;
   rest = q.rest ∙ ap (λ (s : BoardState). record s { input = c.input; posted = c.posted; trail = c.trail; in_faults = c.in_faults; out_faults = c.out_faults }) p.rest;
 }
 
 pub Moved-none : (a : BoardState) → Moved a a []
 Moved-none a = record {
-  touched = record { taken = []; left = put_back-nil a.input; posted = longer-nil a.posted; rest = refl };
+  touched = record {
+    taken = [];
+    left = put_back-nil a.input;
+    posted = longer-nil a.posted;
+    rests = Rests-same a a refl;
+    rest = refl;
+  };
   in_same = refl;
   out_same = refl;
 }
@@ -63,7 +71,13 @@ pub Moved-post : (a b : BoardState) (out : List ℕ) → b ≡ after_post a out 
 Moved-post a b out e =
     let M : BoardState → Type 0 = λ s. Moved a s out in
     subst M (sym e) (record {
-      touched = record { taken = []; left = put_back-nil a.input; posted = refl; rest = refl };
+      touched = record {
+        taken = [];
+        left = put_back-nil a.input;
+        posted = refl;
+        rests = Rests-post a (after_post a out) out refl;
+        rest = refl;
+      };
       in_same = refl;
       out_same = refl;
     })
@@ -73,6 +87,7 @@ Touched-failed a b bytes f = record {
   taken = [];
   left = sym (ap (λ s. s.input) f.rest) ∙ put_back-nil b.input;
   posted = f.left.posted_is;
+  rests = Rests-post_failed a b bytes f;
   rest = (let i : b.input ≡ a.input = ap (λ s. s.input) f.rest in let n : b.in_faults ≡ a.in_faults = ap (λ s. s.in_faults) f.rest in
       f.rest ∙ ap (λ (p : Option (List ℕ) × ℕ). record a { input = p.0; in_faults = p.1; posted = b.posted; trail = b.trail; out_faults = b.out_faults }) (λ k. (sym i k, sym n k)));
 }
@@ -117,6 +132,24 @@ Fed-then p q r a b c x y f g = record {
   moved = Moved-then a b c [] [] f.moved g.moved;
 }
 
+-- no byte was taken
+pub Fed-empty : (p : List ℕ) (a : BoardState) (bytes : List ℕ) → bytes ≡ [] → Fed p p a a bytes
+Fed-empty p a bytes none = let T : List ℕ → Type 0 = λ l. Fed p p a a l in subst T (sym none) (Fed-none p a)
+
+-- and then none is ahead
+pub Fed-over : (p q r : List ℕ) (a b c : BoardState) (bytes : List ℕ) (o : Option ℕ) → Fed p q a b bytes → Nexted q r b c o → o ≡ None → Fed p r a c bytes × IsOver r c
+Fed-over p q r a b c bytes o f n none =
+    let N : Option ℕ → Type 0 = λ x. Nexted q r b c x in
+    let F : List ℕ → Type 0 = λ l. Fed p r a c l in
+    let h : Fed q r b c [] × IsOver r c = subst N none n in
+    (subst F (append-nil bytes) (Fed-then p q r a b c bytes [] f h.0), h.1)
+
+pub Fed-over_none : (p q r : List ℕ) (a b c : BoardState) (bytes : List ℕ) (o : Option ℕ) → bytes ≡ [] → Fed p q a b bytes → Nexted q r b c o → o ≡ None → Fed p r a c [] × IsOver r c
+Fed-over_none p q r a b c bytes o empty f n none =
+    let h = Fed-over p q r a b c bytes o f n none in
+    let F : List ℕ → Type 0 = λ l. Fed p r a c l in
+    (subst F empty h.0, h.1)
+
 pub Failed-then : (a b c : BoardState) → Moved a b [] → FeedFailed b c → FeedFailed a c
 Failed-then a b c m f = record {
   touched = Touched-then a b c [] [] m.touched f.touched;
@@ -128,6 +161,12 @@ Failed-then a b c m f = record {
 
 pub Advances-none : (f : List ℕ → Written) (o : Option (List ℕ)) (a : BoardState) → Advances f f o o a a
 Advances-none f o a = record { bytes = []; out = []; came = put_back-nil o; spells = λ rest. refl; moved = Moved-none a }
+
+-- no byte was fetched yet
+pub Advances-empty : (f : List ℕ → Written) (pending : List ℕ) (a : BoardState) → pending ≡ [] → Advances f f (ahead [] a) (ahead pending a) a a
+Advances-empty f pending a none =
+    let T : List ℕ → Type 0 = λ p. Advances f f (ahead [] a) (ahead p a) a a in
+    subst T (sym none) (Advances-none f (ahead [] a) a)
 
 pub Advances-then : (f g h : List ℕ → Written) (u v w : Option (List ℕ)) (a b c : BoardState) → Advances f g u v a b → Advances g h v w b c → Advances f h u w a c
 Advances-then f g h u v w a b c p q = record {
@@ -250,6 +289,10 @@ if_err_map P Q (Err e) f h = f e h
 
 pub not_false : (r : Bool) → IsTrue r → r ≡ false → ⊥
 not_false r t e = let k : true ≡ false = sym t ∙ e in cc
+
+pub is_none : (xs : List ℕ) (r : Bool) → (IsTrue r ↔ (xs ≡ [])) → r ≡ true → xs ≡ []
+is_none xs true h e = h.0 refl
+is_none xs false h e = cc
 
 pub not_empty : (xs : List ℕ) (r : Bool) → (IsTrue r ↔ (xs ≡ [])) → r ≡ false → 0 < length xs
 not_empty [] r h e = absurd (not_false r (h.1 refl) e)

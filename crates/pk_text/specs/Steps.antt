@@ -3,10 +3,10 @@ use Rattle.std.specs.Prelude.{◌≡◌, ◌≢◌, ◌<◌, ℕ, suc, ◌==◌,
 use Rattle.std.specs.List.{AllByRecursion}
 use Rattle.pk_asm.specs.Line.{Line, entry, says}
 use Rattle.pk_nand.specs.BoardState.{BoardState}
-use Rattle.pk_nand.specs.Calls.{Rose, longer, PostFailed}
+use Rattle.pk_nand.specs.Calls.{Rose, longer, PostFailed, put_back, AtEnd}
 use Rattle.pk_text.specs.Written.{Written, before}
 use Rattle.pk_text.specs.Assembled.{line_given}
-use Rattle.pk_text.specs.Turns.{put_back, AtEnd, Touched}
+use Rattle.pk_text.specs.Turns.{Touched}
 use Rattle.pk_text.specs.declared.end.TextEnd.{TextEnd}
 use Rattle.pk_text.specs.declared.end.TextEnd.TheVariants.{Done, Truncated, Input, Output, TooMany, BadLine}
 

@@ -1,25 +1,19 @@
 -- What a run over the input of a board does to the board.
 use Rattle.std.specs.Prelude.{◌≡◌, ℕ, List, [], ◌++◌, Option, None, Some, IfSome}
 use Rattle.pk_nand.specs.BoardState.{BoardState}
-use Rattle.pk_nand.specs.Calls.{Rose, longer}
+use Rattle.pk_nand.specs.Calls.{Rose, longer, put_back, AtEnd}
+use Rattle.pk_nand.specs.Resting.{RestsFlash}
 use Rattle.pk_text.specs.Written.{Written}
 use Rattle.pk_text.specs.declared.end.TextEnd.{TextEnd}
 use Rattle.pk_text.specs.declared.end.TextEnd.TheVariants.{Done, Truncated, Input, Output, TooMany, BadLine}
 
--- the input with these bytes in front, where it is told
-abbrev pub put_back : List ℕ → Option (List ℕ) → Option (List ℕ)
-put_back taken None = None
-put_back taken (Some left) = Some (taken ++ left)
-
--- the input is at its end, where it is told
-abbrev pub AtEnd : Option (List ℕ) → Type 0
-AtEnd input = IfSome input (λ bytes. bytes ≡ [])
-
--- bytes of the input were taken and these bytes posted; of the rest only the trail and the counts of host faults may differ
+-- Bytes of the input were taken and these bytes posted, with the pages as they were at every cut. Of the rest only the trail and the counts of host
+-- faults may differ.
 pub record Touched (old new : BoardState) (out : List ℕ) : Type 0 where
   pub taken : List ℕ
   pub left : old.input ≡ put_back taken new.input
   pub posted : new.posted ≡ longer old.posted out
+  pub rests : RestsFlash old new
   pub rest : new ≡ record old { input = new.input; posted = new.posted; trail = new.trail; in_faults = new.in_faults; out_faults = new.out_faults }
 
 -- the bytes stand in front of the whole

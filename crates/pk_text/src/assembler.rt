@@ -67,9 +67,12 @@ impl Assembler {
         requires { number < 2 ^ 63 }
         ensures few { IfOk result (λ next. next ≤ number + 1) }
         ensures advances { IfOk result (λ next. (taken : ℕ) → taken < most
-            → Advances (assembled_from taken number) (assembled_from (suc taken) next) (ahead self.old.feed (B.state board.old)) (ahead self.new.feed (B.state board.new)) (B.state board.old) (B.state board.new)) }
+            → Advances (assembled_from taken number) (assembled_from (suc taken) next)
+            (ahead self.old.feed (B.state board.old)) (ahead self.new.feed (B.state board.new))
+            (B.state board.old) (B.state board.new)) }
         ensures quits { IfErr result (λ end. (taken : ℕ) → taken < most
-            → TurnsFrom (assembled_from taken number) (ahead self.old.feed (B.state board.old)) (B.state board.old) (B.state board.new) end) }
+            → TurnsFrom (assembled_from taken number)
+            (ahead self.old.feed (B.state board.old)) (B.state board.old) (B.state board.new) end) }
     {
         let ended = match take_line(&mut self.feed, board, &mut self.line) {
             Ok(ended) => ended,

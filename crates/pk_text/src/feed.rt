@@ -24,7 +24,8 @@ impl Model for Feed {
 
     ghost view = { λ f. drop f.from (take f.to f.bytes.items) };
 
-    ghost invariant = { λ f. (f.from ≤ f.to) × (f.to ≤ length f.bytes.items) × (0 < length f.bytes.items) };
+    ghost invariant = { λ f. (f.from ≤ f.to) × (f.to ≤ length f.bytes.items)
+        × (0 < length f.bytes.items) };
 }
 
 impl Feed {
@@ -50,7 +51,8 @@ impl Feed {
 
     /// Fetches where no byte is there; false where the input is at its end.
     pub fn fill<B: Board>(&mut self, board: &mut B) -> Result<bool, HostFault>
-        ensures ok { IfOk result (λ some. Filled self.old self.new (B.state board.old) (B.state board.new) some) }
+        ensures ok { IfOk result
+            (λ some. Filled self.old self.new (B.state board.old) (B.state board.new) some) }
         ensures err { OnErr result (FeedFailed (B.state board.old) (B.state board.new)) }
     {
         if self.from < self.to {
@@ -83,7 +85,8 @@ impl Feed {
 
     /// The next byte; None where the input is at its end.
     pub fn next<B: Board>(&mut self, board: &mut B) -> Result<Option<u8>, HostFault>
-        ensures ok { IfOk result (λ byte. Nexted self.old self.new (B.state board.old) (B.state board.new) byte) }
+        ensures ok { IfOk result
+            (λ byte. Nexted self.old self.new (B.state board.old) (B.state board.new) byte) }
         ensures err { OnErr result (FeedFailed (B.state board.old) (B.state board.new)) }
     {
         match self.fill(board) {

@@ -7,8 +7,10 @@ ghost use Rattle.pk_text.specs.Records.{shown_from};
 
 /// A whole record in front of others gives its line, and then they give theirs.
 pub fn whole_record()
-    ensures { (taken : ℕ) (head bytes rest : List ℕ) → taken < most → length head ≡ 24 → length bytes ≡ u32_at head 20
-        → shown_from taken (head ++ (bytes ++ rest)) ≡ before (record_line head bytes) (shown_from (suc taken) rest) }
+    ensures { (taken : ℕ) (head bytes rest : List ℕ) → taken < most → length head ≡ 24
+        → length bytes ≡ u32_at head 20
+        → shown_from taken (head ++ (bytes ++ rest))
+        ≡ before (record_line head bytes) (shown_from (suc taken) rest) }
 {
     pk_show::laws::line();
 }

@@ -15,6 +15,3 @@ mod shower;
 pub use assembler::Assembler;
 pub use end::TextEnd;
 pub use shower::Shower;
-
-#[cfg(test)]
-mod tests;

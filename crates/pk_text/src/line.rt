@@ -20,8 +20,10 @@ pub fn take_line<B: Board>(
 ) -> Result<bool, TextEnd>
     requires { line.old.room ≡ 2200001 }
     ensures room { line.new.room ≡ line.old.room }
-    ensures ok { IfOk result (λ ended. LineTaken feed.old feed.new (B.state board.old) (B.state board.new) line.new.items ended) }
-    ensures err { IfErr result (λ end. NoLine feed.old feed.new (B.state board.old) (B.state board.new) line.new.items end) }
+    ensures ok { IfOk result (λ ended. LineTaken feed.old feed.new (B.state board.old)
+        (B.state board.new) line.new.items ended) }
+    ensures err { IfErr result (λ end. NoLine feed.old feed.new (B.state board.old)
+        (B.state board.new) line.new.items end) }
 {
     line.clear();
     for _count in 0..MOST_BYTES + 1 {
@@ -53,8 +55,10 @@ fn post_entry<B: Board>(
 ) -> Result<(), HostFault>
     requires { value.now.room + 64 ≤ out.old.room }
     ensures room { out.new.room ≡ out.old.room }
-    ensures ok { OnOk result (B.state board.new ≡ after_post (B.state board.old) (entry.now ++ value.now.items)) }
-    ensures err { OnErr result (PostFailed (B.state board.old) (B.state board.new) (entry.now ++ value.now.items)) }
+    ensures ok { OnOk result
+        (B.state board.new ≡ after_post (B.state board.old) (entry.now ++ value.now.items)) }
+    ensures err { OnErr result
+        (PostFailed (B.state board.old) (B.state board.new) (entry.now ++ value.now.items)) }
 {
     let _left = value.left();
     out.clear();
@@ -77,8 +81,10 @@ pub fn give_line<B: Board>(
     ensures value_room { value.new.room ≡ value.old.room }
     ensures out_room { out.new.room ≡ out.old.room }
     ensures few { IfOk result (λ next. next ≤ number + 1) }
-    ensures ok { IfOk result (λ next. Gives number line.now next (B.state board.old) (B.state board.new)) }
-    ensures err { IfErr result (λ end. GivesNot number line.now (B.state board.old) (B.state board.new) end) }
+    ensures ok { IfOk result
+        (λ next. Gives number line.now next (B.state board.old) (B.state board.new)) }
+    ensures err { IfErr result
+        (λ end. GivesNot number line.now (B.state board.old) (B.state board.new) end) }
 {
     match assemble_line(line, number, value) {
         Ok(None) => Ok(number),

@@ -28,7 +28,8 @@ pub fn take_head<B: Board>(
 ) -> Result<bool, HostFault>
     requires { head.old.room ≡ 24 }
     ensures room { head.new.room ≡ head.old.room }
-    ensures ok { IfOk result (λ whole. HeadTaken feed.old feed.new (B.state board.old) (B.state board.new) head.new.items whole) }
+    ensures ok { IfOk result (λ whole. HeadTaken feed.old feed.new (B.state board.old)
+        (B.state board.new) head.new.items whole) }
     ensures err { OnErr result (FeedFailed (B.state board.old) (B.state board.new)) }
 {
     head.clear();
@@ -60,8 +61,10 @@ pub fn post_front<B: Board>(board: &mut B, head: &Bytes, text: &mut Bytes) -> Re
     requires room { text.old.room ≡ 8192 }
     ensures room { text.new.room ≡ text.old.room }
     ensures size { IfOk result (λ size. size ≡ u32_at head.now.items 20) }
-    ensures ok { OnOk result (B.state board.new ≡ after_post (B.state board.old) (shown_head head.now.items)) }
-    ensures err { OnErr result (PostFailed (B.state board.old) (B.state board.new) (shown_head head.now.items)) }
+    ensures ok { OnOk result
+        (B.state board.new ≡ after_post (B.state board.old) (shown_head head.now.items)) }
+    ensures err { OnErr result
+        (PostFailed (B.state board.old) (B.state board.new) (shown_head head.now.items)) }
 {
     let mut bytes = [0u8; 24];
     bytes.copy_from_slice(head.bytes());
@@ -76,8 +79,10 @@ pub fn post_front<B: Board>(board: &mut B, head: &Bytes, text: &mut Bytes) -> Re
 fn post_piece<B: Board>(board: &mut B, piece: &[u8], text: &mut Bytes) -> Result<(), HostFault>
     requires { 2 * length piece.now ≤ text.old.room }
     ensures room { text.new.room ≡ text.old.room }
-    ensures ok { OnOk result (B.state board.new ≡ after_post (B.state board.old) (hex_text piece.now)) }
-    ensures err { OnErr result (PostFailed (B.state board.old) (B.state board.new) (hex_text piece.now)) }
+    ensures ok { OnOk result
+        (B.state board.new ≡ after_post (B.state board.old) (hex_text piece.now)) }
+    ensures err { OnErr result
+        (PostFailed (B.state board.old) (B.state board.new) (hex_text piece.now)) }
 {
     text.clear();
     if !show_piece(piece, text) {
@@ -99,9 +104,12 @@ fn show_some<B: Board>(
     ensures some { IfOk result (λ count. 0 < count) }
     ensures few { IfOk result (λ count. count ≤ left) }
     ensures advances { IfOk result (λ count. (more : List ℕ → Written)
-        → Advances (data_shown left more) (data_shown (left - count) more) (ahead feed.old (B.state board.old)) (ahead feed.new (B.state board.new)) (B.state board.old) (B.state board.new)) }
+        → Advances (data_shown left more) (data_shown (left - count) more)
+        (ahead feed.old (B.state board.old)) (ahead feed.new (B.state board.new))
+        (B.state board.old) (B.state board.new)) }
     ensures quits { IfErr result (λ end. (more : List ℕ → Written)
-        → TurnsFrom (data_shown left more) (ahead feed.old (B.state board.old)) (B.state board.old) (B.state board.new) end) }
+        → TurnsFrom (data_shown left more)
+        (ahead feed.old (B.state board.old)) (B.state board.old) (B.state board.new) end) }
 {
     match feed.fill(board) {
         Ok(true) => {}
@@ -128,9 +136,12 @@ pub fn show_data<B: Board>(
     requires { text.old.room ≡ 8192 }
     ensures room { text.new.room ≡ text.old.room }
     ensures advances { OnOk result ((more : List ℕ → Written)
-        → Advances (data_shown size more) (data_shown 0 more) (ahead feed.old (B.state board.old)) (ahead feed.new (B.state board.new)) (B.state board.old) (B.state board.new)) }
+        → Advances (data_shown size more) (data_shown 0 more)
+        (ahead feed.old (B.state board.old)) (ahead feed.new (B.state board.new))
+        (B.state board.old) (B.state board.new)) }
     ensures quits { IfErr result (λ end. (more : List ℕ → Written)
-        → TurnsFrom (data_shown size more) (ahead feed.old (B.state board.old)) (B.state board.old) (B.state board.new) end) }
+        → TurnsFrom (data_shown size more)
+        (ahead feed.old (B.state board.old)) (B.state board.old) (B.state board.new) end) }
 {
     let mut left = size;
     while 0 < left {
@@ -165,9 +176,12 @@ pub fn show_record<B: Board>(
     requires room { text.old.room ≡ 8192 }
     ensures room { text.new.room ≡ text.old.room }
     ensures advances { OnOk result ((more : List ℕ → Written)
-        → Advances (head_shown head.now.items more) more (ahead feed.old (B.state board.old)) (ahead feed.new (B.state board.new)) (B.state board.old) (B.state board.new)) }
+        → Advances (head_shown head.now.items more) more
+        (ahead feed.old (B.state board.old)) (ahead feed.new (B.state board.new))
+        (B.state board.old) (B.state board.new)) }
     ensures quits { IfErr result (λ end. (more : List ℕ → Written)
-        → TurnsFrom (head_shown head.now.items more) (ahead feed.old (B.state board.old)) (B.state board.old) (B.state board.new) end) }
+        → TurnsFrom (head_shown head.now.items more)
+        (ahead feed.old (B.state board.old)) (B.state board.old) (B.state board.new) end) }
 {
     let size = match post_front(board, head, text) {
         Ok(size) => size,

@@ -54,9 +54,12 @@ impl Shower {
     // Takes a record and posts its line.
     fn show_next<B: Board>(&mut self, board: &mut B) -> Result<(), TextEnd>
         ensures advances { OnOk result ((taken : ℕ) → taken < most
-            → Advances (shown_from taken) (shown_from (suc taken)) (ahead self.old.feed (B.state board.old)) (ahead self.new.feed (B.state board.new)) (B.state board.old) (B.state board.new)) }
+            → Advances (shown_from taken) (shown_from (suc taken))
+            (ahead self.old.feed (B.state board.old)) (ahead self.new.feed (B.state board.new))
+            (B.state board.old) (B.state board.new)) }
         ensures quits { IfErr result (λ end. (taken : ℕ) → taken < most
-            → TurnsFrom (shown_from taken) (ahead self.old.feed (B.state board.old)) (B.state board.old) (B.state board.new) end) }
+            → TurnsFrom (shown_from taken)
+            (ahead self.old.feed (B.state board.old)) (B.state board.old) (B.state board.new) end) }
     {
         match take_head(&mut self.feed, board, &mut self.head) {
             Ok(true) => show_record(&mut self.feed, board, &self.head, &mut self.text),

@@ -3,3 +3,4 @@ mod Sessions
 mod Telling
 mod Images
 mod Runs
+mod Resting

@@ -4,19 +4,22 @@ use Rattle.std.specs.FinMap.{empty}
 use Rattle.std.proofs.lemmas.List.{append_cancel_left}
 use Rattle.pk_base.specs.Shape.{Shape}
 use Rattle.pk_base.specs.Page.{Flash}
-use Rattle.pk_base.specs.Mark.{Mark}
+use Rattle.pk_base.specs.Mark.{Mark, all_posted}
 use Rattle.pk_nand.specs.BoardState.{BoardState, shape_of, shape_or_none}
 use Rattle.pk_nand.specs.Calls.{longer}
+use Rattle.pk_nand.specs.Resting.{Standing, RestsFlash}
+use Rattle.pk_nand.proofs.Reaching.{Went-reached, longer-nil}
 use Rattle.pk_nand.specs.Cut.{Cut}
-use Rattle.pk_model.specs.History.{IsSound, History}
+use Rattle.pk_model.specs.History.{EachCut, IsSound, History}
 use Rattle.pk_model.specs.Kept.{Kept, rise}
 use Rattle.pk_model.specs.Reading.{Holds}
 use Rattle.pk_model.specs.Script.{script}
 use Rattle.pk_model.proofs.Histories.{histories}
 use Rattle.pk_serve.proofs.Counting.{at_most-zero}
 use Rattle.pk_top.specs.Serves.{ServeRun, ServesFound}
-use Rattle.pk_top.specs.Sessions.{ServedRun, IsRun, session_of, RunOn, KeptThroughRuns}
-use Rattle.pk_top.proofs.Telling.{load_untouched}
+use Rattle.pk_top.specs.Sessions.{ProgramRun, IsRun, session_of, stopped_of, RunOn, KeptThroughRuns}
+use Rattle.pk_top.specs.Resting.{Rests}
+use Rattle.pk_top.specs.Words.{Word, make, serve, put, get, delete, has, list, stat, assemble, show, generate, word_of, frames_of, frames_if}
 
 -- the marks that a trail tells are those that it grew by
 same_marks : (told : Option (List Mark)) (before xs ys : List Mark) → told ≡ Some before → longer told ys ≡ Some (before ++ xs) → xs ≡ ys
@@ -27,65 +30,115 @@ same_marks (Some t) before xs ys is more =
     let all : Some (before ++ ys) ≡ Some (before ++ xs) = subst T t_is more in
     append_cancel_left before xs ys (let same : before ++ ys ≡ before ++ xs = cc in sym same)
 
-module _ (shape : Shape) (r : ServedRun) (is : IsRun shape r) where
+module _ (shape : Shape) (r : ProgramRun) (is : IsRun shape r) where
+  some_shape : IsSome r.old.shape
+  some_shape = let T : Option Shape → Type 0 = IsSome in subst T (sym is.shape_is) refl
+
+  -- the end is the last cut
+  Ended : Type 0
+  Ended = Cut shape r.old.pages r.marks r.new.pages (all_posted r.marks)
+
   -- nothing was made
-  sound_untouched : r.new.trail ≡ r.old.trail → IsSound shape (session_of r)
-  sound_untouched same m holds cut posted stands =
-      let none : r.marks ≡ [] = same_marks r.old.trail is.before r.marks [] is.trail (longer-none r.old.trail ∙ (sym same ∙ is.more)) in
-      let T : List Mark → Type 0 = λ marks. Cut shape r.old.pages marks cut posted in
-      let here : (cut ≡ r.old.pages) × (posted ≡ []) = subst T none stands in
-      let H : Flash → Type 0 = λ f. Holds shape f m in
-      record {
-        served = [];
-        unserved = (script r.input).0;
-        from_front = refl;
-        map_left = m;
-        ran = refl;
-        held = subst H (sym here.0) holds;
-        unposted = [];
-        begins = append-nil posted ∙ here.1;
-        few_faults = at_most-zero (rise r.old.read_faults r.new.read_faults);
-      }
-    where
-      longer-none : (told : Option (List Mark)) → longer told [] ≡ told
-      longer-none None = refl
-      longer-none (Some t) = ap (λ l. Some l) (append-nil t)
+  sound_untouched : (frames : ℕ) → r.new.trail ≡ r.old.trail → r.new.pages ≡ r.old.pages → EachCut (Some frames) shape (session_of r) × Ended
+  unfolding Ended
+  sound_untouched frames same pages =
+      let none : r.marks ≡ [] = same_marks r.old.trail is.before r.marks [] is.trail (longer-nil r.old.trail ∙ (sym same ∙ is.more)) in
+      let E : List Mark → Type 0 = λ marks. Cut shape r.old.pages marks r.new.pages (all_posted marks) in (
+        λ m holds cut posted stands.
+            let T : List Mark → Type 0 = λ marks. Cut shape r.old.pages marks cut posted in
+            let here : (cut ≡ r.old.pages) × (posted ≡ []) = subst T none stands in
+            let H : Flash → Type 0 = λ f. Holds shape f m in
+            record {
+              served = [];
+              unserved = (script r.input).0;
+              from_front = refl;
+              map_left = m;
+              ran = refl;
+              held = subst H (sym here.0) holds;
+              unposted = [];
+              begins = append-nil posted ∙ here.1;
+              few_faults = at_most-zero (rise r.old.read_faults r.new.read_faults);
+            },
+        subst E (sym none) (pages, refl),
+      )
 
   -- a drive was found
-  sound_found : ServesFound r.frames r.old r.new r.status → IsSound shape (session_of r)
-  sound_found found m holds cut posted stands =
-      let some : IsSome r.old.shape = let T : Option Shape → Type 0 = IsSome in subst T (sym is.shape_is) refl in
-      let held = found.found.held some in
+  sound_found : (frames : ℕ) → ServesFound frames r.old r.new r.status → EachCut (Some frames) shape (session_of r) × Ended
+  unfolding Ended
+  sound_found frames found =
+      let held = found.found.held some_shape in
       let told : Some found.shape ≡ Some shape = sym found.found.shape_is ∙ (held.1 ∙ is.shape_is) in
       let same : found.shape ≡ shape = cc in
       let input : found.loaded.input ≡ Some r.input = ap (λ (s : BoardState). s.input) found.found.rest ∙ is.input in
       let trail : found.loaded.trail ≡ Some is.before = ap (λ (s : BoardState). s.trail) found.found.rest ∙ is.trail in
       let goes = found.serves.kept r.input input in
       let marks : r.marks ≡ goes.0 = same_marks found.loaded.trail is.before r.marks goes.0 trail (sym goes.1.trail ∙ is.more) in
-      let F : Flash → Type 0 = λ f. Cut shape f r.marks cut posted in
-      let M : List Mark → Type 0 = λ ms. Cut shape found.loaded.pages ms cut posted in
-      let S : Shape → Type 0 = λ s. Cut s found.loaded.pages goes.0 cut posted in
-      let seen : shape_of found.loaded ≡ shape = ap (λ (o : Option Shape). shape_or_none o) found.found.shape_is ∙ same in
-      let at : Cut (shape_of found.loaded) found.loaded.pages goes.0 cut posted = subst S (sym seen) (subst M marks (subst F (sym held.0) stands)) in
-      let H : Flash → Type 0 = λ f. Holds found.shape f m in
-      let G : Shape → Type 0 = λ s. Holds s r.old.pages m in
-      let kept = goes.1.cuts cut posted at m (subst H (sym held.0) (subst G (sym same) holds)) in
-      let K : Shape → Type 0 = λ s. Kept s r.frames m (script r.input).0 (rise r.old.read_faults r.new.read_faults) posted cut in
-      let R : ℕ → Type 0 = λ n. Kept found.shape r.frames m (script r.input).0 (rise n r.new.read_faults) posted cut in
-      subst K same (subst R (ap (λ (s : BoardState). s.read_faults) found.found.rest) kept)
+      let seen : shape_of found.loaded ≡ shape = ap (λ (o : Option Shape). shape_or_none o) found.found.shape_is ∙ same in (
+        λ m holds cut posted stands.
+            let F : Flash → Type 0 = λ f. Cut shape f r.marks cut posted in
+            let M : List Mark → Type 0 = λ ms. Cut shape found.loaded.pages ms cut posted in
+            let S : Shape → Type 0 = λ s. Cut s found.loaded.pages goes.0 cut posted in
+            let at : Cut (shape_of found.loaded) found.loaded.pages goes.0 cut posted = subst S (sym seen) (subst M marks (subst F (sym held.0) stands)) in
+            let H : Flash → Type 0 = λ f. Holds found.shape f m in
+            let G : Shape → Type 0 = λ s. Holds s r.old.pages m in
+            let kept = goes.1.cuts cut posted at m (subst H (sym held.0) (subst G (sym same) holds)) in
+            let K : Shape → Type 0 = λ s. Kept s frames m (script r.input).0 (rise r.old.read_faults r.new.read_faults) posted cut in
+            let R : ℕ → Type 0 = λ n. Kept found.shape frames m (script r.input).0 (rise n r.new.read_faults) posted cut in
+            subst K same (subst R (ap (λ (s : BoardState). s.read_faults) found.found.rest) kept),
+        (
+            let F : Flash → Type 0 = λ f. Cut shape f r.marks r.new.pages (all_posted r.marks) in
+            let M : List Mark → Type 0 = λ ms. Cut shape found.loaded.pages ms r.new.pages (all_posted ms) in
+            let S : Shape → Type 0 = λ s. Cut s found.loaded.pages goes.0 r.new.pages (all_posted goes.0) in
+            subst F held.0 (subst M (sym marks) (subst S seen goes.1.stands))
+            ),
+      )
 
-  sound_by : ServeRun r.frames r.old r.new r.status → IsSound shape (session_of r)
-  sound_by (inl none) = sound_untouched (ap (λ (s : BoardState). s.trail) none.1)
-  sound_by (inr (inl refused)) = sound_untouched (ap (λ (s : BoardState). s.trail) refused.failed.rest)
-  sound_by (inr (inr (inl missing))) = sound_untouched (load_untouched r.old r.new None missing.1).trail
-  sound_by (inr (inr (inr found))) = sound_found found
+  sound_serving : (frames : ℕ) → ServeRun frames r.old r.new r.status → EachCut (Some frames) shape (session_of r) × Ended
+  sound_serving frames (inl none) = sound_untouched frames (ap (λ (s : BoardState). s.trail) none.1) (ap (λ (s : BoardState). s.pages) none.1)
+  sound_serving frames (inr (inl refused)) = sound_untouched frames (ap (λ (s : BoardState). s.trail) refused.failed.rest) (refused.failed.held some_shape).0
+  sound_serving frames (inr (inr (inl missing))) = sound_untouched frames (ap (λ (s : BoardState). s.trail) missing.1.rest) (missing.1.held some_shape).0
+  sound_serving frames (inr (inr (inr found))) = sound_found frames found
 
-  sound : IsSound shape (session_of r)
-  sound = sound_by is.serves
+  -- the flash was left alone
+  sound_resting : RestsFlash r.old r.new → EachCut None shape (session_of r) × Ended
+  unfolding Ended
+  sound_resting rests =
+      let marks : r.marks ≡ rests.marks = same_marks r.old.trail is.before r.marks rests.marks is.trail (sym rests.reached.trail ∙ is.more) in
+      let seen : shape_of r.old ≡ shape = ap (λ (o : Option Shape). shape_or_none o) is.shape_is in
+      let went = Went-reached rests.marks r.old r.new (Standing r.old.pages) rests.reached in (
+        λ cut posted stands.
+            let M : List Mark → Type 0 = λ ms. Cut shape r.old.pages ms cut posted in
+            let S : Shape → Type 0 = λ s. Cut s r.old.pages rests.marks cut posted in
+            rests.reached.cuts cut posted (subst S (sym seen) (subst M marks stands)),
+        (
+            let M : List Mark → Type 0 = λ ms. Cut shape r.old.pages ms r.new.pages (all_posted ms) in
+            let S : Shape → Type 0 = λ s. Cut s r.old.pages rests.marks r.new.pages (all_posted rests.marks) in
+            subst M (sym marks) (subst S seen went.stands)
+            ),
+      )
 
-history : (shape : Shape) (start : Flash) (runs : List ServedRun) (end : Flash) → RunOn shape start runs end → History shape start (map session_of runs) end
+  sound_by : (word : Option Word) → ((frames : ℕ) → word ≡ Some (serve frames) → ServeRun frames r.old r.new r.status) → Rests word r.old r.new
+      → EachCut (frames_if word) shape (session_of r) × Ended
+  sound_by None serves rests = sound_resting rests
+  sound_by (Some (serve frames)) serves rests = sound_serving frames (serves frames refl)
+  sound_by (Some (make other)) serves rests = sound_resting (rests some_shape)
+  sound_by (Some (put key value)) serves rests = sound_resting rests
+  sound_by (Some (get key)) serves rests = sound_resting rests
+  sound_by (Some (delete key)) serves rests = sound_resting rests
+  sound_by (Some (has key)) serves rests = sound_resting rests
+  sound_by (Some (list from)) serves rests = sound_resting rests
+  sound_by (Some stat) serves rests = sound_resting rests
+  sound_by (Some assemble) serves rests = sound_resting rests
+  sound_by (Some show) serves rests = sound_resting rests
+  sound_by (Some (generate start count)) serves rests = sound_resting rests
+
+  sound : IsSound frames_of shape (session_of r)
+  unfolding Ended
+  sound = let s = sound_by (word_of r.words) is.serves is.rests in record { cuts = s.0; ends = s.1 }
+
+history : (shape : Shape) (start : Flash) (runs : List ProgramRun) (end : Flash) → RunOn shape start runs end → History frames_of shape start (map stopped_of runs) end
 history shape start [] end same = same
 history shape start (r ∷ runs) end run = (run.1, sound shape r run.0, run.0.cut, history shape r.left runs end run.2)
 
 pub kept_through_runs : KeptThroughRuns
-kept_through_runs shape made runs end is run = histories shape made.pages end (map session_of runs) empty is.holds (history shape made.pages runs end run)
+kept_through_runs shape made runs end is run = histories frames_of shape made.pages end (map stopped_of runs) empty is.holds (history shape made.pages runs end run)

@@ -12,14 +12,15 @@ use Rattle.pk_model.specs.Reading.{reading, Holds}
 use Rattle.pk_model.specs.Script.{script}
 use Rattle.pk_model.specs.Sight.{Sight}
 use Rattle.pk_drive.specs.Drive.{Stands}
-use Rattle.pk_drive.specs.Growth.{Goes}
+use Rattle.pk_model.specs.Growth.{Goes}
 use Rattle.pk_serve.specs.Ends.{Blames}
-use Rattle.pk_serve.specs.Run.{Told, KeepsScript as KeepsScriptOf, KeepsSome as KeepsSomeOf, Answers, Causes}
+use Rattle.pk_serve.specs.Told.{Told}
+use Rattle.pk_serve.specs.Run.{KeepsScript as KeepsScriptOf, KeepsSome as KeepsSomeOf, Answers, Causes}
 use Rattle.pk_serve.specs.Script.{SaysOfScript}
 use Rattle.pk_serve.specs.Serving.{KeptAt}
 use Rattle.pk_serve.specs.declared.end.End.{End}
 use Rattle.pk_serve.proofs.Counting.{at_most-zero}
-use Rattle.pk_scan.specs.Opened.{OnlyReading}
+use Rattle.pk_nand.specs.Effects.{OnlyReading}
 use Rattle.pk_scan.specs.Opening.{NotOpened}
 use Rattle.pk_scan.specs.declared.errors.OpenError.{OpenError}
 use Rattle.pk_core.specs.Parts.{Parts, sight_of, is_built}

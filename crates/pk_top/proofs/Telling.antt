@@ -11,7 +11,7 @@ use Rattle.pk_model.specs.Reading.{Refuses}
 use Rattle.pk_serve.specs.Ends.{Blames}
 use Rattle.pk_serve.specs.declared.end.End.{End}
 use Rattle.pk_serve.specs.declared.end.End.TheVariants.{Done, Truncated, Input, Output, Flash, Worn, NotBuilt}
-use Rattle.pk_scan.specs.Opened.{OnlyReading}
+use Rattle.pk_nand.specs.Effects.{OnlyReading}
 use Rattle.pk_scan.specs.Opening.{NotOpened, OnlyReads}
 use Rattle.pk_scan.specs.declared.errors.OpenError.{OpenError}
 use Rattle.pk_scan.specs.declared.errors.OpenError.TheVariants.{NotFormatted, Damaged, Fault as ReadFault, Memory as NoMemory}

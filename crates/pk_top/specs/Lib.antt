@@ -4,6 +4,7 @@ pub mod Statuses
 pub mod Loads
 pub mod Ends
 pub mod TextRuns
+pub mod Resting
 pub mod Serves
 pub mod Makes
 pub mod Sessions

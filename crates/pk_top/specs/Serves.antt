@@ -10,14 +10,15 @@ use Rattle.pk_nand.specs.Erased.{after_reads}
 use Rattle.pk_model.specs.Kept.{Kept, rise}
 use Rattle.pk_model.specs.Reading.{Holds}
 use Rattle.pk_model.specs.Script.{script}
-use Rattle.pk_drive.specs.Growth.{Goes}
+use Rattle.pk_model.specs.Growth.{Goes}
 use Rattle.pk_serve.specs.Ends.{Blames}
-use Rattle.pk_serve.specs.Run.{Told, ServedBy, ServedSome}
+use Rattle.pk_serve.specs.Told.{Told}
+use Rattle.pk_serve.specs.Run.{ServedBy, ServedSome}
 use Rattle.pk_serve.specs.Script.{Says}
 use Rattle.pk_serve.specs.declared.end.End.{End}
 use Rattle.pk_scan.specs.Reads.{opened}
 use Rattle.pk_scan.specs.Opening.{NotOpened}
-use Rattle.pk_scan.specs.Opened.{OnlyReading}
+use Rattle.pk_nand.specs.Effects.{OnlyReading}
 use Rattle.pk_scan.specs.declared.errors.OpenError.{OpenError}
 use Rattle.pk_core.specs.Parts.{Parts, sight_of, is_built}
 use Rattle.pk_core.specs.Agreeing.{AgreesBetween}

@@ -110,3 +110,25 @@ is_later stat = true
 is_later assemble = false
 is_later show = false
 is_later (generate start count) = true
+
+-- with how many frames a word serves an input, where it serves one
+abbrev pub frames_in : Word → Option ℕ
+frames_in (make shape) = None
+frames_in (serve frames) = Some frames
+frames_in (put key value) = None
+frames_in (get key) = None
+frames_in (delete key) = None
+frames_in (has key) = None
+frames_in (list from) = None
+frames_in stat = None
+frames_in assemble = None
+frames_in show = None
+frames_in (generate start count) = None
+
+abbrev pub frames_if : Option Word → Option ℕ
+frames_if None = None
+frames_if (Some word) = frames_in word
+
+-- the same of words
+abbrev pub frames_of : List (List ℕ) → Option ℕ
+frames_of words = frames_if (word_of words)

@@ -15,6 +15,3 @@ mod words;
 
 pub use running::run;
 pub use status::Status;
-
-#[cfg(test)]
-mod tests;

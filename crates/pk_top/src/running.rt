@@ -3,6 +3,7 @@ ghost use Rattle.std.specs.Prelude.{◌≡◌, ◌≢◌, ◌≤◌, ◌⊎◌, 
 ghost use Rattle.pk_base.specs.Shape.{Shape as Form};
 ghost use Rattle.pk_top.specs.Words as spec;
 ghost use Rattle.pk_top.specs.Statuses.{Tells, Untouched};
+ghost use Rattle.pk_top.specs.Resting.{Rests, RestsIn};
 ghost use Rattle.pk_top.specs.Texts.{seen};
 ghost use Rattle.pk_top.specs.TextRuns.{TextRun};
 ghost use Rattle.pk_top.specs.Serves.{ServeRun};
@@ -25,16 +26,32 @@ use std::alloc::Global;
 /// `serves` carries what the project is about: over any sessions on a made drive, each cut off anywhere, every record that was
 /// posted is the finite map's, and each session begins from the map after the commands that were kept of the one before.
 pub fn run<B: Board>(alloc: Global, words: &[&str], board: &mut B) -> Status
-    ensures words { result.0 ≡ 2 → (spec.word_of (map (λ w. w.now) words.now) ≡ None) × (B.state board.new ≡ B.state board.old) }
-    ensures no_words { spec.word_of (map (λ w. w.now) words.now) ≡ None → (B.state board.new ≡ B.state board.old) × ((result.0 ≡ 2) ⊎ (result.0 ≡ 7)) }
+    ensures words { result.0 ≡ 2 → (spec.word_of (map (λ w. w.now) words.now) ≡ None)
+        × (B.state board.new ≡ B.state board.old) }
+    ensures no_words { spec.word_of (map (λ w. w.now) words.now) ≡ None
+        → (B.state board.new ≡ B.state board.old) × ((result.0 ≡ 2) ⊎ (result.0 ≡ 7)) }
     ensures tells { (result.0 ≡ 2) ⊎ Tells (B.state board.old) (B.state board.new) result.0 }
-    ensures memory { ((shape : Form) → spec.word_of (map (λ w. w.now) words.now) ≢ Some (spec.make shape)) → result.0 ≡ 7 → Untouched (B.state board.old) (B.state board.new) }
-    ensures makes { (shape : Form) → spec.word_of (map (λ w. w.now) words.now) ≡ Some (spec.make shape) → MakeRun shape (B.state board.old) (B.state board.new) result.0 }
-    ensures made { (shape : Form) → spec.word_of (map (λ w. w.now) words.now) ≡ Some (spec.make shape) → result.0 ≡ 0 → IsMade shape (B.state board.new) }
-    ensures serves { (frames : ℕ) → spec.word_of (map (λ w. w.now) words.now) ≡ Some (spec.serve frames) → ServeRun frames (B.state board.old) (B.state board.new) result.0 }
-    ensures assembles { spec.word_of (map (λ w. w.now) words.now) ≡ Some spec.assemble → TextRun assembled (B.state board.old) (B.state board.new) result.0 }
-    ensures shows { spec.word_of (map (λ w. w.now) words.now) ≡ Some spec.show → TextRun shown (B.state board.old) (B.state board.new) result.0 }
-    ensures later { (word : spec.Word) → spec.word_of (map (λ w. w.now) words.now) ≡ Some word → spec.is_later word ≡ true → (B.state board.new ≡ B.state board.old) × ((result.0 ≡ 11) ⊎ (result.0 ≡ 7)) }
+    ensures memory { ((shape : Form)
+        → spec.word_of (map (λ w. w.now) words.now) ≢ Some (spec.make shape)) → result.0 ≡ 7
+        → Untouched (B.state board.old) (B.state board.new) }
+    ensures makes { (shape : Form)
+        → spec.word_of (map (λ w. w.now) words.now) ≡ Some (spec.make shape)
+        → MakeRun shape (B.state board.old) (B.state board.new) result.0 }
+    ensures made { (shape : Form)
+        → spec.word_of (map (λ w. w.now) words.now) ≡ Some (spec.make shape) → result.0 ≡ 0
+        → IsMade shape (B.state board.new) }
+    ensures serves { (frames : ℕ)
+        → spec.word_of (map (λ w. w.now) words.now) ≡ Some (spec.serve frames)
+        → ServeRun frames (B.state board.old) (B.state board.new) result.0 }
+    ensures assembles { spec.word_of (map (λ w. w.now) words.now) ≡ Some spec.assemble
+        → TextRun assembled (B.state board.old) (B.state board.new) result.0 }
+    ensures shows { spec.word_of (map (λ w. w.now) words.now) ≡ Some spec.show
+        → TextRun shown (B.state board.old) (B.state board.new) result.0 }
+    ensures rests { Rests (spec.word_of (map (λ w. w.now) words.now)) (B.state board.old)
+        (B.state board.new) }
+    ensures later { (word : spec.Word) → spec.word_of (map (λ w. w.now) words.now) ≡ Some word
+        → spec.is_later word ≡ true
+        → (B.state board.new ≡ B.state board.old) × ((result.0 ≡ 11) ⊎ (result.0 ≡ 7)) }
 {
     match word_of(alloc, words) {
         Ok(Some(word)) => obey(alloc, word, board),
@@ -46,12 +63,19 @@ pub fn run<B: Board>(alloc: Global, words: &[&str], board: &mut B) -> Status
 fn obey<B: Board>(alloc: Global, word: Word, board: &mut B) -> Status
     requires { (frames : ℕ) → seen word ≡ spec.serve frames → frames ≤ 16384 }
     ensures tells { Tells (B.state board.old) (B.state board.new) result.0 }
-    ensures memory { ((shape : Form) → seen word ≢ spec.make shape) → result.0 ≡ 7 → Untouched (B.state board.old) (B.state board.new) }
-    ensures makes { (shape : Form) → seen word ≡ spec.make shape → MakeRun shape (B.state board.old) (B.state board.new) result.0 }
-    ensures serves { (frames : ℕ) → seen word ≡ spec.serve frames → ServeRun frames (B.state board.old) (B.state board.new) result.0 }
-    ensures assembles { seen word ≡ spec.assemble → TextRun assembled (B.state board.old) (B.state board.new) result.0 }
-    ensures shows { seen word ≡ spec.show → TextRun shown (B.state board.old) (B.state board.new) result.0 }
-    ensures later { spec.is_later (seen word) ≡ true → (B.state board.new ≡ B.state board.old) × (result.0 ≡ 11) }
+    ensures memory { ((shape : Form) → seen word ≢ spec.make shape) → result.0 ≡ 7
+        → Untouched (B.state board.old) (B.state board.new) }
+    ensures makes { (shape : Form) → seen word ≡ spec.make shape
+        → MakeRun shape (B.state board.old) (B.state board.new) result.0 }
+    ensures serves { (frames : ℕ) → seen word ≡ spec.serve frames
+        → ServeRun frames (B.state board.old) (B.state board.new) result.0 }
+    ensures assembles { seen word ≡ spec.assemble
+        → TextRun assembled (B.state board.old) (B.state board.new) result.0 }
+    ensures shows { seen word ≡ spec.show
+        → TextRun shown (B.state board.old) (B.state board.new) result.0 }
+    ensures rests { RestsIn (seen word) (B.state board.old) (B.state board.new) }
+    ensures later { spec.is_later (seen word) ≡ true
+        → (B.state board.new ≡ B.state board.old) × (result.0 ≡ 11) }
 {
     match word {
         Word::Make(shape) => make(alloc, shape, board),

@@ -102,19 +102,22 @@ fn only_key(operands: &[&str]) -> Option<Key>
 }
 
 fn get(operands: &[&str]) -> Option<Word>
-    ensures { option_map seen result ≡ option_map spec.get (spec.only_key (map (λ w. w.now) operands.now)) }
+    ensures { option_map seen result
+        ≡ option_map spec.get (spec.only_key (map (λ w. w.now) operands.now)) }
 {
     Some(Word::Get(only_key(operands)?))
 }
 
 fn delete(operands: &[&str]) -> Option<Word>
-    ensures { option_map seen result ≡ option_map spec.delete (spec.only_key (map (λ w. w.now) operands.now)) }
+    ensures { option_map seen result
+        ≡ option_map spec.delete (spec.only_key (map (λ w. w.now) operands.now)) }
 {
     Some(Word::Delete(only_key(operands)?))
 }
 
 fn has(operands: &[&str]) -> Option<Word>
-    ensures { option_map seen result ≡ option_map spec.has (spec.only_key (map (λ w. w.now) operands.now)) }
+    ensures { option_map seen result
+        ≡ option_map spec.has (spec.only_key (map (λ w. w.now) operands.now)) }
 {
     Some(Word::Has(only_key(operands)?))
 }

@@ -29,6 +29,11 @@ pub fn worked() -> Result<Shape, Fail> {
     Ok(Shape::new(512, 16, 64).ok().ok_or("a shape")?)
 }
 
+/// A board of Erased pages, or one without an image, with this input.
+pub fn blank(alloc: Global, shape: Option<Shape>, input: Vec<u8>) -> Result<Flash, AllocError> {
+    Flash::new(alloc, shape, input, ROOM)
+}
+
 /// A board with these pages and this input.
 pub fn board(
     alloc: Global,
@@ -72,7 +77,7 @@ pub fn pages_left(alloc: Global, flash: &Flash) -> Result<Vec<PageState>, Fail> 
 
 /// The pages of a drive that these words made.
 pub fn made(alloc: Global, words: &[&str]) -> Result<Vec<PageState>, Fail> {
-    let mut flash = Flash::new(alloc, None, Vec::new(alloc), ROOM)?;
+    let mut flash = blank(alloc, None, Vec::new(alloc))?;
     if run(alloc, words, &mut flash).0 != 0 {
         return Err(Fail::from("a made drive"));
     }

@@ -11,11 +11,15 @@ mod cuts;
 #[cfg(test)]
 mod damage;
 #[cfg(test)]
+mod ends;
+#[cfg(test)]
 mod erases;
 #[cfg(test)]
 mod faults;
 #[cfg(test)]
 mod pages;
+#[cfg(test)]
+mod program;
 #[cfg(test)]
 mod recut;
 #[cfg(test)]

@@ -21,6 +21,7 @@ use Rattle.pk_walk.specs.declared.position.Position.{Position}
 use Rattle.pk_walk.specs.declared.position.Position.TheVariants.{Above}
 use Rattle.pk_walk.specs.Visible.{is_wanted, wanted, WantsFrom}
 use Rattle.pk_walk.specs.Walking.{Cursor, Follows, HasPassed, Reads, ReadsAll, at_start, read_of}
+use Rattle.pk_walk.specs.Steps.{MayLoad, StaysAt}
 use Rattle.pk_walk.proofs.Wanting.{begun_at, passed_by, narrowed_behind, above_is_narrower}
 
 -- ---- numbers
@@ -108,6 +109,27 @@ module _ (flash : Flash) (r : Kept) (es : List Entry) (position : Position) (c :
             subst (λ (p : ℕ). page_at flash (page_of r p) ≡ whole c.bytes) (sym same) (f.holds (omega (arith, loaded, same)));
         left = passed_by (is_wanted position) es c.place e got not_one f.left;
       }
+
+-- what the load of its page asks
+pub may_load : (flash : Flash) (r : Kept) (es : List Entry) (position : Position) (c : Cursor) (p : ℕ) → IsShape r.shape → IsKept r → c.place < r.count → Follows flash r es position c
+    → p ≡ c.place / page_entries r.shape → MayLoad flash r p c
+may_load flash r es position c p is kept inside f same =
+    subst (λ (q : ℕ). MayLoad flash r q c) (sym same) (record { exists = page_exists r c.place is kept inside; behind = f.behind; holds = f.holds })
+
+-- with the page of its place it is where it was
+pub stays_loaded : (flash : Flash) (r : Kept) (c d : Cursor) → IsShape r.shape → c.place / page_entries r.shape < length r.firsts → page_at flash (page_of r (c.place / page_entries r.shape)) ≡ whole d.bytes
+    → d ≡ record c { loaded = suc (c.place / page_entries r.shape); bytes = d.bytes } → StaysAt flash r c d
+stays_loaded flash r c d is exists here moved = record {
+  place = moved ∙ (λ i. record c { loaded = (sym moved i).loaded; bytes = d.bytes });
+  follows = λ es position f. subst (Follows flash r es position) (sym moved) (Follows-loaded flash r es position c is f d.bytes exists here);
+}
+
+-- and without it, where it could not be read
+pub stays_failed : (flash : Flash) (r : Kept) (c d : Cursor) (p : ℕ) → IsShape r.shape → p ≡ c.place / page_entries r.shape → c.loaded ≤ p → d ≡ record c { bytes = d.bytes } → StaysAt flash r c d
+stays_failed flash r c d p is same before kept = record {
+  place = kept ∙ (λ i. record c { loaded = (sym kept i).loaded; bytes = d.bytes });
+  follows = λ es position f. subst (Follows flash r es position) (sym kept) (Follows-kept flash r es position c is f d.bytes (omega (arith, same, before)));
+}
 
 -- fewer keys are wanted
 pub Follows-above : (flash : Flash) (r : Kept) (es : List Entry) (position : Position) (c : Cursor) → Follows flash r es position c → (key : Key) → T (is_wanted position key) → Follows flash r es (Above key) c

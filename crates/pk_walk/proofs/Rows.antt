@@ -18,6 +18,7 @@ use Rattle.pk_level.proofs.Looking.{stands_at, of_level_at, reads_more}
 use Rattle.pk_walk.specs.declared.position.Position.{Position}
 use Rattle.pk_walk.specs.Visible.{is_wanted, wanted, first_of, lesser, least_first}
 use Rattle.pk_walk.specs.Walking.{Cursor, AreOfShape, Follows, FollowEach, HasPassed, Reads, ReadsAll, ReadsFail, SkipsNoPage, read_of, pages_read, most_read}
+use Rattle.pk_walk.specs.Steps.{FindsInEach, GoOn}
 use Rattle.pk_walk.proofs.Seeking.{Reads-none, Reads-more, Reads-pages, ReadsAll-none, ReadsAll-more, one_list}
 
 same_run : (x y : Kept) → ◌≡◌ {A = Option Kept} (Some x) (Some y) → x ≡ y
@@ -128,8 +129,15 @@ module _ (levels : Levels) (arena : Frames) (position : Position) (old now : Boa
   one_each (r ∷ rs) flash (xs ∷ xss) [] s t = absurd t
   one_each (r ∷ rs) flash (xs ∷ xss) (ys ∷ yss) s t = λ i. one_list r flash arena xs ys s.0 t.0 i ∷ one_each rs flash xss yss s.1 t.1 i
 
-  pub follow_any : (ess : List (List Entry)) → StandEach old.pages arena levels.runs ess → FollowEach old.pages levels.runs ess position cs
+  follow_any : (ess : List (List Entry)) → StandEach old.pages arena levels.runs ess → FollowEach old.pages levels.runs ess position cs
   follow_any ess s = subst (λ (xss : List (List Entry)). FollowEach old.pages levels.runs xss position cs) (one_each levels.runs old.pages at.ess ess at.stand s) at.follow
+
+  pub Rows-goes_on : GoOn old.pages arena levels.shape levels.runs position first cs
+  Rows-goes_on = record { follow = follow_any; of_shape = at.shape; passed = λ none before. (at.all none before).0 }
+
+  pub Rows-finds : (least : List (List Entry) → Option Entry) (answer : Option RustEntry) → ((ess : List (List Entry)) → StandEach old.pages arena levels.runs ess → option_map seen answer ≡ least ess)
+      → (answer ≡ None → SkipsNoPage position → AllByRecursion HasPassed first → pages_read levels.runs cs ≡ most_read levels.runs) → FindsInEach least levels.runs arena position old now first cs answer
+  Rows-finds least answer found ended = record { found = found; reads = at.reads; all = λ none before. (at.all none before).1; ended = ended }
 
   module _ (i : ℕ) (r : Kept) (c : Cursor) (run_is : slice_get levels.runs i ≡ Some r) (cursor_is : slice_get cs i ≡ Some c) where
     -- what the search in one run asks
@@ -160,7 +168,7 @@ module _ (levels : Levels) (arena : Frames) (position : Position) (old now : Boa
       shape_next : AreOfShape levels.shape (slice_set cs i d)
       shape_next = shape_set levels.shape cs i d at.shape (same ∙ shape_at levels.shape cs i c at.shape cursor_is)
 
-      pub passed_next : (SkipsNoPage position → HasPassed c → HasPassed d) → SkipsNoPage position → AllByRecursion HasPassed first → AllByRecursion HasPassed (slice_set cs i d)
+      passed_next : (SkipsNoPage position → HasPassed c → HasPassed d) → SkipsNoPage position → AllByRecursion HasPassed first → AllByRecursion HasPassed (slice_set cs i d)
       passed_next passed none before =
           let far = (at.all none before).0 in
           passed_set cs i d far (passed none (passed_at cs i c far cursor_is))
@@ -189,14 +197,13 @@ module _ (levels : Levels) (arena : Frames) (position : Position) (old now : Boa
             all = λ none before. (passed_next passed none before, all_next every none before);
           }
 
-      pub follow_failed : (ess : List (List Entry)) → StandEach old.pages arena levels.runs ess → FollowEach old.pages levels.runs ess position (slice_set cs i d)
-      follow_failed ess s = subst (λ (xss : List (List Entry)). FollowEach old.pages levels.runs xss position (slice_set cs i d)) (one_each levels.runs old.pages at.ess ess at.stand s) follow_next
-
-      pub shape_failed : AreOfShape levels.shape (slice_set cs i d)
-      shape_failed = shape_next
-
-      pub ready_failed : IsLevels levels → IsReady next r.shape → IsReady next levels.shape
-      ready_failed is ready = subst (IsReady next) (of_level_at levels.shape levels.pinned 1 levels.runs i r is.each run_is).same_shape ready
+      -- where a read failed, the cursors go on from where they stand
+      pub Rows-stays : (SkipsNoPage position → HasPassed c → HasPassed d) → GoOn old.pages arena levels.shape levels.runs position first (slice_set cs i d)
+      Rows-stays passed = record {
+        follow = λ ess s. subst (λ (xss : List (List Entry)). FollowEach old.pages levels.runs xss position (slice_set cs i d)) (one_each levels.runs old.pages at.ess ess at.stand s) follow_next;
+        of_shape = shape_next;
+        passed = passed_next passed;
+      }
 
       pub Rows-failed : ReadsFail (read_of r.leases c.loaded) (read_of r.leases d.loaded) now next → ReadsFail (pages_read levels.runs first) (pages_read levels.runs (slice_set cs i d)) old next
       Rows-failed (k, page, few, failed) =

@@ -1,5 +1,5 @@
 -- A search in a run for the first wanted entry: what holds at each step of it, and what it finds.
-use Rattle.std.proofs.Common.{◌≡◌, ℕ, suc, ◌+◌, ◌*◌, ◌<◌, ◌≤◌, refl, sym, ap, subst, ◌∙◌, arith, true, false, List, length, slice_get, Some, None, Result, Ok}
+use Rattle.std.proofs.Common.{◌≡◌, ℕ, suc, ◌+◌, ◌*◌, ◌/◌, ◌<◌, ◌≤◌, refl, sym, ap, subst, ◌∙◌, arith, true, false, List, length, slice_get, Some, None, Result, Ok}
 use Rattle.pk_base.specs.Shape.{IsShape, page_entries}
 use Rattle.pk_base.specs.Entry.{Entry, key_of}
 use Rattle.pk_base.specs.Seen.{entry as seen}
@@ -10,11 +10,12 @@ use Rattle.pk_nand.specs.BoardState.{BoardState}
 use Rattle.pk_nand.specs.Calls.{ReadFailed}
 use Rattle.pk_nand.specs.Erased.{after_reads}
 use Rattle.pk_pin.specs.Frames.{Frames}
-use Rattle.pk_run.specs.Kept.{Kept, Stands}
+use Rattle.pk_run.specs.Kept.{Kept, Stands, page_of}
 use Rattle.pk_level.proofs.Looking.{reads_more}
 use Rattle.pk_walk.specs.declared.position.Position.{Position}
 use Rattle.pk_walk.specs.Visible.{is_wanted, wanted, first_of}
 use Rattle.pk_walk.specs.Walking.{Cursor, Follows, HasPassed, Reads, ReadsAll, ReadsFail, SkipsNoPage, read_of}
+use Rattle.pk_walk.specs.Steps.{FailsToShow, FindsIn, GoesOn, Shows, StaysAt}
 use Rattle.pk_walk.proofs.Wanting.{first_here, none_here}
 use Rattle.pk_walk.proofs.Following.{Follows-passed, HasPassed-kept, all_come}
 
@@ -60,6 +61,9 @@ one_list r flash arena xs ys s t = same_ok xs ys (sym s.read ∙ t.read)
 
 -- ---- the search
 
+pub no_answer : (e : RustEntry) → Some e ≡ None → ⊥
+no_answer e is = cc
+
 pub record Seeking (r : Kept) (arena : Frames) (position : Position) (old now : BoardState) (first c : Cursor) : Type 0 where
   pub es : List Entry
   pub stands : Stands r old.pages arena es
@@ -97,31 +101,41 @@ module _ (r : Kept) (arena : Frames) (position : Position) (old : BoardState) (f
     Seeking-end es s past = none_here (is_wanted position) es c.place (omega (arith, s.many, past)) (follows_any es s).left
 
     -- a page was looked at, and the cursor has its bytes
-    pub Seeking-looked : (next : BoardState) (d : Cursor) → d ≡ record c { loaded = d.loaded; bytes = d.bytes }
-        → ((es : List Entry) (p : Position) → Follows now.pages r es p c → Follows now.pages r es p d)
-        → Reads (read_of r.leases c.loaded) (read_of r.leases d.loaded) now next → d.place < d.loaded * page_entries d.shape
-        → (HasPassed c → ReadsAll (read_of r.leases c.loaded) (read_of r.leases d.loaded) now next) → Seeking r arena position old next first d
-    Seeking-looked next d same moved reads here every = record {
+    pub Seeking-looked : (next : BoardState) (d : Cursor) (e : RustEntry) → StaysAt now.pages r c d → Shows r arena now next c d e → Seeking r arena position old next first d
+    Seeking-looked next d e stays shows = record {
       es = at.es;
       stands = at.stands;
-      follows = subst (λ (flash : Flash). Follows flash r at.es position d) (Reads-pages _ _ old now at.reads) (moved at.es position follows_now);
-      shape = ap (λ (x : Cursor). x.shape) same ∙ at.shape;
-      reads = Reads-more _ _ _ old now next at.reads reads;
+      follows = subst (λ (flash : Flash). Follows flash r at.es position d) (Reads-pages _ _ old now at.reads) (stays.follows at.es position follows_now);
+      shape = ap (λ (x : Cursor). x.shape) stays.place ∙ at.shape;
+      reads = Reads-more _ _ _ old now next at.reads shows.reads;
       all = λ none before.
           let far = at.all none before in
-          (omega (arith, here), ReadsAll-more _ _ _ old now next far.1 (every far.0));
+          let here = shows.here in
+          (omega (arith, here), ReadsAll-more _ _ _ old now next far.1 (shows.all far.0));
     }
 
+    -- the cursor goes on from where it has come
+    pub Seeking-goes_on : GoesOn old.pages arena r position first c
+    Seeking-goes_on = record { follows = follows_any; shape = at.shape; passed = λ none before. (at.all none before).0 }
+
     -- and where no page could be read, it stands as before
-    pub follows_failed : (d : Cursor) → ((es : List Entry) (p : Position) → Follows now.pages r es p c → Follows now.pages r es p d)
+    follows_failed : (d : Cursor) → ((es : List Entry) (p : Position) → Follows now.pages r es p c → Follows now.pages r es p d)
         → (es : List Entry) → Stands r old.pages arena es → Follows old.pages r es position d
     follows_failed d moved es s =
         subst (λ (xs : List Entry). Follows old.pages r xs position d) (one_list r old.pages arena at.es es at.stands s)
         (subst (λ (flash : Flash). Follows flash r at.es position d) (Reads-pages _ _ old now at.reads) (moved at.es position follows_now))
 
-    -- nor has it come past another page
-    pub passed_failed : (d : Cursor) → d ≡ record c { loaded = d.loaded; bytes = d.bytes } → d.loaded ≡ c.loaded → SkipsNoPage position → HasPassed first → HasPassed d
-    passed_failed d same loaded none before = HasPassed-kept c d same loaded (at.all none before).0
+    pub Seeking-stays : (d : Cursor) → StaysAt now.pages r c d → d.loaded ≡ c.loaded → GoesOn old.pages arena r position first d
+    Seeking-stays d stays loaded = record {
+      follows = follows_failed d stays.follows;
+      shape = ap (λ (x : Cursor). x.shape) stays.place ∙ at.shape;
+      passed = λ none before. HasPassed-kept c d stays.place loaded (at.all none before).0;
+    }
+
+    pub Seeking-fails : (next : BoardState) (d : Cursor) → FailsToShow r now next c d → ReadsFail (read_of r.leases first.loaded) (read_of r.leases d.loaded) old next
+    Seeking-fails next d fails =
+        subst (λ (n : ℕ). ReadsFail (read_of r.leases first.loaded) (read_of r.leases n) old next) (sym fails.kept)
+        (Reads-failed _ _ old now next (page_of r (c.place / page_entries r.shape)) at.reads fails.failed)
 
     -- behind all entries it has come past all pages
     pub Seeking-ended : IsShape r.shape → first.shape ≡ r.shape → r.count ≤ c.place → SkipsNoPage position → HasPassed first → c.loaded ≡ length r.firsts
@@ -133,6 +147,26 @@ module _ (r : Kept) (arena : Frames) (position : Position) (old : BoardState) (f
     Seeking-found e head one es s =
         let own = one_list r old.pages arena at.es es at.stands s in
         subst (λ (xs : List Entry). Some (seen e) ≡ first_of (wanted (is_wanted position) xs)) own (first_here (is_wanted position) at.es c.place (seen e) (head at.es stands_now) one at.follows.left)
+
+    pub Seeking-finds : (next : BoardState) (d : Cursor) (e : RustEntry) → StaysAt now.pages r c d → Shows r arena now next c d e → is_wanted position (key_of (seen e)) ≡ true
+        → FindsIn r arena position old next first d (Some e)
+    Seeking-finds next d e stays shows one =
+        let looked = Seeking-looked next d e stays shows in
+        record {
+          found = Seeking-found e shows.head one;
+          reads = looked.reads;
+          all = λ none before. (looked.all none before).1;
+          ended = λ is none before. absurd (no_answer e is);
+        }
+
+    -- no entry is left
+    pub Seeking-none : IsShape r.shape → first.shape ≡ r.shape → r.count ≤ c.place → FindsIn r arena position old now first c None
+    Seeking-none is same past = record {
+      found = λ es s. Seeking-end es s past;
+      reads = at.reads;
+      all = λ none before. (at.all none before).1;
+      ended = λ e none before. Seeking-ended is same past none before;
+    }
 
     -- the entry at the place is not wanted, and is passed
     pub Seeking-passed : (e : RustEntry) (d : Cursor) → IsShape r.shape → ((es : List Entry) → Stands r old.pages arena es → slice_get es c.place ≡ Some (seen e)) → is_wanted position (key_of (seen e)) ≡ false
@@ -147,7 +181,6 @@ module _ (r : Kept) (arena : Frames) (position : Position) (old : BoardState) (f
     })
 
     -- behind the look the entry is still at the place
-    pub head_looked : (d : Cursor) (e : RustEntry) → d ≡ record c { loaded = d.loaded; bytes = d.bytes } → ((es : List Entry) → Stands r now.pages arena es → slice_get es c.place ≡ Some (seen e))
-        → (es : List Entry) → Stands r old.pages arena es → slice_get es d.place ≡ Some (seen e)
-    head_looked d e same head es s =
-        ap (λ (x : Cursor). slice_get es x.place) same ∙ head es (subst (λ (flash : Flash). Stands r flash arena es) (sym (Reads-pages _ _ old now at.reads)) s)
+    pub head_looked : (next : BoardState) (d : Cursor) (e : RustEntry) → StaysAt now.pages r c d → Shows r arena now next c d e → (es : List Entry) → Stands r old.pages arena es → slice_get es d.place ≡ Some (seen e)
+    head_looked next d e stays shows es s =
+        ap (λ (x : Cursor). slice_get es x.place) stays.place ∙ shows.head es (subst (λ (flash : Flash). Stands r flash arena es) (sym (Reads-pages _ _ old now at.reads)) s)

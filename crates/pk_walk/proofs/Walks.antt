@@ -24,10 +24,11 @@ use Rattle.pk_walk.specs.declared.position.Position.{Position}
 use Rattle.pk_walk.specs.declared.position.Position.TheVariants.{First, Above}
 use Rattle.pk_walk.specs.Visible.{visible, is_wanted, wanted, first_of, lesser, least_first}
 use Rattle.pk_walk.specs.Walking.{Cursor, Walk, IsWalk, AreOfShape, FollowEach, HasPassed, IsLeft, Gives, Passes, Reads, ReadsAll, ReadsFail, SkipsNoPage, SkipsNone, all_left, all_at_start, read_of, pages_read, most_read}
+use Rattle.pk_walk.specs.Steps.{Comes, FindsInEach, GoOn, WalksOn, first_left}
 use Rattle.pk_walk.proofs.Merging.{EachSorted, first_of_lists}
 use Rattle.pk_walk.proofs.Wanting.{behind_first, first_wanted, none_wanted, placed_wanted}
 use Rattle.pk_walk.proofs.Following.{Follows-above, Follows-start}
-use Rattle.pk_walk.proofs.Seeking.{Reads-none, Reads-more, Reads-pages, ReadsAll-none, ReadsAll-more, one_list}
+use Rattle.pk_walk.proofs.Seeking.{Reads-none, Reads-more, Reads-pages, ReadsAll-none, ReadsAll-more, no_answer, one_list}
 
 -- ---- lists of runs that stand
 
@@ -94,6 +95,45 @@ step_follow flash position key (r ∷ rs) (es ∷ ess) (c ∷ cs) one f = (Follo
 
 pub step_wanted : (position : Position) (lists : List (List Entry)) (e : RustEntry) → Some (seen e) ≡ first_of (all_left position lists) → T (is_wanted position (key_of (seen e)))
 step_wanted position lists e is = first_wanted (is_wanted position) (firsts (flat_map (λ es. es) lists)) (seen e) (sym is)
+
+-- what a step found at a walk's position, and where it left the cursors
+module _ (rs : List Kept) (arena : Frames) (active frozen : List Entry) (shape : Shape) (old new : BoardState) (w : Walk) (ds : List Cursor) (on : GoOn old.pages arena shape rs w.position w.cursors ds) where
+  -- the walk goes behind an entry
+  module _ (e : RustEntry) (key : Key) (of_entry : key ≡ key_of (seen e)) (f : FindsInEach (first_left w.position active frozen) rs arena w.position old new w.cursors ds (Some e)) where
+    pub comes_behind : Comes rs arena active frozen old new w (record w { position = Above key; cursors = ds }) (Some e)
+    comes_behind = record {
+      passes = λ ess s.
+          subst (λ (k : Key). Passes (Some e) (all_left w.position (active ∷ frozen ∷ ess)) (all_left (Above k) (active ∷ frozen ∷ ess))) (sym of_entry)
+          (step_some w.position (active ∷ frozen ∷ ess) e (f.found ess s));
+      reads = f.reads;
+      exact = λ none. f.all none.position none.passed;
+      ended = λ is none. absurd (no_answer e is);
+    }
+
+    pub walks_behind : WalksOn old.pages arena rs w (record w { position = Above key; cursors = ds })
+    walks_behind = record {
+      follow = λ ess s.
+          subst (λ (k : Key). FollowEach old.pages rs ess (Above k) ds) (sym of_entry)
+          (step_follow old.pages w.position (key_of (seen e)) rs ess ds (step_wanted w.position (active ∷ frozen ∷ ess) e (f.found ess s)) (on.follow ess s));
+      same_shape = refl;
+      skips_none = λ none. record { position = tt; passed = on.passed none.position none.passed };
+    }
+
+  -- it stays at its position
+  pub walks_there : WalksOn old.pages arena rs w (record w { cursors = ds })
+  walks_there = record {
+    follow = on.follow;
+    same_shape = refl;
+    skips_none = λ none. record { position = none.position; passed = on.passed none.position none.passed };
+  }
+
+  pub comes_to_none : FindsInEach (first_left w.position active frozen) rs arena w.position old new w.cursors ds None → Comes rs arena active frozen old new w (record w { cursors = ds }) None
+  comes_to_none f = record {
+    passes = λ ess s. step_none w.position (active ∷ frozen ∷ ess) (f.found ess s);
+    reads = f.reads;
+    exact = λ none. f.all none.position none.passed;
+    ended = λ is none. f.ended is none.position none.passed;
+  }
 
 -- ---- what is left
 

@@ -17,7 +17,9 @@ use std::alloc::Allocator;
 /// that may have it, else the first place. Behind its first step a walk has come to a page of each run that has one, and its
 /// cursors stand where it goes on.
 pub fn begins_at<A: Allocator>(run: &Run<A>, position: &Position) -> u32
-    ensures begins { (flash : Flash) (arena : Frames) (es : List EntrySpec) → Stands run.now flash arena es → wanted (is_wanted position.now) es ≡ wanted (is_wanted position.now) (drop result es) }
+    ensures begins { (flash : Flash) (arena : Frames) (es : List EntrySpec)
+        → Stands run.now flash arena es → wanted (is_wanted position.now) es
+        ≡ wanted (is_wanted position.now) (drop result es) }
     ensures first { SkipsNoPage position.now → result ≡ 0 }
 {
     match position {
@@ -29,7 +31,9 @@ pub fn begins_at<A: Allocator>(run: &Run<A>, position: &Position) -> u32
 
 /// The first place of the page that may have the key, or of all.
 fn page_start<A: Allocator>(run: &Run<A>, key: &Key) -> u32
-    ensures { (is_one : KeySpec → Bool) → WantsFrom is_one key.now → (flash : Flash) (arena : Frames) (es : List EntrySpec) → Stands run.now flash arena es → wanted is_one es ≡ wanted is_one (drop result es) }
+    ensures { (is_one : KeySpec → Bool) → WantsFrom is_one key.now
+        → (flash : Flash) (arena : Frames) (es : List EntrySpec) → Stands run.now flash arena es
+        → wanted is_one es ≡ wanted is_one (drop result es) }
 {
     run.known();
     match run.page_for(key) {

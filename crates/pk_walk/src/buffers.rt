@@ -14,7 +14,8 @@ use pk_region::Region;
 
 /// The first entry of the buffer whose key is wanted.
 pub fn first_in<A: Region>(buffer: &Buffer<A>, position: &Position) -> Option<Entry>
-    ensures { option_map seen result ≡ first_of (wanted (is_wanted position.now) buffer.now.entries) }
+    ensures { option_map seen result
+        ≡ first_of (wanted (is_wanted position.now) buffer.now.entries) }
 {
     match position {
         Position::First => entry_at(buffer, 0),
@@ -36,7 +37,8 @@ fn entry_at<A: Region>(buffer: &Buffer<A>, i: u32) -> Option<Entry>
 
 /// The place of the first key above this one.
 fn place_above<A: Region>(buffer: &Buffer<A>, key: &Key) -> u32
-    ensures { slice_get buffer.now.entries result ≡ first_of (wanted (is_wanted (Above key.now)) buffer.now.entries) }
+    ensures { slice_get buffer.now.entries result
+        ≡ first_of (wanted (is_wanted (Above key.now)) buffer.now.entries) }
 {
     let end = buffer.len();
     let at = buffer.from(key);
@@ -55,14 +57,14 @@ fn place_above<A: Region>(buffer: &Buffer<A>, key: &Key) -> u32
 fn has_key(entry: &Entry, key: &Key) -> bool
     ensures { result ≡ is_eq (key_cmp (key_of (seen entry.now)) key.now) }
 {
-    compare(entry.key().bytes(), key.bytes()).is_eq()
+    compare(entry.key(), key).is_eq()
 }
 
 /// Whether the key of an entry is above that of another.
 fn is_above(entry: &Entry, other: &Entry) -> bool
     ensures { result ≡ is_gt (key_cmp (key_of (seen entry.now)) (key_of (seen other.now))) }
 {
-    compare(entry.key().bytes(), other.key().bytes()).is_gt()
+    compare(entry.key(), other.key()).is_gt()
 }
 
 /// Of two entries the one whose key is lower, and of one key the first.

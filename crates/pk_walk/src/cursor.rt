@@ -1,15 +1,14 @@
 //! A place among the entries of a run, which goes forward.
-ghost use Rattle.std.specs.Prelude.{◌≡◌, ◌<◌, ◌≤◌, ◌*◌, ◌/◌, suc, List, length, slice_get, Some, IfOk, IfErr, OnOk, OnErr};
-ghost use Rattle.pk_base.specs.Shape.{page_entries};
+ghost use Rattle.std.specs.Prelude.{◌≡◌, ◌<◌, suc, List, length, IfOk, IfErr, OnOk, OnErr};
 ghost use Rattle.pk_base.specs.Entry.{Entry as EntrySpec};
 ghost use Rattle.pk_base.specs.Page.{Flash, page_at, whole};
-ghost use Rattle.pk_base.specs.Seen.{entry as seen};
-ghost use Rattle.pk_nand.specs.Calls.{IsReady, ReadFailed};
+ghost use Rattle.pk_nand.specs.Calls.{IsReady};
 ghost use Rattle.pk_nand.specs.declared.types.Fault.TheVariants.{Reading};
 ghost use Rattle.pk_pin.specs.Frames.{Frames};
 ghost use Rattle.pk_run.specs.Kept.{Stands, page_of};
 ghost use Rattle.pk_walk.specs.declared.position.Position.{Position as PositionSpec};
-ghost use Rattle.pk_walk.specs.Walking.{Follows, HasPassed, Reads, ReadsAll, SkipsNoPage, at_start, read_of};
+ghost use Rattle.pk_walk.specs.Steps.{FailsToLoad, FailsToShow, Loads, MayLoad, Shows, StaysAt};
+ghost use Rattle.pk_walk.specs.Walking.{Follows, HasPassed, SkipsNoPage, at_start};
 
 use crate::begin::begins_at;
 use crate::position::Position;
@@ -74,7 +73,9 @@ impl<A: Allocator> Cursor<A> {
     /// Goes to the page where a walk from this position begins, unless it has come past a page.
     pub fn begin(&mut self, run: &Run<A>, position: &Position)
         ensures place { self.new ≡ record self.old { place = self.new.place } }
-        ensures follows { (flash : Flash) (arena : Frames) (es : List EntrySpec) → Stands run.now flash arena es → Follows flash run.now es position.now self.old → Follows flash run.now es position.now self.new }
+        ensures follows { (flash : Flash) (arena : Frames) (es : List EntrySpec)
+            → Stands run.now flash arena es → Follows flash run.now es position.now self.old
+            → Follows flash run.now es position.now self.new }
         ensures passed { SkipsNoPage position.now → HasPassed self.old → HasPassed self.new }
     {
         run.known();
@@ -101,17 +102,19 @@ impl<A: Allocator> Cursor<A> {
     ) -> Result<(), Fault>
         requires ready { IsReady (B.state board.old) run.now.shape }
         requires shape { self.old.shape ≡ run.now.shape }
-        requires stands { (es : List EntrySpec) × Stands run.now (B.state board.old).pages arena.now es }
-        requires exists { p < length run.now.firsts }
-        requires behind { self.old.loaded ≤ suc p }
-        requires holds { self.old.loaded ≡ suc p → page_at (B.state board.old).pages (page_of run.now p) ≡ whole self.old.bytes }
-        ensures loaded { OnOk result (self.new ≡ record self.old { loaded = suc p; bytes = self.new.bytes }) }
-        ensures page { OnOk result (page_at (B.state board.old).pages (page_of run.now p) ≡ whole self.new.bytes) }
-        ensures reads { OnOk result (Reads (read_of run.now.leases self.old.loaded) (read_of run.now.leases (suc p)) (B.state board.old) (B.state board.new)) }
-        ensures all { OnOk result (p ≤ self.old.loaded → ReadsAll (read_of run.now.leases self.old.loaded) (read_of run.now.leases (suc p)) (B.state board.old) (B.state board.new)) }
-        ensures kept { OnErr result ((self.new ≡ record self.old { bytes = self.new.bytes }) × (self.old.loaded ≤ p)) }
+        requires stands { (es : List EntrySpec)
+            × Stands run.now (B.state board.old).pages arena.now es }
+        requires may { MayLoad (B.state board.old).pages run.now p self.old }
+        // The page.
+        ensures loads { OnOk result (Loads run.now p (B.state board.old) (B.state board.new)
+            self.old self.new) }
+        ensures page { OnOk result (page_at (B.state board.old).pages (page_of run.now p)
+            ≡ whole self.new.bytes) }
+        // Only a read fails.
+        ensures fails { OnErr result (FailsToLoad run.now p (B.state board.old)
+            (B.state board.new) self.old self.new) }
         ensures reading { IfErr result (λ fault. fault ≡ Reading) }
-        ensures err { OnErr result (ReadFailed (B.state board.old) (B.state board.new) (page_of run.now p)) }
+        // The flash is as it was.
         ensures same { (B.state board.new).pages ≡ (B.state board.old).pages }
         ensures ready { IsReady (B.state board.new) run.now.shape }
     {
@@ -138,17 +141,19 @@ impl<A: Allocator> Cursor<A> {
     ) -> Result<Entry, Fault>
         requires ready { IsReady (B.state board.old) run.now.shape }
         requires shape { self.old.shape ≡ run.now.shape }
-        requires follows { (es : List EntrySpec) × (position : PositionSpec) × Stands run.now (B.state board.old).pages arena.now es × Follows (B.state board.old).pages run.now es position self.old }
+        requires follows { (es : List EntrySpec) × (position : PositionSpec)
+            × Stands run.now (B.state board.old).pages arena.now es
+            × Follows (B.state board.old).pages run.now es position self.old }
         requires exists { self.old.place < run.now.count }
-        ensures head { IfOk result (λ e. (es : List EntrySpec) → Stands run.now (B.state board.old).pages arena.now es → slice_get es self.old.place ≡ Some (seen e)) }
-        ensures place { self.new ≡ record self.old { loaded = self.new.loaded; bytes = self.new.bytes } }
-        ensures follows { (es : List EntrySpec) (position : PositionSpec) → Follows (B.state board.old).pages run.now es position self.old → Follows (B.state board.old).pages run.now es position self.new }
-        ensures reads { OnOk result (Reads (read_of run.now.leases self.old.loaded) (read_of run.now.leases self.new.loaded) (B.state board.old) (B.state board.new)) }
-        ensures here { OnOk result (self.new.place < self.new.loaded * page_entries self.new.shape) }
-        ensures all { OnOk result (HasPassed self.old → ReadsAll (read_of run.now.leases self.old.loaded) (read_of run.now.leases self.new.loaded) (B.state board.old) (B.state board.new)) }
-        ensures kept { OnErr result (self.new.loaded ≡ self.old.loaded) }
+        // The entry at the place.
+        ensures shows { IfOk result (λ e. Shows run.now arena.now (B.state board.old)
+            (B.state board.new) self.old self.new e) }
+        // The cursor stays at its place in any case, and only a read fails.
+        ensures stays { StaysAt (B.state board.old).pages run.now self.old self.new }
+        ensures fails { OnErr result (FailsToShow run.now (B.state board.old)
+            (B.state board.new) self.old self.new) }
         ensures reading { IfErr result (λ fault. fault ≡ Reading) }
-        ensures err { OnErr result (ReadFailed (B.state board.old) (B.state board.new) (page_of run.now (self.old.place / page_entries run.now.shape))) }
+        // The flash is as it was.
         ensures same { (B.state board.new).pages ≡ (B.state board.old).pages }
         ensures ready { IsReady (B.state board.new) run.now.shape }
     {

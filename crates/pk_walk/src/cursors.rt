@@ -1,13 +1,12 @@
 //! A cursor for each of the four runs.
-ghost use Rattle.std.specs.Prelude.{◌≡◌, List, length, option_map, None, IfOk, IfErr, OnOk, OnErr};
-ghost use Rattle.std.specs.List.{AllByRecursion};
+ghost use Rattle.std.specs.Prelude.{◌≡◌, List, length, IfOk, IfErr, OnErr};
 ghost use Rattle.pk_base.specs.Entry.{Entry as EntrySpec};
-ghost use Rattle.pk_base.specs.Seen.{entry as seen};
 ghost use Rattle.pk_nand.specs.Calls.{IsReady};
 ghost use Rattle.pk_nand.specs.declared.types.Fault.TheVariants.{Reading};
 ghost use Rattle.pk_level.specs.Levels.{StandEach};
+ghost use Rattle.pk_walk.specs.Steps.{FindsInEach, GoOn};
 ghost use Rattle.pk_walk.specs.Visible.{is_wanted, least_first};
-ghost use Rattle.pk_walk.specs.Walking.{AreOfShape, FollowEach, HasPassed, Reads, ReadsAll, ReadsFail, SkipsNoPage, all_at_start, most_read, pages_read};
+ghost use Rattle.pk_walk.specs.Walking.{AreOfShape, FollowEach, ReadsFail, all_at_start, pages_read};
 
 use crate::buffers::least;
 use crate::cursor::Cursor;
@@ -86,16 +85,20 @@ impl<A: Allocator> Cursors<A> {
     ) -> Result<Option<Entry>, Fault>
         requires ready { IsReady (B.state board.old) levels.now.shape }
         requires shape { AreOfShape levels.now.shape self.old }
-        requires follow { (ess : List (List EntrySpec)) × StandEach (B.state board.old).pages arena.now levels.now.runs ess × FollowEach (B.state board.old).pages levels.now.runs ess position.now self.old }
-        ensures found { IfOk result (λ found. (ess : List (List EntrySpec)) → StandEach (B.state board.old).pages arena.now levels.now.runs ess → option_map seen found ≡ least_first (is_wanted position.now) ess) }
-        ensures follow { (ess : List (List EntrySpec)) → StandEach (B.state board.old).pages arena.now levels.now.runs ess → FollowEach (B.state board.old).pages levels.now.runs ess position.now self.new }
-        ensures shape { AreOfShape levels.now.shape self.new }
-        ensures reads { OnOk result (Reads (pages_read levels.now.runs self.old) (pages_read levels.now.runs self.new) (B.state board.old) (B.state board.new)) }
-        ensures passed { SkipsNoPage position.now → AllByRecursion HasPassed self.old → AllByRecursion HasPassed self.new }
-        ensures all { OnOk result (SkipsNoPage position.now → AllByRecursion HasPassed self.old → ReadsAll (pages_read levels.now.runs self.old) (pages_read levels.now.runs self.new) (B.state board.old) (B.state board.new)) }
-        ensures ended { IfOk result (λ found. found ≡ None → SkipsNoPage position.now → AllByRecursion HasPassed self.old → pages_read levels.now.runs self.new ≡ most_read levels.now.runs) }
+        requires follow { (ess : List (List EntrySpec))
+            × StandEach (B.state board.old).pages arena.now levels.now.runs ess
+            × FollowEach (B.state board.old).pages levels.now.runs ess position.now self.old }
+        // The first wanted entry.
+        ensures finds { IfOk result (λ found. FindsInEach (least_first (is_wanted position.now))
+            levels.now.runs arena.now position.now (B.state board.old) (B.state board.new)
+            self.old self.new found) }
+        // The cursors go on in any case, and only a read fails.
+        ensures go_on { GoOn (B.state board.old).pages arena.now levels.now.shape
+            levels.now.runs position.now self.old self.new }
         ensures reading { IfErr result (λ fault. fault ≡ Reading) }
-        ensures err { OnErr result (ReadsFail (pages_read levels.now.runs self.old) (pages_read levels.now.runs self.new) (B.state board.old) (B.state board.new)) }
+        ensures err { OnErr result (ReadsFail (pages_read levels.now.runs self.old)
+            (pages_read levels.now.runs self.new) (B.state board.old) (B.state board.new)) }
+        // The flash is as it was.
         ensures same { (B.state board.new).pages ≡ (B.state board.old).pages }
         ensures ready { IsReady (B.state board.new) levels.now.shape }
     {

@@ -13,6 +13,3 @@ mod walk;
 
 pub use position::Position;
 pub use walk::Walk;
-
-#[cfg(test)]
-mod tests;

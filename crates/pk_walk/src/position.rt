@@ -19,8 +19,8 @@ impl Position {
     {
         match self {
             Position::First => true,
-            Position::From(from) => !compare(key.bytes(), from.bytes()).is_lt(),
-            Position::Above(from) => compare(key.bytes(), from.bytes()).is_gt(),
+            Position::From(from) => !compare(key, from).is_lt(),
+            Position::Above(from) => compare(key, from).is_gt(),
         }
     }
 }

@@ -1,12 +1,11 @@
 //! The first wanted entry of a run, from a cursor on.
-ghost use Rattle.std.specs.Prelude.{◌≡◌, List, length, option_map, None, IfOk, IfErr, OnOk, OnErr};
+ghost use Rattle.std.specs.Prelude.{◌≡◌, List, IfErr, IfOk, OnErr};
 ghost use Rattle.pk_base.specs.Entry.{Entry as EntrySpec};
-ghost use Rattle.pk_base.specs.Seen.{entry as seen};
 ghost use Rattle.pk_nand.specs.Calls.{IsReady};
 ghost use Rattle.pk_nand.specs.declared.types.Fault.TheVariants.{Reading};
 ghost use Rattle.pk_run.specs.Kept.{Stands};
-ghost use Rattle.pk_walk.specs.Visible.{is_wanted, wanted, first_of};
-ghost use Rattle.pk_walk.specs.Walking.{Follows, HasPassed, Reads, ReadsAll, ReadsFail, SkipsNoPage, read_of};
+ghost use Rattle.pk_walk.specs.Steps.{FindsIn, GoesOn};
+ghost use Rattle.pk_walk.specs.Walking.{Follows, ReadsFail, read_of};
 
 use crate::cursor::Cursor;
 use crate::position::Position;
@@ -27,16 +26,18 @@ pub fn seek<A: Allocator, B: Nand>(
 ) -> Result<Option<Entry>, Fault>
     requires ready { IsReady (B.state board.old) run.now.shape }
     requires shape { cursor.old.shape ≡ run.now.shape }
-    requires follows { (es : List EntrySpec) × Stands run.now (B.state board.old).pages arena.now es × Follows (B.state board.old).pages run.now es position.now cursor.old }
-    ensures found { IfOk result (λ found. (es : List EntrySpec) → Stands run.now (B.state board.old).pages arena.now es → option_map seen found ≡ first_of (wanted (is_wanted position.now) es)) }
-    ensures follows { (es : List EntrySpec) → Stands run.now (B.state board.old).pages arena.now es → Follows (B.state board.old).pages run.now es position.now cursor.new }
-    ensures shape { cursor.new.shape ≡ cursor.old.shape }
-    ensures reads { OnOk result (Reads (read_of run.now.leases cursor.old.loaded) (read_of run.now.leases cursor.new.loaded) (B.state board.old) (B.state board.new)) }
-    ensures passed { SkipsNoPage position.now → HasPassed cursor.old → HasPassed cursor.new }
-    ensures all { OnOk result (SkipsNoPage position.now → HasPassed cursor.old → ReadsAll (read_of run.now.leases cursor.old.loaded) (read_of run.now.leases cursor.new.loaded) (B.state board.old) (B.state board.new)) }
-    ensures ended { IfOk result (λ found. found ≡ None → SkipsNoPage position.now → HasPassed cursor.old → cursor.new.loaded ≡ length run.now.firsts) }
+    requires follows { (es : List EntrySpec) × Stands run.now (B.state board.old).pages arena.now es
+        × Follows (B.state board.old).pages run.now es position.now cursor.old }
+    // The first wanted entry.
+    ensures finds { IfOk result (λ found. FindsIn run.now arena.now position.now
+        (B.state board.old) (B.state board.new) cursor.old cursor.new found) }
+    // The cursor goes on in any case, and only a read fails.
+    ensures goes_on { GoesOn (B.state board.old).pages arena.now run.now position.now
+        cursor.old cursor.new }
     ensures reading { IfErr result (λ fault. fault ≡ Reading) }
-    ensures err { OnErr result (ReadsFail (read_of run.now.leases cursor.old.loaded) (read_of run.now.leases cursor.new.loaded) (B.state board.old) (B.state board.new)) }
+    ensures err { OnErr result (ReadsFail (read_of run.now.leases cursor.old.loaded)
+        (read_of run.now.leases cursor.new.loaded) (B.state board.old) (B.state board.new)) }
+    // The flash is as it was.
     ensures same { (B.state board.new).pages ≡ (B.state board.old).pages }
     ensures ready { IsReady (B.state board.new) run.now.shape }
 {

@@ -1,6 +1,5 @@
 //! The walk itself.
-ghost use Rattle.std.specs.Prelude.{◌≡◌, ◌≤◌, ◌∷◌, List, length, option_map, is_some, None, IfOk, IfErr, OnOk, OnErr};
-ghost use Rattle.std.specs.List.{AllByRecursion};
+ghost use Rattle.std.specs.Prelude.{◌≡◌, ◌≤◌, ◌∷◌, List, length, is_some, None, IfOk, IfErr, OnOk, OnErr};
 ghost use Rattle.std.specs.Option.{option_copied};
 ghost use Rattle.pk_base.specs.Entry.{Entry as EntrySpec, Place};
 ghost use Rattle.pk_base.specs.Key.{Key as KeySpec};
@@ -12,8 +11,9 @@ ghost use Rattle.pk_pin.specs.Frames.{Frames};
 ghost use Rattle.pk_run.specs.Kept.{Kept};
 ghost use Rattle.pk_level.specs.Levels.{StandEach};
 ghost use Rattle.pk_walk.specs.declared.position.Position.TheVariants.{First};
-ghost use Rattle.pk_walk.specs.Visible.{is_wanted, first_of, visible, wanted};
-ghost use Rattle.pk_walk.specs.Walking.{FollowEach, Gives, HasPassed, IsLeft, IsWalk, Passes, Reads, ReadsAll, ReadsFail, SkipsNoPage, SkipsNone, AreOfShape, all_left, begun, first_position, most_read, pages_read};
+ghost use Rattle.pk_walk.specs.Steps.{Comes, FindsInEach, GoOn, WalksOn, first_left};
+ghost use Rattle.pk_walk.specs.Visible.{is_wanted, visible, wanted};
+ghost use Rattle.pk_walk.specs.Walking.{FollowEach, Gives, IsLeft, IsWalk, Reads, ReadsAll, ReadsFail, SkipsNone, AreOfShape, begun, first_position, most_read, pages_read};
 
 use crate::buffers::{first_in, least};
 use crate::cursors::Cursors;
@@ -52,7 +52,10 @@ impl<A: Region> Walk<A> {
     pub fn new(alloc: A, shape: Shape) -> Result<Walk<A>, AllocError>
         ensures shape { IfOk result (λ w. w.shape ≡ shape) }
         ensures begun { IfOk result (λ w. w ≡ begun w First) }
-        ensures left { IfOk result (λ w. (flash : Flash) (arena : Frames) (runs : List Kept) (active frozen : List EntrySpec) (ess : List (List EntrySpec)) → StandEach flash arena runs ess → IsLeft w flash arena runs active frozen (visible (active ∷ frozen ∷ ess))) }
+        ensures left { IfOk result (λ w. (flash : Flash) (arena : Frames) (runs : List Kept)
+            (active frozen : List EntrySpec) (ess : List (List EntrySpec))
+            → StandEach flash arena runs ess
+            → IsLeft w flash arena runs active frozen (visible (active ∷ frozen ∷ ess))) }
         ensures none_read { IfOk result (λ w. (runs : List Kept) → pages_read runs w.cursors ≡ 0) }
         ensures skips_none { IfOk result (λ w. SkipsNone w) }
     {
@@ -75,7 +78,11 @@ impl<A: Region> Walk<A> {
     /// Begins a walk at the first key that is not below this one, or at the first of all.
     pub fn start(&mut self, from: Option<&Key>)
         ensures begun { self.new ≡ begun self.old (first_position (option_copied from.entry)) }
-        ensures left { (flash : Flash) (arena : Frames) (runs : List Kept) (active frozen : List EntrySpec) (ess : List (List EntrySpec)) → StandEach flash arena runs ess → IsLeft self.new flash arena runs active frozen (wanted (is_wanted self.new.position) (visible (active ∷ frozen ∷ ess))) }
+        ensures left { (flash : Flash) (arena : Frames) (runs : List Kept)
+            (active frozen : List EntrySpec) (ess : List (List EntrySpec))
+            → StandEach flash arena runs ess
+            → IsLeft self.new flash arena runs active frozen
+            (wanted (is_wanted self.new.position) (visible (active ∷ frozen ∷ ess))) }
         ensures none_read { (runs : List Kept) → pages_read runs self.new.cursors ≡ 0 }
         ensures skips_none { option_copied from.entry ≡ None → SkipsNone self.new }
     {
@@ -101,17 +108,22 @@ impl<A: Region> Walk<A> {
     ) -> Result<Option<Entry>, Fault>
         requires ready { IsReady (B.state board.old) levels.now.shape }
         requires shape { self.old.shape ≡ levels.now.shape }
-        requires follow { (ess : List (List EntrySpec)) × StandEach (B.state board.old).pages arena.now levels.now.runs ess × FollowEach (B.state board.old).pages levels.now.runs ess self.old.position self.old.cursors }
-        ensures passes { IfOk result (λ found. (ess : List (List EntrySpec)) → StandEach (B.state board.old).pages arena.now levels.now.runs ess → Passes found (all_left self.old.position (active.now.entries ∷ frozen.now.entries ∷ ess)) (all_left self.new.position (active.now.entries ∷ frozen.now.entries ∷ ess))) }
-        ensures follow { (ess : List (List EntrySpec)) → StandEach (B.state board.old).pages arena.now levels.now.runs ess → FollowEach (B.state board.old).pages levels.now.runs ess self.new.position self.new.cursors }
-        ensures shape { self.new.shape ≡ self.old.shape }
+        requires follow { (ess : List (List EntrySpec))
+            × StandEach (B.state board.old).pages arena.now levels.now.runs ess
+            × FollowEach (B.state board.old).pages levels.now.runs ess self.old.position
+            self.old.cursors }
+        // The next entry.
+        ensures comes { IfOk result (λ found. Comes levels.now.runs arena.now
+            active.now.entries frozen.now.entries (B.state board.old) (B.state board.new)
+            self.old self.new found) }
+        // The walk goes on in any case, and only a read fails.
+        ensures walks_on { WalksOn (B.state board.old).pages arena.now levels.now.runs
+            self.old self.new }
         ensures kept { OnErr result (self.new.position ≡ self.old.position) }
-        ensures reads { OnOk result (Reads (pages_read levels.now.runs self.old.cursors) (pages_read levels.now.runs self.new.cursors) (B.state board.old) (B.state board.new)) }
-        ensures skips_none { SkipsNone self.old → SkipsNone self.new }
-        ensures exact { OnOk result (SkipsNone self.old → ReadsAll (pages_read levels.now.runs self.old.cursors) (pages_read levels.now.runs self.new.cursors) (B.state board.old) (B.state board.new)) }
-        ensures ended { IfOk result (λ found. found ≡ None → SkipsNone self.old → pages_read levels.now.runs self.new.cursors ≡ most_read levels.now.runs) }
         ensures reading { IfErr result (λ fault. fault ≡ Reading) }
-        ensures err { OnErr result (ReadsFail (pages_read levels.now.runs self.old.cursors) (pages_read levels.now.runs self.new.cursors) (B.state board.old) (B.state board.new)) }
+        ensures err { OnErr result (ReadsFail (pages_read levels.now.runs self.old.cursors)
+            (pages_read levels.now.runs self.new.cursors) (B.state board.old) (B.state board.new)) }
+        // The flash is as it was.
         ensures same { (B.state board.new).pages ≡ (B.state board.old).pages }
         ensures ready { IsReady (B.state board.new) levels.now.shape }
     {
@@ -148,18 +160,39 @@ impl<A: Region> Walk<A> {
     ) -> Result<Option<Entry>, Fault>
         requires ready { IsReady (B.state board.old) levels.now.shape }
         requires shape { self.old.shape ≡ levels.now.shape }
-        requires left { (rest : List (KeySpec × Place)) × IsLeft self.old (B.state board.old).pages arena.now levels.now.runs active.now.entries frozen.now.entries rest }
-        ensures gives { IfOk result (λ found. (rest : List (KeySpec × Place)) → IsLeft self.old (B.state board.old).pages arena.now levels.now.runs active.now.entries frozen.now.entries rest → (later : List (KeySpec × Place)) × Gives found rest later × IsLeft self.new (B.state board.new).pages arena.now levels.now.runs active.now.entries frozen.now.entries later) }
-        ensures kept { OnErr result ((rest : List (KeySpec × Place)) → IsLeft self.old (B.state board.old).pages arena.now levels.now.runs active.now.entries frozen.now.entries rest → IsLeft self.new (B.state board.new).pages arena.now levels.now.runs active.now.entries frozen.now.entries rest) }
+        requires left { (rest : List (KeySpec × Place))
+            × IsLeft self.old (B.state board.old).pages arena.now levels.now.runs active.now.entries
+            frozen.now.entries rest }
+        ensures gives { IfOk result (λ found. (rest : List (KeySpec × Place))
+            → IsLeft self.old (B.state board.old).pages arena.now levels.now.runs active.now.entries
+            frozen.now.entries rest → (later : List (KeySpec × Place)) × Gives found rest later
+            × IsLeft self.new (B.state board.new).pages arena.now levels.now.runs active.now.entries
+            frozen.now.entries later) }
+        ensures kept { OnErr result ((rest : List (KeySpec × Place))
+            → IsLeft self.old (B.state board.old).pages arena.now levels.now.runs active.now.entries
+            frozen.now.entries rest
+            → IsLeft self.new (B.state board.new).pages arena.now levels.now.runs active.now.entries
+            frozen.now.entries rest) }
         ensures shape { self.new.shape ≡ self.old.shape }
-        ensures reads { OnOk result (Reads (pages_read levels.now.runs self.old.cursors) (pages_read levels.now.runs self.new.cursors) (B.state board.old) (B.state board.new)) }
+        ensures reads { OnOk result (Reads (pages_read levels.now.runs self.old.cursors)
+            (pages_read levels.now.runs self.new.cursors) (B.state board.old) (B.state board.new)) }
         ensures few { pages_read levels.now.runs self.new.cursors ≤ most_read levels.now.runs }
         ensures skips_none { SkipsNone self.old → SkipsNone self.new }
-        ensures exact { OnOk result (SkipsNone self.old → ReadsAll (pages_read levels.now.runs self.old.cursors) (pages_read levels.now.runs self.new.cursors) (B.state board.old) (B.state board.new)) }
-        ensures ended { IfOk result (λ found. found ≡ None → SkipsNone self.old → pages_read levels.now.runs self.new.cursors ≡ most_read levels.now.runs) }
+        ensures exact { OnOk result (SkipsNone self.old
+            → ReadsAll (pages_read levels.now.runs self.old.cursors)
+            (pages_read levels.now.runs self.new.cursors) (B.state board.old) (B.state board.new)) }
+        ensures ended { IfOk result (λ found. found ≡ None → SkipsNone self.old
+            → pages_read levels.now.runs self.new.cursors ≡ most_read levels.now.runs) }
         ensures reading { IfErr result (λ fault. fault ≡ Reading) }
-        ensures err { OnErr result (ReadsFail (pages_read levels.now.runs self.old.cursors) (pages_read levels.now.runs self.new.cursors) (B.state board.old) (B.state board.new)) }
-        ensures rest { B.state board.new ≡ record (B.state board.old) { reads = (B.state board.new).reads; flash_faults = (B.state board.new).flash_faults; read_faults = (B.state board.new).read_faults; failed_at = (B.state board.new).failed_at } }
+        ensures err { OnErr result (ReadsFail (pages_read levels.now.runs self.old.cursors)
+            (pages_read levels.now.runs self.new.cursors) (B.state board.old) (B.state board.new)) }
+        ensures rest { B.state board.new ≡ record (B.state board.old) {
+          reads = (B.state board.new).reads;
+          flash_faults = (B.state board.new).flash_faults;
+          read_faults = (B.state board.new).read_faults;
+          failed_at =
+              (B.state board.new).failed_at;
+        } }
         ensures same { (B.state board.new).pages ≡ (B.state board.old).pages }
         ensures ready { IsReady (B.state board.new) levels.now.shape }
     {
@@ -199,16 +232,20 @@ fn least_of_all<A: Region, B: Nand>(
 ) -> Result<Option<Entry>, Fault>
     requires ready { IsReady (B.state board.old) levels.now.shape }
     requires shape { AreOfShape levels.now.shape cursors.old }
-    requires follow { (ess : List (List EntrySpec)) × StandEach (B.state board.old).pages arena.now levels.now.runs ess × FollowEach (B.state board.old).pages levels.now.runs ess position.now cursors.old }
-    ensures found { IfOk result (λ found. (ess : List (List EntrySpec)) → StandEach (B.state board.old).pages arena.now levels.now.runs ess → option_map seen found ≡ first_of (all_left position.now (active.now.entries ∷ frozen.now.entries ∷ ess))) }
-    ensures follow { (ess : List (List EntrySpec)) → StandEach (B.state board.old).pages arena.now levels.now.runs ess → FollowEach (B.state board.old).pages levels.now.runs ess position.now cursors.new }
-    ensures shape { AreOfShape levels.now.shape cursors.new }
-    ensures reads { OnOk result (Reads (pages_read levels.now.runs cursors.old) (pages_read levels.now.runs cursors.new) (B.state board.old) (B.state board.new)) }
-    ensures passed { SkipsNoPage position.now → AllByRecursion HasPassed cursors.old → AllByRecursion HasPassed cursors.new }
-    ensures all { OnOk result (SkipsNoPage position.now → AllByRecursion HasPassed cursors.old → ReadsAll (pages_read levels.now.runs cursors.old) (pages_read levels.now.runs cursors.new) (B.state board.old) (B.state board.new)) }
-    ensures ended { IfOk result (λ found. found ≡ None → SkipsNoPage position.now → AllByRecursion HasPassed cursors.old → pages_read levels.now.runs cursors.new ≡ most_read levels.now.runs) }
+    requires follow { (ess : List (List EntrySpec))
+        × StandEach (B.state board.old).pages arena.now levels.now.runs ess
+        × FollowEach (B.state board.old).pages levels.now.runs ess position.now cursors.old }
+    // The first entry that is left.
+    ensures finds { IfOk result (λ found. FindsInEach (first_left position.now
+        active.now.entries frozen.now.entries) levels.now.runs arena.now position.now
+        (B.state board.old) (B.state board.new) cursors.old cursors.new found) }
+    // The cursors go on in any case, and only a read fails.
+    ensures go_on { GoOn (B.state board.old).pages arena.now levels.now.shape
+        levels.now.runs position.now cursors.old cursors.new }
     ensures reading { IfErr result (λ fault. fault ≡ Reading) }
-    ensures err { OnErr result (ReadsFail (pages_read levels.now.runs cursors.old) (pages_read levels.now.runs cursors.new) (B.state board.old) (B.state board.new)) }
+    ensures err { OnErr result (ReadsFail (pages_read levels.now.runs cursors.old)
+        (pages_read levels.now.runs cursors.new) (B.state board.old) (B.state board.new)) }
+    // The flash is as it was.
     ensures same { (B.state board.new).pages ≡ (B.state board.old).pages }
     ensures ready { IsReady (B.state board.new) levels.now.shape }
     ensures four { length cursors.new ≡ 4 }

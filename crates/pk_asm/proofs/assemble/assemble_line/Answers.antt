@@ -1,7 +1,7 @@
-use Rattle.std.proofs.Common.{◌≡◌, ◌∙◌, ℕ, List, Option, sym, ap, arith, refl}
+use Rattle.std.proofs.Common.{◌∙◌, Option, sym, ap, arith}
 use Rattle.std.specs.Prelude.{option_map}
 use Rattle.pk_nvme.specs.Bytes.{RoomyList}
-use Rattle.pk_asm.specs.Line.{Line, entry_in, bytes_in, brought, entry_said, says}
+use Rattle.pk_asm.specs.Line.{Line, entry_in, bytes_in, entry_said}
 use Rattle.pk_asm.specs.Words.{words}
 use Rattle.pk_asm.proofs.LineLemmas.{says_entry, no_comment, entry_some, entry_none, bytes_said, emptied}
 use Rattle.pk_asm.proofs.assemble.assemble_line.Goals as goal

@@ -1,4 +1,4 @@
-use Rattle.std.proofs.Common.{◌∙◌, ap, sym, arith, Option, List, ℕ}
+use Rattle.std.proofs.Common.{◌∙◌, ap, sym, Option, List, ℕ}
 use Rattle.std.specs.Prelude.{option_map}
 use Rattle.pk_asm.proofs.SplitLemmas.{operands_fit, operands_below}
 use Rattle.pk_asm.proofs.LineLemmas.{said_named, entry_of_form}

@@ -1,4 +1,4 @@
-use Rattle.std.proofs.Common.{◌≡◌, ◌∙◌, ◌%◌, ◌^◌, ℕ, List, length, arith, sym, ap}
+use Rattle.std.proofs.Common.{◌≡◌, ◌∙◌, ◌%◌, ℕ, List, length, arith, sym, ap}
 use Rattle.std.proofs.lemmas.List.{take_all}
 use Rattle.pk_base.specs.Fields.{padded}
 use Rattle.pk_nvme.specs.Seen.{entry_of}

@@ -1,5 +1,5 @@
 use Rattle.std.proofs.Common.{arith}
-use Rattle.pk_asm.proofs.PrintLemmas.{words_none, words_room, words_step, words_all}
+use Rattle.pk_asm.proofs.PrintLemmas.{words_room}
 use Rattle.pk_asm.proofs.writer.put_words.Goals as goal
 
 pub put-requires : goal.put-requires

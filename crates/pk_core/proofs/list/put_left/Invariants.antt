@@ -4,7 +4,7 @@ use Rattle.pk_core.proofs.list.put_left.Given as goal
 
 abbrev pub invariant-loop-next : goal.invariant-loop-next
 invariant-loop-next g l = record {
-  fills : Fills l.levels.runs l.arena l.active.entries l.frozen.entries l.levels.shape (g.B.Nand.state l.fn.board) (g.B.Nand.state l.board) l.fn.walk l.walk l.room l.fn.into l.into l.at;
+  fills : Fills l.levels.runs l.arena l.log.active.entries l.log.frozen.entries l.levels.shape (g.B.Nand.state l.fn.board) (g.B.Nand.state l.board) l.fn.walk l.walk l.room l.fn.into l.into l.at;
 }
 
 abbrev pub decreases-loop-next : goal.decreases-loop-next

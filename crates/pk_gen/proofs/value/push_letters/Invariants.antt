@@ -1,5 +1,4 @@
 use Rattle.std.proofs.Common.{◌≡◌, ◌++◌}
-use Rattle.pk_nvme.specs.Bytes.{RoomyList}
 use Rattle.pk_gen.specs.Workload.{letters}
 use Rattle.pk_gen.proofs.value.push_letters.Given as goal
 

@@ -3,8 +3,8 @@ use Rattle.std.specs.Prelude.{is_ok}
 use Rattle.pk_image.proofs.HeaderLemmas.{short, names_one}
 use Rattle.pk_image.proofs.head.shape_of.Goals as goal
 
-pub returns-then-file_len-lt32 : goal.returns-then-file_len-lt32
-returns-then-file_len-lt32 c = short c.args.bytes.now c.args.file_len c.if-file_len-lt32.true
+pub returns-then-file_len : goal.returns-then-file_len
+returns-then-file_len c = short c.args.bytes.now c.args.file_len c.if-file_len.true
 
 pub unreachable-requires : goal.unreachable-requires
 unreachable-requires c =

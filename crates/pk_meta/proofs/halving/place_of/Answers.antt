@@ -6,14 +6,14 @@ use Rattle.pk_meta.proofs.halving.place_of.Goals as goal
 pub loop-low-preserved-in-Less : goal.loop-low-preserved-in-Less
 loop-low-preserved-in-Less c = record {
   narrowed = to_right c.args.shape.now c.args.page.now c.args.key.now c.known.ensures c.requires.decodes c.loop-low.low c.loop-low.high _ c.loop-low.invariant.narrowed (omega arith)
-      (rw (c.key_at.ensures, c.bytes.ensures.value) at (sym c.compare.ensures ∙ c.in-Less.is));
+      (sym c.compare_at.ensures ∙ c.in-Less.is);
   halved = halved_more (number_at 2 10 c.args.page.now) (c.loop-low.high - c.loop-low.low) _ c.loop-low.probes c.loop-low.invariant.halved (omega arith) (omega arith);
 }
 
 pub loop-low-preserved : goal.loop-low-preserved
 loop-low-preserved c = record {
   narrowed = to_left c.args.shape.now c.args.page.now c.args.key.now c.known.ensures c.requires.decodes c.loop-low.low c.loop-low.high _ c.loop-low.invariant.narrowed (omega arith) (omega arith)
-      (rw (c.key_at.ensures, c.bytes.ensures.value) at (sym c.compare.ensures ∙ c.in-Greater.is));
+      (sym c.compare_at.ensures ∙ c.in-Greater.is);
   halved = halved_more (number_at 2 10 c.args.page.now) (c.loop-low.high - c.loop-low.low) _ c.loop-low.probes c.loop-low.invariant.halved (omega arith) (omega arith);
 }
 
@@ -30,7 +30,7 @@ pub returns-in-Equal-clause-place : goal.returns-in-Equal-clause-place
 returns-in-Equal-clause-place c =
     let middle : ℕ = c.loop-low.low + (c.loop-low.high - c.loop-low.low) / 2 in (
       omega (arith, c.loop-low.invariant.narrowed.end, c.loop-low-test.true),
-      same_key (place_key c.args.page.now middle) c.args.key.now (rw (c.key_at.ensures, c.bytes.ensures.value) at (sym c.compare.ensures ∙ c.in-Equal.is)),
+      same_key (place_key c.args.page.now middle) c.args.key.now (sym c.compare_at.ensures ∙ c.in-Equal.is),
     )
 
 pub returns-in-Equal-clause-probes : goal.returns-in-Equal-clause-probes

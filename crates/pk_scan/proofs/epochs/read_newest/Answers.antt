@@ -19,5 +19,5 @@ returns-in-Ok-clause-held g c =
 
 pub returns-in-Ok-clause-reads : goal.returns-in-Ok-clause-reads
 returns-in-Ok-clause-reads g c =
-    newest_exact c.args.root.now.shape (g.B.Nand.state c.args.board.now).pages c.args.root.now.root c.newest-blocks.result c.epoch-number.result c.in-Ok.used c.replay.new.into (rw c.shape.ensures at c.in-Ok.ensures.replayed)
+    newest_exact c.args.root.now.shape (g.B.Nand.state c.args.board.now).pages c.args.root.now.root c.newest-blocks.result
     (g.B.Nand.state c.args.board.now) (g.B.Nand.state c.replay.new.board) (rw c.shape.ensures at c.in-Ok.ensures.reads) c.newest-blocks.ensures (newest_two c.args.root.now.shape c.args.root.now.root c.requires.grammar)

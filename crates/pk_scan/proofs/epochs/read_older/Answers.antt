@@ -1,12 +1,11 @@
-use Rattle.std.proofs.Common.{◌≡◌, ◌∙◌, ◌-◌, ◌*◌, ℕ, sym, ap, subst, Err}
+use Rattle.std.proofs.Common.{◌≡◌, ◌∙◌, ◌*◌, ℕ, sym, ap, subst, Err}
 use Rattle.std.specs.Prelude.{slice_index}
 use Rattle.pk_base.specs.Shape.{Shape}
 use Rattle.pk_base.specs.Page.{page_at}
 use Rattle.pk_base.specs.Refusal.{damaged}
 use Rattle.pk_model.specs.Found.{older_epoch}
-use Rattle.pk_scan.proofs.Boards.{rest_reads}
+use Rattle.pk_scan.proofs.Boards.{stays_reads}
 use Rattle.pk_scan.proofs.Exact.{older_exact, none_exact}
-use Rattle.pk_scan.proofs.RootFacts.{older_two}
 use Rattle.pk_scan.proofs.EpochsHeld.{older_not_named, older_without}
 use Rattle.pk_scan.proofs.epochs.read_older.Goals as goal
 
@@ -26,11 +25,10 @@ pub returns-in-None-clause-reads : goal.returns-in-None-clause-reads
 returns-in-None-clause-reads g c =
     none_exact c.args.root.now.shape (g.B.Nand.state c.args.board.now).pages c.args.root.now.root (sym c.in-None.is ∙ c.older.ensures) (g.B.Nand.state c.args.board.now)
 
-pub returns-then-len-eq0-clause-rest : goal.returns-then-len-eq0-clause-rest
-returns-then-len-eq0-clause-rest g c = rest_reads (g.B.Nand.state c.args.board.now) (g.B.Nand.state c.replay.new.board) (_, c.in-Ok.ensures.reads)
+pub returns-then-len-eq0-clause-board : goal.returns-then-len-eq0-clause-board
+returns-then-len-eq0-clause-board g c = stays_reads c.args.root.now.shape _ _ (_, c.in-Ok.ensures.reads) c.requires.ready
 
 pub returns-else-len-eq0-clause-reads : goal.returns-else-len-eq0-clause-reads
 returns-else-len-eq0-clause-reads g c =
-    let is = sym c.in-Some.is ∙ c.older.ensures in
-    older_exact c.args.root.now.shape (g.B.Nand.state c.args.board.now).pages c.args.root.now.root c.in-Some.pair (c.args.root.now.root.epoch - 1) c.in-Ok.field-0 c.replay.new.into (rw (c.shape.ensures, c.epoch.ensures) at c.in-Ok.ensures.replayed)
-    (g.B.Nand.state c.args.board.now) (g.B.Nand.state c.replay.new.board) (rw c.shape.ensures at c.in-Ok.ensures.reads) is (older_two c.args.root.now.shape c.args.root.now.root c.requires.grammar c.in-Some.pair is)
+    older_exact c.args.root.now.shape (g.B.Nand.state c.args.board.now).pages c.args.root.now.root c.in-Some.pair
+    (g.B.Nand.state c.args.board.now) (g.B.Nand.state c.replay.new.board) (rw c.shape.ensures at c.in-Ok.ensures.reads) (sym c.in-Some.is ∙ c.older.ensures)

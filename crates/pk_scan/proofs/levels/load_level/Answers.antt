@@ -5,7 +5,7 @@ use Rattle.pk_run.specs.Kept.{Kept, empty}
 use Rattle.pk_pin.specs.Frames.{free_frames}
 use Rattle.pk_scan.specs.Runs.{AllExist, HasRun, NotRead}
 use Rattle.pk_nand.specs.Erased.{after_reads}
-use Rattle.pk_scan.proofs.Boards.{reads_none, rest_reads, rest_not_read}
+use Rattle.pk_scan.proofs.Boards.{reads_none, stays_same, stays_ready_behind}
 use Rattle.pk_scan.proofs.Loading.{size_some}
 use Rattle.pk_scan.proofs.Rereading.{pages_most}
 use Rattle.pk_scan.proofs.RootFacts.{level_few, level_blocks, level_exist}
@@ -15,46 +15,46 @@ use Rattle.pk_scan.proofs.levels.load_level.Goals as goal
 pub load_run-requires-clause-few : goal.load_run-requires-clause-few
 load_run-requires-clause-few g c =
     let is : c.in-Ok.run' ≡ empty c.args.root.now.shape c.args.level = rw c.shape.ensures at c.in-Ok.ensures.empty in
-    let few = subst (λ (n : ℕ). n ≤ cap c.args.root.now.shape c.args.level * page_entries c.args.root.now.shape) (sym c.entries-count.ensures) (level_few c.args.root.now.shape c.args.root.now.root c.requires.grammar c.args.level c.requires.level.0 c.requires.level.1) in
+    let few = subst (λ (n : ℕ). n ≤ cap c.args.root.now.shape c.args.level * page_entries c.args.root.now.shape) (sym c.entries-count.ensures) (level_few c.args.root.now.shape c.args.root.now.root c.requires.may.grammar c.args.level c.requires.may.least c.requires.may.most) in
     subst (λ (r : Kept). c.entries-count.result ≤ cap r.shape r.level * page_entries r.shape) (sym is) few
 
 pub load_run-requires-clause-places : goal.load_run-requires-clause-places
 load_run-requires-clause-places g c =
     let is : c.in-Ok.run' ≡ empty c.args.root.now.shape c.args.level = rw c.shape.ensures at c.in-Ok.ensures.empty in
-    let size = level_blocks c.args.root.now.shape c.args.root.now.root c.requires.grammar c.args.level c.blocks-blocks.result.now c.blocks-blocks.ensures in
+    let size = level_blocks c.args.root.now.shape c.args.root.now.root c.requires.may.grammar c.args.level c.blocks-blocks.result.now c.blocks-blocks.ensures in
     let same = size ∙ ap (run_blocks c.args.root.now.shape) (sym c.entries-count.ensures) in
     subst (λ (r : Kept). length c.blocks-blocks.result.now ≡ run_blocks r.shape c.entries-count.result) (sym is) same
 
 pub load_run-requires-clause-exist : goal.load_run-requires-clause-exist
 load_run-requires-clause-exist g c =
     let is : c.in-Ok.run' ≡ empty c.args.root.now.shape c.args.level = rw c.shape.ensures at c.in-Ok.ensures.empty in
-    subst (λ (r : Kept). AllExist r.shape c.blocks-blocks.result.now) (sym is) (level_exist c.args.root.now.shape c.args.root.now.root c.requires.grammar c.args.level c.blocks-blocks.result.now c.blocks-blocks.ensures)
+    subst (λ (r : Kept). AllExist r.shape c.blocks-blocks.result.now) (sym is) (level_exist c.args.root.now.shape c.args.root.now.root c.requires.may.grammar c.args.level c.blocks-blocks.result.now c.blocks-blocks.ensures)
 
 pub load_run-requires-clause-free : goal.load_run-requires-clause-free
 load_run-requires-clause-free g c pins =
     let shape : IsShape c.args.root.now.shape = rw c.shape.ensures at c.known.ensures in
     let is : c.in-Ok.run' ≡ empty c.args.root.now.shape c.args.level = rw c.shape.ensures at c.in-Ok.ensures.empty in
-    let few = subst (λ (n : ℕ). n ≤ cap c.args.root.now.shape c.args.level * page_entries c.args.root.now.shape) (sym c.entries-count.ensures) (level_few c.args.root.now.shape c.args.root.now.root c.requires.grammar c.args.level c.requires.level.0 c.requires.level.1) in
+    let few = subst (λ (n : ℕ). n ≤ cap c.args.root.now.shape c.args.level * page_entries c.args.root.now.shape) (sym c.entries-count.ensures) (level_few c.args.root.now.shape c.args.root.now.root c.requires.may.grammar c.args.level c.requires.may.least c.requires.may.most) in
     let pages : run_pages c.args.root.now.shape c.entries-count.result ≤ cap c.args.root.now.shape c.args.level = pages_most c.entries-count.result (page_entries c.args.root.now.shape) (cap c.args.root.now.shape c.args.level) (size_some c.args.root.now.shape shape) few in
     let low = le_of c.args.level c.pinned.result pins in
-    let free = c.requires.free (omega (arith, low, c.pinned.ensures)) in
+    let free = c.requires.may.free (omega (arith, low, c.pinned.ensures)) in
     subst (λ (r : Kept). run_pages r.shape c.entries-count.result ≤ free_frames c.args.arena.now) (sym is) (omega (arith, pages, free))
 
 pub returns-in-Ok-load_run-clause-loaded : goal.returns-in-Ok-load_run-clause-loaded
 returns-in-Ok-load_run-clause-loaded g c =
     let is : c.in-Ok.run' ≡ empty c.args.root.now.shape c.args.level = rw c.shape.ensures at c.in-Ok.ensures.empty in
-    let sh : c.load_run.new.into.shape ≡ c.args.root.now.shape = c.load_run.ensures.shape ∙ ap (λ (r : Kept). r.shape) is in
-    let lv : c.load_run.new.into.level ≡ c.args.level = c.load_run.ensures.level ∙ ap (λ (r : Kept). r.level) is in
+    let sh : c.load_run.new.into.shape ≡ c.args.root.now.shape = c.load_run.ensures.loads.shape_is ∙ ap (λ (r : Kept). r.shape) is in
+    let lv : c.load_run.new.into.level ≡ c.args.level = c.load_run.ensures.loads.level_is ∙ ap (λ (r : Kept). r.level) is in
     let few = subst (λ (n : ℕ). length c.load_run.new.into.firsts ≤ cap c.args.root.now.shape n) lv (subst (λ (s : Shape). length c.load_run.new.into.firsts ≤ cap s c.load_run.new.into.level) sh c.known-in-Ok-load_run.ensures.kept.pages) in
     let has = subst (λ (r : Kept). HasRun r.shape r.level c.entries-count.result c.blocks-blocks.result.now (g.B.Nand.state c.args.board.now).pages c.load_run.new.arena c.load_run.new.into) is c.in-Ok-load_run.ensures.has_run in
     level_loaded c.args.root.now.shape c.args.root.now.root c.args.level c.entries-count.result c.blocks-blocks.result.now c.entries-count.ensures c.blocks-blocks.ensures (g.B.Nand.state c.args.board.now).pages c.args.arena.now c.load_run.new.arena c.args.levels.now c.install_run.new.self c.load_run.new.into _
-    has c.load_run.ensures.runs c.load_run.ensures.frames c.load_run.ensures.pinned sh c.load_run.ensures.blocks c.in-Ok-load_run.ensures.count (ap (nat_le c.args.level) (sym c.pinned.ensures)) few c.install_run.ensures.installed
+    has c.load_run.ensures.loads.others c.load_run.ensures.loads.more c.load_run.ensures.loads.pinned sh c.load_run.ensures.loads.blocks_are c.in-Ok-load_run.ensures.has_run.counted (ap (nat_le c.args.level) (sym c.pinned.ensures)) few c.install_run.ensures.installed
 
 pub returns-in-Err-load_run-clause-err : goal.returns-in-Err-load_run-clause-err
 returns-in-Err-load_run-clause-err g c =
     let is : c.in-Ok.run' ≡ empty c.args.root.now.shape c.args.level = rw c.shape.ensures at c.in-Ok.ensures.empty in
     let why = subst (λ (r : Kept). NotRead r.shape r.level c.entries-count.result c.blocks-blocks.result.now (g.B.Nand.state c.args.board.now) (g.B.Nand.state c.load_run.new.board) c.in-Err-load_run.error) is c.in-Err-load_run.ensures.err in
-    rw c.opening_error.ensures (level_not_loaded c.args.root.now.shape c.args.root.now.root c.args.level c.entries-count.result c.blocks-blocks.result.now c.entries-count.ensures c.blocks-blocks.ensures (g.B.Nand.state c.args.board.now) (g.B.Nand.state c.load_run.new.board) c.in-Err-load_run.error why)
+    rw c.from.ensures (level_not_loaded c.args.root.now.shape c.args.root.now.root c.args.level c.entries-count.result c.blocks-blocks.result.now c.entries-count.ensures c.blocks-blocks.ensures (g.B.Nand.state c.args.board.now) (g.B.Nand.state c.load_run.new.board) c.in-Err-load_run.error why)
 
 pub returns-in-Err-clause-err : goal.returns-in-Err-clause-err
 returns-in-Err-clause-err g c = reads_none (g.B.Nand.state c.args.board.now)
@@ -62,12 +62,15 @@ returns-in-Err-clause-err g c = reads_none (g.B.Nand.state c.args.board.now)
 pub returns-in-Ok-load_run-clause-reads : goal.returns-in-Ok-load_run-clause-reads
 returns-in-Ok-load_run-clause-reads g c =
     let is : c.in-Ok.run' ≡ empty c.args.root.now.shape c.args.level = rw c.shape.ensures at c.in-Ok.ensures.empty in
-    c.in-Ok-load_run.ensures.ok
+    c.in-Ok-load_run.ensures.reads
     ∙ ap (λ (r : Kept). after_reads (run_pages r.shape c.entries-count.result) (g.B.Nand.state c.args.board.now)) is
     ∙ ap (λ (n : ℕ). after_reads (run_pages c.args.root.now.shape n) (g.B.Nand.state c.args.board.now)) c.entries-count.ensures
 
-pub returns-in-Ok-load_run-clause-rest : goal.returns-in-Ok-load_run-clause-rest
-returns-in-Ok-load_run-clause-rest g c = rest_reads (g.B.Nand.state c.args.board.now) (g.B.Nand.state c.load_run.new.board) (_, c.in-Ok-load_run.ensures.ok)
+pub returns-in-Err-clause-board : goal.returns-in-Err-clause-board
+returns-in-Err-clause-board g c = stays_same c.args.root.now.shape (g.B.Nand.state c.args.board.now) c.requires.ready
 
-pub returns-in-Err-load_run-clause-rest : goal.returns-in-Err-load_run-clause-rest
-returns-in-Err-load_run-clause-rest g c = rest_not_read _ _ _ _ (g.B.Nand.state c.args.board.now) (g.B.Nand.state c.load_run.new.board) c.in-Err-load_run.error c.in-Err-load_run.ensures.err
+pub returns-in-Ok-load_run-clause-board : goal.returns-in-Ok-load_run-clause-board
+returns-in-Ok-load_run-clause-board g c = stays_ready_behind c.args.root.now.shape _ _ c.load_run.ensures.board.rest c.requires.ready
+
+pub returns-in-Err-load_run-clause-board : goal.returns-in-Err-load_run-clause-board
+returns-in-Err-load_run-clause-board g c = stays_ready_behind c.args.root.now.shape _ _ c.load_run.ensures.board.rest c.requires.ready

@@ -1,61 +1,78 @@
-use Rattle.std.proofs.Common.{◌∙◌, ap, []}
-use Rattle.pk_level.specs.Levels.{Levels}
+use Rattle.std.proofs.Common.{◌∙◌, refl, sym, ap, subst, []}
 use Rattle.pk_steps.specs.Under.{places}
-use Rattle.pk_scan.proofs.Boards.{reads_none}
-use Rattle.pk_scan.proofs.Whole.{held_behind, scan_opened, scan_reads, scan_refuses}
+use Rattle.pk_scan.specs.Opened.{IsOpened}
+use Rattle.pk_scan.proofs.Boards.{reads_none, rest_both}
+use Rattle.pk_scan.proofs.Whole.{awaits_lists, awaits_values, held_behind, scan_opened, scan_reads, scan_refuses}
 use Rattle.pk_scan.proofs.opening.scan.Goals as goal
+
+pub fill_lists-requires-clause-awaits : goal.fill_lists-requires-clause-awaits
+fill_lists-requires-clause-awaits g c = awaits_lists c.args.shape c.args.frames c.in-Ok.memory.found c.in-Ok.ensures.nothing
+
+pub fill_values-requires-clause-awaits : goal.fill_values-requires-clause-awaits
+fill_values-requires-clause-awaits g c =
+    let kept = c.fill_lists.ensures.kept in
+    awaits_values c.args.shape c.args.frames _ c.in-Ok.memory c.fill_lists.new.memory c.in-Ok-fill_lists.ensures.finds.0 c.in-Ok.ensures c.in-Ok-fill_lists.ensures.finds.1 c.fill_lists.ensures.shape
+    (ap (λ m. m.found.live) kept) (ap (λ m. m.walk) kept) (ap (λ m. m.named) kept) c.fill_lists.ensures.room
+
+pub fill_values-requires-clause-held : goal.fill_values-requires-clause-held
+fill_values-requires-clause-held g c =
+    let finds = c.in-Ok-fill_lists.ensures.finds in (
+      finds.0,
+      held_behind c.args.shape c.in-Ok.memory.found.root.shape c.fill_lists.new.memory.found c.in-Ok.ensures.nothing.root_shape c.fill_lists.ensures.shape (g.B.Nand.state c.args.board.now) (g.B.Nand.state c.fill_lists.new.board) c.fill_lists.ensures.board.pages
+          c.args.frames c.in-Ok.memory.found refl finds.0 finds.1,
+    )
 
 pub give_owners-requires-clause-lives : goal.give_owners-requires-clause-lives
 give_owners-requires-clause-lives g c =
-    let l = c.fill_lists.new.memory in
-    let f = c.in-Ok-fill_lists.ensures in
-    let epoch = c.in-Ok-fill_lists.epoch in
-    let held = held_behind c.args.shape c.in-Ok.memory.root.shape l.root c.in-Ok.ensures.root f.shape (g.B.Nand.state c.args.board.now) (g.B.Nand.state c.fill_lists.new.board) f.pages c.args.frames c.in-Ok-fill_lists.root_page l.active l.frozen epoch l.arena l.levels f.held.0 f.held.1 in
-    (places f.held.0 [], rw c.in-Ok-fill_values.ensures.root (c.in-Ok-fill_values.ensures.read epoch f.held.0 held).lives)
+    let l = c.fill_lists.new.memory.found in
+    let finds = c.in-Ok-fill_lists.ensures.finds in
+    let held = held_behind c.args.shape c.in-Ok.memory.found.root.shape l c.in-Ok.ensures.nothing.root_shape c.fill_lists.ensures.shape (g.B.Nand.state c.args.board.now) (g.B.Nand.state c.fill_lists.new.board) c.fill_lists.ensures.board.pages
+    c.args.frames c.in-Ok.memory.found refl finds.0 finds.1 in
+    (places finds.0 [], (c.in-Ok-fill_values.ensures.finds finds.0 held).values.lives)
 
 pub returns-in-Ok-fill_values-clause-opened : goal.returns-in-Ok-fill_values-clause-opened
 returns-in-Ok-fill_values-clause-opened g c =
-    let l = c.fill_lists.new.memory in
-    let f = c.in-Ok-fill_lists.ensures in
-    let v = c.in-Ok-fill_values.ensures in
-    let epoch = c.in-Ok-fill_lists.epoch in
-    let page = c.in-Ok-fill_lists.root_page in
+    let l = c.fill_lists.new.memory.found in
+    let finds = c.in-Ok-fill_lists.ensures.finds in
     let old = g.B.Nand.state c.args.board.now in
     let now = g.B.Nand.state c.fill_lists.new.board in
-    let found = f.held.0 in
-    let pinned_is = f.pinned ∙ ap (λ (x : Levels). x.pinned) c.in-Ok.ensures.levels in
-    let held = held_behind c.args.shape c.in-Ok.memory.root.shape l.root c.in-Ok.ensures.root f.shape old now f.pages c.args.frames page l.active l.frozen epoch l.arena l.levels found f.held.1 in
-    rw (c.found_in.ensures, v.root, v.active, v.frozen, v.levels, v.arena)
-    (scan_opened c.args.shape c.in-Ok.memory.root.shape l.root c.in-Ok.ensures.root f.shape old now f.pages c.args.frames page l.active l.frozen epoch l.arena l.levels found f.held.1 f.top pinned_is c.fill_values.new.memory.live (v.read epoch found held)
-    f.grammar f.place (f.levels) f.few c.give_owners.new.pool (rw v.root at c.give_owners.ensures) c.in-Ok-fill_values.keys (v.keys epoch found held))
+    let held = held_behind c.args.shape c.in-Ok.memory.found.root.shape l c.in-Ok.ensures.nothing.root_shape c.fill_lists.ensures.shape old now c.fill_lists.ensures.board.pages c.args.frames c.in-Ok.memory.found refl finds.0 finds.1 in
+    let v = c.in-Ok-fill_values.ensures.finds finds.0 held in
+    let kept = ap (λ m. m.found) c.fill_values.ensures.kept in
+    let root_is = ap (λ f. f.root) kept in
+    subst (λ f. IsOpened c.args.shape old.pages c.args.frames (record f { pool = c.give_owners.new.pool })) (sym kept)
+    (scan_opened c.args.shape c.in-Ok.memory.found.root.shape l c.in-Ok.ensures.nothing.root_shape c.fill_lists.ensures.shape old now c.fill_lists.ensures.board.pages c.args.frames c.in-Ok.memory.found refl finds.0 finds.1
+    c.in-Ok.ensures.nothing c.fill_values.new.memory.found.live (rw root_is at v.values) c.give_owners.new.pool (rw root_is at c.give_owners.ensures) c.fill_values.new.memory.found.keys v.keys_are)
 
 pub returns-in-Ok-fill_values-clause-reads : goal.returns-in-Ok-fill_values-clause-reads
 returns-in-Ok-fill_values-clause-reads g c =
-    let l = c.fill_lists.new.memory in
-    let f = c.in-Ok-fill_lists.ensures in
-    let v = c.in-Ok-fill_values.ensures in
-    let epoch = c.in-Ok-fill_lists.epoch in
-    let page = c.in-Ok-fill_lists.root_page in
+    let l = c.fill_lists.new.memory.found in
+    let finds = c.in-Ok-fill_lists.ensures.finds in
     let old = g.B.Nand.state c.args.board.now in
     let now = g.B.Nand.state c.fill_lists.new.board in
-    let found = f.held.0 in
-    let pinned_is = f.pinned ∙ ap (λ (x : Levels). x.pinned) c.in-Ok.ensures.levels in
-    let held = held_behind c.args.shape c.in-Ok.memory.root.shape l.root c.in-Ok.ensures.root f.shape old now f.pages c.args.frames page l.active l.frozen epoch l.arena l.levels found f.held.1 in
-    scan_reads c.args.shape c.in-Ok.memory.root.shape l.root c.in-Ok.ensures.root f.shape old now f.pages c.args.frames page l.active l.frozen epoch l.arena l.levels found f.held.1 f.top pinned_is c.fill_values.new.memory.live (v.read epoch found held)
-    (g.B.Nand.state c.fill_values.new.board) f.reads (v.reads epoch found held)
+    let held = held_behind c.args.shape c.in-Ok.memory.found.root.shape l c.in-Ok.ensures.nothing.root_shape c.fill_lists.ensures.shape old now c.fill_lists.ensures.board.pages c.args.frames c.in-Ok.memory.found refl finds.0 finds.1 in
+    let v = c.in-Ok-fill_values.ensures.finds finds.0 held in
+    let kept = ap (λ m. m.found) c.fill_values.ensures.kept in
+    let root_is = ap (λ f. f.root) kept in
+    let levels_are = ap (λ f. f.levels) kept in
+    scan_reads c.args.shape c.in-Ok.memory.found.root.shape l c.in-Ok.ensures.nothing.root_shape c.fill_lists.ensures.shape old now c.fill_lists.ensures.board.pages c.args.frames c.in-Ok.memory.found refl finds.0 finds.1
+    c.in-Ok.ensures.nothing c.fill_values.new.memory.found.live (rw root_is at v.values) (g.B.Nand.state c.fill_values.new.board) c.in-Ok-fill_lists.ensures.reads (rw (root_is, levels_are) at v.reads)
 
 pub returns-in-Err-fill_values-clause-err : goal.returns-in-Err-fill_values-clause-err
 returns-in-Err-fill_values-clause-err g c =
-    let l = c.fill_lists.new.memory in
-    let f = c.in-Ok-fill_lists.ensures in
-    let epoch = c.in-Ok-fill_lists.epoch in
-    let page = c.in-Ok-fill_lists.root_page in
+    let l = c.fill_lists.new.memory.found in
+    let finds = c.in-Ok-fill_lists.ensures.finds in
     let old = g.B.Nand.state c.args.board.now in
     let now = g.B.Nand.state c.fill_lists.new.board in
-    let found = f.held.0 in
-    let held = held_behind c.args.shape c.in-Ok.memory.root.shape l.root c.in-Ok.ensures.root f.shape old now f.pages c.args.frames page l.active l.frozen epoch l.arena l.levels found f.held.1 in
-    scan_refuses c.args.shape c.in-Ok.memory.root.shape l.root c.in-Ok.ensures.root f.shape old now f.pages c.args.frames page l.active l.frozen epoch l.arena l.levels found f.held.1 f.top f.few (_, f.reads)
-    (g.B.Nand.state c.fill_values.new.board) c.in-Err-fill_values.error (c.in-Err-fill_values.ensures.err epoch found held)
+    let held = held_behind c.args.shape c.in-Ok.memory.found.root.shape l c.in-Ok.ensures.nothing.root_shape c.fill_lists.ensures.shape old now c.fill_lists.ensures.board.pages c.args.frames c.in-Ok.memory.found refl finds.0 finds.1 in
+    scan_refuses c.args.shape c.in-Ok.memory.found.root.shape l c.in-Ok.ensures.nothing.root_shape c.fill_lists.ensures.shape old now c.fill_lists.ensures.board.pages c.args.frames c.in-Ok.memory.found refl finds.0 finds.1 (_, c.in-Ok-fill_lists.ensures.reads)
+    (g.B.Nand.state c.fill_values.new.board) c.in-Err-fill_values.error (c.in-Err-fill_values.ensures.err finds.0 held)
 
 pub returns-in-Err-clause-err : goal.returns-in-Err-clause-err
 returns-in-Err-clause-err g c = reads_none (g.B.Nand.state c.args.board.now)
+
+pub returns-in-Ok-fill_values-clause-rest : goal.returns-in-Ok-fill_values-clause-rest
+returns-in-Ok-fill_values-clause-rest g c = rest_both (g.B.Nand.state c.args.board.now) (g.B.Nand.state c.fill_lists.new.board) (g.B.Nand.state c.fill_values.new.board) c.fill_lists.ensures.board.rest c.fill_values.ensures.board.rest
+
+pub returns-in-Err-fill_values-clause-rest : goal.returns-in-Err-fill_values-clause-rest
+returns-in-Err-fill_values-clause-rest g c = rest_both (g.B.Nand.state c.args.board.now) (g.B.Nand.state c.fill_lists.new.board) (g.B.Nand.state c.fill_values.new.board) c.fill_lists.ensures.board.rest c.fill_values.ensures.board.rest

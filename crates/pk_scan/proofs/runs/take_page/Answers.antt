@@ -4,7 +4,7 @@ use Rattle.pk_scan.proofs.runs.take_page.Goals as goal
 
 pub read-requires-clause-exists : goal.read-requires-clause-exists
 read-requires-clause-exists g c =
-    rw (c.page-page.ensures, c.pages-index.ensures) (page_exists c.args.into.now _ _ c.known.ensures.shape c.requires.ready.flash c.requires.exist c.requires.within)
+    rw (c.page-page.ensures, c.pages-index.ensures) (page_exists c.args.into.now _ _ c.known.ensures.shape c.requires.ready.flash c.requires.next.exist c.requires.next.within)
 
 pub returns-else-not-goes_on-clause-taken : goal.returns-else-not-goes_on-clause-taken
 returns-else-not-goes_on-clause-taken g c es stands ends =
@@ -15,4 +15,4 @@ returns-else-not-goes_on-clause-taken g c es stands ends =
     let last = rw c.shape-shape.ensures at c.key_at-in-Ok-Whole.ensures in
     let goes_on = rw (c.shape-shape.ensures, c.level.ensures, c.pages-index.ensures) at (c.if-not-goes_on.ensures.goes_on es stands.rising ends) in
     page_taken c.args.pins _ c.args.arena.now c.keep_page-lease.new.arena c.args.into.now c.push_page.new.self es c.args.entries c.key_at.result c.key_at-in-Ok-Whole.result c.keep_page-lease.result c.read.new.into
-    kept.level_least kept.level_most (omega (arith, kept.pages, kept.bound)) c.requires.some.0 (read_whole _ _ _ _ c.in-Ok-Whole.field-0-is found bytes) c.requires.pinned c.keep_page-lease.ensures begins last c.push_page.ensures.stands stands goes_on
+    kept.level_least kept.level_most (omega (arith, kept.pages, kept.bound)) c.requires.next.some.0 (read_whole _ _ _ _ c.in-Ok-Whole.field-0-is found bytes) c.requires.next.pinned c.keep_page-lease.ensures begins last c.push_page.ensures.stands stands goes_on

@@ -1,4 +1,4 @@
-use Rattle.pk_scan.proofs.Nothing.{Lives-none}
+use Rattle.pk_live.proofs.Nothing.{Lives-none}
 use Rattle.pk_scan.proofs.taken.starts_with_none.Goals as goal
 
 pub returns : goal.returns

@@ -1,6 +1,6 @@
 use Rattle.std.proofs.Common.{arith}
 use Rattle.pk_scan.specs.Places.{place}
-use Rattle.pk_scan.proofs.Blocks.{value_exists}
+use Rattle.pk_live.proofs.Blocks.{value_exists}
 use Rattle.pk_scan.proofs.values.check_page.Goals as goal
 
 pub overflow_add-page : goal.overflow_add-page

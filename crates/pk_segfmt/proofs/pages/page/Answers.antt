@@ -1,28 +1,13 @@
 use Rattle.std.proofs.Common.{◌≡◌, ◌+◌, ◌-◌, ◌*◌, ◌++◌, ◌<◌, ◌∙◌, ℕ, List, length, take, drop, ap, sym, arith}
-use Rattle.std.proofs.lemmas.List.{take_rest}
 use Rattle.pk_base.specs.Fields.{padded}
 use Rattle.pk_segfmt.specs.Value.{head_bytes}
 use Rattle.pk_segfmt.specs.Stored.{page_of}
 use Rattle.pk_segfmt.proofs.HeadLemmas.{greatest_small}
-use Rattle.pk_segfmt.proofs.StoredLemmas.{charge_needed, first_page, next_page}
+use Rattle.pk_segfmt.proofs.StoredLemmas.{first_page, next_page}
 use Rattle.pk_segfmt.proofs.pages.page.Goals as goal
 
 pub overflow_cast-value : goal.overflow_cast-value
 overflow_cast-value c = omega (arith, greatest_small c.args.shape.now c.known.ensures)
-
-pub slice_bounds-put_rest-count : goal.slice_bounds-put_rest-count
-slice_bounds-put_rest-count c =
-    let size : length c.args.into.now ≡ c.args.shape.now.page_bytes = c.requires.sized in
-    let needed : c.args.i * c.args.shape.now.page_bytes < 32 + length c.args.value.now = charge_needed c.args.shape.now c.known.ensures (length c.args.value.now) c.args.i c.requires.within in
-    let product : c.args.i * length c.args.into.now ≡ c.args.i * c.args.shape.now.page_bytes = ap (λ (p : ℕ). c.args.i * p) size in
-    omega arith
-
-pub slice_bounds-put_rest-start : goal.slice_bounds-put_rest-start
-slice_bounds-put_rest-start c =
-    let size : length c.args.into.now ≡ c.args.shape.now.page_bytes = c.requires.sized in
-    let needed : c.args.i * c.args.shape.now.page_bytes < 32 + length c.args.value.now = charge_needed c.args.shape.now c.known.ensures (length c.args.value.now) c.args.i c.requires.within in
-    let product : c.args.i * length c.args.into.now ≡ c.args.i * c.args.shape.now.page_bytes = ap (λ (p : ℕ). c.args.i * p) size in
-    omega arith
 
 pub returns-then-i-eq0 : goal.returns-then-i-eq0
 returns-then-i-eq0 c =
@@ -43,7 +28,7 @@ returns-else-i-eq0 c =
     let all : length c.args.into.now - 0 ≡ c.args.shape.now.page_bytes = omega arith in
     let start : c.args.i * length c.args.into.now - 32 ≡ c.args.i * c.args.shape.now.page_bytes - 32 = ap (λ (p : ℕ). c.args.i * p - 32) c.requires.sized in
     c.put_rest-else-i-eq0.ensures
-    ∙ ap (λ (r : List ℕ). padded (length c.args.into.now - 0) (take (length c.args.into.now - 0) r)) (take_rest value (c.args.i * length c.args.into.now - 32))
+    ∙ ap (λ (r : List ℕ). padded (length c.args.into.now - 0) (take (length c.args.into.now - 0) r)) c.rest_of.ensures
     ∙ ap (λ (n : ℕ). padded n (take n (drop (c.args.i * length c.args.into.now - 32) value))) all
     ∙ ap (λ (k : ℕ). padded c.args.shape.now.page_bytes (take c.args.shape.now.page_bytes (drop k value))) start
     ∙ sym (next_page c.args.shape.now c.known.ensures c.args.key.now value c.bytes-key.ensures.key c.args.i some c.requires.within)

@@ -1,10 +1,11 @@
 use Rattle.std.proofs.Common.{◌≡◌, inl, inr, refl, ◌∙◌, ap, arith, true, false}
 use Rattle.pk_queue.specs.Queue.{bytes_of}
-use Rattle.pk_serve.specs.Input.{None_refused}
-use Rattle.pk_serve.specs.Run.{HasServed, ToldBy}
+use Rattle.pk_serve.specs.Input.{NoneRefused}
+use Rattle.pk_serve.specs.Told.{HasServed, ToldBy}
 use Rattle.pk_serve.proofs.Looping.{saying_served, Looping-refusing, Looping-start, Looping-next, Finish-quits, none_taken, refused_on, accepted_on}
-use Rattle.pk_serve.proofs.Blaming.{quiet-then, blames-then, blames-entry}
+use Rattle.pk_serve.proofs.Blaming.{blames-then, blames-entry}
 use Rattle.pk_serve.proofs.Consuming.{consumed-none, consumed-next, consumes-entry, consumes-quits}
+use Rattle.pk_serve.proofs.Parting.{runs_on-then}
 use Rattle.pk_serve.proofs.serve.serve_entries.Goals as goal
 
 true_false : true ≡ false → ⊥
@@ -12,11 +13,9 @@ true_false h = cc
 
 pub loop-taken-init : goal.loop-taken-init
 loop-taken-init g c = record {
-  agrees = c.requires.agrees;
-  runs = c.requires.runs;
+  runs_on = record { running = c.requires.running; quiet = record { output = refl; stop = refl } };
   shape = refl;
   in_faults = refl;
-  quiet = record { output = refl; stop = refl };
   consumed = consumed-none _;
   looping = λ shape frames start stands none. Looping-start shape frames start _ _ (bytes_of c.args.held.now.heads) (saying_served (HasServed _ g.D.Engine.sight g.D.Engine.agrees g.D.Engine.built shape frames)) (ap bytes_of c.requires.none) stands none;
 }
@@ -25,16 +24,14 @@ pub loop-taken-preserved : goal.loop-taken-preserved
 loop-taken-preserved g c =
     let e = c.in-Ok.ensures in
     record {
-      agrees = e.agrees;
-      runs = e.runs;
-      shape = e.shape ∙ c.loop-taken.invariant.shape;
+      runs_on = runs_on-then (g.D.Engine.agrees c.serve_next.new.drive) _ _ _ _ c.loop-taken.invariant.runs_on.quiet e.runs_on;
+      shape = e.sizes.shape ∙ c.loop-taken.invariant.shape;
       in_faults = e.in_faults ∙ c.loop-taken.invariant.in_faults;
-      quiet = quiet-then _ _ _ c.loop-taken.invariant.quiet e.quiet;
       consumed = consumed-next _ _ _ c.loop-taken.taken c.loop-taken.invariant.consumed _ _ _ _ _ e.advances;
       looping = λ shape frames start stands none.
           let w = c.loop-taken.invariant.looping shape frames start stands none in
           let T = saying_served (HasServed _ g.D.Engine.sight g.D.Engine.agrees g.D.Engine.built shape frames) in
-          Looping-next shape frames start _ _ _ _ _ _ _ c.loop-taken.taken T w (omega arith) _ (accepted_on _ g.D.Engine.sight g.D.Engine.agrees g.D.Engine.built shape frames w.m _ c.loop-taken.drive c.loop-taken.invariant.agrees w.serving.stands) e.advances;
+          Looping-next shape frames start _ _ _ _ _ _ _ c.loop-taken.taken T w (omega arith) _ (accepted_on _ g.D.Engine.sight g.D.Engine.agrees g.D.Engine.built shape frames w.m _ c.loop-taken.drive c.loop-taken.invariant.runs_on.running.agrees w.serving.stands) e.advances;
     }
 
 pub returns-in-Err-clause-ends : goal.returns-in-Err-clause-ends
@@ -54,15 +51,15 @@ returns-in-Err-take_entry-clause-ends g c = λ shape frames start stands none.
     let S = HasServed _ D.sight D.agrees D.built shape frames in
     let T = ToldBy _ D.sight D.agrees D.built c.loop-taken.drive shape frames in
     let w = Looping-refusing shape frames start _ _ _ _ c.loop-taken.taken S (λ m r. D.built c.loop-taken.drive r ≡ false) (c.loop-taken.invariant.looping shape frames start stands none) in
-    none_taken shape frames start _ _ _ _ _ _ _ c.loop-taken.taken T w true (λ _. inl full) (λ h. absurd (true_false h)) None_refused
+    none_taken shape frames start _ _ _ _ _ _ _ c.loop-taken.taken T w true (λ _. inl full) (λ h. absurd (true_false h)) NoneRefused
     (λ entry h. absurd h) c.in-Err-take_entry.end c.loop-taken.invariant.in_faults refl refl c.in-Err-take_entry.ensures.err
 
 pub returns-in-Err-clause-blames : goal.returns-in-Err-clause-blames
-returns-in-Err-clause-blames g c = blames-then _ _ _ c.in-Err.end c.loop-taken.invariant.in_faults c.loop-taken.invariant.quiet c.in-Err.ensures.blames
+returns-in-Err-clause-blames g c = blames-then _ _ _ c.in-Err.end c.loop-taken.invariant.in_faults c.loop-taken.invariant.runs_on.quiet c.in-Err.ensures.blames
 
 pub returns-in-Err-take_entry-clause-blames : goal.returns-in-Err-take_entry-clause-blames
 returns-in-Err-take_entry-clause-blames g c =
-    blames-then _ _ _ c.in-Err-take_entry.end c.loop-taken.invariant.in_faults c.loop-taken.invariant.quiet (blames-entry _ _ true None_refused c.in-Err-take_entry.end c.in-Err-take_entry.ensures.err)
+    blames-then _ _ _ c.in-Err-take_entry.end c.loop-taken.invariant.in_faults c.loop-taken.invariant.runs_on.quiet (blames-entry _ _ true NoneRefused c.in-Err-take_entry.end c.in-Err-take_entry.ensures.err)
 
 pub returns-in-Err-clause-consumes : goal.returns-in-Err-clause-consumes
 returns-in-Err-clause-consumes g c = consumes-quits _ _ _ c.loop-taken.taken c.loop-taken.invariant.consumed _ _ _ c.in-Err.end c.in-Err.ensures.quits
@@ -70,4 +67,4 @@ returns-in-Err-clause-consumes g c = consumes-quits _ _ _ c.loop-taken.taken c.l
 pub returns-in-Err-take_entry-clause-consumes : goal.returns-in-Err-take_entry-clause-consumes
 returns-in-Err-take_entry-clause-consumes g c =
     let full : c.loop-taken.taken ≡ 4294967295 = omega arith in
-    consumes-entry _ _ _ c.loop-taken.taken c.loop-taken.invariant.consumed true (λ _. inl full) None_refused c.in-Err-take_entry.end c.in-Err-take_entry.ensures.err
+    consumes-entry _ _ _ c.loop-taken.taken c.loop-taken.invariant.consumed true (λ _. inl full) NoneRefused c.in-Err-take_entry.end c.in-Err-take_entry.ensures.err

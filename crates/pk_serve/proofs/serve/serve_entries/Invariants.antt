@@ -1,11 +1,12 @@
-use Rattle.std.proofs.Common.{◌≡◌, ℕ, [], false}
+use Rattle.std.proofs.Common.{◌≡◌, ℕ, []}
 use Rattle.pk_base.specs.Shape.{Shape}
 use Rattle.pk_base.specs.Map.{Map}
 use Rattle.pk_queue.specs.Queue.{bytes_of}
 use Rattle.pk_drive.specs.Drive.{Stands}
-use Rattle.pk_serve.specs.Ends.{NoFaults}
+use Rattle.pk_serve.specs.Part.{KeepsRunning}
 use Rattle.pk_serve.specs.Script.{Consumed}
-use Rattle.pk_serve.specs.Run.{Looping, HasServed}
+use Rattle.pk_serve.specs.Told.{HasServed}
+use Rattle.pk_serve.specs.Loop.{Looping}
 use Rattle.pk_serve.proofs.Looping.{saying_served}
 use Rattle.pk_serve.proofs.serve.serve_entries.Given as goal
 
@@ -14,11 +15,9 @@ invariant-loop-taken g l =
     let a = g.B.Nand.state l.initial.board in
     let b = g.B.Nand.state l.board in
     record {
-      agrees : g.D.Engine.agrees l.drive b.shape b.pages;
-      runs : (g.D.Engine.sight l.drive).stopped ≡ false;
+      runs_on : KeepsRunning (g.D.Engine.agrees l.drive) (g.D.Engine.sight l.drive) a b;
       shape : b.shape ≡ a.shape;
       in_faults : b.in_faults ≡ a.in_faults;
-      quiet : NoFaults a b;
       consumed : Consumed a b l.taken [];
       looping : (shape : Shape) (frames : ℕ) (start : Map) → Stands shape frames a (g.D.Engine.sight l.initial.drive) start → (g.D.Engine.sight l.initial.drive).pending ≡ []
           → Looping shape frames start a b (g.D.Engine.sight l.drive) (bytes_of l.held.heads) l.taken (saying_served (HasServed _ g.D.Engine.sight g.D.Engine.agrees g.D.Engine.built shape frames));

@@ -2,11 +2,12 @@ use Rattle.std.proofs.Common.{ℕ, List, subst}
 use Rattle.pk_queue.specs.Queue.{bytes_of}
 use Rattle.pk_serve.specs.Serving.{Breaks, Flushed}
 use Rattle.pk_serve.proofs.Giving.{commit-breaks, flushes, flush-breaks}
-use Rattle.pk_serve.proofs.Blaming.{quiet-then, cause-then, quiet-flash}
+use Rattle.pk_serve.proofs.Blaming.{quiet-then, quiet-flash}
+use Rattle.pk_serve.proofs.Parting.{running-still, faulted-then}
 use Rattle.pk_serve.proofs.step.flush.Goals as goal
 
 pub returns-in-Err-clause-breaks : goal.returns-in-Err-clause-breaks
-returns-in-Err-clause-breaks g c = let e = c.in-Err.ensures in commit-breaks _ _ _ (bytes_of c.args.held.now.heads) e.cuts_failed e.read_faults e.stop
+returns-in-Err-clause-breaks g c = let e = c.in-Err.ensures in commit-breaks _ _ _ (bytes_of c.args.held.now.heads) e.cuts_failed e.read_faults e.reads e.stop
 
 pub returns-in-Err-give_all-clause-breaks : goal.returns-in-Err-give_all-clause-breaks
 returns-in-Err-give_all-clause-breaks g c =
@@ -20,8 +21,13 @@ returns-clause-serves g c =
     let T : List (List ℕ) → Type 0 = λ t. Flushed (g.B.Nand.state c.args.board.now) (g.B.Nand.state c.give_all.new.board) (g.D.Engine.sight c.args.drive.now) (g.D.Engine.sight c.commit.new.self) (bytes_of t) in
     subst T c.held.ensures (flushes _ _ _ _ e.cuts e.stands e.rest e.read_faults e.no_stop e.reads e.installs _ (bytes_of c.held.result.now) e.none c.in-Ok-give_all.ensures.posts)
 
-pub returns-in-Err-give_all-clause-cause : goal.returns-in-Err-give_all-clause-cause
-returns-in-Err-give_all-clause-cause g c = let e = c.in-Ok.ensures in cause-then (g.B.Nand.state c.args.board.now) (g.B.Nand.state c.commit.new.board) (g.B.Nand.state c.give_all.new.board) c.in-Err-give_all.end (quiet-flash _ _ e.rest e.no_stop) c.in-Err-give_all.ensures.cause
+pub returns-in-Err-give_all-clause-fault : goal.returns-in-Err-give_all-clause-fault
+returns-in-Err-give_all-clause-fault g c =
+    let e = c.in-Ok.ensures in
+    faulted-then (g.B.Nand.state c.args.board.now) (g.B.Nand.state c.commit.new.board) (g.B.Nand.state c.give_all.new.board) c.in-Err-give_all.end (quiet-flash _ _ e.rest e.no_stop) c.in-Err-give_all.ensures.fault
 
-pub returns-clause-quiet : goal.returns-clause-quiet
-returns-clause-quiet g c = let e = c.in-Ok.ensures in quiet-then _ _ _ (quiet-flash _ _ e.rest e.no_stop) c.in-Ok-give_all.ensures.quiet
+pub returns-clause-runs_on : goal.returns-clause-runs_on
+returns-clause-runs_on g c = let e = c.in-Ok.ensures in record {
+  running = running-still (g.D.Engine.agrees c.commit.new.self) _ (g.B.Nand.state c.commit.new.board) (g.B.Nand.state c.give_all.new.board) c.in-Ok-give_all.ensures.flash (record { agrees = e.agrees; runs = e.runs });
+  quiet = quiet-then _ _ _ (quiet-flash _ _ e.rest e.no_stop) c.in-Ok-give_all.ensures.quiet;
+}

@@ -1,7 +1,8 @@
 use Rattle.std.proofs.Common.{suc, ◌+◌, ◌≡◌, ◌∙◌, take, drop, sym, ap, arith}
 use Rattle.pk_queue.specs.Queue.{bytes_of}
 use Rattle.pk_serve.proofs.Giving.{posts_both, breaks_second}
-use Rattle.pk_serve.proofs.Blaming.{quiet-then, cause-then}
+use Rattle.pk_serve.proofs.Blaming.{quiet-then}
+use Rattle.pk_serve.proofs.Parting.{faulted-then}
 use Rattle.pk_serve.proofs.Queueing.{bytes_of-next, bytes_of-all}
 use Rattle.pk_serve.proofs.step.give_all.Goals as goal
 
@@ -26,5 +27,5 @@ loop-head-preserved g c =
       posts = posts_both _ _ _ (bytes_of (take i heads)) _ (bytes_of (take (i + 1) heads)) (ap (λ n. bytes_of (take n heads)) (sym next) ∙ bytes_of-next heads i c.loop-head-test.true) v.posts e.posts;
     }
 
-pub returns-in-Err-clause-cause : goal.returns-in-Err-clause-cause
-returns-in-Err-clause-cause g c = cause-then (g.B.Nand.state c.args.board.now) (g.B.Nand.state c.loop-head.board) (g.B.Nand.state c.give.new.board) c.in-Err.end c.loop-head.invariant.quiet c.in-Err.ensures.cause
+pub returns-in-Err-clause-fault : goal.returns-in-Err-clause-fault
+returns-in-Err-clause-fault g c = faulted-then (g.B.Nand.state c.args.board.now) (g.B.Nand.state c.loop-head.board) (g.B.Nand.state c.give.new.board) c.in-Err.end c.loop-head.invariant.quiet c.in-Err.ensures.fault

@@ -1,9 +1,8 @@
-use Rattle.std.proofs.Common.{◌≡◌, Some, ap, ◌∙◌, subst, sym, arith, List, ℕ, []}
+use Rattle.std.proofs.Common.{◌≡◌, Some, ap, ◌∙◌, subst, sym, arith, List, ℕ, [], length, rules}
 use Rattle.std.proofs.lemmas.Grind.{common_steps}
 use Rattle.pk_nand.specs.BoardState.{BoardState}
 use Rattle.pk_text.specs.Steps.{Fed, IsLine}
-use Rattle.pk_text.proofs.Turning.{Failed-then}
-use Rattle.pk_text.proofs.Turning.{not_empty}
+use Rattle.pk_text.proofs.Turning.{Failed-then, Fed-empty, Fed-over_none, is_none, not_empty}
 use Rattle.pk_text.proofs.Lining.{Line-ended, Line-final, Line-more, IsLine-more, plain_byte}
 use Rattle.pk_text.proofs.line.take_line.Goals as goal
 
@@ -32,3 +31,13 @@ loop-count-preserved g c =
       size = grind (arith, common_steps);
       room = ap (λ b. b.room) same ∙ i.room;
     }
+
+pub loop-count-init : goal.loop-count-init
+loop-count-init g c =
+    let none = ap (λ b. b.items) c.clear.ensures in
+    record { fed = Fed-empty _ _ _ none; plain = subst IsLine (sym none) tt; size = ap length none; room = search rules }
+
+pub returns-then-is_empty-clause-err : goal.returns-then-is_empty-clause-err
+returns-then-is_empty-clause-err g c =
+    Fed-over_none _ _ _ _ _ _ _ c.in-Ok-None.field-0 (is_none _ c.is_empty.result c.is_empty.ensures c.if-is_empty.true)
+    c.loop-count.invariant.fed c.in-Ok-None.ensures.ok c.in-Ok-None.field-0-is

@@ -1,7 +1,7 @@
-use Rattle.std.proofs.Common.{◌≡◌, ap, ◌∙◌, subst, sym, List, ℕ, arith}
+use Rattle.std.proofs.Common.{◌≡◌, ap, ◌∙◌, subst, sym, List, ℕ, arith, length, rules}
 use Rattle.std.proofs.lemmas.Grind.{common_steps}
 use Rattle.pk_text.specs.Steps.{Fed}
-use Rattle.pk_text.proofs.Turning.{Failed-then}
+use Rattle.pk_text.proofs.Turning.{Failed-then, Fed-empty, Fed-over}
 use Rattle.pk_text.proofs.Lining.{Line-more}
 use Rattle.pk_text.proofs.record.take_head.Goals as goal
 
@@ -18,3 +18,14 @@ loop-count-preserved g c =
       size = grind (arith, common_steps);
       room = ap (λ b. b.room) same ∙ i.room;
     }
+
+pub loop-count-init : goal.loop-count-init
+loop-count-init g c =
+    let none = ap (λ b. b.items) c.clear.ensures in
+    record { fed = Fed-empty _ _ _ none; size = ap length none; room = search rules }
+
+pub returns-in-Ok-None-clause-ok : goal.returns-in-Ok-None-clause-ok
+returns-in-Ok-None-clause-ok g c =
+    let i = c.loop-count.invariant in
+    let h = Fed-over _ _ _ _ _ _ _ c.in-Ok-None.field-0 i.fed c.in-Ok-None.ensures.ok c.in-Ok-None.field-0-is in
+    (h.0, omega (arith, i.size), h.1)

@@ -1,6 +1,14 @@
+use Rattle.pk_core.proofs.Steps.{none_step}
 use Rattle.std.proofs.Common.{refl}
-use Rattle.pk_core.proofs.Keeping.{KeepsAll-none}
+use Rattle.pk_core.proofs.Staying.{stays_same}
+use Rattle.pk_core.proofs.Programming.{full_ok}
 use Rattle.pk_core.proofs.drive.Drive.commit_if_full.Goals as goal
 
-pub returns-else-pending-entries-clause-keeps : goal.returns-else-pending-entries-clause-keeps
-returns-else-pending-entries-clause-keeps g c = KeepsAll-none c.args.self.now c.args.self.now (g.B.Nand.state c.args.board.now) (g.B.Nand.state c.args.board.now) refl refl
+pub returns-else-pending-entries-clause-step : goal.returns-else-pending-entries-clause-step
+returns-else-pending-entries-clause-step g c = none_step c.args.self.now 0 (g.B.Nand.state c.args.board.now) tt c.requires.may.ready
+
+pub returns-else-pending-entries-clause-moves : goal.returns-else-pending-entries-clause-moves
+returns-else-pending-entries-clause-moves g c = stays_same _ _ refl
+
+pub returns-then-pending-entries-clause-full : goal.returns-then-pending-entries-clause-full
+returns-then-pending-entries-clause-full g c = full_ok c.commit_pending.result c.args.self.now _ _ c.requires.may.stands c.commit_pending.ensures.program

@@ -1,22 +1,47 @@
-use Rattle.std.proofs.Common.{◌≤◌, arith}
+use Rattle.std.proofs.Common.{ap, ◌≤◌, arith, [], false}
 use Rattle.pk_nand.specs.Calls.{last_count}
 use Rattle.pk_core.proofs.Unchanging.{unread_look}
 use Rattle.pk_core.proofs.Served.{looks_behind, does_behind, delete_is_other}
+use Rattle.pk_nvme.specs.Seen.{command_of}
+use Rattle.pk_drive.specs.declared.types.Outcome.{Outcome}
+use Rattle.pk_core.proofs.Executing.{executes_quiet}
+use Rattle.pk_core.proofs.Staying.{stays_same, stays_from}
+use Rattle.pk_core.proofs.Statuses.{told_refused}
+use Rattle.pk_core.proofs.Programming.{quiet_delete_behind}
 use Rattle.pk_core.proofs.drive.Drive.delete.Goals as goal
 
 pub delete_at-requires-clause-looks : goal.delete_at-requires-clause-looks
 delete_at-requires-clause-looks g c =
     looks_behind c.args.self.now c.look.new.self (g.B.Nand.state c.args.board.now).pages (g.B.Nand.state c.look.new.board).pages c.named_key-key.result c.in-Ok.old c.look.ensures.same c.look.ensures.pages c.in-Ok.ensures.looks
 
-pub returns-in-Ok-clause-does : goal.returns-in-Ok-clause-does
-returns-in-Ok-clause-does g c = λ v into.
-    does_behind c.args.self.now c.look.new.self c.delete_at.new.self (g.B.Nand.state c.args.board.now) (g.B.Nand.state c.look.new.board) (g.B.Nand.state c.delete_at.new.board) _ _ into
-    c.delete_at.result c.reads_since-reads.result c.look.ensures.same c.in-Ok.ensures.reads (delete_is_other c.args.request.now c.requires.opcode) c.delete_at.ensures.told.0
-    (omega (arith, c.reads_since-reads.ensures.reads, c.read_count-before.ensures.value)) (c.delete_at.ensures.does v into)
+pub returns-in-Ok-clause-executes : goal.returns-in-Ok-clause-executes
+returns-in-Ok-clause-executes g c = λ v into.
+    let did = c.delete_at.ensures.executes v into in
+    record {
+      stops = did.stops;
+      agrees = did.agrees;
+      does = does_behind c.args.self.now c.look.new.self c.delete_at.new.self (g.B.Nand.state c.args.board.now) (g.B.Nand.state c.look.new.board) (g.B.Nand.state c.delete_at.new.board) _ _ into
+          c.delete_at.result c.reads_since-reads.result c.look.ensures.same c.in-Ok.ensures.reads (delete_is_other c.args.request.now c.requires.opcode) c.delete_at.ensures.told.0
+          (omega (arith, c.reads_since-reads.ensures.reads, c.read_count-before.ensures.value)) (did.does);
+    }
 
-pub returns-in-Err-clause-does : goal.returns-in-Err-clause-does
-returns-in-Err-clause-does g c = λ v into.
+pub returns-in-Err-clause-executes : goal.returns-in-Err-clause-executes
+returns-in-Err-clause-executes g c = λ v into.
     let old = g.B.Nand.state c.args.board.now in
     let few : old.reads ≤ last_count = omega (arith, c.read_count-before.ensures.value, c.read_count-before.type_inv) in
-    unread_look c.args.self.now c.look.new.self old (g.B.Nand.state c.look.new.board) c.args.request.now v into c.requires.agrees c.look.ensures.same c.requires.passed few c.reads_since.ensures.count
-    c.refusal.result c.reads_since.result c.refusal.ensures c.read_count-before.ensures.faults c.in-Err.ensures.failing (omega (arith, c.reads_since.ensures.reads, c.read_count-before.ensures.value))
+    executes_quiet c.args.self.now c.look.new.self (g.B.Nand.state c.args.board.now) (g.B.Nand.state c.look.new.board) c.args.request.now (command_of c.args.request.now v) c.refusal.result into _ c.requires.servable c.look.ensures.same c.look.ensures.pages (ap (λ (o : Outcome). o.stopped) c.refusal.ensures)
+    (unread_look c.args.self.now c.look.new.self old (g.B.Nand.state c.look.new.board) c.args.request.now v into c.requires.servable.agrees c.look.ensures.same c.requires.servable.passed few c.reads_since.ensures.count
+    c.refusal.result c.reads_since.result c.refusal.ensures c.read_count-before.ensures.faults c.in-Err.ensures.failing (omega (arith, c.reads_since.ensures.reads, c.read_count-before.ensures.value)))
+
+pub returns-in-Ok-clause-moves : goal.returns-in-Ok-clause-moves
+returns-in-Ok-clause-moves g c = λ runs. stays_from c.args.self.now c.look.new.self c.delete_at.new.self c.look.ensures.same (c.delete_at.ensures.moves runs)
+
+pub returns-in-Err-clause-moves : goal.returns-in-Err-clause-moves
+returns-in-Err-clause-moves g c = λ _. stays_same _ _ c.look.ensures.same
+
+pub returns-in-Ok-clause-quiet : goal.returns-in-Ok-clause-quiet
+returns-in-Ok-clause-quiet g c = λ zero none.
+    quiet_delete_behind c.args.self.now c.look.new.self (g.B.Nand.state c.args.board.now) (g.B.Nand.state c.look.new.board) (g.B.Nand.state c.delete_at.new.board) c.named_key-key.result _ c.delete_at.result.reads c.look.ensures.same c.in-Ok.ensures.reads (c.named_key-key.ensures.key []) (c.delete_at.ensures.programs zero) (omega (arith, c.delete_at.ensures.told.0, c.reads_since-reads.ensures.reads, c.read_count-before.ensures.value, c.in-Ok.ensures.reads.within)) none
+
+pub returns-in-Err-clause-quiet : goal.returns-in-Err-clause-quiet
+returns-in-Err-clause-quiet g c = λ zero. absurd (told_refused c.refusal.result 0x88 0 0 c.reads_since.result false c.refusal.ensures (λ e. omega (arith, e)) zero)

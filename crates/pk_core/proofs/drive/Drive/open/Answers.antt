@@ -1,3 +1,9 @@
+use Rattle.std.proofs.Common.{subst}
+use Rattle.pk_pool.specs.Blocks.{IsShared}
+use Rattle.pk_core.specs.Parts.{Parts}
+use Rattle.std.proofs.Common.{ap, ◌∙◌}
+use Rattle.pk_nand.specs.BoardState.{BoardState}
+use Rattle.pk_core.proofs.Steadying.{between_steady}
 use Rattle.pk_core.proofs.Opening.{agrees_behind, stands_behind}
 use Rattle.pk_core.proofs.drive.Drive.open.Goals as goal
 
@@ -26,3 +32,9 @@ returns-in-Ok-over-clause-closed g c = (c.in-Ok-over.ensures c.args.shape _ c.re
 -- memory was wanting behind all reads
 pub returns-in-Err-over-clause-err : goal.returns-in-Err-over-clause-err
 returns-in-Err-over-clause-err g c = (_, c.in-Ok.ensures.reads)
+
+pub returns-in-Ok-over-clause-steady : goal.returns-in-Ok-over-clause-steady
+returns-in-Ok-over-clause-steady g c =
+    let agrees = agrees_behind c.args.shape c.args.frames _ (g.B.Nand.state c.args.board.now) (g.B.Nand.state c.scan.new.board) c.in-Ok-over.drive c.known.ensures c.requires.ready c.in-Ok.ensures.reads
+    (c.in-Ok-over.ensures c.args.shape _ c.requires.ready.flash c.in-Ok.ensures.opened) in
+    between_steady _ _ c.args.shape _ agrees (ap (λ (b : BoardState). b.shape) c.in-Ok.ensures.reads ∙ c.requires.ready.shape_is) (subst (λ (d : Parts). IsShared d.pool.shape d.pool.states) c.drive.view_is c.known-in-Ok-over.ensures)

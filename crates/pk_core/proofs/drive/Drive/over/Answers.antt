@@ -3,5 +3,5 @@ use Rattle.pk_core.proofs.drive.Drive.over.Goals as goal
 
 pub returns : goal.returns
 returns g c = λ shape flash is_flash was.
-    opens_on shape flash c.args.frames c.args.found.root c.args.found.root_page c.args.found.active c.args.found.frozen c.args.found.epoch c.args.found.levels c.args.found.arena c.args.found.live c.args.found.pool c.args.found.keys c.in_ok-log.log c.new-3.result
+    opens_on shape flash c.args.frames c.args.found c.in_ok-log.log c.new-3.result
     (rw c.shape.ensures at c.known.ensures) is_flash was c.in_ok-log.ensures.value c.in_ok-log.ensures.stands c.new-3.ensures.value c.new-3.ensures.placed

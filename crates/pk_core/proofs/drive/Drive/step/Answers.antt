@@ -2,6 +2,7 @@ use Rattle.std.proofs.Common.{◌∙◌, inl, inr, refl, sym, ap, true}
 use Rattle.pk_drive.specs.declared.types.Ticked.TheVariants.{Worked, Idle, Fault}
 use Rattle.pk_core.specs.Ticking.{has_no_work}
 use Rattle.pk_core.proofs.Ticking.{one_erased, none_erased, kept_drive, step_agrees, step_ticks, ticks_nothing, ticks_failed, tells_where_free, tells_where_none, worked_fine, idle_fine, worked_idle, stopped_idle, yes_no}
+use Rattle.pk_core.proofs.Staying.{step_stays}
 use Rattle.pk_core.proofs.drive.Drive.step.Goals as goal
 
 pub returns-in-Ok-true-clause-agrees : goal.returns-in-Ok-true-clause-agrees
@@ -59,3 +60,15 @@ returns-then-has_no_work-clause-erases g c = λ _. inr (none_erased c.args.self.
 
 pub returns-else-has_no_work-clause-erases : goal.returns-else-has_no_work-clause-erases
 returns-else-has_no_work-clause-erases g c = λ _. inr (none_erased c.args.self.now c.erase_spare.new.self (g.B.Nand.state c.args.board.now) (g.B.Nand.state c.erase_spare.new.board) c.in-Ok-false.field-0 c.in-Ok-false.ensures.erased c.in-Ok-false.field-0-test)
+
+pub returns-in-Ok-true-clause-moves : goal.returns-in-Ok-true-clause-moves
+returns-in-Ok-true-clause-moves g c = λ _.
+    step_stays _ c.erase_spare.new.self _ _ (inl (one_erased c.args.self.now c.erase_spare.new.self (g.B.Nand.state c.args.board.now) (g.B.Nand.state c.erase_spare.new.board) c.in-Ok-true.field-0 c.in-Ok-true.ensures.erased c.in-Ok-true.field-0-test)) c.in-Ok-true.ensures.rest
+
+pub returns-then-has_no_work-clause-moves : goal.returns-then-has_no_work-clause-moves
+returns-then-has_no_work-clause-moves g c = λ _.
+    step_stays _ c.erase_spare.new.self _ _ (inr (none_erased c.args.self.now c.erase_spare.new.self (g.B.Nand.state c.args.board.now) (g.B.Nand.state c.erase_spare.new.board) c.in-Ok-false.field-0 c.in-Ok-false.ensures.erased c.in-Ok-false.field-0-test)) c.in-Ok-false.ensures.rest
+
+pub returns-else-has_no_work-clause-moves : goal.returns-else-has_no_work-clause-moves
+returns-else-has_no_work-clause-moves g c = λ _.
+    step_stays _ c.erase_spare.new.self _ _ (inr (none_erased c.args.self.now c.erase_spare.new.self (g.B.Nand.state c.args.board.now) (g.B.Nand.state c.erase_spare.new.board) c.in-Ok-false.field-0 c.in-Ok-false.ensures.erased c.in-Ok-false.field-0-test)) c.in-Ok-false.ensures.rest

@@ -1,7 +1,14 @@
-use Rattle.std.proofs.Common.{◌≤◌, arith}
+use Rattle.std.proofs.Common.{ap, ◌≤◌, arith, subst, false}
 use Rattle.pk_nand.specs.Calls.{last_count}
 use Rattle.pk_core.proofs.Unchanging.{unread_look}
 use Rattle.pk_core.proofs.Served.{looks_behind, does_behind, store_is_other}
+use Rattle.pk_nvme.specs.Seen.{command_of}
+use Rattle.pk_drive.specs.declared.types.Outcome.{Outcome}
+use Rattle.pk_core.proofs.Executing.{executes_quiet}
+use Rattle.pk_core.proofs.Staying.{stays_same, stays_opens, opens_from}
+use Rattle.pk_core.specs.Staying.{IsNoted}
+use Rattle.pk_core.proofs.Statuses.{told_refused}
+use Rattle.pk_core.proofs.Programming.{quiet_store_behind}
 use Rattle.pk_core.proofs.drive.Drive.store.Goals as goal
 
 pub store_over-requires-clause-named : goal.store_over-requires-clause-named
@@ -11,15 +18,40 @@ pub store_over-requires-clause-looks : goal.store_over-requires-clause-looks
 store_over-requires-clause-looks g c =
     looks_behind c.args.self.now c.look.new.self (g.B.Nand.state c.args.board.now).pages (g.B.Nand.state c.look.new.board).pages c.named_key-key.result c.in-Ok.old c.look.ensures.same c.look.ensures.pages c.in-Ok.ensures.looks
 
-pub returns-in-Ok-clause-does : goal.returns-in-Ok-clause-does
-returns-in-Ok-clause-does g c = λ into.
-    does_behind c.args.self.now c.look.new.self c.store_over.new.self (g.B.Nand.state c.args.board.now) (g.B.Nand.state c.look.new.board) (g.B.Nand.state c.store_over.new.board) _ _ into
-    c.store_over.result c.reads_since-reads.result c.look.ensures.same c.in-Ok.ensures.reads (store_is_other c.args.request.now c.requires.opcode) c.store_over.ensures.told.0
-    (omega (arith, c.reads_since-reads.ensures.reads, c.read_count-before.ensures.value)) (c.store_over.ensures.does into)
+pub returns-in-Ok-clause-executes : goal.returns-in-Ok-clause-executes
+returns-in-Ok-clause-executes g c = λ into.
+    let did = c.store_over.ensures.executes into in
+    record {
+      stops = did.stops;
+      agrees = did.agrees;
+      does = does_behind c.args.self.now c.look.new.self c.store_over.new.self (g.B.Nand.state c.args.board.now) (g.B.Nand.state c.look.new.board) (g.B.Nand.state c.store_over.new.board) _ _ into
+          c.store_over.result c.reads_since-reads.result c.look.ensures.same c.in-Ok.ensures.reads (store_is_other c.args.request.now c.requires.opcode) c.store_over.ensures.told.0
+          (omega (arith, c.reads_since-reads.ensures.reads, c.read_count-before.ensures.value)) (did.does);
+    }
 
-pub returns-in-Err-clause-does : goal.returns-in-Err-clause-does
-returns-in-Err-clause-does g c = λ into.
+pub returns-in-Err-clause-executes : goal.returns-in-Err-clause-executes
+returns-in-Err-clause-executes g c = λ into.
     let old = g.B.Nand.state c.args.board.now in
     let few : old.reads ≤ last_count = omega (arith, c.read_count-before.ensures.value, c.read_count-before.type_inv) in
-    unread_look c.args.self.now c.look.new.self old (g.B.Nand.state c.look.new.board) c.args.request.now c.args.value.now into c.requires.agrees c.look.ensures.same c.requires.passed few c.reads_since.ensures.count
-    c.refusal.result c.reads_since.result c.refusal.ensures c.read_count-before.ensures.faults c.in-Err.ensures.failing (omega (arith, c.reads_since.ensures.reads, c.read_count-before.ensures.value))
+    executes_quiet c.args.self.now c.look.new.self (g.B.Nand.state c.args.board.now) (g.B.Nand.state c.look.new.board) c.args.request.now (command_of c.args.request.now c.args.value.now) c.refusal.result into _ c.requires.servable c.look.ensures.same c.look.ensures.pages (ap (λ (o : Outcome). o.stopped) c.refusal.ensures)
+    (unread_look c.args.self.now c.look.new.self old (g.B.Nand.state c.look.new.board) c.args.request.now c.args.value.now into c.requires.servable.agrees c.look.ensures.same c.requires.servable.passed few c.reads_since.ensures.count
+    c.refusal.result c.reads_since.result c.refusal.ensures c.read_count-before.ensures.faults c.in-Err.ensures.failing (omega (arith, c.reads_since.ensures.reads, c.read_count-before.ensures.value)))
+
+pub returns-in-Ok-clause-opens : goal.returns-in-Ok-clause-opens
+returns-in-Ok-clause-opens g c = λ runs. opens_from c.args.self.now c.look.new.self c.store_over.new.self c.args.request.now.size c.look.ensures.same (c.store_over.ensures.opens runs)
+
+pub returns-in-Err-clause-opens : goal.returns-in-Err-clause-opens
+returns-in-Err-clause-opens g c = λ _. stays_opens _ _ _ (stays_same _ _ c.look.ensures.same)
+
+pub returns-in-Ok-clause-noted : goal.returns-in-Ok-clause-noted
+returns-in-Ok-clause-noted g c = λ zero. subst (λ k. IsNoted c.store_over.new.self k) (c.named_key-key.ensures.key c.args.value.now) (c.store_over.ensures.noted zero)
+
+pub returns-in-Err-clause-noted : goal.returns-in-Err-clause-noted
+returns-in-Err-clause-noted g c = λ zero. absurd (told_refused c.refusal.result 0x88 0 0 c.reads_since.result false c.refusal.ensures (λ e. omega (arith, e)) zero)
+
+pub returns-in-Ok-clause-quiet : goal.returns-in-Ok-clause-quiet
+returns-in-Ok-clause-quiet g c = λ zero none room.
+    quiet_store_behind c.args.self.now c.look.new.self (g.B.Nand.state c.args.board.now) (g.B.Nand.state c.look.new.board) (g.B.Nand.state c.store_over.new.board) c.args.request.now.size c.named_key-key.result _ c.store_over.result.reads c.look.ensures.same c.in-Ok.ensures.reads (c.named_key-key.ensures.key c.args.value.now) (c.store_over.ensures.programs zero) (omega (arith, c.store_over.ensures.told.0, c.reads_since-reads.ensures.reads, c.read_count-before.ensures.value, c.in-Ok.ensures.reads.within)) none room
+
+pub returns-in-Err-clause-quiet : goal.returns-in-Err-clause-quiet
+returns-in-Err-clause-quiet g c = λ zero. absurd (told_refused c.refusal.result 0x88 0 0 c.reads_since.result false c.refusal.ensures (λ e. omega (arith, e)) zero)

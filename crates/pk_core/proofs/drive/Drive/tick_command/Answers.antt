@@ -1,14 +1,21 @@
 use Rattle.std.proofs.Common.{◌∙◌, sym, arith}
 use Rattle.pk_core.proofs.Stepping.{tick_does, stopped_is, not_failed}
+use Rattle.pk_core.proofs.Executing.{none_between}
 use Rattle.pk_core.proofs.drive.Drive.tick_command.Goals as goal
 
-pub returns-clause-does : goal.returns-clause-does
-returns-clause-does g c = λ v into.
-    tick_does (g.B.Nand.state c.args.board.now) (g.B.Nand.state c.work-last.new.board) c.args.self.now c.work-last.new.self c.args.request.now v c.requires.agrees c.requires.passed c.requires.opcode
-    c.work-last.result c.answer_of.result into c.reads_since.result c.work-last.ensures.steps (omega (arith, c.reads_since.ensures.reads, c.read_count-before.ensures.value)) c.answer_of.ensures
-
-pub returns-clause-agrees : goal.returns-clause-agrees
-returns-clause-agrees g c = λ e. c.work-last.ensures.agrees (sym (stopped_is c.answer_of.result c.work-last.result c.reads_since.result c.answer_of.ensures) ∙ e)
+pub returns-clause-executes : goal.returns-clause-executes
+returns-clause-executes g c = λ v into. record {
+  stops = c.work-last.ensures.stops ∙ sym (stopped_is c.answer_of.result c.work-last.result c.reads_since.result c.answer_of.ensures);
+  agrees = λ e. none_between c.work-last.new.self (g.B.Nand.state c.work-last.new.board).shape (g.B.Nand.state c.work-last.new.board).pages (c.work-last.ensures.agrees (sym (stopped_is c.answer_of.result c.work-last.result c.reads_since.result c.answer_of.ensures) ∙ e)) c.work-last.ensures.none;
+  does = tick_does (g.B.Nand.state c.args.board.now) (g.B.Nand.state c.work-last.new.board) c.args.self.now c.work-last.new.self c.args.request.now v c.requires.servable.agrees c.requires.servable.passed c.requires.opcode
+      c.work-last.result c.answer_of.result into c.reads_since.result c.work-last.ensures.steps (omega (arith, c.reads_since.ensures.reads, c.read_count-before.ensures.value)) c.answer_of.ensures;
+}
 
 pub returns-clause-done : goal.returns-clause-done
 returns-clause-done g c = λ e. c.work-last.ensures.done (not_failed c.answer_of.result c.work-last.result c.reads_since.result c.answer_of.ensures e)
+
+pub returns-clause-moves : goal.returns-clause-moves
+returns-clause-moves g c = λ e. c.work-last.ensures.moves (sym (stopped_is c.answer_of.result c.work-last.result c.reads_since.result c.answer_of.ensures) ∙ e)
+
+pub returns-clause-calls : goal.returns-clause-calls
+returns-clause-calls g c = c.work-last.ensures.steps.calls

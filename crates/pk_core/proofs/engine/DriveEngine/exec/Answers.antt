@@ -1,9 +1,25 @@
+use Rattle.std.proofs.Common.{subst}
+use Rattle.pk_pool.specs.Blocks.{IsShared}
+use Rattle.pk_core.specs.Parts.{Parts}
 use Rattle.std.proofs.Common.{◌≡◌, sym, ap, subst, ◌∙◌, Some, None, true, false}
 use Rattle.std.specs.Prelude.{IsSome}
 use Rattle.pk_base.specs.Shape.{Shape}
 use Rattle.pk_nvme.specs.Seen.{command_of}
 use Rattle.pk_model.specs.Answer.{early}
+use Rattle.std.proofs.Common.{refl}
+use Rattle.pk_core.specs.Parts.{sight_of}
+use Rattle.pk_core.proofs.Steadying.{steadies}
 use Rattle.pk_core.proofs.Early.{told_shape, executes_none}
+use Rattle.std.proofs.Common.{inl, inr}
+use Rattle.std.proofs.lemmas.Bool.{cases_eq}
+use Rattle.pk_base.specs.Shape.{charge}
+use Rattle.pk_core.proofs.Sights.{delete_no_store}
+use Rattle.pk_core.proofs.Staying.{stays_same, keeps_fresh, blocks_stay, blocks_grow}
+use Rattle.pk_core.proofs.Statuses.{told_refused, early_refuses, zero_runs}
+use Rattle.pk_core.proofs.Noted.{stores_all}
+use Rattle.pk_core.proofs.Quieting.{quietly_stores, quietly_deletes}
+use Rattle.std.proofs.Common.{arith}
+use Rattle.pk_core.proofs.Callings.{few_within, few_none, few_told}
 use Rattle.pk_core.proofs.engine.DriveEngine.exec.Goals as goal
 
 pub returns-in-Some-clause-stands : goal.returns-in-Some-clause-stands
@@ -17,3 +33,77 @@ returns-in-None-clause-early g c = λ some.
     let here = ap (λ (s : Shape). early s (command_of c.args.request.now c.args.value.now)) (told_shape c.args.self.now (g.B.Nand.state c.args.board.now) c.requires.agrees.0) ∙ none in
     let never : false ≡ true = subst IsSome here some in
     cc
+
+-- a refused command leaves all as it was
+pub returns-in-Some-clause-steady : goal.returns-in-Some-clause-steady
+returns-in-Some-clause-steady g c = λ runs. steadies c.args.self.now (g.B.Nand.state c.args.board.now) (g.B.Nand.state c.args.board.now) (sight_of c.args.self.now) c.requires.agrees refl (subst (λ (d : Parts). IsShared d.pool.shape d.pool.states) c.self.view_is c.known.ensures)
+
+pub returns-in-None-clause-steady : goal.returns-in-None-clause-steady
+returns-in-None-clause-steady g c = λ runs. steadies c.perform-outcome.new.self (g.B.Nand.state c.args.board.now) (g.B.Nand.state c.perform-outcome.new.board) (sight_of c.args.self.now) (c.perform-outcome.ensures.executes.agrees runs) c.perform-outcome.ensures.executes.does.rest (subst (λ (d : Parts). IsShared d.pool.shape d.pool.states) c.self-in-None.view_is c.known-in-None.ensures)
+
+pub returns-in-None-clause-looks : goal.returns-in-None-clause-looks
+returns-in-None-clause-looks g c = λ only. let is = c.perform-outcome.ensures.performs.looks only in (ap sight_of is.0, is.1)
+
+pub returns-in-None-clause-flash_up : goal.returns-in-None-clause-flash_up
+returns-in-None-clause-flash_up g c = c.perform-outcome.ensures.executes.does.flash_up c.read_count.ensures.flash_faults
+
+pub returns-in-Some-clause-looks : goal.returns-in-Some-clause-looks
+returns-in-Some-clause-looks g c = λ _. (refl, refl)
+
+pub returns-in-Some-clause-fresh : goal.returns-in-Some-clause-fresh
+returns-in-Some-clause-fresh g c = λ _. keeps_fresh c.args.self.now c.args.self.now (g.B.Nand.state c.args.board.now) (g.B.Nand.state c.args.board.now) c.requires.agrees.0 c.requires.agrees.0 refl (stays_same c.args.self.now c.args.self.now refl).fresh
+
+pub returns-in-None-clause-fresh : goal.returns-in-None-clause-fresh
+returns-in-None-clause-fresh g c = λ runs.
+    let e = c.perform-outcome.ensures in
+    keeps_fresh c.args.self.now c.perform-outcome.new.self (g.B.Nand.state c.args.board.now) (g.B.Nand.state c.perform-outcome.new.board) c.requires.agrees.0 (e.executes.agrees runs).0 e.executes.does.rest (e.performs.opens runs).fresh
+
+pub returns-in-Some-clause-blocks : goal.returns-in-Some-clause-blocks
+returns-in-Some-clause-blocks g c = λ _. blocks_stay c.args.self.now c.args.self.now c.args.request.now.opcode (stays_same c.args.self.now c.args.self.now refl).blocks
+
+pub returns-in-None-clause-blocks : goal.returns-in-None-clause-blocks
+returns-in-None-clause-blocks g c = λ runs.
+    let e = c.perform-outcome.ensures in
+    elim (cases_eq c.args.request.now.opcode 0x01) [
+      | inl is ↦ blocks_grow c.args.self.now c.perform-outcome.new.self c.args.request.now.opcode (charge c.args.self.now.log.shape c.args.request.now.size) is (e.performs.opens runs).blocks
+      | inr other ↦ blocks_stay c.args.self.now c.perform-outcome.new.self c.args.request.now.opcode (e.performs.moves other runs).blocks
+    ]
+
+pub returns-in-None-clause-deletes : goal.returns-in-None-clause-deletes
+returns-in-None-clause-deletes g c = λ is runs. (c.perform-outcome.ensures.performs.moves (λ e. delete_no_store c.args.request.now is e) runs).blocks.open_same
+
+pub returns-in-Some-clause-stores : goal.returns-in-Some-clause-stores
+returns-in-Some-clause-stores g c = λ _ zero.
+    let is : early c.args.self.now.log.shape (command_of c.args.request.now c.args.value.now) ≡ Some c.in-Some.status = ap (λ (s : Shape). early s (command_of c.args.request.now c.args.value.now)) (sym c.shape.ensures) ∙ sym (c.early_fault.ensures c.args.value.now) ∙ c.in-Some.is in
+    absurd (told_refused c.refusal.result c.in-Some.status 0 0 0 false c.refusal.ensures (early_refuses c.args.self.now.log.shape (command_of c.args.request.now c.args.value.now) c.in-Some.status is) zero)
+
+pub returns-in-None-clause-stores : goal.returns-in-None-clause-stores
+returns-in-None-clause-stores g c = λ is zero.
+    let e = c.perform-outcome.ensures in
+    let runs = zero_runs c.perform-outcome.result e.executes.does.stop_status zero in
+    stores_all c.args.self.now c.perform-outcome.new.self (g.B.Nand.state c.args.board.now) (g.B.Nand.state c.perform-outcome.new.board) (command_of c.args.request.now c.args.value.now) c.requires.agrees.0 (e.executes.agrees runs).0 (e.performs.noted is zero) (e.performs.opens runs).blocks e.executes.does.rest
+
+pub returns-in-Some-clause-quiet_store : goal.returns-in-Some-clause-quiet_store
+returns-in-Some-clause-quiet_store g c = λ _ zero.
+    let is : early c.args.self.now.log.shape (command_of c.args.request.now c.args.value.now) ≡ Some c.in-Some.status = ap (λ (s : Shape). early s (command_of c.args.request.now c.args.value.now)) (sym c.shape.ensures) ∙ sym (c.early_fault.ensures c.args.value.now) ∙ c.in-Some.is in
+    absurd (told_refused c.refusal.result c.in-Some.status 0 0 0 false c.refusal.ensures (early_refuses c.args.self.now.log.shape (command_of c.args.request.now c.args.value.now) c.in-Some.status is) zero)
+
+pub returns-in-Some-clause-quiet_delete : goal.returns-in-Some-clause-quiet_delete
+returns-in-Some-clause-quiet_delete g c = λ _ zero.
+    let is : early c.args.self.now.log.shape (command_of c.args.request.now c.args.value.now) ≡ Some c.in-Some.status = ap (λ (s : Shape). early s (command_of c.args.request.now c.args.value.now)) (sym c.shape.ensures) ∙ sym (c.early_fault.ensures c.args.value.now) ∙ c.in-Some.is in
+    absurd (told_refused c.refusal.result c.in-Some.status 0 0 0 false c.refusal.ensures (early_refuses c.args.self.now.log.shape (command_of c.args.request.now c.args.value.now) c.in-Some.status is) zero)
+
+pub returns-in-None-clause-quiet_store : goal.returns-in-None-clause-quiet_store
+returns-in-None-clause-quiet_store g c = λ is zero quiet room.
+    quietly_stores c.args.self.now (g.B.Nand.state c.args.board.now) (g.B.Nand.state c.perform-outcome.new.board) c.requires.agrees.0 c.args.request.now c.args.value.now c.perform-outcome.result (c.perform-outcome.ensures.performs.quiet_store is) zero quiet room
+
+pub returns-in-None-clause-quiet_delete : goal.returns-in-None-clause-quiet_delete
+returns-in-None-clause-quiet_delete g c = λ is zero quiet.
+    quietly_deletes c.args.self.now (g.B.Nand.state c.args.board.now) (g.B.Nand.state c.perform-outcome.new.board) c.requires.agrees.0 c.args.request.now c.args.value.now c.perform-outcome.result (c.perform-outcome.ensures.performs.quiet_delete is) zero quiet
+
+pub returns-in-Some-clause-calls : goal.returns-in-Some-clause-calls
+returns-in-Some-clause-calls g c = λ _ _. few_within 0 _ _ _ (omega arith) (few_none _)
+
+pub returns-in-None-clause-calls : goal.returns-in-None-clause-calls
+returns-in-None-clause-calls g c = λ no_store no_delete.
+    few_told c.args.self.now (g.B.Nand.state c.args.board.now) (g.B.Nand.state c.perform-outcome.new.board) c.requires.agrees.0 c.args.request.now.opcode c.args.request.now.size (c.perform-outcome.ensures.performs.calls no_store no_delete)

@@ -4,5 +4,5 @@ use Rattle.pk_data.proofs.Standing.{total_of}
 use Rattle.pk_data.proofs.data_space.Data.total.Goals as goal
 
 pub returns-clause-placed : goal.returns-clause-placed
-returns-clause-placed g c shape pool flash es placed =
-    c.total.ensures ∙ ap (λ (d : DataState). sum d.live.heads) c.self.view_is ∙ total_of shape c.args.self.now pool flash es placed
+returns-clause-placed g c shape pool outputs flash es placed =
+    c.total.ensures ∙ ap (λ (d : DataState). sum d.live.heads) c.self.view_is ∙ total_of shape c.args.self.now pool outputs flash es placed

@@ -5,30 +5,32 @@ use Rattle.std.specs.FinMap.{get, contains_key}
 use Rattle.pk_base.specs.Map.{Map}
 use Rattle.pk_nvme.specs.Seen.{command_of}
 use Rattle.pk_nvme.specs.Reply.{refusal}
-use Rattle.pk_model.specs.Answer.{kind, exist, check, success}
+use Rattle.pk_nvme.specs.Opcode.{op_of}
+use Rattle.pk_nvme.specs.declared.opcode.Opcode.TheVariants.{Exist}
+use Rattle.pk_model.specs.Answer.{check, success}
 use Rattle.pk_model.specs.Machine.{replied, Answers}
 use Rattle.pk_model.proofs.Answering.{key_sized}
 use Rattle.pk_model.proofs.Machines.{refused_answer, served_answer, found_some, found_none}
 use Rattle.pk_model.proofs.machine.MapMachine.exist.Goals as goal
 
-pub key_of-requires-clause-some : goal.key_of-requires-clause-some
-key_of-requires-clause-some c = (key_sized c.args.self.now.shape (command_of c.args.request.now []) exist (λ n. refl) (ap kind c.requires.opcode) (c.requires.passed [])).some
+pub key-requires-clause-some : goal.key-requires-clause-some
+key-requires-clause-some c = (key_sized c.args.self.now.shape (command_of c.args.request.now []) Exist (λ n. refl) (ap op_of c.requires.opcode) (c.requires.passed [])).some
 
-pub key_of-requires-clause-most : goal.key_of-requires-clause-most
-key_of-requires-clause-most c = (key_sized c.args.self.now.shape (command_of c.args.request.now []) exist (λ n. refl) (ap kind c.requires.opcode) (c.requires.passed [])).most
+pub key-requires-clause-most : goal.key-requires-clause-most
+key-requires-clause-most c = (key_sized c.args.self.now.shape (command_of c.args.request.now []) Exist (λ n. refl) (ap op_of c.requires.opcode) (c.requires.passed [])).most
 
 pub returns-in-Some : goal.returns-in-Some
 returns-in-Some c =
-    let got : option_copied c.get.result ≡ get c.args.self.now.map c.key_of.result = c.get.ensures ∙ ap (λ (m : Map). get m c.key_of.result) (ap (λ m. m.map) c.self.view_is) in
-    let there : contains_key c.args.self.now.map c.key_of.result ≡ true = found_some c.args.self.now.map c.key_of.result (option_copied c.get.result) c.in-Some.field-0.now got (ap option_copied c.in-Some.is) in
+    let got : option_copied c.get.result ≡ get c.args.self.now.map c.key.result = c.get.ensures ∙ ap (λ (m : Map). get m c.key.result) (ap (λ m. m.map) c.self.view_is) in
+    let there : contains_key c.args.self.now.map c.key.result ≡ true = found_some c.args.self.now.map c.key.result (option_copied c.get.result) c.in-Some.field-0.now got (ap option_copied c.in-Some.is) in
     IfOk-weaker c.of_parts.result (λ a. replied a ≡ success 0 []) (λ a. (v : List ℕ) → Answers c.args.self.now c.args.self.now (command_of c.args.request.now v) a)
-    (λ a answer v. served_answer c.args.self.now c.args.request.now exist c.args.self.now (ap kind c.requires.opcode) c.requires.passed a v
-    (ap (λ q. check (contains_key c.args.self.now.map q) 0x87) (sym c.key_of.ensures) ∙ ap (λ b. check b 0x87) there) answer refl) c.of_parts.ensures
+    (λ a answer v. served_answer c.args.self.now c.args.request.now Exist c.args.self.now (ap op_of c.requires.opcode) c.requires.passed a v
+    (ap (λ q. check (contains_key c.args.self.now.map q) 0x87) (sym c.key.ensures) ∙ ap (λ b. check b 0x87) there) answer refl) c.of_parts.ensures
 
 pub returns-in-None : goal.returns-in-None
 returns-in-None c =
-    let got : option_copied c.get.result ≡ get c.args.self.now.map c.key_of.result = c.get.ensures ∙ ap (λ (m : Map). get m c.key_of.result) (ap (λ m. m.map) c.self.view_is) in
-    let gone : contains_key c.args.self.now.map c.key_of.result ≡ false = found_none c.args.self.now.map c.key_of.result (option_copied c.get.result) got (ap option_copied c.in-None.is) in
+    let got : option_copied c.get.result ≡ get c.args.self.now.map c.key.result = c.get.ensures ∙ ap (λ (m : Map). get m c.key.result) (ap (λ m. m.map) c.self.view_is) in
+    let gone : contains_key c.args.self.now.map c.key.result ≡ false = found_none c.args.self.now.map c.key.result (option_copied c.get.result) got (ap option_copied c.in-None.is) in
     IfOk-weaker c.of_status.result (λ a. replied a ≡ refusal 0x87) (λ a. (v : List ℕ) → Answers c.args.self.now c.args.self.now (command_of c.args.request.now v) a)
-    (λ a answer v. refused_answer c.args.self.now c.args.request.now exist 0x87 (ap kind c.requires.opcode) c.requires.passed
-    (λ v. ap (λ q. check (contains_key c.args.self.now.map q) 0x87) (sym c.key_of.ensures) ∙ ap (λ b. check b 0x87) gone) a answer v) c.of_status.ensures
+    (λ a answer v. refused_answer c.args.self.now c.args.request.now Exist 0x87 (ap op_of c.requires.opcode) c.requires.passed
+    (λ v. ap (λ q. check (contains_key c.args.self.now.map q) 0x87) (sym c.key.ensures) ∙ ap (λ b. check b 0x87) gone) a answer v) c.of_status.ensures

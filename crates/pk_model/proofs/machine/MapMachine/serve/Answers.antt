@@ -2,13 +2,14 @@ use Rattle.std.proofs.Common.{rules, ◌≡◌, ap, None}
 use Rattle.std.proofs.lemmas.Result.{IfOk-weaker}
 use Rattle.pk_nvme.specs.Seen.{command_of}
 use Rattle.pk_nvme.specs.Reply.{refusal}
-use Rattle.pk_model.specs.Answer.{kind, fault_of}
+use Rattle.pk_nvme.specs.Opcode.{op_of}
+use Rattle.pk_model.specs.Answer.{fault_of}
 use Rattle.pk_model.specs.Machine.{replied}
 use Rattle.pk_model.proofs.Machines.{early_answer}
 use Rattle.pk_model.proofs.machine.MapMachine.serve.Goals as goal
 
 pub returns-in_default-clause-ok : goal.returns-in_default-clause-ok
 returns-in_default-clause-ok c =
-    let unknown : kind c.args.request.now.opcode ≡ None = search rules in
+    let unknown : op_of c.args.request.now.opcode ≡ None = search rules in
     IfOk-weaker c.of_status.result (λ a. replied a ≡ refusal 0x01) _
     (λ a answer. early_answer c.args.self.now (command_of c.args.request.now c.args.value.now) 0x01 (ap (fault_of c.args.self.now.shape (command_of c.args.request.now c.args.value.now)) unknown) a answer) c.of_status.ensures

@@ -5,48 +5,50 @@ use Rattle.pk_base.specs.Map.{live, pages_if_some}
 use Rattle.pk_base.specs.Shape.{limit, greatest, charge}
 use Rattle.pk_nvme.specs.Seen.{command_of}
 use Rattle.pk_nvme.specs.Reply.{refusal}
-use Rattle.pk_model.specs.Answer.{kind, store, late_of}
+use Rattle.pk_nvme.specs.Opcode.{op_of}
+use Rattle.pk_nvme.specs.declared.opcode.Opcode.TheVariants.{Store}
+use Rattle.pk_model.specs.Answer.{late_of}
 use Rattle.pk_model.specs.Machine.{Machine, replied}
 use Rattle.pk_model.proofs.Answering.{key_sized, store_sized}
 use Rattle.pk_model.proofs.Machines.{refused_answer, served_answer, store_late, live_stored, both_ok}
 use Rattle.pk_model.proofs.machine.MapMachine.store.Goals as goal
 
-pub key_of-key-requires-clause-some : goal.key_of-key-requires-clause-some
-key_of-key-requires-clause-some c = (key_sized c.args.self.now.shape (command_of c.args.request.now []) store (λ n. refl) (ap kind c.requires.opcode) (c.requires.passed [])).some
+pub key-key-requires-clause-some : goal.key-key-requires-clause-some
+key-key-requires-clause-some c = (key_sized c.args.self.now.shape (command_of c.args.request.now []) Store (λ n. refl) (ap op_of c.requires.opcode) (c.requires.passed [])).some
 
-pub key_of-key-requires-clause-most : goal.key_of-key-requires-clause-most
-key_of-key-requires-clause-most c = (key_sized c.args.self.now.shape (command_of c.args.request.now []) store (λ n. refl) (ap kind c.requires.opcode) (c.requires.passed [])).most
+pub key-key-requires-clause-most : goal.key-key-requires-clause-most
+key-key-requires-clause-most c = (key_sized c.args.self.now.shape (command_of c.args.request.now []) Store (λ n. refl) (ap op_of c.requires.opcode) (c.requires.passed [])).most
 
 pub charge-requires : goal.charge-requires
 charge-requires c =
-    let small = store_sized c.args.self.now.shape (command_of c.args.request.now []) (ap kind c.requires.opcode) (c.requires.passed []) in
+    let small = store_sized c.args.self.now.shape (command_of c.args.request.now []) (ap op_of c.requires.opcode) (c.requires.passed []) in
     subst (λ (m : Machine). c.args.request.now.size ≤ greatest m.shape) (sym c.self.view_is) small
 
 pub put-requires-clause-live : goal.put-requires-clause-live
 put-requires-clause-live c =
-    live_stored c.args.self.now.shape c.args.self.now.map c.key_of-key.result c.args.value.now c.self.inside.live c.held-held.result.pages c.charge.result
+    live_stored c.args.self.now.shape c.args.self.now.map c.key-key.result c.args.value.now c.self.inside.live c.held-held.result.pages c.charge.result
     (c.self.invariant.0 ∙ ap (λ (m : Machine). live m.shape m.map) c.self.view_is) c.held-held.ensures.pages
     (c.charge.ensures.value ∙ (λ i. charge (c.self.view_is i).shape (sym c.requires.whole i)))
 
 pub returns-in-Some-clause-ok : goal.returns-in-Some-clause-ok
 returns-in-Some-clause-ok c =
-    let late : (v : List ℕ) → late_of c.args.self.now.shape (limit c.args.self.now.shape) c.args.self.now.map (command_of c.args.request.now v) (Some store) ≡ Some c.in-Some.status = λ v.
+    let late : (v : List ℕ) → late_of c.args.self.now.shape (limit c.args.self.now.shape) c.args.self.now.map (command_of c.args.request.now v) (Some Store) ≡ Some c.in-Some.status = λ v.
     sym (store_late c.args.self.now.shape c.args.self.now.map c.args.request.now v c.held-held.result.is_there c.self.inside.live c.held-held.result.pages c.charge.result c.limit-limit.result
-    (c.held-held.ensures.there ∙ ap (contains_key c.args.self.now.map) c.key_of-key.ensures) (c.self.invariant.0 ∙ ap (λ (m : Machine). live m.shape m.map) c.self.view_is)
-    (c.held-held.ensures.pages ∙ ap (λ (q : List ℕ). pages_if_some c.args.self.now.shape (get c.args.self.now.map q)) c.key_of-key.ensures)
+    (c.held-held.ensures.there ∙ ap (contains_key c.args.self.now.map) c.key-key.ensures) (c.self.invariant.0 ∙ ap (λ (m : Machine). live m.shape m.map) c.self.view_is)
+    (c.held-held.ensures.pages ∙ ap (λ (q : List ℕ). pages_if_some c.args.self.now.shape (get c.args.self.now.map q)) c.key-key.ensures)
     (c.charge.ensures.value ∙ ap (λ (m : Machine). charge m.shape c.args.request.now.size) c.self.view_is) (c.limit-limit.ensures.value ∙ ap (λ (m : Machine). limit m.shape) c.self.view_is))
     ∙ sym c.store_fault.ensures ∙ c.in-Some.is in
     IfOk-weaker c.of_status.result (λ a. replied a ≡ refusal c.in-Some.status) _
-    (λ a answer. refused_answer c.args.self.now c.args.request.now store c.in-Some.status (ap kind c.requires.opcode) c.requires.passed late a answer c.args.value.now) c.of_status.ensures
+    (λ a answer. refused_answer c.args.self.now c.args.request.now Store c.in-Some.status (ap op_of c.requires.opcode) c.requires.passed late a answer c.args.value.now) c.of_status.ensures
 
 pub returns-in-None-clause-ok : goal.returns-in-None-clause-ok
 returns-in-None-clause-ok c =
-    let late : late_of c.args.self.now.shape (limit c.args.self.now.shape) c.args.self.now.map (command_of c.args.request.now c.args.value.now) (Some store) ≡ None =
+    let late : late_of c.args.self.now.shape (limit c.args.self.now.shape) c.args.self.now.map (command_of c.args.request.now c.args.value.now) (Some Store) ≡ None =
     sym (store_late c.args.self.now.shape c.args.self.now.map c.args.request.now c.args.value.now c.held-held.result.is_there c.self.inside.live c.held-held.result.pages c.charge.result c.limit-limit.result
-    (c.held-held.ensures.there ∙ ap (contains_key c.args.self.now.map) c.key_of-key.ensures) (c.self.invariant.0 ∙ ap (λ (m : Machine). live m.shape m.map) c.self.view_is)
-    (c.held-held.ensures.pages ∙ ap (λ (q : List ℕ). pages_if_some c.args.self.now.shape (get c.args.self.now.map q)) c.key_of-key.ensures)
+    (c.held-held.ensures.there ∙ ap (contains_key c.args.self.now.map) c.key-key.ensures) (c.self.invariant.0 ∙ ap (λ (m : Machine). live m.shape m.map) c.self.view_is)
+    (c.held-held.ensures.pages ∙ ap (λ (q : List ℕ). pages_if_some c.args.self.now.shape (get c.args.self.now.map q)) c.key-key.ensures)
     (c.charge.ensures.value ∙ ap (λ (m : Machine). charge m.shape c.args.request.now.size) c.self.view_is) (c.limit-limit.ensures.value ∙ ap (λ (m : Machine). limit m.shape) c.self.view_is))
     ∙ sym c.store_fault.ensures ∙ c.in-None.is in
     both_ok c.put.result _ _ _ c.put.ensures.ok c.put.ensures.left
-    (λ a answer left. served_answer c.args.self.now c.args.request.now store _ (ap kind c.requires.opcode) c.requires.passed a c.args.value.now late answer
-    (left ∙ ap (λ (q : List ℕ). record c.args.self.now { map = insert c.args.self.now.map q c.args.value.now }) c.key_of-key.ensures))
+    (λ a answer left. served_answer c.args.self.now c.args.request.now Store _ (ap op_of c.requires.opcode) c.requires.passed a c.args.value.now late answer
+    (left ∙ ap (λ (q : List ℕ). record c.args.self.now { map = insert c.args.self.now.map q c.args.value.now }) c.key-key.ensures))

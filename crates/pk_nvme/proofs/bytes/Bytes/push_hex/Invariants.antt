@@ -1,5 +1,4 @@
 use Rattle.std.proofs.Common.{◌≡◌, ◌++◌, take}
-use Rattle.pk_nvme.specs.Bytes.{RoomyList}
 use Rattle.pk_nvme.specs.Text.{hex_text}
 use Rattle.pk_nvme.proofs.bytes.Bytes.push_hex.Given as goal
 

@@ -1,6 +1,6 @@
 use Rattle.std.proofs.Common.{arith, ℕ, suc, ◌+◌, ◌≤◌}
 use Rattle.pk_text.specs.Assembled.{assembled_from, assembled}
-use Rattle.pk_text.proofs.Turning.{Advances-then, Advances-count, Turns-behind, Turns-all}
+use Rattle.pk_text.proofs.Turning.{Advances-empty, Advances-then, Advances-count, Turns-behind, Turns-all}
 use Rattle.pk_text.proofs.Lining.{Lines-stop}
 use Rattle.pk_text.proofs.assembler.Assembler.assemble.Goals as goal
 
@@ -17,3 +17,6 @@ loop-taken-preserved g c = record {
 
 pub returns : goal.returns
 returns g c = Turns-all assembled _ _ _ (Turns-behind _ _ _ _ _ _ _ _ c.loop-taken.invariant.advances (Lines-stop c.loop-taken._taken c.loop-taken.number _ _ _ _ _ (omega arith) c.stop.ensures))
+
+pub loop-taken-init : goal.loop-taken-init
+loop-taken-init g c = record { few = omega arith; advances = Advances-empty (assembled_from 0 1) _ _ c.clear.ensures }

@@ -1,6 +1,6 @@
 use Rattle.std.proofs.Common.{arith}
 use Rattle.pk_text.specs.Records.{shown_from, shown}
-use Rattle.pk_text.proofs.Turning.{Advances-then, Advances-count, Turns-behind, Turns-all}
+use Rattle.pk_text.proofs.Turning.{Advances-empty, Advances-then, Advances-count, Turns-behind, Turns-all}
 use Rattle.pk_text.proofs.Showing.{Records-stop}
 use Rattle.pk_text.proofs.shower.Shower.show.Goals as goal
 
@@ -13,3 +13,6 @@ loop-taken-preserved g c =
 
 pub returns : goal.returns
 returns g c = Turns-all shown _ _ _ (Turns-behind _ _ _ _ _ _ _ _ c.loop-taken.invariant (Records-stop c.loop-taken._taken _ _ _ _ _ (omega arith) c.stop.ensures))
+
+pub loop-taken-init : goal.loop-taken-init
+loop-taken-init g c = Advances-empty (shown_from 0) _ _ c.clear.ensures

@@ -1,19 +1,16 @@
-use Rattle.std.proofs.Common.{ap, arith, ◌≤◌}
+use Rattle.std.proofs.Common.{ap, arith, rules, ◌≤◌}
 use Rattle.pk_walk.specs.Walking.{Cursor}
 use Rattle.pk_walk.proofs.Following.{looked, looked_all}
 use Rattle.pk_walk.proofs.cursor.Cursor.load.Goals as goal
 
-pub returns-in-Ok-clause-reads : goal.returns-in-Ok-clause-reads
-returns-in-Ok-clause-reads g c =
+pub returns-in-Ok-clause-loads : goal.returns-in-Ok-clause-loads
+returns-in-Ok-clause-loads g c =
     let inside = ap (λ (x : Cursor). x.loaded) c.self.view_is in
-    let h = c.requires.behind in
+    let h = c.requires.may.behind in
     let other = c.if-self-p.false in
     let before : c.args.self.now.loaded ≤ c.args.p = omega (arith, inside, h, other) in
-    looked c.args.run.now.leases c.args.self.now.loaded c.args.p (g.B.Nand.state c.args.board.now) (g.B.Nand.state c.load_page.new.board) before c.in-Ok.ensures.ok
-
-pub returns-in-Ok-clause-all : goal.returns-in-Ok-clause-all
-returns-in-Ok-clause-all g c come =
-    let inside = ap (λ (x : Cursor). x.loaded) c.self.view_is in
-    let h = c.requires.behind in
-    let other = c.if-self-p.false in
-    looked_all c.args.run.now.leases c.args.self.now.loaded c.args.p (g.B.Nand.state c.args.board.now) (g.B.Nand.state c.load_page.new.board) (omega (arith, inside, h, other, come)) c.in-Ok.ensures.ok
+    record {
+      cursor = search rules;
+      reads = looked c.args.run.now.leases c.args.self.now.loaded c.args.p (g.B.Nand.state c.args.board.now) (g.B.Nand.state c.load_page.new.board) before c.in-Ok.ensures.ok;
+      all = λ come. looked_all c.args.run.now.leases c.args.self.now.loaded c.args.p (g.B.Nand.state c.args.board.now) (g.B.Nand.state c.load_page.new.board) (omega (arith, inside, h, other, come)) c.in-Ok.ensures.ok;
+    }

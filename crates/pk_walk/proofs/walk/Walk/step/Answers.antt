@@ -1,25 +1,33 @@
-use Rattle.std.proofs.Common.{ap, sym, subst, ◌∙◌, List, ◌∷◌, Some}
-use Rattle.pk_base.specs.Key.{Key}
-use Rattle.pk_base.specs.Entry.{Entry, key_of}
-use Rattle.pk_base.specs.Seen.{entry as seen}
-use Rattle.pk_walk.specs.declared.position.Position.TheVariants.{Above}
-use Rattle.pk_walk.specs.Walking.{Walk, FollowEach, Passes, all_left}
-use Rattle.pk_walk.proofs.Walks.{step_some, step_follow, step_wanted}
+use Rattle.std.proofs.Common.{◌∙◌}
+use Rattle.pk_walk.proofs.Walks.{comes_behind, walks_behind, comes_to_none, walks_there}
 use Rattle.pk_walk.proofs.walk.Walk.step.Goals as goal
 
-pub returns-in-Ok-Some-clause-passes : goal.returns-in-Ok-Some-clause-passes
-returns-in-Ok-Some-clause-passes g c ess each =
-    let lists : List (List Entry) = c.args.active.now.entries ∷ c.args.frozen.now.entries ∷ ess in
-    let found = rw (c.in-Ok-Some.field-0-is, ap (λ (w : Walk). w.position) c.self.view_is) at c.in-Ok-Some.ensures.found in
-    let key = c.copy.ensures ∙ c.key.ensures in
-    subst (λ (k : Key). Passes (Some c.in-Ok-Some.entry) (all_left c.args.self.now.position lists) (all_left (Above k) lists)) (sym key)
-    (step_some c.args.self.now.position lists c.in-Ok-Some.entry (found ess each))
+pub returns-in-Ok-Some-clause-comes : goal.returns-in-Ok-Some-clause-comes
+returns-in-Ok-Some-clause-comes g c =
+    rw (← c.self.view_is) (comes_behind c.args.levels.now.runs c.args.arena.now c.args.active.now.entries c.args.frozen.now.entries c.args.levels.now.shape (g.B.Nand.state c.args.board.now) (g.B.Nand.state c.least_of_all.new.board)
+    (record { shape = c.self.inside.shape; position = c.self.inside.position; cursors = c.self.inside.cursors }) c.least_of_all.new.cursors
+    c.in-Ok-Some.ensures.go_on c.in-Ok-Some.entry c.copy.result (c.copy.ensures ∙ c.key.ensures) (rw (c.in-Ok-Some.field-0-is) at c.in-Ok-Some.ensures.finds))
 
-pub returns-in-Ok-Some-clause-follow : goal.returns-in-Ok-Some-clause-follow
-returns-in-Ok-Some-clause-follow g c ess each =
-    let lists : List (List Entry) = c.args.active.now.entries ∷ c.args.frozen.now.entries ∷ ess in
-    let found = rw (c.in-Ok-Some.field-0-is) at c.in-Ok-Some.ensures.found in
-    let key = c.copy.ensures ∙ c.key.ensures in
-    subst (λ (k : Key). FollowEach (g.B.Nand.state c.args.board.now).pages c.args.levels.now.runs ess (Above k) c.least_of_all.new.cursors) (sym key)
-    (step_follow (g.B.Nand.state c.args.board.now).pages c.self.inside.position (key_of (seen c.in-Ok-Some.entry)) c.args.levels.now.runs ess c.least_of_all.new.cursors
-    (step_wanted c.self.inside.position lists c.in-Ok-Some.entry (found ess each)) (c.in-Ok-Some.ensures.follow ess each))
+pub returns-in-Ok-Some-clause-walks_on : goal.returns-in-Ok-Some-clause-walks_on
+returns-in-Ok-Some-clause-walks_on g c =
+    rw (← c.self.view_is) (walks_behind c.args.levels.now.runs c.args.arena.now c.args.active.now.entries c.args.frozen.now.entries c.args.levels.now.shape (g.B.Nand.state c.args.board.now) (g.B.Nand.state c.least_of_all.new.board)
+    (record { shape = c.self.inside.shape; position = c.self.inside.position; cursors = c.self.inside.cursors }) c.least_of_all.new.cursors
+    c.in-Ok-Some.ensures.go_on c.in-Ok-Some.entry c.copy.result (c.copy.ensures ∙ c.key.ensures) (rw (c.in-Ok-Some.field-0-is) at c.in-Ok-Some.ensures.finds))
+
+pub returns-in-Ok-None-clause-comes : goal.returns-in-Ok-None-clause-comes
+returns-in-Ok-None-clause-comes g c =
+    rw (← c.self.view_is) (comes_to_none c.args.levels.now.runs c.args.arena.now c.args.active.now.entries c.args.frozen.now.entries c.args.levels.now.shape (g.B.Nand.state c.args.board.now) (g.B.Nand.state c.least_of_all.new.board)
+    (record { shape = c.self.inside.shape; position = c.self.inside.position; cursors = c.self.inside.cursors }) c.least_of_all.new.cursors
+    c.in-Ok-None.ensures.go_on (rw (c.in-Ok-None.field-0-is) at c.in-Ok-None.ensures.finds))
+
+pub returns-in-Ok-None-clause-walks_on : goal.returns-in-Ok-None-clause-walks_on
+returns-in-Ok-None-clause-walks_on g c =
+    rw (← c.self.view_is) (walks_there c.args.levels.now.runs c.args.arena.now c.args.active.now.entries c.args.frozen.now.entries c.args.levels.now.shape (g.B.Nand.state c.args.board.now) (g.B.Nand.state c.least_of_all.new.board)
+    (record { shape = c.self.inside.shape; position = c.self.inside.position; cursors = c.self.inside.cursors }) c.least_of_all.new.cursors
+    c.in-Ok-None.ensures.go_on)
+
+pub returns-in-Err-clause-walks_on : goal.returns-in-Err-clause-walks_on
+returns-in-Err-clause-walks_on g c =
+    rw (← c.self.view_is) (walks_there c.args.levels.now.runs c.args.arena.now c.args.active.now.entries c.args.frozen.now.entries c.args.levels.now.shape (g.B.Nand.state c.args.board.now) (g.B.Nand.state c.least_of_all.new.board)
+    (record { shape = c.self.inside.shape; position = c.self.inside.position; cursors = c.self.inside.cursors }) c.least_of_all.new.cursors
+    c.in-Err.ensures.go_on)

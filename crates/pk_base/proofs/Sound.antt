@@ -1,0 +1,44 @@
+-- The tests of entries tell what entries are.
+use Rattle.std.proofs.Common.{◌≡◌, ℕ, ◌≤◌, Bool, true, false, List, [], ◌∷◌, length, refl, arith, Some, None}
+use Rattle.std.specs.Prelude.{nat_le, ◌&&◌, if◌then◌else◌}
+use Rattle.std.specs.List.{list_all, AllByRecursion}
+use Rattle.std.proofs.lemmas.Bool.Decides.{nat_tests}
+use Rattle.pk_base.specs.Key.{Key, IsKey, is_key}
+use Rattle.pk_base.specs.Shape.{Shape, page_entries}
+use Rattle.pk_base.specs.Entry.{Entry}
+use Rattle.pk_base.specs.EntryBytes.{IsEntry, is_place_page, is_place_len, is_place_of, is_entry, AreEntries, are_entries}
+use Rattle.pk_base.proofs.EntryLemmas.{place_is}
+
+pub both_true : (a b : Bool) → (a && b) ≡ true → (a ≡ true) × (b ≡ true)
+both_true true true e = (refl, refl)
+both_true true false e = cc
+both_true false b e = cc
+
+pub if_some : {A : Type 0} (b : Bool) (x y : A) → (if b then Some x else None) ≡ Some y → (b ≡ true) × (x ≡ y)
+if_some true x y e = (refl, cc)
+if_some false x y e = cc
+
+at_least : (a b : ℕ) → nat_le a b ≡ true → a ≤ b
+at_least a b e = grind (arith, nat_tests)
+
+pub key_sound : (key : Key) → is_key key ≡ true → IsKey key
+key_sound key e =
+    let size = both_true (nat_le 1 (length key)) (nat_le (length key) 16) e in
+    record { some = at_least 1 (length key) size.0; most = at_least (length key) 16 size.1 }
+
+pub entry_sound : (g : Shape) (e : Entry) → is_entry g e ≡ true → IsEntry g e
+entry_sound g (key, Some place) e =
+    let h = both_true (is_key key) (is_place_of g (Some place)) e in
+    let at = both_true (is_place_page g place.page) (is_place_len g place.page place.len) h.1 in
+    (key_sound key h.0, place_is g place.page place.len at.0 at.1)
+entry_sound g (key, None) e = (key_sound key (both_true (is_key key) true e).0, tt)
+
+entries_sound : (g : Shape) (es : List Entry) → list_all (is_entry g) es ≡ true → AllByRecursion (IsEntry g) es
+entries_sound g [] e = tt
+entries_sound g (x ∷ es) e = let h = both_true (is_entry g x) (list_all (is_entry g) es) e in (entry_sound g x h.0, entries_sound g es h.1)
+
+pub are_sound : (g : Shape) (es : List Entry) → are_entries g es ≡ true → AreEntries g es
+are_sound g es e =
+    let h = both_true (nat_le 1 (length es) && nat_le (length es) (page_entries g)) (list_all (is_entry g) es) e in
+    let size = both_true (nat_le 1 (length es)) (nat_le (length es) (page_entries g)) h.0 in
+    record { some = at_least 1 (length es) size.0; most = at_least (length es) (page_entries g) size.1; each = entries_sound g es h.1 }

@@ -1,0 +1,18 @@
+//! Sizes that the formats share, in bytes where nothing else is said. Code, contracts and definitions name them.
+
+/// The most bytes of a key.
+pub const KEY_BYTES: usize = 16;
+/// An entry in a journal or meta page.
+pub const ENTRY_BYTES: usize = 32;
+/// The head of a journal page, of a meta page, and of the first page of a value.
+pub const HEAD_BYTES: usize = 32;
+/// The blocks of the roots, which are the first of the flash.
+pub const ROOT_BLOCKS: u32 = 2;
+/// The blocks of an epoch of the journal.
+pub const EPOCH_BLOCKS: u32 = 2;
+/// The most pages of run 1; each further run has room for four times as many, and run 4 for what the flash can hold.
+pub const CAP_1: u32 = 4;
+/// The most pages of run 2.
+pub const CAP_2: u32 = 16;
+/// The most pages of run 3.
+pub const CAP_3: u32 = 64;

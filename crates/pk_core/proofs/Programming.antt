@@ -1,0 +1,274 @@
+-- How many pages the steps of a Store and a Delete program, and when they wait for nothing.
+use Rattle.std.proofs.Common.{◌≡◌, ◌≢◌, inl, inr, ℕ, zero, suc, ◌+◌, ◌-◌, ◌<◌, ◌≤◌, refl, sym, ap, subst, ◌∙◌, arith, Bool, true, false, not, ◌&&◌, ◌||◌, ◌==◌, List, [], ◌∷◌, ◌++◌, ◌⊎◌, length, reverse, Option, Some, None, Result, Ok, Err, is_some, cond}
+use Rattle.std.specs.Prelude.{OnOk, IsSome, if◌then◌else◌}
+use Rattle.std.specs.FinMap.Entries.{find}
+use Rattle.std.specs.Ordering.{eq_by_cmp}
+use Rattle.std.proofs.lemmas.List.{reverse-append}
+use Rattle.std.proofs.lemmas.Bool.{ne_eqb, eq-eqb, cases_lt}
+use Rattle.std.proofs.lemmas.List.{length-append}
+use Rattle.pk_base.specs.Shape.{Shape, IsShape, charge, buffer, page_entries, epoch_pages}
+use Rattle.pk_base.specs.Page.{Flash, page_at, page_in, erased, whole}
+use Rattle.pk_base.specs.Entry.{Entry}
+use Rattle.pk_base.specs.Key.{Key, key_cmp}
+use Rattle.pk_base.specs.Firsts.{firsts}
+use Rattle.pk_base.specs.Map.{Map}
+use Rattle.pk_buf.specs.Table.{Table}
+use Rattle.pk_rootfmt.specs.Root.{Root}
+use Rattle.pk_nand.specs.declared.types.Fault.{Fault}
+use Rattle.pk_nand.specs.BoardState.{BoardState}
+use Rattle.pk_nand.specs.Calls.{counted}
+use Rattle.pk_nand.specs.Erased.{counted_by}
+use Rattle.pk_nand.specs.Effects.{OneProgram}
+use Rattle.pk_seg.specs.Stored.{written}
+use Rattle.pk_pool.specs.Blocks.{Blocks}
+use Rattle.pk_jrn.specs.Epochs.{JournalEpoch, left_of}
+use Rattle.pk_jrn.proofs.Puts.{firsts-reverse, find-firsts}
+use Rattle.pk_base.proofs.ShapeLemmas.{block_pages_positive}
+use Rattle.pk_base.specs.Refusal.{Refusal}
+use Rattle.pk_log.specs.State.{LogState, needs_freeze, pushed}
+use Rattle.pk_model.specs.Found.{Found, found_under}
+use Rattle.pk_data.specs.State.{DataState, fits_open}
+use Rattle.pk_drive.specs.Moving.{IsQuiet, commits_for}
+use Rattle.pk_core.specs.Parts.{Parts, sight_of}
+use Rattle.pk_core.specs.Agreeing.{AgreesWith}
+use Rattle.pk_core.specs.Moves.{StandsFor}
+use Rattle.pk_core.specs.Placing.{PlacesValue}
+use Rattle.pk_core.proofs.Rooming.{entries_some}
+use Rattle.pk_core.specs.Programming.{Programs}
+use Rattle.pk_core.specs.Quiet.{ReadsOnly}
+
+-- ---- counts
+
+counted_more : (m k n : ℕ) → counted_by m (counted_by k n) ≡ counted_by (k + m) n
+counted_more zero k n = let same : k ≡ k + zero = omega arith in ap (λ (x : ℕ). counted_by x n) same
+counted_more (suc m) k n = let same : suc (k + m) ≡ k + suc m = omega arith in ap counted (counted_more m k n) ∙ ap (λ (x : ℕ). counted_by x n) same
+
+pub programs_none : (old new : BoardState) → new ≡ old → Programs 0 old new
+programs_none old new same = record { programs = ap (λ b. b.programs) same; erases = ap (λ b. b.erases) same }
+
+pub programs_then : (a b c : BoardState) (n m : ℕ) → Programs n a b → Programs m b c → Programs (n + m) a c
+programs_then a b c n m first second = record {
+  programs = second.programs ∙ ap (counted_by m) first.programs ∙ counted_more m n a.programs;
+  erases = second.erases ∙ first.erases;
+}
+
+-- ---- a value
+
+written_programs : (shape : Shape) (key : Key) (page : ℕ) (value : List ℕ) (k : ℕ) (board : BoardState) → Programs k board (written shape key page value k board)
+written_programs shape key page value zero board = record { programs = refl; erases = refl }
+written_programs shape key page value (suc k) board =
+    let rest = written_programs shape key page value k board in
+    record { programs = ap counted rest.programs; erases = rest.erases }
+
+no_yes : (b : Bool) → b ≡ true → b ≡ false → ⊥
+no_yes true e f = cc
+no_yes false e f = cc
+
+pub place_programs : (shape : Shape) (key : Key) (value : List ℕ) (d : DataState) (p : Blocks) (old : BoardState) (page : ℕ) (d' : DataState) (q : Blocks) (new : BoardState) → PlacesValue shape key value d p old page d' q new
+    → fits_open shape d (charge shape (length value)) ≡ true → Programs (charge shape (length value)) old new
+place_programs shape key value d p old page d' q new is room = elim is.reserved.taken [
+  | inl next ↦ (
+      let T : BoardState → Type 0 = λ b. Programs (charge shape (length value)) b new in
+      let U : BoardState → Type 0 = λ b. Programs (charge shape (length value)) is.between b in
+      subst T next.same_board (subst U (sym is.writes) (written_programs shape key page value (charge shape (length value)) is.between)))
+  | inr opens ↦ absurd (no_yes (fits_open shape d (charge shape (length value))) room opens.no_room)
+]
+
+-- ---- a key that needs no freeze
+
+has_append : (q : Key) (xs ys : List Entry) → is_some (find key_cmp q (xs ++ ys)) ≡ (is_some (find key_cmp q xs) || is_some (find key_cmp q ys))
+has_append q [] ys = refl
+has_append q (x ∷ xs) ys =
+    elim (eq_by_cmp key_cmp q x.0) as (λ b. is_some (cond b (Some x.1) (find key_cmp q (xs ++ ys))) ≡ (is_some (cond b (Some x.1) (find key_cmp q xs)) || is_some (find key_cmp q ys))) [ true ↦ refl | false ↦ has_append q xs ys ]
+
+or_turned : (a b : Bool) → (a || b) ≡ (b || a)
+or_turned true true = refl
+or_turned true false = refl
+or_turned false true = refl
+or_turned false false = refl
+
+-- a key that is in a list is in the list turned round
+has_reversed : (q : Key) (xs : List Entry) → is_some (find key_cmp q (reverse xs)) ≡ is_some (find key_cmp q xs)
+has_reversed q [] = refl
+has_reversed q (x ∷ xs) =
+    ap (λ ys. is_some (find key_cmp q ys)) (reverse-append (x ∷ []) xs)
+    ∙ (has_append q (reverse xs) (x ∷ [])
+    ∙ (ap (λ b. b || is_some (find key_cmp q (x ∷ []))) (has_reversed q xs)
+    ∙ (or_turned (is_some (find key_cmp q xs)) (is_some (find key_cmp q (x ∷ []))) ∙ sym (has_append q (x ∷ []) xs))))
+
+found_same : (q : Key) (xs : List Entry) → is_some (find key_cmp q (firsts (reverse xs))) ≡ is_some (find key_cmp q (firsts xs))
+found_same q xs = ap is_some (find-firsts q (reverse xs)) ∙ (has_reversed q xs ∙ ap is_some (sym (find-firsts q xs)))
+
+and_no : (b : Bool) → (b && false) ≡ false
+and_no true = refl
+and_no false = refl
+
+room_false : (full has : Bool) → (has ≡ true) ⊎ (full ≡ false) → (full && not has) ≡ false
+room_false full true (inl e) = and_no full
+room_false full false (inl e) = cc
+room_false true has (inr e) = cc
+room_false false has (inr e) = refl
+
+page_false : (none no_page : Bool) → (no_page ≡ false) ⊎ (none ≡ false) → (none && no_page) ≡ false
+page_false none true (inl e) = cc
+page_false none false (inl e) = and_no none
+page_false true no_page (inr e) = cc
+page_false false no_page (inr e) = refl
+
+both_false : (a b : Bool) → a ≡ false → b ≡ false → (a || b) ≡ false
+both_false true b e f = cc
+both_false false true e f = cc
+both_false false false e f = refl
+
+some_true : {X : Type 0} (o : Option X) → IsSome o → is_some o ≡ true
+some_true (Some x) is = refl
+some_true None is = cc
+
+not_whole : (bytes : List ℕ) → whole bytes ≡ erased → ⊥
+not_whole bytes e = cc
+
+none_length : (es : List Entry) → es ≢ [] → (length es == 0) ≡ false
+none_length [] some = absurd (some refl)
+none_length (e ∷ es) some = ne_eqb (length (e ∷ es)) 0 (λ x. omega (arith, x))
+
+same_tree : (x y : ℕ × Root) → ◌≡◌ {A = Option (ℕ × Root)} (Some x) (Some y) → x ≡ y
+same_tree x y e = cc
+
+same_lists : (x y : Found) → ◌≡◌ {A = Result Found Refusal} (Ok x) (Ok y) → x ≡ y
+same_lists x y e = cc
+
+module _ (d : Parts) (shape : Shape) (flash : Flash) (top : ℕ × Root) (found : Found) (without all : Map) (a : AgreesWith d shape flash top found without all) (k : Key) (q : IsQuiet shape flash (sight_of d) k) where
+  its_top : (q.is_tree.page_of_root, q.tree.root) ≡ top
+  its_top = same_tree _ top (sym q.is_tree.is_newest ∙ a.committed.is_top)
+
+  its_found : q.tree.found ≡ found
+  its_found = same_lists q.tree.found found (sym q.is_tree.is_found ∙ (ap (λ (t : ℕ × Root). found_under shape (page_at flash) t.1) its_top ∙ a.committed.is_found))
+
+  abbrev entries : List Entry
+  entries = found.newest ++ d.log.pending
+
+  room_is : (is_some (find key_cmp k d.log.active.entries) ≡ true) ⊎ ((length d.log.active.entries == d.log.active.capacity) ≡ false)
+  room_is =
+      let T : Found → Type 0 = λ f. IsSome (find key_cmp k (firsts (f.newest ++ d.log.pending))) ⊎ (length (firsts (f.newest ++ d.log.pending)) < buffer shape) in
+      let active = a.logs.active_is in
+      elim (subst T its_found q.room) [
+        | inl there ↦ inl (ap (λ (t : Table). is_some (find key_cmp k t.entries)) active ∙ (found_same k entries ∙ some_true (find key_cmp k (firsts entries)) there))
+        | inr less ↦ inr (
+            let size : length d.log.active.entries ≡ length (firsts entries) = ap (λ (t : Table). length t.entries) active ∙ firsts-reverse entries in
+            let capacity : d.log.active.capacity ≡ buffer shape = ap (λ (t : Table). t.capacity) active ∙ ap (λ s. buffer s) a.shape_is in
+            ne_eqb (length d.log.active.entries) d.log.active.capacity (λ e. omega (arith, size, capacity, less, e)))
+      ]
+
+  page_is : ((left_of d.log.epoch == 0) ≡ false) ⊎ ((length d.log.pending == 0) ≡ false)
+  page_is = elim q.page [
+    | inr some ↦ inr (none_length d.log.pending some)
+    | inl clear ↦ inl (
+        let e : JournalEpoch = d.log.epoch in
+        let its_shape : e.shape ≡ shape = a.logs.epoch_shape ∙ a.shape_is in
+        let its_blocks : e.blocks ≡ q.tree.root.newest = a.logs.epoch_blocks ∙ ap (λ (t : ℕ × Root). t.1.newest) (sym its_top) in
+        let last : page_at flash (page_in e.shape e.blocks (epoch_pages e.shape - 1)) ≡ erased = subst (λ s. page_at flash (page_in s e.blocks (epoch_pages s - 1)) ≡ erased) (sym its_shape) (subst (λ bs. page_at flash (page_in shape bs (epoch_pages shape - 1)) ≡ erased) (sym its_blocks) clear) in
+        let positive = block_pages_positive e.shape (subst IsShape (sym its_shape) a.placed.is_shape) in
+        let within = a.logs.epoch_fits.within in
+        let less : e.used < epoch_pages e.shape = elim (cases_lt e.used (epoch_pages e.shape)) [
+          | inl lt ↦ lt
+          | inr ge ↦ (let page = a.logs.epoch_fits.before (epoch_pages e.shape - 1) (omega (arith, ge, positive)) in absurd (not_whole page.0 (sym page.1 ∙ last)))
+        ] in
+        ap (λ b. (if b then epoch_pages e.shape - e.used else 0) == 0) q.fresh ∙ ne_eqb (epoch_pages e.shape - e.used) 0 (λ f. omega (arith, f, less)))
+  ]
+
+  pub quiet_needs_none : needs_freeze d.log k ≡ false
+  quiet_needs_none =
+      both_false ((length d.log.active.entries == d.log.active.capacity) && not (is_some (find key_cmp k d.log.active.entries))) ((length d.log.pending == 0) && (left_of d.log.epoch == 0))
+      (room_false (length d.log.active.entries == d.log.active.capacity) (is_some (find key_cmp k d.log.active.entries)) room_is) (page_false (length d.log.pending == 0) (left_of d.log.epoch == 0) page_is)
+
+-- ---- the steps of a Store and of a Delete
+
+pub full_ok : (r : Result Unit Fault) (d : Parts) (old new : BoardState) → (m : Map) × StandsFor d d.log.shape old.pages m → (d.log.pending ≢ [] → OneProgram old new) → OnOk r (page_entries d.log.shape ≤ length d.log.pending → Programs 1 old new)
+full_ok (Ok x) d old new stands made = λ full.
+    let some = entries_some d.log.shape stands.1.with.placed.is_shape in
+    let one = made (λ none. let e = ap (λ (es : List Entry). length es) none in absurd (omega (arith, full, some, e))) in
+    record { programs = one.programs; erases = one.erases }
+full_ok (Err e) d old new stands made = tt
+
+pub pushed_more : (log log' : LogState) (e : Entry) → log' ≡ pushed log e → length log'.pending ≡ length log.pending + 1
+pushed_more log log' e is = ap (λ (l : LogState). length l.pending) is ∙ length-append log.pending (e ∷ [])
+
+pub not_wanted_ok : {X E : Type 0} (A : Type 0) (r : Result X E) (b : Bool) → b ≡ true → OnOk r (b ≡ false → A)
+not_wanted_ok A (Ok x) b wanted = λ e. absurd (no_yes b wanted e)
+not_wanted_ok A (Err e) b wanted = tt
+
+commits_one : (n m : ℕ) → n ≡ m → ◌≡◌ {A = ℕ} (if n == m then 1 else 0) 1
+commits_one n m same = ap {B = ℕ} (λ b. if b then 1 else 0) (eq-eqb n m same)
+
+commits_none : (n m : ℕ) → (n ≡ m → ⊥) → ◌≡◌ {A = ℕ} (if n == m then 1 else 0) 0
+commits_none n m other = ap {B = ℕ} (λ b. if b then 1 else 0) (ne_eqb n m other)
+
+-- a commit behind one entry more
+commit_part : (r : Result Unit Fault) (a n c : Parts) (s1 s2 : BoardState) → length a.log.pending < page_entries a.log.shape → length n.log.pending ≡ length a.log.pending + 1 → n.log.shape ≡ a.log.shape
+    → OnOk r (length n.log.pending < page_entries n.log.shape → (c ≡ n) × (s2 ≡ s1)) → OnOk r (page_entries n.log.shape ≤ length n.log.pending → Programs 1 s1 s2) → OnOk r (Programs (commits_for a.log.shape (sight_of a)) s1 s2)
+commit_part (Err e) a n c s1 s2 few more shapes idle full = tt
+commit_part (Ok x) a n c s1 s2 few more shapes idle full =
+    let entries : page_entries n.log.shape ≡ page_entries a.log.shape = ap (λ s. page_entries s) shapes in
+    elim (cases_lt (length a.log.pending + 1) (page_entries a.log.shape)) [
+      | inl less ↦ subst (λ k. Programs k s1 s2) (sym (commits_none (length a.log.pending + 1) (page_entries a.log.shape) (λ e. omega (arith, less, e)))) (programs_none s1 s2 (idle (omega (arith, entries, more, less))).1)
+      | inr most ↦ subst (λ k. Programs k s1 s2) (sym (commits_one (length a.log.pending + 1) (page_entries a.log.shape) (omega (arith, most, few)))) (full (omega (arith, entries, more, most)))
+    ]
+
+then_ok : (r : Result Unit Fault) (a b c : BoardState) (n m : ℕ) (P : Type 0) → (P → Programs n a b) → OnOk r (Programs m b c) → OnOk r (P → Programs (n + m) a c)
+then_ok (Ok x) a b c n m P first second = λ p. programs_then a b c n m (first p) second
+then_ok (Err e) a b c n m P first second = tt
+
+module _ (r : Result Unit Fault) (a b n c : Parts) (s0 s1 s2 : BoardState) (size : ℕ) where
+  pub put_programs : length a.log.pending < page_entries a.log.shape → (fits_open a.log.shape a.space (charge a.log.shape size) ≡ true → Programs (charge a.log.shape size) s0 s1) → b.log ≡ a.log
+      → length n.log.pending ≡ length b.log.pending + 1 → n.log.shape ≡ b.log.shape
+      → OnOk r (length n.log.pending < page_entries n.log.shape → (c ≡ n) × (s2 ≡ s1)) → OnOk r (page_entries n.log.shape ≤ length n.log.pending → Programs 1 s1 s2)
+      → OnOk r (fits_open a.log.shape a.space (charge a.log.shape size) ≡ true → Programs (charge a.log.shape size + commits_for a.log.shape (sight_of a)) s0 s2)
+  put_programs few first same more shapes idle full =
+      then_ok r s0 s1 s2 (charge a.log.shape size) (commits_for a.log.shape (sight_of a)) (fits_open a.log.shape a.space (charge a.log.shape size) ≡ true) first
+      (commit_part r a n c s1 s2 few (more ∙ ap (λ (l : LogState). length l.pending + 1) same) (shapes ∙ ap (λ (l : LogState). l.shape) same) idle full)
+
+pub take_programs : (r : Result Unit Fault) (a n c : Parts) (s1 s2 : BoardState) → length a.log.pending < page_entries a.log.shape → length n.log.pending ≡ length a.log.pending + 1 → n.log.shape ≡ a.log.shape
+    → OnOk r (length n.log.pending < page_entries n.log.shape → (c ≡ n) × (s2 ≡ s1)) → OnOk r (page_entries n.log.shape ≤ length n.log.pending → Programs 1 s1 s2) → OnOk r (Programs (commits_for a.log.shape (sight_of a)) s1 s2)
+take_programs r a n c s1 s2 few more shapes idle full = commit_part r a n c s1 s2 few more shapes idle full
+
+-- where no freeze is wanted, what makes room does nothing
+pub put_idle : (r : Result Unit Fault) (a b : Parts) (s0 s1 s2 : BoardState) (k : Key) (size : ℕ) → (needs_freeze a.log k ≡ false → (b ≡ a) × (s1 ≡ s0))
+    → OnOk r (fits_open b.log.shape b.space (charge b.log.shape size) ≡ true → Programs (charge b.log.shape size + commits_for b.log.shape (sight_of b)) s1 s2)
+    → OnOk r (needs_freeze a.log k ≡ false → fits_open a.log.shape a.space (charge a.log.shape size) ≡ true → Programs (charge a.log.shape size + commits_for a.log.shape (sight_of a)) s0 s2)
+put_idle (Err e) a b s0 s1 s2 k size idle made = tt
+put_idle (Ok x) a b s0 s1 s2 k size idle made = λ none.
+    let same = idle none in
+    let T : Parts → BoardState → Type 0 = λ d s. fits_open d.log.shape d.space (charge d.log.shape size) ≡ true → Programs (charge d.log.shape size + commits_for d.log.shape (sight_of d)) s s2 in
+    subst (λ d. T d s0) same.0 (subst (λ s. T b s) same.1 made)
+
+pub take_idle : (r : Result Unit Fault) (a b : Parts) (s0 s1 s2 : BoardState) (k : Key) → (needs_freeze a.log k ≡ false → (b ≡ a) × (s1 ≡ s0)) → OnOk r (Programs (commits_for b.log.shape (sight_of b)) s1 s2)
+    → OnOk r (needs_freeze a.log k ≡ false → Programs (commits_for a.log.shape (sight_of a)) s0 s2)
+take_idle (Err e) a b s0 s1 s2 k idle made = tt
+take_idle (Ok x) a b s0 s1 s2 k idle made = λ none.
+    let same = idle none in
+    let T : Parts → BoardState → Type 0 = λ d s. Programs (commits_for d.log.shape (sight_of d)) s s2 in
+    subst (λ d. T d s0) same.0 (subst (λ s. T b s) same.1 made)
+
+-- ---- behind the reads of a look-up
+
+pub programs_whole : (d : Parts) (old new : BoardState) (size size' : ℕ) → size ≡ size'
+    → (fits_open d.log.shape d.space (charge d.log.shape size) ≡ true → Programs (charge d.log.shape size + commits_for d.log.shape (sight_of d)) old new)
+    → fits_open d.log.shape d.space (charge d.log.shape size') ≡ true → Programs (charge d.log.shape size' + commits_for d.log.shape (sight_of d)) old new
+programs_whole d old new size size' same made = subst (λ n. fits_open d.log.shape d.space (charge d.log.shape n) ≡ true → Programs (charge d.log.shape n + commits_for d.log.shape (sight_of d)) old new) same made
+
+behind_reads : (old mid new : BoardState) (most n : ℕ) → ReadsOnly old mid most → Programs n mid new → Programs n old new
+behind_reads old mid new most n made p = record { programs = p.programs ∙ ap (λ (b : BoardState). counted_by n b.programs) made.board; erases = p.erases ∙ ap (λ (b : BoardState). b.erases) made.board }
+
+pub quiet_store_behind : (d e : Parts) (old mid new : BoardState) (size : ℕ) (k k' : Key) (reads : ℕ) → e ≡ d → ReadsOnly old mid (4 - d.levels.pinned) → k ≡ k'
+    → (needs_freeze e.log k ≡ false → fits_open e.log.shape e.space (charge e.log.shape size) ≡ true → Programs (charge e.log.shape size + commits_for e.log.shape (sight_of e)) mid new) → reads ≤ 4 - d.levels.pinned
+    → needs_freeze d.log k' ≡ false → fits_open d.log.shape d.space (charge d.log.shape size) ≡ true → Programs (charge d.log.shape size + commits_for d.log.shape (sight_of d)) old new × (reads ≤ 4 - d.levels.pinned)
+quiet_store_behind d e old mid new size k k' reads same made named programs few none room =
+    let T : Parts → Type 0 = λ x. needs_freeze x.log k ≡ false → fits_open x.log.shape x.space (charge x.log.shape size) ≡ true → Programs (charge x.log.shape size + commits_for x.log.shape (sight_of x)) mid new in
+    (behind_reads old mid new (4 - d.levels.pinned) (charge d.log.shape size + commits_for d.log.shape (sight_of d)) made (subst T same programs (ap (needs_freeze d.log) named ∙ none) room), few)
+
+pub quiet_delete_behind : (d e : Parts) (old mid new : BoardState) (k k' : Key) (reads : ℕ) → e ≡ d → ReadsOnly old mid (4 - d.levels.pinned) → k ≡ k'
+    → (needs_freeze e.log k ≡ false → Programs (commits_for e.log.shape (sight_of e)) mid new) → reads ≤ 4 - d.levels.pinned
+    → needs_freeze d.log k' ≡ false → Programs (commits_for d.log.shape (sight_of d)) old new × (reads ≤ 4 - d.levels.pinned)
+quiet_delete_behind d e old mid new k k' reads same made named programs few none =
+    let T : Parts → Type 0 = λ x. needs_freeze x.log k ≡ false → Programs (commits_for x.log.shape (sight_of x)) mid new in
+    (behind_reads old mid new (4 - d.levels.pinned) (commits_for d.log.shape (sight_of d)) made (subst T same programs (ap (needs_freeze d.log) named ∙ none)), few)

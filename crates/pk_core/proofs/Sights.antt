@@ -1,0 +1,66 @@
+-- How what is seen of a drive changes in a call.
+use Rattle.std.proofs.Common.{◌≡◌, ◌⊎◌, inl, inr, ℕ, ◌≤◌, refl, sym, ap, subst, ◌∙◌, arith, List, true, false, Result, Ok, Err}
+use Rattle.std.specs.Prelude.{OnOk}
+use Rattle.pk_base.specs.Entry.{Entry}
+use Rattle.pk_nand.specs.declared.types.Fault.{Fault}
+use Rattle.pk_nand.specs.BoardState.{BoardState}
+use Rattle.pk_nand.specs.Calls.{last_count}
+use Rattle.pk_nand.specs.Effects.{OnlyReading, Works, Stops}
+use Rattle.pk_log.specs.State.{LogState}
+use Rattle.pk_log.specs.Commits.{CommitsNone, CommitsAll}
+use Rattle.pk_nvme.specs.declared.request.Request.{Request}
+use Rattle.pk_drive.specs.Calling.{only_looks}
+use Rattle.pk_drive.specs.Moving.{Commits}
+use Rattle.pk_core.specs.Parts.{Parts, sight_of}
+use Rattle.pk_core.specs.Quiet.{ReadsOnly, ReadsFailing}
+use Rattle.pk_core.proofs.Committing.{with_log}
+
+-- ---- what only reads
+
+pub only_reads : (old new : BoardState) (most : ℕ) → ReadsOnly old new most → OnlyReading old new
+only_reads old new most made =
+    let T : BoardState → Type 0 = λ b. OnlyReading old b in
+    subst T (sym made.board) refl
+
+pub only_failing : (old new : BoardState) (most : ℕ) → ReadsFailing old new most → OnlyReading old new
+only_failing old new most made = made.board
+
+-- ---- a commit
+
+commits_seen : (d : Parts) (log' : LogState) (old new : BoardState) → CommitsNone d.log old log' new ⊎ CommitsAll d.log old log' new → Commits (sight_of d) (sight_of (with_log d log'))
+commits_seen d log' old new (inl none) =
+    let T : LogState → Type 0 = λ l. Commits (sight_of d) (sight_of (with_log d l)) in
+    let U : List Entry → Type 0 = λ p. sight_of d ≡ record (sight_of d) { pending = p } in
+    subst T (sym none.kept) (subst U none.none refl)
+commits_seen d log' old new (inr all) =
+    let T : LogState → Type 0 = λ l. Commits (sight_of d) (sight_of (with_log d l)) in
+    subst T (sym all.taken) refl
+
+pub seen_ok : (r : Result Unit Fault) (d : Parts) (log' : LogState) (old new : BoardState) → OnOk r (CommitsNone d.log old log' new ⊎ CommitsAll d.log old log' new) → OnOk r (Commits (sight_of d) (sight_of (with_log d log')))
+seen_ok (Ok x) d log' old new made = commits_seen d log' old new made
+seen_ok (Err e) d log' old new made = tt
+
+-- ---- counts of faults
+
+pub works_up : (old new : BoardState) → Works old new → old.flash_faults ≤ new.flash_faults
+works_up old new works = let same = works.no_fault.0 in omega (arith, same)
+
+pub stops_up : (old new : BoardState) → Stops old new → old.flash_faults ≤ last_count → old.flash_faults ≤ new.flash_faults
+stops_up old new stops few = let rose = stops.flash in omega (arith, rose, few)
+
+-- ---- what changes the map, or makes steps
+
+no_look : (opcode number : ℕ) → opcode ≡ number → only_looks number ≡ false → only_looks opcode ≡ true → ⊥
+no_look opcode number is none only = let clash : false ≡ true = sym none ∙ (ap only_looks (sym is) ∙ only) in cc
+
+pub store_changes : (r : Request) → r.opcode ≡ 0x01 → only_looks r.opcode ≡ true → ⊥
+store_changes r is only = no_look r.opcode 0x01 is refl only
+
+pub delete_changes : (r : Request) → r.opcode ≡ 0x10 → only_looks r.opcode ≡ true → ⊥
+delete_changes r is only = no_look r.opcode 0x10 is refl only
+
+pub tick_changes : (r : Request) → r.opcode ≡ 0xC0 → only_looks r.opcode ≡ true → ⊥
+tick_changes r is only = no_look r.opcode 0xC0 is refl only
+
+pub delete_no_store : (r : Request) → r.opcode ≡ 0x10 → r.opcode ≡ 0x01 → ⊥
+delete_no_store r is e = omega (arith, is, e)

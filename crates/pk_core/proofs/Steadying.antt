@@ -1,0 +1,226 @@
+-- A drive that agrees with its flash is steady: its numbers are those of what stands there.
+use Rattle.std.proofs.Common.{◌≡◌, inl, inr, ℕ, suc, ◌+◌, ◌*◌, ◌/◌, ◌<◌, ◌≤◌, refl, sym, ap, subst, ◌∙◌, arith, Bool, true, false, T, List, [], ◌∷◌, ◌++◌, length, map, Option, Some, None, Result, Ok, Err}
+use Rattle.std.specs.Prelude.{slice_get, slice_index_or, count_by, MatchOption, OnOk, ◌%◌, ◌&&◌, ◌==◌, nat_le, bytes_eq, zip}
+use Rattle.std.specs.List.{concat, list_all}
+use Rattle.std.proofs.Common.{eqb→eq, div-add-mod', mod-lt}
+use Rattle.std.proofs.lemmas.List.{length-map}
+use Rattle.std.proofs.lemmas.List.Sums.{count_by-le-length}
+use Rattle.std.proofs.lemmas.Option.{slice_get_within}
+use Rattle.pk_base.specs.Shape.{Shape, IsShape, page_entries, caps, run_blocks}
+use Rattle.pk_base.specs.Page.{Flash, page_at}
+use Rattle.pk_base.specs.Entry.{Entry}
+use Rattle.pk_base.specs.Map.{Map}
+use Rattle.pk_base.specs.Firsts.{firsts}
+use Rattle.pk_base.proofs.ShapeLemmas.{block_pages_positive}
+use Rattle.pk_buf.specs.Table.{Table}
+use Rattle.pk_rootfmt.specs.Root.{Root, differ, is_root}
+use Rattle.pk_rootfmt.proofs.PageLemmas.{same_bytes}
+use Rattle.pk_compact.proofs.Grammar.{known}
+use Rattle.pk_steps.proofs.NewestBlocks.{valid_root}
+use Rattle.pk_scan.specs.Opened.{HaveBlocks}
+use Rattle.pk_plan.specs.declared.owner.Owner.{Owner}
+use Rattle.pk_plan.specs.declared.owner.Owner.TheVariants.{Journal, Meta, Values}
+use Rattle.pk_pin.specs.Frames.{Frames}
+use Rattle.pk_pool.specs.declared.state.BlockState.{BlockState}
+use Rattle.pk_pool.specs.declared.state.BlockState.TheVariants.{Root as RootBlock, Free, Ready, Owned}
+use Rattle.pk_nand.specs.Calls.{IsErasedBlock}
+use Rattle.pk_pool.specs.Blocks.{Blocks, IsShared, is_ready, is_free, is_owned_by, used_by}
+use Rattle.pk_pool.proofs.States.{ready_is_not_root}
+use Rattle.pk_pool.proofs.Sharing.{behind_roots}
+use Rattle.pk_run.specs.Kept.{Kept, empty}
+use Rattle.pk_level.specs.Levels.{StandEach}
+use Rattle.pk_jrn.proofs.Puts.{firsts-reverse}
+use Rattle.pk_model.specs.Found.{Found}
+use Rattle.pk_model.specs.Values.{all_pages}
+use Rattle.pk_model.specs.Sight.{Sight, most_work}
+use Rattle.pk_steps.specs.Under.{places}
+use Rattle.pk_steps.proofs.Places.{In, in_append, few_blocks, in_value}
+use Rattle.pk_data.specs.Placed.{HoldsValues, IsOpenIn}
+use Rattle.pk_data.specs.declared.open_block.OpenBlock.{OpenBlock}
+use Rattle.pk_nand.specs.BoardState.{BoardState}
+use Rattle.pk_nand.specs.Effects.{OnlyFlash}
+use Rattle.pk_drive.specs.Steady.{Steadies, IsSteady, IsReadyBlock, HasReady, entries_of_runs, live_blocks}
+use Rattle.pk_core.specs.Parts.{Parts, sight_of, counts_of, block_if_open}
+use Rattle.pk_core.specs.Agreeing.{AgreesWith, Agrees, AgreesBetween}
+use Rattle.pk_core.proofs.Rooming.{entries_some}
+use Rattle.pk_core.proofs.Places.{blocks_from, many_blocks, has_state, blocks_differ, block_in, all_in}
+
+-- ---- the blocks that are erased
+
+ready_only : (s : BlockState) → is_ready s ≡ true → s ≡ Ready
+ready_only RootBlock e = cc
+ready_only Free e = cc
+ready_only Ready e = refl
+ready_only (Owned o) e = cc
+
+ready_or_owned : (p : Blocks) (b : ℕ) (o : Owner) → slice_get p.states b ≡ Some Ready → slice_get p.states b ≡ Some (Owned o) → ⊥
+ready_or_owned p b o ready owned = cc
+
+-- the block of a page
+block_has : (shape : Shape) (k b : ℕ) → 0 < shape.block_pages → k / shape.block_pages ≡ b → (b * shape.block_pages ≤ k) × (k < b * shape.block_pages + shape.block_pages)
+block_has shape k b some is =
+    let n : ℕ = shape.block_pages in
+    let whole : b * n + k % n ≡ k = subst (λ x. x * n + k % n ≡ k) is (div-add-mod' k n) in
+    let less = mod-lt k some in
+    (omega (arith, whole), omega (arith, whole, less))
+
+some_block : (x y : ℕ) → ◌≡◌ {A = Option ℕ} (Some x) (Some y) → x ≡ y
+some_block x y e = cc
+
+-- the open block has an owner
+open_is_owned : (shape : Shape) (pool : Blocks) (flash : Flash) (o : Option OpenBlock) (b : ℕ) → MatchOption o (Unit {0}) (λ x. IsOpenIn shape pool flash x) → block_if_open o ≡ Some b → HoldsValues pool b
+open_is_owned shape pool flash None b is e = cc
+open_is_owned shape pool flash (Some o) b is e = subst (HoldsValues pool) (some_block o.block b e) is.owned
+
+-- ---- four runs
+
+is_true : (b : Bool) → T b → b ≡ true
+is_true true t = refl
+is_true false t = absurd t
+
+first_and_last : (a b c : Bool) → T (a && b && c) → T a × T c
+first_and_last true true true t = (tt, tt)
+first_and_last false b c t = absurd t
+first_and_last true false c t = absurd t
+first_and_last true true false t = absurd t
+
+four_runs : (shape : Shape) (root : Root) → T (is_root shape root) → length root.runs ≡ 4
+four_runs shape root valid =
+    let parts = first_and_last (length root.counts == 4) (list_all (λ p. nat_le p.0 (p.1 * page_entries shape)) (zip root.counts (caps shape))) (bytes_eq (map length root.runs) (map (run_blocks shape) root.counts)) (known shape root valid).runs in
+    let counts : length root.counts ≡ 4 = eqb→eq (length root.counts) 4 parts.0 in
+    let sizes : map length root.runs ≡ map (run_blocks shape) root.counts = same_bytes _ _ (is_true (bytes_eq (map length root.runs) (map (run_blocks shape) root.counts)) parts.1) in
+    sym (length-map root.runs length) ∙ (ap (λ (ns : List ℕ). length ns) sizes ∙ (length-map root.counts (run_blocks shape) ∙ counts))
+
+same_length : (shape : Shape) (rs : List Kept) (bss : List (List ℕ)) → HaveBlocks shape rs bss → length rs ≡ length bss
+same_length shape [] [] h = refl
+same_length shape [] (bs ∷ bss) h = absurd h
+same_length shape (r ∷ rs) [] h = absurd h
+same_length shape (r ∷ rs) (bs ∷ bss) h = ap suc (same_length shape rs bss h.2)
+
+-- each run has as many entries as it counts
+sizes_are : (flash : Flash) (arena : Frames) (rs : List Kept) (ess : List (List Entry)) → StandEach flash arena rs ess → map (λ (r : Kept). r.count) rs ≡ map length ess
+sizes_are flash arena [] [] h = refl
+sizes_are flash arena [] (es ∷ ess) h = absurd h
+sizes_are flash arena (r ∷ rs) [] h = absurd h
+sizes_are flash arena (r ∷ rs) (es ∷ ess) h = λ i. sym h.0.many i ∷ sizes_are flash arena rs ess h.1 i
+
+counts_of_four : (rs : List Kept) (shape : Shape) → length rs ≡ 4
+    → (slice_index_or rs 0 (empty shape 1)).count ∷ (slice_index_or rs 1 (empty shape 2)).count ∷ (slice_index_or rs 2 (empty shape 3)).count ∷ (slice_index_or rs 3 (empty shape 4)).count ∷ [] ≡ map (λ (r : Kept). r.count) rs
+counts_of_four [] shape e = absurd (omega (arith, e))
+counts_of_four (a ∷ []) shape e = absurd (omega (arith, e))
+counts_of_four (a ∷ b ∷ []) shape e = absurd (omega (arith, e))
+counts_of_four (a ∷ b ∷ c ∷ []) shape e = absurd (omega (arith, e))
+counts_of_four (a ∷ b ∷ c ∷ d ∷ []) shape e = refl
+counts_of_four (a ∷ b ∷ c ∷ d ∷ x ∷ rs) shape e = absurd (omega (arith, e))
+
+counts_are : (flash : Flash) (arena : Frames) (rs : List Kept) (ess : List (List Entry)) (shape : Shape) → length rs ≡ 4 → StandEach flash arena rs ess
+    → (slice_index_or rs 0 (empty shape 1)).count ∷ (slice_index_or rs 1 (empty shape 2)).count ∷ (slice_index_or rs 2 (empty shape 3)).count ∷ (slice_index_or rs 3 (empty shape 4)).count ∷ [] ≡ map length ess
+counts_are flash arena rs ess shape four stand = counts_of_four rs shape four ∙ sizes_are flash arena rs ess stand
+
+module _ (d : Parts) (shape : Shape) (flash : Flash) (top : ℕ × Root) (found : Found) (without all : Map) (a : AgreesWith d shape flash top found without all) (shared : IsShared d.pool.shape d.pool.states) where
+  ready_block : (b : ℕ) → slice_get d.pool.states b ≡ Some Ready → IsReadyBlock shape flash top.1 (block_if_open d.space.open_block) b
+  ready_block b ready = record {
+    behind_roots = behind_roots d.pool.shape d.pool.states b Ready ready_is_not_root ready shared;
+    exists = (let within = slice_get_within d.pool.states b Ready ready in let size = a.placed.size in omega (arith, within, size));
+    unnamed = λ is. elim (in_append b (top.1.newest ++ top.1.older) (concat top.1.runs) is) [
+      | inl journal ↦ ready_or_owned d.pool b Journal ready (a.journal b journal)
+      | inr meta ↦ ready_or_owned d.pool b Meta ready (a.runs b meta)
+    ];
+    not_open = λ e. ready_or_owned d.pool b Values ready (open_is_owned shape d.pool flash d.space.open_block b a.placed.open_is e);
+    all_erased = λ k is.
+        let here = block_has shape k b (block_pages_positive shape a.placed.is_shape) is in
+        let within : IsErasedBlock shape flash b = subst (λ s. IsErasedBlock s flash b) a.placed.shape_is (a.placed.fits.erased b ready) in
+        within k here.0 here.1;
+  }
+
+  has_ready : HasReady shape flash top.1 (block_if_open d.space.open_block) (count_by is_ready d.pool.states)
+  has_ready = record {
+    blocks = blocks_from is_ready 0 d.pool.states;
+    many = (let e = many_blocks is_ready 0 d.pool.states in omega (arith, e));
+    different = is_true (differ (blocks_from is_ready 0 d.pool.states)) (blocks_differ is_ready 0 d.pool.states);
+    each = all_in (IsReadyBlock shape flash top.1 (block_if_open d.space.open_block)) (blocks_from is_ready 0 d.pool.states) (λ b is.
+        let has = has_state is_ready 0 d.pool.states b is in
+        let told = has.2 in
+        let same : b ≡ has.0 = omega (arith, told) in
+        ready_block b (subst (λ k. slice_get d.pool.states k ≡ Some Ready) (sym same) (has.3 ∙ ap Some (ready_only has.1 has.4))));
+  }
+
+  -- ---- the blocks in use
+
+  live_within : live_blocks shape found d.log.pending ≤ used_by Values d.pool.states
+  live_within =
+      let blocks : List ℕ = blocks_from (is_owned_by Values) 0 d.pool.states in
+      let few = few_blocks shape (all_pages shape (places found d.log.pending)) blocks (λ k is.
+      let none : 0 + k / shape.block_pages ≡ k / shape.block_pages = omega arith in
+      subst (λ x. In x blocks) none (block_in (is_owned_by Values) 0 d.pool.states (k / shape.block_pages) (Owned Values) (a.placed.owned k (in_value shape (places found d.log.pending) k is)) refl)) in
+      let many = many_blocks (is_owned_by Values) 0 d.pool.states in
+      omega (arith, few, many)
+
+  -- ---- the lists
+
+  active_is : length d.log.active.entries ≡ length (firsts (found.newest ++ d.log.pending))
+  active_is = ap (λ (t : Table). length t.entries) a.logs.active_is ∙ firsts-reverse (found.newest ++ d.log.pending)
+
+  frozen_is : length d.log.frozen.entries ≡ length (firsts found.older)
+  frozen_is = ap (λ (t : Table). length t.entries) a.logs.frozen_is ∙ firsts-reverse found.older
+
+  work_is : count_by is_free d.pool.states ≤ most_work shape
+  unfolding most_work
+  work_is =
+      let few = count_by-le-length is_free d.pool.states in
+      let size = a.placed.size in
+      omega (arith, few, size)
+
+  -- ---- runs
+
+  four : length d.levels.runs ≡ 4
+  four =
+      let valid = valid_root shape (page_at flash) top a.committed.is_top in
+      same_length shape d.levels.runs top.1.runs a.run_blocks ∙ four_runs shape top.1 valid
+
+  runs_are : entries_of_runs (counts_of d) ≡ map length found.runs
+  runs_are = counts_are flash d.arena d.levels.runs found.runs d.levels.shape four a.stand
+
+  -- ---- all of it
+
+  pub agrees_steady : length d.log.pending < page_entries shape → IsSteady shape flash (sight_of d)
+  agrees_steady few = record {
+    tree = record { root = top.1; found = found };
+    is_tree = record { page_of_root = top.0; is_newest = a.committed.is_top; is_found = a.committed.is_found };
+    active = active_is;
+    frozen = frozen_is;
+    runs = runs_are;
+    merge = λ some. absurd (some refl);
+    ready = has_ready;
+    blocks_least = live_within;
+    blocks_most = (let few = a.placed.few in omega (arith, few));
+    few_pending = few;
+    work_most = work_is;
+  }
+
+-- ---- between two commands
+
+told_same : (a b : Shape) → ◌≡◌ {A = Option Shape} (Some a) (Some b) → a ≡ b
+told_same a b e = cc
+
+pub between_steady : (d : Parts) (told : Option Shape) (shape : Shape) (flash : Flash) → AgreesBetween d told flash → told ≡ Some shape → IsShared d.pool.shape d.pool.states → IsSteady shape flash (sight_of d)
+between_steady d told shape flash is told_is shared =
+    let a = is.0 in
+    let same : a.shape ≡ shape = told_same a.shape shape (sym a.told_is ∙ told_is) in
+    let few : length d.log.pending < page_entries a.shape = subst (λ s. length d.log.pending < page_entries s) a.with.shape_is is.1 in
+    subst (λ s. IsSteady s flash (sight_of d)) same (agrees_steady d a.shape flash a.top a.found a.without a.all a.with shared few)
+
+-- it is so behind a call that left no more than its flash
+pub steadies : (e : Parts) (old new : BoardState) (before : Sight) → AgreesBetween e new.shape new.pages → OnlyFlash old new → IsShared e.pool.shape e.pool.states → Steadies old new before (sight_of e)
+steadies e old new before is rest shared shape frames m stands = between_steady e new.shape shape new.pages is (ap (λ (b : BoardState). b.shape) rest ∙ stands.shape_is) shared
+
+-- where nothing is pending, the drive stands as it does between two commands
+pub between_none : (d : Parts) (told : Option Shape) (flash : Flash) → Agrees d told flash → d.log.pending ≡ [] → AgreesBetween d told flash
+between_none d told flash a none =
+    let some : 0 < page_entries d.log.shape = entries_some d.log.shape (subst IsShape (sym a.with.shape_is) a.with.placed.is_shape) in
+    (a, subst (λ (es : List Entry). length es < page_entries d.log.shape) (sym none) some)
+
+pub steadies_ok : {X E : Type 0} (r : Result X E) (e : Parts) (old new : BoardState) (before : Sight) → OnOk r (Agrees e new.shape new.pages) → OnOk r (e.log.pending ≡ []) → OnlyFlash old new → IsShared e.pool.shape e.pool.states
+    → OnOk r (Steadies old new before (sight_of e))
+steadies_ok (Ok x) e old new before is none rest shared = steadies e old new before (between_none e new.shape new.pages is none) rest shared
+steadies_ok (Err x) e old new before is none rest shared = tt

@@ -1,0 +1,133 @@
+-- Steps inside a command: in a row, and what one that was broken off leaves.
+use Rattle.std.proofs.Common.{◌≡◌, ℕ, ◌+◌, ◌<◌, ◌≤◌, refl, sym, ap, subst, ◌∙◌, arith, false, List, length, Option, Result, Ok, Err}
+use Rattle.std.specs.Prelude.{OnOk}
+use Rattle.pk_base.specs.Shape.{Shape, greatest, page_entries}
+use Rattle.pk_base.specs.Key.{Key}
+use Rattle.pk_base.specs.Map.{Map}
+use Rattle.pk_plan.specs.declared.owner.Owner.TheVariants.{Values}
+use Rattle.pk_nand.specs.declared.types.Fault.{Fault}
+use Rattle.pk_nand.specs.declared.types.Fault.TheVariants.{Stopped}
+use Rattle.pk_nand.specs.BoardState.{BoardState}
+use Rattle.pk_nand.specs.Calls.{IsReady}
+use Rattle.pk_nand.specs.Effects.{Works}
+use Rattle.pk_pool.specs.Blocks.{used_by}
+use Rattle.pk_model.specs.Steps.{RootsUpTo, Step}
+use Rattle.pk_model.proofs.Steps.{Step-none, Step-says, Step-broken, Step-then}
+use Rattle.pk_core.specs.declared.place.ValuePlace.{ValuePlace}
+use Rattle.pk_core.specs.Parts.{Parts}
+use Rattle.pk_core.specs.Moves.{StandsFor, KeepsAll, BreaksAll, MayStep, StepKeeps, OnlyCommits, LeavesValues}
+use Rattle.pk_core.specs.Changes.{PutsAll, FailsToPut, TakesAll, FailsToTake, CanPut, CanTake, StepPuts, StepTakes, StaysBetween}
+use Rattle.pk_core.proofs.Results.{on_ok}
+use Rattle.pk_core.proofs.Keeping.{KeepsAll-none, KeepsAll-then, BreaksAll-then}
+use Rattle.pk_core.proofs.Rooming.{stands_after}
+use Rattle.pk_core.proofs.Putting.{some_may_put, some_may_take, reclaim_same, puts_later, fails_later, takes_later, fails_to_take_later}
+
+-- ---- steps that keep the map
+
+pub none_step : (d : Parts) (most : ℕ) (board : BoardState) (u : Unit {0}) → IsReady board d.log.shape → StepKeeps d d most board board (Ok u)
+none_step d most board u ready =
+    Step-none u (λ (x : Unit). KeepsAll d d board board) (BreaksAll d board board) d.log.shape most board board refl ready (KeepsAll-none d d board board refl refl)
+
+pub leaves_none : (d : Parts) → LeavesValues d d
+leaves_none d = record { rest = refl; same_shape = refl; as_many = refl }
+
+pub shape_committed : (a b : Parts) → OnlyCommits a b → b.log.shape ≡ a.log.shape
+shape_committed a b rest = ap (λ (d : Parts). d.log.shape) rest
+
+leaves_committed : (a b c : Parts) → OnlyCommits a b → LeavesValues b c → LeavesValues a c
+leaves_committed a b c first second = record {
+  rest = second.rest ∙ ap (λ (d : Parts). record d { log = c.log; pool = c.pool }) first;
+  same_shape = second.same_shape ∙ shape_committed a b first;
+  as_many = second.as_many ∙ ap (λ (d : Parts). used_by Values d.pool.states) first;
+}
+
+pub leaves_then : (r : Result Unit Fault) (a b c : Parts) → OnlyCommits a b → OnOk r (LeavesValues b c) → OnOk r (LeavesValues a c)
+leaves_then r a b c first second = on_ok (λ (u : Unit). LeavesValues b c) (LeavesValues a c) r (λ u is. leaves_committed a b c first is) second
+
+-- what the next step asks
+pub may_after : (a b : Parts) (n : ℕ) (s0 s1 : BoardState) (u : Unit {0}) → MayStep a s0 → b.log.shape ≡ a.log.shape → StepKeeps a b n s0 s1 (Ok u) → MayStep b s1
+may_after a b n s0 s1 u may same step = record {
+  ready = subst (λ (s : Shape). IsReady s1 s) (sym same) step.ready;
+  stands = stands_after a b s0 s1 may.stands same step.ended;
+}
+
+-- a second step behind one that ended, of a drive with the same shape
+pub later : {T : Type 0} (r : Result T Fault) (E E' : T → Type 0) (B B' : Type 0) (shape shape' : Shape) (n k most : ℕ) (a b c : BoardState) → shape' ≡ shape → n + k ≤ most
+    → Works a b → RootsUpTo n a b → ((x : T) → E x → E' x) → (B → B') → Step E B shape' k b c r → Step E' B' shape most a c r
+later r E E' B B' shape shape' n k most a b c same few works up f g second =
+    Step-then r E E' B B' shape n k most a b c few works up f g (subst (λ (s : Shape). Step E B s k b c r) same second)
+
+pub keeps_later : (r : Result Unit Fault) (a b c : Parts) (n k most : ℕ) (s0 s1 s2 : BoardState) (u : Unit {0}) → IsReady s0 a.log.shape → b.log.shape ≡ a.log.shape → n + k ≤ most
+    → StepKeeps a b n s0 s1 (Ok u) → StepKeeps b c k s1 s2 r → StepKeeps a c most s0 s2 r
+keeps_later r a b c n k most s0 s1 s2 u ready same few first second =
+    later r (λ (x : Unit). KeepsAll b c s1 s2) (λ (x : Unit). KeepsAll a c s0 s2) (BreaksAll b s1 s2) (BreaksAll a s0 s2) a.log.shape b.log.shape n k most s0 s1 s2 same few first.works first.roots_few
+    (λ x kept. KeepsAll-then a b c s0 s1 s2 ready first.ended kept) (λ broken. BreaksAll-then a b s0 s1 s2 ready first.ended broken) second
+
+pub keeps_broken : (e : Fault) (a b c : Parts) (n most : ℕ) (old new : BoardState) → n ≤ most → StepKeeps {T = Unit} a b n old new (Err e) → StepKeeps {T = Unit} a c most old new (Err e)
+keeps_broken e a b c n most old new few step =
+    Step-broken e (λ (x : Unit). KeepsAll a b old new) (λ (x : Unit). KeepsAll a c old new) (BreaksAll a old new) (BreaksAll a old new) a.log.shape n most old new few (λ broken. broken) step
+
+-- ---- what a drive runs by
+
+stays_by : (a b c : Parts) → LeavesValues a b → StaysBetween b c → StaysBetween a c
+stays_by a b c first second = record {
+  frames = second.frames ∙ ap (λ (d : Parts). d.frames) first.rest;
+  stopped = second.stopped ∙ ap (λ (d : Parts). d.stopped) first.rest;
+  same_shape = second.same_shape ∙ first.same_shape;
+  few = subst (λ (s : Shape). length c.log.pending < page_entries s) first.same_shape second.few;
+}
+
+pub stays_then : (r : Result Unit Fault) (a b c : Parts) → LeavesValues a b → OnOk r (StaysBetween b c) → OnOk r (StaysBetween a c)
+stays_then r a b c first second = on_ok (λ (u : Unit). StaysBetween b c) (StaysBetween a c) r (λ u is. stays_by a b c first is) second
+
+-- behind a change in memory, and a commit
+pub stays_committed : (r : Result Unit Fault) (a c e : Parts) → c.frames ≡ a.frames → c.stopped ≡ a.stopped → c.log.shape ≡ a.log.shape
+    → OnOk r (OnlyCommits c e) → OnOk r (length e.log.pending < page_entries c.log.shape) → OnOk r (StaysBetween a e)
+stays_committed (Ok x) a c e frames stopped shapes rest few = record {
+  frames = ap (λ (d : Parts). d.frames) rest ∙ frames;
+  stopped = ap (λ (d : Parts). d.stopped) rest ∙ stopped;
+  same_shape = shape_committed c e rest ∙ shapes;
+  few = subst (λ (s : Shape). length e.log.pending < page_entries s) shapes few;
+}
+stays_committed (Err f) a c e frames stopped shapes rest few = tt
+
+-- ---- a change behind a step that keeps the map
+
+few_after : (a b : Parts) → b.log.shape ≡ a.log.shape → length b.log.pending ≤ length a.log.pending → length a.log.pending < page_entries a.log.shape → length b.log.pending < page_entries b.log.shape
+few_after a b same less few =
+    let here : length a.log.pending < page_entries b.log.shape = subst (λ (s : Shape). length a.log.pending < page_entries s) (sym same) few in
+    omega (arith, less, here)
+
+module _ (a b : Parts) (n : ℕ) (s0 s1 : BoardState) (u : Unit {0}) (leaves : LeavesValues a b) (less : length b.log.pending ≤ length a.log.pending) (step : StepKeeps a b n s0 s1 (Ok u)) where
+  pub can_put_after : (key : Key) (value : List ℕ) (place : Option ValuePlace) → CanPut a s0 key value place → CanPut b s1 key value place
+  can_put_after key value place can =
+      let same = leaves.same_shape in
+      record {
+        ready = subst (λ (s : Shape). IsReady s1 s) (sym same) step.ready;
+        may = some_may_put a b s0 s1 key value place can.may step.ended same;
+        short = subst (λ (s : Shape). length value ≤ greatest s) (sym same) can.short;
+        no_reclaim = reclaim_same a b (length value) false same (ap (λ (d : Parts). d.space) leaves.rest) leaves.as_many can.no_reclaim;
+        few = few_after a b same less can.few;
+      }
+
+  pub can_take_after : (key : Key) (place : ValuePlace) → CanTake a s0 key place → CanTake b s1 key place
+  can_take_after key place can =
+      let same = leaves.same_shape in
+      record {
+        ready = subst (λ (s : Shape). IsReady s1 s) (sym same) step.ready;
+        may = some_may_take a b s0 s1 key place can.may step.ended same;
+        few = few_after a b same less can.few;
+      }
+
+  module _ (r : Result Unit Fault) (e : Parts) (k most : ℕ) (s2 : BoardState) (ready : IsReady s0 a.log.shape) (few : n + k ≤ most) where
+    pub step_puts_later : (key : Key) (value : List ℕ) (place : Option ValuePlace) → StepPuts b e k s1 s2 key value place r → StepPuts a e most s0 s2 key value place r
+    step_puts_later key value place second =
+        later r (λ (x : Unit). PutsAll b e s1 s2 key value place) (λ (x : Unit). PutsAll a e s0 s2 key value place) (FailsToPut b s1 s2 key value place) (FailsToPut a s0 s2 key value place)
+        a.log.shape b.log.shape n k most s0 s1 s2 leaves.same_shape few step.works step.roots_few
+        (λ x puts. puts_later (Ok x) a b e s0 s1 s2 key value place ready step.ended puts) (λ fails. fails_later (Err Stopped) a b s0 s1 s2 key value place ready step.ended fails) second
+
+    pub step_takes_later : (key : Key) (place : ValuePlace) → StepTakes b e k s1 s2 key place r → StepTakes a e most s0 s2 key place r
+    step_takes_later key place second =
+        later r (λ (x : Unit). TakesAll b e s1 s2 key place) (λ (x : Unit). TakesAll a e s0 s2 key place) (FailsToTake b s1 s2 key place) (FailsToTake a s0 s2 key place)
+        a.log.shape b.log.shape n k most s0 s1 s2 leaves.same_shape few step.works step.roots_few
+        (λ x takes. takes_later (Ok x) a b e s0 s1 s2 key place ready step.ended takes) (λ fails. fails_to_take_later (Err Stopped) a b s0 s1 s2 key place ready step.ended fails) second

@@ -1,0 +1,25 @@
+-- What a command leaves of epochs and blocks, which pages it programs, and how many calls of the flash it makes.
+use Rattle.std.specs.Prelude.{◌≡◌, ◌≢◌, ℕ, List, true, false}
+use Rattle.pk_nvme.specs.declared.opcode.TheConstants.{STORE, DELETE}
+use Rattle.pk_nvme.specs.declared.status.TheConstants.{SUCCESSFUL_COMPLETION}
+use Rattle.pk_base.specs.Shape.{charge}
+use Rattle.pk_nvme.specs.Command.{key}
+use Rattle.pk_nvme.specs.Seen.{command_of}
+use Rattle.pk_nvme.specs.declared.request.Request.{Request}
+use Rattle.pk_nand.specs.BoardState.{BoardState}
+use Rattle.pk_nand.specs.Effects.{OnlyReading}
+use Rattle.pk_drive.specs.Calling.{FewCalls, most_calls_of, only_looks}
+use Rattle.pk_drive.specs.declared.types.Outcome.{Outcome}
+use Rattle.pk_core.specs.Parts.{Parts}
+use Rattle.pk_core.specs.Staying.{Stays, StaysOrOpens, IsNoted}
+use Rattle.pk_core.specs.Programming.{QuietStore, QuietDelete}
+
+-- A command came to this outcome. A Store alone may open a block; what only looks changes nothing.
+pub record Performs (before after : Parts) (old new : BoardState) (r : Request) (value : List ℕ) (o : Outcome) : Type 0 where
+  pub opens : o.stopped ≡ false → StaysOrOpens before after (charge before.log.shape r.size)
+  pub moves : r.opcode ≢ STORE → o.stopped ≡ false → Stays before after
+  pub noted : r.opcode ≡ STORE → o.status ≡ SUCCESSFUL_COMPLETION → IsNoted after (key (command_of r value))
+  pub quiet_store : r.opcode ≡ STORE → QuietStore before old new r value o
+  pub quiet_delete : r.opcode ≡ DELETE → QuietDelete before old new r o
+  pub calls : r.opcode ≢ STORE → r.opcode ≢ DELETE → FewCalls (most_calls_of before.log.shape r.opcode r.size) old new
+  pub looks : only_looks r.opcode ≡ true → (after ≡ before) × OnlyReading old new

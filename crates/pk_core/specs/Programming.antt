@@ -1,0 +1,31 @@
+-- How many pages a step inside a command programs.
+use Rattle.std.specs.Prelude.{◌≡◌, ℕ, ◌+◌, ◌-◌, ◌≤◌, List, [], true, false}
+use Rattle.pk_nvme.specs.declared.status.TheConstants.{SUCCESSFUL_COMPLETION}
+use Rattle.pk_base.specs.Shape.{charge}
+use Rattle.pk_nvme.specs.Command.{key}
+use Rattle.pk_nvme.specs.Seen.{command_of}
+use Rattle.pk_nvme.specs.declared.request.Request.{Request}
+use Rattle.pk_nand.specs.BoardState.{BoardState}
+use Rattle.pk_nand.specs.Erased.{counted_by}
+use Rattle.pk_log.specs.State.{needs_freeze}
+use Rattle.pk_data.specs.State.{fits_open}
+use Rattle.pk_drive.specs.Moving.{commits_for}
+use Rattle.pk_drive.specs.declared.types.Outcome.{Outcome}
+use Rattle.pk_core.specs.Parts.{Parts, sight_of}
+
+-- So many programs were made, and no erase.
+pub record Programs (count : ℕ) (old new : BoardState) : Type 0 where
+  pub programs : new.programs ≡ counted_by count old.programs
+  pub erases : new.erases ≡ old.erases
+
+-- A Store that was answered so, whose key needs no freeze and whose value has room in the open block, made the programs of its value
+-- and of a commit, and the reads of a look-up.
+abbrev pub QuietStore : Parts → BoardState → BoardState → Request → List ℕ → Outcome → Type 0
+QuietStore d old new r value o =
+    o.status ≡ SUCCESSFUL_COMPLETION → needs_freeze d.log (key (command_of r value)) ≡ false → fits_open d.log.shape d.space (charge d.log.shape r.size) ≡ true
+    → Programs (charge d.log.shape r.size + commits_for d.log.shape (sight_of d)) old new × (o.reads ≤ 4 - d.levels.pinned)
+
+-- the same of a Delete, of which nothing but a commit programs a page
+abbrev pub QuietDelete : Parts → BoardState → BoardState → Request → Outcome → Type 0
+QuietDelete d old new r o =
+    o.status ≡ SUCCESSFUL_COMPLETION → needs_freeze d.log (key (command_of r [])) ≡ false → Programs (commits_for d.log.shape (sight_of d)) old new × (o.reads ≤ 4 - d.levels.pinned)

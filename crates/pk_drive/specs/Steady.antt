@@ -1,0 +1,61 @@
+-- What holds of a drive that runs between any two calls, by what stands on its flash.
+use Rattle.std.specs.Prelude.{◌≡◌, ◌≢◌, ℕ, ◌-◌, ◌/◌, ◌<◌, ◌≤◌, List, [], ◌∷◌, ◌++◌, length, map, true, Option, Some}
+use Rattle.std.specs.List.{AllByRecursion}
+use Rattle.pk_base.specs.Shape.{Shape, data_blocks, page_entries}
+use Rattle.pk_base.specs.Page.{Flash, page_at, erased}
+use Rattle.pk_base.specs.Entry.{Entry}
+use Rattle.pk_base.specs.Firsts.{firsts}
+use Rattle.pk_base.specs.Map.{Map}
+use Rattle.pk_rootfmt.specs.Root.{Root, named, differ}
+use Rattle.pk_nand.specs.BoardState.{BoardState}
+use Rattle.pk_model.specs.Found.{Found, entries_in_order}
+use Rattle.pk_model.specs.Values.{placed, blocks_with, all_pages}
+use Rattle.pk_model.specs.Laws.{AnyByRecursion}
+use Rattle.pk_model.specs.Tree.{Tree, IsTree}
+use Rattle.pk_model.specs.Sight.{Sight, Counts, most_work}
+use Rattle.pk_drive.specs.Drive.{Stands}
+use Rattle.pk_drive.specs.Exec.{IsNextMerge}
+
+-- A block that may be taken as it is: behind the root blocks, named by no root, not the one that takes values, and wholly Erased.
+pub record IsReadyBlock (shape : Shape) (flash : Flash) (root : Root) (taking : Option ℕ) (b : ℕ) : Type 0 where
+  pub behind_roots : 2 ≤ b
+  pub exists : b < shape.blocks
+  pub unnamed : AnyByRecursion (λ c. b ≡ c) (named root) → ⊥
+  pub not_open : taking ≢ Some b
+  pub all_erased : (k : ℕ) → k / shape.block_pages ≡ b → page_at flash k ≡ erased
+
+-- there are at least so many of them
+pub record HasReady (shape : Shape) (flash : Flash) (root : Root) (taking : Option ℕ) (least : ℕ) : Type 0 where
+  pub blocks : List ℕ
+  pub many : least ≤ length blocks
+  pub different : differ blocks ≡ true
+  pub each : AllByRecursion (IsReadyBlock shape flash root taking) blocks
+
+-- how many blocks have a page of a value that is there
+abbrev pub live_blocks : Shape → Found → List Entry → ℕ
+live_blocks shape found pending = length (blocks_with shape (all_pages shape (placed (firsts (entries_in_order found pending)))))
+
+-- the entries of the four runs
+abbrev pub entries_of_runs : Counts → List ℕ
+entries_of_runs c = c.run1 ∷ c.run2 ∷ c.run3 ∷ c.run4 ∷ []
+
+-- Its numbers are those of the lists under the newest root, so many blocks are erased and in use as it says, and a bounded work is left.
+pub record IsSteady (shape : Shape) (flash : Flash) (drive : Sight) : Type 0 where
+  pub tree : Tree
+  pub is_tree : IsTree shape flash tree
+  -- the keys of the two epochs, and the entries of the runs
+  pub active : drive.counts.active ≡ length (firsts (tree.found.newest ++ drive.pending))
+  pub frozen : drive.counts.frozen ≡ length (firsts tree.found.older)
+  pub runs : entries_of_runs drive.counts ≡ map length tree.found.runs
+  pub merge : IsNextMerge shape drive.counts
+  -- blocks
+  pub ready : HasReady shape flash tree.root drive.open_block drive.counts.ready
+  pub blocks_least : live_blocks shape tree.found drive.pending ≤ drive.counts.blocks
+  pub blocks_most : drive.counts.blocks ≤ data_blocks shape - 1
+  -- entries that wait, and steps that are left
+  pub few_pending : length drive.pending < page_entries shape
+  pub work_most : drive.work ≤ most_work shape
+
+-- after a call that begins where the drive stands for a map
+abbrev pub Steadies : BoardState → BoardState → Sight → Sight → Type 0
+Steadies old new before after = (shape : Shape) (frames : ℕ) (m : Map) → Stands shape frames old before m → IsSteady shape new.pages after

@@ -1,0 +1,88 @@
+-- Runs in a row along which the tree grows.
+use Rattle.std.proofs.Common.{◌≡◌, ℕ, List, [], ◌∷◌, ◌++◌, Some, refl, sym, ◌∙◌, ap, subst, inl, inr, append_assoc, append-nil}
+use Rattle.pk_base.specs.Shape.{Shape}
+use Rattle.pk_base.specs.Page.{Flash}
+use Rattle.pk_base.specs.Mark.{Mark, after, after_all, all_posted, post}
+use Rattle.pk_nand.specs.BoardState.{BoardState, shape_of, shape_or_none}
+use Rattle.pk_nand.specs.Calls.{longer, after_post, PostFailed}
+use Rattle.pk_nand.specs.Crash.{ReachedBy, WentBy}
+use Rattle.pk_nand.proofs.Reaching.{Reached-then, Went-then, Went-reached, Reached-start, Reached-post, longer-nil}
+use Rattle.pk_nand.proofs.CutLemmas.{cut_end}
+use Rattle.pk_model.specs.Growth.{GrowsAlong, Reaches, Goes}
+
+pub GrowsAlong-append : (shape : Shape) (start : Flash) (first second : List Mark) → GrowsAlong shape start first → GrowsAlong shape (after_all shape first start) second → GrowsAlong shape start (first ++ second)
+GrowsAlong-append shape start [] second before behind = behind
+GrowsAlong-append shape start (mark ∷ first) second before behind = (before.0, GrowsAlong-append shape (after shape mark start) first second before.1 behind)
+
+-- a post leaves the tree
+pub GrowsAlong-post : (shape : Shape) (start : Flash) (bytes : List ℕ) → GrowsAlong shape start (post bytes ∷ [])
+GrowsAlong-post shape start bytes = (inl refl, tt)
+
+-- ---- what holds at every cut may be weakened
+
+pub weaken : (marks : List Mark) (a b : BoardState) (P Q : Flash → List ℕ → Type 0) → ((f : Flash) (q : List ℕ) → P f q → Q f q) → ReachedBy marks a b P → ReachedBy marks a b Q
+weaken marks a b P Q f run = record { trail = run.trail; posted = run.posted; same_shape = run.same_shape; cuts = λ g q cut. f g q (run.cuts g q cut); stands = run.stands }
+
+pub weaken_went : (marks : List Mark) (a b : BoardState) (P Q : Flash → List ℕ → Type 0) → ((f : Flash) (q : List ℕ) → P f q → Q f q) → WentBy marks a b P → WentBy marks a b Q
+weaken_went marks a b P Q f run = record { trail = run.trail; posted = run.posted; same_shape = run.same_shape; cuts = λ g q cut. f g q (run.cuts g q cut); stands = run.stands }
+
+-- what holds at every cut holds where the marks end
+pub at_end : (marks : List Mark) (a b : BoardState) (P : Flash → List ℕ → Type 0) → ReachedBy marks a b P → P b.pages (all_posted marks)
+at_end marks a b P run = let T : Flash → Type 0 = λ f. P f (all_posted marks) in subst T (sym run.stands) (run.cuts _ _ (cut_end (shape_of a) a.pages marks))
+
+-- ---- two parts of a run
+
+module _ (shape : Shape) (first : List Mark) (a b : BoardState) (P : Flash → List ℕ → Type 0) (has : a.shape ≡ Some shape) (begun : ReachedBy first a b P) (grown : GrowsAlong shape a.pages first) where
+  -- the tree grows along both
+  pub grows_behind : (second : List Mark) → GrowsAlong shape b.pages second → GrowsAlong shape a.pages (first ++ second)
+  grows_behind second more =
+      let same : b.pages ≡ after_all shape first a.pages = begun.stands ∙ ap (λ o. after_all (shape_or_none o) first a.pages) has in
+      let T : Flash → Type 0 = λ f. GrowsAlong shape f second in
+      GrowsAlong-append shape a.pages first second grown (subst T same more)
+
+  pub Reaches-then : (c : BoardState) (Q : Flash → List ℕ → Type 0) → ((f : Flash) (q : List ℕ) → Q f q → P f (all_posted first ++ q)) → Reaches shape b c Q → Reaches shape a c P
+  Reaches-then c Q seen more = (
+    first ++ more.0,
+    Reached-then first more.0 a b c P begun (weaken more.0 b c Q (λ f q. P f (all_posted first ++ q)) seen more.1),
+    grows_behind more.0 more.2,
+  )
+
+  pub Goes-then : (c : BoardState) (Q : Flash → List ℕ → Type 0) → ((f : Flash) (q : List ℕ) → Q f q → P f (all_posted first ++ q)) → Goes shape b c Q → Goes shape a c P
+  Goes-then c Q seen more = (
+    first ++ more.0,
+    Went-then first more.0 a b c P begun (weaken_went more.0 b c Q (λ f q. P f (all_posted first ++ q)) seen more.1),
+    grows_behind more.0 more.2,
+  )
+
+-- a run that did not fail is one that may have
+pub Goes-reaches : (shape : Shape) (a b : BoardState) (P : Flash → List ℕ → Type 0) → Reaches shape a b P → Goes shape a b P
+Goes-reaches shape a b P run = (run.0, Went-reached run.0 a b P run.1, run.2)
+
+-- ---- single calls
+
+-- a post that failed leaves the tree
+pub Goes-post_failed : (shape : Shape) (old : BoardState) (bytes : List ℕ) (P : Flash → List ℕ → Type 0) → ((out rest : List ℕ) → out ++ rest ≡ bytes → P old.pages out)
+    → (new : BoardState) → PostFailed old new bytes → Goes shape old new P
+Goes-post_failed shape old bytes P fronts new failed =
+    let pages : new.pages ≡ old.pages = ap (λ s. s.pages) failed.rest in
+    let same_shape : new.shape ≡ old.shape = ap (λ s. s.shape) failed.rest in
+    let before : ReachedBy (post failed.left.out ∷ []) old (after_post old failed.left.out) P = Reached-post old failed.left.out P (λ o r e. fronts o (r ++ failed.left.unposted)
+    (sym (append_assoc o r failed.left.unposted) ∙ (ap (λ t. t ++ failed.left.unposted) e ∙ failed.left.front))) in
+    elim failed.left.trail_is [
+      | inl marked ↦ (
+        post failed.left.out ∷ [],
+        record {
+          trail = marked;
+          posted = failed.left.posted_is ∙ ap (λ t. longer old.posted t) (sym (append-nil failed.left.out));
+          same_shape = same_shape;
+          cuts = before.cuts;
+          stands = inr ([], refl, (pages, refl));
+        },
+        GrowsAlong-post shape old.pages failed.left.out,
+      )
+      | inr nothing ↦ (
+        [],
+        Went-reached [] old new P (Reached-start old new P same_shape pages nothing.1 (failed.left.posted_is ∙ (ap (λ t. longer old.posted t) nothing.0 ∙ longer-nil old.posted)) (fronts [] bytes refl)),
+        tt,
+      )
+    ]

@@ -1,0 +1,81 @@
+-- Single calls of the flash that give nothing out, along which the tree of lists grows, and what follows them.
+use Rattle.std.proofs.Common.{◌≡◌, inl, inr, ℕ, List, [], ◌∷◌, ◌++◌, Some, refl, sym, ap, subst, ◌∙◌}
+use Rattle.pk_base.specs.Shape.{Shape}
+use Rattle.pk_base.specs.Page.{Flash}
+use Rattle.pk_base.specs.Map.{Map}
+use Rattle.pk_base.specs.Mark.{Mark, program, erase, after, posted_by, all_posted}
+use Rattle.pk_nand.specs.BoardState.{BoardState, shape_of, shape_or_none}
+use Rattle.pk_nand.specs.Cut.{Cut, Interrupted}
+use Rattle.pk_nand.specs.Calls.{longer, LeftBy, after_program, after_erase, ProgramFailed, EraseFailed}
+use Rattle.pk_nand.proofs.Leaving.{interrupted_done}
+use Rattle.pk_nand.proofs.CutLemmas.{interrupted_none}
+use Rattle.pk_nand.proofs.Reaching.{Reached-start, Reached-erase, Reached-program, Went-reached, silent_cuts, longer-nil}
+use Rattle.pk_model.specs.Growth.{Grows, Reaches, Goes}
+use Rattle.pk_model.specs.Crashes.{CrashFinds, background}
+use Rattle.pk_model.proofs.Growing.{at_end, Reaches-then, Goes-then}
+
+module _ (shape : Shape) (old : BoardState) (P : Flash → List ℕ → Type 0) (has : old.shape ≡ Some shape) where
+  is_shape_of : shape_of old ≡ shape
+  is_shape_of = ap shape_or_none has
+
+  -- nothing was done
+  pub Reaches-none : (new : BoardState) → new ≡ old → P old.pages [] → Reaches shape old new P
+  Reaches-none new same here = ([], Reached-start old new P (ap (λ s. s.shape) same) (ap (λ s. s.pages) same) (ap (λ s. s.trail) same) (ap (λ s. s.posted) same) here, tt)
+
+  -- a mark that gives nothing out, done or interrupted
+  module _ (mark : Mark) (silent : posted_by mark ≡ []) (within : (f : Flash) → Interrupted shape mark old.pages f [] → P f []) (grows : Grows shape old.pages (after shape mark old.pages)) where
+    within_board : (f : Flash) → Interrupted (shape_of old) mark old.pages f [] → P f []
+    within_board f cut = within f (subst (λ s. Interrupted s mark old.pages f []) is_shape_of cut)
+
+    done : P (after (shape_of old) mark old.pages) []
+    done = within_board _ (interrupted_done (shape_of old) mark old.pages)
+
+    -- a call that failed
+    pub Goes-failed : (new : BoardState) → LeftBy mark old new → new.shape ≡ old.shape → new.posted ≡ old.posted → all_posted (mark ∷ []) ≡ [] → Goes shape old new P
+    Goes-failed new left same_shape same_posted none = elim left [
+      | inl marked ↦ (
+        mark ∷ [],
+        record {
+          trail = marked.1;
+          posted = same_posted ∙ (sym (longer-nil old.posted) ∙ ap (λ t. longer old.posted t) (sym none));
+          same_shape = same_shape;
+          cuts = silent_cuts (shape_of old) mark old.pages silent P within_board done;
+          stands = let T : List ℕ → Type 0 = λ t. Cut (shape_of old) old.pages (mark ∷ []) new.pages t in subst T (sym none) (inl marked.0);
+        },
+        (grows, tt),
+      )
+      | inr same ↦ ([], Went-reached [] old new P (Reached-start old new P same_shape same.0 same.1 same_posted (within old.pages (interrupted_none shape mark old.pages))), tt)
+    ]
+
+  module _ (block : ℕ) (within : (f : Flash) → Interrupted shape (erase block) old.pages f [] → P f []) (grows : Grows shape old.pages (after shape (erase block) old.pages)) where
+    pub Reaches-erase : (new : BoardState) → new ≡ after_erase old block → Reaches shape old new P
+    Reaches-erase new made =
+        let Q : BoardState → Type 0 = λ b. Reaches shape old b P in
+        subst Q (sym made) (erase block ∷ [], Reached-erase old P block (within_board (erase block) refl within grows) (done (erase block) refl within grows), (grows, tt))
+
+    pub Goes-erase : (new : BoardState) → EraseFailed old new block → Goes shape old new P
+    Goes-erase new failed = Goes-failed (erase block) refl within grows new failed.left (ap (λ s. s.shape) failed.rest) (ap (λ s. s.posted) failed.rest) refl
+
+  module _ (page : ℕ) (bytes : List ℕ) (within : (f : Flash) → Interrupted shape (program page bytes) old.pages f [] → P f []) (grows : Grows shape old.pages (after shape (program page bytes) old.pages)) where
+    pub Reaches-program : (new : BoardState) → new ≡ after_program old page bytes → Reaches shape old new P
+    Reaches-program new made =
+        let Q : BoardState → Type 0 = λ b. Reaches shape old b P in
+        subst Q (sym made) (program page bytes ∷ [], Reached-program old P page bytes (within_board (program page bytes) refl within grows) (done (program page bytes) refl within grows), (grows, tt))
+
+    pub Goes-program : (new : BoardState) → ProgramFailed old new page bytes → Goes shape old new P
+    Goes-program new failed = Goes-failed (program page bytes) refl within grows new failed.left (ap (λ s. s.shape) failed.rest) (ap (λ s. s.posted) failed.rest) refl
+
+-- ---- two parts of a run that holds a map throughout
+
+module _ (shape : Shape) (m : Map) (a b c : BoardState) (has : a.shape ≡ Some shape) (begun : Reaches shape a b (CrashFinds shape background a.pages m)) where
+  nothing_posted : all_posted begun.0 ≡ []
+  nothing_posted = (at_end begun.0 a b (CrashFinds shape background a.pages m) begun.1).0
+
+  behind : (f : Flash) (q : List ℕ) → CrashFinds shape background a.pages m f q → CrashFinds shape background a.pages m f (all_posted begun.0 ++ q)
+  behind f q holds = (ap (λ t. t ++ q) nothing_posted ∙ holds.0, holds.1)
+
+  pub run_then : Reaches shape b c (CrashFinds shape background b.pages m) → Reaches shape a c (CrashFinds shape background a.pages m)
+  run_then more = Reaches-then shape begun.0 a b (CrashFinds shape background a.pages m) has begun.1 begun.2 c (CrashFinds shape background a.pages m) behind more
+
+  pub go_then : Goes shape b c (CrashFinds shape background b.pages m) → Goes shape a c (CrashFinds shape background a.pages m)
+  go_then more = Goes-then shape begun.0 a b (CrashFinds shape background a.pages m) has begun.1 begun.2 c (CrashFinds shape background a.pages m) behind more

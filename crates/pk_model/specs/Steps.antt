@@ -1,0 +1,26 @@
+-- One step of a drive on its board: a commit, a freeze, the write of a value, or a part of one.
+use Rattle.std.specs.Prelude.{◌≡◌, ◌≤◌, ◌+◌, ℕ, zero, suc, Result, IfOk, IfErr, OnOk, OnErr}
+use Rattle.pk_base.specs.Shape.{Shape}
+use Rattle.pk_nand.specs.declared.types.Fault.{Fault}
+use Rattle.pk_nand.specs.declared.types.Fault.TheVariants.{Stopped}
+use Rattle.pk_nand.specs.BoardState.{BoardState}
+use Rattle.pk_nand.specs.Calls.{IsReady}
+use Rattle.pk_nand.specs.Effects.{Works, Stops}
+use Rattle.pk_model.specs.Wear.{roots}
+
+-- at most so many roots were installed
+abbrev pub RootsUpTo : ℕ → BoardState → BoardState → Type 0
+RootsUpTo zero old new = roots new ≡ roots old
+RootsUpTo (suc n) old new = roots new ≤ roots old + suc n
+
+-- What a step leaves, whether it ended or a call of it failed that stops the drive.
+pub record Step {T : Type 0} (Ended : T → Type 0) (Broken : Type 0) (shape : Shape) (most : ℕ) (old new : BoardState) (result : Result T Fault) : Type 0 where
+  -- what it is made for, where it ended
+  pub ended : IfOk result Ended
+  -- what is known of the cuts of a step that was broken off
+  pub broken : OnErr result Broken
+  pub works : OnOk result (Works old new)
+  pub stops : OnErr result (Stops old new)
+  pub stopped : IfErr result (λ e. e ≡ Stopped)
+  pub roots_few : RootsUpTo most old new
+  pub ready : IsReady new shape

@@ -1,0 +1,34 @@
+-- A mark that does not touch a page leaves it as it was, done or interrupted.
+use Rattle.std.proofs.Common.{◌≡◌, ◌≢◌, inl, inr, ℕ, ◌/◌, refl, sym, ap, ◌∙◌, List, [], ◌∷◌, Some, zero-add}
+use Rattle.std.proofs.lemmas.Option.{same_Some}
+use Rattle.pk_base.specs.Shape.{Shape}
+use Rattle.pk_base.specs.Page.{Page, Flash, page_at, whole}
+use Rattle.pk_base.specs.Mark.{Mark, program, erase, post, after}
+use Rattle.pk_nand.specs.Cut.{Cut, MayLeave, Touches, touched_block}
+use Rattle.pk_nand.proofs.Leaving.{page_at-slice_set, page_at-erased_from}
+
+-- a program or an erase touches pages of one block alone
+pub touches_one_block : (shape : Shape) (mark : Mark) (k : ℕ) → Touches shape mark k → touched_block shape mark ≡ Some (k / shape.block_pages)
+touches_one_block shape (program at bytes) k is = ap (λ (p : ℕ). Some (p / shape.block_pages)) (sym is)
+touches_one_block shape (erase block) k is = ap Some (sym is)
+touches_one_block shape (post bytes) k none = absurd none
+
+pub untouched : (shape : Shape) (mark : Mark) (k : ℕ) (old new : Page) → (Touches shape mark k → ⊥) → MayLeave shape mark k old new → new ≡ old
+untouched shape (program at bytes) k old new other (inl same) = same
+untouched shape (program at bytes) k old new other (inr is) = absurd (other is.0)
+untouched shape (erase block) k old new other (inl same) = same
+untouched shape (erase block) k old new other (inr is) = absurd (other is.0)
+untouched shape (post bytes) k old new other same = same
+
+-- a page of another block
+pub elsewhere : (shape : Shape) (mark : Mark) (k block : ℕ) (old new : Page) → touched_block shape mark ≡ Some block → k / shape.block_pages ≢ block → MayLeave shape mark k old new → new ≡ old
+elsewhere shape mark k block old new touched other = untouched shape mark k old new (λ is. other (same_Some (k / shape.block_pages) block (sym (touches_one_block shape mark k is) ∙ touched)))
+
+pub untouched_after : (shape : Shape) (mark : Mark) (flash : Flash) (k : ℕ) → (Touches shape mark k → ⊥) → page_at (after shape mark flash) k ≡ page_at flash k
+untouched_after shape (program at bytes) flash k other = page_at-slice_set flash at k (whole bytes) other
+untouched_after shape (erase block) flash k other = page_at-erased_from shape block 0 flash k (λ e. other (ap (λ n. n / shape.block_pages) (sym (zero-add k)) ∙ e))
+untouched_after shape (post bytes) flash k other = refl
+
+pub untouched_cut : (shape : Shape) (mark : Mark) (flash cut : Flash) (posted : List ℕ) (k : ℕ) → Cut shape flash (mark ∷ []) cut posted → (Touches shape mark k → ⊥) → page_at cut k ≡ page_at flash k
+untouched_cut shape mark flash cut posted k (inl interrupted) other = untouched shape mark k _ _ other (interrupted.pages k)
+untouched_cut shape mark flash cut posted k (inr done) other = ap (λ f. page_at f k) done.2.0 ∙ untouched_after shape mark flash k other

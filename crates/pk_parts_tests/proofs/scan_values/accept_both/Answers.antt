@@ -1,0 +1,15 @@
+use Rattle.std.proofs.Common.{[], sym, subst}
+use Rattle.pk_live.specs.Values.{Values}
+use Rattle.pk_live.specs.Lives.{Lives}
+use Rattle.pk_parts_tests.proofs.NoValues.{on_ok}
+use Rattle.pk_parts_tests.proofs.scan_values.accept_both.Goals as goal
+
+pub accept_value-first-requires-clause-lives : goal.accept_value-first-requires-clause-lives
+accept_value-first-requires-clause-lives g c =
+    ([], subst (λ (v : Values). Lives c.args.shape.now [] v []) (sym c.requires.values) (c.starts_with_none.ensures c.args.shape.now [] c.greatest.ensures.shape))
+
+pub accept_value-requires-clause-lives : goal.accept_value-requires-clause-lives
+accept_value-requires-clause-lives g c =
+    let none = subst (λ (v : Values). Lives c.args.shape.now [] v []) (sym c.requires.values) (c.starts_with_none.ensures c.args.shape.now [] c.greatest.ensures.shape) in
+    let more = on_ok c.accept_value-first.result _ c.if-is_err-2.ensures.value c.accept_value-first.ensures.lives in
+    (_, more [] none)

@@ -1,0 +1,32 @@
+//! What calls leave of the leases of all who have some.
+ghost use Rattle.pk_pin.specs.Laws.{NoneLeased, LeaseTaken, LeaseGiven, LeasesFilled, LeasesCounted, FreeAndLeased};
+
+/// Nobody has a frame of an arena whose frames are all free.
+pub fn none_leased()
+    ensures { NoneLeased }
+{}
+
+/// Where a free frame is taken, it is one lease more.
+pub fn lease_taken()
+    ensures { LeaseTaken }
+{}
+
+/// Where a frame is given back, its lease is gone and all others stay.
+pub fn lease_given()
+    ensures { LeaseGiven }
+{}
+
+/// Where a frame is filled, the leases stay.
+pub fn leases_filled()
+    ensures { LeasesFilled }
+{}
+
+/// There are as many leases as frames that are leased.
+pub fn leases_counted()
+    ensures { LeasesCounted }
+{}
+
+/// Free and leased frames together are all frames.
+pub fn free_and_leased()
+    ensures { FreeAndLeased }
+{}

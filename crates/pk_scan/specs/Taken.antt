@@ -1,0 +1,23 @@
+-- The values of all keys, as they are read and taken one after another.
+use Rattle.std.specs.Prelude.{◌≡◌, ℕ, ◌+◌, List, ◌∷◌, length}
+use Rattle.pk_base.specs.Key.{Key}
+use Rattle.pk_base.specs.Shape.{Shape}
+use Rattle.pk_base.specs.Entry.{Place}
+use Rattle.pk_base.specs.Page.{Flash}
+use Rattle.pk_nand.specs.BoardState.{BoardState}
+use Rattle.pk_nand.specs.Erased.{after_reads}
+use Rattle.pk_live.specs.Values.{Values}
+use Rattle.pk_run.specs.Kept.{Kept}
+use Rattle.pk_walk.specs.Walking.{Walk, SkipsNone, most_read, pages_read}
+use Rattle.pk_scan.specs.Opening.{OnlyReads, ReadsValues}
+use Rattle.pk_scan.specs.Reads.{value_reads}
+
+-- The values at these places were read and taken, and so many keys were counted.
+pub record TakesValues (shape : Shape) (flash : Flash) (named : List ℕ) (live : Values) (keys : ℕ) (es : List (Key × Place)) : Type 0 where
+  pub values : ReadsValues shape flash named live es
+  pub keys_are : keys ≡ length es
+
+-- No read failed; where the walk began at the first key, each page of the runs without frames was read once, and each of the values.
+pub record ReadsExactly (shape : Shape) (runs : List Kept) (walk : Walk) (es : List (Key × Place)) (old new : BoardState) : Type 0 where
+  pub reads : OnlyReads old new
+  pub exact : SkipsNone walk → pages_read runs walk.cursors ≡ 0 → new ≡ after_reads (most_read runs + value_reads shape es) old

@@ -1,0 +1,23 @@
+-- Parts of the serving loop, one behind another.
+use Rattle.std.proofs.Common.{◌≡◌, sym, subst, Option}
+use Rattle.pk_base.specs.Shape.{Shape}
+use Rattle.pk_base.specs.Page.{Flash as Pages}
+use Rattle.pk_nand.specs.BoardState.{BoardState}
+use Rattle.pk_model.specs.Sight.{Sight}
+use Rattle.pk_serve.specs.Ends.{NoFaults}
+use Rattle.pk_serve.specs.Part.{IsRunning, KeepsRunning, Faulted}
+use Rattle.pk_serve.specs.declared.end.End.{End}
+use Rattle.pk_serve.proofs.Blaming.{quiet-then, cause-then}
+
+-- the flash was left
+pub running-still : (agreeing : Option Shape → Pages → Type 0) (drive : Sight) (b c : BoardState) → (c.shape ≡ b.shape) × (c.pages ≡ b.pages) → IsRunning agreeing drive b → IsRunning agreeing drive c
+running-still agreeing drive b c same h =
+    let T : Option Shape → Type 0 = λ s. agreeing s b.pages in
+    let U : Pages → Type 0 = λ p. agreeing c.shape p in
+    record { agrees = subst U (sym same.1) (subst T (sym same.0) h.agrees); runs = h.runs }
+
+pub faulted-then : (a b c : BoardState) (end : End) → NoFaults a b → Faulted b c end → Faulted a c end
+faulted-then a b c end quiet h = record { fault = h.fault; cause = cause-then a b c end quiet h.cause }
+
+pub runs_on-then : (agreeing : Option Shape → Pages → Type 0) (drive : Sight) (a b c : BoardState) → NoFaults a b → KeepsRunning agreeing drive b c → KeepsRunning agreeing drive a c
+runs_on-then agreeing drive a b c quiet h = record { running = h.running; quiet = quiet-then a b c quiet h.quiet }

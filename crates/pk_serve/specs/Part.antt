@@ -1,0 +1,81 @@
+-- What a part of the serving loop asks of the drive, the board and the buffers, and what it leaves.
+use Rattle.std.specs.Prelude.{◌≡◌, ◌≢◌, ℕ, ◌<◌, ◌≤◌, List, [], length, Option, Some, Bool, true, false}
+use Rattle.pk_base.specs.Shape.{Shape, greatest}
+use Rattle.pk_base.specs.Page.{Flash as Pages}
+use Rattle.pk_nvme.specs.declared.opcode.TheConstants.{STORE, DELETE}
+use Rattle.pk_nvme.specs.declared.request.Request.{Request}
+use Rattle.pk_nand.specs.BoardState.{BoardState}
+use Rattle.pk_model.specs.Sight.{Sight}
+use Rattle.pk_model.specs.Wear.{is_worn, roots}
+use Rattle.pk_serve.specs.Ends.{NoFaults, HasCause, IsFault}
+use Rattle.pk_serve.specs.declared.end.End.{End}
+
+-- ---- what is asked
+
+-- the drive agrees with the board, and runs
+pub record IsRunning (agreeing : Option Shape → Pages → Type 0) (drive : Sight) (board : BoardState) : Type 0 where
+  pub agrees : agreeing board.shape board.pages
+  pub runs : drive.stopped ≡ false
+
+-- it is not worn, and serves the request
+pub record CanServe (agreeing : Option Shape → Pages → Type 0) (drive : Sight) (board : BoardState) (built : Bool) : Type 0 where
+  pub running : IsRunning agreeing drive board
+  pub unworn : is_worn board ≡ false
+  pub is_built : built ≡ true
+
+-- of a value this is handed over: all of it where it is not too large, and nothing else
+pub record IsHanded (shape : Shape) (opcode size : ℕ) (handed : List ℕ) : Type 0 where
+  pub sized : opcode ≡ STORE → size ≤ greatest shape → length handed ≡ size
+  pub empty : opcode ≢ STORE → handed ≡ []
+  pub too_large : greatest shape < size → handed ≡ []
+
+-- the board has this shape, and a buffer has room for the data of each command: a list, or a value
+pub record HasRoom (board : BoardState) (shape : Shape) (into : List ℕ) : Type 0 where
+  pub shape_is : board.shape ≡ Some shape
+  pub for_list : 65536 ≤ length into
+  pub for_value : greatest shape ≤ length into
+
+-- and another one for the value behind each entry
+pub record HasBuffers (board : BoardState) (shape : Shape) (value into : List ℕ) : Type 0 where
+  pub room : HasRoom board shape into
+  pub fits : greatest shape ≤ length value
+  pub some : 0 < length value
+
+-- ---- what is left
+
+-- nothing failed: the drive agrees with the board and runs, and no fault was counted
+pub record KeepsRunning (agreeing : Option Shape → Pages → Type 0) (drive : Sight) (old new : BoardState) : Type 0 where
+  pub running : IsRunning agreeing drive new
+  pub quiet : NoFaults old new
+
+-- the output or the flash failed, and its count of faults tells
+pub record Faulted (old new : BoardState) (end : End) : Type 0 where
+  pub fault : IsFault end
+  pub cause : HasCause old new end
+
+-- nothing was taken of the input
+pub record TakesNone (old new : BoardState) : Type 0 where
+  pub shape : new.shape ≡ old.shape
+  pub input : new.input ≡ old.input
+  pub in_faults : new.in_faults ≡ old.in_faults
+
+-- and no root was installed
+pub record InstallsNone (old new : BoardState) : Type 0 where
+  pub takes : TakesNone old new
+  pub installs : roots new ≡ roots old
+
+-- A request that is no Store and no Delete is served if it was, and one that was not is not.
+pub record ServesSame (before after : Request → Bool) : Type 0 where
+  pub built : (r : Request) → r.opcode ≢ STORE → r.opcode ≢ DELETE → before r ≡ true → after r ≡ true
+  pub unbuilt : (r : Request) → before r ≡ false → after r ≡ false
+
+-- the room for records and the buffer of data keep their sizes
+pub record SameRoom (room now_room : ℕ) (into now_into : List ℕ) : Type 0 where
+  pub records : now_room ≡ room
+  pub bytes : length now_into ≡ length into
+
+-- the board keeps its shape, and all room its size
+pub record SameSizes (old new : BoardState) (room now_room : ℕ) (value now_value into now_into : List ℕ) : Type 0 where
+  pub shape : new.shape ≡ old.shape
+  pub rooms : SameRoom room now_room into now_into
+  pub values : length now_value ≡ length value

@@ -1,0 +1,82 @@
+//! Journal pages by their bytes.
+
+use pk_base::Shape;
+use pk_jrnfmt::{JrnHead, decode};
+use std::test::*;
+
+// A page of epoch 258 and index 17 with two entries, the later of which deletes the key of the first, byte by byte.
+fn written_out() -> [u8; 512] {
+    let mut page = [0u8; 512];
+    page[..32].copy_from_slice(b"PINKJRNL\x02\x01\0\0\0\0\0\0\x11\0\0\0\x02\0\0\0\0\0\0\0\0\0\0\0");
+    page[32..64].copy_from_slice(
+        b"\x01\x01\0\0a\0\0\0\0\0\0\0\0\0\0\0\0\0\0\0\x20\0\0\0\x03\0\0\0\0\0\0\0",
+    );
+    page[64..96].copy_from_slice(
+        b"\x01\x02\0\0a\0\0\0\0\0\0\0\0\0\0\0\0\0\0\0\0\0\0\0\0\0\0\0\0\0\0\0",
+    );
+    page
+}
+
+// The place that a page is refused at.
+fn refused_at(shape: &Shape, page: &[u8]) -> Option<u32> {
+    if page.len() != shape.page_bytes() as usize {
+        return None;
+    }
+    match decode(shape, page) {
+        Ok(_) => None,
+        Err(bad) => Some(bad.at),
+    }
+}
+
+// The page is decoded, and each field in turn is wrong.
+#[test]
+fn a_page(rt: HostRuntime) -> Result<(), Fail> {
+    let shape = Shape::new(512, 16, 64).ok().ok_or("a shape")?;
+    let page = written_out();
+    if shape.page_bytes() != 512 {
+        return Ok(());
+    }
+    assert_eq!(rt;
+        decode(&shape, &page),
+        Ok(JrnHead {
+            epoch: 258,
+            index: 17,
+            count: 2
+        })
+    );
+    for (place, byte, at) in [
+        (0usize, b'p', Some(0u32)),
+        (7, b'l', Some(0)),
+        (15, 255, None),
+        (16, 31, None),
+        (16, 32, Some(16)),
+        (19, 1, Some(16)),
+        (20, 0, Some(20)),
+        (20, 16, Some(20)),
+        (20, 1, Some(64)),
+        (20, 3, Some(96)),
+        (22, 1, Some(22)),
+        (31, 1, Some(22)),
+        (32, 0, Some(32)),
+        (32, 17, Some(32)),
+        (33, 3, Some(32)),
+        (34, 1, Some(32)),
+        (35, 1, Some(32)),
+        (37, 1, Some(32)),
+        (52, 31, Some(32)),
+        (53, 4, Some(32)),
+        (57, 8, Some(32)),
+        (60, 1, Some(32)),
+        (84, 1, Some(64)),
+        (88, 1, Some(64)),
+        (96, 1, Some(96)),
+        (511, 1, Some(96)),
+    ] {
+        let mut other = page;
+        if place < 512 {
+            other[place] = byte;
+        }
+        assert_eq!(rt; refused_at(&shape, &other), at);
+    }
+    Ok(())
+}

@@ -1,0 +1,111 @@
+//! Meta pages by their bytes.
+
+use pk_base::{Entry, Key, Shape};
+use pk_meta::{MetaHead, decode, find};
+use std::test::*;
+
+// A page of level 2 and index 258 with two entries, a value of three bytes at page 32 and a deleted key, byte by byte.
+fn written_out() -> [u8; 512] {
+    let mut page = [0u8; 512];
+    page[..32].copy_from_slice(b"PINKMETA\x02\0\x02\0\x02\x01\0\0\0\0\0\0\0\0\0\0\0\0\0\0\0\0\0\0");
+    page[32..64].copy_from_slice(
+        b"\x01\x01\0\0a\0\0\0\0\0\0\0\0\0\0\0\0\0\0\0\x20\0\0\0\x03\0\0\0\0\0\0\0",
+    );
+    page[64..96].copy_from_slice(
+        b"\x02\x02\0\0ab\0\0\0\0\0\0\0\0\0\0\0\0\0\0\0\0\0\0\0\0\0\0\0\0\0\0",
+    );
+    page
+}
+
+// The place that a page is refused at.
+fn refused_at(shape: &Shape, page: &[u8]) -> Option<u32> {
+    if page.len() != shape.page_bytes() as usize {
+        return None;
+    }
+    match decode(shape, page) {
+        Ok(_) => None,
+        Err(bad) => Some(bad.at),
+    }
+}
+
+// The page is decoded, its keys are found, and each field in turn is wrong.
+#[test]
+fn a_page(rt: HostRuntime) -> Result<(), Fail> {
+    let shape = Shape::new(512, 16, 64).ok().ok_or("a shape")?;
+    let page = written_out();
+    if shape.page_bytes() != 512 {
+        return Ok(());
+    }
+    assert_eq!(rt;
+        decode(&shape, &page),
+        Ok(MetaHead {
+            level: 2,
+            index: 258,
+            count: 2
+        })
+    );
+    for (place, byte, at) in [
+        (0usize, b'p', Some(0u32)),
+        (7, b'a', Some(0)),
+        (8, 0, Some(8)),
+        (8, 4, None),
+        (8, 5, Some(8)),
+        (9, 1, Some(9)),
+        (10, 0, Some(10)),
+        (10, 16, Some(10)),
+        (11, 1, Some(10)),
+        (10, 1, Some(64)),
+        (10, 3, Some(96)),
+        (15, 255, None),
+        (16, 1, Some(16)),
+        (31, 1, Some(16)),
+        (32, 0, Some(32)),
+        (33, 3, Some(32)),
+        (34, 1, Some(32)),
+        (36, b'b', Some(64)),
+        (37, 1, Some(32)),
+        (52, 31, Some(32)),
+        (56, 8, None),
+        (57, 8, Some(32)),
+        (60, 1, Some(32)),
+        (64, 1, Some(64)),
+        (84, 1, Some(64)),
+        (96, 1, Some(96)),
+        (511, 1, Some(96)),
+    ] {
+        let mut other = page;
+        if place < 512 {
+            other[place] = byte;
+        }
+        assert_eq!(rt; refused_at(&shape, &other), at);
+    }
+    Ok(())
+}
+
+// The length of the value of a key, 0 where it was deleted.
+fn len_of(shape: &Shape, page: &[u8], key: &[u8]) -> Option<u32> {
+    let key = Key::new(key)?;
+    if page.len() != shape.page_bytes() as usize {
+        return None;
+    }
+    match decode(shape, page) {
+        Ok(_) => match find(shape, page, &key) {
+            Some(Entry::Put { len, .. }) => Some(len),
+            Some(Entry::Gone { .. }) => Some(0),
+            None => None,
+        },
+        Err(_) => None,
+    }
+}
+
+#[test]
+fn keys(rt: HostRuntime) -> Result<(), Fail> {
+    let shape = Shape::new(512, 16, 64).ok().ok_or("a shape")?;
+    let page = written_out();
+    assert_eq!(rt; len_of(&shape, &page, b"a"), Some(3));
+    assert_eq!(rt; len_of(&shape, &page, b"ab"), Some(0));
+    assert_eq!(rt; len_of(&shape, &page, b"A"), None);
+    assert_eq!(rt; len_of(&shape, &page, b"aa"), None);
+    assert_eq!(rt; len_of(&shape, &page, b"b"), None);
+    Ok(())
+}

@@ -1,0 +1,184 @@
+//! Root pages by their bytes.
+
+use pk_base::Shape;
+use pk_rootfmt::{BadRoot, Root, first};
+use std::alloc::{AllocError, Allocator};
+use std::test::*;
+
+/// The first root on a flash of 64 blocks of 16 pages of 512 bytes.
+fn first_page() -> [u8; 512] {
+    let mut page = [0u8; 512];
+    page[..28].copy_from_slice(&[
+        0x50, 0x49, 0x4e, 0x4b, 0x52, 0x4f, 0x4f, 0x54, 1, 0, 16, 0, 0, 2, 0, 0, 64, 0, 2, 0, 0, 0,
+        0, 0, 1, 0, 0, 0,
+    ]);
+    page[32] = 1;
+    page[64..68].copy_from_slice(&[2, 0, 3, 0]);
+    page
+}
+
+/// Root 7 with epoch 3 in blocks 5 and 6, the older one in 2 and 3, and run 1 of 20 entries in block 9.
+fn later_page() -> [u8; 512] {
+    let mut page = first_page();
+    page[18] = 4;
+    page[24] = 7;
+    page[32] = 3;
+    page[40] = 20;
+    page[64..74].copy_from_slice(&[5, 0, 6, 0, 2, 0, 3, 0, 9, 0]);
+    page
+}
+
+/// The page with another byte at this place.
+fn changed(page: [u8; 512], place: u16, byte: u8) -> [u8; 512] {
+    let mut page = page;
+    if let Some(old) = page.get_mut(place as usize) {
+        *old = byte;
+    }
+    page
+}
+
+/// The first wrong field of a page of this shape; none where it is read as a root.
+fn wrong_byte<A: Allocator + Clone>(
+    alloc: A,
+    shape: &Shape,
+    page: &[u8],
+) -> Result<Option<u32>, AllocError> {
+    let mut root = Root::new(alloc, *shape)?;
+    if page.len() != shape.page_bytes() as usize {
+        return Ok(None);
+    }
+    match root.decode(page) {
+        Ok(()) => Ok(None),
+        Err(BadRoot { at }) => Ok(Some(at)),
+    }
+}
+
+#[test]
+fn first_root(rt: HostRuntime) -> Result<(), Fail> {
+    let shape = Shape::new(512, 16, 64).ok().ok_or("a shape")?;
+    if shape.page_bytes() != 512 {
+        return Ok(());
+    }
+    let mut page = [0xffu8; 512];
+    first(&shape, &mut page);
+    assert!(rt; page[..] == first_page()[..]);
+    let mut root = Root::new(rt.alloc(), shape)?;
+    assert_eq!(rt; root.number(), 0);
+    assert_eq!(rt; root.newest(), [0, 0]);
+    assert!(rt; root.decode(&page).is_ok());
+    assert_eq!(rt; root.number(), 1);
+    assert_eq!(rt; root.epoch(), 1);
+    assert_eq!(rt; root.newest(), [2, 3]);
+    assert!(rt; root.older().is_none());
+    assert_eq!(rt; root.entries(4), 0);
+    assert_eq!(rt; root.blocks(1).len(), 0);
+    Ok(())
+}
+
+#[test]
+fn later_root(rt: HostRuntime) -> Result<(), Fail> {
+    let shape = Shape::new(512, 16, 64).ok().ok_or("a shape")?;
+    if shape.page_bytes() != 512 {
+        return Ok(());
+    }
+    let mut root = Root::new(rt.alloc(), shape)?;
+    match root.decode(&later_page()) {
+        Ok(()) => {}
+        Err(bad) => return Err(bad.into()),
+    }
+    let mut page = [0xffu8; 512];
+    root.encode(&mut page);
+    assert!(rt; page[..] == later_page()[..]);
+    assert!(rt; root.decode(&[0u8; 512]) == Err(BadRoot { at: 0 }));
+    assert_eq!(rt; root.number(), 7);
+    assert_eq!(rt; root.epoch(), 3);
+    assert_eq!(rt; root.newest(), [5, 6]);
+    assert_eq!(rt; root.older(), Some([2, 3]));
+    assert_eq!(rt; root.entries(1), 20);
+    assert_eq!(rt; root.entries(2), 0);
+    assert!(rt; root.blocks(1) == [9u16].as_slice());
+    Ok(())
+}
+
+#[test]
+fn parts_set(rt: HostRuntime) -> Result<(), Fail> {
+    let shape = Shape::new(512, 16, 64).ok().ok_or("a shape")?;
+    let most = shape.meta_blocks();
+    let mut root = Root::new(rt.alloc(), shape)?;
+    if most < 4 {
+        return Ok(());
+    }
+    root.set_number(9);
+    root.set_epochs(4, [7, 8], Some([5, 6]));
+    root.set_run(3, 300, &[10, 11]);
+    root.set_run(1, 20, &[9]);
+    assert_eq!(rt; root.number(), 9);
+    assert_eq!(rt; root.epoch(), 4);
+    assert_eq!(rt; root.newest(), [7, 8]);
+    assert_eq!(rt; root.older(), Some([5, 6]));
+    assert_eq!(rt; root.entries(3), 300);
+    assert!(rt; root.blocks(1) == [9u16].as_slice());
+    assert!(rt; root.blocks(3) == [10u16, 11].as_slice());
+    root.set_epochs(5, [7, 8], None);
+    assert!(rt; root.older().is_none());
+    Ok(())
+}
+
+#[test]
+fn wrong_first_pages(rt: HostRuntime) -> Result<(), Fail> {
+    let shape = Shape::new(512, 16, 64).ok().ok_or("a shape")?;
+    for (place, byte, at) in [
+        (0u16, 0u8, 0u32),
+        (7, 0, 0),
+        (8, 2, 8),
+        (9, 1, 8),
+        (10, 8, 10),
+        (12, 1, 12),
+        (16, 65, 16),
+        (18, 3, 18),
+        (18, 4, 32),
+        (20, 1, 20),
+        (23, 1, 20),
+        (24, 0, 24),
+        (32, 0, 32),
+        (32, 2, 32),
+        (40, 61, 40),
+        (44, 241, 44),
+        (49, 4, 48),
+        (53, 5, 52),
+        (56, 1, 56),
+        (63, 1, 56),
+        (64, 1, 64),
+        (64, 64, 64),
+        (66, 2, 66),
+        (40, 1, 68),
+        (68, 1, 68),
+        (511, 1, 68),
+    ] {
+        let page = changed(first_page(), place, byte);
+        assert_eq!(rt; wrong_byte(rt.alloc(), &shape, &page)?, Some(at));
+    }
+    Ok(())
+}
+
+#[test]
+fn wrong_later_pages(rt: HostRuntime) -> Result<(), Fail> {
+    let shape = Shape::new(512, 16, 64).ok().ok_or("a shape")?;
+    for (place, byte, at) in [
+        (24u16, 2u8, 32u32),
+        (32, 1, 32),
+        (66, 5, 66),
+        (68, 1, 68),
+        (70, 6, 70),
+        (18, 2, 70),
+        (72, 3, 72),
+        (73, 1, 72),
+        (40, 0, 72),
+        (74, 1, 74),
+        (75, 1, 74),
+    ] {
+        let page = changed(later_page(), place, byte);
+        assert_eq!(rt; wrong_byte(rt.alloc(), &shape, &page)?, Some(at));
+    }
+    Ok(())
+}

@@ -1,0 +1,59 @@
+-- Which runs leave the flash alone.
+use Rattle.std.proofs.Common.{◌≡◌, inl, inr, ℕ, List, Option, Some, None, IsSome, refl, sym, ◌∙◌, ap, subst}
+use Rattle.pk_base.specs.Shape.{Shape}
+use Rattle.pk_nand.specs.BoardState.{BoardState}
+use Rattle.pk_nand.specs.Calls.{Loaded, LoadFailed}
+use Rattle.pk_nand.specs.Resting.{RestsFlash}
+use Rattle.pk_nand.proofs.Resting.{Rests-same, Rests-start}
+use Rattle.pk_text.specs.Written.{Written}
+use Rattle.pk_top.specs.Makes.{MakeRun}
+use Rattle.pk_top.specs.TextRuns.{TextRun}
+use Rattle.pk_top.specs.Resting.{RestsIn, Rests}
+use Rattle.pk_top.specs.Words.{Word, make, serve, put, get, delete, has, list, stat, assemble, show, generate}
+
+-- nothing was done
+pub rests-same_word : (word : Word) (old new : BoardState) → new ≡ old → RestsIn word old new
+rests-same_word (make shape) old new same = λ some. Rests-same old new same
+rests-same_word (serve frames) old new same = tt
+rests-same_word (put key value) old new same = Rests-same old new same
+rests-same_word (get key) old new same = Rests-same old new same
+rests-same_word (delete key) old new same = Rests-same old new same
+rests-same_word (has key) old new same = Rests-same old new same
+rests-same_word (list from) old new same = Rests-same old new same
+rests-same_word stat old new same = Rests-same old new same
+rests-same_word assemble old new same = Rests-same old new same
+rests-same_word show old new same = Rests-same old new same
+rests-same_word (generate start count) old new same = Rests-same old new same
+
+pub rests-same : (word : Option Word) (old new : BoardState) → new ≡ old → Rests word old new
+rests-same None old new same = Rests-same old new same
+rests-same (Some word) old new same = rests-same_word word old new same
+
+-- a text was turned
+pub rests-text : (turn : List ℕ → Written) (old new : BoardState) (status : ℕ) → TextRun turn old new status → RestsFlash old new
+rests-text turn old new status (inl none) = Rests-same old new none.1
+rests-text turn old new status (inr turned) = turned.2.touched.rests
+
+-- a load was made of a board that holds its pages
+pub rests-loaded : (old new : BoardState) (found : Option Shape) → IsSome old.shape → Loaded old new found → RestsFlash old new
+rests-loaded old new found some l =
+    let held = l.held some in
+    Rests-start old new held.1 held.0 (ap (λ s. s.trail) l.rest) (ap (λ s. s.posted) l.rest)
+
+pub rests-refused : (old new : BoardState) → IsSome old.shape → LoadFailed old new → RestsFlash old new
+rests-refused old new some l =
+    let held = l.held some in
+    Rests-start old new held.1 held.0 (ap (λ s. s.trail) l.rest) (ap (λ s. s.posted) l.rest)
+
+-- an image is there
+pub rests-make : (shape : Shape) (old new : BoardState) (status : ℕ) → MakeRun shape old new status → IsSome old.shape → RestsFlash old new
+rests-make shape old new status (inl none) some = Rests-same old new none.1
+rests-make shape old new status (inr (inl refused)) some = rests-refused old new some refused.failed
+rests-make shape old new status (inr (inr (inl there))) some = rests-loaded old new (Some there.shape) some there.found
+rests-make shape old new status (inr (inr (inr run))) some =
+    let none : old.shape ≡ None = sym (run.none.held some).1 ∙ run.none.shape_is in
+    absurd (never old.shape none some)
+  where
+    never : (o : Option Shape) → o ≡ None → IsSome o → ⊥
+    never None e h = cc
+    never (Some s) e h = cc
