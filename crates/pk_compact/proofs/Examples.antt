@@ -19,9 +19,9 @@ use Rattle.pk_model.specs.Found.{Found, found_under, runs_from}
 use Rattle.pk_model.specs.Values.{values_of}
 use Rattle.pk_model.specs.Reading.{map_under}
 use Rattle.pk_pool.specs.declared.state.BlockState.TheVariants.{Free, Ready, Owned}
-use Rattle.pk_pool.specs.Blocks.{Blocks, used_by, unused, with_state, IsSpare, Fits as PoolFits}
+use Rattle.pk_pool.specs.Blocks.{Blocks, used_by, unused, with_state, IsSpare, PoolOnFlash}
 use Rattle.pk_root.specs.declared.next.Next.{Next}
-use Rattle.pk_root.specs.Installing.{Fits}
+use Rattle.pk_root.specs.Installing.{InstallerOnFlash}
 use Rattle.pk_steps.proofs.Places.{In}
 use Rattle.pk_compact.specs.Freezing.{MayFreeze}
 
@@ -83,7 +83,7 @@ is_owned b (inr (inr none)) = absurd none
 abbrev top : ℕ × Root
 top = (0, first)
 
-made_may : (next : Next) → PoolFits adopted made → Fits small next top made → MayFreeze adopted (record { shape = small; root = first }) next made false top nothing empty
+made_may : (next : Next) → PoolOnFlash adopted made → InstallerOnFlash small next top made → MayFreeze adopted (record { shape = small; root = first }) next made false top nothing empty
 made_may next pool_fits installs = record {
   pool_shape = refl;
   pool_fits = pool_fits;
@@ -99,13 +99,13 @@ made_may next pool_fits installs = record {
   apart = record { unnamed = not_named; no_value = λ b k spare e is. is };
 }
 
-pub first_may : (pool : Blocks) (root : Held) (next : Next) (flash : Flash) → root ≡ record { shape = small; root = first } → flash ≡ made → pool ≡ adopted → PoolFits pool flash → Fits root.shape next (0, first) flash
+pub first_may : (pool : Blocks) (root : Held) (next : Next) (flash : Flash) → root ≡ record { shape = small; root = first } → flash ≡ made → pool ≡ adopted → PoolOnFlash pool flash → InstallerOnFlash root.shape next (0, first) flash
     → (x : ℕ × Root) × (f : Found) × (m : Map) × MayFreeze pool root next flash false x f m
 first_may pool root next flash root_is flash_is pool_is pool_fits installs =
-    let P : Blocks → Type 0 = λ p. PoolFits p flash in
-    let Q : Flash → Type 0 = λ f. PoolFits adopted f in
-    let R : Held → Type 0 = λ h. Fits h.shape next (0, first) flash in
-    let S : Flash → Type 0 = λ f. Fits small next (0, first) f in
+    let P : Blocks → Type 0 = λ p. PoolOnFlash p flash in
+    let Q : Flash → Type 0 = λ f. PoolOnFlash adopted f in
+    let R : Held → Type 0 = λ h. InstallerOnFlash h.shape next (0, first) flash in
+    let S : Flash → Type 0 = λ f. InstallerOnFlash small next (0, first) f in
     let may = made_may next (subst Q flash_is (subst P pool_is pool_fits)) (subst S flash_is (subst R root_is installs)) in
     let A : Blocks → Type 0 = λ p. MayFreeze p (record { shape = small; root = first }) next made false top nothing empty in
     let B : Held → Type 0 = λ h. MayFreeze pool h next made false top nothing empty in

@@ -19,13 +19,13 @@ use Rattle.pk_model.proofs.Commits.{root_valid, member, injective, differ_front}
 use Rattle.pk_model.proofs.ValueSets.{is_true}
 use Rattle.pk_pool.specs.declared.state.BlockState.{BlockState}
 use Rattle.pk_pool.specs.declared.state.BlockState.TheVariants.{Free, Ready, Owned}
-use Rattle.pk_pool.specs.Blocks.{Blocks, IsShared, IsSpare, Fits as PoolFits}
+use Rattle.pk_pool.specs.Blocks.{Blocks, IsShared, IsSpare, PoolOnFlash}
 use Rattle.pk_pool.proofs.States.{get-set_other, set_is, free_is_not_root, ready_is_not_root}
 use Rattle.pk_pool.proofs.Sharing.{behind_roots}
-use Rattle.pk_pool.proofs.Fitting.{Fits-same}
+use Rattle.pk_pool.proofs.Fitting.{PoolOnFlash-same}
 use Rattle.pk_root.specs.declared.next.Next.{Next}
-use Rattle.pk_root.specs.Installing.{Fits, SameBehind}
-use Rattle.pk_root.proofs.Places.{Fits-by_same}
+use Rattle.pk_root.specs.Installing.{InstallerOnFlash, SameBehind}
+use Rattle.pk_root.proofs.Places.{InstallerOnFlash-by_same}
 use Rattle.pk_steps.specs.Under.{IsUnder}
 use Rattle.pk_steps.specs.Roots.{frozen_root, frozen}
 use Rattle.pk_model.specs.Growth.{Reaches, Goes}
@@ -136,8 +136,8 @@ module _ (pool : Blocks) (root : Held) (next : Next) (has_entries : Bool) (old :
     leave : (k : ℕ) → k / root.shape.block_pages ≢ t.first → k / root.shape.block_pages ≢ t.second → page_at mid.pages k ≡ page_at old.pages k
     leave k one other = two_leave root.shape is_shape pool old mid ready t.first t.second t.between t.first_taken t.second_taken k one other
 
-    mid_fits : Fits root.shape next top mid.pages
-    mid_fits = Fits-by_same root.shape next top old.pages mid.pages (two_front root.shape is_shape pool old mid ready t.first t.second t.between t.first_taken t.second_taken two.first_least two.second_least) may.installs
+    mid_fits : InstallerOnFlash root.shape next top mid.pages
+    mid_fits = InstallerOnFlash-by_same root.shape next top old.pages mid.pages (two_front root.shape is_shape pool old mid ready t.first t.second t.between t.first_taken t.second_taken two.first_least two.second_least) may.installs
 
     greater : top.1.number < root.root.number + 1
     greater = let same : top.1.number ≡ root.root.number = ap (λ r. r.number) may.top_is in omega (arith, same)
@@ -165,10 +165,10 @@ module _ (pool : Blocks) (root : Held) (next : Next) (has_entries : Bool) (old :
         let one = spare_before (record { shape = pool.shape; states = set pool.states t.first (Owned Journal) }) t.second b (inr (subst P t.pool_is is)) in
         spare_behind b (spare_before pool t.first b one.1).1
 
-    still_fits : (new : BoardState) → SameBehind root.shape mid.pages new.pages → PoolFits pool' mid.pages → PoolFits pool' new.pages
+    still_fits : (new : BoardState) → SameBehind root.shape mid.pages new.pages → PoolOnFlash pool' mid.pages → PoolOnFlash pool' new.pages
     still_fits new same fits =
         let shape_is : pool'.shape ≡ root.shape = ap (λ p. p.shape) t.pool_is ∙ may.pool_shape in
-        Fits-same pool' mid.pages new.pages (λ b k is inside.
+        PoolOnFlash-same pool' mid.pages new.pages (λ b k is inside.
         let twice = mul-le-mul_right pool'.shape.block_pages (ready_behind b is) in
         let low = inside.0 in
         let S : Shape → Type 0 = λ s. 2 * s.block_pages ≤ k in
@@ -202,7 +202,7 @@ module _ (pool : Blocks) (root : Held) (next : Next) (has_entries : Bool) (old :
         let P : Root → Type 0 = λ r. InstallsAll root.shape r next mid next' new in
         let f = finish root.shape is_shape top found m t.first t.second two.first_least two.second_least may.none_older frozen_valid next mid new mid_ready mid_fits under first_erased second_erased next' (subst P frozen_is installed) in
         let U : Root → Type 0 = λ r. IsUnder root.shape new.pages [] (f.page, r) (frozen found) m in
-        let V : Root → Type 0 = λ r. Fits root.shape next' (f.page, r) new.pages in
+        let V : Root → Type 0 = λ r. InstallerOnFlash root.shape next' (f.page, r) new.pages in
         let pool_same : given_back (with_two pool t.first t.second) (if has_entries then [] else root.root.newest) ≡ pool'' = sym (given ∙ (ap (λ p. given_back p (if has_entries then [] else slice_index former 0 ∷ slice_index former 1 ∷ [])) t.pool_is
         ∙ ap (λ bs. given_back (with_two pool t.first t.second) (if has_entries then [] else bs)) (ap (λ xs. slice_index xs 0 ∷ slice_index xs 1 ∷ []) (former_is former former_told) ∙ two_are root.root.newest grammar.two))) in
         let W : Blocks → Type 0 = λ p. IsApart root.shape p (next_root root.root blocks has_entries) (frozen found) in
@@ -236,10 +236,10 @@ module _ (pool : Blocks) (root : Held) (next : Next) (has_entries : Bool) (old :
       pub held_valid : is_root held.shape held.root ≡ true
       held_valid = let P : Held → Type 0 = λ h. is_root h.shape h.root ≡ true in subst P (sym followed) next_valid
 
-      pub held_fits : (x : ℕ × Root) × Fits held.shape next x mid.pages × (x.1.number < held.root.number)
-      held_fits = let P : Held → Type 0 = λ h. (x : ℕ × Root) × Fits h.shape next x mid.pages × (x.1.number < h.root.number) in subst P (sym followed) (top, mid_fits, greater)
+      pub held_fits : (x : ℕ × Root) × InstallerOnFlash held.shape next x mid.pages × (x.1.number < held.root.number)
+      held_fits = let P : Held → Type 0 = λ h. (x : ℕ × Root) × InstallerOnFlash h.shape next x mid.pages × (x.1.number < h.root.number) in subst P (sym followed) (top, mid_fits, greater)
 
-      pub held_pool : (new : BoardState) → SameBehind held.shape mid.pages new.pages → PoolFits pool' mid.pages → PoolFits pool' new.pages
+      pub held_pool : (new : BoardState) → SameBehind held.shape mid.pages new.pages → PoolOnFlash pool' mid.pages → PoolOnFlash pool' new.pages
       held_pool new same = let P : Held → Type 0 = λ h. SameBehind h.shape mid.pages new.pages in still_fits new (subst P followed same)
 
       pub held_goes : (new : BoardState) → FailsToFinish held.shape held.root next mid new → Goes root.shape old new (CrashFinds root.shape background old.pages m)

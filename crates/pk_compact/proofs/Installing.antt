@@ -25,7 +25,7 @@ use Rattle.pk_model.proofs.Commits.{root_valid}
 use Rattle.pk_model.proofs.Entries.{counting_all, journal_are, meta_are}
 use Rattle.pk_root.specs.declared.next.Next.{Next}
 use Rattle.pk_root.specs.declared.next.Next.TheVariants.{Erase, Program}
-use Rattle.pk_root.specs.Installing.{other_block, Fits, SameBehind, FailsToInstall, FailsToErase}
+use Rattle.pk_root.specs.Installing.{other_block, InstallerOnFlash, SameBehind, FailsToInstall, FailsToErase}
 use Rattle.pk_root.proofs.Places.{in_block}
 use Rattle.pk_root.proofs.Installs.{behind_block, behind_page}
 use Rattle.pk_root.proofs.Scanning.{root_page_exists}
@@ -56,7 +56,7 @@ under_behind shape flash cut top found m is_shape under newest same =
 -- ---- an erase of the other root block
 
 module _ (shape : Shape) (is_shape : IsShape shape) (top : ℕ × Root) (found : Found) (m : Map) (beside : ℕ) (old : BoardState) (ready : IsReady old shape)
-    (fits : Fits shape (Erase beside) top old.pages) (under : IsUnder shape old.pages [] top found m) where
+    (fits : InstallerOnFlash shape (Erase beside) top old.pages) (under : IsUnder shape old.pages [] top found m) where
   abbrev other : ℕ
   other = other_block shape beside
 
@@ -109,7 +109,7 @@ epoch_erased shape flash first second is_shape one other j low =
     new_erased flash shape.block_pages first second (j / shape.block_pages) (j % shape.block_pages) one other ((div-lt_iff_lt-mul positive).1 low) (mod-lt j positive)
 
 module _ (shape : Shape) (is_shape : IsShape shape) (top : ℕ × Root) (found : Found) (m : Map) (first second : ℕ) (none_older : found.older ≡ []) (valid : is_root shape (frozen_root top.1 found first second) ≡ true)
-    (page : ℕ) (old : BoardState) (ready : IsReady old shape) (fits : Fits shape (Program page) top old.pages) (under : IsUnder shape old.pages [] top found m)
+    (page : ℕ) (old : BoardState) (ready : IsReady old shape) (fits : InstallerOnFlash shape (Program page) top old.pages) (under : IsUnder shape old.pages [] top found m)
     (first_erased : IsErasedBlock shape old.pages first) (second_erased : IsErasedBlock shape old.pages second) where
   abbrev new_root : Root
   new_root = frozen_root top.1 found first second
@@ -163,7 +163,7 @@ erased_behind shape b old new least same is k low high = let twice : 2 * shape.b
 pub record Prepared (shape : Shape) (top : ℕ × Root) (found : Found) (m : Map) (old : BoardState) (next : Next) (new : BoardState) : Type 0 where
   pub reaches : Reaches shape old new (CrashFinds shape background old.pages m)
   pub ready : IsReady new shape
-  pub fits : Fits shape next top new.pages
+  pub fits : InstallerOnFlash shape next top new.pages
   pub under : IsUnder shape new.pages [] top found m
   pub behind : SameBehind shape old.pages new.pages
 
@@ -184,11 +184,11 @@ stops_all shape root next old new i =
     stops_then old i.between new (works_prepared shape next old i.then_next i.between i.prepared) (stops_last shape root i.then_next i.between new i.failed)
 
 module _ (shape : Shape) (is_shape : IsShape shape) (top : ℕ × Root) (found : Found) (m : Map) where
-  prepare : (next : Next) (old : BoardState) (next' : Next) (new : BoardState) → IsReady old shape → Fits shape next top old.pages → IsUnder shape old.pages [] top found m
+  prepare : (next : Next) (old : BoardState) (next' : Next) (new : BoardState) → IsReady old shape → InstallerOnFlash shape next top old.pages → IsUnder shape old.pages [] top found m
       → MayEraseOther shape next old next' new → Prepared shape top found m old next' new
   prepare next old next' new ready fits under (inl same) =
       let T : BoardState → Type 0 = λ s. Prepared shape top found m old next' s in
-      let S : Next → Type 0 = λ n. Fits shape n top old.pages in
+      let S : Next → Type 0 = λ n. InstallerOnFlash shape n top old.pages in
       subst T (sym same.1) (record {
         reaches = Reaches-none shape old (CrashFinds shape background old.pages m) ready.shape_is old refl (refl, under_reads shape old.pages [] top found m under);
         ready = ready;
@@ -197,9 +197,9 @@ module _ (shape : Shape) (is_shape : IsShape shape) (top : ℕ × Root) (found :
         behind = λ k high. refl;
       })
   prepare next old next' new ready fits under (inr e) =
-      let S : Next → Type 0 = λ n. Fits shape n top old.pages in
+      let S : Next → Type 0 = λ n. InstallerOnFlash shape n top old.pages in
       let T : BoardState → Type 0 = λ s. IsReady s shape in
-      let known : Fits shape (Erase e.beside) top old.pages = subst S e.was fits in
+      let known : InstallerOnFlash shape (Erase e.beside) top old.pages = subst S e.was fits in
       record {
         reaches = other_reaches shape is_shape top found m e.beside old ready known under new e.erase;
         ready = subst T (sym e.erase) (IsReady-erase shape old (other_block shape e.beside) is_shape ready);
@@ -209,20 +209,20 @@ module _ (shape : Shape) (is_shape : IsShape shape) (top : ℕ × Root) (found :
       }
 
   module _ (first second : ℕ) (first_least : 2 ≤ first) (second_least : 2 ≤ second) (none_older : found.older ≡ []) (valid : is_root shape (frozen_root top.1 found first second) ≡ true)
-      (next : Next) (old new : BoardState) (ready : IsReady old shape) (fits : Fits shape next top old.pages) (under : IsUnder shape old.pages [] top found m)
+      (next : Next) (old new : BoardState) (ready : IsReady old shape) (fits : InstallerOnFlash shape next top old.pages) (under : IsUnder shape old.pages [] top found m)
       (first_erased : IsErasedBlock shape old.pages first) (second_erased : IsErasedBlock shape old.pages second) where
     -- the newest root is that of the freeze, and the map is the same
     pub record Finished (next' : Next) : Type 0 where
       pub page : ℕ
       pub reaches : Reaches shape old new (CrashFinds shape background old.pages m)
       pub frozen_under : IsUnder shape new.pages [] (page, frozen_root top.1 found first second) (frozen found) m
-      pub installs : Fits shape next' (page, frozen_root top.1 found first second) new.pages
+      pub installs : InstallerOnFlash shape next' (page, frozen_root top.1 found first second) new.pages
 
     pub finish : (next' : Next) → InstallsAll shape (frozen_root top.1 found first second) next old next' new → Finished next'
     finish next' i =
         let p = prepare next old i.then_next i.between ready fits under i.prepared in
-        let S : Next → Type 0 = λ n. Fits shape n top i.between.pages in
-        let known : Fits shape (Program i.installed.page) top i.between.pages = subst S i.installed.was p.fits in
+        let S : Next → Type 0 = λ n. InstallerOnFlash shape n top i.between.pages in
+        let known : InstallerOnFlash shape (Program i.installed.page) top i.between.pages = subst S i.installed.was p.fits in
         let one = erased_behind shape first old.pages i.between.pages first_least p.behind first_erased in
         let other = erased_behind shape second old.pages i.between.pages second_least p.behind second_erased in
         record {
@@ -236,7 +236,7 @@ module _ (shape : Shape) (is_shape : IsShape shape) (top : ℕ × Root) (found :
     pub finish_goes : FailsToFinish shape (frozen_root top.1 found first second) next old new → Goes shape old new (CrashFinds shape background old.pages m)
     finish_goes i =
         let p = prepare next old i.then_next i.between ready fits under i.prepared in
-        let S : Next → Type 0 = λ n. Fits shape n top i.between.pages in
+        let S : Next → Type 0 = λ n. InstallerOnFlash shape n top i.between.pages in
         let one = erased_behind shape first old.pages i.between.pages first_least p.behind first_erased in
         let other = erased_behind shape second old.pages i.between.pages second_least p.behind second_erased in
         go_then shape m old i.between new ready.shape_is p.reaches (elim i.failed [

@@ -10,10 +10,10 @@ use Rattle.pk_rootfmt.specs.Held.{Held}
 use Rattle.pk_model.specs.Found.{Found}
 use Rattle.pk_model.specs.Laws.{AnyByRecursion}
 use Rattle.pk_pool.specs.declared.state.BlockState.TheVariants.{Free, Owned}
-use Rattle.pk_pool.specs.Blocks.{Blocks, used_by, with_state, IsSpare, Fits as PoolFits}
+use Rattle.pk_pool.specs.Blocks.{Blocks, used_by, with_state, IsSpare, PoolOnFlash}
 use Rattle.pk_nand.specs.Calls.{IsErasedBlock}
 use Rattle.pk_root.specs.declared.next.Next.{Next}
-use Rattle.pk_root.specs.Installing.{Fits}
+use Rattle.pk_root.specs.Installing.{InstallerOnFlash}
 use Rattle.pk_steps.specs.Under.{IsUnder, IsValuePage, places}
 use Rattle.pk_steps.specs.Roots.{frozen_root, frozen}
 use Rattle.pk_model.specs.Growth.{Reaches, Goes}
@@ -29,8 +29,8 @@ pub record IsApart (shape : Shape) (pool : Blocks) (root : Root) (found : Found)
 -- next root can be installed.
 pub record MayFreeze (pool : Blocks) (root : Held) (next : Next) (flash : Flash) (has_entries : Bool) (top : ℕ × Root) (found : Found) (m : Map) : Type 0 where
   pub pool_shape : pool.shape ≡ root.shape
-  pub pool_fits : PoolFits pool flash
-  pub installs : Fits root.shape next top flash
+  pub pool_fits : PoolOnFlash pool flash
+  pub installs : InstallerOnFlash root.shape next top flash
   pub top_is : top.1 ≡ root.root
   pub under : IsUnder root.shape flash [] top found m
   pub none_older : found.older ≡ []
@@ -77,7 +77,7 @@ pub record Froze (shape : Shape) (pool : Blocks) (old : BoardState) (has_entries
   pub second_erased : IsErasedBlock shape new.pages second
   pub root_is : root' ≡ frozen_root top.1 found first second
   pub under : IsUnder shape new.pages [] (page, root') (frozen found) m
-  pub installs : Fits shape next' (page, root') new.pages
+  pub installs : InstallerOnFlash shape next' (page, root') new.pages
   pub pool_is : pool' ≡ given_back (with_two pool first second) (if has_entries then [] else top.1.newest)
   pub apart : IsApart shape pool' root' (frozen found)
   pub number : root_number shape new.pages ≡ root_number shape old.pages + 1

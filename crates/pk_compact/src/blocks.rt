@@ -5,7 +5,7 @@ ghost use Rattle.pk_plan.specs.declared.owner.Owner.TheVariants.{Journal};
 ghost use Rattle.pk_nand.specs.Calls.{IsReady};
 ghost use Rattle.pk_nand.specs.declared.types.Fault.TheVariants.{Stopped};
 ghost use Rattle.pk_pool.specs.declared.state.BlockState.TheVariants.{Owned};
-ghost use Rattle.pk_pool.specs.Blocks.{used_by, Fits};
+ghost use Rattle.pk_pool.specs.Blocks.{used_by, PoolOnFlash};
 ghost use Rattle.pk_compact.specs.Freezing.{given_back};
 ghost use Rattle.pk_compact.specs.Steps.{TakesTwo, FailsToTake};
 
@@ -20,13 +20,13 @@ pub(crate) fn take_two<B: Nand, A: Allocator>(
 ) -> Result<[u16; 2], Fault>
     requires room { used_by Journal pool.old.states ≤ 2 }
     requires ready { IsReady (B.state board.old) pool.old.shape }
-    requires fits { Fits pool.old (B.state board.old).pages }
+    requires fits { PoolOnFlash pool.old (B.state board.old).pages }
     ensures taken { IfOk result (λ blocks. TakesTwo pool.old (B.state board.old) blocks pool.new
         (B.state board.new)) }
     ensures stopped { IfErr result (λ e. e ≡ Stopped) }
     ensures failed { OnErr result (FailsToTake pool.old (B.state board.old) (B.state board.new)) }
     ensures ready { IsReady (B.state board.new) pool.new.shape }
-    ensures fits { Fits pool.new (B.state board.new).pages }
+    ensures fits { PoolOnFlash pool.new (B.state board.new).pages }
     ensures shape { pool.new.shape ≡ pool.old.shape }
 {
     pool.known();
@@ -46,7 +46,7 @@ pub(crate) fn give_back<A: Allocator>(pool: &mut Pool<A>, blocks: [u16; 2], has_
     requires different { slice_index blocks 1 ≢ slice_index blocks 0 }
     ensures given { pool.new ≡ given_back pool.old
         (if has_entries then [] else slice_index blocks 0 ∷ slice_index blocks 1 ∷ []) }
-    ensures fits { (flash : Flash) → Fits pool.old flash → Fits pool.new flash }
+    ensures fits { (flash : Flash) → PoolOnFlash pool.old flash → PoolOnFlash pool.new flash }
 {
     if has_entries {
         return;

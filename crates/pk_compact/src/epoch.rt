@@ -4,7 +4,7 @@ ghost use Rattle.pk_base.specs.Map.{Map};
 ghost use Rattle.pk_nand.specs.Calls.{IsReady};
 ghost use Rattle.pk_rootfmt.specs.Root.{Root as RootValue};
 ghost use Rattle.pk_model.specs.Found.{Found};
-ghost use Rattle.pk_pool.specs.Blocks.{Fits};
+ghost use Rattle.pk_pool.specs.Blocks.{PoolOnFlash};
 ghost use Rattle.pk_model.specs.Steps.{Step};
 ghost use Rattle.pk_compact.specs.Freezing.{MayFreeze, FreezesAll, FreezeBreaks};
 
@@ -40,7 +40,7 @@ pub fn freeze<B: Nand, A: Allocator>(
         (FreezeBreaks pool.old root.old installer.old has_entries
         (B.state board.old) (B.state board.new))
         root.old.shape 1 (B.state board.old) (B.state board.new) result }
-    ensures fits { OnOk result (Fits pool.new (B.state board.new).pages) }
+    ensures fits { OnOk result (PoolOnFlash pool.new (B.state board.new).pages) }
     ensures pool_shape { OnOk result (pool.new.shape ≡ root.old.shape) }
     ensures root_shape { root.new.shape ≡ root.old.shape }
     ensures buffer { length buf.new ≡ length buf.old }

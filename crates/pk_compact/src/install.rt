@@ -3,7 +3,7 @@ ghost use Rattle.std.specs.Prelude.{◌≡◌, ◌<◌, ℕ, length, true, false
 ghost use Rattle.pk_nand.specs.Calls.{IsReady};
 ghost use Rattle.pk_nand.specs.declared.types.Fault.TheVariants.{Stopped};
 ghost use Rattle.pk_rootfmt.specs.Root.{Root as RootValue, is_root};
-ghost use Rattle.pk_root.specs.Installing.{Fits, SameBehind, FailsToErase, erases_next};
+ghost use Rattle.pk_root.specs.Installing.{InstallerOnFlash, SameBehind, FailsToErase, erases_next};
 ghost use Rattle.pk_compact.specs.Steps.{MayEraseOther, InstallsAll, FailsToFinish};
 
 use pk_base::Shape;
@@ -16,7 +16,7 @@ use std::alloc::Allocator;
 fn prepare<B: Nand>(board: &mut B, shape: &Shape, installer: &mut Installer) -> Result<(), Fault>
     requires ready { IsReady (B.state board.old) shape.now }
     requires fits { (top : ℕ × RootValue)
-        × Fits shape.now installer.old top (B.state board.old).pages }
+        × InstallerOnFlash shape.now installer.old top (B.state board.old).pages }
     ensures prepared { OnOk result (MayEraseOther shape.now installer.old (B.state board.old)
         installer.new (B.state board.new)) }
     ensures programs_next { OnOk result (erases_next installer.new ≡ false) }
@@ -44,7 +44,7 @@ pub(crate) fn install<B: Nand, A: Allocator>(
     requires ready { IsReady (B.state board.old) root.now.shape }
     requires grammar { is_root root.now.shape root.now.root ≡ true }
     requires fits { (top : ℕ × RootValue)
-        × Fits root.now.shape installer.old top (B.state board.old).pages
+        × InstallerOnFlash root.now.shape installer.old top (B.state board.old).pages
         × (top.1.number < root.now.root.number) }
     requires room { length buf.old ≡ root.now.shape.page_bytes }
     ensures installed { OnOk result (InstallsAll root.now.shape root.now.root installer.old

@@ -13,7 +13,7 @@ use Rattle.pk_nand.specs.Effects.{AtMostOneCall}
 use Rattle.pk_drive.specs.Calling.{FewCalls, most_calls_of}
 use Rattle.pk_nand.specs.BoardState.{shape_or_none}
 use Rattle.pk_core.specs.Parts.{Parts}
-use Rattle.pk_core.specs.Agreeing.{Agrees}
+use Rattle.pk_core.specs.Agreeing.{DriveOnFlash}
 use Rattle.pk_core.specs.Quiet.{ReadsOnly, ReadsFailing}
 use Rattle.pk_core.proofs.Unchanging.{counted_by-min}
 
@@ -97,13 +97,13 @@ looks_few : (shape : Shape) → IsShape shape → 68 ≤ most_calls shape
 unfolding most_calls
 looks_few shape is = let some = block_pages_positive shape is in omega (arith, some)
 
-its_shape : (d : Parts) (old : BoardState) → Agrees d old.shape old.pages → IsShape d.log.shape
+its_shape : (d : Parts) (old : BoardState) → DriveOnFlash d old.shape old.pages → IsShape d.log.shape
 its_shape d old a = subst IsShape (sym a.with.shape_is) a.with.placed.is_shape
 
-pub few_looked : (d : Parts) (old new : BoardState) → Agrees d old.shape old.pages → (most : ℕ) → most ≤ 68 → ReadsOnly old new most → FewCalls (most_calls d.log.shape) old new
+pub few_looked : (d : Parts) (old new : BoardState) → DriveOnFlash d old.shape old.pages → (most : ℕ) → most ≤ 68 → ReadsOnly old new most → FewCalls (most_calls d.log.shape) old new
 few_looked d old new a most less made = let least = looks_few d.log.shape (its_shape d old a) in few_reads old new most (most_calls d.log.shape) (omega (arith, least, less)) made
 
-pub few_failed : (d : Parts) (old new : BoardState) → Agrees d old.shape old.pages → (most : ℕ) → most ≤ 68 → ReadsFailing old new most → FewCalls (most_calls d.log.shape) old new
+pub few_failed : (d : Parts) (old new : BoardState) → DriveOnFlash d old.shape old.pages → (most : ℕ) → most ≤ 68 → ReadsFailing old new most → FewCalls (most_calls d.log.shape) old new
 few_failed d old new a most less made = let least = looks_few d.log.shape (its_shape d old a) in few_breaks old new most (most_calls d.log.shape) (omega (arith, least, less)) made
 
 -- ---- a List
@@ -165,7 +165,7 @@ few_of_levels shape pinned (r1 ∷ r2 ∷ r3 ∷ []) a b c d four each h1 h2 h3 
 few_of_levels shape pinned (r1 ∷ r2 ∷ r3 ∷ r4 ∷ r5 ∷ rs) a b c d four each h1 h2 h3 h4 = absurd (omega (arith, four))
 
 -- the levels have the shape of the log
-pub few_of_shape : (d : Parts) (old new : BoardState) → Agrees d old.shape old.pages → FewCalls (most_calls d.levels.shape) old new → FewCalls (most_calls d.log.shape) old new
+pub few_of_shape : (d : Parts) (old new : BoardState) → DriveOnFlash d old.shape old.pages → FewCalls (most_calls d.levels.shape) old new → FewCalls (most_calls d.log.shape) old new
 few_of_shape d old new a f = subst (λ s. FewCalls (most_calls s) old new) (a.with.levels_shape ∙ sym a.with.shape_is) f
 
 -- ---- by the opcode
@@ -178,5 +178,5 @@ pub few_for_tick : (shape : Shape) (opcode size : ℕ) → opcode ≡ 0xC0 → (
 few_for_tick shape opcode size is old new f = subst (λ o. FewCalls (most_calls_of shape o size) old new) (sym is) f
 
 -- the board tells the shape of the log
-pub few_told : (d : Parts) (old new : BoardState) → Agrees d old.shape old.pages → (opcode size : ℕ) → FewCalls (most_calls_of d.log.shape opcode size) old new → FewCalls (most_calls_of (shape_or_none old.shape) opcode size) old new
+pub few_told : (d : Parts) (old new : BoardState) → DriveOnFlash d old.shape old.pages → (opcode size : ℕ) → FewCalls (most_calls_of d.log.shape opcode size) old new → FewCalls (most_calls_of (shape_or_none old.shape) opcode size) old new
 few_told d old new a opcode size f = subst (λ s. FewCalls (most_calls_of s opcode size) old new) (a.with.shape_is ∙ sym (ap shape_or_none a.told_is)) f

@@ -32,7 +32,7 @@ use Rattle.pk_model.proofs.SamePages.{any_front}
 use Rattle.pk_steps.specs.Under.{IsUnder, IsValuePage, places}
 use Rattle.pk_steps.specs.Roots.{committed}
 use Rattle.pk_steps.proofs.Untouched.{under_reads}
-use Rattle.pk_data.specs.Placed.{Placed}
+use Rattle.pk_data.specs.Placed.{ValuesOnFlash}
 use Rattle.pk_data.proofs.Unchanged.{flash_elsewhere}
 use Rattle.pk_model.specs.Growth.{Goes}
 use Rattle.pk_model.specs.Crashes.{CrashFinds, commit}
@@ -43,11 +43,11 @@ use Rattle.pk_nand.proofs.Effects.{works_none, works_program, stops_program}
 use Rattle.pk_log.specs.State.{LogState, all_committed}
 use Rattle.pk_log.specs.Commits.{CommitsNone, CommitsAll, CommitFailed, CommitStands, CommitHolds, CommitReaches, CommitGoes, CommitCut as LogCut, Maps}
 use Rattle.pk_core.specs.Parts.{Parts, jobs_of}
-use Rattle.pk_core.specs.Agreeing.{AgreesWith}
+use Rattle.pk_core.specs.Agreeing.{DriveOnFlashWith}
 use Rattle.pk_core.specs.Moves.{MayStep, StepKeeps, OnlyCommits, StandsFor, Keeps, KeepsAll, BreaksAll}
 use Rattle.pk_core.proofs.Keeping.{KeepsAll-none}
 use Rattle.pk_core.proofs.Standing.{same_found}
-use Rattle.pk_core.proofs.Elsewhere.{StandEach-same, values_same, still_fits}
+use Rattle.pk_core.proofs.Elsewhere.{RunsOnFlash-same, values_same, still_fits}
 
 -- the drive with another log
 abbrev pub with_log : Parts → LogState → Parts
@@ -62,7 +62,7 @@ meta_not_journal states b one other = cc
 
 -- ---- the next page of the epoch was programmed
 
-module _ (d : Parts) (old new : BoardState) (top : ℕ × Root) (found : Found) (without m : Map) (agrees : AgreesWith d d.log.shape old.pages top found without m)
+module _ (d : Parts) (old new : BoardState) (top : ℕ × Root) (found : Found) (without m : Map) (agrees : DriveOnFlashWith d d.log.shape old.pages top found without m)
     (some : d.log.pending ≢ []) (bytes : List ℕ) (made : new ≡ after_program old (next_page d.log.epoch) bytes) (ready : IsReady new d.log.shape)
     (logs_after : CommitStands d.log old (all_committed d.log) new) (holds : CommitHolds d.log old new) where
   abbrev its : Shape
@@ -96,11 +96,11 @@ module _ (d : Parts) (old new : BoardState) (top : ℕ × Root) (found : Found) 
   maps : Maps d.log old top found without m
   maps = record { logs = agrees.logs; without = agrees.committed; all = agrees.pending }
 
-  after_is : AgreesWith (with_log d (all_committed d.log)) its new.pages top (committed found d.log.pending) m m
+  after_is : DriveOnFlashWith (with_log d (all_committed d.log)) its new.pages top (committed found d.log.pending) m m
   after_is =
       let under = holds top found without m maps in
       let same = sym (places_committed found d.log.pending) in
-      let values : Placed its d.space d.pool (jobs_of d).blocks.values new.pages (places found d.log.pending) =
+      let values : ValuesOnFlash its d.space d.pool (jobs_of d).blocks.values new.pages (places found d.log.pending) =
       flash_elsewhere its d.space d.pool (jobs_of d).blocks.values old.pages new.pages (places found d.log.pending) agrees.placed (values_same its d.pool old.pages new.pages at owned others (jobs_of d).blocks.values)
       (still_fits its d.pool old.pages new.pages at owned others agrees.placed.shape_is agrees.placed.fits) in
       record {
@@ -111,10 +111,10 @@ module _ (d : Parts) (old new : BoardState) (top : ℕ × Root) (found : Found) 
         pending = under;
         levels_shape = agrees.levels_shape;
         levels_pinned = agrees.levels_pinned;
-        stand = StandEach-same its old.pages new.pages d.arena d.levels.runs top.1.runs found.runs positive agrees.run_blocks run_page agrees.stand;
+        stand = RunsOnFlash-same its old.pages new.pages d.arena d.levels.runs top.1.runs found.runs positive agrees.run_blocks run_page agrees.stand;
         run_blocks = agrees.run_blocks;
         arena_is = agrees.arena_is;
-        placed = subst (λ (es : List (Key × Place)). Placed its d.space d.pool (jobs_of d).blocks.values new.pages es) same values;
+        placed = subst (λ (es : List (Key × Place)). ValuesOnFlash its d.space d.pool (jobs_of d).blocks.values new.pages es) same values;
         former = λ k is. agrees.placed.owned k (subst (λ (es : List (Key × Place)). IsValuePage its es k) (sym same) is);
         former_read = λ k is. agrees.placed.outputs_are.unread k (subst (λ (es : List (Key × Place)). IsValuePage its es k) (sym same) is);
         journal = agrees.journal;
@@ -137,7 +137,7 @@ module _ (shape : Shape) (top : ℕ × Root) (found : Found) (es : List Entry) (
     ],
   )
 
-pub maps_of : (d : Parts) (board : BoardState) (top : ℕ × Root) (found : Found) (without m : Map) → AgreesWith d d.log.shape board.pages top found without m → Maps d.log board top found without m
+pub maps_of : (d : Parts) (board : BoardState) (top : ℕ × Root) (found : Found) (without m : Map) → DriveOnFlashWith d d.log.shape board.pages top found without m → Maps d.log board top found without m
 maps_of d board top found without m agrees = record { logs = agrees.logs; without = agrees.committed; all = agrees.pending }
 
 -- ---- the whole commit

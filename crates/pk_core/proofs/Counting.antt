@@ -27,7 +27,7 @@ use Rattle.pk_drive.specs.Exec.{report_of}
 use Rattle.pk_drive.specs.Seen.{reply_of}
 use Rattle.pk_drive.specs.declared.types.Outcome.{Outcome}
 use Rattle.pk_core.specs.Parts.{Parts, sight_of, counts_of, jobs_of}
-use Rattle.pk_core.specs.Agreeing.{AgreesWith, Agrees}
+use Rattle.pk_core.specs.Agreeing.{DriveOnFlashWith, DriveOnFlash}
 use Rattle.pk_core.specs.Done.{Does}
 use Rattle.pk_core.specs.Quiet.{DoneWithout}
 use Rattle.pk_core.proofs.Unchanging.{own, for_its_map, same_early, does_reads, reads_none, flush_step, report_step, same_ok, ok_sound, AnswersAll}
@@ -41,7 +41,7 @@ numbers_more xs into new i d less front before =
 
 -- ---- the map
 
-pub counts_map : (d : Parts) (shape : Shape) (flash : Flash) (top : ℕ × Root) (found : Found) (without all : Map) → AgreesWith d shape flash top found without all → CountsMap shape d.frames all (counts_of d)
+pub counts_map : (d : Parts) (shape : Shape) (flash : Flash) (top : ℕ × Root) (found : Found) (without all : Map) → DriveOnFlashWith d shape flash top found without all → CountsMap shape d.frames all (counts_of d)
 counts_map d shape flash top found without all a =
     let c = counts shape flash d.log.pending top found all a.placed.is_shape a.is_flash a.pending in
     record {
@@ -55,7 +55,7 @@ counts_map d shape flash top found without all a =
 told_same : (a b : Shape) → ◌≡◌ {A = Option Shape} (Some a) (Some b) → a ≡ b
 told_same a b e = cc
 
-pub agrees_counts : (d : Parts) (shape : Shape) (flash : Flash) (m : Map) → Agrees d (Some shape) flash → reading shape flash d.log.pending ≡ Ok m → CountsMap shape d.frames m (counts_of d)
+pub agrees_counts : (d : Parts) (shape : Shape) (flash : Flash) (m : Map) → DriveOnFlash d (Some shape) flash → reading shape flash d.log.pending ≡ Ok m → CountsMap shape d.frames m (counts_of d)
 agrees_counts d shape flash m a read =
     let here = counts_map d a.shape flash a.top a.found a.without a.all a.with in
     let same : a.shape ≡ shape = sym (told_same shape a.shape a.told_is) in
@@ -66,7 +66,7 @@ agrees_counts d shape flash m a read =
 
 -- ---- roots
 
-pub worn_is : (d : Parts) (shape : Shape) (flash : Flash) → Agrees d (Some shape) flash → root_number shape flash ≡ d.log.root.number
+pub worn_is : (d : Parts) (shape : Shape) (flash : Flash) → DriveOnFlash d (Some shape) flash → root_number shape flash ≡ d.log.root.number
 unfolding root_number
 worn_is d shape flash a =
     let same : a.shape ≡ shape = sym (told_same shape a.shape a.told_is) in

@@ -10,7 +10,7 @@ use Rattle.pk_nvme.specs.Seen.{command_of}
 use Rattle.pk_nvme.specs.Command.{Command, key}
 use Rattle.pk_nand.specs.BoardState.{BoardState}
 use Rattle.pk_nand.proofs.Reaching.{Reached-start}
-use Rattle.pk_level.specs.Levels.{StandEach}
+use Rattle.pk_level.specs.Levels.{RunsOnFlash}
 use Rattle.pk_nvme.specs.Opcode.{op_of}
 use Rattle.pk_nvme.specs.declared.opcode.Opcode.{Opcode}
 use Rattle.pk_nvme.specs.declared.opcode.Opcode.TheVariants.{Retrieve, List as ListKeys}
@@ -27,7 +27,7 @@ use Rattle.pk_drive.specs.Seen.{reply_of}
 use Rattle.pk_model.specs.Wear.{roots}
 use Rattle.pk_drive.specs.declared.types.Outcome.{Outcome}
 use Rattle.pk_core.specs.Parts.{Parts, sight_of}
-use Rattle.pk_core.specs.Agreeing.{Agrees}
+use Rattle.pk_core.specs.Agreeing.{DriveOnFlash}
 use Rattle.pk_core.specs.Done.{Does}
 use Rattle.pk_core.specs.Listed.{keys_there, ListsInto}
 use Rattle.pk_core.proofs.Replies.{keys_listed}
@@ -48,8 +48,8 @@ not_retrieve k e f = cc
 abbrev eleven : List ℕ
 eleven = 0 ∷ 0 ∷ 0 ∷ 0 ∷ 0 ∷ 0 ∷ 0 ∷ 0 ∷ 0 ∷ 0 ∷ 0 ∷ []
 
-module _ (d : Parts) (old new : BoardState) (r : Request) (o : Outcome) (into : List ℕ) (a : Agrees d old.shape old.pages) (is : r.opcode ≡ 0x06) (passed : early d.log.shape (command_of r []) ≡ None)
-    (lists : (ess : List (List Entry)) → StandEach old.pages d.arena d.levels.runs ess
+module _ (d : Parts) (old new : BoardState) (r : Request) (o : Outcome) (into : List ℕ) (a : DriveOnFlash d old.shape old.pages) (is : r.opcode ≡ 0x06) (passed : early d.log.shape (command_of r []) ≡ None)
+    (lists : (ess : List (List Entry)) → RunsOnFlash old.pages d.arena d.levels.runs ess
     → ListsInto old new o into (list_bytes (fitting (min r.size 65536 - 4) (keys_there (key (command_of r [])) (d.log.active.entries ∷ d.log.frozen.entries ∷ ess))))) where
   abbrev c : Command
   c = command_of r []
@@ -146,5 +146,5 @@ module _ (d : Parts) (old new : BoardState) (r : Request) (o : Outcome) (into : 
   pub list_pages : new.pages ≡ old.pages
   list_pages = same_pages
 
-  pub list_agrees : Agrees d new.shape new.pages
-  list_agrees = subst (λ (s : Option Shape). Agrees d s new.pages) (sym same_shape) (subst (λ (f : Flash). Agrees d old.shape f) (sym same_pages) a)
+  pub list_agrees : DriveOnFlash d new.shape new.pages
+  list_agrees = subst (λ (s : Option Shape). DriveOnFlash d s new.pages) (sym same_shape) (subst (λ (f : Flash). DriveOnFlash d old.shape f) (sym same_pages) a)

@@ -10,11 +10,11 @@ use Rattle.pk_plan.specs.declared.owner.Owner.TheVariants.{Journal, Values as fo
 use Rattle.pk_pin.specs.Frames.{Frames}
 use Rattle.pk_pool.specs.declared.state.BlockState.{BlockState}
 use Rattle.pk_pool.specs.declared.state.BlockState.TheVariants.{Ready, Owned}
-use Rattle.pk_pool.specs.Blocks.{Blocks, Fits}
-use Rattle.pk_pool.proofs.Fitting.{block_of, Fits-same}
+use Rattle.pk_pool.specs.Blocks.{Blocks, PoolOnFlash}
+use Rattle.pk_pool.proofs.Fitting.{block_of, PoolOnFlash-same}
 use Rattle.pk_run.specs.Kept.{Kept, page_of}
-use Rattle.pk_run.proofs.Standing.{Stands-elsewhere}
-use Rattle.pk_level.specs.Levels.{StandEach}
+use Rattle.pk_run.proofs.Standing.{RunOnFlash-elsewhere}
+use Rattle.pk_level.specs.Levels.{RunsOnFlash}
 use Rattle.pk_model.specs.Laws.{AnyByRecursion}
 use Rattle.pk_model.proofs.Commits.{member}
 use Rattle.pk_model.proofs.SamePages.{any_front, any_back}
@@ -32,15 +32,15 @@ page_named r j some small =
     subst (λ (x : ℕ). AnyByRecursion (λ b. x ≡ b) r.blocks) (sym here) (member r.blocks (j / n) inside)
 
 -- where no page of their blocks differs
-pub StandEach-same : (shape : Shape) (old new : Flash) (arena : Frames) (rs : List Kept) (bss : List (List ℕ)) (ess : List (List Entry)) → 0 < shape.block_pages → HaveBlocks shape rs bss
+pub RunsOnFlash-same : (shape : Shape) (old new : Flash) (arena : Frames) (rs : List Kept) (bss : List (List ℕ)) (ess : List (List Entry)) → 0 < shape.block_pages → HaveBlocks shape rs bss
     → ((k : ℕ) → AnyByRecursion (λ b. k / shape.block_pages ≡ b) (concat bss) → page_at new k ≡ page_at old k)
-    → StandEach old arena rs ess → StandEach new arena rs ess
-StandEach-same shape old new arena [] [] [] some have same s = tt
-StandEach-same shape old new arena [] [] (es ∷ ess) some have same s = absurd s
-StandEach-same shape old new arena [] (bs ∷ bss) ess some have same s = absurd have
-StandEach-same shape old new arena (r ∷ rs) [] ess some have same s = absurd have
-StandEach-same shape old new arena (r ∷ rs) (bs ∷ bss) [] some have same s = absurd s
-StandEach-same shape old new arena (r ∷ rs) (bs ∷ bss) (es ∷ ess) some have same s =
+    → RunsOnFlash old arena rs ess → RunsOnFlash new arena rs ess
+RunsOnFlash-same shape old new arena [] [] [] some have same s = tt
+RunsOnFlash-same shape old new arena [] [] (es ∷ ess) some have same s = absurd s
+RunsOnFlash-same shape old new arena [] (bs ∷ bss) ess some have same s = absurd have
+RunsOnFlash-same shape old new arena (r ∷ rs) [] ess some have same s = absurd have
+RunsOnFlash-same shape old new arena (r ∷ rs) (bs ∷ bss) [] some have same s = absurd s
+RunsOnFlash-same shape old new arena (r ∷ rs) (bs ∷ bss) (es ∷ ess) some have same s =
     let P : Shape → Type 0 = λ x. 0 < x.block_pages in
     let Q : Shape → ℕ → Type 0 = λ x k. AnyByRecursion (λ b. k / x.block_pages ≡ b) bs in
     let R : ℕ → List ℕ → Type 0 = λ k xs. AnyByRecursion (λ b. k / r.shape.block_pages ≡ b) xs in
@@ -48,8 +48,8 @@ StandEach-same shape old new arena (r ∷ rs) (bs ∷ bss) (es ∷ ess) some hav
     let page : (j : ℕ) → j < length r.firsts → page_at new (page_of r j) ≡ page_at old (page_of r j) =
     λ j small. same (page_of r j) (any_front (λ b. page_of r j / shape.block_pages ≡ b) bs (concat bss)
     (subst (λ x. Q x (page_of r j)) have.0 (subst (λ xs. R (page_of r j) xs) have.1 (page_named r j (subst P (sym have.0) some) (omega (arith, small, within)))))) in (
-      Stands-elsewhere r old new arena arena es page (λ j lease got is. (is, refl)) s.0,
-      StandEach-same shape old new arena rs bss ess some have.2 (λ k is. same k (any_back (λ b. k / shape.block_pages ≡ b) bs (concat bss) is)) s.1,
+      RunOnFlash-elsewhere r old new arena arena es page (λ j lease got is. (is, refl)) s.0,
+      RunsOnFlash-same shape old new arena rs bss ess some have.2 (λ k is. same k (any_back (λ b. k / shape.block_pages ≡ b) bs (concat bss) is)) s.1,
     )
 
 -- ---- states of blocks
@@ -71,7 +71,7 @@ module _ (shape : Shape) (pool : Blocks) (old new : Flash) (at : ℕ) (owned : s
   pub values_same : (outputs : List ℕ) → SameValues shape pool outputs old new
   values_same outputs k held no_output = in_another k (λ other. values_not_journal pool.states (k / shape.block_pages) held other)
 
-  pub still_fits : pool.shape ≡ shape → Fits pool old → Fits pool new
-  still_fits same fits = Fits-same pool old new (λ b k is inside.
+  pub still_fits : pool.shape ≡ shape → PoolOnFlash pool old → PoolOnFlash pool new
+  still_fits same fits = PoolOnFlash-same pool old new (λ b k is inside.
       let here : k / shape.block_pages ≡ b = subst (λ (s : Shape). k / s.block_pages ≡ b) same (block_of pool.shape.block_pages k b inside.0 inside.1) in
       in_another k (λ other. journal_not_ready pool.states b (subst (λ (x : ℕ). slice_get pool.states x ≡ Some (Owned Journal)) here other) is)) fits

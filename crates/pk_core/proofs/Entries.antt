@@ -32,17 +32,17 @@ use Rattle.pk_steps.proofs.Places.{fits_more}
 use Rattle.pk_steps.proofs.Storing.{stores, deletes, placed-gone}
 use Rattle.pk_steps.proofs.Counting.{sorted_read, entries-rising}
 use Rattle.pk_log.specs.State.{LogState, pushed}
-use Rattle.pk_log.specs.Logs.{Logs}
+use Rattle.pk_log.specs.Logs.{LogOnFlash}
 use Rattle.pk_data.specs.declared.span.Span.{Span}
 use Rattle.pk_data.specs.State.{DataState}
-use Rattle.pk_data.specs.Placed.{HoldsValues, Placed, without}
+use Rattle.pk_data.specs.Placed.{HoldsValues, ValuesOnFlash, without}
 use Rattle.pk_data.specs.Entries.{span_of, span_if_some, Held, Moves}
 use Rattle.pk_data.specs.Laws.{value_blocks}
 use Rattle.pk_data.proofs.Lists.{found_page, found_place}
 use Rattle.pk_data.proofs.Unchanged.{lie_in_few}
 use Rattle.pk_core.specs.declared.place.ValuePlace.{ValuePlace}
 use Rattle.pk_core.specs.Parts.{Parts, jobs_of}
-use Rattle.pk_core.specs.Agreeing.{AgreesWith}
+use Rattle.pk_core.specs.Agreeing.{DriveOnFlashWith}
 use Rattle.pk_core.specs.Finding.{place_of, place_if_some}
 use Rattle.pk_core.specs.Moves.{StandsFor}
 use Rattle.pk_core.specs.Noting.{Puts, Drops, more_keys}
@@ -74,7 +74,7 @@ limit_few shape is =
 
 -- ---- the places before
 
-module _ (d : Parts) (shape : Shape) (flash : Flash) (top : ℕ × Root) (found : Found) (lower m : Map) (with : AgreesWith d shape flash top found lower m) where
+module _ (d : Parts) (shape : Shape) (flash : Flash) (top : ℕ × Root) (found : Found) (lower m : Map) (with : DriveOnFlashWith d shape flash top found lower m) where
   shape_is : IsShape shape
   shape_is = subst IsShape with.shape_is with.logs.is_shape
 
@@ -153,7 +153,7 @@ module _ (d : Parts) (flash : Flash) (m : Map) (key : Key) (value : List ℕ) (p
   places_are : places p.found (d.log.pending ++ e ∷ []) ≡ put key_cmp key place es
   places_are = ap (λ xs. placed (firsts xs)) (entries_in_order-push p.found d.log.pending e) ∙ placed-put key place (counting p.found d.log.pending) (firsts_sorted (entries_in_order p.found d.log.pending))
 
-  module _ (space : DataState) (placed_now : Placed d.log.shape space d.pool (jobs_of d).blocks.values flash (put key_cmp key place es)) where
+  module _ (space : DataState) (placed_now : ValuesOnFlash d.log.shape space d.pool (jobs_of d).blocks.values flash (put key_cmp key place es)) where
     -- no page of the value is in a block that the root names
     unnamed : (k : ℕ) → IsPageOf d.log.shape k place → AnyByRecursion (λ b. k / d.log.shape.block_pages ≡ b) (named p.top.1) → ⊥
     unnamed k is in_named =
@@ -175,8 +175,8 @@ module _ (d : Parts) (flash : Flash) (m : Map) (key : Key) (value : List ℕ) (p
     under_now : length (firsts (p.found.newest ++ (d.log.pending ++ e ∷ []))) ≤ buffer d.log.shape → IsUnder d.log.shape flash (d.log.pending ++ e ∷ []) p.top p.found (insert m key value)
     under_now room = stores d.log.shape flash d.log.pending p.top p.found m key place value p.with.pending p.written.there room fit_now
 
-    pub put_agrees : Logs (pushed d.log e) flash p.top p.found → length (firsts (p.found.newest ++ (d.log.pending ++ e ∷ []))) ≤ buffer d.log.shape
-        → AgreesWith (record d { log = pushed d.log e; space = space; keys = more_keys d.keys old }) d.log.shape flash p.top p.found p.without (insert m key value)
+    pub put_agrees : LogOnFlash (pushed d.log e) flash p.top p.found → length (firsts (p.found.newest ++ (d.log.pending ++ e ∷ []))) ≤ buffer d.log.shape
+        → DriveOnFlashWith (record d { log = pushed d.log e; space = space; keys = more_keys d.keys old }) d.log.shape flash p.top p.found p.without (insert m key value)
     put_agrees logs room = record {
       shape_is = refl;
       is_flash = p.with.is_flash;
@@ -188,7 +188,7 @@ module _ (d : Parts) (flash : Flash) (m : Map) (key : Key) (value : List ℕ) (p
       stand = p.with.stand;
       run_blocks = p.with.run_blocks;
       arena_is = p.with.arena_is;
-      placed = subst (λ (xs : List (Key × Place)). Placed d.log.shape space d.pool (jobs_of d).blocks.values flash xs) (sym places_are) placed_now;
+      placed = subst (λ (xs : List (Key × Place)). ValuesOnFlash d.log.shape space d.pool (jobs_of d).blocks.values flash xs) (sym places_are) placed_now;
       former = p.with.former;
       former_read = p.with.former_read;
       journal = p.with.journal;
@@ -202,8 +202,8 @@ module _ (d : Parts) (flash : Flash) (m : Map) (key : Key) (value : List ℕ) (p
 -- what the calls of the parts say of one entry more
 pub record Noted (d : Parts) (e : Entry) (log : LogState) : Type 0 where
   pub pushed_is : log ≡ pushed d.log e
-  pub stands : (flash : Flash) (top : ℕ × Root) (found : Found) → Logs d.log flash top found → Logs log flash top found
-  pub fits_in : (flash : Flash) (top : ℕ × Root) (found : Found) → Logs d.log flash top found → length (firsts (found.newest ++ (d.log.pending ++ e ∷ []))) ≤ buffer d.log.shape
+  pub stands : (flash : Flash) (top : ℕ × Root) (found : Found) → LogOnFlash d.log flash top found → LogOnFlash log flash top found
+  pub fits_in : (flash : Flash) (top : ℕ × Root) (found : Found) → LogOnFlash d.log flash top found → length (firsts (found.newest ++ (d.log.pending ++ e ∷ []))) ≤ buffer d.log.shape
 
 -- the place of the value
 abbrev placed_at : ℕ → ℕ → Place
@@ -212,7 +212,7 @@ placed_at page len = record { page = page; len = len }
 put_stands_at : (d : Parts) (flash : Flash) (m : Map) (key : Key) (value : List ℕ) (page : ℕ) (old : Option ValuePlace) → Puts d d.log.shape flash m key value page old
     → (log : LogState) (space : DataState) (keys : ℕ) (o : Option Span) (n : Span) → Noted d (key, Some (placed_at page (length value))) log
     → o ≡ span_if_some d.log.shape (place_if_some old) → n ≡ span_of d.log.shape (placed_at page (length value))
-    → ((mv : Moves d.space o n) → Placed mv.shape space mv.pool mv.outputs mv.flash (put key_cmp mv.key mv.place mv.es))
+    → ((mv : Moves d.space o n) → ValuesOnFlash mv.shape space mv.pool mv.outputs mv.flash (put key_cmp mv.key mv.place mv.es))
     → keys ≡ more_keys d.keys old
     → StandsFor (record d { log = log; space = space; keys = keys }) d.log.shape flash (insert m key value)
 unfolding puts_moves
@@ -220,7 +220,7 @@ put_stands_at d flash m key value page old p log space keys o n noted o_is n_is 
     let e : Entry = (key, Some (placed_at page (length value))) in
     let placed_now = moved (puts_moves d flash m key value page old p o n o_is n_is) in
     let P : LogState → ℕ → Type 0 = λ l k. StandsFor (record d { log = l; space = space; keys = k }) d.log.shape flash (insert m key value) in
-    let logs : Logs (pushed d.log e) flash p.top p.found = subst (λ (l : LogState). Logs l flash p.top p.found) noted.pushed_is (noted.stands flash p.top p.found p.with.logs) in
+    let logs : LogOnFlash (pushed d.log e) flash p.top p.found = subst (λ (l : LogState). LogOnFlash l flash p.top p.found) noted.pushed_is (noted.stands flash p.top p.found p.with.logs) in
     let there : P (pushed d.log e) (more_keys d.keys old) = record {
       top = p.top;
       found = p.found;
@@ -232,7 +232,7 @@ put_stands_at d flash m key value page old p log space keys o n noted o_is n_is 
 pub put_stands : (d : Parts) (shape : Shape) (flash : Flash) (m : Map) (key : Key) (value : List ℕ) (page len : ℕ) (old : Option ValuePlace) → length value ≡ len → Puts d shape flash m key value page old
     → (log : LogState) (space : DataState) (keys : ℕ) (o : Option Span) (n : Span) → Noted d (key, Some (placed_at page len)) log
     → o ≡ span_if_some d.log.shape (place_if_some old) → n ≡ span_of d.log.shape (placed_at page len)
-    → ((mv : Moves d.space o n) → Placed mv.shape space mv.pool mv.outputs mv.flash (put key_cmp mv.key mv.place mv.es))
+    → ((mv : Moves d.space o n) → ValuesOnFlash mv.shape space mv.pool mv.outputs mv.flash (put key_cmp mv.key mv.place mv.es))
     → keys ≡ more_keys d.keys old
     → StandsFor (record d { log = log; space = space; keys = keys }) shape flash (insert m key value)
 put_stands d shape flash m key value page len old is_len p log space keys o n noted o_is n_is moved keys_are =
@@ -298,9 +298,9 @@ module _ (d : Parts) (flash : Flash) (m : Map) (key : Key) (old : ValuePlace) (p
   places_gone : places p.found (d.log.pending ++ gone ∷ []) ≡ without key values_before
   places_gone = ap (λ xs. placed (firsts xs)) (entries_in_order-push p.found d.log.pending gone) ∙ placed-gone key (counting p.found d.log.pending) (firsts_sorted (entries_in_order p.found d.log.pending))
 
-  pub gone_agrees : (space : DataState) → Placed d.log.shape space d.pool (jobs_of d).blocks.values flash (without key values_before) → Logs (pushed d.log gone) flash p.top p.found
+  pub gone_agrees : (space : DataState) → ValuesOnFlash d.log.shape space d.pool (jobs_of d).blocks.values flash (without key values_before) → LogOnFlash (pushed d.log gone) flash p.top p.found
       → length (firsts (p.found.newest ++ (d.log.pending ++ gone ∷ []))) ≤ buffer d.log.shape
-      → AgreesWith (record d { log = pushed d.log gone; space = space; keys = d.keys - 1 }) d.log.shape flash p.top p.found p.without (remove m key)
+      → DriveOnFlashWith (record d { log = pushed d.log gone; space = space; keys = d.keys - 1 }) d.log.shape flash p.top p.found p.without (remove m key)
   gone_agrees space placed_now logs room = record {
     shape_is = refl;
     is_flash = p.with.is_flash;
@@ -312,7 +312,7 @@ module _ (d : Parts) (flash : Flash) (m : Map) (key : Key) (old : ValuePlace) (p
     stand = p.with.stand;
     run_blocks = p.with.run_blocks;
     arena_is = p.with.arena_is;
-    placed = subst (λ (xs : List (Key × Place)). Placed d.log.shape space d.pool (jobs_of d).blocks.values flash xs) (sym places_gone) placed_now;
+    placed = subst (λ (xs : List (Key × Place)). ValuesOnFlash d.log.shape space d.pool (jobs_of d).blocks.values flash xs) (sym places_gone) placed_now;
     former = p.with.former;
     former_read = p.with.former_read;
     journal = p.with.journal;
@@ -325,13 +325,13 @@ module _ (d : Parts) (flash : Flash) (m : Map) (key : Key) (old : ValuePlace) (p
 
 gone_stands_at : (d : Parts) (flash : Flash) (m : Map) (key : Key) (old : ValuePlace) → Drops d d.log.shape flash m key old
     → (log : LogState) (space : DataState) (n : Span) → Noted d (key, None) log → n ≡ span_of d.log.shape (place_of old)
-    → ((h : Held d.space n) → Placed h.shape space h.pool h.outputs h.flash (without h.key h.es))
+    → ((h : Held d.space n) → ValuesOnFlash h.shape space h.pool h.outputs h.flash (without h.key h.es))
     → StandsFor (record d { log = log; space = space; keys = d.keys - 1 }) d.log.shape flash (remove m key)
 unfolding drops_held
 gone_stands_at d flash m key old p log space n noted n_is removed =
     let e : Entry = (key, None) in
     let placed_now = removed (drops_held d flash m key old p n n_is) in
-    let logs : Logs (pushed d.log e) flash p.top p.found = subst (λ (l : LogState). Logs l flash p.top p.found) noted.pushed_is (noted.stands flash p.top p.found p.with.logs) in
+    let logs : LogOnFlash (pushed d.log e) flash p.top p.found = subst (λ (l : LogState). LogOnFlash l flash p.top p.found) noted.pushed_is (noted.stands flash p.top p.found p.with.logs) in
     let there : StandsFor (record d { log = pushed d.log e; space = space; keys = d.keys - 1 }) d.log.shape flash (remove m key) = record {
       top = p.top;
       found = p.found;
@@ -342,7 +342,7 @@ gone_stands_at d flash m key old p log space n noted n_is removed =
 
 pub gone_stands : (d : Parts) (shape : Shape) (flash : Flash) (m : Map) (key : Key) (old : ValuePlace) → Drops d shape flash m key old
     → (log : LogState) (space : DataState) (n : Span) → Noted d (key, None) log → n ≡ span_of d.log.shape (place_of old)
-    → ((h : Held d.space n) → Placed h.shape space h.pool h.outputs h.flash (without h.key h.es))
+    → ((h : Held d.space n) → ValuesOnFlash h.shape space h.pool h.outputs h.flash (without h.key h.es))
     → StandsFor (record d { log = log; space = space; keys = d.keys - 1 }) shape flash (remove m key)
 gone_stands d shape flash m key old p log space n noted n_is removed =
     let is : d.log.shape ≡ shape = p.with.shape_is in

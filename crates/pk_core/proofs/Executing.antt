@@ -8,7 +8,7 @@ use Rattle.pk_nand.specs.BoardState.{BoardState}
 use Rattle.pk_drive.specs.Seen.{reply_of}
 use Rattle.pk_drive.specs.declared.types.Outcome.{Outcome}
 use Rattle.pk_core.specs.Parts.{Parts, sight_of}
-use Rattle.pk_core.specs.Agreeing.{Agrees, AgreesBetween}
+use Rattle.pk_core.specs.Agreeing.{DriveOnFlash, DriveOnFlashBetween}
 use Rattle.pk_core.specs.Done.{Does, Executes}
 use Rattle.pk_core.specs.Serving.{IsServable}
 use Rattle.pk_core.proofs.Rooming.{entries_some}
@@ -20,9 +20,9 @@ executes_quiet d e old new r c o into reads servable same pages runs does = reco
   stops = ap (λ (x : Parts). x.stopped) same ∙ (servable.runs ∙ sym runs);
   agrees = λ _.
       let shape = ap (λ (b : BoardState). b.shape) does.rest in
-      let there : Agrees d new.shape new.pages = subst (λ (f : Flash). Agrees d new.shape f) (sym pages) (subst (λ (s : Option Shape). Agrees d s old.pages) (sym shape) servable.agrees) in
-      let between : AgreesBetween d new.shape new.pages = (there, servable.few) in
-      subst (λ (x : Parts). AgreesBetween x new.shape new.pages) (sym same) between;
+      let there : DriveOnFlash d new.shape new.pages = subst (λ (f : Flash). DriveOnFlash d new.shape f) (sym pages) (subst (λ (s : Option Shape). DriveOnFlash d s old.pages) (sym shape) servable.agrees) in
+      let between : DriveOnFlashBetween d new.shape new.pages = (there, servable.few) in
+      subst (λ (x : Parts). DriveOnFlashBetween x new.shape new.pages) (sym same) between;
   does = does;
 }
 
@@ -31,7 +31,7 @@ pub never : {b : Bool} → b ≡ true → b ≡ false → ⊥
 never is not = let e : true ≡ false = sym is ∙ not in cc
 
 -- where nothing is pending, fewer entries are than a page of the journal takes
-pub none_between : (d : Parts) (told : Option Shape) (flash : Flash) → Agrees d told flash → d.log.pending ≡ [] → AgreesBetween d told flash
+pub none_between : (d : Parts) (told : Option Shape) (flash : Flash) → DriveOnFlash d told flash → d.log.pending ≡ [] → DriveOnFlashBetween d told flash
 none_between d told flash agrees none = (
   agrees,
   subst (λ (n : ℕ). n < page_entries d.log.shape) (sym (ap length none)) (entries_some d.log.shape agrees.with.logs.is_shape),

@@ -11,7 +11,7 @@ use Rattle.pk_model.proofs.Growing.{at_end}
 use Rattle.pk_pool.specs.Blocks.{Blocks}
 use Rattle.pk_seg.specs.Stored.{written}
 use Rattle.pk_data.specs.State.{DataState, with_written, next_page}
-use Rattle.pk_data.specs.Placed.{Placed, StayPlaced}
+use Rattle.pk_data.specs.Placed.{ValuesOnFlash, StayPlaced}
 use Rattle.pk_data.specs.Reserving.{WritesNext}
 use Rattle.pk_data.specs.Entries.{IsInOpen}
 use Rattle.pk_core.specs.Placing.{Reserves, PlacesValue}

@@ -24,10 +24,10 @@ use Rattle.pk_buf.specs.Table.{Table}
 use Rattle.pk_jrn.specs.Epochs.{left_of}
 use Rattle.pk_jrn.proofs.Puts.{firsts-reverse}
 use Rattle.pk_pool.specs.declared.state.BlockState.TheVariants.{Free, Ready, Owned}
-use Rattle.pk_pool.specs.Blocks.{Blocks, IsShared, IsSpare, Fits, used_by, is_owned_by, with_state}
+use Rattle.pk_pool.specs.Blocks.{Blocks, IsShared, IsSpare, PoolOnFlash, used_by, is_owned_by, with_state}
 use Rattle.pk_pool.proofs.States.{get-set_other, get-set_same, set_is, owned_is_not_root, owned_is_not_ready, free_is_not_ready}
 use Rattle.pk_pool.proofs.Sharing.{count-set, used_adopted, behind_roots}
-use Rattle.pk_pool.proofs.Fitting.{in_block, Fits-marked}
+use Rattle.pk_pool.proofs.Fitting.{in_block, PoolOnFlash-marked}
 use Rattle.pk_model.specs.Found.{Found, entries_in_order}
 use Rattle.pk_model.specs.Values.{placed}
 use Rattle.pk_model.proofs.Commits.{valid_blocks, fresh, rest_differs, differ_front}
@@ -37,7 +37,7 @@ use Rattle.pk_steps.specs.Roots.{frozen_root, frozen}
 use Rattle.pk_steps.proofs.Places.{In, in_append}
 use Rattle.pk_steps.proofs.Untouched.{under_reads}
 use Rattle.pk_data.specs.State.{DataState}
-use Rattle.pk_data.specs.Placed.{Placed}
+use Rattle.pk_data.specs.Placed.{ValuesOnFlash}
 use Rattle.pk_data.specs.Laws.{SameValues}
 use Rattle.pk_data.proofs.Unchanged.{block_elsewhere}
 use Rattle.pk_model.specs.Growth.{Goes}
@@ -54,9 +54,9 @@ use Rattle.pk_core.specs.Parts.{Parts, jobs_of}
 use Rattle.pk_scan.specs.Opened.{HaveBlocks}
 use Rattle.pk_core.specs.Staying.{Stays}
 use Rattle.pk_core.proofs.Staying.{freeze_stays}
-use Rattle.pk_core.specs.Agreeing.{AgreesWith}
+use Rattle.pk_core.specs.Agreeing.{DriveOnFlashWith}
 use Rattle.pk_core.specs.Moves.{StepKeeps, LeavesValues, StandsFor, Keeps, KeepsAll, BreaksAll}
-use Rattle.pk_core.proofs.Elsewhere.{StandEach-same}
+use Rattle.pk_core.proofs.Elsewhere.{RunsOnFlash-same}
 use Rattle.pk_core.proofs.Standing.{same_found}
 use Rattle.pk_core.proofs.Holding.{none_held}
 
@@ -88,7 +88,7 @@ module _ (p : Blocks) (b : ℕ) (spare : IsSpare p b) where
     | inr ready ↦ (let all = count-set (is_owned_by Meta) p.states b Ready (Owned Journal) ready in omega (arith, all))
   ]
 
-  taken_places : (shape : Shape) (d : DataState) (outputs : List ℕ) (old new : Flash) (es : List (Key × Place)) → Placed shape d p outputs old es → SameValues shape p outputs old new → Fits taken new → Placed shape d taken outputs new es
+  taken_places : (shape : Shape) (d : DataState) (outputs : List ℕ) (old new : Flash) (es : List (Key × Place)) → ValuesOnFlash shape d p outputs old es → SameValues shape p outputs old new → PoolOnFlash taken new → ValuesOnFlash shape d taken outputs new es
   taken_places shape d outputs old new es values same fits = elim spare [
     | inl free ↦ block_elsewhere shape d p outputs b Free (Owned Journal) old new es values free refl refl same fits
     | inr ready ↦ block_elsewhere shape d p outputs b Ready (Owned Journal) old new es values ready refl refl same fits
@@ -128,11 +128,11 @@ given_meta (x ∷ xs) p differ_all all =
     let one = count-set (is_owned_by Meta) p.states x (Owned Journal) Free (all x (inl refl)) in
     omega (arith, later, one)
 
-given_places : (xs : List ℕ) (p : Blocks) (shape : Shape) (d : DataState) (outputs : List ℕ) (flash : Flash) (es : List (Key × Place)) → T (differ xs) → AllJournal p xs → Fits p flash → Placed shape d p outputs flash es
-    → Placed shape d (given_back p xs) outputs flash es
+given_places : (xs : List ℕ) (p : Blocks) (shape : Shape) (d : DataState) (outputs : List ℕ) (flash : Flash) (es : List (Key × Place)) → T (differ xs) → AllJournal p xs → PoolOnFlash p flash → ValuesOnFlash shape d p outputs flash es
+    → ValuesOnFlash shape d (given_back p xs) outputs flash es
 given_places [] p shape d outputs flash es differ_all all fits values = values
 given_places (x ∷ xs) p shape d outputs flash es differ_all all fits values =
-    let fits' = Fits-marked p flash x Free free_is_not_ready fits in
+    let fits' = PoolOnFlash-marked p flash x Free free_is_not_ready fits in
     given_places xs (with_state p x Free) shape d outputs flash es (rest_differs x xs differ_all) (still_journal p x xs differ_all all) fits'
     (block_elsewhere shape d p outputs x (Owned Journal) Free flash flash es values (all x (inl refl)) refl refl (λ k held no_output. refl) fits')
 
@@ -219,8 +219,8 @@ module _ (p : Blocks) (newest : List ℕ) (first second : ℕ) (first_spare : Is
       let ne : b ≢ c = λ e. owned_is_not_ready {o = Journal} (sym (get-set_same q.states c (Owned Journal) Ready (subst P e is))) in
       (ne, sym (get-set_other q.states c b (Owned Journal) ne) ∙ is)
 
-  module _ (shape : Shape) (d : DataState) (outputs : List ℕ) (old new : Flash) (es : List (Key × Place)) (empty : Bool) (values : Placed shape d p outputs old es) (same : SameValues shape p outputs old new)
-      (fits : Fits (pool_of empty) new) (second_erased : IsErasedBlock shape new second) where
+  module _ (shape : Shape) (d : DataState) (outputs : List ℕ) (old new : Flash) (es : List (Key × Place)) (empty : Bool) (values : ValuesOnFlash shape d p outputs old es) (same : SameValues shape p outputs old new)
+      (fits : PoolOnFlash (pool_of empty) new) (second_erased : IsErasedBlock shape new second) where
     pool_shape_same : (pool_of empty).shape ≡ p.shape
     pool_shape_same = given_shape (if not empty then [] else newest) both
       where
@@ -231,7 +231,7 @@ module _ (p : Blocks) (newest : List ℕ) (first second : ℕ) (first_spare : Is
     was_ready : (b : ℕ) → slice_get p.states b ≡ Some Ready → b ≢ first → b ≢ second → IsErasedBlock p.shape new b
     was_ready b is f s = subst (λ (x : Shape). IsErasedBlock x new b) pool_shape_same (fits.erased b (ready_after empty b is f s))
 
-    fits_one : Fits one new
+    fits_one : PoolOnFlash one new
     fits_one = record {
       erased = λ b is.
           let was = ready_before b p first is in
@@ -241,7 +241,7 @@ module _ (p : Blocks) (newest : List ℕ) (first second : ℕ) (first_spare : Is
           ];
     }
 
-    fits_both : Fits both new
+    fits_both : PoolOnFlash both new
     fits_both = record {
       erased = λ b is.
           let later = ready_before b one second is in
@@ -249,13 +249,13 @@ module _ (p : Blocks) (newest : List ℕ) (first second : ℕ) (first_spare : Is
           was_ready b was.1 was.0 later.0;
     }
 
-    places_after : Placed shape d (pool_of empty) outputs new es
+    places_after : ValuesOnFlash shape d (pool_of empty) outputs new es
     places_after =
         let in_one = taken_places p first first_spare shape d outputs old new es values same fits_one in
         let in_both = taken_places one second second_spare' shape d outputs new new es in_one (λ k held no_output. refl) fits_both in
         turned empty in_both
       where
-        turned : (e : Bool) → Placed shape d both outputs new es → Placed shape d (pool_of e) outputs new es
+        turned : (e : Bool) → ValuesOnFlash shape d both outputs new es → ValuesOnFlash shape d (pool_of e) outputs new es
         turned true there = given_places newest both shape d outputs new es differ_all owned_both fits_both there
         turned false there = there
 
@@ -272,7 +272,7 @@ same_places found none = ap (λ (es : List Entry). placed (firsts es)) entries
     entries : entries_in_order (frozen found) [] ≡ entries_in_order found []
     entries = rw (none, append-nil found.newest, append-nil (reverse found.newest)) refl
 
-module _ (d : Parts) (board : BoardState) (top : ℕ × Root) (found : Found) (without m : Map) (agrees : AgreesWith d d.log.shape board.pages top found without m)
+module _ (d : Parts) (board : BoardState) (top : ℕ × Root) (found : Found) (without m : Map) (agrees : DriveOnFlashWith d d.log.shape board.pages top found without m)
     (none_pending : d.log.pending ≡ []) (none_frozen : d.log.frozen.entries ≡ []) where
   none_older : found.older ≡ []
   none_older =
@@ -341,9 +341,9 @@ with_none e = omega (arith, e)
 abbrev pub with_both : Parts → LogState → Blocks → Parts
 with_both d log pool = record d { log = log; pool = pool }
 
-module _ (d : Parts) (old new : BoardState) (top : ℕ × Root) (found : Found) (without m : Map) (agrees : AgreesWith d d.log.shape old.pages top found without m)
+module _ (d : Parts) (old new : BoardState) (top : ℕ × Root) (found : Found) (without m : Map) (agrees : DriveOnFlashWith d d.log.shape old.pages top found without m)
     (none_pending : d.log.pending ≡ []) (none_frozen : d.log.frozen.entries ≡ []) (shared : IsShared d.pool.shape d.pool.states)
-    (log' : LogState) (pool' : Blocks) (f : LogFroze d.log d.pool old top found m log' pool' new) (fits : Fits pool' new.pages) (ready : IsReady new d.log.shape) where
+    (log' : LogState) (pool' : Blocks) (f : LogFroze d.log d.pool old top found m log' pool' new) (fits : PoolOnFlash pool' new.pages) (ready : IsReady new d.log.shape) where
   abbrev its : Shape
   its = d.log.shape
 
@@ -379,12 +379,12 @@ module _ (d : Parts) (old new : BoardState) (top : ℕ × Root) (found : Found) 
   at_frozen : places found d.log.pending ≡ places (frozen found) log'.pending
   at_frozen = ap (places found) none_pending ∙ sym (same_places found (none_older d old top found without m agrees none_pending none_frozen)) ∙ ap (places (frozen found)) (sym pending_is)
 
-  values : Placed its d.space pool' (jobs_of d).blocks.values new.pages (places (frozen found) log'.pending)
+  values : ValuesOnFlash its d.space pool' (jobs_of d).blocks.values new.pages (places (frozen found) log'.pending)
   values =
       let there = places_after d.pool top.1.newest first second f.froze.first_spare f.froze.second_spare f.froze.two.different (two d old top found without m agrees none_pending none_frozen)
       (newest_differ d old top found without m agrees none_pending none_frozen) (newest_owned d old top found without m agrees none_pending none_frozen) (used_two d old top found without m agrees none_pending none_frozen)
-      its d.space (jobs_of d).blocks.values old.pages new.pages (places found d.log.pending) empty agrees.placed (λ k held no_output. page_same k for_values held) (subst (λ (p : Blocks). Fits p new.pages) f.froze.pool_is fits) f.froze.second_erased in
-      subst (λ (es : List (Key × Place)). Placed its d.space pool' (jobs_of d).blocks.values new.pages es) at_frozen (subst (λ (p : Blocks). Placed its d.space p (jobs_of d).blocks.values new.pages (places found d.log.pending)) (sym f.froze.pool_is) there)
+      its d.space (jobs_of d).blocks.values old.pages new.pages (places found d.log.pending) empty agrees.placed (λ k held no_output. page_same k for_values held) (subst (λ (p : Blocks). PoolOnFlash p new.pages) f.froze.pool_is fits) f.froze.second_erased in
+      subst (λ (es : List (Key × Place)). ValuesOnFlash its d.space pool' (jobs_of d).blocks.values new.pages es) at_frozen (subst (λ (p : Blocks). ValuesOnFlash its d.space p (jobs_of d).blocks.values new.pages (places found d.log.pending)) (sym f.froze.pool_is) there)
 
   values_used : used_by for_values pool'.states ≡ used_by for_values d.pool.states
   values_used =
@@ -392,7 +392,7 @@ module _ (d : Parts) (old new : BoardState) (top : ℕ × Root) (found : Found) 
       ∙ values_after d.pool top.1.newest first second f.froze.first_spare f.froze.second_spare f.froze.two.different (two d old top found without m agrees none_pending none_frozen)
       (newest_differ d old top found without m agrees none_pending none_frozen) (newest_owned d old top found without m agrees none_pending none_frozen) (used_two d old top found without m agrees none_pending none_frozen) empty
 
-  freeze_agrees : AgreesWith (with_both d log' pool') its new.pages (f.froze.page, log'.root) (frozen found) m m
+  freeze_agrees : DriveOnFlashWith (with_both d log' pool') its new.pages (f.froze.page, log'.root) (frozen found) m m
   freeze_agrees = record {
     shape_is = shape_same;
     is_flash = ready.flash;
@@ -401,7 +401,7 @@ module _ (d : Parts) (old new : BoardState) (top : ℕ × Root) (found : Found) 
     pending = subst (λ (es : List Entry). IsUnder its new.pages es (f.froze.page, log'.root) (frozen found) m) (sym pending_is) f.froze.under;
     levels_shape = agrees.levels_shape;
     levels_pinned = agrees.levels_pinned;
-    stand = StandEach-same its old.pages new.pages d.arena d.levels.runs top.1.runs found.runs positive agrees.run_blocks (λ k is. page_same k Meta (agrees.runs (k / its.block_pages) is)) agrees.stand;
+    stand = RunsOnFlash-same its old.pages new.pages d.arena d.levels.runs top.1.runs found.runs positive agrees.run_blocks (λ k is. page_same k Meta (agrees.runs (k / its.block_pages) is)) agrees.stand;
     run_blocks = subst (λ (r : Root). HaveBlocks its d.levels.runs r.runs) (sym root_is) agrees.run_blocks;
     arena_is = agrees.arena_is;
     placed = values;
@@ -445,7 +445,7 @@ module _ (d : Parts) (old new : BoardState) (before : IsReady old d.log.shape) (
 
   pub freeze_keeps : (log' : LogState) (pool' : Blocks) → IsReady new d.log.shape → IsShared d.pool.shape d.pool.states
       → ((top : ℕ × Root) (found : Found) (m : Map) → CanFreeze d.log d.pool old.pages top found m → LogFroze d.log d.pool old top found m log' pool' new)
-      → Fits pool' new.pages → KeepsAll d (with_both d log' pool') old new
+      → PoolOnFlash pool' new.pages → KeepsAll d (with_both d log' pool') old new
   freeze_keeps log' pool' after shared froze fits shape m stands =
       let P : Shape → Type 0 = λ s. StandsFor d s old.pages m → Keeps d (with_both d log' pool') s m old new in
       subst P stands.with.shape_is (λ there.
@@ -524,7 +524,7 @@ module _ (r : Result Unit Fault) (d : Parts) (old new : BoardState) (before : Is
   may_here = (witness.1.top, witness.1.found, witness.0, can_here d old new before none_pending none_frozen unworn witness.0 witness.1)
 
   module _ (log' : LogState) (pool' : Blocks) where
-    pub leaves_if : IsReady new d.log.shape → IsShared d.pool.shape d.pool.states → OnOk r (Made log' pool') → OnOk r (Fits pool' new.pages) → log'.shape ≡ d.log.shape → OnOk r (LeavesValues d (with_both d log' pool'))
+    pub leaves_if : IsReady new d.log.shape → IsShared d.pool.shape d.pool.states → OnOk r (Made log' pool') → OnOk r (PoolOnFlash pool' new.pages) → log'.shape ≡ d.log.shape → OnOk r (LeavesValues d (with_both d log' pool'))
     leaves_if after shared froze fits same =
         on_ok_weaker r (λ f.
         let there = witness.1 in
@@ -533,15 +533,15 @@ module _ (r : Result Unit Fault) (d : Parts) (old new : BoardState) (before : Is
           same_shape = same;
           as_many = values_used d old new there.top there.found there.without witness.0 there.with none_pending none_frozen shared log' pool'
               (f.0 there.top there.found witness.0 (can_here d old new before none_pending none_frozen unworn witness.0 there)) f.1 after;
-        }) (both_ok (Made log' pool') (Fits pool' new.pages) r froze fits)
+        }) (both_ok (Made log' pool') (PoolOnFlash pool' new.pages) r froze fits)
 
-    pub stays_if : IsReady new d.log.shape → IsShared d.pool.shape d.pool.states → OnOk r (Made log' pool') → OnOk r (Fits pool' new.pages) → OnOk r (Stays d (with_both d log' pool'))
+    pub stays_if : IsReady new d.log.shape → IsShared d.pool.shape d.pool.states → OnOk r (Made log' pool') → OnOk r (PoolOnFlash pool' new.pages) → OnOk r (Stays d (with_both d log' pool'))
     stays_if after shared froze fits =
         on_ok_weaker r (λ f.
         let there = witness.1 in
         let made = f.0 there.top there.found witness.0 (can_here d old new before none_pending none_frozen unworn witness.0 there) in
         freeze_stays d log' pool' old new there.top there.found witness.0 made
-        (values_used d old new there.top there.found there.without witness.0 there.with none_pending none_frozen shared log' pool' made f.1 after)) (both_ok (Made log' pool') (Fits pool' new.pages) r froze fits)
+        (values_used d old new there.top there.found there.without witness.0 there.with none_pending none_frozen shared log' pool' made f.1 after)) (both_ok (Made log' pool') (PoolOnFlash pool' new.pages) r froze fits)
 
     pub room_if : OnOk r (Made log' pool') → OnOk r ((key : Key) → needs_freeze log' key ≡ false)
     room_if froze = on_ok_weaker r (λ f key. let can = may_here in freeze_room d.log log' d.pool pool' old new can.0 can.1 can.2 key can.3 (f can.0 can.1 can.2 can.3)) froze
@@ -551,7 +551,7 @@ module _ (r : Result Unit Fault) (d : Parts) (old new : BoardState) (before : Is
 
 -- the step
 pub freeze_step : (r : Result Unit Fault) (d : Parts) (log' : LogState) (pool' : Blocks) (old new : BoardState) → IsReady old d.log.shape → d.log.pending ≡ [] → d.log.frozen.entries ≡ [] → is_worn old ≡ false
-    → IsShared d.pool.shape d.pool.states → OnOk r (Fits pool' new.pages) → Step (λ (u : Unit). LogFreezes d.log d.pool old log' pool' new) (LogFreezeBreaks d.log d.pool old new) d.log.shape 1 old new r
+    → IsShared d.pool.shape d.pool.states → OnOk r (PoolOnFlash pool' new.pages) → Step (λ (u : Unit). LogFreezes d.log d.pool old log' pool' new) (LogFreezeBreaks d.log d.pool old new) d.log.shape 1 old new r
     → StepKeeps d (with_both d log' pool') 1 old new r
 freeze_step (Ok x) d log' pool' old new before none_pending none_frozen unworn shared fits step = record {
   ended = freeze_keeps d old new before none_pending none_frozen unworn log' pool' step.ready shared step.ended fits;

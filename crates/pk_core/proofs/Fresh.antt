@@ -39,9 +39,9 @@ use Rattle.pk_jrn.proofs.Journals.{ok_same}
 use Rattle.pk_compact.proofs.Grammar.{known}
 use Rattle.pk_data.specs.declared.open_block.OpenBlock.{OpenBlock}
 use Rattle.pk_data.specs.State.{DataState, fits_open, needs_reclaim}
-use Rattle.pk_data.specs.Placed.{Placed, IsOpenIn, IsNotOpen, HoldsValues}
+use Rattle.pk_data.specs.Placed.{ValuesOnFlash, IsOpenIn, IsNotOpen, HoldsValues}
 use Rattle.pk_core.specs.Parts.{Parts, wants_second_freeze, built_if, is_built}
-use Rattle.pk_core.specs.Agreeing.{AgreesWith, Agrees}
+use Rattle.pk_core.specs.Agreeing.{DriveOnFlashWith, DriveOnFlash}
 use Rattle.pk_core.specs.Fresh.{IsFresh, FreshServes}
 
 -- what is read behind a test that was passed
@@ -134,7 +134,7 @@ and_false : (a b : Bool) → b ≡ false → (a && b) ≡ false
 and_false true b is = is
 and_false false b is = refl
 
-module _ (shape : Shape) (space : DataState) (pool : Blocks) (flash : Flash) (es : List (Key × Place)) (placed : Placed shape space pool [] flash es) (fresh : IsFresh shape flash) where
+module _ (shape : Shape) (space : DataState) (pool : Blocks) (flash : Flash) (es : List (Key × Place)) (placed : ValuesOnFlash shape space pool [] flash es) (fresh : IsFresh shape flash) where
   only_open : (b : ℕ) → HoldsValues pool b → IsNotOpen space.open_block b → ⊥
   only_open b held other =
       let page = placed.filled b held other (λ output. output) in
@@ -162,7 +162,7 @@ built_of d r second reclaim (Some status) = refl
 built_of d r second reclaim None =
     neither (r.opcode == 0x01 || r.opcode == 0x10) (wants_second_freeze d) (r.opcode == 0x01) (needs_reclaim d.log.shape d.space d.pool (charge d.log.shape r.size)) second (reclaim (charge d.log.shape r.size))
 
-module _ (shape : Shape) (d : Parts) (flash : Flash) (top : ℕ × Root) (found : Found) (without all : Map) (a : AgreesWith d shape flash top found without all) (fresh : IsFresh shape flash) where
+module _ (shape : Shape) (d : Parts) (flash : Flash) (top : ℕ × Root) (found : Found) (without all : Map) (a : DriveOnFlashWith d shape flash top found without all) (fresh : IsFresh shape flash) where
   valid : T (is_root shape top.1)
   valid = root_valid shape (page_at flash top.0) top.1 (newest_sound shape (page_at flash) top a.committed.is_top).there
 
@@ -180,6 +180,6 @@ module _ (shape : Shape) (d : Parts) (flash : Flash) (top : ℕ × Root) (found 
 
 pub fresh_serves : FreshServes
 fresh_serves shape d flash between fresh =
-    let a : Agrees d (Some shape) flash = between.0 in
+    let a : DriveOnFlash d (Some shape) flash = between.0 in
     let same : shape ≡ a.shape = same_Some shape a.shape a.told_is in
     serves_all a.shape d flash a.top a.found a.without a.all a.with (subst (λ s. IsFresh s flash) same fresh)

@@ -15,7 +15,7 @@ use Rattle.pk_model.specs.Laws.{AnyByRecursion}
 use Rattle.pk_steps.specs.Under.{IsValuePage, places}
 use Rattle.pk_data.specs.Placed.{HoldsValues}
 use Rattle.pk_core.specs.Parts.{Parts}
-use Rattle.pk_core.specs.Agreeing.{AgreesBeside}
+use Rattle.pk_core.specs.Agreeing.{DriveOnFlashBeside}
 use Rattle.pk_core.specs.Jobs.{JobBlocks, AreHeld, JobsHold, no_jobs}
 
 -- what others own stays with them
@@ -42,7 +42,7 @@ not_meta : (states : List BlockState) (b : ℕ) → slice_get states b ≡ Some 
 not_meta states b one other = cc
 
 -- no page of a value lies in a block that a job holds for the journal or for a run
-pub held_unread : (d : Parts) (held : JobBlocks) (shape : Shape) (flash : Flash) (top : ℕ × Root) (found : Found) (without all : Map) → AgreesBeside d held shape flash top found without all
+pub held_unread : (d : Parts) (held : JobBlocks) (shape : Shape) (flash : Flash) (top : ℕ × Root) (found : Found) (without all : Map) → DriveOnFlashBeside d held shape flash top found without all
     → (b k : ℕ) → AnyByRecursion (λ c. b ≡ c) held.journal ⊎ AnyByRecursion (λ c. b ≡ c) held.metas → k / shape.block_pages ≡ b
     → IsValuePage shape (places found []) k ⊎ IsValuePage shape (places found d.log.pending) k → ⊥
 held_unread d held shape flash top found without all with b k among here value =

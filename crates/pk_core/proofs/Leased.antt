@@ -11,12 +11,12 @@ use Rattle.pk_rootfmt.specs.Root.{Root}
 use Rattle.pk_pin.specs.Frames.{Frames, leased_frames}
 use Rattle.pk_pin.proofs.Leases.{leases_counted}
 use Rattle.pk_run.specs.Kept.{Kept, IsPinned}
-use Rattle.pk_level.specs.Levels.{StandEach, run_of}
+use Rattle.pk_level.specs.Levels.{RunsOnFlash, run_of}
 use Rattle.pk_level.specs.Arenas.{IsPinnedIf, ArePinnedTo, leases_of}
 use Rattle.pk_model.specs.Found.{Found}
 use Rattle.pk_scan.specs.Opened.{HaveBlocks}
 use Rattle.pk_core.specs.Parts.{Parts}
-use Rattle.pk_core.specs.Agreeing.{AgreesWith}
+use Rattle.pk_core.specs.Agreeing.{DriveOnFlashWith}
 
 le_true : (x y : ℕ) → x ≤ y → nat_le x y ≡ true
 le_true x y h = grind (arith, nat_tests)
@@ -30,7 +30,7 @@ entries_of rs = map (λ (r : Kept). r.count) rs
 
 -- so many levels are pinned behind this one, itself with them
 module _ (shape : Shape) (flash : Flash) (arena : Frames) (pins : ℕ) where
-  many : (level left : ℕ) (rs : List Kept) (bss : List (List ℕ)) (ess : List (List Entry)) → left ≡ suc pins - level → HaveBlocks shape rs bss → StandEach flash arena rs ess → ArePinnedTo pins level rs
+  many : (level left : ℕ) (rs : List Kept) (bss : List (List ℕ)) (ess : List (List Entry)) → left ≡ suc pins - level → HaveBlocks shape rs bss → RunsOnFlash flash arena rs ess → ArePinnedTo pins level rs
       → length (leases_of rs) ≡ sum (map (run_pages shape) (take left (entries_of rs)))
   many level zero [] bss ess so have stand frames = refl
   many level (suc left) [] bss ess so have stand frames = refl
@@ -48,7 +48,7 @@ module _ (shape : Shape) (flash : Flash) (arena : Frames) (pins : ℕ) where
       both ∙ (let e : length r.leases + length (leases_of rs) ≡ run_pages shape r.count + sum (map (run_pages shape) (take left (entries_of rs))) = omega (arith, one, others) in e) ∙ sym whole
 
 -- the leased frames of a drive are the pages of its pinned runs
-pub leased_are : (d : Parts) (shape : Shape) (flash : Flash) (top : ℕ × Root) (found : Found) (without all : Map) → AgreesWith d shape flash top found without all
+pub leased_are : (d : Parts) (shape : Shape) (flash : Flash) (top : ℕ × Root) (found : Found) (without all : Map) → DriveOnFlashWith d shape flash top found without all
     → leased_frames d.arena ≡ sum (map (run_pages shape) (take (pinned shape d.frames) (entries_of d.levels.runs)))
 leased_are d shape flash top found without all agrees =
     let pins : ℕ = d.levels.pinned in

@@ -31,7 +31,7 @@ use Rattle.pk_data.specs.declared.open_block.OpenBlock.{OpenBlock}
 use Rattle.pk_drive.specs.Moving.{HasOpenRoom, StoresIn, Stores}
 use Rattle.pk_core.specs.declared.place.ValuePlace.{ValuePlace}
 use Rattle.pk_core.specs.Parts.{Parts, sight_of, block_if_open}
-use Rattle.pk_core.specs.Agreeing.{Agrees}
+use Rattle.pk_core.specs.Agreeing.{DriveOnFlash}
 use Rattle.pk_core.specs.Noting.{Puts}
 use Rattle.pk_core.specs.Moves.{OnlyCommits}
 use Rattle.pk_core.specs.Staying.{IsNoted, SameBlocks, OpensOne}
@@ -114,7 +114,7 @@ found_first found pending k place is =
 told_same : (a b : Shape) → ◌≡◌ {A = Option Shape} (Some a) (Some b) → a ≡ b
 told_same a b e = cc
 
-module _ (d e : Parts) (old new : BoardState) (c : Command) (a : Agrees d old.shape old.pages) (b : Agrees e new.shape new.pages) (n : IsNoted e (key c)) (blocks : SameBlocks d e ⊎ OpensOne d e (charge d.log.shape c.size)) where
+module _ (d e : Parts) (old new : BoardState) (c : Command) (a : DriveOnFlash d old.shape old.pages) (b : DriveOnFlash e new.shape new.pages) (n : IsNoted e (key c)) (blocks : SameBlocks d e ⊎ OpensOne d e (charge d.log.shape c.size)) where
   -- where its value has room, the open block stays
   open_stays : HasOpenRoom a.shape old.pages (sight_of d) (charge a.shape c.size) → block_if_open e.space.open_block ≡ block_if_open d.space.open_block
   open_stays room = elim blocks [

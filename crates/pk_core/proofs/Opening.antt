@@ -11,17 +11,17 @@ use Rattle.pk_pool.specs.Blocks.{Blocks}
 use Rattle.pk_model.specs.Found.{Found}
 use Rattle.pk_steps.specs.Under.{IsUnder, places}
 use Rattle.pk_log.specs.State.{LogState, opened}
-use Rattle.pk_log.specs.Logs.{Logs, Opens}
+use Rattle.pk_log.specs.Logs.{LogOnFlash, Opens}
 use Rattle.pk_data.specs.State.{DataState, with_none_open}
-use Rattle.pk_data.specs.Placed.{Placed, FoundAtOpening}
+use Rattle.pk_data.specs.Placed.{ValuesOnFlash, FoundAtOpening}
 use Rattle.pk_scan.specs.Opened.{HasLists, HasBlocks, IsOpened}
 use Rattle.pk_scan.specs.declared.contents.Found.{Found as Opened}
 use Rattle.pk_nand.specs.BoardState.{BoardState}
 use Rattle.pk_nand.specs.Calls.{IsReady}
 use Rattle.pk_nand.specs.Erased.{after_reads}
-use Rattle.pk_drive.specs.Drive.{Stands}
+use Rattle.pk_drive.specs.Drive.{HoldsMap}
 use Rattle.pk_core.specs.Parts.{Parts, sight_of}
-use Rattle.pk_core.specs.Agreeing.{Agrees}
+use Rattle.pk_core.specs.Agreeing.{DriveOnFlash}
 use Rattle.pk_core.specs.Moves.{StandsFor}
 use Rattle.pk_core.specs.Opening.{OpenedOn}
 use Rattle.pk_core.proofs.Standing.{still_stands}
@@ -62,13 +62,13 @@ module _ {A : Type 0} (shape : Shape) (flash : Flash) (frames : ℕ) (f : Opened
   parts = record { log = log; levels = f.levels; arena = f.arena; space = space; pool = f.pool; keys = f.keys; frames = frames; stopped = false }
 
   pub opens_on : IsShape f.root.shape → IsFlash shape flash → IsOpened shape flash frames f
-      → log ≡ opened f.root f.root_page f.epoch f.active f.frozen → ((x : Flash) (found : Found) → Opens f.root f.root_page f.epoch f.active f.frozen x found → Logs log x (f.root_page, f.root.root) found)
-      → space ≡ with_none_open f.live → ((s : Shape) (named : List ℕ) (p : Blocks) (x : Flash) (es : List (Key × Place)) → FoundAtOpening s named f.live p x es → Placed s space p [] x es)
+      → log ≡ opened f.root f.root_page f.epoch f.active f.frozen → ((x : Flash) (found : Found) → Opens f.root f.root_page f.epoch f.active f.frozen x found → LogOnFlash log x (f.root_page, f.root.root) found)
+      → space ≡ with_none_open f.live → ((s : Shape) (named : List ℕ) (p : Blocks) (x : Flash) (es : List (Key × Place)) → FoundAtOpening s named f.live p x es → ValuesOnFlash s space p [] x es)
       → OpenedOn shape flash frames parts
   opens_on held is_flash was log_is stands space_is places_so =
       let is : IsShape shape = subst IsShape was.lists.shape_is held in
       let none : log.pending ≡ [] = ap (λ (l : LogState). l.pending) log_is in
-      let placed : Placed shape space f.pool [] flash (places was.found []) = places_so shape (named f.root.root) f.pool flash (places was.found []) (values_found shape flash f was.found is was.blocks) in
+      let placed : ValuesOnFlash shape space f.pool [] flash (places was.found []) = places_so shape (named f.root.root) f.pool flash (places was.found []) (values_found shape flash f was.found is was.blocks) in
       record {
         top = (f.root_page, f.root.root);
         found = was.found;
@@ -84,7 +84,7 @@ module _ {A : Type 0} (shape : Shape) (flash : Flash) (frames : ℕ) (f : Opened
           stand = was.lists.stand;
           run_blocks = was.lists.run_blocks;
           arena_is = was.lists.arena_is;
-          placed = subst (λ (es : List Entry). Placed shape space f.pool [] flash (places was.found es)) (sym none) placed;
+          placed = subst (λ (es : List Entry). ValuesOnFlash shape space f.pool [] flash (places was.found es)) (sym none) placed;
           former = placed.owned;
           former_read = λ k is output. output;
           journal = was.blocks.owners.journal;
@@ -111,13 +111,13 @@ few_pending shape flash frames d is o =
 
 -- behind the reads of an opening
 module _ (shape : Shape) (frames reads : ℕ) (old new : BoardState) (d : Parts) (is_shape : IsShape shape) (ready : IsReady old shape) (done : new ≡ after_reads reads old) (o : OpenedOn shape old.pages frames d) where
-  pub agrees_behind : Agrees d new.shape new.pages × (length d.log.pending < page_entries d.log.shape)
+  pub agrees_behind : DriveOnFlash d new.shape new.pages × (length d.log.pending < page_entries d.log.shape)
   agrees_behind =
       let told : new.shape ≡ Some shape = ap (λ (s : BoardState). s.shape) done ∙ ready.shape_is in
-      let here : Agrees d new.shape old.pages = record { shape = shape; top = o.top; found = o.found; without = o.all; all = o.all; told_is = told; with = o.with } in
-      (subst (Agrees d new.shape) (sym (ap (λ (s : BoardState). s.pages) done)) here, few_pending shape old.pages frames d is_shape o)
+      let here : DriveOnFlash d new.shape old.pages = record { shape = shape; top = o.top; found = o.found; without = o.all; all = o.all; told_is = told; with = o.with } in
+      (subst (DriveOnFlash d new.shape) (sym (ap (λ (s : BoardState). s.pages) done)) here, few_pending shape old.pages frames d is_shape o)
 
-  pub stands_behind : (m : Map) × Stands shape frames new (sight_of d) m
+  pub stands_behind : (m : Map) × HoldsMap shape frames new (sight_of d) m
   stands_behind =
       let told : new.shape ≡ Some shape = ap (λ (s : BoardState). s.shape) done ∙ ready.shape_is in
       let here : StandsFor d shape old.pages o.all = record { top = o.top; found = o.found; without = o.all; with = o.with } in

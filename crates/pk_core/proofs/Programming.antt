@@ -30,7 +30,7 @@ use Rattle.pk_model.specs.Found.{Found, found_under}
 use Rattle.pk_data.specs.State.{DataState, fits_open}
 use Rattle.pk_drive.specs.Moving.{IsQuiet, commits_for}
 use Rattle.pk_core.specs.Parts.{Parts, sight_of}
-use Rattle.pk_core.specs.Agreeing.{AgreesWith}
+use Rattle.pk_core.specs.Agreeing.{DriveOnFlashWith}
 use Rattle.pk_core.specs.Moves.{StandsFor}
 use Rattle.pk_core.specs.Placing.{PlacesValue}
 use Rattle.pk_core.proofs.Rooming.{entries_some}
@@ -137,7 +137,7 @@ same_tree x y e = cc
 same_lists : (x y : Found) → ◌≡◌ {A = Result Found Refusal} (Ok x) (Ok y) → x ≡ y
 same_lists x y e = cc
 
-module _ (d : Parts) (shape : Shape) (flash : Flash) (top : ℕ × Root) (found : Found) (without all : Map) (a : AgreesWith d shape flash top found without all) (k : Key) (q : IsQuiet shape flash (sight_of d) k) where
+module _ (d : Parts) (shape : Shape) (flash : Flash) (top : ℕ × Root) (found : Found) (without all : Map) (a : DriveOnFlashWith d shape flash top found without all) (k : Key) (q : IsQuiet shape flash (sight_of d) k) where
   its_top : (q.is_tree.page_of_root, q.tree.root) ≡ top
   its_top = same_tree _ top (sym q.is_tree.is_newest ∙ a.committed.is_top)
 

@@ -9,12 +9,12 @@ use Rattle.pk_data.specs.State.{fits_open}
 use Rattle.pk_drive.specs.Moving.{IsQuiet, HasOpenRoom, Quietly, commits_for}
 use Rattle.pk_drive.specs.declared.types.Outcome.{Outcome}
 use Rattle.pk_core.specs.Parts.{Parts, sight_of}
-use Rattle.pk_core.specs.Agreeing.{Agrees}
+use Rattle.pk_core.specs.Agreeing.{DriveOnFlash}
 use Rattle.pk_core.specs.Programming.{Programs, QuietStore, QuietDelete}
 use Rattle.pk_core.proofs.Noted.{left_is}
 use Rattle.pk_core.proofs.Programming.{quiet_needs_none}
 
-module _ (d : Parts) (old new : BoardState) (a : Agrees d old.shape old.pages) (r : Request) (v : List ℕ) (o : Outcome) where
+module _ (d : Parts) (old new : BoardState) (a : DriveOnFlash d old.shape old.pages) (r : Request) (v : List ℕ) (o : Outcome) where
   -- the shape of the board is the drive's
   told : shape_or_none old.shape ≡ a.shape
   told = ap shape_or_none a.told_is

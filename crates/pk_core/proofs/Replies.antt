@@ -23,7 +23,7 @@ use Rattle.pk_drive.specs.declared.types.Outcome.{Outcome}
 use Rattle.pk_walk.specs.Visible.{visible}
 use Rattle.pk_walk.specs.Walking.{Reads, ReadsFail, read_of, most_read}
 use Rattle.pk_core.specs.Parts.{Parts}
-use Rattle.pk_core.specs.Agreeing.{AgreesWith}
+use Rattle.pk_core.specs.Agreeing.{DriveOnFlashWith}
 use Rattle.pk_core.specs.Listed.{keys_of, not_below, keys_there, ListsInto}
 
 -- ---- the keys that are there
@@ -45,7 +45,7 @@ places_visible found pending =
     let r = flat_map (λ es. es) found.runs in
     same_placed (firsts n ++ (firsts o ++ r)) (entries_in_order found pending) (λ q. ap flat (same_found q n o r))
 
-pub keys_listed : (d : Parts) (shape : Shape) (flash : Flash) (top : ℕ × Root) (found : Found) (without all : Map) (from : Key) → AgreesWith d shape flash top found without all
+pub keys_listed : (d : Parts) (shape : Shape) (flash : Flash) (top : ℕ × Root) (found : Found) (without all : Map) (from : Key) → DriveOnFlashWith d shape flash top found without all
     → keys_there from (d.log.active.entries ∷ d.log.frozen.entries ∷ found.runs) ≡ keys_from from all
 keys_listed d shape flash top found without all from with =
     let is_shape = subst IsShape with.shape_is with.logs.is_shape in

@@ -21,7 +21,7 @@ use Rattle.pk_steps.specs.Under.{IsUnder, places}
 use Rattle.pk_steps.specs.Lookups.{or_else, IsValueOf}
 use Rattle.pk_steps.proofs.Counting.{found_in, finds}
 use Rattle.pk_log.specs.State.{LogState, entry_of}
-use Rattle.pk_log.specs.Logs.{Logs}
+use Rattle.pk_log.specs.Logs.{LogOnFlash}
 use Rattle.pk_core.specs.Finding.{named_by, IsPlaceIn}
 
 first_two : (a f r : Option (Option Place)) (x : Option Place) → or_else a f ≡ Some x → or_else a (or_else f r) ≡ Some x
@@ -35,23 +35,23 @@ last_one None (Some y) r e = cc
 last_one (Some y) f r e = cc
 
 -- the entry of the buffers, and of the runs
-all_of : (log : LogState) (flash : Flash) (top : ℕ × Root) (found : Found) (key : Key) → Logs log flash top found
+all_of : (log : LogState) (flash : Flash) (top : ℕ × Root) (found : Found) (key : Key) → LogOnFlash log flash top found
     → find key_cmp key (entries_in_order found log.pending) ≡ or_else (find key_cmp key log.active.entries) (or_else (find key_cmp key log.frozen.entries) (find key_cmp key (flat_map (λ es. es) found.runs)))
 all_of log flash top found key logs =
     found_in found log.pending key
     ∙ (λ i. or_else (find key_cmp key (sym logs.active_is i).entries) (or_else (find key_cmp key (sym logs.frozen_is i).entries) (find key_cmp key (flat_map (λ es. es) found.runs))))
 
-pub in_buffers : (log : LogState) (flash : Flash) (top : ℕ × Root) (found : Found) (key : Key) (e : RustEntry) → Logs log flash top found
+pub in_buffers : (log : LogState) (flash : Flash) (top : ℕ × Root) (found : Found) (key : Key) (e : RustEntry) → LogOnFlash log flash top found
     → key_of (entry e) ≡ key → entry_of log key ≡ Some (entry e).1 → IsFound key (entries_in_order found log.pending) (Some e)
 in_buffers log flash top found key e logs same is =
     (same, all_of log flash top found key logs ∙ first_two (find key_cmp key log.active.entries) (find key_cmp key log.frozen.entries) (find key_cmp key (flat_map (λ es. es) found.runs)) (entry e).1 is)
 
-behind_buffers : (log : LogState) (flash : Flash) (top : ℕ × Root) (found : Found) (key : Key) → Logs log flash top found → entry_of log key ≡ None
+behind_buffers : (log : LogState) (flash : Flash) (top : ℕ × Root) (found : Found) (key : Key) → LogOnFlash log flash top found → entry_of log key ≡ None
     → find key_cmp key (entries_in_order found log.pending) ≡ find key_cmp key (flat_map (λ es. es) found.runs)
 behind_buffers log flash top found key logs none =
     all_of log flash top found key logs ∙ last_one (find key_cmp key log.active.entries) (find key_cmp key log.frozen.entries) (find key_cmp key (flat_map (λ es. es) found.runs)) none
 
-pub in_runs : (log : LogState) (flash : Flash) (top : ℕ × Root) (found : Found) (key : Key) (e : Option RustEntry) → Logs log flash top found
+pub in_runs : (log : LogState) (flash : Flash) (top : ℕ × Root) (found : Found) (key : Key) (e : Option RustEntry) → LogOnFlash log flash top found
     → entry_of log key ≡ None → IsFound key (flat_map (λ es. es) found.runs) e → IsFound key (entries_in_order found log.pending) e
 in_runs log flash top found key None logs none is = behind_buffers log flash top found key logs none ∙ is
 in_runs log flash top found key (Some e) logs none is = (is.0, behind_buffers log flash top found key logs none ∙ is.1)

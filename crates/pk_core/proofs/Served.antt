@@ -24,7 +24,7 @@ use Rattle.pk_model.proofs.Answering.{serves, refuses_late, store_sized, key_siz
 use Rattle.pk_model.proofs.Machines.{store_check, store_late, live_stored}
 use Rattle.pk_data.specs.State.{needs_reclaim}
 use Rattle.pk_nand.specs.Effects.{Works, Stops, OnlyFlash}
-use Rattle.pk_drive.specs.Drive.{Stands}
+use Rattle.pk_drive.specs.Drive.{HoldsMap}
 use Rattle.pk_model.specs.Growth.{Reaches, Goes}
 use Rattle.pk_drive.specs.Exec.{Executed, most_installs}
 use Rattle.pk_model.specs.Crashes.{CrashFinds, change, command}
@@ -34,7 +34,7 @@ use Rattle.pk_drive.specs.declared.types.Outcome.{Outcome}
 use Rattle.pk_model.proofs.Growing.{weaken, weaken_went}
 use Rattle.pk_core.specs.declared.place.ValuePlace.{ValuePlace}
 use Rattle.pk_core.specs.Parts.{Parts, sight_of, wants_second_freeze, is_built_for, built_if, is_built}
-use Rattle.pk_core.specs.Agreeing.{Agrees}
+use Rattle.pk_core.specs.Agreeing.{DriveOnFlash}
 use Rattle.pk_core.specs.Done.{Does}
 use Rattle.pk_core.specs.Finding.{IsPlaceIn}
 use Rattle.pk_core.specs.Moves.{StandsFor}
@@ -95,7 +95,7 @@ no_yes e = cc
 ok_sound : ◌≡◌ {A = ℕ} 0 0x88 → ⊥
 ok_sound e = cc
 
-module _ (d : Parts) (old new : BoardState) (a : Agrees d old.shape old.pages) (c : Command) (after : Map) (counted : old.reads ≤ last_count) (few_roots : roots new ≤ roots old + 1) (one : most_installs c.opcode c.size ≡ 65535)
+module _ (d : Parts) (old new : BoardState) (a : DriveOnFlash d old.shape old.pages) (c : Command) (after : Map) (counted : old.reads ≤ last_count) (few_roots : roots new ≤ roots old + 1) (one : most_installs c.opcode c.size ≡ 65535)
     (other : op_of c.opcode ≡ Some Retrieve → ⊥) (leaves : map_after d.log.shape (limit d.log.shape) a.all c ≡ after) where
   told : old.shape ≡ Some d.log.shape
   told = a.told_is ∙ ap (λ s. Some s) (sym a.with.shape_is)
@@ -112,7 +112,7 @@ module _ (d : Parts) (old new : BoardState) (a : Agrees d old.shape old.pages) (
     stands = λ _. for_its_map d old a (λ s f m. Executed s f new (sight_of e) m c reply 0) (record {
       left = after;
       stepped = step;
-      stands = subst (λ (f : ℕ). Stands d.log.shape f new (sight_of e) after) same_frames (stands_so e new d.log.shape after (same_shape ∙ told) changed.stands);
+      stands = subst (λ (f : ℕ). HoldsMap d.log.shape f new (sight_of e) after) same_frames (stands_so e new d.log.shape after (same_shape ∙ told) changed.stands);
       bounded = λ is. absurd (other is);
     });
     cuts = λ _. for_its_map d old a (λ s f m. Reaches s old new (CrashFinds s (command c) old.pages m))
@@ -208,24 +208,24 @@ within options live most there is = by_cases (not (options % 2 == 1) || there) (
 
 -- ---- a command whose key has its value at a place
 
-module _ (d : Parts) (old : BoardState) (a : Agrees d old.shape old.pages) (k : Key) (o : Option ValuePlace) (is_key : IsKey k) (looks : Looks d old.pages k o) where
+module _ (d : Parts) (old : BoardState) (a : DriveOnFlash d old.shape old.pages) (k : Key) (o : Option ValuePlace) (is_key : IsKey k) (looks : Looks d old.pages k o) where
   placed_there : IsPlaceIn d.log.shape old.pages a.found d.log.pending a.all k o
   placed_there = looked d old a k o looks
 
   its_drive : StandsFor d d.log.shape old.pages a.all
   its_drive = record { top = a.top; found = a.found; without = a.without; with = own d old a }
 
-is_there_same : (d : Parts) (old : BoardState) (a : Agrees d old.shape old.pages) (k : Key) (o : Option ValuePlace) → IsKey k → Looks d old.pages k o → is_some o ≡ contains_key a.all k
+is_there_same : (d : Parts) (old : BoardState) (a : DriveOnFlash d old.shape old.pages) (k : Key) (o : Option ValuePlace) → IsKey k → Looks d old.pages k o → is_some o ≡ contains_key a.all k
 is_there_same d old a k None is_key looks = ap is_some (sym (looked d old a k None looks).there)
 is_there_same d old a k (Some p) is_key looks = ap is_some (sym (value_of d old a k p is_key looks).is_there)
 
-pages_same : (d : Parts) (old : BoardState) (a : Agrees d old.shape old.pages) (k : Key) (o : Option ValuePlace) → IsKey k → Looks d old.pages k o → pages_at d.log.shape o ≡ pages_if_some d.log.shape (get a.all k)
+pages_same : (d : Parts) (old : BoardState) (a : DriveOnFlash d old.shape old.pages) (k : Key) (o : Option ValuePlace) → IsKey k → Looks d old.pages k o → pages_at d.log.shape o ≡ pages_if_some d.log.shape (get a.all k)
 pages_same d old a k None is_key looks = ap (pages_if_some d.log.shape) (sym (looked d old a k None looks).there)
 pages_same d old a k (Some p) is_key looks =
     let there = value_of d old a k p is_key looks in
     ap (charge d.log.shape) (sym there.size) ∙ ap (pages_if_some d.log.shape) (sym there.is_there)
 
-pub short_place : (d : Parts) (old : BoardState) (a : Agrees d old.shape old.pages) (k : Key) (o : Option ValuePlace) → IsKey k → Looks d old.pages k o → MatchOption o (Unit {0}) (λ p. p.len ≤ greatest d.log.shape)
+pub short_place : (d : Parts) (old : BoardState) (a : DriveOnFlash d old.shape old.pages) (k : Key) (o : Option ValuePlace) → IsKey k → Looks d old.pages k o → MatchOption o (Unit {0}) (λ p. p.len ≤ greatest d.log.shape)
 short_place d old a k None is_key looks = tt
 short_place d old a k (Some p) is_key looks = (value_of d old a k p is_key looks).short
 
@@ -313,7 +313,7 @@ module _ (d : Parts) (old : BoardState) (r : Request) (value : List ℕ) (k : Ke
         let done = does_stop d old new s.agrees c (insert all k value) s.counted few_roots one_root (store_other r.opcode op) leaves_put behind (fails d.log.shape all may_put) stops in
         subst (λ (x : Outcome). Does old new (sight_of d) behind c (shown x into) 0 x.stopped) (sym told_is) done
 
-    pub store_agrees : (e : Parts) (new : BoardState) → PutsAll d e old new k value o → new.shape ≡ old.shape → Agrees e new.shape new.pages
+    pub store_agrees : (e : Parts) (new : BoardState) → PutsAll d e old new k value o → new.shape ≡ old.shape → DriveOnFlash e new.shape new.pages
     store_agrees e new puts same_shape =
         agrees_so e new.shape d.log.shape new.pages (insert all k value) (same_shape ∙ (s.agrees.told_is ∙ ap (λ x. Some x) (sym s.agrees.with.shape_is))) (puts d.log.shape all may_put).stands
 
@@ -384,7 +384,7 @@ module _ (d : Parts) (old : BoardState) (r : Request) (v : List ℕ) (k : Key) (
         let done = does_stop d old new s.agrees dc (remove its_map k) s.counted few_roots gone_root (delete_other r.opcode op) leaves_gone behind (fails d.log.shape its_map may_take) stops in
         subst (λ (x : Outcome). Does old new (sight_of d) behind dc (shown x into) 0 x.stopped) (sym told_is) done
 
-    pub delete_agrees : (e : Parts) (new : BoardState) → TakesAll d e old new k p → new.shape ≡ old.shape → Agrees e new.shape new.pages
+    pub delete_agrees : (e : Parts) (new : BoardState) → TakesAll d e old new k p → new.shape ≡ old.shape → DriveOnFlash e new.shape new.pages
     delete_agrees e new takes same_shape =
         agrees_so e new.shape d.log.shape new.pages (remove its_map k) (same_shape ∙ (s.agrees.told_is ∙ ap (λ x. Some x) (sym s.agrees.with.shape_is))) (takes d.log.shape its_map may_take).stands
 

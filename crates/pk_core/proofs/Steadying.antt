@@ -28,7 +28,7 @@ use Rattle.pk_pool.specs.Blocks.{Blocks, IsShared, is_ready, is_free, is_owned_b
 use Rattle.pk_pool.proofs.States.{ready_is_not_root}
 use Rattle.pk_pool.proofs.Sharing.{behind_roots}
 use Rattle.pk_run.specs.Kept.{Kept, empty}
-use Rattle.pk_level.specs.Levels.{StandEach}
+use Rattle.pk_level.specs.Levels.{RunsOnFlash}
 use Rattle.pk_jrn.proofs.Puts.{firsts-reverse}
 use Rattle.pk_model.specs.Found.{Found}
 use Rattle.pk_model.specs.Values.{all_pages}
@@ -41,7 +41,7 @@ use Rattle.pk_nand.specs.BoardState.{BoardState}
 use Rattle.pk_nand.specs.Effects.{OnlyFlash}
 use Rattle.pk_drive.specs.Steady.{Steadies, IsSteady, IsReadyBlock, HasReady, entries_of_runs, live_blocks}
 use Rattle.pk_core.specs.Parts.{Parts, sight_of, counts_of, block_if_open}
-use Rattle.pk_core.specs.Agreeing.{AgreesWith, Agrees, AgreesBetween}
+use Rattle.pk_core.specs.Agreeing.{DriveOnFlashWith, DriveOnFlash, DriveOnFlashBetween}
 use Rattle.pk_core.proofs.Rooming.{entries_some}
 use Rattle.pk_core.proofs.Places.{blocks_from, many_blocks, has_state, blocks_differ, block_in, all_in}
 
@@ -98,7 +98,7 @@ same_length shape (r ∷ rs) [] h = absurd h
 same_length shape (r ∷ rs) (bs ∷ bss) h = ap suc (same_length shape rs bss h.2)
 
 -- each run has as many entries as it counts
-sizes_are : (flash : Flash) (arena : Frames) (rs : List Kept) (ess : List (List Entry)) → StandEach flash arena rs ess → map (λ (r : Kept). r.count) rs ≡ map length ess
+sizes_are : (flash : Flash) (arena : Frames) (rs : List Kept) (ess : List (List Entry)) → RunsOnFlash flash arena rs ess → map (λ (r : Kept). r.count) rs ≡ map length ess
 sizes_are flash arena [] [] h = refl
 sizes_are flash arena [] (es ∷ ess) h = absurd h
 sizes_are flash arena (r ∷ rs) [] h = absurd h
@@ -113,11 +113,11 @@ counts_of_four (a ∷ b ∷ c ∷ []) shape e = absurd (omega (arith, e))
 counts_of_four (a ∷ b ∷ c ∷ d ∷ []) shape e = refl
 counts_of_four (a ∷ b ∷ c ∷ d ∷ x ∷ rs) shape e = absurd (omega (arith, e))
 
-counts_are : (flash : Flash) (arena : Frames) (rs : List Kept) (ess : List (List Entry)) (shape : Shape) → length rs ≡ 4 → StandEach flash arena rs ess
+counts_are : (flash : Flash) (arena : Frames) (rs : List Kept) (ess : List (List Entry)) (shape : Shape) → length rs ≡ 4 → RunsOnFlash flash arena rs ess
     → (slice_index_or rs 0 (empty shape 1)).count ∷ (slice_index_or rs 1 (empty shape 2)).count ∷ (slice_index_or rs 2 (empty shape 3)).count ∷ (slice_index_or rs 3 (empty shape 4)).count ∷ [] ≡ map length ess
 counts_are flash arena rs ess shape four stand = counts_of_four rs shape four ∙ sizes_are flash arena rs ess stand
 
-module _ (d : Parts) (shape : Shape) (flash : Flash) (top : ℕ × Root) (found : Found) (without all : Map) (a : AgreesWith d shape flash top found without all) (shared : IsShared d.pool.shape d.pool.states) where
+module _ (d : Parts) (shape : Shape) (flash : Flash) (top : ℕ × Root) (found : Found) (without all : Map) (a : DriveOnFlashWith d shape flash top found without all) (shared : IsShared d.pool.shape d.pool.states) where
   ready_block : (b : ℕ) → slice_get d.pool.states b ≡ Some Ready → IsReadyBlock shape flash top.1 (block_if_open d.space.open_block) b
   ready_block b ready = record {
     behind_roots = behind_roots d.pool.shape d.pool.states b Ready ready_is_not_root ready shared;
@@ -203,7 +203,7 @@ module _ (d : Parts) (shape : Shape) (flash : Flash) (top : ℕ × Root) (found 
 told_same : (a b : Shape) → ◌≡◌ {A = Option Shape} (Some a) (Some b) → a ≡ b
 told_same a b e = cc
 
-pub between_steady : (d : Parts) (told : Option Shape) (shape : Shape) (flash : Flash) → AgreesBetween d told flash → told ≡ Some shape → IsShared d.pool.shape d.pool.states → IsSteady shape flash (sight_of d)
+pub between_steady : (d : Parts) (told : Option Shape) (shape : Shape) (flash : Flash) → DriveOnFlashBetween d told flash → told ≡ Some shape → IsShared d.pool.shape d.pool.states → IsSteady shape flash (sight_of d)
 between_steady d told shape flash is told_is shared =
     let a = is.0 in
     let same : a.shape ≡ shape = told_same a.shape shape (sym a.told_is ∙ told_is) in
@@ -211,16 +211,16 @@ between_steady d told shape flash is told_is shared =
     subst (λ s. IsSteady s flash (sight_of d)) same (agrees_steady d a.shape flash a.top a.found a.without a.all a.with shared few)
 
 -- it is so behind a call that left no more than its flash
-pub steadies : (e : Parts) (old new : BoardState) (before : Sight) → AgreesBetween e new.shape new.pages → OnlyFlash old new → IsShared e.pool.shape e.pool.states → Steadies old new before (sight_of e)
+pub steadies : (e : Parts) (old new : BoardState) (before : Sight) → DriveOnFlashBetween e new.shape new.pages → OnlyFlash old new → IsShared e.pool.shape e.pool.states → Steadies old new before (sight_of e)
 steadies e old new before is rest shared shape frames m stands = between_steady e new.shape shape new.pages is (ap (λ (b : BoardState). b.shape) rest ∙ stands.shape_is) shared
 
 -- where nothing is pending, the drive stands as it does between two commands
-pub between_none : (d : Parts) (told : Option Shape) (flash : Flash) → Agrees d told flash → d.log.pending ≡ [] → AgreesBetween d told flash
+pub between_none : (d : Parts) (told : Option Shape) (flash : Flash) → DriveOnFlash d told flash → d.log.pending ≡ [] → DriveOnFlashBetween d told flash
 between_none d told flash a none =
     let some : 0 < page_entries d.log.shape = entries_some d.log.shape (subst IsShape (sym a.with.shape_is) a.with.placed.is_shape) in
     (a, subst (λ (es : List Entry). length es < page_entries d.log.shape) (sym none) some)
 
-pub steadies_ok : {X E : Type 0} (r : Result X E) (e : Parts) (old new : BoardState) (before : Sight) → OnOk r (Agrees e new.shape new.pages) → OnOk r (e.log.pending ≡ []) → OnlyFlash old new → IsShared e.pool.shape e.pool.states
+pub steadies_ok : {X E : Type 0} (r : Result X E) (e : Parts) (old new : BoardState) (before : Sight) → OnOk r (DriveOnFlash e new.shape new.pages) → OnOk r (e.log.pending ≡ []) → OnlyFlash old new → IsShared e.pool.shape e.pool.states
     → OnOk r (Steadies old new before (sight_of e))
 steadies_ok (Ok x) e old new before is none rest shared = steadies e old new before (between_none e new.shape new.pages is none) rest shared
 steadies_ok (Err x) e old new before is none rest shared = tt

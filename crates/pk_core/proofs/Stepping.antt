@@ -24,7 +24,7 @@ use Rattle.pk_model.specs.Run.{Step}
 use Rattle.pk_model.specs.Sight.{Sight}
 use Rattle.pk_model.proofs.Answering.{serves}
 use Rattle.pk_model.specs.Wear.{roots}
-use Rattle.pk_drive.specs.Drive.{Stands}
+use Rattle.pk_drive.specs.Drive.{HoldsMap}
 use Rattle.pk_nand.specs.Effects.{OnlyFlash, NoFault, AtMostOneCall}
 use Rattle.pk_model.specs.Crashes.{CrashFinds, background, command}
 use Rattle.pk_drive.specs.Exec.{most_installs}
@@ -34,7 +34,7 @@ use Rattle.pk_drive.specs.declared.types.Ticked.{Ticked}
 use Rattle.pk_drive.specs.declared.types.Ticked.TheVariants.{Worked, Idle, Fault}
 use Rattle.pk_model.proofs.Growing.{weaken, weaken_went, at_end, Reaches-then, Goes-then}
 use Rattle.pk_core.specs.Parts.{Parts, sight_of}
-use Rattle.pk_core.specs.Agreeing.{Agrees}
+use Rattle.pk_core.specs.Agreeing.{DriveOnFlash}
 use Rattle.pk_core.specs.Done.{Does}
 use Rattle.pk_core.specs.Quiet.{eleven}
 use Rattle.pk_core.specs.Staying.{Stays}
@@ -47,7 +47,7 @@ use Rattle.pk_core.proofs.Ticking.{yes_no}
 
 -- the drive agrees with its board after so many steps, of which none failed
 pub record Ongoing (first : Parts) (old : BoardState) (d : Parts) (board : BoardState) (made : ℕ) : Type 0 where
-  pub agrees : Agrees d board.shape board.pages
+  pub agrees : DriveOnFlash d board.shape board.pages
   pub unstopped : d.stopped ≡ false
   pub none : d.log.pending ≡ []
   pub steps : Steps old board (sight_of first) (sight_of d) Worked made
@@ -120,7 +120,7 @@ sound_step a b s t (Fault stopped) ticks e = absurd (yes_no true e refl)
 
 module _ (s0 s1 : BoardState) (e0 e1 : Sight) (n : ℕ) (first : Steps s0 s1 e0 e1 Worked n) where
   -- a cut behind the steps so far is one behind the first
-  seen : (shape : Shape) (frames : ℕ) (m : Map) (st : Stands shape frames s0 e0 m) (f : Flash) (q : List ℕ)
+  seen : (shape : Shape) (frames : ℕ) (m : Map) (st : HoldsMap shape frames s0 e0 m) (f : Flash) (q : List ℕ)
       → CrashFinds shape background s0.pages m f q → CrashFinds shape background s0.pages m f (all_posted (first.cuts refl shape frames m st).0 ++ q)
   seen shape frames m st f q cut =
       let run = first.cuts refl shape frames m st in
@@ -186,7 +186,7 @@ other_kind x is e = let f : ◌≡◌ {A = Option Opcode} (Some Tick) (Some Retr
 ok_sound : ◌≡◌ {A = ℕ} 0 0x88 → ⊥
 ok_sound e = cc
 
-module _ (old new : BoardState) (d d' : Parts) (r : Request) (v : List ℕ) (a : Agrees d old.shape old.pages) (passed : early d.log.shape (command_of r []) ≡ None) (op : r.opcode ≡ 0xC0) where
+module _ (old new : BoardState) (d d' : Parts) (r : Request) (v : List ℕ) (a : DriveOnFlash d old.shape old.pages) (passed : early d.log.shape (command_of r []) ≡ None) (op : r.opcode ≡ 0xC0) where
   passes : early d.log.shape (command_of r v) ≡ None
   passes = same_early d.log.shape r v ∙ passed
 
@@ -286,7 +286,7 @@ module _ (first : Parts) (old : BoardState) (d e : Parts) (board next : BoardSta
   behind = steps_more old board (sight_of first) (sight_of d) made o.steps next (sight_of e) answer ticks
 
   -- it goes on behind a step that erased a block
-  pub ongoing_more : has_failed answer ≡ false → erased_in d.pool ≢ erased_in e.pool → e.stopped ≡ stopped_by answer → e.log.pending ≡ [] → (stopped_by answer ≡ false → Agrees e next.shape next.pages) → (stopped_by answer ≡ false → Stays d e) → Ongoing first old e next (made + 1)
+  pub ongoing_more : has_failed answer ≡ false → erased_in d.pool ≢ erased_in e.pool → e.stopped ≡ stopped_by answer → e.log.pending ≡ [] → (stopped_by answer ≡ false → DriveOnFlash e next.shape next.pages) → (stopped_by answer ≡ false → Stays d e) → Ongoing first old e next (made + 1)
   ongoing_more fine other stops none agrees stays =
       let runs = runs_on answer fine in
       let before = o.erased in

@@ -19,7 +19,7 @@ use Rattle.pk_nand.proofs.Reaching.{Reached-start}
 use Rattle.pk_nand.proofs.Touching.{untouched_after}
 use Rattle.pk_pool.specs.declared.state.BlockState.{BlockState}
 use Rattle.pk_pool.specs.declared.state.BlockState.TheVariants.{Root as RootBlock, Free, Ready, Owned}
-use Rattle.pk_pool.specs.Blocks.{Blocks, Fits, IsShared, IsOwned, IsNowhere, is_root, is_free, is_ready, is_owned_by, used_by, with_state}
+use Rattle.pk_pool.specs.Blocks.{Blocks, PoolOnFlash, IsShared, IsOwned, IsNowhere, is_root, is_free, is_ready, is_owned_by, used_by, with_state}
 use Rattle.pk_pool.specs.Taking.{ErasesOne, ErasesNone}
 use Rattle.pk_pool.proofs.States.{free_is_not_root}
 use Rattle.pk_pool.proofs.Sharing.{count-set, behind_roots}
@@ -29,12 +29,12 @@ use Rattle.pk_steps.specs.Under.{places}
 use Rattle.pk_steps.proofs.Untouched.{under_reads}
 use Rattle.pk_nand.proofs.Effects.{works_erase, stops_erase}
 use Rattle.pk_data.specs.State.{fits_open, has_left}
-use Rattle.pk_data.specs.Placed.{HoldsValues, Placed, IsOpenIn}
+use Rattle.pk_data.specs.Placed.{HoldsValues, ValuesOnFlash, IsOpenIn}
 use Rattle.pk_data.specs.declared.open_block.OpenBlock.{OpenBlock}
 use Rattle.pk_data.proofs.Unchanged.{block_elsewhere}
 use Rattle.pk_model.specs.Growth.{Grows, Reaches, Goes}
 use Rattle.pk_model.specs.Wear.{number_of, root_number, roots}
-use Rattle.pk_drive.specs.Drive.{Stands}
+use Rattle.pk_drive.specs.Drive.{HoldsMap}
 use Rattle.pk_nand.specs.Effects.{AtMostOneCall}
 use Rattle.pk_drive.specs.Seen.{stopped_by}
 use Rattle.pk_drive.specs.Tick.{TellsIdle}
@@ -44,7 +44,7 @@ use Rattle.pk_drive.specs.declared.types.Ticked.TheVariants.{Worked, Idle, Fault
 use Rattle.pk_model.proofs.Growing.{weaken, weaken_went}
 use Rattle.pk_data.specs.Laws.{SameValues}
 use Rattle.pk_core.specs.Parts.{Parts, sight_of, block_if_open, jobs_of}
-use Rattle.pk_core.specs.Agreeing.{AgreesWith, Agrees}
+use Rattle.pk_core.specs.Agreeing.{DriveOnFlashWith, DriveOnFlash}
 use Rattle.pk_core.specs.Ticking.{Ticks, has_no_work}
 use Rattle.pk_core.proofs.Unread.{IsReadBy, SameRead, same_top, still_without, still_all, agrees_elsewhere}
 use Rattle.pk_core.proofs.Stills.{StillCut, still_end, went_end, still_erase, still_erase_failed}
@@ -107,7 +107,7 @@ same_roots shape old new has has_new same =
 free_or_values : (p : Blocks) (b : ℕ) → slice_get p.states b ≡ Some Free → HoldsValues p b → ⊥
 free_or_values p b free held = cc
 
-module _ (d : Parts) (old new : BoardState) (a : Agrees d old.shape old.pages) (block : ℕ) (free : slice_get d.pool.states block ≡ Some Free) (shared : IsShared d.pool.shape d.pool.states) where
+module _ (d : Parts) (old new : BoardState) (a : DriveOnFlash d old.shape old.pages) (block : ℕ) (free : slice_get d.pool.states block ≡ Some Free) (shared : IsShared d.pool.shape d.pool.states) where
   abbrev pub Still : Flash → List ℕ → Type 0
   Still = StillCut d.log.shape a.top.1 a.found d.log.pending old.pages
 
@@ -133,7 +133,7 @@ module _ (d : Parts) (old new : BoardState) (a : Agrees d old.shape old.pages) (
 
   -- ---- by a call that did not fail
 
-  module _ (made : new ≡ after_erase old block) (ready : IsReady new d.log.shape) (q : Blocks) (marked : q ≡ with_state d.pool block Ready) (fits : Fits q new.pages)
+  module _ (made : new ≡ after_erase old block) (ready : IsReady new d.log.shape) (q : Blocks) (marked : q ≡ with_state d.pool block Ready) (fits : PoolOnFlash q new.pages)
       (owned : (b : ℕ) → IsOwned d.pool b → slice_get q.states b ≡ slice_get d.pool.states b) where
     abbrev pub after_it : Parts
     after_it = record d { pool = q }
@@ -150,10 +150,10 @@ module _ (d : Parts) (old new : BoardState) (a : Agrees d old.shape old.pages) (
         let in_shape : new.pages ≡ after d.log.shape (erase block) old.pages = pages ∙ ap (λ o. after (shape_or_none o) (erase block) old.pages) has in
         ap (λ f. page_at f k) in_shape ∙ untouched_after d.log.shape (erase block) old.pages k (λ here. free_or_values d.pool block free (subst (λ b. HoldsValues d.pool b) here held))
 
-    placed : Placed d.log.shape d.space q (jobs_of d).blocks.values new.pages (places a.found d.log.pending)
+    placed : ValuesOnFlash d.log.shape d.space q (jobs_of d).blocks.values new.pages (places a.found d.log.pending)
     placed =
-        subst (λ p. Placed d.log.shape d.space p (jobs_of d).blocks.values new.pages (places a.found d.log.pending)) (sym marked)
-        (block_elsewhere d.log.shape d.space d.pool (jobs_of d).blocks.values block Free Ready old.pages new.pages (places a.found d.log.pending) (own d old a).placed free refl refl values_same (subst (λ p. Fits p new.pages) marked fits))
+        subst (λ p. ValuesOnFlash d.log.shape d.space p (jobs_of d).blocks.values new.pages (places a.found d.log.pending)) (sym marked)
+        (block_elsewhere d.log.shape d.space d.pool (jobs_of d).blocks.values block Free Ready old.pages new.pages (places a.found d.log.pending) (own d old a).placed free refl refl values_same (subst (λ p. PoolOnFlash p new.pages) marked fits))
 
     journal_same : used_by Journal q.states ≡ used_by Journal d.pool.states
     journal_same =
@@ -165,17 +165,17 @@ module _ (d : Parts) (old new : BoardState) (a : Agrees d old.shape old.pages) (
         let all = count-set (is_owned_by Meta) d.pool.states block Free Ready free in
         ap (λ p. used_by Meta p.states) marked ∙ omega (arith, all)
 
-    agrees_now : AgreesWith (record d { pool = q }) d.log.shape new.pages a.top a.found a.without a.all
+    agrees_now : DriveOnFlashWith (record d { pool = q }) d.log.shape new.pages a.top a.found a.without a.all
     agrees_now = agrees_elsewhere d d.space q d.log.shape old.pages new.pages a.top a.found a.without a.all (own d old a) same ready.flash (λ b o is. owned b (o, is) ∙ is) journal_same meta_same placed
 
-    pub agrees_erased : Agrees (record d { pool = q }) new.shape new.pages
+    pub agrees_erased : DriveOnFlash (record d { pool = q }) new.shape new.pages
     agrees_erased = record { shape = d.log.shape; top = a.top; found = a.found; without = a.without; all = a.all; told_is = ready.shape_is; with = agrees_now }
 
     pub ticks_erased : d.log.pending ≡ [] → Ticks old new (sight_of d) (sight_of (record d { pool = q })) Worked
     ticks_erased none =
         let works = works_erase old new block made in
         record {
-          stands = λ _. for_its_map d old a (λ s f m. Stands s f new (sight_of (record d { pool = q })) m)
+          stands = λ _. for_its_map d old a (λ s f m. HoldsMap s f new (sight_of (record d { pool = q })) m)
               (record { shape_is = ready.shape_is; frames_is = refl; map_is = under_reads d.log.shape new.pages d.log.pending a.top a.found a.all (still_all d d.space d.pool d.log.shape old.pages new.pages a.top a.found a.without a.all (own d old a) same) });
           cuts = λ _. for_its_map d old a (λ s f m. Reaches s old new (CrashFinds s background old.pages m)) (reached.0, weaken reached.0 old new Still (CrashFinds d.log.shape background old.pages a.all) (cut_is none) reached.1, reached.2);
           cuts_stopped = λ e. absurd (yes_no false refl e);
@@ -291,7 +291,7 @@ not_true : (b : Bool) → not b ≡ true → b ≡ false
 not_true true e = cc
 not_true false e = refl
 
-module _ (d : Parts) (old : BoardState) (a : Agrees d old.shape old.pages) (shared : IsShared d.pool.shape d.pool.states) where
+module _ (d : Parts) (old : BoardState) (a : DriveOnFlash d old.shape old.pages) (shared : IsShared d.pool.shape d.pool.states) where
   all_blocks : 2 + length (named a.top.1) + used_by Values d.pool.states + count_by is_ready d.pool.states + count_by is_free d.pool.states ≡ d.log.shape.blocks
   all_blocks =
       let all = all_counted d.pool.states in
@@ -363,13 +363,13 @@ none_erased d d' old new r is e = subst (Erases d d' old new) e is
 pub kept_drive : (d d' : Parts) (old new : BoardState) → ErasesNone d.pool old d'.pool new → d' ≡ record d { pool = d'.pool } → d' ≡ d
 kept_drive d d' old new is rest = rest ∙ ap (λ p. record d { pool = p }) is.kept
 
-module _ (d d' : Parts) (old new : BoardState) (a : Agrees d old.shape old.pages) (one : ErasesOne d.pool old d'.pool new) (rest : d' ≡ record d { pool = d'.pool }) (shared : IsShared d.pool.shape d.pool.states)
-    (ready : IsReady new d.pool.shape) (owned : (b : ℕ) → IsOwned d.pool b → slice_get d'.pool.states b ≡ slice_get d.pool.states b) (fits : Fits d'.pool new.pages) where
+module _ (d d' : Parts) (old new : BoardState) (a : DriveOnFlash d old.shape old.pages) (one : ErasesOne d.pool old d'.pool new) (rest : d' ≡ record d { pool = d'.pool }) (shared : IsShared d.pool.shape d.pool.states)
+    (ready : IsReady new d.pool.shape) (owned : (b : ℕ) → IsOwned d.pool b → slice_get d'.pool.states b ≡ slice_get d.pool.states b) (fits : PoolOnFlash d'.pool new.pages) where
   own_ready : IsReady new d.log.shape
   own_ready = subst (λ s. IsReady new s) (own d old a).placed.shape_is ready
 
-  pub step_agrees : Agrees d' new.shape new.pages
-  step_agrees = subst (λ x. Agrees x new.shape new.pages) (sym rest) (agrees_erased d old new a one.block one.lowest.here shared one.erase own_ready d'.pool one.marked fits owned)
+  pub step_agrees : DriveOnFlash d' new.shape new.pages
+  step_agrees = subst (λ x. DriveOnFlash x new.shape new.pages) (sym rest) (agrees_erased d old new a one.block one.lowest.here shared one.erase own_ready d'.pool one.marked fits owned)
 
   pub step_ticks : d.log.pending ≡ [] → Ticks old new (sight_of d) (sight_of d') Worked
   step_ticks none = subst (λ x. Ticks old new (sight_of d) (sight_of x) Worked) (sym rest) (ticks_erased d old new a one.block one.lowest.here shared one.erase own_ready d'.pool one.marked fits owned none)

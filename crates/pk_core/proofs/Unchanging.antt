@@ -40,14 +40,14 @@ use Rattle.pk_model.specs.Sight.{Sight, Counts}
 use Rattle.pk_model.proofs.Answering.{refuses_late, serves, IsKeyLength, key_sized}
 use Rattle.pk_steps.specs.Under.{places}
 use Rattle.pk_steps.proofs.Untouched.{under_reads}
-use Rattle.pk_drive.specs.Drive.{Stands, CountsMap}
+use Rattle.pk_drive.specs.Drive.{HoldsMap, CountsMap}
 use Rattle.pk_drive.specs.Seen.{reply_of as shown}
 use Rattle.pk_drive.specs.declared.types.Outcome.{Outcome}
 use Rattle.pk_drive.specs.Exec.{report_of}
 use Rattle.pk_model.specs.Crashes.{CrashFinds, command}
 use Rattle.pk_core.specs.declared.place.ValuePlace.{ValuePlace}
 use Rattle.pk_core.specs.Parts.{Parts, sight_of}
-use Rattle.pk_core.specs.Agreeing.{AgreesWith, Agrees}
+use Rattle.pk_core.specs.Agreeing.{DriveOnFlashWith, DriveOnFlash}
 use Rattle.pk_core.specs.Finding.{IsPlaceIn, place_of}
 use Rattle.pk_core.specs.Done.{Does}
 use Rattle.pk_core.specs.Quiet.{ReadsOnly, ReadsFailing, Looks, ValueThere, eleven}
@@ -108,7 +108,7 @@ yes_no e = cc
 -- it may answer this on every map that the drive stands for, and reads no more than it may
 abbrev pub AnswersAll : BoardState → Sight → Command → Reply → ℕ → Type 0
 AnswersAll old s c reply reads =
-    (shape : Shape) (frames : ℕ) (m : Map) → Stands shape frames old s m → Step shape frames m c reply m × (op_of c.opcode ≡ Some Retrieve → reads ≤ most_reads shape frames m c)
+    (shape : Shape) (frames : ℕ) (m : Map) → HoldsMap shape frames old s m → Step shape frames m c reply m × (op_of c.opcode ≡ Some Retrieve → reads ≤ most_reads shape frames m c)
 
 pub does_reads : (old new : BoardState) (s : Sight) (c : Command) (reply : Reply) (most reads : ℕ) → old.reads ≤ last_count → new.reads ≤ last_count
     → ReadsOnly old new most → reads ≡ new.reads - old.reads → reply.status ≢ 0x88 → AnswersAll old s c reply reads → Does old new s s c reply reads false
@@ -167,12 +167,12 @@ same_some a b e = cc
 pub same_ok : {E : Type 0} (x y : Map) → ◌≡◌ {A = Result Map E} (Ok x) (Ok y) → x ≡ y
 same_ok x y e = cc
 
-module _ (d : Parts) (board : BoardState) (a : Agrees d board.shape board.pages) where
-  pub own : AgreesWith d d.log.shape board.pages a.top a.found a.without a.all
-  own = subst (λ s. AgreesWith d s board.pages a.top a.found a.without a.all) (sym a.with.shape_is) a.with
+module _ (d : Parts) (board : BoardState) (a : DriveOnFlash d board.shape board.pages) where
+  pub own : DriveOnFlashWith d d.log.shape board.pages a.top a.found a.without a.all
+  own = subst (λ s. DriveOnFlashWith d s board.pages a.top a.found a.without a.all) (sym a.with.shape_is) a.with
 
   -- what holds of its one map holds of every map that it stands for
-  pub for_its_map : (P : Shape → ℕ → Map → Type 0) → P d.log.shape d.frames a.all → (shape : Shape) (frames : ℕ) (m : Map) → Stands shape frames board (sight_of d) m → P shape frames m
+  pub for_its_map : (P : Shape → ℕ → Map → Type 0) → P d.log.shape d.frames a.all → (shape : Shape) (frames : ℕ) (m : Map) → HoldsMap shape frames board (sight_of d) m → P shape frames m
   for_its_map P here shape frames m st =
       let same_shape : d.log.shape ≡ shape = a.with.shape_is ∙ same_some a.shape shape (sym a.told_is ∙ st.shape_is) in
       let read = under_reads d.log.shape board.pages d.log.pending a.top a.found a.all own.pending in
@@ -201,7 +201,7 @@ found_has P k p (x ∷ xs) e all =
     same_place x y f = cc
 
 pub value_there : (d : Parts) (flash : Flash) (top : ℕ × Root) (found : Found) (without all : Map) (k : Key) (p : ValuePlace) → IsKey k
-    → AgreesWith d d.log.shape flash top found without all → IsPlaceIn d.log.shape flash found d.log.pending all k (Some p) → ValueThere d.log.shape flash all k p
+    → DriveOnFlashWith d d.log.shape flash top found without all → IsPlaceIn d.log.shape flash found d.log.pending all k (Some p) → ValueThere d.log.shape flash all k p
 value_there d flash top found without all k p is_key a is =
     let shape = d.log.shape in
     let v : List ℕ = is.there.0 in
@@ -301,12 +301,12 @@ few_fetched shape n is short =
 
 -- ---- the answers of commands that look a key up
 
-pub agrees_ready : (d : Parts) (board : BoardState) → Agrees d board.shape board.pages → IsReady board d.log.shape
+pub agrees_ready : (d : Parts) (board : BoardState) → DriveOnFlash d board.shape board.pages → IsReady board d.log.shape
 agrees_ready d board a = record { shape_is = a.told_is ∙ ap (λ s. Some s) (sym a.with.shape_is); flash = subst (λ s. IsFlash s board.pages) (sym a.with.shape_is) a.with.is_flash }
 
-pub agrees_same : (d d' : Parts) (told told' : Option Shape) (flash flash' : Flash) → d' ≡ d → told' ≡ told → flash' ≡ flash → Agrees d told flash → Agrees d' told' flash'
+pub agrees_same : (d d' : Parts) (told told' : Option Shape) (flash flash' : Flash) → d' ≡ d → told' ≡ told → flash' ≡ flash → DriveOnFlash d told flash → DriveOnFlash d' told' flash'
 agrees_same d d' told told' flash flash' e f g a =
-    subst (λ x. Agrees x told' flash') (sym e) (subst (λ x. Agrees d x flash') (sym f) (subst (λ x. Agrees d told x) (sym g) a))
+    subst (λ x. DriveOnFlash x told' flash') (sym e) (subst (λ x. DriveOnFlash d x flash') (sym f) (subst (λ x. DriveOnFlash d told x) (sym g) a))
 
 pub exist_keyed : (shape : Shape) (r : Request) → r.opcode ≡ 0x14 → early shape (command_of r []) ≡ None → IsKeyLength r.key_len
 exist_keyed shape r is passed = key_sized shape (command_of r []) Exist (λ n. refl) (ap op_of is) passed
@@ -324,20 +324,20 @@ other_kind : (x : ℕ) → x ≡ 0x14 → op_of x ≡ Some Retrieve → ⊥
 other_kind x is e = let f : ◌≡◌ {A = Option Opcode} (Some Exist) (Some Retrieve) = sym (ap op_of is) ∙ e in cc
 
 -- the value that a look-up found
-pub value_of : (d : Parts) (old : BoardState) (a : Agrees d old.shape old.pages) (k : Key) (p : ValuePlace) → IsKey k → Looks d old.pages k (Some p) → ValueThere d.log.shape old.pages a.all k p
+pub value_of : (d : Parts) (old : BoardState) (a : DriveOnFlash d old.shape old.pages) (k : Key) (p : ValuePlace) → IsKey k → Looks d old.pages k (Some p) → ValueThere d.log.shape old.pages a.all k p
 value_of d old a k p is_key looks = value_there d old.pages a.top a.found a.without a.all k p is_key (own d old a) (looked d old a k (Some p) looks)
 
 -- its pages, on an equal flash
 pub front_moved : (d d' : Parts) (flash flash' : Flash) (page n : ℕ) (q : Key) (w : List ℕ) → d' ≡ d → flash' ≡ flash → IsFront d.log.shape flash page n q w → IsFront d'.log.shape flash' page n q w
 front_moved d d' flash flash' page n q w same pages is = subst (λ x. IsFront x.log.shape flash' page n q w) (sym same) (subst (λ f. IsFront d.log.shape f page n q w) (sym pages) is)
 
-pub front_of : (d d' : Parts) (flash' : Flash) (old : BoardState) (a : Agrees d old.shape old.pages) (k : Key) (p : ValuePlace) (n size : ℕ) → IsKey k → Looks d old.pages k (Some p) → d' ≡ d → flash' ≡ old.pages → n ≡ min p.len size
+pub front_of : (d d' : Parts) (flash' : Flash) (old : BoardState) (a : DriveOnFlash d old.shape old.pages) (k : Key) (p : ValuePlace) (n size : ℕ) → IsKey k → Looks d old.pages k (Some p) → d' ≡ d → flash' ≡ old.pages → n ≡ min p.len size
     → (q : Key) × (w : List ℕ) × IsFront d'.log.shape flash' p.page n q w
 front_of d d' flash' old a k p n size is_key looks same pages is =
     let there = value_of d old a k p is_key looks in
     (k, there.value, front_moved d d' old.pages flash' p.page n k there.value same pages (there.front n (omega (arith, is))))
 
-pub room_of : (d : Parts) (old : BoardState) (a : Agrees d old.shape old.pages) (k : Key) (p : ValuePlace) (n size room : ℕ) → IsKey k → Looks d old.pages k (Some p) → n ≡ min p.len size → greatest d.log.shape ≤ room → n ≤ room
+pub room_of : (d : Parts) (old : BoardState) (a : DriveOnFlash d old.shape old.pages) (k : Key) (p : ValuePlace) (n size room : ℕ) → IsKey k → Looks d old.pages k (Some p) → n ≡ min p.len size → greatest d.log.shape ≤ room → n ≤ room
 room_of d old a k p n size room is_key looks is all = (let short = (value_of d old a k p is_key looks).short in omega (arith, is, short, all))
 
 -- ---- the reads of a value behind those of a look-up
@@ -352,13 +352,13 @@ value_breaks d d' old mid new page n same before broken =
     reads_break old mid new (4 - d.levels.pinned) f.made (fetched d.log.shape n) (page + f.made) before f.within f.failed
 
 -- which are few
-pub few_of : (d : Parts) (old : BoardState) (a : Agrees d old.shape old.pages) (k : Key) (p : ValuePlace) (n size : ℕ) → IsKey k → Looks d old.pages k (Some p) → n ≡ min p.len size → 4 - d.levels.pinned + fetched d.log.shape n ≤ 68
+pub few_of : (d : Parts) (old : BoardState) (a : DriveOnFlash d old.shape old.pages) (k : Key) (p : ValuePlace) (n size : ℕ) → IsKey k → Looks d old.pages k (Some p) → n ≡ min p.len size → 4 - d.levels.pinned + fetched d.log.shape n ≤ 68
 few_of d old a k p n size is_key looks is =
     let short = (value_of d old a k p is_key looks).short in
     let most = few_fetched d.log.shape n (own d old a).logs.is_shape (omega (arith, is, short)) in
     omega (arith, most)
 
-module _ (d d' : Parts) (old new : BoardState) (r : Request) (v into : List ℕ) (a : Agrees d old.shape old.pages) (same : d' ≡ d) (passed : early d.log.shape (command_of r []) ≡ None)
+module _ (d d' : Parts) (old new : BoardState) (r : Request) (v into : List ℕ) (a : DriveOnFlash d old.shape old.pages) (same : d' ≡ d) (passed : early d.log.shape (command_of r []) ≡ None)
     (few : old.reads ≤ last_count) (few' : new.reads ≤ last_count) where
   shape : Shape
   shape = d.log.shape

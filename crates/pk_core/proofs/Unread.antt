@@ -14,8 +14,8 @@ use Rattle.pk_pool.specs.declared.state.BlockState.TheVariants.{Owned}
 use Rattle.pk_pool.specs.Blocks.{Blocks, used_by}
 use Rattle.pk_pin.specs.Frames.{Frames}
 use Rattle.pk_run.specs.Kept.{Kept}
-use Rattle.pk_run.proofs.Standing.{Stands-elsewhere}
-use Rattle.pk_level.specs.Levels.{StandEach}
+use Rattle.pk_run.proofs.Standing.{RunOnFlash-elsewhere}
+use Rattle.pk_level.specs.Levels.{RunsOnFlash}
 use Rattle.pk_model.specs.Found.{Found, entries_in_order}
 use Rattle.pk_model.specs.Laws.{AnyByRecursion, IsRead}
 use Rattle.pk_model.proofs.SamePages.{newest_root_same, in_some_block, any_front, any_back}
@@ -24,10 +24,10 @@ use Rattle.pk_steps.proofs.Untouched.{same as read_same}
 use Rattle.pk_log.specs.Laws.{SameNamed}
 use Rattle.pk_log.proofs.Standing.{logs_elsewhere}
 use Rattle.pk_data.specs.State.{DataState}
-use Rattle.pk_data.specs.Placed.{Placed}
+use Rattle.pk_data.specs.Placed.{ValuesOnFlash}
 use Rattle.pk_core.specs.Parts.{Parts, jobs_of}
 use Rattle.pk_scan.specs.Opened.{HaveBlocks}
-use Rattle.pk_core.specs.Agreeing.{AgreesWith}
+use Rattle.pk_core.specs.Agreeing.{DriveOnFlashWith}
 use Rattle.pk_core.proofs.Holding.{KeepsOwners, still_held}
 
 -- the page is read, without the pending entries or with them
@@ -55,7 +55,7 @@ module _ (shape : Shape) (positive : 0 < shape.block_pages) (root : Root) (old n
 
   runs_stand : (rs : List Kept) (bss : List (List ℕ)) (ess : List (List Entry)) → HaveBlocks shape rs bss
       → ((P : ℕ → Type 0) → AnyByRecursion P (concat bss) → AnyByRecursion P (named root))
-      → StandEach old arena rs ess → StandEach new arena rs ess
+      → RunsOnFlash old arena rs ess → RunsOnFlash new arena rs ess
   runs_stand [] bss [] have within each = tt
   runs_stand [] bss (es ∷ ess) have within each = absurd each
   runs_stand (r ∷ rs) [] ess have within each = absurd have
@@ -64,14 +64,14 @@ module _ (shape : Shape) (positive : 0 < shape.block_pages) (root : Root) (old n
       let here : (j : ℕ) → page_at new (page_in shape bs j) ≡ page_at old (page_in shape bs j) = λ j. page_same bs j (λ P is. within P (any_front P bs (concat bss) is)) in
       let S : Shape → List ℕ → Type 0 = λ s xs. (j : ℕ) → page_at new (page_in s xs j) ≡ page_at old (page_in s xs j) in
       let own : S r.shape r.blocks = subst (λ (s : Shape). S s r.blocks) (sym have.0) (subst (λ (xs : List ℕ). S shape xs) (sym have.1) here) in (
-        Stands-elsewhere r old new arena arena es (λ j h. own j) (λ j lease got is. (is, refl)) each.0,
+        RunOnFlash-elsewhere r old new arena arena es (λ j h. own j) (λ j lease got is. (is, refl)) each.0,
         runs_stand rs bss ess have.2 (λ P is. within P (any_back P bs (concat bss) is)) each.1,
       )
 
 -- ---- the whole
 
 module _ (d : Parts) (space : DataState) (pool : Blocks) (shape : Shape) (old new : Flash) (top : ℕ × Root) (found : Found) (without all : Map)
-    (with : AgreesWith d shape old top found without all) (same : SameRead shape top.1 found d.log.pending old new) where
+    (with : DriveOnFlashWith d shape old top found without all) (same : SameRead shape top.1 found d.log.pending old new) where
   is_shape : IsShape shape
   is_shape = subst IsShape with.shape_is with.logs.is_shape
 
@@ -84,8 +84,8 @@ module _ (d : Parts) (space : DataState) (pool : Blocks) (shape : Shape) (old ne
   pub still_all : IsUnder shape new d.log.pending top found all
   still_all = read_same shape old new d.log.pending top found all is_shape with.pending (λ k is. same k (inr is))
 
-  pub agrees_elsewhere : IsFlash shape new → KeepsOwners d.pool pool → used_by Journal pool.states ≡ used_by Journal d.pool.states → used_by Meta pool.states ≡ used_by Meta d.pool.states → Placed shape space pool (jobs_of d).blocks.values new (places found d.log.pending)
-      → AgreesWith (record d { space = space; pool = pool }) shape new top found without all
+  pub agrees_elsewhere : IsFlash shape new → KeepsOwners d.pool pool → used_by Journal pool.states ≡ used_by Journal d.pool.states → used_by Meta pool.states ≡ used_by Meta d.pool.states → ValuesOnFlash shape space pool (jobs_of d).blocks.values new (places found d.log.pending)
+      → DriveOnFlashWith (record d { space = space; pool = pool }) shape new top found without all
   agrees_elsewhere is_flash owners journal meta placed = record {
     shape_is = with.shape_is;
     is_flash = is_flash;

@@ -38,7 +38,7 @@ use Rattle.pk_nand.proofs.Effects.{works_none, works_erase, works_then, stops_er
 use Rattle.pk_data.specs.State.{DataState}
 use Rattle.pk_data.specs.Placed.{HoldsValues}
 use Rattle.pk_core.specs.Parts.{Parts, jobs_of}
-use Rattle.pk_core.specs.Agreeing.{AgreesWith}
+use Rattle.pk_core.specs.Agreeing.{DriveOnFlashWith}
 use Rattle.pk_core.specs.Moves.{StandsFor, Keeps, KeepsAll, BreaksAll, MayStep}
 use Rattle.pk_core.specs.Noting.{IsPlaced, StepPlaces}
 use Rattle.pk_core.specs.Placing.{Reserves, PlacesValue, FailsToPlace}
@@ -98,7 +98,7 @@ not_low n page k positive behind low small =
 
 -- ---- what is read
 
-module _ (d : Parts) (shape : Shape) (old : Flash) (top : ℕ × Root) (found : Found) (without all : Map) (with : AgreesWith d shape old top found without all) where
+module _ (d : Parts) (shape : Shape) (old : Flash) (top : ℕ × Root) (found : Found) (without all : Map) (with : DriveOnFlashWith d shape old top found without all) where
   shape_ok : IsShape shape
   shape_ok = subst IsShape with.shape_is with.logs.is_shape
 
@@ -177,7 +177,7 @@ module _ (d : Parts) (page count : ℕ) (space : DataState) (q : Blocks) (old ne
     | inr opens ↦ elim opens.choice [ inl ready ↦ works_none old new ready.same | inr free ↦ works_erase old new opens.block free.erase ]
   ]
 
-  module _ (ready : IsReady old d.log.shape) (top : ℕ × Root) (found : Found) (without all : Map) (with : AgreesWith d d.log.shape old.pages top found without all) where
+  module _ (ready : IsReady old d.log.shape) (top : ℕ × Root) (found : Found) (without all : Map) (with : DriveOnFlashWith d d.log.shape old.pages top found without all) where
     abbrev still : Flash → List ℕ → Type 0
     still = StillCut d.log.shape top.1 found d.log.pending old.pages
 
@@ -224,7 +224,7 @@ breaks_for before old new f shape m stands =
     subst (λ (s : Shape). Goes s old new (CrashFinds s commit old.pages m)) is (f m (subst (λ (s : Shape). StandsFor before s old.pages m) (sym is) stands))
 
 -- a cut at which no page differs that is read is one of a step that keeps the map
-pub still_commits : (d : Parts) (shape : Shape) (old : Flash) (top : ℕ × Root) (found : Found) (without all : Map) → AgreesWith d shape old top found without all
+pub still_commits : (d : Parts) (shape : Shape) (old : Flash) (top : ℕ × Root) (found : Found) (without all : Map) → DriveOnFlashWith d shape old top found without all
     → (f : Flash) (q : List ℕ) → StillCut shape top.1 found d.log.pending old f q → CrashFinds shape commit old all f q
 still_commits d shape old top found without all with f q is =
     (is.0, inl (under_reads shape f [] top found without (still_without d d.space d.pool shape old f top found without all with is.1) ∙ sym (under_reads shape old [] top found without with.committed)))
@@ -243,7 +243,7 @@ module _ (d : Parts) (key : Key) (value : List ℕ) (old : BoardState) (page : �
   works_placed = works_then old is.between new (works_reserved d page (charge shape (length value)) is.space q old is.between is.reserved)
       (subst (λ (b : BoardState). Works is.between b) (sym is.writes) (works_written shape key page value (charge shape (length value)) is.between))
 
-  module _ (top : ℕ × Root) (found : Found) (without all : Map) (with : AgreesWith d shape old.pages top found without all) where
+  module _ (top : ℕ × Root) (found : Found) (without all : Map) (with : DriveOnFlashWith d shape old.pages top found without all) where
     pub placed_reaches : Reaches shape old new (StillCut shape top.1 found d.log.pending old.pages)
     placed_reaches =
         let count : ℕ = charge shape (length value) in
@@ -257,7 +257,7 @@ module _ (d : Parts) (key : Key) (value : List ℕ) (old : BoardState) (page : �
     same_placed : SameRead shape top.1 found d.log.pending old.pages new.pages
     same_placed = still_end shape top.1 found d.log.pending old.pages old new placed_reaches
 
-    pub placed_agrees : AgreesWith after shape new.pages top found without all
+    pub placed_agrees : DriveOnFlashWith after shape new.pages top found without all
     placed_agrees = agrees_elsewhere d space q shape old.pages new.pages top found without all with same_placed ready_new.flash
         (owners_reserved d page (charge shape (length value)) is.space q old is.between is.reserved) (journal_reserved d page (charge shape (length value)) is.space q old is.between is.reserved) (meta_reserved d page (charge shape (length value)) is.space q old is.between is.reserved)
         (is.placed (jobs_of d).blocks.values (places found d.log.pending) with.placed)
@@ -282,7 +282,7 @@ module _ (d : Parts) (key : Key) (value : List ℕ) (old new : BoardState) (shar
       stops_then old write.between new (works_reserved d write.page (charge d.log.shape (length value)) write.space write.pool old write.between write.reserved)
       (stops_written d.log.shape key write.page value write.between new write.failed)
 
-  module _ (top : ℕ × Root) (found : Found) (without all : Map) (with : AgreesWith d d.log.shape old.pages top found without all) where
+  module _ (top : ℕ × Root) (found : Found) (without all : Map) (with : DriveOnFlashWith d d.log.shape old.pages top found without all) where
     pub placing_goes : FailsToPlace d.log.shape key value d.space d.pool old new → Goes d.log.shape old new (StillCut d.log.shape top.1 found d.log.pending old.pages)
     placing_goes (inl erase) =
         let spare : IsSpare d.pool erase.block = inl erase.lowest.here in
@@ -331,8 +331,8 @@ value_written d key value old page space q new is ready ready_new is_key short s
       keeps = placed_keeps_all d key value old page space q new is ready ready_new;
       found = λ shape' top' found' without' all' other.
           let same : d.log.shape ≡ shape' = other.shape_is in
-          subst (λ (s : Shape). AgreesWith after s new.pages top' found' without' all') same
-          (placed_agrees d key value old page space q new is ready ready_new top' found' without' all' (subst (λ (s : Shape). AgreesWith d s old.pages top' found' without' all') (sym same) other));
+          subst (λ (s : Shape). DriveOnFlashWith after s new.pages top' found' without' all') same
+          (placed_agrees d key value old page space q new is ready ready_new top' found' without' all' (subst (λ (s : Shape). DriveOnFlashWith d s old.pages top' found' without' all') (sym same) other));
       written = record {
         there = value_again shape with.logs.is_shape key value is_key (page_at new.pages) page is.stored;
         apart = λ top' found' without' all' other k here is_value.

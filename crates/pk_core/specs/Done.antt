@@ -15,7 +15,7 @@ use Rattle.pk_model.specs.Crashes.{command}
 use Rattle.pk_drive.specs.Call.{CallReaches, CallGoes}
 use Rattle.pk_drive.specs.Exec.{ExecStands, most_installs}
 use Rattle.pk_core.specs.Parts.{Parts, sight_of}
-use Rattle.pk_core.specs.Agreeing.{AgreesBetween}
+use Rattle.pk_core.specs.Agreeing.{DriveOnFlashBetween}
 
 -- A command gave this reply behind so many reads, or stopped the drive; drive and board are then what the contract of a drive wants.
 pub record Does (old new : BoardState) (before after : Sight) (c : Command) (reply : Reply) (reads : ℕ) (stopped : Bool) : Type 0 where
@@ -37,5 +37,5 @@ pub record Does (old new : BoardState) (before after : Sight) (c : Command) (rep
 -- answered as the contract of a drive wants, behind so many reads.
 pub record Executes (before after : Parts) (old new : BoardState) (c : Command) (o : Outcome) (into : List ℕ) (reads : ℕ) : Type 0 where
   pub stops : after.stopped ≡ o.stopped
-  pub agrees : o.stopped ≡ false → AgreesBetween after new.shape new.pages
+  pub agrees : o.stopped ≡ false → DriveOnFlashBetween after new.shape new.pages
   pub does : Does old new (sight_of before) (sight_of after) c (reply_of o into) reads o.stopped

@@ -19,14 +19,14 @@ use Rattle.pk_model.specs.Growth.{Reaches, Goes}
 use Rattle.pk_model.specs.Crashes.{CrashFinds, commit}
 use Rattle.pk_model.specs.Steps.{Step}
 use Rattle.pk_core.specs.Parts.{Parts}
-use Rattle.pk_core.specs.Agreeing.{AgreesWith}
+use Rattle.pk_core.specs.Agreeing.{DriveOnFlashWith}
 
 -- the drive agrees with these pages, for this map with the pending entries
 pub record StandsFor (d : Parts) (shape : Shape) (flash : Flash) (m : Map) : Type 0 where
   pub top : ℕ × Root
   pub found : Found
   pub without : Map
-  pub with : AgreesWith d shape flash top found without m
+  pub with : DriveOnFlashWith d shape flash top found without m
 
 -- The map with the pending entries is the same. The flash holds what it held, or that map; and so it does at every cut.
 pub record Keeps (before after : Parts) (shape : Shape) (m : Map) (old new : BoardState) : Type 0 where
@@ -71,5 +71,5 @@ pub record LeavesValues (before after : Parts) : Type 0 where
 -- From this page on stands a value of this key that is not in the map yet: in a block for values, at pages of no other value.
 pub record IsWritten (d : Parts) (shape : Shape) (flash : Flash) (key : Key) (value : List ℕ) (page : ℕ) : Type 0 where
   pub there : value_at shape (page_at flash) key (record { page = page; len = length value }) ≡ Ok value
-  pub apart : (top : ℕ × Root) (found : Found) (without all : Map) → AgreesWith d shape flash top found without all
+  pub apart : (top : ℕ × Root) (found : Found) (without all : Map) → DriveOnFlashWith d shape flash top found without all
       → (k : ℕ) → IsPageOf shape k (record { page = page; len = length value }) → IsValuePage shape (places found d.log.pending) k → ⊥

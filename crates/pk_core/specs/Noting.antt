@@ -18,7 +18,7 @@ use Rattle.pk_data.specs.Placed.{HoldsValues}
 use Rattle.pk_data.specs.Entries.{IsInOpen}
 use Rattle.pk_core.specs.declared.place.ValuePlace.{ValuePlace}
 use Rattle.pk_core.specs.Parts.{Parts}
-use Rattle.pk_core.specs.Agreeing.{AgreesWith}
+use Rattle.pk_core.specs.Agreeing.{DriveOnFlashWith}
 use Rattle.pk_core.specs.Finding.{place_of, place_if_some}
 use Rattle.pk_core.specs.Moves.{KeepsAll, BreaksAll, IsWritten}
 
@@ -27,7 +27,7 @@ pub record Puts (d : Parts) (shape : Shape) (flash : Flash) (m : Map) (key : Key
   pub top : ℕ × Root
   pub found : Found
   pub without : Map
-  pub with : AgreesWith d shape flash top found without m
+  pub with : DriveOnFlashWith d shape flash top found without m
   pub old_is : find key_cmp key (places found d.log.pending) ≡ place_if_some old
   pub written : IsWritten d shape flash key value page
   pub place : IsPlace shape (record { page = page; len = length value })
@@ -40,7 +40,7 @@ pub record Drops (d : Parts) (shape : Shape) (flash : Flash) (m : Map) (key : Ke
   pub top : ℕ × Root
   pub found : Found
   pub without : Map
-  pub with : AgreesWith d shape flash top found without m
+  pub with : DriveOnFlashWith d shape flash top found without m
   pub old_is : find key_cmp key (places found d.log.pending) ≡ Some (place_of old)
   pub bytes : AreBytes key
 
@@ -52,7 +52,7 @@ more_keys keys (Some p) = keys
 -- whatever stood under the root stands there, with the same places of values
 abbrev pub KeepsFound : Parts → Parts → BoardState → BoardState → Type 0
 KeepsFound before after old new =
-    (shape : Shape) (top : ℕ × Root) (found : Found) (without all : Map) → AgreesWith before shape old.pages top found without all → AgreesWith after shape new.pages top found without all
+    (shape : Shape) (top : ℕ × Root) (found : Found) (without all : Map) → DriveOnFlashWith before shape old.pages top found without all → DriveOnFlashWith after shape new.pages top found without all
 
 -- A value was written that is in no map: it begins at this page, in the open block.
 pub record IsPlaced (before after : Parts) (old new : BoardState) (key : Key) (value : List ℕ) (page : ℕ) : Type 0 where

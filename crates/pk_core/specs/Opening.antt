@@ -6,14 +6,14 @@ use Rattle.pk_base.specs.Map.{Map}
 use Rattle.pk_rootfmt.specs.Root.{Root}
 use Rattle.pk_model.specs.Found.{Found}
 use Rattle.pk_core.specs.Parts.{Parts}
-use Rattle.pk_core.specs.Agreeing.{AgreesWith}
+use Rattle.pk_core.specs.Agreeing.{DriveOnFlashWith}
 
 -- The drive agrees with the flash and runs, with these frames. Nothing is pending, the epoch takes no more pages, and no block is open.
 pub record OpenedOn (shape : Shape) (flash : Flash) (frames : ℕ) (d : Parts) : Type 0 where
   pub top : ℕ × Root
   pub found : Found
   pub all : Map
-  pub with : AgreesWith d shape flash top found all all
+  pub with : DriveOnFlashWith d shape flash top found all all
   pub frames_are : d.frames ≡ frames
   pub runs : d.stopped ≡ false
   pub none_pending : d.log.pending ≡ []

@@ -11,16 +11,16 @@ use Rattle.pk_rootfmt.specs.Root.{Root}
 use Rattle.pk_nand.specs.BoardState.{BoardState}
 use Rattle.pk_nand.specs.Calls.{Rose, last_count}
 use Rattle.pk_seg.specs.Stored.{IsFront}
-use Rattle.pk_level.specs.Levels.{StandEach}
+use Rattle.pk_level.specs.Levels.{RunsOnFlash}
 use Rattle.pk_model.specs.Answer.{early}
 use Rattle.pk_model.specs.Found.{Found}
 use Rattle.pk_drive.specs.Seen.{reply_of}
 use Rattle.pk_drive.specs.declared.types.Outcome.{Outcome}
 use Rattle.pk_steps.specs.Under.{IsUnder}
-use Rattle.pk_log.specs.Logs.{Logs}
+use Rattle.pk_log.specs.Logs.{LogOnFlash}
 use Rattle.pk_core.specs.declared.place.ValuePlace.{ValuePlace}
 use Rattle.pk_core.specs.Parts.{Parts, sight_of}
-use Rattle.pk_core.specs.Agreeing.{Agrees}
+use Rattle.pk_core.specs.Agreeing.{DriveOnFlash}
 use Rattle.pk_core.specs.Done.{Does}
 use Rattle.pk_core.specs.Finding.{IsPlaceIn}
 
@@ -43,7 +43,7 @@ pub record ReadsFailing (old new : BoardState) (most : ℕ) : Type 0 where
 -- what a look-up of a drive says of its map
 abbrev pub Looks : Parts → Flash → Key → Option ValuePlace → Type 0
 Looks d flash key p =
-    (top : ℕ × Root) (found : Found) (m : Map) → Logs d.log flash top found → StandEach flash d.arena d.levels.runs found.runs → IsUnder d.log.shape flash d.log.pending top found m
+    (top : ℕ × Root) (found : Found) (m : Map) → LogOnFlash d.log flash top found → RunsOnFlash flash d.arena d.levels.runs found.runs → IsUnder d.log.shape flash d.log.pending top found m
     → IsPlaceIn d.log.shape flash found d.log.pending m key p
 
 -- the map has a value of this key, whose pages stand at this place
@@ -57,7 +57,7 @@ pub record ValueThere (shape : Shape) (flash : Flash) (m : Map) (key : Key) (p :
 -- With no call of the board, a command of this opcode that passed the checks that read it alone comes to this.
 abbrev pub DoneWithout : Parts → ℕ → Outcome → List ℕ → Type 0
 DoneWithout d opcode o into =
-    (board : BoardState) (r : Request) (v : List ℕ) → Agrees d board.shape board.pages → board.reads ≤ last_count → r.opcode ≡ opcode → early d.log.shape (command_of r []) ≡ None
+    (board : BoardState) (r : Request) (v : List ℕ) → DriveOnFlash d board.shape board.pages → board.reads ≤ last_count → r.opcode ≡ opcode → early d.log.shape (command_of r []) ≡ None
     → Does board board (sight_of d) (sight_of d) (command_of r v) (reply_of o into) o.reads o.stopped
 
 -- eleven numbers

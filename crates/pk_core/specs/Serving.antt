@@ -9,11 +9,11 @@ use Rattle.pk_model.specs.Answer.{early}
 use Rattle.pk_model.specs.Wear.{is_worn}
 use Rattle.pk_core.specs.declared.place.ValuePlace.{ValuePlace}
 use Rattle.pk_core.specs.Parts.{Parts, is_built}
-use Rattle.pk_core.specs.Agreeing.{Agrees}
+use Rattle.pk_core.specs.Agreeing.{DriveOnFlash}
 
 -- The drive stands for its board, runs, is not worn out, and has built what this request wants, which passed the checks that read it alone.
 pub record IsServable (d : Parts) (board : BoardState) (r : Request) : Type 0 where
-  pub agrees : Agrees d board.shape board.pages
+  pub agrees : DriveOnFlash d board.shape board.pages
   pub runs : d.stopped ≡ false
   pub unworn : is_worn board ≡ false
   pub built : is_built d r ≡ true

@@ -12,7 +12,7 @@ use pk_region::Region;
 use pk_walk::Walk;
 use std::marker::Model;
 
-/// A drive. Contracts see its parts, and how they stand to the flash by `Agrees`. No call but `open` takes memory.
+/// A drive. Contracts see its parts, and how they stand to the flash by `DriveOnFlash`. No call but `open` takes memory.
 #[derive(Drop)]
 pub struct Drive<A: Region> {
     pub(crate) frames: u32,

@@ -10,7 +10,7 @@ ghost use Rattle.pk_drive.specs.Exec.{report_of};
 ghost use Rattle.pk_drive.specs.Seen.{reply_of};
 ghost use Rattle.pk_core.specs.Parts as spec;
 ghost use Rattle.pk_core.specs.Parts.{sight_of};
-ghost use Rattle.pk_core.specs.Agreeing.{Agrees, AgreesBetween};
+ghost use Rattle.pk_core.specs.Agreeing.{DriveOnFlash, DriveOnFlashBetween};
 ghost use Rattle.pk_core.specs.Serving.{IsServable};
 ghost use Rattle.pk_core.specs.Done.{Executes};
 ghost use Rattle.pk_nvme.specs.declared.status.TheConstants.{UNRECOVERED_ERROR};
@@ -70,7 +70,7 @@ impl<A: Region> Drive<A> {
 impl<A: Region> Engine for Drive<A> {
     ghost sight = { λ d. sight_of d };
 
-    ghost agrees = { λ d told flash. AgreesBetween d told flash };
+    ghost agrees = { λ d told flash. DriveOnFlashBetween d told flash };
 
     ghost built = { λ d request. spec.is_built d request };
 

@@ -7,14 +7,14 @@ ghost use Rattle.pk_nand.specs.Calls.{IsReady, last_count};
 ghost use Rattle.pk_nand.specs.declared.types.Fault.TheVariants.{Reading};
 ghost use Rattle.pk_pin.specs.Frames.{Frames};
 ghost use Rattle.pk_run.specs.Kept.{Kept};
-ghost use Rattle.pk_level.specs.Levels.{StandEach};
+ghost use Rattle.pk_level.specs.Levels.{RunsOnFlash};
 ghost use Rattle.pk_walk.specs.Walking.{IsLeft, Reads, ReadsFail, pages_read, most_read};
 ghost use Rattle.pk_nvme.specs.Command.{key as key_in};
 ghost use Rattle.pk_nvme.specs.Seen.{command_of};
 ghost use Rattle.pk_model.specs.Answer.{early, listed, fitting, list_bytes};
 ghost use Rattle.pk_drive.specs.Seen.{reply_of};
 ghost use Rattle.pk_core.specs.Parts.{sight_of};
-ghost use Rattle.pk_core.specs.Agreeing.{Agrees};
+ghost use Rattle.pk_core.specs.Agreeing.{DriveOnFlash};
 ghost use Rattle.pk_core.specs.Serving.{IsServable};
 ghost use Rattle.pk_core.specs.Done.{Executes};
 ghost use Rattle.pk_core.specs.Listed.{OffersKey, OffersNext, IsFilled, MayWalk, Walked, ListsAll, ListsInto, keys_of, keys_there};
@@ -163,7 +163,7 @@ fn start_walk<A: Region>(walk: &mut Walk<A>, from: &[u8])
     ensures shape { walk.new.shape ≡ walk.old.shape }
     ensures left { (flash : Flash) (arena : Frames) (runs : List Kept)
         (active frozen : List EntrySpec) (ess : List (List EntrySpec))
-        → StandEach flash arena runs ess → (rest : List (KeySpec × Place))
+        → RunsOnFlash flash arena runs ess → (rest : List (KeySpec × Place))
         × IsLeft walk.new flash arena runs active frozen rest
         × (keys_of rest ≡ keys_there from.now (active ∷ frozen ∷ ess)) }
     ensures none_read { (runs : List Kept) → pages_read runs walk.new.cursors ≡ 0 }
@@ -210,12 +210,12 @@ pub fn answer_list<B: Nand, A: Region>(
     requires ready { IsReady (B.state board.old) levels.now.shape }
     requires shape { walk.old.shape ≡ levels.now.shape }
     requires stand { (ess : List (List EntrySpec))
-        × StandEach (B.state board.old).pages arena.now levels.now.runs ess }
+        × RunsOnFlash (B.state board.old).pages arena.now levels.now.runs ess }
     requires key { request.now.key_len ≤ 16 }
     requires some { 4 ≤ request.now.size }
     requires room { 65536 ≤ length into.old }
     ensures lists { (ess : List (List EntrySpec))
-        → StandEach (B.state board.old).pages arena.now levels.now.runs ess
+        → RunsOnFlash (B.state board.old).pages arena.now levels.now.runs ess
         → ListsInto (B.state board.old) (B.state board.new) result into.new
         (list_bytes (fitting (min request.now.size 65536 - 4)
         (keys_there (key_in (command_of request.now []))

@@ -6,10 +6,10 @@ ghost use Rattle.pk_rootfmt.specs.Root.{Root as RootValue};
 ghost use Rattle.pk_nand.specs.Calls.{IsReady};
 ghost use Rattle.pk_nand.specs.declared.types.Fault.TheVariants.{Reading};
 ghost use Rattle.pk_run.specs.Search.{IsFound};
-ghost use Rattle.pk_level.specs.Levels.{StandEach, ReadsUpTo, ReadFailsWithin, reads_through};
+ghost use Rattle.pk_level.specs.Levels.{RunsOnFlash, ReadsUpTo, ReadFailsWithin, reads_through};
 ghost use Rattle.pk_model.specs.Found.{Found, entries_in_order};
 ghost use Rattle.pk_steps.specs.Under.{IsUnder};
-ghost use Rattle.pk_log.specs.Logs.{Logs};
+ghost use Rattle.pk_log.specs.Logs.{LogOnFlash};
 ghost use Rattle.pk_core.specs.Finding.{IsPlaceIn};
 
 use crate::place::{ValuePlace, place_in};
@@ -33,12 +33,12 @@ pub fn find_entry<B: Nand, A: Region>(
     requires ready { IsReady (B.state board.old) log.now.shape }
     requires shape { levels.now.shape ≡ log.now.shape }
     requires stand { (top : ℕ × RootValue) × (found : Found)
-        × Logs log.now (B.state board.old).pages top found
-        × StandEach (B.state board.old).pages arena.now levels.now.runs found.runs }
+        × LogOnFlash log.now (B.state board.old).pages top found
+        × RunsOnFlash (B.state board.old).pages arena.now levels.now.runs found.runs }
     requires room { length buf.old ≡ log.now.shape.page_bytes }
     ensures found { IfOk result (λ e. (top : ℕ × RootValue) (found : Found)
-        → Logs log.now (B.state board.old).pages top found
-        → StandEach (B.state board.old).pages arena.now levels.now.runs found.runs
+        → LogOnFlash log.now (B.state board.old).pages top found
+        → RunsOnFlash (B.state board.old).pages arena.now levels.now.runs found.runs
         → IsFound key.now (entries_in_order found log.now.pending) e) }
     ensures reads { OnOk result (ReadsUpTo (reads_through levels.now.runs)
         (B.state board.old) (B.state board.new)) }
@@ -68,12 +68,12 @@ pub fn find_place<B: Nand, A: Region>(
     requires ready { IsReady (B.state board.old) log.now.shape }
     requires shape { levels.now.shape ≡ log.now.shape }
     requires stand { (top : ℕ × RootValue) × (found : Found)
-        × Logs log.now (B.state board.old).pages top found
-        × StandEach (B.state board.old).pages arena.now levels.now.runs found.runs }
+        × LogOnFlash log.now (B.state board.old).pages top found
+        × RunsOnFlash (B.state board.old).pages arena.now levels.now.runs found.runs }
     requires room { length buf.old ≡ log.now.shape.page_bytes }
     ensures place { IfOk result (λ p. (top : ℕ × RootValue) (found : Found) (m : Map)
-        → Logs log.now (B.state board.old).pages top found
-        → StandEach (B.state board.old).pages arena.now levels.now.runs found.runs
+        → LogOnFlash log.now (B.state board.old).pages top found
+        → RunsOnFlash (B.state board.old).pages arena.now levels.now.runs found.runs
         → IsUnder log.now.shape (B.state board.old).pages log.now.pending top found m
         → IsPlaceIn log.now.shape (B.state board.old).pages found log.now.pending m key.now p) }
     ensures reads { OnOk result (ReadsUpTo (reads_through levels.now.runs)

@@ -10,7 +10,7 @@ ghost use Rattle.pk_drive.specs.Exec.{report_of};
 ghost use Rattle.pk_drive.specs.Seen.{counts_of};
 ghost use Rattle.pk_core.specs.Parts as spec;
 ghost use Rattle.pk_core.specs.Parts.{sight_of};
-ghost use Rattle.pk_core.specs.Agreeing.{Agrees};
+ghost use Rattle.pk_core.specs.Agreeing.{DriveOnFlash};
 ghost use Rattle.pk_core.specs.Quiet.{DoneWithout};
 ghost use Rattle.pk_nvme.specs.declared.status.TheConstants.{SUCCESSFUL_COMPLETION};
 ghost use Rattle.pk_nvme.specs.declared.opcode.TheConstants.{REPORT};
@@ -59,7 +59,7 @@ impl<A: Region> Drive<A> {
     pub(crate) fn numbers(&self) -> Counts
         ensures numbers { counts_of result ≡ spec.counts_of self.now }
         ensures map { (shape : shape_spec.Shape) (flash : Flash) (m : Map)
-            → Agrees self.now (Some shape) flash → map_of shape flash (sight_of self.now) ≡ Ok m
+            → DriveOnFlash self.now (Some shape) flash → map_of shape flash (sight_of self.now) ≡ Ok m
             → CountsMap shape self.now.frames m (spec.counts_of self.now) }
     {
         let shape = self.shape();
@@ -87,7 +87,7 @@ impl<A: Region> Drive<A> {
     pub(crate) fn live(&self) -> u32
         ensures number { result ≡ (sight_of self.now).counts.live }
         ensures map { (shape : shape_spec.Shape) (flash : Flash) (m : Map)
-            → Agrees self.now (Some shape) flash → map_of shape flash (sight_of self.now) ≡ Ok m
+            → DriveOnFlash self.now (Some shape) flash → map_of shape flash (sight_of self.now) ≡ Ok m
             → result ≡ live shape m }
     {
         self.space.total()
@@ -95,7 +95,7 @@ impl<A: Region> Drive<A> {
 
     /// The numbers of roots are used up: the newest root's number is at least 2^63.
     pub(crate) fn is_worn_out(&self) -> bool
-        ensures { (shape : shape_spec.Shape) (flash : Flash) → Agrees self.now (Some shape) flash
+        ensures { (shape : shape_spec.Shape) (flash : Flash) → DriveOnFlash self.now (Some shape) flash
             → result ≡ nat_le 9223372036854775808 (root_number shape flash) }
     {
         self.log.root().number() >= 0x8000_0000_0000_0000

@@ -6,13 +6,13 @@ ghost use Rattle.pk_base.specs.Map.{Map};
 ghost use Rattle.pk_base.specs.Page.{Flash, IsFlash};
 ghost use Rattle.pk_nand.specs.Calls.{IsReady};
 ghost use Rattle.pk_nand.specs.Erased.{after_reads};
-ghost use Rattle.pk_drive.specs.Drive.{Stands};
+ghost use Rattle.pk_drive.specs.Drive.{HoldsMap};
 ghost use Rattle.pk_scan.specs.Reads.{opened};
 ghost use Rattle.pk_scan.specs.Opening.{NotOpened};
 ghost use Rattle.pk_scan.specs.Opened.{IsOpened};
 ghost use Rattle.pk_nand.specs.Effects.{OnlyReading};
 ghost use Rattle.pk_core.specs.Parts.{sight_of};
-ghost use Rattle.pk_core.specs.Agreeing.{Agrees};
+ghost use Rattle.pk_core.specs.Agreeing.{DriveOnFlash};
 ghost use Rattle.pk_core.specs.Opening.{OpenedOn};
 ghost use Rattle.pk_drive.specs.Steady.{IsSteady};
 
@@ -73,10 +73,10 @@ impl<A: Region> Drive<A> {
     ) -> Result<Drive<A>, OpenError>
         requires ready { IsReady (B.state board.old) shape }
         requires frames { frames ≤ 16384 }
-        ensures agrees { IfOk result (λ d. Agrees d (B.state board.new).shape
+        ensures agrees { IfOk result (λ d. DriveOnFlash d (B.state board.new).shape
             (B.state board.new).pages × (length d.log.pending < page_entries d.log.shape)) }
         ensures stands { IfOk result (λ d. (m : Map)
-            × Stands shape frames (B.state board.new) (sight_of d) m) }
+            × HoldsMap shape frames (B.state board.new) (sight_of d) m) }
         ensures steady { IfOk result (λ d. IsSteady shape (B.state board.new).pages (sight_of d)) }
         ensures runs { IfOk result (λ d. d.stopped ≡ false) }
         ensures none { IfOk result (λ d. d.log.pending ≡ []) }

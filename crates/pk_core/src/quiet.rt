@@ -12,7 +12,7 @@ ghost use Rattle.pk_seg.specs.Counts.{ReadsFailed};
 ghost use Rattle.pk_model.specs.Answer.{early};
 ghost use Rattle.pk_drive.specs.Seen.{reply_of};
 ghost use Rattle.pk_core.specs.Parts.{sight_of};
-ghost use Rattle.pk_core.specs.Agreeing.{Agrees};
+ghost use Rattle.pk_core.specs.Agreeing.{DriveOnFlash};
 ghost use Rattle.pk_core.specs.Serving.{IsServable};
 ghost use Rattle.pk_core.specs.Done.{Executes};
 ghost use Rattle.pk_core.specs.Quiet.{ReadsOnly, ReadsFailing, Looks, DoneWithout};
@@ -99,7 +99,7 @@ impl<A: Region> Drive<A> {
         board: &mut B,
         key: &Key,
     ) -> Result<Option<ValuePlace>, Fault>
-        requires agrees { Agrees self.old (B.state board.old).shape (B.state board.old).pages }
+        requires agrees { DriveOnFlash self.old (B.state board.old).shape (B.state board.old).pages }
         requires ready { IsReady (B.state board.old) self.old.log.shape }
         requires count { (B.state board.old).reads ≤ last_count }
         ensures same { self.new ≡ self.old }

@@ -10,7 +10,7 @@ ghost use Rattle.pk_model.specs.Answer.{early, first_of, check};
 ghost use Rattle.pk_drive.specs.Seen.{reply_of};
 ghost use Rattle.pk_model.specs.Wear.{is_worn};
 ghost use Rattle.pk_core.specs.Parts.{sight_of, is_built};
-ghost use Rattle.pk_core.specs.Agreeing.{Agrees};
+ghost use Rattle.pk_core.specs.Agreeing.{DriveOnFlash};
 ghost use Rattle.pk_core.specs.Done.{Executes};
 ghost use Rattle.pk_core.specs.Quiet.{Looks};
 ghost use Rattle.pk_core.specs.Serving.{IsServable, pages_at as pages_at_by};

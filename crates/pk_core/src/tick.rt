@@ -2,12 +2,12 @@
 ghost use Rattle.std.specs.Prelude.{◌≡◌, ◌⊎◌, ◌≤◌, ℕ, [], true, false, Some, IfOk, IfErr, OnOk, OnErr, MatchBool, slice_get};
 ghost use Rattle.pk_nand.specs.Calls.{IsReady};
 ghost use Rattle.pk_nand.specs.declared.types.Fault.TheVariants.{Stopped};
-ghost use Rattle.pk_pool.specs.Blocks.{Fits, IsShared, IsOwned};
+ghost use Rattle.pk_pool.specs.Blocks.{PoolOnFlash, IsShared, IsOwned};
 ghost use Rattle.pk_pool.specs.Taking.{ErasesOne, ErasesNone, FailsToErase};
 ghost use Rattle.pk_drive.specs.Tick.{TellsIdle};
 ghost use Rattle.pk_drive.specs.Seen.{stopped_by};
 ghost use Rattle.pk_core.specs.Parts.{sight_of};
-ghost use Rattle.pk_core.specs.Agreeing.{Agrees};
+ghost use Rattle.pk_core.specs.Agreeing.{DriveOnFlash};
 ghost use Rattle.pk_core.specs.Ticking as spec;
 ghost use Rattle.pk_core.specs.Ticking.{Ticks};
 ghost use Rattle.pk_core.specs.Staying.{Stays};
@@ -22,7 +22,7 @@ impl<A: Region> Drive<A> {
     // Erases the lowest free block that was not erased in this session; false where there is none. A failure stops the drive.
     fn erase_spare<B: Nand>(&mut self, board: &mut B) -> Result<bool, Fault>
         requires ready { IsReady (B.state board.old) self.old.pool.shape }
-        requires fits { Fits self.old.pool (B.state board.old).pages }
+        requires fits { PoolOnFlash self.old.pool (B.state board.old).pages }
         ensures erased { IfOk result (λ erased. MatchBool erased
             (ErasesOne self.old.pool (B.state board.old) self.new.pool (B.state board.new))
             (ErasesNone self.old.pool (B.state board.old) self.new.pool (B.state board.new))) }
@@ -34,7 +34,7 @@ impl<A: Region> Drive<A> {
         ensures ready { IsReady (B.state board.new) self.old.pool.shape }
         ensures owned { (b : ℕ) → IsOwned self.old.pool b
             → slice_get self.new.pool.states b ≡ slice_get self.old.pool.states b }
-        ensures fits { Fits self.new.pool (B.state board.new).pages }
+        ensures fits { PoolOnFlash self.new.pool (B.state board.new).pages }
     {
         self.pool.known();
         match self.pool.erase_one(board) {
@@ -59,13 +59,13 @@ impl<A: Region> Drive<A> {
     /// One background step, as far as such steps are built: the lowest free block that was not erased in this session is erased.
     /// It is idle exactly where nothing is left to do; where a freeze, a merge or a reclaim would be next, nothing is done.
     pub(crate) fn step<B: Nand>(&mut self, board: &mut B) -> Ticked
-        requires agrees { Agrees self.old (B.state board.old).shape (B.state board.old).pages }
+        requires agrees { DriveOnFlash self.old (B.state board.old).shape (B.state board.old).pages }
         requires unstopped { self.old.stopped ≡ false }
         requires none { self.old.log.pending ≡ [] }
         ensures stops { self.new.stopped ≡ stopped_by result }
         ensures none { self.new.log.pending ≡ [] }
         ensures agrees { stopped_by result ≡ false
-            → Agrees self.new (B.state board.new).shape (B.state board.new).pages }
+            → DriveOnFlash self.new (B.state board.new).shape (B.state board.new).pages }
         ensures erases { stopped_by result ≡ false
             → ErasesOne self.old.pool (B.state board.old) self.new.pool (B.state board.new)
             ⊎ ErasesNone self.old.pool (B.state board.old) self.new.pool (B.state board.new) }

@@ -5,7 +5,7 @@ ghost use Rattle.pk_nand.specs.Calls.{last_count};
 ghost use Rattle.pk_model.specs.Answer.{early};
 ghost use Rattle.pk_drive.specs.Seen.{reply_of, stopped_by};
 ghost use Rattle.pk_core.specs.Parts.{sight_of};
-ghost use Rattle.pk_core.specs.Agreeing.{Agrees};
+ghost use Rattle.pk_core.specs.Agreeing.{DriveOnFlash};
 ghost use Rattle.pk_core.specs.Serving.{IsServable};
 ghost use Rattle.pk_core.specs.Done.{Executes};
 ghost use Rattle.pk_core.specs.Stepping.{Steps, Erases, erased_in, has_failed, outcome_of};
@@ -60,14 +60,14 @@ impl<A: Region> Drive<A> {
 
     // Makes so many background steps, fewer where one does nothing, as an idle one, or fails. The last one answers.
     fn work<B: Nand>(&mut self, board: &mut B, steps: u32) -> Ticked
-        requires agrees { Agrees self.old (B.state board.old).shape (B.state board.old).pages }
+        requires agrees { DriveOnFlash self.old (B.state board.old).shape (B.state board.old).pages }
         requires unstopped { self.old.stopped ≡ false }
         requires none { self.old.log.pending ≡ [] }
         requires count { (B.state board.old).reads ≤ last_count }
         ensures stops { self.new.stopped ≡ stopped_by result }
         ensures none { self.new.log.pending ≡ [] }
         ensures agrees { stopped_by result ≡ false
-            → Agrees self.new (B.state board.new).shape (B.state board.new).pages }
+            → DriveOnFlash self.new (B.state board.new).shape (B.state board.new).pages }
         ensures steps { Steps (B.state board.old) (B.state board.new) (sight_of self.old)
             (sight_of self.new) result steps }
         ensures done { has_failed result ≡ false → Erases self.old.pool self.new.pool steps }

@@ -15,17 +15,17 @@ use Rattle.pk_base.specs.Mark.{all_posted}
 use Rattle.pk_nand.proofs.Reaching.{Went-reached}
 use Rattle.pk_plan.specs.declared.owner.Owner.TheVariants.{Values as for_values}
 use Rattle.pk_pool.specs.declared.state.BlockState.TheVariants.{Free, Ready, Owned}
-use Rattle.pk_pool.specs.Blocks.{Blocks, Fits, IsSpare, used_by, with_state}
+use Rattle.pk_pool.specs.Blocks.{Blocks, PoolOnFlash, IsSpare, used_by, with_state}
 use Rattle.pk_nand.specs.Calls.{IsErasedBlock}
 use Rattle.pk_pool.specs.Taking.{SameButBlock, ReachesIn, WentIn, FailsToErase}
 use Rattle.pk_pool.proofs.States.{get-set_other, set_is}
-use Rattle.pk_pool.proofs.Fitting.{block_of, apart, Fits-outside, owned_not_ready}
+use Rattle.pk_pool.proofs.Fitting.{block_of, apart, PoolOnFlash-outside, owned_not_ready}
 use Rattle.pk_live.specs.Values.{Values}
 use Rattle.pk_model.proofs.ValueSets.{is_true}
 use Rattle.pk_steps.specs.Under.{IsValuePage}
 use Rattle.pk_data.specs.declared.open_block.OpenBlock.{OpenBlock}
 use Rattle.pk_data.specs.State.{DataState, has_left, page_behind, fits_open, next_page, closed_with, opened, more_used, with_written, needs_reclaim}
-use Rattle.pk_data.specs.Placed.{Placed, AreOutputs, IsOpenIn, IsNotOpen, IsOutput, IsWritten, HoldsValues}
+use Rattle.pk_data.specs.Placed.{ValuesOnFlash, AreOutputs, IsOpenIn, IsNotOpen, IsOutput, IsWritten, HoldsValues}
 use Rattle.pk_data.specs.Reserving.{IsReserved, WritesNext, IsFreeOf}
 use Rattle.pk_data.specs.Entries.{IsInOpen}
 use Rattle.pk_data.specs.Laws.{SameValues}
@@ -37,7 +37,7 @@ state_of live open_block = record { live = live; open_block = open_block }
 -- ---- the next pages
 
 reserved : (shape : Shape) (live : Values) (open_block : Option OpenBlock) (pool : Blocks) (outputs : List ℕ) (flash : Flash) (es : List (Key × Place)) (page count : ℕ)
-    → Placed shape (state_of live open_block) pool outputs flash es → 1 ≤ count → has_left shape open_block count ≡ true → page ≡ page_behind shape open_block
+    → ValuesOnFlash shape (state_of live open_block) pool outputs flash es → 1 ≤ count → has_left shape open_block count ≡ true → page ≡ page_behind shape open_block
     → IsReserved shape (state_of live open_block) pool flash page count
 reserved shape live None pool outputs flash es page count p some room is = cc
 reserved shape live (Some o) pool outputs flash es page count p some room is =
@@ -62,7 +62,7 @@ reserved shape live (Some o) pool outputs flash es page count p some room is =
     }
 
 pub reserved_next : (shape : Shape) (d : DataState) (pool : Blocks) (outputs : List ℕ) (flash : Flash) (es : List (Key × Place)) (page count : ℕ)
-    → Placed shape d pool outputs flash es → 1 ≤ count → fits_open shape d count ≡ true → page ≡ next_page shape d → IsReserved shape d pool flash page count
+    → ValuesOnFlash shape d pool outputs flash es → 1 ≤ count → fits_open shape d count ≡ true → page ≡ next_page shape d → IsReserved shape d pool flash page count
 reserved_next shape d pool outputs flash es page count p = reserved shape d.live d.open_block pool outputs flash es page count p
 
 -- what a page that was found tells
@@ -167,10 +167,10 @@ module _ (shape : Shape) (pool : Blocks) (outputs : List ℕ) (flash flash' : Fl
     unread = are.unread;
   }
 
-  pub Placed-opened : (d : DataState) (es : List (Key × Place)) → Placed shape d pool outputs flash es → IsBegun d.open_block → 2 ≤ b → b < shape.blocks
-      → used_by for_values then_pool.states ≤ data_blocks shape - 1 + length outputs → Fits then_pool flash' → IsErasedBlock shape flash' b → SameButBlock shape b flash flash'
-      → Placed shape (opened d b) then_pool outputs flash' es
-  Placed-opened d es p begun low exists few fits is_erased same =
+  pub ValuesOnFlash-opened : (d : DataState) (es : List (Key × Place)) → ValuesOnFlash shape d pool outputs flash es → IsBegun d.open_block → 2 ≤ b → b < shape.blocks
+      → used_by for_values then_pool.states ≤ data_blocks shape - 1 + length outputs → PoolOnFlash then_pool flash' → IsErasedBlock shape flash' b → SameButBlock shape b flash flash'
+      → ValuesOnFlash shape (opened d b) then_pool outputs flash' es
+  ValuesOnFlash-opened d es p begun low exists few fits is_erased same =
       let pages = same_values p.is_shape same in
       record {
         is_shape = p.is_shape;
@@ -203,14 +203,14 @@ module _ (shape : Shape) (pool : Blocks) (outputs : List ℕ) (flash flash' : Fl
 -- ---- pages that were written
 
 wrote : (shape : Shape) (live : Values) (open_block : Option OpenBlock) (pool : Blocks) (outputs : List ℕ) (old new : Flash) (es : List (Key × Place)) (count : ℕ)
-    → Placed shape (state_of live open_block) pool outputs old es → has_left shape open_block count ≡ true → WritesNext shape (state_of live open_block) count old new
-    → Placed shape (state_of live (more_used open_block count)) pool outputs new es
+    → ValuesOnFlash shape (state_of live open_block) pool outputs old es → has_left shape open_block count ≡ true → WritesNext shape (state_of live open_block) count old new
+    → ValuesOnFlash shape (state_of live (more_used open_block count)) pool outputs new es
 wrote shape live None pool outputs old new es count p room w = cc
 wrote shape live (Some o) pool outputs old new es count p room w = record {
   is_shape = p.is_shape;
   shape_is = p.shape_is;
   size = p.size;
-  fits = Fits-outside pool old new o.block (o.block * shape.block_pages + o.used) count (owned_not_ready pool o.block (for_values, open_is.owned)) low_end high_end w.outside p.fits;
+  fits = PoolOnFlash-outside pool old new o.block (o.block * shape.block_pages + o.used) count (owned_not_ready pool o.block (for_values, open_is.owned)) low_end high_end w.outside p.fits;
   few = p.few;
   places = p.places;
   apart = p.apart;
@@ -275,9 +275,9 @@ wrote shape live (Some o) pool outputs old new es count p room w = record {
     ]
 
 pub wrote_as : (shape : Shape) (d : DataState) (count : ℕ) (d' : DataState) → fits_open shape d count ≡ true → d' ≡ with_written d count
-    → (pool : Blocks) (outputs : List ℕ) (old new : Flash) (es : List (Key × Place)) → Placed shape d pool outputs old es → WritesNext shape d count old new → Placed shape d' pool outputs new es
+    → (pool : Blocks) (outputs : List ℕ) (old new : Flash) (es : List (Key × Place)) → ValuesOnFlash shape d pool outputs old es → WritesNext shape d count old new → ValuesOnFlash shape d' pool outputs new es
 wrote_as shape d count d' room is pool outputs old new es p w =
-    subst (λ (v : DataState). Placed shape v pool outputs new es) (sym is) (wrote shape d.live d.open_block pool outputs old new es count p room w)
+    subst (λ (v : DataState). ValuesOnFlash shape v pool outputs new es) (sym is) (wrote shape d.live d.open_block pool outputs old new es count p room w)
 
 -- they lie in the part that is written now
 in_written : (shape : Shape) (open_block : Option OpenBlock) (count : ℕ) → has_left shape open_block count ≡ true
@@ -314,20 +314,20 @@ few_more true last e no_room = cc
 few_more false last e no_room = e
 
 -- a block that was taken is open from now on
-module _ (shape : Shape) (d : DataState) (p q : Blocks) (outputs : List ℕ) (old new : BoardState) (b : ℕ) (es : List (Key × Place)) (placed : Placed shape d p outputs old.pages es)
+module _ (shape : Shape) (d : DataState) (p q : Blocks) (outputs : List ℕ) (old new : BoardState) (b : ℕ) (es : List (Key × Place)) (placed : ValuesOnFlash shape d p outputs old.pages es)
     (spare : IsSpare p b) (place : 2 ≤ b × b < p.shape.blocks) (taken_is : q ≡ with_state p b (Owned for_values)) (counted : used_by for_values q.states ≡ used_by for_values p.states + 1)
-    (is_erased : IsErasedBlock p.shape new.pages b) (cuts : ReachesIn p.shape b old new) (fits : Fits q new.pages) where
+    (is_erased : IsErasedBlock p.shape new.pages b) (cuts : ReachesIn p.shape b old new) (fits : PoolOnFlash q new.pages) where
   in_shape : (P : Shape → Type 0) → P p.shape → P shape
   in_shape P is = subst P placed.shape_is is
 
-  pub opened_by : (count : ℕ) → needs_reclaim shape d p count ≡ false → fits_open shape d count ≡ false → count ≤ most_pages shape → Placed shape (opened d b) q outputs new.pages es
+  pub opened_by : (count : ℕ) → needs_reclaim shape d p count ≡ false → fits_open shape d count ≡ false → count ≤ most_pages shape → ValuesOnFlash shape (opened d b) q outputs new.pages es
   opened_by count room no_room most =
       let one_less : used_by for_values p.states < data_blocks shape - 1 =
       below (data_blocks shape - 1) (used_by for_values p.states) (few_more (fits_open shape d count) (nat_le (data_blocks shape - 1) (used_by for_values p.states)) room no_room) in
       let counted' : used_by for_values (with_state p b (Owned for_values)).states ≡ used_by for_values p.states + 1 = subst (λ (r : Blocks). used_by for_values r.states ≡ used_by for_values p.states + 1) taken_is counted in
-      subst (λ (r : Blocks). Placed shape (opened d b) r outputs new.pages es) (sym taken_is)
-      (Placed-opened shape p outputs old.pages new.pages b spare d es placed (has_begun shape d.open_block count most no_room) place.0 (in_shape (λ s. b < s.blocks) place.1) (omega (arith, one_less, counted'))
-      (subst (λ (r : Blocks). Fits r new.pages) taken_is fits) (in_shape (λ s. IsErasedBlock s new.pages b) is_erased) (in_shape (λ s. SameButBlock s b old.pages new.pages) (reached_in p.shape b old new cuts)))
+      subst (λ (r : Blocks). ValuesOnFlash shape (opened d b) r outputs new.pages es) (sym taken_is)
+      (ValuesOnFlash-opened shape p outputs old.pages new.pages b spare d es placed (has_begun shape d.open_block count most no_room) place.0 (in_shape (λ s. b < s.blocks) place.1) (omega (arith, one_less, counted'))
+      (subst (λ (r : Blocks). PoolOnFlash r new.pages) taken_is fits) (in_shape (λ s. IsErasedBlock s new.pages b) is_erased) (in_shape (λ s. SameButBlock s b old.pages new.pages) (reached_in p.shape b old new cuts)))
 
   pub opened_reserved : (count : ℕ) → needs_reclaim shape d p count ≡ false → fits_open shape d count ≡ false → 1 ≤ count → count ≤ most_pages shape
       → IsReserved shape (opened d b) q new.pages (b * shape.block_pages) count
@@ -343,8 +343,8 @@ module _ (shape : Shape) (d : DataState) (p q : Blocks) (outputs : List ℕ) (ol
       (opened_by count room no_room most).written k is ((opened_reserved count room no_room some most).free k low high)
 
 -- an erase that failed leaves the values placed
-pub failed_keeps : (shape : Shape) (d : DataState) (p : Blocks) (outputs : List ℕ) (old new : BoardState) (es : List (Key × Place)) → Placed shape d p outputs old.pages es → FailsToErase p old new → Fits p new.pages
-    → Placed shape d p outputs new.pages es
+pub failed_keeps : (shape : Shape) (d : DataState) (p : Blocks) (outputs : List ℕ) (old new : BoardState) (es : List (Key × Place)) → ValuesOnFlash shape d p outputs old.pages es → FailsToErase p old new → PoolOnFlash p new.pages
+    → ValuesOnFlash shape d p outputs new.pages es
 failed_keeps shape d p outputs old new es placed fails fits =
     flash_elsewhere shape d p outputs old.pages new.pages es placed
     (same_values shape p outputs old.pages new.pages fails.block (inl fails.lowest.here) placed.is_shape

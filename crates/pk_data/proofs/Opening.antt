@@ -23,7 +23,7 @@ use Rattle.pk_steps.proofs.Places.{value_in, in_value}
 use Rattle.pk_live.specs.Lives.{is_used}
 use Rattle.pk_live.proofs.Blocks.{value_exists, block_exists}
 use Rattle.pk_data.specs.State.{with_none_open}
-use Rattle.pk_data.specs.Placed.{Placed, FoundAtOpening, HoldsValues, IsWritten}
+use Rattle.pk_data.specs.Placed.{ValuesOnFlash, FoundAtOpening, HoldsValues, IsWritten}
 use Rattle.pk_data.proofs.Lists.{apart_from}
 use Rattle.pk_data.proofs.Unchanged.{some_pages, filter_row}
 
@@ -135,7 +135,7 @@ module _ (shape : Shape) (named : List ℕ) (live : Values) (pool : Blocks) (fla
   filled : (b : ℕ) → HoldsValues pool b → IsWritten shape flash b
   filled b held = let page = page_of b held in (page.0, page.2, f.written page.0 page.1)
 
-  pub found_placed : Placed shape (with_none_open live) pool [] flash es
+  pub found_placed : ValuesOnFlash shape (with_none_open live) pool [] flash es
   found_placed = record {
     is_shape = f.is_shape;
     shape_is = f.shape_is;

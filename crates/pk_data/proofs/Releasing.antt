@@ -13,7 +13,7 @@ use Rattle.pk_pool.specs.declared.state.BlockState.TheVariants.{Free, Owned}
 use Rattle.pk_pool.specs.Blocks.{Blocks, with_state}
 use Rattle.pk_pool.proofs.States.{get-set_other, get-set_same, free_is_not_ready}
 use Rattle.pk_pool.proofs.Sharing.{used_given}
-use Rattle.pk_pool.proofs.Fitting.{Fits-marked}
+use Rattle.pk_pool.proofs.Fitting.{PoolOnFlash-marked}
 use Rattle.pk_live.specs.Values.{IsClosed, count_of, block_sum}
 use Rattle.pk_model.specs.Values.{all_pages}
 use Rattle.pk_steps.specs.Under.{IsValuePage}
@@ -22,10 +22,10 @@ use Rattle.pk_live.specs.Lives.{is_used}
 use Rattle.pk_live.proofs.Standing.{block_is}
 use Rattle.pk_data.specs.declared.open_block.OpenBlock.{OpenBlock}
 use Rattle.pk_data.specs.State.{DataState, with_closed}
-use Rattle.pk_data.specs.Placed.{Placed, IsOpenIn, IsNotOpen, IsOutput, HoldsValues}
+use Rattle.pk_data.specs.Placed.{ValuesOnFlash, IsOpenIn, IsNotOpen, IsOutput, HoldsValues}
 use Rattle.pk_data.proofs.Opening.{any_block}
 
-module _ (shape : Shape) (d : DataState) (p : Blocks) (outputs : List ℕ) (flash : Flash) (es : List (Key × Place)) (b : ℕ) (placed : Placed shape d p outputs flash es) (closed : IsClosed d.live b) where
+module _ (shape : Shape) (d : DataState) (p : Blocks) (outputs : List ℕ) (flash : Flash) (es : List (Key × Place)) (b : ℕ) (placed : ValuesOnFlash shape d p outputs flash es) (closed : IsClosed d.live b) where
   abbrev then_pool : Blocks
   then_pool = with_state p b Free
 
@@ -63,12 +63,12 @@ module _ (shape : Shape) (d : DataState) (p : Blocks) (outputs : List ℕ) (flas
     unwritten = open_is.unwritten;
   }
 
-  pub Placed-released : count_of d.live b ≡ 0 → Placed shape (with_closed d (set d.live.closed b false)) then_pool outputs flash es
-  Placed-released empty = record {
+  pub ValuesOnFlash-released : count_of d.live b ≡ 0 → ValuesOnFlash shape (with_closed d (set d.live.closed b false)) then_pool outputs flash es
+  ValuesOnFlash-released empty = record {
     is_shape = placed.is_shape;
     shape_is = placed.shape_is;
     size = length-set p.states b Free ∙ placed.size;
-    fits = Fits-marked p flash b Free free_is_not_ready placed.fits;
+    fits = PoolOnFlash-marked p flash b Free free_is_not_ready placed.fits;
     few = let most = placed.few in let less = used_given p.states b for_values held in omega (arith, most, less);
     places = placed.places;
     apart = placed.apart;
@@ -94,7 +94,7 @@ module _ (shape : Shape) (d : DataState) (p : Blocks) (outputs : List ℕ) (flas
   }
 
 pub released_as : (shape : Shape) (d : DataState) (p q : Blocks) (outputs : List ℕ) (flash : Flash) (es : List (Key × Place)) (b : ℕ) (d' : DataState) → IsClosed d.live b → count_of d.live b ≡ 0
-    → d' ≡ with_closed d (set d.live.closed b false) → q ≡ with_state p b Free → Placed shape d p outputs flash es → Placed shape d' q outputs flash es
+    → d' ≡ with_closed d (set d.live.closed b false) → q ≡ with_state p b Free → ValuesOnFlash shape d p outputs flash es → ValuesOnFlash shape d' q outputs flash es
 released_as shape d p q outputs flash es b d' closed empty is is_pool placed =
-    subst (λ (v : DataState). Placed shape v q outputs flash es) (sym is)
-    (subst (λ (r : Blocks). Placed shape (with_closed d (set d.live.closed b false)) r outputs flash es) (sym is_pool) (Placed-released shape d p outputs flash es b placed closed empty))
+    subst (λ (v : DataState). ValuesOnFlash shape v q outputs flash es) (sym is)
+    (subst (λ (r : Blocks). ValuesOnFlash shape (with_closed d (set d.live.closed b false)) r outputs flash es) (sym is_pool) (ValuesOnFlash-released shape d p outputs flash es b placed closed empty))

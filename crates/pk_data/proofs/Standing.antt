@@ -1,4 +1,4 @@
--- Placed values, after a key got a value at another place, or lost it.
+-- ValuesOnFlash values, after a key got a value at another place, or lost it.
 use Rattle.std.proofs.Common.{◌≡◌, ◌≢◌, inl, inr, ℕ, ◌+◌, ◌*◌, ◌/◌, ◌%◌, ◌<◌, ◌≤◌, true, false, T, List, length, get_or, sum, Option, Some, None, refl, sym, ap, subst, ◌∙◌, arith, ◌==◌}
 use Rattle.std.specs.Prelude.{slice_get, MatchOption}
 use Rattle.std.specs.FinMap.Entries.{put, find, is_sorted}
@@ -24,7 +24,7 @@ use Rattle.pk_live.proofs.Standing.{map_set, heads_read, total_is}
 use Rattle.pk_data.specs.declared.open_block.OpenBlock.{OpenBlock}
 use Rattle.pk_data.specs.declared.span.Span.{Span}
 use Rattle.pk_data.specs.State.{DataState, with_head, with_heads}
-use Rattle.pk_data.specs.Placed.{Placed, IsOpenIn, IsOutput, IsNotOpen, HoldsValues, without}
+use Rattle.pk_data.specs.Placed.{ValuesOnFlash, IsOpenIn, IsOutput, IsNotOpen, HoldsValues, without}
 use Rattle.pk_data.specs.Entries.{span_if_some, heads_without, Held, Moves}
 use Rattle.pk_data.proofs.Lists.{put_without, nothing_out, find_gone, page_put, page_without, apart_put, apart_without, places_put, places_without, found_place, head_put, head_without, head_none, head_found}
 
@@ -60,7 +60,7 @@ in_block shape pool outputs flash place (Some o) is_shape short open_is not_open
       written = λ k is. open_is.written k (omega (arith, low, is.0)) (omega (arith, high, is.1));
     }
 
-module _ (shape : Shape) (d : DataState) (pool : Blocks) (outputs : List ℕ) (flash : Flash) (es : List (Key × Place)) (p : Placed shape d pool outputs flash es) where
+module _ (shape : Shape) (d : DataState) (pool : Blocks) (outputs : List ℕ) (flash : Flash) (es : List (Key × Place)) (p : ValuesOnFlash shape d pool outputs flash es) where
   -- what the live map has for a page
   head_at : (h : ℕ) → h < page_count shape → slice_get d.live.heads h ≡ Some (head_of shape es h)
   head_at h exists =
@@ -77,8 +77,8 @@ module _ (shape : Shape) (d : DataState) (pool : Blocks) (outputs : List ℕ) (f
       head_at place.page is.exists ∙ ap Some (head_none shape p.is_shape es place.page (free place.page (omega arith, omega (arith, charge_some shape p.is_shape place.len))))
 
   -- a key less
-  pub Placed-removed : (key : Key) (place : Place) → T (is_sorted key_cmp es) → find key_cmp key es ≡ Some place → Placed shape (with_head d place.page 0) pool outputs flash (without key es)
-  Placed-removed key place rising found = record {
+  pub ValuesOnFlash-removed : (key : Key) (place : Place) → T (is_sorted key_cmp es) → find key_cmp key es ≡ Some place → ValuesOnFlash shape (with_head d place.page 0) pool outputs flash (without key es)
+  ValuesOnFlash-removed key place rising found = record {
     is_shape = p.is_shape;
     shape_is = p.shape_is;
     size = p.size;
@@ -121,9 +121,9 @@ module _ (shape : Shape) (d : DataState) (pool : Blocks) (outputs : List ℕ) (f
           omega (arith, all')
 
   -- a key more
-  pub Placed-added : (key : Key) (place : Place) → find key_cmp key es ≡ None → InBlock shape pool outputs flash place → ((k : ℕ) → IsPageOf shape k place → IsValuePage shape es k → ⊥)
-      → Placed shape (with_head d place.page (charge shape place.len)) pool outputs flash (put key_cmp key place es)
-  Placed-added key place none within free = record {
+  pub ValuesOnFlash-added : (key : Key) (place : Place) → find key_cmp key es ≡ None → InBlock shape pool outputs flash place → ((k : ℕ) → IsPageOf shape k place → IsValuePage shape es k → ⊥)
+      → ValuesOnFlash shape (with_head d place.page (charge shape place.len)) pool outputs flash (put key_cmp key place es)
+  ValuesOnFlash-added key place none within free = record {
     is_shape = p.is_shape;
     shape_is = p.shape_is;
     size = p.size;
@@ -172,10 +172,10 @@ pub held_head : (d : DataState) (span : Span) → Held d span → slice_get d.li
 held_head d span h =
     subst (λ (s : Span). slice_get d.live.heads s.page ≡ Some s.count) h.span_is (head_is h.shape d h.pool h.outputs h.flash h.es h.placed h.key h.place h.found)
 
-pub removed : (d : DataState) (span : Span) (h : Held d span) → Placed h.shape (with_head d span.page 0) h.pool h.outputs h.flash (without h.key h.es)
+pub removed : (d : DataState) (span : Span) (h : Held d span) → ValuesOnFlash h.shape (with_head d span.page 0) h.pool h.outputs h.flash (without h.key h.es)
 removed d span h =
-    subst (λ (s : Span). Placed h.shape (with_head d s.page 0) h.pool h.outputs h.flash (without h.key h.es)) h.span_is
-    (Placed-removed h.shape d h.pool h.outputs h.flash h.es h.placed h.key h.place h.rising h.found)
+    subst (λ (s : Span). ValuesOnFlash h.shape (with_head d s.page 0) h.pool h.outputs h.flash (without h.key h.es)) h.span_is
+    (ValuesOnFlash-removed h.shape d h.pool h.outputs h.flash h.es h.placed h.key h.place h.rising h.found)
 
 -- the state without the value that a key had
 abbrev before : DataState → Option Span → DataState
@@ -194,12 +194,12 @@ module _ (d : DataState) (old : Option Span) (new : Span) (m : Moves d old new) 
       ] refl)
 
   -- the values without the key, whether or not it was there
-  placed_before : Placed m.shape (before d old) m.pool m.outputs m.flash (without m.key m.es)
+  placed_before : ValuesOnFlash m.shape (before d old) m.pool m.outputs m.flash (without m.key m.es)
   placed_before =
-      subst (λ (o : Option Span). Placed m.shape (before d o) m.pool m.outputs m.flash (without m.key m.es)) m.old_is
-      (elim (find key_cmp m.key m.es) as (λ f. find key_cmp m.key m.es ≡ f → Placed m.shape (before d (span_if_some m.shape f)) m.pool m.outputs m.flash (without m.key m.es)) [
-        | None ↦ λ f. subst (λ es. Placed m.shape d m.pool m.outputs m.flash es) (sym (nothing_out m.key m.es f)) m.placed
-        | Some place ↦ λ f. Placed-removed m.shape d m.pool m.outputs m.flash m.es m.placed m.key place m.rising f
+      subst (λ (o : Option Span). ValuesOnFlash m.shape (before d o) m.pool m.outputs m.flash (without m.key m.es)) m.old_is
+      (elim (find key_cmp m.key m.es) as (λ f. find key_cmp m.key m.es ≡ f → ValuesOnFlash m.shape (before d (span_if_some m.shape f)) m.pool m.outputs m.flash (without m.key m.es)) [
+        | None ↦ λ f. subst (λ es. ValuesOnFlash m.shape d m.pool m.outputs m.flash es) (sym (nothing_out m.key m.es f)) m.placed
+        | Some place ↦ λ f. ValuesOnFlash-removed m.shape d m.pool m.outputs m.flash m.es m.placed m.key place m.rising f
       ] refl)
 
   free_before : (k : ℕ) → IsPageOf m.shape k m.place → IsValuePage m.shape (without m.key m.es) k → ⊥
@@ -215,20 +215,20 @@ module _ (d : DataState) (old : Option Span) (new : Span) (m : Moves d old new) 
       subst (λ (s : Span). s.page % d.live.block_pages + s.count ≤ d.live.block_pages) m.new_is
       (subst (λ (n : ℕ). m.place.page % n + charge m.shape m.place.len ≤ n) (sym m.placed.block_pages_is) within.is_place.inside)
 
-  pub moved : Placed m.shape (with_head (before d old) new.page new.count) m.pool m.outputs m.flash (put key_cmp m.key m.place m.es)
+  pub moved : ValuesOnFlash m.shape (with_head (before d old) new.page new.count) m.pool m.outputs m.flash (put key_cmp m.key m.place m.es)
   moved =
-      subst (λ (s : Span). Placed m.shape (with_head (before d old) s.page s.count) m.pool m.outputs m.flash (put key_cmp m.key m.place m.es)) m.new_is
-      (subst (λ es. Placed m.shape (with_head (before d old) m.place.page (charge m.shape m.place.len)) m.pool m.outputs m.flash es) (put_without m.key m.place m.es m.rising)
-      (Placed-added m.shape (before d old) m.pool m.outputs m.flash (without m.key m.es) placed_before m.key m.place (find_gone m.key m.es) within free_before))
+      subst (λ (s : Span). ValuesOnFlash m.shape (with_head (before d old) s.page s.count) m.pool m.outputs m.flash (put key_cmp m.key m.place m.es)) m.new_is
+      (subst (λ es. ValuesOnFlash m.shape (with_head (before d old) m.place.page (charge m.shape m.place.len)) m.pool m.outputs m.flash es) (put_without m.key m.place m.es m.rising)
+      (ValuesOnFlash-added m.shape (before d old) m.pool m.outputs m.flash (without m.key m.es) placed_before m.key m.place (find_gone m.key m.es) within free_before))
 
 -- the same, where the state is known by an equation
-pub removed_as : (d : DataState) (span : Span) (d' : DataState) → d' ≡ with_head d span.page 0 → (h : Held d span) → Placed h.shape d' h.pool h.outputs h.flash (without h.key h.es)
-removed_as d span d' is h = subst (λ (v : DataState). Placed h.shape v h.pool h.outputs h.flash (without h.key h.es)) (sym is) (removed d span h)
+pub removed_as : (d : DataState) (span : Span) (d' : DataState) → d' ≡ with_head d span.page 0 → (h : Held d span) → ValuesOnFlash h.shape d' h.pool h.outputs h.flash (without h.key h.es)
+removed_as d span d' is h = subst (λ (v : DataState). ValuesOnFlash h.shape v h.pool h.outputs h.flash (without h.key h.es)) (sym is) (removed d span h)
 
 pub moved_as : (d : DataState) (old : Option Span) (new : Span) (d' : DataState) → d' ≡ with_head (with_heads d (heads_without old d.live.heads)) new.page new.count
-    → (m : Moves d old new) → Placed m.shape d' m.pool m.outputs m.flash (put key_cmp m.key m.place m.es)
-moved_as d old new d' is m = subst (λ (v : DataState). Placed m.shape v m.pool m.outputs m.flash (put key_cmp m.key m.place m.es)) (sym is) (moved d old new m)
+    → (m : Moves d old new) → ValuesOnFlash m.shape d' m.pool m.outputs m.flash (put key_cmp m.key m.place m.es)
+moved_as d old new d' is m = subst (λ (v : DataState). ValuesOnFlash m.shape v m.pool m.outputs m.flash (put key_cmp m.key m.place m.es)) (sym is) (moved d old new m)
 
 -- all live pages
-pub total_of : (shape : Shape) (d : DataState) (pool : Blocks) (outputs : List ℕ) (flash : Flash) (es : List (Key × Place)) → Placed shape d pool outputs flash es → sum d.live.heads ≡ length (all_pages shape es)
+pub total_of : (shape : Shape) (d : DataState) (pool : Blocks) (outputs : List ℕ) (flash : Flash) (es : List (Key × Place)) → ValuesOnFlash shape d pool outputs flash es → sum d.live.heads ≡ length (all_pages shape es)
 total_of shape d pool outputs flash es p = ap sum p.heads_are ∙ total_is shape p.is_shape es p.places

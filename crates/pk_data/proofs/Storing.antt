@@ -16,7 +16,7 @@ use Rattle.pk_segfmt.specs.Stored.{IsStored, page_of}
 use Rattle.pk_model.proofs.MapLemmas.{key_total}
 use Rattle.pk_data.specs.declared.span.Span.{Span}
 use Rattle.pk_data.specs.State.{DataState, next_page}
-use Rattle.pk_data.specs.Placed.{Placed}
+use Rattle.pk_data.specs.Placed.{ValuesOnFlash}
 use Rattle.pk_data.specs.Reserving.{IsReserved, IsFreeOf, WritesNext}
 use Rattle.pk_data.specs.Entries.{Moves, IsInOpen, span_if_some}
 
@@ -40,7 +40,7 @@ writes_value shape d pool old new key value page count reserved count_is outside
 -- then a key may have it
 module _ (shape : Shape) (before d : DataState) (pool : Blocks) (outputs : List ℕ) (earlier flash : Flash) (es : List (Key × Place)) (key : Key) (value : List ℕ) (page count : ℕ) (old : Option Span)
     (reserved : IsReserved shape before pool earlier page count) (count_is : count ≡ charge shape (length value)) (short : length value ≤ greatest shape)
-    (placed : Placed shape d pool outputs flash es) (rising : T (is_sorted key_cmp es)) (old_is : span_if_some shape (find key_cmp key es) ≡ old)
+    (placed : ValuesOnFlash shape d pool outputs flash es) (rising : T (is_sorted key_cmp es)) (old_is : span_if_some shape (find key_cmp key es) ≡ old)
     (free : IsFreeOf shape es page count) (in_open : IsInOpen shape d (next_page shape before) count) where
   abbrev pub place_of : Place
   place_of = record { page = page; len = length value }

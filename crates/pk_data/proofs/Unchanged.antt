@@ -1,4 +1,4 @@
--- Placed values, after others changed the flash or the pool; and the blocks in which they lie.
+-- ValuesOnFlash values, after others changed the flash or the pool; and the blocks in which they lie.
 use Rattle.std.proofs.Common.{◌≡◌, inl, inr, ℕ, zero, suc, ◌+◌, ◌-◌, ◌*◌, ◌/◌, ◌<◌, ◌≤◌, Bool, true, false, not, ◌&&◌, cond, List, [], ◌∷◌, length, filter, Option, Some, None, refl, sym, ap, subst, ◌∙◌, arith, length-set, eq-or-lt_of_le}
 use Rattle.std.specs.Prelude.{count_by, slice_get, MatchOption}
 use Rattle.std.specs.List.{range_with_len}
@@ -13,14 +13,14 @@ use Rattle.pk_base.specs.Entry.{Place}
 use Rattle.pk_plan.specs.declared.owner.Owner.TheVariants.{Values as for_values}
 use Rattle.pk_pool.specs.declared.state.BlockState.{BlockState}
 use Rattle.pk_pool.specs.declared.state.BlockState.TheVariants.{Owned}
-use Rattle.pk_pool.specs.Blocks.{Blocks, Fits, is_owned_by, used_by, with_state}
+use Rattle.pk_pool.specs.Blocks.{Blocks, PoolOnFlash, is_owned_by, used_by, with_state}
 use Rattle.pk_pool.proofs.States.{get-set_other, get-set_same}
 use Rattle.pk_pool.proofs.Sharing.{count-set}
 use Rattle.pk_pool.proofs.Fitting.{block_of}
 use Rattle.pk_model.specs.Laws.{AnyByRecursion}
 use Rattle.pk_data.specs.declared.open_block.OpenBlock.{OpenBlock}
 use Rattle.pk_data.specs.State.{DataState}
-use Rattle.pk_data.specs.Placed.{Placed, IsNotOpen, IsOpenIn, IsOutput, IsWritten, HoldsValues}
+use Rattle.pk_data.specs.Placed.{ValuesOnFlash, IsNotOpen, IsOpenIn, IsOutput, IsWritten, HoldsValues}
 use Rattle.pk_live.proofs.Ranges.{has}
 use Rattle.pk_data.specs.Laws.{SameValues, FlashElsewhere, BlockElsewhere, LieInFew, NoneInSpare, value_blocks, is_for_values}
 use Rattle.pk_data.proofs.Outputs.{freed, length-freed, freed_is, used_freed, no_member}
@@ -48,11 +48,11 @@ open_same shape p q outputs old new (Some o) kept same not_open open_is =
     }
 
 -- where the pool has the same blocks for values, and their pages are the same
-pub Placed-kept : (shape : Shape) (d : DataState) (p q : Blocks) (outputs : List ℕ) (old new : Flash) (es : List (Key × Place)) → Placed shape d p outputs old es
+pub ValuesOnFlash-kept : (shape : Shape) (d : DataState) (p q : Blocks) (outputs : List ℕ) (old new : Flash) (es : List (Key × Place)) → ValuesOnFlash shape d p outputs old es
     → q.shape ≡ p.shape → length q.states ≡ length p.states → used_by for_values q.states ≡ used_by for_values p.states
     → ((b : ℕ) → HoldsValues p b → HoldsValues q b) → ((b : ℕ) → HoldsValues q b → HoldsValues p b)
-    → SameValues shape p outputs old new → Fits q new → Placed shape d q outputs new es
-Placed-kept shape d p q outputs old new es placed shape_is size used kept was same fits = record {
+    → SameValues shape p outputs old new → PoolOnFlash q new → ValuesOnFlash shape d q outputs new es
+ValuesOnFlash-kept shape d p q outputs old new es placed shape_is size used kept was same fits = record {
   is_shape = placed.is_shape;
   shape_is = shape_is ∙ placed.shape_is;
   size = size ∙ placed.size;
@@ -83,7 +83,7 @@ Placed-kept shape d p q outputs old new es placed shape_is size used kept was sa
         (page.0, page.1, λ e. page.2 (sym (same page.0 (subst (λ c. HoldsValues p c) (sym page.1) (was b held)) (subst (λ c. IsOutput outputs c → ⊥) (sym page.1) no_output)) ∙ e))
 
 pub flash_elsewhere : FlashElsewhere
-flash_elsewhere shape d p outputs old new es placed same fits = Placed-kept shape d p p outputs old new es placed refl refl refl (λ b held. held) (λ b held. held) same fits
+flash_elsewhere shape d p outputs old new es placed same fits = ValuesOnFlash-kept shape d p p outputs old new es placed refl refl refl (λ b held. held) (λ b held. held) same fits
 
 -- a block of which the state says that it is for values
 for_values_is : (s : BlockState) → Some s ≡ Some (Owned for_values) → is_owned_by for_values s ≡ true
@@ -91,7 +91,7 @@ for_values_is s e = ap (is_owned_by for_values) (same_Some s (Owned for_values) 
 
 pub block_elsewhere : BlockElsewhere
 block_elsewhere shape d p outputs b s t old new es placed is not_s not_t same fits =
-    Placed-kept shape d p (with_state p b t) outputs old new es placed refl (length-set p.states b t) used kept was same fits
+    ValuesOnFlash-kept shape d p (with_state p b t) outputs old new es placed refl (length-set p.states b t) used kept was same fits
   where
     none : (x : BlockState) → is_owned_by for_values x ≡ false → is_owned_by for_values x ≡ true → ⊥
     none x is_not is_one = let clash : true ≡ false = sym is_one ∙ is_not in cc

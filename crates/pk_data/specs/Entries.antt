@@ -10,7 +10,7 @@ use Rattle.pk_model.specs.Laws.{IsPageOf}
 use Rattle.pk_steps.specs.Under.{IsValuePage}
 use Rattle.pk_data.specs.declared.span.Span.{Span}
 use Rattle.pk_data.specs.State.{DataState}
-use Rattle.pk_data.specs.Placed.{Placed}
+use Rattle.pk_data.specs.Placed.{ValuesOnFlash}
 
 -- these pages lie in the part of the open block that is written
 abbrev pub IsInOpen : Shape → DataState → ℕ → ℕ → Type 0
@@ -38,7 +38,7 @@ pub record Held (d : DataState) (span : Span) : Type 0 where
   pub es : List (Key × Place)
   pub key : Key
   pub place : Place
-  pub placed : Placed shape d pool outputs flash es
+  pub placed : ValuesOnFlash shape d pool outputs flash es
   pub rising : T (is_sorted key_cmp es)
   pub found : find key_cmp key es ≡ Some place
   pub span_is : span_of shape place ≡ span
@@ -53,7 +53,7 @@ pub record Moves (d : DataState) (old : Option Span) (new : Span) : Type 0 where
   pub es : List (Key × Place)
   pub key : Key
   pub place : Place
-  pub placed : Placed shape d pool outputs flash es
+  pub placed : ValuesOnFlash shape d pool outputs flash es
   pub rising : T (is_sorted key_cmp es)
   pub old_is : span_if_some shape (find key_cmp key es) ≡ old
   pub new_is : span_of shape place ≡ new

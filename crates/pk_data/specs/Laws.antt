@@ -7,12 +7,12 @@ use Rattle.pk_base.specs.Page.{Flash, page_at}
 use Rattle.pk_base.specs.Entry.{Place}
 use Rattle.pk_plan.specs.declared.owner.Owner.TheVariants.{Values as for_values}
 use Rattle.pk_pool.specs.declared.state.BlockState.{BlockState}
-use Rattle.pk_pool.specs.Blocks.{Blocks, Fits, IsSpare, is_owned_by, unused, with_state}
+use Rattle.pk_pool.specs.Blocks.{Blocks, PoolOnFlash, IsSpare, is_owned_by, unused, with_state}
 use Rattle.pk_live.specs.Values.{no_values}
 use Rattle.pk_model.specs.Laws.{AnyByRecursion}
 use Rattle.pk_steps.specs.Under.{IsValuePage}
 use Rattle.pk_data.specs.State.{DataState}
-use Rattle.pk_data.specs.Placed.{HoldsValues, IsOutput, Placed, FoundAtOpening}
+use Rattle.pk_data.specs.Placed.{HoldsValues, IsOutput, ValuesOnFlash, FoundAtOpening}
 
 -- no page differs of a block that the pool has for values and that no running reclaim holds
 abbrev pub SameValues : Shape → Blocks → List ℕ → Flash → Flash → Type 0
@@ -22,15 +22,15 @@ SameValues shape pool outputs old new =
 -- where nothing differs in blocks for values, and none that counts as erased is written, the values stay placed
 abbrev pub FlashElsewhere : Type 0
 FlashElsewhere =
-    (shape : Shape) (d : DataState) (p : Blocks) (outputs : List ℕ) (old new : Flash) (es : List (Key × Place)) → Placed shape d p outputs old es
-    → SameValues shape p outputs old new → Fits p new → Placed shape d p outputs new es
+    (shape : Shape) (d : DataState) (p : Blocks) (outputs : List ℕ) (old new : Flash) (es : List (Key × Place)) → ValuesOnFlash shape d p outputs old es
+    → SameValues shape p outputs old new → PoolOnFlash p new → ValuesOnFlash shape d p outputs new es
 
 -- the same where a block changes its state that neither was nor is one for values
 abbrev pub BlockElsewhere : Type 0
 BlockElsewhere =
     (shape : Shape) (d : DataState) (p : Blocks) (outputs : List ℕ) (b : ℕ) (s t : BlockState) (old new : Flash) (es : List (Key × Place))
-    → Placed shape d p outputs old es → slice_get p.states b ≡ Some s → is_owned_by for_values s ≡ false → is_owned_by for_values t ≡ false
-    → SameValues shape p outputs old new → Fits (with_state p b t) new → Placed shape d (with_state p b t) outputs new es
+    → ValuesOnFlash shape d p outputs old es → slice_get p.states b ≡ Some s → is_owned_by for_values s ≡ false → is_owned_by for_values t ≡ false
+    → SameValues shape p outputs old new → PoolOnFlash (with_state p b t) new → ValuesOnFlash shape d (with_state p b t) outputs new es
 
 -- the block is one for values
 abbrev pub is_for_values : Option BlockState → Bool
@@ -42,17 +42,17 @@ abbrev pub value_blocks : Blocks → List ℕ → List ℕ
 value_blocks pool outputs =
     filter (λ b. is_for_values (slice_get pool.states b) && not (list_any (λ c. b == c) outputs)) (range_with_len 0 (length pool.states))
 
--- Placed values lie in these blocks, which are at most one less than all data blocks.
+-- ValuesOnFlash values lie in these blocks, which are at most one less than all data blocks.
 abbrev pub LieInFew : Type 0
 LieInFew =
-    (shape : Shape) (d : DataState) (pool : Blocks) (outputs : List ℕ) (flash : Flash) (es : List (Key × Place)) → Placed shape d pool outputs flash es
+    (shape : Shape) (d : DataState) (pool : Blocks) (outputs : List ℕ) (flash : Flash) (es : List (Key × Place)) → ValuesOnFlash shape d pool outputs flash es
     → (length (value_blocks pool outputs) ≤ data_blocks shape - 1)
     × ((k : ℕ) → IsValuePage shape es k → AnyByRecursion (λ b. k / shape.block_pages ≡ b) (value_blocks pool outputs))
 
 -- No page of a placed value lies in a block without an owner.
 abbrev pub NoneInSpare : Type 0
 NoneInSpare =
-    (shape : Shape) (d : DataState) (pool : Blocks) (outputs : List ℕ) (flash : Flash) (es : List (Key × Place)) (b : ℕ) → Placed shape d pool outputs flash es → IsSpare pool b
+    (shape : Shape) (d : DataState) (pool : Blocks) (outputs : List ℕ) (flash : Flash) (es : List (Key × Place)) (b : ℕ) → ValuesOnFlash shape d pool outputs flash es → IsSpare pool b
     → (k : ℕ) → k / shape.block_pages ≡ b → IsValuePage shape es k → ⊥
 
 -- Where no block has an owner and no value is live, there are none.

@@ -9,7 +9,7 @@ use Rattle.pk_base.specs.Entry.{Place}
 use Rattle.pk_base.specs.EntryBytes.{IsPlace}
 use Rattle.pk_plan.specs.declared.owner.Owner.TheVariants.{Values as for_values}
 use Rattle.pk_pool.specs.declared.state.BlockState.TheVariants.{Owned}
-use Rattle.pk_pool.specs.Blocks.{Blocks, Fits, used_by}
+use Rattle.pk_pool.specs.Blocks.{Blocks, PoolOnFlash, used_by}
 use Rattle.pk_live.specs.Values.{Values, IsClosed}
 use Rattle.pk_rootfmt.specs.Root.{differ}
 use Rattle.pk_model.specs.Laws.{AnyByRecursion, IsPageOf}
@@ -60,11 +60,11 @@ pub record AreOutputs (shape : Shape) (open_block : Option OpenBlock) (pool : Bl
 -- The values of these keys are live. Their pages are written, and lie in blocks that the pool has for values. These blocks are no root
 -- blocks. But for the outputs of a running reclaim, all of them other than the open one are closed and have a written page, and at most
 -- one less than all data blocks are in use.
-pub record Placed (shape : Shape) (d : DataState) (pool : Blocks) (outputs : List ℕ) (flash : Flash) (es : List (Key × Place)) : Type 0 where
+pub record ValuesOnFlash (shape : Shape) (d : DataState) (pool : Blocks) (outputs : List ℕ) (flash : Flash) (es : List (Key × Place)) : Type 0 where
   pub is_shape : IsShape shape
   pub shape_is : pool.shape ≡ shape
   pub size : length pool.states ≡ shape.blocks
-  pub fits : Fits pool flash
+  pub fits : PoolOnFlash pool flash
   pub few : used_by for_values pool.states ≤ data_blocks shape - 1 + length outputs
   -- the values
   pub places : AllByRecursion (λ e. IsPlace shape e.1) es
@@ -88,11 +88,11 @@ pub record Placed (shape : Shape) (d : DataState) (pool : Blocks) (outputs : Lis
 
 -- some values are placed
 abbrev pub HasPlaced : Shape → DataState → Blocks → Flash → Type 0
-HasPlaced shape d pool flash = (outputs : List ℕ) × (es : List (Key × Place)) × Placed shape d pool outputs flash es
+HasPlaced shape d pool flash = (outputs : List ℕ) × (es : List (Key × Place)) × ValuesOnFlash shape d pool outputs flash es
 
 -- values that were placed are placed still
 abbrev pub StayPlaced : Shape → DataState → Blocks → Flash → DataState → Blocks → Flash → Type 0
-StayPlaced shape d p old d' q new = (outputs : List ℕ) (es : List (Key × Place)) → Placed shape d p outputs old es → Placed shape d' q outputs new es
+StayPlaced shape d p old d' q new = (outputs : List ℕ) (es : List (Key × Place)) → ValuesOnFlash shape d p outputs old es → ValuesOnFlash shape d' q outputs new es
 
 -- As it is at opening: these values were taken one after another, their pages are written, and the pool has the blocks for
 -- values that are closed.
@@ -100,7 +100,7 @@ pub record FoundAtOpening (shape : Shape) (named : List ℕ) (live : Values) (po
   pub is_shape : IsShape shape
   pub shape_is : pool.shape ≡ shape
   pub size : length pool.states ≡ shape.blocks
-  pub fits : Fits pool flash
+  pub fits : PoolOnFlash pool flash
   pub lives : Lives shape named live es
   pub written : (k : ℕ) → IsValuePage shape es k → page_at flash k ≢ erased
   pub closed_owned : (b : ℕ) → IsClosed live b → HoldsValues pool b

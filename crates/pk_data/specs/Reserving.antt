@@ -13,7 +13,7 @@ use Rattle.pk_pool.specs.Blocks.{Blocks, IsSpare, with_state}
 use Rattle.pk_pool.specs.Taking.{TakesReady, ErasesFree, ReachesIn}
 use Rattle.pk_steps.specs.Under.{IsValuePage}
 use Rattle.pk_data.specs.State.{DataState, fits_open, next_page, opened}
-use Rattle.pk_data.specs.Placed.{HoldsValues, Placed}
+use Rattle.pk_data.specs.Placed.{HoldsValues, ValuesOnFlash}
 
 -- From this page on so many are the next Erased ones of the open block, which is one for values.
 pub record IsReserved (shape : Shape) (d : DataState) (pool : Blocks) (flash : Flash) (page count : ℕ) : Type 0 where
@@ -32,7 +32,7 @@ IsFreeOf shape es page count = (k : ℕ) → page ≤ k → k < page + count →
 
 -- nor to one that was placed before
 abbrev pub AreFree : Shape → DataState → Blocks → Flash → ℕ → ℕ → Type 0
-AreFree shape d pool flash page count = (outputs : List ℕ) (es : List (Key × Place)) → Placed shape d pool outputs flash es → IsFreeOf shape es page count
+AreFree shape d pool flash page count = (outputs : List ℕ) (es : List (Key × Place)) → ValuesOnFlash shape d pool outputs flash es → IsFreeOf shape es page count
 
 -- The open block had room, and nothing was done.
 pub record TakesNext (shape : Shape) (d : DataState) (p : Blocks) (old : BoardState) (count : ℕ) (d' : DataState) (q : Blocks) (new : BoardState) : Type 0 where

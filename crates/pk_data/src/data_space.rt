@@ -14,7 +14,7 @@ ghost use Rattle.pk_live.specs.Values.{IsClosed, count_of};
 ghost use Rattle.pk_model.specs.Values.{all_pages};
 ghost use Rattle.pk_data.specs.State.{DataState, IsSmall, with_none_open, closed_with, opened, more_used, with_written, with_head, with_heads, with_closed};
 ghost use Rattle.pk_data.specs.State as state;
-ghost use Rattle.pk_data.specs.Placed.{Placed, HasPlaced, StayPlaced, FoundAtOpening, without};
+ghost use Rattle.pk_data.specs.Placed.{ValuesOnFlash, HasPlaced, StayPlaced, FoundAtOpening, without};
 ghost use Rattle.pk_data.specs.Reserving.{IsReserved, TakesNextOrOpens, WritesNext, AreFree};
 ghost use Rattle.pk_data.specs.Entries.{Held, Moves, IsInOpen, heads_without};
 
@@ -90,7 +90,7 @@ impl<A: Allocator> Data<A> {
         ensures value { result ≡ with_none_open live }
         ensures placed { (shape : spec.Shape) (named : List ℕ) (pool : Blocks) (flash : Flash)
             (es : List (Key × Place)) → FoundAtOpening shape named live pool flash es
-            → Placed shape result pool [] flash es }
+            → ValuesOnFlash shape result pool [] flash es }
     {
         Data {
             live,
@@ -102,7 +102,7 @@ impl<A: Allocator> Data<A> {
     pub fn total(&self) -> u32
         ensures value { result ≡ sum self.now.live.heads }
         ensures placed { (shape : spec.Shape) (pool : Blocks) (outputs : List ℕ) (flash : Flash)
-            (es : List (Key × Place)) → Placed shape self.now pool outputs flash es
+            (es : List (Key × Place)) → ValuesOnFlash shape self.now pool outputs flash es
             → result ≡ length (all_pages shape es) }
     {
         self.live.total()
@@ -234,7 +234,7 @@ impl<A: Allocator> Data<A> {
         ensures moved { self.new ≡ with_head (with_heads self.old
             (heads_without old self.old.live.heads)) new.page new.count }
         ensures placed { (m : Moves self.old old new)
-            → Placed m.shape self.new m.pool m.outputs m.flash (put key_cmp m.key m.place m.es) }
+            → ValuesOnFlash m.shape self.new m.pool m.outputs m.flash (put key_cmp m.key m.place m.es) }
     {
         clear(&mut self.live, old);
         self.live.set(new.page, new.count);
@@ -244,7 +244,7 @@ impl<A: Allocator> Data<A> {
     pub fn remove(&mut self, span: Span)
         requires { Held self.old span }
         ensures removed { self.new ≡ with_head self.old span.page 0 }
-        ensures placed { (h : Held self.old span) → Placed h.shape self.new h.pool h.outputs h.flash
+        ensures placed { (h : Held self.old span) → ValuesOnFlash h.shape self.new h.pool h.outputs h.flash
             (without h.key h.es) }
     {
         self.live.clear(span.page, span.count);

@@ -7,7 +7,7 @@ use Rattle.pk_nand.specs.BoardState.{BoardState}
 use Rattle.pk_model.specs.Sight.{Sight, Counts, map_of}
 
 -- The drive stands for this map: what the flash holds, under the pending entries.
-pub record Stands (shape : Shape) (frames : ℕ) (board : BoardState) (drive : Sight) (m : Map) : Type 0 where
+pub record HoldsMap (shape : Shape) (frames : ℕ) (board : BoardState) (drive : Sight) (m : Map) : Type 0 where
   pub shape_is : board.shape ≡ Some shape
   pub frames_is : drive.frames ≡ frames
   pub map_is : map_of shape board.pages drive ≡ Ok m

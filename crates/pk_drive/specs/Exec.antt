@@ -13,18 +13,18 @@ use Rattle.pk_nvme.specs.declared.opcode.Opcode.TheVariants.{Retrieve}
 use Rattle.pk_model.specs.Run.{Step}
 use Rattle.pk_model.specs.Bounds.{most_reads}
 use Rattle.pk_model.specs.Sight.{Sight, Counts, numbers}
-use Rattle.pk_drive.specs.Drive.{Stands}
+use Rattle.pk_drive.specs.Drive.{HoldsMap}
 
 -- a command that did not stop the drive
 pub record Executed (shape : Shape) (frames : ℕ) (new : BoardState) (drive : Sight) (m : Map) (c : Command) (reply : Reply) (reads : ℕ) : Type 0 where
   pub left : Map
   pub stepped : Step shape frames m c reply left
-  pub stands : Stands shape frames new drive left
+  pub stands : HoldsMap shape frames new drive left
   pub bounded : op_of c.opcode ≡ Some Retrieve → reads ≤ most_reads shape frames m c
 
 abbrev pub ExecStands : BoardState → BoardState → Sight → Sight → Command → Reply → ℕ → Type 0
 ExecStands old new before after c reply reads =
-    (shape : Shape) (frames : ℕ) (m : Map) → Stands shape frames old before m → Executed shape frames new after m c reply reads
+    (shape : Shape) (frames : ℕ) (m : Map) → HoldsMap shape frames old before m → Executed shape frames new after m c reply reads
 
 -- most roots that a command installs: a Tick one for each step, another fewer than 2^16
 abbrev pub most_installs : ℕ → ℕ → ℕ

@@ -16,7 +16,7 @@ use Rattle.pk_nand.specs.Erased.{counted_by}
 use Rattle.pk_model.specs.Found.{entries_in_order}
 use Rattle.pk_model.specs.Tree.{Tree, IsTree}
 use Rattle.pk_model.specs.Sight.{Sight, free_pages}
-use Rattle.pk_drive.specs.Drive.{Stands}
+use Rattle.pk_drive.specs.Drive.{HoldsMap}
 
 -- ---- a commit
 
@@ -55,7 +55,7 @@ pub record StoresIn (shape : Shape) (old new : Flash) (before after : Sight) (c 
 
 -- for every map that the drive may stand for
 abbrev pub Stores : BoardState → BoardState → Sight → Sight → Command → Type 0
-Stores old new before after c = (shape : Shape) (frames : ℕ) (m : Map) → Stands shape frames old before m → StoresIn shape old.pages new.pages before after c
+Stores old new before after c = (shape : Shape) (frames : ℕ) (m : Map) → HoldsMap shape frames old before m → StoresIn shape old.pages new.pages before after c
 
 -- ---- a Store or a Delete that waits for nothing
 

@@ -13,7 +13,7 @@ use Rattle.pk_model.specs.Values.{placed, blocks_with, all_pages}
 use Rattle.pk_model.specs.Laws.{AnyByRecursion}
 use Rattle.pk_model.specs.Tree.{Tree, IsTree}
 use Rattle.pk_model.specs.Sight.{Sight, Counts, most_work}
-use Rattle.pk_drive.specs.Drive.{Stands}
+use Rattle.pk_drive.specs.Drive.{HoldsMap}
 use Rattle.pk_drive.specs.Exec.{IsNextMerge}
 
 -- A block that may be taken as it is: behind the root blocks, named by no root, not the one that takes values, and wholly Erased.
@@ -58,4 +58,4 @@ pub record IsSteady (shape : Shape) (flash : Flash) (drive : Sight) : Type 0 whe
 
 -- after a call that begins where the drive stands for a map
 abbrev pub Steadies : BoardState → BoardState → Sight → Sight → Type 0
-Steadies old new before after = (shape : Shape) (frames : ℕ) (m : Map) → Stands shape frames old before m → IsSteady shape new.pages after
+Steadies old new before after = (shape : Shape) (frames : ℕ) (m : Map) → HoldsMap shape frames old before m → IsSteady shape new.pages after

@@ -4,11 +4,11 @@ use Rattle.pk_base.specs.Shape.{Shape}
 use Rattle.pk_base.specs.Map.{Map}
 use Rattle.pk_nand.specs.BoardState.{BoardState}
 use Rattle.pk_model.specs.Sight.{Sight, IsIdle}
-use Rattle.pk_drive.specs.Drive.{Stands}
+use Rattle.pk_drive.specs.Drive.{HoldsMap}
 use Rattle.pk_drive.specs.declared.types.Ticked.{Ticked}
 use Rattle.pk_drive.specs.declared.types.Ticked.TheVariants.{Idle}
 
 -- it answers that the drive is idle exactly where it is
 abbrev pub TellsIdle : BoardState → Sight → Ticked → Type 0
 TellsIdle board drive answer =
-    (shape : Shape) (frames : ℕ) (m : Map) → Stands shape frames board drive m → (answer ≡ Idle) ↔ IsIdle shape board.pages drive
+    (shape : Shape) (frames : ℕ) (m : Map) → HoldsMap shape frames board drive m → (answer ≡ Idle) ↔ IsIdle shape board.pages drive

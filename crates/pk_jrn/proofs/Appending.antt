@@ -19,7 +19,7 @@ use Rattle.pk_nand.proofs.Writing.{SameOutside-set, SameOutside-cut}
 use Rattle.pk_jrnfmt.specs.Page.{journal_entries}
 use Rattle.pk_jrnfmt.specs.Epoch.{journal, epoch}
 use Rattle.pk_jrnfmt.proofs.PageLemmas.{journal_entries_again, length-seen}
-use Rattle.pk_jrn.specs.Epochs.{JournalEpoch, Fits, Reads, HasCommit, AreBlocks, left_of, next_page}
+use Rattle.pk_jrn.specs.Epochs.{JournalEpoch, EpochOnFlash, Reads, HasCommit, AreBlocks, left_of, next_page}
 use Rattle.pk_jrn.specs.Appends.{next_bytes, AddsAll, AddsAllOrNone, IsCommitCut, CommitReached, CommitWent}
 use Rattle.pk_jrn.proofs.Places.{only_index, page_exists}
 use Rattle.pk_jrn.proofs.Journals.{IsNotWhole, erased_not_whole, torn_not_whole, epoch_is, reads_on, goes_on, ends}
@@ -50,7 +50,7 @@ next_spells e entries shape fits left some most each =
       each = each;
     })
 
-module _ (e : JournalEpoch) (flash : Flash) (es : List Entry) (bytes : List ℕ) (more : e.takes_more ≡ true) (inside : e.used < epoch_pages e.shape) (fits : Fits e flash)
+module _ (e : JournalEpoch) (flash : Flash) (es : List Entry) (bytes : List ℕ) (more : e.takes_more ≡ true) (inside : e.used < epoch_pages e.shape) (fits : EpochOnFlash e flash)
     (different : slice_index e.blocks 0 ≢ slice_index e.blocks 1) (spells : journal_entries e.shape e.number e.used bytes ≡ Some es) where
   was_erased : page_at flash (next_page e) ≡ erased
   was_erased = fits.behind more e.used (omega arith) inside
@@ -95,8 +95,8 @@ module _ (e : JournalEpoch) (flash : Flash) (es : List Entry) (bytes : List ℕ)
     with_page here before is room =
         read_up before is ∙ goes_on e.shape e.number e.blocks (page_at cut) e.used before rest bytes here es spells room ∙ ends_behind (before ++ es) rest refl
 
-    Fits-next : page_at cut (next_page e) ≡ whole bytes → Fits (record e { used = e.used + 1 }) cut
-    Fits-next here = record {
+    EpochOnFlash-next : page_at cut (next_page e) ≡ whole bytes → EpochOnFlash (record e { used = e.used + 1 }) cut
+    EpochOnFlash-next here = record {
       two = fits.two;
       within = omega (arith, inside);
       before =
@@ -127,8 +127,8 @@ module _ (e : JournalEpoch) (flash : Flash) (es : List Entry) (bytes : List ℕ)
     pub adds_all : AddsAll e es flash (after e.shape (program (next_page e) bytes) flash)
     adds_all = with_page (after e.shape (program (next_page e) bytes) flash) others_set here_set
 
-    pub Fits-programmed : Fits (record e { used = e.used + 1 }) (after e.shape (program (next_page e) bytes) flash)
-    Fits-programmed = Fits-next (after e.shape (program (next_page e) bytes) flash) others_set here_set
+    pub EpochOnFlash-programmed : EpochOnFlash (record e { used = e.used + 1 }) (after e.shape (program (next_page e) bytes) flash)
+    EpochOnFlash-programmed = EpochOnFlash-next (after e.shape (program (next_page e) bytes) flash) others_set here_set
 
     done_cut : IsCommitCut e es flash (after e.shape (program (next_page e) bytes) flash)
     done_cut = record {
@@ -144,7 +144,7 @@ module _ (e : JournalEpoch) (flash : Flash) (es : List Entry) (bytes : List ℕ)
 
 -- ---- the board
 
-module _ (e : JournalEpoch) (board : BoardState) (es : List Entry) (bytes : List ℕ) (ready : IsReady board e.shape) (left : 0 < left_of e) (fits : Fits e board.pages) (blocks : AreBlocks e.shape e.blocks)
+module _ (e : JournalEpoch) (board : BoardState) (es : List Entry) (bytes : List ℕ) (ready : IsReady board e.shape) (left : 0 < left_of e) (fits : EpochOnFlash e board.pages) (blocks : AreBlocks e.shape e.blocks)
     (spells : journal_entries e.shape e.number e.used bytes ≡ Some es) where
   abbrev inside : e.used < epoch_pages e.shape
   inside = page_left e left
@@ -152,8 +152,8 @@ module _ (e : JournalEpoch) (board : BoardState) (es : List Entry) (bytes : List
   next_exists : next_page e < length board.pages
   next_exists = let size = ready.flash.size in let low = page_exists e.shape e.blocks e.used (page_left e left) blocks.exist in omega (arith, size, low)
 
-  pub Commit-fits : Fits (record e { used = e.used + 1 }) (after_program board (next_page e) bytes).pages
-  Commit-fits = Fits-programmed e board.pages es bytes (takes_more e left) (page_left e left) fits blocks.different spells next_exists
+  pub Commit-fits : EpochOnFlash (record e { used = e.used + 1 }) (after_program board (next_page e) bytes).pages
+  Commit-fits = EpochOnFlash-programmed e board.pages es bytes (takes_more e left) (page_left e left) fits blocks.different spells next_exists
 
   pub Commit-adds : AddsAll e es board.pages (after_program board (next_page e) bytes).pages
   Commit-adds = adds_all e board.pages es bytes (takes_more e left) (page_left e left) fits blocks.different spells next_exists

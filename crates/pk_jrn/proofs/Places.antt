@@ -8,7 +8,7 @@ use Rattle.pk_base.specs.Shape.{Shape, epoch_pages, page_count}
 use Rattle.pk_base.specs.Page.{Page, Flash, page_at, erased, whole, page_in}
 use Rattle.pk_nand.specs.Calls.{InOrder}
 use Rattle.pk_nand.specs.Crash.{SameOutside}
-use Rattle.pk_jrn.specs.Epochs.{JournalEpoch, Fits, AllExist, AreErased, next_page}
+use Rattle.pk_jrn.specs.Epochs.{JournalEpoch, EpochOnFlash, AllExist, AreErased, next_page}
 use Rattle.pk_jrn.specs.Laws.{SameBlocks}
 
 -- the rows of block a end where those of a later block begin, or before
@@ -72,7 +72,7 @@ whole_erased : (p : Page) (bytes : List ℕ) → p ≡ whole bytes → p ≡ era
 whole_erased p bytes is other = cc
 
 -- the next page of an epoch that takes more is the next of its block
-pub InOrder-next_page : (e : JournalEpoch) (flash : Flash) → e.takes_more ≡ true → e.used < epoch_pages e.shape → Fits e flash → InOrder e.shape flash (next_page e)
+pub InOrder-next_page : (e : JournalEpoch) (flash : Flash) → e.takes_more ≡ true → e.used < epoch_pages e.shape → EpochOnFlash e flash → InOrder e.shape flash (next_page e)
 InOrder-next_page e flash more inside fits =
     let n : ℕ = e.shape.block_pages in
     let b : ℕ = slice_index e.blocks (e.used / n) in
@@ -115,8 +115,8 @@ same_elsewhere shape blocks old new b first count others from to same n small k 
       omega (arith, end, low, to))
 ]
 
-pub Fits-same : (e : JournalEpoch) (old new : Flash) → SameBlocks e.shape e.blocks old new → Fits e old → Fits e new
-Fits-same e old new same fits =
+pub EpochOnFlash-same : (e : JournalEpoch) (old new : Flash) → SameBlocks e.shape e.blocks old new → EpochOnFlash e old → EpochOnFlash e new
+EpochOnFlash-same e old new same fits =
     let within = fits.within in
     record {
       two = fits.two;

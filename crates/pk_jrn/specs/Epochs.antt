@@ -48,7 +48,7 @@ abbrev pub AreErased : Shape → Flash → List ℕ → Type 0
 AreErased shape flash blocks = (n : ℕ) → n < 2 → IsErasedBlock shape flash (slice_index blocks n)
 
 -- The epoch's commits can be read, and where it takes more, all pages behind them are Erased.
-pub record Fits (e : JournalEpoch) (flash : Flash) : Type 0 where
+pub record EpochOnFlash (e : JournalEpoch) (flash : Flash) : Type 0 where
   pub two : length e.blocks ≡ 2
   pub within : e.used ≤ epoch_commits e.shape
   pub before : (j : ℕ) → j < e.used → HasCommit e.shape flash e.blocks j

@@ -4,7 +4,7 @@ use Rattle.pk_base.specs.Shape.{Shape}
 use Rattle.pk_base.specs.Page.{Flash, page_at}
 use Rattle.pk_nand.specs.Crash.{SameOutside}
 use Rattle.pk_jrnfmt.specs.Epoch.{epoch}
-use Rattle.pk_jrn.specs.Epochs.{JournalEpoch, Fits}
+use Rattle.pk_jrn.specs.Epochs.{JournalEpoch, EpochOnFlash}
 
 -- no page of this block differs
 abbrev pub SameInBlock : Shape → ℕ → Flash → Flash → Type 0
@@ -16,7 +16,7 @@ SameBlocks shape blocks old new = (n : ℕ) → n < 2 → SameInBlock shape (sli
 
 -- where no page of its blocks differs, the epoch fits as before
 abbrev pub FitsElsewhere : Type 0
-FitsElsewhere = (e : JournalEpoch) (old new : Flash) → SameBlocks e.shape e.blocks old new → Fits e old → Fits e new
+FitsElsewhere = (e : JournalEpoch) (old new : Flash) → SameBlocks e.shape e.blocks old new → EpochOnFlash e old → EpochOnFlash e new
 
 -- and its entries, or its refusal, are the same
 abbrev pub ReadsElsewhere : Type 0

@@ -8,7 +8,7 @@ ghost use Rattle.pk_base.specs.Seen.{entries as seen_all};
 ghost use Rattle.pk_nand.specs.Calls.{IsReady, after_program, ProgramFailed};
 ghost use Rattle.pk_nand.specs.declared.types.Fault.TheVariants.{Stopped};
 ghost use Rattle.pk_jrnfmt.specs.Page.{journal_entries};
-ghost use Rattle.pk_jrn.specs.Epochs.{started, found_at_opening, left_of, next_page, AreBlocks, AreErased, Fits, Reads};
+ghost use Rattle.pk_jrn.specs.Epochs.{started, found_at_opening, left_of, next_page, AreBlocks, AreErased, EpochOnFlash, Reads};
 ghost use Rattle.pk_jrn.specs.Appends.{next_bytes, AddsAll, CommitReached, CommitWent};
 
 use crate::pages::page_of;
@@ -50,7 +50,7 @@ impl Epoch {
     /// A new epoch, of which no page is written.
     pub fn start(shape: Shape, number: u64, blocks: [u16; 2]) -> Epoch
         ensures started { result ≡ started shape number blocks }
-        ensures fits { (flash : Flash) → AreErased shape flash blocks → Fits result flash }
+        ensures fits { (flash : Flash) → AreErased shape flash blocks → EpochOnFlash result flash }
         ensures reads { (flash : Flash) → AreErased shape flash blocks → Reads result flash [] }
     {
         Epoch {
@@ -132,14 +132,14 @@ impl Epoch {
         requires most { length entries.now ≤ page_entries self.old.shape }
         requires each { AllByRecursion (IsEntry self.old.shape) (seen_all entries.now) }
         requires ready { IsReady (B.state board.old) self.old.shape }
-        requires fits { Fits self.old (B.state board.old).pages }
+        requires fits { EpochOnFlash self.old (B.state board.old).pages }
         requires blocks { AreBlocks self.old.shape self.old.blocks }
         requires room { length buf.old ≡ self.old.shape.page_bytes }
         ensures ok { OnOk result (B.state board.new
             ≡ after_program (B.state board.old) (next_page self.old)
             (next_bytes self.old (seen_all entries.now))) }
         ensures taken { OnOk result (self.new ≡ record self.old { used = self.old.used + 1 }) }
-        ensures fits { OnOk result (Fits self.new (B.state board.new).pages) }
+        ensures fits { OnOk result (EpochOnFlash self.new (B.state board.new).pages) }
         ensures spells { journal_entries self.old.shape self.old.number self.old.used
             (next_bytes self.old (seen_all entries.now)) ≡ Some (seen_all entries.now) }
         ensures list { OnOk result (AddsAll self.old (seen_all entries.now)

@@ -6,7 +6,7 @@ ghost use Rattle.pk_nand.specs.Calls.{IsReady};
 ghost use Rattle.pk_nand.specs.Erased.{after_reads};
 ghost use Rattle.pk_nand.specs.declared.types.PageRead.TheVariants.{Whole};
 ghost use Rattle.pk_buf.specs.Table.{no_entries};
-ghost use Rattle.pk_jrn.specs.Epochs.{AllExist, Fits, found_at_opening};
+ghost use Rattle.pk_jrn.specs.Epochs.{AllExist, EpochOnFlash, found_at_opening};
 ghost use Rattle.pk_jrn.specs.Replays.{Replayed, Refused, epoch_reads};
 
 use crate::entries::take_page;
@@ -42,7 +42,7 @@ pub fn replay<B: Nand, A: Region>(
     requires room { length buf.old ≡ shape.now.page_bytes }
     ensures replayed { IfOk result (λ used.
         Replayed shape.now number blocks (B.state board.old).pages used into.new) }
-    ensures fits { IfOk result (λ used. Fits (found_at_opening shape.now number blocks used)
+    ensures fits { IfOk result (λ used. EpochOnFlash (found_at_opening shape.now number blocks used)
         (B.state board.old).pages) }
     ensures reads { OnOk result (B.state board.new
         ≡ after_reads (epoch_reads shape.now (page_at (B.state board.old).pages) blocks)

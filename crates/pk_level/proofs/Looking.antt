@@ -13,9 +13,9 @@ use Rattle.pk_nand.specs.BoardState.{BoardState}
 use Rattle.pk_nand.specs.Calls.{counted, IsReady, after_read, ReadFailed}
 use Rattle.pk_nand.specs.Erased.{counted_by, after_reads}
 use Rattle.pk_pin.specs.Frames.{Frames}
-use Rattle.pk_run.specs.Kept.{Kept, IsPinned, Stands, empty, after_look}
+use Rattle.pk_run.specs.Kept.{Kept, IsPinned, RunOnFlash, empty, after_look}
 use Rattle.pk_run.specs.Search.{IsFound, IsPageFor, Looks}
-use Rattle.pk_level.specs.Levels.{Levels, IsOfLevel, AreOfLevels, IsLevels, StandEach, all_entries, reads_by, most_reads, reads_through, ReadsUpTo, ReadFailsWithin}
+use Rattle.pk_level.specs.Levels.{Levels, IsOfLevel, AreOfLevels, IsLevels, RunsOnFlash, all_entries, reads_by, most_reads, reads_through, ReadsUpTo, ReadFailsWithin}
 
 -- ---- entries of several lists
 
@@ -42,15 +42,15 @@ entries_at (xs ∷ ess) (suc i) es got = entries_at ess i es got
 
 -- ---- runs that stand
 
-pub stands_at : (flash : Flash) (arena : Frames) (rs : List Kept) (ess : List (List Entry)) (i : ℕ) (r : Kept) → StandEach flash arena rs ess → slice_get rs i ≡ Some r
-    → (es : List Entry) × (slice_get ess i ≡ Some es) × Stands r flash arena es
+pub stands_at : (flash : Flash) (arena : Frames) (rs : List Kept) (ess : List (List Entry)) (i : ℕ) (r : Kept) → RunsOnFlash flash arena rs ess → slice_get rs i ≡ Some r
+    → (es : List Entry) × (slice_get ess i ≡ Some es) × RunOnFlash r flash arena es
 stands_at flash arena [] [] i r each got = cc
 stands_at flash arena [] (es ∷ ess) i r each got = absurd each
 stands_at flash arena (x ∷ rs) [] i r each got = absurd each
-stands_at flash arena (x ∷ rs) (es ∷ ess) zero r each got = let same : x ≡ r = cc in (es, refl, subst (λ (y : Kept). Stands y flash arena es) same each.0)
+stands_at flash arena (x ∷ rs) (es ∷ ess) zero r each got = let same : x ≡ r = cc in (es, refl, subst (λ (y : Kept). RunOnFlash y flash arena es) same each.0)
 stands_at flash arena (x ∷ rs) (es ∷ ess) (suc i) r each got = stands_at flash arena rs ess i r each.1 got
 
-no_more : (flash : Flash) (arena : Frames) (rs : List Kept) (ess : List (List Entry)) (i : ℕ) → StandEach flash arena rs ess → length rs ≤ i → all_entries (drop i ess) ≡ []
+no_more : (flash : Flash) (arena : Frames) (rs : List Kept) (ess : List (List Entry)) (i : ℕ) → RunsOnFlash flash arena rs ess → length rs ≤ i → all_entries (drop i ess) ≡ []
 no_more flash arena [] [] zero each h = refl
 no_more flash arena [] [] (suc i) each h = refl
 no_more flash arena [] (es ∷ ess) i each h = absurd each
@@ -131,7 +131,7 @@ pub record Looking (rs : List Kept) (arena : Frames) (key : Key) (old now : Boar
   pub made : ℕ
   pub few : made + reads_through (drop i rs) ≤ reads_through rs
   pub board : now ≡ after_reads made old
-  pub none : (ess : List (List Entry)) → StandEach old.pages arena rs ess → find key_cmp key (all_entries ess) ≡ find key_cmp key (all_entries (drop i ess))
+  pub none : (ess : List (List Entry)) → RunsOnFlash old.pages arena rs ess → find key_cmp key (all_entries ess) ≡ find key_cmp key (all_entries (drop i ess))
 
 pub Looking-start : (rs : List Kept) (arena : Frames) (key : Key) (old : BoardState) → Looking rs arena key old old 0
 Looking-start rs arena key old = record { made = 0; few = omega arith; board = refl; none = λ ess each. refl }
@@ -141,14 +141,14 @@ same_pages rs arena key old now i at = ap (λ (b : BoardState). b.pages) at.boar
 
 -- the next run stands on the board now
 pub next_stands : (rs : List Kept) (arena : Frames) (key : Key) (old now : BoardState) (i : ℕ) (r : Kept) (ess : List (List Entry)) → Looking rs arena key old now i → slice_get rs i ≡ Some r
-    → StandEach old.pages arena rs ess → (es : List Entry) × (slice_get ess i ≡ Some es) × Stands r now.pages arena es
+    → RunsOnFlash old.pages arena rs ess → (es : List Entry) × (slice_get ess i ≡ Some es) × RunOnFlash r now.pages arena es
 next_stands rs arena key old now i r ess at got each =
     let own = stands_at old.pages arena rs ess i r each got in
-    (own.0, own.1, subst (λ (flash : Flash). Stands r flash arena own.0) (sym (same_pages rs arena key old now i at)) own.2)
+    (own.0, own.1, subst (λ (flash : Flash). RunOnFlash r flash arena own.0) (sym (same_pages rs arena key old now i at)) own.2)
 
 -- the next run has nothing either
 pub Looking-next : (rs : List Kept) (arena : Frames) (key : Key) (old now next : BoardState) (i : ℕ) (r : Kept) → Looking rs arena key old now i → slice_get rs i ≡ Some r
-    → Looks r key now next → ((es : List Entry) → Stands r now.pages arena es → find key_cmp key es ≡ None) → Looking rs arena key old next (i + 1)
+    → Looks r key now next → ((es : List Entry) → RunOnFlash r now.pages arena es → find key_cmp key es ≡ None) → Looking rs arena key old next (i + 1)
 Looking-next rs arena key old now next i r at got looks missing =
     let look = look_reads r key now next looks in
     let left = through_at rs i r got in
@@ -165,8 +165,8 @@ Looking-next rs arena key old now next i r at got looks missing =
 
 -- the next run has it
 pub Looking-found : (rs : List Kept) (arena : Frames) (key : Key) (old now : BoardState) (i : ℕ) (r : Kept) (e : RustEntry) → Looking rs arena key old now i → slice_get rs i ≡ Some r
-    → ((es : List Entry) → Stands r now.pages arena es → IsFound key es (Some e))
-    → (ess : List (List Entry)) → StandEach old.pages arena rs ess → IsFound key (all_entries ess) (Some e)
+    → ((es : List Entry) → RunOnFlash r now.pages arena es → IsFound key es (Some e))
+    → (ess : List (List Entry)) → RunsOnFlash old.pages arena rs ess → IsFound key (all_entries ess) (Some e)
 Looking-found rs arena key old now i r e at got found ess each =
     let own = next_stands rs arena key old now i r ess at got each in
     let is = found own.0 own.2 in
@@ -182,7 +182,7 @@ reads_found rs arena key old now next i r at got looks =
 
 -- none has it
 pub Looking-end : (rs : List Kept) (arena : Frames) (key : Key) (old now : BoardState) (i : ℕ) → length rs ≤ i → Looking rs arena key old now i
-    → (ess : List (List Entry)) → StandEach old.pages arena rs ess → find key_cmp key (all_entries ess) ≡ None
+    → (ess : List (List Entry)) → RunsOnFlash old.pages arena rs ess → find key_cmp key (all_entries ess) ≡ None
 Looking-end rs arena key old now i all at ess each = at.none ess each ∙ ap (find key_cmp key) (no_more old.pages arena rs ess i each all)
 
 pub reads_end : (rs : List Kept) (arena : Frames) (key : Key) (old now : BoardState) (i : ℕ) → Looking rs arena key old now i → ReadsUpTo (reads_through rs) old now

@@ -8,7 +8,7 @@ use Rattle.pk_nand.specs.BoardState.{BoardState}
 use Rattle.pk_nand.specs.Calls.{ReadFailed}
 use Rattle.pk_nand.specs.Erased.{after_reads}
 use Rattle.pk_pin.specs.Frames.{Frames}
-use Rattle.pk_run.specs.Kept.{Kept, IsPinned, Stands, empty}
+use Rattle.pk_run.specs.Kept.{Kept, IsPinned, RunOnFlash, empty}
 
 -- how many levels have frames for all their pages, and runs 1 to 4
 pub record Levels : Type 0 where
@@ -45,11 +45,11 @@ pub record IsLevels (levels : Levels) : Type 0 where
   pub each : AreOfLevels levels.shape levels.pinned 1 levels.runs
 
 -- the entries of the runs on the flash are those of these lists
-abbrev pub StandEach : Flash → Frames → List Kept → List (List Entry) → Type 0
-StandEach flash arena [] [] = ⊤
-StandEach flash arena [] (es ∷ ess) = ⊥
-StandEach flash arena (r ∷ rs) [] = ⊥
-StandEach flash arena (r ∷ rs) (es ∷ ess) = Stands r flash arena es × StandEach flash arena rs ess
+abbrev pub RunsOnFlash : Flash → Frames → List Kept → List (List Entry) → Type 0
+RunsOnFlash flash arena [] [] = ⊤
+RunsOnFlash flash arena [] (es ∷ ess) = ⊥
+RunsOnFlash flash arena (r ∷ rs) [] = ⊥
+RunsOnFlash flash arena (r ∷ rs) (es ∷ ess) = RunOnFlash r flash arena es × RunsOnFlash flash arena rs ess
 
 -- all entries, those of the first run first
 abbrev pub all_entries : List (List Entry) → List Entry

@@ -8,7 +8,7 @@ ghost use Rattle.pk_nand.specs.declared.types.Fault.TheVariants.{Reading};
 ghost use Rattle.pk_pin.specs.Frames.{Frames};
 ghost use Rattle.pk_run.specs.Search.{IsFound};
 ghost use Rattle.pk_level.specs.Levels as spec;
-ghost use Rattle.pk_level.specs.Levels.{IsLevels, IsOfLevel, StandEach, ReadsUpTo, ReadFailsWithin, no_runs, run_of, with_run, all_entries, reads_through};
+ghost use Rattle.pk_level.specs.Levels.{IsLevels, IsOfLevel, RunsOnFlash, ReadsUpTo, ReadFailsWithin, no_runs, run_of, with_run, all_entries, reads_through};
 
 use pk_base::{Entry, Key};
 use pk_nand::{Fault, Nand};
@@ -47,7 +47,7 @@ impl<A: Allocator + Clone> Levels<A> {
     pub fn new(alloc: A, plan: Plan, frames: u32) -> Result<Levels<A>, AllocError>
         ensures empty { IfOk result (λ l. l ≡ no_runs plan (pinned_by plan frames)) }
         ensures stands { IfOk result (λ l. (flash : Flash) (arena : Frames)
-            → StandEach flash arena l.runs ([] ∷ [] ∷ [] ∷ [] ∷ [])) }
+            → RunsOnFlash flash arena l.runs ([] ∷ [] ∷ [] ∷ [] ∷ [])) }
     {
         let shape = plan.shape();
         let first = Run::new(alloc.clone()?, shape, 1)?;
@@ -138,10 +138,10 @@ impl<A: Allocator> Levels<A> {
     ) -> Result<Option<Entry>, Fault>
         requires ready { IsReady (B.state board.old) self.now.shape }
         requires stand { (ess : List (List EntrySpec))
-            × StandEach (B.state board.old).pages arena.now self.now.runs ess }
+            × RunsOnFlash (B.state board.old).pages arena.now self.now.runs ess }
         requires room { length buf.old ≡ self.now.shape.page_bytes }
         ensures found { IfOk result (λ found. (ess : List (List EntrySpec))
-            → StandEach (B.state board.old).pages arena.now self.now.runs ess
+            → RunsOnFlash (B.state board.old).pages arena.now self.now.runs ess
             → IsFound key.now (all_entries ess) found) }
         ensures reads { OnOk result
             (ReadsUpTo (reads_through self.now.runs) (B.state board.old) (B.state board.new)) }

@@ -16,9 +16,9 @@ use Rattle.pk_jrnfmt.specs.Page.{journal_entries}
 use Rattle.pk_jrnfmt.specs.Epoch.{epoch}
 use Rattle.pk_rootfmt.specs.Root.{Root}
 use Rattle.pk_rootfmt.specs.Newest.{newest_root}
-use Rattle.pk_root.proofs.Places.{Fits-by_same}
+use Rattle.pk_root.proofs.Places.{InstallerOnFlash-by_same}
 use Rattle.pk_buf.specs.Table.{Table}
-use Rattle.pk_jrn.specs.Epochs.{JournalEpoch, Fits as EpochFits, Reads, left_of, next_page}
+use Rattle.pk_jrn.specs.Epochs.{JournalEpoch, EpochOnFlash, Reads, left_of, next_page}
 use Rattle.pk_jrn.specs.Appends.{AddsAll}
 use Rattle.pk_jrn.specs.Replays.{buffer_of}
 use Rattle.pk_jrn.proofs.Places.{page_exists}
@@ -32,7 +32,7 @@ use Rattle.pk_steps.specs.Roots.{committed}
 use Rattle.pk_steps.proofs.Committing.{commits, commit_done}
 use Rattle.pk_model.specs.Growth.{Grows, Reaches, Goes}
 use Rattle.pk_log.specs.State.{LogState, all_committed}
-use Rattle.pk_log.specs.Logs.{Logs}
+use Rattle.pk_log.specs.Logs.{LogOnFlash}
 use Rattle.pk_log.specs.Commits.{CommitStands, CommitCut, CommitHolds, CommitReaches}
 use Rattle.pk_model.proofs.Running.{Reaches-program, Goes-program}
 use Rattle.pk_steps.proofs.NewestBlocks.{valid_root}
@@ -41,7 +41,7 @@ use Rattle.pk_steps.proofs.UnderRoot.{newest_found}
 
 -- ---- the program
 
-module _ (log : LogState) (board : BoardState) (top : ℕ × Root) (found : Found) (logs : Logs log board.pages top found) (ready : IsReady board log.shape) (some : log.pending ≢ []) (bytes : List ℕ)
+module _ (log : LogState) (board : BoardState) (top : ℕ × Root) (found : Found) (logs : LogOnFlash log board.pages top found) (ready : IsReady board log.shape) (some : log.pending ≢ []) (bytes : List ℕ)
     (spells : journal_entries log.epoch.shape log.epoch.number log.epoch.used bytes ≡ Some log.pending) where
   abbrev shape : Shape
   shape = log.shape
@@ -134,14 +134,14 @@ module _ (log : LogState) (board : BoardState) (top : ℕ × Root) (found : Foun
       (λ i. epoch (sym logs.epoch_shape i) new (sym logs.epoch_number i) (sym logs.epoch_blocks i)) ∙ adds found.newest was (have_room bound)
 
   pub stands_done : length log.active.entries ≤ log.active.capacity → AddsAll e log.pending board.pages (after_program board (next_page e) bytes).pages
-      → EpochFits (record e { used = e.used + 1 }) (after_program board (next_page e) bytes).pages
-      → Logs (all_committed log) (after_program board (next_page e) bytes).pages top (committed found log.pending)
+      → EpochOnFlash (record e { used = e.used + 1 }) (after_program board (next_page e) bytes).pages
+      → LogOnFlash (all_committed log) (after_program board (next_page e) bytes).pages top (committed found log.pending)
   stands_done bound adds fits = record {
     is_shape = logs.is_shape;
     is_top = top_stays;
     root_is = logs.root_is;
     is_found = under shape old new top found log.pending e.used bytes positive logs.is_top logs.is_found blocks inside before behind others (found.newest ++ log.pending) (reads_all bound adds);
-    installs = Fits-by_same shape log.next top board.pages (after_program board (next_page e) bytes).pages
+    installs = InstallerOnFlash-by_same shape log.next top board.pages (after_program board (next_page e) bytes).pages
         (λ k low. others k (λ is. let high = behind_roots shape top.1 blocks positive e.used inside in omega (arith, low, high, is))) logs.installs;
     epoch_shape = logs.epoch_shape;
     epoch_number = logs.epoch_number;
@@ -162,7 +162,7 @@ module _ (log : LogState) (board : BoardState) (none : log.pending ≡ []) where
   same_found found = λ i. record found { newest = (sym (append-nil found.newest) ∙ ap (λ es. found.newest ++ es) (sym none)) i }
 
   pub stands_none : CommitStands log board log board
-  stands_none top found logs = subst (λ f. Logs log board.pages top f) (same_found found) logs
+  stands_none top found logs = subst (λ f. LogOnFlash log board.pages top f) (same_found found) logs
 
   pub holds_none : CommitHolds log board board
   holds_none top found m0 m1 maps =

@@ -8,10 +8,10 @@ use Rattle.pk_meta.specs.Run.{run}
 use Rattle.pk_rootfmt.specs.Root.{root_bytes}
 use Rattle.pk_rootfmt.specs.Held.{first}
 use Rattle.pk_buf.specs.Table.{no_entries}
-use Rattle.pk_jrn.specs.Epochs.{JournalEpoch, started, AreErased, Fits as EpochFits}
+use Rattle.pk_jrn.specs.Epochs.{JournalEpoch, started, AreErased, EpochOnFlash}
 use Rattle.pk_model.specs.Found.{Found, found_under, runs_from}
 use Rattle.pk_compact.proofs.Examples.{small, made, made_newest}
-use Rattle.pk_log.specs.Logs.{Logs, Opens}
+use Rattle.pk_log.specs.Logs.{LogOnFlash, Opens}
 use Rattle.pk_log.specs.State.{opened}
 use Rattle.pk_log.proofs.Standing.{opens}
 
@@ -39,7 +39,7 @@ abbrev first_epoch : JournalEpoch
 first_epoch = started small 1 (2 ∷ 3 ∷ [])
 
 -- what `Log::new` and the calls behind it ask for is there
-pub made_opens : ((flash : Flash) → AreErased small flash (2 ∷ 3 ∷ []) → EpochFits first_epoch flash)
+pub made_opens : ((flash : Flash) → AreErased small flash (2 ∷ 3 ∷ []) → EpochOnFlash first_epoch flash)
     → Opens (record { shape = small; root = first }) 0 first_epoch (no_entries small) (no_entries small) made nothing
 made_opens fits = record {
   is_top = made_newest;
@@ -52,6 +52,6 @@ made_opens fits = record {
   frozen_is = refl;
 }
 
-pub made_logs : IsShape small → ((flash : Flash) → AreErased small flash (2 ∷ 3 ∷ []) → EpochFits first_epoch flash)
-    → Logs (opened (record { shape = small; root = first }) 0 first_epoch (no_entries small) (no_entries small)) made (0, first) nothing
+pub made_logs : IsShape small → ((flash : Flash) → AreErased small flash (2 ∷ 3 ∷ []) → EpochOnFlash first_epoch flash)
+    → LogOnFlash (opened (record { shape = small; root = first }) 0 first_epoch (no_entries small) (no_entries small)) made (0, first) nothing
 made_logs is_shape fits = opens (record { shape = small; root = first }) 0 first_epoch (no_entries small) (no_entries small) made nothing is_shape (made_opens fits)

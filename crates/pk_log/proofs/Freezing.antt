@@ -13,7 +13,7 @@ use Rattle.pk_rootfmt.specs.Root.{Root}
 use Rattle.pk_root.specs.declared.next.Next.{Next}
 use Rattle.pk_buf.specs.Table.{Table}
 use Rattle.pk_jrnfmt.specs.Epoch.{epoch}
-use Rattle.pk_jrn.specs.Epochs.{started, AreErased, Fits as EpochFits}
+use Rattle.pk_jrn.specs.Epochs.{started, AreErased, EpochOnFlash}
 use Rattle.pk_jrn.specs.Replays.{buffer_of}
 use Rattle.pk_jrn.proofs.Puts.{put_grows, firsts_sorted, firsts-reverse}
 use Rattle.pk_model.specs.Found.{Found}
@@ -23,7 +23,7 @@ use Rattle.pk_steps.specs.Roots.{frozen}
 use Rattle.pk_steps.proofs.UnderRoot.{none_named}
 use Rattle.pk_compact.specs.Freezing.{MayFreeze, Froze}
 use Rattle.pk_log.specs.State.{LogState}
-use Rattle.pk_log.specs.Logs.{Logs}
+use Rattle.pk_log.specs.Logs.{LogOnFlash}
 use Rattle.pk_log.specs.Freezes.{CanFreeze, begun, LogFroze}
 
 -- ---- buffers without entries
@@ -105,8 +105,8 @@ not_not false = refl
 module _ (log : LogState) (pool pool' : Blocks) (old new : BoardState) (top : ℕ × Root) (found : Found) (m : Map) (blocks : List ℕ) (root' : Root) (next' : Next)
     (can : CanFreeze log pool old.pages top found m)
     (froze : Froze log.shape pool old (nat_lt 0 (length log.active.entries)) top found m blocks pool' root' next' new)
-    (starts : (flash : Flash) → AreErased log.shape flash blocks → EpochFits (started log.shape root'.epoch blocks) flash) where
-  stands_begun : Logs (begun log root' next' blocks) new.pages (froze.page, root') (frozen found)
+    (starts : (flash : Flash) → AreErased log.shape flash blocks → EpochOnFlash (started log.shape root'.epoch blocks) flash) where
+  stands_begun : LogOnFlash (begun log root' next' blocks) new.pages (froze.page, root') (frozen found)
   stands_begun =
       let logs = can.logs in
       let blocks_are = froze.blocks_are in

@@ -16,7 +16,7 @@ use Rattle.pk_jrn.proofs.Puts.{puts_are_firsts, firsts-reverse}
 use Rattle.pk_model.specs.Found.{Found}
 use Rattle.pk_model.specs.Laws.{IsStorable}
 use Rattle.pk_log.specs.State.{LogState, is_full_for, needs_freeze, pushed}
-use Rattle.pk_log.specs.Logs.{Logs}
+use Rattle.pk_log.specs.Logs.{LogOnFlash}
 
 -- ---- what is left
 
@@ -54,7 +54,7 @@ all_push P (x ∷ es) e all is = (all.0, all_push P es e all.1 is)
 
 -- ---- the log
 
-module _ (log : LogState) (e : Entry) (flash : Flash) (top : ℕ × Root) (found : Found) (logs : Logs log flash top found) where
+module _ (log : LogState) (e : Entry) (flash : Flash) (top : ℕ × Root) (found : Found) (logs : LogOnFlash log flash top found) where
   -- the entries of the buffer
   entries_are : put key_cmp (key_of e) e.1 log.active.entries ≡ firsts (reverse (found.newest ++ (log.pending ++ e ∷ [])))
   entries_are =
@@ -69,7 +69,7 @@ module _ (log : LogState) (e : Entry) (flash : Flash) (top : ℕ × Root) (found
       let same : length (put key_cmp (key_of e) e.1 log.active.entries) ≡ length (firsts (found.newest ++ (log.pending ++ e ∷ []))) = ap length entries_are ∙ firsts-reverse (found.newest ++ (log.pending ++ e ∷ [])) in
       omega (arith, bound, capacity, same)
 
-  pub stands_pushed : needs_freeze log (key_of e) ≡ false → length log.pending < page_entries log.shape → IsStorable log.shape e → Logs (pushed log e) flash top found
+  pub stands_pushed : needs_freeze log (key_of e) ≡ false → length log.pending < page_entries log.shape → IsStorable log.shape e → LogOnFlash (pushed log e) flash top found
   stands_pushed no_freeze few storable = record {
     is_shape = logs.is_shape;
     is_top = logs.is_top;

@@ -9,12 +9,12 @@ use Rattle.pk_base.proofs.ShapeLemmas.{block_pages_positive}
 use Rattle.pk_rootfmt.specs.Root.{Root, named, is_root, is_number, has_runs, differ}
 use Rattle.pk_rootfmt.specs.Held.{Held}
 use Rattle.pk_rootfmt.specs.Newest.{newest_root}
-use Rattle.pk_root.proofs.Places.{Fits-after, Fits-by_same}
+use Rattle.pk_root.proofs.Places.{InstallerOnFlash-after, InstallerOnFlash-by_same}
 use Rattle.pk_buf.specs.Table.{Table}
 use Rattle.pk_jrn.specs.Epochs.{JournalEpoch, AreBlocks}
 use Rattle.pk_jrn.specs.Laws.{SameBlocks}
 use Rattle.pk_jrn.specs.Replays.{buffer_of}
-use Rattle.pk_jrn.proofs.Places.{Fits-same}
+use Rattle.pk_jrn.proofs.Places.{EpochOnFlash-same}
 use Rattle.pk_model.specs.Found.{Found, found_under}
 use Rattle.pk_model.specs.Laws.{AnyByRecursion}
 use Rattle.pk_model.proofs.Roots.{newest_sound}
@@ -22,7 +22,7 @@ use Rattle.pk_model.proofs.SamePages.{newest_root_same, found_same, in_some_bloc
 use Rattle.pk_steps.proofs.NewestBlocks.{newest_exist, newest_differ, valid_root}
 use Rattle.pk_model.proofs.Commits.{right_part, all_at, all_front, root_valid, blocks_of_root, differ_front, injective, member}
 use Rattle.pk_log.specs.State.{LogState, opened}
-use Rattle.pk_log.specs.Logs.{Logs, Opens}
+use Rattle.pk_log.specs.Logs.{LogOnFlash, Opens}
 use Rattle.pk_log.specs.Laws.{SameNamed, LogsElsewhere}
 
 -- ---- the blocks of a newest epoch
@@ -32,7 +32,7 @@ pub blocks_are : (shape : Shape) (root : Root) → T (is_root shape root) → Ar
 blocks_are shape root is = record { exist = newest_exist shape root is; different = newest_differ shape root is }
 
 -- the blocks of the epoch that a log writes
-pub epoch_blocks_are : (log : LogState) (flash : Flash) (top : ℕ × Root) (found : Found) → Logs log flash top found → AreBlocks log.epoch.shape log.epoch.blocks
+pub epoch_blocks_are : (log : LogState) (flash : Flash) (top : ℕ × Root) (found : Found) → LogOnFlash log flash top found → AreBlocks log.epoch.shape log.epoch.blocks
 epoch_blocks_are log flash top found logs =
     let there : AreBlocks log.shape top.1.newest = blocks_are log.shape top.1 (valid_root log.shape (page_at flash) top logs.is_top) in
     subst (λ (s : Shape). AreBlocks s log.epoch.blocks) (sym logs.epoch_shape) (subst (λ (bs : List ℕ). AreBlocks log.shape bs) (sym logs.epoch_blocks) there)
@@ -40,13 +40,13 @@ epoch_blocks_are log flash top found logs =
 -- ---- at opening
 
 pub opens : (held : Held) (page : ℕ) (epoch : JournalEpoch) (active frozen : Table) (flash : Flash) (found : Found) → IsShape held.shape
-    → Opens held page epoch active frozen flash found → Logs (opened held page epoch active frozen) flash (page, held.root) found
+    → Opens held page epoch active frozen flash found → LogOnFlash (opened held page epoch active frozen) flash (page, held.root) found
 opens held page epoch active frozen flash found is_shape is = record {
   is_shape = is_shape;
   is_top = is.is_top;
   root_is = refl;
   is_found = is.is_found;
-  installs = Fits-after held.shape flash page held.root is.is_top;
+  installs = InstallerOnFlash-after held.shape flash page held.root is.is_top;
   epoch_shape = is.epoch_shape;
   epoch_number = is.epoch_number;
   epoch_blocks = is.epoch_blocks;
@@ -60,7 +60,7 @@ opens held page epoch active frozen flash found is_shape is = record {
 
 -- ---- changes elsewhere
 
-module _ (log : LogState) (old new : Flash) (top : ℕ × Root) (found : Found) (same : SameNamed log.shape top.1 old new) (logs : Logs log old top found) where
+module _ (log : LogState) (old new : Flash) (top : ℕ × Root) (found : Found) (same : SameNamed log.shape top.1 old new) (logs : LogOnFlash log old top found) where
   abbrev shape : Shape
   shape = log.shape
 
@@ -100,17 +100,17 @@ module _ (log : LogState) (old new : Flash) (top : ℕ × Root) (found : Found) 
       let there : P shape root.newest = λ n small k low high. in_epoch n k small low high in
       subst (λ s. P s log.epoch.blocks) (sym logs.epoch_shape) (subst (λ bs. P shape bs) (sym logs.epoch_blocks) there)
 
-  stays : Logs log new top found
+  stays : LogOnFlash log new top found
   stays = record {
     is_shape = logs.is_shape;
     is_top = newest_root_same shape (page_at old) (page_at new) (λ k low. same k (inl low)) ∙ logs.is_top;
     root_is = logs.root_is;
     is_found = lists_same ∙ logs.is_found;
-    installs = Fits-by_same shape log.next top old new (λ k low. same k (inl low)) logs.installs;
+    installs = InstallerOnFlash-by_same shape log.next top old new (λ k low. same k (inl low)) logs.installs;
     epoch_shape = logs.epoch_shape;
     epoch_number = logs.epoch_number;
     epoch_blocks = logs.epoch_blocks;
-    epoch_fits = Fits-same log.epoch old new blocks_same logs.epoch_fits;
+    epoch_fits = EpochOnFlash-same log.epoch old new blocks_same logs.epoch_fits;
     active_is = logs.active_is;
     frozen_is = logs.frozen_is;
     pending_are = logs.pending_are;

@@ -14,7 +14,7 @@ use Rattle.pk_steps.specs.Under.{IsUnder}
 use Rattle.pk_steps.specs.Roots.{committed}
 use Rattle.pk_model.specs.Growth.{Reaches, Goes}
 use Rattle.pk_log.specs.State.{LogState, all_committed}
-use Rattle.pk_log.specs.Logs.{Logs}
+use Rattle.pk_log.specs.Logs.{LogOnFlash}
 
 -- nothing is pending, and nothing is done
 pub record CommitsNone (log : LogState) (old : BoardState) (log' : LogState) (new : BoardState) : Type 0 where
@@ -35,7 +35,7 @@ pub record CommitFailed (log : LogState) (old new : BoardState) : Type 0 where
 
 -- the entries are in the newest epoch now
 abbrev pub CommitStands : LogState → BoardState → LogState → BoardState → Type 0
-CommitStands log old log' new = (top : ℕ × Root) (found : Found) → Logs log old.pages top found → Logs log' new.pages top (committed found log.pending)
+CommitStands log old log' new = (top : ℕ × Root) (found : Found) → LogOnFlash log old.pages top found → LogOnFlash log' new.pages top (committed found log.pending)
 
 -- a cut gave nothing out, and holds the map without the entries, or with them in the newest epoch
 abbrev pub CommitCut : Shape → ℕ × Root → Found → List Entry → Map → Map → Flash → List ℕ → Type 0
@@ -43,7 +43,7 @@ CommitCut shape top found es m0 m1 cut posted = (posted ≡ []) × (IsUnder shap
 
 -- the maps of the flash, without the pending entries and with them
 pub record Maps (log : LogState) (board : BoardState) (top : ℕ × Root) (found : Found) (m0 m1 : Map) : Type 0 where
-  pub logs : Logs log board.pages top found
+  pub logs : LogOnFlash log board.pages top found
   pub without : IsUnder log.shape board.pages [] top found m0
   pub all : IsUnder log.shape board.pages log.pending top found m1
 

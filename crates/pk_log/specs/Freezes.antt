@@ -12,21 +12,21 @@ use Rattle.pk_model.specs.Growth.{Goes}
 use Rattle.pk_model.specs.Crashes.{CrashFinds, background}
 use Rattle.pk_model.specs.Laws.{AnyByRecursion}
 use Rattle.pk_pool.specs.declared.state.BlockState.TheVariants.{Owned}
-use Rattle.pk_pool.specs.Blocks.{Blocks, used_by, Fits as PoolFits}
+use Rattle.pk_pool.specs.Blocks.{Blocks, used_by, PoolOnFlash}
 use Rattle.pk_steps.specs.Under.{IsUnder}
 use Rattle.pk_steps.specs.Roots.{frozen}
 use Rattle.pk_compact.specs.Freezing.{IsApart, Froze}
 use Rattle.pk_log.specs.State.{LogState}
-use Rattle.pk_log.specs.Logs.{Logs}
+use Rattle.pk_log.specs.Logs.{LogOnFlash}
 
 -- Nothing is pending, and nothing frozen; the journal has no blocks but the root's two, and no spare block of the pool is read.
 pub record CanFreeze (log : LogState) (pool : Blocks) (flash : Flash) (top : ℕ × Root) (found : Found) (m : Map) : Type 0 where
-  pub logs : Logs log flash top found
+  pub logs : LogOnFlash log flash top found
   pub none_pending : log.pending ≡ []
   pub none_frozen : log.frozen.entries ≡ []
   pub under : IsUnder log.shape flash [] top found m
   pub pool_shape : pool.shape ≡ log.shape
-  pub pool_fits : PoolFits pool flash
+  pub pool_fits : PoolOnFlash pool flash
   pub number : log.root.number < 9223372036854775808
   pub room : used_by Journal pool.states ≤ 2
   pub owned : (b : ℕ) → AnyByRecursion (λ c. b ≡ c) log.root.newest → slice_get pool.states b ≡ Some (Owned Journal)
@@ -41,7 +41,7 @@ pub record LogFroze (log : LogState) (pool : Blocks) (old : BoardState) (top : �
   pub blocks : List ℕ
   pub froze : Froze log.shape pool old (not (length found.newest == 0)) top found m blocks pool' log'.root log'.next new
   pub begun_is : log' ≡ begun log log'.root log'.next blocks
-  pub logs : Logs log' new.pages (froze.page, log'.root) (frozen found)
+  pub logs : LogOnFlash log' new.pages (froze.page, log'.root) (frozen found)
 
 -- the freeze was made, for each of the maps for which it might be
 abbrev pub LogFreezes : LogState → Blocks → BoardState → LogState → Blocks → BoardState → Type 0

@@ -6,7 +6,7 @@ use Rattle.pk_rootfmt.specs.Root.{Root}
 use Rattle.pk_model.specs.Found.{Found}
 use Rattle.pk_steps.specs.Under.{IsNamed}
 use Rattle.pk_log.specs.State.{LogState}
-use Rattle.pk_log.specs.Logs.{Logs}
+use Rattle.pk_log.specs.Logs.{LogOnFlash}
 
 -- no page of the root blocks, and of the blocks that the root names, differs
 abbrev pub SameNamed : Shape → Root → Flash → Flash → Type 0
@@ -14,4 +14,4 @@ SameNamed shape root old new = (k : ℕ) → (k < 2 * shape.block_pages) ⊎ IsN
 
 -- then a log stands as before
 abbrev pub LogsElsewhere : Type 0
-LogsElsewhere = (log : LogState) (old new : Flash) (top : ℕ × Root) (found : Found) → SameNamed log.shape top.1 old new → Logs log old top found → Logs log new top found
+LogsElsewhere = (log : LogState) (old new : Flash) (top : ℕ × Root) (found : Found) → SameNamed log.shape top.1 old new → LogOnFlash log old top found → LogOnFlash log new top found

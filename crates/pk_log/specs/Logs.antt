@@ -6,9 +6,9 @@ use Rattle.pk_base.specs.Page.{Flash, page_at}
 use Rattle.pk_rootfmt.specs.Root.{Root}
 use Rattle.pk_rootfmt.specs.Held.{Held}
 use Rattle.pk_rootfmt.specs.Newest.{newest_root}
-use Rattle.pk_root.specs.Installing.{Fits as InstallerFits}
+use Rattle.pk_root.specs.Installing.{InstallerOnFlash}
 use Rattle.pk_buf.specs.Table.{Table}
-use Rattle.pk_jrn.specs.Epochs.{JournalEpoch, left_of, Fits as EpochFits}
+use Rattle.pk_jrn.specs.Epochs.{JournalEpoch, left_of, EpochOnFlash}
 use Rattle.pk_jrn.specs.Replays.{buffer_of}
 use Rattle.pk_model.specs.Found.{Found, found_under}
 use Rattle.pk_model.specs.Laws.{IsStorable}
@@ -16,16 +16,16 @@ use Rattle.pk_log.specs.State.{LogState}
 
 -- The newest root with its page, and what is found under it, are what the log keeps: the epoch is the root's newest one, the
 -- active buffer has its entries and behind them the pending ones, and the frozen one those of the older epoch.
-pub record Logs (log : LogState) (flash : Flash) (top : ℕ × Root) (found : Found) : Type 0 where
+pub record LogOnFlash (log : LogState) (flash : Flash) (top : ℕ × Root) (found : Found) : Type 0 where
   pub is_shape : IsShape log.shape
   pub is_top : newest_root log.shape (page_at flash) ≡ Some top
   pub root_is : log.root ≡ top.1
   pub is_found : found_under log.shape (page_at flash) top.1 ≡ Ok found
-  pub installs : InstallerFits log.shape log.next top flash
+  pub installs : InstallerOnFlash log.shape log.next top flash
   pub epoch_shape : log.epoch.shape ≡ log.shape
   pub epoch_number : log.epoch.number ≡ top.1.epoch
   pub epoch_blocks : log.epoch.blocks ≡ top.1.newest
-  pub epoch_fits : EpochFits log.epoch flash
+  pub epoch_fits : EpochOnFlash log.epoch flash
   pub active_is : log.active ≡ buffer_of log.shape (found.newest ++ log.pending)
   pub frozen_is : log.frozen ≡ buffer_of log.shape found.older
   pub pending_are : AllByRecursion (IsStorable log.shape) log.pending
@@ -40,6 +40,6 @@ pub record Opens (held : Held) (page : ℕ) (epoch : JournalEpoch) (active froze
   pub epoch_shape : epoch.shape ≡ held.shape
   pub epoch_number : epoch.number ≡ held.root.epoch
   pub epoch_blocks : epoch.blocks ≡ held.root.newest
-  pub epoch_fits : EpochFits epoch flash
+  pub epoch_fits : EpochOnFlash epoch flash
   pub active_is : active ≡ buffer_of held.shape found.newest
   pub frozen_is : frozen ≡ buffer_of held.shape found.older

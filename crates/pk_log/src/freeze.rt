@@ -4,7 +4,7 @@ ghost use Rattle.pk_base.specs.Map.{Map};
 ghost use Rattle.pk_nand.specs.Calls.{IsReady};
 ghost use Rattle.pk_rootfmt.specs.Root.{Root as RootValue};
 ghost use Rattle.pk_model.specs.Found.{Found};
-ghost use Rattle.pk_pool.specs.Blocks.{Fits};
+ghost use Rattle.pk_pool.specs.Blocks.{PoolOnFlash};
 ghost use Rattle.pk_model.specs.Steps.{Step};
 ghost use Rattle.pk_log.specs.Freezes.{CanFreeze, LogFreezes, LogFreezeBreaks};
 
@@ -35,7 +35,7 @@ impl<A: Region> Log<A> {
             self.new pool.new (B.state board.new))
             (LogFreezeBreaks self.old pool.old (B.state board.old) (B.state board.new))
             self.old.shape 1 (B.state board.old) (B.state board.new) result }
-        ensures fits { OnOk result (Fits pool.new (B.state board.new).pages) }
+        ensures fits { OnOk result (PoolOnFlash pool.new (B.state board.new).pages) }
         ensures pool_shape { OnOk result (pool.new.shape ≡ self.old.shape) }
         ensures same_shape { self.new.shape ≡ self.old.shape }
         ensures buffer { length buf.new ≡ length buf.old }

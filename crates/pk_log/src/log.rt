@@ -13,7 +13,7 @@ ghost use Rattle.pk_jrn.specs.Epochs.{left_of};
 ghost use Rattle.pk_model.specs.Found.{Found};
 ghost use Rattle.pk_model.specs.Laws.{IsStorable};
 ghost use Rattle.pk_log.specs.State.{opened, entry_of, is_full_for as is_full_for_key, needs_freeze as needs_freeze_for, pushed};
-ghost use Rattle.pk_log.specs.Logs.{Logs, Opens};
+ghost use Rattle.pk_log.specs.Logs.{LogOnFlash, Opens};
 ghost use Rattle.pk_log.specs.Commits.{CommitsNone, CommitsAll, CommitFailed, CommitStands, CommitHolds, CommitReaches, CommitGoes};
 
 use pk_base::{Entry, Key};
@@ -26,7 +26,7 @@ use pk_rootfmt::Root;
 use std::alloc::AllocError;
 use std::marker::Model;
 
-/// What a drive keeps of its journal. Contracts see it as a value, and `Logs` says how it stands to a flash.
+/// What a drive keeps of its journal. Contracts see it as a value, and `LogOnFlash` says how it stands to a flash.
 #[derive(Drop)]
 pub struct Log<A: Region> {
     pub(crate) root: Root<A>,
@@ -77,7 +77,7 @@ impl<A: Region> Log<A> {
         ensures value { IfOk result (λ l. l ≡ opened root root_page epoch active frozen) }
         ensures stands { IfOk result (λ l. (flash : Flash) (found : Found)
             → Opens root root_page epoch active frozen flash found
-            → Logs l flash (root_page, root.root) found) }
+            → LogOnFlash l flash (root_page, root.root) found) }
     {
         root.shape().known();
         let pending = Vec::with_capacity(alloc, root.shape().entries() as usize)?;
@@ -169,9 +169,9 @@ impl<A: Region> Log<A> {
         requires storable { IsStorable self.old.shape (seen new) }
         ensures pushed { self.new ≡ pushed self.old (seen new) }
         ensures stands { (flash : Flash) (top : ℕ × RootValue) (found : Found)
-            → Logs self.old flash top found → Logs self.new flash top found }
+            → LogOnFlash self.old flash top found → LogOnFlash self.new flash top found }
         ensures fits { (flash : Flash) (top : ℕ × RootValue) (found : Found)
-            → Logs self.old flash top found
+            → LogOnFlash self.old flash top found
             → length (firsts (found.newest ++ (self.old.pending ++ seen new ∷ [])))
             ≤ buffer self.old.shape }
     {
@@ -187,7 +187,7 @@ impl<A: Region> Log<A> {
     pub fn commit<B: Nand>(&mut self, board: &mut B, buf: &mut [u8]) -> Result<(), Fault>
         requires ready { IsReady (B.state board.old) self.old.shape }
         requires stands { (top : ℕ × RootValue) × (found : Found)
-            × Logs self.old (B.state board.old).pages top found }
+            × LogOnFlash self.old (B.state board.old).pages top found }
         requires room { length buf.old ≡ self.old.shape.page_bytes }
         ensures ok { OnOk result
             (CommitsNone self.old (B.state board.old) self.new (B.state board.new)

@@ -12,9 +12,9 @@ use Rattle.pk_rootfmt.specs.Held.{Held, first}
 use Rattle.pk_rootfmt.specs.Newest.{newest_root}
 use Rattle.pk_model.specs.Found.{Found}
 use Rattle.pk_pool.specs.declared.state.BlockState.TheVariants.{Owned}
-use Rattle.pk_pool.specs.Blocks.{Blocks, used_by, unused, with_state, IsSpare, Fits as PoolFits}
+use Rattle.pk_pool.specs.Blocks.{Blocks, used_by, unused, with_state, IsSpare, PoolOnFlash}
 use Rattle.pk_root.specs.declared.next.Next.{Next}
-use Rattle.pk_root.specs.Installing.{Fits}
+use Rattle.pk_root.specs.Installing.{InstallerOnFlash}
 use Rattle.pk_compact.specs.Freezing.{MayFreeze}
 use Rattle.pk_compact.proofs.Examples.{small, made, adopted, made_newest, first_may}
 
@@ -53,9 +53,9 @@ some_newest : (shape : Shape) (flash : Flash) (root : Root) (page : ℕ) (r : Op
 some_newest shape flash root page r is told =
     let P : Option ℕ → Type 0 = λ x. MatchOption x (newest_root shape (page_at flash) ≡ None) (λ p. newest_root shape (page_at flash) ≡ Some (p, root)) in subst P is told
 
-pub begun : (old new : BoardState) (h h' : Held) (page n : ℕ) (r : Option ℕ) (next : Next) (pool : Blocks) → r ≡ Some page → h.shape ≡ small → old.pages ≡ made → pool ≡ adopted → ((flash : Flash) → PoolFits pool flash)
+pub begun : (old new : BoardState) (h h' : Held) (page n : ℕ) (r : Option ℕ) (next : Next) (pool : Blocks) → r ≡ Some page → h.shape ≡ small → old.pages ≡ made → pool ≡ adopted → ((flash : Flash) → PoolOnFlash pool flash)
     → h'.shape ≡ h.shape → MatchOption r (newest_root h.shape (page_at old.pages) ≡ None) (λ p. newest_root h.shape (page_at old.pages) ≡ Some (p, h'.root)) → new ≡ after_reads n old
-    → ((shape : Shape) (flash : Flash) (root : Root) → newest_root shape (page_at flash) ≡ Some (page, root) → Fits shape next (page, root) flash)
+    → ((shape : Shape) (flash : Flash) (root : Root) → newest_root shape (page_at flash) ≡ Some (page, root) → InstallerOnFlash shape next (page, root) flash)
     → (x : ℕ × Root) × (f : Found) × (m : Map) × MayFreeze pool h' next new.pages false x f m
 begun old new h h' page n r next pool is_page shape_is pages_is pool_is fits same_shape matched read installs =
     let told = some_newest h.shape old.pages h'.root page r is_page matched in
@@ -63,10 +63,10 @@ begun old new h h' page n r next pool is_page shape_is pages_is pool_is fits sam
     let Q : Flash → Type 0 = λ f. newest_root small (page_at f) ≡ Some (page, h'.root) in
     let found = newest_is page h'.root (subst Q pages_is (subst P shape_is told)) in
     let same_pages : new.pages ≡ old.pages = ap (λ s. s.pages) read in
-    let R : Shape → Type 0 = λ s. Fits s next (page, h'.root) new.pages in
+    let R : Shape → Type 0 = λ s. InstallerOnFlash s next (page, h'.root) new.pages in
     let S : Flash → Type 0 = λ f. newest_root h.shape (page_at f) ≡ Some (page, h'.root) in
-    let there : Fits h'.shape next (page, h'.root) new.pages = subst R (sym same_shape) (installs h.shape new.pages h'.root (subst S (sym same_pages) told)) in
-    let T : ℕ → Type 0 = λ p. Fits h'.shape next (p, h'.root) new.pages in
-    let U : Root → Type 0 = λ r. Fits h'.shape next (0, r) new.pages in
+    let there : InstallerOnFlash h'.shape next (page, h'.root) new.pages = subst R (sym same_shape) (installs h.shape new.pages h'.root (subst S (sym same_pages) told)) in
+    let T : ℕ → Type 0 = λ p. InstallerOnFlash h'.shape next (p, h'.root) new.pages in
+    let U : Root → Type 0 = λ r. InstallerOnFlash h'.shape next (0, r) new.pages in
     let held : h' ≡ record { shape = small; root = first } = λ i. record { shape = (same_shape ∙ shape_is) i; root = found.1 i } in
     first_may pool h' next new.pages held (same_pages ∙ pages_is) pool_is (fits new.pages) (subst U found.1 (subst T found.0 there))

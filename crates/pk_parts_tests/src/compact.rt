@@ -7,7 +7,7 @@ ghost use Rattle.pk_nand.specs.Calls.{IsReady};
 ghost use Rattle.pk_rootfmt.specs.Root.{root_bytes};
 ghost use Rattle.pk_rootfmt.specs.Held.{first as first_root};
 ghost use Rattle.pk_pool.specs.declared.state.BlockState.TheVariants.{Owned};
-ghost use Rattle.pk_pool.specs.Blocks.{unused, with_state, Fits};
+ghost use Rattle.pk_pool.specs.Blocks.{unused, with_state, PoolOnFlash};
 
 use crate::boards::{NONE, erased_board, worked};
 use pk_base::Shape;
@@ -48,7 +48,7 @@ fn format<B: Nand>(board: &mut B, alloc: Global, shape: &Shape, buf: &mut [u8]) 
 fn adopt_first<A: Allocator>(pool: &mut Pool<A>)
     requires { pool.old ≡ unused (record { page_bytes = 512; block_pages = 16; blocks = 64 }) }
     ensures adopted { pool.new ≡ with_state (with_state (unused (record { page_bytes = 512; block_pages = 16; blocks = 64 })) 2 (Owned Journal)) 3 (Owned Journal) }
-    ensures fits { (flash : Pages) → Fits pool.old flash → Fits pool.new flash }
+    ensures fits { (flash : Pages) → PoolOnFlash pool.old flash → PoolOnFlash pool.new flash }
 {
     pool.adopt(2, Owner::Journal);
     pool.adopt(3, Owner::Journal);
@@ -65,7 +65,7 @@ fn freeze_first<B: Nand, A: Allocator>(
     requires ready { IsReady (B.state board.old) root.old.shape }
     requires pages { (B.state board.old).pages ≡ slice_set (replicate 1024 erased) 0 (whole (root_bytes (record { page_bytes = 512; block_pages = 16; blocks = 64 }) first_root)) }
     requires pool { pool.old ≡ with_state (with_state (unused (record { page_bytes = 512; block_pages = 16; blocks = 64 })) 2 (Owned Journal)) 3 (Owned Journal) }
-    requires fits { (flash : Pages) → Fits pool.old flash }
+    requires fits { (flash : Pages) → PoolOnFlash pool.old flash }
     requires room { length buf.old ≡ 512 }
 {
     match newest(board, root, buf) {

@@ -8,7 +8,7 @@ ghost use Rattle.pk_base.specs.Entry.{Place};
 ghost use Rattle.pk_nand.specs.Calls.{IsReady};
 ghost use Rattle.pk_pool.specs.Blocks.{unused};
 ghost use Rattle.pk_live.specs.Values.{no_values};
-ghost use Rattle.pk_data.specs.Placed.{Placed};
+ghost use Rattle.pk_data.specs.Placed.{ValuesOnFlash};
 ghost use Rattle.pk_data.specs.Entries.{span_if_some};
 
 use crate::boards::{NONE, erased_board, worked};
@@ -38,8 +38,8 @@ fn store<A: Allocator, B: Nand>(
     requires ready { IsReady (B.state board.old) shape.now }
     requires short { length value.now ≤ greatest shape.now }
     requires buffer { length buf.old ≡ shape.now.page_bytes }
-    requires keeps { (es : List (KeySpec × Place)) × Placed shape.now data.old pool.old [] (B.state board.old).pages es × T (is_sorted key_cmp es) × (span_if_some shape.now (find key_cmp key.now es) ≡ old) }
-    ensures keeps { IfOk result (λ span. (es : List (KeySpec × Place)) × Placed shape.now data.new pool.new [] (B.state board.new).pages es × T (is_sorted key_cmp es) × (span_if_some shape.now (find key_cmp key.now es) ≡ Some span)) }
+    requires keeps { (es : List (KeySpec × Place)) × ValuesOnFlash shape.now data.old pool.old [] (B.state board.old).pages es × T (is_sorted key_cmp es) × (span_if_some shape.now (find key_cmp key.now es) ≡ old) }
+    ensures keeps { IfOk result (λ span. (es : List (KeySpec × Place)) × ValuesOnFlash shape.now data.new pool.new [] (B.state board.new).pages es × T (is_sorted key_cmp es) × (span_if_some shape.now (find key_cmp key.now es) ≡ Some span)) }
     ensures ready { IsReady (B.state board.new) shape.now }
     ensures buffer { length buf.new ≡ length buf.old }
 {
@@ -74,8 +74,8 @@ fn store_often<A: Allocator, B: Nand>(
     times: u32,
 ) -> Result<Option<Span>, Fault>
     requires ready { IsReady (B.state board.old) shape.now }
-    requires placed { Placed shape.now data.old pool.old [] (B.state board.old).pages [] }
-    ensures placed { IfOk result (λ _. (es : List (KeySpec × Place)) × Placed shape.now data.new pool.new [] (B.state board.new).pages es) }
+    requires placed { ValuesOnFlash shape.now data.old pool.old [] (B.state board.old).pages [] }
+    ensures placed { IfOk result (λ _. (es : List (KeySpec × Place)) × ValuesOnFlash shape.now data.new pool.new [] (B.state board.new).pages es) }
 {
     if value.len() > shape.greatest() as usize {
         return Err(Fault::Reading);
@@ -96,7 +96,7 @@ fn store_often<A: Allocator, B: Nand>(
 
 // Gives the least closed block back, if it has no live page.
 fn release_least<A: Allocator>(data: &mut Data<A>, pool: &mut Pool<A>) -> Option<u32>
-    requires placed { (shape : ShapeSpec) × (flash : FlashSpec) × (es : List (KeySpec × Place)) × Placed shape data.old pool.old [] flash es }
+    requires placed { (shape : ShapeSpec) × (flash : FlashSpec) × (es : List (KeySpec × Place)) × ValuesOnFlash shape data.old pool.old [] flash es }
 {
     match data.live().least_closed() {
         None => None,

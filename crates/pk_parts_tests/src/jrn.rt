@@ -6,7 +6,7 @@ ghost use Rattle.pk_base.specs.EntryBytes.{IsEntry};
 ghost use Rattle.pk_base.specs.Seen.{entry as seen, entries as seen_all};
 ghost use Rattle.pk_nand.specs.Calls.{IsReady};
 ghost use Rattle.pk_buf.specs.Table.{no_entries};
-ghost use Rattle.pk_jrn.specs.Epochs.{AllExist, AreBlocks, AreErased, Fits};
+ghost use Rattle.pk_jrn.specs.Epochs.{AllExist, AreBlocks, AreErased, EpochOnFlash};
 
 use crate::boards::{NONE, erased_board, worked};
 use linked_list_allocator::LocalHeap;
@@ -64,13 +64,13 @@ fn append<B: Nand>(
 ) -> Result<(), Fault>
     requires same { epoch.old.shape ≡ shape.now }
     requires ready { IsReady (B.state board.old) shape.now }
-    requires fits { Fits epoch.old (B.state board.old).pages }
+    requires fits { EpochOnFlash epoch.old (B.state board.old).pages }
     requires blocks { AreBlocks shape.now epoch.old.blocks }
     requires room { length buf.old ≡ shape.now.page_bytes }
     requires each { AllByRecursion (IsEntry shape.now) (seen_all entries.now) }
     ensures same { epoch.new.shape ≡ shape.now }
     ensures ready { IsReady (B.state board.new) shape.now }
-    ensures fits { OnOk result (Fits epoch.new (B.state board.new).pages) }
+    ensures fits { OnOk result (EpochOnFlash epoch.new (B.state board.new).pages) }
     ensures blocks { epoch.new.blocks ≡ epoch.old.blocks }
     ensures room { length buf.new ≡ length buf.old }
 {
@@ -90,12 +90,12 @@ fn append_full<B: Nand>(
 ) -> Result<(), Fault>
     requires same { epoch.old.shape ≡ shape.now }
     requires ready { IsReady (B.state board.old) shape.now }
-    requires fits { Fits epoch.old (B.state board.old).pages }
+    requires fits { EpochOnFlash epoch.old (B.state board.old).pages }
     requires blocks { AreBlocks shape.now epoch.old.blocks }
     requires room { length buf.old ≡ shape.now.page_bytes }
     ensures same { epoch.new.shape ≡ shape.now }
     ensures ready { IsReady (B.state board.new) shape.now }
-    ensures fits { OnOk result (Fits epoch.new (B.state board.new).pages) }
+    ensures fits { OnOk result (EpochOnFlash epoch.new (B.state board.new).pages) }
     ensures blocks { epoch.new.blocks ≡ epoch.old.blocks }
     ensures room { length buf.new ≡ length buf.old }
 {
@@ -130,7 +130,7 @@ fn fill<B: Nand>(
 ) -> Result<(), Fault>
     requires same { epoch.old.shape ≡ shape.now }
     requires ready { IsReady (B.state board.old) shape.now }
-    requires fits { Fits epoch.old (B.state board.old).pages }
+    requires fits { EpochOnFlash epoch.old (B.state board.old).pages }
     requires blocks { AreBlocks shape.now epoch.old.blocks }
     requires room { length buf.old ≡ shape.now.page_bytes }
     ensures ready { IsReady (B.state board.new) shape.now }

@@ -3,7 +3,7 @@ ghost use Rattle.std.specs.Prelude.{◌≡◌, [], ◌∷◌, length};
 ghost use Rattle.pk_base.specs.Page.{Flash as Pages};
 ghost use Rattle.pk_nand.specs.Calls.{IsReady};
 ghost use Rattle.pk_pin.specs.Frames.{Frames};
-ghost use Rattle.pk_level.specs.Levels.{StandEach};
+ghost use Rattle.pk_level.specs.Levels.{RunsOnFlash};
 
 use crate::boards::{NONE, erased_board, worked};
 use linked_list_allocator::LocalHeap;
@@ -26,7 +26,7 @@ fn lookup<A: Allocator, B: Nand>(
     buf: &mut [u8],
 ) -> Result<Option<Entry>, Fault>
     requires ready { IsReady (B.state board.old) levels.now.shape }
-    requires stand { (flash : Pages) (frames : Frames) → StandEach flash frames levels.now.runs ([] ∷ [] ∷ [] ∷ [] ∷ []) }
+    requires stand { (flash : Pages) (frames : Frames) → RunsOnFlash flash frames levels.now.runs ([] ∷ [] ∷ [] ∷ [] ∷ []) }
     requires room { length buf.old ≡ levels.now.shape.page_bytes }
 {
     levels.lookup(board, arena, key, buf)

@@ -3,7 +3,7 @@ ghost use Rattle.std.specs.Prelude.{◌≡◌, slice_get, Some, IfOk};
 ghost use Rattle.pk_base.specs.Page.{Flash};
 ghost use Rattle.pk_nand.specs.Calls.{IsReady};
 ghost use Rattle.pk_pool.specs.declared.state.BlockState.TheVariants.{Owned};
-ghost use Rattle.pk_pool.specs.Blocks.{Fits};
+ghost use Rattle.pk_pool.specs.Blocks.{PoolOnFlash};
 
 use crate::boards::{NONE, erased_board, worked};
 use linked_list_allocator::LocalHeap;
@@ -21,9 +21,9 @@ fn take<A: Allocator, B: Nand>(
     owner: Owner,
 ) -> Result<u32, Fault>
     requires ready { IsReady (B.state board.old) pool.old.shape }
-    requires fits { Fits pool.old (B.state board.old).pages }
+    requires fits { PoolOnFlash pool.old (B.state board.old).pages }
     ensures ready { IsReady (B.state board.new) pool.new.shape }
-    ensures fits { Fits pool.new (B.state board.new).pages }
+    ensures fits { PoolOnFlash pool.new (B.state board.new).pages }
     ensures owned { IfOk result (λ b. slice_get pool.new.states b ≡ Some (Owned owner)) }
 {
     if !pool.has_room(owner) {
@@ -35,7 +35,7 @@ fn take<A: Allocator, B: Nand>(
 // Makes a free block the journal's; false where it is not free, or the journal has no room.
 fn adopt<A: Allocator>(pool: &mut Pool<A>, block: u32) -> bool
     ensures shape { pool.new.shape ≡ pool.old.shape }
-    ensures fits { (flash : Flash) → Fits pool.old flash → Fits pool.new flash }
+    ensures fits { (flash : Flash) → PoolOnFlash pool.old flash → PoolOnFlash pool.new flash }
 {
     if !pool.has_room(Owner::Journal) || pool.state(block) != Some(BlockState::Free) {
         return false;
@@ -47,7 +47,7 @@ fn adopt<A: Allocator>(pool: &mut Pool<A>, block: u32) -> bool
 // Gives a block back; false where it has no owner.
 fn give<A: Allocator>(pool: &mut Pool<A>, block: u32) -> bool
     ensures shape { pool.new.shape ≡ pool.old.shape }
-    ensures fits { (flash : Flash) → Fits pool.old flash → Fits pool.new flash }
+    ensures fits { (flash : Flash) → PoolOnFlash pool.old flash → PoolOnFlash pool.new flash }
 {
     match pool.state(block) {
         Some(BlockState::Owned(_)) => {
@@ -61,7 +61,7 @@ fn give<A: Allocator>(pool: &mut Pool<A>, block: u32) -> bool
 // Erases free blocks up to the last, and counts them.
 fn erase_all<A: Allocator, B: Nand>(pool: &mut Pool<A>, board: &mut B) -> Result<u32, Fault>
     requires ready { IsReady (B.state board.old) pool.old.shape }
-    requires fits { Fits pool.old (B.state board.old).pages }
+    requires fits { PoolOnFlash pool.old (B.state board.old).pages }
 {
     for erased in 0u32..4096 {
         match pool.erase_one(board) {

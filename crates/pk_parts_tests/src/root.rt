@@ -2,7 +2,7 @@
 ghost use Rattle.std.specs.Prelude.{◌≡◌, ℕ, length, true, IsTrue, IfOk, IfSome};
 ghost use Rattle.pk_nand.specs.Calls.{IsReady};
 ghost use Rattle.pk_rootfmt.specs.Root.{Root as RootValue, is_root};
-ghost use Rattle.pk_root.specs.Installing.{Fits};
+ghost use Rattle.pk_root.specs.Installing.{InstallerOnFlash};
 
 use crate::boards::{Held, NONE, board_with, put_root, worked};
 use pk_flash::Left;
@@ -34,7 +34,7 @@ fn open<B: Nand, A: Allocator>(
 ) -> Result<Option<Installer>, Fault>
     requires ready { IsReady (B.state board.old) root.old.shape }
     requires room { length buf.old ≡ root.old.shape.page_bytes }
-    ensures fits { IfOk result (λ found. IfSome found (λ installer. (top : ℕ × RootValue) × Fits root.new.shape installer top (B.state board.new).pages × (top.1.number ≡ root.new.root.number))) }
+    ensures fits { IfOk result (λ found. IfSome found (λ installer. (top : ℕ × RootValue) × InstallerOnFlash root.new.shape installer top (B.state board.new).pages × (top.1.number ≡ root.new.root.number))) }
     ensures shape { root.new.shape ≡ root.old.shape }
     ensures ready { IsReady (B.state board.new) root.new.shape }
 {
@@ -55,8 +55,8 @@ fn step<B: Nand, A: Allocator>(
 ) -> Result<u64, Fault>
     requires ready { IsReady (B.state board.old) root.old.shape }
     requires room { length buf.old ≡ root.old.shape.page_bytes }
-    requires fits { (top : ℕ × RootValue) × Fits root.old.shape installer.old top (B.state board.old).pages × (top.1.number ≡ former) }
-    ensures fits { IfOk result (λ number. (top : ℕ × RootValue) × Fits root.new.shape installer.new top (B.state board.new).pages × (top.1.number ≡ number)) }
+    requires fits { (top : ℕ × RootValue) × InstallerOnFlash root.old.shape installer.old top (B.state board.old).pages × (top.1.number ≡ former) }
+    ensures fits { IfOk result (λ number. (top : ℕ × RootValue) × InstallerOnFlash root.new.shape installer.new top (B.state board.new).pages × (top.1.number ≡ number)) }
     ensures shape { root.new.shape ≡ root.old.shape }
     ensures ready { IsReady (B.state board.new) root.new.shape }
 {

@@ -4,7 +4,7 @@ ghost use Rattle.pk_base.specs.Entry.{Entry as EntrySpec};
 ghost use Rattle.pk_base.specs.Page.{Flash as Pages};
 ghost use Rattle.pk_nand.specs.Calls.{IsReady};
 ghost use Rattle.pk_pin.specs.Frames.{Frames, IsLeased, frame_of};
-ghost use Rattle.pk_run.specs.Kept.{Stands};
+ghost use Rattle.pk_run.specs.Kept.{RunOnFlash};
 
 use crate::boards::{Held, NONE, board_with, worked};
 use linked_list_allocator::LocalHeap;
@@ -66,10 +66,10 @@ fn open<A: Allocator, B: Nand>(
     requires ready { IsReady (B.state board.old) run.old.shape }
     requires empty { (run.old.firsts ≡ []) × (run.old.leases ≡ []) × (run.old.count ≡ 0) × (run.old.level ≡ 1) }
     requires block { 1 ≤ length run.old.blocks }
-    requires stands { (flash : Pages) (frames : Frames) → Stands run.old flash frames [] }
+    requires stands { (flash : Pages) (frames : Frames) → RunOnFlash run.old flash frames [] }
     requires room { length buf.old ≡ run.old.shape.page_bytes }
     requires frames { arena.old.page_bytes ≡ run.old.shape.page_bytes }
-    ensures stands { IfOk result (λ opened. IsTrue opened → (es : List EntrySpec) × Stands run.new (B.state board.new).pages arena.new es) }
+    ensures stands { IfOk result (λ opened. IsTrue opened → (es : List EntrySpec) × RunOnFlash run.new (B.state board.new).pages arena.new es) }
     ensures ready { IfOk result (λ opened. IsTrue opened → IsReady (B.state board.new) run.new.shape) }
     ensures shape { run.new.shape ≡ run.old.shape }
     ensures pages { IfOk result (λ opened. IsTrue opened → length run.new.firsts ≡ 1) }
@@ -109,7 +109,7 @@ fn opened<A: Allocator + Clone, B: Nand>(
 ) -> Result<Option<(Run<A>, PinArena<A>)>, AllocError>
     requires ready { IsReady (B.state board.old) shape }
     requires room { length buf.old ≡ shape.page_bytes }
-    ensures stands { IfOk result (λ some. IfSome some (λ parts. (es : List EntrySpec) × Stands parts.0 (B.state board.new).pages parts.1 es)) }
+    ensures stands { IfOk result (λ some. IfSome some (λ parts. (es : List EntrySpec) × RunOnFlash parts.0 (B.state board.new).pages parts.1 es)) }
     ensures ready { IfOk result (λ some. IfSome some (λ parts. IsReady (B.state board.new) shape)) }
     ensures shape { IfOk result (λ some. IfSome some (λ parts. parts.0.shape ≡ shape)) }
     ensures pages { IfOk result (λ some. IfSome some (λ parts. length parts.0.firsts ≡ 1)) }

@@ -19,7 +19,7 @@ use Rattle.pk_nand.proofs.Touching.{elsewhere}
 use Rattle.pk_nand.proofs.Writing.{shape_is}
 use Rattle.pk_pool.specs.declared.state.BlockState.{BlockState}
 use Rattle.pk_pool.specs.declared.state.BlockState.TheVariants.{Root, Free, Ready, Owned}
-use Rattle.pk_pool.specs.Blocks.{Blocks, Fits, IsOwned, IsShared, IsSpare, with_state}
+use Rattle.pk_pool.specs.Blocks.{Blocks, PoolOnFlash, IsOwned, IsShared, IsSpare, with_state}
 use Rattle.pk_pool.specs.Laws.{IsNotReady, IsInBlock}
 use Rattle.pk_pool.specs.Taking.{SameButBlock, ReachesIn, WentIn, FailsToErase}
 use Rattle.pk_pool.proofs.States.{get-set_other, get-set_same, free_is_not_ready, owned_is_not_ready}
@@ -53,21 +53,21 @@ outside n b c k ne low high = elim (cases_lt c b) [
 -- ---- the pool and the flash
 
 -- where the pages of the erased blocks are the same
-pub Fits-same : (p : Blocks) (f g : Flash) → ((b k : ℕ) → slice_get p.states b ≡ Some Ready → IsInBlock p.shape b k → page_at g k ≡ page_at f k) → Fits p f → Fits p g
-Fits-same p f g same fits = record { erased = λ b is k low high. same b k is (low, high) ∙ fits.erased b is k low high }
+pub PoolOnFlash-same : (p : Blocks) (f g : Flash) → ((b k : ℕ) → slice_get p.states b ≡ Some Ready → IsInBlock p.shape b k → page_at g k ≡ page_at f k) → PoolOnFlash p f → PoolOnFlash p g
+PoolOnFlash-same p f g same fits = record { erased = λ b is k low high. same b k is (low, high) ∙ fits.erased b is k low high }
 
 -- no page outside a block differs that does not count as erased
-pub Fits-but_block : (p : Blocks) (f g : Flash) (b : ℕ) → IsNotReady p b → SameButBlock p.shape b f g → Fits p f → Fits p g
-Fits-but_block p f g b not_ready same fits = Fits-same p f g (λ c k is inside.
+pub PoolOnFlash-but_block : (p : Blocks) (f g : Flash) (b : ℕ) → IsNotReady p b → SameButBlock p.shape b f g → PoolOnFlash p f → PoolOnFlash p g
+PoolOnFlash-but_block p f g b not_ready same fits = PoolOnFlash-same p f g (λ c k is inside.
     elim (outside p.shape.block_pages b c k (λ e. not_ready (subst (λ x. slice_get p.states x ≡ Some Ready) e is)) inside.0 inside.1) [
       | inl low ↦ same.below k low
       | inr high ↦ same.above k high
     ]) fits
 
 -- no page outside some pages of such a block differs
-pub Fits-outside : (p : Blocks) (f g : Flash) (b first count : ℕ) → IsNotReady p b
-    → b * p.shape.block_pages ≤ first → first + count ≤ b * p.shape.block_pages + p.shape.block_pages → SameOutside first count f g → Fits p f → Fits p g
-Fits-outside p f g b first count not_ready low high same fits = Fits-but_block p f g b not_ready (record {
+pub PoolOnFlash-outside : (p : Blocks) (f g : Flash) (b first count : ℕ) → IsNotReady p b
+    → b * p.shape.block_pages ≤ first → first + count ≤ b * p.shape.block_pages + p.shape.block_pages → SameOutside first count f g → PoolOnFlash p f → PoolOnFlash p g
+PoolOnFlash-outside p f g b first count not_ready low high same fits = PoolOnFlash-but_block p f g b not_ready (record {
   size = same.size;
   below = λ k less. same.below k (omega (arith, less, low));
   above = λ k more. same.above k (omega (arith, more, high));
@@ -103,8 +103,8 @@ erased_now shape f b size exists k low high =
     page-erased_in shape b 0 f k (omega (arith, size, high, end)) (let e : 0 + k ≡ k = zero-add k in rw e (block_of shape.block_pages k b low high))
 
 -- an erase of any block leaves the erased ones Erased
-pub Fits-erased : (p : Blocks) (f : Flash) (b : ℕ) → Fits p f → Fits p (after p.shape (erase b) f)
-Fits-erased p f b fits = record {
+pub PoolOnFlash-erased : (p : Blocks) (f : Flash) (b : ℕ) → PoolOnFlash p f → PoolOnFlash p (after p.shape (erase b) f)
+PoolOnFlash-erased p f b fits = record {
   erased = λ c is k low high. elim (erased_leaves p.shape b 0 f k) [
     | inl same ↦ same ∙ fits.erased c is k low high
     | inr is_erased ↦ is_erased.1
@@ -112,23 +112,23 @@ Fits-erased p f b fits = record {
 }
 
 -- an erase of a block that does not count as erased, done or not
-pub Fits-erase : (p : Blocks) (f g : Flash) (b : ℕ) (out : List ℕ) → 0 < p.shape.block_pages → IsNotReady p b → Interrupted p.shape (erase b) f g out → Fits p f → Fits p g
-Fits-erase p f g b out some not_ready cut fits = Fits-but_block p f g b not_ready (erase_leaves p.shape f g b out some cut) fits
+pub PoolOnFlash-erase : (p : Blocks) (f g : Flash) (b : ℕ) (out : List ℕ) → 0 < p.shape.block_pages → IsNotReady p b → Interrupted p.shape (erase b) f g out → PoolOnFlash p f → PoolOnFlash p g
+PoolOnFlash-erase p f g b out some not_ready cut fits = PoolOnFlash-but_block p f g b not_ready (erase_leaves p.shape f g b out some cut) fits
 
 -- a program in a block that does not count as erased, done or not
-pub Fits-program : (p : Blocks) (f g : Flash) (b at : ℕ) (bytes out : List ℕ) → IsNotReady p b → IsInBlock p.shape b at
-    → Interrupted p.shape (program at bytes) f g out → Fits p f → Fits p g
-Fits-program p f g b at bytes out not_ready inside cut fits =
-    Fits-but_block p f g b not_ready (but_block p.shape f g b (program at bytes) out (omega (arith, inside.0, inside.1)) (ap Some (block_of p.shape.block_pages at b inside.0 inside.1)) cut) fits
+pub PoolOnFlash-program : (p : Blocks) (f g : Flash) (b at : ℕ) (bytes out : List ℕ) → IsNotReady p b → IsInBlock p.shape b at
+    → Interrupted p.shape (program at bytes) f g out → PoolOnFlash p f → PoolOnFlash p g
+PoolOnFlash-program p f g b at bytes out not_ready inside cut fits =
+    PoolOnFlash-but_block p f g b not_ready (but_block p.shape f g b (program at bytes) out (omega (arith, inside.0, inside.1)) (ap Some (block_of p.shape.block_pages at b inside.0 inside.1)) cut) fits
 
-pub Fits-programmed : (p : Blocks) (f : Flash) (b at : ℕ) (bytes : List ℕ) → IsNotReady p b → IsInBlock p.shape b at
-    → Fits p f → Fits p (after p.shape (program at bytes) f)
-Fits-programmed p f b at bytes not_ready inside fits =
-    Fits-program p f (after p.shape (program at bytes) f) b at bytes [] not_ready inside (interrupted_done p.shape (program at bytes) f) fits
+pub PoolOnFlash-programmed : (p : Blocks) (f : Flash) (b at : ℕ) (bytes : List ℕ) → IsNotReady p b → IsInBlock p.shape b at
+    → PoolOnFlash p f → PoolOnFlash p (after p.shape (program at bytes) f)
+PoolOnFlash-programmed p f b at bytes not_ready inside fits =
+    PoolOnFlash-program p f (after p.shape (program at bytes) f) b at bytes [] not_ready inside (interrupted_done p.shape (program at bytes) f) fits
 
 -- a block that gets another state, which does not count as erased
-pub Fits-marked : (p : Blocks) (f : Flash) (b : ℕ) (t : BlockState) → (t ≡ Ready → ⊥) → Fits p f → Fits (with_state p b t) f
-Fits-marked p f b t not_ready fits = record {
+pub PoolOnFlash-marked : (p : Blocks) (f : Flash) (b : ℕ) (t : BlockState) → (t ≡ Ready → ⊥) → PoolOnFlash p f → PoolOnFlash (with_state p b t) f
+PoolOnFlash-marked p f b t not_ready fits = record {
   erased = λ c is. elim (cases_eq c b) [
     | inl same ↦ absurd (not_ready (sym (get-set_same p.states b t Ready (subst (λ k. slice_get (set p.states b t) k ≡ Some Ready) same is))))
     | inr other ↦ fits.erased c (sym (get-set_other p.states b c t other) ∙ is)
@@ -136,8 +136,8 @@ Fits-marked p f b t not_ready fits = record {
 }
 
 -- a block that counts as erased from now on
-pub Fits-ready : (p : Blocks) (f : Flash) (b : ℕ) → IsErasedBlock p.shape f b → Fits p f → Fits (with_state p b Ready) f
-Fits-ready p f b is_erased fits = record {
+pub PoolOnFlash-ready : (p : Blocks) (f : Flash) (b : ℕ) → IsErasedBlock p.shape f b → PoolOnFlash p f → PoolOnFlash (with_state p b Ready) f
+PoolOnFlash-ready p f b is_erased fits = record {
   erased = λ c is. elim (cases_eq c b) [
     | inl same ↦ subst (λ k. IsErasedBlock p.shape f k) (sym same) is_erased
     | inr other ↦ fits.erased c (sym (get-set_other p.states b c Ready other) ∙ is)
@@ -192,13 +192,13 @@ module _ (shape : Shape) (board : BoardState) (b : ℕ) (is_shape : IsShape shap
   pub erased_block : b < shape.blocks → IsErasedBlock shape (after_erase board b).pages b
   erased_block exists = rw (shape_is board shape ready) (erased_now shape board.pages b ready.flash.size exists)
 
-module _ (p : Blocks) (board : BoardState) (b : ℕ) (is_shape : IsShape p.shape) (ready : IsReady board p.shape) (fits : Fits p board.pages) where
-  pub Fits-after_erase : Fits p (after_erase board b).pages
-  Fits-after_erase = rw (shape_is board p.shape ready) (Fits-erased p board.pages b fits)
+module _ (p : Blocks) (board : BoardState) (b : ℕ) (is_shape : IsShape p.shape) (ready : IsReady board p.shape) (fits : PoolOnFlash p board.pages) where
+  pub PoolOnFlash-after_erase : PoolOnFlash p (after_erase board b).pages
+  PoolOnFlash-after_erase = rw (shape_is board p.shape ready) (PoolOnFlash-erased p board.pages b fits)
 
   -- where the erase failed
-  pub Fits-erase_failed : (new : BoardState) → IsNotReady p b → EraseFailed board new b → Fits p new.pages
-  Fits-erase_failed new not_ready failed = elim failed.left [
-    | inl marked ↦ Fits-but_block p board.pages new.pages b not_ready (within p.shape board b is_shape ready new.pages marked.0) fits
-    | inr same ↦ subst (Fits p) (sym same.0) fits
+  pub PoolOnFlash-erase_failed : (new : BoardState) → IsNotReady p b → EraseFailed board new b → PoolOnFlash p new.pages
+  PoolOnFlash-erase_failed new not_ready failed = elim failed.left [
+    | inl marked ↦ PoolOnFlash-but_block p board.pages new.pages b not_ready (within p.shape board b is_shape ready new.pages marked.0) fits
+    | inr same ↦ subst (PoolOnFlash p) (sym same.0) fits
   ]

@@ -93,5 +93,5 @@ abbrev pub IsNowhere : BlockState → List BlockState → Type 0
 IsNowhere s states = (k : ℕ) → slice_get states k ≡ Some s → ⊥
 
 -- every block that the pool counts as erased is Erased on the flash
-pub record Fits (p : Blocks) (flash : Flash) : Type 0 where
+pub record PoolOnFlash (p : Blocks) (flash : Flash) : Type 0 where
   pub erased : (b : ℕ) → slice_get p.states b ≡ Some Ready → IsErasedBlock p.shape flash b

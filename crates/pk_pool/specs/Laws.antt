@@ -7,7 +7,7 @@ use Rattle.pk_nand.specs.Cut.{Interrupted}
 use Rattle.pk_nand.specs.Calls.{InOrder, IsErasedBlock}
 use Rattle.pk_nand.specs.Crash.{SameOutside}
 use Rattle.pk_pool.specs.declared.state.BlockState.TheVariants.{Ready}
-use Rattle.pk_pool.specs.Blocks.{Blocks, Fits}
+use Rattle.pk_pool.specs.Blocks.{Blocks, PoolOnFlash}
 
 -- the block does not count as erased
 abbrev pub IsNotReady : Blocks → ℕ → Type 0
@@ -22,19 +22,19 @@ abbrev pub ChangesElsewhere : Type 0
 ChangesElsewhere =
     (p : Blocks) (old new : Flash) (b first count : ℕ) → IsNotReady p b
     → b * p.shape.block_pages ≤ first → first + count ≤ b * p.shape.block_pages + p.shape.block_pages
-    → SameOutside first count old new → Fits p old → Fits p new
+    → SameOutside first count old new → PoolOnFlash p old → PoolOnFlash p new
 
 -- a program in such a block, done or interrupted, leaves the pool fitting
 abbrev pub ProgramElsewhere : Type 0
 ProgramElsewhere =
     (p : Blocks) (old new : Flash) (b at : ℕ) (bytes out : List ℕ) → IsNotReady p b → IsInBlock p.shape b at
-    → Interrupted p.shape (program at bytes) old new out → Fits p old → Fits p new
+    → Interrupted p.shape (program at bytes) old new out → PoolOnFlash p old → PoolOnFlash p new
 
 -- an erase of such a block, done or interrupted, leaves the pool fitting
 abbrev pub EraseElsewhere : Type 0
 EraseElsewhere =
     (p : Blocks) (old new : Flash) (b : ℕ) (out : List ℕ) → 0 < p.shape.block_pages → IsNotReady p b
-    → Interrupted p.shape (erase b) old new out → Fits p old → Fits p new
+    → Interrupted p.shape (erase b) old new out → PoolOnFlash p old → PoolOnFlash p new
 
 -- the first page of an erased block is the next one to be programmed
 abbrev pub ErasedInOrder : Type 0

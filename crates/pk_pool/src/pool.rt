@@ -7,7 +7,7 @@ ghost use Rattle.pk_nand.specs.Calls.{IsReady, IsErasedBlock};
 ghost use Rattle.pk_nand.specs.declared.types.Fault.TheVariants.{Stopped};
 ghost use Rattle.pk_pool.specs.declared.state.BlockState.TheVariants.{Free, Ready, Owned};
 ghost use Rattle.pk_pool.specs.Blocks as spec;
-ghost use Rattle.pk_pool.specs.Blocks.{is_ready, used_by, unused, with_state, IsOwned, IsSpare, IsShared, IsLowest, IsNowhere, Fits};
+ghost use Rattle.pk_pool.specs.Blocks.{is_ready, used_by, unused, with_state, IsOwned, IsSpare, IsShared, IsLowest, IsNowhere, PoolOnFlash};
 ghost use Rattle.pk_pool.specs.Taking.{ReachesIn, TakesReady, ErasesFree, FailsToErase, ErasesOne, ErasesNone};
 
 use crate::state::BlockState;
@@ -70,7 +70,7 @@ impl<A: Allocator> Pool<A> {
     /// All blocks from 2 on free, and none erased. All memory of the pool is taken here.
     pub fn new(alloc: A, plan: Plan) -> Result<Pool<A>, AllocError>
         ensures unused { IfOk result (λ p. p ≡ unused plan) }
-        ensures fits { IfOk result (λ p. (flash : Flash) → Fits p flash) }
+        ensures fits { IfOk result (λ p. (flash : Flash) → PoolOnFlash p flash) }
     {
         plan.known();
         let blocks = plan.shape().blocks() as usize;
@@ -93,7 +93,7 @@ impl<A: Allocator> Pool<A> {
         requires below { used_by owner self.old.states < quota_of self.old.shape owner }
         ensures adopted { self.new ≡ with_state self.old block (Owned owner) }
         ensures counted { used_by owner self.new.states ≡ used_by owner self.old.states + 1 }
-        ensures fits { (flash : Flash) → Fits self.old flash → Fits self.new flash }
+        ensures fits { (flash : Flash) → PoolOnFlash self.old flash → PoolOnFlash self.new flash }
     {
         self.states[block as usize] = BlockState::Owned(owner);
     }
@@ -104,7 +104,7 @@ impl<A: Allocator> Pool<A> {
     pub fn take<B: Nand>(&mut self, board: &mut B, owner: Owner) -> Result<u32, Fault>
         requires below { used_by owner self.old.states < quota_of self.old.shape owner }
         requires ready { IsReady (B.state board.old) self.old.shape }
-        requires fits { Fits self.old (B.state board.old).pages }
+        requires fits { PoolOnFlash self.old (B.state board.old).pages }
         ensures choice { IfOk result (λ b. TakesReady self.old (B.state board.old) b
             (B.state board.new) ⊎ ErasesFree self.old (B.state board.old) b (B.state board.new)) }
         ensures spare { IfOk result (λ b. IsSpare self.old b) }
@@ -124,7 +124,7 @@ impl<A: Allocator> Pool<A> {
             (FailsToErase self.old (B.state board.old) (B.state board.new)) }
         ensures kept { OnErr result (self.new ≡ self.old) }
         ensures ready { IsReady (B.state board.new) self.new.shape }
-        ensures fits { Fits self.new (B.state board.new).pages }
+        ensures fits { PoolOnFlash self.new (B.state board.new).pages }
     {
         match lowest(&self.states, BlockState::Ready) {
             Some(b) => {
@@ -150,7 +150,7 @@ impl<A: Allocator> Pool<A> {
         ensures given { self.new ≡ with_state self.old block Free }
         ensures counted { (o : Owner) → slice_get self.old.states block ≡ Some (Owned o)
             → used_by o self.new.states + 1 ≡ used_by o self.old.states }
-        ensures fits { (flash : Flash) → Fits self.old flash → Fits self.new flash }
+        ensures fits { (flash : Flash) → PoolOnFlash self.old flash → PoolOnFlash self.new flash }
     {
         self.states[block as usize] = BlockState::Free;
     }
@@ -159,7 +159,7 @@ impl<A: Allocator> Pool<A> {
     /// there is none. `Stopped` where this call fails; the pool is as before then.
     pub fn erase_one<B: Nand>(&mut self, board: &mut B) -> Result<bool, Fault>
         requires ready { IsReady (B.state board.old) self.old.shape }
-        requires fits { Fits self.old (B.state board.old).pages }
+        requires fits { PoolOnFlash self.old (B.state board.old).pages }
         ensures cases { IfOk result (λ erased. MatchBool erased
             (ErasesOne self.old (B.state board.old) self.new (B.state board.new))
             (ErasesNone self.old (B.state board.old) self.new (B.state board.new))) }
@@ -171,7 +171,7 @@ impl<A: Allocator> Pool<A> {
         ensures shape { self.new.shape ≡ self.old.shape }
         ensures owned { (b : ℕ) → IsOwned self.old b
             → slice_get self.new.states b ≡ slice_get self.old.states b }
-        ensures fits { Fits self.new (B.state board.new).pages }
+        ensures fits { PoolOnFlash self.new (B.state board.new).pages }
     {
         match lowest(&self.states, BlockState::Free) {
             None => Ok(false),

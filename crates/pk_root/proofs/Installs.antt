@@ -19,7 +19,7 @@ use Rattle.pk_rootfmt.specs.Root.{Root, root_page}
 use Rattle.pk_model.specs.Laws.{IsInstall, RootErase, RootProgram, RootInstalled}
 use Rattle.pk_seg.proofs.ErasedBlocks.{order_erased}
 use Rattle.pk_root.specs.declared.next.Next.TheVariants.{Erase, Program}
-use Rattle.pk_root.specs.Installing.{other_block, next_behind, IsPossible, Fits, KeepsRoot, MayInstall}
+use Rattle.pk_root.specs.Installing.{other_block, next_behind, IsPossible, InstallerOnFlash, KeepsRoot, MayInstall}
 use Rattle.pk_root.proofs.Scanning.{root_page_exists}
 use Rattle.pk_root.proofs.Places.{some_pages, block_below, page_below, not_other, in_block, first_below}
 
@@ -44,7 +44,7 @@ IsReady-erase_failed board new shape block failed ready = record {
       (subst (λ s. LeftBehind s (erase block) board.pages new.pages board.trail new.trail) (shape_is board shape ready) failed.left);
 }
 
-module _ (law : RootErase) (shape : Shape) (board : BoardState) (beside : ℕ) (top : ℕ × Root) (is_shape : IsShape shape) (ready : IsReady board shape) (fits : Fits shape (Erase beside) top board.pages) where
+module _ (law : RootErase) (shape : Shape) (board : BoardState) (beside : ℕ) (top : ℕ × Root) (is_shape : IsShape shape) (ready : IsReady board shape) (fits : InstallerOnFlash shape (Erase beside) top board.pages) where
   abbrev block : ℕ
   block = other_block shape beside
 
@@ -79,7 +79,7 @@ module _ (law : RootErase) (shape : Shape) (board : BoardState) (beside : ℕ) (
   ]
 
   -- the first page of the other block is next now
-  pub erase_fits : (now : ℕ × Root) → Fits shape (Erase beside) now board.pages → Fits shape (Program (block * shape.block_pages)) now (after_erase board block).pages
+  pub erase_fits : (now : ℕ × Root) → InstallerOnFlash shape (Erase beside) now board.pages → InstallerOnFlash shape (Program (block * shape.block_pages)) now (after_erase board block).pages
   erase_fits now former = record {
     newest = erase_done.newest ∙ former.newest;
     possible = record {
@@ -106,7 +106,7 @@ possible_behind shape flash page bytes false test exists possible = record { in_
 
 -- a root with a greater number than the newest one's, and its bytes, for the page that is next
 module _ (law : RootProgram) (shape : Shape) (board : BoardState) (page : ℕ) (top : ℕ × Root) (bytes : List ℕ) (root : Root) (is_shape : IsShape shape) (ready : IsReady board shape)
-    (fits : Fits shape (Program page) top board.pages) (spells : root_page shape bytes ≡ Some root) (greater : top.1.number < root.number) where
+    (fits : InstallerOnFlash shape (Program page) top board.pages) (spells : root_page shape bytes ≡ Some root) (greater : top.1.number < root.number) where
   install : IsInstall shape board.pages top page bytes root
   install =
       let below : page < 2 * shape.block_pages = fits.possible.in_root_blocks in
@@ -147,7 +147,7 @@ module _ (law : RootProgram) (shape : Shape) (board : BoardState) (page : ℕ) (
   ]
 
   -- the new root is the newest, and what is behind its page is next
-  pub program_fits : RootInstalled → Fits shape (next_behind shape page) (page, root) (after_program board page bytes).pages
+  pub program_fits : RootInstalled → InstallerOnFlash shape (next_behind shape page) (page, root) (after_program board page bytes).pages
   program_fits installed = record {
     newest = installed shape board.pages top page bytes root install;
     possible = possible_behind shape board.pages page bytes (nat_lt (page % shape.block_pages + 1) shape.block_pages) refl install.exists fits.possible;

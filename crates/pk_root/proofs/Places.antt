@@ -8,7 +8,7 @@ use Rattle.pk_rootfmt.specs.Root.{Root}
 use Rattle.pk_rootfmt.specs.Newest.{newest_root}
 use Rattle.pk_root.specs.declared.next.Next.{Next}
 use Rattle.pk_root.specs.declared.next.Next.TheVariants.{Erase, Program}
-use Rattle.pk_root.specs.Installing.{IsPossible, Fits}
+use Rattle.pk_root.specs.Installing.{IsPossible, InstallerOnFlash}
 use Rattle.pk_root.specs.Laws.{SameFront}
 use Rattle.pk_root.proofs.Scanning.{newest_among, newest_root_same}
 
@@ -49,8 +49,8 @@ first_below n block some low = omega (arith, some, mul-le-mul_right {m = block} 
 -- ---- installers
 
 -- behind the page of the newest root
-pub Fits-after : (shape : Shape) (flash : Flash) (page : ℕ) (root : Root) → newest_root shape (page_at flash) ≡ Some (page, root) → Fits shape (Erase page) (page, root) flash
-Fits-after shape flash page root newest =
+pub InstallerOnFlash-after : (shape : Shape) (flash : Flash) (page : ℕ) (root : Root) → newest_root shape (page_at flash) ≡ Some (page, root) → InstallerOnFlash shape (Erase page) (page, root) flash
+InstallerOnFlash-after shape flash page root newest =
     let is = newest_among shape (page_at flash) (page, root) newest in
     let below : page < 2 * shape.block_pages = omega (arith, is.high) in
     record { newest = newest; possible = record { in_root_blocks = below; elsewhere = not_other shape.block_pages page below } }
@@ -72,8 +72,8 @@ possible_same shape (Program page) newest old new same possible =
 pub newest_by_same : (shape : Shape) (old new : Flash) → SameFront shape old new → newest_root shape (page_at new) ≡ newest_root shape (page_at old)
 newest_by_same shape old new same = newest_root_same shape (page_at old) (page_at new) same
 
-pub Fits-by_same : (shape : Shape) (next : Next) (top : ℕ × Root) (old new : Flash) → SameFront shape old new → Fits shape next top old → Fits shape next top new
-Fits-by_same shape next top old new same fits = record {
+pub InstallerOnFlash-by_same : (shape : Shape) (next : Next) (top : ℕ × Root) (old new : Flash) → SameFront shape old new → InstallerOnFlash shape next top old → InstallerOnFlash shape next top new
+InstallerOnFlash-by_same shape next top old new same fits = record {
   newest = newest_by_same shape old new same ∙ fits.newest;
   possible = possible_same shape next top.0 old new same fits.possible;
 }

@@ -41,7 +41,7 @@ IsPossible shape (Erase beside) newest flash = MayErase shape beside newest
 IsPossible shape (Program page) newest flash = MayProgram shape page flash
 
 -- this is the newest root of the flash and its page, and what is next can be done
-pub record Fits (shape : Shape) (next : Next) (top : ℕ × Root) (flash : Flash) : Type 0 where
+pub record InstallerOnFlash (shape : Shape) (next : Next) (top : ℕ × Root) (flash : Flash) : Type 0 where
   pub newest : newest_root shape (page_at flash) ≡ Some top
   pub possible : IsPossible shape next top.0 flash
 
@@ -71,7 +71,7 @@ pub record Installs (shape : Shape) (root : Root) (next : Next) (old : BoardStat
   pub was : next ≡ Program page
   pub program : new ≡ after_program old page (root_bytes shape root)
   pub then_next : next' ≡ next_behind shape page
-  pub fits : Fits shape next' (page, root) new.pages
+  pub fits : InstallerOnFlash shape next' (page, root) new.pages
   pub cuts : Reached old new (λ cut _. MayInstall shape page root old.pages cut)
 
 -- the root block that was next was erased, by the one call, and its first page is next now
@@ -80,7 +80,7 @@ pub record ErasesOther (shape : Shape) (next : Next) (old : BoardState) (next' :
   pub was : next ≡ Erase beside
   pub erase : new ≡ after_erase old (other_block shape beside)
   pub then_next : next' ≡ Program (other_block shape beside * shape.block_pages)
-  pub fits : (top : ℕ × Root) → Fits shape next top old.pages → Fits shape next' top new.pages
+  pub fits : (top : ℕ × Root) → InstallerOnFlash shape next top old.pages → InstallerOnFlash shape next' top new.pages
   pub cuts : Reached old new (λ cut _. KeepsRoot shape old.pages cut)
 
 -- the one call, the program that was next, failed

@@ -5,7 +5,7 @@ use Rattle.pk_base.specs.Page.{Flash, page_at}
 use Rattle.pk_rootfmt.specs.Root.{Root}
 use Rattle.pk_rootfmt.specs.Newest.{newest_root}
 use Rattle.pk_root.specs.declared.next.Next.{Next}
-use Rattle.pk_root.specs.Installing.{Fits}
+use Rattle.pk_root.specs.Installing.{InstallerOnFlash}
 
 -- no page of the root blocks differs
 abbrev pub SameFront : Shape → Flash → Flash → Type 0
@@ -17,4 +17,4 @@ NewestBySame = (shape : Shape) (old new : Flash) → SameFront shape old new →
 
 -- what an installer does next can be done as before
 abbrev pub FitsBySame : Type 0
-FitsBySame = (shape : Shape) (next : Next) (top : ℕ × Root) (old new : Flash) → SameFront shape old new → Fits shape next top old → Fits shape next top new
+FitsBySame = (shape : Shape) (next : Next) (top : ℕ × Root) (old new : Flash) → SameFront shape old new → InstallerOnFlash shape next top old → InstallerOnFlash shape next top new

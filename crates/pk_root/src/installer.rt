@@ -7,7 +7,7 @@ ghost use Rattle.pk_nand.specs.declared.types.Fault.TheVariants.{Stopped};
 ghost use Rattle.pk_rootfmt.specs.Root.{Root as RootValue, is_root};
 ghost use Rattle.pk_rootfmt.specs.Newest.{newest_root};
 ghost use Rattle.pk_root.specs.declared.next.Next.TheVariants.{Erase, Program};
-ghost use Rattle.pk_root.specs.Installing.{erases_next, next_behind as next_behind_of, Fits, SameBehind, Installs, ErasesOther, FailsToInstall, FailsToErase};
+ghost use Rattle.pk_root.specs.Installing.{erases_next, next_behind as next_behind_of, InstallerOnFlash, SameBehind, Installs, ErasesOther, FailsToInstall, FailsToErase};
 
 use crate::next::Next;
 use pk_base::Shape;
@@ -36,7 +36,7 @@ impl Model for Installer {
 fn erase_other<B: Nand>(board: &mut B, shape: &Shape, beside: u32) -> Result<u32, Fault>
     requires ready { IsReady (B.state board.old) shape.now }
     requires fits { (top : ℕ × RootValue)
-        × Fits shape.now (Erase beside) top (B.state board.old).pages }
+        × InstallerOnFlash shape.now (Erase beside) top (B.state board.old).pages }
     ensures erases { IfOk result (λ page.
         ErasesOther shape.now (Erase beside) (B.state board.old) (Program page) (B.state board.new)) }
     ensures stopped { IfErr result (λ e. e ≡ Stopped) }
@@ -64,7 +64,7 @@ fn program_root<B: Nand, A: Allocator>(
     requires ready { IsReady (B.state board.old) root.now.shape }
     requires grammar { is_root root.now.shape root.now.root ≡ true }
     requires fits { (top : ℕ × RootValue)
-        × Fits root.now.shape (Program page) top (B.state board.old).pages
+        × InstallerOnFlash root.now.shape (Program page) top (B.state board.old).pages
         × (top.1.number < root.now.root.number) }
     requires room { length buf.old ≡ root.now.shape.page_bytes }
     ensures installs { OnOk result (Installs root.now.shape root.now.root (Program page)
@@ -106,7 +106,7 @@ impl Installer {
         ensures value { result ≡ Erase page }
         ensures fits { (shape : spec.Shape) (flash : Flash) (root : RootValue)
             → newest_root shape (page_at flash) ≡ Some (page, root)
-            → Fits shape result (page, root) flash }
+            → InstallerOnFlash shape result (page, root) flash }
     {
         Installer {
             next: Next::Erase { beside: page },
@@ -129,7 +129,7 @@ impl Installer {
         requires ready { IsReady (B.state board.old) shape.now }
         requires erases { erases_next self.old ≡ true }
         requires fits { (top : ℕ × RootValue)
-            × Fits shape.now self.old top (B.state board.old).pages }
+            × InstallerOnFlash shape.now self.old top (B.state board.old).pages }
         ensures erased { OnOk result
             (ErasesOther shape.now self.old (B.state board.old) self.new (B.state board.new)) }
         ensures programs_next { OnOk result (erases_next self.new ≡ false) }
@@ -165,7 +165,7 @@ impl Installer {
         requires ready { IsReady (B.state board.old) root.now.shape }
         requires grammar { is_root root.now.shape root.now.root ≡ true }
         requires fits { (top : ℕ × RootValue)
-            × Fits root.now.shape self.old top (B.state board.old).pages
+            × InstallerOnFlash root.now.shape self.old top (B.state board.old).pages
             × (top.1.number < root.now.root.number) }
         requires room { length buf.old ≡ root.now.shape.page_bytes }
         ensures cases { IfOk result (λ installed. MatchBool installed

@@ -16,13 +16,13 @@ use Rattle.pk_meta.proofs.Reading.{meta_held}
 use Rattle.pk_nand.specs.BoardState.{BoardState}
 use Rattle.pk_nand.specs.Calls.{IsReady, after_read, ReadFailed}
 use Rattle.pk_pin.specs.Frames.{Frames, frame_of}
-use Rattle.pk_run.specs.Kept.{Kept, IsKept, IsPinned, IsFrameOf, Stands, page_of, after_look, most_pages}
+use Rattle.pk_run.specs.Kept.{Kept, IsKept, IsPinned, IsFrameOf, RunOnFlash, page_of, after_look, most_pages}
 use Rattle.pk_run.specs.Search.{IsFound, BeginsAbove, BeginsUpTo, IsBeforeAll, IsPageFor, Looks}
 use Rattle.pk_run.proofs.Orders.{find_piece, find_nowhere, absent, present, sorted_drop, sorted_take}
 use Rattle.pk_run.proofs.Pieces.{HasPiece, pieces, share}
 
 -- an entry that is the first of a page has the page's first key
-pub first_is : (r : Kept) (flash : Flash) (arena : Frames) (es : List Entry) → IsShape r.shape → Stands r flash arena es → (j : ℕ) (e : Entry) → slice_get es (j * page_entries r.shape) ≡ Some e
+pub first_is : (r : Kept) (flash : Flash) (arena : Frames) (es : List Entry) → IsShape r.shape → RunOnFlash r flash arena es → (j : ℕ) (e : Entry) → slice_get es (j * page_entries r.shape) ≡ Some e
     → slice_get r.firsts j ≡ Some (key_of e)
 first_is r flash arena es is s j e got =
     let size : ℕ = page_entries r.shape in
@@ -33,7 +33,7 @@ first_is r flash arena es is s j e got =
     s.starts j (lt_of_mul-lt-mul_right size inside) ∙ ap (option_map key_of) got
 
 -- no page begins at or before the key: there is no entry of it
-pub found_nowhere : (r : Kept) (flash : Flash) (arena : Frames) (es : List Entry) (key : Key) → IsShape r.shape → Stands r flash arena es → IsBeforeAll key r.firsts → find key_cmp key es ≡ None
+pub found_nowhere : (r : Kept) (flash : Flash) (arena : Frames) (es : List Entry) (key : Key) → IsShape r.shape → RunOnFlash r flash arena es → IsBeforeAll key r.firsts → find key_cmp key es ≡ None
 found_nowhere r flash arena es key is s above =
     let none : 0 * page_entries r.shape ≡ 0 = zero-mul (page_entries r.shape) in
     find_nowhere key es s.rising (λ e got. above (key_of e) (first_is r flash arena es is s 0 e (ap (slice_get es) none ∙ got)))
@@ -41,7 +41,7 @@ found_nowhere r flash arena es key is s above =
 few : {r : Kept} → IsKept r → length r.firsts ≤ 1000000
 few kept = omega (arith, kept.pages, kept.bound)
 
-module _ (r : Kept) (flash : Flash) (arena : Frames) (es : List Entry) (is : IsShape r.shape) (s : Stands r flash arena es) where
+module _ (r : Kept) (flash : Flash) (arena : Frames) (es : List Entry) (is : IsShape r.shape) (s : RunOnFlash r flash arena es) where
   abbrev size : ℕ
   size = page_entries r.shape
 
@@ -102,7 +102,7 @@ same_find key piece es (Some e) same is = (is.0, sym same ∙ is.1)
 pub answered : (r : Kept) (flash : Flash) (arena : Frames) (es : List Entry) (key : Key) (p : ℕ) (bytes : List ℕ) (found : Option RustEntry)
     → IsShape r.shape → IsKept r → IsPageFor key r.firsts p → page_at flash (page_of r p) ≡ whole bytes
     → ((level index : ℕ) (entries : List Entry) → IsMetaPage r.shape bytes level index entries → IsEntryOf key entries (option_map seen found))
-    → Stands r flash arena es → IsFound key es found
+    → RunOnFlash r flash arena es → IsFound key es found
 answered r flash arena es key p bytes found is kept for_key here of_page s =
     let holds = holds_piece r flash arena es is s kept p bytes for_key.exists here in
     let entries = take (page_entries r.shape) (drop (p * page_entries r.shape) es) in
@@ -111,7 +111,7 @@ answered r flash arena es key p bytes found is kept for_key here of_page s =
 
 -- the page decodes
 pub decodes : (r : Kept) (flash : Flash) (arena : Frames) (es : List Entry) (p : ℕ) (bytes : List ℕ) → IsShape r.shape → IsKept r
-    → p < length r.firsts → page_at flash (page_of r p) ≡ whole bytes → Stands r flash arena es → Decodes r.shape bytes
+    → p < length r.firsts → page_at flash (page_of r p) ≡ whole bytes → RunOnFlash r flash arena es → Decodes r.shape bytes
 decodes r flash arena es p bytes is kept exists here s =
     (r.level, p, take (page_entries r.shape) (drop (p * page_entries r.shape) es), holds_piece r flash arena es is s kept p bytes exists here)
 
@@ -129,17 +129,17 @@ whole_exists (p ∷ ps) (suc k) bytes is = omega (arith, whole_exists ps k bytes
 -- ---- frames
 
 -- a frame of the run is full
-pub frame_sized : (r : Kept) (flash : Flash) (arena : Frames) (es : List Entry) → IsFlash r.shape flash → Stands r flash arena es → (p lease : ℕ) → slice_get r.leases p ≡ Some lease
+pub frame_sized : (r : Kept) (flash : Flash) (arena : Frames) (es : List Entry) → IsFlash r.shape flash → RunOnFlash r flash arena es → (p lease : ℕ) → slice_get r.leases p ≡ Some lease
     → length (frame_of arena lease) ≡ r.shape.page_bytes
 frame_sized r flash arena es full s p lease got = (full.full (page_of r p) (frame_of arena lease) (s.frames p lease got).bytes).0
 
 -- what was taken from a frame is the page
-pub frame_page : (r : Kept) (flash : Flash) (arena : Frames) (es : List Entry) (bytes : List ℕ) → Stands r flash arena es → (p lease : ℕ) → slice_get r.leases p ≡ Some lease → bytes ≡ frame_of arena lease
+pub frame_page : (r : Kept) (flash : Flash) (arena : Frames) (es : List Entry) (bytes : List ℕ) → RunOnFlash r flash arena es → (p lease : ℕ) → slice_get r.leases p ≡ Some lease → bytes ≡ frame_of arena lease
     → page_at flash (page_of r p) ≡ whole bytes
 frame_page r flash arena es bytes s p lease got is = (s.frames p lease got).bytes ∙ ap (λ (xs : List ℕ). whole xs) (sym is)
 
 -- where a page has no frame, none has
-pub no_leases : (r : Kept) (flash : Flash) (arena : Frames) (es : List Entry) → Stands r flash arena es → (p : ℕ) → p < length r.firsts → length r.leases ≤ p → r.leases ≡ []
+pub no_leases : (r : Kept) (flash : Flash) (arena : Frames) (es : List Entry) → RunOnFlash r flash arena es → (p : ℕ) → p < length r.firsts → length r.leases ≤ p → r.leases ≡ []
 no_leases r flash arena es s p exists past =
     elim s.pinned [
       | inl none ↦ none

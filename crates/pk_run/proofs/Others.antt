@@ -6,13 +6,13 @@ use Rattle.std.proofs.lemmas.Bool.Decides.{eqb_tells}
 use Rattle.pk_base.specs.Entry.{Entry}
 use Rattle.pk_base.specs.Page.{Flash, page_at}
 use Rattle.pk_pin.specs.Frames.{Frames, IsLeased, frame_of, leased, given, filled, times}
-use Rattle.pk_run.specs.Kept.{Kept, Stands, page_of}
+use Rattle.pk_run.specs.Kept.{Kept, RunOnFlash, page_of}
 use Rattle.pk_run.specs.Laws.{StandsOutside, FrameTaken, FrameFilled, FrameGiven}
-use Rattle.pk_run.proofs.Standing.{Stands-elsewhere}
+use Rattle.pk_run.proofs.Standing.{RunOnFlash-elsewhere}
 
-pub Stands-outside : StandsOutside
-Stands-outside r old new arena es first count same apart s =
-    Stands-elsewhere r old new arena arena es (λ j h. elim (apart j h) [ inl below ↦ same.below (page_of r j) below | inr above ↦ same.above (page_of r j) above ]) (λ j lease got is. (is, refl)) s
+pub RunOnFlash-outside : StandsOutside
+RunOnFlash-outside r old new arena es first count same apart s =
+    RunOnFlash-elsewhere r old new arena arena es (λ j h. elim (apart j h) [ inl below ↦ same.below (page_of r j) below | inr above ↦ same.above (page_of r j) above ]) (λ j lease got is. (is, refl)) s
 
 set_other : (us : List Bool) (i l : ℕ) (b : Bool) → i ≢ l → slice_get (set us l b) i ≡ slice_get us i
 set_other [] i l b ne = refl
@@ -55,18 +55,18 @@ free_or_leased us l free is = cc
 apart_from : (ls : List ℕ) (j lease l : ℕ) → slice_get ls j ≡ Some lease → times l ls ≡ 0 → lease ≢ l
 apart_from ls j lease l got none same = among ls j l (got ∙ ap Some same) none
 
-pub Stands-taken : FrameTaken
-Stands-taken r flash arena es lease free s =
+pub RunOnFlash-taken : FrameTaken
+RunOnFlash-taken r flash arena es lease free s =
     let own : (j l : ℕ) → slice_get r.leases j ≡ Some l → l ≢ lease =
     λ j l got same. free_or_leased arena.used lease free (subst (λ (k : ℕ). slice_get arena.used k ≡ Some true) same (s.frames j l got).leased) in (
-      Stands-elsewhere r flash flash arena (leased arena lease) es (λ j h. refl) (λ j l got is. (set_other arena.used l lease true (own j l got) ∙ is, refl)) s,
+      RunOnFlash-elsewhere r flash flash arena (leased arena lease) es (λ j h. refl) (λ j l got is. (set_other arena.used l lease true (own j l got) ∙ is, refl)) s,
       not_among r.leases lease (λ j got. own j lease got refl),
     )
 
-pub Stands-filled : FrameFilled
-Stands-filled r flash arena es lease bytes none s =
-    Stands-elsewhere r flash flash arena (filled arena lease bytes) es (λ j h. refl) (λ j l got is. (is, get_or-set_other arena.frames lease l bytes [] (apart_from r.leases j l lease got none))) s
+pub RunOnFlash-filled : FrameFilled
+RunOnFlash-filled r flash arena es lease bytes none s =
+    RunOnFlash-elsewhere r flash flash arena (filled arena lease bytes) es (λ j h. refl) (λ j l got is. (is, get_or-set_other arena.frames lease l bytes [] (apart_from r.leases j l lease got none))) s
 
-pub Stands-given : FrameGiven
-Stands-given r flash arena es lease none s =
-    Stands-elsewhere r flash flash arena (given arena lease) es (λ j h. refl) (λ j l got is. (set_other arena.used l lease false (apart_from r.leases j l lease got none) ∙ is, refl)) s
+pub RunOnFlash-given : FrameGiven
+RunOnFlash-given r flash arena es lease none s =
+    RunOnFlash-elsewhere r flash flash arena (given arena lease) es (λ j h. refl) (λ j l got is. (set_other arena.used l lease false (apart_from r.leases j l lease got none) ∙ is, refl)) s

@@ -11,7 +11,7 @@ use Rattle.pk_base.specs.Entry.{Entry, key_of}
 use Rattle.pk_base.specs.Page.{Page, Flash, page_at, page_in, whole}
 use Rattle.pk_meta.specs.Run.{run}
 use Rattle.pk_pin.specs.Frames.{Frames, IsLeased, frame_of}
-use Rattle.pk_run.specs.Kept.{Kept, empty, page_of, IsPinned, IsFrameOf, Stands, IsNext, IsPinnedAlike, with_page, with_lease}
+use Rattle.pk_run.specs.Kept.{Kept, empty, page_of, IsPinned, IsFrameOf, RunOnFlash, IsNext, IsPinnedAlike, with_page, with_lease}
 use Rattle.pk_run.specs.Laws.{SamePages, SameFrames, StandsElsewhere}
 use Rattle.pk_run.proofs.Pieces.{pages_are, run_same, run_more}
 
@@ -19,15 +19,15 @@ none_within : (j : ℕ) (lease : ℕ) → slice_get [] j ≡ Some lease → ⊥
 none_within j lease got = cc
 
 -- a lease is of a page of the run
-pub leased_page : (r : Kept) (flash : Flash) (arena : Frames) (es : List Entry) → Stands r flash arena es → (j lease : ℕ) → slice_get r.leases j ≡ Some lease → j < length r.firsts
+pub leased_page : (r : Kept) (flash : Flash) (arena : Frames) (es : List Entry) → RunOnFlash r flash arena es → (j lease : ℕ) → slice_get r.leases j ≡ Some lease → j < length r.firsts
 leased_page r flash arena es s j lease got =
     elim s.pinned [
       | inl none ↦ absurd (none_within j lease (ap (λ (ls : List ℕ). slice_get ls j) (sym none) ∙ got))
       | inr all ↦ omega (arith, all, slice_get_within r.leases j lease got)
     ]
 
-pub Stands-elsewhere : StandsElsewhere
-Stands-elsewhere r old new before after es pages frames s = record {
+pub RunOnFlash-elsewhere : StandsElsewhere
+RunOnFlash-elsewhere r old new before after es pages frames s = record {
   read = run_same r.shape (page_at old) (page_at new) r.level r.count r.blocks r.blocks (λ j h. (refl, pages j (omega (arith, s.pages)))) ∙ s.read;
   many = s.many;
   rising = s.rising;
@@ -47,9 +47,9 @@ entries_some shape is = let page : 512 ≤ shape.page_bytes = is.page_least in o
 no_pages : (shape : Shape) → IsShape shape → run_pages shape 0 ≡ 0
 no_pages shape is = pages_are 0 (page_entries shape) 0 (entries_some shape is) (omega arith) (let z : 0 * page_entries shape ≡ 0 = zero-mul (page_entries shape) in omega (arith, z, entries_some shape is))
 
-pub Stands-empty : (shape : Shape) (level : ℕ) (flash : Flash) (arena : Frames) → IsShape shape → Stands (empty shape level) flash arena []
+pub RunOnFlash-empty : (shape : Shape) (level : ℕ) (flash : Flash) (arena : Frames) → IsShape shape → RunOnFlash (empty shape level) flash arena []
 unfolding run
-Stands-empty shape level flash arena is = record {
+RunOnFlash-empty shape level flash arena is = record {
   read = rw (no_pages shape is) refl;
   many = refl;
   rising = tt;
@@ -80,8 +80,8 @@ same_place shape blocks b j is h =
     let lt : j / shape.block_pages < length blocks = (div-lt_iff_lt-mul some).1 h in
     ap (λ (k : ℕ). k * shape.block_pages + j % shape.block_pages) (get_or-append blocks (b ∷ []) 0 (j / shape.block_pages) lt)
 
-pub Stands-block : (r : Kept) (b : ℕ) (flash : Flash) (arena : Frames) (es : List Entry) → IsShape r.shape → Stands r flash arena es → Stands (record r { blocks = r.blocks ++ b ∷ [] }) flash arena es
-Stands-block r b flash arena es is s =
+pub RunOnFlash-block : (r : Kept) (b : ℕ) (flash : Flash) (arena : Frames) (es : List Entry) → IsShape r.shape → RunOnFlash r flash arena es → RunOnFlash (record r { blocks = r.blocks ++ b ∷ [] }) flash arena es
+RunOnFlash-block r b flash arena es is s =
     let more : length r.blocks * r.shape.block_pages ≤ length (r.blocks ++ b ∷ []) * r.shape.block_pages = mul-le-mul_right r.shape.block_pages (let e = length-append r.blocks (b ∷ []) in omega (arith, e)) in
     let place : (j : ℕ) → j < length r.firsts → page_in r.shape (r.blocks ++ b ∷ []) j ≡ page_in r.shape r.blocks j = λ j h. same_place r.shape r.blocks b j is (omega (arith, s.within)) in
     record {
@@ -144,10 +144,10 @@ module _ (r : Kept) (flash : Flash) (arena : Frames) (es more : List Entry) (fir
             subst (λ (k : ℕ). IsFrameOf flash arena (page_of r k) l) (sym page) (subst (IsFrameOf flash arena (page_of r (length r.firsts))) same alike.1)
       ]
 
-pub Stands-page : (r : Kept) (flash : Flash) (arena : Frames) (es more : List Entry) (first : Key) (lease : Option ℕ) (n : ℕ) → IsShape r.shape
+pub RunOnFlash-page : (r : Kept) (flash : Flash) (arena : Frames) (es more : List Entry) (first : Key) (lease : Option ℕ) (n : ℕ) → IsShape r.shape
     → r.count ≡ length r.firsts * page_entries r.shape → length r.firsts < length r.blocks * r.shape.block_pages → 1 ≤ n → n ≤ page_entries r.shape
-    → Stands r flash arena es → IsNext r flash arena es more first lease → length more ≡ n → Stands (with_page r first lease n) flash arena (es ++ more)
-Stands-page r flash arena es more first lease n is full place some most s next many =
+    → RunOnFlash r flash arena es → IsNext r flash arena es more first lease → length more ≡ n → RunOnFlash (with_page r first lease n) flash arena (es ++ more)
+RunOnFlash-page r flash arena es more first lease n is full place some most s next many =
     let size : ℕ = page_entries r.shape in
     let pages : ℕ = length r.firsts in
     let positive : 0 < size = entries_some r.shape is in

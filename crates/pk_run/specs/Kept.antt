@@ -46,7 +46,7 @@ pub record IsFrameOf (flash : Flash) (arena : Frames) (page lease : ℕ) : Type 
   pub bytes : page_at flash page ≡ whole (frame_of arena lease)
 
 -- The entries of the run on the flash are es, and what is kept tells their pages.
-pub record Stands (r : Kept) (flash : Flash) (arena : Frames) (es : List Entry) : Type 0 where
+pub record RunOnFlash (r : Kept) (flash : Flash) (arena : Frames) (es : List Entry) : Type 0 where
   pub read : run r.shape (page_at flash) r.level r.count r.blocks ≡ Ok es
   pub many : length es ≡ r.count
   pub rising : T (is_sorted key_cmp es)

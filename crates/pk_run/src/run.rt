@@ -6,7 +6,7 @@ ghost use Rattle.pk_base.specs.Page.{Flash, page_at, whole};
 ghost use Rattle.pk_nand.specs.Calls.{IsReady, after_read, ReadFailed};
 ghost use Rattle.pk_nand.specs.declared.types.Fault.TheVariants.{Reading};
 ghost use Rattle.pk_pin.specs.Frames.{Frames};
-ghost use Rattle.pk_run.specs.Kept.{Kept, IsKept, IsPinned, Stands, IsNext, empty, page_of, most_pages, most_blocks, with_page, after_look};
+ghost use Rattle.pk_run.specs.Kept.{Kept, IsKept, IsPinned, RunOnFlash, IsNext, empty, page_of, most_pages, most_blocks, with_page, after_look};
 ghost use Rattle.pk_run.specs.Search.{IsBeforeAll, IsFound, IsPageFor, Looks};
 
 use crate::search::page_for;
@@ -18,7 +18,7 @@ use pk_seg::read_page;
 use std::alloc::{AllocError, Allocator};
 use std::marker::Model;
 
-/// What memory keeps of a run. Contracts see it as a value, and `Stands` says which entries it has on a flash.
+/// What memory keeps of a run. Contracts see it as a value, and `RunOnFlash` says which entries it has on a flash.
 #[derive(Drop)]
 pub struct Run<A: Allocator> {
     shape: Shape,
@@ -48,7 +48,7 @@ impl<A: Allocator + Clone> Run<A> {
         requires { 1 ≤ level × level ≤ 4 }
         ensures empty { IfOk result (λ r. r ≡ empty shape level) }
         ensures stands { IfOk result (λ r. (flash : Flash) (arena : Frames)
-            → Stands r flash arena []) }
+            → RunOnFlash r flash arena []) }
     {
         shape.known();
         let pages = shape.cap(level);
@@ -143,7 +143,7 @@ impl<A: Allocator> Run<A> {
     pub fn clear(&mut self)
         requires { self.old.leases ≡ [] }
         ensures empty { self.new ≡ empty self.old.shape self.old.level }
-        ensures stands { (flash : Flash) (arena : Frames) → Stands self.new flash arena [] }
+        ensures stands { (flash : Flash) (arena : Frames) → RunOnFlash self.new flash arena [] }
     {
         self.shape.known();
         self.count = 0;
@@ -156,7 +156,7 @@ impl<A: Allocator> Run<A> {
         requires { length self.old.blocks < most_blocks self.old }
         ensures added { self.new ≡ record self.old { blocks = self.old.blocks ++ block ∷ [] } }
         ensures stands { (flash : Flash) (arena : Frames) (es : List EntrySpec)
-            → Stands self.old flash arena es → Stands self.new flash arena es }
+            → RunOnFlash self.old flash arena es → RunOnFlash self.new flash arena es }
     {
         self.shape.known();
         self.blocks.push_reserved(block);
@@ -173,8 +173,8 @@ impl<A: Allocator> Run<A> {
         requires alike { MatchOption lease (self.old.leases ≡ []) (λ _. IsPinned self.old) }
         ensures added { self.new ≡ with_page self.old first lease entries }
         ensures stands { (flash : Flash) (arena : Frames) (es more : List EntrySpec)
-            → Stands self.old flash arena es → IsNext self.old flash arena es more first lease
-            → length more ≡ entries → Stands self.new flash arena (es ++ more) }
+            → RunOnFlash self.old flash arena es → IsNext self.old flash arena es more first lease
+            → length more ≡ entries → RunOnFlash self.new flash arena (es ++ more) }
     {
         self.shape.known();
         self.count += entries;
@@ -219,10 +219,10 @@ impl<A: Allocator> Run<A> {
     ) -> Result<Option<Entry>, Fault>
         requires ready { IsReady (B.state board.old) self.now.shape }
         requires stands { (es : List EntrySpec)
-            × Stands self.now (B.state board.old).pages arena.now es }
+            × RunOnFlash self.now (B.state board.old).pages arena.now es }
         requires room { length buf.old ≡ self.now.shape.page_bytes }
         ensures found { IfOk result (λ found. (es : List EntrySpec)
-            → Stands self.now (B.state board.old).pages arena.now es → IsFound key.now es found) }
+            → RunOnFlash self.now (B.state board.old).pages arena.now es → IsFound key.now es found) }
         ensures looks { OnOk result (Looks self.now key.now (B.state board.old)
             (B.state board.new)) }
         ensures calls { OnOk result ((B.state board.new ≡ B.state board.old)
@@ -259,7 +259,7 @@ impl<A: Allocator> Run<A> {
     ) -> Result<(), Fault>
         requires ready { IsReady (B.state board.old) self.now.shape }
         requires stands { (es : List EntrySpec)
-            × Stands self.now (B.state board.old).pages arena.now es }
+            × RunOnFlash self.now (B.state board.old).pages arena.now es }
         requires exists { i < length self.now.firsts }
         requires room { length buf.old ≡ self.now.shape.page_bytes }
         ensures page { OnOk result (page_at (B.state board.old).pages (page_of self.now i)

@@ -11,7 +11,7 @@ use Rattle.pk_plan.specs.declared.owner.Owner.{Owner}
 use Rattle.pk_plan.specs.Quotas.{quota_of}
 use Rattle.pk_pool.specs.declared.state.BlockState.{BlockState}
 use Rattle.pk_pool.specs.declared.state.BlockState.TheVariants.{Free, Ready, Owned}
-use Rattle.pk_pool.specs.Blocks.{Blocks, used_by, same_owner, is_owned_by, with_state, IsSpare, Fits}
+use Rattle.pk_pool.specs.Blocks.{Blocks, used_by, same_owner, is_owned_by, with_state, IsSpare, PoolOnFlash}
 use Rattle.pk_pool.proofs.States.{get-set_other, set_is}
 use Rattle.pk_pool.proofs.Sharing.{count-set}
 use Rattle.pk_rootfmt.specs.Root.{differ}
@@ -140,7 +140,7 @@ unowned : (o : Owner) (p : Blocks) (b : ℕ) → IsSpare p b → (s : BlockState
 unowned o p b (inl free) = (Free, free, refl)
 unowned o p b (inr ready) = (Ready, ready, refl)
 
-pub adopts_one : (o : Owner) (p q : Blocks) (b : ℕ) → IsSpare p b → q ≡ with_state p b (Owned o) → used_by o q.states ≡ used_by o p.states + 1 → ((flash : Flash) → Fits p flash → Fits q flash)
+pub adopts_one : (o : Owner) (p q : Blocks) (b : ℕ) → IsSpare p b → q ≡ with_state p b (Owned o) → used_by o q.states ≡ used_by o p.states + 1 → ((flash : Flash) → PoolOnFlash p flash → PoolOnFlash q flash)
     → Adopts o (λ c. b == c) 1 p q
 adopts_one o p q b spare is counted fits =
     let states : q.states ≡ set p.states b (Owned o) = ap (λ (x : Blocks). x.states) is in
@@ -195,7 +195,7 @@ may_back {o} {p} {q} xs ys m a = record {
 pub adopts_lists : {o : Owner} {p q r : Blocks} (xs ys : List ℕ) → Adopts o (is_among xs) (length xs) p q → Adopts o (is_among ys) (length ys) q r → Adopts o (is_among (xs ++ ys)) (length (xs ++ ys)) p r
 adopts_lists xs ys a c = adopts_same (λ b. sym (list_any-append (λ x. x == b) xs ys)) (sym (length-append xs ys)) (adopts_both a c)
 
-pub adopts_block : (o : Owner) (p q : Blocks) (b : ℕ) → IsSpare p b → q ≡ with_state p b (Owned o) → used_by o q.states ≡ used_by o p.states + 1 → ((flash : Flash) → Fits p flash → Fits q flash)
+pub adopts_block : (o : Owner) (p q : Blocks) (b : ℕ) → IsSpare p b → q ≡ with_state p b (Owned o) → used_by o q.states ≡ used_by o p.states + 1 → ((flash : Flash) → PoolOnFlash p flash → PoolOnFlash q flash)
     → Adopts o (is_among (b ∷ [])) (length (b ∷ [])) p q
 adopts_block o p q b spare is counted fits = adopts_same (λ c. sym (or_false (b == c))) refl (adopts_one o p q b spare is counted fits)
   where
@@ -227,7 +227,7 @@ module _ (o : Owner) (blocks : List ℕ) (old now : Blocks) (i : ℕ) (a : Adopt
       let may = subst (λ (bs : List ℕ). MayAdopt o bs now) (drop_next blocks i b got) a.left in
       (may.spare.0, let room = may.room in omega (arith, room))
 
-  pub Adopting-next : (b : ℕ) (new : Blocks) → slice_get blocks i ≡ Some b → new ≡ with_state now b (Owned o) → used_by o new.states ≡ used_by o now.states + 1 → ((flash : Flash) → Fits now flash → Fits new flash)
+  pub Adopting-next : (b : ℕ) (new : Blocks) → slice_get blocks i ≡ Some b → new ≡ with_state now b (Owned o) → used_by o new.states ≡ used_by o now.states + 1 → ((flash : Flash) → PoolOnFlash now flash → PoolOnFlash new flash)
       → Adopting o blocks old new (i + 1)
   Adopting-next b new got is counted fits =
       let may = subst (λ (bs : List ℕ). MayAdopt o bs now) (drop_next blocks i b got) a.left in

@@ -20,7 +20,7 @@ use Rattle.pk_plan.specs.declared.owner.Owner.TheVariants.{Journal, Meta, Values
 use Rattle.pk_plan.specs.Quotas.{quota_of}
 use Rattle.pk_pool.specs.declared.state.BlockState.{BlockState}
 use Rattle.pk_pool.specs.declared.state.BlockState.TheVariants.{Owned}
-use Rattle.pk_pool.specs.Blocks.{Blocks, used_by, unused, with_state, IsSpare, Fits}
+use Rattle.pk_pool.specs.Blocks.{Blocks, used_by, unused, with_state, IsSpare, PoolOnFlash}
 use Rattle.pk_rootfmt.specs.Root.{Root, named, differ}
 use Rattle.pk_live.specs.Lives.{is_used, Lives}
 use Rattle.pk_scan.specs.Adopts.{is_among, owned_if, state_of, Adopts, NamesOwned}
@@ -192,7 +192,7 @@ module _ (live : LiveValues) (old now : Blocks) (i : ℕ) (inside : i < length l
       subst (λ (ys : List Bool). Adopts Values (λ b. get_or ys b false) (flags ys) old now) (sym more) (adopts_same (λ b. sym (flag_same xs b)) (omega (arith, count)) a)
 
   pub ValuesAdopting-next : (new : Blocks) → slice_get live.closed i ≡ Some true → IsSpare now i → new ≡ with_state now i (Owned Values) → used_by Values new.states ≡ used_by Values now.states + 1
-      → ((flash : Flash) → Fits now flash → Fits new flash) → ValuesAdopting live old new (i + 1)
+      → ((flash : Flash) → PoolOnFlash now flash → PoolOnFlash new flash) → ValuesAdopting live old new (i + 1)
   ValuesAdopting-next new closed spare is counted fits =
       let more = take_more live.closed i true closed in
       let xs : List Bool = take i live.closed in

@@ -15,7 +15,7 @@ use Rattle.pk_jrnfmt.specs.Epoch.{epoch, journal}
 use Rattle.pk_rootfmt.specs.Root.{Root}
 use Rattle.pk_rootfmt.specs.Held.{two_of, older_of}
 use Rattle.pk_buf.specs.Table.{Table, no_entries}
-use Rattle.pk_jrn.specs.Epochs.{Fits, HasCommit, found_at_opening}
+use Rattle.pk_jrn.specs.Epochs.{EpochOnFlash, HasCommit, found_at_opening}
 use Rattle.pk_jrn.specs.Replays.{Replayed, buffer_of}
 use Rattle.pk_jrn.proofs.Puts.{firsts-reverse}
 use Rattle.pk_model.specs.Found.{older_epoch}
@@ -132,7 +132,7 @@ module _ (shape : Shape) (flash : Flash) (root : Root) where
     pub older_refused : (page : ℕ) → epoch shape at (root.epoch - 1) bs ≡ Err (damaged page) → older_epoch shape at root ≡ Err (damaged page)
     older_refused page read = refused_of shape at root (damaged page) (read_older read)
 
-  pub newest_held : (bs : List ℕ) (used : ℕ) (into : Table) → length root.newest ≡ 2 → bs ≡ two_of root.newest → Replayed shape root.epoch bs flash used into → Fits (found_at_opening shape root.epoch bs used) flash
+  pub newest_held : (bs : List ℕ) (used : ℕ) (into : Table) → length root.newest ≡ 2 → bs ≡ two_of root.newest → Replayed shape root.epoch bs flash used into → EpochOnFlash (found_at_opening shape root.epoch bs used) flash
       → NewestHeld shape flash root into (found_at_opening shape root.epoch bs used)
   newest_held bs used into two is r fits =
       let same : bs ≡ root.newest = is ∙ two_is root.newest two in

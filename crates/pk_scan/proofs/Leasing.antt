@@ -11,7 +11,7 @@ use Rattle.pk_pin.proofs.Leases.{times-append, leases_none, leases_taken}
 use Rattle.pk_run.specs.Kept.{Kept}
 use Rattle.pk_level.specs.Levels.{Levels}
 use Rattle.pk_level.specs.Arenas.{HasArena, ArePinnedTo, leases_of}
-use Rattle.pk_run.proofs.Standing.{Stands-elsewhere}
+use Rattle.pk_run.proofs.Standing.{RunOnFlash-elsewhere}
 use Rattle.pk_scan.specs.Runs.{LeasedMore, RunsStand, KeepsPage}
 use Rattle.pk_scan.specs.Opening.{HaveFrames}
 
@@ -57,7 +57,7 @@ leased_more a b c xs ys m n = record {
 }
 
 pub runs_stand : (a b : Frames) (more : List ℕ) → LeasedMore a b more → RunsStand a b
-runs_stand a b more m r flash es s = Stands-elsewhere r flash flash a b es (λ j h. refl) (λ j lease got is. m.kept lease is) s
+runs_stand a b more m r flash es s = RunOnFlash-elsewhere r flash flash a b es (λ j h. refl) (λ j lease got is. m.kept lease is) s
 
 -- a page is kept in a frame that was free
 pub kept_in : (old mid new : Frames) (l : ℕ) (bytes : List ℕ) (pins : Bool) → slice_get old.used l ≡ Some false → mid ≡ leased old l → new ≡ filled mid l bytes → frame_of new l ≡ bytes

@@ -18,8 +18,8 @@ use Rattle.pk_nand.specs.declared.types.PageRead.{PageRead}
 use Rattle.pk_nand.specs.declared.types.PageRead.TheVariants.{Erased as ReadErased, Whole as ReadWhole, Torn as ReadTorn}
 use Rattle.pk_nand.specs.Erased.{after_reads}
 use Rattle.pk_pin.specs.Frames.{Frames, free_frames}
-use Rattle.pk_run.proofs.Standing.{Stands-empty}
-use Rattle.pk_run.specs.Kept.{Kept, empty, most_blocks, Stands, IsNext, IsPinned, IsPinnedAlike, page_of, with_page, with_lease}
+use Rattle.pk_run.proofs.Standing.{RunOnFlash-empty}
+use Rattle.pk_run.specs.Kept.{Kept, empty, most_blocks, RunOnFlash, IsNext, IsPinned, IsPinnedAlike, page_of, with_page, with_lease}
 use Rattle.pk_run.proofs.Pieces.{share, meta_next}
 use Rattle.pk_scan.specs.declared.errors.PageError.{PageError}
 use Rattle.pk_scan.specs.declared.errors.PageError.TheVariants.{Damaged, Fault}
@@ -61,8 +61,8 @@ pub page_taken : (pins : Bool) (flash : Flash) (before after : Frames) (old new 
     → IsPinnedIf pins old → KeepsPage pins before after bytes lease
     → ((level index : ℕ) (es : List Entry) → IsMetaPage old.shape bytes level index es → option_map key_of (slice_get es 0) ≡ Some first)
     → ((level index : ℕ) (es : List Entry) → IsMetaPage old.shape bytes level index es → option_map key_of (slice_get es (many - 1)) ≡ Some last)
-    → ((flash : Flash) (arena : Frames) (es more : List Entry) → Stands old flash arena es → IsNext old flash arena es more first lease → length more ≡ many → Stands new flash arena (es ++ more))
-    → Stands old flash before es → (more : List Entry) × GoesOn old.shape old.level (length old.firsts) many es bytes more
+    → ((flash : Flash) (arena : Frames) (es more : List Entry) → RunOnFlash old flash arena es → IsNext old flash arena es more first lease → length more ≡ many → RunOnFlash new flash arena (es ++ more))
+    → RunOnFlash old flash before es → (more : List Entry) × GoesOn old.shape old.level (length old.firsts) many es bytes more
     → PageTaken flash after old new es many last
 page_taken pins flash before after old new es many first last lease bytes least most fits some here pinned keeps begins ends pushed stands (more, goes) =
     let held = meta_held old.shape old.level (length old.firsts) many bytes more least most fits goes.holds in
@@ -117,7 +117,7 @@ module _ (shape : Shape) (level count : ℕ) (blocks : List ℕ) (pins : Bool) (
     pub blocks_are : r.blocks ≡ blocks
     pub pages : length r.firsts ≡ i
     pub counted : r.count ≡ min count (i * page_entries shape)
-    pub stands : Stands r old.pages frames es
+    pub stands : RunOnFlash r old.pages frames es
     pub ends : IsLast last es
     pub each : AllByRecursion (IsEntry shape) es
     pub pinned : IsPinnedIf pins r
@@ -128,7 +128,7 @@ module _ (shape : Shape) (level count : ℕ) (blocks : List ℕ) (pins : Bool) (
   none_pinned true r firsts leases = ap (λ (ls : List ℕ). length ls) leases ∙ ap (λ (ks : List Key). length ks) (sym firsts)
   none_pinned false r firsts leases = leases
 
-  pub Loading-start : (r : Kept) → r.shape ≡ shape → r.level ≡ level → r.blocks ≡ blocks → r.count ≡ 0 → r.firsts ≡ [] → r.leases ≡ [] → Stands r old.pages arena [] → Loading old arena r None 0
+  pub Loading-start : (r : Kept) → r.shape ≡ shape → r.level ≡ level → r.blocks ≡ blocks → r.count ≡ 0 → r.firsts ≡ [] → r.leases ≡ [] → RunOnFlash r old.pages arena [] → Loading old arena r None 0
   unfolding run
   Loading-start r shape_is level_is blocks_are none firsts leases stands = record {
     es = [];
@@ -153,8 +153,8 @@ module _ (shape : Shape) (level count : ℕ) (blocks : List ℕ) (pins : Bool) (
     pub stays_ready : IsReady old shape → IsReady now shape
     stays_ready ready = rw l.board (record { shape_is = ready.shape_is; flash = ready.flash })
 
-    pub stands_now : Stands r now.pages frames l.es
-    stands_now = subst (λ (f : Flash). Stands r f frames l.es) (sym pages_stay) l.stands
+    pub stands_now : RunOnFlash r now.pages frames l.es
+    stands_now = subst (λ (f : Flash). RunOnFlash r f frames l.es) (sym pages_stay) l.stands
 
     -- the next page is that of the run's blocks
     page_is : page_of r (length r.firsts) ≡ page_in shape blocks i
@@ -341,13 +341,13 @@ room_for_blocks r blocks count is none few many =
     let no : length r.blocks ≡ 0 = ap (λ (k : Kept). length k.blocks) none in
     omega (arith, no, many, blocks_fit r.shape r.level count is few)
 
-pub empty_stands : (r : Kept) (flash : Flash) (arena : Frames) → IsShape r.shape → r ≡ empty r.shape r.level → Stands r flash arena []
-empty_stands r flash arena is none = subst (λ (k : Kept). Stands k flash arena []) (sym none) (Stands-empty r.shape r.level flash arena is)
+pub empty_stands : (r : Kept) (flash : Flash) (arena : Frames) → IsShape r.shape → r ≡ empty r.shape r.level → RunOnFlash r flash arena []
+empty_stands r flash arena is none = subst (λ (k : Kept). RunOnFlash k flash arena []) (sym none) (RunOnFlash-empty r.shape r.level flash arena is)
 
 -- a run that had nothing and got its blocks awaits their pages
 pub awaits_pages : (r r' : Kept) (blocks : List ℕ) (pins : Bool) (count : ℕ) (flash : Flash) (arena : Frames) → IsShape r.shape → r ≡ empty r.shape r.level → r' ≡ record r { blocks = r.blocks ++ blocks }
     → AllExist r.shape blocks → count ≤ cap r.shape r.level * page_entries r.shape → length blocks ≡ run_blocks r.shape count
-    → arena.page_bytes ≡ r.shape.page_bytes → (pins ≡ true → run_pages r.shape count ≤ free_frames arena) → Stands r' flash arena [] → AwaitsPages pins count flash arena r'
+    → arena.page_bytes ≡ r.shape.page_bytes → (pins ≡ true → run_pages r.shape count ≤ free_frames arena) → RunOnFlash r' flash arena [] → AwaitsPages pins count flash arena r'
 awaits_pages r r' blocks pins count flash arena is none added exist few places page free stands =
     let no_blocks : r.blocks ≡ [] = ap (λ (k : Kept). k.blocks) none in
     let now : r' ≡ record (empty r.shape r.level) { blocks = blocks } = added ∙ (λ i. record (none i) { blocks = no_blocks i ++ blocks }) in
@@ -358,7 +358,7 @@ awaits_pages r r' blocks pins count flash arena is none added exist few places p
       no_entries = refl;
       no_pages = refl;
       no_leases = refl;
-      stands = subst (λ (k : Kept). Stands k flash arena []) now stands;
+      stands = subst (λ (k : Kept). RunOnFlash k flash arena []) now stands;
       page_bytes = page;
       free = free;
     })

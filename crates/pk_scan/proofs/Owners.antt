@@ -12,7 +12,7 @@ use Rattle.pk_plan.specs.declared.owner.Owner.{Owner}
 use Rattle.pk_plan.specs.declared.owner.Owner.TheVariants.{Journal, Meta, Values}
 use Rattle.pk_pool.specs.declared.state.BlockState.{BlockState}
 use Rattle.pk_pool.specs.declared.state.BlockState.TheVariants.{Free, Ready, Owned}
-use Rattle.pk_pool.specs.Blocks.{Blocks, used_by, unused, IsSpare, Fits}
+use Rattle.pk_pool.specs.Blocks.{Blocks, used_by, unused, IsSpare, PoolOnFlash}
 use Rattle.pk_pool.proofs.Sharing.{used_given}
 use Rattle.pk_live.specs.Values.{Values as LiveValues, IsClosed}
 use Rattle.pk_rootfmt.specs.Root.{Root, named, is_root}
@@ -58,7 +58,7 @@ spare_not_owned p b o (inl free) owned = let clash : ◌≡◌ {A = Option Block
 spare_not_owned p b o (inr ready) owned = let clash : ◌≡◌ {A = Option BlockState} (Some Ready) (Some (Owned o)) = sym ready ∙ owned in cc
 
 module _ (shape : Shape) (root : Root) (is : IsShape shape) (e : is_root shape root ≡ true) (live : LiveValues) (taken : List (Key × Place)) (lives : Lives shape (named root) live taken) where
-  module _ (p q r : Blocks) (new : p ≡ unused shape) (fits : (flash : Flash) → Fits p flash) (owned : NamesOwned root p q) (closing : Adopts Values (λ b. get_or live.closed b false) (count_by (λ b. b) live.closed) q r)
+  module _ (p q r : Blocks) (new : p ≡ unused shape) (fits : (flash : Flash) → PoolOnFlash p flash) (owned : NamesOwned root p q) (closing : Adopts Values (λ b. get_or live.closed b false) (count_by (λ b. b) live.closed) q r)
       (none : used_by Values q.states ≡ 0) (size : length r.states ≡ r.shape.blocks) where
     shape_is : r.shape ≡ shape
     shape_is = closing.shape ∙ owned.shape ∙ ap (λ (x : Blocks). x.shape) new

@@ -6,7 +6,7 @@ use Rattle.pk_base.specs.Entry.{Entry}
 use Rattle.pk_base.specs.Page.{Flash}
 use Rattle.pk_pin.specs.Frames.{Frames}
 use Rattle.pk_run.specs.Kept.{Kept}
-use Rattle.pk_level.specs.Levels.{StandEach}
+use Rattle.pk_level.specs.Levels.{RunsOnFlash}
 use Rattle.pk_walk.specs.Walking.{read_of, most_read}
 use Rattle.pk_level.specs.Arenas.{IsPinnedIf}
 use Rattle.pk_scan.specs.Opening.{HaveBlocks, HaveFrames}
@@ -23,7 +23,7 @@ once_more false r pages none same = let again : read_of r.leases (length r.first
 
 -- both together
 pub run_reads_are : (shape : Shape) (flash : Flash) (arena : Frames) (pinned level : ℕ) (rs : List Kept) (ess : List (List Entry)) (bss : List (List ℕ)) (counts : List ℕ)
-    → StandEach flash arena rs ess → HaveBlocks shape rs bss → HaveFrames pinned level rs counts → pages_of_runs shape counts + most_read rs ≡ run_reads shape pinned level counts
+    → RunsOnFlash flash arena rs ess → HaveBlocks shape rs bss → HaveFrames pinned level rs counts → pages_of_runs shape counts + most_read rs ≡ run_reads shape pinned level counts
 run_reads_are shape flash arena pinned level [] ess bss [] s blocks frames = refl
 run_reads_are shape flash arena pinned level [] ess bss (count ∷ counts) s blocks frames = absurd frames
 run_reads_are shape flash arena pinned level (r ∷ rs) ess bss [] s blocks frames = absurd frames

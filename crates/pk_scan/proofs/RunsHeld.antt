@@ -15,8 +15,8 @@ use Rattle.pk_meta.specs.Run.{run}
 use Rattle.pk_rootfmt.specs.Root.{Root, is_root}
 use Rattle.pk_rootfmt.specs.Held.{Held, total}
 use Rattle.pk_pin.specs.Frames.{Frames, free_frames}
-use Rattle.pk_run.specs.Kept.{Kept, Stands}
-use Rattle.pk_level.specs.Levels.{Levels, StandEach, with_run}
+use Rattle.pk_run.specs.Kept.{Kept, RunOnFlash}
+use Rattle.pk_level.specs.Levels.{Levels, RunsOnFlash, with_run}
 use Rattle.pk_level.specs.Arenas.{IsPinnedIf, leases_of}
 use Rattle.pk_level.proofs.Arenas.{leases-append}
 use Rattle.pk_model.specs.Found.{runs_from}
@@ -70,13 +70,13 @@ wanted_none (suc k) (suc p) (x ∷ xs) h = wanted_none k p xs (omega (arith, h))
 
 -- ---- runs that stand
 
-stand_kept : (flash : Flash) (old new : Frames) → RunsStand old new → (rs : List Kept) (ess : List (List Entry)) → StandEach flash old rs ess → StandEach flash new rs ess
+stand_kept : (flash : Flash) (old new : Frames) → RunsStand old new → (rs : List Kept) (ess : List (List Entry)) → RunsOnFlash flash old rs ess → RunsOnFlash flash new rs ess
 stand_kept flash old new kept [] [] each = tt
 stand_kept flash old new kept [] (es ∷ ess) each = absurd each
 stand_kept flash old new kept (r ∷ rs) [] each = absurd each
 stand_kept flash old new kept (r ∷ rs) (es ∷ ess) each = (kept r flash es each.0, stand_kept flash old new kept rs ess each.1)
 
-stand_more : (flash : Flash) (arena : Frames) (rs : List Kept) (ess : List (List Entry)) (r : Kept) (es : List Entry) → StandEach flash arena rs ess → Stands r flash arena es → StandEach flash arena (rs ++ r ∷ []) (ess ++ es ∷ [])
+stand_more : (flash : Flash) (arena : Frames) (rs : List Kept) (ess : List (List Entry)) (r : Kept) (es : List Entry) → RunsOnFlash flash arena rs ess → RunOnFlash r flash arena es → RunsOnFlash flash arena (rs ++ r ∷ []) (ess ++ es ∷ [])
 stand_more flash arena [] [] r es each one = (one, tt)
 stand_more flash arena [] (x ∷ ess) r es each one = absurd each
 stand_more flash arena (y ∷ rs) [] r es each one = absurd each
@@ -174,7 +174,7 @@ module _ (shape : Shape) (at : ℕ → Page) where
 pub record RunsTo (shape : Shape) (root : Root) (flash : Flash) (pinned : ℕ) (start arena : Frames) (levels : Levels) (k : ℕ) : Type 0 where
   pub ess : List (List Entry)
   pub comes : runs_from shape (page_at flash) 1 root.counts root.runs ≡ behind ess (runs_from shape (page_at flash) (suc k) (drop k root.counts) (drop k root.runs))
-  pub stand : StandEach flash arena (take k levels.runs) ess
+  pub stand : RunsOnFlash flash arena (take k levels.runs) ess
   pub blocks_are : HaveBlocks shape (take k levels.runs) (take k root.runs)
   pub frames_are : HaveFrames pinned 1 (take k levels.runs) (take k root.counts)
   pub shape_is : levels.shape ≡ shape
@@ -268,7 +268,7 @@ module _ (shape : Shape) (root : Root) (counts : length root.counts ≡ 4) (runs
         RunsTo-next = record {
           ess = t.ess ++ l.entries ∷ [];
           comes = next_comes;
-          stand = subst (λ (rs : List Kept). StandEach flash arena' rs (t.ess ++ l.entries ∷ [])) (sym taken) (stand_more flash arena' (take k levels.runs) t.ess l.kept l.entries (stand_kept flash arena arena' l.others (take k levels.runs) t.ess t.stand) l.stands);
+          stand = subst (λ (rs : List Kept). RunsOnFlash flash arena' rs (t.ess ++ l.entries ∷ [])) (sym taken) (stand_more flash arena' (take k levels.runs) t.ess l.kept l.entries (stand_kept flash arena arena' l.others (take k levels.runs) t.ess t.stand) l.stands);
           blocks_are = subst (λ (rs : List Kept). HaveBlocks shape rs (take (suc k) root.runs)) (sym taken) (subst (HaveBlocks shape (take k levels.runs ++ l.kept ∷ [])) (sym (take_next root.runs k [] (omega (arith, runs, h)))) more_blocks);
           frames_are = subst (λ (rs : List Kept). HaveFrames pinned 1 rs (take (suc k) root.counts)) (sym taken) (subst (HaveFrames pinned 1 (take k levels.runs ++ l.kept ∷ [])) (sym (take_next root.counts k 0 (omega (arith, counts, h)))) more_frames);
           shape_is = ap (λ (x : Levels). x.shape) l.levels ∙ t.shape_is;
@@ -294,7 +294,7 @@ module _ (shape : Shape) (root : Root) (counts : length root.counts ≡ 4) (runs
     t.ess,
     record {
       finds = t.comes ∙ ap (behind t.ess) (ap (λ (cs : List ℕ). runs_from shape (page_at flash) 5 cs (drop 4 root.runs)) (past root.counts 4 (omega (arith, counts))) ∙ ap (runs_from shape (page_at flash) 5 []) (past root.runs 4 (omega (arith, runs))) ∙ none_left shape (page_at flash) 5) ∙ ap ok_list (append-nil t.ess);
-      stand = subst (λ (rs : List Kept). StandEach flash arena rs t.ess) whole t.stand;
+      stand = subst (λ (rs : List Kept). RunsOnFlash flash arena rs t.ess) whole t.stand;
       run_blocks = subst (λ (rs : List Kept). HaveBlocks shape rs root.runs) whole (subst (HaveBlocks shape (take 4 levels.runs)) (take_all 4 root.runs (omega (arith, runs))) t.blocks_are);
       run_frames = subst (λ (p : ℕ). HaveFrames p 1 levels.runs root.counts) (sym t.pinned_is)
           (subst (λ (rs : List Kept). HaveFrames pinned 1 rs root.counts) whole (subst (HaveFrames pinned 1 (take 4 levels.runs)) (take_all 4 root.counts (omega (arith, counts))) t.frames_are));

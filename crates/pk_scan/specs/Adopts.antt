@@ -8,7 +8,7 @@ use Rattle.pk_plan.specs.declared.owner.Owner.TheVariants.{Journal, Meta, Values
 use Rattle.pk_plan.specs.Quotas.{quota_of}
 use Rattle.pk_pool.specs.declared.state.BlockState.{BlockState}
 use Rattle.pk_pool.specs.declared.state.BlockState.TheVariants.{Owned}
-use Rattle.pk_pool.specs.Blocks.{Blocks, used_by, same_owner, IsSpare, Fits}
+use Rattle.pk_pool.specs.Blocks.{Blocks, used_by, same_owner, IsSpare, PoolOnFlash}
 use Rattle.pk_rootfmt.specs.Root.{Root, differ}
 use Rattle.pk_live.specs.Values.{Values as LiveValues, IsClosed}
 use Rattle.pk_model.specs.Laws.{AnyByRecursion}
@@ -28,7 +28,7 @@ pub record Adopts (owner : Owner) (test : ℕ → Bool) (n : ℕ) (old new : Blo
   pub states : (b : ℕ) → slice_get new.states b ≡ option_map (owned_if owner (test b)) (slice_get old.states b)
   pub counted : used_by owner new.states ≡ used_by owner old.states + n
   pub others : (o : Owner) → same_owner o owner ≡ false → used_by o new.states ≡ used_by o old.states
-  pub fits : (flash : Flash) → Fits old flash → Fits new flash
+  pub fits : (flash : Flash) → PoolOnFlash old flash → PoolOnFlash new flash
 
 -- what a block is of which a root tells
 abbrev pub state_of : Root → ℕ → BlockState → BlockState
@@ -41,13 +41,13 @@ pub record NamesOwned (root : Root) (old new : Blocks) : Type 0 where
   pub journal : used_by Journal new.states ≡ used_by Journal old.states + length (root.newest ++ root.older)
   pub meta : used_by Meta new.states ≡ used_by Meta old.states + length (concat root.runs)
   pub values : used_by Values new.states ≡ used_by Values old.states
-  pub fits : (flash : Flash) → Fits old flash → Fits new flash
+  pub fits : (flash : Flash) → PoolOnFlash old flash → PoolOnFlash new flash
 
 -- The blocks of the root's epochs are the journal's, those of its runs are meta blocks, and those that are closed are the values'.
 pub record HasOwners (shape : Shape) (root : Root) (live : LiveValues) (pool : Blocks) : Type 0 where
   pub pool_shape : pool.shape ≡ shape
   pub pool_size : length pool.states ≡ shape.blocks
-  pub pool_fits : (flash : Flash) → Fits pool flash
+  pub pool_fits : (flash : Flash) → PoolOnFlash pool flash
   pub journal : (b : ℕ) → AnyByRecursion (λ c. b ≡ c) (root.newest ++ root.older) → slice_get pool.states b ≡ Some (Owned Journal)
   pub journal_few : used_by Journal pool.states ≡ length (root.newest ++ root.older)
   pub runs : (b : ℕ) → AnyByRecursion (λ c. b ≡ c) (concat root.runs) → slice_get pool.states b ≡ Some (Owned Meta)

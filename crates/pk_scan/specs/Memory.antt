@@ -10,7 +10,7 @@ use Rattle.pk_model.specs.Found.{Found as FoundLists}
 use Rattle.pk_nand.specs.BoardState.{BoardState}
 use Rattle.pk_nand.specs.Erased.{after_reads}
 use Rattle.pk_pin.specs.Frames.{free_frames}
-use Rattle.pk_pool.specs.Blocks.{Fits, unused}
+use Rattle.pk_pool.specs.Blocks.{PoolOnFlash, unused}
 use Rattle.pk_rootfmt.specs.Newest.{newest_root}
 use Rattle.pk_rootfmt.specs.Root.{is_root, named}
 use Rattle.pk_steps.specs.Under.{places}
@@ -32,7 +32,7 @@ pub record FoundNothing {A : Type 0} (shape : Shape) (frames : ℕ) (f : Found A
   pub all_free : f.arena.used ≡ replicate frames false
   pub none_live : f.live ≡ no_values shape
   pub pool_unused : f.pool ≡ unused shape
-  pub pool_fits : (flash : Flash) → Fits f.pool flash
+  pub pool_fits : (flash : Flash) → PoolOnFlash f.pool flash
 
 -- Nothing was read, and the walk is at its start.
 pub record IsUnread {A : Type 0} (shape : Shape) (frames : ℕ) (m : Memory A) : Type 0 where

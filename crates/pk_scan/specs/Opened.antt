@@ -5,12 +5,12 @@ use Rattle.pk_base.specs.Page.{Flash, page_at, erased}
 use Rattle.pk_base.specs.Map.{Map}
 use Rattle.pk_plan.specs.declared.owner.Owner.TheVariants.{Journal, Meta, Values as for_values}
 use Rattle.pk_pool.specs.declared.state.BlockState.TheVariants.{Owned}
-use Rattle.pk_pool.specs.Blocks.{Blocks, Fits as PoolFits, used_by}
+use Rattle.pk_pool.specs.Blocks.{Blocks, PoolOnFlash, used_by}
 use Rattle.pk_nand.specs.BoardState.{BoardState}
 use Rattle.pk_rootfmt.specs.Root.{is_root, named}
-use Rattle.pk_jrn.specs.Epochs.{Fits as EpochFits}
+use Rattle.pk_jrn.specs.Epochs.{EpochOnFlash}
 use Rattle.pk_jrn.specs.Replays.{buffer_of}
-use Rattle.pk_level.specs.Levels.{StandEach}
+use Rattle.pk_level.specs.Levels.{RunsOnFlash}
 use Rattle.pk_level.specs.Arenas.{HasArena}
 use Rattle.pk_model.specs.Found.{Found as FoundLists}
 use Rattle.pk_steps.specs.Under.{IsUnder, IsValuePage, places}
@@ -30,10 +30,10 @@ pub record HasLists {A : Type 0} (shape : Shape) (flash : Flash) (frames : ℕ) 
   pub active_is : f.active ≡ buffer_of shape lists.newest
   pub frozen_is : f.frozen ≡ buffer_of shape lists.older
   pub epoch_is : IsFoundEpoch shape flash f.root.root f.epoch
-  pub epoch_fits : EpochFits f.epoch flash
+  pub epoch_fits : EpochOnFlash f.epoch flash
   pub levels_shape : f.levels.shape ≡ shape
   pub levels_pinned : f.levels.pinned ≡ pinned shape frames
-  pub stand : StandEach flash f.arena f.levels.runs lists.runs
+  pub stand : RunsOnFlash flash f.arena f.levels.runs lists.runs
   pub run_blocks : HaveBlocks shape f.levels.runs f.root.root.runs
   pub arena_is : HasArena shape frames f.levels f.arena []
 

@@ -14,11 +14,11 @@ use Rattle.pk_meta.specs.Run.{run}
 use Rattle.pk_rootfmt.specs.Root.{Root, is_root}
 use Rattle.pk_rootfmt.specs.Held.{Held, total}
 use Rattle.pk_buf.specs.Table.{Table}
-use Rattle.pk_jrn.specs.Epochs.{JournalEpoch, HasCommit, found_at_opening, Fits}
+use Rattle.pk_jrn.specs.Epochs.{JournalEpoch, HasCommit, found_at_opening, EpochOnFlash}
 use Rattle.pk_jrn.specs.Replays.{buffer_of}
 use Rattle.pk_pin.specs.Frames.{Frames, free_frames}
-use Rattle.pk_run.specs.Kept.{Kept, Stands}
-use Rattle.pk_level.specs.Levels.{Levels, StandEach, with_run}
+use Rattle.pk_run.specs.Kept.{Kept, RunOnFlash}
+use Rattle.pk_level.specs.Levels.{Levels, RunsOnFlash, with_run}
 use Rattle.pk_level.specs.Arenas.{IsPinnedIf, leases_of}
 use Rattle.pk_model.specs.Found.{Found, found_under, newest_epoch, older_epoch, runs_from}
 use Rattle.pk_live.specs.Values.{Values}
@@ -83,7 +83,7 @@ IsFoundEpoch shape flash root epoch =
 abbrev pub NewestHeld : Shape → Flash → Root → Table → JournalEpoch → Type 0
 NewestHeld shape flash root into epoch =
     ((entries : List Entry) × HoldsEpoch shape (newest_epoch shape (page_at flash) root) into entries)
-    × IsFoundEpoch shape flash root epoch × Fits epoch flash
+    × IsFoundEpoch shape flash root epoch × EpochOnFlash epoch flash
 
 -- ---- runs
 
@@ -104,7 +104,7 @@ HaveFrames pinned level (r ∷ rs) (count ∷ counts) = (r.count ≡ count) × I
 -- the reading of the runs finds these lists, and the levels stand for them, with the blocks that the root names
 pub record HoldsRuns (shape : Shape) (flash : Flash) (root : Root) (arena : Frames) (levels : Levels) (ess : List (List Entry)) : Type 0 where
   pub finds : runs_from shape (page_at flash) 1 root.counts root.runs ≡ Ok ess
-  pub stand : StandEach flash arena levels.runs ess
+  pub stand : RunsOnFlash flash arena levels.runs ess
   pub run_blocks : HaveBlocks shape levels.runs root.runs
   pub run_frames : HaveFrames levels.pinned 1 levels.runs root.counts
 
@@ -122,7 +122,7 @@ pub record LoadsLevel (shape : Shape) (root : Root) (level : ℕ) (flash : Flash
   pub entries : List Entry
   pub kept : Kept
   pub finds : run shape (page_at flash) level (slice_index root.counts (level - 1)) (slice_index_or root.runs (level - 1) []) ≡ Ok entries
-  pub stands : Stands kept flash after entries
+  pub stands : RunOnFlash kept flash after entries
   pub shape_is : kept.shape ≡ shape
   pub blocks_are : kept.blocks ≡ slice_index_or root.runs (level - 1) []
   pub count_is : kept.count ≡ slice_index root.counts (level - 1)
@@ -174,11 +174,11 @@ pub record HoldsFound (shape : Shape) (flash : Flash) (root : Root) (active froz
   pub finds : found_under shape (page_at flash) root ≡ Ok found
   pub active_is : active ≡ buffer_of shape found.newest
   pub frozen_is : frozen ≡ buffer_of shape found.older
-  pub stand : StandEach flash arena levels.runs found.runs
+  pub stand : RunsOnFlash flash arena levels.runs found.runs
   pub run_blocks : HaveBlocks shape levels.runs root.runs
   pub run_frames : HaveFrames levels.pinned 1 levels.runs root.counts
   pub epoch_is : IsFoundEpoch shape flash root epoch
-  pub epoch_fits : Fits epoch flash
+  pub epoch_fits : EpochOnFlash epoch flash
 
 -- ---- values
 

@@ -15,7 +15,7 @@ use Rattle.pk_nand.specs.BoardState.{BoardState}
 use Rattle.pk_nand.specs.Calls.{Rose, ReadFailed, after_read}
 use Rattle.pk_nand.specs.Erased.{after_reads}
 use Rattle.pk_pin.specs.Frames.{Frames, IsLeased, frame_of, free_frames, AreLeases}
-use Rattle.pk_run.specs.Kept.{Kept, Stands, page_of, most_pages, with_page}
+use Rattle.pk_run.specs.Kept.{Kept, RunOnFlash, page_of, most_pages, with_page}
 use Rattle.pk_level.specs.Arenas.{IsPinnedIf}
 use Rattle.pk_scan.specs.declared.errors.PageError.{PageError}
 use Rattle.pk_scan.specs.declared.errors.PageError.TheVariants.{Damaged, Fault}
@@ -31,7 +31,7 @@ module _ (shape : Shape) (level count : ℕ) (blocks : List ℕ) where
     pub read : run shape (page_at flash) level count blocks ≡ Ok entries
     pub each : AllByRecursion (IsEntry shape) entries
     pub counted : r.count ≡ count
-    pub stands : Stands r flash arena entries
+    pub stands : RunOnFlash r flash arena entries
 
   -- behind so many pages the reading of the run has these entries, and goes on with the other pages
   abbrev pub ComesTo : Flash → ℕ → List Entry → Type 0
@@ -70,13 +70,13 @@ pub record LeasedMore (old new : Frames) (more : List ℕ) : Type 0 where
 
 -- each run that stood with the frames of one arena stands with those of the other
 abbrev pub RunsStand : Frames → Frames → Type 0
-RunsStand old new = (r : Kept) (flash : Flash) (es : List Entry) → Stands r flash old es → Stands r flash new es
+RunsStand old new = (r : Kept) (flash : Flash) (es : List Entry) → RunOnFlash r flash old es → RunOnFlash r flash new es
 
 -- Pages of a run were read into it: it stands for those, and their frames were free, if they have some. Its blocks are these, and
 -- all other runs stand as they did.
 pub record LoadsPages (pins : Bool) (flash : Flash) (blocks : List ℕ) (before after : Frames) (old new : Kept) : Type 0 where
   pub es : List Entry
-  pub stands : Stands new flash after es
+  pub stands : RunOnFlash new flash after es
   pub shape_is : new.shape ≡ old.shape
   pub level_is : new.level ≡ old.level
   pub blocks_are : new.blocks ≡ blocks
@@ -94,7 +94,7 @@ pub record AwaitsPages (pins : Bool) (count : ℕ) (flash : Flash) (arena : Fram
   pub no_entries : r.count ≡ 0
   pub no_pages : r.firsts ≡ []
   pub no_leases : r.leases ≡ []
-  pub stands : Stands r flash arena []
+  pub stands : RunOnFlash r flash arena []
   pub page_bytes : arena.page_bytes ≡ r.shape.page_bytes
   pub free : pins ≡ true → run_pages r.shape count ≤ free_frames arena
 
@@ -166,7 +166,7 @@ pub record PageTaken (flash : Flash) (after : Frames) (old new : Kept) (es : Lis
   pub more : List Entry
   pub here : page_at flash (page_of old (length old.firsts)) ≡ whole bytes
   pub goes_on : GoesOn old.shape old.level (length old.firsts) many es bytes more
-  pub stands : Stands new flash after (es ++ more)
+  pub stands : RunOnFlash new flash after (es ++ more)
   pub ends : IsLast (Some last) (es ++ more)
 
 -- The next page of the run was read, and has no entries that go on behind es; or its read failed.

@@ -4,7 +4,7 @@ use Rattle.pk_base.specs.Entry.{Entry}
 use Rattle.pk_base.specs.Page.{Flash}
 use Rattle.pk_pin.specs.Frames.{Frames}
 use Rattle.pk_run.specs.Kept.{Kept}
-use Rattle.pk_level.specs.Levels.{StandEach}
+use Rattle.pk_level.specs.Levels.{RunsOnFlash}
 use Rattle.pk_walk.specs.Visible.{visible}
 use Rattle.pk_walk.specs.Walking.{Walk, IsLeft, SkipsNone, pages_read}
 
@@ -12,6 +12,6 @@ use Rattle.pk_walk.specs.Walking.{Walk, IsLeft, SkipsNone, pages_read}
 pub record IsAtStart (walk : Walk) : Type 0 where
   pub gives :
       (flash : Flash) (arena : Frames) (runs : List Kept) (active frozen : List Entry) (ess : List (List Entry))
-      → StandEach flash arena runs ess → IsLeft walk flash arena runs active frozen (visible (active ∷ frozen ∷ ess))
+      → RunsOnFlash flash arena runs ess → IsLeft walk flash arena runs active frozen (visible (active ∷ frozen ∷ ess))
   pub skips_none : SkipsNone walk
   pub none_read : (runs : List Kept) → pages_read runs walk.cursors ≡ 0

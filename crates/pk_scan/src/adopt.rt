@@ -6,7 +6,7 @@ ghost use Rattle.pk_base.specs.Page.{Flash};
 ghost use Rattle.pk_base.specs.Shape.{data_blocks};
 ghost use Rattle.pk_base.specs.Entry.{Place};
 ghost use Rattle.pk_plan.specs.declared.owner.Owner.TheVariants.{Journal, Meta, Values};
-ghost use Rattle.pk_pool.specs.Blocks.{Fits, used_by, unused};
+ghost use Rattle.pk_pool.specs.Blocks.{PoolOnFlash, used_by, unused};
 ghost use Rattle.pk_rootfmt.specs.Root as spec;
 ghost use Rattle.pk_rootfmt.specs.Root.{named, is_root};
 ghost use Rattle.pk_live.specs.Lives.{Lives};
@@ -93,7 +93,7 @@ pub fn adopt_values<A: Allocator>(pool: &mut Pool<A>, live: &Live<A>)
 /// stands for values in none of the blocks that the root names.
 pub fn give_owners<A: Allocator>(pool: &mut Pool<A>, root: &Root<A>, live: &Live<A>)
     requires unused { pool.old ≡ unused root.now.shape }
-    requires fits { (flash : Flash) → Fits pool.old flash }
+    requires fits { (flash : Flash) → PoolOnFlash pool.old flash }
     requires root { is_root root.now.shape root.now.root ≡ true }
     requires lives { (taken : List (Key × Place))
         × Lives root.now.shape (named root.now.root) live.now taken }

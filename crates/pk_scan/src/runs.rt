@@ -6,7 +6,7 @@ ghost use Rattle.pk_base.specs.Page.{Flash};
 ghost use Rattle.pk_nand.specs.Calls.{IsReady, after_read};
 ghost use Rattle.pk_nand.specs.Erased.{after_reads};
 ghost use Rattle.pk_pin.specs.Frames.{Frames, free_frames};
-ghost use Rattle.pk_run.specs.Kept.{Stands, empty, most_blocks};
+ghost use Rattle.pk_run.specs.Kept.{RunOnFlash, empty, most_blocks};
 ghost use Rattle.pk_scan.specs.Board.{StaysReady};
 ghost use Rattle.pk_scan.specs.Runs.{AllExist, HasRun, NotRead, LoadsPages, IsLast};
 ghost use Rattle.pk_scan.specs.Runs.{AwaitsPages, AwaitsPage, KeepsPage, PageAdded, PageTaken, PageRefused};
@@ -42,7 +42,7 @@ fn add_blocks<A: Allocator>(blocks: &[u16], into: &mut Run<A>)
     requires { length into.old.blocks + length blocks.now ≤ most_blocks into.old }
     ensures added { into.new ≡ record into.old { blocks = into.old.blocks ++ blocks.now } }
     ensures stands { (flash : Flash) (arena : Frames) (es : List EntrySpec)
-        → Stands into.old flash arena es → Stands into.new flash arena es }
+        → RunOnFlash into.old flash arena es → RunOnFlash into.new flash arena es }
 {
     for block in blocks {
         into.push_block(*block);
@@ -62,15 +62,15 @@ fn take_page<B: Nand, A: Allocator>(
     requires ready { IsReady (B.state board.old) into.old.shape }
     requires next { AwaitsPage pins entries arena.old into.old }
     requires before { (es : List EntrySpec)
-        × Stands into.old (B.state board.old).pages arena.old es × IsLast last.now es }
+        × RunOnFlash into.old (B.state board.old).pages arena.old es × IsLast last.now es }
     requires sized { length buf.old ≡ into.old.shape.page_bytes }
     ensures taken { IfOk result (λ key. (es : List EntrySpec)
-        → Stands into.old (B.state board.old).pages arena.old es → IsLast last.now es
+        → RunOnFlash into.old (B.state board.old).pages arena.old es → IsLast last.now es
         → PageTaken (B.state board.old).pages arena.new into.old into.new es entries key) }
     ensures added { OnOk result (PageAdded pins arena.old arena.new into.old into.new entries) }
     ensures ok { OnOk result (B.state board.new ≡ after_read (B.state board.old)) }
     ensures err { IfErr result (λ e. (es : List EntrySpec)
-        → Stands into.old (B.state board.old).pages arena.old es → IsLast last.now es
+        → RunOnFlash into.old (B.state board.old).pages arena.old es → IsLast last.now es
         → PageRefused (B.state board.old) (B.state board.new) into.old es entries e) }
     ensures kept { OnErr result ((into.new ≡ into.old) × (arena.new ≡ arena.old)) }
     ensures buffer { length buf.new ≡ length buf.old }

@@ -14,7 +14,7 @@ use Rattle.pk_model.specs.Script.{script}
 use Rattle.pk_model.specs.Run.{Exchange, commands}
 use Rattle.std.proofs.lemmas.List.{length-map}
 use Rattle.pk_model.specs.Sight.{Sight}
-use Rattle.pk_drive.specs.Drive.{Stands}
+use Rattle.pk_drive.specs.Drive.{HoldsMap}
 use Rattle.pk_model.specs.Growth.{Goes}
 use Rattle.pk_model.specs.Wear.{is_worn, roots}
 use Rattle.pk_model.proofs.Growing.{Goes-reaches, weaken_went}
@@ -49,7 +49,7 @@ module _ (shape : Shape) (frames : ℕ) (start : Map) (a b : BoardState) (d : Si
     spells = f.spells;
   }
 
-  pub Finish-says : (end : End) → IsFault end ⊎ ((m : Map) (r : Request) → Stands shape frames b d m → refused m r → now_refused m r)
+  pub Finish-says : (end : End) → IsFault end ⊎ ((m : Map) (r : Request) → HoldsMap shape frames b d m → refused m r → now_refused m r)
       → Finish shape frames start a b d held (saying served refused) end → Finish shape frames start a b d held (saying served now_refused) end
   unfolding finished_says
   Finish-says Done turns f = record { finished = finished_says [] f.finished; at_end = f.at_end; same = f.same }

@@ -11,7 +11,7 @@ use Rattle.pk_nand.specs.BoardState.{BoardState}
 use Rattle.pk_nand.specs.Calls.{Rose, put_back}
 use Rattle.pk_model.specs.Run.{commands}
 use Rattle.pk_model.specs.Sight.{Sight}
-use Rattle.pk_drive.specs.Drive.{Stands}
+use Rattle.pk_drive.specs.Drive.{HoldsMap}
 use Rattle.pk_model.specs.Wear.{is_worn}
 use Rattle.pk_serve.specs.Ends.{IsFault}
 use Rattle.pk_serve.specs.Serving.{Serving, StepWithin, saying, Accepted, Refused}
@@ -44,7 +44,7 @@ Looping-refusing shape frames start a b drive held taken served refused w = reco
   spells = w.spells;
 }
 
-pub Looping-start : (shape : Shape) (frames : ℕ) (start : Map) (a : BoardState) (drive : Sight) (held : List ℕ) (says : Map → Request → Bool → Type 0) → held ≡ [] → Stands shape frames a drive start → drive.pending ≡ [] → Looping shape frames start a a drive held 0 says
+pub Looping-start : (shape : Shape) (frames : ℕ) (start : Map) (a : BoardState) (drive : Sight) (held : List ℕ) (says : Map → Request → Bool → Type 0) → held ≡ [] → HoldsMap shape frames a drive start → drive.pending ≡ [] → Looping shape frames start a a drive held 0 says
 Looping-start shape frames start a drive held says empty stands none =
     let T : List ℕ → Type 0 = λ t. Serving shape frames start a a drive t [] start in
     record {
@@ -196,7 +196,7 @@ module _ (shape : Shape) (frames : ℕ) (start : Map) (a b c : BoardState) (d e 
 
 -- the drive that stands for the map on the board serves the request
 pub accepted_on : (Drive : Type 0) (sight : Drive → Sight) (agrees : Drive → Option Shape → Pages → Type 0) (built : Drive → Request → Bool) (shape : Shape) (frames : ℕ) (m : Map) (board : BoardState) (drive : Drive)
-    → agrees drive board.shape board.pages → Stands shape frames board (sight drive) m
+    → agrees drive board.shape board.pages → HoldsMap shape frames board (sight drive) m
     → (c : Command) → ((r : Request) × (command_of r c.value ≡ c) × (built drive r ≡ true)) → Accepted (saying_served (HasServed Drive sight agrees built shape frames)) m c
 accepted_on Drive sight agrees built shape frames m board drive ok stands c h = (h.0, h.1, (drive, board, (ok, stands), h.2))
 

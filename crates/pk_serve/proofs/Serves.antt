@@ -18,7 +18,7 @@ use Rattle.pk_model.specs.Run.{Exchange, commands, faults}
 use Rattle.pk_model.specs.Reading.{reading}
 use Rattle.pk_model.specs.Kept.{AtMost, rise}
 use Rattle.pk_model.specs.Sight.{Sight}
-use Rattle.pk_drive.specs.Drive.{Stands}
+use Rattle.pk_drive.specs.Drive.{HoldsMap}
 use Rattle.pk_nand.specs.Effects.{OnlyFlash}
 use Rattle.pk_model.specs.Wear.{roots}
 use Rattle.pk_model.specs.Growth.{GrowsAlong, Reaches, Goes}
@@ -250,7 +250,7 @@ module _ (shape : Shape) (frames : ℕ) (start : Map) (a b : BoardState) (drive 
       ])
 
   -- what was pending is on the flash
-  pub Serving-commit : (c : BoardState) (e : Sight) → Reaches shape b c (CrashFinds shape commit b.pages m) → Stands shape frames c e m → OnlyFlash b c
+  pub Serving-commit : (c : BoardState) (e : Sight) → Reaches shape b c (CrashFinds shape commit b.pages m) → HoldsMap shape frames c e m → OnlyFlash b c
       → c.read_faults ≡ b.read_faults → c.stop_faults ≡ b.stop_faults → c.reads ≡ b.reads → roots c ≡ roots b → Serving shape frames start a c e unposted all m
   Serving-commit c e reached stands rest same_reads no_stop read same_roots =
       let up : b.read_faults ≤ c.read_faults = omega (arith, same_reads) in
@@ -343,7 +343,7 @@ module _ (shape : Shape) (frames : ℕ) (start : Map) (a b : BoardState) (drive 
   }
 
 -- nothing was served yet
-pub Serving-start : (shape : Shape) (frames : ℕ) (start : Map) (a : BoardState) (drive : Sight) → Stands shape frames a drive start → drive.pending ≡ [] → Serving shape frames start a a drive [] [] start
+pub Serving-start : (shape : Shape) (frames : ℕ) (start : Map) (a : BoardState) (drive : Sight) → HoldsMap shape frames a drive start → drive.pending ≡ [] → Serving shape frames start a a drive [] [] start
 Serving-start shape frames start a drive stands none =
     let M : List Entry → Type 0 = λ p. reading shape a.pages p ≡ Ok start in
     let held : reading shape a.pages [] ≡ Ok start = subst M none stands.map_is in

@@ -12,7 +12,7 @@ use Rattle.pk_model.specs.Answer.{map_after}
 use Rattle.pk_model.specs.Run.{Step}
 use Rattle.pk_model.specs.Reading.{reading, Holds}
 use Rattle.pk_model.specs.Sight.{Sight}
-use Rattle.pk_drive.specs.Drive.{Stands}
+use Rattle.pk_drive.specs.Drive.{HoldsMap}
 use Rattle.pk_model.specs.Growth.{Reaches}
 use Rattle.pk_model.specs.Crashes.{CrashFinds, commit, command}
 use Rattle.pk_drive.specs.Call.{KeepsMap, CallReaches, CallGoes}
@@ -20,7 +20,7 @@ use Rattle.pk_drive.specs.Exec.{ExecStands}
 use Rattle.pk_model.proofs.Growing.{weaken, weaken_went, at_end, Reaches-then, Goes-then}
 use Rattle.pk_serve.specs.Port.{StepCut, Submits, SubmitStops}
 
-module _ (a b : BoardState) (d : Sight) (c : Command) (shape : Shape) (frames : ℕ) (m : Map) (s : Stands shape frames a d m) (none : d.pending ≡ []) where
+module _ (a b : BoardState) (d : Sight) (c : Command) (shape : Shape) (frames : ℕ) (m : Map) (s : HoldsMap shape frames a d m) (none : d.pending ≡ []) where
   held : Holds shape a.pages m
   held = let M : List Entry → Type 0 = λ p. reading shape a.pages p ≡ Ok m in subst M none s.map_is
 
@@ -54,7 +54,7 @@ stops_exec a b d c went shape frames m s none = let w = went shape frames m s in
     (w.0, weaken_went w.0 a b (CrashFinds shape (command c) a.pages m) (StepCut shape m c) (exec_step a b d c shape frames m s none) w.1, w.2)
 
 module _ (a b f : BoardState) (d e : Sight) (c : Command) (r : Reply) (reads : ℕ) (reaches : CallReaches a b d (command c)) (stands : ExecStands a b d e c r reads) where
-  module _ (shape : Shape) (frames : ℕ) (m : Map) (s : Stands shape frames a d m) (none : d.pending ≡ []) where
+  module _ (shape : Shape) (frames : ℕ) (m : Map) (s : HoldsMap shape frames a d m) (none : d.pending ≡ []) where
     first : Reaches shape a b (StepCut shape m c)
     first = let w = reaches shape frames m s in (w.0, weaken w.0 a b (CrashFinds shape (command c) a.pages m) (StepCut shape m c) (exec_step a b d c shape frames m s none) w.1, w.2)
 

@@ -13,7 +13,7 @@ use Rattle.pk_model.specs.Run.{Exchange, commands, records, map_after_all}
 use Rattle.pk_model.specs.Reading.{Holds}
 use Rattle.pk_model.specs.Script.{script}
 use Rattle.pk_model.specs.Sight.{Sight}
-use Rattle.pk_drive.specs.Drive.{Stands}
+use Rattle.pk_drive.specs.Drive.{HoldsMap}
 use Rattle.pk_model.specs.Wear.{roots}
 use Rattle.pk_serve.specs.declared.end.End.{End}
 use Rattle.pk_serve.specs.declared.end.End.TheVariants.{Done}
@@ -48,6 +48,6 @@ pub record IsServable (a b : BoardState) (cs : List Command) (rest : List ℕ) :
 
 abbrev pub Completes : (Drive : Type 0) → (Drive → Request → Bool) → BoardState → BoardState → Sight → End → Type 0
 Completes Drive built a b before end =
-    (shape : Shape) (frames : ℕ) (start : Map) → Stands shape frames a before start → before.pending ≡ []
+    (shape : Shape) (frames : ℕ) (start : Map) → HoldsMap shape frames a before start → before.pending ≡ []
     → ((drive : Drive) (r : Request) → built drive r ≡ true) → (input : List ℕ) → a.input ≡ Some input → IsServable a b (script input).0 (script input).1
     → (end ≡ Done) × Complete shape frames start a b (script input).0

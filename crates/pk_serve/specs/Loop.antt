@@ -8,7 +8,7 @@ use Rattle.pk_nand.specs.BoardState.{BoardState}
 use Rattle.pk_nand.specs.Calls.{Rose, put_back, AtEnd}
 use Rattle.pk_model.specs.Run.{Exchange, commands}
 use Rattle.pk_model.specs.Sight.{Sight}
-use Rattle.pk_drive.specs.Drive.{Stands}
+use Rattle.pk_drive.specs.Drive.{HoldsMap}
 use Rattle.pk_model.specs.Wear.{is_worn}
 use Rattle.pk_serve.specs.Ends.{HasCause}
 use Rattle.pk_serve.specs.Serving.{Serving, Cutoff, RunAccepted, Refused}
@@ -107,4 +107,4 @@ Finish shape frames start a b drive held says Flash = Failed shape frames start 
 -- from a drive with this map and nothing pending
 abbrev pub Ends : BoardState → BoardState → Sight → Sight → List ℕ → (Shape → ℕ → Map → Request → Bool → Type 0) → End → Type 0
 Ends a b before after held says end =
-    (shape : Shape) (frames : ℕ) (start : Map) → Stands shape frames a before start → before.pending ≡ [] → Finish shape frames start a b after held (says shape frames) end
+    (shape : Shape) (frames : ℕ) (start : Map) → HoldsMap shape frames a before start → before.pending ≡ [] → Finish shape frames start a b after held (says shape frames) end

@@ -10,7 +10,7 @@ use Rattle.pk_model.specs.Answer.{map_after}
 use Rattle.pk_model.specs.Run.{Step}
 use Rattle.pk_model.specs.Reading.{Holds}
 use Rattle.pk_model.specs.Sight.{Sight}
-use Rattle.pk_drive.specs.Drive.{Stands}
+use Rattle.pk_drive.specs.Drive.{HoldsMap}
 use Rattle.pk_model.specs.Growth.{Reaches, Goes}
 
 -- where it is cut off the flash holds the map before the command or the one after it
@@ -21,14 +21,14 @@ StepCut shape m c flash posted = (posted ≡ []) × (Holds shape flash m ⊎ Hol
 pub record Submitted (shape : Shape) (frames : ℕ) (old new : BoardState) (after : Sight) (m : Map) (c : Command) (reply : Reply) : Type 0 where
   pub left : Map
   pub stepped : Step shape frames m c reply left
-  pub stands : Stands shape frames new after left
+  pub stands : HoldsMap shape frames new after left
   pub holds : Holds shape new.pages left
   pub reached : Reaches shape old new (StepCut shape m c)
 
 abbrev pub Submits : BoardState → BoardState → Sight → Sight → Command → Reply → Type 0
 Submits old new before after c reply =
-    (shape : Shape) (frames : ℕ) (m : Map) → Stands shape frames old before m → before.pending ≡ [] → Submitted shape frames old new after m c reply
+    (shape : Shape) (frames : ℕ) (m : Map) → HoldsMap shape frames old before m → before.pending ≡ [] → Submitted shape frames old new after m c reply
 
 -- a command that stopped the drive
 abbrev pub SubmitStops : BoardState → BoardState → Sight → Command → Type 0
-SubmitStops old new before c = (shape : Shape) (frames : ℕ) (m : Map) → Stands shape frames old before m → before.pending ≡ [] → Goes shape old new (StepCut shape m c)
+SubmitStops old new before c = (shape : Shape) (frames : ℕ) (m : Map) → HoldsMap shape frames old before m → before.pending ≡ [] → Goes shape old new (StepCut shape m c)

@@ -11,7 +11,7 @@ use Rattle.pk_model.specs.Reading.{Holds}
 use Rattle.pk_model.specs.Kept.{AtMost, rise}
 use Rattle.pk_model.specs.Script.{script}
 use Rattle.pk_model.specs.Sight.{Sight}
-use Rattle.pk_drive.specs.Drive.{Stands}
+use Rattle.pk_drive.specs.Drive.{HoldsMap}
 use Rattle.pk_model.specs.Wear.{is_worn, roots}
 use Rattle.pk_model.specs.Growth.{Goes}
 use Rattle.pk_drive.specs.Meter.{meter, MeteredAll}
@@ -24,13 +24,13 @@ use Rattle.pk_serve.specs.Loop.{most_entries}
 -- The headline: every cut keeps what was served of the script, and from each state of the trail to the next the tree grows.
 abbrev pub KeepsScript : BoardState → BoardState → Sight → Type 0
 KeepsScript a b before =
-    (shape : Shape) (frames : ℕ) (start : Map) → Stands shape frames a before start → before.pending ≡ []
+    (shape : Shape) (frames : ℕ) (start : Map) → HoldsMap shape frames a before start → before.pending ≡ []
     → (input : List ℕ) → a.input ≡ Some input → Goes shape a b (KeptAt shape frames start (script input).0 (rise a.read_faults b.read_faults))
 
 -- the same where the input is not told
 abbrev pub KeepsSome : BoardState → BoardState → Sight → Type 0
 KeepsSome a b before =
-    (shape : Shape) (frames : ℕ) (start : Map) → Stands shape frames a before start → before.pending ≡ []
+    (shape : Shape) (frames : ℕ) (start : Map) → HoldsMap shape frames a before start → before.pending ≡ []
     → (cs : List Command) × Goes shape a b (KeptAt shape frames start cs (rise a.read_faults b.read_faults))
 
 -- These, no more than a run takes, were served from a drive that was not worn, with exactly their records posted, and the flash holds the map after them.
@@ -74,7 +74,7 @@ ServedBy shape frames start a b input says Flash = Rose a.stop_faults b.stop_fau
 
 abbrev pub Answers : BoardState → BoardState → Sight → (Shape → ℕ → Map → Request → Bool → Type 0) → End → Type 0
 Answers a b before says end =
-    (shape : Shape) (frames : ℕ) (start : Map) → Stands shape frames a before start → before.pending ≡ []
+    (shape : Shape) (frames : ℕ) (start : Map) → HoldsMap shape frames a before start → before.pending ≡ []
     → (input : List ℕ) → a.input ≡ Some input → ServedBy shape frames start a b input (says shape frames) end
 
 -- The same where the input is not told: some commands were served, and each end has its cause.
@@ -91,4 +91,4 @@ ServedSome shape frames start a b says Flash = (cs : List Command) × Answered s
 
 abbrev pub Causes : BoardState → BoardState → Sight → (Shape → ℕ → Map → Request → Bool → Type 0) → End → Type 0
 Causes a b before says end =
-    (shape : Shape) (frames : ℕ) (start : Map) → Stands shape frames a before start → before.pending ≡ [] → ServedSome shape frames start a b (says shape frames) end
+    (shape : Shape) (frames : ℕ) (start : Map) → HoldsMap shape frames a before start → before.pending ≡ [] → ServedSome shape frames start a b (says shape frames) end

@@ -17,7 +17,7 @@ use Rattle.pk_model.specs.Bounds.{most_reads}
 use Rattle.pk_model.specs.Run.{Exchange, Step, RunWithin, commands, records, faults}
 use Rattle.pk_model.specs.Kept.{Kept, AtMost, rise}
 use Rattle.pk_model.specs.Sight.{Sight}
-use Rattle.pk_drive.specs.Drive.{Stands}
+use Rattle.pk_drive.specs.Drive.{HoldsMap}
 use Rattle.pk_model.specs.Growth.{GrowsAlong, Goes}
 use Rattle.pk_drive.specs.Meter.{Meter, meter, MeteredAll, reads_after}
 use Rattle.pk_drive.specs.Exec.{most_installs}
@@ -36,7 +36,7 @@ KeptAt shape frames start cs n flash posted = Kept shape frames start cs n poste
 -- These were served from one map to another, and their records were posted but for these bytes. Wherever it was cut, it was kept.
 pub record Serving (shape : Shape) (frames : ℕ) (start : Map) (a b : BoardState) (drive : Sight) (unposted : List ℕ) (all : List Exchange) (m : Map) : Type 0 where
   pub ran : RunWithin shape frames start all m
-  pub stands : Stands shape frames b drive m
+  pub stands : HoldsMap shape frames b drive m
   pub marks : List Mark
   pub run : ReachedBy marks a b (KeptAt shape frames start (commands all) (rise a.read_faults b.read_faults))
   pub grows : GrowsAlong shape a.pages marks

@@ -6,12 +6,12 @@ use Rattle.pk_base.specs.Map.{Map}
 use Rattle.pk_nvme.specs.declared.request.Request.{Request}
 use Rattle.pk_nand.specs.BoardState.{BoardState}
 use Rattle.pk_model.specs.Sight.{Sight}
-use Rattle.pk_drive.specs.Drive.{Stands}
+use Rattle.pk_drive.specs.Drive.{HoldsMap}
 use Rattle.pk_serve.specs.Serving.{saying}
 
 -- the drive agrees with the board, and stands for this map on it
 abbrev pub StandsOn : (Drive : Type 0) → (Drive → Sight) → (Drive → Option Shape → Pages → Type 0) → Shape → ℕ → BoardState → Drive → Map → Type 0
-StandsOn Drive sight agrees shape frames board drive m = agrees drive board.shape board.pages × Stands shape frames board (sight drive) m
+StandsOn Drive sight agrees shape frames board drive m = agrees drive board.shape board.pages × HoldsMap shape frames board (sight drive) m
 
 -- a drive serves this request that stands for this map on a board
 abbrev pub HasServed : (Drive : Type 0) → (Drive → Sight) → (Drive → Option Shape → Pages → Type 0) → (Drive → Request → Bool)

@@ -11,7 +11,7 @@ use Rattle.pk_model.specs.Kept.{rise}
 use Rattle.pk_model.specs.Reading.{reading, Holds}
 use Rattle.pk_model.specs.Script.{script}
 use Rattle.pk_model.specs.Sight.{Sight}
-use Rattle.pk_drive.specs.Drive.{Stands}
+use Rattle.pk_drive.specs.Drive.{HoldsMap}
 use Rattle.pk_model.specs.Growth.{Goes}
 use Rattle.pk_serve.specs.Ends.{Blames}
 use Rattle.pk_serve.specs.Told.{Told}
@@ -24,7 +24,7 @@ use Rattle.pk_nand.specs.Effects.{OnlyReading}
 use Rattle.pk_scan.specs.Opening.{NotOpened}
 use Rattle.pk_scan.specs.declared.errors.OpenError.{OpenError}
 use Rattle.pk_core.specs.Parts.{Parts, sight_of, is_built}
-use Rattle.pk_core.specs.Agreeing.{AgreesBetween}
+use Rattle.pk_core.specs.Agreeing.{DriveOnFlashBetween}
 use Rattle.pk_top.specs.Ends.{end_status, open_status}
 use Rattle.pk_top.specs.Serves.{KeptFrom, Serves, behind_opening}
 
@@ -62,7 +62,7 @@ Serves-not shape frames loaded new status error tells reason only = record {
 
 -- ---- a drive that was opened
 
-module _ (shape : Shape) (frames : ℕ) (loaded new : BoardState) (drive : Sight) (start : Map) (stands : Stands shape frames (behind_opening shape frames loaded) drive start) (none : drive.pending ≡ []) where
+module _ (shape : Shape) (frames : ℕ) (loaded new : BoardState) (drive : Sight) (start : Map) (stands : HoldsMap shape frames (behind_opening shape frames loaded) drive start) (none : drive.pending ≡ []) where
   start-held : Holds shape loaded.pages start
   start-held = let T : List Entry → Type 0 = λ p. reading shape loaded.pages p ≡ Ok start in subst T none stands.map_is
 
@@ -90,7 +90,7 @@ module _ (shape : Shape) (frames : ℕ) (loaded new : BoardState) (drive : Sight
   serves-to : (status : ℕ) (end : End) → status ≡ end_status end
       → Blames (behind_opening shape frames loaded) new end → SaysOfScript (behind_opening shape frames loaded) new end
       → KeepsScriptOf (behind_opening shape frames loaded) new drive → KeepsSomeOf (behind_opening shape frames loaded) new drive
-      → Answers (behind_opening shape frames loaded) new drive (Told Parts sight_of AgreesBetween is_built new) end → Causes (behind_opening shape frames loaded) new drive (Told Parts sight_of AgreesBetween is_built new) end
+      → Answers (behind_opening shape frames loaded) new drive (Told Parts sight_of DriveOnFlashBetween is_built new) end → Causes (behind_opening shape frames loaded) new drive (Told Parts sight_of DriveOnFlashBetween is_built new) end
       → Serves shape frames loaded new status
   serves-to status end tells blames says kept kept_untold served causes =
       let some = kept_untold shape frames start stands none in
@@ -112,17 +112,17 @@ module _ (shape : Shape) (frames : ℕ) (loaded new : BoardState) (drive : Sight
       }
 
 pub Serves-opened : (shape : Shape) (frames : ℕ) (loaded opened_board new : BoardState) (drive : Sight) (status : ℕ) (end : End)
-    → opened_board ≡ behind_opening shape frames loaded → ((m : Map) × Stands shape frames opened_board drive m) → drive.pending ≡ [] → status ≡ end_status end
+    → opened_board ≡ behind_opening shape frames loaded → ((m : Map) × HoldsMap shape frames opened_board drive m) → drive.pending ≡ [] → status ≡ end_status end
     → Blames opened_board new end → SaysOfScript opened_board new end → KeepsScriptOf opened_board new drive → KeepsSomeOf opened_board new drive
-    → Answers opened_board new drive (Told Parts sight_of AgreesBetween is_built new) end → Causes opened_board new drive (Told Parts sight_of AgreesBetween is_built new) end
+    → Answers opened_board new drive (Told Parts sight_of DriveOnFlashBetween is_built new) end → Causes opened_board new drive (Told Parts sight_of DriveOnFlashBetween is_built new) end
     → Serves shape frames loaded new status
 Serves-opened shape frames loaded opened_board new drive status end is stands none tells blames says kept kept_untold served causes =
-    let T : BoardState → Type 0 = λ b. (m : Map) × Stands shape frames b drive m in
+    let T : BoardState → Type 0 = λ b. (m : Map) × HoldsMap shape frames b drive m in
     let B : BoardState → Type 0 = λ b. Blames b new end in
     let S : BoardState → Type 0 = λ b. SaysOfScript b new end in
     let K : BoardState → Type 0 = λ b. KeepsScriptOf b new drive in
     let U : BoardState → Type 0 = λ b. KeepsSomeOf b new drive in
-    let A : BoardState → Type 0 = λ b. Answers b new drive (Told Parts sight_of AgreesBetween is_built new) end in
-    let C : BoardState → Type 0 = λ b. Causes b new drive (Told Parts sight_of AgreesBetween is_built new) end in
+    let A : BoardState → Type 0 = λ b. Answers b new drive (Told Parts sight_of DriveOnFlashBetween is_built new) end in
+    let C : BoardState → Type 0 = λ b. Causes b new drive (Told Parts sight_of DriveOnFlashBetween is_built new) end in
     let at : T (behind_opening shape frames loaded) = subst T is stands in
     serves-to shape frames loaded new drive at.0 at.1 none status end tells (subst B is blames) (subst S is says) (subst K is kept) (subst U is kept_untold) (subst A is served) (subst C is causes)

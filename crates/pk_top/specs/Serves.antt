@@ -21,7 +21,7 @@ use Rattle.pk_scan.specs.Opening.{NotOpened}
 use Rattle.pk_nand.specs.Effects.{OnlyReading}
 use Rattle.pk_scan.specs.declared.errors.OpenError.{OpenError}
 use Rattle.pk_core.specs.Parts.{Parts, sight_of, is_built}
-use Rattle.pk_core.specs.Agreeing.{AgreesBetween}
+use Rattle.pk_core.specs.Agreeing.{DriveOnFlashBetween}
 use Rattle.pk_top.specs.Ends.{end_status, open_status}
 use Rattle.pk_top.specs.Loads.{LoadRefused}
 
@@ -60,8 +60,8 @@ pub record ServedTo (shape : Shape) (frames : ℕ) (loaded new : BoardState) (en
   pub holds : Holds shape loaded.pages start
   pub blames : Blames (behind_opening shape frames loaded) new end
   pub says : (input : List ℕ) → loaded.input ≡ Some input → Says new input end
-  pub served : (input : List ℕ) → loaded.input ≡ Some input → ServedBy shape frames start (behind_opening shape frames loaded) new input (Told Parts sight_of AgreesBetween is_built new shape frames) end
-  pub served_some : ServedSome shape frames start (behind_opening shape frames loaded) new (Told Parts sight_of AgreesBetween is_built new shape frames) end
+  pub served : (input : List ℕ) → loaded.input ≡ Some input → ServedBy shape frames start (behind_opening shape frames loaded) new input (Told Parts sight_of DriveOnFlashBetween is_built new shape frames) end
+  pub served_some : ServedSome shape frames start (behind_opening shape frames loaded) new (Told Parts sight_of DriveOnFlashBetween is_built new shape frames) end
 
 -- What was done on an image of this shape, from its load on.
 pub record Serves (shape : Shape) (frames : ℕ) (loaded new : BoardState) (status : ℕ) : Type 0 where

@@ -14,7 +14,7 @@ use Rattle.pk_meta.specs.Page.{IsMetaPage}
 use Rattle.pk_meta.proofs.PageLemmas.{meta_again}
 use Rattle.pk_nand.specs.BoardState.{BoardState}
 use Rattle.pk_pin.specs.Frames.{Frames}
-use Rattle.pk_run.specs.Kept.{Kept, IsKept, Stands, page_of, after_look}
+use Rattle.pk_run.specs.Kept.{Kept, IsKept, RunOnFlash, page_of, after_look}
 use Rattle.pk_run.specs.Search.{IsPageFor}
 use Rattle.pk_run.proofs.Lookups.{first_is, page_starts, holds_piece}
 use Rattle.pk_walk.specs.declared.position.Position.{Position}
@@ -59,11 +59,11 @@ module _ (r : Kept) (flash : Flash) (arena : Frames) (es : List Entry) (is : IsS
   piece = take size (drop (place / size * size) es)
 
   -- the page of the place holds its piece
-  pub holds : Stands r flash arena es → (bytes : List ℕ) → page_at flash (page_of r (place / size)) ≡ whole bytes → IsMetaPage r.shape bytes r.level (place / size) piece
+  pub holds : RunOnFlash r flash arena es → (bytes : List ℕ) → page_at flash (page_of r (place / size)) ≡ whole bytes → IsMetaPage r.shape bytes r.level (place / size) piece
   holds s bytes here = holds_piece r flash arena es is s kept (place / size) bytes (page_exists r place is kept inside) here
 
   -- and more entries than the place has before it there
-  pub entry_within : Stands r flash arena es → (bytes : List ℕ) → page_at flash (page_of r (place / size)) ≡ whole bytes → place % size < number_at 2 10 bytes
+  pub entry_within : RunOnFlash r flash arena es → (bytes : List ℕ) → page_at flash (page_of r (place / size)) ≡ whole bytes → place % size < number_at 2 10 bytes
   entry_within s bytes here =
       let own = meta_again r.shape bytes r.level (place / size) piece is (holds s bytes here) in
       let long = length-take size (drop (place / size * size) es) in
@@ -146,7 +146,7 @@ Follows-start flash r es position c = record { pages = omega arith; behind = ome
 
 -- ---- where a walk begins in a run
 
-pub page_begins : (r : Kept) (flash : Flash) (arena : Frames) (es : List Entry) (w : Key → Bool) (key : Key) (p : ℕ) → IsShape r.shape → WantsFrom w key → IsPageFor key r.firsts p → Stands r flash arena es
+pub page_begins : (r : Kept) (flash : Flash) (arena : Frames) (es : List Entry) (w : Key → Bool) (key : Key) (p : ℕ) → IsShape r.shape → WantsFrom w key → IsPageFor key r.firsts p → RunOnFlash r flash arena es
     → wanted w es ≡ wanted w (drop (p * page_entries r.shape) es)
 page_begins r flash arena es w key p is from for_key s =
     let starts = page_starts r flash arena es is s p for_key.exists in
@@ -203,7 +203,7 @@ ceil_most x y k some room =
     omega arith
 
 -- behind the last entry it has come past each page
-pub all_come : (r : Kept) (flash : Flash) (arena : Frames) (es : List Entry) (position : Position) (c : Cursor) → IsShape r.shape → c.shape ≡ r.shape → Stands r flash arena es → Follows flash r es position c
+pub all_come : (r : Kept) (flash : Flash) (arena : Frames) (es : List Entry) (position : Position) (c : Cursor) → IsShape r.shape → c.shape ≡ r.shape → RunOnFlash r flash arena es → Follows flash r es position c
     → r.count ≤ c.place → HasPassed c → c.loaded ≡ length r.firsts
 all_come r flash arena es position c is same s f past passed =
     let own = subst (λ (shape : Shape). c.place ≤ c.loaded * page_entries shape) same passed in

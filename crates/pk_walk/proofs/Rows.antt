@@ -12,8 +12,8 @@ use Rattle.pk_nand.specs.BoardState.{BoardState}
 use Rattle.pk_nand.specs.Calls.{IsReady, ReadFailed}
 use Rattle.pk_nand.specs.Erased.{after_reads}
 use Rattle.pk_pin.specs.Frames.{Frames}
-use Rattle.pk_run.specs.Kept.{Kept, Stands, empty}
-use Rattle.pk_level.specs.Levels.{Levels, IsLevels, StandEach, run_of}
+use Rattle.pk_run.specs.Kept.{Kept, RunOnFlash, empty}
+use Rattle.pk_level.specs.Levels.{Levels, IsLevels, RunsOnFlash, run_of}
 use Rattle.pk_level.proofs.Looking.{stands_at, of_level_at, reads_more}
 use Rattle.pk_walk.specs.declared.position.Position.{Position}
 use Rattle.pk_walk.specs.Visible.{is_wanted, wanted, first_of, lesser, least_first}
@@ -97,7 +97,7 @@ level_is levels i is h =
 -- the cursors follow the runs on the flash of old, and nothing was done but reads
 pub record Rows (levels : Levels) (arena : Frames) (position : Position) (old now : BoardState) (first cs : List Cursor) : Type 0 where
   pub ess : List (List Entry)
-  pub stand : StandEach old.pages arena levels.runs ess
+  pub stand : RunsOnFlash old.pages arena levels.runs ess
   pub follow : FollowEach old.pages levels.runs ess position cs
   pub shape : AreOfShape levels.shape cs
   pub ready : IsReady now levels.shape
@@ -105,7 +105,7 @@ pub record Rows (levels : Levels) (arena : Frames) (position : Position) (old no
   pub all : SkipsNoPage position → AllByRecursion HasPassed first → AllByRecursion HasPassed cs × ReadsAll (pages_read levels.runs first) (pages_read levels.runs cs) old now
 
 pub Rows-start : (levels : Levels) (arena : Frames) (position : Position) (old : BoardState) (cs : List Cursor) (ess : List (List Entry)) → IsReady old levels.shape → AreOfShape levels.shape cs
-    → StandEach old.pages arena levels.runs ess → FollowEach old.pages levels.runs ess position cs → Rows levels arena position old old cs cs
+    → RunsOnFlash old.pages arena levels.runs ess → FollowEach old.pages levels.runs ess position cs → Rows levels arena position old old cs cs
 Rows-start levels arena position old cs ess ready shape stand follow = record {
   ess = ess;
   stand = stand;
@@ -121,7 +121,7 @@ module _ (levels : Levels) (arena : Frames) (position : Position) (old now : Boa
   same_pages = Reads-pages _ _ old now at.reads
 
   -- the runs have one list each
-  pub one_each : (rs : List Kept) (flash : Flash) (xss yss : List (List Entry)) → StandEach flash arena rs xss → StandEach flash arena rs yss → xss ≡ yss
+  pub one_each : (rs : List Kept) (flash : Flash) (xss yss : List (List Entry)) → RunsOnFlash flash arena rs xss → RunsOnFlash flash arena rs yss → xss ≡ yss
   one_each [] flash [] [] s t = refl
   one_each [] flash [] (ys ∷ yss) s t = absurd t
   one_each [] flash (xs ∷ xss) yss s t = absurd s
@@ -129,13 +129,13 @@ module _ (levels : Levels) (arena : Frames) (position : Position) (old now : Boa
   one_each (r ∷ rs) flash (xs ∷ xss) [] s t = absurd t
   one_each (r ∷ rs) flash (xs ∷ xss) (ys ∷ yss) s t = λ i. one_list r flash arena xs ys s.0 t.0 i ∷ one_each rs flash xss yss s.1 t.1 i
 
-  follow_any : (ess : List (List Entry)) → StandEach old.pages arena levels.runs ess → FollowEach old.pages levels.runs ess position cs
+  follow_any : (ess : List (List Entry)) → RunsOnFlash old.pages arena levels.runs ess → FollowEach old.pages levels.runs ess position cs
   follow_any ess s = subst (λ (xss : List (List Entry)). FollowEach old.pages levels.runs xss position cs) (one_each levels.runs old.pages at.ess ess at.stand s) at.follow
 
   pub Rows-goes_on : GoOn old.pages arena levels.shape levels.runs position first cs
   Rows-goes_on = record { follow = follow_any; of_shape = at.shape; passed = λ none before. (at.all none before).0 }
 
-  pub Rows-finds : (least : List (List Entry) → Option Entry) (answer : Option RustEntry) → ((ess : List (List Entry)) → StandEach old.pages arena levels.runs ess → option_map seen answer ≡ least ess)
+  pub Rows-finds : (least : List (List Entry) → Option Entry) (answer : Option RustEntry) → ((ess : List (List Entry)) → RunsOnFlash old.pages arena levels.runs ess → option_map seen answer ≡ least ess)
       → (answer ≡ None → SkipsNoPage position → AllByRecursion HasPassed first → pages_read levels.runs cs ≡ most_read levels.runs) → FindsInEach least levels.runs arena position old now first cs answer
   Rows-finds least answer found ended = record { found = found; reads = at.reads; all = λ none before. (at.all none before).1; ended = ended }
 
@@ -147,22 +147,22 @@ module _ (levels : Levels) (arena : Frames) (position : Position) (old now : Boa
     pub row_shape : IsLevels levels → c.shape ≡ r.shape
     row_shape is = shape_at levels.shape cs i c at.shape cursor_is ∙ sym (of_level_at levels.shape levels.pinned 1 levels.runs i r is.each run_is).same_shape
 
-    own : (es : List Entry) × (slice_get at.ess i ≡ Some es) × Stands r old.pages arena es
+    own : (es : List Entry) × (slice_get at.ess i ≡ Some es) × RunOnFlash r old.pages arena es
     own = stands_at old.pages arena levels.runs at.ess i r at.stand run_is
 
-    pub row_follows : (es : List Entry) × Stands r now.pages arena es × Follows now.pages r es position c
+    pub row_follows : (es : List Entry) × RunOnFlash r now.pages arena es × Follows now.pages r es position c
     row_follows =
         let back = sym same_pages in (
           own.0,
-          subst (λ (flash : Flash). Stands r flash arena own.0) back own.2,
+          subst (λ (flash : Flash). RunOnFlash r flash arena own.0) back own.2,
           subst (λ (flash : Flash). Follows flash r own.0 position c) back (follow_at old.pages position levels.runs at.ess cs i r own.0 c at.follow run_is own.1 cursor_is),
         )
 
     -- what it leaves
-    module _ (next : BoardState) (d : Cursor) (moved : (es : List Entry) → Stands r now.pages arena es → Follows now.pages r es position d) (same : d.shape ≡ c.shape) where
+    module _ (next : BoardState) (d : Cursor) (moved : (es : List Entry) → RunOnFlash r now.pages arena es → Follows now.pages r es position d) (same : d.shape ≡ c.shape) where
       follow_next : FollowEach old.pages levels.runs at.ess position (slice_set cs i d)
       follow_next =
-          let there = moved own.0 (subst (λ (flash : Flash). Stands r flash arena own.0) (sym same_pages) own.2) in
+          let there = moved own.0 (subst (λ (flash : Flash). RunOnFlash r flash arena own.0) (sym same_pages) own.2) in
           follow_set old.pages position levels.runs at.ess cs i r own.0 d at.follow run_is own.1 (subst (λ (flash : Flash). Follows flash r own.0 position d) same_pages there)
 
       shape_next : AreOfShape levels.shape (slice_set cs i d)
@@ -213,11 +213,11 @@ module _ (levels : Levels) (arena : Frames) (position : Position) (old now : Boa
           (k + at.reads.0, page, omega (arith, e, h, few), subst (λ (b : BoardState). ReadFailed b next page) all failed)
 
     -- what one run has of any lists
-    pub row_found : (x : Option Entry) → ((es : List Entry) → Stands r now.pages arena es → x ≡ first_of (wanted (is_wanted position) es))
-        → (ess : List (List Entry)) → StandEach old.pages arena levels.runs ess → (es : List Entry) × (slice_get ess i ≡ Some es) × (x ≡ first_of (wanted (is_wanted position) es))
+    pub row_found : (x : Option Entry) → ((es : List Entry) → RunOnFlash r now.pages arena es → x ≡ first_of (wanted (is_wanted position) es))
+        → (ess : List (List Entry)) → RunsOnFlash old.pages arena levels.runs ess → (es : List Entry) × (slice_get ess i ≡ Some es) × (x ≡ first_of (wanted (is_wanted position) es))
     row_found x found ess s =
         let there = stands_at old.pages arena levels.runs ess i r s run_is in
-        (there.0, there.1, found there.0 (subst (λ (flash : Flash). Stands r flash arena there.0) (sym same_pages) there.2))
+        (there.0, there.1, found there.0 (subst (λ (flash : Flash). RunOnFlash r flash arena there.0) (sym same_pages) there.2))
 
 lesser_none : (a : Option Entry) → lesser a None ≡ a
 lesser_none None = refl
@@ -227,7 +227,7 @@ no_lists : (xs : List Entry) → ◌≡◌ {A = Option (List Entry)} None (Some 
 no_lists xs e = cc
 
 -- the least of four lists
-pub least_of_four : (flash : Flash) (arena : Frames) (position : Position) (rs : List Kept) (ess : List (List Entry)) → length rs ≡ 4 → StandEach flash arena rs ess → (v w x y : Option Entry)
+pub least_of_four : (flash : Flash) (arena : Frames) (position : Position) (rs : List Kept) (ess : List (List Entry)) → length rs ≡ 4 → RunsOnFlash flash arena rs ess → (v w x y : Option Entry)
     → (a : List Entry) × (slice_get ess 0 ≡ Some a) × (v ≡ first_of (wanted (is_wanted position) a))
     → (b : List Entry) × (slice_get ess 1 ≡ Some b) × (w ≡ first_of (wanted (is_wanted position) b))
     → (c : List Entry) × (slice_get ess 2 ≡ Some c) × (x ≡ first_of (wanted (is_wanted position) c))

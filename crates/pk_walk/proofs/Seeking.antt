@@ -10,7 +10,7 @@ use Rattle.pk_nand.specs.BoardState.{BoardState}
 use Rattle.pk_nand.specs.Calls.{ReadFailed}
 use Rattle.pk_nand.specs.Erased.{after_reads}
 use Rattle.pk_pin.specs.Frames.{Frames}
-use Rattle.pk_run.specs.Kept.{Kept, Stands, page_of}
+use Rattle.pk_run.specs.Kept.{Kept, RunOnFlash, page_of}
 use Rattle.pk_level.proofs.Looking.{reads_more}
 use Rattle.pk_walk.specs.declared.position.Position.{Position}
 use Rattle.pk_walk.specs.Visible.{is_wanted, wanted, first_of}
@@ -56,7 +56,7 @@ ReadsFail-rest a b old new (k, page, few, failed) =
 same_ok : (xs ys : List Entry) → ◌≡◌ {A = Result (List Entry) Refusal} (Ok xs) (Ok ys) → xs ≡ ys
 same_ok xs ys e = cc
 
-pub one_list : (r : Kept) (flash : Flash) (arena : Frames) (xs ys : List Entry) → Stands r flash arena xs → Stands r flash arena ys → xs ≡ ys
+pub one_list : (r : Kept) (flash : Flash) (arena : Frames) (xs ys : List Entry) → RunOnFlash r flash arena xs → RunOnFlash r flash arena ys → xs ≡ ys
 one_list r flash arena xs ys s t = same_ok xs ys (sym s.read ∙ t.read)
 
 -- ---- the search
@@ -66,15 +66,15 @@ no_answer e is = cc
 
 pub record Seeking (r : Kept) (arena : Frames) (position : Position) (old now : BoardState) (first c : Cursor) : Type 0 where
   pub es : List Entry
-  pub stands : Stands r old.pages arena es
+  pub stands : RunOnFlash r old.pages arena es
   pub follows : Follows old.pages r es position c
   pub shape : c.shape ≡ first.shape
   pub reads : Reads (read_of r.leases first.loaded) (read_of r.leases c.loaded) old now
   pub all : SkipsNoPage position → HasPassed first → HasPassed c × ReadsAll (read_of r.leases first.loaded) (read_of r.leases c.loaded) old now
 
 module _ (r : Kept) (arena : Frames) (position : Position) (old : BoardState) (first : Cursor) where
-  pub Seeking-start : (c : Cursor) (es : List Entry) → Stands r old.pages arena es → Follows old.pages r es position first
-      → ((flash : Flash) (arena : Frames) (es : List Entry) → Stands r flash arena es → Follows flash r es position first → Follows flash r es position c)
+  pub Seeking-start : (c : Cursor) (es : List Entry) → RunOnFlash r old.pages arena es → Follows old.pages r es position first
+      → ((flash : Flash) (arena : Frames) (es : List Entry) → RunOnFlash r flash arena es → Follows flash r es position first → Follows flash r es position c)
       → c ≡ record first { place = c.place } → (SkipsNoPage position → HasPassed first → HasPassed c) → Seeking r arena position old old first c
   Seeking-start c es s f begun same passed = record {
     es = es;
@@ -86,18 +86,18 @@ module _ (r : Kept) (arena : Frames) (position : Position) (old : BoardState) (f
   }
 
   module _ (now : BoardState) (c : Cursor) (at : Seeking r arena position old now first c) where
-    pub stands_now : Stands r now.pages arena at.es
-    stands_now = subst (λ (flash : Flash). Stands r flash arena at.es) (sym (Reads-pages _ _ old now at.reads)) at.stands
+    pub stands_now : RunOnFlash r now.pages arena at.es
+    stands_now = subst (λ (flash : Flash). RunOnFlash r flash arena at.es) (sym (Reads-pages _ _ old now at.reads)) at.stands
 
     pub follows_now : Follows now.pages r at.es position c
     follows_now = subst (λ (flash : Flash). Follows flash r at.es position c) (sym (Reads-pages _ _ old now at.reads)) at.follows
 
     -- any list of the run is this one
-    pub follows_any : (es : List Entry) → Stands r old.pages arena es → Follows old.pages r es position c
+    pub follows_any : (es : List Entry) → RunOnFlash r old.pages arena es → Follows old.pages r es position c
     follows_any es s = subst (λ (xs : List Entry). Follows old.pages r xs position c) (one_list r old.pages arena at.es es at.stands s) at.follows
 
     -- all entries are passed
-    pub Seeking-end : (es : List Entry) → Stands r old.pages arena es → r.count ≤ c.place → None ≡ first_of (wanted (is_wanted position) es)
+    pub Seeking-end : (es : List Entry) → RunOnFlash r old.pages arena es → r.count ≤ c.place → None ≡ first_of (wanted (is_wanted position) es)
     Seeking-end es s past = none_here (is_wanted position) es c.place (omega (arith, s.many, past)) (follows_any es s).left
 
     -- a page was looked at, and the cursor has its bytes
@@ -120,7 +120,7 @@ module _ (r : Kept) (arena : Frames) (position : Position) (old : BoardState) (f
 
     -- and where no page could be read, it stands as before
     follows_failed : (d : Cursor) → ((es : List Entry) (p : Position) → Follows now.pages r es p c → Follows now.pages r es p d)
-        → (es : List Entry) → Stands r old.pages arena es → Follows old.pages r es position d
+        → (es : List Entry) → RunOnFlash r old.pages arena es → Follows old.pages r es position d
     follows_failed d moved es s =
         subst (λ (xs : List Entry). Follows old.pages r xs position d) (one_list r old.pages arena at.es es at.stands s)
         (subst (λ (flash : Flash). Follows flash r at.es position d) (Reads-pages _ _ old now at.reads) (moved at.es position follows_now))
@@ -142,8 +142,8 @@ module _ (r : Kept) (arena : Frames) (position : Position) (old : BoardState) (f
     Seeking-ended is same past none before = all_come r old.pages arena at.es position c is (at.shape ∙ same) at.stands at.follows past (at.all none before).0
 
     -- the entry at the place is the first that is wanted
-    pub Seeking-found : (e : RustEntry) → ((es : List Entry) → Stands r now.pages arena es → slice_get es c.place ≡ Some (seen e)) → is_wanted position (key_of (seen e)) ≡ true
-        → (es : List Entry) → Stands r old.pages arena es → Some (seen e) ≡ first_of (wanted (is_wanted position) es)
+    pub Seeking-found : (e : RustEntry) → ((es : List Entry) → RunOnFlash r now.pages arena es → slice_get es c.place ≡ Some (seen e)) → is_wanted position (key_of (seen e)) ≡ true
+        → (es : List Entry) → RunOnFlash r old.pages arena es → Some (seen e) ≡ first_of (wanted (is_wanted position) es)
     Seeking-found e head one es s =
         let own = one_list r old.pages arena at.es es at.stands s in
         subst (λ (xs : List Entry). Some (seen e) ≡ first_of (wanted (is_wanted position) xs)) own (first_here (is_wanted position) at.es c.place (seen e) (head at.es stands_now) one at.follows.left)
@@ -169,7 +169,7 @@ module _ (r : Kept) (arena : Frames) (position : Position) (old : BoardState) (f
     }
 
     -- the entry at the place is not wanted, and is passed
-    pub Seeking-passed : (e : RustEntry) (d : Cursor) → IsShape r.shape → ((es : List Entry) → Stands r old.pages arena es → slice_get es c.place ≡ Some (seen e)) → is_wanted position (key_of (seen e)) ≡ false
+    pub Seeking-passed : (e : RustEntry) (d : Cursor) → IsShape r.shape → ((es : List Entry) → RunOnFlash r old.pages arena es → slice_get es c.place ≡ Some (seen e)) → is_wanted position (key_of (seen e)) ≡ false
         → d ≡ record c { place = suc c.place } → c.place < c.loaded * page_entries c.shape → Seeking r arena position old now first d
     Seeking-passed e d is head not_one same here = subst (Seeking r arena position old now first) (sym same) (record {
       es = at.es;
@@ -181,6 +181,6 @@ module _ (r : Kept) (arena : Frames) (position : Position) (old : BoardState) (f
     })
 
     -- behind the look the entry is still at the place
-    pub head_looked : (next : BoardState) (d : Cursor) (e : RustEntry) → StaysAt now.pages r c d → Shows r arena now next c d e → (es : List Entry) → Stands r old.pages arena es → slice_get es d.place ≡ Some (seen e)
+    pub head_looked : (next : BoardState) (d : Cursor) (e : RustEntry) → StaysAt now.pages r c d → Shows r arena now next c d e → (es : List Entry) → RunOnFlash r old.pages arena es → slice_get es d.place ≡ Some (seen e)
     head_looked next d e stays shows es s =
-        ap (λ (x : Cursor). slice_get es x.place) stays.place ∙ shows.head es (subst (λ (flash : Flash). Stands r flash arena es) (sym (Reads-pages _ _ old now at.reads)) s)
+        ap (λ (x : Cursor). slice_get es x.place) stays.place ∙ shows.head es (subst (λ (flash : Flash). RunOnFlash r flash arena es) (sym (Reads-pages _ _ old now at.reads)) s)

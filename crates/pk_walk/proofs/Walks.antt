@@ -16,7 +16,7 @@ use Rattle.pk_nand.specs.Calls.{IsReady, ReadFailed}
 use Rattle.pk_nand.specs.Erased.{after_reads}
 use Rattle.pk_pin.specs.Frames.{Frames}
 use Rattle.pk_run.specs.Kept.{Kept}
-use Rattle.pk_level.specs.Levels.{StandEach}
+use Rattle.pk_level.specs.Levels.{RunsOnFlash}
 use Rattle.pk_level.proofs.Looking.{reads_more}
 use Rattle.pk_model.specs.Values.{placed}
 use Rattle.pk_model.proofs.Lookups.{firsts_sorted}
@@ -32,13 +32,13 @@ use Rattle.pk_walk.proofs.Seeking.{Reads-none, Reads-more, Reads-pages, ReadsAll
 
 -- ---- lists of runs that stand
 
-pub each_rises : (flash : Flash) (arena : Frames) (rs : List Kept) (ess : List (List Entry)) → StandEach flash arena rs ess → EachSorted ess
+pub each_rises : (flash : Flash) (arena : Frames) (rs : List Kept) (ess : List (List Entry)) → RunsOnFlash flash arena rs ess → EachSorted ess
 each_rises flash arena [] [] s = tt
 each_rises flash arena [] (es ∷ ess) s = absurd s
 each_rises flash arena (r ∷ rs) [] s = absurd s
 each_rises flash arena (r ∷ rs) (es ∷ ess) s = (s.0.rising, each_rises flash arena rs ess s.1)
 
-pub one_of_each : (flash : Flash) (arena : Frames) (rs : List Kept) (xss yss : List (List Entry)) → StandEach flash arena rs xss → StandEach flash arena rs yss → xss ≡ yss
+pub one_of_each : (flash : Flash) (arena : Frames) (rs : List Kept) (xss yss : List (List Entry)) → RunsOnFlash flash arena rs xss → RunsOnFlash flash arena rs yss → xss ≡ yss
 one_of_each flash arena [] [] [] s t = refl
 one_of_each flash arena [] [] (ys ∷ yss) s t = absurd t
 one_of_each flash arena [] (xs ∷ xss) yss s t = absurd s
@@ -55,7 +55,7 @@ abbrev pub lists_on : Flash → List Kept → List (List Entry)
 lists_on flash [] = []
 lists_on flash (r ∷ rs) = read_entries (run r.shape (page_at flash) r.level r.count r.blocks) ∷ lists_on flash rs
 
-pub lists_are : (flash : Flash) (arena : Frames) (rs : List Kept) (ess : List (List Entry)) → StandEach flash arena rs ess → lists_on flash rs ≡ ess
+pub lists_are : (flash : Flash) (arena : Frames) (rs : List Kept) (ess : List (List Entry)) → RunsOnFlash flash arena rs ess → lists_on flash rs ≡ ess
 lists_are flash arena [] [] s = refl
 lists_are flash arena [] (es ∷ ess) s = absurd s
 lists_are flash arena (r ∷ rs) [] s = absurd s
@@ -68,7 +68,7 @@ many_left flash rs active frozen position = length (all_left position (active �
 -- ---- the least of all
 
 pub least_is : (flash : Flash) (arena : Frames) (rs : List Kept) (ess : List (List Entry)) (active frozen : List Entry) (position : Position) (a b c all : Option Entry)
-    → T (is_sorted key_cmp active) → T (is_sorted key_cmp frozen) → StandEach flash arena rs ess
+    → T (is_sorted key_cmp active) → T (is_sorted key_cmp frozen) → RunsOnFlash flash arena rs ess
     → a ≡ first_of (wanted (is_wanted position) active) → b ≡ first_of (wanted (is_wanted position) frozen) → c ≡ least_first (is_wanted position) ess → all ≡ lesser a (lesser b c)
     → all ≡ first_of (all_left position (active ∷ frozen ∷ ess))
 least_is flash arena rs ess active frozen position a b c all up down s ea eb ec is =
@@ -163,7 +163,7 @@ start_follow flash position (r ∷ rs) (es ∷ ess) [] = tt
 start_follow flash position (r ∷ rs) (es ∷ ess) (c ∷ cs) = (Follows-start flash r es position c, start_follow flash position rs ess cs)
 
 -- at the start all wanted keys are left
-pub start_left : (w : Walk) (cs : List Cursor) → w.cursors ≡ all_at_start cs → (flash : Flash) (arena : Frames) (rs : List Kept) (active frozen : List Entry) (ess : List (List Entry)) → StandEach flash arena rs ess
+pub start_left : (w : Walk) (cs : List Cursor) → w.cursors ≡ all_at_start cs → (flash : Flash) (arena : Frames) (rs : List Kept) (active frozen : List Entry) (ess : List (List Entry)) → RunsOnFlash flash arena rs ess
     → IsLeft w flash arena rs active frozen (wanted (is_wanted w.position) (visible (active ∷ frozen ∷ ess)))
 start_left w cs same flash arena rs active frozen ess stand = record {
   ess = ess;
@@ -201,7 +201,7 @@ all_wanted [] = refl
 all_wanted (x ∷ xs) = ap (λ (ys : List (Key × Place)). x ∷ ys) (all_wanted xs)
 
 -- from the first key on all keys are left
-pub start_all : (w : Walk) (cs : List Cursor) → w.cursors ≡ all_at_start cs → w.position ≡ First → (flash : Flash) (arena : Frames) (rs : List Kept) (active frozen : List Entry) (ess : List (List Entry)) → StandEach flash arena rs ess
+pub start_all : (w : Walk) (cs : List Cursor) → w.cursors ≡ all_at_start cs → w.position ≡ First → (flash : Flash) (arena : Frames) (rs : List Kept) (active frozen : List Entry) (ess : List (List Entry)) → RunsOnFlash flash arena rs ess
     → IsLeft w flash arena rs active frozen (visible (active ∷ frozen ∷ ess))
 start_all w cs same first flash arena rs active frozen ess stand =
     subst (IsLeft w flash arena rs active frozen) (ap (λ (p : Position). wanted (is_wanted p) (visible (active ∷ frozen ∷ ess))) first ∙ all_wanted (visible (active ∷ frozen ∷ ess)))
@@ -210,7 +210,7 @@ start_all w cs same first flash arena rs active frozen ess stand =
 -- the cursors follow the runs on the flash of old, only entries of deleted keys were passed since, and nothing was done but reads
 pub record Walking (rs : List Kept) (arena : Frames) (active frozen : List Entry) (shape : Shape) (old now : BoardState) (first w : Walk) : Type 0 where
   pub ess : List (List Entry)
-  pub stand : StandEach old.pages arena rs ess
+  pub stand : RunsOnFlash old.pages arena rs ess
   pub follow : FollowEach old.pages rs ess w.position w.cursors
   pub left : placed (all_left w.position (active ∷ frozen ∷ ess)) ≡ placed (all_left first.position (active ∷ frozen ∷ ess))
   pub same_shape : w.shape ≡ first.shape
@@ -235,10 +235,10 @@ module _ (rs : List Kept) (arena : Frames) (active frozen : List Entry) (shape :
     abbrev same_pages : now.pages ≡ old.pages
     same_pages = Reads-pages _ _ old now at.reads
 
-    pub stand_now : StandEach now.pages arena rs at.ess
-    stand_now = subst (λ (flash : Flash). StandEach flash arena rs at.ess) (sym same_pages) at.stand
+    pub stand_now : RunsOnFlash now.pages arena rs at.ess
+    stand_now = subst (λ (flash : Flash). RunsOnFlash flash arena rs at.ess) (sym same_pages) at.stand
 
-    pub follow_now : (ess : List (List Entry)) × StandEach now.pages arena rs ess × FollowEach now.pages rs ess w.position w.cursors
+    pub follow_now : (ess : List (List Entry)) × RunsOnFlash now.pages arena rs ess × FollowEach now.pages rs ess w.position w.cursors
     follow_now = (at.ess, stand_now, subst (λ (flash : Flash). FollowEach flash rs at.ess w.position w.cursors) (sym same_pages) at.follow)
 
     abbrev lists : List (List Entry)
@@ -253,8 +253,8 @@ module _ (rs : List Kept) (arena : Frames) (active frozen : List Entry) (shape :
 
     -- one more entry, of a deleted key
     pub Walking-gone : (next : BoardState) (v : Walk) (e : RustEntry) → is_some (seen e).1 ≡ false → v.shape ≡ w.shape → IsReady next shape
-        → ((ess : List (List Entry)) → StandEach now.pages arena rs ess → Passes (Some e) (all_left w.position (active ∷ frozen ∷ ess)) (all_left v.position (active ∷ frozen ∷ ess)))
-        → ((ess : List (List Entry)) → StandEach now.pages arena rs ess → FollowEach now.pages rs ess v.position v.cursors)
+        → ((ess : List (List Entry)) → RunsOnFlash now.pages arena rs ess → Passes (Some e) (all_left w.position (active ∷ frozen ∷ ess)) (all_left v.position (active ∷ frozen ∷ ess)))
+        → ((ess : List (List Entry)) → RunsOnFlash now.pages arena rs ess → FollowEach now.pages rs ess v.position v.cursors)
         → Reads (pages_read rs w.cursors) (pages_read rs v.cursors) now next → (SkipsNone w → SkipsNone v) → (SkipsNone w → ReadsAll (pages_read rs w.cursors) (pages_read rs v.cursors) now next)
         → Walking rs arena active frozen shape old next first v
     Walking-gone next v e gone same ready passes follow reads skips every = record {
@@ -289,15 +289,15 @@ module _ (rs : List Kept) (arena : Frames) (active frozen : List Entry) (shape :
     left_next : (next : BoardState) (v : Walk) → next.pages ≡ now.pages → FollowEach now.pages rs at.ess v.position v.cursors → IsLeft v next.pages arena rs active frozen (placed (all_left v.position lists))
     left_next next v pages follow = record {
       ess = at.ess;
-      stand = subst (λ (flash : Flash). StandEach flash arena rs at.ess) (sym pages) stand_now;
+      stand = subst (λ (flash : Flash). RunsOnFlash flash arena rs at.ess) (sym pages) stand_now;
       follow = subst (λ (flash : Flash). FollowEach flash rs at.ess v.position v.cursors) (sym pages) follow;
       is = sym (left_is v.position lists);
     }
 
     -- one more entry, of a key that is there
     pub Walking-gives : (next : BoardState) (v : Walk) (e : RustEntry) → is_some (seen e).1 ≡ true → next.pages ≡ now.pages
-        → ((ess : List (List Entry)) → StandEach now.pages arena rs ess → Passes (Some e) (all_left w.position (active ∷ frozen ∷ ess)) (all_left v.position (active ∷ frozen ∷ ess)))
-        → ((ess : List (List Entry)) → StandEach now.pages arena rs ess → FollowEach now.pages rs ess v.position v.cursors)
+        → ((ess : List (List Entry)) → RunsOnFlash now.pages arena rs ess → Passes (Some e) (all_left w.position (active ∷ frozen ∷ ess)) (all_left v.position (active ∷ frozen ∷ ess)))
+        → ((ess : List (List Entry)) → RunsOnFlash now.pages arena rs ess → FollowEach now.pages rs ess v.position v.cursors)
         → (rest : List (Key × Place)) → IsLeft first old.pages arena rs active frozen rest
         → (later : List (Key × Place)) × Gives (Some e) rest later × IsLeft v next.pages arena rs active frozen later
     Walking-gives next v e there pages passes follow rest left = (
@@ -316,8 +316,8 @@ module _ (rs : List Kept) (arena : Frames) (active frozen : List Entry) (shape :
 
     -- no more entry
     pub Walking-ends : (next : BoardState) (v : Walk) → next.pages ≡ now.pages
-        → ((ess : List (List Entry)) → StandEach now.pages arena rs ess → Passes None (all_left w.position (active ∷ frozen ∷ ess)) (all_left v.position (active ∷ frozen ∷ ess)))
-        → ((ess : List (List Entry)) → StandEach now.pages arena rs ess → FollowEach now.pages rs ess v.position v.cursors)
+        → ((ess : List (List Entry)) → RunsOnFlash now.pages arena rs ess → Passes None (all_left w.position (active ∷ frozen ∷ ess)) (all_left v.position (active ∷ frozen ∷ ess)))
+        → ((ess : List (List Entry)) → RunsOnFlash now.pages arena rs ess → FollowEach now.pages rs ess v.position v.cursors)
         → (rest : List (Key × Place)) → IsLeft first old.pages arena rs active frozen rest
         → (later : List (Key × Place)) × Gives None rest later × IsLeft v next.pages arena rs active frozen later
     Walking-ends next v pages passes follow rest left = (
@@ -332,7 +332,7 @@ module _ (rs : List Kept) (arena : Frames) (active frozen : List Entry) (shape :
 
     -- a read failed
     pub Walking-fails : (next : BoardState) (v : Walk) → next.pages ≡ now.pages → v.position ≡ w.position
-        → ((ess : List (List Entry)) → StandEach now.pages arena rs ess → FollowEach now.pages rs ess v.position v.cursors)
+        → ((ess : List (List Entry)) → RunsOnFlash now.pages arena rs ess → FollowEach now.pages rs ess v.position v.cursors)
         → (rest : List (Key × Place)) → IsLeft first old.pages arena rs active frozen rest → IsLeft v next.pages arena rs active frozen rest
     Walking-fails next v pages same follow rest left =
         subst (IsLeft v next.pages arena rs active frozen) (ap (λ (p : Position). placed (all_left p lists)) same ∙ sym (rest_is rest left)) (left_next next v pages (follow at.ess stand_now))
@@ -344,14 +344,14 @@ module _ (rs : List Kept) (arena : Frames) (active frozen : List Entry) (shape :
         (k + at.reads.0, page, omega (arith, h, few), subst (λ (b : BoardState). ReadFailed b next page) all failed)
 
     -- never more than all pages
-    pub few_read : (v : Walk) → ((ess : List (List Entry)) → StandEach now.pages arena rs ess → FollowEach now.pages rs ess v.position v.cursors) → pages_read rs v.cursors ≤ most_read rs
+    pub few_read : (v : Walk) → ((ess : List (List Entry)) → RunsOnFlash now.pages arena rs ess → FollowEach now.pages rs ess v.position v.cursors) → pages_read rs v.cursors ≤ most_read rs
     few_read v follow = bound rs at.ess v.cursors stand_now (follow at.ess stand_now)
       where
         few : (leases : List ℕ) (n m : ℕ) → n ≤ m → read_of leases n ≤ read_of leases m
         few [] n m h = h
         few (l ∷ leases) n m h = omega arith
 
-        bound : (rs : List Kept) (ess : List (List Entry)) (cs : List Cursor) → StandEach now.pages arena rs ess → FollowEach now.pages rs ess v.position cs → pages_read rs cs ≤ most_read rs
+        bound : (rs : List Kept) (ess : List (List Entry)) (cs : List Cursor) → RunsOnFlash now.pages arena rs ess → FollowEach now.pages rs ess v.position cs → pages_read rs cs ≤ most_read rs
         bound [] ess cs s f = omega arith
         bound (r ∷ rs) [] cs s f = absurd s
         bound (r ∷ rs) (es ∷ ess) [] s f = omega arith
@@ -362,11 +362,11 @@ module _ (rs : List Kept) (arena : Frames) (active frozen : List Entry) (shape :
 
     -- with each step fewer are left
     pub fewer_left : (next : BoardState) (v : Walk) (e : RustEntry) → next.pages ≡ now.pages
-        → ((ess : List (List Entry)) → StandEach now.pages arena rs ess → Passes (Some e) (all_left w.position (active ∷ frozen ∷ ess)) (all_left v.position (active ∷ frozen ∷ ess)))
+        → ((ess : List (List Entry)) → RunsOnFlash now.pages arena rs ess → Passes (Some e) (all_left w.position (active ∷ frozen ∷ ess)) (all_left v.position (active ∷ frozen ∷ ess)))
         → many_left next.pages rs active frozen v.position < many_left now.pages rs active frozen w.position
     fewer_left next v e pages passes =
         let before = lists_are now.pages arena rs at.ess stand_now in
-        let after = lists_are next.pages arena rs at.ess (subst (λ (flash : Flash). StandEach flash arena rs at.ess) (sym pages) stand_now) in
+        let after = lists_are next.pages arena rs at.ess (subst (λ (flash : Flash). RunsOnFlash flash arena rs at.ess) (sym pages) stand_now) in
         let old_size : many_left now.pages rs active frozen w.position ≡ length (all_left w.position lists) = ap (λ (ess : List (List Entry)). length (all_left w.position (active ∷ frozen ∷ ess))) before in
         let new_size : many_left next.pages rs active frozen v.position ≡ length (all_left v.position lists) = ap (λ (ess : List (List Entry)). length (all_left v.position (active ∷ frozen ∷ ess))) after in
         let less = shorter (all_left w.position lists) (all_left v.position lists) (passes at.ess stand_now) in

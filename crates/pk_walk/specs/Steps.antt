@@ -9,8 +9,8 @@ use Rattle.pk_base.specs.declared.entry.Entry.{Entry as RustEntry}
 use Rattle.pk_nand.specs.BoardState.{BoardState}
 use Rattle.pk_nand.specs.Calls.{ReadFailed}
 use Rattle.pk_pin.specs.Frames.{Frames}
-use Rattle.pk_run.specs.Kept.{Kept, Stands, page_of}
-use Rattle.pk_level.specs.Levels.{StandEach}
+use Rattle.pk_run.specs.Kept.{Kept, RunOnFlash, page_of}
+use Rattle.pk_level.specs.Levels.{RunsOnFlash}
 use Rattle.pk_walk.specs.declared.position.Position.{Position}
 use Rattle.pk_walk.specs.Visible.{is_wanted, wanted, first_of}
 use Rattle.pk_walk.specs.Walking.{Cursor, Walk, AreOfShape, Follows, FollowEach, HasPassed, Passes, Reads, ReadsAll, SkipsNoPage, SkipsNone, all_left, pages_read, most_read, read_of}
@@ -44,7 +44,7 @@ pub record StaysAt (flash : Flash) (r : Kept) (c d : Cursor) : Type 0 where
 
 -- This is the entry at the cursor's place, whose page it has come past; the page was read at most once, and exactly once where none was skipped.
 pub record Shows (r : Kept) (arena : Frames) (old new : BoardState) (c d : Cursor) (e : RustEntry) : Type 0 where
-  pub head : (es : List Entry) → Stands r old.pages arena es → slice_get es c.place ≡ Some (seen e)
+  pub head : (es : List Entry) → RunOnFlash r old.pages arena es → slice_get es c.place ≡ Some (seen e)
   pub here : d.place < d.loaded * page_entries d.shape
   pub reads : Reads (read_of r.leases c.loaded) (read_of r.leases d.loaded) old new
   pub all : HasPassed c → ReadsAll (read_of r.leases c.loaded) (read_of r.leases d.loaded) old new
@@ -58,14 +58,14 @@ pub record FailsToShow (r : Kept) (old new : BoardState) (c d : Cursor) : Type 0
 
 -- This is the first entry of the run that is wanted, or there is none; each page up to it was read at most once, and exactly once where none is skipped.
 pub record FindsIn (r : Kept) (arena : Frames) (position : Position) (old new : BoardState) (c d : Cursor) (answer : Option RustEntry) : Type 0 where
-  pub found : (es : List Entry) → Stands r old.pages arena es → option_map seen answer ≡ first_of (wanted (is_wanted position) es)
+  pub found : (es : List Entry) → RunOnFlash r old.pages arena es → option_map seen answer ≡ first_of (wanted (is_wanted position) es)
   pub reads : Reads (read_of r.leases c.loaded) (read_of r.leases d.loaded) old new
   pub all : SkipsNoPage position → HasPassed c → ReadsAll (read_of r.leases c.loaded) (read_of r.leases d.loaded) old new
   pub ended : answer ≡ None → SkipsNoPage position → HasPassed c → d.loaded ≡ length r.firsts
 
 -- The cursor follows the run from this position on, and has skipped no page where none is skipped.
 pub record GoesOn (flash : Flash) (arena : Frames) (r : Kept) (position : Position) (c d : Cursor) : Type 0 where
-  pub follows : (es : List Entry) → Stands r flash arena es → Follows flash r es position d
+  pub follows : (es : List Entry) → RunOnFlash r flash arena es → Follows flash r es position d
   pub shape : d.shape ≡ c.shape
   pub passed : SkipsNoPage position → HasPassed c → HasPassed d
 
@@ -73,14 +73,14 @@ pub record GoesOn (flash : Flash) (arena : Frames) (r : Kept) (position : Positi
 
 -- This is the entry that is first by the runs' lists, or there is none; each page up to it was read at most once, and exactly once where none is skipped.
 pub record FindsInEach (first : List (List Entry) → Option Entry) (rs : List Kept) (arena : Frames) (position : Position) (old new : BoardState) (cs ds : List Cursor) (answer : Option RustEntry) : Type 0 where
-  pub found : (ess : List (List Entry)) → StandEach old.pages arena rs ess → option_map seen answer ≡ first ess
+  pub found : (ess : List (List Entry)) → RunsOnFlash old.pages arena rs ess → option_map seen answer ≡ first ess
   pub reads : Reads (pages_read rs cs) (pages_read rs ds) old new
   pub all : SkipsNoPage position → AllByRecursion HasPassed cs → ReadsAll (pages_read rs cs) (pages_read rs ds) old new
   pub ended : answer ≡ None → SkipsNoPage position → AllByRecursion HasPassed cs → pages_read rs ds ≡ most_read rs
 
 -- The cursors follow the runs from this position on, and have skipped no page where none is skipped.
 pub record GoOn (flash : Flash) (arena : Frames) (shape : Shape) (rs : List Kept) (position : Position) (cs ds : List Cursor) : Type 0 where
-  pub follow : (ess : List (List Entry)) → StandEach flash arena rs ess → FollowEach flash rs ess position ds
+  pub follow : (ess : List (List Entry)) → RunsOnFlash flash arena rs ess → FollowEach flash rs ess position ds
   pub of_shape : AreOfShape shape ds
   pub passed : SkipsNoPage position → AllByRecursion HasPassed cs → AllByRecursion HasPassed ds
 
@@ -92,13 +92,13 @@ first_left position active frozen ess = first_of (all_left position (active ∷ 
 
 -- This is the next of the entries that are left, or there is none; each page up to it was read at most once, and exactly once where none is skipped.
 pub record Comes (rs : List Kept) (arena : Frames) (active frozen : List Entry) (old new : BoardState) (w v : Walk) (answer : Option RustEntry) : Type 0 where
-  pub passes : (ess : List (List Entry)) → StandEach old.pages arena rs ess → Passes answer (all_left w.position (active ∷ frozen ∷ ess)) (all_left v.position (active ∷ frozen ∷ ess))
+  pub passes : (ess : List (List Entry)) → RunsOnFlash old.pages arena rs ess → Passes answer (all_left w.position (active ∷ frozen ∷ ess)) (all_left v.position (active ∷ frozen ∷ ess))
   pub reads : Reads (pages_read rs w.cursors) (pages_read rs v.cursors) old new
   pub exact : SkipsNone w → ReadsAll (pages_read rs w.cursors) (pages_read rs v.cursors) old new
   pub ended : answer ≡ None → SkipsNone w → pages_read rs v.cursors ≡ most_read rs
 
 -- The walk's cursors follow the runs from its position on, and it has skipped no page if it had skipped none.
 pub record WalksOn (flash : Flash) (arena : Frames) (rs : List Kept) (w v : Walk) : Type 0 where
-  pub follow : (ess : List (List Entry)) → StandEach flash arena rs ess → FollowEach flash rs ess v.position v.cursors
+  pub follow : (ess : List (List Entry)) → RunsOnFlash flash arena rs ess → FollowEach flash rs ess v.position v.cursors
   pub same_shape : v.shape ≡ w.shape
   pub skips_none : SkipsNone w → SkipsNone v

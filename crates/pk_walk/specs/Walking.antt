@@ -13,7 +13,7 @@ use Rattle.pk_nand.specs.Calls.{ReadFailed}
 use Rattle.pk_nand.specs.Erased.{after_reads}
 use Rattle.pk_pin.specs.Frames.{Frames}
 use Rattle.pk_run.specs.Kept.{Kept, page_of}
-use Rattle.pk_level.specs.Levels.{StandEach}
+use Rattle.pk_level.specs.Levels.{RunsOnFlash}
 use Rattle.pk_walk.specs.Visible.{visible, is_wanted, wanted}
 use Rattle.pk_walk.specs.declared.position.Position.{Position}
 use Rattle.pk_walk.specs.declared.position.Position.TheVariants.{First, From, Above}
@@ -98,7 +98,7 @@ pub record SkipsNone (w : Walk) : Type 0 where
 -- buffers and of the runs that stand on the flash.
 pub record IsLeft (w : Walk) (flash : Flash) (arena : Frames) (runs : List Kept) (active frozen : List Entry) (rest : List (Key × Place)) : Type 0 where
   pub ess : List (List Entry)
-  pub stand : StandEach flash arena runs ess
+  pub stand : RunsOnFlash flash arena runs ess
   pub follow : FollowEach flash runs ess w.position w.cursors
   pub is : rest ≡ wanted (is_wanted w.position) (visible (active ∷ frozen ∷ ess))
 

@@ -4,7 +4,7 @@ ghost use Rattle.pk_base.specs.Key.{Key as KeySpec};
 ghost use Rattle.pk_base.specs.Entry.{Entry as EntrySpec};
 ghost use Rattle.pk_base.specs.Page.{Flash};
 ghost use Rattle.pk_pin.specs.Frames.{Frames};
-ghost use Rattle.pk_run.specs.Kept.{Stands};
+ghost use Rattle.pk_run.specs.Kept.{RunOnFlash};
 ghost use Rattle.pk_walk.specs.Visible.{is_wanted, wanted, WantsFrom};
 ghost use Rattle.pk_walk.specs.Walking.{SkipsNoPage};
 
@@ -18,7 +18,7 @@ use std::alloc::Allocator;
 /// cursors stand where it goes on.
 pub fn begins_at<A: Allocator>(run: &Run<A>, position: &Position) -> u32
     ensures begins { (flash : Flash) (arena : Frames) (es : List EntrySpec)
-        → Stands run.now flash arena es → wanted (is_wanted position.now) es
+        → RunOnFlash run.now flash arena es → wanted (is_wanted position.now) es
         ≡ wanted (is_wanted position.now) (drop result es) }
     ensures first { SkipsNoPage position.now → result ≡ 0 }
 {
@@ -32,7 +32,7 @@ pub fn begins_at<A: Allocator>(run: &Run<A>, position: &Position) -> u32
 /// The first place of the page that may have the key, or of all.
 fn page_start<A: Allocator>(run: &Run<A>, key: &Key) -> u32
     ensures { (is_one : KeySpec → Bool) → WantsFrom is_one key.now
-        → (flash : Flash) (arena : Frames) (es : List EntrySpec) → Stands run.now flash arena es
+        → (flash : Flash) (arena : Frames) (es : List EntrySpec) → RunOnFlash run.now flash arena es
         → wanted is_one es ≡ wanted is_one (drop result es) }
 {
     run.known();

@@ -5,7 +5,7 @@ ghost use Rattle.pk_base.specs.Page.{Flash, page_at, whole};
 ghost use Rattle.pk_nand.specs.Calls.{IsReady};
 ghost use Rattle.pk_nand.specs.declared.types.Fault.TheVariants.{Reading};
 ghost use Rattle.pk_pin.specs.Frames.{Frames};
-ghost use Rattle.pk_run.specs.Kept.{Stands, page_of};
+ghost use Rattle.pk_run.specs.Kept.{RunOnFlash, page_of};
 ghost use Rattle.pk_walk.specs.declared.position.Position.{Position as PositionSpec};
 ghost use Rattle.pk_walk.specs.Steps.{FailsToLoad, FailsToShow, Loads, MayLoad, Shows, StaysAt};
 ghost use Rattle.pk_walk.specs.Walking.{Follows, HasPassed, SkipsNoPage, at_start};
@@ -74,7 +74,7 @@ impl<A: Allocator> Cursor<A> {
     pub fn begin(&mut self, run: &Run<A>, position: &Position)
         ensures place { self.new ≡ record self.old { place = self.new.place } }
         ensures follows { (flash : Flash) (arena : Frames) (es : List EntrySpec)
-            → Stands run.now flash arena es → Follows flash run.now es position.now self.old
+            → RunOnFlash run.now flash arena es → Follows flash run.now es position.now self.old
             → Follows flash run.now es position.now self.new }
         ensures passed { SkipsNoPage position.now → HasPassed self.old → HasPassed self.new }
     {
@@ -103,7 +103,7 @@ impl<A: Allocator> Cursor<A> {
         requires ready { IsReady (B.state board.old) run.now.shape }
         requires shape { self.old.shape ≡ run.now.shape }
         requires stands { (es : List EntrySpec)
-            × Stands run.now (B.state board.old).pages arena.now es }
+            × RunOnFlash run.now (B.state board.old).pages arena.now es }
         requires may { MayLoad (B.state board.old).pages run.now p self.old }
         // The page.
         ensures loads { OnOk result (Loads run.now p (B.state board.old) (B.state board.new)
@@ -142,7 +142,7 @@ impl<A: Allocator> Cursor<A> {
         requires ready { IsReady (B.state board.old) run.now.shape }
         requires shape { self.old.shape ≡ run.now.shape }
         requires follows { (es : List EntrySpec) × (position : PositionSpec)
-            × Stands run.now (B.state board.old).pages arena.now es
+            × RunOnFlash run.now (B.state board.old).pages arena.now es
             × Follows (B.state board.old).pages run.now es position self.old }
         requires exists { self.old.place < run.now.count }
         // The entry at the place.

@@ -3,7 +3,7 @@ ghost use Rattle.std.specs.Prelude.{◌≡◌, List, length, IfOk, IfErr, OnErr}
 ghost use Rattle.pk_base.specs.Entry.{Entry as EntrySpec};
 ghost use Rattle.pk_nand.specs.Calls.{IsReady};
 ghost use Rattle.pk_nand.specs.declared.types.Fault.TheVariants.{Reading};
-ghost use Rattle.pk_level.specs.Levels.{StandEach};
+ghost use Rattle.pk_level.specs.Levels.{RunsOnFlash};
 ghost use Rattle.pk_walk.specs.Steps.{FindsInEach, GoOn};
 ghost use Rattle.pk_walk.specs.Visible.{is_wanted, least_first};
 ghost use Rattle.pk_walk.specs.Walking.{AreOfShape, FollowEach, ReadsFail, all_at_start, pages_read};
@@ -86,7 +86,7 @@ impl<A: Allocator> Cursors<A> {
         requires ready { IsReady (B.state board.old) levels.now.shape }
         requires shape { AreOfShape levels.now.shape self.old }
         requires follow { (ess : List (List EntrySpec))
-            × StandEach (B.state board.old).pages arena.now levels.now.runs ess
+            × RunsOnFlash (B.state board.old).pages arena.now levels.now.runs ess
             × FollowEach (B.state board.old).pages levels.now.runs ess position.now self.old }
         // The first wanted entry.
         ensures finds { IfOk result (λ found. FindsInEach (least_first (is_wanted position.now))

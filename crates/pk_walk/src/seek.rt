@@ -3,7 +3,7 @@ ghost use Rattle.std.specs.Prelude.{◌≡◌, List, IfErr, IfOk, OnErr};
 ghost use Rattle.pk_base.specs.Entry.{Entry as EntrySpec};
 ghost use Rattle.pk_nand.specs.Calls.{IsReady};
 ghost use Rattle.pk_nand.specs.declared.types.Fault.TheVariants.{Reading};
-ghost use Rattle.pk_run.specs.Kept.{Stands};
+ghost use Rattle.pk_run.specs.Kept.{RunOnFlash};
 ghost use Rattle.pk_walk.specs.Steps.{FindsIn, GoesOn};
 ghost use Rattle.pk_walk.specs.Walking.{Follows, ReadsFail, read_of};
 
@@ -26,7 +26,7 @@ pub fn seek<A: Allocator, B: Nand>(
 ) -> Result<Option<Entry>, Fault>
     requires ready { IsReady (B.state board.old) run.now.shape }
     requires shape { cursor.old.shape ≡ run.now.shape }
-    requires follows { (es : List EntrySpec) × Stands run.now (B.state board.old).pages arena.now es
+    requires follows { (es : List EntrySpec) × RunOnFlash run.now (B.state board.old).pages arena.now es
         × Follows (B.state board.old).pages run.now es position.now cursor.old }
     // The first wanted entry.
     ensures finds { IfOk result (λ found. FindsIn run.now arena.now position.now

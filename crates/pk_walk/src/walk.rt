@@ -9,7 +9,7 @@ ghost use Rattle.pk_nand.specs.Calls.{IsReady};
 ghost use Rattle.pk_nand.specs.declared.types.Fault.TheVariants.{Reading};
 ghost use Rattle.pk_pin.specs.Frames.{Frames};
 ghost use Rattle.pk_run.specs.Kept.{Kept};
-ghost use Rattle.pk_level.specs.Levels.{StandEach};
+ghost use Rattle.pk_level.specs.Levels.{RunsOnFlash};
 ghost use Rattle.pk_walk.specs.declared.position.Position.TheVariants.{First};
 ghost use Rattle.pk_walk.specs.Steps.{Comes, FindsInEach, GoOn, WalksOn, first_left};
 ghost use Rattle.pk_walk.specs.Visible.{is_wanted, visible, wanted};
@@ -54,7 +54,7 @@ impl<A: Region> Walk<A> {
         ensures begun { IfOk result (λ w. w ≡ begun w First) }
         ensures left { IfOk result (λ w. (flash : Flash) (arena : Frames) (runs : List Kept)
             (active frozen : List EntrySpec) (ess : List (List EntrySpec))
-            → StandEach flash arena runs ess
+            → RunsOnFlash flash arena runs ess
             → IsLeft w flash arena runs active frozen (visible (active ∷ frozen ∷ ess))) }
         ensures none_read { IfOk result (λ w. (runs : List Kept) → pages_read runs w.cursors ≡ 0) }
         ensures skips_none { IfOk result (λ w. SkipsNone w) }
@@ -80,7 +80,7 @@ impl<A: Region> Walk<A> {
         ensures begun { self.new ≡ begun self.old (first_position (option_copied from.entry)) }
         ensures left { (flash : Flash) (arena : Frames) (runs : List Kept)
             (active frozen : List EntrySpec) (ess : List (List EntrySpec))
-            → StandEach flash arena runs ess
+            → RunsOnFlash flash arena runs ess
             → IsLeft self.new flash arena runs active frozen
             (wanted (is_wanted self.new.position) (visible (active ∷ frozen ∷ ess))) }
         ensures none_read { (runs : List Kept) → pages_read runs self.new.cursors ≡ 0 }
@@ -109,7 +109,7 @@ impl<A: Region> Walk<A> {
         requires ready { IsReady (B.state board.old) levels.now.shape }
         requires shape { self.old.shape ≡ levels.now.shape }
         requires follow { (ess : List (List EntrySpec))
-            × StandEach (B.state board.old).pages arena.now levels.now.runs ess
+            × RunsOnFlash (B.state board.old).pages arena.now levels.now.runs ess
             × FollowEach (B.state board.old).pages levels.now.runs ess self.old.position
             self.old.cursors }
         // The next entry.
@@ -233,7 +233,7 @@ fn least_of_all<A: Region, B: Nand>(
     requires ready { IsReady (B.state board.old) levels.now.shape }
     requires shape { AreOfShape levels.now.shape cursors.old }
     requires follow { (ess : List (List EntrySpec))
-        × StandEach (B.state board.old).pages arena.now levels.now.runs ess
+        × RunsOnFlash (B.state board.old).pages arena.now levels.now.runs ess
         × FollowEach (B.state board.old).pages levels.now.runs ess position.now cursors.old }
     // The first entry that is left.
     ensures finds { IfOk result (λ found. FindsInEach (first_left position.now

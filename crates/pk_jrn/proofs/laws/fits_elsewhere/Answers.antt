@@ -1,5 +1,5 @@
-use Rattle.pk_jrn.proofs.Places.{Fits-same}
+use Rattle.pk_jrn.proofs.Places.{EpochOnFlash-same}
 use Rattle.pk_jrn.proofs.laws.fits_elsewhere.Goals as goal
 
 pub returns : goal.returns
-returns c = Fits-same
+returns c = EpochOnFlash-same

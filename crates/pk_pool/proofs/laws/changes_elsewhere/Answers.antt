@@ -1,5 +1,5 @@
-use Rattle.pk_pool.proofs.Fitting.{Fits-outside}
+use Rattle.pk_pool.proofs.Fitting.{PoolOnFlash-outside}
 use Rattle.pk_pool.proofs.laws.changes_elsewhere.Goals as goal
 
 pub returns : goal.returns
-returns c = Fits-outside
+returns c = PoolOnFlash-outside

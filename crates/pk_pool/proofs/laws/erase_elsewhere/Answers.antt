@@ -1,5 +1,5 @@
-use Rattle.pk_pool.proofs.Fitting.{Fits-erase}
+use Rattle.pk_pool.proofs.Fitting.{PoolOnFlash-erase}
 use Rattle.pk_pool.proofs.laws.erase_elsewhere.Goals as goal
 
 pub returns : goal.returns
-returns c = Fits-erase
+returns c = PoolOnFlash-erase

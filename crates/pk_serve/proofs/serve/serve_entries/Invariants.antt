@@ -2,7 +2,7 @@ use Rattle.std.proofs.Common.{◌≡◌, ℕ, []}
 use Rattle.pk_base.specs.Shape.{Shape}
 use Rattle.pk_base.specs.Map.{Map}
 use Rattle.pk_queue.specs.Queue.{bytes_of}
-use Rattle.pk_drive.specs.Drive.{Stands}
+use Rattle.pk_drive.specs.Drive.{HoldsMap}
 use Rattle.pk_serve.specs.Part.{KeepsRunning}
 use Rattle.pk_serve.specs.Script.{Consumed}
 use Rattle.pk_serve.specs.Told.{HasServed}
@@ -19,6 +19,6 @@ invariant-loop-taken g l =
       shape : b.shape ≡ a.shape;
       in_faults : b.in_faults ≡ a.in_faults;
       consumed : Consumed a b l.taken [];
-      looping : (shape : Shape) (frames : ℕ) (start : Map) → Stands shape frames a (g.D.Engine.sight l.initial.drive) start → (g.D.Engine.sight l.initial.drive).pending ≡ []
+      looping : (shape : Shape) (frames : ℕ) (start : Map) → HoldsMap shape frames a (g.D.Engine.sight l.initial.drive) start → (g.D.Engine.sight l.initial.drive).pending ≡ []
           → Looping shape frames start a b (g.D.Engine.sight l.drive) (bytes_of l.held.heads) l.taken (saying_served (HasServed _ g.D.Engine.sight g.D.Engine.agrees g.D.Engine.built shape frames));
     }

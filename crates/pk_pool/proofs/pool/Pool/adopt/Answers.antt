@@ -1,6 +1,6 @@
 use Rattle.pk_pool.specs.declared.state.BlockState.TheVariants.{Owned}
 use Rattle.pk_pool.proofs.States.{owned_is_not_ready}
-use Rattle.pk_pool.proofs.Fitting.{Fits-marked}
+use Rattle.pk_pool.proofs.Fitting.{PoolOnFlash-marked}
 use Rattle.pk_pool.proofs.Sharing.{shared_adopted, used_adopted}
 use Rattle.pk_pool.proofs.pool.Pool.adopt.Goals as goal
 
@@ -11,4 +11,4 @@ pub returns-clause-counted : goal.returns-clause-counted
 returns-clause-counted g c = let r = rw (← c.self.view_is) at c.requires in rw (← c.self.view_is) (used_adopted c.self.inside.plan c.self.inside.states.items c.args.block c.args.owner r.free)
 
 pub returns-clause-fits : goal.returns-clause-fits
-returns-clause-fits g c = rw (← c.self.view_is) (λ flash fits. Fits-marked _ flash c.args.block (Owned c.args.owner) owned_is_not_ready fits)
+returns-clause-fits g c = rw (← c.self.view_is) (λ flash fits. PoolOnFlash-marked _ flash c.args.block (Owned c.args.owner) owned_is_not_ready fits)

@@ -2,7 +2,7 @@ use Rattle.std.proofs.Common.{refl, sym, ◌∙◌}
 use Rattle.pk_pool.specs.declared.state.BlockState.TheVariants.{Free, Ready}
 use Rattle.pk_pool.proofs.States.{get-set_other, free_is_not_ready}
 use Rattle.pk_pool.proofs.Sharing.{shared_ready, exists, free_not_owned}
-use Rattle.pk_pool.proofs.Fitting.{Fits-ready, Fits-after_erase, Fits-erase_failed, ReachesIn-erase, WentIn-erase, IsReady-erase, erased_block, free_not_ready}
+use Rattle.pk_pool.proofs.Fitting.{PoolOnFlash-ready, PoolOnFlash-after_erase, PoolOnFlash-erase_failed, ReachesIn-erase, WentIn-erase, IsReady-erase, erased_block, free_not_ready}
 use Rattle.pk_pool.proofs.pool.Pool.erase_one.Goals as goal
 
 pub invariant_of-self : goal.invariant_of-self
@@ -36,7 +36,7 @@ returns-in-Ok-clause-fits g c =
     let r = rw (← c.self.view_is) at c.requires.ready in
     let f = rw (← c.self.view_is) at c.requires.fits in
     let i = c.self.invariant in
-    rw c.in-Ok.ensures.ok (Fits-ready _ _ c.in-Some.b (erased_block _ _ c.in-Some.b i.plan.is_shape r (exists _ _ _ Free l.here i)) (Fits-after_erase _ _ c.in-Some.b i.plan.is_shape r f))
+    rw c.in-Ok.ensures.ok (PoolOnFlash-ready _ _ c.in-Some.b (erased_block _ _ c.in-Some.b i.plan.is_shape r (exists _ _ _ Free l.here i)) (PoolOnFlash-after_erase _ _ c.in-Some.b i.plan.is_shape r f))
 
 pub returns-in-Err-clause-failed : goal.returns-in-Err-clause-failed
 returns-in-Err-clause-failed g c =
@@ -54,4 +54,4 @@ returns-in-Err-clause-fits g c =
     let l = rw c.deref.ensures.value at c.in-Some.ensures in
     let r = rw (← c.self.view_is) at c.requires.ready in
     let f = rw (← c.self.view_is) at c.requires.fits in
-    rw (← c.self.view_is) (Fits-erase_failed _ _ c.in-Some.b c.self.invariant.plan.is_shape r f _ (free_not_ready c.self.inside.states.items c.in-Some.b l.here) c.in-Err.ensures.err)
+    rw (← c.self.view_is) (PoolOnFlash-erase_failed _ _ c.in-Some.b c.self.invariant.plan.is_shape r f _ (free_not_ready c.self.inside.states.items c.in-Some.b l.here) c.in-Err.ensures.err)

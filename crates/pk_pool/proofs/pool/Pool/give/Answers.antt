@@ -1,6 +1,6 @@
 use Rattle.pk_pool.specs.declared.state.BlockState.TheVariants.{Free}
 use Rattle.pk_pool.proofs.States.{free_is_not_ready}
-use Rattle.pk_pool.proofs.Fitting.{Fits-marked}
+use Rattle.pk_pool.proofs.Fitting.{PoolOnFlash-marked}
 use Rattle.pk_pool.proofs.Sharing.{shared_given, used_given}
 use Rattle.pk_pool.proofs.pool.Pool.give.Goals as goal
 
@@ -11,4 +11,4 @@ pub returns-clause-counted : goal.returns-clause-counted
 returns-clause-counted g c = rw (← c.self.view_is) (λ o. used_given c.self.inside.states.items c.args.block o)
 
 pub returns-clause-fits : goal.returns-clause-fits
-returns-clause-fits g c = rw (← c.self.view_is) (λ flash fits. Fits-marked _ flash c.args.block Free free_is_not_ready fits)
+returns-clause-fits g c = rw (← c.self.view_is) (λ flash fits. PoolOnFlash-marked _ flash c.args.block Free free_is_not_ready fits)

@@ -3,7 +3,7 @@ use Rattle.std.proofs.lemmas.Option.{slice_get_within}
 use Rattle.pk_pool.specs.declared.state.BlockState.TheVariants.{Free, Ready, Owned}
 use Rattle.pk_pool.proofs.States.{set_is, free_is_not_root, ready_is_not_root, owned_is_not_ready}
 use Rattle.pk_pool.proofs.Sharing.{shared_taken, used_taken, one_is_left, behind_roots, exists, few}
-use Rattle.pk_pool.proofs.Fitting.{Fits-marked, Fits-after_erase, ReachesIn-none, ReachesIn-erase, WentIn-erase, IsReady-erase, erased_block}
+use Rattle.pk_pool.proofs.Fitting.{PoolOnFlash-marked, PoolOnFlash-after_erase, ReachesIn-none, ReachesIn-erase, WentIn-erase, IsReady-erase, erased_block}
 use Rattle.pk_nand.proofs.Writing.{shape_is}
 use Rattle.pk_pool.proofs.pool.Pool.take.Goals as goal
 
@@ -27,7 +27,7 @@ pub returns-in-Some-clause-cuts : goal.returns-in-Some-clause-cuts
 returns-in-Some-clause-cuts g c = ReachesIn-none c.args.self.now.shape _ _
 
 pub returns-in-Some-clause-fits : goal.returns-in-Some-clause-fits
-returns-in-Some-clause-fits g c = let f = rw (← c.self.view_is) at c.requires.fits in Fits-marked _ _ c.in-Some.b (Owned c.args.owner) owned_is_not_ready f
+returns-in-Some-clause-fits g c = let f = rw (← c.self.view_is) at c.requires.fits in PoolOnFlash-marked _ _ c.in-Some.b (Owned c.args.owner) owned_is_not_ready f
 
 -- ---- a block that is erased now
 
@@ -85,7 +85,7 @@ pub returns-in-Ok-clause-fits : goal.returns-in-Ok-clause-fits
 returns-in-Ok-clause-fits g c =
     let r = rw (← c.self.view_is) at c.requires.ready in
     let f = rw (← c.self.view_is) at c.requires.fits in
-    rw c.in-Ok.ensures.ok (Fits-marked _ _ c.in-Some-lowest.b (Owned c.args.owner) owned_is_not_ready (Fits-after_erase _ _ c.in-Some-lowest.b c.self.invariant.plan.is_shape r f))
+    rw c.in-Ok.ensures.ok (PoolOnFlash-marked _ _ c.in-Some-lowest.b (Owned c.args.owner) owned_is_not_ready (PoolOnFlash-after_erase _ _ c.in-Some-lowest.b c.self.invariant.plan.is_shape r f))
 
 pub returns-in-Err-clause-failed : goal.returns-in-Err-clause-failed
 returns-in-Err-clause-failed g c =
