@@ -26,7 +26,7 @@ use Rattle.pk_compact.specs.Steps.{next_root}
 use Rattle.pk_compact.proofs.Taking.{spare_before}
 
 -- a block with an owner is not spare
-owned_not_spare : (pool : Blocks) (b : ℕ) → slice_get pool.states b ≡ Some (Owned Journal) → IsSpare pool b → ⊥
+pub owned_not_spare : (pool : Blocks) (b : ℕ) → slice_get pool.states b ≡ Some (Owned Journal) → IsSpare pool b → ⊥
 owned_not_spare pool b owned (inl free) = owned_is_not_free {o = Journal} (same_Some (Owned Journal) Free (sym owned ∙ free))
 owned_not_spare pool b owned (inr ready) = owned_is_not_ready {o = Journal} (same_Some (Owned Journal) Ready (sym owned ∙ ready))
 
@@ -40,7 +40,7 @@ spare_given pool x b spare = elim (cases_eq b x) [
   ])
 ]
 
-spare_back : (blocks : List ℕ) (pool : Blocks) (b : ℕ) → IsSpare (given_back pool blocks) b → In b blocks ⊎ IsSpare pool b
+pub spare_back : (blocks : List ℕ) (pool : Blocks) (b : ℕ) → IsSpare (given_back pool blocks) b → In b blocks ⊎ IsSpare pool b
 spare_back [] pool b spare = inr spare
 spare_back (x ∷ xs) pool b spare = elim (spare_back xs (with_state pool x Free) b spare) [
   | inl among ↦ inl (inr among)

@@ -5,3 +5,11 @@ pub mod Apart
 pub mod Numbering
 pub mod Frozen
 pub mod Examples
+pub mod NextRoot
+pub mod TakingOne
+pub mod FreezeRoot
+pub mod FreezeStepping
+pub mod MergeRoot
+pub mod Freed
+pub mod Touching
+pub mod Scheduling

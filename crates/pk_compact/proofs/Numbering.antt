@@ -19,7 +19,7 @@ use Rattle.pk_model.proofs.Growing.{at_end}
 use Rattle.pk_compact.specs.Steps.{FailsToTake, FailsToFinish, MayEraseOther}
 use Rattle.pk_compact.proofs.Taking.{leaves_others, not_behind, still_ready}
 
-same_newest : (shape : Shape) (old new : Flash) → newest_root shape (page_at new) ≡ newest_root shape (page_at old) → root_number shape new ≡ root_number shape old
+pub same_newest : (shape : Shape) (old new : Flash) → newest_root shape (page_at new) ≡ newest_root shape (page_at old) → root_number shape new ≡ root_number shape old
 unfolding root_number
 same_newest shape old new same = rw same refl
 
@@ -53,7 +53,7 @@ prepared_number : (shape : Shape) (next next' : Next) (old new : BoardState) →
 prepared_number shape next next' old new (inl same) = ap (λ (s : BoardState). root_number shape s.pages) same.1
 prepared_number shape next next' old new (inr e) = same_newest shape old.pages new.pages (at_end e.cuts.0 old new (λ cut _. KeepsRoot shape old.pages cut) e.cuts.1).newest
 
-last_number : (shape : Shape) (root : Root) (next : Next) (old new : BoardState) → root.number ≤ root_number shape old.pages + 1 → FailsToInstall shape root next old new ⊎ FailsToErase shape next old new
+pub last_number : (shape : Shape) (root : Root) (next : Next) (old new : BoardState) → root.number ≤ root_number shape old.pages + 1 → FailsToInstall shape root next old new ⊎ FailsToErase shape next old new
     → root_number shape new.pages ≤ root_number shape old.pages + 1
 last_number shape root next old new few (inl f) = elim (f.cuts.1.cuts new.pages (all_posted f.cuts.0) f.cuts.1.stands).newest [
   | inl same ↦ (let e = same_newest shape old.pages new.pages same in omega (arith, e))

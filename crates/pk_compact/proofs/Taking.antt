@@ -56,7 +56,7 @@ chosen pool old b new (inl ready) = inl ready.same
 chosen pool old b new (inr free) = inr free.erase
 
 -- an erase leaves erased blocks erased
-erased_stays : (shape : Shape) (b block : ℕ) (old new : BoardState) → AtMostErases block old new → IsErasedBlock shape old.pages b → IsErasedBlock shape new.pages b
+pub erased_stays : (shape : Shape) (b block : ℕ) (old new : BoardState) → AtMostErases block old new → IsErasedBlock shape old.pages b → IsErasedBlock shape new.pages b
 erased_stays shape b block old new (inl same) is = let T : BoardState → Type 0 = λ s. IsErasedBlock shape s.pages b in subst T (sym same) is
 erased_stays shape b block old new (inr made) is =
     let T : BoardState → Type 0 = λ s. IsErasedBlock shape s.pages b in

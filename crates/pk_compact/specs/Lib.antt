@@ -1,2 +1,8 @@
 pub mod Freezing
 pub mod Steps
+pub mod Installing
+pub mod FreezeSteps
+pub mod Merging
+pub mod Laws
+pub mod MergeJob
+pub mod Scheduling

@@ -1,17 +1,49 @@
 //! The two blocks of an epoch, taken from the pool and given back.
-ghost use Rattle.std.specs.Prelude.{◌≡◌, ◌≤◌, ◌≢◌, ℕ, ◌∷◌, [], List, length, slice_get, slice_index, Some, if◌then◌else◌, IfOk, IfErr, OnOk, OnErr};
+ghost use Rattle.std.specs.Prelude.{◌≡◌, ◌≤◌, ◌<◌, ◌≢◌, ◌+◌, ℕ, ◌∷◌, [], List, length, slice_get, slice_index, Some, if◌then◌else◌, IfOk, IfErr, OnOk, OnErr};
 ghost use Rattle.pk_base.specs.Page.{Flash};
 ghost use Rattle.pk_plan.specs.declared.owner.Owner.TheVariants.{Journal};
-ghost use Rattle.pk_nand.specs.Calls.{IsReady};
+ghost use Rattle.pk_nand.specs.Calls.{IsReady, IsErasedBlock};
 ghost use Rattle.pk_nand.specs.declared.types.Fault.TheVariants.{Stopped};
 ghost use Rattle.pk_pool.specs.declared.state.BlockState.TheVariants.{Owned};
-ghost use Rattle.pk_pool.specs.Blocks.{used_by, PoolOnFlash};
+ghost use Rattle.pk_pool.specs.Blocks.{used_by, with_state, IsSpare, PoolOnFlash};
+ghost use Rattle.pk_pool.specs.Taking.{FailsToErase};
 ghost use Rattle.pk_compact.specs.Freezing.{given_back};
-ghost use Rattle.pk_compact.specs.Steps.{TakesTwo, FailsToTake};
+ghost use Rattle.pk_compact.specs.Steps.{AtMostErases, TakesTwo, FailsToTake};
 
 use pk_nand::{Fault, Nand};
 use pk_pool::{Owner, Pool};
 use std::alloc::Allocator;
+
+/// Takes a block for an epoch, by at most one erase. `Stopped` where it fails.
+pub(crate) fn take_block<B: Nand, A: Allocator>(
+    board: &mut B,
+    pool: &mut Pool<A>,
+) -> Result<u16, Fault>
+    requires room { used_by Journal pool.old.states < 4 }
+    requires ready { IsReady (B.state board.old) pool.old.shape }
+    requires fits { PoolOnFlash pool.old (B.state board.old).pages }
+
+    // The journal has one block more, which is Erased.
+    ensures taken { IfOk result (λ b. (pool.new ≡ with_state pool.old b (Owned Journal))
+        × AtMostErases b (B.state board.old) (B.state board.new)) }
+    ensures spare { IfOk result (λ b. IsSpare pool.old b × (2 ≤ b) × (b < pool.old.shape.blocks)
+        × IsErasedBlock pool.old.shape (B.state board.new).pages b) }
+    ensures counted { OnOk result
+        (used_by Journal pool.new.states ≡ used_by Journal pool.old.states + 1) }
+
+    // Or the erase failed.
+    ensures stopped { IfErr result (λ e. e ≡ Stopped) }
+    ensures failed { OnErr result (FailsToErase pool.old (B.state board.old) (B.state board.new)) }
+
+    ensures ready { IsReady (B.state board.new) pool.old.shape }
+    ensures fits { PoolOnFlash pool.new (B.state board.new).pages }
+{
+    pool.known();
+    match pool.take(board, Owner::Journal) {
+        Ok(block) => Ok(block as u16),
+        Err(fault) => Err(fault),
+    }
+}
 
 /// Takes two blocks for an epoch, each by at most one erase. `Stopped` where an erase fails.
 pub(crate) fn take_two<B: Nand, A: Allocator>(
@@ -21,10 +53,16 @@ pub(crate) fn take_two<B: Nand, A: Allocator>(
     requires room { used_by Journal pool.old.states ≤ 2 }
     requires ready { IsReady (B.state board.old) pool.old.shape }
     requires fits { PoolOnFlash pool.old (B.state board.old).pages }
+
+    // Two blocks, each Erased.
     ensures taken { IfOk result (λ blocks. TakesTwo pool.old (B.state board.old) blocks pool.new
         (B.state board.new)) }
+
+    // Or an erase failed.
     ensures stopped { IfErr result (λ e. e ≡ Stopped) }
     ensures failed { OnErr result (FailsToTake pool.old (B.state board.old) (B.state board.new)) }
+
+    // Either way the pool and the flash agree.
     ensures ready { IsReady (B.state board.new) pool.new.shape }
     ensures fits { PoolOnFlash pool.new (B.state board.new).pages }
     ensures shape { pool.new.shape ≡ pool.old.shape }
@@ -40,7 +78,7 @@ pub(crate) fn take_two<B: Nand, A: Allocator>(
 }
 
 /// Gives the blocks of an epoch without entries back, which is named no more; another one stays.
-pub(crate) fn give_back<A: Allocator>(pool: &mut Pool<A>, blocks: [u16; 2], has_entries: bool)
+pub fn give_back<A: Allocator>(pool: &mut Pool<A>, blocks: [u16; 2], has_entries: bool)
     requires first { slice_get pool.old.states (slice_index blocks 0) ≡ Some (Owned Journal) }
     requires second { slice_get pool.old.states (slice_index blocks 1) ≡ Some (Owned Journal) }
     requires different { slice_index blocks 1 ≢ slice_index blocks 0 }

@@ -34,12 +34,16 @@ pub fn freeze<B: Nand, A: Allocator>(
         × MayFreeze pool.old root.old installer.old (B.state board.old).pages has_entries
         top found m }
     requires room { length buf.old ≡ root.old.shape.page_bytes }
+
+    // The step at every cut.
     ensures step { Step
         (λ blocks. FreezesAll pool.old root.old installer.old (B.state board.old) has_entries
         blocks pool.new root.new installer.new (B.state board.new))
         (FreezeBreaks pool.old root.old installer.old has_entries
         (B.state board.old) (B.state board.new))
         root.old.shape 1 (B.state board.old) (B.state board.new) result }
+
+    // What agrees behind it.
     ensures fits { OnOk result (PoolOnFlash pool.new (B.state board.new).pages) }
     ensures pool_shape { OnOk result (pool.new.shape ≡ root.old.shape) }
     ensures root_shape { root.new.shape ≡ root.old.shape }

@@ -17,12 +17,18 @@ fn prepare<B: Nand>(board: &mut B, shape: &Shape, installer: &mut Installer) -> 
     requires ready { IsReady (B.state board.old) shape.now }
     requires fits { (top : ℕ × RootValue)
         × InstallerOnFlash shape.now installer.old top (B.state board.old).pages }
+
+    // The next step programs the root.
     ensures prepared { OnOk result (MayEraseOther shape.now installer.old (B.state board.old)
         installer.new (B.state board.new)) }
     ensures programs_next { OnOk result (erases_next installer.new ≡ false) }
+
+    // Or the erase failed.
     ensures stopped { IfErr result (λ e. e ≡ Stopped) }
     ensures failed { OnErr result
         (FailsToErase shape.now installer.old (B.state board.old) (B.state board.new)) }
+
+    // Either way all behind the root blocks stays.
     ensures behind { SameBehind shape.now (B.state board.old).pages (B.state board.new).pages }
     ensures ready { IsReady (B.state board.new) shape.now }
 {
@@ -47,11 +53,17 @@ pub(crate) fn install<B: Nand, A: Allocator>(
         × InstallerOnFlash root.now.shape installer.old top (B.state board.old).pages
         × (top.1.number < root.now.root.number) }
     requires room { length buf.old ≡ root.now.shape.page_bytes }
+
+    // The root is the newest one.
     ensures installed { OnOk result (InstallsAll root.now.shape root.now.root installer.old
         (B.state board.old) installer.new (B.state board.new)) }
+
+    // Or a call failed.
     ensures stopped { IfErr result (λ e. e ≡ Stopped) }
     ensures failed { OnErr result (FailsToFinish root.now.shape root.now.root installer.old
         (B.state board.old) (B.state board.new)) }
+
+    // Either way all behind the root blocks stays.
     ensures behind { SameBehind root.now.shape (B.state board.old).pages (B.state board.new).pages }
     ensures ready { IsReady (B.state board.new) root.now.shape }
     ensures buffer { length buf.new ≡ length buf.old }

@@ -41,7 +41,7 @@ none_of_firsts [] none = refl
 none_of_firsts (e ∷ es) none = let some = firsts_some e es in absurd (omega (arith, none, some))
 
 -- a buffer is empty exactly where its epoch is
-tells_some : (es : List Entry) (n : ℕ) → n ≡ length (firsts es) → (length es == 0) ≡ not (nat_lt 0 n)
+pub tells_some : (es : List Entry) (n : ℕ) → n ≡ length (firsts es) → (length es == 0) ≡ not (nat_lt 0 n)
 tells_some [] n is = rw is refl
 tells_some (e ∷ es) n is = both_some (length (e ∷ es)) n (omega arith) (let some = firsts_some e es in omega (arith, is, some))
   where
@@ -93,7 +93,7 @@ module _ (log : LogState) (pool : Blocks) (flash : Flash) (top : ℕ × Root) (f
 
 -- ---- behind it
 
-two_erased : (shape : Shape) (flash : Flash) (first second : ℕ) → IsErasedBlock shape flash first → IsErasedBlock shape flash second → AreErased shape flash (first ∷ second ∷ [])
+pub two_erased : (shape : Shape) (flash : Flash) (first second : ℕ) → IsErasedBlock shape flash first → IsErasedBlock shape flash second → AreErased shape flash (first ∷ second ∷ [])
 two_erased shape flash first second one two zero small = one
 two_erased shape flash first second one two (suc zero) small = two
 two_erased shape flash first second one two (suc (suc n)) small = absurd (omega (arith, small))

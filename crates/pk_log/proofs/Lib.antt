@@ -2,4 +2,5 @@ pub mod Standing
 pub mod Pushing
 pub mod Committing
 pub mod Freezing
+pub mod FreezeStepping
 pub mod Examples

@@ -2,4 +2,5 @@ pub mod State
 pub mod Logs
 pub mod Commits
 pub mod Freezes
+pub mod FreezeSteps
 pub mod Laws

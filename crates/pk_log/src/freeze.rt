@@ -6,10 +6,12 @@ ghost use Rattle.pk_rootfmt.specs.Root.{Root as RootValue};
 ghost use Rattle.pk_model.specs.Found.{Found};
 ghost use Rattle.pk_pool.specs.Blocks.{PoolOnFlash};
 ghost use Rattle.pk_model.specs.Steps.{Step};
+ghost use Rattle.pk_nand.specs.Effects.{AtMostOneCall};
 ghost use Rattle.pk_log.specs.Freezes.{CanFreeze, LogFreezes, LogFreezeBreaks};
+ghost use Rattle.pk_log.specs.FreezeSteps.{CanStep, LogSteps, LogStepBreaks};
 
 use crate::log::Log;
-use pk_compact::freeze as freeze_root;
+use pk_compact::{FreezeJob, freeze as freeze_root, freeze_step, give_back};
 use pk_jrn::Epoch;
 use pk_nand::{Fault, Nand};
 use pk_pool::Pool;
@@ -30,11 +32,15 @@ impl<A: Region> Log<A> {
         requires can { (top : ℕ × RootValue) × (found : Found) × (m : Map)
             × CanFreeze self.old pool.old (B.state board.old).pages top found m }
         requires room { length buf.old ≡ self.old.shape.page_bytes }
+
+        // The step at every cut.
         ensures step { Step
             (λ u. LogFreezes self.old pool.old (B.state board.old)
             self.new pool.new (B.state board.new))
             (LogFreezeBreaks self.old pool.old (B.state board.old) (B.state board.new))
             self.old.shape 1 (B.state board.old) (B.state board.new) result }
+
+        // What agrees behind it.
         ensures fits { OnOk result (PoolOnFlash pool.new (B.state board.new).pages) }
         ensures pool_shape { OnOk result (pool.new.shape ≡ self.old.shape) }
         ensures same_shape { self.new.shape ≡ self.old.shape }
@@ -55,6 +61,55 @@ impl<A: Region> Log<A> {
                 self.active.exchange(&mut self.frozen);
                 Ok(())
             }
+            Err(fault) => Err(fault),
+        }
+    }
+
+    /// One step of a freeze, by at most one call of the board: a block of the empty epoch, the other one, the erase before the
+    /// root, its program. True exactly where this call programmed it: the empty epoch is the newest one then, the buffers are
+    /// exchanged, and the blocks of a former epoch without entries are given back. Until then log and lists are as they were.
+    /// Nothing may be pending, and nothing frozen. `Stopped` where the call fails; log, pool and freeze are not to be used any
+    /// more then. `buf` has the bytes of a page, which are lost.
+    pub fn freeze_step<B: Nand>(
+        &mut self,
+        board: &mut B,
+        pool: &mut Pool<A>,
+        job: &mut FreezeJob,
+        buf: &mut [u8],
+    ) -> Result<bool, Fault>
+        requires ready { IsReady (B.state board.old) self.old.shape }
+        requires can { (top : ℕ × RootValue) × (found : Found) × (m : Map)
+            × CanStep self.old pool.old job.old (B.state board.old).pages top found m }
+        requires room { length buf.old ≡ self.old.shape.page_bytes }
+        ensures step { Step
+            (λ done. LogSteps self.old pool.old job.old (B.state board.old) done
+            self.new pool.new job.new (B.state board.new))
+            (LogStepBreaks self.old pool.old job.old (B.state board.old) (B.state board.new))
+            self.old.shape 1 (B.state board.old) (B.state board.new) result }
+        ensures calls { AtMostOneCall (B.state board.old) (B.state board.new) }
+        ensures same_shape { self.new.shape ≡ self.old.shape }
+        ensures buffer { length buf.new ≡ length buf.old }
+    {
+        let has_entries = self.active.len() > 0;
+        let former = self.root.newest();
+        match freeze_step(
+            board,
+            pool,
+            &mut self.root,
+            &mut self.installer,
+            job,
+            has_entries,
+            buf,
+        ) {
+            Ok(true) => {
+                give_back(pool, former, has_entries);
+                let shape = *self.root.shape();
+                let blocks = self.root.newest();
+                self.epoch = Epoch::start(shape, self.root.epoch(), blocks);
+                self.active.exchange(&mut self.frozen);
+                Ok(true)
+            }
+            Ok(false) => Ok(false),
             Err(fault) => Err(fault),
         }
     }

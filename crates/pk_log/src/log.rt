@@ -189,6 +189,8 @@ impl<A: Region> Log<A> {
         requires stands { (top : ℕ × RootValue) × (found : Found)
             × LogOnFlash self.old (B.state board.old).pages top found }
         requires room { length buf.old ≡ self.old.shape.page_bytes }
+
+        // One program where entries are pending, and none are behind it.
         ensures ok { OnOk result
             (CommitsNone self.old (B.state board.old) self.new (B.state board.new)
             ⊎ CommitsAll self.old (B.state board.old) self.new (B.state board.new)) }
@@ -198,11 +200,15 @@ impl<A: Region> Log<A> {
         ensures holds { OnOk result (CommitHolds self.old (B.state board.old) (B.state board.new)) }
         ensures cuts { OnOk result (CommitReaches self.old (B.state board.old)
             (B.state board.new)) }
+
+        // Or the program failed, and the log stays.
         ensures stopped { IfErr result (λ e. e ≡ Stopped) }
         ensures err { OnErr result (CommitFailed self.old (B.state board.old) (B.state board.new)) }
         ensures cuts_err { OnErr result (CommitGoes self.old (B.state board.old)
             (B.state board.new)) }
         ensures kept { OnErr result (self.new ≡ self.old) }
+
+        // Either way the board and the buffer may be used again.
         ensures ready { IsReady (B.state board.new) self.old.shape }
         ensures buffer { length buf.new ≡ length buf.old }
     {

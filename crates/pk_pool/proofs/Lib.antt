@@ -1,3 +1,4 @@
 pub mod States
 pub mod Sharing
 pub mod Fitting
+pub mod Counting

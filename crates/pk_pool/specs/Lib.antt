@@ -1,3 +1,4 @@
 pub mod Blocks
 pub mod Taking
 pub mod Laws
+pub mod Unready

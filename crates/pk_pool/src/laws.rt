@@ -1,5 +1,6 @@
 //! What calls of other crates leave of a pool's view of a flash.
 ghost use Rattle.pk_pool.specs.Laws.{ChangesElsewhere, ProgramElsewhere, EraseElsewhere, ErasedInOrder};
+ghost use Rattle.pk_pool.specs.Unready.{Erased, TakenReady, TakenFree, GivenBack, AllCounted, TakePays};
 
 /// Changes within a block that does not count as erased leave the pool fitting.
 pub fn changes_elsewhere()
@@ -19,4 +20,14 @@ pub fn erase_elsewhere()
 /// The first page of an erased block is the next one to be programmed.
 pub fn erased_in_order()
     ensures { ErasedInOrder }
+{}
+
+/// What erases, takes and returns make of the number of blocks that are not ready.
+pub fn blocks_not_ready()
+    ensures erased { Erased }
+    ensures taken_ready { TakenReady }
+    ensures taken_free { TakenFree }
+    ensures given_back { GivenBack }
+    ensures counted { AllCounted }
+    ensures pays { TakePays }
 {}

@@ -6,7 +6,9 @@ mod laws;
 mod pool;
 mod state;
 
-pub use laws::{changes_elsewhere, erase_elsewhere, erased_in_order, program_elsewhere};
+pub use laws::{
+    blocks_not_ready, changes_elsewhere, erase_elsewhere, erased_in_order, program_elsewhere,
+};
 pub use pk_plan::Owner;
 pub use pool::Pool;
 pub use state::BlockState;

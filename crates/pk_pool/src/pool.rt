@@ -105,6 +105,8 @@ impl<A: Allocator> Pool<A> {
         requires below { used_by owner self.old.states < quota_of self.old.shape owner }
         requires ready { IsReady (B.state board.old) self.old.shape }
         requires fits { PoolOnFlash self.old (B.state board.old).pages }
+
+        // The block that was taken, and how.
         ensures choice { IfOk result (λ b. TakesReady self.old (B.state board.old) b
             (B.state board.new) ⊎ ErasesFree self.old (B.state board.old) b (B.state board.new)) }
         ensures spare { IfOk result (λ b. IsSpare self.old b) }
@@ -118,11 +120,15 @@ impl<A: Allocator> Pool<A> {
             (λ b. IsErasedBlock self.old.shape (B.state board.new).pages b) }
         ensures cuts { IfOk result
             (λ b. ReachesIn self.old.shape b (B.state board.old) (B.state board.new)) }
+
+        // The erase failed, and no block was ready.
         ensures stopped { IfErr result (λ e. e ≡ Stopped) }
         ensures none_ready { OnErr result (IsNowhere Ready self.old.states) }
         ensures failed { OnErr result
             (FailsToErase self.old (B.state board.old) (B.state board.new)) }
         ensures kept { OnErr result (self.new ≡ self.old) }
+
+        // Either way the pool and the flash agree.
         ensures ready { IsReady (B.state board.new) self.new.shape }
         ensures fits { PoolOnFlash self.new (B.state board.new).pages }
     {
@@ -160,13 +166,19 @@ impl<A: Allocator> Pool<A> {
     pub fn erase_one<B: Nand>(&mut self, board: &mut B) -> Result<bool, Fault>
         requires ready { IsReady (B.state board.old) self.old.shape }
         requires fits { PoolOnFlash self.old (B.state board.old).pages }
+
+        // A block was erased, or there was none.
         ensures cases { IfOk result (λ erased. MatchBool erased
             (ErasesOne self.old (B.state board.old) self.new (B.state board.new))
             (ErasesNone self.old (B.state board.old) self.new (B.state board.new))) }
+
+        // The erase failed.
         ensures stopped { IfErr result (λ e. e ≡ Stopped) }
         ensures failed { OnErr result
             (FailsToErase self.old (B.state board.old) (B.state board.new)) }
         ensures kept { OnErr result (self.new ≡ self.old) }
+
+        // Either way the pool and the flash agree.
         ensures ready { IsReady (B.state board.new) self.new.shape }
         ensures shape { self.new.shape ≡ self.old.shape }
         ensures owned { (b : ℕ) → IsOwned self.old b

@@ -6,3 +6,15 @@ pub mod Counting
 pub mod Committing
 pub mod Freezing
 pub mod NewestBlocks
+pub mod Standing
+pub mod FourRuns
+pub mod Merging
+pub mod Following
+pub mod Freeing
+pub mod FreedCounts
+pub mod FrozenNext
+pub mod Keys
+pub mod Amounts
+pub mod Outputs
+pub mod Spelling
+pub mod Remaining

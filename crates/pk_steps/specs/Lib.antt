@@ -3,3 +3,7 @@ pub mod Reads
 pub mod Stores
 pub mod Lookups
 pub mod Roots
+pub mod Next
+pub mod Freezing
+pub mod Merging
+pub mod Fitting

@@ -6,6 +6,10 @@ ghost use Rattle.pk_steps.specs.Reads.{ReadsUnder, UnderReads, Same, Programs, E
 ghost use Rattle.pk_steps.specs.Stores.{Stores, Deletes, Fits};
 ghost use Rattle.pk_steps.specs.Lookups.{Finds, FoundIn, Counts};
 ghost use Rattle.pk_steps.specs.Roots.{Commits, Committed, Freezes};
+ghost use Rattle.pk_steps.specs.Next.{Installed, Installs};
+ghost use Rattle.pk_steps.specs.Freezing.{Frozen};
+ghost use Rattle.pk_steps.specs.Merging.{Merged, MergedGrammar, MergedStill, Freed, FreedCounted};
+ghost use Rattle.pk_steps.specs.Fitting.{OutputFits, QuotaFits};
 
 /// A flash holds a map exactly where one stands under its newest root.
 pub fn reading()
@@ -40,4 +44,30 @@ pub fn roots()
     ensures commits { Commits }
     ensures committed { Committed }
     ensures freezes { Freezes }
+{}
+
+/// A root that may follow the newest one leaves the map, at every cut of its install and behind it.
+pub fn installs()
+    ensures installed { Installed }
+    ensures installs { Installs }
+{}
+
+/// The root behind a freeze may follow.
+pub fn freezes()
+    ensures { Frozen }
+{}
+
+/// The root behind a merge may follow, and what it names no more is read by nobody.
+pub fn merges()
+    ensures merged { Merged }
+    ensures grammar { MergedGrammar }
+    ensures still { MergedStill }
+    ensures freed { Freed }
+    ensures counted { FreedCounted }
+{}
+
+/// The output of a merge fits into its run, and into the meta blocks beside all runs.
+pub fn sizes()
+    ensures output { OutputFits }
+    ensures quota { QuotaFits }
 {}

@@ -1,0 +1,184 @@
+-- The install of a root that may follow: its program, and the erase before it.
+use Rattle.std.proofs.Common.{◌≡◌, ◌⊎◌, inl, inr, ℕ, ◌+◌, ◌*◌, ◌<◌, ◌≤◌, List, [], Some, false, refl, sym, ap, subst, ◌∙◌, arith, le_refl}
+use Rattle.pk_base.specs.Shape.{Shape, IsShape}
+use Rattle.pk_base.specs.Page.{Flash, page_at}
+use Rattle.pk_base.specs.Map.{Map}
+use Rattle.pk_base.specs.Mark.{program, after, all_posted}
+use Rattle.pk_nand.specs.BoardState.{BoardState}
+use Rattle.pk_nand.specs.Cut.{Interrupted}
+use Rattle.pk_nand.specs.Calls.{IsReady, after_program, ProgramFailed}
+use Rattle.pk_nand.specs.Effects.{Works, Stops}
+use Rattle.pk_nand.proofs.Effects.{works_erase, works_program, stops_erase, stops_program}
+use Rattle.pk_nand.proofs.Leaving.{interrupted_done}
+use Rattle.pk_nand.proofs.Writing.{shape_is}
+use Rattle.pk_rootfmt.specs.Root.{Root, root_bytes}
+use Rattle.pk_rootfmt.specs.Newest.{newest_root}
+use Rattle.pk_rootfmt.proofs.AgainLemmas.{reads_back}
+use Rattle.pk_model.specs.Found.{Found}
+use Rattle.pk_model.specs.Laws.{IsInstall}
+use Rattle.pk_model.specs.Tree.{Follows}
+use Rattle.pk_model.specs.Growth.{Reaches, Goes}
+use Rattle.pk_model.specs.Crashes.{CrashFinds, background}
+use Rattle.pk_model.specs.Wear.{root_number, roots}
+use Rattle.pk_model.proofs.Growing.{at_end}
+use Rattle.pk_model.proofs.Roots.{root_program, root_installed}
+use Rattle.pk_model.proofs.Running.{Reaches-program, Goes-program}
+use Rattle.pk_root.specs.declared.next.Next.{Next}
+use Rattle.pk_root.specs.declared.next.Next.TheVariants.{Erase, Program}
+use Rattle.pk_root.specs.Installing.{other_block, erases_next, InstallerOnFlash, SameBehind, KeepsRoot, Installs, ErasesOther, FailsToInstall, FailsToErase}
+use Rattle.pk_root.proofs.Places.{in_block}
+use Rattle.pk_root.proofs.Scanning.{root_page_exists}
+use Rattle.pk_steps.specs.Under.{IsUnder}
+use Rattle.pk_steps.specs.Next.{IsNext}
+use Rattle.pk_steps.proofs.Untouched.{under_reads}
+use Rattle.pk_steps.proofs.Standing.{installed, installs}
+use Rattle.pk_compact.specs.Installing.{CanPrepare, IsPrepared, Prepares, PrepareBreaks, CanInstall, IsInstalled}
+use Rattle.pk_compact.proofs.Installing.{other_reaches, other_goes, other_under, other_behind}
+use Rattle.pk_compact.proofs.Numbering.{same_newest, last_number}
+
+-- ---- numbers
+
+pub number_of_top : (shape : Shape) (flash : Flash) (top : ℕ × Root) → newest_root shape (page_at flash) ≡ Some top → root_number shape flash ≡ top.1.number
+unfolding root_number
+number_of_top shape flash top is = rw is refl
+
+-- the root that follows has the next number
+number_next : (shape : Shape) (flash : Flash) (top : ℕ × Root) (found then_found : Found) (root : Root) → IsNext shape flash [] top found root then_found → root.number ≡ top.1.number + 1
+number_next shape flash top found then_found root next = elim next.step [ inl freezes ↦ freezes.number | inr merges ↦ merges.number ]
+
+-- ---- the erase
+
+module _ (shape : Shape) (is_shape : IsShape shape) (next : Next) (old : BoardState) (ready : IsReady old shape) where
+  known : (top : ℕ × Root) (found : Found) (m : Map) → CanPrepare shape next old.pages top found m → (beside : ℕ) → next ≡ Erase beside → InstallerOnFlash shape (Erase beside) top old.pages
+  known top found m can beside was = let S : Next → Type 0 = λ n. InstallerOnFlash shape n top old.pages in subst S was can.installs
+
+  pub prepares : (next' : Next) (new : BoardState) → ErasesOther shape next old next' new → Prepares shape next old next' new
+  prepares next' new e top found m can =
+      let there = known top found m can e.beside e.was in
+      record {
+        installs = e.fits top can.installs;
+        programs_next = ap erases_next e.then_next;
+        under = other_under shape is_shape top found m e.beside old ready there can.under new e.erase;
+        behind = other_behind shape is_shape top found m e.beside old ready there can.under new e.erase;
+        cuts = other_reaches shape is_shape top found m e.beside old ready there can.under new e.erase;
+      }
+
+  pub prepare_breaks : (new : BoardState) → FailsToErase shape next old new → PrepareBreaks shape next old new
+  prepare_breaks new f top found m can = other_goes shape is_shape top found m f.beside old ready (known top found m can f.beside f.was) can.under new f.failed
+
+pub prepare_works : (shape : Shape) (next next' : Next) (old new : BoardState) → ErasesOther shape next old next' new → Works old new
+prepare_works shape next next' old new e = works_erase old new (other_block shape e.beside) e.erase
+
+pub prepare_stops : (shape : Shape) (next : Next) (old new : BoardState) → FailsToErase shape next old new → Stops old new
+prepare_stops shape next old new f = stops_erase old new (other_block shape f.beside) f.failed
+
+-- the number of the newest root is the former's
+pub roots_same : (shape : Shape) (old new : BoardState) → IsReady old shape → IsReady new shape → root_number shape new.pages ≡ root_number shape old.pages → roots new ≡ roots old
+roots_same shape old new before after same =
+    let now : roots new ≡ root_number shape new.pages = ap (λ (s : Shape). root_number s new.pages) (shape_is new shape after) in
+    let was : roots old ≡ root_number shape old.pages = ap (λ (s : Shape). root_number s old.pages) (shape_is old shape before) in
+    now ∙ same ∙ sym was
+
+pub prepare_number : (shape : Shape) (next next' : Next) (old new : BoardState) → ErasesOther shape next old next' new → root_number shape new.pages ≡ root_number shape old.pages
+prepare_number shape next next' old new e = same_newest shape old.pages new.pages (at_end e.cuts.0 old new (λ cut _. KeepsRoot shape old.pages cut) e.cuts.1).newest
+
+pub prepare_failed_number : (shape : Shape) (next : Next) (old new : BoardState) → FailsToErase shape next old new → root_number shape new.pages ≡ root_number shape old.pages
+prepare_failed_number shape next old new f = same_newest shape old.pages new.pages (f.cuts.1.cuts new.pages (all_posted f.cuts.0) f.cuts.1.stands).newest
+
+-- ---- the program
+
+module _ (shape : Shape) (is_shape : IsShape shape) (root : Root) (next : Next) (old : BoardState) (ready : IsReady old shape) (top : ℕ × Root) (found then_found : Found) (m : Map) (can : CanInstall shape root next old.pages top found then_found m) where
+  pub greater : top.1.number < root.number
+  greater = let follows = number_next shape old.pages top found then_found root can.follows in omega (arith, follows)
+
+  pub few : root.number ≤ root_number shape old.pages + 1
+  few = let a = number_of_top shape old.pages top can.under.is_top in let b = number_next shape old.pages top found then_found root can.follows in omega (arith, a, b)
+
+  module _ (page : ℕ) (was : next ≡ Program page) where
+    fits : InstallerOnFlash shape (Program page) top old.pages
+    fits = let S : Next → Type 0 = λ n. InstallerOnFlash shape n top old.pages in subst S was can.installs
+
+    abbrev bytes : List ℕ
+    bytes = root_bytes shape root
+
+    is_install : IsInstall shape old.pages top page bytes root
+    is_install =
+        let below : page < 2 * shape.block_pages = fits.possible.in_root_blocks in
+        record {
+          was = fits.newest;
+          in_root_blocks = below;
+          exists = root_page_exists shape old page is_shape ready below;
+          was_erased = fits.possible.order.behind page (le_refl page) (in_block shape.block_pages page below);
+          spells = reads_back shape root is_shape can.follows.grammar;
+          greater_number = greater;
+        }
+
+    nothing_behind : (f : Flash) → Interrupted shape (program page bytes) old.pages f [] → SameBehind shape old.pages f
+    nothing_behind f cut k high = elim (cut.pages k) [
+      | inl same ↦ same
+      | inr is ↦ (let here : k ≡ page = is.0 in let below = is_install.in_root_blocks in absurd (omega (arith, here, below, high)))
+    ]
+
+    reads_either : (f : Flash) → IsUnder shape f [] top found m ⊎ IsUnder shape f [] (page, root) then_found m → CrashFinds shape background old.pages m f []
+    reads_either f (inl former) = (refl, under_reads shape f [] top found m former)
+    reads_either f (inr new) = (refl, under_reads shape f [] (page, root) then_found m new)
+
+    either : (f : Flash) → (newest_root shape (page_at f) ≡ Some top) ⊎ (newest_root shape (page_at f) ≡ Some (page, root)) → (newest_root shape (page_at f) ≡ newest_root shape (page_at old.pages)) ⊎ (newest_root shape (page_at f) ≡ Some (page, root))
+    either f (inl former) = inl (former ∙ sym fits.newest)
+    either f (inr new) = inr new
+
+    holds : (f : Flash) → Interrupted shape (program page bytes) old.pages f [] → CrashFinds shape background old.pages m f []
+    holds f cut = reads_either f (installs shape old.pages f [] top page found root then_found m is_shape tt can.under can.follows (either f (root_program shape old.pages top page bytes root f [] is_install (inl cut))) (nothing_behind f cut))
+
+    abbrev then_pages : Flash
+    then_pages = after shape (program page bytes) old.pages
+
+    there : IsUnder shape then_pages [] (page, root) then_found m × Follows shape old.pages then_pages
+    there = installed shape old.pages then_pages [] top page found root then_found m is_shape tt can.under can.follows (root_installed shape old.pages top page bytes root is_install) (nothing_behind then_pages (interrupted_done shape (program page bytes) old.pages))
+
+    root_reaches : (new : BoardState) → new ≡ after_program old page bytes → Reaches shape old new (CrashFinds shape background old.pages m)
+    root_reaches new made = Reaches-program shape old (CrashFinds shape background old.pages m) ready.shape_is page bytes holds (inr there.1) new made
+
+    root_goes : (new : BoardState) → ProgramFailed old new page bytes → Goes shape old new (CrashFinds shape background old.pages m)
+    root_goes new failed = Goes-program shape old (CrashFinds shape background old.pages m) ready.shape_is page bytes holds (inr there.1) new failed
+
+    root_under : (new : BoardState) → newest_root shape (page_at new.pages) ≡ Some (page, root) → SameBehind shape old.pages new.pages → IsUnder shape new.pages [] (page, root) then_found m
+    root_under new newest behind = (installed shape old.pages new.pages [] top page found root then_found m is_shape tt can.under can.follows newest behind).0
+
+  pub is_installed : (next' : Next) (new : BoardState) → SameBehind shape old.pages new.pages → Installs shape root next old next' new → IsInstalled shape root then_found m old next' new
+  is_installed next' new behind i =
+      let under = root_under i.page i.was new i.fits.newest behind in
+      let former = number_of_top shape old.pages top can.under.is_top in
+      let now = number_of_top shape new.pages (i.page, root) under.is_top in
+      let step = number_next shape old.pages top found then_found root can.follows in
+      record {
+        page = i.page;
+        under = under;
+        installs = i.fits;
+        number = omega (arith, former, now, step);
+        behind = behind;
+        cuts = root_reaches i.page i.was new i.program;
+      }
+
+  pub install_breaks : (new : BoardState) → FailsToInstall shape root next old new → Goes shape old new (CrashFinds shape background old.pages m)
+  install_breaks new f = root_goes f.page f.was new f.failed
+
+-- ---- what is next is the program
+
+erases_no_program : (next : Next) (beside : ℕ) → erases_next next ≡ false → next ≡ Erase beside → ⊥
+erases_no_program (Erase beside') beside e was = cc
+erases_no_program (Program page) beside e was = cc
+
+-- so a step that failed is the program
+pub fails_to_install : (shape : Shape) (root : Root) (next : Next) (old new : BoardState) → erases_next next ≡ false → FailsToInstall shape root next old new ⊎ FailsToErase shape next old new → FailsToInstall shape root next old new
+fails_to_install shape root next old new programs (inl f) = f
+fails_to_install shape root next old new programs (inr f) = absurd (erases_no_program next f.beside programs f.was)
+
+pub install_works : (shape : Shape) (root : Root) (next next' : Next) (old new : BoardState) → Installs shape root next old next' new → Works old new
+install_works shape root next next' old new i = works_program old new i.page (root_bytes shape root) i.program
+
+pub install_stops : (shape : Shape) (root : Root) (next : Next) (old new : BoardState) → FailsToInstall shape root next old new → Stops old new
+install_stops shape root next old new f = stops_program old new f.page (root_bytes shape root) f.failed
+
+pub install_number : (shape : Shape) (root : Root) (next : Next) (old new : BoardState) → root.number ≤ root_number shape old.pages + 1 → FailsToInstall shape root next old new → root_number shape new.pages ≤ root_number shape old.pages + 1
+install_number shape root next old new few f = last_number shape root next old new few (inl f)

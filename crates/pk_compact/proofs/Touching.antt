@@ -1,0 +1,66 @@
+-- Calls that touch no page that is read.
+use Rattle.std.proofs.Common.{◌≡◌, ◌≢◌, inl, inr, ℕ, ◌/◌, List, [], refl, sym, ap, subst, ◌∙◌}
+use Rattle.pk_base.specs.Shape.{Shape, IsShape}
+use Rattle.pk_base.specs.Page.{Flash, page_at}
+use Rattle.pk_base.specs.Map.{Map}
+use Rattle.pk_base.specs.Mark.{program, after}
+use Rattle.pk_nand.specs.BoardState.{BoardState}
+use Rattle.pk_nand.specs.Cut.{Interrupted}
+use Rattle.pk_nand.specs.Calls.{IsReady, after_program, ProgramFailed}
+use Rattle.pk_nand.proofs.Leaving.{interrupted_done}
+use Rattle.pk_nand.proofs.Touching.{untouched}
+use Rattle.pk_nand.proofs.Writing.{shape_is}
+use Rattle.pk_rootfmt.specs.Root.{Root}
+use Rattle.pk_model.specs.Found.{Found}
+use Rattle.pk_model.specs.Growth.{Grows, Goes}
+use Rattle.pk_model.specs.Crashes.{CrashFinds, background}
+use Rattle.pk_model.proofs.Running.{Reaches-program, Goes-program}
+use Rattle.pk_steps.specs.Under.{IsUnder}
+use Rattle.pk_steps.proofs.Untouched.{erases, under_reads}
+use Rattle.pk_compact.specs.Laws.{IsUnread, Leaves, ProgramUnread, EraseUnread}
+use Rattle.pk_compact.proofs.Taking.{take_reaches, take_under, take_goes}
+
+module _ (shape : Shape) (old : BoardState) (top : ℕ × Root) (found : Found) (m : Map) (block page : ℕ) (bytes : List ℕ) (is_shape : IsShape shape) (ready : IsReady old shape) (under : IsUnder shape old.pages [] top found m)
+    (is : IsUnread shape top.1 found block) (within : page / shape.block_pages ≡ block) where
+  -- a page of another block is another page
+  elsewhere : (k : ℕ) → k / shape.block_pages ≢ block → k ≢ page
+  elsewhere k other same = other (ap (λ n. n / shape.block_pages) same ∙ within)
+
+  still_under : (f : Flash) → Interrupted shape (program page bytes) old.pages f [] → IsUnder shape f [] top found m
+  still_under f cut = erases shape old.pages f [] top found m block is_shape under is.least is.unnamed is.no_value (λ k other. untouched shape (program page bytes) k _ _ (elsewhere k other) (cut.pages k))
+
+  holds : (f : Flash) → Interrupted shape (program page bytes) old.pages f [] → CrashFinds shape background old.pages m f []
+  holds f cut = (refl, under_reads shape f [] top found m (still_under f cut))
+
+  under_after : IsUnder shape (after shape (program page bytes) old.pages) [] top found m
+  under_after = still_under (after shape (program page bytes) old.pages) (interrupted_done shape (program page bytes) old.pages)
+
+  grows : Grows shape old.pages (after shape (program page bytes) old.pages)
+  grows = inl (under_after.is_top ∙ sym under.is_top)
+
+  program_leaves : (new : BoardState) → new ≡ after_program old page bytes → Leaves shape old top found m new
+  program_leaves new made =
+      let P : BoardState → Type 0 = λ s. IsUnder shape s.pages [] top found m in
+      let S : Shape → Type 0 = λ s. IsUnder shape (after s (program page bytes) old.pages) [] top found m in
+      record {
+        under = subst P (sym made) (subst S (sym (shape_is old shape ready)) under_after);
+        cuts = Reaches-program shape old (CrashFinds shape background old.pages m) ready.shape_is page bytes holds grows new made;
+      }
+
+  program_goes : (new : BoardState) → ProgramFailed old new page bytes → Goes shape old new (CrashFinds shape background old.pages m)
+  program_goes new failed = Goes-program shape old (CrashFinds shape background old.pages m) ready.shape_is page bytes holds grows new failed
+
+pub program_unread : ProgramUnread
+program_unread shape old new top found m block page bytes is_shape ready under is within = (
+  program_leaves shape old top found m block page bytes is_shape ready under is within new,
+  program_goes shape old top found m block page bytes is_shape ready under is within new,
+)
+
+pub erase_unread : EraseUnread
+erase_unread shape old new top found m block is_shape ready under is = (
+  λ made. record {
+    under = take_under shape is_shape top found m block is.least is.unnamed is.no_value old ready under new (inr made);
+    cuts = take_reaches shape is_shape top found m block is.least is.unnamed is.no_value old ready under new (inr made);
+  },
+  take_goes shape is_shape top found m block is.least is.unnamed is.no_value old ready under new,
+)

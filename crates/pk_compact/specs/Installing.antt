@@ -1,0 +1,69 @@
+-- The install of a root that may follow the newest one, in two steps: the erase before it, where one is next, and its program.
+use Rattle.std.specs.Prelude.{◌≡◌, ℕ, ◌+◌, [], false}
+use Rattle.pk_base.specs.Shape.{Shape}
+use Rattle.pk_base.specs.Page.{Flash}
+use Rattle.pk_base.specs.Map.{Map}
+use Rattle.pk_nand.specs.BoardState.{BoardState}
+use Rattle.pk_rootfmt.specs.Root.{Root}
+use Rattle.pk_model.specs.Found.{Found}
+use Rattle.pk_model.specs.Growth.{Reaches, Goes}
+use Rattle.pk_model.specs.Crashes.{CrashFinds, background}
+use Rattle.pk_model.specs.Wear.{root_number}
+use Rattle.pk_root.specs.declared.next.Next.{Next}
+use Rattle.pk_root.specs.Installing.{InstallerOnFlash, SameBehind, erases_next}
+use Rattle.pk_steps.specs.Under.{IsUnder}
+use Rattle.pk_steps.specs.Next.{IsNext}
+
+-- ---- the erase
+
+-- the map stands under the newest root, and what the installer does next can be done
+pub record CanPrepare (shape : Shape) (next : Next) (flash : Flash) (top : ℕ × Root) (found : Found) (m : Map) : Type 0 where
+  pub installs : InstallerOnFlash shape next top flash
+  pub under : IsUnder shape flash [] top found m
+
+-- The newest root is the former, and the program of the next one is next; the map is the same, wherever the erase is cut.
+pub record IsPrepared (shape : Shape) (old : BoardState) (top : ℕ × Root) (found : Found) (m : Map) (next' : Next) (new : BoardState) : Type 0 where
+  pub installs : InstallerOnFlash shape next' top new.pages
+  pub programs_next : erases_next next' ≡ false
+  pub under : IsUnder shape new.pages [] top found m
+  pub behind : SameBehind shape old.pages new.pages
+  pub cuts : Reaches shape old new (CrashFinds shape background old.pages m)
+
+-- so for each of the maps that it might stand for
+abbrev pub Prepares : Shape → Next → BoardState → Next → BoardState → Type 0
+Prepares shape next old next' new =
+    (top : ℕ × Root) (found : Found) (m : Map) → CanPrepare shape next old.pages top found m → IsPrepared shape old top found m next' new
+
+-- the same of an erase that failed
+abbrev pub PrepareBreaks : Shape → Next → BoardState → BoardState → Type 0
+PrepareBreaks shape next old new =
+    (top : ℕ × Root) (found : Found) (m : Map) → CanPrepare shape next old.pages top found m
+    → Goes shape old new (CrashFinds shape background old.pages m)
+
+-- ---- the program
+
+-- the root may follow the newest one of the flash, and what the installer does next can be done
+pub record CanInstall (shape : Shape) (root : Root) (next : Next) (flash : Flash) (top : ℕ × Root) (found then_found : Found) (m : Map) : Type 0 where
+  pub installs : InstallerOnFlash shape next top flash
+  pub under : IsUnder shape flash [] top found m
+  pub follows : IsNext shape flash [] top found root then_found
+
+-- The root is the newest one, and the same map stands under it, wherever the program is cut.
+pub record IsInstalled (shape : Shape) (root : Root) (then_found : Found) (m : Map) (old : BoardState) (next' : Next) (new : BoardState) : Type 0 where
+  pub page : ℕ
+  pub under : IsUnder shape new.pages [] (page, root) then_found m
+  pub installs : InstallerOnFlash shape next' (page, root) new.pages
+  pub number : root_number shape new.pages ≡ root_number shape old.pages + 1
+  pub behind : SameBehind shape old.pages new.pages
+  pub cuts : Reaches shape old new (CrashFinds shape background old.pages m)
+
+abbrev pub InstallsRoot : Shape → Root → Next → BoardState → Next → BoardState → Type 0
+InstallsRoot shape root next old next' new =
+    (top : ℕ × Root) (found then_found : Found) (m : Map) → CanInstall shape root next old.pages top found then_found m
+    → IsInstalled shape root then_found m old next' new
+
+-- the same of a program that failed
+abbrev pub InstallBreaks : Shape → Root → Next → BoardState → BoardState → Type 0
+InstallBreaks shape root next old new =
+    (top : ℕ × Root) (found then_found : Found) (m : Map) → CanInstall shape root next old.pages top found then_found m
+    → Goes shape old new (CrashFinds shape background old.pages m)

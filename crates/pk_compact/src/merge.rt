@@ -1,0 +1,88 @@
+//! The install of a merge.
+ghost use Rattle.std.specs.Prelude.{◌≡◌, ◌≤◌, ◌<◌, ◌+◌, ℕ, length, false};
+ghost use Rattle.std.specs.List.{concat};
+ghost use Rattle.pk_base.specs.Map.{Map};
+ghost use Rattle.pk_base.specs.Shape.{meta_blocks};
+ghost use Rattle.pk_nand.specs.Calls.{IsReady};
+ghost use Rattle.pk_nand.specs.Effects.{AtMostOneCall};
+ghost use Rattle.pk_rootfmt.specs.Root.{Root as RootValue};
+ghost use Rattle.pk_model.specs.Found.{Found};
+ghost use Rattle.pk_model.specs.Steps.{Step};
+ghost use Rattle.pk_root.specs.Installing.{erases_next};
+ghost use Rattle.pk_steps.specs.Merging.{merged_root};
+ghost use Rattle.pk_compact.specs.Merging.{CanMerge, MergesRoot, MergeBreaks, without_source};
+
+use crate::roots::install_root;
+use pk_nand::{Fault, Nand};
+use pk_root::Installer;
+use pk_rootfmt::Root;
+use std::alloc::Allocator;
+
+// Empties the source of a merge into this level: the older epoch, or the run above.
+fn empty_source<A: Allocator>(root: &mut Root<A>, level: u8)
+    requires level { 1 ≤ level × level ≤ 4 }
+    requires newest { length root.old.root.newest ≡ 2 }
+    requires room { length (concat root.old.root.runs) ≤ meta_blocks root.old.shape }
+    ensures { root.new ≡ record root.old { root = without_source root.old.root level } }
+{
+    if level == 1 {
+        let epoch = root.epoch();
+        let newest = root.newest();
+        root.set_epochs(epoch, newest, None);
+    } else {
+        root.set_run(level - 1, 0, &[]);
+    }
+}
+
+// Makes the root the one behind a merge into this level, whose output has so many entries, in these blocks.
+fn follow<A: Allocator>(root: &mut Root<A>, level: u8, count: u32, taken: &[u16])
+    requires level { 1 ≤ level × level ≤ 4 }
+    requires number { root.old.root.number < 18446744073709551615 }
+    requires newest { length root.old.root.newest ≡ 2 }
+    requires room { length (concat root.old.root.runs) + length taken.now
+        ≤ meta_blocks root.old.shape }
+    ensures { root.new ≡ record root.old {
+      root = merged_root root.old.root level count taken.now;
+    } }
+{
+    let number = root.number() + 1;
+    root.set_number(number);
+    root.set_run(level, count, taken);
+    empty_source(root, level);
+}
+
+/// Installs the root behind a merge into this level, whose output, of so many entries, stands in these blocks: its program is
+/// the one call of the board, and no erase comes before it. Wherever it is cut, the map is the same. `Stopped` where it fails;
+/// root and installer are not to be used any more then. `buf` has the bytes of a page, which are lost.
+pub fn install_merge<B: Nand, A: Allocator>(
+    board: &mut B,
+    root: &mut Root<A>,
+    installer: &mut Installer,
+    level: u8,
+    count: u32,
+    taken: &[u16],
+    buf: &mut [u8],
+) -> Result<(), Fault>
+    requires ready { IsReady (B.state board.old) root.old.shape }
+    requires programs { erases_next installer.old ≡ false }
+    requires can { (top : ℕ × RootValue) × (found : Found) × (m : Map)
+        × CanMerge root.old installer.old (B.state board.old).pages top found m
+        level count taken.now }
+    requires room { length buf.old ≡ root.old.shape.page_bytes }
+    ensures step { Step
+        (λ u. MergesRoot root.old installer.old (B.state board.old) level count taken.now
+        root.new.root installer.new (B.state board.new))
+        (MergeBreaks root.old installer.old (B.state board.old) level count taken.now
+        (B.state board.new))
+        root.old.shape 1 (B.state board.old) (B.state board.new) result }
+    ensures calls { AtMostOneCall (B.state board.old) (B.state board.new) }
+    ensures shape { root.new.shape ≡ root.old.shape }
+    ensures buffer { length buf.new ≡ length buf.old }
+{
+    root.shape().known();
+    follow(root, level, count, taken);
+    match install_root(board, root, installer, buf) {
+        Ok(()) => Ok(()),
+        Err(fault) => Err(fault),
+    }
+}

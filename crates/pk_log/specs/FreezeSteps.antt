@@ -1,0 +1,83 @@
+-- A freeze of a log in steps: when one may be made, and what it leaves.
+use Rattle.std.specs.Prelude.{◌≡◌, ℕ, ◌+◌, ◌<◌, ◌≤◌, List, [], ◌∷◌, length, Bool, true, ◌==◌, if◌then◌else◌, slice_get, Some, MatchBool}
+use Rattle.std.specs.List.{AllByRecursion}
+use Rattle.pk_base.specs.Page.{Flash}
+use Rattle.pk_base.specs.Map.{Map}
+use Rattle.pk_work.specs.Rest.{Lowers}
+use Rattle.pk_plan.specs.declared.owner.Owner.TheVariants.{Journal}
+use Rattle.pk_nand.specs.BoardState.{BoardState}
+use Rattle.pk_rootfmt.specs.Root.{Root, differ}
+use Rattle.pk_root.specs.Installing.{SameBehind}
+use Rattle.pk_model.specs.Found.{Found}
+use Rattle.pk_model.specs.Growth.{Reaches, Goes}
+use Rattle.pk_model.specs.Crashes.{CrashFinds, background}
+use Rattle.pk_model.specs.Laws.{AnyByRecursion}
+use Rattle.pk_model.specs.Wear.{root_number}
+use Rattle.pk_pool.specs.declared.state.BlockState.TheVariants.{Owned}
+use Rattle.pk_pool.specs.Blocks.{Blocks, used_by, PoolOnFlash}
+use Rattle.pk_pool.specs.Unready.{unready}
+use Rattle.pk_steps.specs.Under.{IsUnder}
+use Rattle.pk_steps.specs.Roots.{frozen, frozen_root}
+use Rattle.pk_compact.specs.Freezing.{IsApart, given_back}
+use Rattle.pk_compact.specs.FreezeSteps.{IsTaken, SameBut, TakesOne, taken_by, freeze_left}
+use Rattle.pk_compact.specs.declared.freezing.FreezeJob.{FreezeJob}
+use Rattle.pk_compact.specs.declared.freezing.FreezeJob.TheVariants.{Idle}
+use Rattle.pk_log.specs.State.{LogState}
+use Rattle.pk_log.specs.Logs.{LogOnFlash}
+use Rattle.pk_log.specs.Freezes.{begun}
+
+-- Nothing is pending, and nothing frozen; the journal has no blocks but the root's two and those that the freeze has taken, and no spare block
+-- of the pool is read.
+pub record CanStep (log : LogState) (pool : Blocks) (job : FreezeJob) (flash : Flash) (top : ℕ × Root) (found : Found) (m : Map) : Type 0 where
+  pub logs : LogOnFlash log flash top found
+  pub none_pending : log.pending ≡ []
+  pub none_frozen : log.frozen.entries ≡ []
+  pub under : IsUnder log.shape flash [] top found m
+  pub pool_shape : pool.shape ≡ log.shape
+  pub pool_fits : PoolOnFlash pool flash
+  pub number : log.root.number < 9223372036854775808
+  pub room : used_by Journal pool.states ≤ 2 + length (taken_by job)
+  pub owned : (b : ℕ) → AnyByRecursion (λ c. b ≡ c) log.root.newest → slice_get pool.states b ≡ Some (Owned Journal)
+  pub apart : IsApart log.shape pool log.root found
+  pub taken : AllByRecursion (IsTaken log.shape pool flash log.root) (taken_by job)
+  pub different : differ (taken_by job) ≡ true
+
+-- The freeze is one step further, and the log stands as before, but for what its installer does next.
+pub record LogGoesOn (log : LogState) (pool : Blocks) (job : FreezeJob) (old : BoardState) (top : ℕ × Root) (found : Found) (m : Map) (log' : LogState) (pool' : Blocks) (job' : FreezeJob) (new : BoardState) : Type 0 where
+  pub still : CanStep log' pool' job' new.pages top found m
+  pub same_log : log' ≡ record log { next = log'.next }
+  pub lowers : Lowers (freeze_left job log.next) (unready pool.states) (freeze_left job' log'.next) (unready pool'.states)
+  pub takes : TakesOne pool job pool' job'
+  pub elsewhere : SameBut log.shape (taken_by job') old.pages new.pages
+  pub cuts : Reaches log.shape old new (CrashFinds log.shape background old.pages m)
+
+-- The freeze was made on the flash, and the log stands on it: an empty epoch is the newest one, the buffers are exchanged, and the blocks of a
+-- former epoch without entries are free.
+pub record LogFrozen (log : LogState) (pool : Blocks) (job : FreezeJob) (old : BoardState) (top : ℕ × Root) (found : Found) (m : Map) (log' : LogState) (pool' : Blocks) (job' : FreezeJob) (new : BoardState) : Type 0 where
+  pub page : ℕ
+  pub first : ℕ
+  pub second : ℕ
+  pub begun_is : log' ≡ begun log (frozen_root top.1 found first second) log'.next (first ∷ second ∷ [])
+  pub logs : LogOnFlash log' new.pages (page, log'.root) (frozen found)
+  pub under : IsUnder log.shape new.pages [] (page, log'.root) (frozen found) m
+  pub taken_are : taken_by job ≡ first ∷ second ∷ []
+  pub idle : job' ≡ Idle
+  pub pool_fits : PoolOnFlash pool' new.pages
+  pub pool_is : pool' ≡ given_back pool (if length found.newest == 0 then top.1.newest else [])
+  pub apart : IsApart log.shape pool' log'.root (frozen found)
+  pub lowers : Lowers (freeze_left job log.next) (unready pool.states) 0 (unready pool'.states)
+  pub number : root_number log.shape new.pages ≡ root_number log.shape old.pages + 1
+  pub behind : SameBehind log.shape old.pages new.pages
+  pub cuts : Reaches log.shape old new (CrashFinds log.shape background old.pages m)
+
+-- the step was made, for each of the maps for which it might be
+abbrev pub LogSteps : LogState → Blocks → FreezeJob → BoardState → Bool → LogState → Blocks → FreezeJob → BoardState → Type 0
+LogSteps log pool job old done log' pool' job' new =
+    (top : ℕ × Root) (found : Found) (m : Map) → CanStep log pool job old.pages top found m
+    → MatchBool done (LogFrozen log pool job old top found m log' pool' job' new) (LogGoesOn log pool job old top found m log' pool' job' new)
+
+-- the same of a step that failed
+abbrev pub LogStepBreaks : LogState → Blocks → FreezeJob → BoardState → BoardState → Type 0
+LogStepBreaks log pool job old new =
+    (top : ℕ × Root) (found : Found) (m : Map) → CanStep log pool job old.pages top found m
+    → Goes log.shape old new (CrashFinds log.shape background old.pages m)

@@ -1,0 +1,199 @@
+-- What a block that is taken, and a page that is programmed, leave of the runs that are merged.
+use Rattle.std.proofs.Common.{◌≡◌, ◌≢◌, ◌⊎◌, inl, inr, ℕ, zero, suc, ◌+◌, ◌-◌, ◌*◌, ◌/◌, ◌%◌, ◌<◌, ◌≤◌, refl, sym, ap, subst, ◌∙◌, arith, List, [], ◌∷◌, ◌++◌, length, slice_get, set, Some, length-append, div-lt_iff_lt-mul}
+use Rattle.std.specs.Prelude.{⊤, slice_index}
+use Rattle.std.proofs.Math.Nat.{suc-mul}
+use Rattle.std.proofs.Math.ListN.{get_or-append}
+use Rattle.std.proofs.lemmas.Bool.{cases_lt}
+use Rattle.pk_base.specs.Shape.{Shape, IsShape}
+use Rattle.pk_base.specs.Entry.{Entry}
+use Rattle.pk_base.specs.Page.{Flash, page_at, page_in, whole, erased}
+use Rattle.pk_base.specs.Mark.{after_all, all_posted}
+use Rattle.pk_nand.specs.BoardState.{BoardState, shape_of}
+use Rattle.pk_nand.specs.Calls.{after_program, IsErasedBlock}
+use Rattle.pk_nand.proofs.CutLemmas.{cut_end}
+use Rattle.pk_nand.proofs.Leaving.{page_at-slice_set}
+use Rattle.pk_pin.specs.Frames.{Frames}
+use Rattle.pk_plan.specs.declared.owner.Owner.TheVariants.{Meta}
+use Rattle.pk_pool.specs.declared.state.BlockState.TheVariants.{Free, Ready, Owned}
+use Rattle.pk_pool.specs.Blocks.{Blocks, IsSpare}
+use Rattle.pk_pool.specs.Taking.{ReachesIn, SameButBlock}
+use Rattle.pk_run.specs.Kept.{Kept, RunOnFlash, page_of}
+use Rattle.pk_run.specs.Laws.{SamePages}
+use Rattle.pk_run.proofs.Standing.{RunOnFlash-elsewhere}
+use Rattle.pk_merge.specs.declared.source.Source.{Source}
+use Rattle.pk_merge.specs.declared.source.Source.TheVariants.{Frozen, Run}
+use Rattle.pk_merge.specs.Cursors.{Cursor, Follows, own_page}
+use Rattle.pk_merge.specs.Sources.{Has, FollowsIn, IsOf, blocks_in}
+use Rattle.pk_merge.specs.Merging.{Merger, StandsIn}
+use Rattle.pk_merge.specs.Outputs.{AreMeta, AreApart, IsOutput, OthersStand, next_bytes}
+use Rattle.pk_merge.proofs.Places.{apart, rest, block_there, page_of_place, other_page}
+
+-- a run's pages are the same, and it stands as before
+abbrev pub Moves : Kept → Flash → Flash → Frames → Frames → Type 0
+Moves r old new before after = SamePages r old new × ((es : List Entry) → RunOnFlash r old before es → RunOnFlash r new after es)
+
+abbrev pub MovesIn : {X : Type 0} → Source X → Flash → Flash → Frames → Frames → Type 0
+MovesIn (Frozen b) old new before after = ⊤
+MovesIn (Run r) old new before after = Moves r.now old new before after
+
+-- a cursor follows it as before
+pub Follows-moved : (r : Kept) (old new : Flash) (c : Cursor) → SamePages r old new → Follows old r c → Follows new r c
+Follows-moved r old new c same f = record {
+  same_shape = f.same_shape;
+  within = f.within;
+  pages = f.pages;
+  behind = f.behind;
+  holds = λ e. let most = f.pages in same (own_page c) (omega (arith, e, most)) ∙ f.holds e;
+}
+
+has_moved : {X : Type 0} (source : Source X) (old new : Flash) (before after : Frames) (es : List Entry) → MovesIn source old new before after → Has source old before es → Has source new after es
+has_moved (Frozen b) old new before after es moves has = has
+has_moved (Run r) old new before after es moves has = moves.1 es has
+
+follows_moved : {X : Type 0} (source : Source X) (old new : Flash) (before after : Frames) (c : Cursor) → MovesIn source old new before after → FollowsIn source old c → FollowsIn source new c
+follows_moved (Frozen b) old new before after c moves f = f
+follows_moved (Run r) old new before after c moves f = Follows-moved r.now old new c moves.0 f
+
+pub stands_moved : {X : Type 0} (source : Source X) (target : Kept) (old new : Flash) (before after : Frames) (es fs : List Entry) (m : Merger) → MovesIn source old new before after → Moves target old new before after
+    → StandsIn source target old before es fs m → StandsIn source target new after es fs m
+stands_moved source target old new before after es fs m sources targets s = record {
+  has = has_moved source old new before after es sources s.has;
+  stands = targets.1 fs s.stands;
+  rising = s.rising;
+  source_at = follows_moved source old new before after m.source sources s.source_at;
+  target_at = Follows-moved target old new m.target targets.0 s.target_at;
+}
+
+-- ---- a block that is taken
+
+pub same_but : (shape : Shape) (b : ℕ) (old new : BoardState) → ReachesIn shape b old new → SameButBlock shape b old.pages new.pages
+same_but shape b old new r = subst (λ (f : Flash). SameButBlock shape b old.pages f) (sym r.1.stands) (r.1.cuts (after_all (shape_of old) r.0 old.pages) (all_posted r.0) (cut_end (shape_of old) old.pages r.0))
+
+pub spare_is_none : (pool : Blocks) (b c : ℕ) → IsSpare pool b → slice_get pool.states c ≡ Some (Owned Meta) → c ≢ b
+spare_is_none pool b c spare own e = elim spare [
+  | inl free ↦ clash_free (sym free ∙ ap (slice_get pool.states) (sym e) ∙ own)
+  | inr ready ↦ clash_ready (sym ready ∙ ap (slice_get pool.states) (sym e) ∙ own)
+]
+  where
+    clash_free : Some Free ≡ Some (Owned Meta) → ⊥
+    clash_free e = cc
+
+    clash_ready : Some Ready ≡ Some (Owned Meta) → ⊥
+    clash_ready e = cc
+
+-- a spare block is none of the blocks
+pub spare_apart : (pool : Blocks) (blocks : List ℕ) (b i : ℕ) → IsSpare pool b → AreMeta pool blocks → slice_get blocks i ≡ Some b → ⊥
+spare_apart pool blocks b i spare meta got = spare_is_none pool b b spare (meta i b got) refl
+
+outside_block : (shape : Shape) (some : 0 < shape.block_pages) (blocks : List ℕ) (b j : ℕ) → slice_index blocks (j / shape.block_pages) ≢ b
+    → (page_in shape blocks j < b * shape.block_pages) ⊎ (b * shape.block_pages + shape.block_pages ≤ page_in shape blocks j)
+outside_block shape some blocks b j ne =
+    let n : ℕ = shape.block_pages in
+    let c : ℕ = slice_index blocks (j / n) in
+    let low = rest shape some blocks j in
+    elim (cases_lt c b) [
+      | inl below ↦ inl (let e = apart c b n below in omega (arith, e, low))
+      | inr above ↦ inr (let e = apart b c n (omega (arith, above, ne)) in omega (arith, e))
+    ]
+
+module _ (pool : Blocks) (b : ℕ) (old new : Flash) (spare : IsSpare pool b) (same : SameButBlock pool.shape b old new) where
+  pub pages_by_take : (r : Kept) → IsShape r.shape → pool.shape ≡ r.shape → AreMeta pool r.blocks → (j : ℕ) → j < length r.blocks * r.shape.block_pages → page_at new (page_of r j) ≡ page_at old (page_of r j)
+  pages_by_take r is shape meta j inside =
+      let least : 8 ≤ r.shape.block_pages = is.block_least in
+      let some : 0 < r.shape.block_pages = omega arith in
+      let here = block_there r.shape some r.blocks j inside in
+      let s = subst (λ (x : Shape). SameButBlock x b old new) shape same in
+      elim (outside_block r.shape some r.blocks b j (spare_is_none pool b _ spare (meta (j / r.shape.block_pages) _ here))) [
+        | inl below ↦ s.below (page_of r j) below
+        | inr above ↦ s.above (page_of r j) above
+      ]
+
+  pub moves_by_take : (r : Kept) (arena : Frames) (any : List Entry) → RunOnFlash r old arena any → IsShape r.shape → pool.shape ≡ r.shape → AreMeta pool r.blocks → Moves r old new arena arena
+  moves_by_take r arena any st is shape meta =
+      let pages : SamePages r old new = λ j h. pages_by_take r is shape meta j (let within = st.within in omega (arith, h, within)) in
+      (pages, λ es s. RunOnFlash-elsewhere r old new arena arena es pages (λ j lease got is_leased. (is_leased, refl)) s)
+
+  pub source_by_take : {X : Type 0} (source : Source X) (arena : Frames) (es : List Entry) → Has source old arena es → IsShape pool.shape → IsOf pool.shape source → AreMeta pool (blocks_in source) → MovesIn source old new arena arena
+  source_by_take (Frozen x) arena es has is of meta = tt
+  source_by_take (Run r) arena es has is of meta = moves_by_take r.now arena es has (subst IsShape (sym of) is) (sym of) meta
+
+-- one more block
+get_here : (xs : List ℕ) (b : ℕ) → slice_get (xs ++ b ∷ []) (length xs) ≡ Some b
+get_here [] b = refl
+get_here (x ∷ xs) b = get_here xs b
+
+pub from_more : (xs : List ℕ) (b i c : ℕ) → slice_get (xs ++ b ∷ []) i ≡ Some c → (slice_get xs i ≡ Some c) ⊎ ((i ≡ length xs) × (c ≡ b))
+from_more [] b zero c got = inr (refl, cc)
+from_more [] b (suc i) c got = cc
+from_more (x ∷ xs) b zero c got = inl got
+from_more (x ∷ xs) b (suc i) c got = elim (from_more xs b i c got) [ inl there ↦ inl there | inr last ↦ inr (ap suc last.0, last.1) ]
+
+index_last : (xs : List ℕ) (b : ℕ) → slice_index (xs ++ b ∷ []) (length xs) ≡ b
+index_last [] b = refl
+index_last (x ∷ xs) b = index_last xs b
+
+-- the output with a block that was taken
+pub output_with : (pool : Blocks) (out : Kept) (b : ℕ) (old new : Flash) → IsShape out.shape → pool.shape ≡ out.shape → IsSpare pool b → b < pool.shape.blocks → SameButBlock pool.shape b old new → IsErasedBlock pool.shape new b
+    → AreMeta pool out.blocks → length out.firsts ≤ length out.blocks * out.shape.block_pages → IsOutput out old → IsOutput (record out { blocks = out.blocks ++ b ∷ [] }) new
+output_with pool out b old new is shape spare exists same erased_all meta within o = record {
+  different = λ i j c got had. elim (from_more out.blocks b i c got) [
+    | inl here ↦ elim (from_more out.blocks b j c had) [
+      | inl there ↦ o.different i j c here there
+      | inr last ↦ absurd (spare_apart pool out.blocks b i spare meta (here ∙ ap (λ (x : ℕ). Some x) last.1))
+    ]
+    | inr last ↦ elim (from_more out.blocks b j c had) [
+      | inl there ↦ absurd (spare_apart pool out.blocks b j spare meta (there ∙ ap (λ (x : ℕ). Some x) last.1))
+      | inr other ↦ last.0 ∙ sym other.0
+    ]
+  ];
+  exist = λ i c got. elim (from_more out.blocks b i c got) [
+    | inl here ↦ o.exist i c here
+    | inr last ↦ rw (last.1, ← shape) exists
+  ];
+  unused = λ j past small. elim (cases_lt j (length out.blocks * n)) [
+    | inl before ↦ ap (page_at new) (same_page j before) ∙ pages_by_take pool b old new spare same out is shape meta j before ∙ o.unused j past before
+    | inr behind ↦ last_erased j behind small
+  ];
+}
+  where
+    n : ℕ
+    n = out.shape.block_pages
+
+    some : 0 < out.shape.block_pages
+    some = let least : 8 ≤ out.shape.block_pages = is.block_least in omega arith
+
+    same_page : (j : ℕ) → j < length out.blocks * out.shape.block_pages → page_in out.shape (out.blocks ++ b ∷ []) j ≡ page_in out.shape out.blocks j
+    same_page j h = ap (λ (k : ℕ). k * out.shape.block_pages + j % out.shape.block_pages) (get_or-append out.blocks (b ∷ []) 0 (j / out.shape.block_pages) ((div-lt_iff_lt-mul some).1 h))
+
+    last_erased : (j : ℕ) → length out.blocks * out.shape.block_pages ≤ j → j < length (out.blocks ++ b ∷ []) * out.shape.block_pages → page_at new (page_in out.shape (out.blocks ++ b ∷ []) j) ≡ erased
+    last_erased j behind small =
+        let long : length (out.blocks ++ b ∷ []) ≡ suc (length out.blocks) = let e = length-append out.blocks (b ∷ []) in omega (arith, e) in
+        let all : length (out.blocks ++ b ∷ []) * out.shape.block_pages ≡ suc (length out.blocks) * out.shape.block_pages = ap (λ (k : ℕ). k * out.shape.block_pages) long in
+        let r : ℕ = j - length out.blocks * out.shape.block_pages in
+        let less : r < out.shape.block_pages = omega (arith, behind, small, all, suc-mul (length out.blocks) out.shape.block_pages) in
+        let here : length out.blocks * out.shape.block_pages + r ≡ j = omega (arith, behind) in
+        let page : page_in out.shape (out.blocks ++ b ∷ []) j ≡ b * out.shape.block_pages + r =
+        ap (page_in out.shape (out.blocks ++ b ∷ [])) (sym here) ∙ page_of_place out.shape some (out.blocks ++ b ∷ []) (length out.blocks) r less ∙ ap (λ (k : ℕ). k * out.shape.block_pages + r) (index_last out.blocks b) in
+        let e = subst (λ (x : Shape). IsErasedBlock x new b) shape erased_all in
+        e (page_in out.shape (out.blocks ++ b ∷ []) j) (omega (arith, page)) (omega (arith, page, less))
+
+-- ---- a page that is programmed
+
+module _ (out : Kept) (more : List Entry) (old new : BoardState) (before after : Frames) (is : IsShape out.shape) (inside : length out.firsts < length out.blocks * out.shape.block_pages)
+    (program : new ≡ after_program old (page_of out (length out.firsts)) (next_bytes out more)) (others : OthersStand out old.pages before new.pages after) where
+  pub moves_by_program : (r : Kept) (any : List Entry) → RunOnFlash r old.pages before any → r.shape ≡ out.shape → AreApart r.blocks out.blocks → Moves r old.pages new.pages before after
+  moves_by_program r any st shape apart_from =
+      let some : 0 < out.shape.block_pages = let least : 8 ≤ out.shape.block_pages = is.block_least in omega arith in
+      let pages : new.pages ≡ set old.pages (page_of out (length out.firsts)) (whole (next_bytes out more)) = ap (λ (b : BoardState). b.pages) program in (
+        λ j h.
+            ap (λ (f : Flash). page_at f (page_of r j)) pages
+            ∙ page_at-slice_set old.pages (page_of out (length out.firsts)) (page_of r j) (whole (next_bytes out more)) (λ e.
+            other_page out.shape some out.blocks r.blocks (length out.firsts) j apart_from inside
+            (subst (λ (s : Shape). j < length r.blocks * s.block_pages) shape (let within = st.within in omega (arith, h, within)))
+            (ap (λ (s : Shape). page_in s r.blocks j) (sym shape) ∙ e)),
+        λ es s. others r es apart_from shape s,
+      )
+
+  pub source_by_program : {X : Type 0} (source : Source X) (es : List Entry) → Has source old.pages before es → IsOf out.shape source → AreApart (blocks_in source) out.blocks → MovesIn source old.pages new.pages before after
+  source_by_program (Frozen x) es has of apart_from = tt
+  source_by_program (Run r) es has of apart_from = moves_by_program r.now es has of apart_from

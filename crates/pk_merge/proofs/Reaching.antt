@@ -1,0 +1,114 @@
+-- Wherever a step is cut, no page differs that another may read; and after a read that failed the merge runs as before.
+use Rattle.std.proofs.Common.{◌≡◌, ◌≢◌, inl, inr, ◌+◌, ◌*◌, ◌/◌, ◌<◌, ◌≤◌, ℕ, refl, sym, ap, subst, arith, Bool, List, [], ◌∷◌, length}
+use Rattle.std.specs.Prelude.{slice_index}
+use Rattle.pk_base.specs.Shape.{Shape, IsShape}
+use Rattle.pk_base.specs.Entry.{Entry}
+use Rattle.pk_base.specs.Page.{Flash}
+use Rattle.pk_nand.specs.BoardState.{BoardState}
+use Rattle.pk_nand.specs.Crash.{SameOutside, Reached, Went}
+use Rattle.pk_nand.specs.declared.types.Fault.TheVariants.{Stopped}
+use Rattle.pk_pin.specs.Frames.{Frames}
+use Rattle.pk_pool.specs.Blocks.{Blocks}
+use Rattle.pk_pool.specs.Taking.{ReachesIn, WentIn, SameButBlock}
+use Rattle.pk_run.specs.Kept.{Kept, page_of, after_look}
+use Rattle.pk_merge.specs.declared.source.Source.{Source}
+use Rattle.pk_merge.specs.declared.source.Source.TheVariants.{Frozen, Run}
+use Rattle.pk_merge.specs.declared.next.Next.{Next}
+use Rattle.pk_merge.specs.declared.next.Next.TheVariants.{LoadSource, LoadTarget, Gather, TakeBlock, Program, End}
+use Rattle.pk_merge.specs.Cursors.{Follows}
+use Rattle.pk_merge.specs.Sources.{FollowsIn, after_look_at}
+use Rattle.pk_merge.specs.Merging.{Merger, Tells}
+use Rattle.pk_merge.specs.Running.{Running}
+use Rattle.pk_merge.specs.Steps.{Acts, Fails, FailsToRead}
+use Rattle.pk_merge.specs.Elsewhere.{IsLook, StepReaches, StepWent}
+use Rattle.pk_merge.proofs.Places.{block_there, rest}
+
+-- ---- other pages
+
+look_is : (leases : List ℕ) (b : BoardState) → IsLook b (after_look leases b)
+look_is [] b = inr refl
+look_is (l ∷ ls) b = inl refl
+
+look_is_in : {X : Type 0} (source : Source X) (b : BoardState) → IsLook b (after_look_at source b)
+look_is_in (Frozen x) b = inl refl
+look_is_in (Run r) b = look_is r.now.leases b
+
+looked : (a b c : BoardState) → c ≡ b → IsLook a b → IsLook a c
+looked a b c e l = subst (IsLook a) (sym e) l
+
+-- one page of a block is within it
+widened : (shape : Shape) (b p : ℕ) (old new : Flash) → b * shape.block_pages ≤ p → p < b * shape.block_pages + shape.block_pages → SameOutside p 1 old new → SameButBlock shape b old new
+widened shape b p old new low high s = record {
+  size = s.size;
+  below = λ k h. s.below k (omega (arith, h, low));
+  above = λ k h. s.above k (omega (arith, h, high));
+}
+
+reached_wider : (shape : Shape) (b p : ℕ) (old new : BoardState) → b * shape.block_pages ≤ p → p < b * shape.block_pages + shape.block_pages → Reached old new (λ flash _. SameOutside p 1 old.pages flash) → ReachesIn shape b old new
+reached_wider shape b p old new low high (marks, r) =
+    (marks, record { trail = r.trail; posted = r.posted; same_shape = r.same_shape; cuts = λ f q cut. widened shape b p old.pages f low high (r.cuts f q cut); stands = r.stands })
+
+went_wider : (shape : Shape) (b p : ℕ) (old new : BoardState) → b * shape.block_pages ≤ p → p < b * shape.block_pages + shape.block_pages → Went old new (λ flash _. SameOutside p 1 old.pages flash) → WentIn shape b old new
+went_wider shape b p old new low high (marks, r) =
+    (marks, record { trail = r.trail; posted = r.posted; same_shape = r.same_shape; cuts = λ f q cut. widened shape b p old.pages f low high (r.cuts f q cut); stands = r.stands })
+
+module _ {X : Type 0} (source : Source X) (target : Kept) (pins : Bool) (out : Kept) (m : Merger) (pool : Blocks) (old : BoardState) (before : Frames) (es fs : List Entry) (is : IsShape out.shape)
+    (r : Running source target pins out m pool old.pages before es fs) where
+  abbrev n : ℕ
+  n = out.shape.block_pages
+
+  abbrev b : ℕ
+  b = slice_index out.blocks (length out.firsts / n)
+
+  some : 0 < out.shape.block_pages
+  some = let least : 8 ≤ out.shape.block_pages = is.block_least in omega arith
+
+  place : length out.firsts ≢ length out.blocks * out.shape.block_pages → length out.firsts < length out.blocks * out.shape.block_pages
+  place ne = let within = r.merging.stands.within in omega (arith, within, ne)
+
+  low : b * out.shape.block_pages ≤ page_of out (length out.firsts)
+  low = omega arith
+
+  high : page_of out (length out.firsts) < b * out.shape.block_pages + out.shape.block_pages
+  high = let e = rest out.shape some out.blocks (length out.firsts) in omega (arith, e)
+
+  pub acts_reach : (next : Next) (out' : Kept) (m' : Merger) (pool' : Blocks) (new : BoardState) (after : Frames) → Tells source target out m next → Acts source target pins out m pool old before next out' m' pool' new after → StepReaches pool out old new
+  acts_reach LoadSource out' m' pool' new after t (l, o, p, a) = inl (looked old (after_look_at source old) new l.board (look_is_in source old))
+  acts_reach LoadTarget out' m' pool' new after t (l, o, p, a) = inl (looked old (after_look target.leases old) new l.board (look_is target.leases old))
+  acts_reach Gather out' m' pool' new after t (e, o, p, q, a) = inl (inl e)
+  acts_reach End out' m' pool' new after t (e, o, p, q, a) = inl (inl e)
+  acts_reach TakeBlock out' m' pool' new after t (k, e, a, fits) = inr (k.block, inl k.spare, subst (λ (s : Shape). ReachesIn s k.block old new) r.shapes.of_pool k.cuts)
+  acts_reach Program out' m' pool' new after t (k, e, p) =
+      inr (b, inr (length out.firsts / n, block_there out.shape some out.blocks (length out.firsts) (place t.1)), reached_wider out.shape b (page_of out (length out.firsts)) old new low high k.cuts)
+
+  pub stops_in : (m' : Merger) (new : BoardState) → Fails source target out m pool old Stopped m' new → StepWent pool out old new
+  stops_in m' new (inl erase) = (erase.block, inl (inl erase.lowest.here), subst (λ (s : Shape). WentIn s erase.block old new) r.shapes.of_pool erase.cuts)
+  stops_in m' new (inr program) =
+      (b, inr (length out.firsts / n, block_there out.shape some out.blocks (length out.firsts) program.place), went_wider out.shape b (page_of out (length out.firsts)) old new low high program.cuts)
+
+  -- after a read that failed the merge runs as before
+  pub reads_again : (m' : Merger) (new : BoardState) → FailsToRead source target m old m' new → Running source target pins out m' pool new.pages before es fs
+  reads_again m' new f =
+      let c = r.merging.cursors in
+      subst (λ (x : Flash). Running source target pins out m' pool x before es fs) (sym f.same)
+      (subst (λ (x : Merger). Running source target pins out x pool old.pages before es fs) (sym f.merger) (record {
+        lists = r.lists;
+        shapes = record { of_merger = r.shapes.of_merger; of_target = r.shapes.of_target; of_source = r.shapes.of_source; of_pool = r.shapes.of_pool; of_frames = r.shapes.of_frames };
+        merging = record {
+          cursors = record {
+            has = c.has;
+            stands = c.stands;
+            rising = c.rising;
+            source_at = subst (FollowsIn source old.pages) (ap (λ (x : Merger). x.source) f.merger) f.follows_source;
+            target_at = subst (Follows old.pages target) (ap (λ (x : Merger). x.target) f.merger) f.follows_target;
+          };
+          entries = r.merging.entries;
+          stands = r.merging.stands;
+          makes = r.merging.makes;
+          full = r.merging.full;
+          output = r.merging.output;
+          no_spare = r.merging.no_spare;
+        };
+        blocks = r.blocks;
+        frames = r.frames;
+      }))

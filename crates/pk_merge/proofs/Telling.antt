@@ -1,0 +1,251 @@
+-- What a merge does next, and the entry that it takes.
+use Rattle.std.proofs.Common.{◌≡◌, ◌≢◌, ◌⊎◌, inl, inr, ℕ, zero, suc, ◌+◌, ◌<◌, ◌≤◌, refl, sym, ap, subst, ◌∙◌, arith, Bool, true, false, not, ◌&&◌, ◌||◌, ◌==◌, T, List, [], ◌∷◌, ◌++◌, length, drop, slice_get, Some, append_assoc, length-append, le_refl}
+use Rattle.std.specs.Prelude.{nat_lt, IsTrue}
+use Rattle.std.proofs.lemmas.Bool.Decides.{nat_tests}
+use Rattle.std.specs.declared.cmp.Ordering.TheVariants.{Less, Equal, Greater}
+use Rattle.std.specs.FinMap.Entries.{is_sorted}
+use Rattle.pk_base.specs.Key.{key_cmp}
+use Rattle.pk_base.specs.Shape.{IsShape, page_entries}
+use Rattle.pk_base.specs.Entry.{Entry, key_of}
+use Rattle.pk_base.specs.Page.{Flash}
+use Rattle.pk_meta.specs.Over.{over, kept_at}
+use Rattle.pk_pin.specs.Frames.{Frames}
+use Rattle.pk_run.specs.Kept.{Kept, RunOnFlash}
+use Rattle.pk_run.proofs.Orders.{drop_is, sorted_drop}
+use Rattle.pk_merge.specs.declared.source.Source.{Source}
+use Rattle.pk_merge.specs.declared.source.Source.TheVariants.{Frozen, Run}
+use Rattle.pk_merge.specs.Cursors.{Cursor, Follows, passed, wants_page}
+use Rattle.pk_merge.specs.Sources.{count_of, Has, FollowsIn, wants_page_in}
+use Rattle.pk_merge.specs.Merging.{Merger, left_of, can_gather, is_left_of_source, is_left_of_target, takes_source, takes_target, takes_both, taken, StandsIn, GoesOn, IsAtEnd}
+use Rattle.pk_merge.proofs.Following.{Follows-passed}
+use Rattle.pk_merge.proofs.Overs.{over_less, over_equal, over_greater, over_source, over_target, kept_front}
+
+-- ---- whether an entry can be taken
+
+abbrev can : Bool → Bool → Bool → Bool → Bool → Bool
+can f a b u v = not f && (a || b) && not (a && u) && not (b && v)
+
+record Can (f a b u v : Bool) : Type 0 where
+  pub room : f ≡ false
+  pub some : (a ≡ true) ⊎ (b ≡ true)
+  pub first : a ≡ true → u ≡ false
+  pub second : b ≡ true → v ≡ false
+
+tells : (f a b u v : Bool) → can f a b u v ≡ true → Can f a b u v
+tells true a b u v e = cc
+tells false true true false false e = record { room = refl; some = inl refl; first = λ p. refl; second = λ p. refl }
+tells false true true false true e = cc
+tells false true true true v e = cc
+tells false true false false v e = record { room = refl; some = inl refl; first = λ p. refl; second = λ p. cc }
+tells false true false true v e = cc
+tells false false true u false e = record { room = refl; some = inr refl; first = λ p. cc; second = λ p. refl }
+tells false false true u true e = cc
+tells false false false u v e = cc
+
+clash : true ≡ false → ⊥
+clash e = cc
+
+-- no entry can be taken, though there is room and one is left: a page is wanted
+wants : (f a b u v : Bool) → can f a b u v ≡ false → f ≡ false → (a ≡ true → u ≡ false) → ((a ≡ false) → (b ≡ false) → ⊥) → (b ≡ true) × (v ≡ true)
+wants true a b u v e room first some = absurd (clash room)
+wants false true b true v e room first some = absurd (clash (first refl))
+wants false true true false true e room first some = (refl, refl)
+wants false true true false false e room first some = absurd (clash e)
+wants false true false false v e room first some = absurd (clash e)
+wants false false true u true e room first some = (refl, refl)
+wants false false true u false e room first some = absurd (clash e)
+wants false false false u v e room first some = absurd (some refl refl)
+
+is_below : (m n : ℕ) → m < n → nat_lt m n ≡ true
+is_below m n h = grind (arith, nat_tests)
+
+is_not_below : (m n : ℕ) → n ≤ m → nat_lt m n ≡ false
+is_not_below m n h = grind (arith, nat_tests)
+
+below_is : (m n : ℕ) → nat_lt m n ≡ true → m < n
+below_is m n h = grind (arith, nat_tests)
+
+not_below_is : (m n : ℕ) → nat_lt m n ≡ false → n ≤ m
+not_below_is m n h = grind (arith, nat_tests)
+
+not_same : (m n : ℕ) → m ≢ n → (m == n) ≡ false
+not_same m n h = grind (arith, nat_tests)
+
+same_not : (m n : ℕ) → (m == n) ≡ false → m ≢ n
+same_not m n h = grind (arith, nat_tests)
+
+module _ {X : Type 0} (source : Source X) (target : Kept) (m : Merger) where
+  pub record Gathers : Type 0 where
+    pub room : length m.gathered ≢ page_entries m.shape
+    pub source_left : target.count ≤ m.target.place → m.source.place < count_of source
+    pub target_left : count_of source ≤ m.source.place → m.target.place < target.count
+    pub source_here : m.source.place < count_of source → wants_page_in source m.source ≡ false
+    pub target_here : m.target.place < target.count → wants_page m.target ≡ false
+
+  pub gathers : can_gather source target m ≡ true → Gathers
+  unfolding can_gather
+  gathers e =
+      let t = tells (length m.gathered == page_entries m.shape) (is_left_of_source source target m) (is_left_of_target source target m) (wants_page_in source m.source) (wants_page m.target) e in
+      record {
+        room = same_not _ _ t.room;
+        source_left = λ past. elim t.some [ inl a ↦ below_is _ _ a | inr b ↦ absurd (let lt = below_is _ _ b in omega (arith, lt, past)) ];
+        target_left = λ past. elim t.some [ inl a ↦ absurd (let lt = below_is _ _ a in omega (arith, lt, past)) | inr b ↦ below_is _ _ b ];
+        source_here = λ h. t.first (is_below _ _ h);
+        target_here = λ h. t.second (is_below _ _ h);
+      }
+
+  pub wants_target : can_gather source target m ≡ false → length m.gathered ≢ page_entries m.shape → (m.source.place < count_of source → wants_page_in source m.source ≡ false) → (IsAtEnd source target m → ⊥)
+      → (m.target.place < target.count) × (wants_page m.target ≡ true)
+  unfolding can_gather
+  wants_target e room first some =
+      let w = wants (length m.gathered == page_entries m.shape) (is_left_of_source source target m) (is_left_of_target source target m) (wants_page_in source m.source) (wants_page m.target) e (not_same _ _ room)
+      (λ a. first (below_is _ _ a)) (λ a b. some (not_below_is _ _ a, not_below_is _ _ b)) in
+      (below_is _ _ w.0, w.1)
+
+-- ---- what is left behind an entry
+
+pub drop_end : (es : List Entry) (n : ℕ) → length es ≤ n → drop n es ≡ []
+drop_end [] zero h = refl
+drop_end [] (suc n) h = refl
+drop_end (e ∷ es) zero h = absurd (omega (arith, h))
+drop_end (e ∷ es) (suc n) h = drop_end es n (omega (arith, h))
+
+at : (es : List Entry) (i : ℕ) (e : Entry) → T (is_sorted key_cmp es) → slice_get es i ≡ Some e → T (is_sorted key_cmp (e ∷ drop (suc i) es))
+at es i e up got = subst (λ (xs : List Entry). T (is_sorted key_cmp xs)) (drop_is es i e got) (sorted_drop es i up)
+
+regrouped : (xs ys zs : List Entry) → (xs ++ ys) ++ zs ≡ xs ++ (ys ++ zs)
+regrouped xs ys zs = simp append_assoc
+
+regroup : (level : ℕ) (g : List Entry) (e : Entry) (rest whole : List Entry) → whole ≡ e ∷ rest → g ++ kept_at level whole ≡ (g ++ kept_at level (e ∷ [])) ++ kept_at level rest
+regroup level g e rest whole is = ap (λ (xs : List Entry). g ++ kept_at level xs) is ∙ ap (λ (xs : List Entry). g ++ xs) (kept_front level e rest) ∙ sym (regrouped g (kept_at level (e ∷ [])) (kept_at level rest))
+
+module _ (level : ℕ) (es fs : List Entry) (i j : ℕ) (g : List Entry) (up : T (is_sorted key_cmp es)) (vp : T (is_sorted key_cmp fs)) where
+  pub left_source : (e : Entry) → slice_get es i ≡ Some e → length fs ≤ j → g ++ left_of level es fs i j ≡ (g ++ kept_at level (e ∷ [])) ++ left_of level es fs (suc i) j
+  left_source e got past = regroup level g e _ _ (
+      ap (λ (xs : List Entry). over xs (drop j fs)) (drop_is es i e got) ∙ ap (over (e ∷ drop (suc i) es)) (drop_end fs j past) ∙ over_source e (drop (suc i) es) (at es i e up got)
+      ∙ ap (λ (xs : List Entry). e ∷ over (drop (suc i) es) xs) (sym (drop_end fs j past)))
+
+  pub left_target : (f : Entry) → slice_get fs j ≡ Some f → length es ≤ i → g ++ left_of level es fs i j ≡ (g ++ kept_at level (f ∷ [])) ++ left_of level es fs i (suc j)
+  left_target f got past = regroup level g f _ _ (
+      ap (over (drop i es)) (drop_is fs j f got) ∙ ap (λ (xs : List Entry). over xs (f ∷ drop (suc j) fs)) (drop_end es i past) ∙ over_target f (drop (suc j) fs) (at fs j f vp got)
+      ∙ ap (λ (xs : List Entry). f ∷ over xs (drop (suc j) fs)) (sym (drop_end es i past)))
+
+  module _ (e f : Entry) (got : slice_get es i ≡ Some e) (had : slice_get fs j ≡ Some f) where
+    both_are : over (drop i es) (drop j fs) ≡ over (e ∷ drop (suc i) es) (f ∷ drop (suc j) fs)
+    both_are = λ k. over (drop_is es i e got k) (drop_is fs j f had k)
+
+    pub left_less : key_cmp e.0 f.0 ≡ Less → g ++ left_of level es fs i j ≡ (g ++ kept_at level (e ∷ [])) ++ left_of level es fs (suc i) j
+    left_less low = regroup level g e _ _ (both_are ∙ over_less e f (drop (suc i) es) (drop (suc j) fs) (at es i e up got) (at fs j f vp had) low ∙ ap (λ (xs : List Entry). e ∷ over (drop (suc i) es) xs) (sym (drop_is fs j f had)))
+
+    pub left_equal : key_cmp e.0 f.0 ≡ Equal → g ++ left_of level es fs i j ≡ (g ++ kept_at level (e ∷ [])) ++ left_of level es fs (suc i) (suc j)
+    left_equal same = regroup level g e _ _ (both_are ∙ over_equal e f (drop (suc i) es) (drop (suc j) fs) (at es i e up got) (at fs j f vp had) same)
+
+    pub left_greater : key_cmp e.0 f.0 ≡ Greater → g ++ left_of level es fs i j ≡ (g ++ kept_at level (f ∷ [])) ++ left_of level es fs i (suc j)
+    left_greater above = regroup level g f _ _ (both_are ∙ over_greater e f (drop (suc i) es) (drop (suc j) fs) (at es i e up got) (at fs j f vp had) above ∙ ap (λ (xs : List Entry). f ∷ over xs (drop (suc j) fs)) (sym (drop_is es i e got)))
+
+-- ---- a merge goes on
+
+longer : (xs ys : List Entry) → length xs ≤ length (xs ++ ys)
+longer xs ys = omega (arith, length-append xs ys)
+
+-- how many entries the source has
+pub many_in : {X : Type 0} (source : Source X) (flash : Flash) (arena : Frames) (es : List Entry) → Has source flash arena es → length es ≡ count_of source
+many_in (Frozen b) flash arena es has = ap length has
+many_in (Run r) flash arena es has = has.many
+
+pub passes_in : {X : Type 0} (source : Source X) (flash : Flash) (c : Cursor) → IsShape c.shape → FollowsIn source flash c → c.place < count_of source → FollowsIn source flash (passed c)
+passes_in (Frozen b) flash c is f h = (omega (arith, h), f.1)
+passes_in (Run r) flash c is f h = Follows-passed flash r.now c (subst IsShape f.same_shape is) f h
+
+module _ {X : Type 0} (source : Source X) (target : Kept) (level : ℕ) (m : Merger) (is : IsShape m.source.shape) (js : IsShape m.target.shape) where
+  abbrev Head : Cursor → ((Flash → Frames → List Entry → Type 0)) → (Flash → Type 0) → Entry → Type 0
+  Head c Has Follows e = (flash : Flash) (arena : Frames) (es : List Entry) → Has flash arena es → Follows flash → slice_get es c.place ≡ Some e
+
+  abbrev SourceHead : Entry → Type 0
+  SourceHead = Head m.source (Has source) (λ flash. FollowsIn source flash m.source)
+
+  abbrev TargetHead : Entry → Type 0
+  TargetHead = Head m.target (RunOnFlash target) (λ flash. Follows flash target m.target)
+
+  pub goes_source : (e : Entry) → SourceHead e → m.source.place < count_of source → target.count ≤ m.target.place → GoesOn source target level m (takes_source level e m)
+  goes_source e head inside past = record {
+    stands = λ flash arena es fs s. record { has = s.has; stands = s.stands; rising = s.rising; source_at = passes_in source flash m.source is s.source_at inside; target_at = s.target_at };
+    same = λ flash arena es fs s. left_source level es fs m.source.place m.target.place m.gathered s.rising s.stands.rising e (head flash arena es s.has s.source_at) (let many = s.stands.many in omega (arith, past, many));
+    shape = refl;
+    source_pages = refl;
+    target_pages = refl;
+    no_fewer = longer m.gathered (kept_at level (e ∷ []));
+  }
+
+  pub goes_target : (f : Entry) → TargetHead f → m.target.place < target.count → count_of source ≤ m.source.place → GoesOn source target level m (takes_target level f m)
+  goes_target f head inside past = record {
+    stands = λ flash arena es fs s. record { has = s.has; stands = s.stands; rising = s.rising; source_at = s.source_at; target_at = passes_on flash s.target_at };
+    same = λ flash arena es fs s. left_target level es fs m.source.place m.target.place m.gathered s.rising s.stands.rising f (head flash arena fs s.stands s.target_at) (let many = many_in source flash arena es s.has in omega (arith, past, many));
+    shape = refl;
+    source_pages = refl;
+    target_pages = refl;
+    no_fewer = longer m.gathered (kept_at level (f ∷ []));
+  }
+    where
+      passes_on : (flash : Flash) → Follows flash target m.target → Follows flash target (passed m.target)
+      passes_on flash f = Follows-passed flash target m.target (subst IsShape f.same_shape js) f inside
+
+  module _ (e f : Entry) (head : SourceHead e) (tail : TargetHead f) (inside : m.source.place < count_of source) (within : m.target.place < target.count) where
+    passes_here : (flash : Flash) → Follows flash target m.target → Follows flash target (passed m.target)
+    passes_here flash f = Follows-passed flash target m.target (subst IsShape f.same_shape js) f within
+
+    pub goes_less : key_cmp (key_of e) (key_of f) ≡ Less → GoesOn source target level m (takes_source level e m)
+    goes_less low = record {
+      stands = λ flash arena es fs s. record { has = s.has; stands = s.stands; rising = s.rising; source_at = passes_in source flash m.source is s.source_at inside; target_at = s.target_at };
+      same = λ flash arena es fs s. left_less level es fs m.source.place m.target.place m.gathered s.rising s.stands.rising e f (head flash arena es s.has s.source_at) (tail flash arena fs s.stands s.target_at) low;
+      shape = refl;
+      source_pages = refl;
+      target_pages = refl;
+      no_fewer = longer m.gathered (kept_at level (e ∷ []));
+    }
+
+    pub goes_equal : key_cmp (key_of e) (key_of f) ≡ Equal → GoesOn source target level m (takes_both level e m)
+    goes_equal same = record {
+      stands = λ flash arena es fs s. record { has = s.has; stands = s.stands; rising = s.rising; source_at = passes_in source flash m.source is s.source_at inside; target_at = passes_here flash s.target_at };
+      same = λ flash arena es fs s. left_equal level es fs m.source.place m.target.place m.gathered s.rising s.stands.rising e f (head flash arena es s.has s.source_at) (tail flash arena fs s.stands s.target_at) same;
+      shape = refl;
+      source_pages = refl;
+      target_pages = refl;
+      no_fewer = longer m.gathered (kept_at level (e ∷ []));
+    }
+
+    pub goes_greater : key_cmp (key_of e) (key_of f) ≡ Greater → GoesOn source target level m (takes_target level f m)
+    goes_greater above = record {
+      stands = λ flash arena es fs s. record { has = s.has; stands = s.stands; rising = s.rising; source_at = s.source_at; target_at = passes_here flash s.target_at };
+      same = λ flash arena es fs s. left_greater level es fs m.source.place m.target.place m.gathered s.rising s.stands.rising e f (head flash arena es s.has s.source_at) (tail flash arena fs s.stands s.target_at) above;
+      shape = refl;
+      source_pages = refl;
+      target_pages = refl;
+      no_fewer = longer m.gathered (kept_at level (f ∷ []));
+    }
+
+module _ {X : Type 0} (source : Source X) (target : Kept) (level : ℕ) where
+  pub goes_nowhere : (m : Merger) → GoesOn source target level m m
+  goes_nowhere m = record { stands = λ flash arena es fs s. s; same = λ flash arena es fs s. refl; shape = refl; source_pages = refl; target_pages = refl; no_fewer = le_refl (length m.gathered) }
+
+  pub goes_further : (a b c : Merger) → GoesOn source target level a b → GoesOn source target level b c → GoesOn source target level a c
+  goes_further a b c p q = record {
+    stands = λ flash arena es fs s. q.stands flash arena es fs (p.stands flash arena es fs s);
+    same = λ flash arena es fs s. p.same flash arena es fs s ∙ q.same flash arena es fs (p.stands flash arena es fs s);
+    shape = q.shape ∙ p.shape;
+    source_pages = q.source_pages ∙ p.source_pages;
+    target_pages = q.target_pages ∙ p.target_pages;
+    no_fewer = let first = p.no_fewer in let second = q.no_fewer in omega (arith, first, second);
+  }
+
+-- no more entries are taken than there are
+pub taken_within : {X : Type 0} (source : Source X) (target : Kept) (flash : Flash) (arena : Frames) (es fs : List Entry) (m : Merger) → StandsIn source target flash arena es fs m → taken m ≤ count_of source + target.count
+taken_within source target flash arena es fs m s = let f = s.target_at.within in let e = source_within source flash m.source s.source_at in omega (arith, e, f)
+  where
+    source_within : {X : Type 0} (source : Source X) (flash : Flash) (c : Cursor) → FollowsIn source flash c → c.place ≤ count_of source
+    source_within (Frozen b) flash c f = f.0
+    source_within (Run r) flash c f = f.within
+
+pub not_true : (b : Bool) → b ≡ false → IsTrue b → ⊥
+not_true true e t = clash e
+not_true false e t = clash (sym t)

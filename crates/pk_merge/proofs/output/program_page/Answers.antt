@@ -1,0 +1,33 @@
+use Rattle.std.proofs.Common.{◌∙◌, ap, sym, length, arith, ℕ}
+use Rattle.std.proofs.lemmas.List.{length-map}
+use Rattle.pk_base.specs.Seen.{entry as seen, entries as seen_all}
+use Rattle.pk_nand.proofs.Writing.{shape_is}
+use Rattle.pk_run.specs.Kept.{with_page}
+use Rattle.pk_merge.proofs.Places.{InOrder-output, page_exists}
+use Rattle.pk_merge.proofs.Programming.{programs_page, first_of}
+use Rattle.pk_merge.proofs.output.program_page.Goals as goal
+
+pub write_page-requires-clause-order : goal.write_page-requires-clause-order
+write_page-requires-clause-order g c =
+    rw (shape_is _ _ c.requires.ready, c.page.ensures, c.pages-index.ensures)
+    (InOrder-output c.args.out.now _ c.args.arena.now _ c.known.ensures.shape c.known.ensures.kept c.requires.stands.1 c.requires.output c.requires.place)
+
+pub returns-in-Ok-clause-programmed : goal.returns-in-Ok-clause-programmed
+returns-in-Ok-clause-programmed g c =
+    let program = rw (c.page.ensures, c.encode.ensures, c.shape.ensures, c.level.ensures, c.pages-index.ensures) at c.in-Ok.ensures.ok in
+    let cuts = rw (c.page.ensures, c.pages-index.ensures) at c.in-Ok.ensures.cuts in
+    let keeps = rw (c.encode.ensures, c.shape.ensures, c.level.ensures, c.pages-index.ensures) at c.keep_page-lease.ensures in
+    programs_page c.args.pins c.args.out.now (seen_all c.args.entries.now) _ c.args.arena.now _ _ c.keep_page-lease.result c.known.ensures.shape c.requires.place program keeps
+    _ c.copy.result c.requires.output
+    (rw c.requires.ready.flash.size (page_exists c.args.out.now.shape (let least = c.known.ensures.shape.block_least in omega (arith, least)) c.args.out.now.blocks c.requires.output.exist (length c.args.out.now.firsts) c.requires.place))
+    c.requires.content c.requires.pinned
+    (c.push_page.ensures.added ∙ ap (λ (n : ℕ). with_page c.args.out.now c.copy.result c.keep_page-lease.result n) (sym (length-map c.args.entries.now seen)))
+    (first_of c.args.entries.now c.index-entries-0.result c.copy.result c.requires.content.some c.index-entries-0.is (c.copy.ensures ∙ c.key.ensures))
+    (λ flash arena es next s n many. c.push_page.ensures.stands flash arena es next s n (many ∙ length-map c.args.entries.now seen)) cuts
+
+pub returns-in-Err-clause-failed : goal.returns-in-Err-clause-failed
+returns-in-Err-clause-failed g c = record {
+  place = c.requires.place;
+  failed = rw (c.page.ensures, c.encode.ensures, c.shape.ensures, c.level.ensures, c.pages-index.ensures) at c.in-Err.ensures.err;
+  cuts = rw (c.page.ensures, c.pages-index.ensures) at c.in-Err.ensures.cuts_err;
+}

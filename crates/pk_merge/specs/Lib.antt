@@ -1,0 +1,11 @@
+pub mod Cursors
+pub mod Sources
+pub mod Gathering
+pub mod Merging
+pub mod Outputs
+pub mod Running
+pub mod Steps
+pub mod Remaining
+pub mod Elsewhere
+pub mod Jobs
+pub mod Laws

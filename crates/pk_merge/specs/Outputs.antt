@@ -1,0 +1,82 @@
+-- The output of a merge: its blocks, and its pages in them, of which each is programmed once.
+use Rattle.std.specs.Prelude.{◌≡◌, ◌⊎◌, ℕ, ◌+◌, ◌*◌, ◌<◌, ◌≤◌, Bool, true, false, not, ◌||◌, ◌==◌, T, is_some, List, [], ◌∷◌, ◌++◌, length, slice_get, Option, Some, None}
+use Rattle.std.specs.List.{list_all}
+use Rattle.std.specs.FinMap.Entries.{is_sorted}
+use Rattle.pk_base.specs.Key.{Key, key_cmp}
+use Rattle.pk_base.specs.Entry.{Entry}
+use Rattle.pk_base.specs.Page.{Flash, page_at, erased}
+use Rattle.pk_meta.specs.Page.{meta_bytes}
+use Rattle.pk_nand.specs.BoardState.{BoardState}
+use Rattle.pk_nand.specs.Calls.{IsErasedBlock, ProgramFailed, after_program}
+use Rattle.pk_nand.specs.Crash.{Reached, Went, SameOutside}
+use Rattle.pk_pin.specs.Frames.{Frames, IsLeased, frame_of, leased, filled}
+use Rattle.pk_plan.specs.declared.owner.Owner.TheVariants.{Meta}
+use Rattle.pk_pool.specs.declared.state.BlockState.TheVariants.{Owned}
+use Rattle.pk_pool.specs.Blocks.{Blocks, IsSpare, used_by, with_state}
+use Rattle.pk_pool.specs.Taking.{TakesReady, ErasesFree, ReachesIn}
+use Rattle.pk_run.specs.Kept.{Kept, RunOnFlash, page_of, with_page}
+
+-- all of these blocks are the pool's, owned for meta pages
+abbrev pub AreMeta : Blocks → List ℕ → Type 0
+AreMeta pool blocks = (i b : ℕ) → slice_get blocks i ≡ Some b → slice_get pool.states b ≡ Some (Owned Meta)
+
+-- no block of the one list is one of the other
+abbrev pub AreApart : List ℕ → List ℕ → Type 0
+AreApart blocks others = (i j b : ℕ) → slice_get blocks i ≡ Some b → slice_get others j ≡ Some b → ⊥
+
+-- Its blocks are different, and exist; the pages of them that it has not come to are Erased.
+pub record IsOutput (r : Kept) (flash : Flash) : Type 0 where
+  pub different : (i j b : ℕ) → slice_get r.blocks i ≡ Some b → slice_get r.blocks j ≡ Some b → i ≡ j
+  pub exist : (i b : ℕ) → slice_get r.blocks i ≡ Some b → b < r.shape.blocks
+  pub unused : (j : ℕ) → length r.firsts ≤ j → j < length r.blocks * r.shape.block_pages → page_at flash (page_of r j) ≡ erased
+
+-- ---- a block that is taken
+
+pub record TakesBlock (pool : Blocks) (r : Kept) (old : BoardState) (pool' : Blocks) (r' : Kept) (new : BoardState) : Type 0 where
+  pub block : ℕ
+  pub spare : IsSpare pool block
+  pub choice : TakesReady pool old block new ⊎ ErasesFree pool old block new
+  pub pool_is : pool' ≡ with_state pool block (Owned Meta)
+  pub counted : used_by Meta pool'.states ≡ used_by Meta pool.states + 1
+  pub run_is : r' ≡ record r { blocks = r.blocks ++ block ∷ [] }
+  pub exists : block < pool.shape.blocks
+  pub erased : IsErasedBlock pool.shape new.pages block
+  pub cuts : ReachesIn pool.shape block old new
+
+-- ---- a page that is programmed
+
+-- where a frame is wanted, a free one was leased and filled with these bytes; else nothing was done
+abbrev pub KeepsPage : Bool → Frames → Frames → List ℕ → Option ℕ → Type 0
+KeepsPage pins old new bytes None = (pins ≡ false) × (new ≡ old)
+KeepsPage pins old new bytes (Some lease) =
+    (pins ≡ true) × (slice_get old.used lease ≡ Some false) × (new ≡ filled (leased old lease) lease bytes) × IsLeased new lease × (frame_of new lease ≡ bytes)
+
+-- the bytes of its next page with these entries
+abbrev pub next_bytes : Kept → List Entry → List ℕ
+next_bytes r more = meta_bytes r.shape r.level (length r.firsts) more
+
+-- a run whose blocks are none of the output's stands as before
+abbrev pub OthersStand : Kept → Flash → Frames → Flash → Frames → Type 0
+OthersStand r old before new after = (other : Kept) (es : List Entry) → AreApart other.blocks r.blocks → other.shape ≡ r.shape → RunOnFlash other old before es → RunOnFlash other new after es
+
+-- wherever the program of its next page is cut, no other page differs
+abbrev pub SameButNext : Kept → Flash → Flash → Type 0
+SameButNext r old new = SameOutside (page_of r (length r.firsts)) 1 old new
+
+-- The next page has these entries now, and so has a frame where one is wanted.
+pub record ProgramsPage (pins : Bool) (r : Kept) (more : List Entry) (old : BoardState) (before : Frames) (r' : Kept) (new : BoardState) (after : Frames) : Type 0 where
+  pub first : Key
+  pub lease : Option ℕ
+  pub run_is : r' ≡ with_page r first lease (length more)
+  pub program : new ≡ after_program old (page_of r (length r.firsts)) (next_bytes r more)
+  pub frame : KeepsPage pins before after (next_bytes r more) lease
+  pub stands : (es : List Entry) → RunOnFlash r old.pages before es → T (is_sorted key_cmp (es ++ more)) → T (not (r.level == 4) || list_all (λ e. is_some e.1) more) → RunOnFlash r' new.pages after (es ++ more)
+  pub output : IsOutput r' new.pages
+  pub others : OthersStand r old.pages before new.pages after
+  pub cuts : Reached old new (λ flash _. SameButNext r old.pages flash)
+
+-- the program of its next page failed
+pub record FailsToProgram (r : Kept) (more : List Entry) (old new : BoardState) : Type 0 where
+  pub place : length r.firsts < length r.blocks * r.shape.block_pages
+  pub failed : ProgramFailed old new (page_of r (length r.firsts)) (next_bytes r more)
+  pub cuts : Went old new (λ flash _. SameButNext r old.pages flash)

@@ -1,0 +1,57 @@
+-- What is merged into a run: the frozen write buffer, or the run of the level above.
+use Rattle.std.specs.Prelude.{◌≡◌, ⊤, ℕ, ◌≤◌, Bool, false, List, [], length}
+use Rattle.pk_base.specs.Shape.{Shape}
+use Rattle.pk_base.specs.Entry.{Entry}
+use Rattle.pk_base.specs.Page.{Flash}
+use Rattle.pk_pin.specs.Frames.{Frames}
+use Rattle.pk_nand.specs.BoardState.{BoardState}
+use Rattle.pk_nand.specs.Calls.{ReadFailed}
+use Rattle.pk_run.specs.Kept.{RunOnFlash, page_of, after_look}
+use Rattle.pk_merge.specs.declared.source.Source.{Source}
+use Rattle.pk_merge.specs.declared.source.Source.TheVariants.{Frozen, Run}
+use Rattle.pk_merge.specs.Cursors.{Cursor, Follows, own_page, wants_page}
+
+-- how many entries it has
+abbrev pub count_of : {X : Type 0} → Source X → ℕ
+count_of (Frozen b) = length b.now.entries
+count_of (Run r) = r.now.count
+
+-- and how many pages; a buffer has none
+abbrev pub pages_in : {X : Type 0} → Source X → ℕ
+pages_in (Frozen b) = 0
+pages_in (Run r) = length r.now.firsts
+
+-- the blocks of its pages
+abbrev pub blocks_in : {X : Type 0} → Source X → List ℕ
+blocks_in (Frozen b) = []
+blocks_in (Run r) = r.now.blocks
+
+-- these are its entries
+abbrev pub Has : {X : Type 0} → Source X → Flash → Frames → List Entry → Type 0
+Has (Frozen b) flash arena es = es ≡ b.now.entries
+Has (Run r) flash arena es = RunOnFlash r.now flash arena es
+
+-- a cursor stands among them
+abbrev pub FollowsIn : {X : Type 0} → Source X → Flash → Cursor → Type 0
+FollowsIn (Frozen b) flash c = (c.place ≤ length b.now.entries) × (c.loaded ≡ 0)
+FollowsIn (Run r) flash c = Follows flash r.now c
+
+-- the entry at its place is on a page that it has not come to
+abbrev pub wants_page_in : {X : Type 0} → Source X → Cursor → Bool
+wants_page_in (Frozen b) c = false
+wants_page_in (Run r) c = wants_page c
+
+-- it is for a flash of this shape
+abbrev pub IsOf : {X : Type 0} → Shape → Source X → Type 0
+IsOf shape (Frozen b) = ⊤
+IsOf shape (Run r) = r.now.shape ≡ shape
+
+-- the board behind a look at a page: one read, and none where the page has a frame
+abbrev pub after_look_at : {X : Type 0} → Source X → BoardState → BoardState
+after_look_at (Frozen b) board = board
+after_look_at (Run r) board = after_look r.now.leases board
+
+-- the read of the page of a cursor's place failed
+abbrev pub LookFails : {X : Type 0} → Source X → Cursor → BoardState → BoardState → Type 0
+LookFails (Frozen b) c old new = ⊥
+LookFails (Run r) c old new = ReadFailed old new (page_of r.now (own_page c))

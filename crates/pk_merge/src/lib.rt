@@ -1,0 +1,19 @@
+//! A merge of two sorted lists of entries into a new run, the frozen write buffer or a run over the run of the next level, made
+//! in steps of at most one call of the flash.
+//!
+//! The output is the target overridden by the source, cut into full pages; deleted keys are left out into run 4 alone.
+#![tactic(auto)]
+
+mod cursor;
+mod gathered;
+mod job;
+mod laws;
+mod merger;
+mod next;
+mod output;
+mod source;
+mod spares;
+
+pub use job::MergeJob;
+pub use laws::{idle_again, leases_of_a_run};
+pub use source::Source;

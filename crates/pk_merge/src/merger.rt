@@ -1,0 +1,441 @@
+//! A merge that runs: where it stands in its source and its target, and the entries of its next page.
+ghost use Rattle.std.specs.Prelude.{◌≡◌, ◌*◌, ◌<◌, ◌≤◌, ◌^◌, suc, List, [], ◌≢◌, true, false, length, IfOk, IfErr, OnOk, OnErr, IsTrue, ◌↔◌};
+ghost use Rattle.pk_base.specs.Shape as shapes;
+ghost use Rattle.pk_base.specs.Shape.{IsShape, page_entries};
+ghost use Rattle.pk_base.specs.Entry.{Entry as EntrySpec, key_of};
+ghost use Rattle.pk_base.specs.Key.{key_cmp};
+ghost use Rattle.pk_base.specs.Page.{Flash};
+ghost use Rattle.pk_base.specs.Seen.{entry as seen};
+ghost use Rattle.pk_meta.specs.Page.{IsContent};
+ghost use Rattle.pk_nand.specs.Calls.{IsReady, ReadFailed};
+ghost use Rattle.pk_nand.specs.declared.types.Fault.TheVariants.{Reading, Stopped};
+ghost use Rattle.pk_pin.specs.Frames.{Frames, free_frames};
+ghost use Rattle.pk_run.specs.Kept.{RunOnFlash, most_pages, page_of};
+ghost use Rattle.pk_level.specs.Arenas.{IsPinnedIf};
+ghost use Rattle.pk_merge.specs.Cursors.{Follows, own_page, wants_page};
+ghost use Rattle.pk_merge.specs.Sources.{count_of, Has, FollowsIn, IsOf, LookFails, wants_page_in};
+ghost use Rattle.pk_merge.specs.Merging as spec;
+ghost use Rattle.pk_merge.specs.Merging.{restarted, takes_source, takes_target, takes_both, taken, StandsIn, GoesOn, Tells, IsAtEnd, IsDone, HasNextPage};
+ghost use Rattle.pk_merge.specs.Outputs.{IsOutput, ProgramsPage, FailsToProgram};
+ghost use Rattle.pk_merge.specs.Running.{Running, IsMergerOf};
+ghost use Rattle.pk_merge.specs.Steps.{Acts, Steps, Fails, LoadsSource, LoadsTarget};
+
+use crate::cursor::Cursor;
+use crate::gathered::Gathered;
+use crate::next::Next;
+use crate::output::{program_page, take_block, wants_block};
+use crate::source::Source;
+use pk_base::{Entry, Shape, compare};
+use pk_nand::{Fault, Nand};
+use pk_pin::PinArena;
+use pk_pool::Pool;
+use pk_region::Region;
+use pk_run::Run;
+use std::alloc::AllocError;
+use std::cmp::Ordering;
+use std::marker::Model;
+
+/// A cursor in the source and one in the target, the entries of the next output page, and a page's bytes.
+#[derive(Drop)]
+pub struct Merger<A: Region> {
+    source: Cursor<A>,
+    target: Cursor<A>,
+    gathered: Gathered<A>,
+    page: Vec<u8, A>,
+}
+
+impl<A: Region> Model for Merger<A> {
+    ghost use Rattle.std.specs.Prelude.{◌≡◌, length};
+    ghost use Rattle.pk_merge.specs.Merging as spec;
+
+    ghost Value = { spec.Merger };
+
+    ghost view = { λ m. record { shape = m.gathered.shape; source = m.source; target = m.target; gathered = m.gathered.entries } };
+
+    ghost invariant = { λ m. (m.source.shape ≡ m.gathered.shape) × (m.target.shape ≡ m.gathered.shape) × (length m.page.items ≡ m.gathered.shape.page_bytes) };
+}
+
+impl<A: Region> Merger<A> {
+    /// At the start. All its memory is taken here: three pages, and the entries of one.
+    pub fn new(alloc: A, shape: Shape) -> Result<Merger<A>, AllocError>
+        ensures shape { IfOk result (λ m. IsMergerOf shape m) }
+        ensures start { IfOk result (λ m. m ≡ restarted m) }
+    {
+        let source = Cursor::new(alloc.clone()?, shape)?;
+        let target = Cursor::new(alloc.clone()?, shape)?;
+        let gathered = Gathered::new(alloc.clone()?, shape)?;
+        let page = Vec::from_elem(alloc, 0u8, shape.page_bytes() as usize)?;
+        Ok(Merger {
+            source,
+            target,
+            gathered,
+            page,
+        })
+    }
+
+    /// Each merger keeps this.
+    pub fn known(&self)
+        ensures shape { IsShape self.now.shape }
+        ensures own { IsMergerOf self.now.shape self.now }
+    {
+        self.gathered.known();
+    }
+
+    /// Goes back to the start.
+    pub fn restart(&mut self)
+        ensures start { self.new ≡ restarted self.old }
+        ensures shape { IsMergerOf self.old.shape self.new }
+    {
+        self.source.restart();
+        self.target.restart();
+        self.gathered.clear();
+    }
+
+    // Whether no entry is left of source and target.
+    fn is_at_end(&self, source: &Source<A>, target: &Run<A>) -> bool
+        ensures { IsTrue result ↔ IsAtEnd source.now target.now self.now }
+    {
+        self.source.place() >= source.entries() && self.target.place() >= target.entries()
+    }
+
+    /// Whether every entry was taken, and none waits for its page.
+    pub fn is_done(&self, source: &Source<A>, target: &Run<A>) -> bool
+        ensures { IsTrue result ↔ IsDone source.now target.now self.now }
+    {
+        self.is_at_end(source, target) && self.gathered.is_empty()
+    }
+
+    // Whether the next entry can be told, and there is room for it in its page.
+    #[tactic(auto, unfolding(crate::specs::Merging::can_gather))]
+    fn can_gather(&self, source: &Source<A>, target: &Run<A>) -> bool
+        ensures can { result ≡ spec.can_gather source.now target.now self.now }
+        ensures bound { length self.now.gathered ≤ page_entries self.now.shape }
+    {
+        let source_left = self.source.place() < source.entries();
+        let target_left = self.target.place() < target.entries();
+        !self.gathered.is_full()
+            && (source_left || target_left)
+            && !(source_left && source.wants_page(&self.source))
+            && !(target_left && self.target.wants_page())
+    }
+
+    // Whether the entries of the next page are all there.
+    fn has_page(&self, source: &Source<A>, target: &Run<A>) -> bool
+        ensures yes { IsTrue result → HasNextPage source.now target.now self.now }
+        ensures no { result ≡ false → IsAtEnd source.now target.now self.now
+            → self.now.gathered ≡ [] }
+        ensures room { result ≡ false → length self.now.gathered ≢ page_entries self.now.shape }
+    {
+        if self.gathered.is_full() {
+            return true;
+        }
+        self.is_at_end(source, target) && !self.gathered.is_empty()
+    }
+
+    // What the next step does.
+    fn next(&self, out: &Run<A>, source: &Source<A>, target: &Run<A>) -> Next
+        ensures tells { Tells source.now target.now out.now self.now result }
+        ensures bound { length self.now.gathered ≤ page_entries self.now.shape }
+    {
+        if self.can_gather(source, target) {
+            return Next::Gather;
+        }
+        if self.has_page(source, target) {
+            if wants_block(out) {
+                return Next::TakeBlock;
+            }
+            return Next::Program;
+        }
+        if self.is_at_end(source, target) {
+            return Next::End;
+        }
+        if self.source.place() < source.entries() {
+            if source.wants_page(&self.source) {
+                return Next::LoadSource;
+            }
+        }
+        Next::LoadTarget
+    }
+
+    // Takes an entry of the source.
+    fn take_source(&mut self, level: u8, entry: Entry)
+        requires room { length self.old.gathered < page_entries self.old.shape }
+        requires place { suc self.old.source.place < 2 ^ 32 }
+        ensures { self.new ≡ takes_source level (seen entry) self.old }
+    {
+        self.gathered.keep(level, entry);
+        self.source.pass();
+    }
+
+    // Takes an entry of the target.
+    fn take_target(&mut self, level: u8, entry: Entry)
+        requires room { length self.old.gathered < page_entries self.old.shape }
+        requires place { suc self.old.target.place < 2 ^ 32 }
+        ensures { self.new ≡ takes_target level (seen entry) self.old }
+    {
+        self.gathered.keep(level, entry);
+        self.target.pass();
+    }
+
+    // Takes an entry of the source over one of the target.
+    fn take_both(&mut self, level: u8, entry: Entry)
+        requires room { length self.old.gathered < page_entries self.old.shape }
+        requires source { suc self.old.source.place < 2 ^ 32 }
+        requires target { suc self.old.target.place < 2 ^ 32 }
+        ensures { self.new ≡ takes_both level (seen entry) self.old }
+    {
+        self.gathered.keep(level, entry);
+        self.source.pass();
+        self.target.pass();
+    }
+
+    // Takes the entry that comes next: the one of the lower key, and of one key that of the source.
+    fn gather_one(&mut self, level: u8, source: &Source<A>, target: &Run<A>)
+        requires here { (flash : Flash) × (arena : Frames) × (es : List EntrySpec)
+            × (fs : List EntrySpec)
+            × StandsIn source.now target.now flash arena es fs self.old }
+        requires can { spec.can_gather source.now target.now self.old ≡ true }
+        requires bound { length self.old.gathered ≤ page_entries self.old.shape }
+        ensures goes_on { GoesOn source.now target.now level self.old self.new }
+        ensures taken { taken self.old < taken self.new }
+    {
+        self.source.known();
+        self.target.known();
+        let source_end = source.entries();
+        let target_end = target.entries();
+        if self.target.place() >= target_end {
+            let entry = source.head(&self.source);
+            self.take_source(level, entry);
+        } else if self.source.place() >= source_end {
+            let entry = self.target.head(target);
+            self.take_target(level, entry);
+        } else {
+            let upper = source.head(&self.source);
+            let lower = self.target.head(target);
+            match order_of(&upper, &lower) {
+                Ordering::Less => self.take_source(level, upper),
+                Ordering::Equal => self.take_both(level, upper),
+                Ordering::Greater => self.take_target(level, lower),
+            }
+        }
+    }
+
+    // Takes entries until a page is wanted for the next one, those of a page are taken, or none is left.
+    fn gather(&mut self, level: u8, source: &Source<A>, target: &Run<A>)
+        requires { (flash : Flash) × (arena : Frames) × (es : List EntrySpec)
+            × (fs : List EntrySpec)
+            × StandsIn source.now target.now flash arena es fs self.old }
+        ensures goes_on { GoesOn source.now target.now level self.old self.new }
+        ensures stuck { spec.can_gather source.now target.now self.new ≡ false }
+    {
+        while self.can_gather(source, target) {
+            self.gather_one(level, source, target);
+        }
+    }
+
+    // Does what comes next, with at most one call of the board.
+    fn act<B: Nand>(
+        &mut self,
+        next: Next,
+        out: &mut Run<A>,
+        pins: bool,
+        board: &mut B,
+        pool: &mut Pool<A>,
+        arena: &mut PinArena<A>,
+        source: &Source<A>,
+        target: &Run<A>,
+    ) -> Result<(), Fault>
+        requires ready { IsReady (B.state board.old) out.old.shape }
+        requires running { (es : List EntrySpec) × (fs : List EntrySpec)
+            × Running source.now target.now pins out.old self.old pool.old
+            (B.state board.old).pages arena.old es fs }
+        requires tells { Tells source.now target.now out.old self.old next }
+        requires bound { length self.old.gathered ≤ page_entries self.old.shape }
+        ensures acts { OnOk result (Acts source.now target.now pins out.old self.old pool.old
+            (B.state board.old) arena.old next out.new self.new pool.new
+            (B.state board.new) arena.new) }
+        ensures fails { IfErr result (λ fault. Fails source.now target.now out.old self.old
+            pool.old (B.state board.old) fault self.new (B.state board.new)) }
+        ensures kept { OnErr result
+            ((out.new ≡ out.old) × (pool.new ≡ pool.old) × (arena.new ≡ arena.old)) }
+        ensures ready { IsReady (B.state board.new) out.old.shape }
+    {
+        out.known();
+        match next {
+            Next::LoadSource => match self.load_source(board, arena, source) {
+                Ok(()) => Ok(()),
+                Err(fault) => Err(fault),
+            },
+            Next::LoadTarget => match self.load_target(board, arena, target) {
+                Ok(()) => Ok(()),
+                Err(fault) => Err(fault),
+            },
+            Next::TakeBlock => match take_block(out, board, pool) {
+                Ok(()) => Ok(()),
+                Err(fault) => Err(fault),
+            },
+            Next::Program => match self.program(out, pins, board, arena) {
+                Ok(()) => Ok(()),
+                Err(fault) => Err(fault),
+            },
+            Next::Gather => Ok(()),
+            Next::End => Ok(()),
+        }
+    }
+
+    // Loads the page at the source's cursor.
+    fn load_source<B: Nand>(
+        &mut self,
+        board: &mut B,
+        arena: &PinArena<A>,
+        source: &Source<A>,
+    ) -> Result<(), Fault>
+        requires ready { (shape : shapes.Shape) × IsOf shape source.now
+            × IsReady (B.state board.old) shape }
+        requires has { (es : List EntrySpec)
+            × Has source.now (B.state board.old).pages arena.now es }
+        requires follows { FollowsIn source.now (B.state board.old).pages self.old.source }
+        requires exists { self.old.source.place < count_of source.now }
+        requires wants { wants_page_in source.now self.old.source ≡ true }
+        ensures loads { OnOk result (LoadsSource source.now self.old (B.state board.old) self.new
+            (B.state board.new)) }
+        ensures kept { OnErr result (self.new ≡ record self.old
+            { source = record self.old.source { bytes = self.new.source.bytes } }) }
+        ensures follows { FollowsIn source.now (B.state board.old).pages self.new.source }
+        ensures reading { IfErr result (λ fault. fault ≡ Reading) }
+        ensures err { OnErr result (LookFails source.now self.old.source (B.state board.old)
+            (B.state board.new)) }
+        ensures same { (B.state board.new).pages ≡ (B.state board.old).pages }
+        ensures ready { (shape : shapes.Shape) → IsReady (B.state board.old) shape
+            → IsReady (B.state board.new) shape }
+    {
+        match source.load(&mut self.source, board, arena) {
+            Ok(()) => Ok(()),
+            Err(fault) => Err(fault),
+        }
+    }
+
+    // Loads the page at the target's cursor.
+    fn load_target<B: Nand>(
+        &mut self,
+        board: &mut B,
+        arena: &PinArena<A>,
+        target: &Run<A>,
+    ) -> Result<(), Fault>
+        requires ready { IsReady (B.state board.old) target.now.shape }
+        requires stands { (es : List EntrySpec)
+            × RunOnFlash target.now (B.state board.old).pages arena.now es }
+        requires follows { Follows (B.state board.old).pages target.now self.old.target }
+        requires exists { self.old.target.place < target.now.count }
+        requires wants { wants_page self.old.target ≡ true }
+        ensures loads { OnOk result (LoadsTarget target.now self.old (B.state board.old) self.new
+            (B.state board.new)) }
+        ensures kept { OnErr result (self.new ≡ record self.old
+            { target = record self.old.target { bytes = self.new.target.bytes } }) }
+        ensures follows { Follows (B.state board.old).pages target.now self.new.target }
+        ensures reading { IfErr result (λ fault. fault ≡ Reading) }
+        ensures err { OnErr result (ReadFailed (B.state board.old) (B.state board.new)
+            (page_of target.now (own_page self.old.target))) }
+        ensures same { (B.state board.new).pages ≡ (B.state board.old).pages }
+        ensures ready { IsReady (B.state board.new) target.now.shape }
+    {
+        match self.target.load(board, arena, target) {
+            Ok(()) => Ok(()),
+            Err(fault) => Err(fault),
+        }
+    }
+
+    // Programs the next page of the output.
+    fn program<B: Nand>(
+        &mut self,
+        out: &mut Run<A>,
+        pins: bool,
+        board: &mut B,
+        arena: &mut PinArena<A>,
+    ) -> Result<(), Fault>
+        requires ready { IsReady (B.state board.old) out.old.shape }
+        requires stands { (es : List EntrySpec)
+            × RunOnFlash out.old (B.state board.old).pages arena.old es }
+        requires output { IsOutput out.old (B.state board.old).pages }
+        requires place { length out.old.firsts
+            < length out.old.blocks * out.old.shape.block_pages }
+        requires room { length out.old.firsts < most_pages out.old }
+        requires full { out.old.count ≡ length out.old.firsts * page_entries out.old.shape }
+        requires content { IsContent out.old.shape out.old.level (length out.old.firsts)
+            self.old.gathered }
+        requires pinned { IsPinnedIf pins out.old }
+        requires free { pins ≡ true → 0 < free_frames arena.old }
+        requires frames { arena.old.page_bytes ≡ out.old.shape.page_bytes }
+        requires shape { self.old.shape ≡ out.old.shape }
+        ensures programmed { OnOk result (ProgramsPage pins out.old self.old.gathered
+            (B.state board.old) arena.old out.new (B.state board.new) arena.new) }
+        ensures taken { OnOk result (self.new ≡ record self.old { gathered = [] }) }
+        ensures stopped { IfErr result (λ e. e ≡ Stopped) }
+        ensures failed { OnErr result (FailsToProgram out.old self.old.gathered
+            (B.state board.old) (B.state board.new)) }
+        ensures kept { OnErr result ((out.new ≡ out.old) × (arena.new ≡ arena.old)) }
+        ensures same { OnErr result (self.new ≡ self.old) }
+        ensures ready { IsReady (B.state board.new) out.old.shape }
+    {
+        match program_page(
+            out,
+            self.gathered.entries(),
+            pins,
+            board,
+            arena,
+            &mut self.page,
+        ) {
+            Ok(()) => {
+                self.gathered.clear();
+                Ok(())
+            }
+            Err(fault) => Err(fault),
+        }
+    }
+
+    /// The next step, with at most one call of the board; true where every entry was taken, and none waits for its page.
+    ///
+    /// It acts first and takes entries afterwards, so a read that failed leaves all but a cursor's bytes.
+    pub fn step<B: Nand>(
+        &mut self,
+        out: &mut Run<A>,
+        pins: bool,
+        board: &mut B,
+        pool: &mut Pool<A>,
+        arena: &mut PinArena<A>,
+        source: &Source<A>,
+        target: &Run<A>,
+    ) -> Result<bool, Fault>
+        requires ready { IsReady (B.state board.old) out.old.shape }
+        requires running { (es : List EntrySpec) × (fs : List EntrySpec)
+            × Running source.now target.now pins out.old self.old pool.old
+            (B.state board.old).pages arena.old es fs }
+        ensures steps { OnOk result (Steps source.now target.now pins out.old self.old pool.old
+            (B.state board.old) arena.old out.new self.new pool.new
+            (B.state board.new) arena.new) }
+        ensures done { IfOk result (λ done. IsTrue done
+            ↔ IsDone source.now target.now self.new) }
+        ensures fails { IfErr result (λ fault. Fails source.now target.now out.old self.old
+            pool.old (B.state board.old) fault self.new (B.state board.new)) }
+        ensures kept { OnErr result
+            ((out.new ≡ out.old) × (pool.new ≡ pool.old) × (arena.new ≡ arena.old)) }
+        ensures ready { IsReady (B.state board.new) out.old.shape }
+    {
+        out.known();
+        let next = self.next(out, source, target);
+        match self.act(next, out, pins, board, pool, arena, source, target) {
+            Ok(()) => {
+                self.gather(out.level(), source, target);
+                Ok(self.is_done(source, target))
+            }
+            Err(fault) => Err(fault),
+        }
+    }
+}
+
+// How the keys of two entries stand to each other.
+fn order_of(a: &Entry, b: &Entry) -> Ordering
+    ensures { result ≡ key_cmp (key_of (seen a.now)) (key_of (seen b.now)) }
+{
+    compare(a.key(), b.key())
+}

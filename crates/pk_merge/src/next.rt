@@ -1,0 +1,18 @@
+//! What a merge does next.
+
+/// The one action of a step.
+#[derive(Clone, Copy, Debug, PartialEq, Eq)]
+pub enum Next {
+    /// Loads the page at the source's cursor.
+    LoadSource,
+    /// Loads the page at the target's cursor.
+    LoadTarget,
+    /// Takes the entries that can be told, with no call of the flash.
+    Gather,
+    /// Takes a block for the next page.
+    TakeBlock,
+    /// Programs the next page.
+    Program,
+    /// Nothing is left.
+    End,
+}

@@ -1,0 +1,127 @@
+//! The output's blocks and pages.
+ghost use Rattle.std.specs.Prelude.{◌≡◌, ◌*◌, ◌<◌, ◌==◌, List, true, length, IfErr, OnOk, OnErr};
+ghost use Rattle.pk_base.specs.Shape.{page_entries};
+ghost use Rattle.pk_base.specs.Entry.{Entry as EntrySpec};
+ghost use Rattle.pk_base.specs.Seen.{entries as seen_all};
+ghost use Rattle.pk_meta.specs.Page.{IsContent};
+ghost use Rattle.pk_nand.specs.Calls.{IsReady};
+ghost use Rattle.pk_nand.specs.declared.types.Fault.TheVariants.{Stopped};
+ghost use Rattle.pk_pin.specs.Frames.{free_frames};
+ghost use Rattle.pk_plan.specs.declared.owner.Owner.TheVariants.{Meta};
+ghost use Rattle.pk_plan.specs.Quotas.{quota_of};
+ghost use Rattle.pk_pool.specs.Blocks.{PoolOnFlash, used_by};
+ghost use Rattle.pk_pool.specs.Taking.{FailsToErase};
+ghost use Rattle.pk_run.specs.Kept.{RunOnFlash, most_pages, most_blocks};
+ghost use Rattle.pk_level.specs.Arenas.{IsPinnedIf};
+ghost use Rattle.pk_merge.specs.Outputs.{IsOutput, TakesBlock, ProgramsPage, FailsToProgram, KeepsPage};
+
+use pk_base::Entry;
+use pk_meta::encode;
+use pk_nand::{Fault, Nand};
+use pk_pin::{Lease, PinArena};
+use pk_pool::{Owner, Pool};
+use pk_run::Run;
+use pk_seg::write_page;
+use std::alloc::Allocator;
+
+/// Whether each page of the run's blocks is used.
+pub fn wants_block<A: Allocator>(out: &Run<A>) -> bool
+    ensures { result ≡ (length out.now.firsts
+        == length out.now.blocks * out.now.shape.block_pages) }
+{
+    out.known();
+    out.pages() == out.blocks().len() as u32 * out.shape().block_pages()
+}
+
+/// Takes a block for the next page, by at most one erase. `Stopped` where it fails, and all is as before.
+pub fn take_block<B: Nand, A: Allocator>(
+    out: &mut Run<A>,
+    board: &mut B,
+    pool: &mut Pool<A>,
+) -> Result<(), Fault>
+    requires shape { pool.old.shape ≡ out.old.shape }
+    requires ready { IsReady (B.state board.old) pool.old.shape }
+    requires fits { PoolOnFlash pool.old (B.state board.old).pages }
+    requires below { used_by Meta pool.old.states < quota_of pool.old.shape Meta }
+    requires room { length out.old.blocks < most_blocks out.old }
+    ensures taken { OnOk result (TakesBlock pool.old out.old (B.state board.old) pool.new out.new
+        (B.state board.new)) }
+    ensures stopped { IfErr result (λ e. e ≡ Stopped) }
+    ensures failed { OnErr result
+        (FailsToErase pool.old (B.state board.old) (B.state board.new)) }
+    ensures kept { OnErr result ((out.new ≡ out.old) × (pool.new ≡ pool.old)) }
+    ensures ready { IsReady (B.state board.new) pool.new.shape }
+    ensures shape { pool.new.shape ≡ pool.old.shape }
+    ensures fits { PoolOnFlash pool.new (B.state board.new).pages }
+{
+    pool.known();
+    match pool.take(board, Owner::Meta) {
+        Ok(block) => {
+            out.push_block(block as u16);
+            Ok(())
+        }
+        Err(fault) => Err(fault),
+    }
+}
+
+// Keeps the bytes of a page in a free frame, where one is wanted.
+fn keep_page<A: Allocator>(arena: &mut PinArena<A>, pins: bool, bytes: &[u8]) -> Option<Lease>
+    requires free { pins ≡ true → 0 < free_frames arena.old }
+    requires sized { length bytes.now ≡ arena.old.page_bytes }
+    ensures { KeepsPage pins arena.old arena.new bytes.now result }
+{
+    if !pins {
+        return None;
+    }
+    match arena.take() {
+        Some(lease) => {
+            arena.fill(&lease, bytes);
+            Some(lease)
+        }
+        None => unreachable!(),
+    }
+}
+
+/// Programs the next page with these entries, and keeps it in a frame where one is wanted. `Stopped` where the program fails, and
+/// all is as before. `buf` has a page's bytes, which are lost.
+pub fn program_page<B: Nand, A: Allocator>(
+    out: &mut Run<A>,
+    entries: &[Entry],
+    pins: bool,
+    board: &mut B,
+    arena: &mut PinArena<A>,
+    buf: &mut [u8],
+) -> Result<(), Fault>
+    requires ready { IsReady (B.state board.old) out.old.shape }
+    requires stands { (es : List EntrySpec)
+        × RunOnFlash out.old (B.state board.old).pages arena.old es }
+    requires output { IsOutput out.old (B.state board.old).pages }
+    requires place { length out.old.firsts < length out.old.blocks * out.old.shape.block_pages }
+    requires room { length out.old.firsts < most_pages out.old }
+    requires full { out.old.count ≡ length out.old.firsts * page_entries out.old.shape }
+    requires content { IsContent out.old.shape out.old.level (length out.old.firsts)
+        (seen_all entries.now) }
+    requires pinned { IsPinnedIf pins out.old }
+    requires free { pins ≡ true → 0 < free_frames arena.old }
+    requires frames { arena.old.page_bytes ≡ out.old.shape.page_bytes }
+    requires sized { length buf.old ≡ out.old.shape.page_bytes }
+    ensures programmed { OnOk result (ProgramsPage pins out.old (seen_all entries.now)
+        (B.state board.old) arena.old out.new (B.state board.new) arena.new) }
+    ensures stopped { IfErr result (λ e. e ≡ Stopped) }
+    ensures failed { OnErr result (FailsToProgram out.old (seen_all entries.now)
+        (B.state board.old) (B.state board.new)) }
+    ensures kept { OnErr result ((out.new ≡ out.old) × (arena.new ≡ arena.old)) }
+    ensures ready { IsReady (B.state board.new) out.old.shape }
+{
+    out.known();
+    let index = out.pages();
+    encode(&out.shape(), out.level(), index, entries, buf);
+    match write_page(board, out.page(index), buf) {
+        Ok(()) => {
+            let lease = keep_page(arena, pins, buf);
+            out.push_page(entries[0].key().copy(), lease, entries.len() as u32);
+            Ok(())
+        }
+        Err(fault) => Err(fault),
+    }
+}

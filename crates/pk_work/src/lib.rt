@@ -1,0 +1,59 @@
+//! How much work is left in the background, and how many calls of the flash a command makes: definitions, and laws
+//! over them, each the contract of a function that does nothing.
+#![tactic(auto)]
+
+ghost use Rattle.pk_work.specs.Laws.{WorkMost, MergingMost, MergeMoves, MergeEnds, FreezeMoves, FreezeEnds, Reclaims, Erases, RoomForMoves, FrozenIsRoom, LightVictim, RoomBehind, MergeWithin, MergePrograms, MergeTakes, FreezeWithin, FreezeTakes, ReclaimWithin, ReclaimReads, ReclaimPrograms, FewPages, FewBlocks};
+ghost use Rattle.pk_work.specs.Calls.{CallsMost};
+
+/// There are never more background steps left than four times the most calls of a command, and two for each block.
+pub fn bounds()
+    ensures work { WorkMost }
+    ensures merging { MergingMost }
+{}
+
+/// Each step of a merge lowers the work, and behind the end of one the merge into the level above it is due, or none.
+pub fn merges()
+    ensures moves { MergeMoves }
+    ensures ends { MergeEnds }
+{}
+
+/// Each step of a freeze lowers the work, with the merges that are due behind it.
+#[tactic(auto, unfolding(crate::specs::Work::work, crate::specs::Backlog::due_level))]
+pub fn freezes()
+    ensures moves { FreezeMoves }
+    ensures ends { FreezeEnds }
+{}
+
+/// Each step of a reclaim lowers the work, and so does an erase of a free block.
+#[tactic(auto, unfolding(crate::specs::Work::work, crate::specs::Backlog::due_level))]
+pub fn reclaims()
+    ensures steps { Reclaims }
+    ensures erases { Erases }
+    ensures room { RoomForMoves }
+    ensures frozen { FrozenIsRoom }
+    ensures victim { LightVictim }
+    ensures behind { RoomBehind }
+{}
+
+/// What a job has left, by how far it has come.
+pub fn jobs()
+    ensures merge { MergeWithin }
+    ensures merge_programs { MergePrograms }
+    ensures merge_takes { MergeTakes }
+    ensures freeze { FreezeWithin }
+    ensures freeze_takes { FreezeTakes }
+    ensures reclaim { ReclaimWithin }
+    ensures reclaim_reads { ReclaimReads }
+    ensures reclaim_programs { ReclaimPrograms }
+{}
+
+/// How many pages and blocks a run takes.
+pub fn pages()
+    ensures few { FewPages }
+    ensures few_blocks { FewBlocks }
+{}
+
+/// No command makes more calls of the flash than its parts can, and these come to the most calls of a command.
+pub fn commands()
+    ensures { CallsMost }
+{}
