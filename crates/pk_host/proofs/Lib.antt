@@ -1,0 +1,9 @@
+pub mod CompletionLemmas
+pub mod CommandLemmas
+pub mod CallLemmas
+pub mod ReadLemmas
+pub mod SpellingLemmas
+pub mod RisingLemmas
+pub mod PageLemmas
+pub mod FetchLemmas
+pub mod CauseLemmas

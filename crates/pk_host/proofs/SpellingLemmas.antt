@@ -1,0 +1,107 @@
+-- The keys that a List spells are read back.
+use Rattle.std.proofs.Common.{◌≡◌, ℕ, ◌+◌, ◌-◌, ◌*◌, ◌%◌, ◌≤◌, min, if◌then◌else◌, List, [], ◌∷◌, ◌++◌, length, take, drop, filter, map, flat_map, replicate, Bool, true, false, not, ◌&&◌, nat_le, Some, None, refl, ap, ◌∙◌, arith, append_assoc, length-append}
+use Rattle.std.proofs.lemmas.List.{take_at, length-replicate}
+use Rattle.std.proofs.lemmas.Bool.{le-leb, leb-true}
+use Rattle.std.specs.List.{AllByRecursion}
+use Rattle.std.specs.Ordering.{is_lt}
+use Rattle.std.specs.FinMap.{keys, entries}
+use Rattle.pk_base.specs.Key.{Key, IsKey, key_cmp}
+use Rattle.pk_base.specs.Fields.{AreBytes, u16, u16_at, u32_at}
+use Rattle.pk_base.specs.Shape.{Shape}
+use Rattle.pk_base.specs.Map.{Map, IsMap, keys_from}
+use Rattle.pk_base.proofs.Tables.{stands_number}
+use Rattle.pk_model.specs.Answer.{listed, fitting, list_bytes}
+use Rattle.pk_host.specs.declared.sizes.TheConstants.{MOST_KEYS}
+use Rattle.pk_host.specs.Listing.{list_room, first_key, and_then, keys_in, keys_of}
+
+drop_front : (a b : List ℕ) → drop (length a) (a ++ b) ≡ b
+drop_front [] b = refl
+drop_front (x ∷ a) b = drop_front a b
+
+-- ---- one key
+
+size_at : (k : Key) (rest : List ℕ) → IsKey k → u16_at (listed k ++ rest) 0 ≡ length k
+size_at k rest h = stands_number 2 0 (length k) _ (listed k ++ rest) (append_assoc (u16 (length k)) _ rest) (omega (arith, h.most))
+
+bytes_at : (k : Key) (rest : List ℕ) → take (length k) (drop 2 (listed k ++ rest)) ≡ k
+bytes_at k rest = ap (take (length k)) (append_assoc k _ rest) ∙ take_at k _ (length k) refl
+
+room_at : (k : Key) (rest : List ℕ) → 2 + length k ≤ length (listed k ++ rest)
+room_at k rest =
+    let a = length-append (listed k) rest in
+    let b = length-append k (replicate ((6 - (length k % 4)) % 4) 0) in
+    omega (arith, a, b)
+
+first_listed : (k : Key) (rest : List ℕ) → IsKey k → first_key (listed k ++ rest) ≡ Some k
+first_listed k rest h =
+    let bytes : List ℕ = listed k ++ rest in
+    let size = size_at k rest h in
+    let fits : (nat_le 1 (u16_at bytes 0) && nat_le (u16_at bytes 0) 16 && nat_le (2 + u16_at bytes 0) (length bytes)) ≡ true =
+    ap (λ (n : ℕ). nat_le 1 n && nat_le n 16 && nat_le (2 + n) (length bytes)) size
+    ∙ rw (le-leb 1 (length k) h.some, le-leb (length k) 16 h.most, le-leb (2 + length k) (length bytes) (room_at k rest)) refl in
+    ap (λ b. if b then Some (take (u16_at bytes 0) (drop 2 bytes)) else None) fits ∙ ap (λ (n : ℕ). Some (take n (drop 2 bytes))) size ∙ ap (λ (x : Key). Some x) (bytes_at k rest)
+
+-- ---- all keys
+
+pub keys_in-listed : (ks : List Key) → AllByRecursion IsKey ks → keys_in (length ks) (flat_map listed ks) ≡ ks
+keys_in-listed [] h = refl
+keys_in-listed (k ∷ ks) h =
+    ap (λ o. and_then o (λ key. keys_in (length ks) (drop (length (listed key)) (listed k ++ flat_map listed ks)))) (first_listed k (flat_map listed ks) h.0)
+    ∙ ap (λ (xs : List ℕ). k ∷ keys_in (length ks) xs) (drop_front (listed k) (flat_map listed ks))
+    ∙ ap (λ (xs : List Key). k ∷ xs) (keys_in-listed ks h.1)
+
+-- the data of a List give its keys
+pub keys_of-list_bytes : (ks : List Key) → AllByRecursion IsKey ks → length ks ≤ MOST_KEYS → keys_of (list_bytes ks) ≡ ks
+keys_of-list_bytes ks h few =
+    let count : u32_at (list_bytes ks) 0 ≡ length ks = stands_number 4 0 (length ks) (flat_map listed ks) (list_bytes ks) refl (omega (arith, few)) in
+    let all : min (u32_at (list_bytes ks) 0) MOST_KEYS ≡ length ks = omega (arith, count, few) in
+    ap (λ (n : ℕ). keys_in n (flat_map listed ks)) all ∙ keys_in-listed ks h
+
+-- ---- how many keys fit
+
+pub listed_least : (k : Key) → IsKey k → (4 ≤ length (listed k)) × (length (listed k) ≤ 20)
+listed_least k h =
+    let a = length-append k (replicate ((6 - (length k % 4)) % 4) 0) in
+    let b = length-replicate {A = ℕ} ((6 - (length k % 4)) % 4) 0 in
+    (omega (arith, a, b, h.some), omega (arith, a, b, h.most))
+
+pub fitting_all : (room : ℕ) (ks : List Key) → AllByRecursion IsKey ks → AllByRecursion IsKey (fitting room ks)
+fitting_all room [] h = tt
+fitting_all room (k ∷ ks) h = elim (nat_le (length (listed k)) room) as (λ b. AllByRecursion IsKey (if b then k ∷ fitting (room - length (listed k)) ks else [])) [
+  | true ↦ (h.0, fitting_all (room - length (listed k)) ks h.1)
+  | false ↦ tt
+]
+
+pub fitting_few : (room : ℕ) (ks : List Key) → AllByRecursion IsKey ks → 4 * length (fitting room ks) ≤ room
+fitting_few room [] h = omega arith
+fitting_few room (k ∷ ks) h = elim (nat_le (length (listed k)) room) as (λ b. nat_le (length (listed k)) room ≡ b → 4 * length (if b then k ∷ fitting (room - length (listed k)) ks else []) ≤ room) [
+  | true ↦ λ e.
+      let fits = leb-true (length (listed k)) room e in
+      let rest = fitting_few (room - length (listed k)) ks h.1 in
+      let least = (listed_least k h.0).0 in
+      omega (arith, fits, rest, least)
+  | false ↦ λ e. omega arith
+] refl
+
+-- ---- the keys of a map
+
+pub filter_all : (p : Key → Bool) (ks : List Key) → AllByRecursion IsKey ks → AllByRecursion IsKey (filter p ks)
+filter_all p [] h = tt
+filter_all p (k ∷ ks) h = elim (p k) as (λ b. AllByRecursion IsKey (if b then k ∷ filter p ks else filter p ks)) [
+  | true ↦ (h.0, filter_all p ks h.1)
+  | false ↦ filter_all p ks h.1
+]
+
+names_all : (es : List (Key × List ℕ)) → AllByRecursion (λ e. IsKey e.0 × AreBytes e.0) es → AllByRecursion IsKey (map (λ e. e.0) es)
+names_all [] h = tt
+names_all (e ∷ es) h = (h.0.0, names_all es h.1)
+
+pub are_keys : (shape : Shape) (m : Map) → IsMap shape m → AllByRecursion IsKey (keys m)
+are_keys shape m h = names_all (entries m) h.keys
+
+-- the data of one List, read back
+pub read_back : (shape : Shape) (m : Map) (from : Key) → IsMap shape m → keys_of (list_bytes (fitting list_room (keys_from from m))) ≡ fitting list_room (keys_from from m)
+read_back shape m from h =
+    let all : AllByRecursion IsKey (keys_from from m) = filter_all (λ k. not (is_lt (key_cmp k from))) (keys m) (are_keys shape m h) in
+    let few = fitting_few list_room (keys_from from m) all in
+    keys_of-list_bytes (fitting list_room (keys_from from m)) (fitting_all list_room (keys_from from m) all) (omega (arith, few))

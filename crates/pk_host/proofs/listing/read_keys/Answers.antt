@@ -1,0 +1,9 @@
+use Rattle.std.proofs.Common.{sym}
+use Rattle.pk_host.proofs.ReadLemmas.{stops, goes_on}
+use Rattle.pk_host.proofs.listing.read_keys.Goals as goal
+
+pub returns-in-None : goal.returns-in-None
+returns-in-None c = stops _ _ _ _ _ _ c.loop-i.invariant (sym c.in-None.ensures)
+
+pub loop-i-preserved : goal.loop-i-preserved
+loop-i-preserved c = goes_on _ _ _ _ _ _ _ _ _ c.loop-i-test.true c.loop-i.invariant (sym c.in-Some.ensures) c.listed_size-at.ensures.size c.listed_size-at.ensures.most c.offer.ensures.keys c.offer.ensures.most

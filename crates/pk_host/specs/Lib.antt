@@ -1,0 +1,5 @@
+pub mod Port
+pub mod Calls
+pub mod Listing
+pub mod Received
+pub mod TookLaws

@@ -1,0 +1,79 @@
+-- Ports: what a host sees of a drive that it hands one command after another.
+use Rattle.std.specs.Prelude.{◌≡◌, ◌⊎◌, ℕ, ◌≤◌, ◌<◌, ◌^◌, List, [], ◌∷◌, length, take, Option, Some, None}
+use Rattle.pk_base.specs.Shape.{Shape}
+use Rattle.pk_base.specs.Map.{Map, IsMap, live}
+use Rattle.pk_nvme.specs.declared.opcode.Opcode.{Opcode}
+use Rattle.pk_nvme.specs.declared.opcode.Opcode.TheVariants.{Retrieve, List as ListKeys, Report}
+use Rattle.pk_nvme.specs.declared.status.TheConstants.{UNRECOVERED_ERROR}
+use Rattle.pk_nvme.specs.Opcode.{op_of}
+use Rattle.pk_nvme.specs.Command.{Command}
+use Rattle.pk_nvme.specs.Reply.{Reply, completion}
+use Rattle.pk_nand.specs.Calls.{Rose}
+use Rattle.pk_model.specs.Answer.{map_after}
+use Rattle.pk_model.specs.Run.{StepIn}
+use Rattle.pk_host.specs.declared.types.Completed.{Completed}
+
+-- the map of the drive, where it is told; its shape and its limit of live pages; and the counts of failed calls and failed reads
+pub record PortState : Type 0 where
+  pub map : Option Map
+  pub shape : Shape
+  pub limit : ℕ
+  pub port_faults : ℕ
+  pub read_faults : ℕ
+
+-- a map of the drive's shape, and its values lie within the limit
+pub record IsWithin (p : PortState) (m : Map) : Type 0 where
+  pub sized : IsMap p.shape m
+  pub few : live p.shape m ≤ p.limit
+
+-- ---- one command
+
+-- the bytes of the buffer that a command needs: for a front, for keys, for sixteen numbers
+abbrev pub room_for : ℕ → Option Opcode → ℕ
+room_for size (Some Retrieve) = size
+room_for size (Some ListKeys) = size
+room_for size (Some Report) = 64
+room_for size _ = 0
+
+abbrev pub room_of : Command → ℕ
+room_of c = room_for c.size (op_of c.opcode)
+
+-- from this map on: the reply is that of the definition, and so is the map that is left
+pub record Steps (old new : PortState) (c : Command) (a : Reply) (m : Map) : Type 0 where
+  pub within : IsWithin old m
+  pub frames : ℕ
+  pub left : Map
+  pub stepped : StepIn old.shape old.limit frames m c a left
+  pub told : new.map ≡ Some left
+
+-- the command was answered so
+pub record Replies (old new : PortState) (c : Command) (a : Reply) : Type 0 where
+  pub status_size : a.status < 256
+  pub result_size : a.result < 2 ^ 32
+  pub answers : (m : Map) → old.map ≡ Some m → Steps old new c a m
+  pub unread : a.status ≡ UNRECOVERED_ERROR → Rose old.read_faults new.read_faults
+
+-- the completion entry of that answer behind some number of entries, and its data in the front of the buffer
+pub record Completes (old new : PortState) (c : Command) (done : Completed) (into : List ℕ) : Type 0 where
+  pub head : ℕ
+  pub reply : Reply
+  pub entry : done.entry ≡ completion c.cid head reply.status reply.result
+  pub fits : done.data_len ≤ length into
+  pub front : reply.data_bytes ≡ take done.data_len into
+  pub replies : Replies old new c reply
+
+-- ---- commands one after another
+
+-- the map after some of these commands, in their order
+abbrev pub LeftBySome : Shape → ℕ → Map → List Command → Map → Type 0
+LeftBySome shape most m [] m' = m' ≡ m
+LeftBySome shape most m (c ∷ cs) m' = LeftBySome shape most m cs m' ⊎ LeftBySome shape most (map_after shape most m c) cs m'
+
+-- what stays, and what may have changed, where these commands took a port to another
+pub record Took (old new : PortState) (cs : List Command) : Type 0 where
+  pub shape : new.shape ≡ old.shape
+  pub limit : new.limit ≡ old.limit
+  pub port_faults : old.port_faults ≤ new.port_faults
+  pub read_faults : old.read_faults ≤ new.read_faults
+  pub untold : old.map ≡ None → new.map ≡ None
+  pub told : (m : Map) → old.map ≡ Some m → (m' : Map) × (new.map ≡ Some m') × LeftBySome old.shape old.limit m cs m'

@@ -1,0 +1,98 @@
+//! One command, and the reply that its completion tells.
+ghost use Rattle.std.specs.Prelude.{◌≡◌, ◌≤◌, ◌<◌, ◌^◌, ℕ, List, [], ◌∷◌, length, take, IfOk, IfErr};
+ghost use Rattle.pk_nvme.specs.Command.{value_size};
+ghost use Rattle.pk_nvme.specs.Reply.{completion};
+ghost use Rattle.pk_nvme.specs.Seen.{command_of};
+ghost use Rattle.pk_nand.specs.Calls.{Rose};
+ghost use Rattle.pk_host.specs.Calls.{of_key};
+ghost use Rattle.pk_host.specs.Port.{Replies, room_of};
+ghost use Rattle.pk_host.specs.Received.{replied};
+
+use crate::port::Port;
+use crate::types::HostError;
+use pk_base::{KEY_BYTES, get_u16, get_u32};
+use pk_nvme::Request;
+use pk_nvme::limits::NAMESPACE;
+
+/// A command but for its key and value: which it is, its size in bytes, and its options.
+#[derive(Clone, Copy)]
+pub struct Asked {
+    pub opcode: u8,
+    pub size: u32,
+    pub options: u8,
+}
+
+/// What a completion tells: the status, the result, and how many bytes of data stand in the front of the buffer.
+#[derive(Clone, Copy)]
+pub struct Received {
+    pub status: u8,
+    pub result: u32,
+    pub len: u32,
+}
+
+/// The request in the drive's namespace for these bytes of key.
+fn request_of(asked: Asked, key: &[u8]) -> Request
+    requires { length key.now ≤ KEY_BYTES }
+    ensures { (value : List ℕ) → command_of result value
+        ≡ of_key asked.opcode key.now asked.size asked.options value }
+{
+    let mut place = [0u8; KEY_BYTES];
+    place[..key.len()].copy_from_slice(key);
+    Request {
+        opcode: asked.opcode,
+        cid: 0,
+        namespace: NAMESPACE,
+        key_len: key.len() as u8,
+        key: place,
+        size: asked.size,
+        options: asked.options,
+    }
+}
+
+/// The status of a completion.
+fn status_of(entry: &[u8; 16]) -> u8
+    ensures { (cid head status field : ℕ) → entry.now ≡ completion cid head status field
+        → status < 256 → result ≡ status }
+{
+    (get_u16(entry, 14) / 2 % 256) as u8
+}
+
+/// The result of a completion.
+fn result_of(entry: &[u8; 16]) -> u32
+    ensures { (cid head status field : ℕ) → entry.now ≡ completion cid head status field
+        → field < 2 ^ 32 → result ≡ field }
+{
+    get_u32(entry, 0)
+}
+
+/// Hands over a command for these bytes of key, and tells the reply.
+pub fn ask<P: Port>(
+    port: &mut P,
+    asked: Asked,
+    key: &[u8],
+    value: &[u8],
+    into: &mut [u8],
+) -> Result<Received, HostError>
+    requires key { length key.now ≤ KEY_BYTES }
+    requires whole { length value.now
+        ≡ value_size (of_key asked.opcode key.now asked.size asked.options value.now) }
+    requires room { room_of (of_key asked.opcode key.now asked.size asked.options value.now)
+        ≤ length into.old }
+    ensures replies { IfOk result (λ r. Replies (P.state port.old) (P.state port.new)
+        (of_key asked.opcode key.now asked.size asked.options value.now) (replied r into.new)) }
+    ensures fits { IfOk result (λ r. r.len ≤ length into.new) }
+    ensures fault { IfErr result (λ e. (e ≡ HostError.Port)
+        × Rose (P.state port.old).port_faults (P.state port.new).port_faults) }
+    ensures took { P.took port.old
+        (of_key asked.opcode key.now asked.size asked.options value.now ∷ []) port.new }
+{
+    let request = request_of(asked, key);
+    match port.submit(&request.entry(), value, into) {
+        Ok(done) => Ok(Received {
+            status: status_of(&done.entry),
+            result: result_of(&done.entry),
+            len: done.data_len,
+        }),
+        Err(_) => Err(HostError::Port),
+    }
+}

@@ -1,0 +1,19 @@
+//! Typed calls of a host over the port of a drive: store, retrieve, delete, look, and list keys.
+//!
+//! Each call says what the definition answers over the port's map, and which commands took the port.
+#![tactic(auto)]
+
+mod ask;
+mod host;
+mod key_page;
+mod listing;
+mod lists;
+mod port;
+mod sizes;
+mod types;
+mod whole;
+
+pub use host::Host;
+pub use key_page::KeyPage;
+pub use port::Port;
+pub use types::{Completed, HostError, PortFault, StoreRule};

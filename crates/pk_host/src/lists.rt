@@ -1,0 +1,92 @@
+//! Pages of keys, and all keys.
+ghost use Rattle.std.specs.Prelude.{◌≡◌, ◌≤◌, [], ◌∷◌, ◌++◌, length, true, OnOk, OnErr, IfOk, IfErr};
+ghost use Rattle.std.specs.Option.{option_copied};
+ghost use Rattle.pk_host.specs.Calls.{IsCause, Gives, list_of, Leaves, AreLists, TookSome};
+ghost use Rattle.pk_host.specs.Listing.{Pages, Follows, TellsKeys, ListsAll, listed_by, start_of};
+
+use crate::host::Host;
+use crate::key_page::KeyPage;
+use crate::port::Port;
+use crate::types::HostError;
+use pk_base::{KEY_BYTES, Key};
+use std::alloc::Global;
+
+/// The bytes of a key; none where there is no key.
+fn start_bytes(from: Option<&Key>) -> &[u8]
+    ensures bytes { result.now ≡ start_of (option_copied from.entry) }
+    ensures short { length result.now ≤ KEY_BYTES }
+{
+    match from {
+        Some(key) => key.bytes(),
+        None => &[],
+    }
+}
+
+/// Adds the keys of a page to a list; false where memory is missing.
+fn add(all: &mut Vec<Key>, page: &KeyPage) -> bool
+    ensures { result ≡ true → all.new.items ≡ all.old.items ++ page.now }
+{
+    let len = page.len();
+    for i in 0..len {
+        if all.push(page.at(i).copy()).is_err() {
+            return false;
+        }
+    }
+    true
+}
+
+impl Host {
+    /// Fills a page with the keys after this one, from the first where there is none, as many as one List of 65,536 bytes gives;
+    /// false exactly where no key follows, with an empty page. `Refused` where a read failed, `Port` where the port did.
+    pub fn list_page<P: Port>(
+        &mut self,
+        port: &mut P,
+        from: Option<&Key>,
+        each: &mut KeyPage,
+    ) -> Result<bool, HostError>
+        ensures gives { Gives (P.state port.old) (P.state port.new)
+            (list_of (start_of (option_copied from.entry))) (listed_by each.new) result }
+        ensures causes { IfErr result (λ e. IsCause (P.state port.old) (P.state port.new)
+            (listed_by []) e) }
+        // The keys.
+        ensures pages { OnOk result
+            (Pages (P.state port.old) (start_of (option_copied from.entry)) each.new) }
+        ensures follows { IfOk result (λ more.
+            Follows (P.state port.old) (start_of (option_copied from.entry)) more) }
+        ensures known { OnOk result (TellsKeys (P.state port.old)) }
+        ensures empty { OnErr result (each.new ≡ []) }
+        // The port.
+        ensures leaves { Leaves (P.state port.old) (P.state port.new) (λ m. m) }
+        ensures took { P.took port.old (list_of (start_of (option_copied from.entry)) ∷ [])
+            port.new }
+    {
+        self.page_from(port, start_bytes(from), each)
+    }
+
+    /// Every key, rising. `Refused` where a read failed, `Port` where the port did, `Memory` where it is missing for the keys.
+    pub fn list_all<P: Port>(&mut self, alloc: Global, port: &mut P) -> Result<Vec<Key>, HostError>
+        ensures lists { IfOk result (λ all. ListsAll (P.state port.old) all.items) }
+        ensures causes { IfErr result (λ e. IsCause (P.state port.old) (P.state port.new)
+            (listed_by []) e) }
+        ensures leaves { Leaves (P.state port.old) (P.state port.new) (λ m. m) }
+        ensures took { TookSome P.took AreLists port.old port.new }
+    {
+        let mut page = match KeyPage::new(alloc) {
+            Ok(page) => page,
+            Err(_) => return Err(HostError::Memory),
+        };
+        let mut all = Vec::new(alloc);
+        for _ in 0..u64::MAX {
+            match self.list_page(port, all.last(), &mut page) {
+                Err(error) => return Err(error),
+                Ok(false) => return Ok(all),
+                Ok(true) => {
+                    if !add(&mut all, &page) {
+                        return Err(HostError::Memory);
+                    }
+                }
+            }
+        }
+        Err(HostError::Memory)
+    }
+}

@@ -1,0 +1,143 @@
+-- The replies of a machine in memory: their data fit the buffer that is asked for, and none is a read error.
+use Rattle.std.proofs.Common.{◌≡◌, ◌≢◌, ℕ, ◌+◌, ◌-◌, ◌≤◌, ◌==◌, min, refl, sym, ap, subst, ◌∙◌, arith, Bool, true, false, not, ◌&&◌, ◌||◌, nat_le, if◌then◌else◌, List, [], ◌∷◌, ◌++◌, length, take, flat_map, Option, Some, None, unwrap_or, length-append}
+use Rattle.std.proofs.lemmas.Bool.{leb-true, eq-eqb}
+use Rattle.std.proofs.lemmas.List.{length-take}
+use Rattle.std.specs.FinMap.{get, contains_key}
+use Rattle.pk_base.specs.Key.{Key}
+use Rattle.pk_base.specs.Fields.{u32}
+use Rattle.pk_base.specs.Shape.{Shape, greatest}
+use Rattle.pk_base.specs.Map.{Map, keys_from}
+use Rattle.pk_nvme.specs.declared.opcode.Opcode.{Opcode}
+use Rattle.pk_nvme.specs.declared.opcode.Opcode.TheVariants.{Flush, Store, Retrieve, List as ListKeys, Delete, Exist, Tick, Report}
+use Rattle.pk_nvme.specs.declared.limits.TheConstants.{COUNT_BYTES}
+use Rattle.pk_nvme.specs.declared.status.TheConstants.{SUCCESSFUL_COMPLETION, INVALID_COMMAND_OPCODE, INVALID_FIELD_IN_COMMAND, INVALID_NAMESPACE_OR_FORMAT, CAPACITY_EXCEEDED, INVALID_VALUE_SIZE, INVALID_KEY_SIZE, KEY_DOES_NOT_EXIST, UNRECOVERED_ERROR, KEY_EXISTS}
+use Rattle.pk_nvme.specs.Opcode.{op_of}
+use Rattle.pk_nvme.specs.Command.{Command, key, must_exist, must_be_new}
+use Rattle.pk_nvme.specs.Reply.{Reply}
+use Rattle.pk_model.specs.Answer.{first_of, check, is_namespace, is_key_length, size_fault, fault_of, early, late_of, live_after, refused, reply, reply_of, listed, fitting, list_bytes}
+use Rattle.pk_model.specs.Machine.{no_numbers}
+use Rattle.pk_model.proofs.Answering.{refuses_with, serves, list_sized}
+use Rattle.pk_host.specs.Port.{room_for, room_of}
+use Rattle.pk_host_tests.proofs.LeftLemmas.{first_none}
+
+-- ---- what fits
+
+fitting_bytes : (room : ℕ) (ks : List Key) → length (flat_map listed (fitting room ks)) ≤ room
+fitting_bytes room [] = omega arith
+fitting_bytes room (k ∷ ks) = elim (nat_le (length (listed k)) room) as (λ b. nat_le (length (listed k)) room ≡ b → length (flat_map listed (if b then k ∷ fitting (room - length (listed k)) ks else [])) ≤ room) [
+  | true ↦ λ e.
+      let fits = leb-true (length (listed k)) room e in
+      let rest = fitting_bytes (room - length (listed k)) ks in
+      let whole = length-append (listed k) (flat_map listed (fitting (room - length (listed k)) ks)) in
+      omega (arith, fits, rest, whole)
+  | false ↦ λ e. omega arith
+] refl
+
+list_fits : (size : ℕ) (ks : List Key) → 4 ≤ size → length (list_bytes (fitting (min size 65536 - 4) ks)) ≤ size
+list_fits size ks least =
+    let keys = fitting_bytes (min size 65536 - 4) ks in
+    let whole = length-append (u32 (length (fitting (min size 65536 - 4) ks))) (flat_map listed (fitting (min size 65536 - 4) ks)) in
+    omega (arith, keys, whole, least)
+
+module _ (shape : Shape) (most : ℕ) (m : Map) (c : Command) where
+  -- the reply of the machine
+  abbrev answer : Reply
+  answer = reply shape most 0 m no_numbers c
+
+  served_fits : (k : Opcode) → op_of c.opcode ≡ Some k → early shape c ≡ None → length (reply_of shape most 0 m no_numbers c (Some k)).data_bytes ≤ room_for c.size (Some k)
+  served_fits Retrieve is passed = let n = length-take c.size (unwrap_or (get m (key c)) []) in omega (arith, n)
+  served_fits ListKeys is passed = list_fits c.size (keys_from (key c) m) (list_sized shape c is passed).least
+  served_fits Report is passed = omega arith
+  served_fits Flush is passed = omega arith
+  served_fits Store is passed = omega arith
+  served_fits Delete is passed = omega arith
+  served_fits Exist is passed = omega arith
+  served_fits Tick is passed = omega arith
+
+  fits_by : (o : Option Opcode) → op_of c.opcode ≡ o → early shape c ≡ None → late_of shape most m c o ≡ None → length answer.data_bytes ≤ room_of c
+  fits_by None is passed late = absurd (let clash : ◌≡◌ {A = Option ℕ} (Some 1) None = sym (ap (λ (o : Option Opcode). fault_of shape c o) is) ∙ passed in cc)
+  fits_by (Some k) is passed late =
+      subst (λ (a : Reply). length a.data_bytes ≤ room_of c) (sym (serves shape most 0 m no_numbers c k is passed late).replied)
+      (subst (λ (o : Option Opcode). length (reply_of shape most 0 m no_numbers c (Some k)).data_bytes ≤ room_for c.size o) (sym is) (served_fits k is passed))
+
+  pub data_fit : length answer.data_bytes ≤ room_of c
+  data_fit = elim (refused shape most m c) as (λ r. refused shape most m c ≡ r → length answer.data_bytes ≤ room_of c) [
+    | Some status ↦ λ e. subst (λ (a : Reply). length a.data_bytes ≤ room_of c) (sym (refuses_with shape most 0 m no_numbers c status e).replied) (omega arith)
+    | None ↦ λ e. let both = first_none (early shape c) (late_of shape most m c (op_of c.opcode)) e in fits_by (op_of c.opcode) refl both.0 both.1
+  ] refl
+
+-- ---- no read error
+
+-- it is none of these checks that tells of a read error
+abbrev IsOther : Option ℕ → Type 0
+IsOther None = Unit {0}
+IsOther (Some status) = status ≢ UNRECOVERED_ERROR
+
+other_first : (p q : Option ℕ) → IsOther p → IsOther q → IsOther (first_of p q)
+other_first None q h k = k
+other_first (Some status) q h k = h
+
+other_check : (b : Bool) (status : ℕ) → status ≢ UNRECOVERED_ERROR → IsOther (check b status)
+other_check true status h = tt
+other_check false status h = h
+
+differs : (status : ℕ) → (status == UNRECOVERED_ERROR) ≡ false → status ≢ UNRECOVERED_ERROR
+differs status other e = let same = eq-eqb status UNRECOVERED_ERROR e in let clash : true ≡ false = sym same ∙ other in cc
+
+other_size : (shape : Shape) (k : Opcode) (size : ℕ) → IsOther (size_fault shape k size)
+other_size shape Store size = other_check (nat_le size (greatest shape)) INVALID_VALUE_SIZE (differs INVALID_VALUE_SIZE refl)
+other_size shape ListKeys size = other_check (nat_le COUNT_BYTES size) INVALID_FIELD_IN_COMMAND (differs INVALID_FIELD_IN_COMMAND refl)
+other_size shape Flush size = tt
+other_size shape Retrieve size = tt
+other_size shape Delete size = tt
+other_size shape Exist size = tt
+other_size shape Tick size = tt
+other_size shape Report size = tt
+
+other_early : (shape : Shape) (c : Command) (o : Option Opcode) → IsOther (fault_of shape c o)
+other_early shape c None = differs INVALID_COMMAND_OPCODE refl
+other_early shape c (Some k) =
+    other_first (check (is_namespace k c.namespace) INVALID_NAMESPACE_OR_FORMAT) _ (other_check (is_namespace k c.namespace) INVALID_NAMESPACE_OR_FORMAT (differs INVALID_NAMESPACE_OR_FORMAT refl))
+    (other_first (check (is_key_length k c.key_len) INVALID_KEY_SIZE) _ (other_check (is_key_length k c.key_len) INVALID_KEY_SIZE (differs INVALID_KEY_SIZE refl)) (other_size shape k c.size))
+
+module _ (shape : Shape) (most : ℕ) (m : Map) (c : Command) where
+  other_missing : IsOther (check (contains_key m (key c)) KEY_DOES_NOT_EXIST)
+  other_missing = other_check (contains_key m (key c)) KEY_DOES_NOT_EXIST (differs KEY_DOES_NOT_EXIST refl)
+
+  other_late : (o : Option Opcode) → IsOther (late_of shape most m c o)
+  other_late None = tt
+  other_late (Some Store) =
+      other_first (check (not (must_exist c) || contains_key m (key c)) KEY_DOES_NOT_EXIST) _ (other_check (not (must_exist c) || contains_key m (key c)) KEY_DOES_NOT_EXIST (differs KEY_DOES_NOT_EXIST refl))
+      (other_first (check (not (must_be_new c && contains_key m (key c))) KEY_EXISTS) _ (other_check (not (must_be_new c && contains_key m (key c))) KEY_EXISTS (differs KEY_EXISTS refl))
+      (other_check (nat_le (live_after shape m c) most) CAPACITY_EXCEEDED (differs CAPACITY_EXCEEDED refl)))
+  other_late (Some Retrieve) = other_missing
+  other_late (Some Delete) = other_missing
+  other_late (Some Exist) = other_missing
+  other_late (Some Flush) = tt
+  other_late (Some ListKeys) = tt
+  other_late (Some Tick) = tt
+  other_late (Some Report) = tt
+
+  other_refused : IsOther (refused shape most m c)
+  other_refused = other_first (early shape c) _ (other_early shape c (op_of c.opcode)) (other_late (op_of c.opcode))
+
+  success_of : (k : Opcode) → (reply_of shape most 0 m no_numbers c (Some k)).status ≡ SUCCESSFUL_COMPLETION
+  success_of Flush = refl
+  success_of Store = refl
+  success_of Retrieve = refl
+  success_of ListKeys = refl
+  success_of Delete = refl
+  success_of Exist = refl
+  success_of Tick = refl
+  success_of Report = refl
+
+  served_well : (o : Option Opcode) → op_of c.opcode ≡ o → early shape c ≡ None → late_of shape most m c o ≡ None → (reply shape most 0 m no_numbers c).status ≢ UNRECOVERED_ERROR
+  served_well None is passed late = absurd (let clash : ◌≡◌ {A = Option ℕ} (Some 1) None = sym (ap (λ (o : Option Opcode). fault_of shape c o) is) ∙ passed in cc)
+  served_well (Some k) is passed late = λ e. differs SUCCESSFUL_COMPLETION refl (sym (success_of k) ∙ sym (ap (λ (a : Reply). a.status) (serves shape most 0 m no_numbers c k is passed late).replied) ∙ e)
+
+  -- the machine never answers so
+  pub no_read_error : (reply shape most 0 m no_numbers c).status ≢ UNRECOVERED_ERROR
+  no_read_error = elim (refused shape most m c) as (λ r. refused shape most m c ≡ r → (reply shape most 0 m no_numbers c).status ≢ UNRECOVERED_ERROR) [
+    | Some status ↦ λ e f. subst IsOther e other_refused (sym (ap (λ (a : Reply). a.status) (refuses_with shape most 0 m no_numbers c status e).replied) ∙ f)
+    | None ↦ λ e. let both = first_none (early shape c) (late_of shape most m c (op_of c.opcode)) e in served_well (op_of c.opcode) refl both.0 both.1
+  ] refl

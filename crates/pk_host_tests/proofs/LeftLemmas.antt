@@ -1,0 +1,110 @@
+-- The map that a command leaves: keys and values of their sizes, within the limit of live pages.
+use Rattle.std.proofs.Common.{◌≡◌, ℕ, ◌+◌, ◌-◌, ◌≤◌, ◌<◌, min, refl, sym, ap, subst, ◌∙◌, arith, Bool, true, false, not, ◌&&◌, ◌||◌, ◌==◌, nat_le, if◌then◌else◌, IsTrue, List, [], ◌∷◌, length, take, Option, Some, None}
+use Rattle.std.proofs.lemmas.Bool.{leb-true}
+use Rattle.std.proofs.lemmas.List.{length-take-le}
+use Rattle.std.specs.FinMap.{get, contains_key, insert, remove, empty}
+use Rattle.pk_base.specs.Key.{Key, IsKey}
+use Rattle.pk_base.specs.Shape.{Shape, limit, charge, greatest}
+use Rattle.pk_base.specs.Map.{Map, live, pages_if_some}
+use Rattle.pk_nvme.specs.declared.opcode.TheConstants.{FLUSH, STORE, RETRIEVE, LIST, DELETE, EXIST, TICK, REPORT}
+use Rattle.pk_nvme.specs.declared.opcode.Opcode.{Opcode}
+use Rattle.pk_nvme.specs.declared.opcode.Opcode.TheVariants.{Flush, Store, Retrieve, List as ListKeys, Delete, Exist, Tick, Report}
+use Rattle.pk_nvme.specs.declared.status.TheConstants.{CAPACITY_EXCEEDED, KEY_DOES_NOT_EXIST, KEY_EXISTS}
+use Rattle.pk_nvme.specs.Opcode.{op_of}
+use Rattle.pk_nvme.specs.Command.{Command, IsWhole, key, must_exist, must_be_new}
+use Rattle.pk_model.specs.Answer.{first_of, check, fault_of, early, late_of, live_after, refused, map_after, effect}
+use Rattle.pk_model.specs.Machine.{Machine}
+use Rattle.pk_model.proofs.Answering.{refuses_with, serves, key_sized, store_sized}
+use Rattle.pk_model.proofs.Machines.{live-empty, live-remove, live_stored}
+use Rattle.pk_host_tests.specs.Memory.{IsGood, IsHanded}
+use Rattle.pk_host_tests.proofs.EntryLemmas.{map_empty, map_insert, map_remove}
+
+-- ---- checks that passed
+
+pub first_none : (p q : Option ℕ) → first_of p q ≡ None → (p ≡ None) × (q ≡ None)
+first_none None q h = (refl, h)
+first_none (Some s) q h = cc
+
+check_none : (b : Bool) (s : ℕ) → check b s ≡ None → b ≡ true
+check_none true s h = refl
+check_none false s h = cc
+
+-- no other number stands for a Store
+store_alone : (n : ℕ) → op_of n ≡ Some Store → (n == STORE) ≡ true
+store_alone n =
+    elim (n == FLUSH) as (λ b. (if b then Some Flush else if n == STORE then Some Store else if n == RETRIEVE then Some Retrieve else if n == LIST then Some ListKeys else if n == DELETE then Some Delete else if n == EXIST then Some Exist else if n == TICK then Some Tick else if n == REPORT then Some Report else None) ≡ Some Store → (n == STORE) ≡ true) [
+      | true ↦ λ e. cc
+      | false ↦ elim (n == STORE) as (λ b. (if b then Some Store else if n == RETRIEVE then Some Retrieve else if n == LIST then Some ListKeys else if n == DELETE then Some Delete else if n == EXIST then Some Exist else if n == TICK then Some Tick else if n == REPORT then Some Report else None) ≡ Some Store → b ≡ true) [
+        | true ↦ λ e. refl
+        | false ↦ elim (n == RETRIEVE) as (λ b. (if b then Some Retrieve else if n == LIST then Some ListKeys else if n == DELETE then Some Delete else if n == EXIST then Some Exist else if n == TICK then Some Tick else if n == REPORT then Some Report else None) ≡ Some Store → false ≡ true) [
+          | true ↦ λ e. cc
+          | false ↦ elim (n == LIST) as (λ b. (if b then Some ListKeys else if n == DELETE then Some Delete else if n == EXIST then Some Exist else if n == TICK then Some Tick else if n == REPORT then Some Report else None) ≡ Some Store → false ≡ true) [
+            | true ↦ λ e. cc
+            | false ↦ elim (n == DELETE) as (λ b. (if b then Some Delete else if n == EXIST then Some Exist else if n == TICK then Some Tick else if n == REPORT then Some Report else None) ≡ Some Store → false ≡ true) [
+              | true ↦ λ e. cc
+              | false ↦ elim (n == EXIST) as (λ b. (if b then Some Exist else if n == TICK then Some Tick else if n == REPORT then Some Report else None) ≡ Some Store → false ≡ true) [
+                | true ↦ λ e. cc
+                | false ↦ elim (n == TICK) as (λ b. (if b then Some Tick else if n == REPORT then Some Report else None) ≡ Some Store → false ≡ true) [
+                  | true ↦ λ e. cc
+                  | false ↦ elim (n == REPORT) as (λ b. (if b then Some Report else None) ≡ Some Store → false ≡ true) [ true ↦ λ e. cc | false ↦ λ e. cc ]
+                ]
+              ]
+            ]
+          ]
+        ]
+      ]
+    ]
+
+-- ---- the map that is left
+
+-- a machine of this shape with this map
+abbrev pub holding : Shape → Map → Machine
+holding shape m = record { shape = shape; map = m }
+
+pub good_empty : (shape : Shape) → IsGood (holding shape empty)
+good_empty shape = let none = live-empty shape in record { sized = map_empty shape; few = omega (arith, none) }
+
+module _ (shape : Shape) (m : Map) (c : Command) (good : IsGood (holding shape m)) (handed : IsHanded c) where
+  -- a Store that passed all checks
+  good_store : op_of c.opcode ≡ Some Store → early shape c ≡ None → late_of shape (limit shape) m c (Some Store) ≡ None → IsGood (holding shape (insert m (key c) c.value))
+  good_store is passed late =
+      let sized = key_sized shape c Store (λ n. refl) is passed in
+      let key_length : length (key c) ≡ c.key_len = length-take-le c.key_len c.key_bytes (omega (arith, sized.most, handed.place_size)) in
+      let whole : length c.value ≡ c.size = handed.whole.whole ∙ ap (λ b. if b then c.size else 0) (store_alone c.opcode is) in
+      let small = store_sized shape c is passed in
+      let behind = first_none (check (not (must_be_new c && contains_key m (key c))) KEY_EXISTS) (check (nat_le (live_after shape m c) (limit shape)) CAPACITY_EXCEEDED)
+      (first_none (check (not (must_exist c) || contains_key m (key c)) KEY_DOES_NOT_EXIST) (first_of (check (not (must_be_new c && contains_key m (key c))) KEY_EXISTS) (check (nat_le (live_after shape m c) (limit shape)) CAPACITY_EXCEEDED)) late).1 in
+      let most = leb-true (live_after shape m c) (limit shape) (check_none (nat_le (live_after shape m c) (limit shape)) CAPACITY_EXCEEDED behind.1) in
+      let is_live : live_after shape m c ≡ live shape (insert m (key c) c.value) =
+      live_stored shape m (key c) c.value (live shape m) (pages_if_some shape (get m (key c))) (charge shape c.size) refl refl (ap (charge shape) (sym whole)) in
+      record {
+        sized = map_insert shape m (key c) c.value good.sized (record { some = omega (arith, key_length, sized.some); most = omega (arith, key_length, sized.most) }) handed.key_bytes
+            (omega (arith, whole, small)) handed.value_bytes;
+        few = omega (arith, is_live, most);
+      }
+
+  good_delete : IsGood (holding shape (remove m (key c)))
+  good_delete =
+      let whole = live-remove shape m (key c) in
+      let few = good.few in
+      record { sized = map_remove shape m (key c) good.sized; few = omega (arith, whole, few) }
+
+  good_effect : (k : Opcode) → op_of c.opcode ≡ Some k → early shape c ≡ None → late_of shape (limit shape) m c (Some k) ≡ None → IsGood (holding shape (effect m c (Some k)))
+  good_effect Store is passed late = good_store is passed late
+  good_effect Delete is passed late = good_delete
+  good_effect Flush is passed late = good
+  good_effect Retrieve is passed late = good
+  good_effect ListKeys is passed late = good
+  good_effect Exist is passed late = good
+  good_effect Tick is passed late = good
+  good_effect Report is passed late = good
+
+  good_served : (o : Option Opcode) → op_of c.opcode ≡ o → early shape c ≡ None → late_of shape (limit shape) m c o ≡ None → IsGood (holding shape (map_after shape (limit shape) m c))
+  good_served None is passed late = absurd (let clash : ◌≡◌ {A = Option ℕ} (Some 1) None = sym (ap (λ (o : Option Opcode). fault_of shape c o) is) ∙ passed in cc)
+  good_served (Some k) is passed late = subst (λ (x : Map). IsGood (holding shape x)) (sym (serves shape (limit shape) 0 m [] c k is passed late).leaves) (good_effect k is passed late)
+
+  pub good_left : IsGood (holding shape (map_after shape (limit shape) m c))
+  good_left = elim (refused shape (limit shape) m c) as (λ r. refused shape (limit shape) m c ≡ r → IsGood (holding shape (map_after shape (limit shape) m c))) [
+    | Some status ↦ λ e. subst (λ (x : Map). IsGood (holding shape x)) (sym (refuses_with shape (limit shape) 0 m [] c status e).leaves) good
+    | None ↦ λ e. let both = first_none (early shape c) (late_of shape (limit shape) m c (op_of c.opcode)) e in good_served (op_of c.opcode) refl both.0 both.1
+  ] refl

@@ -1,0 +1,4 @@
+mod EntryLemmas
+mod LeftLemmas
+mod DataLemmas
+mod PortLemmas

@@ -1,0 +1,89 @@
+//! A machine over a map in memory, whose map is known to be one of its shape, within its limit.
+ghost use Rattle.std.specs.Prelude.{◌≡◌, length, IfOk, OnErr};
+ghost use Rattle.std.specs.FinMap.{empty};
+ghost use Rattle.pk_base.specs.Fields.{AreBytes};
+ghost use Rattle.pk_nvme.specs.Command.{command, IsWhole};
+ghost use Rattle.pk_model.specs.Machine.{Answers};
+ghost use Rattle.pk_host_tests.specs.Memory.{IsGood, IsHanded};
+
+use pk_base::{KEY_BYTES, Shape};
+use pk_model::{Answer, MapMachine};
+use pk_nvme::Request;
+use std::alloc::{AllocError, Global};
+use std::marker::Model;
+
+/// A machine that no command brings past its limit.
+#[derive(Drop)]
+pub struct GoodMachine {
+    machine: MapMachine,
+}
+
+impl Model for GoodMachine {
+    ghost use Rattle.std.specs.FinMap.{code};
+    ghost use Rattle.std.specs.Coded.{codes, coded_ℕ, coded_list};
+    ghost use Rattle.pk_base.specs.Key.{key_cmp};
+    ghost use Rattle.pk_model.specs.Machine.{Machine};
+    ghost use Rattle.pk_host_tests.specs.Memory.{IsGood};
+
+    ghost Value = { Machine };
+
+    ghost coded = { Prim.hlevel (codes, code {R = key_cmp} (coded_list coded_ℕ) (coded_list coded_ℕ)) };
+
+    ghost view = { λ g. g.machine };
+
+    ghost invariant = { λ g. IsGood g.machine };
+}
+
+// Bytes are numbers below 256.
+fn are_bytes(bytes: &[u8])
+    ensures { AreBytes bytes.now }
+{
+    let _ = bytes.len();
+}
+
+// The place of a key has 16 bytes.
+fn is_place(place: &[u8; KEY_BYTES])
+    ensures size { length place.now ≡ KEY_BYTES }
+    ensures bytes { AreBytes place.now }
+{
+    are_bytes(place);
+}
+
+// A command's key and value are bytes, and its value is whole.
+fn is_handed(entry: &[u8; 64], value: &[u8])
+    requires { IsWhole (command entry.now value.now) }
+    ensures { IsHanded (command entry.now value.now) }
+{
+    let request = Request::of(entry);
+    is_place(&request.key);
+    are_bytes(value);
+}
+
+impl GoodMachine {
+    /// A machine of this shape with the empty map; an error where the memory for it is missing.
+    pub fn new(alloc: Global, shape: Shape) -> Result<GoodMachine, AllocError>
+        ensures { IfOk result (λ g. g ≡ record { shape = shape; map = empty }) }
+    {
+        match MapMachine::new(alloc, shape) {
+            Ok(machine) => Ok(GoodMachine { machine }),
+            Err(error) => Err(error),
+        }
+    }
+
+    /// The answer to a command, with the value that follows its entry; an error where memory is missing, with the machine as it
+    /// was.
+    pub fn step(
+        &mut self,
+        alloc: Global,
+        entry: &[u8; 64],
+        value: &[u8],
+    ) -> Result<Answer, AllocError>
+        requires { IsWhole (command entry.now value.now) }
+        ensures good { IsGood self.old }
+        ensures ok { IfOk result (λ a. Answers self.old self.new (command entry.now value.now) a) }
+        ensures err { OnErr result (self.new ≡ self.old) }
+    {
+        is_handed(entry, value);
+        self.machine.step(alloc, entry, value)
+    }
+}

@@ -1,0 +1,116 @@
+//! A port over a map in memory, as a yardstick: no read of it fails.
+ghost use Rattle.std.specs.Prelude.{◌≡◌, ◌≤◌, ◌<◌, ◌^◌, List, ℕ, length, take};
+ghost use Rattle.pk_nvme.specs.Command.{command};
+ghost use Rattle.pk_model.specs.Machine.{replied};
+ghost use Rattle.pk_host.specs.Port.{PortState, Replies, Completes, Took};
+ghost use Rattle.pk_host.specs.TookLaws.{took_none, took_both};
+ghost use Rattle.pk_host_tests.specs.Memory.{seen};
+
+use crate::machine::GoodMachine;
+use pk_base::Shape;
+use pk_host::{Completed, Port, PortFault};
+use pk_model::Answer;
+use pk_nvme::{Request, completion};
+use std::alloc::{AllocError, Global};
+
+/// A drive in memory with the number of entries taken, and the count of calls for which memory was missing.
+#[derive(Drop)]
+pub struct MemoryPort {
+    alloc: Global,
+    machine: GoodMachine,
+    taken: u32,
+    faults: u64,
+}
+
+// Numbers of 32 and of 8 bits are below 2^32 and below 256.
+fn is_u32(number: u32)
+    ensures { number < 2 ^ 32 }
+{
+    let _ = number;
+}
+
+fn is_u8(number: u8)
+    ensures { number < 256 }
+{
+    let _ = number;
+}
+
+// The size that a command names, and the status and the result of an answer, are such numbers.
+fn are_numbers(entry: &[u8; 64], answer: &Answer)
+    ensures size { (value : List ℕ) → (command entry.now value).size < 2 ^ 32 }
+    ensures status { answer.now.status < 256 }
+    ensures result_field { answer.now.result < 2 ^ 32 }
+{
+    is_u32(Request::of(entry).size);
+    is_u8(answer.status);
+    is_u32(answer.result);
+}
+
+/// Puts bytes into the front of a buffer.
+fn put_front(into: &mut [u8], bytes: &[u8])
+    requires { length bytes.now ≤ length into.old }
+    ensures front { take (length bytes.now) into.new ≡ bytes.now }
+    ensures size { length into.new ≡ length into.old }
+{
+    into[..bytes.len()].copy_from_slice(bytes);
+}
+
+/// The completion of a command with this answer, behind so many entries; its data come into the front of a buffer.
+fn completed(entry: &[u8; 64], taken: u32, answer: &Answer, into: &mut [u8]) -> Completed
+    requires room { length answer.now.bytes.items ≤ length into.old }
+    requires short { length answer.now.bytes.items < 2 ^ 32 }
+    ensures { (old new : PortState) (value : List ℕ)
+        → Replies old new (command entry.now value) (replied answer.now)
+        → Completes old new (command entry.now value) result into.new }
+{
+    let data = answer.bytes.bytes();
+    put_front(into, data);
+    Completed {
+        entry: completion(Request::of(entry).cid, taken, answer.status, answer.result),
+        data_len: data.len() as u32,
+    }
+}
+
+impl MemoryPort {
+    /// A drive of this shape with the empty map; an error where the memory for it is missing.
+    pub fn new(alloc: Global, shape: Shape) -> Result<MemoryPort, AllocError> {
+        Ok(MemoryPort {
+            alloc,
+            machine: GoodMachine::new(alloc, shape)?,
+            taken: 0,
+            faults: 0,
+        })
+    }
+}
+
+impl Port for MemoryPort {
+    ghost state = { λ p. seen p.machine p.faults };
+
+    ghost took = { λ p cs q. Took (seen p.machine p.faults) (seen q.machine q.faults) cs };
+
+    ghost took_state = { λ p cs q h. h };
+
+    ghost took_none = { λ p. took_none (seen p.machine p.faults) };
+
+    ghost took_both = { λ p cs q ds r. took_both (seen p.machine p.faults) cs
+        (seen q.machine q.faults) ds (seen r.machine r.faults) };
+
+    fn submit(
+        &mut self,
+        entry: &[u8; 64],
+        value: &[u8],
+        into: &mut [u8],
+    ) -> Result<Completed, PortFault> {
+        match self.machine.step(self.alloc, entry, value) {
+            Ok(answer) => {
+                are_numbers(entry, &answer);
+                self.taken = self.taken.wrapping_add(1);
+                Ok(completed(entry, self.taken, &answer, into))
+            }
+            Err(_) => {
+                self.faults = self.faults.saturating_add(1);
+                Err(PortFault)
+            }
+        }
+    }
+}
