@@ -61,7 +61,7 @@ measure() { # PAGE_BYTES BLOCK_PAGES BLOCKS STORES VALUE_BYTES
     rm -f "$image" "$image.copy"
     "$top/pink" "$image" make "$1" "$2" "$3"
     write_scripts "$4" "$5"
-    program=$top/crates/pink/out/pink
+    program=$top/pink
     echo "shape ($1, $2, $3), $(wc -c <"$image" | tr -d ' ') bytes; $4 Stores of $5 bytes and 100,000 Retrieves in one session"
     whole=$(seconds "$script" "$program" "$image" serve 36)
     echo "  serve of these commands, seconds:    $whole"

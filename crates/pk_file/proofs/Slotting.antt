@@ -1,30 +1,23 @@
 -- Slots as the pages of a flash.
-use Rattle.std.proofs.Common.{◌≡◌, ℕ, zero, suc, ◌+◌, ◌<◌, List, [], ◌∷◌, ◌++◌, length, take, drop, get_or, slice_set, refl, sym, ap, subst, ◌∙◌, arith, Option, Some, None, true, false}
+use Rattle.std.proofs.Common.{◌≡◌, ℕ, zero, suc, ◌+◌, ◌<◌, List, [], ◌∷◌, ◌++◌, length, take, drop, get_or, replicate, slice_set, refl, sym, ap, subst, ◌∙◌, arith, Option, Some, None, true, false}
 use Rattle.std.specs.Prelude.{nat_le}
 use Rattle.std.proofs.lemmas.Bool.Decides.{nat_tests}
 use Rattle.std.proofs.lemmas.List.{length-map, drop_more, take_more}
 use Rattle.pk_base.specs.Shape.{Shape, page_count}
-use Rattle.pk_base.specs.Page.{page_at, whole, IsPage, IsFlash}
-use Rattle.pk_nand.specs.declared.types.PageRead.{PageRead}
-use Rattle.pk_nand.specs.declared.types.PageRead.TheVariants.{Erased, Whole, Torn}
+use Rattle.pk_base.specs.Page.{Flash, page_at, erased, whole, IsPage, IsFlash}
 use Rattle.pk_nand.specs.BoardState.{shape_or_none}
 use Rattle.pk_image.specs.Image.{bad_state}
 use Rattle.pk_file.specs.declared.slot.Slot.{Slot}
-use Rattle.pk_file.specs.Slots.{page_by, page_of, pages_of, byte_by, bytes_of, AllFit}
-
-whole_of : (r : PageRead) (own bytes : List ℕ) → page_by r own ≡ whole bytes → own ≡ bytes
-whole_of Erased own bytes e = cc
-whole_of Whole own bytes e = cc
-whole_of Torn own bytes e = cc
-
-full_of : (shape : Shape) (slots : List Slot) → AllFit shape slots → (k : ℕ) (bytes : List ℕ) → page_at (pages_of slots) k ≡ whole bytes → IsPage shape bytes
-full_of shape [] fit k bytes e = cc
-full_of shape (s ∷ slots) fit zero bytes e = subst (IsPage shape) (whole_of s.state s.bytes.items bytes e) (fit 0 s (omega arith))
-full_of shape (s ∷ slots) fit (suc k) bytes e = full_of shape slots (λ i d less. fit (suc i) d (omega (arith, less))) k bytes e
+use Rattle.pk_file.specs.declared.slot.Slot.TheVariants.{Erased, Whole, Torn}
+use Rattle.pk_file.specs.Slots.{page_of, pages_of, byte_by, bytes_of, Fits, AllFit}
 
 -- slots of the right number and size are the pages of a flash
 pub flash_of : (shape : Shape) (slots : List Slot) → length slots ≡ page_count shape → AllFit shape slots → IsFlash shape (pages_of slots)
-flash_of shape slots count fit = record { size = length-map slots page_of ∙ count; full = full_of shape slots fit }
+flash_of shape slots count fit = record { size = length-map slots page_of ∙ count; full = fit }
+
+-- a page that is read fits into a buffer of a page
+pub room_for : (slots : List Slot) (at n : ℕ) (bytes : List ℕ) → (shape : Shape) × (n ≡ shape.page_bytes) × AllFit shape slots → page_at (pages_of slots) at ≡ whole bytes → n ≡ length bytes
+room_for slots at n bytes full is = full.1 ∙ sym ((full.2 at bytes is).0)
 
 -- the next state byte is one
 pub states_next : (bytes : List ℕ) (i : ℕ) → i < length bytes → get_or bytes i 0 < 3 → bad_state (32 + i) (drop i bytes) ≡ bad_state (32 + (i + 1)) (drop (i + 1) bytes)
@@ -41,29 +34,53 @@ states_stop bytes i h large =
 
 -- ---- slots that are written and added
 
-pub fit_set : (shape : Shape) (slots : List Slot) (i : ℕ) (s : Slot) → AllFit shape slots → IsPage shape s.bytes.items → AllFit shape (slice_set slots i s)
-fit_set shape [] i s fit own k d less = fit k d less
-fit_set shape (x ∷ slots) zero s fit own zero d less = own
-fit_set shape (x ∷ slots) zero s fit own (suc k) d less = fit (suc k) d less
-fit_set shape (x ∷ slots) (suc i) s fit own zero d less = fit zero d (omega arith)
-fit_set shape (x ∷ slots) (suc i) s fit own (suc k) d less = fit_set shape slots i s (λ j e l. fit (suc j) e (omega (arith, l))) own k d (omega (arith, less))
+pub erased_fits : (shape : Shape) → Fits shape Erased
+erased_fits shape bytes e = cc
 
-pub fit_more : (shape : Shape) (slots : List Slot) (s : Slot) → AllFit shape slots → IsPage shape s.bytes.items → AllFit shape (slots ++ s ∷ [])
-fit_more shape [] s fit own zero d less = own
-fit_more shape [] s fit own (suc k) d less = absurd (omega (arith, less))
-fit_more shape (x ∷ slots) s fit own zero d less = fit zero d (omega arith)
-fit_more shape (x ∷ slots) s fit own (suc k) d less = fit_more shape slots s (λ j e l. fit (suc j) e (omega (arith, l))) own k d (omega (arith, less))
+pub torn_fits : (shape : Shape) → Fits shape Torn
+torn_fits shape bytes e = cc
 
-bytes_pushed : (slots : List Slot) (s : Slot) → bytes_of (slots ++ s ∷ []) ≡ bytes_of slots ++ byte_by s.state ∷ []
+pub whole_fits : (shape : Shape) (own bytes : List ℕ) → own ≡ bytes → IsPage shape bytes → (b : List ℕ) → whole own ≡ whole b → IsPage shape b
+whole_fits shape own bytes same page b e = let is : bytes ≡ b = cc in subst (IsPage shape) is page
+
+none_whole : (n k : ℕ) (bytes : List ℕ) → page_at (replicate n erased) k ≡ whole bytes → ⊥
+none_whole zero k bytes e = cc
+none_whole (suc n) zero bytes e = cc
+none_whole (suc n) (suc k) bytes e = none_whole n k bytes e
+
+-- Erased slots fit
+pub erased_fit : (shape : Shape) (slots : List Slot) (n : ℕ) → pages_of slots ≡ replicate n erased → AllFit shape slots
+erased_fit shape slots n all k bytes e = let P : Flash → Type 0 = λ f. page_at f k ≡ whole bytes in absurd (none_whole n k bytes (subst P all e))
+
+-- the page at the place of a slot is its own
+pub page_here : (slots : List Slot) (i : ℕ) (s : Slot) → i < length slots → s ≡ get_or slots i s → page_at (pages_of slots) i ≡ page_of s
+page_here [] i s inside is = absurd (omega (arith, inside))
+page_here (x ∷ slots) zero s inside is = ap page_of (sym is)
+page_here (x ∷ slots) (suc i) s inside is = page_here slots i s (omega (arith, inside)) is
+
+pub fit_set : (shape : Shape) (slots : List Slot) (i : ℕ) (s : Slot) → AllFit shape slots → Fits shape s → AllFit shape (slice_set slots i s)
+fit_set shape [] i s fit own k bytes e = fit k bytes e
+fit_set shape (x ∷ slots) zero s fit own zero bytes e = own bytes e
+fit_set shape (x ∷ slots) zero s fit own (suc k) bytes e = fit (suc k) bytes e
+fit_set shape (x ∷ slots) (suc i) s fit own zero bytes e = fit zero bytes e
+fit_set shape (x ∷ slots) (suc i) s fit own (suc k) bytes e = fit_set shape slots i s (λ j b h. fit (suc j) b h) own k bytes e
+
+pub fit_more : (shape : Shape) (slots : List Slot) (s : Slot) → AllFit shape slots → Fits shape s → AllFit shape (slots ++ s ∷ [])
+fit_more shape [] s fit own zero bytes e = own bytes e
+fit_more shape [] s fit own (suc k) bytes e = cc
+fit_more shape (x ∷ slots) s fit own zero bytes e = fit zero bytes e
+fit_more shape (x ∷ slots) s fit own (suc k) bytes e = fit_more shape slots s (λ j b h. fit (suc j) b h) own k bytes e
+
+bytes_pushed : (slots : List Slot) (s : Slot) → bytes_of (slots ++ s ∷ []) ≡ bytes_of slots ++ byte_by s ∷ []
 bytes_pushed [] s = refl
-bytes_pushed (x ∷ slots) s = ap (λ (l : List ℕ). byte_by x.state ∷ l) (bytes_pushed slots s)
+bytes_pushed (x ∷ slots) s = ap (λ (l : List ℕ). byte_by x ∷ l) (bytes_pushed slots s)
 
-pub bytes_more : (slots : List Slot) (s : Slot) (states : List ℕ) (i : ℕ) → i < length states → bytes_of slots ≡ take i states → byte_by s.state ≡ get_or states i 0 → bytes_of (slots ++ s ∷ []) ≡ take (i + 1) states
+pub bytes_more : (slots : List Slot) (s : Slot) (states : List ℕ) (i : ℕ) → i < length states → bytes_of slots ≡ take i states → byte_by s ≡ get_or states i 0 → bytes_of (slots ++ s ∷ []) ≡ take (i + 1) states
 bytes_more slots s states i h before own = bytes_pushed slots s ∙ (λ j. before j ++ own j ∷ []) ∙ sym (take_more states i 0 h)
 
-pub byte_small : (r : PageRead) (byte : ℕ) → byte_by r ≡ byte → byte < 3
+pub byte_small : (s : Slot) (byte : ℕ) → byte_by s ≡ byte → byte < 3
 byte_small Erased byte e = omega (arith, e)
-byte_small Whole byte e = omega (arith, e)
+byte_small (Whole bytes) byte e = omega (arith, e)
 byte_small Torn byte e = omega (arith, e)
 
 -- the slots of a board with a shape are its flash

@@ -1,37 +1,36 @@
 -- What the slots of a board over a file mean.
-use Rattle.std.specs.Prelude.{◌≡◌, ◌⊎◌, ℕ, ◌+◌, ◌<◌, ◌≤◌, List, length, map, All}
+use Rattle.std.specs.Prelude.{◌≡◌, ◌⊎◌, ℕ, ◌+◌, ◌<◌, ◌≤◌, List, length, map}
 use Rattle.pk_image.specs.declared.tag.TheConstants.{ERASED, WHOLE, TORN}
 use Rattle.pk_base.specs.Shape.{Shape}
 use Rattle.pk_base.specs.Page.{Page, Flash, erased, whole, torn, page_at, IsPage}
-use Rattle.pk_nand.specs.declared.types.PageRead.{PageRead}
-use Rattle.pk_nand.specs.declared.types.PageRead.TheVariants.{Erased, Whole, Torn}
 use Rattle.pk_file.specs.declared.slot.Slot.{Slot}
-
--- the page of this state and these bytes
-abbrev pub page_by : PageRead → List ℕ → Page
-page_by Erased bytes = erased
-page_by Whole bytes = whole bytes
-page_by Torn bytes = torn
+use Rattle.pk_file.specs.declared.slot.Slot.TheVariants.{Erased, Whole, Torn}
 
 abbrev pub page_of : Slot → Page
-page_of slot = page_by slot.state slot.bytes.items
+page_of Erased = erased
+page_of (Whole bytes) = whole bytes.items
+page_of Torn = torn
 
 abbrev pub pages_of : List Slot → Flash
 pages_of slots = map page_of slots
 
--- the byte that says a state in an image file
-abbrev pub byte_by : PageRead → ℕ
+-- the byte that says the state of a page in an image file
+abbrev pub byte_by : Slot → ℕ
 byte_by Erased = ERASED
-byte_by Whole = WHOLE
+byte_by (Whole bytes) = WHOLE
 byte_by Torn = TORN
 
 -- the state bytes of slots
 abbrev pub bytes_of : List Slot → List ℕ
-bytes_of slots = map (λ slot. byte_by slot.state) slots
+bytes_of slots = map byte_by slots
 
--- each slot has the bytes of a page
+-- a Whole slot has the bytes of a page
+abbrev pub Fits : Shape → Slot → Type 0
+Fits shape slot = (bytes : List ℕ) → page_of slot ≡ whole bytes → IsPage shape bytes
+
+-- each Whole one of them has the bytes of a page
 abbrev pub AllFit : Shape → List Slot → Type 0
-AllFit shape slots = All (λ slot. IsPage shape slot.bytes.items) slots
+AllFit shape slots = (at : ℕ) (bytes : List ℕ) → page_at (pages_of slots) at ≡ whole bytes → IsPage shape bytes
 
 -- so many pages in a row became Erased, and the others stayed
 pub record ErasedRow (first count : ℕ) (old new : Flash) : Type 0 where

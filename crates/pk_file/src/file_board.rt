@@ -1,20 +1,22 @@
 //! A board over a file, standard input and standard output. It tells neither input, posted bytes nor trail.
 ghost use Rattle.std.specs.Prelude.{◌≡◌, ◌≤◌, ◌<◌, ◌+◌, ◌*◌, ◌/◌, ℕ, length, Option, None, Some, OnOk, OnErr, slice_set};
 ghost use Rattle.pk_base.specs.Shape as spec;
-ghost use Rattle.pk_base.specs.Page.{Flash, whole, IsPage};
+ghost use Rattle.pk_base.specs.Page.{whole};
 ghost use Rattle.pk_base.specs.Mark.{program, erase, after};
 ghost use Rattle.pk_nand.specs.BoardState.{BoardState, shape_or_none};
-ghost use Rattle.pk_nand.specs.Calls.{counted, LeftBehind};
+ghost use Rattle.pk_nand.specs.Calls.{counted, Rose, LeftBehind};
 ghost use Rattle.pk_file.specs.Slots.{pages_of, AllFit};
 
+use crate::incoming::Incoming;
 use crate::mirror::{Written, create_image, erase_pages, find_image, write_page};
+use crate::outgoing::Outgoing;
 use crate::slot::Slot;
-use crate::slots::{erase_slots, erased_slots, known, read_slot, tear_slot, write_slot};
+use crate::slots::{erase_slots, erased_slots, known, read_slot, set_slot};
 use pk_base::Shape;
 use pk_nand::{Board, HostFault, LoadFault, Nand, NandFault, PageRead};
 use std::alloc::Global;
 use std::fs::File;
-use std::io::{Read, Write};
+use std::rt::{Stdin, Stdout};
 
 /// The image file of a drive, with its pages in memory, beside standard input and output.
 #[derive(Drop)]
@@ -24,6 +26,8 @@ pub struct FileBoard<'a> {
     file: Option<File>,
     shape: Option<Shape>,
     slots: Vec<Slot>,
+    input: Incoming<Stdin>,
+    output: Outgoing<Stdout>,
     reads: u64,
     programs: u64,
     erases: u64,
@@ -45,8 +49,9 @@ fn raise(count: &mut u64)
     *count = count.saturating_add(1);
 }
 
-/// Programs a page in the file and in memory. A write that fails leaves both alike.
+/// Programs a page in the file and in memory. A write that fails leaves both alike; without memory for the page nothing is done.
 fn program_page(
+    alloc: Global,
     file: &Option<File>,
     shape: &Option<Shape>,
     slots: &mut Vec<Slot>,
@@ -54,24 +59,32 @@ fn program_page(
     bytes: &[u8],
 ) -> Result<(), NandFault>
     requires exists { page < length slots.old.items }
-    requires count { length slots.old.items ≡ spec.page_count (shape_or_none shape.now) }
     requires full { length bytes.now ≡ (shape_or_none shape.now).page_bytes }
+    requires count { length slots.old.items ≡ spec.page_count (shape_or_none shape.now) }
     requires fit { AllFit (shape_or_none shape.now) slots.old.items }
+
+    // The whole effect, or a part of it as a cut may leave it.
     ensures pages { OnOk result
         (pages_of slots.new.items ≡ slice_set (pages_of slots.old.items) page (whole bytes.now)) }
     ensures left { OnErr result (LeftBehind (shape_or_none shape.now) (program page bytes.now)
         (pages_of slots.old.items) (pages_of slots.new.items) None None) }
+
+    // The board keeps its form.
     ensures count { length slots.new.items ≡ length slots.old.items }
     ensures fit { AllFit (shape_or_none shape.now) slots.new.items }
 {
+    known(bytes);
+    let Ok(copy) = Vec::from_slice(alloc, bytes) else {
+        return Err(NandFault);
+    };
     match (file, shape) {
         (Some(file), Some(shape)) => match write_page(file, shape, page, bytes) {
             Written::Whole => {
-                write_slot(slots, page as usize, bytes);
+                set_slot(slots, page as usize, Slot::Whole(copy));
                 Ok(())
             }
             Written::Torn => {
-                tear_slot(slots, page as usize);
+                set_slot(slots, page as usize, Slot::Torn);
                 Err(NandFault)
             }
             Written::Nothing => Err(NandFault),
@@ -90,10 +103,14 @@ fn erase_block(
     requires exists { block < (shape_or_none shape.now).blocks }
     requires count { length slots.old.items ≡ spec.page_count (shape_or_none shape.now) }
     requires fit { AllFit (shape_or_none shape.now) slots.old.items }
+
+    // The whole effect, or a part of it as a cut may leave it.
     ensures pages { OnOk result (pages_of slots.new.items
         ≡ after (shape_or_none shape.now) (erase block) (pages_of slots.old.items)) }
     ensures left { OnErr result (LeftBehind (shape_or_none shape.now) (erase block)
         (pages_of slots.old.items) (pages_of slots.new.items) None None) }
+
+    // The board keeps its form.
     ensures count { length slots.new.items ≡ length slots.old.items }
     ensures fit { AllFit (shape_or_none shape.now) slots.new.items }
 {
@@ -123,6 +140,8 @@ impl<'a> FileBoard<'a> {
             file: None,
             shape: None,
             slots: Vec::new(rt.alloc()),
+            input: Incoming::new(rt.alloc(), rt.stdin()),
+            output: Outgoing::new(rt.alloc(), rt.stdout()),
             reads: 0,
             programs: 0,
             erases: 0,
@@ -133,6 +152,22 @@ impl<'a> FileBoard<'a> {
             bad: None,
             in_faults: 0,
             out_faults: 0,
+        }
+    }
+
+    /// Sends what was posted and has not left: the end of a run, which is lost without this call. A write that failed, now or behind
+    /// the last post, is told here.
+    pub fn finish(&mut self) -> Result<(), HostFault>
+        ensures ok { OnOk result (self.new.out_faults ≡ self.old.out_faults) }
+        ensures err { OnErr result (Rose self.old.out_faults self.new.out_faults) }
+        ensures flash { (self.new.shape ≡ self.old.shape) × (self.new.slots ≡ self.old.slots) }
+    {
+        match self.output.send() {
+            Ok(()) => Ok(()),
+            Err(_) => {
+                raise(&mut self.out_faults);
+                Err(HostFault)
+            }
         }
     }
 
@@ -214,7 +249,8 @@ impl Nand for FileBoard<'_> {
 
     fn program(&mut self, page: u32, bytes: &[u8]) -> Result<(), NandFault> {
         raise(&mut self.programs);
-        match program_page(&self.file, &self.shape, &mut self.slots, page, bytes) {
+        let alloc = self.rt.alloc();
+        match program_page(alloc, &self.file, &self.shape, &mut self.slots, page, bytes) {
             Ok(()) => Ok(()),
             Err(_) => {
                 raise(&mut self.flash_faults);
@@ -248,7 +284,11 @@ impl Nand for FileBoard<'_> {
 
 impl Board for FileBoard<'_> {
     fn fetch(&mut self, into: &mut [u8]) -> Result<usize, HostFault> {
-        match self.rt.stdin().read(into) {
+        if self.input.may_wait() {
+            // A write that fails is told by the next post, or at the end.
+            let _ = self.output.send();
+        }
+        match self.input.fetch(into) {
             Ok(count) => Ok(count),
             Err(_) => {
                 raise(&mut self.in_faults);
@@ -258,11 +298,12 @@ impl Board for FileBoard<'_> {
     }
 
     fn post(&mut self, bytes: &[u8]) -> Result<(), HostFault> {
-        let mut out = self.rt.stdout();
-        if out.write_all(bytes).is_ok() && out.flush().is_ok() {
-            return Ok(());
+        match self.output.post(bytes) {
+            Ok(()) => Ok(()),
+            Err(_) => {
+                raise(&mut self.out_faults);
+                Err(HostFault)
+            }
         }
-        raise(&mut self.out_faults);
-        Err(HostFault)
     }
 }

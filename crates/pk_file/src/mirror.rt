@@ -1,16 +1,17 @@
 //! What is read of an image file and written to it.
-ghost use Rattle.std.specs.Prelude.{◌≡◌, ◌≤◌, ◌<◌, ◌+◌, length, IfOk};
+ghost use Rattle.std.specs.Prelude.{◌≡◌, ◌≤◌, ◌<◌, length, IfOk};
 ghost use Rattle.pk_base.specs.Shape as spec;
-ghost use Rattle.pk_base.specs.Page.{IsPage};
 ghost use Rattle.pk_file.specs.Slots.{AllFit};
 
+use crate::opening::open_alone;
+use crate::page_reader::PageReader;
 use crate::slot::Slot;
-use crate::slots::{known, slots_of};
+use crate::slots::slots_of;
 use pk_base::Shape;
 use pk_image::{
     HEADER_BYTES, ImageError, PageTag, file_len, header, page_at, read_header, state_at,
 };
-use pk_nand::{LoadFault, PageRead};
+use pk_nand::LoadFault;
 use std::alloc::Global;
 use std::fs::{File, OpenOptions};
 use std::io;
@@ -26,9 +27,10 @@ pub struct Image {
     ghost fit: { AllFit shape slots.items },
 }
 
-/// Opens the image file, with its length in bytes; None where it is missing or empty.
+/// Opens the image file, with its length in bytes; None where it is missing or empty. An image that another board has open is a
+/// fault.
 fn opened(rt: &HostRuntime, path: &str) -> Result<Option<(File, u64)>, LoadFault> {
-    let file = match OpenOptions::new().read(true).write(true).open(rt, path) {
+    let file = match open_alone(rt, OpenOptions::new().read(true).write(true), path) {
         Ok(file) => file,
         Err(e) if e.kind() == io::ErrorKind::NotFound => return Ok(None),
         Err(_) => return Err(LoadFault::Fault),
@@ -52,7 +54,7 @@ fn shape_of(file: &File, len: u64) -> Result<Shape, LoadFault> {
     }
 }
 
-/// The pages of the state bytes of a file, with the room of their bytes.
+/// The pages of a file: its state bytes, and the bytes of the Whole ones.
 fn slots_in(alloc: Global, file: &File, shape: &Shape) -> Result<Vec<Slot>, LoadFault>
     ensures count { IfOk result (λ v. length v.items ≡ spec.page_count shape.now) }
     ensures fit { IfOk result (λ v. AllFit shape.now v.items) }
@@ -66,38 +68,10 @@ fn slots_in(alloc: Global, file: &File, shape: &Shape) -> Result<Vec<Slot>, Load
     {
         return Err(LoadFault::Fault);
     }
-    slots_of(alloc, shape, states.as_slice())
-}
-
-/// Reads the bytes of a page, if it is Whole.
-fn fill(file: &File, at: u64, slot: &mut Slot) -> io::Result<()>
-    ensures state { slot.new.state ≡ slot.old.state }
-    ensures fit { (shape : spec.Shape) → IsPage shape slot.old.bytes.items
-        → IsPage shape slot.new.bytes.items }
-{
-    if slot.state != PageRead::Whole {
-        return Ok(());
-    }
-    let bytes = slot.bytes.as_mut_slice();
-    let done = file.read_exact_at(bytes, at);
-    known(bytes);
-    done
-}
-
-/// Reads the bytes of all Whole pages.
-fn fill_all(file: &File, shape: &Shape, slots: &mut Vec<Slot>) -> io::Result<()>
-    requires count { length slots.old.items ≡ spec.page_count shape.now }
-    requires fit { AllFit shape.now slots.old.items }
-    ensures count { length slots.new.items ≡ length slots.old.items }
-    ensures fit { AllFit shape.now slots.new.items }
-{
-    for i in 0..shape.page_count() {
-        match fill(file, page_at(shape, i), &mut slots[i as usize]) {
-            Ok(()) => {}
-            Err(fault) => return Err(fault),
-        }
-    }
-    Ok(())
+    let Ok(mut reader) = PageReader::new(alloc, *shape) else {
+        return Err(LoadFault::Memory);
+    };
+    slots_of(alloc, file, &mut reader, states.as_slice())
 }
 
 /// The image of an open file of this length.
@@ -106,13 +80,9 @@ fn read_image(alloc: Global, file: File, len: u64) -> Result<Image, LoadFault> {
         Ok(shape) => shape,
         Err(fault) => return Err(fault),
     };
-    let mut slots = match slots_in(alloc, &file, &shape) {
-        Ok(slots) => slots,
-        Err(fault) => return Err(fault),
-    };
-    match fill_all(&file, &shape, &mut slots) {
-        Ok(()) => Ok(Image { file, shape, slots }),
-        Err(_) => Err(LoadFault::Fault),
+    match slots_in(alloc, &file, &shape) {
+        Ok(slots) => Ok(Image { file, shape, slots }),
+        Err(fault) => Err(fault),
     }
 }
 
@@ -128,14 +98,12 @@ pub fn find_image(rt: &HostRuntime, alloc: Global, path: &str) -> Result<Option<
     }
 }
 
-/// Makes an image file with all pages Erased of a missing or empty one. Its text is written last, so
+/// Makes an image file with all pages Erased of a missing or empty one that no other board has open. Its text is written last, so
 /// that a file that was not made to its end is no image.
 pub fn create_image(rt: &HostRuntime, path: &str, shape: &Shape) -> io::Result<File> {
-    let file = OpenOptions::new()
-        .read(true)
-        .write(true)
-        .create(true)
-        .open(rt, path)?;
+    let mut how = OpenOptions::new();
+    how.read(true).write(true).create(true);
+    let file = open_alone(rt, &how, path)?;
     if file.metadata()?.len() != 0 {
         return Err(io::Error::from(io::ErrorKind::AlreadyExists));
     }
@@ -172,15 +140,20 @@ pub fn write_page(file: &File, shape: &Shape, page: u32, bytes: &[u8]) -> Writte
     }
 }
 
-/// Sets the state bytes of pages in a row to Erased, and answers how many of them were set.
+/// Sets the state bytes of pages in a row to Erased, and answers how many of them were set. A write that a signal interrupted is
+/// made again.
 pub fn erase_pages(file: &File, shape: &Shape, first: u32, count: u32) -> u32
     requires small { count ≤ 256 }
     requires exists { first < spec.page_count shape.now }
     ensures { result ≤ count }
 {
     let states = [PageTag::Erased.byte(); 256];
-    match file.write_at(&states[..count as usize], state_at(shape, first)) {
-        Ok(done) => done as u32,
-        Err(_) => 0,
+    for _ in 0..u64::MAX {
+        match file.write_at(&states[..count as usize], state_at(shape, first)) {
+            Ok(done) => return done as u32,
+            Err(e) if e.kind() == io::ErrorKind::Interrupted => {}
+            Err(_) => return 0,
+        }
     }
+    0
 }

@@ -1,9 +1,9 @@
 //! A page in memory.
-use pk_nand::PageRead;
 
-/// A page whose bytes stay allocated whatever its state.
+/// A page; only a Whole one keeps bytes.
 #[derive(Drop)]
-pub struct Slot {
-    pub state: PageRead,
-    pub bytes: Vec<u8>,
+pub enum Slot {
+    Erased,
+    Whole(Vec<u8>),
+    Torn,
 }

@@ -1,41 +1,29 @@
 //! The pages of a board over a file, as slots in memory.
-ghost use Rattle.std.specs.Prelude.{◌≡◌, ◌≢◌, ◌≤◌, ◌<◌, ◌+◌, ◌^◌, ℕ, Err, Some, length, replicate, IfOk, slice_set};
+ghost use Rattle.std.specs.Prelude.{◌≡◌, ◌<◌, ◌≤◌, ◌+◌, ℕ, Err, Some, length, replicate, IfOk, slice_set, slice_index};
 ghost use Rattle.pk_base.specs.Fields.{AreBytes};
 ghost use Rattle.pk_base.specs.Shape as spec;
-ghost use Rattle.pk_base.specs.Page.{page_at, erased, whole, torn, IsPage};
+ghost use Rattle.pk_base.specs.Page.{page_at, erased};
 ghost use Rattle.pk_nand.specs.Calls.{filled};
 ghost use Rattle.pk_nand.specs.Seen.{answer};
 ghost use Rattle.pk_nand.specs.declared.types.LoadFault.{LoadFault};
-ghost use Rattle.pk_nand.specs.declared.types.PageRead.{PageRead};
 ghost use Rattle.pk_image.specs.declared.head.TheConstants.{HEADER_BYTES};
 ghost use Rattle.pk_image.specs.declared.tag.TheConstants.{TORN};
 ghost use Rattle.pk_image.specs.Image.{bad_state, byte_of};
-ghost use Rattle.pk_file.specs.Slots.{byte_by, pages_of, bytes_of, AllFit, ErasedRow};
+ghost use Rattle.pk_file.specs.Slots.{byte_by, page_of, pages_of, bytes_of, Fits, AllFit, ErasedRow};
 
+use crate::page_reader::PageReader;
 use crate::slot::Slot;
 use pk_base::Shape;
 use pk_image::{ImageError, PageTag, state, state_at};
 use pk_nand::{LoadFault, PageRead};
 use std::alloc::{AllocError, Global};
+use std::fs::File;
 
 /// What is read are bytes.
 pub fn known(bytes: &[u8])
     ensures { AreBytes bytes.now }
 {
     let _ = bytes;
-}
-
-/// An Erased page with the room of its bytes.
-fn erased_slot(alloc: Global, shape: &Shape) -> Result<Slot, AllocError>
-    ensures state { IfOk result (λ slot. slot.state ≡ PageRead.Erased) }
-    ensures fit { IfOk result (λ slot. IsPage shape.now slot.bytes.items) }
-{
-    let bytes = Vec::from_elem(alloc, 0u8, shape.page_bytes() as usize)?;
-    known(bytes.as_slice());
-    Ok(Slot {
-        state: PageRead::Erased,
-        bytes,
-    })
 }
 
 /// All pages of a shape, Erased.
@@ -49,68 +37,70 @@ pub fn erased_slots(alloc: Global, shape: &Shape) -> Result<Vec<Slot>, AllocErro
     let mut slots = Vec::with_capacity(alloc, count as usize)?;
     for i in 0..count {
         let _ = i;
-        slots.push(erased_slot(alloc, shape)?)?;
+        slots.push(Slot::Erased)?;
     }
     Ok(slots)
 }
 
-/// How a read finds a page of this state.
-fn read_of(tag: PageTag) -> PageRead
-    ensures { byte_by result ≡ byte_of tag }
-{
-    match tag {
-        PageTag::Erased => PageRead::Erased,
-        PageTag::Whole => PageRead::Whole,
-        PageTag::Torn => PageRead::Torn,
-    }
-}
-
 /// The state that the state byte of a page says.
-fn state_by(shape: &Shape, byte: u8, page: u32) -> Result<PageRead, LoadFault>
+fn state_by(shape: &Shape, byte: u8, page: u32) -> Result<PageTag, LoadFault>
     requires { page < spec.page_count shape.now }
-    ensures ok { IfOk result (λ state. byte_by state ≡ byte) }
+    ensures ok { IfOk result (λ tag. byte_of tag ≡ byte) }
     ensures bad { (at : ℕ) → result ≡ Err (LoadFault.BadImage at)
         → (TORN < byte) × (at ≡ HEADER_BYTES + page) }
 {
     match state(byte, state_at(shape, page)) {
-        Ok(tag) => Ok(read_of(tag)),
+        Ok(tag) => Ok(tag),
         Err(ImageError::Bad { at }) => Err(LoadFault::BadImage { at }),
     }
 }
 
-/// The page of this state, with the room of its bytes.
-fn slot_by(alloc: Global, shape: &Shape, byte: u8, page: u32) -> Result<Slot, LoadFault>
-    requires { page < spec.page_count shape.now }
-    ensures state { IfOk result (λ slot. byte_by slot.state ≡ byte) }
-    ensures fit { IfOk result (λ slot. IsPage shape.now slot.bytes.items) }
+/// The page of this number in a file with these state bytes.
+fn slot_in(
+    alloc: Global,
+    file: &File,
+    reader: &mut PageReader,
+    states: &[u8],
+    page: u32,
+) -> Result<Slot, LoadFault>
+    requires count { length states.now ≡ spec.page_count reader.old.shape }
+    requires exists { page < length states.now }
+    ensures shape { reader.new.shape ≡ reader.old.shape }
+    ensures state { IfOk result (λ slot. byte_by slot ≡ slice_index states.now page) }
+    ensures fit { IfOk result (λ slot. Fits reader.old.shape slot) }
     ensures bad { (at : ℕ) → result ≡ Err (LoadFault.BadImage at)
-        → (TORN < byte) × (at ≡ HEADER_BYTES + page) }
+        → (TORN < slice_index states.now page) × (at ≡ HEADER_BYTES + page) }
 {
-    match state_by(shape, byte, page) {
-        Ok(state) => match erased_slot(alloc, shape) {
-            Ok(slot) => Ok(Slot {
-                state,
-                bytes: slot.bytes,
-            }),
-            Err(_) => Err(LoadFault::Memory),
+    let shape = reader.shape;
+    match state_by(&shape, states[page as usize], page) {
+        Ok(PageTag::Erased) => Ok(Slot::Erased),
+        Ok(PageTag::Torn) => Ok(Slot::Torn),
+        Ok(PageTag::Whole) => match reader.copy(alloc, file, states, page) {
+            Ok(bytes) => Ok(Slot::Whole(bytes)),
+            Err(fault) => Err(fault),
         },
         Err(fault) => Err(fault),
     }
 }
 
-/// The pages of these state bytes, with the room of their bytes, or the first byte that is no state.
-pub fn slots_of(alloc: Global, shape: &Shape, states: &[u8]) -> Result<Vec<Slot>, LoadFault>
-    requires { length states.now ≡ spec.page_count shape.now }
+/// The pages of a file with these state bytes, or the first byte that is no state.
+pub fn slots_of(
+    alloc: Global,
+    file: &File,
+    reader: &mut PageReader,
+    states: &[u8],
+) -> Result<Vec<Slot>, LoadFault>
+    requires { length states.now ≡ spec.page_count reader.old.shape }
     ensures states { IfOk result (λ v. bytes_of v.items ≡ states.now) }
-    ensures fit { IfOk result (λ v. AllFit shape.now v.items) }
+    ensures fit { IfOk result (λ v. AllFit reader.old.shape v.items) }
     ensures bad { (at : ℕ) → result ≡ Err (LoadFault.BadImage at)
         → bad_state HEADER_BYTES states.now ≡ Some at }
 {
-    let Ok(mut slots) = Vec::with_capacity(alloc, shape.page_count() as usize) else {
+    let Ok(mut slots) = Vec::with_capacity(alloc, states.len()) else {
         return Err(LoadFault::Memory);
     };
-    for (i, byte) in states.iter().enumerate() {
-        match slot_by(alloc, shape, *byte, i as u32) {
+    for i in 0..reader.shape.page_count() {
+        match slot_in(alloc, file, reader, states, i) {
             Ok(slot) => match slots.push(slot) {
                 Ok(()) => {}
                 Err(_) => return Err(LoadFault::Memory),
@@ -129,56 +119,26 @@ pub fn read_slot(slots: &Vec<Slot>, page: usize, into: &mut [u8]) -> PageRead
     ensures found { result ≡ answer (page_at (pages_of slots.now.items) page) }
     ensures bytes { into.new ≡ filled (page_at (pages_of slots.now.items) page) into.old }
 {
-    let slot = &slots[page];
-    if slot.state == PageRead::Whole {
-        into.copy_from_slice(slot.bytes.as_slice());
+    match &slots[page] {
+        Slot::Erased => PageRead::Erased,
+        Slot::Whole(bytes) => {
+            into.copy_from_slice(bytes.as_slice());
+            PageRead::Whole
+        }
+        Slot::Torn => PageRead::Torn,
     }
-    slot.state
 }
 
-fn overwrite(into: &mut Vec<u8>, bytes: &[u8])
-    requires { length into.old.items ≡ length bytes.now }
-    ensures { into.new.items ≡ bytes.now }
-{
-    into.as_mut_slice().copy_from_slice(bytes);
-}
-
-/// The page becomes Whole.
-pub fn write_slot(slots: &mut Vec<Slot>, page: usize, bytes: &[u8])
-    requires exists { page < length slots.old.items }
-    requires fits { (shape : spec.Shape) × (length bytes.now ≡ shape.page_bytes)
-        × AllFit shape slots.old.items }
+/// The page becomes this one; the bytes that it had are given back.
+pub fn set_slot(slots: &mut Vec<Slot>, page: usize, slot: Slot)
+    requires { page < length slots.old.items }
     ensures pages { pages_of slots.new.items
-        ≡ slice_set (pages_of slots.old.items) page (whole bytes.now) }
+        ≡ slice_set (pages_of slots.old.items) page (page_of slot) }
     ensures count { length slots.new.items ≡ length slots.old.items }
-    ensures fit { (shape : spec.Shape) → AllFit shape slots.old.items
+    ensures fit { (shape : spec.Shape) → AllFit shape slots.old.items → Fits shape slot
         → AllFit shape slots.new.items }
 {
-    let slot = &mut slots[page];
-    overwrite(&mut slot.bytes, bytes);
-    slot.state = PageRead::Whole;
-}
-
-/// The page becomes Torn.
-pub fn tear_slot(slots: &mut Vec<Slot>, page: usize)
-    requires { page < length slots.old.items }
-    ensures pages { pages_of slots.new.items ≡ slice_set (pages_of slots.old.items) page torn }
-    ensures count { length slots.new.items ≡ length slots.old.items }
-    ensures fit { (shape : spec.Shape) → AllFit shape slots.old.items
-        → AllFit shape slots.new.items }
-{
-    slots[page].state = PageRead::Torn;
-}
-
-/// The page becomes Erased.
-fn erase_slot(slots: &mut Vec<Slot>, page: usize)
-    requires { page < length slots.old.items }
-    ensures pages { pages_of slots.new.items ≡ slice_set (pages_of slots.old.items) page erased }
-    ensures count { length slots.new.items ≡ length slots.old.items }
-    ensures fit { (shape : spec.Shape) → AllFit shape slots.old.items
-        → AllFit shape slots.new.items }
-{
-    slots[page].state = PageRead::Erased;
+    slots[page] = slot;
 }
 
 /// So many pages in a row become Erased.
@@ -190,6 +150,6 @@ pub fn erase_slots(slots: &mut Vec<Slot>, first: usize, count: usize)
         → AllFit shape slots.new.items }
 {
     for i in 0..count {
-        erase_slot(slots, first + i);
+        set_slot(slots, first + i, Slot::Erased);
     }
 }

@@ -3,6 +3,7 @@ use Rattle.std.proofs.lemmas.List.{length-map}
 use Rattle.pk_base.specs.Page.{Flash}
 use Rattle.pk_file.specs.Slots.{pages_of, page_of, ErasedRow}
 use Rattle.pk_file.proofs.Rows.{row_more}
+use Rattle.pk_file.proofs.Slotting.{erased_fits}
 use Rattle.pk_file.proofs.slots.erase_slots.Goals as goal
 
 pub loop-i-preserved : goal.loop-i-preserved
@@ -13,7 +14,7 @@ loop-i-preserved c =
     let Q : ℕ → Type 0 = λ n. first + i < n in
     let room = subst Q (sym (length-map c.loop-i.slots.items page_of)) (omega (arith, c.loop-i.invariant.count, c.requires, c.loop-i-test.true)) in
     record {
-      pages = subst P (sym c.erase_slot.ensures.pages) (row_more first i (pages_of c.args.slots.now.items) (pages_of c.loop-i.slots.items) room c.loop-i.invariant.pages);
-      count = c.erase_slot.ensures.count ∙ c.loop-i.invariant.count;
-      fit = λ shape h. c.erase_slot.ensures.fit shape (c.loop-i.invariant.fit shape h);
+      pages = subst P (sym c.set_slot.ensures.pages) (row_more first i (pages_of c.args.slots.now.items) (pages_of c.loop-i.slots.items) room c.loop-i.invariant.pages);
+      count = c.set_slot.ensures.count ∙ c.loop-i.invariant.count;
+      fit = λ shape h. c.set_slot.ensures.fit shape (c.loop-i.invariant.fit shape h) (erased_fits shape);
     }

@@ -5,7 +5,8 @@ use Rattle.pk_file.proofs.slots.slots_of.Given as goal
 
 abbrev pub invariant-loop-i : goal.invariant-loop-i
 invariant-loop-i l = record {
+  shape : l.reader.shape ≡ l.initial.reader.shape;
   states : bytes_of l.slots.items ≡ take l.i l.states;
-  fit : AllFit l.shape l.slots.items;
+  fit : AllFit l.initial.reader.shape l.slots.items;
   bad : bad_state (32 + l.i) (drop l.i l.states) ≡ bad_state 32 l.states;
 }

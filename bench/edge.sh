@@ -1,0 +1,146 @@
+#!/bin/sh
+# Runs the program with standard streams that are closed, full, slow or shared, and with two processes on one image, and looks at
+# what becomes of the image, the records and the status. It proves nothing and is no part of the gate.
+#
+#   bench/edge.sh
+set -eu
+
+top=$(CDPATH='' cd -- "$(dirname -- "$0")/.." && pwd)
+folder=$(mktemp -d)
+trap 'rm -rf "$folder"' EXIT
+
+"$top/pink" "$folder/first.img" make 512 16 64
+python3 - "$top" "$folder" <<'PY'
+import os, select, signal, struct, subprocess, sys, time
+
+top, folder = sys.argv[1:]
+program, launcher = top + '/crates/pink/out/pink', top + '/pink'
+image, script = folder + '/drive.img', folder + '/script'
+STORE, RETRIEVE, RECORD = 1, 2, 24
+
+def entry(opcode, cid, key, size):
+    body = bytearray(64)
+    body[0] = opcode
+    struct.pack_into('<HI', body, 2, cid, 1)
+    padded = key + bytes(16 - len(key))
+    body[8:16], body[56:64] = padded[:8], padded[8:]
+    struct.pack_into('<I', body, 40, size)
+    body[44] = len(key)
+    return bytes(body)
+
+keys = [b'key%02d' % i for i in range(20)]
+stores = [(keys[i * 7 % 20], bytes([i]) * (100 + i)) for i in range(40)]
+commands = [entry(STORE, i, key, len(value)) + value for i, (key, value) in enumerate(stores)]
+with open(script, 'wb') as file:
+    file.write(b''.join(commands))
+asks = [entry(RETRIEVE, i, key, 2016) for i, key in enumerate(keys)]
+maps = [{}]                                     # behind so many Stores
+for key, value in stores:
+    maps.append({**maps[-1], key: value})
+
+def fresh():
+    with open(folder + '/first.img', 'rb') as file:
+        made = file.read()
+    with open(image, 'wb') as file:
+        file.write(made)
+
+def content(path=image):
+    with open(path, 'rb') as file:
+        return file.read()
+
+def shell(words):                               # the status and standard error of the launcher under these redirections
+    line = f'"{launcher}" "{image}" {words}'
+    run = subprocess.run(['sh', '-c', line], stdin=subprocess.DEVNULL, stdout=subprocess.PIPE, stderr=subprocess.PIPE, timeout=60)
+    return run.returncode, run.stderr.decode()
+
+def held():                                     # the map that a further run finds
+    run = subprocess.run([program, image, 'serve', '36'], input=b''.join(asks), stdout=subprocess.PIPE, check=True, timeout=60)
+    found, at = {}, 0
+    for key in keys:
+        size = struct.unpack_from('<I', run.stdout, at + 20)[0]
+        if struct.unpack_from('<I', run.stdout, at + 12)[0] >> 17 == 0:
+            found[key] = run.stdout[at + RECORD:at + RECORD + size]
+        at += RECORD + size
+    return found
+
+def expect(what, holds):
+    if not holds:
+        sys.exit('edge: ' + what)
+    print('  ' + what)
+
+print('closed streams')
+for streams in ['>&-', '>&- 2>&-']:
+    fresh()
+    status, _ = shell(f'serve 36 <"{script}" {streams}')
+    expect(f'serve < script {streams}: status 5, the image holds a front of the script', status == 5 and held() in maps)
+for streams in ['<&-', '<&- 2>&-']:
+    fresh()
+    status, _ = shell(f'serve 36 {streams}')
+    expect(f'serve {streams}: status 0, the image is as it was', status == 0 and content() == content(folder + '/first.img'))
+fresh()
+status, _ = shell('serve 36 <&- >&- 2>&-')
+expect('serve <&- >&- 2>&-: status 0, the image is as it was', status == 0 and content() == content(folder + '/first.img'))
+for streams in ['>&-', '<&- >&- 2>&-']:
+    os.remove(image)
+    status, _ = shell(f'make 512 16 64 {streams}')
+    expect(f'make {streams}: status 0, the same image as ever', status == 0 and content() == content(folder + '/first.img'))
+
+print('an output that fails')
+fresh()
+status, _ = shell(f'serve 36 <"{script}" >/dev/full')
+expect('serve < script > /dev/full: status 5, the image holds a front of the script', status == 5 and held() in maps)
+fresh()
+serve = subprocess.Popen([program, image, 'serve', '36'], stdin=subprocess.PIPE, stdout=subprocess.PIPE)
+serve.stdin.write(asks[0])
+serve.stdin.flush()
+serve.stdout.read(RECORD)
+serve.stdout.close()
+serve.stdin.write(asks[1])
+serve.stdin.close()
+status = serve.wait(timeout=60)
+expect('a reader that leaves between two records: status 5', status == 5)
+
+print('records leave before the input waits')
+fresh()
+serve = subprocess.Popen([program, image, 'serve', '36'], stdin=subprocess.PIPE, stdout=subprocess.PIPE)
+out = b''
+for ask in asks:
+    serve.stdin.write(ask[:40])
+    serve.stdin.flush()
+    serve.send_signal(signal.SIGSTOP)           # a read that waits is interrupted
+    serve.send_signal(signal.SIGCONT)
+    serve.stdin.write(ask[40:])
+    serve.stdin.flush()
+    ready, _, _ = select.select([serve.stdout], [], [], 30)
+    out += os.read(serve.stdout.fileno(), 65536) if ready else sys.exit('edge: no record came')
+serve.stdin.close()
+expect('each record came before the next entry was given', serve.wait(timeout=60) == 0 and len(out) == len(asks) * RECORD)
+
+print('the same records however the input comes')
+long = b''.join(commands) + b''.join(entry(RETRIEVE, i, keys[i * 3 % 20], i % 200) for i in range(3000))
+outs = []
+for step in [len(long), 65536, 4096, 1000, 64]:
+    fresh()
+    serve = subprocess.Popen([program, image, 'serve', '36'], stdin=subprocess.PIPE, stdout=open(folder + '/out', 'wb'))
+    for at in range(0, len(long), step):
+        serve.stdin.write(long[at:at + step])
+        serve.stdin.flush()
+    serve.stdin.close()
+    outs.append((serve.wait(timeout=60), content(folder + '/out')))
+expect('pieces of 64 bytes to the whole at once: the same bytes, status 0', outs[0][0] == 0 and all(out == outs[0] for out in outs))
+
+print('two processes on one image')
+fresh()
+serve = subprocess.Popen([program, image, 'serve', '36'], stdin=subprocess.PIPE, stdout=subprocess.PIPE)
+serve.stdin.write(commands[0] + asks[0])
+serve.stdin.flush()
+serve.stdout.read(RECORD)
+before = content()
+for words in [f'serve 36 <"{script}"', 'make 512 16 64']:
+    status, told = shell(words)
+    expect(f'a second {words.split()[0]}: status 6, "in use", nothing changed', status == 6 and 'in use' in told and content() == before)
+serve.stdin.close()
+serve.stdout.read()
+expect('the first goes on to its end', serve.wait(timeout=60) == 0)
+expect('behind it the image is free, with what the first stored', held() == maps[1])
+PY
