@@ -1,0 +1,166 @@
+#!/usr/bin/env python3
+"""Tests of pinkdump against the real programs, beside the gate:  python3 bench/dump.py
+
+What it prints of a drive that is made, in use, and cut is compared with what was stored; an image
+that is none is refused with its first wrong byte; and no dump changes a byte of an image.
+"""
+
+import os
+import subprocess
+import sys
+import tempfile
+import unittest
+
+TOP = os.path.join(os.path.dirname(os.path.abspath(__file__)), "..")
+sys.path.insert(0, os.path.join(TOP, "clients", "python"))
+
+import pinkdrive
+
+PINK = os.environ.get("PINK_PROGRAM", os.path.join(TOP, "pink"))
+DUMP = os.environ.get("PINKDUMP_PROGRAM", os.path.join(TOP, "pinkdump"))
+PAGE, STATES, PAGES = 512, 32, 1024  # in shape (512, 16, 64)
+
+
+def fields(line):
+    name, *rest = line.split()
+    return name, dict(it.split("=", 1) for it in rest)
+
+
+class Dump(unittest.TestCase):
+    def setUp(self):
+        folder = tempfile.TemporaryDirectory()
+        self.addCleanup(folder.cleanup)
+        self.image = os.path.join(folder.name, "drive.img")
+        pinkdrive.make(self.image, PAGE, 16, 64, program=PINK)
+
+    def run_dump(self, *words):
+        before = self.bytes()
+        done = subprocess.run([DUMP, self.image, *words], capture_output=True, text=True)
+        self.assertEqual(self.bytes(), before)
+        return done
+
+    def lines(self):
+        done = self.run_dump("lines")
+        self.assertEqual((done.returncode, done.stderr), (0, ""))
+        return [fields(line) for line in done.stdout.splitlines()]
+
+    def of(self, name):
+        return [it for found, it in self.lines() if found == name]
+
+    def store(self, values):
+        with pinkdrive.Drive(self.image, program=PINK) as d:
+            d.update(values)
+
+    def bytes(self):
+        if not os.path.exists(self.image):
+            return None
+        with open(self.image, "rb") as it:
+            return it.read()
+
+    def change(self, at, what):
+        with open(self.image, "r+b") as it:
+            it.seek(at)
+            it.write(what)
+
+    def page(self, number):
+        return STATES + PAGES + number * PAGE
+
+    def test_a_made_drive(self):
+        shape = {"page_bytes": "512", "block_pages": "16", "blocks": "64"}
+        self.assertEqual(self.of("image"), [shape])
+        (root,) = self.of("root")
+        numbers = root["page"], root["number"], root["epoch"], root["blocks"]
+        self.assertEqual(numbers, ("0", "1", "1", "2,3"))
+        self.assertEqual((root["newest"], root["older"], root["run1"]), ("1", "-", "0"))
+        self.assertEqual((self.of("entry"), self.of("page"), self.of("map")), ([], [], [{"keys": "0"}]))
+        blocks = self.of("block")
+        self.assertEqual(len(blocks), 64)
+        self.assertEqual(blocks[0]["pages"], "R" + "." * 15)
+        uses = ["roots", "roots", "newest-epoch", "newest-epoch", "free"]
+        self.assertEqual([it["use"] for it in blocks[:5]], uses)
+
+    def test_a_drive_in_use(self):
+        self.store({b"a": b"1", b"b": bytes(600), b"c": b""})
+        self.store({b"a": b"2"})
+        numbers = [int(it["number"]) for it in self.of("epoch")]
+        self.assertEqual(numbers, [numbers[0], numbers[0] - 1])
+        entries = [(it["key"], int(it["len"]), int(it["page"])) for it in self.of("entry")]
+        self.assertEqual([it[:2] for it in entries], [("61", 1), ("61", 1), ("62", 600), ("63", 0)])
+        (_, _, newer), (_, _, older), (_, _, long), (_, _, empty) = entries
+        row = "".join(it["pages"] for it in self.of("block"))
+        live = {i for i, letter in enumerate(row) if letter == "V"}
+        self.assertEqual(live, {newer, long, long + 1, empty})
+        self.assertEqual(row[older], "v")
+        self.assertEqual(sum(int(it["live"]) for it in self.of("block")), 4)
+        self.assertEqual(self.of("map"), [{"keys": "3"}])
+
+    def test_a_deleted_key(self):
+        with pinkdrive.Drive(self.image, program=PINK) as d:
+            d[b"a"] = b"1"
+            del d[b"a"]
+        self.assertEqual([it.get("deleted") for it in self.of("entry")], [None, "1"])
+        self.assertIn("  61 deleted\n", self.run_dump().stdout)
+
+    def test_a_torn_page_of_the_journal(self):
+        self.store({b"a": b"1"})
+        (page,) = self.of("page")
+        number = int(page["number"])
+        self.assertEqual(page, {"of": "epoch", "number": str(number), "entries": "1"})
+        self.change(STATES + number, b"\2")
+        self.assertEqual(self.of("page"), [{"of": "epoch", "number": str(number), "is": "torn"}])
+        self.assertEqual((self.of("entry"), self.of("map")), ([], [{"keys": "0"}]))
+        self.assertEqual(self.of("block")[number // 16]["pages"][number % 16], "x")
+
+    def test_a_damaged_flash(self):
+        self.store({b"a": b"1", b"b": b"2"})
+        value = int(self.of("entry")[0]["page"])
+        journal = int(self.of("page")[0]["number"])
+        roots = [int(it["page"]) for it in self.of("root")]
+        self.change(self.page(value), b"\0")
+        self.assertEqual(self.of("fails"), [{"page": str(value)}])
+        self.assertEqual(len(self.of("entry")), 2)
+        self.assertIn(f"reading the flash fails at page {value}\n", self.run_dump().stdout)
+        self.assertEqual(self.of("block")[value // 16]["use"], "unknown")
+        self.change(self.page(journal), b"X")
+        self.assertEqual(self.of("fails"), [{"page": str(journal)}])
+        self.assertEqual(self.of("page"), [{"of": "epoch", "number": str(journal), "is": "wrong"}])
+        for page in roots:
+            self.change(self.page(page), b"X")
+        self.assertEqual((self.of("root"), self.of("entry")), ([], []))
+        self.assertIn(("no-root", {}), self.lines())
+
+    def test_what_is_no_image(self):
+        whole = self.bytes()
+        for bad, at in (
+            (b"no image", 8),
+            (whole[:31], 31),
+            (whole[:-1], 32),
+            (b"X" + whole[1:], 0),
+            (whole[:40] + b"\3" + whole[41:], 40),
+        ):
+            with open(self.image, "wb") as it:
+                it.write(bad)
+            done = self.run_dump()
+            self.assertEqual((done.returncode, done.stdout), (8, ""))
+            self.assertIn(f"no image: the first wrong byte is at {at}\n", done.stderr)
+        os.remove(self.image)
+        done = self.run_dump("lines")
+        self.assertEqual((done.returncode, done.stdout), (8, ""))
+        self.assertIn("there is no image\n", done.stderr)
+
+    def test_words(self):
+        for words in (["what"], ["lines", "more"]):
+            self.assertEqual(self.run_dump(*words).returncode, 2)
+
+    def test_the_picture(self):
+        self.store({b"a": b"1"})
+        lines = self.run_dump("lines").stdout
+        words = [sys.executable, os.path.join(TOP, "docs", "picture.py")]
+        done = subprocess.run(words, input=lines, capture_output=True, text=True)
+        self.assertEqual((done.returncode, done.stderr), (0, ""))
+        self.assertTrue(done.stdout.startswith("<svg ") and done.stdout.endswith("</svg>\n"))
+        self.assertIn(": the newest epoch of the journal</title>", done.stdout)
+
+
+if __name__ == "__main__":
+    unittest.main()

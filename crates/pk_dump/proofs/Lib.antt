@@ -1,0 +1,2 @@
+mod ReadPages
+mod Commits

@@ -1,0 +1,4 @@
+pub mod Pages
+pub mod Holds
+pub mod Readings
+pub mod Uses

@@ -1,0 +1,22 @@
+-- Pages of a flash in memory.
+use Rattle.std.specs.Prelude.{◌≡◌, ℕ, List, length, All}
+use Rattle.pk_base.specs.Shape.{Shape}
+use Rattle.pk_base.specs.Page.{Page, erased, whole, torn}
+use Rattle.pk_nand.specs.declared.types.PageRead.{PageRead}
+use Rattle.pk_nand.specs.declared.types.PageRead.TheVariants.{Erased, Whole, Torn}
+use Rattle.pk_nand.specs.declared.types.PageState.{PageState}
+use Rattle.pk_nand.specs.Seen.{state}
+
+-- where the page is whole it has the bytes of a page
+abbrev pub IsFull : Shape → Page → Type 0
+IsFull shape page = (bytes : List ℕ) → page ≡ whole bytes → length bytes ≡ shape.page_bytes
+
+-- each page that is whole has the bytes of a page
+abbrev pub AreFull : Shape → List PageState → Type 0
+AreFull shape pages = All (λ page. IsFull shape (state page)) pages
+
+-- the page that a read found, whose bytes stand in the buffer where it is whole
+abbrev pub read_as : PageRead → List ℕ → Page
+read_as Erased bytes = erased
+read_as Whole bytes = whole bytes
+read_as Torn bytes = torn

@@ -1,0 +1,150 @@
+//! Blocks: what each is for, and a letter for each of its pages.
+ghost use Rattle.std.specs.Prelude.{◌≡◌, ◌≤◌, ◌<◌};
+ghost use Rattle.pk_rootfmt.specs.Held.{older_of, blocks_or_none};
+ghost use Rattle.pk_dump.specs.Uses.{is_among, run_of, use_of};
+
+use crate::form::Form;
+use crate::picture::{BlockUse, Life, letter};
+use pk_base::Shape;
+use pk_live::Live;
+use pk_nand::PageState;
+use pk_rootfmt::Root;
+use std::alloc::{AllocError, Allocator};
+use std::fmt::Write;
+
+/// Whether the run of a level has a block.
+fn in_run<A: Allocator>(root: &Root<A>, level: u8, block: u16) -> bool
+    requires { 1 ≤ level × level ≤ 4 }
+    ensures { result ≡ is_among block (run_of root.now.root level) }
+{
+    root.blocks(level).contains(&block)
+}
+
+/// Whether the older epoch has a block.
+fn in_older<A: Allocator>(root: &Root<A>, block: u16) -> bool
+    ensures { result ≡ is_among block (blocks_or_none (older_of root.now.root.older)) }
+{
+    match root.older() {
+        Some(blocks) => blocks.contains(&block),
+        None => false,
+    }
+}
+
+/// What a block behind the root blocks is for, as the root names it.
+fn named_use<A: Allocator>(root: &Root<A>, block: u16) -> BlockUse
+    ensures { result ≡ use_of root.now.root block }
+{
+    if root.newest().contains(&block) {
+        BlockUse::Newest
+    } else if in_older(root, block) {
+        BlockUse::Older
+    } else if in_run(root, 1, block) {
+        BlockUse::Run { level: 1 }
+    } else if in_run(root, 2, block) {
+        BlockUse::Run { level: 2 }
+    } else if in_run(root, 3, block) {
+        BlockUse::Run { level: 3 }
+    } else if in_run(root, 4, block) {
+        BlockUse::Run { level: 4 }
+    } else {
+        BlockUse::Rest
+    }
+}
+
+/// What a block is for under the newest root, if there is one.
+fn block_use<A: Allocator>(root: Option<&Root<A>>, block: u32) -> BlockUse
+    requires { block < 65536 }
+{
+    if block < 2 {
+        return BlockUse::Root;
+    }
+    match root {
+        Some(root) => named_use(root, block as u16),
+        None => BlockUse::Rest,
+    }
+}
+
+/// What is known of the value to which a page belongs.
+fn life_of<A: Allocator>(live: Option<&Live<A>>, page: u32) -> Life {
+    match live {
+        Some(live) => {
+            if live.is_live(page) {
+                Life::Live
+            } else {
+                Life::Dead
+            }
+        }
+        None => Life::Unknown,
+    }
+}
+
+/// The name of what a block is for; of a block that no root names, whether it has a live page.
+fn name_of<A: Allocator>(used: BlockUse, live: Option<&Live<A>>, block: u32) -> &'static str {
+    match used {
+        BlockUse::Root => "roots",
+        BlockUse::Newest => "newest-epoch",
+        BlockUse::Older => "older-epoch",
+        BlockUse::Run { level: 1 } => "run1",
+        BlockUse::Run { level: 2 } => "run2",
+        BlockUse::Run { level: 3 } => "run3",
+        BlockUse::Run { .. } => "run4",
+        BlockUse::Rest => match live {
+            Some(live) => {
+                if live.count(block) > 0 {
+                    "values"
+                } else {
+                    "free"
+                }
+            }
+            None => "unknown",
+        },
+    }
+}
+
+/// Tells of a block: its use, its live pages, and a letter for each page.
+fn tell_block<A: Allocator>(
+    out: &mut String,
+    form: Form,
+    shape: &Shape,
+    root: Option<&Root<A>>,
+    live: Option<&Live<A>>,
+    block: u32,
+    pages: &[PageState],
+) -> Result<(), AllocError>
+    requires { block < shape.now.blocks }
+{
+    shape.known();
+    let used = block_use(root, block);
+    let name = name_of(used, live, block);
+    let count = match live {
+        Some(live) => live.count(block),
+        None => 0,
+    };
+    match form {
+        Form::People => write!(out, "block {block:>4} {name:<12} {count:>3} live  ")?,
+        Form::Programs => write!(out, "block number={block} use={name} live={count} pages=")?,
+    }
+    let first = block * shape.block_pages();
+    for i in 0..shape.block_pages() {
+        let Some(page) = pages.get((first + i) as usize) else {
+            return Ok(());
+        };
+        out.push(letter(used, life_of(live, first + i), page))?;
+    }
+    writeln!(out, "")
+}
+
+/// Tells of all blocks.
+pub fn tell_blocks<A: Allocator>(
+    out: &mut String,
+    form: Form,
+    shape: &Shape,
+    root: Option<&Root<A>>,
+    live: Option<&Live<A>>,
+    pages: &[PageState],
+) -> Result<(), AllocError> {
+    for block in 0..shape.blocks() {
+        tell_block(out, form, shape, root, live, block, pages)?;
+    }
+    Ok(())
+}

@@ -1,0 +1,10 @@
+//! How lines are written.
+
+/// Whom the lines are for.
+#[derive(Clone, Copy, Debug, PartialEq, Eq)]
+pub enum Form {
+    /// Sentences.
+    People,
+    /// A name, and behind it `name=value` for each field.
+    Programs,
+}

@@ -1,0 +1,56 @@
+//! Pages at their places in an epoch or a run.
+ghost use Rattle.std.specs.Prelude.{◌≡◌, IfSome};
+ghost use Rattle.pk_base.specs.Page.{page_in as page_in_blocks};
+
+use crate::form::Form;
+use pk_base::Shape;
+use std::alloc::AllocError;
+use std::fmt::Write;
+
+/// What stands where a page of an epoch or of a run has its place.
+#[derive(Clone, Copy, Debug, PartialEq, Eq)]
+pub enum Held {
+    /// The page is Erased.
+    Erased,
+    /// The page is Torn.
+    Torn,
+    /// The page is Whole and not the one that belongs there.
+    Wrong,
+    /// The page that belongs there, with so many entries.
+    Entries { count: u32 },
+}
+
+/// The page at a place of these blocks.
+pub fn page_in(shape: &Shape, blocks: &[u16], place: u32) -> Option<u32>
+    ensures { IfSome result (λ page. page ≡ page_in_blocks shape.now blocks.now place) }
+{
+    let count = shape.block_pages();
+    match blocks.get((place / count) as usize) {
+        Some(block) => Some(*block as u32 * count + place % count),
+        None => None,
+    }
+}
+
+/// Tells of a page at its place; its entries are told behind it.
+pub fn tell_held(
+    out: &mut String,
+    form: Form,
+    of: &str,
+    page: u32,
+    held: Held,
+) -> Result<(), AllocError> {
+    match form {
+        Form::People => match held {
+            Held::Erased => writeln!(out, "{of}: page {page} is erased"),
+            Held::Torn => writeln!(out, "{of}: page {page} is torn"),
+            Held::Wrong => writeln!(out, "{of}: page {page} is wrong"),
+            Held::Entries { count } => writeln!(out, "{of}: page {page}, {count} entries"),
+        },
+        Form::Programs => match held {
+            Held::Erased => writeln!(out, "page of={of} number={page} is=erased"),
+            Held::Torn => writeln!(out, "page of={of} number={page} is=torn"),
+            Held::Wrong => writeln!(out, "page of={of} number={page} is=wrong"),
+            Held::Entries { count } => writeln!(out, "page of={of} number={page} entries={count}"),
+        },
+    }
+}

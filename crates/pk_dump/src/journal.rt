@@ -1,0 +1,157 @@
+//! Epochs: the commits of each, up to the first page that is not Whole, with their entries.
+ghost use Rattle.std.specs.Prelude.{◌≡◌, ◌<◌, length, MatchBool};
+ghost use Rattle.pk_base.specs.Page.{whole};
+ghost use Rattle.pk_base.specs.Shape.{epoch_commits};
+ghost use Rattle.pk_nand.specs.Seen.{state};
+ghost use Rattle.pk_dump.specs.Pages.{IsFull, AreFull};
+ghost use Rattle.pk_dump.specs.Holds.{HoldsCommit};
+
+use crate::form::Form;
+use crate::held::{Held, page_in, tell_held};
+use crate::words::tell_entry;
+use pk_base::Shape;
+use pk_jrnfmt::{JrnHead, decode, entry};
+use pk_nand::PageState;
+use pk_rootfmt::Root;
+use std::alloc::{AllocError, Allocator};
+use std::fmt::Write;
+
+/// Whether a page is the one of this number and index.
+fn is_of(head: JrnHead, number: u64, index: u32) -> bool
+    ensures { MatchBool result ((head.epoch ≡ number) × (head.index ≡ index))
+        ((head.epoch ≡ number) × (head.index ≡ index) → ⊥) }
+{
+    head.epoch == number && head.index == index
+}
+
+/// What these bytes are as the commit of this index in the epoch of this number.
+fn commit_of(shape: &Shape, number: u64, index: u32, bytes: &[u8]) -> Held
+    requires full { length bytes.now ≡ shape.now.page_bytes }
+    requires index { index < epoch_commits shape.now }
+    ensures { HoldsCommit shape.now number index (whole bytes.now) result }
+{
+    match decode(shape, bytes) {
+        Ok(head) => {
+            if is_of(head, number, index) {
+                Held::Entries { count: head.count }
+            } else {
+                Held::Wrong
+            }
+        }
+        Err(_) => Held::Wrong,
+    }
+}
+
+/// What this page is as the commit of this index in the epoch of this number.
+fn commit_in(shape: &Shape, number: u64, index: u32, page: &PageState) -> Held
+    requires full { IsFull shape.now (state page.now) }
+    requires index { index < epoch_commits shape.now }
+    ensures { HoldsCommit shape.now number index (state page.now) result }
+{
+    match page {
+        PageState::Erased => Held::Erased,
+        PageState::Torn => Held::Torn,
+        PageState::Whole(bytes) => commit_of(shape, number, index, bytes.bytes()),
+    }
+}
+
+/// Tells of the entries of a page that holds a commit.
+fn tell_entries(
+    out: &mut String,
+    form: Form,
+    shape: &Shape,
+    page: &PageState,
+) -> Result<(), AllocError>
+    requires { IsFull shape.now (state page.now) }
+{
+    let PageState::Whole(bytes) = page else {
+        return Ok(());
+    };
+    let Ok(head) = decode(shape, bytes.bytes()) else {
+        return Ok(());
+    };
+    for i in 0..head.count {
+        tell_entry(out, form, &entry(shape, bytes.bytes(), i))?;
+    }
+    Ok(())
+}
+
+/// Tells of a commit, and answers whether the epoch goes on behind it.
+fn tell_commit(
+    out: &mut String,
+    form: Form,
+    shape: &Shape,
+    number: u64,
+    index: u32,
+    at: u32,
+    page: &PageState,
+) -> Result<bool, AllocError>
+    requires full { IsFull shape.now (state page.now) }
+    requires index { index < epoch_commits shape.now }
+{
+    let held = commit_in(shape, number, index, page);
+    if held == Held::Erased {
+        return Ok(false);
+    }
+    tell_held(out, form, "epoch", at, held)?;
+    match held {
+        Held::Entries { .. } => {
+            tell_entries(out, form, shape, page)?;
+            Ok(true)
+        }
+        _ => Ok(held == Held::Wrong),
+    }
+}
+
+/// Tells of the commits of the epoch of this number in these blocks.
+fn tell_epoch(
+    out: &mut String,
+    form: Form,
+    shape: &Shape,
+    number: u64,
+    blocks: [u16; 2],
+    pages: &[PageState],
+) -> Result<(), AllocError>
+    requires { AreFull shape.now pages.now }
+{
+    match form {
+        Form::People => writeln!(out, "epoch {number}")?,
+        Form::Programs => writeln!(out, "epoch number={number}")?,
+    }
+    for index in 0..shape.epoch_commits() {
+        let Some(at) = page_in(shape, &blocks, index) else {
+            return Ok(());
+        };
+        let Some(page) = pages.get(at as usize) else {
+            return Ok(());
+        };
+        if !tell_commit(out, form, shape, number, index, at, page)? {
+            return Ok(());
+        }
+    }
+    Ok(())
+}
+
+/// Tells of the epochs that a root names, the newest one first.
+pub fn tell_epochs<A: Allocator>(
+    out: &mut String,
+    form: Form,
+    root: &Root<A>,
+    pages: &[PageState],
+) -> Result<(), AllocError>
+    requires { AreFull root.now.shape pages.now }
+{
+    let shape = root.shape();
+    tell_epoch(out, form, shape, root.epoch(), root.newest(), pages)?;
+    match root.older() {
+        Some(blocks) => tell_epoch(
+            out,
+            form,
+            shape,
+            root.epoch().saturating_sub(1),
+            blocks,
+            pages,
+        ),
+        None => Ok(()),
+    }
+}

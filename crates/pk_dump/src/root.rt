@@ -1,0 +1,125 @@
+//! Roots: what each page of the root blocks holds.
+ghost use Rattle.std.specs.Prelude.{◌≡◌, ◌≤◌, None, Some, MatchBool};
+ghost use Rattle.pk_nand.specs.Seen.{state};
+ghost use Rattle.pk_rootfmt.specs.Newest.{root_of};
+ghost use Rattle.pk_dump.specs.Pages.{IsFull, AreFull};
+
+use crate::form::Form;
+use crate::words::{tell_blocks, tell_pair};
+use pk_base::Shape;
+use pk_nand::PageState;
+use pk_rootfmt::Root;
+use std::alloc::{AllocError, Allocator, Global};
+use std::fmt::Write;
+
+/// Takes the root of a page, and answers whether there is one; without one the root stays.
+fn root_in<A: Allocator>(root: &mut Root<A>, page: &PageState) -> bool
+    requires { IsFull root.old.shape (state page.now) }
+    ensures found { MatchBool result (root_of root.old.shape (state page.now) ≡ Some root.new.root)
+        (root_of root.old.shape (state page.now) ≡ None) }
+    ensures shape { root.new.shape ≡ root.old.shape }
+{
+    root.shape().known();
+    match page {
+        PageState::Whole(bytes) => match root.decode(bytes.bytes()) {
+            Ok(()) => true,
+            Err(_) => false,
+        },
+        _ => false,
+    }
+}
+
+/// Tells of the root of a page.
+fn tell_root<A: Allocator>(
+    out: &mut String,
+    form: Form,
+    page: u32,
+    root: &Root<A>,
+    newest: Option<u32>,
+) -> Result<(), AllocError> {
+    let number = root.number();
+    let epoch = root.epoch();
+    let blocks = root.newest();
+    match form {
+        Form::People => {
+            write!(
+                out,
+                "root {number} in page {page}: epoch {epoch} in blocks "
+            )?;
+            tell_pair(out, blocks)?;
+            if let Some(older) = root.older() {
+                write!(out, ", the older one in blocks ")?;
+                tell_pair(out, older)?;
+            }
+        }
+        Form::Programs => {
+            write!(
+                out,
+                "root page={page} number={number} epoch={epoch} blocks="
+            )?;
+            tell_pair(out, blocks)?;
+            write!(out, " older=")?;
+            match root.older() {
+                Some(older) => tell_pair(out, older)?,
+                None => write!(out, "-")?,
+            }
+        }
+    }
+    for level in 1..5u8 {
+        tell_level(out, form, level, root)?;
+    }
+    let is_newest = newest == Some(page);
+    match form {
+        Form::People if is_newest => writeln!(out, "; the newest"),
+        Form::People => writeln!(out, ""),
+        Form::Programs => writeln!(out, " newest={}", is_newest as u32),
+    }
+}
+
+/// Tells of the run of a level under a root.
+fn tell_level<A: Allocator>(
+    out: &mut String,
+    form: Form,
+    level: u8,
+    root: &Root<A>,
+) -> Result<(), AllocError>
+    requires { 1 ≤ level × level ≤ 4 }
+{
+    let entries = root.entries(level);
+    match form {
+        Form::People => {
+            if entries != 0 {
+                write!(out, "; run {level} of {entries} entries in blocks ")?;
+                tell_blocks(out, root.blocks(level))?;
+            }
+        }
+        Form::Programs => {
+            write!(out, " run{level}={entries} run{level}_blocks=")?;
+            tell_blocks(out, root.blocks(level))?;
+        }
+    }
+    Ok(())
+}
+
+/// Tells of every root of the root blocks.
+pub fn tell_roots(
+    alloc: Global,
+    out: &mut String,
+    form: Form,
+    shape: &Shape,
+    pages: &[PageState],
+    newest: Option<u32>,
+) -> Result<(), AllocError>
+    requires { AreFull shape.now pages.now }
+{
+    let mut root = Root::new(alloc, *shape)?;
+    for at in 0..2 * shape.block_pages() {
+        let Some(page) = pages.get(at as usize) else {
+            return Ok(());
+        };
+        if root_in(&mut root, page) {
+            tell_root(out, form, at, &root, newest)?;
+        }
+    }
+    Ok(())
+}

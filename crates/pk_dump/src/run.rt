@@ -1,0 +1,163 @@
+//! Runs: their pages, with their entries.
+ghost use Rattle.std.specs.Prelude.{◌≡◌, ◌≤◌, ◌<◌, length};
+ghost use Rattle.pk_base.specs.Page.{whole};
+ghost use Rattle.pk_nand.specs.Seen.{state};
+ghost use Rattle.pk_dump.specs.Pages.{IsFull, AreFull};
+ghost use Rattle.pk_dump.specs.Holds.{HoldsRunPage};
+
+use crate::form::Form;
+use crate::held::{Held, page_in, tell_held};
+use crate::words::tell_entry;
+use pk_base::Shape;
+use pk_meta::{decode, entry};
+use pk_nand::PageState;
+use pk_rootfmt::Root;
+use std::alloc::{AllocError, Allocator};
+use std::fmt::Write;
+
+/// Which page of which run.
+#[derive(Clone, Copy, Debug, PartialEq, Eq)]
+pub struct Wanted {
+    pub level: u8,
+    pub index: u32,
+    pub count: u32,
+}
+
+/// What these bytes are as this page of a run.
+fn run_page_of(shape: &Shape, wanted: Wanted, bytes: &[u8]) -> Held
+    requires full { length bytes.now ≡ shape.now.page_bytes }
+    requires level { 1 ≤ wanted.level × wanted.level ≤ 4 }
+    ensures { HoldsRunPage shape.now wanted (whole bytes.now) result }
+{
+    match decode(shape, bytes) {
+        Ok(head) => {
+            if head.level == wanted.level
+                && head.index == wanted.index
+                && head.count == wanted.count
+            {
+                Held::Entries { count: head.count }
+            } else {
+                Held::Wrong
+            }
+        }
+        Err(_) => Held::Wrong,
+    }
+}
+
+/// What this page is as this page of a run.
+fn run_page_in(shape: &Shape, wanted: Wanted, page: &PageState) -> Held
+    requires full { IsFull shape.now (state page.now) }
+    requires level { 1 ≤ wanted.level × wanted.level ≤ 4 }
+    ensures { HoldsRunPage shape.now wanted (state page.now) result }
+{
+    match page {
+        PageState::Erased => Held::Erased,
+        PageState::Torn => Held::Torn,
+        PageState::Whole(bytes) => run_page_of(shape, wanted, bytes.bytes()),
+    }
+}
+
+/// Tells of the entries of a page of a run.
+fn tell_entries(
+    out: &mut String,
+    form: Form,
+    shape: &Shape,
+    page: &PageState,
+) -> Result<(), AllocError>
+    requires { IsFull shape.now (state page.now) }
+{
+    let PageState::Whole(bytes) = page else {
+        return Ok(());
+    };
+    let Ok(head) = decode(shape, bytes.bytes()) else {
+        return Ok(());
+    };
+    for i in 0..head.count {
+        tell_entry(out, form, &entry(shape, bytes.bytes(), i))?;
+    }
+    Ok(())
+}
+
+/// Tells of a page of a run.
+fn tell_page(
+    out: &mut String,
+    form: Form,
+    shape: &Shape,
+    wanted: Wanted,
+    at: u32,
+    page: &PageState,
+) -> Result<(), AllocError>
+    requires full { IsFull shape.now (state page.now) }
+    requires level { 1 ≤ wanted.level × wanted.level ≤ 4 }
+{
+    let held = run_page_in(shape, wanted, page);
+    tell_held(out, form, "run", at, held)?;
+    match held {
+        Held::Entries { .. } => tell_entries(out, form, shape, page),
+        _ => Ok(()),
+    }
+}
+
+/// Tells of the pages of the run of a level, with so many entries in these blocks.
+fn tell_run(
+    out: &mut String,
+    form: Form,
+    shape: &Shape,
+    level: u8,
+    entries: u32,
+    blocks: &[u16],
+    pages: &[PageState],
+) -> Result<(), AllocError>
+    requires full { AreFull shape.now pages.now }
+    requires level { 1 ≤ level × level ≤ 4 }
+{
+    match form {
+        Form::People => writeln!(out, "run {level}: {entries} entries")?,
+        Form::Programs => writeln!(out, "run level={level} entries={entries}")?,
+    }
+    let most = shape.entries();
+    let mut left = entries;
+    for index in 0..entries.div_ceil(most) {
+        let count = left.min(most);
+        left -= count;
+        let wanted = Wanted {
+            level,
+            index,
+            count,
+        };
+        let Some(at) = page_in(shape, blocks, index) else {
+            return Ok(());
+        };
+        let Some(page) = pages.get(at as usize) else {
+            return Ok(());
+        };
+        tell_page(out, form, shape, wanted, at, page)?;
+    }
+    Ok(())
+}
+
+/// Tells of the runs that a root names, from the first level on.
+pub fn tell_runs<A: Allocator>(
+    out: &mut String,
+    form: Form,
+    root: &Root<A>,
+    pages: &[PageState],
+) -> Result<(), AllocError>
+    requires { AreFull root.now.shape pages.now }
+{
+    for level in 1..5u8 {
+        let entries = root.entries(level);
+        if entries > 0 {
+            tell_run(
+                out,
+                form,
+                root.shape(),
+                level,
+                entries,
+                root.blocks(level),
+                pages,
+            )?;
+        }
+    }
+    Ok(())
+}

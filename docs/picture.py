@@ -1,0 +1,123 @@
+#!/usr/bin/env python3
+"""Draws the picture of a drive as an SVG, from the lines of `pinkdump IMAGE lines`: a page a cell, a block a row.
+
+    ./pinkdump drive.img lines | docs/picture.py > drive.svg
+"""
+
+import html
+import sys
+
+COLOURS = {
+    "R": ("#7b3294", "a root"),
+    "J": ("#d95f02", "the newest epoch of the journal"),
+    "j": ("#fdae6b", "the older epoch"),
+    "1": ("#08306b", "run 1"),
+    "2": ("#2171b5", "run 2"),
+    "3": ("#6baed6", "run 3"),
+    "4": ("#c6dbef", "run 4"),
+    "V": ("#1b7837", "a live value"),
+    "v": ("#d9d9d9", "a dead page"),
+    "?": ("#969696", "whole; whether it lives is not known"),
+    ".": ("#ffffff", "erased"),
+    "x": ("#e41a1c", "torn"),
+}
+CELL, LABEL, TOP = 14, 150, 44
+
+
+def items(lines):
+    """The lines as pairs of a name and its fields."""
+    for line in lines:
+        words = line.split()
+        if words:
+            yield words[0], dict(word.split("=", 1) for word in words[1:])
+
+
+def ending(name, fields):
+    """How reading the flash ends, in a few words."""
+    if name == "map":
+        return f"{fields['keys']} keys"
+    if name == "no-root":
+        return "no root"
+    return f"reading fails at page {fields['page']}"
+
+
+def read(lines):
+    """The heading, the blocks as pairs of a label and letters, and the page at which reading fails."""
+    heading, blocks, failing = "", [], None
+    for name, fields in items(lines):
+        if name == "image":
+            shape = fields["blocks"], fields["block_pages"], fields["page_bytes"]
+            heading = "{} blocks of {} pages of {} bytes".format(*shape)
+        elif name == "block":
+            blocks.append((f"{fields['number']} {fields['use']}", fields["pages"]))
+        elif name in ("map", "no-root", "fails"):
+            heading += ": " + ending(name, fields)
+            failing = int(fields["page"]) if name == "fails" else None
+    return heading, blocks, failing
+
+
+def is_empty(label, letters):
+    return set(letters) == {"."} and label.split()[1] in ("free", "unknown")
+
+
+def folded(blocks):
+    """The blocks, with a row for each stretch of three or more erased ones that no root names."""
+    rows, at = [], 0
+    while at < len(blocks):
+        end = at
+        while end < len(blocks) and is_empty(*blocks[end]):
+            end += 1
+        if end - at > 2:
+            first, last = blocks[at][0].split()[0], blocks[end - 1][0].split()[0]
+            rows.append((None, f"{first} to {last} erased", ""))
+            at = end
+        else:
+            rows.append((at, *blocks[at]))
+            at += 1
+    return rows
+
+
+def text(x, y, words, size=11):
+    return f'<text x="{x}" y="{y}" font-size="{size}">{html.escape(words)}</text>'
+
+
+def cell(x, y, letter, title, fails):
+    colour, meaning = COLOURS[letter]
+    edge = "#000000" if fails else "#bdbdbd"
+    width = 3 if fails else 1
+    return (
+        f'<rect x="{x}" y="{y}" width="{CELL - 2}" height="{CELL - 2}" fill="{colour}" stroke="{edge}"'
+        f' stroke-width="{width}"><title>{title}: {meaning}</title></rect>'
+    )
+
+
+def drawn(heading, blocks, failing):
+    """The picture as text."""
+    pages = max(len(letters) for _, letters in blocks)
+    parts, y = [text(10, 20, heading, 14)], TOP
+    for number, label, letters in folded(blocks):
+        parts.append(text(10, y + CELL - 4, label))
+        for i, letter in enumerate(letters):
+            page = number * pages + i
+            parts.append(cell(LABEL + i * CELL, y, letter, f"page {page}", page == failing))
+        y += CELL
+    y += CELL
+    for letter in COLOURS:
+        if any(letter in letters for _, letters in blocks):
+            parts.append(cell(10, y, letter, "legend", False))
+            parts.append(text(30, y + CELL - 4, COLOURS[letter][1]))
+            y += CELL + 4
+    width = max(LABEL + pages * CELL + 10, 9 * len(heading) + 20)
+    head = f'<svg xmlns="http://www.w3.org/2000/svg" width="{width}" height="{y + 10}" font-family="sans-serif">'
+    return "\n".join([head, '<rect width="100%" height="100%" fill="#ffffff"/>', *parts, "</svg>"])
+
+
+def main():
+    heading, blocks, failing = read(sys.stdin)
+    if not blocks:
+        sys.exit("picture.py: no line of a block; it reads what `pinkdump IMAGE lines` prints")
+    print(drawn(heading, blocks, failing))
+
+
+if __name__ == "__main__":
+    main()
