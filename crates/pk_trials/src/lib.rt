@@ -1,34 +1,9 @@
-//! Trials of whole sessions: the program's one call over the board in memory, with words, scripts and records alone.
+//! The trials of whole sessions, run on the program; and scripts that it answers as the machine in memory answers them.
 //!
-//! An image goes from session to session, is cut off at every mark, fails at calls, is damaged and is worn. Each test compares
-//! the status and the posted bytes with the records of the answers that it lists. The crate has nothing but these tests.
+//! The crate has nothing but these tests. What they do stands in `pk_sessions`.
 #![tactic(auto)]
 
 #[cfg(test)]
-mod board;
+mod machine;
 #[cfg(test)]
-mod cuts;
-#[cfg(test)]
-mod damage;
-#[cfg(test)]
-mod ends;
-#[cfg(test)]
-mod erases;
-#[cfg(test)]
-mod faults;
-#[cfg(test)]
-mod pages;
-#[cfg(test)]
-mod program;
-#[cfg(test)]
-mod recut;
-#[cfg(test)]
-mod runs;
-#[cfg(test)]
-mod script;
-#[cfg(test)]
-mod sessions;
-#[cfg(test)]
-mod ways;
-#[cfg(test)]
-mod wear;
+mod tests;

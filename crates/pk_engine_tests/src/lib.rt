@@ -1,0 +1,11 @@
+//! Tests of the parts of an engine, and of the drive: logs, values, freezes, a format and an opening.
+#![tactic(auto)]
+
+#[cfg(test)]
+mod compact;
+#[cfg(test)]
+mod data;
+#[cfg(test)]
+mod drive;
+#[cfg(test)]
+mod log;

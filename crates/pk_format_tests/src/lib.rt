@@ -1,0 +1,17 @@
+//! Tests of formats: the bytes of entries, pages and images.
+//!
+//! Expected bytes are written out by hand, and each format is read with one byte changed at a time.
+#![tactic(auto)]
+
+#[cfg(test)]
+mod base;
+#[cfg(test)]
+mod image;
+#[cfg(test)]
+mod jrnfmt;
+#[cfg(test)]
+mod meta;
+#[cfg(test)]
+mod rootfmt;
+#[cfg(test)]
+mod segfmt;

@@ -1,5 +1,0 @@
-pub mod ErasedBoards
-pub mod StoredHead
-pub mod RunPages
-pub mod NoValues
-pub mod FirstFreeze

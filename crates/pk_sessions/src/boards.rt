@@ -1,0 +1,139 @@
+//! Boards with the pages that an earlier session left, and what the program makes of them.
+
+use crate::script::{Ask, script};
+use crate::tried::Program;
+use pk_base::Shape;
+use pk_flash::{Flash, Left, Room, is_flash};
+use pk_nand::{Mark, PageBytes, PageState};
+use std::alloc::{AllocError, Global};
+use std::test::*;
+
+/// The words that make a drive of 33 blocks of 8 pages.
+pub const MAKE_SMALL: [&str; 4] = ["make", "512", "8", "33"];
+
+/// The words that make a drive of 64 blocks of 16 pages.
+pub const MAKE_WORKED: [&str; 4] = ["make", "512", "16", "64"];
+
+const ROOM: Room = Room {
+    posted: 16384,
+    marks: 200,
+};
+
+/// The shape of 33 blocks of 8 pages.
+pub fn small() -> Result<Shape, Fail> {
+    Ok(Shape::new(512, 8, 33).ok().ok_or("a shape")?)
+}
+
+/// The shape of 64 blocks of 16 pages.
+pub fn worked() -> Result<Shape, Fail> {
+    Ok(Shape::new(512, 16, 64).ok().ok_or("a shape")?)
+}
+
+/// A board of Erased pages, or one without an image, with this input.
+pub fn blank(alloc: Global, shape: Option<Shape>, input: Vec<u8>) -> Result<Flash, AllocError> {
+    Flash::new(alloc, shape, input, ROOM)
+}
+
+/// A board with these pages and this input.
+pub fn board(
+    alloc: Global,
+    shape: Shape,
+    pages: Vec<PageState>,
+    input: Vec<u8>,
+) -> Result<Flash, Fail> {
+    if !is_flash(&shape, &pages) {
+        return Err(Fail::from("pages of the shape"));
+    }
+    Ok(Flash::with_pages(alloc, shape, pages, input, ROOM)?)
+}
+
+/// The pages behind the first k marks, of which the next, where there is one, leaves this.
+pub fn cut(alloc: Global, flash: &Flash, k: usize, left: &Left) -> Result<Vec<PageState>, Fail> {
+    if flash.shape().is_none() || k > flash.marks() {
+        return Err(Fail::from("a cut"));
+    }
+    Ok(flash.cut(alloc, k, left)?)
+}
+
+fn copied(alloc: Global, page: &PageState) -> Result<PageState, AllocError> {
+    match page {
+        PageState::Erased => Ok(PageState::Erased),
+        PageState::Whole(bytes) => Ok(PageState::Whole(PageBytes::of(
+            bytes.bytes().to_vec(alloc)?,
+        ))),
+        PageState::Torn => Ok(PageState::Torn),
+    }
+}
+
+/// The pages that a board has now.
+pub fn pages_left(alloc: Global, flash: &Flash) -> Result<Vec<PageState>, Fail> {
+    let shape = flash.shape().ok_or("a shape")?;
+    let mut pages = Vec::new(alloc);
+    for page in 0..shape.page_count() {
+        pages.push(copied(alloc, flash.page(page))?)?;
+    }
+    Ok(pages)
+}
+
+/// The pages of a drive that these words made.
+pub fn made<P: Program>(alloc: Global, words: &[&str]) -> Result<Vec<PageState>, Fail> {
+    let mut flash = blank(alloc, None, Vec::new(alloc))?;
+    if P::run(alloc, words, &mut flash) != 0 {
+        return Err(Fail::from("a made drive"));
+    }
+    pages_left(alloc, &flash)
+}
+
+/// The status with which the program serves the board's input with so many frames.
+pub fn serve_with<P: Program>(alloc: Global, flash: &mut Flash, frames: &str) -> u8 {
+    P::run(alloc, &["serve", frames], flash)
+}
+
+/// The status with which the program serves the board's input with the frames of two levels.
+pub fn serve<P: Program>(alloc: Global, flash: &mut Flash) -> u8 {
+    serve_with::<P>(alloc, flash, "36")
+}
+
+/// A session behind its end.
+#[derive(Drop)]
+pub struct Session {
+    pub status: u8,
+    pub flash: Flash,
+}
+
+/// Serves this script on these pages.
+pub fn served<P: Program>(
+    alloc: Global,
+    shape: Shape,
+    pages: Vec<PageState>,
+    asks: &[Ask],
+) -> Result<Session, Fail> {
+    let mut flash = board(alloc, shape, pages, script(alloc, asks)?)?;
+    let status = serve::<P>(alloc, &mut flash);
+    Ok(Session { status, flash })
+}
+
+/// The pages that a session leaves, which is to end well.
+pub fn pages_behind<P: Program>(
+    alloc: Global,
+    shape: Shape,
+    pages: Vec<PageState>,
+    asks: &[Ask],
+) -> Result<Vec<PageState>, Fail> {
+    let done = served::<P>(alloc, shape, pages, asks)?;
+    if done.status != 0 {
+        return Err(Fail::from("a session"));
+    }
+    pages_left(alloc, &done.flash)
+}
+
+/// The place of the last program among the marks.
+pub fn last_program(flash: &Flash) -> Option<usize> {
+    let mut last = None;
+    for i in 0..flash.marks() {
+        if matches!(flash.mark(i), Mark::Program { .. }) {
+            last = Some(i);
+        }
+    }
+    last
+}

@@ -1,0 +1,83 @@
+//! The erase of a full block, cut off in all its ways.
+
+use crate::boards::{MAKE_SMALL, Session, cut, made, pages_behind, served, small};
+use crate::script::{Answer, Ask, Value, records};
+use crate::tried::{Program, same};
+use crate::ways::Ways;
+use pk_flash::Flash;
+use pk_nand::Mark;
+use std::alloc::Global;
+use std::test::*;
+
+const A: Value = Value { first: 1, len: 480 };
+
+const B: Value = Value { first: 2, len: 600 };
+
+const C: Value = Value { first: 3, len: 3 };
+
+// Eight values of one page each fill the first block for values. All of them are dead behind the Delete, and `b` stands in the next one.
+const FILL: [Ask; 10] = [
+    Ask::Store(0x61, A),
+    Ask::Store(0x61, A),
+    Ask::Store(0x61, A),
+    Ask::Store(0x61, A),
+    Ask::Store(0x61, A),
+    Ask::Store(0x61, A),
+    Ask::Store(0x61, A),
+    Ask::Store(0x61, A),
+    Ask::Store(0x62, B),
+    Ask::Delete(0x61),
+];
+
+const NEXT: [Ask; 4] = [
+    Ask::Retrieve(0x61),
+    Ask::Retrieve(0x62),
+    Ask::Store(0x63, C),
+    Ask::Retrieve(0x63),
+];
+
+const ANSWERS: [Answer; 4] = [
+    Answer::Missing,
+    Answer::Found(B),
+    Answer::Done,
+    Answer::Found(C),
+];
+
+// The second session. Its first erase is that of the block of the dead values, for the journal.
+fn second<P: Program>(alloc: Global) -> Result<Session, Fail> {
+    let pages = made::<P>(alloc, &MAKE_SMALL)?;
+    let pages = pages_behind::<P>(alloc, small()?, pages, &FILL)?;
+    served::<P>(alloc, small()?, pages, &NEXT)
+}
+
+// The place of the first erase among the marks.
+fn first_erase(flash: &Flash) -> Option<usize> {
+    for i in 0..flash.marks() {
+        if matches!(flash.mark(i), Mark::Erase { .. }) {
+            return Some(i);
+        }
+    }
+    None
+}
+
+/// Each of eight written pages stays, is Erased or is Torn, by itself. The third session answers as the second one.
+pub fn full_block<P: Program>(alloc: Global) -> Result<(), Fail> {
+    let second = second::<P>(alloc)?;
+    same(second.status, 0, "the status")?;
+    let want = records(alloc, &ANSWERS)?;
+    same(second.flash.posted(), want.as_slice(), "the posted bytes")?;
+    let k = first_erase(&second.flash).ok_or("an erase")?;
+    let ways = Ways::of(alloc, &second.flash, k)?;
+    same(ways.count, 6561, "ways")?;
+    for way in 0..ways.count {
+        let pages = cut(alloc, &second.flash, k, &ways.left(alloc, way)?)?;
+        let third = served::<P>(alloc, small()?, pages, &NEXT)?;
+        same(third.status, 0, format_args!("the status, way {way}"))?;
+        same(
+            third.flash.posted(),
+            want.as_slice(),
+            format_args!("the posted bytes, way {way}"),
+        )?;
+    }
+    Ok(())
+}

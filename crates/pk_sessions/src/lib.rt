@@ -1,0 +1,25 @@
+//! Trials of whole sessions: any program over the board in memory, with words, scripts and records alone.
+//!
+//! An image goes from session to session, is cut off at every mark, fails at calls, is damaged and is worn. Each trial compares
+//! the status and the posted bytes with the records of the answers that it lists, and fails where they differ. The program is a
+//! parameter, so that the trials stand on none of its parts; `pk_trials` has the tests that run them.
+#![tactic(auto)]
+
+mod boards;
+pub mod cuts;
+pub mod damage;
+pub mod ends;
+pub mod erases;
+pub mod faults;
+mod pages;
+pub mod program;
+pub mod recut;
+pub mod runs;
+mod script;
+pub mod sessions;
+mod tried;
+mod ways;
+pub mod wear;
+
+pub use boards::{MAKE_WORKED, board, made, serve, worked};
+pub use tried::{Program, holds, same};

@@ -1,0 +1,410 @@
+//! Flashes with runs on all four levels, whose pages are made by hand.
+//!
+//! The lists are, from the first that counts: the newest epoch, the older one, and runs 1 to 4. Keys are bytes, and the value of a key
+//! stands at a place of its own. An entry that one of an earlier list covers names a page that has no value.
+
+use crate::boards::{Session, board, cut, pages_left, serve_with, worked};
+use crate::cuts::bytes_out;
+use crate::pages::{Note, erased, journal_page, meta_page, root_page, set, write, write_value};
+use crate::script::{Ask, Value, pages_read, push_head, push_list, push_value, script};
+use crate::tried::{Program, holds, same};
+use pk_flash::{Flash, Left};
+use pk_nand::PageState;
+use std::alloc::{AllocError, Global};
+use std::test::*;
+
+// A page without a value.
+const NOTHING: u32 = 1008;
+
+// The keys that are there.
+const KEYS: [u8; 43] = [
+    0, 1, 2, 3, 4, 5, 6, 7, 9, 14, 16, 20, 21, 22, 24, 25, 26, 27, 28, 32, 33, 34, 35, 36, 38, 39,
+    40, 42, 44, 45, 46, 48, 50, 52, 54, 55, 56, 58, 60, 62, 65, 75, 80,
+];
+
+// The value of a key. Those of two keys have two pages, and the others one.
+fn value_of(key: u8) -> Value {
+    let len = if key == 33 || key == 40 { 600 } else { 100 };
+    Value { first: key, len }
+}
+
+// The first page of the value of a key, from block 20 on.
+fn place(key: u8) -> u32 {
+    320 + 2 * u32::from(key)
+}
+
+// The entry of a key that is there.
+fn there(key: u8) -> Note {
+    Note::Put(key, place(key), value_of(key).len)
+}
+
+// The entry of a key that an earlier list has.
+fn covered(key: u8) -> Note {
+    Note::Put(key, NOTHING, 100)
+}
+
+// Keys with the same distance from one to the next, from one to another, of which these were deleted and these are covered.
+fn notes(
+    alloc: Global,
+    from: u8,
+    to: u8,
+    distance: u8,
+    gone: &[u8],
+    stale: &[u8],
+) -> Result<Vec<Note>, AllocError> {
+    let mut notes = Vec::new(alloc);
+    let mut next = from;
+    for key in from..=to {
+        if key == next {
+            next = next.saturating_add(distance);
+            if gone.contains(&key) {
+                notes.push(Note::Gone(key))?;
+            } else if stale.contains(&key) {
+                notes.push(covered(key))?;
+            } else {
+                notes.push(there(key))?;
+            }
+        }
+    }
+    Ok(notes)
+}
+
+// Writes a run of this level into a block, with 15 entries in each page but the last.
+fn write_run(
+    alloc: Global,
+    pages: &mut Vec<PageState>,
+    level: u8,
+    block: u32,
+    notes: &[Note],
+) -> Result<(), Fail> {
+    let first = block.saturating_mul(16);
+    for index in 0..4u8 {
+        let from = 15 * usize::from(index);
+        let to = (from + 15).min(notes.len());
+        if from < to {
+            let page = meta_page(level, u32::from(index), &notes[from..to]);
+            write(alloc, pages, first.saturating_add(u32::from(index)), &page)?;
+        }
+    }
+    Ok(())
+}
+
+// Writes runs of 2, 16, 31 and 17 entries into the blocks 6 to 9. They have 1, 2, 3 and 2 pages.
+fn write_runs(alloc: Global, pages: &mut Vec<PageState>) -> Result<(), Fail> {
+    let first = [Note::Gone(10), there(20)];
+    let second = notes(alloc, 5, 80, 5, &[15, 70], &[10, 20, 30, 60])?;
+    let third = notes(alloc, 2, 62, 2, &[8, 12], &[10, 18, 20, 30, 40, 50, 60])?;
+    let under = [6, 12, 15, 18, 24, 30, 36, 42, 45, 48];
+    let fourth = notes(alloc, 0, 48, 3, &[], &under)?;
+    write_run(alloc, pages, 1, 6, &first)?;
+    write_run(alloc, pages, 2, 7, &second)?;
+    write_run(alloc, pages, 3, 8, &third)?;
+    write_run(alloc, pages, 4, 9, &fourth)
+}
+
+// Epoch 3 in the blocks 2 and 3, over epoch 2 in the blocks 4 and 5.
+fn write_two_epochs(alloc: Global, pages: &mut Vec<PageState>) -> Result<(), Fail> {
+    let older = [Note::Gone(30), there(7), Note::Gone(1)];
+    let front = [covered(1), Note::Gone(18)];
+    let later = [there(1), there(60)];
+    write(alloc, pages, 64, &journal_page(2, 0, &older))?;
+    write(alloc, pages, 32, &journal_page(3, 0, &front))?;
+    write(alloc, pages, 33, &journal_page(3, 1, &later))?;
+    let blocks = [2, 3, 4, 5, 6, 7, 8, 9];
+    write(
+        alloc,
+        pages,
+        0,
+        &root_page(7, 3, 2, [2, 16, 31, 17], &blocks),
+    )
+}
+
+// The same entries in epoch 3 alone, in the blocks 2 and 3.
+fn write_one_epoch(alloc: Global, pages: &mut Vec<PageState>) -> Result<(), Fail> {
+    let front = [Note::Gone(30), there(7), Note::Gone(1)];
+    let next = [covered(1), Note::Gone(18)];
+    let later = [there(1), there(60)];
+    write(alloc, pages, 32, &journal_page(3, 0, &front))?;
+    write(alloc, pages, 33, &journal_page(3, 1, &next))?;
+    write(alloc, pages, 34, &journal_page(3, 2, &later))?;
+    let blocks = [2, 3, 6, 7, 8, 9];
+    write(
+        alloc,
+        pages,
+        0,
+        &root_page(7, 3, 1, [2, 16, 31, 17], &blocks),
+    )
+}
+
+// Runs and the values of all keys that are there, without an epoch and without a root.
+fn with_runs(alloc: Global) -> Result<Vec<PageState>, Fail> {
+    let mut pages = erased(alloc, 1024)?;
+    write_runs(alloc, &mut pages)?;
+    for key in &KEYS {
+        write_value(alloc, &mut pages, place(*key), *key, &value_of(*key))?;
+    }
+    Ok(pages)
+}
+
+// The flash whose lists are all six.
+fn with_two_epochs(alloc: Global) -> Result<Vec<PageState>, Fail> {
+    let mut pages = with_runs(alloc)?;
+    write_two_epochs(alloc, &mut pages)?;
+    Ok(pages)
+}
+
+// Serves this script with so many frames.
+fn served_with<P: Program>(
+    alloc: Global,
+    pages: Vec<PageState>,
+    asks: &[Ask],
+    frames: &str,
+) -> Result<Session, Fail> {
+    let mut flash = board(alloc, worked()?, pages, script(alloc, asks)?)?;
+    let status = serve_with::<P>(alloc, &mut flash, frames);
+    Ok(Session { status, flash })
+}
+
+// By the key: the level whose run has the entry that counts, 0 for the buffers and 4 for none, and whether the key is there.
+const ROWS: [(u8, u32, bool); 20] = [
+    (1, 0, true),
+    (60, 0, true),
+    (7, 0, true),
+    (18, 0, false),
+    (30, 0, false),
+    (20, 1, true),
+    (10, 1, false),
+    (25, 2, true),
+    (40, 2, true),
+    (80, 2, true),
+    (15, 2, false),
+    (70, 2, false),
+    (32, 3, true),
+    (62, 3, true),
+    (12, 3, false),
+    (33, 4, true),
+    (45, 2, true),
+    (39, 4, true),
+    (23, 4, false),
+    (100, 4, false),
+];
+
+// Adds the record of the Retrieve of a key, where so many levels are pinned: one page is read for each other level down to that of the
+// entry, and then the value's pages.
+fn push_retrieved(
+    into: &mut Vec<u8>,
+    number: u16,
+    pinned: u32,
+    row: &(u8, u32, bool),
+) -> Result<(), AllocError> {
+    let (key, level, is_there) = *row;
+    let looked = level.saturating_sub(pinned);
+    if !is_there {
+        return push_head(into, number, 0x87, 0, looked, 0);
+    }
+    let value = value_of(key);
+    let reads = looked.saturating_add(pages_read(value.len));
+    push_head(into, number, 0, value.len, reads, value.len)?;
+    push_value(into, &value)
+}
+
+// Adds the record of a Report.
+fn push_report(into: &mut Vec<u8>, number: u16, numbers: &[u32; 16]) -> Result<(), AllocError> {
+    push_head(into, number, 0, 0, 0, 64)?;
+    for number in numbers {
+        into.extend_from_slice(&number.to_le_bytes())?;
+    }
+    Ok(())
+}
+
+// A Retrieve of each key of the rows.
+fn retrieves(alloc: Global) -> Result<Vec<Ask>, AllocError> {
+    let mut asks = Vec::new(alloc);
+    for (key, _, _) in &ROWS {
+        asks.push(Ask::Retrieve(*key))?;
+    }
+    Ok(asks)
+}
+
+// The records of these.
+fn retrieved(alloc: Global, pinned: u32) -> Result<Vec<u8>, AllocError> {
+    let mut bytes = Vec::new(alloc);
+    let mut number = 0u16;
+    for row in &ROWS {
+        number = number.wrapping_add(1);
+        push_retrieved(&mut bytes, number, pinned, row)?;
+    }
+    Ok(bytes)
+}
+
+// By the frames: how many levels they pin.
+const FRAMES: [(&str, u32); 8] = [
+    ("0", 0),
+    ("7", 0),
+    ("8", 1),
+    ("35", 1),
+    ("36", 2),
+    ("147", 2),
+    ("148", 3),
+    ("236", 4),
+];
+
+/// A Retrieve reads no page of a pinned run, and one of each other run down to that with the entry.
+pub fn keys_are_found<P: Program>(alloc: Global) -> Result<(), Fail> {
+    let asks = retrieves(alloc)?;
+    for (frames, pinned) in FRAMES {
+        let done = served_with::<P>(alloc, with_two_epochs(alloc)?, &asks, frames)?;
+        same(done.status, 0, format_args!("the status, {frames} frames"))?;
+        let want = retrieved(alloc, pinned)?;
+        same(
+            done.flash.posted(),
+            want.as_slice(),
+            format_args!("the posted bytes, {frames} frames"),
+        )?;
+        same(
+            done.flash.program_count(),
+            0,
+            format_args!("programs, {frames} frames"),
+        )?;
+    }
+    Ok(())
+}
+
+/// A List of all keys reads each page of the runs that are not pinned once, and a Report counts the lists. By the frames: the pinned
+/// levels, the pages that the List reads, and the frames with a page.
+pub fn keys_are_listed<P: Program>(alloc: Global) -> Result<(), Fail> {
+    for (frames, number, pinned, reads, leased) in [
+        ("0", 0u32, 0u32, 8u32, 0u32),
+        ("8", 8, 1, 7, 1),
+        ("36", 36, 2, 5, 3),
+        ("148", 148, 3, 2, 6),
+        ("236", 236, 4, 0, 8),
+    ] {
+        let asks = [Ask::List, Ask::Report];
+        let done = served_with::<P>(alloc, with_two_epochs(alloc)?, &asks, frames)?;
+        same(done.status, 0, format_args!("the status, {frames} frames"))?;
+        let mut want = Vec::new(alloc);
+        push_list(&mut want, 1, reads, &KEYS)?;
+        let numbers = [
+            45, 492, 43, pinned, number, leased, 3, 3, 2, 16, 31, 17, 2, 11, 0, 0,
+        ];
+        push_report(&mut want, 2, &numbers)?;
+        same(
+            done.flash.posted(),
+            want.as_slice(),
+            format_args!("the posted bytes, {frames} frames"),
+        )?;
+    }
+    Ok(())
+}
+
+// The record of a List as the first command, with the key 90 behind the others or without it.
+fn listed(alloc: Global, has_more: bool) -> Result<Vec<u8>, AllocError> {
+    let mut keys = KEYS.to_vec(alloc)?;
+    if has_more {
+        keys.push(90)?;
+    }
+    let mut bytes = Vec::new(alloc);
+    push_list(&mut bytes, 1, 5, &keys)?;
+    Ok(bytes)
+}
+
+// The session that stores the key 90 where one epoch has all entries of the buffers.
+fn stored<P: Program>(alloc: Global) -> Result<Session, Fail> {
+    let mut pages = with_runs(alloc)?;
+    write_one_epoch(alloc, &mut pages)?;
+    served_with::<P>(alloc, pages, &[Ask::Store(90, value_of(90))], "36")
+}
+
+/// A Store begins an epoch over the one with five keys, by a root that names the same runs. The session behind it has all keys.
+pub fn store_over_runs<P: Program>(alloc: Global) -> Result<(), Fail> {
+    let stored = stored::<P>(alloc)?;
+    same(stored.status, 0, "the status")?;
+    same(stored.flash.program_count(), 3, "programs")?;
+    same(stored.flash.erase_count(), 4, "erases")?;
+    let left = pages_left(alloc, &stored.flash)?;
+    let done = served_with::<P>(alloc, left, &[Ask::List, Ask::Report], "36")?;
+    same(done.status, 0, "the status")?;
+    let mut want = listed(alloc, true)?;
+    let numbers = [46, 492, 44, 2, 36, 3, 1, 5, 2, 16, 31, 17, 1, 12, 0, 0];
+    push_report(&mut want, 2, &numbers)?;
+    same(done.flash.posted(), want.as_slice(), "the posted bytes")?;
+    let left = pages_left(alloc, &stored.flash)?;
+    let loaded = served_with::<P>(alloc, left, &retrieves(alloc)?, "36")?;
+    same(loaded.status, 0, "the status")?;
+    same(
+        loaded.flash.posted(),
+        retrieved(alloc, 2)?.as_slice(),
+        "the posted bytes",
+    )?;
+    Ok(())
+}
+
+// Lists the keys behind a cut of the Store. The new one is there, if a byte of its record was posted, and may be there else.
+fn check_cut<P: Program>(alloc: Global, stored: &Flash, k: usize, left: &Left) -> Result<(), Fail> {
+    let pages = cut(alloc, stored, k, left)?;
+    let done = served_with::<P>(alloc, pages, &[Ask::List], "36")?;
+    same(done.status, 0, format_args!("the status, mark {k}"))?;
+    let is_there = done.flash.posted() == listed(alloc, true)?.as_slice();
+    let is_missing = done.flash.posted() == listed(alloc, false)?.as_slice();
+    let is_told = bytes_out(stored, k) > 0;
+    holds(
+        is_there || (is_missing && !is_told),
+        format_args!("what is there, mark {k}"),
+    )?;
+    Ok(())
+}
+
+/// The Store is cut off at each of its marks, which is not begun, torn or done.
+pub fn cut_over_runs<P: Program>(alloc: Global) -> Result<(), Fail> {
+    let stored = stored::<P>(alloc)?;
+    for k in 0..stored.flash.marks().saturating_add(1) {
+        for left in [Left::Untouched, Left::Torn, Left::Done] {
+            check_cut::<P>(alloc, &stored.flash, k, &left)?;
+        }
+    }
+    Ok(())
+}
+
+// Serves a Retrieve on the flash where this page is Torn: the status, and nothing is posted where it is 8.
+fn check_torn<P: Program>(alloc: Global, name: &str, page: u32, status: u8) -> Result<(), Fail> {
+    let mut pages = with_two_epochs(alloc)?;
+    set(&mut pages, page, PageState::Torn)?;
+    let done = served_with::<P>(alloc, pages, &[Ask::Retrieve(33)], "36")?;
+    same(done.status, status, format_args!("the status, {name}"))?;
+    same(
+        done.flash.posted().is_empty(),
+        status == 8,
+        format_args!("whether nothing was posted, {name}"),
+    )?;
+    same(
+        done.flash.program_count(),
+        0,
+        format_args!("programs, {name}"),
+    )?;
+    same(done.flash.erase_count(), 0, format_args!("erases, {name}"))?;
+    Ok(())
+}
+
+/// A page of a run that is Torn, and one of a value under any list, are damage; pages that no list counts are none.
+pub fn torn_pages<P: Program>(alloc: Global) -> Result<(), Fail> {
+    for (name, page, status) in [
+        ("the page of run 1", 96u32, 8u8),
+        ("the second page of run 2", 113, 8),
+        ("the last page of run 3", 130, 8),
+        ("the first page of run 4", 144, 8),
+        ("behind run 4", 146, 0),
+        ("the value of a key in run 2", place(80), 8),
+        (
+            "the second page of a value in run 4",
+            place(33).saturating_add(1),
+            8,
+        ),
+        ("behind a value", place(39).saturating_add(1), 0),
+        ("the place of covered entries", NOTHING, 0),
+        ("the older epoch", 64, 8),
+    ] {
+        check_torn::<P>(alloc, name, page, status)?;
+    }
+    Ok(())
+}
