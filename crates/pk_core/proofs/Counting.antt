@@ -3,7 +3,7 @@ use Rattle.std.proofs.Common.{◌≡◌, ℕ, ◌+◌, ◌*◌, ◌<◌, ◌≤�
 use Rattle.std.specs.List.{flat_map}
 use Rattle.std.proofs.lemmas.List.{flat_map_more, take_more}
 use Rattle.pk_base.specs.Fields.{u32}
-use Rattle.pk_base.specs.Shape.{Shape, limit, pinned}
+use Rattle.pk_base.specs.Shape.{Shape, limit}
 use Rattle.pk_base.specs.Page.{Flash, page_at}
 use Rattle.pk_base.specs.Map.{Map}
 use Rattle.pk_nvme.specs.Seen.{command_of}
@@ -26,7 +26,7 @@ use Rattle.pk_drive.specs.Drive.{CountsMap}
 use Rattle.pk_drive.specs.Exec.{report_of}
 use Rattle.pk_drive.specs.Seen.{reply_of}
 use Rattle.pk_drive.specs.declared.types.Outcome.{Outcome}
-use Rattle.pk_core.specs.Parts.{Parts, sight_of, counts_of, jobs_of}
+use Rattle.pk_core.specs.Parts.{Parts, sight_of, counts_of, jobs_of, frames_of}
 use Rattle.pk_core.specs.Agreeing.{DriveOnFlashWith, DriveOnFlash}
 use Rattle.pk_core.specs.Done.{Does}
 use Rattle.pk_core.specs.Quiet.{DoneWithout}
@@ -41,28 +41,28 @@ numbers_more xs into new i d less front before =
 
 -- ---- the map
 
-pub counts_map : (d : Parts) (shape : Shape) (flash : Flash) (top : ℕ × Root) (found : Found) (without all : Map) → DriveOnFlashWith d shape flash top found without all → CountsMap shape d.frames all (counts_of d)
+pub counts_map : (d : Parts) (shape : Shape) (flash : Flash) (top : ℕ × Root) (found : Found) (without all : Map) → DriveOnFlashWith d shape flash top found without all → CountsMap shape (frames_of d) all (counts_of d)
 counts_map d shape flash top found without all a =
     let c = counts shape flash d.log.pending top found all a.placed.is_shape a.is_flash a.pending in
     record {
       live_is = total_of shape d.space d.pool (jobs_of d).blocks.values flash (places found d.log.pending) a.placed ∙ sym c.live_is;
       limit_is = ap (λ s. limit s) a.shape_is;
       keys_is = a.keys_are ∙ sym c.len_is;
-      pinned_is = ap (λ s. pinned s d.frames) a.shape_is;
+      pinned_is = a.levels_pinned;
       frames_is = refl;
     }
 
 told_same : (a b : Shape) → ◌≡◌ {A = Option Shape} (Some a) (Some b) → a ≡ b
 told_same a b e = cc
 
-pub agrees_counts : (d : Parts) (shape : Shape) (flash : Flash) (m : Map) → DriveOnFlash d (Some shape) flash → reading shape flash d.log.pending ≡ Ok m → CountsMap shape d.frames m (counts_of d)
+pub agrees_counts : (d : Parts) (shape : Shape) (flash : Flash) (m : Map) → DriveOnFlash d (Some shape) flash → reading shape flash d.log.pending ≡ Ok m → CountsMap shape (frames_of d) m (counts_of d)
 agrees_counts d shape flash m a read =
     let here = counts_map d a.shape flash a.top a.found a.without a.all a.with in
     let same : a.shape ≡ shape = sym (told_same shape a.shape a.told_is) in
     let held = under_reads a.shape flash d.log.pending a.top a.found a.all a.with.pending in
     let T : Shape → Type 0 = λ s. reading s flash d.log.pending ≡ Ok a.all in
     let map_is : a.all ≡ m = same_ok a.all m (sym (subst T same held) ∙ read) in
-    subst (λ s. CountsMap s d.frames m (counts_of d)) same (subst (λ x. CountsMap a.shape d.frames x (counts_of d)) map_is here)
+    subst (λ s. CountsMap s (frames_of d) m (counts_of d)) same (subst (λ x. CountsMap a.shape (frames_of d) x (counts_of d)) map_is here)
 
 -- ---- roots
 
@@ -89,7 +89,7 @@ flush_done d o into told board r v a few op passed =
     let passes : early d.log.shape c ≡ None = same_early d.log.shape r v ∙ passed in
     let all : AnswersAll board (sight_of d) c (success 0 []) 0 =
     for_its_map d board a (λ s f m. Step s f m c (success 0 []) m × (op_of r.opcode ≡ Some Retrieve → 0 ≤ most_reads s f m c))
-    (flush_step d.log.shape d.frames a.all c passes op, λ e. absurd (other_than Flush r.opcode (ap op_of op) flush_other e)) in
+    (flush_step d.log.shape (frames_of d) a.all c passes op, λ e. absurd (other_than Flush r.opcode (ap op_of op) flush_other e)) in
     subst (λ (x : Outcome). Does board board (sight_of d) (sight_of d) c (reply_of x into) x.reads x.stopped) (sym told)
     (does_reads board board (sight_of d) c (success 0 []) 0 0 few few (reads_none board few) (omega arith) ok_sound all)
 
@@ -100,6 +100,6 @@ report_done d o into told bytes board r v a few op passed =
     let counted = counts_map d d.log.shape board.pages a.top a.found a.without a.all (own d board a) in
     let all : AnswersAll board (sight_of d) c (success 0 (take 64 into)) 0 =
     for_its_map d board a (λ s f m. Step s f m c (success 0 (take 64 into)) m × (op_of r.opcode ≡ Some Retrieve → 0 ≤ most_reads s f m c))
-    (report_step d.log.shape d.frames a.all c passes (counts_of d) (take 64 into) op counted bytes, λ e. absurd (other_than Report r.opcode (ap op_of op) report_other e)) in
+    (report_step d.log.shape (frames_of d) a.all c passes (counts_of d) (take 64 into) op counted bytes, λ e. absurd (other_than Report r.opcode (ap op_of op) report_other e)) in
     subst (λ (x : Outcome). Does board board (sight_of d) (sight_of d) c (reply_of x into) x.reads x.stopped) (sym told)
     (does_reads board board (sight_of d) c (success 0 (take 64 into)) 0 0 few few (reads_none board few) (omega arith) ok_sound all)

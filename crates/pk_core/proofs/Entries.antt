@@ -40,10 +40,8 @@ use Rattle.pk_data.specs.Entries.{span_of, span_if_some, Held, Moves}
 use Rattle.pk_data.specs.Laws.{value_blocks}
 use Rattle.pk_data.proofs.Lists.{found_page, found_place}
 use Rattle.pk_data.proofs.Unchanged.{lie_in_few}
-use Rattle.pk_core.specs.declared.place.ValuePlace.{ValuePlace}
 use Rattle.pk_core.specs.Parts.{Parts, jobs_of}
 use Rattle.pk_core.specs.Agreeing.{DriveOnFlashWith}
-use Rattle.pk_core.specs.Finding.{place_of, place_if_some}
 use Rattle.pk_core.specs.Moves.{StandsFor}
 use Rattle.pk_core.specs.Noting.{Puts, Drops, more_keys}
 use Rattle.pk_core.proofs.Writing.{named_owner, journal_or_values, meta_or_values}
@@ -115,14 +113,14 @@ module _ (d : Parts) (shape : Shape) (flash : Flash) (top : ℕ × Root) (found 
 pub found_put : (key : Key) (place : Place) (es : List (Key × Place)) → find key_cmp key (put key_cmp key place es) ≡ Some place
 found_put key place es = find-put key_cmp key_total key key place es ∙ ap (λ b. cond b (Some place) (find key_cmp key es)) (ap order.is_eq (tied_itself key_total key))
 
-keys_put : (key : Key) (place : Place) (es : List (Key × Place)) (old : Option ValuePlace) (keys : ℕ) → T (is_sorted key_cmp es) → find key_cmp key es ≡ place_if_some old → keys ≡ length es
+keys_put : (key : Key) (place : Place) (es : List (Key × Place)) (old : Option Place) (keys : ℕ) → T (is_sorted key_cmp es) → find key_cmp key es ≡ old → keys ≡ length es
     → more_keys keys old ≡ length (put key_cmp key place es)
 keys_put key place es None keys sorted is same =
     ap (λ n. n + 1) same ∙ sym (length-put key_cmp key_total key place es sorted ∙ ap (λ o. cond (is_some o) (length es) (length es + 1)) is)
 keys_put key place es (Some p) keys sorted is same =
     same ∙ sym (length-put key_cmp key_total key place es sorted ∙ ap (λ o. cond (is_some o) (length es) (length es + 1)) is)
 
-module _ (d : Parts) (flash : Flash) (m : Map) (key : Key) (value : List ℕ) (page : ℕ) (old : Option ValuePlace) (p : Puts d d.log.shape flash m key value page old) where
+module _ (d : Parts) (flash : Flash) (m : Map) (key : Key) (value : List ℕ) (page : ℕ) (old : Option Place) (p : Puts d d.log.shape flash m key value page old) where
   abbrev place : Place
   place = record { page = page; len = length value }
 
@@ -132,7 +130,7 @@ module _ (d : Parts) (flash : Flash) (m : Map) (key : Key) (value : List ℕ) (p
   abbrev es : List (Key × Place)
   es = places p.found d.log.pending
 
-  pub puts_moves : (o : Option Span) (n : Span) → o ≡ span_if_some d.log.shape (place_if_some old) → n ≡ span_of d.log.shape place → Moves d.space o n
+  pub puts_moves : (o : Option Span) (n : Span) → o ≡ span_if_some d.log.shape old → n ≡ span_of d.log.shape place → Moves d.space o n
   puts_moves o n o_is n_is = record {
     shape = d.log.shape;
     pool = d.pool;
@@ -209,9 +207,9 @@ pub record Noted (d : Parts) (e : Entry) (log : LogState) : Type 0 where
 abbrev placed_at : ℕ → ℕ → Place
 placed_at page len = record { page = page; len = len }
 
-put_stands_at : (d : Parts) (flash : Flash) (m : Map) (key : Key) (value : List ℕ) (page : ℕ) (old : Option ValuePlace) → Puts d d.log.shape flash m key value page old
+put_stands_at : (d : Parts) (flash : Flash) (m : Map) (key : Key) (value : List ℕ) (page : ℕ) (old : Option Place) → Puts d d.log.shape flash m key value page old
     → (log : LogState) (space : DataState) (keys : ℕ) (o : Option Span) (n : Span) → Noted d (key, Some (placed_at page (length value))) log
-    → o ≡ span_if_some d.log.shape (place_if_some old) → n ≡ span_of d.log.shape (placed_at page (length value))
+    → o ≡ span_if_some d.log.shape old → n ≡ span_of d.log.shape (placed_at page (length value))
     → ((mv : Moves d.space o n) → ValuesOnFlash mv.shape space mv.pool mv.outputs mv.flash (put key_cmp mv.key mv.place mv.es))
     → keys ≡ more_keys d.keys old
     → StandsFor (record d { log = log; space = space; keys = keys }) d.log.shape flash (insert m key value)
@@ -229,9 +227,9 @@ put_stands_at d flash m key value page old p log space keys o n noted o_is n_is 
     } in
     subst (λ (l : LogState). P l keys) (sym noted.pushed_is) (subst (λ (k : ℕ). P (pushed d.log e) k) (sym keys_are) there)
 
-pub put_stands : (d : Parts) (shape : Shape) (flash : Flash) (m : Map) (key : Key) (value : List ℕ) (page len : ℕ) (old : Option ValuePlace) → length value ≡ len → Puts d shape flash m key value page old
+pub put_stands : (d : Parts) (shape : Shape) (flash : Flash) (m : Map) (key : Key) (value : List ℕ) (page len : ℕ) (old : Option Place) → length value ≡ len → Puts d shape flash m key value page old
     → (log : LogState) (space : DataState) (keys : ℕ) (o : Option Span) (n : Span) → Noted d (key, Some (placed_at page len)) log
-    → o ≡ span_if_some d.log.shape (place_if_some old) → n ≡ span_of d.log.shape (placed_at page len)
+    → o ≡ span_if_some d.log.shape old → n ≡ span_of d.log.shape (placed_at page len)
     → ((mv : Moves d.space o n) → ValuesOnFlash mv.shape space mv.pool mv.outputs mv.flash (put key_cmp mv.key mv.place mv.es))
     → keys ≡ more_keys d.keys old
     → StandsFor (record d { log = log; space = space; keys = keys }) shape flash (insert m key value)
@@ -244,20 +242,20 @@ put_stands d shape flash m key value page len old is_len p log space keys o n no
     (put_stands_at d flash m key value page old own log space keys o n noted' o_is n_is' moved keys_are)
 
 -- what the calls want
-pub put_moves : (d : Parts) (flash : Flash) (m : Map) (key : Key) (value : List ℕ) (page len : ℕ) (old : Option ValuePlace) → length value ≡ len → Puts d d.log.shape flash m key value page old
-    → (o : Option Span) (n : Span) → o ≡ span_if_some d.log.shape (place_if_some old) → n ≡ span_of d.log.shape (placed_at page len) → Moves d.space o n
+pub put_moves : (d : Parts) (flash : Flash) (m : Map) (key : Key) (value : List ℕ) (page len : ℕ) (old : Option Place) → length value ≡ len → Puts d d.log.shape flash m key value page old
+    → (o : Option Span) (n : Span) → o ≡ span_if_some d.log.shape old → n ≡ span_of d.log.shape (placed_at page len) → Moves d.space o n
 put_moves d flash m key value page len old is_len p o n o_is n_is =
     puts_moves d flash m key value page old p o n o_is (subst (λ (l : ℕ). n ≡ span_of d.log.shape (placed_at page l)) (sym is_len) n_is)
 
-pub put_storable : (d : Parts) (flash : Flash) (m : Map) (key : Key) (value : List ℕ) (page len : ℕ) (old : Option ValuePlace) → length value ≡ len → Puts d d.log.shape flash m key value page old → IsKey key
+pub put_storable : (d : Parts) (flash : Flash) (m : Map) (key : Key) (value : List ℕ) (page len : ℕ) (old : Option Place) → length value ≡ len → Puts d d.log.shape flash m key value page old → IsKey key
     → IsStorable d.log.shape (key, Some (placed_at page len))
 put_storable d flash m key value page len old is_len p is_key = subst (λ (l : ℕ). IsStorable d.log.shape (key, Some (placed_at page l))) is_len ((is_key, p.place), p.bytes)
 
 -- the length of the value that a key had
-pub old_short : (d : Parts) (flash : Flash) (m : Map) (key : Key) (value : List ℕ) (page : ℕ) (old : Option ValuePlace) → Puts d d.log.shape flash m key value page old
+pub old_short : (d : Parts) (flash : Flash) (m : Map) (key : Key) (value : List ℕ) (page : ℕ) (old : Option Place) → Puts d d.log.shape flash m key value page old
     → MatchOption old (Unit {0}) (λ p. p.len ≤ greatest d.log.shape)
 old_short d flash m key value page None p = tt
-old_short d flash m key value page (Some q) p = (found_place d.log.shape key (place_of q) (places p.found d.log.pending) p.with.placed.places p.old_is).short
+old_short d flash m key value page (Some q) p = (found_place d.log.shape key q (places p.found d.log.pending) p.with.placed.places p.old_is).short
 
 -- ---- a key loses its value
 
@@ -267,14 +265,14 @@ keys_gone key place es keys sorted is same =
     let one : 1 + length (without key es) ≡ length es = subst (λ (o : Option Place). cond (is_some o) 1 0 + length (without key es) ≡ length es) is all in
     (omega (arith, one, same), omega (arith, one, same))
 
-module _ (d : Parts) (flash : Flash) (m : Map) (key : Key) (old : ValuePlace) (p : Drops d d.log.shape flash m key old) where
+module _ (d : Parts) (flash : Flash) (m : Map) (key : Key) (old : Place) (p : Drops d d.log.shape flash m key old) where
   abbrev gone : Entry
   gone = (key, None)
 
   abbrev values_before : List (Key × Place)
   values_before = places p.found d.log.pending
 
-  pub drops_held : (n : Span) → n ≡ span_of d.log.shape (place_of old) → Held d.space n
+  pub drops_held : (n : Span) → n ≡ span_of d.log.shape old → Held d.space n
   drops_held n n_is = record {
     shape = d.log.shape;
     pool = d.pool;
@@ -282,7 +280,7 @@ module _ (d : Parts) (flash : Flash) (m : Map) (key : Key) (old : ValuePlace) (p
     flash = flash;
     es = values_before;
     key = key;
-    place = place_of old;
+    place = old;
     placed = p.with.placed;
     rising = rising d d.log.shape flash p.top p.found p.without m p.with;
     found = p.old_is;
@@ -290,10 +288,10 @@ module _ (d : Parts) (flash : Flash) (m : Map) (key : Key) (old : ValuePlace) (p
   }
 
   pub gone_short : old.len ≤ greatest d.log.shape
-  gone_short = (found_place d.log.shape key (place_of old) values_before p.with.placed.places p.old_is).short
+  gone_short = (found_place d.log.shape key old values_before p.with.placed.places p.old_is).short
 
   pub gone_keys : (d.keys - 1 ≡ length (without key values_before)) × (1 ≤ d.keys)
-  gone_keys = keys_gone key (place_of old) values_before d.keys (rising d d.log.shape flash p.top p.found p.without m p.with) p.old_is p.with.keys_are
+  gone_keys = keys_gone key old values_before d.keys (rising d d.log.shape flash p.top p.found p.without m p.with) p.old_is p.with.keys_are
 
   places_gone : places p.found (d.log.pending ++ gone ∷ []) ≡ without key values_before
   places_gone = ap (λ xs. placed (firsts xs)) (entries_in_order-push p.found d.log.pending gone) ∙ placed-gone key (counting p.found d.log.pending) (firsts_sorted (entries_in_order p.found d.log.pending))
@@ -323,8 +321,8 @@ module _ (d : Parts) (flash : Flash) (m : Map) (key : Key) (old : ValuePlace) (p
     keys_are = gone_keys.0 ∙ ap length (sym places_gone);
   }
 
-gone_stands_at : (d : Parts) (flash : Flash) (m : Map) (key : Key) (old : ValuePlace) → Drops d d.log.shape flash m key old
-    → (log : LogState) (space : DataState) (n : Span) → Noted d (key, None) log → n ≡ span_of d.log.shape (place_of old)
+gone_stands_at : (d : Parts) (flash : Flash) (m : Map) (key : Key) (old : Place) → Drops d d.log.shape flash m key old
+    → (log : LogState) (space : DataState) (n : Span) → Noted d (key, None) log → n ≡ span_of d.log.shape old
     → ((h : Held d.space n) → ValuesOnFlash h.shape space h.pool h.outputs h.flash (without h.key h.es))
     → StandsFor (record d { log = log; space = space; keys = d.keys - 1 }) d.log.shape flash (remove m key)
 unfolding drops_held
@@ -340,8 +338,8 @@ gone_stands_at d flash m key old p log space n noted n_is removed =
     } in
     subst (λ (l : LogState). StandsFor (record d { log = l; space = space; keys = d.keys - 1 }) d.log.shape flash (remove m key)) (sym noted.pushed_is) there
 
-pub gone_stands : (d : Parts) (shape : Shape) (flash : Flash) (m : Map) (key : Key) (old : ValuePlace) → Drops d shape flash m key old
-    → (log : LogState) (space : DataState) (n : Span) → Noted d (key, None) log → n ≡ span_of d.log.shape (place_of old)
+pub gone_stands : (d : Parts) (shape : Shape) (flash : Flash) (m : Map) (key : Key) (old : Place) → Drops d shape flash m key old
+    → (log : LogState) (space : DataState) (n : Span) → Noted d (key, None) log → n ≡ span_of d.log.shape old
     → ((h : Held d.space n) → ValuesOnFlash h.shape space h.pool h.outputs h.flash (without h.key h.es))
     → StandsFor (record d { log = log; space = space; keys = d.keys - 1 }) shape flash (remove m key)
 gone_stands d shape flash m key old p log space n noted n_is removed =
@@ -349,5 +347,5 @@ gone_stands d shape flash m key old p log space n noted n_is removed =
     subst (λ (s : Shape). StandsFor (record d { log = log; space = space; keys = d.keys - 1 }) s flash (remove m key)) is
     (gone_stands_at d flash m key old (subst (λ (s : Shape). Drops d s flash m key old) (sym is) p) log space n noted n_is removed)
 
-pub gone_storable : (d : Parts) (flash : Flash) (m : Map) (key : Key) (old : ValuePlace) → Drops d d.log.shape flash m key old → IsKey key → IsStorable d.log.shape (key, None)
+pub gone_storable : (d : Parts) (flash : Flash) (m : Map) (key : Key) (old : Place) → Drops d d.log.shape flash m key old → IsKey key → IsStorable d.log.shape (key, None)
 gone_storable d flash m key old p is_key = ((is_key, tt), p.bytes)

@@ -3,7 +3,6 @@ use Rattle.std.proofs.Common.{◌≡◌, ◌≢◌, ℕ, ◌+◌, ◌-◌, ◌<�
 use Rattle.pk_base.specs.Key.{Key}
 use Rattle.pk_base.specs.Shape.{Shape, charge}
 use Rattle.pk_base.specs.Page.{Flash, page_at, erased, whole}
-use Rattle.pk_base.specs.Entry.{Place}
 use Rattle.pk_segfmt.specs.Stored.{page_of, IsStored}
 use Rattle.pk_nand.specs.BoardState.{BoardState}
 use Rattle.pk_nand.specs.Crash.{Reached, SameOutside}
@@ -11,7 +10,7 @@ use Rattle.pk_model.proofs.Growing.{at_end}
 use Rattle.pk_pool.specs.Blocks.{Blocks}
 use Rattle.pk_seg.specs.Stored.{written}
 use Rattle.pk_data.specs.State.{DataState, with_written, next_page}
-use Rattle.pk_data.specs.Placed.{ValuesOnFlash, StayPlaced}
+use Rattle.pk_data.specs.Placed.{StayPlaced}
 use Rattle.pk_data.specs.Reserving.{WritesNext}
 use Rattle.pk_data.specs.Entries.{IsInOpen}
 use Rattle.pk_core.specs.Placing.{Reserves, PlacesValue}

@@ -1,6 +1,6 @@
 -- A freeze of the log keeps the map.
 use Rattle.std.proofs.Common.{◌≡◌, ◌≢◌, inl, inr, ℕ, ◌+◌, ◌-◌, ◌/◌, ◌<◌, ◌≤◌, Bool, true, false, not, ◌&&◌, ◌==◌, T, List, [], ◌∷◌, ◌++◌, length, reverse, if◌then◌else◌, Some, Result, Ok, Err, refl, sym, ap, subst, ◌∙◌, arith, append-nil, leb-false, mul-le-mul_right}
-use Rattle.std.specs.Prelude.{slice_get, OnOk, OnErr}
+use Rattle.std.specs.Prelude.{slice_get, OnOk}
 use Rattle.std.specs.List.{concat}
 use Rattle.std.proofs.lemmas.Bool.{cases_eq}
 use Rattle.std.proofs.lemmas.Bool.Decides.{nat_tests}

@@ -1,5 +1,5 @@
 -- The blocks that jobs hold, where owners keep what they have, and where no job holds any.
-use Rattle.std.proofs.Common.{◌≡◌, ◌⊎◌, inl, inr, ℕ, ◌/◌, List, [], Some, refl, sym, subst}
+use Rattle.std.proofs.Common.{◌≡◌, ◌⊎◌, inl, inr, ℕ, ◌/◌, List, [], Some, refl, subst}
 use Rattle.std.specs.Prelude.{slice_get}
 use Rattle.pk_plan.specs.declared.owner.Owner.{Owner}
 use Rattle.pk_plan.specs.declared.owner.Owner.TheVariants.{Journal, Meta, Values}

@@ -1,6 +1,6 @@
 -- How many frames are leased: one for each page of the runs of the pinned levels.
 use Rattle.std.proofs.Common.{◌≡◌, ℕ, zero, suc, ◌+◌, ◌-◌, ◌≤◌, ◌<◌, Bool, true, false, List, [], ◌∷◌, ◌++◌, length, map, take, sum, refl, ap, sym, subst, ◌∙◌, arith, append-nil, length-append}
-use Rattle.std.specs.Prelude.{slice_index_or, nat_le}
+use Rattle.std.specs.Prelude.{nat_le}
 use Rattle.std.proofs.lemmas.Bool.Decides.{nat_tests}
 use Rattle.std.proofs.lemmas.List.Sums.{sum_by-cons}
 use Rattle.pk_base.specs.Shape.{Shape, run_pages, pinned}
@@ -10,12 +10,12 @@ use Rattle.pk_base.specs.Entry.{Entry}
 use Rattle.pk_rootfmt.specs.Root.{Root}
 use Rattle.pk_pin.specs.Frames.{Frames, leased_frames}
 use Rattle.pk_pin.proofs.Leases.{leases_counted}
-use Rattle.pk_run.specs.Kept.{Kept, IsPinned}
-use Rattle.pk_level.specs.Levels.{RunsOnFlash, run_of}
+use Rattle.pk_run.specs.Kept.{Kept}
+use Rattle.pk_level.specs.Levels.{RunsOnFlash}
 use Rattle.pk_level.specs.Arenas.{IsPinnedIf, ArePinnedTo, leases_of}
 use Rattle.pk_model.specs.Found.{Found}
 use Rattle.pk_scan.specs.Opened.{HaveBlocks}
-use Rattle.pk_core.specs.Parts.{Parts}
+use Rattle.pk_core.specs.Parts.{Parts, frames_of}
 use Rattle.pk_core.specs.Agreeing.{DriveOnFlashWith}
 
 le_true : (x y : ℕ) → x ≤ y → nat_le x y ≡ true
@@ -49,20 +49,10 @@ module _ (shape : Shape) (flash : Flash) (arena : Frames) (pins : ℕ) where
 
 -- the leased frames of a drive are the pages of its pinned runs
 pub leased_are : (d : Parts) (shape : Shape) (flash : Flash) (top : ℕ × Root) (found : Found) (without all : Map) → DriveOnFlashWith d shape flash top found without all
-    → leased_frames d.arena ≡ sum (map (run_pages shape) (take (pinned shape d.frames) (entries_of d.levels.runs)))
+    → leased_frames d.arena ≡ sum (map (run_pages shape) (take (pinned shape (frames_of d)) (entries_of d.levels.runs)))
 leased_are d shape flash top found without all agrees =
     let pins : ℕ = d.levels.pinned in
     sym (leases_counted d.arena (leases_of d.levels.runs ++ []) agrees.arena_is.only_these)
     ∙ ap (λ (ls : List ℕ). length ls) (append-nil (leases_of d.levels.runs))
     ∙ many shape flash d.arena pins 1 pins d.levels.runs top.1.runs found.runs (omega arith) agrees.run_blocks agrees.stand agrees.arena_is.pins
     ∙ ap (λ (n : ℕ). sum (map (run_pages shape) (take n (entries_of d.levels.runs)))) agrees.levels_pinned
-
--- the entries of four runs one by one
-pub four_entries : (rs : List Kept) (none : Kept) → length rs ≡ 4
-    → entries_of rs ≡ (slice_index_or rs 0 none).count ∷ (slice_index_or rs 1 none).count ∷ (slice_index_or rs 2 none).count ∷ (slice_index_or rs 3 none).count ∷ []
-four_entries [] none four = absurd (omega (arith, four))
-four_entries (a ∷ []) none four = absurd (omega (arith, four))
-four_entries (a ∷ b ∷ []) none four = absurd (omega (arith, four))
-four_entries (a ∷ b ∷ c ∷ []) none four = absurd (omega (arith, four))
-four_entries (a ∷ b ∷ c ∷ d ∷ []) none four = refl
-four_entries (a ∷ b ∷ c ∷ d ∷ e ∷ rs) none four = absurd (omega (arith, four))

@@ -29,7 +29,6 @@ use Rattle.pk_data.specs.State.{DataState, fits_open, has_left}
 use Rattle.pk_data.specs.Placed.{IsOpenIn}
 use Rattle.pk_data.specs.declared.open_block.OpenBlock.{OpenBlock}
 use Rattle.pk_drive.specs.Moving.{HasOpenRoom, StoresIn, Stores}
-use Rattle.pk_core.specs.declared.place.ValuePlace.{ValuePlace}
 use Rattle.pk_core.specs.Parts.{Parts, sight_of, block_if_open}
 use Rattle.pk_core.specs.Agreeing.{DriveOnFlash}
 use Rattle.pk_core.specs.Noting.{Puts}
@@ -49,7 +48,7 @@ open_is shape pool flash (Some o) page count is inside some =
     let high = inside.1 in
     ap Some (sym (block_of shape.block_pages page o.block (omega (arith, low)) (omega (arith, high, within, some))))
 
-pub put_noted : (d : Parts) (flash : Flash) (m : Map) (k : Key) (value : List ℕ) (page len : ℕ) (old : Option ValuePlace) (log' : LogState) (space' : DataState) (keys' : ℕ) → length value ≡ len → Puts d d.log.shape flash m k value page old
+pub put_noted : (d : Parts) (flash : Flash) (m : Map) (k : Key) (value : List ℕ) (page len : ℕ) (old : Option Place) (log' : LogState) (space' : DataState) (keys' : ℕ) → length value ≡ len → Puts d d.log.shape flash m k value page old
     → log' ≡ pushed d.log (k, Some (record { page = page; len = len })) → space'.open_block ≡ d.space.open_block → IsNoted (record d { log = log'; space = space'; keys = keys' }) k
 put_noted d flash m k value page len old log' space' keys' is_len p is same =
     let T : LogState → Type 0 = λ l. IsNoted (record d { log = l; space = space'; keys = keys' }) k in

@@ -1,25 +1,28 @@
 -- What opening found makes a drive that agrees with the flash.
 use Rattle.std.proofs.Common.{◌≡◌, ℕ, ◌<◌, ◌≤◌, Some, List, [], false, length, refl, sym, ap, subst, ◌∙◌, arith}
-use Rattle.pk_base.specs.Shape.{Shape, IsShape, page_entries}
-use Rattle.pk_base.specs.Page.{Flash, IsFlash}
+use Rattle.pk_base.specs.Shape.{Shape, IsShape, page_entries, pinned}
+use Rattle.pk_base.specs.Page.{Flash, IsFlash, page_at}
 use Rattle.pk_base.specs.Entry.{Entry, Place}
 use Rattle.pk_base.specs.Key.{Key}
 use Rattle.pk_base.specs.Map.{Map}
-use Rattle.pk_rootfmt.specs.Root.{named}
+use Rattle.pk_rootfmt.specs.Root.{Root, named}
 use Rattle.pk_jrn.specs.Epochs.{JournalEpoch}
 use Rattle.pk_pool.specs.Blocks.{Blocks}
-use Rattle.pk_model.specs.Found.{Found}
+use Rattle.pk_level.specs.Arenas.{HasArena}
+use Rattle.pk_model.specs.Found.{Found, found_under}
+use Rattle.pk_model.specs.Tree.{Tree, IsTree}
 use Rattle.pk_steps.specs.Under.{IsUnder, places}
 use Rattle.pk_log.specs.State.{LogState, opened}
 use Rattle.pk_log.specs.Logs.{LogOnFlash, Opens}
 use Rattle.pk_data.specs.State.{DataState, with_none_open}
 use Rattle.pk_data.specs.Placed.{ValuesOnFlash, FoundAtOpening}
-use Rattle.pk_scan.specs.Opened.{HasLists, HasBlocks, IsOpened}
+use Rattle.pk_scan.specs.Opened.{ListsOnFlash, BlocksOnFlash, FoundOnFlash}
 use Rattle.pk_scan.specs.declared.contents.Found.{Found as Opened}
 use Rattle.pk_nand.specs.BoardState.{BoardState}
 use Rattle.pk_nand.specs.Calls.{IsReady}
 use Rattle.pk_nand.specs.Erased.{after_reads}
 use Rattle.pk_drive.specs.Drive.{HoldsMap}
+use Rattle.pk_drive.specs.Steady.{live_blocks}
 use Rattle.pk_core.specs.Parts.{Parts, sight_of}
 use Rattle.pk_core.specs.Agreeing.{DriveOnFlash}
 use Rattle.pk_core.specs.Moves.{StandsFor}
@@ -28,7 +31,7 @@ use Rattle.pk_core.proofs.Standing.{still_stands}
 use Rattle.pk_core.proofs.Holding.{none_held}
 
 -- the lists are what a log is opened with
-log_opens : {A : Type 0} (shape : Shape) (flash : Flash) (frames : ℕ) (f : Opened A) (found : Found) (m : Map) → HasLists shape flash frames f found m → Opens f.root f.root_page f.epoch f.active f.frozen flash found
+log_opens : {A : Type 0} (shape : Shape) (flash : Flash) (frames : ℕ) (f : Opened A) (found : Found) (m : Map) → ListsOnFlash shape flash frames f found m → Opens f.root f.root_page f.epoch f.active f.frozen flash found
 log_opens shape flash frames f found m has =
     let S : Shape → Type 0 = λ s. Opens (record { shape = s; root = f.root.root }) f.root_page f.epoch f.active f.frozen flash found in
     let epoch_is = has.epoch_is.1 in
@@ -44,7 +47,7 @@ log_opens shape flash frames f found m has =
     })
 
 -- and the blocks with their owners those that values are found in
-values_found : {A : Type 0} (shape : Shape) (flash : Flash) (f : Opened A) (found : Found) → IsShape shape → HasBlocks shape flash f found → FoundAtOpening shape (named f.root.root) f.live f.pool flash (places found [])
+values_found : {A : Type 0} (shape : Shape) (flash : Flash) (f : Opened A) (found : Found) → IsShape shape → BlocksOnFlash shape flash f found → FoundAtOpening shape (named f.root.root) f.live f.pool flash (places found [])
 values_found shape flash f found is has = record {
   is_shape = is;
   shape_is = has.owners.pool_shape;
@@ -59,9 +62,9 @@ values_found shape flash f found is has = record {
 -- the parts of a drive behind what was found
 module _ {A : Type 0} (shape : Shape) (flash : Flash) (frames : ℕ) (f : Opened A) (log : LogState) (space : DataState) where
   abbrev parts : Parts
-  parts = record { log = log; levels = f.levels; arena = f.arena; space = space; pool = f.pool; keys = f.keys; frames = frames; stopped = false }
+  parts = record { log = log; levels = f.levels; arena = f.arena; space = space; pool = f.pool; keys = f.keys; stopped = false }
 
-  pub opens_on : IsShape f.root.shape → IsFlash shape flash → IsOpened shape flash frames f
+  pub opens_on : IsShape f.root.shape → IsFlash shape flash → FoundOnFlash shape flash frames f
       → log ≡ opened f.root f.root_page f.epoch f.active f.frozen → ((x : Flash) (found : Found) → Opens f.root f.root_page f.epoch f.active f.frozen x found → LogOnFlash log x (f.root_page, f.root.root) found)
       → space ≡ with_none_open f.live → ((s : Shape) (named : List ℕ) (p : Blocks) (x : Flash) (es : List (Key × Place)) → FoundAtOpening s named f.live p x es → ValuesOnFlash s space p [] x es)
       → OpenedOn shape flash frames parts
@@ -80,10 +83,10 @@ module _ {A : Type 0} (shape : Shape) (flash : Flash) (frames : ℕ) (f : Opened
           committed = was.lists.under;
           pending = subst (λ (es : List Entry). IsUnder shape flash es (f.root_page, f.root.root) was.found was.map) (sym none) was.lists.under;
           levels_shape = was.lists.levels_shape;
-          levels_pinned = was.lists.levels_pinned;
+          levels_pinned = was.lists.levels_pinned ∙ ap (pinned shape) (sym was.lists.arena_is.size);
           stand = was.lists.stand;
           run_blocks = was.lists.run_blocks;
-          arena_is = was.lists.arena_is;
+          arena_is = subst (λ (n : ℕ). HasArena shape n f.levels f.arena []) (sym was.lists.arena_is.size) was.lists.arena_is;
           placed = subst (λ (es : List Entry). ValuesOnFlash shape space f.pool [] flash (places was.found es)) (sym none) placed;
           former = placed.owned;
           former_read = λ k is output. output;
@@ -94,11 +97,12 @@ module _ {A : Type 0} (shape : Shape) (flash : Flash) (frames : ℕ) (f : Opened
           jobs_hold = none_held f.pool f.root.root;
           keys_are = was.keys_are ∙ sym (ap (λ (es : List Entry). length (places was.found es)) none);
         };
-        frames_are = refl;
+        frames_are = was.lists.arena_is.size;
         runs = refl;
         none_pending = none;
         takes_none = ap (λ (l : LogState). l.epoch.takes_more) log_is ∙ ap (λ (e : JournalEpoch). e.takes_more) was.lists.epoch_is.1;
         none_open = ap (λ (s : DataState). s.open_block) space_is;
+        blocks_are = was.blocks.values_are;
       }
 
 -- ---- what contracts say of it
@@ -122,3 +126,11 @@ module _ (shape : Shape) (frames reads : ℕ) (old new : BoardState) (d : Parts)
       let told : new.shape ≡ Some shape = ap (λ (s : BoardState). s.shape) done ∙ ready.shape_is in
       let here : StandsFor d shape old.pages o.all = record { top = o.top; found = o.found; without = o.all; with = o.with } in
       (o.all, still_stands d new shape frames o.all told o.frames_are (subst (λ (f : Flash). StandsFor d shape f o.all) (sym (ap (λ (s : BoardState). s.pages) done)) here))
+
+  -- so many blocks are in use as have a page of a value
+  pub blocks_behind : (tree : Tree) → IsTree shape new.pages tree → (sight_of d).counts.blocks ≡ live_blocks shape tree.found []
+  blocks_behind tree is =
+      let was : IsTree shape old.pages tree = subst (λ (f : Flash). IsTree shape f tree) (ap (λ (s : BoardState). s.pages) done) is in
+      let top : (was.page_of_root, tree.root) ≡ o.top = let e = sym was.is_newest ∙ o.with.committed.is_top in cc in
+      let found : tree.found ≡ o.found = let e = sym was.is_found ∙ ap (λ (t : ℕ × Root). found_under shape (page_at old.pages) t.1) top ∙ o.with.committed.is_found in cc in
+      o.blocks_are ∙ ap (λ (f : Found). live_blocks shape f []) (sym found)

@@ -3,6 +3,7 @@ use Rattle.std.proofs.Common.{◌≡◌, inl, inr, ℕ, refl, sym, ap, subst, �
 use Rattle.std.specs.Prelude.{OnOk, OnErr}
 use Rattle.std.specs.FinMap.{insert, remove}
 use Rattle.std.specs.FinMap.Entries.{find}
+use Rattle.pk_base.specs.Entry.{Place}
 use Rattle.pk_base.specs.Key.{Key, key_cmp}
 use Rattle.pk_base.specs.Shape.{Shape, charge}
 use Rattle.pk_base.specs.Page.{Flash}
@@ -20,7 +21,6 @@ use Rattle.pk_model.specs.Crashes.{CrashFinds, commit, change}
 use Rattle.pk_model.proofs.Growing.{at_end, weaken, weaken_went, Reaches-then, Goes-then}
 use Rattle.pk_data.specs.State.{needs_reclaim}
 use Rattle.pk_data.specs.Entries.{IsInOpen}
-use Rattle.pk_core.specs.declared.place.ValuePlace.{ValuePlace}
 use Rattle.pk_core.specs.Parts.{Parts}
 use Rattle.pk_core.specs.Moves.{StandsFor, Keeps, KeepsAll, BreaksAll, IsWritten}
 use Rattle.pk_core.specs.Noting.{Puts, Drops}
@@ -30,7 +30,7 @@ use Rattle.pk_core.proofs.Changing.{IsStill, kept_goes, changes, change_goes}
 
 -- ---- a step that keeps the map leaves what a change wants
 
-pub may_put_after : (a b : Parts) (shape : Shape) (m : Map) (old new : BoardState) (key : Key) (value : List ℕ) (place : Option ValuePlace) → MayPut a shape old.pages m key value place → Keeps a b shape m old new
+pub may_put_after : (a b : Parts) (shape : Shape) (m : Map) (old new : BoardState) (key : Key) (value : List ℕ) (place : Option Place) → MayPut a shape old.pages m key value place → Keeps a b shape m old new
     → MayPut b shape new.pages m key value place
 may_put_after a b shape m old new key value place may keeps = record {
   stands = keeps.stands;
@@ -39,7 +39,7 @@ may_put_after a b shape m old new key value place may keeps = record {
   room = may.room;
 }
 
-pub may_take_after : (a b : Parts) (shape : Shape) (m : Map) (old new : BoardState) (key : Key) (place : ValuePlace) → MayTake a shape old.pages m key place → Keeps a b shape m old new → MayTake b shape new.pages m key place
+pub may_take_after : (a b : Parts) (shape : Shape) (m : Map) (old new : BoardState) (key : Key) (place : Place) → MayTake a shape old.pages m key place → Keeps a b shape m old new → MayTake b shape new.pages m key place
 may_take_after a b shape m old new key place may keeps = record {
   stands = keeps.stands;
   old_is = ap (find key_cmp key) (keeps.same_places may.stands) ∙ may.old_is;
@@ -74,7 +74,7 @@ module _ (shape : Shape) (s0 s1 : BoardState) (has : s0.shape ≡ Some shape) (m
   pub later_goes : (s2 : BoardState) → Goes shape s1 s2 (CrashFinds shape (change m') s1.pages m) → Goes shape s0 s2 (CrashFinds shape (change m') s0.pages m)
   later_goes s2 second = Goes-then shape first.0 s0 s1 (CrashFinds shape (change m') s0.pages m) has begun first.2 s2 (CrashFinds shape (change m') s1.pages m) later_cut second
 
-pub puts_later : (r : Result Unit Fault) (a b e : Parts) (s0 s1 s2 : BoardState) (key : Key) (value : List ℕ) (place : Option ValuePlace) → IsReady s0 a.log.shape → KeepsAll a b s0 s1
+pub puts_later : (r : Result Unit Fault) (a b e : Parts) (s0 s1 s2 : BoardState) (key : Key) (value : List ℕ) (place : Option Place) → IsReady s0 a.log.shape → KeepsAll a b s0 s1
     → OnOk r (PutsAll b e s1 s2 key value place) → OnOk r (PutsAll a e s0 s2 key value place)
 puts_later (Ok x) a b e s0 s1 s2 key value place ready keeps puts = λ shape m may.
     let one = keeps shape m may.stands in
@@ -82,14 +82,14 @@ puts_later (Ok x) a b e s0 s1 s2 key value place ready keeps puts = λ shape m m
     record { stands = later.stands; cuts = later_reaches shape s0 s1 (board_has a s0 shape m ready may.stands) m (insert m key value) one.cuts one.still s2 later.cuts }
 puts_later (Err f) a b e s0 s1 s2 key value place ready keeps puts = tt
 
-pub fails_later : (r : Result Unit Fault) (a b : Parts) (s0 s1 s2 : BoardState) (key : Key) (value : List ℕ) (place : Option ValuePlace) → IsReady s0 a.log.shape → KeepsAll a b s0 s1
+pub fails_later : (r : Result Unit Fault) (a b : Parts) (s0 s1 s2 : BoardState) (key : Key) (value : List ℕ) (place : Option Place) → IsReady s0 a.log.shape → KeepsAll a b s0 s1
     → OnErr r (FailsToPut b s1 s2 key value place) → OnErr r (FailsToPut a s0 s2 key value place)
 fails_later (Ok x) a b s0 s1 s2 key value place ready keeps puts = tt
 fails_later (Err f) a b s0 s1 s2 key value place ready keeps puts = λ shape m may.
     let one = keeps shape m may.stands in
     later_goes shape s0 s1 (board_has a s0 shape m ready may.stands) m (insert m key value) one.cuts one.still s2 (puts shape m (may_put_after a b shape m s0 s1 key value place may one))
 
-pub takes_later : (r : Result Unit Fault) (a b e : Parts) (s0 s1 s2 : BoardState) (key : Key) (place : ValuePlace) → IsReady s0 a.log.shape → KeepsAll a b s0 s1
+pub takes_later : (r : Result Unit Fault) (a b e : Parts) (s0 s1 s2 : BoardState) (key : Key) (place : Place) → IsReady s0 a.log.shape → KeepsAll a b s0 s1
     → OnOk r (TakesAll b e s1 s2 key place) → OnOk r (TakesAll a e s0 s2 key place)
 takes_later (Ok x) a b e s0 s1 s2 key place ready keeps takes = λ shape m may.
     let one = keeps shape m may.stands in
@@ -97,7 +97,7 @@ takes_later (Ok x) a b e s0 s1 s2 key place ready keeps takes = λ shape m may.
     record { stands = later.stands; cuts = later_reaches shape s0 s1 (board_has a s0 shape m ready may.stands) m (remove m key) one.cuts one.still s2 later.cuts }
 takes_later (Err f) a b e s0 s1 s2 key place ready keeps takes = tt
 
-pub fails_to_take_later : (r : Result Unit Fault) (a b : Parts) (s0 s1 s2 : BoardState) (key : Key) (place : ValuePlace) → IsReady s0 a.log.shape → KeepsAll a b s0 s1
+pub fails_to_take_later : (r : Result Unit Fault) (a b : Parts) (s0 s1 s2 : BoardState) (key : Key) (place : Place) → IsReady s0 a.log.shape → KeepsAll a b s0 s1
     → OnErr r (FailsToTake b s1 s2 key place) → OnErr r (FailsToTake a s0 s2 key place)
 fails_to_take_later (Ok x) a b s0 s1 s2 key place ready keeps takes = tt
 fails_to_take_later (Err f) a b s0 s1 s2 key place ready keeps takes = λ shape m may.
@@ -105,15 +105,15 @@ fails_to_take_later (Err f) a b s0 s1 s2 key place ready keeps takes = λ shape 
     later_goes shape s0 s1 (board_has a s0 shape m ready may.stands) m (remove m key) one.cuts one.still s2 (takes shape m (may_take_after a b shape m s0 s1 key place may one))
 
 -- the step that was to keep the map stopped the drive
-pub put_broken : (a : Parts) (s0 s1 : BoardState) (key : Key) (value : List ℕ) (place : Option ValuePlace) → IsReady s0 a.log.shape → BreaksAll a s0 s1 → FailsToPut a s0 s1 key value place
+pub put_broken : (a : Parts) (s0 s1 : BoardState) (key : Key) (value : List ℕ) (place : Option Place) → IsReady s0 a.log.shape → BreaksAll a s0 s1 → FailsToPut a s0 s1 key value place
 put_broken a s0 s1 key value place ready breaks shape m may = kept_goes shape s0 s1 (board_has a s0 shape m ready may.stands) m (insert m key value) (breaks shape m may.stands)
 
-pub take_broken : (a : Parts) (s0 s1 : BoardState) (key : Key) (place : ValuePlace) → IsReady s0 a.log.shape → BreaksAll a s0 s1 → FailsToTake a s0 s1 key place
+pub take_broken : (a : Parts) (s0 s1 : BoardState) (key : Key) (place : Place) → IsReady s0 a.log.shape → BreaksAll a s0 s1 → FailsToTake a s0 s1 key place
 take_broken a s0 s1 key place ready breaks shape m may = kept_goes shape s0 s1 (board_has a s0 shape m ready may.stands) m (remove m key) (breaks shape m may.stands)
 
 -- ---- a value was written, its entry noted, and a commit made where the page is full
 
-pub puts_of : (b : Parts) (its shape : Shape) (flash : Flash) (m : Map) (key : Key) (value : List ℕ) (page : ℕ) (old : Option ValuePlace) → its ≡ shape → MayPut b shape flash m key value old
+pub puts_of : (b : Parts) (its shape : Shape) (flash : Flash) (m : Map) (key : Key) (value : List ℕ) (page : ℕ) (old : Option Place) → its ≡ shape → MayPut b shape flash m key value old
     → IsWritten b its flash key value page → IsPlace its (record { page = page; len = length value }) → IsInOpen its b.space page (charge its (length value)) → Puts b shape flash m key value page old
 puts_of b its shape flash m key value page old same may written place in_open = record {
   top = may.stands.top;
@@ -128,11 +128,11 @@ puts_of b its shape flash m key value page old same may written place in_open = 
   room = may.room;
 }
 
-pub drops_of : (d : Parts) (shape : Shape) (flash : Flash) (m : Map) (key : Key) (old : ValuePlace) → MayTake d shape flash m key old → Drops d shape flash m key old
+pub drops_of : (d : Parts) (shape : Shape) (flash : Flash) (m : Map) (key : Key) (old : Place) → MayTake d shape flash m key old → Drops d shape flash m key old
 drops_of d shape flash m key old may = record { top = may.stands.top; found = may.stands.found; without = may.stands.without; with = may.stands.with; old_is = may.old_is; bytes = may.bytes }
 
 -- for some map
-pub some_puts : (a b : Parts) (s0 s1 : BoardState) (key : Key) (value : List ℕ) (page : ℕ) (old : Option ValuePlace)
+pub some_puts : (a b : Parts) (s0 s1 : BoardState) (key : Key) (value : List ℕ) (page : ℕ) (old : Option Place)
     → (m : Map) × MayPut a a.log.shape s0.pages m key value old → KeepsAll a b s0 s1 → b.log.shape ≡ a.log.shape
     → IsWritten b a.log.shape s1.pages key value page → IsPlace a.log.shape (record { page = page; len = length value }) → IsInOpen a.log.shape b.space page (charge a.log.shape (length value))
     → (flash : Flash) × (m : Map) × (x : List ℕ) × (length x ≡ length value) × Puts b b.log.shape flash m key x page old
@@ -141,21 +141,21 @@ some_puts a b s0 s1 key value page old may keeps same written place in_open =
     (s1.pages, may.0, value, refl, subst (λ (s : Shape). Puts b s s1.pages may.0 key value page old) (sym same) (puts_of b a.log.shape a.log.shape s1.pages may.0 key value page old refl mid written place in_open))
 
 -- what a change wants, for some map behind a step that keeps it
-pub some_may_put : (a b : Parts) (s0 s1 : BoardState) (key : Key) (value : List ℕ) (place : Option ValuePlace) → (m : Map) × MayPut a a.log.shape s0.pages m key value place → KeepsAll a b s0 s1 → b.log.shape ≡ a.log.shape
+pub some_may_put : (a b : Parts) (s0 s1 : BoardState) (key : Key) (value : List ℕ) (place : Option Place) → (m : Map) × MayPut a a.log.shape s0.pages m key value place → KeepsAll a b s0 s1 → b.log.shape ≡ a.log.shape
     → (m : Map) × MayPut b b.log.shape s1.pages m key value place
 some_may_put a b s0 s1 key value place may keeps same =
     (may.0, subst (λ (s : Shape). MayPut b s s1.pages may.0 key value place) (sym same) (may_put_after a b a.log.shape may.0 s0 s1 key value place may.1 (keeps a.log.shape may.0 may.1.stands)))
 
-pub some_may_take : (a b : Parts) (s0 s1 : BoardState) (key : Key) (place : ValuePlace) → (m : Map) × MayTake a a.log.shape s0.pages m key place → KeepsAll a b s0 s1 → b.log.shape ≡ a.log.shape
+pub some_may_take : (a b : Parts) (s0 s1 : BoardState) (key : Key) (place : Place) → (m : Map) × MayTake a a.log.shape s0.pages m key place → KeepsAll a b s0 s1 → b.log.shape ≡ a.log.shape
     → (m : Map) × MayTake b b.log.shape s1.pages m key place
 some_may_take a b s0 s1 key place may keeps same =
     (may.0, subst (λ (s : Shape). MayTake b s s1.pages may.0 key place) (sym same) (may_take_after a b a.log.shape may.0 s0 s1 key place may.1 (keeps a.log.shape may.0 may.1.stands)))
 
-pub some_drops : (a : Parts) (s0 : BoardState) (key : Key) (old : ValuePlace) → (m : Map) × MayTake a a.log.shape s0.pages m key old → (flash : Flash) × (m : Map) × Drops a a.log.shape flash m key old
+pub some_drops : (a : Parts) (s0 : BoardState) (key : Key) (old : Place) → (m : Map) × MayTake a a.log.shape s0.pages m key old → (flash : Flash) × (m : Map) × Drops a a.log.shape flash m key old
 some_drops a s0 key old may = (s0.pages, may.0, drops_of a a.log.shape s0.pages may.0 key old may.1)
 
 -- a drive stands for some map behind the entry
-pub some_put : (a b c : Parts) (s0 s1 : BoardState) (key : Key) (value : List ℕ) (page : ℕ) (old : Option ValuePlace)
+pub some_put : (a b c : Parts) (s0 s1 : BoardState) (key : Key) (value : List ℕ) (page : ℕ) (old : Option Place)
     → (m : Map) × MayPut a a.log.shape s0.pages m key value old → KeepsAll a b s0 s1 → b.log.shape ≡ a.log.shape → c.log.shape ≡ b.log.shape
     → IsWritten b a.log.shape s1.pages key value page → IsPlace a.log.shape (record { page = page; len = length value }) → IsInOpen a.log.shape b.space page (charge a.log.shape (length value))
     → ((shape : Shape) (flash : Flash) (m : Map) → Puts b shape flash m key value page old → StandsFor c shape flash (insert m key value))
@@ -168,7 +168,7 @@ some_put a b c s0 s1 key value page old may keeps same same' written place in_op
           (noted a.log.shape s1.pages may.0 (puts_of b a.log.shape a.log.shape s1.pages may.0 key value page old refl mid written place in_open)),
     )
 
-module _ (a b c : Parts) (s0 s1 : BoardState) (key : Key) (value : List ℕ) (page : ℕ) (old : Option ValuePlace) (ready : IsReady s0 a.log.shape) (keeps : KeepsAll a b s0 s1)
+module _ (a b c : Parts) (s0 s1 : BoardState) (key : Key) (value : List ℕ) (page : ℕ) (old : Option Place) (ready : IsReady s0 a.log.shape) (keeps : KeepsAll a b s0 s1)
     (written : IsWritten b a.log.shape s1.pages key value page) (place : IsPlace a.log.shape (record { page = page; len = length value })) (in_open : IsInOpen a.log.shape b.space page (charge a.log.shape (length value)))
     (noted : (shape : Shape) (flash : Flash) (m : Map) → Puts b shape flash m key value page old → StandsFor c shape flash (insert m key value)) where
   there : (shape : Shape) (m : Map) → MayPut a shape s0.pages m key value old → StandsFor c shape s1.pages (insert m key value)
@@ -191,7 +191,7 @@ module _ (a b c : Parts) (s0 s1 : BoardState) (key : Key) (value : List ℕ) (pa
 
 -- ---- a key lost its value: only in memory, and a commit where the page is full
 
-module _ (a c : Parts) (s0 : BoardState) (key : Key) (old : ValuePlace) (ready : IsReady s0 a.log.shape)
+module _ (a c : Parts) (s0 : BoardState) (key : Key) (old : Place) (ready : IsReady s0 a.log.shape)
     (noted : (shape : Shape) (flash : Flash) (m : Map) → Drops a shape flash m key old → StandsFor c shape flash (remove m key)) where
   pub some_taken : (m : Map) × MayTake a a.log.shape s0.pages m key old → c.log.shape ≡ a.log.shape → (m : Map) × StandsFor c c.log.shape s0.pages m
   some_taken may same =

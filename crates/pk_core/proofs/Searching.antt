@@ -1,6 +1,6 @@
 -- What a search in the buffers and in the runs says of all entries.
 use Rattle.std.proofs.Common.{◌≡◌, ℕ, refl, sym, ap, subst, ◌∙◌, List, Option, Some, None, Result, Ok, Err}
-use Rattle.std.specs.Prelude.{IfOk}
+use Rattle.std.specs.Prelude.{IfOk, OnOk, OnErr}
 use Rattle.std.specs.List.{flat_map}
 use Rattle.std.specs.FinMap.{get}
 use Rattle.std.specs.FinMap.Entries.{find}
@@ -14,7 +14,9 @@ use Rattle.pk_base.specs.Map.{Map}
 use Rattle.pk_base.specs.declared.entry.Entry.{Entry as RustEntry}
 use Rattle.pk_base.specs.declared.entry.Entry.TheVariants.{Put, Gone}
 use Rattle.pk_rootfmt.specs.Root.{Root}
+use Rattle.pk_nand.specs.declared.types.Fault.{Fault}
 use Rattle.pk_run.specs.Search.{IsFound}
+use Rattle.pk_level.specs.Levels.{RunsOnFlash}
 use Rattle.pk_model.specs.Found.{Found, entries_in_order}
 use Rattle.pk_model.proofs.Lookups.{flat, find-firsts, firsts_sorted, find-placed}
 use Rattle.pk_steps.specs.Under.{IsUnder, places}
@@ -22,7 +24,9 @@ use Rattle.pk_steps.specs.Lookups.{or_else, IsValueOf}
 use Rattle.pk_steps.proofs.Counting.{found_in, finds}
 use Rattle.pk_log.specs.State.{LogState, entry_of}
 use Rattle.pk_log.specs.Logs.{LogOnFlash}
-use Rattle.pk_core.specs.Finding.{named_by, IsPlaceIn}
+use Rattle.pk_core.specs.Parts.{Parts}
+use Rattle.pk_core.specs.Finding.{named_by, named_by_found, IsPlaceIn}
+use Rattle.pk_core.specs.Quiet.{Looks}
 
 first_two : (a f r : Option (Option Place)) (x : Option Place) → or_else a f ≡ Some x → or_else a (or_else f r) ≡ Some x
 first_two None None r x e = cc
@@ -80,3 +84,21 @@ place_in_map shape flash top found pending m key (Some (Gone k)) under is = reco
 pub if_ok : {X Y : Type 0} (A B : X → Type 0) (r : Result X Y) → ((x : X) → A x → B x) → IfOk r A → IfOk r B
 if_ok A B (Ok x) f a = f x a
 if_ok A B (Err e) f a = a
+
+-- ---- a look-up
+
+-- what a search says of entries, the place says of the map
+pub looks_found : (d : Parts) (flash : Flash) (key : Key) (r : Result (Option RustEntry) Fault) → IfOk r (λ e. (top : ℕ × Root) (found : Found)
+    → LogOnFlash d.log flash top found → RunsOnFlash flash d.arena d.levels.runs found.runs → IsFound key (entries_in_order found d.log.pending) e)
+    → IfOk (named_by_found r) (λ p. Looks d flash key p)
+looks_found d flash key (Ok e) is = λ top found m logs stand under. place_in_map d.log.shape flash top found d.log.pending m key e under (is top found logs stand)
+looks_found d flash key (Err f) is = tt
+
+-- it is answered where the search was
+pub named_ok : (X : Type 0) (r : Result (Option RustEntry) Fault) → OnOk r X → OnOk (named_by_found r) X
+named_ok X (Ok e) x = x
+named_ok X (Err f) x = tt
+
+pub named_err : (X : Type 0) (r : Result (Option RustEntry) Fault) → OnErr r X → OnErr (named_by_found r) X
+named_err X (Ok e) x = tt
+named_err X (Err f) x = x

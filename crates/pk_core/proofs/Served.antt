@@ -2,6 +2,7 @@
 use Rattle.std.proofs.Common.{◌≡◌, ◌≢◌, inl, inr, ℕ, ◌+◌, ◌-◌, ◌/◌, ◌%◌, ◌<◌, ◌≤◌, refl, sym, ap, subst, ◌∙◌, arith, Bool, true, false, not, ◌&&◌, ◌||◌, ◌==◌, List, [], length, sum, nat_le, is_some, Option, Some, None, Ok, leb-true}
 use Rattle.std.specs.Prelude.{MatchOption}
 use Rattle.std.specs.FinMap.{get, insert, remove, contains_key}
+use Rattle.pk_base.specs.Entry.{Place}
 use Rattle.pk_base.specs.Fields.{AreBytes}
 use Rattle.pk_base.specs.Key.{Key, IsKey}
 use Rattle.pk_base.specs.Shape.{Shape, charge, greatest, limit, page_entries}
@@ -32,8 +33,7 @@ use Rattle.pk_drive.specs.Seen.{reply_of as shown}
 use Rattle.pk_model.specs.Wear.{roots}
 use Rattle.pk_drive.specs.declared.types.Outcome.{Outcome}
 use Rattle.pk_model.proofs.Growing.{weaken, weaken_went}
-use Rattle.pk_core.specs.declared.place.ValuePlace.{ValuePlace}
-use Rattle.pk_core.specs.Parts.{Parts, sight_of, wants_second_freeze, is_built_for, built_if, is_built}
+use Rattle.pk_core.specs.Parts.{Parts, sight_of, wants_second_freeze, is_built_for, built_if, is_built, frames_of}
 use Rattle.pk_core.specs.Agreeing.{DriveOnFlash}
 use Rattle.pk_core.specs.Done.{Does}
 use Rattle.pk_core.specs.Finding.{IsPlaceIn}
@@ -106,7 +106,7 @@ module _ (d : Parts) (old new : BoardState) (a : DriveOnFlash d old.shape old.pa
   exec_cut f q (quiet, inr (inl is)) = (quiet, inr (inl is))
   exec_cut f q (quiet, inr (inr is)) = (quiet, inr (inr (is ∙ ap (λ m. Ok m) (sym leaves))))
 
-  pub does_change : (e : Parts) (reply : Reply) → Changes e d.log.shape a.all after old new → e.frames ≡ d.frames → new.shape ≡ old.shape → Works old new → reply.status ≢ 0x88 → Step d.log.shape d.frames a.all c reply after
+  pub does_change : (e : Parts) (reply : Reply) → Changes e d.log.shape a.all after old new → frames_of e ≡ frames_of d → new.shape ≡ old.shape → Works old new → reply.status ≢ 0x88 → Step d.log.shape (frames_of d) a.all c reply after
       → Does old new (sight_of d) (sight_of e) c reply 0 false
   does_change e reply changed same_frames same_shape works sound step = record {
     stands = λ _. for_its_map d old a (λ s f m. Executed s f new (sight_of e) m c reply 0) (record {
@@ -208,30 +208,30 @@ within options live most there is = by_cases (not (options % 2 == 1) || there) (
 
 -- ---- a command whose key has its value at a place
 
-module _ (d : Parts) (old : BoardState) (a : DriveOnFlash d old.shape old.pages) (k : Key) (o : Option ValuePlace) (is_key : IsKey k) (looks : Looks d old.pages k o) where
+module _ (d : Parts) (old : BoardState) (a : DriveOnFlash d old.shape old.pages) (k : Key) (o : Option Place) (is_key : IsKey k) (looks : Looks d old.pages k o) where
   placed_there : IsPlaceIn d.log.shape old.pages a.found d.log.pending a.all k o
   placed_there = looked d old a k o looks
 
   its_drive : StandsFor d d.log.shape old.pages a.all
   its_drive = record { top = a.top; found = a.found; without = a.without; with = own d old a }
 
-is_there_same : (d : Parts) (old : BoardState) (a : DriveOnFlash d old.shape old.pages) (k : Key) (o : Option ValuePlace) → IsKey k → Looks d old.pages k o → is_some o ≡ contains_key a.all k
+is_there_same : (d : Parts) (old : BoardState) (a : DriveOnFlash d old.shape old.pages) (k : Key) (o : Option Place) → IsKey k → Looks d old.pages k o → is_some o ≡ contains_key a.all k
 is_there_same d old a k None is_key looks = ap is_some (sym (looked d old a k None looks).there)
 is_there_same d old a k (Some p) is_key looks = ap is_some (sym (value_of d old a k p is_key looks).is_there)
 
-pages_same : (d : Parts) (old : BoardState) (a : DriveOnFlash d old.shape old.pages) (k : Key) (o : Option ValuePlace) → IsKey k → Looks d old.pages k o → pages_at d.log.shape o ≡ pages_if_some d.log.shape (get a.all k)
+pages_same : (d : Parts) (old : BoardState) (a : DriveOnFlash d old.shape old.pages) (k : Key) (o : Option Place) → IsKey k → Looks d old.pages k o → pages_at d.log.shape o ≡ pages_if_some d.log.shape (get a.all k)
 pages_same d old a k None is_key looks = ap (pages_if_some d.log.shape) (sym (looked d old a k None looks).there)
 pages_same d old a k (Some p) is_key looks =
     let there = value_of d old a k p is_key looks in
     ap (charge d.log.shape) (sym there.size) ∙ ap (pages_if_some d.log.shape) (sym there.is_there)
 
-pub short_place : (d : Parts) (old : BoardState) (a : DriveOnFlash d old.shape old.pages) (k : Key) (o : Option ValuePlace) → IsKey k → Looks d old.pages k o → MatchOption o (Unit {0}) (λ p. p.len ≤ greatest d.log.shape)
+pub short_place : (d : Parts) (old : BoardState) (a : DriveOnFlash d old.shape old.pages) (k : Key) (o : Option Place) → IsKey k → Looks d old.pages k o → MatchOption o (Unit {0}) (λ p. p.len ≤ greatest d.log.shape)
 short_place d old a k None is_key looks = tt
 short_place d old a k (Some p) is_key looks = (value_of d old a k p is_key looks).short
 
 -- ---- a Store
 
-module _ (d : Parts) (old : BoardState) (r : Request) (value : List ℕ) (k : Key) (o : Option ValuePlace) (s : IsServable d old r) (op : r.opcode ≡ 0x01) (whole : length value ≡ r.size)
+module _ (d : Parts) (old : BoardState) (r : Request) (value : List ℕ) (k : Key) (o : Option Place) (s : IsServable d old r) (op : r.opcode ≡ 0x01) (whole : length value ≡ r.size)
     (named : k ≡ key (command_of r value)) (is_key : IsKey k) (bytes : AreBytes k) (looks : Looks d old.pages k o) where
   abbrev c : Command
   c = command_of r value
@@ -260,7 +260,7 @@ module _ (d : Parts) (old : BoardState) (r : Request) (value : List ℕ) (k : Ke
       → outcome ≡ record { status = status; result = 0; data_len = 0; reads = reads; stopped = false }
       → Does old old (sight_of d) (sight_of e) c (shown outcome into) 0 outcome.stopped
   store_refused status e into outcome reads failed same told_is =
-      let step = refused_step d.log.shape d.frames all c passes Store status (ap op_of op) (sym late_is ∙ failed) in
+      let step = refused_step d.log.shape (frames_of d) all c passes Store status (ap op_of op) (sym late_is ∙ failed) in
       let answers : AnswersAll old (sight_of d) c (refusal status) 0 =
       for_its_map d old s.agrees (λ x f m. Step x f m c (refusal status) m × (op_of r.opcode ≡ Some Retrieve → 0 ≤ most_reads x f m c)) (step, λ is. absurd (store_other r.opcode op is)) in
       let done = does_reads old old (sight_of d) c (refusal status) 0 0 s.counted s.counted (reads_none old s.counted) (omega arith) (not_unread r.options after_pages (limit d.log.shape) status (is_some o) failed) answers in
@@ -292,17 +292,17 @@ module _ (d : Parts) (old : BoardState) (r : Request) (value : List ℕ) (k : Ke
     late_none = sym late_is ∙ passed
 
     leaves_put : map_after d.log.shape (limit d.log.shape) all c ≡ insert all k value
-    leaves_put = store_leaves d.log.shape d.frames all c passes (ap op_of op) late_none ∙ ap (λ q. insert all q value) (sym named)
+    leaves_put = store_leaves d.log.shape (frames_of d) all c passes (ap op_of op) late_none ∙ ap (λ q. insert all q value) (sym named)
 
     one_root : most_installs r.opcode r.size ≡ 65535
     one_root = ap (λ x. most_installs x r.size) op
 
-    pub store_done : (e : Parts) (new : BoardState) (into : List ℕ) (outcome : Outcome) (reads : ℕ) → PutsAll d e old new k value o → e.frames ≡ d.frames → new.shape ≡ old.shape → Works old new → roots new ≤ roots old + 1
+    pub store_done : (e : Parts) (new : BoardState) (into : List ℕ) (outcome : Outcome) (reads : ℕ) → PutsAll d e old new k value o → frames_of e ≡ frames_of d → new.shape ≡ old.shape → Works old new → roots new ≤ roots old + 1
         → outcome ≡ record { status = 0; result = 0; data_len = 0; reads = reads; stopped = false }
         → Does old new (sight_of d) (sight_of e) c (shown outcome into) 0 outcome.stopped
     store_done e new into outcome reads puts same_frames same_shape works few_roots told_is =
-        let step : Step d.log.shape d.frames all c (success 0 []) (insert all k value) =
-        subst (λ q. Step d.log.shape d.frames all c (success 0 []) (insert all q value)) (sym named) (store_step d.log.shape d.frames all c passes (ap op_of op) late_none) in
+        let step : Step d.log.shape (frames_of d) all c (success 0 []) (insert all k value) =
+        subst (λ q. Step d.log.shape (frames_of d) all c (success 0 []) (insert all q value)) (sym named) (store_step d.log.shape (frames_of d) all c passes (ap op_of op) late_none) in
         let done = does_change d old new s.agrees c (insert all k value) s.counted few_roots one_root (store_other r.opcode op) leaves_put e (success 0 []) (puts d.log.shape all may_put) same_frames same_shape works ok_sound step in
         subst (λ (x : Outcome). Does old new (sight_of d) (sight_of e) c (shown x into) 0 x.stopped) (sym told_is) done
 
@@ -343,13 +343,13 @@ module _ (d : Parts) (old : BoardState) (r : Request) (v : List ℕ) (k : Key) (
       → Does old old (sight_of d) (sight_of e) dc (shown outcome into) 0 outcome.stopped
   delete_missing e into outcome reads looks same told_is =
       let missing : get its_map (key dc) ≡ None = subst (λ q. get its_map q ≡ None) named (looked d old s.agrees k None looks).there in
-      let step = refused_step d.log.shape d.frames its_map dc delete_passed Delete 0x87 (ap op_of op) (delete_fails its_map (key dc) missing) in
+      let step = refused_step d.log.shape (frames_of d) its_map dc delete_passed Delete 0x87 (ap op_of op) (delete_fails its_map (key dc) missing) in
       let answers : AnswersAll old (sight_of d) dc (refusal 0x87) 0 =
       for_its_map d old s.agrees (λ x f m. Step x f m dc (refusal 0x87) m × (op_of r.opcode ≡ Some Retrieve → 0 ≤ most_reads x f m dc)) (step, λ is. absurd (delete_other r.opcode op is)) in
       let done = does_reads old old (sight_of d) dc (refusal 0x87) 0 0 s.counted s.counted (reads_none old s.counted) (omega arith) missing_sound answers in
       subst (λ (x : Outcome). Does old old (sight_of d) (sight_of e) dc (shown x into) 0 x.stopped) (sym told_is) (subst (λ (x : Parts). Does old old (sight_of d) (sight_of x) dc (refusal 0x87) 0 false) (sym same) done)
 
-  module _ (p : ValuePlace) (looks : Looks d old.pages k (Some p)) where
+  module _ (p : Place) (looks : Looks d old.pages k (Some p)) where
     pub may_take : MayTake d d.log.shape old.pages its_map k p
     unfolding its_drive
     may_take = record { stands = its_drive d old s.agrees k (Some p) is_key looks; old_is = (placed_there d old s.agrees k (Some p) is_key looks).placed; bytes = bytes }
@@ -363,17 +363,17 @@ module _ (d : Parts) (old : BoardState) (r : Request) (v : List ℕ) (k : Key) (
         delete_passes its_map (key dc) there.value (subst (λ q. get its_map q ≡ Some there.value) named there.is_there)
 
     leaves_gone : map_after d.log.shape (limit d.log.shape) its_map dc ≡ remove its_map k
-    leaves_gone = delete_leaves d.log.shape d.frames its_map dc delete_passed (ap op_of op) gone_late ∙ ap (λ q. remove its_map q) (sym named)
+    leaves_gone = delete_leaves d.log.shape (frames_of d) its_map dc delete_passed (ap op_of op) gone_late ∙ ap (λ q. remove its_map q) (sym named)
 
     gone_root : most_installs r.opcode r.size ≡ 65535
     gone_root = ap (λ x. most_installs x r.size) op
 
-    pub delete_done : (e : Parts) (new : BoardState) (into : List ℕ) (outcome : Outcome) (reads : ℕ) → TakesAll d e old new k p → e.frames ≡ d.frames → new.shape ≡ old.shape → Works old new → roots new ≤ roots old + 1
+    pub delete_done : (e : Parts) (new : BoardState) (into : List ℕ) (outcome : Outcome) (reads : ℕ) → TakesAll d e old new k p → frames_of e ≡ frames_of d → new.shape ≡ old.shape → Works old new → roots new ≤ roots old + 1
         → outcome ≡ record { status = 0; result = 0; data_len = 0; reads = reads; stopped = false }
         → Does old new (sight_of d) (sight_of e) dc (shown outcome into) 0 outcome.stopped
     delete_done e new into outcome reads takes same_frames same_shape works few_roots told_is =
-        let step : Step d.log.shape d.frames its_map dc (success 0 []) (remove its_map k) =
-        subst (λ q. Step d.log.shape d.frames its_map dc (success 0 []) (remove its_map q)) (sym named) (delete_step d.log.shape d.frames its_map dc delete_passed (ap op_of op) gone_late) in
+        let step : Step d.log.shape (frames_of d) its_map dc (success 0 []) (remove its_map k) =
+        subst (λ q. Step d.log.shape (frames_of d) its_map dc (success 0 []) (remove its_map q)) (sym named) (delete_step d.log.shape (frames_of d) its_map dc delete_passed (ap op_of op) gone_late) in
         let done = does_change d old new s.agrees dc (remove its_map k) s.counted few_roots gone_root (delete_other r.opcode op) leaves_gone e (success 0 []) (takes d.log.shape its_map may_take) same_frames same_shape works ok_sound step in
         subst (λ (x : Outcome). Does old new (sight_of d) (sight_of e) dc (shown x into) 0 x.stopped) (sym told_is) done
 
@@ -390,7 +390,7 @@ module _ (d : Parts) (old : BoardState) (r : Request) (v : List ℕ) (k : Key) (
 
 -- ---- behind the reads of a look-up
 
-pub looks_behind : (d e : Parts) (flash flash' : Flash) (k : Key) (o : Option ValuePlace) → e ≡ d → flash' ≡ flash → Looks d flash k o → Looks e flash' k o
+pub looks_behind : (d e : Parts) (flash flash' : Flash) (k : Key) (o : Option Place) → e ≡ d → flash' ≡ flash → Looks d flash k o → Looks e flash' k o
 looks_behind d e flash flash' k o same pages looks = subst (λ (x : Parts). Looks x flash' k o) (sym same) (subst (λ (f : Flash). Looks d f k o) (sym pages) looks)
 
 pub servable_behind : (d e : Parts) (old new : BoardState) (most : ℕ) (r : Request) → e ≡ d → ReadsOnly old new most → IsServable d old r → IsServable e new r

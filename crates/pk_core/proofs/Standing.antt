@@ -10,7 +10,7 @@ use Rattle.pk_model.specs.Found.{Found, found_under}
 use Rattle.pk_model.specs.Reading.{reading}
 use Rattle.pk_steps.proofs.Untouched.{under_reads}
 use Rattle.pk_drive.specs.Drive.{HoldsMap}
-use Rattle.pk_core.specs.Parts.{Parts, sight_of}
+use Rattle.pk_core.specs.Parts.{Parts, sight_of, frames_of}
 use Rattle.pk_core.specs.Agreeing.{DriveOnFlashWith, DriveOnFlash}
 use Rattle.pk_core.specs.Moves.{StandsFor}
 
@@ -32,7 +32,7 @@ stands_for d board shape frames m agrees stands =
     subst (λ x. StandsFor d shape board.pages x) (same_map agrees.all m (sym (reads_as d shape board.pages agrees.all here) ∙ stands.map_is)) here
 
 -- and the other way round
-pub stands_so : (d : Parts) (board : BoardState) (shape : Shape) (m : Map) → board.shape ≡ Some shape → StandsFor d shape board.pages m → HoldsMap shape d.frames board (sight_of d) m
+pub stands_so : (d : Parts) (board : BoardState) (shape : Shape) (m : Map) → board.shape ≡ Some shape → StandsFor d shape board.pages m → HoldsMap shape (frames_of d) board (sight_of d) m
 stands_so d board shape m told is = record { shape_is = told; frames_is = refl; map_is = reads_as d shape board.pages m is }
 
 pub agrees_so : (d : Parts) (told : Option Shape) (shape : Shape) (flash : Flash) (m : Map) → told ≡ Some shape → StandsFor d shape flash m → DriveOnFlash d told flash
@@ -59,5 +59,5 @@ pub stands_here : (d : Parts) (told : Option Shape) (flash : Flash) → DriveOnF
 stands_here d told flash agrees = (agrees.all, subst (λ s. StandsFor d s flash agrees.all) (sym agrees.with.shape_is) (record { top = agrees.top; found = agrees.found; without = agrees.without; with = agrees.with }))
 
 -- where the map of the drive stays, it stands for it still
-pub still_stands : (d : Parts) (board : BoardState) (shape : Shape) (frames : ℕ) (m : Map) → board.shape ≡ Some shape → d.frames ≡ frames → StandsFor d shape board.pages m → HoldsMap shape frames board (sight_of d) m
+pub still_stands : (d : Parts) (board : BoardState) (shape : Shape) (frames : ℕ) (m : Map) → board.shape ≡ Some shape → frames_of d ≡ frames → StandsFor d shape board.pages m → HoldsMap shape frames board (sight_of d) m
 still_stands d board shape frames m told same is = record { shape_is = told; frames_is = same; map_is = reads_as d shape board.pages m is }

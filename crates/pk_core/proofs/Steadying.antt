@@ -6,7 +6,7 @@ use Rattle.std.proofs.Common.{eqb→eq, div-add-mod', mod-lt}
 use Rattle.std.proofs.lemmas.List.{length-map}
 use Rattle.std.proofs.lemmas.List.Sums.{count_by-le-length}
 use Rattle.std.proofs.lemmas.Option.{slice_get_within}
-use Rattle.pk_base.specs.Shape.{Shape, IsShape, page_entries, caps, run_blocks}
+use Rattle.pk_base.specs.Shape.{Shape, IsShape, page_entries, caps, run_blocks, pinned}
 use Rattle.pk_base.specs.Page.{Flash, page_at}
 use Rattle.pk_base.specs.Entry.{Entry}
 use Rattle.pk_base.specs.Map.{Map}
@@ -20,7 +20,7 @@ use Rattle.pk_steps.proofs.NewestBlocks.{valid_root}
 use Rattle.pk_scan.specs.Opened.{HaveBlocks}
 use Rattle.pk_plan.specs.declared.owner.Owner.{Owner}
 use Rattle.pk_plan.specs.declared.owner.Owner.TheVariants.{Journal, Meta, Values}
-use Rattle.pk_pin.specs.Frames.{Frames}
+use Rattle.pk_pin.specs.Frames.{Frames, leased_frames}
 use Rattle.pk_pool.specs.declared.state.BlockState.{BlockState}
 use Rattle.pk_pool.specs.declared.state.BlockState.TheVariants.{Root as RootBlock, Free, Ready, Owned}
 use Rattle.pk_nand.specs.Calls.{IsErasedBlock}
@@ -39,9 +39,10 @@ use Rattle.pk_data.specs.Placed.{HoldsValues, IsOpenIn}
 use Rattle.pk_data.specs.declared.open_block.OpenBlock.{OpenBlock}
 use Rattle.pk_nand.specs.BoardState.{BoardState}
 use Rattle.pk_nand.specs.Effects.{OnlyFlash}
-use Rattle.pk_drive.specs.Steady.{Steadies, IsSteady, IsReadyBlock, HasReady, entries_of_runs, live_blocks}
-use Rattle.pk_core.specs.Parts.{Parts, sight_of, counts_of, block_if_open}
+use Rattle.pk_drive.specs.Steady.{Steadies, IsSteady, IsReadyBlock, HasReady, entries_of_runs, live_blocks, pages_of_runs}
+use Rattle.pk_core.specs.Parts.{Parts, sight_of, counts_of, block_if_open, frames_of}
 use Rattle.pk_core.specs.Agreeing.{DriveOnFlashWith, DriveOnFlash, DriveOnFlashBetween}
+use Rattle.pk_core.proofs.Leased.{leased_are}
 use Rattle.pk_core.proofs.Rooming.{entries_some}
 use Rattle.pk_core.proofs.Places.{blocks_from, many_blocks, has_state, blocks_differ, block_in, all_in}
 
@@ -181,6 +182,11 @@ module _ (d : Parts) (shape : Shape) (flash : Flash) (top : ℕ × Root) (found 
   runs_are : entries_of_runs (counts_of d) ≡ map length found.runs
   runs_are = counts_are flash d.arena d.levels.runs found.runs d.levels.shape four a.stand
 
+  leased_is : leased_frames d.arena ≡ pages_of_runs shape (pinned shape (frames_of d)) (entries_of_runs (counts_of d))
+  leased_is =
+      leased_are d shape flash top found without all a
+      ∙ ap (λ (ns : List ℕ). pages_of_runs shape (pinned shape (frames_of d)) ns) (sym (counts_of_four d.levels.runs d.levels.shape four))
+
   -- ---- all of it
 
   pub agrees_steady : length d.log.pending < page_entries shape → IsSteady shape flash (sight_of d)
@@ -191,6 +197,7 @@ module _ (d : Parts) (shape : Shape) (flash : Flash) (top : ℕ × Root) (found 
     frozen = frozen_is;
     runs = runs_are;
     merge = λ some. absurd (some refl);
+    leased = λ _. leased_is;
     ready = has_ready;
     blocks_least = live_within;
     blocks_most = (let few = a.placed.few in omega (arith, few));

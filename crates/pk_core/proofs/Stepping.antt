@@ -33,7 +33,7 @@ use Rattle.pk_drive.specs.declared.types.Outcome.{Outcome}
 use Rattle.pk_drive.specs.declared.types.Ticked.{Ticked}
 use Rattle.pk_drive.specs.declared.types.Ticked.TheVariants.{Worked, Idle, Fault}
 use Rattle.pk_model.proofs.Growing.{weaken, weaken_went, at_end, Reaches-then, Goes-then}
-use Rattle.pk_core.specs.Parts.{Parts, sight_of}
+use Rattle.pk_core.specs.Parts.{Parts, sight_of, frames_of}
 use Rattle.pk_core.specs.Agreeing.{DriveOnFlash}
 use Rattle.pk_core.specs.Done.{Does}
 use Rattle.pk_core.specs.Quiet.{eleven}
@@ -192,7 +192,7 @@ module _ (old new : BoardState) (d d' : Parts) (r : Request) (v : List ℕ) (a :
 
   -- the clauses that every answer has alike
   does_steps : (answer : Ticked) (reply : Reply) (reads : ℕ) → Steps old new (sight_of d) (sight_of d') answer r.size → reads ≡ new.reads - old.reads
-      → Step d.log.shape d.frames a.all (command_of r v) reply a.all
+      → Step d.log.shape (frames_of d) a.all (command_of r v) reply a.all
       → (reply.status ≡ 0x88 → stopped_by answer ≡ false → Rose old.read_faults new.read_faults)
       → (reply.status ≢ 0x88 → NoFault old new)
       → (stopped_by answer ≡ true → reply.status ≡ 0x88)
@@ -228,11 +228,11 @@ module _ (old new : BoardState) (d d' : Parts) (r : Request) (v : List ℕ) (a :
   by_answer : (answer : Ticked) (into : List ℕ) (reads : ℕ) → Steps old new (sight_of d) (sight_of d') answer r.size → reads ≡ new.reads - old.reads
       → Does old new (sight_of d) (sight_of d') (command_of r v) (reply_of (outcome_of answer reads) into) reads (stopped_by answer)
   by_answer Worked into reads w is =
-      does_steps Worked (success 0 []) reads w is (tick_step d.log.shape d.frames a.all (command_of r v) passes op) (λ e _. absurd (ok_sound e)) (λ _. w.sound refl) (λ e. absurd (yes_no false refl e))
+      does_steps Worked (success 0 []) reads w is (tick_step d.log.shape (frames_of d) a.all (command_of r v) passes op) (λ e _. absurd (ok_sound e)) (λ _. w.sound refl) (λ e. absurd (yes_no false refl e))
   by_answer Idle into reads w is =
-      does_steps Idle (success 0 []) reads w is (tick_step d.log.shape d.frames a.all (command_of r v) passes op) (λ e _. absurd (ok_sound e)) (λ _. w.sound refl) (λ e. absurd (yes_no false refl e))
+      does_steps Idle (success 0 []) reads w is (tick_step d.log.shape (frames_of d) a.all (command_of r v) passes op) (λ e _. absurd (ok_sound e)) (λ _. w.sound refl) (λ e. absurd (yes_no false refl e))
   by_answer (Fault stopped) into reads w is =
-      does_steps (Fault stopped) (refusal 0x88) reads w is (unread_step d.log.shape d.frames a.all (command_of r v) passes) (λ _ e. w.unread (ap (λ b. Fault b) e)) (λ e. absurd (e refl)) (λ _. refl)
+      does_steps (Fault stopped) (refusal 0x88) reads w is (unread_step d.log.shape (frames_of d) a.all (command_of r v) passes) (λ _ e. w.unread (ap (λ b. Fault b) e)) (λ e. absurd (e refl)) (λ _. refl)
 
   pub tick_does : (answer : Ticked) (o : Outcome) (into : List ℕ) (reads : ℕ) → Steps old new (sight_of d) (sight_of d') answer r.size → reads ≡ new.reads - old.reads → o ≡ outcome_of answer reads
       → Does old new (sight_of d) (sight_of d') (command_of r v) (reply_of o into) o.reads o.stopped

@@ -1,9 +1,9 @@
 -- Steps inside a command: in a row, and what one that was broken off leaves.
 use Rattle.std.proofs.Common.{◌≡◌, ℕ, ◌+◌, ◌<◌, ◌≤◌, refl, sym, ap, subst, ◌∙◌, arith, false, List, length, Option, Result, Ok, Err}
 use Rattle.std.specs.Prelude.{OnOk}
+use Rattle.pk_base.specs.Entry.{Place}
 use Rattle.pk_base.specs.Shape.{Shape, greatest, page_entries}
 use Rattle.pk_base.specs.Key.{Key}
-use Rattle.pk_base.specs.Map.{Map}
 use Rattle.pk_plan.specs.declared.owner.Owner.TheVariants.{Values}
 use Rattle.pk_nand.specs.declared.types.Fault.{Fault}
 use Rattle.pk_nand.specs.declared.types.Fault.TheVariants.{Stopped}
@@ -12,10 +12,9 @@ use Rattle.pk_nand.specs.Calls.{IsReady}
 use Rattle.pk_nand.specs.Effects.{Works}
 use Rattle.pk_pool.specs.Blocks.{used_by}
 use Rattle.pk_model.specs.Steps.{RootsUpTo, Step}
-use Rattle.pk_model.proofs.Steps.{Step-none, Step-says, Step-broken, Step-then}
-use Rattle.pk_core.specs.declared.place.ValuePlace.{ValuePlace}
-use Rattle.pk_core.specs.Parts.{Parts}
-use Rattle.pk_core.specs.Moves.{StandsFor, KeepsAll, BreaksAll, MayStep, StepKeeps, OnlyCommits, LeavesValues}
+use Rattle.pk_model.proofs.Steps.{Step-none, Step-broken, Step-then}
+use Rattle.pk_core.specs.Parts.{Parts, frames_of}
+use Rattle.pk_core.specs.Moves.{KeepsAll, BreaksAll, MayStep, StepKeeps, OnlyCommits, LeavesValues}
 use Rattle.pk_core.specs.Changes.{PutsAll, FailsToPut, TakesAll, FailsToTake, CanPut, CanTake, StepPuts, StepTakes, StaysBetween}
 use Rattle.pk_core.proofs.Results.{on_ok}
 use Rattle.pk_core.proofs.Keeping.{KeepsAll-none, KeepsAll-then, BreaksAll-then}
@@ -71,7 +70,7 @@ keeps_broken e a b c n most old new few step =
 
 stays_by : (a b c : Parts) → LeavesValues a b → StaysBetween b c → StaysBetween a c
 stays_by a b c first second = record {
-  frames = second.frames ∙ ap (λ (d : Parts). d.frames) first.rest;
+  frames = second.frames ∙ ap (λ (d : Parts). frames_of d) first.rest;
   stopped = second.stopped ∙ ap (λ (d : Parts). d.stopped) first.rest;
   same_shape = second.same_shape ∙ first.same_shape;
   few = subst (λ (s : Shape). length c.log.pending < page_entries s) first.same_shape second.few;
@@ -81,10 +80,10 @@ pub stays_then : (r : Result Unit Fault) (a b c : Parts) → LeavesValues a b �
 stays_then r a b c first second = on_ok (λ (u : Unit). StaysBetween b c) (StaysBetween a c) r (λ u is. stays_by a b c first is) second
 
 -- behind a change in memory, and a commit
-pub stays_committed : (r : Result Unit Fault) (a c e : Parts) → c.frames ≡ a.frames → c.stopped ≡ a.stopped → c.log.shape ≡ a.log.shape
+pub stays_committed : (r : Result Unit Fault) (a c e : Parts) → frames_of c ≡ frames_of a → c.stopped ≡ a.stopped → c.log.shape ≡ a.log.shape
     → OnOk r (OnlyCommits c e) → OnOk r (length e.log.pending < page_entries c.log.shape) → OnOk r (StaysBetween a e)
 stays_committed (Ok x) a c e frames stopped shapes rest few = record {
-  frames = ap (λ (d : Parts). d.frames) rest ∙ frames;
+  frames = ap (λ (d : Parts). frames_of d) rest ∙ frames;
   stopped = ap (λ (d : Parts). d.stopped) rest ∙ stopped;
   same_shape = shape_committed c e rest ∙ shapes;
   few = subst (λ (s : Shape). length e.log.pending < page_entries s) shapes few;
@@ -99,7 +98,7 @@ few_after a b same less few =
     omega (arith, less, here)
 
 module _ (a b : Parts) (n : ℕ) (s0 s1 : BoardState) (u : Unit {0}) (leaves : LeavesValues a b) (less : length b.log.pending ≤ length a.log.pending) (step : StepKeeps a b n s0 s1 (Ok u)) where
-  pub can_put_after : (key : Key) (value : List ℕ) (place : Option ValuePlace) → CanPut a s0 key value place → CanPut b s1 key value place
+  pub can_put_after : (key : Key) (value : List ℕ) (place : Option Place) → CanPut a s0 key value place → CanPut b s1 key value place
   can_put_after key value place can =
       let same = leaves.same_shape in
       record {
@@ -110,7 +109,7 @@ module _ (a b : Parts) (n : ℕ) (s0 s1 : BoardState) (u : Unit {0}) (leaves : L
         few = few_after a b same less can.few;
       }
 
-  pub can_take_after : (key : Key) (place : ValuePlace) → CanTake a s0 key place → CanTake b s1 key place
+  pub can_take_after : (key : Key) (place : Place) → CanTake a s0 key place → CanTake b s1 key place
   can_take_after key place can =
       let same = leaves.same_shape in
       record {
@@ -120,13 +119,13 @@ module _ (a b : Parts) (n : ℕ) (s0 s1 : BoardState) (u : Unit {0}) (leaves : L
       }
 
   module _ (r : Result Unit Fault) (e : Parts) (k most : ℕ) (s2 : BoardState) (ready : IsReady s0 a.log.shape) (few : n + k ≤ most) where
-    pub step_puts_later : (key : Key) (value : List ℕ) (place : Option ValuePlace) → StepPuts b e k s1 s2 key value place r → StepPuts a e most s0 s2 key value place r
+    pub step_puts_later : (key : Key) (value : List ℕ) (place : Option Place) → StepPuts b e k s1 s2 key value place r → StepPuts a e most s0 s2 key value place r
     step_puts_later key value place second =
         later r (λ (x : Unit). PutsAll b e s1 s2 key value place) (λ (x : Unit). PutsAll a e s0 s2 key value place) (FailsToPut b s1 s2 key value place) (FailsToPut a s0 s2 key value place)
         a.log.shape b.log.shape n k most s0 s1 s2 leaves.same_shape few step.works step.roots_few
         (λ x puts. puts_later (Ok x) a b e s0 s1 s2 key value place ready step.ended puts) (λ fails. fails_later (Err Stopped) a b s0 s1 s2 key value place ready step.ended fails) second
 
-    pub step_takes_later : (key : Key) (place : ValuePlace) → StepTakes b e k s1 s2 key place r → StepTakes a e most s0 s2 key place r
+    pub step_takes_later : (key : Key) (place : Place) → StepTakes b e k s1 s2 key place r → StepTakes a e most s0 s2 key place r
     step_takes_later key place second =
         later r (λ (x : Unit). TakesAll b e s1 s2 key place) (λ (x : Unit). TakesAll a e s0 s2 key place) (FailsToTake b s1 s2 key place) (FailsToTake a s0 s2 key place)
         a.log.shape b.log.shape n k most s0 s1 s2 leaves.same_shape few step.works step.roots_few

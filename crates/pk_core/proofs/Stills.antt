@@ -1,5 +1,5 @@
 -- Calls of the flash that change no page that is read.
-use Rattle.std.proofs.Common.{◌≡◌, inl, inr, ℕ, zero, suc, ◌+◌, ◌/◌, ◌<◌, ◌≤◌, refl, sym, ap, subst, ◌∙◌, arith, List, [], ◌++◌, length, Some}
+use Rattle.std.proofs.Common.{◌≡◌, inl, ℕ, zero, suc, ◌+◌, ◌/◌, ◌<◌, ◌≤◌, refl, sym, ap, subst, ◌∙◌, arith, List, [], ◌++◌, length, Some}
 use Rattle.pk_base.specs.Shape.{Shape, charge}
 use Rattle.pk_base.specs.Key.{Key}
 use Rattle.pk_base.specs.Page.{Flash}

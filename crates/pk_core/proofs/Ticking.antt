@@ -14,7 +14,6 @@ use Rattle.pk_rootfmt.specs.Newest.{newest_root}
 use Rattle.pk_plan.specs.declared.owner.Owner.TheVariants.{Journal, Meta, Values}
 use Rattle.pk_nand.specs.BoardState.{BoardState, shape_or_none}
 use Rattle.pk_nand.specs.Calls.{IsReady, after_erase, EraseFailed}
-use Rattle.pk_nand.specs.Cut.{MayLeave}
 use Rattle.pk_nand.proofs.Reaching.{Reached-start}
 use Rattle.pk_nand.proofs.Touching.{untouched_after}
 use Rattle.pk_pool.specs.declared.state.BlockState.{BlockState}

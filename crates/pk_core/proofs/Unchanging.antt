@@ -45,10 +45,9 @@ use Rattle.pk_drive.specs.Seen.{reply_of as shown}
 use Rattle.pk_drive.specs.declared.types.Outcome.{Outcome}
 use Rattle.pk_drive.specs.Exec.{report_of}
 use Rattle.pk_model.specs.Crashes.{CrashFinds, command}
-use Rattle.pk_core.specs.declared.place.ValuePlace.{ValuePlace}
-use Rattle.pk_core.specs.Parts.{Parts, sight_of}
+use Rattle.pk_core.specs.Parts.{Parts, sight_of, frames_of}
 use Rattle.pk_core.specs.Agreeing.{DriveOnFlashWith, DriveOnFlash}
-use Rattle.pk_core.specs.Finding.{IsPlaceIn, place_of}
+use Rattle.pk_core.specs.Finding.{IsPlaceIn}
 use Rattle.pk_core.specs.Done.{Does}
 use Rattle.pk_core.specs.Quiet.{ReadsOnly, ReadsFailing, Looks, ValueThere, eleven}
 
@@ -172,19 +171,19 @@ module _ (d : Parts) (board : BoardState) (a : DriveOnFlash d board.shape board.
   own = subst (λ s. DriveOnFlashWith d s board.pages a.top a.found a.without a.all) (sym a.with.shape_is) a.with
 
   -- what holds of its one map holds of every map that it stands for
-  pub for_its_map : (P : Shape → ℕ → Map → Type 0) → P d.log.shape d.frames a.all → (shape : Shape) (frames : ℕ) (m : Map) → HoldsMap shape frames board (sight_of d) m → P shape frames m
+  pub for_its_map : (P : Shape → ℕ → Map → Type 0) → P d.log.shape (frames_of d) a.all → (shape : Shape) (frames : ℕ) (m : Map) → HoldsMap shape frames board (sight_of d) m → P shape frames m
   for_its_map P here shape frames m st =
       let same_shape : d.log.shape ≡ shape = a.with.shape_is ∙ same_some a.shape shape (sym a.told_is ∙ st.shape_is) in
       let read = under_reads d.log.shape board.pages d.log.pending a.top a.found a.all own.pending in
       let Q : Shape → Type 0 = λ s. P s frames m in
       let R : ℕ → Type 0 = λ f. P d.log.shape f m in
-      let S : Map → Type 0 = λ x. P d.log.shape d.frames x in
+      let S : Map → Type 0 = λ x. P d.log.shape (frames_of d) x in
       let U : Shape → Type 0 = λ s. reading s board.pages d.log.pending ≡ Ok m in
       let same_map : a.all ≡ m = same_ok a.all m (sym read ∙ subst U (sym same_shape) st.map_is) in
       subst Q same_shape (subst R st.frames_is (subst S same_map here))
 
   -- what a look-up says of this map
-  pub looked : (k : Key) (p : Option ValuePlace) → Looks d board.pages k p → IsPlaceIn d.log.shape board.pages a.found d.log.pending a.all k p
+  pub looked : (k : Key) (p : Option Place) → Looks d board.pages k p → IsPlaceIn d.log.shape board.pages a.found d.log.pending a.all k p
   looked k p looks = looks a.top a.found a.all own.logs own.stand own.pending
 
 -- ---- the value at a place
@@ -200,14 +199,14 @@ found_has P k p (x ∷ xs) e all =
     same_place : (x y : Place) → ◌≡◌ {A = Option Place} (Some x) (Some y) → x ≡ y
     same_place x y f = cc
 
-pub value_there : (d : Parts) (flash : Flash) (top : ℕ × Root) (found : Found) (without all : Map) (k : Key) (p : ValuePlace) → IsKey k
+pub value_there : (d : Parts) (flash : Flash) (top : ℕ × Root) (found : Found) (without all : Map) (k : Key) (p : Place) → IsKey k
     → DriveOnFlashWith d d.log.shape flash top found without all → IsPlaceIn d.log.shape flash found d.log.pending all k (Some p) → ValueThere d.log.shape flash all k p
 value_there d flash top found without all k p is_key a is =
     let shape = d.log.shape in
     let v : List ℕ = is.there.0 in
-    let lies = (found_has (λ e. IsPlace shape e.1) k (place_of p) (places found d.log.pending) is.placed a.placed.places).1 in
+    let lies = (found_has (λ e. IsPlace shape e.1) k p (places found d.log.pending) is.placed a.placed.places).1 in
     let head : IsHead shape k p.len = record { is_key = is_key; short = lies.short } in
-    let stands = value_found shape (page_at flash) k (place_of p) v a.logs.is_shape head (λ page bytes whole. (a.is_flash.full page bytes whole).0) is.there.1 in
+    let stands = value_found shape (page_at flash) k p v a.logs.is_shape head (λ page bytes whole. (a.is_flash.full page bytes whole).0) is.there.1 in
     let own_head : IsHead shape k (length v) = subst (λ n. IsHead shape k n) (sym stands.0) head in
     record {
       value = v;
@@ -324,20 +323,20 @@ other_kind : (x : ℕ) → x ≡ 0x14 → op_of x ≡ Some Retrieve → ⊥
 other_kind x is e = let f : ◌≡◌ {A = Option Opcode} (Some Exist) (Some Retrieve) = sym (ap op_of is) ∙ e in cc
 
 -- the value that a look-up found
-pub value_of : (d : Parts) (old : BoardState) (a : DriveOnFlash d old.shape old.pages) (k : Key) (p : ValuePlace) → IsKey k → Looks d old.pages k (Some p) → ValueThere d.log.shape old.pages a.all k p
+pub value_of : (d : Parts) (old : BoardState) (a : DriveOnFlash d old.shape old.pages) (k : Key) (p : Place) → IsKey k → Looks d old.pages k (Some p) → ValueThere d.log.shape old.pages a.all k p
 value_of d old a k p is_key looks = value_there d old.pages a.top a.found a.without a.all k p is_key (own d old a) (looked d old a k (Some p) looks)
 
 -- its pages, on an equal flash
 pub front_moved : (d d' : Parts) (flash flash' : Flash) (page n : ℕ) (q : Key) (w : List ℕ) → d' ≡ d → flash' ≡ flash → IsFront d.log.shape flash page n q w → IsFront d'.log.shape flash' page n q w
 front_moved d d' flash flash' page n q w same pages is = subst (λ x. IsFront x.log.shape flash' page n q w) (sym same) (subst (λ f. IsFront d.log.shape f page n q w) (sym pages) is)
 
-pub front_of : (d d' : Parts) (flash' : Flash) (old : BoardState) (a : DriveOnFlash d old.shape old.pages) (k : Key) (p : ValuePlace) (n size : ℕ) → IsKey k → Looks d old.pages k (Some p) → d' ≡ d → flash' ≡ old.pages → n ≡ min p.len size
+pub front_of : (d d' : Parts) (flash' : Flash) (old : BoardState) (a : DriveOnFlash d old.shape old.pages) (k : Key) (p : Place) (n size : ℕ) → IsKey k → Looks d old.pages k (Some p) → d' ≡ d → flash' ≡ old.pages → n ≡ min p.len size
     → (q : Key) × (w : List ℕ) × IsFront d'.log.shape flash' p.page n q w
 front_of d d' flash' old a k p n size is_key looks same pages is =
     let there = value_of d old a k p is_key looks in
     (k, there.value, front_moved d d' old.pages flash' p.page n k there.value same pages (there.front n (omega (arith, is))))
 
-pub room_of : (d : Parts) (old : BoardState) (a : DriveOnFlash d old.shape old.pages) (k : Key) (p : ValuePlace) (n size room : ℕ) → IsKey k → Looks d old.pages k (Some p) → n ≡ min p.len size → greatest d.log.shape ≤ room → n ≤ room
+pub room_of : (d : Parts) (old : BoardState) (a : DriveOnFlash d old.shape old.pages) (k : Key) (p : Place) (n size room : ℕ) → IsKey k → Looks d old.pages k (Some p) → n ≡ min p.len size → greatest d.log.shape ≤ room → n ≤ room
 room_of d old a k p n size room is_key looks is all = (let short = (value_of d old a k p is_key looks).short in omega (arith, is, short, all))
 
 -- ---- the reads of a value behind those of a look-up
@@ -352,7 +351,7 @@ value_breaks d d' old mid new page n same before broken =
     reads_break old mid new (4 - d.levels.pinned) f.made (fetched d.log.shape n) (page + f.made) before f.within f.failed
 
 -- which are few
-pub few_of : (d : Parts) (old : BoardState) (a : DriveOnFlash d old.shape old.pages) (k : Key) (p : ValuePlace) (n size : ℕ) → IsKey k → Looks d old.pages k (Some p) → n ≡ min p.len size → 4 - d.levels.pinned + fetched d.log.shape n ≤ 68
+pub few_of : (d : Parts) (old : BoardState) (a : DriveOnFlash d old.shape old.pages) (k : Key) (p : Place) (n size : ℕ) → IsKey k → Looks d old.pages k (Some p) → n ≡ min p.len size → 4 - d.levels.pinned + fetched d.log.shape n ≤ 68
 few_of d old a k p n size is_key looks is =
     let short = (value_of d old a k p is_key looks).short in
     let most = few_fetched d.log.shape n (own d old a).logs.is_shape (omega (arith, is, short)) in
@@ -376,12 +375,12 @@ module _ (d d' : Parts) (old new : BoardState) (r : Request) (v into : List ℕ)
   same_sight : (reply : Reply) (reads : ℕ) → Does old new (sight_of d) (sight_of d) (command_of r v) reply reads false → Does old new (sight_of d) (sight_of d') (command_of r v) reply reads false
   same_sight reply reads is = subst (λ x. Does old new (sight_of d) (sight_of x) (command_of r v) reply reads false) (sym same) is
 
-  pinned_is : d.levels.pinned ≡ pinned d.log.shape d.frames
+  pinned_is : d.levels.pinned ≡ pinned d.log.shape (frames_of d)
   pinned_is = (own d old a).levels_pinned
 
   -- the step and the bound on the map of the drive
   abbrev Allowed : Reply → ℕ → Type 0
-  Allowed reply reads = Step d.log.shape d.frames a.all (command_of r v) reply a.all × (op_of r.opcode ≡ Some Retrieve → reads ≤ most_reads d.log.shape d.frames a.all (command_of r v))
+  Allowed reply reads = Step d.log.shape (frames_of d) a.all (command_of r v) reply a.all × (op_of r.opcode ≡ Some Retrieve → reads ≤ most_reads d.log.shape (frames_of d) a.all (command_of r v))
 
   on_all : (reply : Reply) (reads : ℕ) → Allowed reply reads → AnswersAll old (sight_of d) (command_of r v) reply reads
   on_all reply reads here = for_its_map d old a (λ s f m. Step s f m (command_of r v) reply m × (op_of r.opcode ≡ Some Retrieve → reads ≤ most_reads s f m (command_of r v))) here
@@ -389,54 +388,54 @@ module _ (d d' : Parts) (old new : BoardState) (r : Request) (v into : List ℕ)
   by_reads : (most reads : ℕ) (reply : Reply) → ReadsOnly old new most → reads ≡ new.reads - old.reads → reply.status ≢ 0x88 → Allowed reply reads → Does old new (sight_of d) (sight_of d') (command_of r v) reply reads false
   by_reads most reads reply made is sound here = same_sight reply reads (does_reads old new (sight_of d) (command_of r v) reply most reads few few' made is sound (on_all reply reads here))
 
-  by_unread : (most reads : ℕ) → old.read_faults ≤ last_count → ReadsFailing old new most → reads ≡ new.reads - old.reads → (op_of r.opcode ≡ Some Retrieve → reads ≤ most_reads d.log.shape d.frames a.all (command_of r v))
+  by_unread : (most reads : ℕ) → old.read_faults ≤ last_count → ReadsFailing old new most → reads ≡ new.reads - old.reads → (op_of r.opcode ≡ Some Retrieve → reads ≤ most_reads d.log.shape (frames_of d) a.all (command_of r v))
       → Does old new (sight_of d) (sight_of d') (command_of r v) (refusal 0x88) reads false
   by_unread most reads faults made is bound =
-      same_sight (refusal 0x88) reads (does_unread old new (sight_of d) (command_of r v) most reads few few' faults made is (on_all (refusal 0x88) reads (unread_step d.log.shape d.frames a.all (command_of r v) passes, bound)))
+      same_sight (refusal 0x88) reads (does_unread old new (sight_of d) (command_of r v) most reads few few' faults made is (on_all (refusal 0x88) reads (unread_step d.log.shape (frames_of d) a.all (command_of r v) passes, bound)))
 
   -- a look-up whose read failed
   pub unread_look : (o : Outcome) (reads : ℕ) → o ≡ record { status = 0x88; result = 0; data_len = 0; reads = reads; stopped = false } → old.read_faults ≤ last_count
       → ReadsFailing old new (4 - d.levels.pinned) → reads ≡ new.reads - old.reads → Done o
   unread_look o reads told faults made is =
-      let least = most_least d.log.shape d.frames a.all (command_of r v) passes in
+      let least = most_least d.log.shape (frames_of d) a.all (command_of r v) passes in
       let within = made.within in
       let p = pinned_is in
       subst Done (sym told) (by_unread (4 - d.levels.pinned) reads faults made is (λ _. omega (arith, least, within, p, is)))
 
-  pub exist_found : (o : Outcome) (reads : ℕ) (k : Key) (p : ValuePlace) → r.opcode ≡ 0x14 → k ≡ key (command_of r v) → Looks d old.pages k (Some p)
+  pub exist_found : (o : Outcome) (reads : ℕ) (k : Key) (p : Place) → r.opcode ≡ 0x14 → k ≡ key (command_of r v) → Looks d old.pages k (Some p)
       → o ≡ record { status = 0; result = 0; data_len = 0; reads = reads; stopped = false } → ReadsOnly old new (4 - d.levels.pinned) → reads ≡ new.reads - old.reads → Done o
   exist_found o reads k p op named looks told made is =
       let there = (looked d old a k (Some p) looks).there in
       let here : get a.all (key (command_of r v)) ≡ Some there.0 = subst (λ q. get a.all q ≡ Some there.0) named there.2 in
-      subst Done (sym told) (by_reads (4 - d.levels.pinned) reads (success 0 []) made is ok_sound (exist_there d.log.shape d.frames a.all (command_of r v) passes there.0 op here, λ e. absurd (other_kind r.opcode op e)))
+      subst Done (sym told) (by_reads (4 - d.levels.pinned) reads (success 0 []) made is ok_sound (exist_there d.log.shape (frames_of d) a.all (command_of r v) passes there.0 op here, λ e. absurd (other_kind r.opcode op e)))
 
   pub exist_none : (o : Outcome) (reads : ℕ) (k : Key) → r.opcode ≡ 0x14 → k ≡ key (command_of r v) → Looks d old.pages k None
       → o ≡ record { status = 0x87; result = 0; data_len = 0; reads = reads; stopped = false } → ReadsOnly old new (4 - d.levels.pinned) → reads ≡ new.reads - old.reads → Done o
   exist_none o reads k op named looks told made is =
       let there = (looked d old a k None looks).there in
       let here : get a.all (key (command_of r v)) ≡ None = subst (λ q. get a.all q ≡ None) named there in
-      subst Done (sym told) (by_reads (4 - d.levels.pinned) reads (refusal 0x87) made is missing_sound (exist_missing d.log.shape d.frames a.all (command_of r v) passes op here, λ e. absurd (other_kind r.opcode op e)))
+      subst Done (sym told) (by_reads (4 - d.levels.pinned) reads (refusal 0x87) made is missing_sound (exist_missing d.log.shape (frames_of d) a.all (command_of r v) passes op here, λ e. absurd (other_kind r.opcode op e)))
 
   pub retrieve_none : (o : Outcome) (reads : ℕ) (k : Key) → r.opcode ≡ 0x02 → k ≡ key (command_of r v) → Looks d old.pages k None
       → o ≡ record { status = 0x87; result = 0; data_len = 0; reads = reads; stopped = false } → ReadsOnly old new (4 - d.levels.pinned) → reads ≡ new.reads - old.reads → Done o
   retrieve_none o reads k op named looks told made is =
       let there = (looked d old a k None looks).there in
       let here : get a.all (key (command_of r v)) ≡ None = subst (λ q. get a.all q ≡ None) named there in
-      let least = most_least d.log.shape d.frames a.all (command_of r v) passes in
+      let least = most_least d.log.shape (frames_of d) a.all (command_of r v) passes in
       let within = made.within in
       let p = pinned_is in
-      subst Done (sym told) (by_reads (4 - d.levels.pinned) reads (refusal 0x87) made is missing_sound (retrieve_missing d.log.shape d.frames a.all (command_of r v) passes op here, λ _. omega (arith, least, within, p, is)))
+      subst Done (sym told) (by_reads (4 - d.levels.pinned) reads (refusal 0x87) made is missing_sound (retrieve_missing d.log.shape (frames_of d) a.all (command_of r v) passes op here, λ _. omega (arith, least, within, p, is)))
 
   -- how much may be read of the value that was found
-  most_found : (k : Key) (p : ValuePlace) (n : ℕ) → IsKey k → k ≡ key (command_of r v) → Looks d old.pages k (Some p) → n ≡ min p.len r.size
-      → most_reads d.log.shape d.frames a.all (command_of r v) ≡ 4 - d.levels.pinned + fetched d.log.shape n
+  most_found : (k : Key) (p : Place) (n : ℕ) → IsKey k → k ≡ key (command_of r v) → Looks d old.pages k (Some p) → n ≡ min p.len r.size
+      → most_reads d.log.shape (frames_of d) a.all (command_of r v) ≡ 4 - d.levels.pinned + fetched d.log.shape n
   most_found k p n is_key named looks size =
       let there = value_of d old a k p is_key looks in
       let here : get a.all (key (command_of r v)) ≡ Some there.value = subst (λ q. get a.all q ≡ Some there.value) named there.is_there in
       let same_n : min (length there.value) r.size ≡ n = ap (λ x. min x r.size) there.size ∙ sym size in
-      most_there d.log.shape d.frames a.all (command_of r v) passes there.value here ∙ (λ i. 4 - sym pinned_is i + fetched d.log.shape (same_n i))
+      most_there d.log.shape (frames_of d) a.all (command_of r v) passes there.value here ∙ (λ i. 4 - sym pinned_is i + fetched d.log.shape (same_n i))
 
-  pub retrieve_found : (o : Outcome) (reads : ℕ) (k : Key) (p : ValuePlace) (n : ℕ) → r.opcode ≡ 0x02 → IsKey k → k ≡ key (command_of r v) → Looks d old.pages k (Some p)
+  pub retrieve_found : (o : Outcome) (reads : ℕ) (k : Key) (p : Place) (n : ℕ) → r.opcode ≡ 0x02 → IsKey k → k ≡ key (command_of r v) → Looks d old.pages k (Some p)
       → n ≡ min p.len r.size
       → ((q : Key) (w : List ℕ) → IsFront d.log.shape old.pages p.page n q w → take n into ≡ take n w)
       → o ≡ record { status = 0; result = p.len; data_len = n; reads = reads; stopped = false } → ReadsOnly old new (4 - d.levels.pinned + fetched d.log.shape n) → reads ≡ new.reads - old.reads → Done o
@@ -450,9 +449,9 @@ module _ (d d' : Parts) (old new : BoardState) (r : Request) (v into : List ℕ)
       let most = most_found k p n is_key named looks size in
       let within = made.within in
       subst Done (sym told) (by_reads (4 - d.levels.pinned + fetched d.log.shape n) reads (success p.len (take n into)) made is ok_sound
-      (retrieve_there d.log.shape d.frames a.all (command_of r v) passes w (take n into) p.len op here there.size bytes, λ _. omega (arith, most, within, is)))
+      (retrieve_there d.log.shape (frames_of d) a.all (command_of r v) passes w (take n into) p.len op here there.size bytes, λ _. omega (arith, most, within, is)))
 
-  pub unread_value : (o : Outcome) (reads : ℕ) (k : Key) (p : ValuePlace) (n : ℕ) → IsKey k → k ≡ key (command_of r v) → Looks d old.pages k (Some p) → n ≡ min p.len r.size
+  pub unread_value : (o : Outcome) (reads : ℕ) (k : Key) (p : Place) (n : ℕ) → IsKey k → k ≡ key (command_of r v) → Looks d old.pages k (Some p) → n ≡ min p.len r.size
       → o ≡ record { status = 0x88; result = 0; data_len = 0; reads = reads; stopped = false } → old.read_faults ≤ last_count
       → ReadsFailing old new (4 - d.levels.pinned + fetched d.log.shape n) → reads ≡ new.reads - old.reads → Done o
   unread_value o reads k p n is_key named looks size told faults made is =

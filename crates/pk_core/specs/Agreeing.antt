@@ -17,7 +17,7 @@ use Rattle.pk_log.specs.Logs.{LogOnFlash}
 use Rattle.pk_data.specs.Placed.{HoldsValues, IsOutput, ValuesOnFlash}
 use Rattle.pk_scan.specs.Opened.{HaveBlocks}
 use Rattle.pk_core.specs.Jobs.{JobBlocks, JobsHold}
-use Rattle.pk_core.specs.Parts.{Parts, jobs_of}
+use Rattle.pk_core.specs.Parts.{Parts, frames_of, jobs_of}
 
 -- The parts are those of what stands under the newest root, beside jobs that hold these blocks: without is the map of the flash, all the
 -- one with the pending entries.
@@ -28,12 +28,12 @@ pub record DriveOnFlashBeside (d : Parts) (held : JobBlocks) (shape : Shape) (fl
   pub committed : IsUnder shape flash [] top found without
   pub pending : IsUnder shape flash d.log.pending top found all
   pub levels_shape : d.levels.shape ≡ shape
-  pub levels_pinned : d.levels.pinned ≡ pinned shape d.frames
+  pub levels_pinned : d.levels.pinned ≡ pinned shape (frames_of d)
   pub stand : RunsOnFlash flash d.arena d.levels.runs found.runs
   -- their blocks are those that the root names
   pub run_blocks : HaveBlocks shape d.levels.runs top.1.runs
   -- their frames are all that are leased
-  pub arena_is : HasArena shape d.frames d.levels d.arena []
+  pub arena_is : HasArena shape (frames_of d) d.levels d.arena []
   -- the values of the map with the pending entries, and where those without them lie
   pub placed : ValuesOnFlash shape d.space d.pool held.values flash (places found d.log.pending)
   pub former : (k : ℕ) → IsValuePage shape (places found []) k → HoldsValues d.pool (k / shape.block_pages)

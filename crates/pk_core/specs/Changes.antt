@@ -2,6 +2,7 @@
 use Rattle.std.specs.Prelude.{◌≡◌, ◌≤◌, ◌<◌, ℕ, List, length, false, Option, Some, Result}
 use Rattle.std.specs.FinMap.{insert, remove}
 use Rattle.std.specs.FinMap.Entries.{find}
+use Rattle.pk_base.specs.Entry.{Place}
 use Rattle.pk_base.specs.Fields.{AreBytes}
 use Rattle.pk_base.specs.Key.{Key, key_cmp}
 use Rattle.pk_base.specs.Shape.{Shape, limit, greatest, charge, page_entries}
@@ -14,23 +15,21 @@ use Rattle.pk_model.specs.Steps.{Step}
 use Rattle.pk_data.specs.State.{needs_reclaim}
 use Rattle.pk_steps.specs.Under.{places}
 use Rattle.pk_model.specs.Growth.{Reaches, Goes}
-use Rattle.pk_core.specs.declared.place.ValuePlace.{ValuePlace}
-use Rattle.pk_core.specs.Parts.{Parts}
-use Rattle.pk_core.specs.Finding.{place_of, place_if_some}
+use Rattle.pk_core.specs.Parts.{Parts, frames_of}
 use Rattle.pk_model.specs.Crashes.{CrashFinds, change}
 use Rattle.pk_core.specs.Moves.{StandsFor}
 
 -- A key may get a value: its value stood at this place until now, or there was none, and the live pages are within their limit with the new one.
-pub record MayPut (d : Parts) (shape : Shape) (flash : Flash) (m : Map) (key : Key) (value : List ℕ) (old : Option ValuePlace) : Type 0 where
+pub record MayPut (d : Parts) (shape : Shape) (flash : Flash) (m : Map) (key : Key) (value : List ℕ) (old : Option Place) : Type 0 where
   pub stands : StandsFor d shape flash m
-  pub old_is : find key_cmp key (places stands.found d.log.pending) ≡ place_if_some old
+  pub old_is : find key_cmp key (places stands.found d.log.pending) ≡ old
   pub bytes : AreBytes key
   pub room : live shape (insert m key value) ≤ limit shape
 
 -- a key has its value at this place, and may lose it
-pub record MayTake (d : Parts) (shape : Shape) (flash : Flash) (m : Map) (key : Key) (old : ValuePlace) : Type 0 where
+pub record MayTake (d : Parts) (shape : Shape) (flash : Flash) (m : Map) (key : Key) (old : Place) : Type 0 where
   pub stands : StandsFor d shape flash m
-  pub old_is : find key_cmp key (places stands.found d.log.pending) ≡ Some (place_of old)
+  pub old_is : find key_cmp key (places stands.found d.log.pending) ≡ Some old
   pub bytes : AreBytes key
 
 -- The drive stands for the map after the change. At every cut the flash holds what it held, or the map before it, or the one after it.
@@ -39,27 +38,27 @@ pub record Changes (after : Parts) (shape : Shape) (m m' : Map) (old new : Board
   pub cuts : Reaches shape old new (CrashFinds shape (change m') old.pages m)
 
 -- for every map in which the key may get the value
-abbrev pub PutsAll : Parts → Parts → BoardState → BoardState → Key → List ℕ → Option ValuePlace → Type 0
+abbrev pub PutsAll : Parts → Parts → BoardState → BoardState → Key → List ℕ → Option Place → Type 0
 PutsAll before after old new key value place =
     (shape : Shape) (m : Map) → MayPut before shape old.pages m key value place → Changes after shape m (insert m key value) old new
 
 -- the same of a call that stopped the drive
-abbrev pub FailsToPut : Parts → BoardState → BoardState → Key → List ℕ → Option ValuePlace → Type 0
+abbrev pub FailsToPut : Parts → BoardState → BoardState → Key → List ℕ → Option Place → Type 0
 FailsToPut before old new key value place =
     (shape : Shape) (m : Map) → MayPut before shape old.pages m key value place → Goes shape old new (CrashFinds shape (change (insert m key value)) old.pages m)
 
 -- for every map from which the key may be taken
-abbrev pub TakesAll : Parts → Parts → BoardState → BoardState → Key → ValuePlace → Type 0
+abbrev pub TakesAll : Parts → Parts → BoardState → BoardState → Key → Place → Type 0
 TakesAll before after old new key place = (shape : Shape) (m : Map) → MayTake before shape old.pages m key place → Changes after shape m (remove m key) old new
 
 -- the same of a call that stopped the drive
-abbrev pub FailsToTake : Parts → BoardState → BoardState → Key → ValuePlace → Type 0
+abbrev pub FailsToTake : Parts → BoardState → BoardState → Key → Place → Type 0
 FailsToTake before old new key place = (shape : Shape) (m : Map) → MayTake before shape old.pages m key place → Goes shape old new (CrashFinds shape (change (remove m key)) old.pages m)
 
 -- ---- steps
 
 -- what a put asks: the key may get the value, which is not too long and has room without a reclaim
-pub record CanPut (d : Parts) (board : BoardState) (key : Key) (value : List ℕ) (place : Option ValuePlace) : Type 0 where
+pub record CanPut (d : Parts) (board : BoardState) (key : Key) (value : List ℕ) (place : Option Place) : Type 0 where
   pub ready : IsReady board d.log.shape
   pub may : (m : Map) × MayPut d d.log.shape board.pages m key value place
   pub short : length value ≤ greatest d.log.shape
@@ -67,24 +66,24 @@ pub record CanPut (d : Parts) (board : BoardState) (key : Key) (value : List ℕ
   pub few : length d.log.pending < page_entries d.log.shape
 
 -- what a removal asks: the key may be taken
-pub record CanTake (d : Parts) (board : BoardState) (key : Key) (place : ValuePlace) : Type 0 where
+pub record CanTake (d : Parts) (board : BoardState) (key : Key) (place : Place) : Type 0 where
   pub ready : IsReady board d.log.shape
   pub may : (m : Map) × MayTake d d.log.shape board.pages m key place
   pub few : length d.log.pending < page_entries d.log.shape
 
 -- a step that gives the key its value
-abbrev pub StepPuts : Parts → Parts → ℕ → BoardState → BoardState → Key → List ℕ → Option ValuePlace → Result Unit Fault → Type 0
+abbrev pub StepPuts : Parts → Parts → ℕ → BoardState → BoardState → Key → List ℕ → Option Place → Result Unit Fault → Type 0
 StepPuts before after most old new key value place result =
     Step (λ (u : Unit). PutsAll before after old new key value place) (FailsToPut before old new key value place) before.log.shape most old new result
 
 -- a step that takes it away
-abbrev pub StepTakes : Parts → Parts → ℕ → BoardState → BoardState → Key → ValuePlace → Result Unit Fault → Type 0
+abbrev pub StepTakes : Parts → Parts → ℕ → BoardState → BoardState → Key → Place → Result Unit Fault → Type 0
 StepTakes before after most old new key place result =
     Step (λ (u : Unit). TakesAll before after old new key place) (FailsToTake before old new key place) before.log.shape most old new result
 
 -- the drive runs as before, and fewer entries are pending than a page of the journal takes
 pub record StaysBetween (before after : Parts) : Type 0 where
-  pub frames : after.frames ≡ before.frames
+  pub frames : frames_of after ≡ frames_of before
   pub stopped : after.stopped ≡ before.stopped
   pub same_shape : after.log.shape ≡ before.log.shape
   pub few : length after.log.pending < page_entries before.log.shape

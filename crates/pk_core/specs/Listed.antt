@@ -7,7 +7,7 @@ use Rattle.pk_base.specs.Entry.{Entry, Place}
 use Rattle.pk_nand.specs.BoardState.{BoardState}
 use Rattle.pk_nand.specs.Calls.{IsReady, Rose, last_count}
 use Rattle.pk_pin.specs.Frames.{Frames}
-use Rattle.pk_level.specs.Levels.{Levels}
+use Rattle.pk_level.specs.Levels.{Levels, RunsOnFlash}
 use Rattle.pk_walk.specs.Walking.{Walk, IsLeft, pages_read, most_read}
 use Rattle.pk_log.specs.State.{LogState}
 use Rattle.pk_nand.specs.Effects.{NoFault}
@@ -47,7 +47,13 @@ pub record IsFilled (at : Filled) (size : ℕ) : Type 0 where
   pub small : at.room ≤ 65536
   pub enough : at.room ≤ size
 
--- what a walk asks of the board and of the parts that it goes over
+-- what a List asks of the board and of the parts that it goes over
+pub record MayList (walk : Walk) (board : BoardState) (levels : Levels) (arena : Frames) : Type 0 where
+  pub ready : IsReady board levels.shape
+  pub same_shape : walk.shape ≡ levels.shape
+  pub stand : (ess : List (List Entry)) × RunsOnFlash board.pages arena levels.runs ess
+
+-- what a walk asks of them, and of the log
 pub record MayWalk (walk : Walk) (board : BoardState) (levels : Levels) (arena : Frames) (log : LogState) : Type 0 where
   pub ready : IsReady board levels.shape
   pub same_shape : walk.shape ≡ levels.shape

@@ -2,6 +2,7 @@
 use Rattle.std.specs.Prelude.{◌≡◌, ℕ, ◌+◌, ◌/◌, ◌≤◌, List, length, Option, Some, None, Result}
 use Rattle.std.specs.FinMap.{insert}
 use Rattle.std.specs.FinMap.Entries.{find}
+use Rattle.pk_base.specs.Entry.{Place}
 use Rattle.pk_base.specs.Fields.{AreBytes}
 use Rattle.pk_base.specs.Key.{Key, key_cmp}
 use Rattle.pk_base.specs.Shape.{Shape, charge, limit}
@@ -16,19 +17,17 @@ use Rattle.pk_nand.specs.declared.types.Fault.{Fault}
 use Rattle.pk_model.specs.Steps.{Step}
 use Rattle.pk_data.specs.Placed.{HoldsValues}
 use Rattle.pk_data.specs.Entries.{IsInOpen}
-use Rattle.pk_core.specs.declared.place.ValuePlace.{ValuePlace}
 use Rattle.pk_core.specs.Parts.{Parts}
 use Rattle.pk_core.specs.Agreeing.{DriveOnFlashWith}
-use Rattle.pk_core.specs.Finding.{place_of, place_if_some}
 use Rattle.pk_core.specs.Moves.{KeepsAll, BreaksAll, IsWritten}
 
 -- A key is to have a value that was written into the open block and is in no map yet. Until now it had the one at old, or none.
-pub record Puts (d : Parts) (shape : Shape) (flash : Flash) (m : Map) (key : Key) (value : List ℕ) (page : ℕ) (old : Option ValuePlace) : Type 0 where
+pub record Puts (d : Parts) (shape : Shape) (flash : Flash) (m : Map) (key : Key) (value : List ℕ) (page : ℕ) (old : Option Place) : Type 0 where
   pub top : ℕ × Root
   pub found : Found
   pub without : Map
   pub with : DriveOnFlashWith d shape flash top found without m
-  pub old_is : find key_cmp key (places found d.log.pending) ≡ place_if_some old
+  pub old_is : find key_cmp key (places found d.log.pending) ≡ old
   pub written : IsWritten d shape flash key value page
   pub place : IsPlace shape (record { page = page; len = length value })
   pub in_open : IsInOpen shape d.space page (charge shape (length value))
@@ -36,16 +35,16 @@ pub record Puts (d : Parts) (shape : Shape) (flash : Flash) (m : Map) (key : Key
   pub room : live shape (insert m key value) ≤ limit shape
 
 -- The value of a key stands at this place, and the key is to be removed.
-pub record Drops (d : Parts) (shape : Shape) (flash : Flash) (m : Map) (key : Key) (old : ValuePlace) : Type 0 where
+pub record Drops (d : Parts) (shape : Shape) (flash : Flash) (m : Map) (key : Key) (old : Place) : Type 0 where
   pub top : ℕ × Root
   pub found : Found
   pub without : Map
   pub with : DriveOnFlashWith d shape flash top found without m
-  pub old_is : find key_cmp key (places found d.log.pending) ≡ Some (place_of old)
+  pub old_is : find key_cmp key (places found d.log.pending) ≡ Some old
   pub bytes : AreBytes key
 
 -- one more key where there was none
-abbrev pub more_keys : ℕ → Option ValuePlace → ℕ
+abbrev pub more_keys : ℕ → Option Place → ℕ
 more_keys keys None = keys + 1
 more_keys keys (Some p) = keys
 

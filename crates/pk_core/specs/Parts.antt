@@ -1,7 +1,7 @@
 -- What a drive keeps in memory, and what contracts see of it.
-use Rattle.std.specs.Prelude.{ℕ, Bool, true, false, [], length, sum, count_by, Option, Some, None, nat_le, ◌==◌, ◌||◌, ◌&&◌, not}
+use Rattle.std.specs.Prelude.{ℕ, Bool, true, [], length, sum, count_by, Option, Some, None, nat_le, ◌==◌, ◌||◌, ◌&&◌, not}
 use Rattle.pk_nvme.specs.declared.opcode.TheConstants.{STORE, DELETE}
-use Rattle.pk_base.specs.Shape.{buffer, charge, limit, pinned}
+use Rattle.pk_base.specs.Shape.{buffer, charge, limit}
 use Rattle.pk_nvme.specs.declared.request.Request.{Request}
 use Rattle.pk_nvme.specs.Seen.{command_of}
 use Rattle.pk_plan.specs.declared.owner.Owner.TheVariants.{Values}
@@ -16,7 +16,7 @@ use Rattle.pk_data.specs.State.{DataState, needs_reclaim}
 use Rattle.pk_data.specs.declared.open_block.OpenBlock.{OpenBlock}
 use Rattle.pk_core.specs.Jobs.{Jobs, no_jobs, all_but}
 
--- the log, the runs with the arena of their frames, where values lie, the blocks, how many keys there are, the frames, and whether it stopped
+-- the log, the runs with the arena of their frames, where values lie, the blocks, how many keys there are, and whether it stopped
 pub record Parts : Type 0 where
   pub log : LogState
   pub levels : Levels
@@ -24,8 +24,11 @@ pub record Parts : Type 0 where
   pub space : DataState
   pub pool : Blocks
   pub keys : ℕ
-  pub frames : ℕ
   pub stopped : Bool
+
+-- how many frames there are
+abbrev pub frames_of : Parts → ℕ
+frames_of d = length d.arena.used
 
 -- what runs: no job is built
 abbrev pub jobs_of : Parts → Jobs
@@ -37,8 +40,8 @@ counts_of d = record {
   live = sum d.space.live.heads;
   limit = limit d.log.shape;
   keys = d.keys;
-  pinned = pinned d.log.shape d.frames;
-  frames = d.frames;
+  pinned = d.levels.pinned;
+  frames = frames_of d;
   leased = leased_frames d.arena;
   active = length d.log.active.entries;
   frozen = length d.log.frozen.entries;
@@ -60,7 +63,6 @@ block_if_open (Some o) = Some o.block
 -- a background step that is left erases a free block
 abbrev pub sight_of : Parts → Sight
 sight_of d = record {
-  frames = d.frames;
   pending = d.log.pending;
   stopped = d.stopped;
   counts = counts_of d;

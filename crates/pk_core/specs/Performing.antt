@@ -1,16 +1,17 @@
 -- What a command leaves of epochs and blocks, which pages it programs, and how many calls of the flash it makes.
-use Rattle.std.specs.Prelude.{◌≡◌, ◌≢◌, ℕ, List, true, false}
+use Rattle.std.specs.Prelude.{◌≡◌, ◌≢◌, ℕ, List, take, true, false}
 use Rattle.pk_nvme.specs.declared.opcode.TheConstants.{STORE, DELETE}
-use Rattle.pk_nvme.specs.declared.status.TheConstants.{SUCCESSFUL_COMPLETION}
+use Rattle.pk_nvme.specs.declared.status.TheConstants.{SUCCESSFUL_COMPLETION, UNRECOVERED_ERROR}
 use Rattle.pk_base.specs.Shape.{charge}
 use Rattle.pk_nvme.specs.Command.{key}
 use Rattle.pk_nvme.specs.Seen.{command_of}
 use Rattle.pk_nvme.specs.declared.request.Request.{Request}
 use Rattle.pk_nand.specs.BoardState.{BoardState}
 use Rattle.pk_nand.specs.Effects.{OnlyReading}
+use Rattle.pk_drive.specs.Exec.{report_of}
 use Rattle.pk_drive.specs.Calling.{FewCalls, most_calls_of, only_looks}
 use Rattle.pk_drive.specs.declared.types.Outcome.{Outcome}
-use Rattle.pk_core.specs.Parts.{Parts}
+use Rattle.pk_core.specs.Parts.{Parts, counts_of}
 use Rattle.pk_core.specs.Staying.{Stays, StaysOrOpens, IsNoted}
 use Rattle.pk_core.specs.Programming.{QuietStore, QuietDelete}
 
@@ -23,3 +24,9 @@ pub record Performs (before after : Parts) (old new : BoardState) (r : Request) 
   pub quiet_delete : r.opcode ≡ DELETE → QuietDelete before old new r o
   pub calls : r.opcode ≢ STORE → r.opcode ≢ DELETE → FewCalls (most_calls_of before.log.shape r.opcode r.size) old new
   pub looks : only_looks r.opcode ≡ true → (after ≡ before) × OnlyReading old new
+
+-- A Report gives the numbers of the drive, and makes no call.
+pub record Reports (d : Parts) (old new : BoardState) (o : Outcome) (into : List ℕ) : Type 0 where
+  pub fine : o.status ≢ UNRECOVERED_ERROR
+  pub rests : new ≡ old
+  pub bytes : take o.data_len into ≡ report_of (counts_of d)

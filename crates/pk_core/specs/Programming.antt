@@ -1,6 +1,7 @@
 -- How many pages a step inside a command programs.
 use Rattle.std.specs.Prelude.{◌≡◌, ℕ, ◌+◌, ◌-◌, ◌≤◌, List, [], true, false}
 use Rattle.pk_nvme.specs.declared.status.TheConstants.{SUCCESSFUL_COMPLETION}
+use Rattle.pk_base.specs.Key.{Key}
 use Rattle.pk_base.specs.Shape.{charge}
 use Rattle.pk_nvme.specs.Command.{key}
 use Rattle.pk_nvme.specs.Seen.{command_of}
@@ -17,6 +18,18 @@ use Rattle.pk_core.specs.Parts.{Parts, sight_of}
 pub record Programs (count : ℕ) (old new : BoardState) : Type 0 where
   pub programs : new.programs ≡ counted_by count old.programs
   pub erases : new.erases ≡ old.erases
+
+-- Where a value of so many pages has room in the open block, it was written there, and a commit was made where the journal page is full.
+abbrev pub FillsQuietly : Parts → ℕ → BoardState → BoardState → Type 0
+FillsQuietly d count old new = fits_open d.log.shape d.space count ≡ true → Programs (count + commits_for d.log.shape (sight_of d)) old new
+
+-- so it was where the key needs no freeze
+abbrev pub PutsQuietly : Parts → Key → ℕ → BoardState → BoardState → Type 0
+PutsQuietly d k count old new = needs_freeze d.log k ≡ false → FillsQuietly d count old new
+
+-- where the key needs no freeze, nothing but a commit programs a page
+abbrev pub TakesQuietly : Parts → Key → BoardState → BoardState → Type 0
+TakesQuietly d k old new = needs_freeze d.log k ≡ false → Programs (commits_for d.log.shape (sight_of d)) old new
 
 -- A Store that was answered so, whose key needs no freeze and whose value has room in the open block, made the programs of its value
 -- and of a commit, and the reads of a look-up.

@@ -1,5 +1,6 @@
 -- Commands that change the map: what a drive needs to serve one.
 use Rattle.std.specs.Prelude.{◌≡◌, ◌≤◌, ◌<◌, ℕ, [], length, true, false, Option, Some, None}
+use Rattle.pk_base.specs.Entry.{Place}
 use Rattle.pk_base.specs.Shape.{Shape, charge, page_entries}
 use Rattle.pk_nvme.specs.Seen.{command_of}
 use Rattle.pk_nvme.specs.declared.request.Request.{Request}
@@ -7,7 +8,6 @@ use Rattle.pk_nand.specs.BoardState.{BoardState}
 use Rattle.pk_nand.specs.Calls.{last_count}
 use Rattle.pk_model.specs.Answer.{early}
 use Rattle.pk_model.specs.Wear.{is_worn}
-use Rattle.pk_core.specs.declared.place.ValuePlace.{ValuePlace}
 use Rattle.pk_core.specs.Parts.{Parts, is_built}
 use Rattle.pk_core.specs.Agreeing.{DriveOnFlash}
 
@@ -22,6 +22,6 @@ pub record IsServable (d : Parts) (board : BoardState) (r : Request) : Type 0 wh
   pub counted : board.reads ≤ last_count
 
 -- the pages of a value at a place; none where there is none
-abbrev pub pages_at : Shape → Option ValuePlace → ℕ
+abbrev pub pages_at : Shape → Option Place → ℕ
 pages_at shape None = 0
 pages_at shape (Some p) = charge shape p.len

@@ -1,5 +1,5 @@
 -- A background step.
-use Rattle.std.specs.Prelude.{◌≡◌, ◌+◌, ◌-◌, ◌≤◌, Bool, true, false, ◌&&◌, not, ◌==◌, length}
+use Rattle.std.specs.Prelude.{◌≡◌, ◌+◌, ◌-◌, ◌≤◌, Bool, true, false, ◌&&◌, not, ◌==◌, [], length}
 use Rattle.pk_base.specs.Shape.{data_blocks, most_pages}
 use Rattle.pk_plan.specs.declared.owner.Owner.TheVariants.{Values}
 use Rattle.pk_pool.specs.Blocks.{used_by}
@@ -16,6 +16,13 @@ use Rattle.pk_drive.specs.declared.types.Ticked.{Ticked}
 use Rattle.pk_drive.specs.declared.types.Ticked.TheVariants.{Worked, Idle, Fault}
 use Rattle.pk_data.specs.State.{fits_open}
 use Rattle.pk_core.specs.Parts.{Parts}
+use Rattle.pk_core.specs.Agreeing.{DriveOnFlash}
+
+-- a step asks for a drive that runs and agrees with its board, with nothing pending
+pub record MayTick (d : Parts) (board : BoardState) : Type 0 where
+  pub agrees : DriveOnFlash d board.shape board.pages
+  pub unstopped : d.stopped ≡ false
+  pub none : d.log.pending ≡ []
 
 -- what a step did to a drive and its board: the clauses of the drive's contract, as one record
 pub record Ticks (old new : BoardState) (before after : Sight) (answer : Ticked) : Type 0 where

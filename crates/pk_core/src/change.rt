@@ -1,5 +1,5 @@
 //! Changes of the map: a key gets a value, or loses its own.
-ghost use Rattle.std.specs.Prelude.{◌≡◌, ◌+◌, length, true, false, OnOk};
+ghost use Rattle.std.specs.Prelude.{◌≡◌, length, false, OnOk};
 ghost use Rattle.pk_base.specs.Shape as spec;
 ghost use Rattle.pk_model.specs.Wear.{is_worn};
 ghost use Rattle.pk_log.specs.State.{needs_freeze as needs_freeze_for};
@@ -7,13 +7,11 @@ ghost use Rattle.pk_core.specs.Parts.{wants_second_freeze};
 ghost use Rattle.pk_core.specs.Changes.{CanPut, CanTake, StepPuts, StepTakes, StaysBetween};
 ghost use Rattle.pk_core.specs.Parts.{sight_of};
 ghost use Rattle.pk_core.specs.Staying.{Stays, StaysOrOpens, IsNoted};
-ghost use Rattle.pk_data.specs.State.{fits_open};
 ghost use Rattle.pk_drive.specs.Moving.{commits_for};
-ghost use Rattle.pk_core.specs.Programming.{Programs};
+ghost use Rattle.pk_core.specs.Programming.{Programs, FillsQuietly, PutsQuietly, TakesQuietly};
 
 use crate::drive::Drive;
-use crate::place::ValuePlace;
-use pk_base::Key;
+use pk_base::{Key, Place};
 use pk_nand::{Fault, Nand};
 use pk_region::Region;
 
@@ -24,20 +22,20 @@ impl<A: Region> Drive<A> {
         board: &mut B,
         key: Key,
         value: &[u8],
-        old: Option<ValuePlace>,
+        old: Option<Place>,
     ) -> Result<(), Fault>
         requires can { CanPut self.old (B.state board.old) key value.now old }
         requires no_freeze { needs_freeze_for self.old.log key ≡ false }
+
+        // The map, and then the drive beside it.
         ensures step { StepPuts self.old self.new 0 (B.state board.old) (B.state board.new)
             key value.now old result }
         ensures stays { OnOk result (StaysBetween self.old self.new) }
         ensures opens { OnOk result (StaysOrOpens self.old self.new
             (spec.charge self.old.log.shape (length value.now))) }
         ensures noted { OnOk result (IsNoted self.new key) }
-        ensures programs { OnOk result (fits_open self.old.log.shape self.old.space
-            (spec.charge self.old.log.shape (length value.now)) ≡ true
-            → Programs (spec.charge self.old.log.shape (length value.now)
-            + commits_for self.old.log.shape (sight_of self.old)) (B.state board.old)
+        ensures programs { OnOk result (FillsQuietly self.old
+            (spec.charge self.old.log.shape (length value.now)) (B.state board.old)
             (B.state board.new)) }
     {
         let shape = self.shape();
@@ -58,22 +56,21 @@ impl<A: Region> Drive<A> {
         board: &mut B,
         key: Key,
         value: &[u8],
-        old: Option<ValuePlace>,
+        old: Option<Place>,
     ) -> Result<(), Fault>
         requires can { CanPut self.old (B.state board.old) key value.now old }
         requires one_freeze { wants_second_freeze self.old ≡ false }
         requires unworn { is_worn (B.state board.old) ≡ false }
+
+        // The map, and then the drive beside it.
         ensures step { StepPuts self.old self.new 1 (B.state board.old) (B.state board.new)
             key value.now old result }
         ensures stays { OnOk result (StaysBetween self.old self.new) }
         ensures opens { OnOk result (StaysOrOpens self.old self.new
             (spec.charge self.old.log.shape (length value.now))) }
         ensures noted { OnOk result (IsNoted self.new key) }
-        ensures programs { OnOk result (needs_freeze_for self.old.log key ≡ false
-            → fits_open self.old.log.shape self.old.space
-            (spec.charge self.old.log.shape (length value.now)) ≡ true
-            → Programs (spec.charge self.old.log.shape (length value.now)
-            + commits_for self.old.log.shape (sight_of self.old)) (B.state board.old)
+        ensures programs { OnOk result (PutsQuietly self.old key
+            (spec.charge self.old.log.shape (length value.now)) (B.state board.old)
             (B.state board.new)) }
     {
         match self.make_room(board, &key) {
@@ -83,12 +80,7 @@ impl<A: Region> Drive<A> {
     }
 
     // Notes that a key with room has no value, and commits where the journal page is full.
-    fn take_with_room<B: Nand>(
-        &mut self,
-        board: &mut B,
-        key: Key,
-        old: ValuePlace,
-    ) -> Result<(), Fault>
+    fn take_with_room<B: Nand>(&mut self, board: &mut B, key: Key, old: Place) -> Result<(), Fault>
         requires can { CanTake self.old (B.state board.old) key old }
         requires no_freeze { needs_freeze_for self.old.log key ≡ false }
         ensures step { StepTakes self.old self.new 0 (B.state board.old) (B.state board.new)
@@ -108,18 +100,19 @@ impl<A: Region> Drive<A> {
         &mut self,
         board: &mut B,
         key: Key,
-        old: ValuePlace,
+        old: Place,
     ) -> Result<(), Fault>
         requires can { CanTake self.old (B.state board.old) key old }
         requires one_freeze { wants_second_freeze self.old ≡ false }
         requires unworn { is_worn (B.state board.old) ≡ false }
+
+        // The map, and then the drive beside it.
         ensures step { StepTakes self.old self.new 1 (B.state board.old) (B.state board.new)
             key old result }
         ensures stays { OnOk result (StaysBetween self.old self.new) }
         ensures moves { OnOk result (Stays self.old self.new) }
-        ensures programs { OnOk result (needs_freeze_for self.old.log key ≡ false
-            → Programs (commits_for self.old.log.shape (sight_of self.old)) (B.state board.old)
-            (B.state board.new)) }
+        ensures programs { OnOk result
+            (TakesQuietly self.old key (B.state board.old) (B.state board.new)) }
     {
         match self.make_room(board, &key) {
             Ok(()) => self.take_with_room(board, key, old),

@@ -15,7 +15,6 @@ use std::marker::Model;
 /// A drive. Contracts see its parts, and how they stand to the flash by `DriveOnFlash`. No call but `open` takes memory.
 #[derive(Drop)]
 pub struct Drive<A: Region> {
-    pub(crate) frames: u32,
     pub(crate) log: Log<A>,
     pub(crate) levels: Levels<A>,
     pub(crate) arena: PinArena<A>,
@@ -42,7 +41,6 @@ impl<A: Region> Model for Drive<A> {
       space = d.space;
       pool = d.pool;
       keys = d.keys;
-      frames = d.frames;
       stopped = d.stopped;
     } };
 

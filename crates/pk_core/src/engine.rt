@@ -1,20 +1,15 @@
 //! The drive meets the contract of a drive.
-ghost use Rattle.std.specs.Prelude.{◌≡◌, ◌≢◌, ◌≤◌, ◌<◌, ◌+◌, ℕ, List, [], length, take, true, false, None};
-ghost use Rattle.pk_base.specs.Shape.{greatest, page_entries};
+ghost use Rattle.std.specs.Prelude.{◌≡◌, ◌≢◌, ◌≤◌, ◌<◌, [], length, true, None};
+ghost use Rattle.pk_base.specs.Shape.{greatest};
 ghost use Rattle.pk_nvme.specs.Seen.{command_of};
-ghost use Rattle.pk_nand.specs.BoardState.{shape_of as shape_told};
-ghost use Rattle.pk_nand.specs.Calls.{last_count};
 ghost use Rattle.pk_model.specs.Answer.{early};
 ghost use Rattle.pk_model.specs.Wear.{is_worn};
-ghost use Rattle.pk_drive.specs.Exec.{report_of};
-ghost use Rattle.pk_drive.specs.Seen.{reply_of};
 ghost use Rattle.pk_core.specs.Parts as spec;
 ghost use Rattle.pk_core.specs.Parts.{sight_of};
-ghost use Rattle.pk_core.specs.Agreeing.{DriveOnFlash, DriveOnFlashBetween};
+ghost use Rattle.pk_core.specs.Agreeing.{DriveOnFlashBetween};
 ghost use Rattle.pk_core.specs.Serving.{IsServable};
 ghost use Rattle.pk_core.specs.Done.{Executes};
-ghost use Rattle.pk_nvme.specs.declared.status.TheConstants.{UNRECOVERED_ERROR};
-ghost use Rattle.pk_core.specs.Performing.{Performs};
+ghost use Rattle.pk_core.specs.Performing.{Performs, Reports};
 
 use crate::drive::Drive;
 use crate::quiet::refusal;
@@ -23,6 +18,7 @@ use pk_model::early::early_fault;
 use pk_nand::{Nand, NandFault};
 use pk_nvme::Request;
 use pk_nvme::opcode::{DELETE, EXIST, FLUSH, LIST, REPORT, RETRIEVE, STORE, TICK};
+use pk_plan::Owner;
 use pk_region::Region;
 
 impl<A: Region> Drive<A> {
@@ -34,23 +30,28 @@ impl<A: Region> Drive<A> {
         value: &[u8],
         into: &mut [u8],
     ) -> Outcome
+        // The drive and the board.
         requires servable { IsServable self.old (B.state board.old) request.now }
         requires tick { request.now.opcode ≡ TICK → self.old.log.pending ≡ [] }
+
+        // What is handed over, and the buffer for data.
         requires sized { request.now.opcode ≡ STORE
             → request.now.size ≤ greatest self.old.log.shape → length value.now ≡ request.now.size }
         requires empty { request.now.opcode ≢ STORE → value.now ≡ [] }
         requires room { (65536 ≤ length into.old)
             × (greatest self.old.log.shape ≤ length into.old) }
+
+        // The command.
         ensures executes { Executes self.old self.new (B.state board.old) (B.state board.new)
             (command_of request.now value.now) result into.new result.reads }
+        ensures performs { Performs self.old self.new (B.state board.old) (B.state board.new)
+            request.now value.now result }
+
+        // Its data.
         ensures fits { result.data_len ≤ length into.new }
         ensures len { length into.new ≡ length into.old }
         ensures report { request.now.opcode ≡ REPORT
-            → (result.status ≢ UNRECOVERED_ERROR) × (B.state board.new ≡ B.state board.old) }
-        ensures report_data { request.now.opcode ≡ REPORT
-            → take result.data_len into.new ≡ report_of (sight_of self.new).counts }
-        ensures performs { Performs self.old self.new (B.state board.old) (B.state board.new)
-            request.now value.now result }
+            → Reports self.new (B.state board.old) (B.state board.new) result into.new }
     {
         match request.opcode {
             FLUSH => self.flush(),
@@ -118,7 +119,10 @@ impl<A: Region> Engine for Drive<A> {
     }
 
     fn is_built(&self, request: &Request) -> bool {
-        self.can_serve(request)
+        match early_fault(&self.shape(), request) {
+            Some(_) => true,
+            None => self.is_built_for(request.opcode, request.size),
+        }
     }
 
     fn pending(&self) -> u32 {
@@ -130,15 +134,32 @@ impl<A: Region> Engine for Drive<A> {
     }
 
     fn is_worn(&self) -> bool {
-        self.is_worn_out()
+        self.log.root().number() >= 0x8000_0000_0000_0000
     }
 
     fn counts(&self) -> Counts {
         self.pool.known();
-        self.numbers()
+        Counts {
+            live: self.space.total(),
+            limit: self.shape().limit(),
+            keys: self.keys,
+            pinned: self.levels.pinned() as u32,
+            frames: self.arena.frames(),
+            leased: self.arena.frames() - self.arena.free(),
+            active: self.log.active().len(),
+            frozen: self.log.frozen().len(),
+            run1: self.levels.entries(1),
+            run2: self.levels.entries(2),
+            run3: self.levels.entries(3),
+            run4: self.levels.entries(4),
+            epoch: self.log.epoch_used(),
+            blocks: self.pool.used(Owner::Values),
+            ready: self.pool.ready(),
+            merge: 0,
+        }
     }
 
     fn live_pages(&self) -> u32 {
-        self.live()
+        self.space.total()
     }
 }

@@ -28,4 +28,3 @@ pub use drive::Drive;
 pub use laws::fresh_serves;
 pub use making::format;
 pub use pk_scan::OpenError;
-pub use place::ValuePlace;

@@ -1,9 +1,9 @@
 //! The keys of a List, as a walk gives them.
-ghost use Rattle.std.specs.Prelude.{◌≡◌, ◌+◌, ◌-◌, ◌%◌, ◌≤◌, ◌<◌, ℕ, List, [], ◌∷◌, ◌++◌, length, take, min, None, false, IfOk, IfErr, OnOk, OnErr};
+ghost use Rattle.std.specs.Prelude.{◌≡◌, ◌+◌, ◌-◌, ◌%◌, ◌≤◌, ◌<◌, List, [], ◌∷◌, ◌++◌, length, take, min, None, false, IfOk, IfErr, OnOk, OnErr};
 ghost use Rattle.pk_base.specs.Key.{Key as KeySpec, IsKey};
 ghost use Rattle.pk_base.specs.Entry.{Entry as EntrySpec, Place};
 ghost use Rattle.pk_base.specs.Page.{Flash};
-ghost use Rattle.pk_nand.specs.Calls.{IsReady, last_count};
+ghost use Rattle.pk_nand.specs.Calls.{last_count};
 ghost use Rattle.pk_nand.specs.declared.types.Fault.TheVariants.{Reading};
 ghost use Rattle.pk_pin.specs.Frames.{Frames};
 ghost use Rattle.pk_run.specs.Kept.{Kept};
@@ -11,16 +11,13 @@ ghost use Rattle.pk_level.specs.Levels.{RunsOnFlash};
 ghost use Rattle.pk_walk.specs.Walking.{IsLeft, Reads, ReadsFail, pages_read, most_read};
 ghost use Rattle.pk_nvme.specs.Command.{key as key_in};
 ghost use Rattle.pk_nvme.specs.Seen.{command_of};
-ghost use Rattle.pk_model.specs.Answer.{early, listed, fitting, list_bytes};
-ghost use Rattle.pk_drive.specs.Seen.{reply_of};
-ghost use Rattle.pk_core.specs.Parts.{sight_of};
-ghost use Rattle.pk_core.specs.Agreeing.{DriveOnFlash};
+ghost use Rattle.pk_model.specs.Answer.{listed, fitting, list_bytes};
 ghost use Rattle.pk_core.specs.Serving.{IsServable};
 ghost use Rattle.pk_core.specs.Done.{Executes};
-ghost use Rattle.pk_core.specs.Listed.{OffersKey, OffersNext, IsFilled, MayWalk, Walked, ListsAll, ListsInto, keys_of, keys_there};
+ghost use Rattle.pk_core.specs.Listed.{OffersKey, OffersNext, IsFilled, MayList, MayWalk, Walked, ListsAll, ListsInto, keys_of, keys_there};
 ghost use Rattle.pk_nvme.specs.declared.opcode.TheConstants.{LIST};
 ghost use Rattle.pk_base.specs.Shape.{most_calls};
-ghost use Rattle.pk_nand.specs.Effects.{OnlyReading};
+ghost use Rattle.pk_core.specs.Quiet.{OnlyLooks};
 ghost use Rattle.pk_drive.specs.Calling.{FewCalls};
 
 use crate::drive::Drive;
@@ -97,6 +94,8 @@ fn put_next<B: Nand, A: Region>(
 ) -> Result<Option<Filled>, Fault>
     requires may { MayWalk walk.old (B.state board.old) levels.now arena.now log.now }
     requires filled { IsFilled at (length into.old) }
+
+    // The key, and the pages that were read for it.
     ensures offers { IfOk result (λ next. OffersNext walk.old walk.new
         (B.state board.old) (B.state board.new) levels.now arena.now log.now
         at next into.old into.new) }
@@ -129,6 +128,8 @@ fn put_left<B: Nand, A: Region>(
     requires none_read { pages_read levels.now.runs walk.old.cursors ≡ 0 }
     requires some { 4 ≤ room }
     requires room { (room ≤ 65536) × (room ≤ length into.old) }
+
+    // The keys, and the pages that were read for them.
     ensures lists { IfOk result (λ at. (at.end ≤ room) × ((rest : List (KeySpec × Place))
         → IsLeft walk.old (B.state board.old).pages arena.now levels.now.runs
         log.now.active.entries log.now.frozen.entries rest
@@ -207,23 +208,25 @@ pub fn answer_list<B: Nand, A: Region>(
     request: &Request,
     into: &mut [u8],
 ) -> Outcome
-    requires ready { IsReady (B.state board.old) levels.now.shape }
-    requires shape { walk.old.shape ≡ levels.now.shape }
-    requires stand { (ess : List (List EntrySpec))
-        × RunsOnFlash (B.state board.old).pages arena.now levels.now.runs ess }
+    // The board, the parts and the request.
+    requires may { MayList walk.old (B.state board.old) levels.now arena.now }
     requires key { request.now.key_len ≤ 16 }
     requires some { 4 ≤ request.now.size }
     requires room { 65536 ≤ length into.old }
+
+    // The data, and the pages that were read for them.
     ensures lists { (ess : List (List EntrySpec))
         → RunsOnFlash (B.state board.old).pages arena.now levels.now.runs ess
         → ListsInto (B.state board.old) (B.state board.new) result into.new
         (list_bytes (fitting (min request.now.size 65536 - 4)
         (keys_there (key_in (command_of request.now []))
         (log.now.active.entries ∷ log.now.frozen.entries ∷ ess)))) }
+    ensures few { FewCalls (most_calls levels.now.shape) (B.state board.old) (B.state board.new) }
     ensures fits { result.data_len ≤ length into.new }
+
+    // What stays.
     ensures walked { Walked walk.old walk.new (B.state board.old) (B.state board.new) levels.now }
     ensures len { length into.new ≡ length into.old }
-    ensures few { FewCalls (most_calls levels.now.shape) (B.state board.old) (B.state board.new) }
 {
     few_pages(levels);
     let before = reads_so_far(board);
@@ -258,17 +261,19 @@ impl<A: Region> Drive<A> {
         request: &Request,
         into: &mut [u8],
     ) -> Outcome
+        // The command is one that it serves, and the buffer has room for its data.
         requires servable { IsServable self.old (B.state board.old) request.now }
         requires opcode { request.now.opcode ≡ LIST }
         requires room { 65536 ≤ length into.old }
+
+        // The command.
         ensures executes { Executes self.old self.new (B.state board.old) (B.state board.new)
             (command_of request.now []) result into.new result.reads }
-        ensures same { self.new ≡ self.old }
+        ensures only { OnlyLooks self.old self.new (B.state board.old) (B.state board.new) }
+
+        // Its data.
         ensures fits { result.data_len ≤ length into.new }
         ensures room { length into.new ≡ length into.old }
-        ensures rest { OnlyReading (B.state board.old) (B.state board.new) }
-        ensures few { FewCalls (most_calls self.old.log.shape) (B.state board.old)
-            (B.state board.new) }
     {
         answer_list(
             &mut self.walk,

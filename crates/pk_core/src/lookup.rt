@@ -1,18 +1,12 @@
-//! The search for the value of a key: in the buffers, then in the runs.
-ghost use Rattle.std.specs.Prelude.{◌≡◌, ◌≤◌, ℕ, List, length, IfOk, IfErr, OnOk, OnErr};
-ghost use Rattle.pk_base.specs.Entry.{Entry as EntrySpec};
-ghost use Rattle.pk_base.specs.Map.{Map};
+//! The search for the entry of a key: in the buffers, then in the runs.
+ghost use Rattle.std.specs.Prelude.{◌≡◌, ℕ, length, IfOk, OnOk, OnErr};
 ghost use Rattle.pk_rootfmt.specs.Root.{Root as RootValue};
 ghost use Rattle.pk_nand.specs.Calls.{IsReady};
-ghost use Rattle.pk_nand.specs.declared.types.Fault.TheVariants.{Reading};
 ghost use Rattle.pk_run.specs.Search.{IsFound};
 ghost use Rattle.pk_level.specs.Levels.{RunsOnFlash, ReadsUpTo, ReadFailsWithin, reads_through};
 ghost use Rattle.pk_model.specs.Found.{Found, entries_in_order};
-ghost use Rattle.pk_steps.specs.Under.{IsUnder};
 ghost use Rattle.pk_log.specs.Logs.{LogOnFlash};
-ghost use Rattle.pk_core.specs.Finding.{IsPlaceIn};
 
-use crate::place::{ValuePlace, place_in};
 use pk_base::{Entry, Key};
 use pk_level::Levels;
 use pk_log::Log;
@@ -30,21 +24,25 @@ pub fn find_entry<B: Nand, A: Region>(
     key: &Key,
     buf: &mut [u8],
 ) -> Result<Option<Entry>, Fault>
+    // The board and the parts.
     requires ready { IsReady (B.state board.old) log.now.shape }
     requires shape { levels.now.shape ≡ log.now.shape }
     requires stand { (top : ℕ × RootValue) × (found : Found)
         × LogOnFlash log.now (B.state board.old).pages top found
         × RunsOnFlash (B.state board.old).pages arena.now levels.now.runs found.runs }
     requires room { length buf.old ≡ log.now.shape.page_bytes }
+
+    // The entry, and the pages that were read for it.
     ensures found { IfOk result (λ e. (top : ℕ × RootValue) (found : Found)
         → LogOnFlash log.now (B.state board.old).pages top found
         → RunsOnFlash (B.state board.old).pages arena.now levels.now.runs found.runs
         → IsFound key.now (entries_in_order found log.now.pending) e) }
     ensures reads { OnOk result (ReadsUpTo (reads_through levels.now.runs)
         (B.state board.old) (B.state board.new)) }
-    ensures reading { IfErr result (λ fault. fault ≡ Reading) }
     ensures err { OnErr result (ReadFailsWithin (reads_through levels.now.runs)
         (B.state board.old) (B.state board.new)) }
+
+    // The board and the buffer.
     ensures same { (B.state board.new).pages ≡ (B.state board.old).pages }
     ensures ready { IsReady (B.state board.new) log.now.shape }
     ensures buffer { length buf.new ≡ length buf.old }
@@ -52,41 +50,5 @@ pub fn find_entry<B: Nand, A: Region>(
     match log.get(key) {
         Some(entry) => Ok(Some(entry)),
         None => levels.lookup(board, arena, key, buf),
-    }
-}
-
-/// Where the value of a key stands; None where the key is not there. `Reading` where a read fails. `buf` has a page's bytes,
-/// which are lost.
-pub fn find_place<B: Nand, A: Region>(
-    log: &Log<A>,
-    levels: &Levels<A>,
-    arena: &PinArena<A>,
-    board: &mut B,
-    key: &Key,
-    buf: &mut [u8],
-) -> Result<Option<ValuePlace>, Fault>
-    requires ready { IsReady (B.state board.old) log.now.shape }
-    requires shape { levels.now.shape ≡ log.now.shape }
-    requires stand { (top : ℕ × RootValue) × (found : Found)
-        × LogOnFlash log.now (B.state board.old).pages top found
-        × RunsOnFlash (B.state board.old).pages arena.now levels.now.runs found.runs }
-    requires room { length buf.old ≡ log.now.shape.page_bytes }
-    ensures place { IfOk result (λ p. (top : ℕ × RootValue) (found : Found) (m : Map)
-        → LogOnFlash log.now (B.state board.old).pages top found
-        → RunsOnFlash (B.state board.old).pages arena.now levels.now.runs found.runs
-        → IsUnder log.now.shape (B.state board.old).pages log.now.pending top found m
-        → IsPlaceIn log.now.shape (B.state board.old).pages found log.now.pending m key.now p) }
-    ensures reads { OnOk result (ReadsUpTo (reads_through levels.now.runs)
-        (B.state board.old) (B.state board.new)) }
-    ensures reading { IfErr result (λ fault. fault ≡ Reading) }
-    ensures err { OnErr result (ReadFailsWithin (reads_through levels.now.runs)
-        (B.state board.old) (B.state board.new)) }
-    ensures same { (B.state board.new).pages ≡ (B.state board.old).pages }
-    ensures ready { IsReady (B.state board.new) log.now.shape }
-    ensures buffer { length buf.new ≡ length buf.old }
-{
-    match find_entry(log, levels, arena, board, key, buf) {
-        Ok(entry) => Ok(place_in(&entry)),
-        Err(fault) => Err(fault),
     }
 }

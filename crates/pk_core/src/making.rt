@@ -17,9 +17,12 @@ const MOST_PAGE_BYTES: usize = 16384;
 
 /// Writes the first root into page 0; `page` has the bytes of a page, which are lost.
 fn write_first<B: Nand>(board: &mut B, shape: Shape, page: &mut [u8]) -> Result<(), NandFault>
+    // The buffer, and a board that is erased.
     requires room { length page.old ≡ shape.page_bytes }
     requires ready { IsReady (B.state board.old) shape }
     requires erased { (q : ℕ) → q < page_count shape → IsErased (B.state board.old).pages q }
+
+    // What it holds, by one program.
     ensures holds { OnOk result (Holds shape (B.state board.new).pages empty) }
     ensures program { OnOk result (B.state board.new ≡ after_program (B.state board.old) 0
         (root_bytes shape first_root)) }

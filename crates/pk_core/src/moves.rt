@@ -12,18 +12,23 @@ use pk_nand::{Fault, Nand};
 use pk_region::Region;
 
 impl<A: Region> Drive<A> {
-    /// Commits the pending entries; nothing is done where there are none.
+    /// Commits the pending entries; nothing is done where there are none. A step inside commands too, which are told more of it than
+    /// `commit` tells.
     pub(crate) fn commit_pending<B: Nand>(&mut self, board: &mut B) -> Result<(), Fault>
         requires may { MayStep self.old (B.state board.old) }
+
+        // Nothing is pending, by one program or none.
         ensures step { StepKeeps self.old self.new 0 (B.state board.old)
             (B.state board.new) result }
         ensures none { OnOk result (self.new.log.pending ≡ []) }
-        ensures rest { OnOk result (OnlyCommits self.old self.new) }
-        ensures pages_left { OnOk result (left_of self.new.log.epoch ≤ left_of self.old.log.epoch) }
         ensures program { self.old.log.pending ≢ []
             → OneProgram (B.state board.old) (B.state board.new) }
         ensures idle { self.old.log.pending ≡ []
             → IsOk result × (self.new ≡ self.old) × (B.state board.new ≡ B.state board.old) }
+
+        // What else stays.
+        ensures rest { OnOk result (OnlyCommits self.old self.new) }
+        ensures pages_left { OnOk result (left_of self.new.log.epoch ≤ left_of self.old.log.epoch) }
         ensures kept { OnErr result (self.new ≡ self.old) }
         ensures seen { OnOk result (Commits (sight_of self.old) (sight_of self.new)) }
         ensures moves { OnOk result (Stays self.old self.new) }

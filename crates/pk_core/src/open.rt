@@ -1,5 +1,5 @@
 //! A drive is opened.
-ghost use Rattle.std.specs.Prelude.{◌≡◌, ◌≤◌, ◌<◌, [], length, false, None, IfOk, IfErr, OnOk};
+ghost use Rattle.std.specs.Prelude.{◌≡◌, ◌≤◌, ◌<◌, ℕ, [], length, false, None, IfOk, IfErr, OnOk};
 ghost use Rattle.pk_base.specs.Shape as spec;
 ghost use Rattle.pk_base.specs.Shape.{page_entries};
 ghost use Rattle.pk_base.specs.Map.{Map};
@@ -9,12 +9,13 @@ ghost use Rattle.pk_nand.specs.Erased.{after_reads};
 ghost use Rattle.pk_drive.specs.Drive.{HoldsMap};
 ghost use Rattle.pk_scan.specs.Reads.{opened};
 ghost use Rattle.pk_scan.specs.Opening.{NotOpened};
-ghost use Rattle.pk_scan.specs.Opened.{IsOpened};
+ghost use Rattle.pk_scan.specs.Opened.{FoundOnFlash};
 ghost use Rattle.pk_nand.specs.Effects.{OnlyReading};
 ghost use Rattle.pk_core.specs.Parts.{sight_of};
 ghost use Rattle.pk_core.specs.Agreeing.{DriveOnFlash};
 ghost use Rattle.pk_core.specs.Opening.{OpenedOn};
-ghost use Rattle.pk_drive.specs.Steady.{IsSteady};
+ghost use Rattle.pk_drive.specs.Steady.{IsSteady, live_blocks};
+ghost use Rattle.pk_model.specs.Tree.{Tree, IsTree};
 
 use crate::drive::Drive;
 use pk_base::Shape;
@@ -27,10 +28,10 @@ use pk_walk::Walk;
 use std::alloc::AllocError;
 
 impl<A: Region> Drive<A> {
-    /// The drive over what opening found, with so many frames. The memory that opening did not need is taken here.
-    fn over(alloc: A, found: Found<A>, frames: u32) -> Result<Drive<A>, AllocError>
-        ensures { IfOk result (λ d. (shape : spec.Shape) (flash : Flash)
-            → IsFlash shape flash → IsOpened shape flash frames found
+    /// The drive over what opening found. The memory that opening did not need is taken here.
+    fn over(alloc: A, found: Found<A>) -> Result<Drive<A>, AllocError>
+        ensures { IfOk result (λ d. (shape : spec.Shape) (flash : Flash) (frames : ℕ)
+            → IsFlash shape flash → FoundOnFlash shape flash frames found
             → OpenedOn shape flash frames d) }
     {
         let shape = *found.root.shape();
@@ -46,7 +47,6 @@ impl<A: Region> Drive<A> {
         let page = Vec::from_elem(alloc, 0u8, shape.page_bytes() as usize)?;
         let walk = Walk::new(alloc, shape)?;
         Ok(Drive {
-            frames,
             log,
             levels: found.levels,
             arena: found.arena,
@@ -73,15 +73,22 @@ impl<A: Region> Drive<A> {
     ) -> Result<Drive<A>, OpenError>
         requires ready { IsReady (B.state board.old) shape }
         requires frames { frames ≤ 16384 }
+
+        // The drive.
         ensures agrees { IfOk result (λ d. DriveOnFlash d (B.state board.new).shape
             (B.state board.new).pages × (length d.log.pending < page_entries d.log.shape)) }
         ensures stands { IfOk result (λ d. (m : Map)
             × HoldsMap shape frames (B.state board.new) (sight_of d) m) }
         ensures steady { IfOk result (λ d. IsSteady shape (B.state board.new).pages (sight_of d)) }
+        ensures blocks { IfOk result (λ d. (tree : Tree)
+            → IsTree shape (B.state board.new).pages tree
+            → (sight_of d).counts.blocks ≡ live_blocks shape tree.found []) }
         ensures runs { IfOk result (λ d. d.stopped ≡ false) }
         ensures none { IfOk result (λ d. d.log.pending ≡ []) }
         ensures fresh { IfOk result (λ d. d.log.epoch.takes_more ≡ false) }
         ensures closed { IfOk result (λ d. d.space.open_block ≡ None) }
+
+        // The board.
         ensures reads { OnOk result (B.state board.new ≡ after_reads (opened shape
             (B.state board.old).pages frames) (B.state board.old)) }
         ensures err { IfErr result (λ e. NotOpened shape (B.state board.old)
@@ -91,7 +98,7 @@ impl<A: Region> Drive<A> {
         shape.known();
         match scan(alloc, board, shape, frames) {
             Err(error) => Err(error),
-            Ok(found) => match Drive::over(alloc, found, frames) {
+            Ok(found) => match Drive::over(alloc, found) {
                 Err(_) => Err(OpenError::Memory),
                 Ok(drive) => {
                     drive.pool.known();

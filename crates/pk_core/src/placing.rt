@@ -1,8 +1,6 @@
 //! Where a value goes: the next pages of the open block.
-ghost use Rattle.std.specs.Prelude.{◌≡◌, ◌≤◌, List, length, true, false, IfOk, IfErr, OnOk, OnErr};
+ghost use Rattle.std.specs.Prelude.{◌≡◌, ◌≤◌, length, true, false, IfOk, IfErr, OnOk, OnErr};
 ghost use Rattle.pk_base.specs.Shape as spec;
-ghost use Rattle.pk_base.specs.Key.{Key as KeyValue};
-ghost use Rattle.pk_base.specs.Entry.{Place};
 ghost use Rattle.pk_nand.specs.Calls.{IsReady};
 ghost use Rattle.pk_nand.specs.declared.types.Fault.TheVariants.{Stopped};
 ghost use Rattle.pk_data.specs.State.{needs_reclaim as needs_reclaim_for};
@@ -33,17 +31,22 @@ pub fn write_next<B: Nand, A: Region>(
     value: &[u8],
     buf: &mut [u8],
 ) -> Result<u32, Fault>
+    // The board, the value and the parts.
     requires ready { IsReady (B.state board.old) shape.now }
     requires short { length value.now ≤ spec.greatest shape.now }
     requires placed { HasPlaced shape.now space.old pool.old (B.state board.old).pages }
     requires room { needs_reclaim_for shape.now space.old pool.old
         (spec.charge shape.now (length value.now)) ≡ false }
     requires page { length buf.old ≡ shape.now.page_bytes }
+
+    // The pages that were written.
     ensures places { IfOk result (λ page. PlacesValue shape.now key.now value.now
         space.old pool.old (B.state board.old) page space.new pool.new (B.state board.new)) }
     ensures stopped { IfErr result (λ e. e ≡ Stopped) }
     ensures fails { OnErr result (FailsToPlace shape.now key.now value.now
         space.old pool.old (B.state board.old) (B.state board.new)) }
+
+    // What stays.
     ensures ready { IsReady (B.state board.new) shape.now }
     ensures buffer { length buf.new ≡ length buf.old }
 {
@@ -75,6 +78,8 @@ impl<A: Region> Drive<A> {
         requires short { length value.now ≤ spec.greatest self.old.log.shape }
         requires room { needs_reclaim_for self.old.log.shape self.old.space self.old.pool
             (spec.charge self.old.log.shape (length value.now)) ≡ false }
+
+        // The pages that were written.
         ensures step { StepPlaces self.old self.new (B.state board.old) (B.state board.new)
             key.now value.now result }
         ensures rest { self.new ≡ record self.old { space = self.new.space; pool = self.new.pool } }

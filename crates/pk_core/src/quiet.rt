@@ -1,30 +1,21 @@
 //! The commands that change nothing.
-ghost use Rattle.std.specs.Prelude.{◌≡◌, ◌≢◌, ◌≤◌, ◌<◌, ◌-◌, ◌+◌, ◌^◌, ℕ, List, [], length, take, min, false, true, None, Some, Option, IfOk, IfErr, OnOk, OnErr};
-ghost use Rattle.pk_base.specs.Key.{IsKey};
-ghost use Rattle.pk_base.specs.Shape.{greatest, fetched, most_calls};
-ghost use Rattle.pk_nvme.specs.Command.{key as key_in};
+ghost use Rattle.std.specs.Prelude.{◌≡◌, ◌≤◌, ◌<◌, ◌-◌, ◌^◌, ℕ, List, length, take, min, false, None, Some, Option, IfOk, OnOk, OnErr};
+ghost use Rattle.pk_base.specs.Shape.{greatest, fetched};
 ghost use Rattle.pk_nvme.specs.Seen.{command_of};
-ghost use Rattle.pk_nand.specs.BoardState.{shape_of};
 ghost use Rattle.pk_nand.specs.Calls.{IsReady, last_count};
 ghost use Rattle.pk_nand.specs.Erased.{after_reads};
 ghost use Rattle.pk_seg.specs.Stored.{IsFront};
 ghost use Rattle.pk_seg.specs.Counts.{ReadsFailed};
-ghost use Rattle.pk_model.specs.Answer.{early};
-ghost use Rattle.pk_drive.specs.Seen.{reply_of};
-ghost use Rattle.pk_core.specs.Parts.{sight_of};
 ghost use Rattle.pk_core.specs.Agreeing.{DriveOnFlash};
 ghost use Rattle.pk_core.specs.Serving.{IsServable};
 ghost use Rattle.pk_core.specs.Done.{Executes};
-ghost use Rattle.pk_core.specs.Quiet.{ReadsOnly, ReadsFailing, Looks, DoneWithout};
-ghost use Rattle.pk_core.specs.declared.place.ValuePlace.{ValuePlace};
+ghost use Rattle.pk_core.specs.Quiet.{ReadsOnly, ReadsFailing, Looks, OnlyLooks, DoneWithout};
 ghost use Rattle.pk_nvme.specs.declared.opcode.TheConstants.{FLUSH, RETRIEVE, EXIST};
-ghost use Rattle.pk_nand.specs.Effects.{OnlyReading};
-ghost use Rattle.pk_drive.specs.Calling.{FewCalls};
 
 use crate::drive::Drive;
-use crate::lookup::find_place;
-use crate::place::ValuePlace;
-use pk_base::Key;
+use crate::lookup::find_entry;
+use crate::place::place_found;
+use pk_base::{Key, Place};
 use pk_drive::Outcome;
 use pk_nand::{Fault, Nand};
 use pk_nvme::Request;
@@ -70,18 +61,6 @@ pub(crate) fn refusal(status: u8, reads: u32) -> Outcome
     }
 }
 
-/// The key that a request names.
-pub(crate) fn key_of(request: &Request) -> Key
-    requires some { 1 ≤ request.now.key_len }
-    requires most { request.now.key_len ≤ 16 }
-    ensures key { (v : List ℕ) → result ≡ key_in (command_of request.now v) }
-    ensures is_key { IsKey result }
-{
-    let key = Key::of(&request.key[..request.key_len as usize]);
-    let _ = key.bytes();
-    key
-}
-
 /// How many pages a board read since it had this count of reads.
 pub(crate) fn reads_since<B: Nand>(board: &B, before: u64) -> u32
     requires up { before ≤ (B.state board.now).reads }
@@ -94,32 +73,34 @@ pub(crate) fn reads_since<B: Nand>(board: &B, before: u64) -> u32
 
 impl<A: Region> Drive<A> {
     /// Where the value of a key stands, by at most four reads.
-    pub(crate) fn look<B: Nand>(
-        &mut self,
-        board: &mut B,
-        key: &Key,
-    ) -> Result<Option<ValuePlace>, Fault>
-        requires agrees { DriveOnFlash self.old (B.state board.old).shape (B.state board.old).pages }
+    pub(crate) fn look<B: Nand>(&mut self, board: &mut B, key: &Key) -> Result<Option<Place>, Fault>
+        // The drive and the board.
+        requires agrees { DriveOnFlash self.old (B.state board.old).shape
+            (B.state board.old).pages }
         requires ready { IsReady (B.state board.old) self.old.log.shape }
         requires count { (B.state board.old).reads ≤ last_count }
-        ensures same { self.new ≡ self.old }
-        ensures pages { (B.state board.new).pages ≡ (B.state board.old).pages }
+
+        // The place, and the pages that were read for it.
         ensures looks { IfOk result (λ p. Looks self.old (B.state board.old).pages key.now p) }
         ensures reads { OnOk result (ReadsOnly (B.state board.old) (B.state board.new)
             (4 - self.old.levels.pinned)) }
         ensures failing { OnErr result (ReadsFailing (B.state board.old) (B.state board.new)
             (4 - self.old.levels.pinned)) }
+
+        // What stays.
+        ensures same { self.new ≡ self.old }
+        ensures pages { (B.state board.new).pages ≡ (B.state board.old).pages }
         ensures ready { IsReady (B.state board.new) self.old.log.shape }
     {
         self.levels.known();
-        find_place(
+        place_found(find_entry(
             &self.log,
             &self.levels,
             &self.arena,
             board,
             key,
             &mut self.page,
-        )
+        ))
     }
 
     /// Fills the front of `into` with so many bytes of the value from this page on, by as many reads as they have pages.
@@ -130,12 +111,13 @@ impl<A: Region> Drive<A> {
         count: u32,
         into: &mut [u8],
     ) -> Result<(), Fault>
+        // The value, and the buffer.
         requires ready { IsReady (B.state board.old) self.old.log.shape }
         requires value { (key : List ℕ) × (value : List ℕ)
             × IsFront self.old.log.shape (B.state board.old).pages page count key value }
         requires room { count ≤ length into.old }
-        ensures same { self.new ≡ self.old }
-        ensures pages { (B.state board.new).pages ≡ (B.state board.old).pages }
+
+        // Its front, and the pages that were read for it.
         ensures front { OnOk result ((key value : List ℕ)
             → IsFront self.old.log.shape (B.state board.old).pages page count key value
             → take count into.new ≡ take count value) }
@@ -143,6 +125,10 @@ impl<A: Region> Drive<A> {
             (B.state board.old)) }
         ensures err { OnErr result (ReadsFailed (B.state board.old) (B.state board.new) page
             (fetched self.old.log.shape count)) }
+
+        // What stays.
+        ensures same { self.new ≡ self.old }
+        ensures pages { (B.state board.new).pages ≡ (B.state board.old).pages }
         ensures len { length into.new ≡ length into.old }
     {
         let shape = self.shape();
@@ -161,7 +147,7 @@ impl<A: Region> Drive<A> {
         ensures told { (result.status ≡ SUCCESSFUL_COMPLETION) × (result.stopped ≡ false) }
         ensures no_data { result.data_len ≡ 0 }
     {
-        let _ = &self.frames;
+        let _ = &self.keys;
         served(0, 0, 0)
     }
 
@@ -172,14 +158,11 @@ impl<A: Region> Drive<A> {
         ensures executes { (v into : List ℕ)
             → Executes self.old self.new (B.state board.old) (B.state board.new)
             (command_of request.now v) result into result.reads }
-        ensures same { self.new ≡ self.old }
-        ensures rest { OnlyReading (B.state board.old) (B.state board.new) }
-        ensures few { FewCalls (most_calls self.old.log.shape) (B.state board.old)
-            (B.state board.new) }
+        ensures only { OnlyLooks self.old self.new (B.state board.old) (B.state board.new) }
         ensures no_data { result.data_len ≡ 0 }
     {
         let before = board.read_count();
-        let key = key_of(request);
+        let key = request.key();
         match self.look(board, &key) {
             Ok(Some(_)) => served(0, 0, reads_since(board, before)),
             Ok(None) => refusal(KEY_DOES_NOT_EXIST, reads_since(board, before)),
@@ -194,21 +177,25 @@ impl<A: Region> Drive<A> {
         request: &Request,
         into: &mut [u8],
     ) -> Outcome
+        // The command is one that it serves, and the buffer has room for its data.
         requires servable { IsServable self.old (B.state board.old) request.now }
         requires opcode { request.now.opcode ≡ RETRIEVE }
         requires room { greatest self.old.log.shape ≤ length into.old }
+
+        // The command.
         ensures executes { (v : List ℕ)
             → Executes self.old self.new (B.state board.old) (B.state board.new)
             (command_of request.now v) result into.new result.reads }
-        ensures same { self.new ≡ self.old }
-        ensures rest { OnlyReading (B.state board.old) (B.state board.new) }
-        ensures few { FewCalls (most_calls self.old.log.shape) (B.state board.old)
-            (B.state board.new) }
+        ensures only { OnlyLooks self.old self.new (B.state board.old) (B.state board.new) }
+
+        // Its data.
         ensures fits { result.data_len ≤ length into.new }
         ensures len { length into.new ≡ length into.old }
     {
         let before = board.read_count();
-        let key = key_of(request);
+        let key = request.key();
+        // so that it is known to have 1 to 16 bytes
+        let _ = key.bytes();
         match self.look(board, &key) {
             Ok(Some(place)) => {
                 let count = place.len.min(request.size);

@@ -17,10 +17,13 @@ use pk_region::Region;
 impl<A: Region> Drive<A> {
     /// Freezes the active buffer, so that any key has room. Nothing may be pending, and nothing frozen.
     pub(crate) fn freeze_log<B: Nand>(&mut self, board: &mut B) -> Result<(), Fault>
+        // The drive has nothing pending and nothing frozen.
         requires may { MayStep self.old (B.state board.old) }
         requires none_pending { self.old.log.pending ≡ [] }
         requires none_frozen { self.old.log.frozen.entries ≡ [] }
         requires unworn { is_worn (B.state board.old) ≡ false }
+
+        // The key has room, and all but the log and its blocks stays.
         ensures step { StepKeeps self.old self.new 1 (B.state board.old)
             (B.state board.new) result }
         ensures room { OnOk result ((key : KeySpec) → needs_freeze_for self.new.log key ≡ false) }
@@ -34,10 +37,13 @@ impl<A: Region> Drive<A> {
 
     // Freezes the active buffer where a further entry of the key wants it.
     fn freeze_if_needed<B: Nand>(&mut self, board: &mut B, key: &Key) -> Result<(), Fault>
+        // The drive has nothing pending and nothing frozen.
         requires may { MayStep self.old (B.state board.old) }
         requires none_pending { self.old.log.pending ≡ [] }
         requires none_frozen { self.old.log.frozen.entries ≡ [] }
         requires unworn { is_worn (B.state board.old) ≡ false }
+
+        // The key has room, and all but the log and its blocks stays.
         ensures step { StepKeeps self.old self.new 1 (B.state board.old)
             (B.state board.new) result }
         ensures room { OnOk result (needs_freeze_for self.new.log key.now ≡ false) }
@@ -58,6 +64,8 @@ impl<A: Region> Drive<A> {
         requires may { MayStep self.old (B.state board.old) }
         requires unworn { is_worn (B.state board.old) ≡ false }
         requires one_freeze { wants_second_freeze self.old ≡ false }
+
+        // The key has room, and all but the log and its blocks stays.
         ensures step { StepKeeps self.old self.new 1 (B.state board.old)
             (B.state board.new) result }
         ensures room { OnOk result (needs_freeze_for self.new.log key.now ≡ false) }
@@ -79,6 +87,8 @@ impl<A: Region> Drive<A> {
     /// Commits the pending entries where there are as many as a journal page has.
     pub(crate) fn commit_if_full<B: Nand>(&mut self, board: &mut B) -> Result<(), Fault>
         requires may { MayStep self.old (B.state board.old) }
+
+        // Fewer entries are pending than a page of the journal takes, by one program or none.
         ensures step { StepKeeps self.old self.new 0 (B.state board.old)
             (B.state board.new) result }
         ensures few { OnOk result (length self.new.log.pending < page_entries self.old.log.shape) }

@@ -1,7 +1,6 @@
 //! The background steps.
-ghost use Rattle.std.specs.Prelude.{◌≡◌, ◌⊎◌, ◌≤◌, ℕ, [], true, false, Some, IfOk, IfErr, OnOk, OnErr, MatchBool, slice_get};
+ghost use Rattle.std.specs.Prelude.{◌≡◌, ◌⊎◌, ℕ, [], true, false, IfOk, OnOk, OnErr, MatchBool, slice_get};
 ghost use Rattle.pk_nand.specs.Calls.{IsReady};
-ghost use Rattle.pk_nand.specs.declared.types.Fault.TheVariants.{Stopped};
 ghost use Rattle.pk_pool.specs.Blocks.{PoolOnFlash, IsShared, IsOwned};
 ghost use Rattle.pk_pool.specs.Taking.{ErasesOne, ErasesNone, FailsToErase};
 ghost use Rattle.pk_drive.specs.Tick.{TellsIdle};
@@ -9,7 +8,7 @@ ghost use Rattle.pk_drive.specs.Seen.{stopped_by};
 ghost use Rattle.pk_core.specs.Parts.{sight_of};
 ghost use Rattle.pk_core.specs.Agreeing.{DriveOnFlash};
 ghost use Rattle.pk_core.specs.Ticking as spec;
-ghost use Rattle.pk_core.specs.Ticking.{Ticks};
+ghost use Rattle.pk_core.specs.Ticking.{MayTick, Ticks};
 ghost use Rattle.pk_core.specs.Staying.{Stays};
 
 use crate::drive::Drive;
@@ -23,6 +22,8 @@ impl<A: Region> Drive<A> {
     fn erase_spare<B: Nand>(&mut self, board: &mut B) -> Result<bool, Fault>
         requires ready { IsReady (B.state board.old) self.old.pool.shape }
         requires fits { PoolOnFlash self.old.pool (B.state board.old).pages }
+
+        // The block that was erased.
         ensures erased { IfOk result (λ erased. MatchBool erased
             (ErasesOne self.old.pool (B.state board.old) self.new.pool (B.state board.new))
             (ErasesNone self.old.pool (B.state board.old) self.new.pool (B.state board.new))) }
@@ -30,6 +31,8 @@ impl<A: Region> Drive<A> {
         ensures failed { OnErr result (FailsToErase self.old.pool (B.state board.old)
             (B.state board.new)) }
         ensures stops { OnErr result (self.new ≡ record self.old { stopped = true }) }
+
+        // The pool and the board, however it went.
         ensures shared { IsShared self.old.pool.shape self.old.pool.states }
         ensures ready { IsReady (B.state board.new) self.old.pool.shape }
         ensures owned { (b : ℕ) → IsOwned self.old.pool b
@@ -57,24 +60,24 @@ impl<A: Region> Drive<A> {
     }
 
     /// One background step, as far as such steps are built: the lowest free block that was not erased in this session is erased.
-    /// It is idle exactly where nothing is left to do; where a freeze, a merge or a reclaim would be next, nothing is done.
+    /// A Tick makes them in a row, and is told more of each than `tick` tells. It is idle exactly where nothing is left to do; where a freeze, a merge or a reclaim would be next, nothing is done.
     pub(crate) fn step<B: Nand>(&mut self, board: &mut B) -> Ticked
-        requires agrees { DriveOnFlash self.old (B.state board.old).shape (B.state board.old).pages }
-        requires unstopped { self.old.stopped ≡ false }
-        requires none { self.old.log.pending ≡ [] }
+        requires may { MayTick self.old (B.state board.old) }
+
+        // The drive.
         ensures stops { self.new.stopped ≡ stopped_by result }
         ensures none { self.new.log.pending ≡ [] }
         ensures agrees { stopped_by result ≡ false
             → DriveOnFlash self.new (B.state board.new).shape (B.state board.new).pages }
+        ensures moves { stopped_by result ≡ false → Stays self.old self.new }
+
+        // The step.
         ensures erases { stopped_by result ≡ false
             → ErasesOne self.old.pool (B.state board.old) self.new.pool (B.state board.new)
             ⊎ ErasesNone self.old.pool (B.state board.old) self.new.pool (B.state board.new) }
-        ensures rest { stopped_by result ≡ false
-            → self.new ≡ record self.old { pool = self.new.pool } }
         ensures ticks { Ticks (B.state board.old) (B.state board.new) (sight_of self.old)
             (sight_of self.new) result }
         ensures idle { TellsIdle (B.state board.old) (sight_of self.old) result }
-        ensures moves { stopped_by result ≡ false → Stays self.old self.new }
     {
         match self.erase_spare(board) {
             Ok(true) => Ticked::Worked,

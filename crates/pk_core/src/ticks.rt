@@ -1,13 +1,13 @@
 //! The command that wants background steps.
-ghost use Rattle.std.specs.Prelude.{◌≡◌, ◌≢◌, ◌≤◌, ℕ, List, [], false, true, None};
+ghost use Rattle.std.specs.Prelude.{◌≡◌, ◌≢◌, ◌≤◌, ℕ, List, [], false, true};
 ghost use Rattle.pk_nvme.specs.Seen.{command_of};
 ghost use Rattle.pk_nand.specs.Calls.{last_count};
-ghost use Rattle.pk_model.specs.Answer.{early};
-ghost use Rattle.pk_drive.specs.Seen.{reply_of, stopped_by};
+ghost use Rattle.pk_drive.specs.Seen.{stopped_by};
 ghost use Rattle.pk_core.specs.Parts.{sight_of};
 ghost use Rattle.pk_core.specs.Agreeing.{DriveOnFlash};
 ghost use Rattle.pk_core.specs.Serving.{IsServable};
 ghost use Rattle.pk_core.specs.Done.{Executes};
+ghost use Rattle.pk_core.specs.Ticking.{MayTick};
 ghost use Rattle.pk_core.specs.Stepping.{Steps, Erases, erased_in, has_failed, outcome_of};
 ghost use Rattle.pk_nvme.specs.declared.status.TheConstants.{SUCCESSFUL_COMPLETION};
 ghost use Rattle.pk_nvme.specs.declared.opcode.TheConstants.{TICK};
@@ -60,18 +60,20 @@ impl<A: Region> Drive<A> {
 
     // Makes so many background steps, fewer where one does nothing, as an idle one, or fails. The last one answers.
     fn work<B: Nand>(&mut self, board: &mut B, steps: u32) -> Ticked
-        requires agrees { DriveOnFlash self.old (B.state board.old).shape (B.state board.old).pages }
-        requires unstopped { self.old.stopped ≡ false }
-        requires none { self.old.log.pending ≡ [] }
+        requires may { MayTick self.old (B.state board.old) }
         requires count { (B.state board.old).reads ≤ last_count }
+
+        // The drive.
         ensures stops { self.new.stopped ≡ stopped_by result }
         ensures none { self.new.log.pending ≡ [] }
         ensures agrees { stopped_by result ≡ false
             → DriveOnFlash self.new (B.state board.new).shape (B.state board.new).pages }
+        ensures moves { stopped_by result ≡ false → Stays self.old self.new }
+
+        // The steps.
         ensures steps { Steps (B.state board.old) (B.state board.new) (sight_of self.old)
             (sight_of self.new) result steps }
         ensures done { has_failed result ≡ false → Erases self.old.pool self.new.pool steps }
-        ensures moves { stopped_by result ≡ false → Stays self.old self.new }
     {
         for made in 0..steps {
             let before = self.ready_blocks();
@@ -85,16 +87,21 @@ impl<A: Region> Drive<A> {
 
     /// Makes as many background steps as the command wants, fewer where a further one would do nothing: each erases a block.
     pub(crate) fn tick_command<B: Nand>(&mut self, board: &mut B, request: &Request) -> Outcome
+        // The command is one that it serves, and nothing is pending.
         requires servable { IsServable self.old (B.state board.old) request.now }
-        requires none { self.old.log.pending ≡ [] }
         requires opcode { request.now.opcode ≡ TICK }
+        requires none { self.old.log.pending ≡ [] }
+
+        // The command.
         ensures executes { (v into : List ℕ)
             → Executes self.old self.new (B.state board.old) (B.state board.new)
             (command_of request.now v) result into result.reads }
+        ensures no_data { result.data_len ≡ 0 }
+
+        // Its steps.
         ensures none { self.new.log.pending ≡ [] }
         ensures done { result.status ≡ SUCCESSFUL_COMPLETION
             → Erases self.old.pool self.new.pool request.now.size }
-        ensures no_data { result.data_len ≡ 0 }
         ensures moves { result.stopped ≡ false → Stays self.old self.new }
         ensures calls { FewCalls request.now.size (B.state board.old) (B.state board.new) }
     {

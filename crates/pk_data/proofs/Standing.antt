@@ -1,4 +1,4 @@
--- ValuesOnFlash values, after a key got a value at another place, or lost it.
+-- Placed values, after a key got a value at another place, or lost it.
 use Rattle.std.proofs.Common.{◌≡◌, ◌≢◌, inl, inr, ℕ, ◌+◌, ◌*◌, ◌/◌, ◌%◌, ◌<◌, ◌≤◌, true, false, T, List, length, get_or, sum, Option, Some, None, refl, sym, ap, subst, ◌∙◌, arith, ◌==◌}
 use Rattle.std.specs.Prelude.{slice_get, MatchOption}
 use Rattle.std.specs.FinMap.Entries.{put, find, is_sorted}

@@ -1,4 +1,4 @@
--- ValuesOnFlash values, after others changed the flash or the pool; and the blocks in which they lie.
+-- Placed values, after others changed the flash or the pool; and the blocks in which they lie.
 use Rattle.std.proofs.Common.{◌≡◌, inl, inr, ℕ, zero, suc, ◌+◌, ◌-◌, ◌*◌, ◌/◌, ◌<◌, ◌≤◌, Bool, true, false, not, ◌&&◌, cond, List, [], ◌∷◌, length, filter, Option, Some, None, refl, sym, ap, subst, ◌∙◌, arith, length-set, eq-or-lt_of_le}
 use Rattle.std.specs.Prelude.{count_by, slice_get, MatchOption}
 use Rattle.std.specs.List.{range_with_len}

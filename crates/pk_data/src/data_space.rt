@@ -188,18 +188,24 @@ impl<A: Allocator> Data<A> {
         requires ready { IsReady (B.state board.old) shape.now }
         requires placed { HasPlaced shape.now self.old pool.old (B.state board.old).pages }
         requires room { state.needs_reclaim shape.now self.old pool.old count ≡ false }
+
+        // The pages, and where they come from.
         ensures reserved { IfOk result
             (λ page. IsReserved shape.now self.new pool.new (B.state board.new).pages page count) }
         ensures cases { OnOk result (TakesNextOrOpens shape.now self.old pool.old
             (B.state board.old) count self.new pool.new (B.state board.new)) }
         ensures free { IfOk result
             (λ page. AreFree shape.now self.old pool.old (B.state board.old).pages page count) }
+
+        // Or the erase failed, and nothing else changed.
         ensures stopped { IfErr result (λ e. e ≡ Stopped) }
         ensures failed { OnErr result
             (FailsToErase pool.old (B.state board.old) (B.state board.new)) }
         ensures had_no_room { OnErr result (state.fits_open shape.now self.old count ≡ false) }
         ensures kept { OnErr result (self.new ≡ self.old) }
         ensures kept_pool { OnErr result (pool.new ≡ pool.old) }
+
+        // Either way the values stay placed.
         ensures placed { StayPlaced shape.now self.old pool.old (B.state board.old).pages
             self.new pool.new (B.state board.new).pages }
         ensures ready { IsReady (B.state board.new) shape.now }

@@ -9,7 +9,7 @@ use Rattle.pk_model.specs.Sight.{Sight, Counts, map_of}
 -- The drive stands for this map: what the flash holds, under the pending entries.
 pub record HoldsMap (shape : Shape) (frames : ℕ) (board : BoardState) (drive : Sight) (m : Map) : Type 0 where
   pub shape_is : board.shape ≡ Some shape
-  pub frames_is : drive.frames ≡ frames
+  pub frames_is : drive.counts.frames ≡ frames
   pub map_is : map_of shape board.pages drive ≡ Ok m
 
 -- the first five numbers, by the map and the frames

@@ -1,7 +1,7 @@
 -- What holds of a drive that runs between any two calls, by what stands on its flash.
-use Rattle.std.specs.Prelude.{◌≡◌, ◌≢◌, ℕ, ◌-◌, ◌/◌, ◌<◌, ◌≤◌, List, [], ◌∷◌, ◌++◌, length, map, true, Option, Some}
+use Rattle.std.specs.Prelude.{◌≡◌, ◌≢◌, ℕ, ◌-◌, ◌/◌, ◌<◌, ◌≤◌, List, [], ◌∷◌, ◌++◌, length, map, take, sum, true, Option, Some}
 use Rattle.std.specs.List.{AllByRecursion}
-use Rattle.pk_base.specs.Shape.{Shape, data_blocks, page_entries}
+use Rattle.pk_base.specs.Shape.{Shape, data_blocks, page_entries, pinned, run_pages}
 use Rattle.pk_base.specs.Page.{Flash, page_at, erased}
 use Rattle.pk_base.specs.Entry.{Entry}
 use Rattle.pk_base.specs.Firsts.{firsts}
@@ -39,6 +39,10 @@ live_blocks shape found pending = length (blocks_with shape (all_pages shape (pl
 abbrev pub entries_of_runs : Counts → List ℕ
 entries_of_runs c = c.run1 ∷ c.run2 ∷ c.run3 ∷ c.run4 ∷ []
 
+-- the pages of the runs of the first levels, by the entries of each
+abbrev pub pages_of_runs : Shape → ℕ → List ℕ → ℕ
+pages_of_runs shape levels entries = sum (map (run_pages shape) (take levels entries))
+
 -- Its numbers are those of the lists under the newest root, so many blocks are erased and in use as it says, and a bounded work is left.
 pub record IsSteady (shape : Shape) (flash : Flash) (drive : Sight) : Type 0 where
   pub tree : Tree
@@ -48,6 +52,8 @@ pub record IsSteady (shape : Shape) (flash : Flash) (drive : Sight) : Type 0 whe
   pub frozen : drive.counts.frozen ≡ length (firsts tree.found.older)
   pub runs : entries_of_runs drive.counts ≡ map length tree.found.runs
   pub merge : IsNextMerge shape drive.counts
+  -- frames: where no merge runs, each page of the pinned levels has one, and nothing else has
+  pub leased : drive.counts.merge ≡ 0 → drive.counts.leased ≡ pages_of_runs shape (pinned shape drive.counts.frames) (entries_of_runs drive.counts)
   -- blocks
   pub ready : HasReady shape flash tree.root drive.open_block drive.counts.ready
   pub blocks_least : live_blocks shape tree.found drive.pending ≤ drive.counts.blocks

@@ -51,11 +51,14 @@ pub trait Engine {
         value: &[u8],
         into: &mut [u8],
     ) -> Outcome
+        // The drive and the board.
         requires agrees { agrees self.old (B.state board.old).shape (B.state board.old).pages }
         requires runs { (sight self.old).stopped ≡ false }
         requires unworn { is_worn (B.state board.old) ≡ false }
         requires is_built { built self.old request.now ≡ true }
         requires tick { request.now.opcode ≡ TICK → (sight self.old).pending ≡ [] }
+
+        // What is handed over, and the buffer for data.
         requires sized { request.now.opcode ≡ STORE
             → request.now.size ≤ greatest (shape_of (B.state board.old))
             → length value.now ≡ request.now.size }
@@ -64,9 +67,14 @@ pub trait Engine {
             → value.now ≡ [] }
         requires room { 65536 ≤ length into.old }
         requires room_value { greatest (shape_of (B.state board.old)) ≤ length into.old }
+
+        // The drive and the board behind it.
         ensures stops { (sight self.new).stopped ≡ result.stopped }
         ensures agrees { result.stopped ≡ false
             → agrees self.new (B.state board.new).shape (B.state board.new).pages }
+        ensures rest { OnlyFlash (B.state board.old) (B.state board.new) }
+
+        // The command, wherever it is cut, and the drive that what only reads leaves as it was.
         ensures stands { result.stopped ≡ false → ExecStands (B.state board.old) (B.state board.new)
             (sight self.old) (sight self.new) (command_of request.now value.now)
             (reply_of result into.new) result.reads }
@@ -74,9 +82,21 @@ pub trait Engine {
             (sight self.old) (command (command_of request.now value.now)) }
         ensures cuts_stopped { result.stopped ≡ true → CallGoes (B.state board.old)
             (B.state board.new) (sight self.old) (command (command_of request.now value.now)) }
+        ensures early { IsSome (early (shape_of (B.state board.old))
+            (command_of request.now value.now)) → (result.stopped ≡ false)
+            × (B.state board.new ≡ B.state board.old) × (sight self.new ≡ sight self.old) }
+        ensures looks { only_looks request.now.opcode ≡ true → (sight self.new ≡ sight self.old)
+            × OnlyReading (B.state board.old) (B.state board.new) }
+        ensures report { request.now.opcode ≡ REPORT
+            → (result.status ≢ UNRECOVERED_ERROR) × (B.state board.new ≡ B.state board.old) }
+        ensures report_data { request.now.opcode ≡ REPORT → result.status ≡ SUCCESSFUL_COMPLETION
+            → take result.data_len into.new ≡ report_of (sight self.new).counts }
+
+        // Its data.
         ensures fits { result.data_len ≤ length into.new }
         ensures room { length into.new ≡ length into.old }
-        ensures rest { OnlyFlash (B.state board.old) (B.state board.new) }
+
+        // Counts of reads, of faults, of roots and of calls.
         ensures reads { (B.state board.new).reads
             ≡ reads_after (B.state board.old).reads result.reads }
         ensures up { (B.state board.old).read_faults ≤ (B.state board.new).read_faults }
@@ -89,18 +109,19 @@ pub trait Engine {
         ensures stop_status { result.stopped ≡ true → result.status ≡ UNRECOVERED_ERROR }
         ensures no_stop { result.stopped ≡ false
             → (B.state board.new).stop_faults ≡ (B.state board.old).stop_faults }
-        ensures early { IsSome (early (shape_of (B.state board.old))
-            (command_of request.now value.now)) → (result.stopped ≡ false)
-            × (B.state board.new ≡ B.state board.old) × (sight self.new ≡ sight self.old) }
-        ensures report { request.now.opcode ≡ REPORT
-            → (result.status ≢ UNRECOVERED_ERROR) × (B.state board.new ≡ B.state board.old) }
-        ensures report_data { request.now.opcode ≡ REPORT → result.status ≡ SUCCESSFUL_COMPLETION
-            → take result.data_len into.new ≡ report_of (sight self.new).counts }
+        ensures flash_up { (B.state board.old).flash_faults ≤ (B.state board.new).flash_faults }
         ensures installs { roots (B.state board.new)
             ≤ roots (B.state board.old) + most_installs request.now.opcode request.now.size }
+        ensures calls { request.now.opcode ≢ STORE → request.now.opcode ≢ DELETE
+            → FewCalls
+            (most_calls_of (shape_of (B.state board.old)) request.now.opcode request.now.size)
+            (B.state board.old) (B.state board.new) }
+
+        // What is seen of the drive: its numbers, the newest epoch, and the blocks for values.
+        ensures steady { result.stopped ≡ false
+            → Steadies (B.state board.old) (B.state board.new) (sight self.old) (sight self.new) }
         ensures merge { result.stopped ≡ false
             → IsNextMerge (shape_of (B.state board.new)) (sight self.new).counts }
-        // the newest epoch, and the blocks for values
         ensures fresh { result.stopped ≡ false → KeepsFresh (shape_of (B.state board.old))
             (B.state board.old).pages (B.state board.new).pages (sight self.old) (sight self.new) }
         ensures blocks { result.stopped ≡ false
@@ -110,53 +131,53 @@ pub trait Engine {
             (command_of request.now value.now) }
         ensures deletes { request.now.opcode ≡ DELETE → result.stopped ≡ false
             → (sight self.new).open_block ≡ (sight self.old).open_block }
-        // a Store or a Delete that waits for nothing
+
+        // A Store or a Delete that waits for nothing.
         ensures quiet_store { request.now.opcode ≡ STORE → result.status ≡ SUCCESSFUL_COMPLETION
             → IsQuiet (shape_of (B.state board.old)) (B.state board.old).pages (sight self.old) (key
             (command_of request.now value.now))
             → HasOpenRoom (shape_of (B.state board.old)) (B.state board.old).pages (sight self.old)
             (charge (shape_of (B.state board.old)) request.now.size)
             → Quietly (shape_of (B.state board.old)) (B.state board.old) (B.state board.new)
-            (sight self.old).frames result.reads
+            (sight self.old).counts.frames result.reads
             (charge (shape_of (B.state board.old)) request.now.size + commits_for (shape_of
             (B.state board.old)) (sight self.old)) }
         ensures quiet_delete { request.now.opcode ≡ DELETE → result.status ≡ SUCCESSFUL_COMPLETION
             → IsQuiet (shape_of (B.state board.old)) (B.state board.old).pages (sight self.old) (key
             (command_of request.now value.now))
             → Quietly (shape_of (B.state board.old)) (B.state board.old) (B.state board.new)
-            (sight self.old).frames result.reads (commits_for (shape_of (B.state board.old))
-            (sight self.old)) }
-        ensures calls { request.now.opcode ≢ STORE → request.now.opcode ≢ DELETE
-            → FewCalls
-            (most_calls_of (shape_of (B.state board.old)) request.now.opcode request.now.size)
-            (B.state board.old) (B.state board.new) }
-        // what only reads changes nothing, and between two commands the drive is steady
-        ensures looks { only_looks request.now.opcode ≡ true → (sight self.new ≡ sight self.old)
-            × OnlyReading (B.state board.old) (B.state board.new) }
-        ensures steady { result.stopped ≡ false
-            → Steadies (B.state board.old) (B.state board.new) (sight self.old) (sight self.new) }
-        ensures flash_up { (B.state board.old).flash_faults ≤ (B.state board.new).flash_faults };
+            (sight self.old).counts.frames result.reads (commits_for (shape_of (B.state board.old))
+            (sight self.old)) };
 
     /// Commits the pending entries by one program; where there are none it does nothing. A failure stops the drive.
     fn commit<B: Nand>(&mut self, board: &mut B) -> Result<(), NandFault>
+        // The drive and the board.
         requires agrees { agrees self.old (B.state board.old).shape (B.state board.old).pages }
         requires runs { (sight self.old).stopped ≡ false }
+
+        // The drive and the board behind it.
         ensures runs { OnOk result ((sight self.new).stopped ≡ false) }
         ensures stops { OnErr result ((sight self.new).stopped ≡ true) }
-        ensures none { OnOk result ((sight self.new).pending ≡ []) }
         ensures agrees { OnOk result
             (agrees self.new (B.state board.new).shape (B.state board.new).pages) }
         ensures built { OnOk result ((r : Request) → r.opcode ≢ STORE → r.opcode ≢ DELETE
             → built self.old r ≡ true → built self.new r ≡ true) }
         ensures unbuilt { OnOk result
             ((r : Request) → built self.old r ≡ false → built self.new r ≡ false) }
+        ensures rest { OnlyFlash (B.state board.old) (B.state board.new) }
+
+        // The map, wherever it is cut.
         ensures stands { OnOk result
             (KeepsMap (B.state board.old) (B.state board.new) (sight self.old) (sight self.new)) }
         ensures cuts { OnOk result
             (CallReaches (B.state board.old) (B.state board.new) (sight self.old) commit) }
         ensures cuts_failed { OnErr result
             (CallGoes (B.state board.old) (B.state board.new) (sight self.old) commit) }
-        ensures rest { OnlyFlash (B.state board.old) (B.state board.new) }
+        ensures none { OnOk result ((sight self.new).pending ≡ []) }
+        ensures idle { (sight self.old).pending ≡ [] → IsOk result
+            × (B.state board.new ≡ B.state board.old) × (sight self.new ≡ sight self.old) }
+
+        // Counts of reads, of faults, of roots and of programs.
         ensures reads { (B.state board.new).reads ≡ (B.state board.old).reads }
         ensures read_faults { (B.state board.new).read_faults ≡ (B.state board.old).read_faults }
         ensures stop { OnErr result
@@ -165,58 +186,69 @@ pub trait Engine {
             ((B.state board.new).stop_faults ≡ (B.state board.old).stop_faults) }
         ensures sound { OnOk result
             ((B.state board.new).flash_faults ≡ (B.state board.old).flash_faults) }
-        ensures idle { (sight self.old).pending ≡ [] → IsOk result
-            × (B.state board.new ≡ B.state board.old) × (sight self.new ≡ sight self.old) }
-        ensures seen { OnOk result (Commits (sight self.old) (sight self.new)) }
-        ensures steady { OnOk result
-            (Steadies (B.state board.old) (B.state board.new) (sight self.old) (sight self.new)) }
         ensures flash_up { (B.state board.old).flash_faults ≤ (B.state board.new).flash_faults }
         ensures program { CommitPrograms (B.state board.old) (B.state board.new) (sight self.old) }
-        ensures installs { roots (B.state board.new) ≡ roots (B.state board.old) };
+        ensures installs { roots (B.state board.new) ≡ roots (B.state board.old) }
+
+        // What is seen of the drive.
+        ensures seen { OnOk result (Commits (sight self.old) (sight self.new)) }
+        ensures steady { OnOk result
+            (Steadies (B.state board.old) (B.state board.new) (sight self.old) (sight self.new)) };
 
     /// Makes one background step, with at most one call of the flash.
     fn tick<B: Nand>(&mut self, board: &mut B) -> Ticked
+        // The drive and the board.
         requires agrees { agrees self.old (B.state board.old).shape (B.state board.old).pages }
         requires runs { (sight self.old).stopped ≡ false }
         requires unworn { is_worn (B.state board.old) ≡ false }
         requires none { (sight self.old).pending ≡ [] }
+
+        // The drive and the board behind it.
         ensures stops { (sight self.new).stopped ≡ stopped_by result }
         ensures none { (sight self.new).pending ≡ [] }
         ensures agrees { stopped_by result ≡ false
             → agrees self.new (B.state board.new).shape (B.state board.new).pages }
+        ensures rest { OnlyFlash (B.state board.old) (B.state board.new) }
+
+        // The map, wherever it is cut, and the root that stands on the flash.
         ensures stands { stopped_by result ≡ false
             → KeepsMap (B.state board.old) (B.state board.new) (sight self.old) (sight self.new) }
         ensures cuts { stopped_by result ≡ false
             → CallReaches (B.state board.old) (B.state board.new) (sight self.old) background }
         ensures cuts_stopped { stopped_by result ≡ true
             → CallGoes (B.state board.old) (B.state board.new) (sight self.old) background }
+        ensures grows { Grows (shape_of (B.state board.old)) (B.state board.old).pages
+            (B.state board.new).pages }
+
+        // What it answers, and a step that does nothing.
         ensures idle { TellsIdle (B.state board.old) (sight self.old) result }
         ensures idle_rests { result ≡ Ticked.Idle
             → (B.state board.new ≡ B.state board.old) × (sight self.new ≡ sight self.old) }
         ensures unmade { result ≡ Ticked.Fault false → (sight self.new ≡ sight self.old)
             × OnlyReading (B.state board.old) (B.state board.new) }
-        ensures grows { Grows (shape_of (B.state board.old)) (B.state board.old).pages
-            (B.state board.new).pages }
-        ensures fresh { stopped_by result ≡ false → KeepsFresh (shape_of (B.state board.old))
-            (B.state board.old).pages (B.state board.new).pages (sight self.old) (sight self.new) }
-        ensures blocks { stopped_by result ≡ false
-            → (sight self.new).counts.blocks ≤ (sight self.old).counts.blocks }
-        ensures steady { stopped_by result ≡ false
-            → Steadies (B.state board.old) (B.state board.new) (sight self.old) (sight self.new) }
-        ensures flash_up { (B.state board.old).flash_faults ≤ (B.state board.new).flash_faults }
-        ensures rest { OnlyFlash (B.state board.old) (B.state board.new) }
+
+        // Counts of calls, of faults and of roots.
         ensures calls { AtMostOneCall (B.state board.old) (B.state board.new) }
         ensures unread { result ≡ Ticked.Fault false
             → Rose (B.state board.old).read_faults (B.state board.new).read_faults }
         ensures up { (B.state board.old).read_faults ≤ (B.state board.new).read_faults }
+        ensures flash_up { (B.state board.old).flash_faults ≤ (B.state board.new).flash_faults }
         ensures worked { result ≡ Ticked.Worked → NoFault (B.state board.old) (B.state board.new) }
         ensures stop { stopped_by result ≡ true
             → Rose (B.state board.old).stop_faults (B.state board.new).stop_faults }
         ensures no_stop { stopped_by result ≡ false
             → (B.state board.new).stop_faults ≡ (B.state board.old).stop_faults }
         ensures installs { roots (B.state board.new) ≤ roots (B.state board.old) + 1 }
+
+        // What is seen of the drive: its numbers, the newest epoch, and the blocks for values.
+        ensures steady { stopped_by result ≡ false
+            → Steadies (B.state board.old) (B.state board.new) (sight self.old) (sight self.new) }
         ensures merge { stopped_by result ≡ false
-            → IsNextMerge (shape_of (B.state board.new)) (sight self.new).counts };
+            → IsNextMerge (shape_of (B.state board.new)) (sight self.new).counts }
+        ensures fresh { stopped_by result ≡ false → KeepsFresh (shape_of (B.state board.old))
+            (B.state board.old).pages (B.state board.new).pages (sight self.old) (sight self.new) }
+        ensures blocks { stopped_by result ≡ false
+            → (sight self.new).counts.blocks ≤ (sight self.old).counts.blocks };
 
     /// Whether it can serve this request.
     fn is_built(&self, request: &Request) -> bool
@@ -242,7 +274,7 @@ pub trait Engine {
         ensures numbers { counts_of result ≡ (sight self.now).counts }
         ensures map { (shape : Shape) (flash : Flash) (m : Map) → agrees self.now (Some shape) flash
             → (sight self.now).stopped ≡ false → map_of shape flash (sight self.now) ≡ Ok m
-            → CountsMap shape (sight self.now).frames m (sight self.now).counts }
+            → CountsMap shape (sight self.now).counts.frames m (sight self.now).counts }
         ensures steady { (shape : Shape) (flash : Flash) (m : Map)
             → agrees self.now (Some shape) flash → (sight self.now).stopped ≡ false
             → map_of shape flash (sight self.now) ≡ Ok m → IsSteady shape flash (sight self.now) };

@@ -44,9 +44,13 @@ pub fn program_page(
     left: Option<&Left>,
 ) -> Result<(), NandFault>
     requires { length bytes.now ≡ trail.old.page_bytes }
+
+    // Exactly what is done, or left by a call that fails.
     ensures exact { (shape : spec.Shape) → ActsBy shape (program at bytes.now) trail.old.room
         (option_copied left.entry) (states pages.old.items) (states pages.new.items)
         (seen_marks trail.old.marks.items) (seen_marks trail.new.marks.items) result }
+
+    // So the whole effect, or a part of it as a cut may leave it.
     ensures pages { OnOk result
         (states pages.new.items ≡ slice_set (states pages.old.items) at (whole bytes.now)) }
     ensures marks { OnOk result (seen_marks trail.new.marks.items
@@ -56,6 +60,8 @@ pub fn program_page(
     ensures left { OnErr result ((shape : spec.Shape) → LeftBehind shape (program at bytes.now)
         (states pages.old.items) (states pages.new.items) (Some (seen_marks trail.old.marks.items))
         (Some (seen_marks trail.new.marks.items))) }
+
+    // The trail keeps its room.
     ensures room { trail.new.room ≡ trail.old.room }
     ensures page_bytes { trail.new.page_bytes ≡ trail.old.page_bytes }
 {
@@ -79,9 +85,13 @@ pub fn erase_block(
     left: Option<&Left>,
 ) -> Result<(), NandFault>
     requires { block < (shape_or_none shape.now).blocks }
+
+    // Exactly what is done, or left by a call that fails.
     ensures exact { ActsBy (shape_or_none shape.now) (erase block) trail.old.room
         (option_copied left.entry) (states pages.old.items) (states pages.new.items)
         (seen_marks trail.old.marks.items) (seen_marks trail.new.marks.items) result }
+
+    // So the whole effect, or a part of it as a cut may leave it.
     ensures pages { OnOk result (states pages.new.items
         ≡ after (shape_or_none shape.now) (erase block) (states pages.old.items)) }
     ensures marks { OnOk result
@@ -91,6 +101,8 @@ pub fn erase_block(
     ensures left { OnErr result (LeftBehind (shape_or_none shape.now) (erase block)
         (states pages.old.items) (states pages.new.items) (Some (seen_marks trail.old.marks.items))
         (Some (seen_marks trail.new.marks.items))) }
+
+    // The trail keeps its room.
     ensures room { trail.new.room ≡ trail.old.room }
     ensures page_bytes { trail.new.page_bytes ≡ trail.old.page_bytes }
 {
@@ -121,16 +133,22 @@ fn give(
     bytes: &[u8],
 ) -> Result<(), AllocError>
     requires { posted_room ≤ vec_capacity posted.old }
+
+    // The bytes and their mark are there.
     ensures posted { OnOk result (posted.new.items ≡ posted.old.items ++ bytes.now) }
     ensures marks { OnOk result (seen_marks trail.new.marks.items
         ≡ seen_marks trail.old.marks.items ++ post bytes.now ∷ []) }
     ensures had_room { OnOk result (HasRoomFor (length bytes.now) posted_room trail.old.room
         posted.old.items trail.old.marks.items) }
+
+    // Or nothing is, for want of room.
     ensures posted_err { OnErr result (posted.new.items ≡ posted.old.items) }
     ensures marks_err { OnErr result (trail.new.marks.items ≡ trail.old.marks.items) }
     ensures cause { OnErr result ((posted_room < length posted.old.items + length bytes.now)
         ⊎ (trail.old.room ≤ length trail.old.marks.items)
         ⊎ (trail.old.page_bytes < length bytes.now)) }
+
+    // The buffers keep their room.
     ensures holds { posted_room ≤ vec_capacity posted.new }
     ensures room { trail.new.room ≡ trail.old.room }
     ensures page_bytes { trail.new.page_bytes ≡ trail.old.page_bytes }
@@ -173,14 +191,20 @@ pub fn post_bytes(
     left: Option<&Left>,
 ) -> Result<(), HostFault>
     requires { posted_room ≤ vec_capacity posted.old }
+
+    // Exactly what is done, or left by a call that fails.
     ensures exact { PostsBy trail.old.page_bytes posted_room trail.old.room
         (option_copied left.entry) bytes.now posted.old.items posted.new.items
         (seen_marks trail.old.marks.items) (seen_marks trail.new.marks.items) result }
+
+    // So the whole effect, or a part of it as a cut may leave it.
     ensures posted { OnOk result (posted.new.items ≡ posted.old.items ++ bytes.now) }
     ensures marks { OnOk result (seen_marks trail.new.marks.items
         ≡ seen_marks trail.old.marks.items ++ post bytes.now ∷ []) }
     ensures left { OnErr result (PostLeft bytes.now (Some posted.old.items) (Some posted.new.items)
         (Some (seen_marks trail.old.marks.items)) (Some (seen_marks trail.new.marks.items))) }
+
+    // The buffers keep their room.
     ensures holds { posted_room ≤ vec_capacity posted.new }
     ensures room { trail.new.room ≡ trail.old.room }
     ensures page_bytes { trail.new.page_bytes ≡ trail.old.page_bytes }

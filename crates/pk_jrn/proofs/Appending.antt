@@ -21,7 +21,8 @@ use Rattle.pk_jrnfmt.specs.Epoch.{journal, epoch}
 use Rattle.pk_jrnfmt.proofs.PageLemmas.{journal_entries_again, length-seen}
 use Rattle.pk_jrn.specs.Epochs.{JournalEpoch, EpochOnFlash, Reads, HasCommit, AreBlocks, left_of, next_page}
 use Rattle.pk_jrn.specs.Appends.{next_bytes, AddsAll, AddsAllOrNone, IsCommitCut, CommitReached, CommitWent}
-use Rattle.pk_jrn.proofs.Places.{only_index, page_exists}
+use Rattle.pk_base.proofs.EpochPages.{only_index}
+use Rattle.pk_jrn.proofs.Places.{page_exists}
 use Rattle.pk_jrn.proofs.Journals.{IsNotWhole, erased_not_whole, torn_not_whole, epoch_is, reads_on, goes_on, ends}
 
 -- an epoch with a page left takes more

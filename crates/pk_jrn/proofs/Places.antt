@@ -1,11 +1,12 @@
 -- The pages of an epoch's two blocks.
-use Rattle.std.proofs.Common.{◌≡◌, ◌≢◌, ℕ, zero, suc, ◌+◌, ◌-◌, ◌*◌, ◌/◌, ◌%◌, ◌<◌, ◌≤◌, refl, sym, ap, subst, ◌∙◌, arith, List, true, mod-lt, div-add-mod', div-lt_iff_lt-mul, mul-le-mul_right, inl, inr}
+use Rattle.std.proofs.Common.{◌≡◌, ◌≢◌, ℕ, suc, ◌+◌, ◌-◌, ◌*◌, ◌/◌, ◌%◌, ◌<◌, ◌≤◌, subst, ◌∙◌, arith, List, true, div-add-mod', mul-le-mul_right, inl, inr}
 use Rattle.std.specs.Prelude.{slice_index}
 use Rattle.std.proofs.Math.Nat.{suc-mul}
 use Rattle.std.proofs.lemmas.Nat.{div-mul-add, mod-mul-add}
 use Rattle.std.proofs.lemmas.Bool.{cases_lt}
 use Rattle.pk_base.specs.Shape.{Shape, epoch_pages, page_count}
 use Rattle.pk_base.specs.Page.{Page, Flash, page_at, erased, whole, page_in}
+use Rattle.pk_base.proofs.EpochPages.{half, rest, low, high}
 use Rattle.pk_nand.specs.Calls.{InOrder}
 use Rattle.pk_nand.specs.Crash.{SameOutside}
 use Rattle.pk_jrn.specs.Epochs.{JournalEpoch, EpochOnFlash, AllExist, AreErased, next_page}
@@ -15,58 +16,17 @@ use Rattle.pk_jrn.specs.Laws.{SameBlocks}
 pub apart : (a b n : ℕ) → a < b → a * n + n ≤ b * n
 apart a b n h = omega (arith, mul-le-mul_right {m = suc a} {n = b} n (omega arith), suc-mul a n)
 
-same_rest : (x y n r s : ℕ) → x ≡ y → x * n + r ≡ y * n + s → r ≡ s
-same_rest x y n r s e same = let f : x * n ≡ y * n = ap (λ k. k * n) e in omega (arith, f, same)
-
 module _ (shape : Shape) (blocks : List ℕ) where
   -- the page of an index, by its block and its place in it
   pub page_of_place : (q r : ℕ) → r < shape.block_pages → page_in shape blocks (q * shape.block_pages + r) ≡ slice_index blocks q * shape.block_pages + r
   page_of_place q r less = λ i. slice_index blocks (div-mul-add q shape.block_pages r less i) * shape.block_pages + mod-mul-add q shape.block_pages r less i
 
   module _ (index : ℕ) (inside : index < epoch_pages shape) where
-    some : 0 < shape.block_pages
-    some = omega (arith, inside)
-
-    pub half : index / shape.block_pages < 2
-    half = (div-lt_iff_lt-mul some).1 inside
-
-    pub rest : index % shape.block_pages < shape.block_pages
-    rest = mod-lt index some
-
-    -- it stands in one of the two blocks
-    pub low : slice_index blocks (index / shape.block_pages) * shape.block_pages ≤ page_in shape blocks index
-    low = omega arith
-
-    pub high : page_in shape blocks index < slice_index blocks (index / shape.block_pages) * shape.block_pages + shape.block_pages
-    high = let r = rest in omega (arith, r)
-
     pub page_exists : AllExist shape blocks → page_in shape blocks index < page_count shape
     page_exists all =
-        let end : slice_index blocks (index / shape.block_pages) * shape.block_pages + shape.block_pages ≤ shape.blocks * shape.block_pages = apart _ shape.blocks shape.block_pages (all (index / shape.block_pages) half) in
-        let r = rest in
+        let end : slice_index blocks (index / shape.block_pages) * shape.block_pages + shape.block_pages ≤ shape.blocks * shape.block_pages = apart _ shape.blocks shape.block_pages (all (index / shape.block_pages) (half shape blocks index inside)) in
+        let r = rest shape blocks index inside in
         omega (arith, end, r)
-
-    pub block_of_page : page_in shape blocks index / shape.block_pages ≡ slice_index blocks (index / shape.block_pages)
-    block_of_page = div-mul-add (slice_index blocks (index / shape.block_pages)) shape.block_pages (index % shape.block_pages) rest
-
-injective : (blocks : List ℕ) (n k : ℕ) → n < 2 → k < 2 → slice_index blocks 0 ≢ slice_index blocks 1 → slice_index blocks n ≡ slice_index blocks k → n ≡ k
-injective blocks zero zero small little different e = refl
-injective blocks zero (suc zero) small little different e = absurd (different e)
-injective blocks (suc zero) zero small little different e = absurd (different (sym e))
-injective blocks (suc zero) (suc zero) small little different e = refl
-injective blocks (suc (suc n)) k small little different e = absurd (omega (arith, small))
-injective blocks zero (suc (suc k)) small little different e = absurd (omega (arith, little))
-injective blocks (suc zero) (suc (suc k)) small little different e = absurd (omega (arith, little))
-
--- no two indices have the same page
-pub only_index : (shape : Shape) (blocks : List ℕ) (i j : ℕ) → slice_index blocks 0 ≢ slice_index blocks 1 → i < epoch_pages shape → j < epoch_pages shape
-    → page_in shape blocks j ≡ page_in shape blocks i → j ≡ i
-only_index shape blocks i j different inside small same =
-    let n : ℕ = shape.block_pages in
-    let places : slice_index blocks (j / n) ≡ slice_index blocks (i / n) = sym (block_of_page shape blocks j small) ∙ ap (λ k. k / n) same ∙ block_of_page shape blocks i inside in
-    let halves : j / n ≡ i / n = injective blocks (j / n) (i / n) (half shape blocks j small) (half shape blocks i inside) different places in
-    let rests : j % n ≡ i % n = same_rest (slice_index blocks (j / n)) (slice_index blocks (i / n)) n (j % n) (i % n) places same in
-    sym (div-add-mod' j n) ∙ (λ k. halves k * n + rests k) ∙ div-add-mod' i n
 
 whole_erased : (p : Page) (bytes : List ℕ) → p ≡ whole bytes → p ≡ erased → ⊥
 whole_erased p bytes is other = cc

@@ -1,5 +1,5 @@
 -- An epoch of the journal: its commits, how many it has, and how it stands to a flash.
-use Rattle.std.specs.Prelude.{◌≡◌, ◌≢◌, ℕ, ◌+◌, ◌-◌, ◌*◌, ◌<◌, ◌≤◌, Bool, true, false, if◌then◌else◌, List, length, slice_index, Ok}
+use Rattle.std.specs.Prelude.{◌≡◌, ◌≢◌, ℕ, ◌-◌, ◌<◌, ◌≤◌, Bool, true, false, if◌then◌else◌, List, length, slice_index, Ok}
 use Rattle.pk_base.specs.Shape.{Shape, epoch_pages, epoch_commits}
 use Rattle.pk_base.specs.Page.{Flash, page_at, erased, whole, page_in, commit_page, commit_at}
 use Rattle.pk_base.specs.Entry.{Entry}

@@ -1,5 +1,5 @@
 //! An epoch and its next page.
-ghost use Rattle.std.specs.Prelude.{◌≡◌, ℕ, ◌+◌, ◌<◌, ◌≤◌, length, [], Some, IfErr, OnOk, OnErr};
+ghost use Rattle.std.specs.Prelude.{◌≡◌, ◌+◌, ◌<◌, ◌≤◌, length, [], Some, IfErr, OnOk, OnErr};
 ghost use Rattle.std.specs.List.{AllByRecursion};
 ghost use Rattle.pk_base.specs.Shape.{page_entries, epoch_commits};
 ghost use Rattle.pk_base.specs.Page.{Flash};
@@ -135,23 +135,31 @@ impl Epoch {
         requires fits { EpochOnFlash self.old (B.state board.old).pages }
         requires blocks { AreBlocks self.old.shape self.old.blocks }
         requires room { length buf.old ≡ self.old.shape.page_bytes }
+
+        // One program, by which the epoch has a commit more.
         ensures ok { OnOk result (B.state board.new
             ≡ after_program (B.state board.old) (next_page self.old)
             (next_bytes self.old (seen_all entries.now))) }
         ensures taken { OnOk result (self.new ≡ record self.old { used = self.old.used + 1 }) }
         ensures fits { OnOk result (EpochOnFlash self.new (B.state board.new).pages) }
+
+        // What the page says, and what a reader of the epoch finds behind it.
         ensures spells { journal_entries self.old.shape self.old.number self.old.used
             (next_bytes self.old (seen_all entries.now)) ≡ Some (seen_all entries.now) }
         ensures list { OnOk result (AddsAll self.old (seen_all entries.now)
             (B.state board.old).pages (B.state board.new).pages) }
         ensures cuts { OnOk result (CommitReached self.old (seen_all entries.now)
             (B.state board.old) (B.state board.new)) }
+
+        // Or the program failed, and the epoch stays.
         ensures stopped { IfErr result (λ e. e ≡ Stopped) }
         ensures err { OnErr result (ProgramFailed (B.state board.old) (B.state board.new)
             (next_page self.old) (next_bytes self.old (seen_all entries.now))) }
         ensures cuts_err { OnErr result (CommitWent self.old (seen_all entries.now)
             (B.state board.old) (B.state board.new)) }
         ensures kept { OnErr result (self.new ≡ self.old) }
+
+        // Either way the board and the buffer may be used again.
         ensures ready { IsReady (B.state board.new) self.old.shape }
         ensures buffer { length buf.new ≡ length buf.old }
     {

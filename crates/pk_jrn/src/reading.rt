@@ -1,6 +1,5 @@
 //! An epoch that is read from a board.
-ghost use Rattle.std.specs.Prelude.{◌≡◌, ℕ, List, length, IfOk, IfErr, OnOk, OnErr, MatchBool};
-ghost use Rattle.pk_base.specs.Shape.{epoch_pages};
+ghost use Rattle.std.specs.Prelude.{◌≡◌, length, IfOk, IfErr, OnOk, OnErr, MatchBool};
 ghost use Rattle.pk_base.specs.Page.{page_at};
 ghost use Rattle.pk_nand.specs.Calls.{IsReady};
 ghost use Rattle.pk_nand.specs.Erased.{after_reads};
@@ -40,6 +39,8 @@ pub fn replay<B: Nand, A: Region>(
     requires blocks { AllExist shape.now blocks }
     requires empty { into.old ≡ no_entries shape.now }
     requires room { length buf.old ≡ shape.now.page_bytes }
+
+    // The commits that were read, and so many reads.
     ensures replayed { IfOk result (λ used.
         Replayed shape.now number blocks (B.state board.old).pages used into.new) }
     ensures fits { IfOk result (λ used. EpochOnFlash (found_at_opening shape.now number blocks used)
@@ -47,9 +48,13 @@ pub fn replay<B: Nand, A: Region>(
     ensures reads { OnOk result (B.state board.new
         ≡ after_reads (epoch_reads shape.now (page_at (B.state board.old).pages) blocks)
         (B.state board.old)) }
+
+    // Why they were not, and that no entry is left.
     ensures refused { IfErr result (λ e. Refused shape.now number blocks (B.state board.old)
         (B.state board.new) e) }
     ensures cleared { OnErr result (into.new ≡ into.old) }
+
+    // Nothing but reads was done.
     ensures flash { (B.state board.new).pages ≡ (B.state board.old).pages }
     ensures ready { IsReady (B.state board.new) shape.now }
     ensures buffer { length buf.new ≡ length buf.old }

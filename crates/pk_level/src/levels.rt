@@ -140,14 +140,20 @@ impl<A: Allocator> Levels<A> {
         requires stand { (ess : List (List EntrySpec))
             × RunsOnFlash (B.state board.old).pages arena.now self.now.runs ess }
         requires room { length buf.old ≡ self.now.shape.page_bytes }
+
+        // The entry of the first run that has the key, by at most so many reads.
         ensures found { IfOk result (λ found. (ess : List (List EntrySpec))
             → RunsOnFlash (B.state board.old).pages arena.now self.now.runs ess
             → IsFound key.now (all_entries ess) found) }
         ensures reads { OnOk result
             (ReadsUpTo (reads_through self.now.runs) (B.state board.old) (B.state board.new)) }
+
+        // Or one of them failed.
         ensures reading { IfErr result (λ fault. fault ≡ Reading) }
         ensures err { OnErr result (ReadFailsWithin (reads_through self.now.runs)
             (B.state board.old) (B.state board.new)) }
+
+        // Either way nothing but reads was done.
         ensures same { (B.state board.new).pages ≡ (B.state board.old).pages }
         ensures ready { IsReady (B.state board.new) self.now.shape }
     {

@@ -37,11 +37,15 @@ fn erase_other<B: Nand>(board: &mut B, shape: &Shape, beside: u32) -> Result<u32
     requires ready { IsReady (B.state board.old) shape.now }
     requires fits { (top : ℕ × RootValue)
         × InstallerOnFlash shape.now (Erase beside) top (B.state board.old).pages }
+
+    // The other block is Erased.
     ensures erases { IfOk result (λ page.
         ErasesOther shape.now (Erase beside) (B.state board.old) (Program page) (B.state board.new)) }
     ensures stopped { IfErr result (λ e. e ≡ Stopped) }
     ensures failed { OnErr result (FailsToErase shape.now (Erase beside) (B.state board.old)
         (B.state board.new)) }
+
+    // Either way the newest root stays, and all behind the root blocks.
     ensures behind { SameBehind shape.now (B.state board.old).pages (B.state board.new).pages }
     ensures ready { IsReady (B.state board.new) shape.now }
 {
@@ -67,11 +71,17 @@ fn program_root<B: Nand, A: Allocator>(
         × InstallerOnFlash root.now.shape (Program page) top (B.state board.old).pages
         × (top.1.number < root.now.root.number) }
     requires room { length buf.old ≡ root.now.shape.page_bytes }
+
+    // The root is the newest one.
     ensures installs { OnOk result (Installs root.now.shape root.now.root (Program page)
         (B.state board.old) (next_behind_of root.now.shape page) (B.state board.new)) }
+
+    // Or its program failed.
     ensures stopped { IfErr result (λ e. e ≡ Stopped) }
     ensures failed { OnErr result (FailsToInstall root.now.shape root.now.root (Program page)
         (B.state board.old) (B.state board.new)) }
+
+    // Either way all behind the root blocks stays.
     ensures behind { SameBehind root.now.shape (B.state board.old).pages (B.state board.new).pages }
     ensures ready { IsReady (B.state board.new) root.now.shape }
     ensures buffer { length buf.new ≡ length buf.old }
@@ -130,13 +140,19 @@ impl Installer {
         requires erases { erases_next self.old ≡ true }
         requires fits { (top : ℕ × RootValue)
             × InstallerOnFlash shape.now self.old top (B.state board.old).pages }
+
+        // The other root block is Erased, and the root is programmed next.
         ensures erased { OnOk result
             (ErasesOther shape.now self.old (B.state board.old) self.new (B.state board.new)) }
         ensures programs_next { OnOk result (erases_next self.new ≡ false) }
+
+        // Or the erase failed.
         ensures stopped { IfErr result (λ e. e ≡ Stopped) }
         ensures failed { OnErr result
             (FailsToErase shape.now self.old (B.state board.old) (B.state board.new)) }
         ensures kept { OnErr result (self.new ≡ self.old) }
+
+        // Either way all behind the root blocks stays.
         ensures behind { SameBehind shape.now (B.state board.old).pages (B.state board.new).pages }
         ensures ready { IsReady (B.state board.new) shape.now }
     {
@@ -168,6 +184,8 @@ impl Installer {
             × InstallerOnFlash root.now.shape self.old top (B.state board.old).pages
             × (top.1.number < root.now.root.number) }
         requires room { length buf.old ≡ root.now.shape.page_bytes }
+
+        // What was done, and what is next.
         ensures cases { IfOk result (λ installed. MatchBool installed
             (Installs root.now.shape root.now.root self.old (B.state board.old) self.new
             (B.state board.new))
@@ -175,12 +193,16 @@ impl Installer {
         ensures turn { IfOk result (λ installed. installed ≡ not (erases_next self.old)) }
         ensures programs_next { IfOk result (λ installed. installed ≡ false
             → erases_next self.new ≡ false) }
+
+        // Or the call failed.
         ensures stopped { IfErr result (λ e. e ≡ Stopped) }
         ensures failed { OnErr result (
             FailsToInstall root.now.shape root.now.root self.old (B.state board.old)
             (B.state board.new)
             ⊎ FailsToErase root.now.shape self.old (B.state board.old) (B.state board.new)) }
         ensures kept { OnErr result (self.new ≡ self.old) }
+
+        // Either way all behind the root blocks stays.
         ensures behind { SameBehind root.now.shape (B.state board.old).pages
             (B.state board.new).pages }
         ensures ready { IsReady (B.state board.new) root.now.shape }

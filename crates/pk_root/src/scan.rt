@@ -1,6 +1,7 @@
 //! The newest root of a flash.
-ghost use Rattle.std.specs.Prelude.{◌≡◌, ◌*◌, ◌<◌, length, true, None, Some, OnOk, OnErr, IfOk, IfErr, IfSome, MatchOption};
+ghost use Rattle.std.specs.Prelude.{◌≡◌, ◌<◌, length, true, None, Some, OnOk, OnErr, IfOk, IfErr, IfSome, MatchOption};
 ghost use Rattle.pk_base.specs.Page.{page_at};
+ghost use Rattle.pk_base.specs.Shape.{root_pages};
 ghost use Rattle.pk_nand.specs.Calls.{IsReady};
 ghost use Rattle.pk_nand.specs.Erased.{after_reads};
 ghost use Rattle.pk_nand.specs.declared.types.Fault.TheVariants.{Reading};
@@ -80,24 +81,30 @@ pub fn newest<B: Nand, A: Allocator>(
 ) -> Result<Option<u32>, Fault>
     requires ready { IsReady (B.state board.old) into.old.shape }
     requires room { length buf.old ≡ into.old.shape.page_bytes }
+
+    // The newest root, and so many reads.
     ensures found { IfOk result (λ r. MatchOption r
         (newest_root into.old.shape (page_at (B.state board.old).pages) ≡ None) (λ page.
         newest_root into.old.shape (page_at (B.state board.old).pages)
         ≡ Some (page, into.new.root))) }
     ensures kept { IfOk result (λ r. r ≡ None → into.new ≡ into.old) }
-    ensures place { IfOk result (λ r. IfSome r (λ page. page < 2 * into.old.shape.block_pages)) }
+    ensures place { IfOk result (λ r. IfSome r (λ page. page < root_pages into.old.shape)) }
     ensures grammar { IfOk result (λ r. IfSome r (λ page. is_root into.new.shape into.new.root
         ≡ true)) }
     ensures ok { OnOk result (B.state board.new
-        ≡ after_reads (2 * into.old.shape.block_pages) (B.state board.old)) }
+        ≡ after_reads (root_pages into.old.shape) (B.state board.old)) }
+
+    // Or one of them failed.
     ensures reading { IfErr result (λ e. e ≡ Reading) }
     ensures err { OnErr result (ReadsFailed (B.state board.old) (B.state board.new) 0
-        (2 * into.old.shape.block_pages)) }
+        (root_pages into.old.shape)) }
+
+    // Either way the board and the buffer may be used again.
     ensures shape { into.new.shape ≡ into.old.shape }
     ensures ready { IsReady (B.state board.new) into.new.shape }
     ensures buffer { length buf.new ≡ length buf.old }
 {
-    let pages = 2 * into.shape().block_pages();
+    let pages = into.shape().root_pages();
     let mut best = None;
     for page in 0..pages {
         match board.read(page, buf) {

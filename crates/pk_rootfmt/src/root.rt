@@ -203,9 +203,11 @@ impl<A: Allocator> Root<A> {
     pub fn decode(&mut self, page: &[u8]) -> Result<(), BadRoot>
         requires { length page.now ≡ self.old.shape.page_bytes }
         ensures shape { self.new.shape ≡ self.old.shape }
+
         // A page is decoded exactly where the definition has a root for it, to that root.
         ensures found { OnOk result (root_page self.old.shape page.now ≡ Some self.new.root) }
         ensures grammar { OnOk result (is_root self.new.shape self.new.root ≡ true) }
+
         // Else the first wrong field is named, and the root is as it was.
         ensures missing { OnErr result (root_page self.old.shape page.now ≡ None) }
         ensures exact { IfErr result (λ bad. root_fault self.old.shape page.now ≡ Some bad.at) }
@@ -305,6 +307,8 @@ fn put_run(sizes: &mut [usize; 4], items: &mut [u16], level: u8, blocks: &[u16])
     requires fits { total_of sizes.old ≤ length items.old }
     requires room { total_of (slice_set sizes.old (level - 1) (length blocks.now))
         ≤ length items.old }
+
+    // The run of the level is another one, and all else is as it was.
     ensures runs { parts sizes.new items.new
         ≡ slice_set (parts sizes.old items.old) (level - 1) blocks.now }
     ensures sizes { sizes.new ≡ slice_set sizes.old (level - 1) (length blocks.now) }

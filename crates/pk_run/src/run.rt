@@ -171,6 +171,8 @@ impl<A: Allocator> Run<A> {
         requires full { self.old.count ≡ length self.old.firsts * page_entries self.old.shape }
         requires some { 1 ≤ entries × entries ≤ page_entries self.old.shape }
         requires alike { MatchOption lease (self.old.leases ≡ []) (λ _. IsPinned self.old) }
+
+        // The run has the page, and stands for its entries too.
         ensures added { self.new ≡ with_page self.old first lease entries }
         ensures stands { (flash : Flash) (arena : Frames) (es more : List EntrySpec)
             → RunOnFlash self.old flash arena es → IsNext self.old flash arena es more first lease
@@ -221,6 +223,8 @@ impl<A: Allocator> Run<A> {
         requires stands { (es : List EntrySpec)
             × RunOnFlash self.now (B.state board.old).pages arena.now es }
         requires room { length buf.old ≡ self.now.shape.page_bytes }
+
+        // The entry of the key, by at most one read.
         ensures found { IfOk result (λ found. (es : List EntrySpec)
             → RunOnFlash self.now (B.state board.old).pages arena.now es → IsFound key.now es found) }
         ensures looks { OnOk result (Looks self.now key.now (B.state board.old)
@@ -228,10 +232,14 @@ impl<A: Allocator> Run<A> {
         ensures calls { OnOk result ((B.state board.new ≡ B.state board.old)
             ⊎ (B.state board.new ≡ after_read (B.state board.old))) }
         ensures pinned { IsPinned self.now → B.state board.new ≡ B.state board.old }
+
+        // Or that read failed.
         ensures reading { IfErr result (λ fault. fault ≡ Reading) }
         ensures err { OnErr result ((p : ℕ) × IsPageFor key.now self.now.firsts p
             × ReadFailed (B.state board.old) (B.state board.new) (page_of self.now p)) }
         ensures unpinned { OnErr result (self.now.leases ≡ []) }
+
+        // Either way nothing but a read was done.
         ensures same { (B.state board.new).pages ≡ (B.state board.old).pages }
         ensures ready { IsReady (B.state board.new) self.now.shape }
     {
@@ -262,15 +270,21 @@ impl<A: Allocator> Run<A> {
             × RunOnFlash self.now (B.state board.old).pages arena.now es }
         requires exists { i < length self.now.firsts }
         requires room { length buf.old ≡ self.now.shape.page_bytes }
+
+        // The page, by at most one read.
         ensures page { OnOk result (page_at (B.state board.old).pages (page_of self.now i)
             ≡ whole buf.new) }
         ensures ok { OnOk result (B.state board.new
             ≡ after_look self.now.leases (B.state board.old)) }
         ensures pinned { IsPinned self.now → B.state board.new ≡ B.state board.old }
+
+        // Or that read failed.
         ensures reading { IfErr result (λ fault. fault ≡ Reading) }
         ensures err { OnErr result (ReadFailed (B.state board.old) (B.state board.new)
             (page_of self.now i)) }
         ensures unpinned { OnErr result (self.now.leases ≡ []) }
+
+        // Either way nothing but a read was done.
         ensures same { (B.state board.new).pages ≡ (B.state board.old).pages }
         ensures ready { IsReady (B.state board.new) self.now.shape }
     {

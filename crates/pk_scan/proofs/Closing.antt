@@ -137,12 +137,14 @@ module _ (shape : Shape) (is_shape : IsShape shape) where
     past_roots : (b : ℕ) → b < shape.blocks → get_or live.closed b false ≡ true → 2 ≤ b
     past_roots b inside closed = behind_roots taken b lives.places (sym (used_is b inside) ∙ closed)
 
+    -- so many are closed as have a page of a value
+    pub many_closed : flags live.closed ≡ length (blocks_with shape (all_pages shape taken))
+    many_closed =
+        ap flags flags_are ∙ count_map (is_used shape taken) (range_with_len 0 shape.blocks)
+        ∙ sym (length-filter (λ b. list_any (λ p. p / shape.block_pages == b) (all_pages shape taken)) (range_with_len 0 shape.blocks))
+
     pub few_closed : flags live.closed ≤ data_blocks shape - 1
-    few_closed =
-        let pages : List ℕ = all_pages shape taken in
-        let many : flags live.closed ≡ length (blocks_with shape pages) =
-        ap flags flags_are ∙ count_map (is_used shape taken) (range_with_len 0 shape.blocks) ∙ sym (length-filter (λ b. list_any (λ p. p / shape.block_pages == b) pages) (range_with_len 0 shape.blocks)) in
-        omega (arith, many, at_most (length (blocks_with shape pages)) (data_blocks shape - 1) pages_fit.1)
+    few_closed = let many = many_closed in omega (arith, many, at_most (length (blocks_with shape (all_pages shape taken))) (data_blocks shape - 1) pages_fit.1)
       where
         at_most : (x y : ℕ) → nat_le x y ≡ true → x ≤ y
         at_most x y e = grind (arith, nat_tests)

@@ -1,14 +1,13 @@
 -- How many pages are read: of an epoch, and of runs.
-use Rattle.std.proofs.Common.{◌≡◌, ℕ, zero, suc, ◌+◌, ◌-◌, ◌*◌, ◌<◌, ◌≤◌, min, List, [], ◌∷◌, ◌++◌, length, take, get_or, refl, sym, ap, subst, ◌∙◌, arith, Some, None}
+use Rattle.std.proofs.Common.{◌≡◌, ℕ, zero, suc, ◌+◌, ◌-◌, ◌*◌, ◌<◌, ◌≤◌, List, [], ◌∷◌, ◌++◌, length, take, get_or, refl, sym, ap, subst, ◌∙◌, arith, Some, None}
 use Rattle.std.specs.Prelude.{slice_index}
 use Rattle.std.proofs.lemmas.List.{take_all}
-use Rattle.pk_base.specs.Shape.{Shape, epoch_pages, run_pages}
-use Rattle.pk_base.specs.Page.{Page, Flash, NumberedPages, page_at, page_in, erased, whole, torn, commits_of}
+use Rattle.pk_base.specs.Shape.{Shape, run_pages}
+use Rattle.pk_base.specs.Page.{Flash, page_at, commits_of}
 use Rattle.pk_nand.specs.BoardState.{BoardState}
 use Rattle.pk_nand.specs.Erased.{after_reads}
 use Rattle.pk_rootfmt.specs.Root.{Root}
 use Rattle.pk_rootfmt.specs.Held.{two_of, older_of}
-use Rattle.pk_buf.specs.Table.{Table}
 use Rattle.pk_jrn.specs.Replays.{pages_to_end, epoch_reads}
 use Rattle.pk_scan.specs.Reads.{pages_of_runs, list_reads}
 use Rattle.pk_scan.proofs.Naming.{two_is, older_is, older_none}

@@ -22,7 +22,7 @@ pub mod ValuesRead
 pub mod RunReads
 pub mod Under
 pub mod Wanted
-pub mod Listing
+pub mod Owned
 pub mod Owners
 pub mod Room
 pub mod Whole

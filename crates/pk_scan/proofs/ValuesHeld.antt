@@ -25,11 +25,14 @@ use Rattle.pk_live.specs.Values.{Values}
 use Rattle.pk_model.specs.Values.{all_pages, fits, values_of}
 use Rattle.pk_live.specs.Lives.{Lives}
 use Rattle.pk_scan.specs.Accepted.{Accepted, NotAccepted}
-use Rattle.pk_scan.specs.Places.{place}
 use Rattle.pk_scan.specs.Opening.{OnlyReads, PartNotOpened, ReadsValues, opening_of}
 use Rattle.pk_scan.specs.declared.errors.PageError.{PageError}
 use Rattle.pk_scan.specs.declared.errors.PageError.TheVariants.{Damaged, Fault}
 use Rattle.pk_nand.specs.BoardState.{BoardState}
+
+-- a value of so many bytes begins at this page
+abbrev pub place : ℕ → ℕ → Place
+place page len = record { page = page; len = len }
 
 abbrev pub Found : Type 0
 Found = List (Key × List ℕ)

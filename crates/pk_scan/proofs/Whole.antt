@@ -1,9 +1,9 @@
 -- The whole of opening, by what its parts found.
-use Rattle.std.proofs.Common.{◌≡◌, ◌≢◌, inl, inr, ℕ, zero, suc, ◌+◌, ◌-◌, ◌*◌, ◌<◌, ◌≤◌, true, List, [], ◌∷◌, length, drop, refl, sym, ap, subst, ◌∙◌, arith, Some, None, Result, Ok, Err}
+use Rattle.std.proofs.Common.{◌≡◌, ◌≢◌, inl, inr, ℕ, zero, suc, ◌+◌, ◌-◌, ◌<◌, ◌≤◌, true, List, [], ◌∷◌, length, drop, refl, sym, ap, subst, ◌∙◌, arith, Some, None, Result, Ok, Err}
 use Rattle.std.specs.Prelude.{nat_eq, ◌==◌, ◌++◌}
 use Rattle.std.specs.List.{AllByRecursion, list_all, starts_with}
 use Rattle.pk_base.specs.Key.{Key}
-use Rattle.pk_base.specs.Shape.{Shape, charge, buffer, pinned}
+use Rattle.pk_base.specs.Shape.{Shape, charge, buffer, root_pages, pinned}
 use Rattle.pk_base.specs.Entry.{Entry, Place}
 use Rattle.pk_base.specs.EntryBytes.{IsEntry, IsPlace}
 use Rattle.pk_base.specs.Firsts.{firsts}
@@ -25,13 +25,14 @@ use Rattle.pk_pin.specs.Frames.{free_frames}
 use Rattle.pk_walk.specs.Visible.{visible}
 use Rattle.pk_walk.specs.Walking.{Walk, IsLeft, most_read}
 use Rattle.pk_live.specs.Values.{Values}
-use Rattle.pk_pool.specs.Blocks.{Blocks}
+use Rattle.pk_plan.specs.declared.owner.Owner.TheVariants.{Values as for_values}
+use Rattle.pk_pool.specs.Blocks.{Blocks, used_by, unused}
 use Rattle.pk_rootfmt.specs.Held.{Held}
 use Rattle.pk_nand.specs.Erased.{after_reads}
 use Rattle.pk_model.specs.Found.{Found, found_under, entries_in_order}
 use Rattle.pk_model.specs.Laws.{IsPageOf}
 use Rattle.pk_model.specs.Reading.{reading}
-use Rattle.pk_model.specs.Values.{placed, fits, values_of}
+use Rattle.pk_model.specs.Values.{placed, fits, values_of, all_pages, blocks_with}
 use Rattle.pk_model.proofs.Entries.{counting_all, journal_are, meta_are}
 use Rattle.pk_model.proofs.StrangePages.{bind_ok}
 use Rattle.pk_steps.specs.Under.{IsValuePage, places}
@@ -42,7 +43,7 @@ use Rattle.pk_scan.specs.Memory.{FoundNothing, IsUnread, AwaitsLists, HoldsLists
 use Rattle.pk_scan.specs.declared.contents.Found.{Found as Opened}
 use Rattle.pk_scan.specs.declared.contents.Memory.{Memory as Working}
 use Rattle.pk_scan.specs.Adopts.{HasOwners}
-use Rattle.pk_scan.specs.Opened.{IsOpened}
+use Rattle.pk_scan.specs.Opened.{FoundOnFlash}
 use Rattle.pk_scan.specs.Reads.{opened, reads_under, list_reads, value_reads, pages_of_runs, run_reads}
 use Rattle.pk_jrn.specs.Replays.{epoch_reads}
 use Rattle.pk_scan.proofs.Boards.{reads_sum}
@@ -144,10 +145,10 @@ module _ (shape : Shape) (page : ℕ) (root : Root) (old : BoardState) (top : ne
 
 module _ {A : Type 0} (shape : Shape) (flash : Flash) (frames : ℕ) (f : Opened A) (found : Found) (held : HoldsFound shape flash f.root.root f.active f.frozen f.epoch f.arena f.levels found)
     (top : newest_root shape (page_at flash) ≡ Some (f.root_page, f.root.root)) (pinned_is : f.levels.pinned ≡ pinned shape frames) (live : Values) (values : ReadsValues shape flash (named f.root.root) live (places found [])) where
-  pub is_opened : f.root.shape ≡ shape → is_root shape f.root.root ≡ true → f.root_page < 2 * shape.block_pages → f.levels.shape ≡ shape → length f.active.entries ≤ f.active.capacity
-      → HasArena shape frames f.levels f.arena [] → (pool : Blocks) → HasOwners shape f.root.root live pool → (keys : ℕ) → keys ≡ length (places found [])
-      → IsOpened shape flash frames (record f { live = live; pool = pool; keys = keys })
-  is_opened shape_is grammar place levels_shape room arena_is pool owners keys keys_are =
+  pub is_opened : f.root.shape ≡ shape → is_root shape f.root.root ≡ true → f.root_page < root_pages shape → f.levels.shape ≡ shape → length f.active.entries ≤ f.active.capacity
+      → HasArena shape frames f.levels f.arena [] → (pool : Blocks) → HasOwners shape f.root.root live pool → used_by for_values pool.states ≡ length (blocks_with shape (all_pages shape (places found [])))
+      → (keys : ℕ) → keys ≡ length (places found []) → FoundOnFlash shape flash frames (record f { live = live; pool = pool; keys = keys })
+  is_opened shape_is grammar place levels_shape room arena_is pool owners values_are keys keys_are =
       let under = stands_under shape flash f.root_page f.root.root top found held.finds (few_newest shape flash f.root.root f.active f.frozen f.epoch f.arena f.levels found held room) values.values values.read in
       record {
         found = found;
@@ -171,41 +172,42 @@ module _ {A : Type 0} (shape : Shape) (flash : Flash) (frames : ℕ) (f : Opened
           lives = values.lives;
           written = values_written shape (page_at flash) (named f.root.root) [] (places found []) values.values values.read;
           owners = owners;
+          values_are = values_are;
         };
         keys_are = keys_are;
       }
 
-  opened_is : opened shape flash frames ≡ 2 * shape.block_pages + epoch_reads shape (page_at flash) f.root.root.older + epoch_reads shape (page_at flash) f.root.root.newest + run_reads shape (pinned shape frames) 1 f.root.root.counts + value_reads shape (places found [])
+  opened_is : opened shape flash frames ≡ root_pages shape + epoch_reads shape (page_at flash) f.root.root.older + epoch_reads shape (page_at flash) f.root.root.newest + run_reads shape (pinned shape frames) 1 f.root.root.counts + value_reads shape (places found [])
   unfolding opened reads_under
   opened_is = rw (top, held.finds) refl
 
   -- what was read, part by part
-  pub opened_reads : (old now new : BoardState) → now ≡ after_reads (2 * shape.block_pages + list_reads shape (page_at flash) f.root.root) old → new ≡ after_reads (most_read f.levels.runs + value_reads shape (places found [])) now → new ≡ after_reads (opened shape flash frames) old
+  pub opened_reads : (old now new : BoardState) → now ≡ after_reads (root_pages shape + list_reads shape (page_at flash) f.root.root) old → new ≡ after_reads (most_read f.levels.runs + value_reads shape (places found [])) now → new ≡ after_reads (opened shape flash frames) old
   opened_reads old now new first second =
       let root = f.root.root in
       let runs = run_reads_are shape flash f.arena f.levels.pinned 1 f.levels.runs found.runs root.runs root.counts held.stand held.run_blocks held.run_frames in
       let pins = ap (λ (n : ℕ). run_reads shape n 1 root.counts) pinned_is in
-      reads_sum old now new (2 * shape.block_pages + list_reads shape (page_at flash) root) (most_read f.levels.runs + value_reads shape (places found [])) (opened shape flash frames)
-      (sum (2 * shape.block_pages) (epoch_reads shape (page_at flash) root.older) (epoch_reads shape (page_at flash) root.newest) (pages_of_runs shape root.counts) (most_read f.levels.runs) (run_reads shape (pinned shape frames) 1 root.counts)
+      reads_sum old now new (root_pages shape + list_reads shape (page_at flash) root) (most_read f.levels.runs + value_reads shape (places found [])) (opened shape flash frames)
+      (sum (root_pages shape) (epoch_reads shape (page_at flash) root.older) (epoch_reads shape (page_at flash) root.newest) (pages_of_runs shape root.counts) (most_read f.levels.runs) (run_reads shape (pinned shape frames) 1 root.counts)
       (value_reads shape (places found [])) (runs ∙ pins) ∙ sym opened_is) first second
     where
       sum : (roots older newest once again all values : ℕ) → once + again ≡ all → (again + values) + (roots + (older + newest + once)) ≡ roots + older + newest + all + values
       sum roots older newest once again all values e = omega (arith, e)
 
 -- the lists were read behind the root
-pub root_then_lists : (shape other : Shape) (root : Root) (old now new : BoardState) → other ≡ shape → now ≡ after_reads (2 * shape.block_pages) old → now.pages ≡ old.pages → new ≡ after_reads (list_reads other (page_at now.pages) root) now
-    → new ≡ after_reads (2 * shape.block_pages + list_reads shape (page_at old.pages) root) old
+pub root_then_lists : (shape other : Shape) (root : Root) (old now new : BoardState) → other ≡ shape → now ≡ after_reads (root_pages shape) old → now.pages ≡ old.pages → new ≡ after_reads (list_reads other (page_at now.pages) root) now
+    → new ≡ after_reads (root_pages shape + list_reads shape (page_at old.pages) root) old
 root_then_lists shape other root old now new is first same second =
     let there : new ≡ after_reads (list_reads shape (page_at now.pages) root) now = subst (λ (s : Shape). new ≡ after_reads (list_reads s (page_at now.pages) root) now) is second in
     let here : new ≡ after_reads (list_reads shape (page_at old.pages) root) now = subst (λ (f : Flash). new ≡ after_reads (list_reads shape (page_at f) root) now) same there in
-    reads_sum old now new (2 * shape.block_pages) (list_reads shape (page_at old.pages) root) (2 * shape.block_pages + list_reads shape (page_at old.pages) root) (swap (list_reads shape (page_at old.pages) root) (2 * shape.block_pages)) first here
+    reads_sum old now new (root_pages shape) (list_reads shape (page_at old.pages) root) (root_pages shape + list_reads shape (page_at old.pages) root) (swap (list_reads shape (page_at old.pages) root) (root_pages shape)) first here
   where
     swap : (m n : ℕ) → m + n ≡ n + m
     swap m n = omega arith
 
 -- the root was found, and behind it the lists
 pub finds_lists : {A : Type 0} (flash now : Flash) (old mid new : Opened A) (found : Found) → new ≡ record mid { active = new.active; frozen = new.frozen; levels = new.levels; arena = new.arena; epoch = new.epoch }
-    → mid.root.shape ≡ old.root.shape → mid.levels ≡ old.levels → mid.arena ≡ old.arena → now ≡ flash → newest_root old.root.shape (page_at flash) ≡ Some (mid.root_page, mid.root.root) → mid.root_page < 2 * old.root.shape.block_pages
+    → mid.root.shape ≡ old.root.shape → mid.levels ≡ old.levels → mid.arena ≡ old.arena → now ≡ flash → newest_root old.root.shape (page_at flash) ≡ Some (mid.root_page, mid.root.root) → mid.root_page < root_pages old.root.shape
     → is_root old.root.shape mid.root.root ≡ true → old.levels.shape ≡ old.root.shape → length new.active.entries ≤ new.active.capacity → LoadsLists now mid new found → FindsLists flash old new found
 finds_lists flash now old mid new found kept shape levels arena same top place grammar levels_shape few loads =
     let root_is : new.root ≡ mid.root = ap (λ x. x.root) kept in
@@ -213,7 +215,7 @@ finds_lists flash now old mid new found kept shape levels arena same top place g
     record {
       top = subst (λ (p : ℕ). newest_root old.root.shape (page_at flash) ≡ Some (p, new.root.root)) (sym page_is)
           (subst (λ (r : Held). newest_root old.root.shape (page_at flash) ≡ Some (mid.root_page, r.root)) (sym root_is) top);
-      place = subst (λ (p : ℕ). p < 2 * old.root.shape.block_pages) (sym page_is) place;
+      place = subst (λ (p : ℕ). p < root_pages old.root.shape) (sym page_is) place;
       grammar = subst (λ (r : Held). is_root old.root.shape r.root ≡ true) (sym root_is) grammar;
       held = subst (λ (r : Held). HoldsFound old.root.shape flash r.root new.active new.frozen new.epoch new.arena new.levels found) (sym root_is)
           (subst (λ (f : Flash). HoldsFound old.root.shape f mid.root.root new.active new.frozen new.epoch new.arena new.levels found) same
@@ -263,18 +265,20 @@ module _ {A : Type 0} (shape a : Shape) (f : Opened A) (is : a ≡ shape) (root_
     pinned_here : f.levels.pinned ≡ pinned shape frames
     pinned_here = finds.pinned_is ∙ ap (λ (l : Levels). l.pinned) unread.no_run
 
-    pub scan_opened : (pool : Blocks) → HasOwners f.root.shape f.root.root live pool → (keys : ℕ) → keys ≡ length (places found []) → IsOpened shape old.pages frames (record f { live = live; pool = pool; keys = keys })
-    scan_opened pool owners keys keys_are =
+    pub scan_opened : (pool : Blocks) → HasOwners f.root.shape f.root.root live pool → used_by for_values pool.states ≡ length (blocks_with f.root.shape (all_pages f.root.shape (places found [])))
+        → (keys : ℕ) → keys ≡ length (places found []) → FoundOnFlash shape old.pages frames (record f { live = live; pool = pool; keys = keys })
+    scan_opened pool owners values_are keys keys_are =
         is_opened shape old.pages frames f found held_here top_here pinned_here live (values_here live values) shape_is
-        (subst (λ (s : Shape). is_root s f.root.root ≡ true) from_before finds.grammar) (subst (λ (s : Shape). f.root_page < 2 * s.block_pages) from_before finds.place) (finds.levels_shape ∙ from_before) finds.few
+        (subst (λ (s : Shape). is_root s f.root.root ≡ true) from_before finds.grammar) (subst (λ (s : Shape). f.root_page < root_pages s) from_before finds.place) (finds.levels_shape ∙ from_before) finds.few
         (arena_opened shape frames before.arena f.arena f.levels f.root.root.counts finds.held.run_frames unread.page_bytes unread.all_free finds.more)
-        pool (subst (λ (s : Shape). HasOwners s f.root.root live pool) shape_is owners) keys keys_are
+        pool (subst (λ (s : Shape). HasOwners s f.root.root live pool) shape_is owners)
+        (subst (λ (s : Shape). used_by for_values pool.states ≡ length (blocks_with s (all_pages s (places found [])))) shape_is values_are) keys keys_are
 
-    pub scan_reads : (new : BoardState) → now ≡ after_reads (2 * before.root.shape.block_pages + list_reads before.root.shape (page_at old.pages) f.root.root) old
+    pub scan_reads : (new : BoardState) → now ≡ after_reads (root_pages before.root.shape + list_reads before.root.shape (page_at old.pages) f.root.root) old
         → new ≡ after_reads (most_read f.levels.runs + value_reads f.root.shape (places found [])) now → new ≡ after_reads (opened shape old.pages frames) old
     scan_reads new first second =
         opened_reads shape old.pages frames f found held_here top_here pinned_here live (values_here live values) old now new
-        (subst (λ (s : Shape). now ≡ after_reads (2 * s.block_pages + list_reads s (page_at old.pages) f.root.root) old) from_before first)
+        (subst (λ (s : Shape). now ≡ after_reads (root_pages s + list_reads s (page_at old.pages) f.root.root) old) from_before first)
         (subst (λ (s : Shape). new ≡ after_reads (most_read f.levels.runs + value_reads s (places found [])) now) shape_is second)
 
 -- an arena of free frames has those that are wanted
@@ -289,8 +293,8 @@ awaits_lists shape frames f none = record {
 
 -- behind the lists the values may be read
 pub awaits_values : {A : Type 0} (shape : Shape) (frames : ℕ) (flash : Flash) (was now : Working A) (found : Found) → IsUnread shape frames was → FindsLists flash was.found now.found found
-    → now.found.root.shape ≡ was.found.root.shape → now.found.live ≡ was.found.live → now.walk ≡ was.walk → now.named ≡ was.named → length now.page.items ≡ was.found.root.shape.page_bytes → AwaitsValues now
-awaits_values shape frames flash was now found unread finds root_is live walk names room =
+    → now.found.root.shape ≡ was.found.root.shape → now.found.live ≡ was.found.live → now.walk ≡ was.walk → now.found.pool ≡ was.found.pool → length now.page.items ≡ was.found.root.shape.page_bytes → AwaitsValues now
+awaits_values shape frames flash was now found unread finds root_is live walk pool room =
     let is : now.found.root.shape ≡ shape = root_is ∙ unread.nothing.root_shape in
     record {
       grammar = rw root_is finds.grammar;
@@ -298,7 +302,6 @@ awaits_values shape frames flash was now found unread finds root_is live walk na
       walk_shape = ap (λ w. w.shape) walk ∙ unread.walk_shape ∙ sym is;
       starts = subst (λ w. IsAtStart w) (sym walk) unread.starts;
       none_live = live ∙ unread.nothing.none_live ∙ ap (λ (s : Shape). no_values s) (sym is);
-      none_named = ap (λ n. n.items) names ∙ unread.none_named;
-      named_room = rw (is, names) unread.named_room;
+      pool_unused = pool ∙ unread.nothing.pool_unused ∙ ap (λ (s : Shape). unused s) (sym is);
       page_room = room ∙ ap (λ (s : Shape). s.page_bytes) (sym root_is);
     }

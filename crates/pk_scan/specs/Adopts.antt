@@ -1,17 +1,28 @@
 -- Blocks that get their owners at opening.
-use Rattle.std.specs.Prelude.{◌≡◌, ℕ, ◌+◌, ◌≤◌, Bool, true, false, ◌==◌, ◌-◌, List, ◌++◌, length, slice_get, option_map, Some}
-use Rattle.std.specs.List.{list_any, concat, AllByRecursion}
+use Rattle.std.specs.Prelude.{◌≡◌, ℕ, ◌+◌, ◌≤◌, Bool, true, false, ◌==◌, ◌-◌, List, ◌++◌, length, slice_get, option_map, Option, Some, None, filter}
+use Rattle.std.specs.List.{list_any, concat, range_with_len, AllByRecursion}
 use Rattle.pk_base.specs.Shape.{Shape, data_blocks}
 use Rattle.pk_base.specs.Page.{Flash}
 use Rattle.pk_plan.specs.declared.owner.Owner.{Owner}
 use Rattle.pk_plan.specs.declared.owner.Owner.TheVariants.{Journal, Meta, Values}
 use Rattle.pk_plan.specs.Quotas.{quota_of}
 use Rattle.pk_pool.specs.declared.state.BlockState.{BlockState}
-use Rattle.pk_pool.specs.declared.state.BlockState.TheVariants.{Owned}
-use Rattle.pk_pool.specs.Blocks.{Blocks, used_by, same_owner, IsSpare, PoolOnFlash}
+use Rattle.pk_pool.specs.declared.state.BlockState.TheVariants.{Root as RootBlock, Free, Ready, Owned}
+use Rattle.pk_pool.specs.Blocks.{Blocks, unused, used_by, same_owner, IsSpare, PoolOnFlash}
 use Rattle.pk_rootfmt.specs.Root.{Root, differ}
 use Rattle.pk_live.specs.Values.{Values as LiveValues, IsClosed}
 use Rattle.pk_model.specs.Laws.{AnyByRecursion}
+
+abbrev pub has_owner : Option BlockState → Bool
+has_owner None = false
+has_owner (Some RootBlock) = false
+has_owner (Some Free) = false
+has_owner (Some Ready) = false
+has_owner (Some (Owned o)) = true
+
+-- the blocks that have an owner
+unfoldable pub owned_blocks : Blocks → List ℕ
+owned_blocks pool = filter (λ b. has_owner (slice_get pool.states b)) (range_with_len 0 (length pool.states))
 
 -- the block is one of these
 abbrev pub is_among : List ℕ → ℕ → Bool
@@ -42,6 +53,14 @@ pub record NamesOwned (root : Root) (old new : Blocks) : Type 0 where
   pub meta : used_by Meta new.states ≡ used_by Meta old.states + length (concat root.runs)
   pub values : used_by Values new.states ≡ used_by Values old.states
   pub fits : (flash : Flash) → PoolOnFlash old flash → PoolOnFlash new flash
+
+-- In a new pool the blocks of the root's epochs became the journal's, and those of its runs meta blocks. So many these owners have, and
+-- the values none.
+pub record RootOwned (shape : Shape) (root : Root) (pool : Blocks) : Type 0 where
+  pub named_owned : NamesOwned root (unused shape) pool
+  pub journal : used_by Journal pool.states ≡ length (root.newest ++ root.older)
+  pub meta : used_by Meta pool.states ≡ length (concat root.runs)
+  pub values : used_by Values pool.states ≡ 0
 
 -- The blocks of the root's epochs are the journal's, those of its runs are meta blocks, and those that are closed are the values'.
 pub record HasOwners (shape : Shape) (root : Root) (live : LiveValues) (pool : Blocks) : Type 0 where

@@ -1,4 +1,3 @@
-pub mod Places
 pub mod Pages
 pub mod Checked
 pub mod Accepted

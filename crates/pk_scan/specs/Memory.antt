@@ -1,6 +1,6 @@
 -- The memory of an opening, before and between its two halves.
-use Rattle.std.specs.Prelude.{◌≡◌, ℕ, ◌+◌, ◌*◌, ◌<◌, ◌≤◌, true, false, [], length, replicate, vec_capacity, Some}
-use Rattle.pk_base.specs.Shape.{Shape, meta_blocks, pinned}
+use Rattle.std.specs.Prelude.{◌≡◌, ℕ, ◌+◌, ◌<◌, ◌≤◌, true, false, [], length, replicate, Some}
+use Rattle.pk_base.specs.Shape.{Shape, root_pages, pinned}
 use Rattle.pk_base.specs.Page.{Flash, page_at}
 use Rattle.pk_buf.specs.Table.{no_entries}
 use Rattle.pk_level.specs.Levels.{no_runs}
@@ -39,8 +39,6 @@ pub record IsUnread {A : Type 0} (shape : Shape) (frames : ℕ) (m : Memory A) :
   pub nothing : FoundNothing shape frames m.found
   pub walk_shape : m.walk.shape ≡ shape
   pub starts : IsAtStart m.walk
-  pub none_named : m.named.items ≡ []
-  pub named_room : 4 + meta_blocks shape ≤ vec_capacity m.named
   pub page_room : length m.page.items ≡ shape.page_bytes
 
 -- ---- lists
@@ -67,7 +65,7 @@ pub record LoadsLists {A : Type 0} (flash : Flash) (old new : Found A) (lists : 
 -- The newest root is in memory, and the lists under it.
 pub record FindsLists {A : Type 0} (flash : Flash) (old new : Found A) (lists : FoundLists) : Type 0 where
   pub top : newest_root old.root.shape (page_at flash) ≡ Some (new.root_page, new.root.root)
-  pub place : new.root_page < 2 * old.root.shape.block_pages
+  pub place : new.root_page < root_pages old.root.shape
   pub grammar : is_root old.root.shape new.root.root ≡ true
   pub held : HoldsFound old.root.shape flash new.root.root new.active new.frozen new.epoch new.arena new.levels lists
   pub few : length new.active.entries ≤ new.active.capacity
@@ -77,15 +75,14 @@ pub record FindsLists {A : Type 0} (flash : Flash) (old new : Found A) (lists : 
 
 -- ---- values
 
--- The values of all keys may be read: none was taken, and the walk is at its start.
+-- The values of all keys may be read: no block has an owner, no value was taken, and the walk is at its start.
 pub record AwaitsValues {A : Type 0} (m : Memory A) : Type 0 where
   pub grammar : is_root m.found.root.shape m.found.root.root ≡ true
   pub levels_shape : m.found.levels.shape ≡ m.found.root.shape
   pub walk_shape : m.walk.shape ≡ m.found.root.shape
   pub starts : IsAtStart m.walk
   pub none_live : m.found.live ≡ no_values m.found.root.shape
-  pub none_named : m.named.items ≡ []
-  pub named_room : 4 + meta_blocks m.found.root.shape ≤ vec_capacity m.named
+  pub pool_unused : m.found.pool ≡ unused m.found.root.shape
   pub page_room : length m.page.items ≡ m.found.root.shape.page_bytes
 
 -- The values of all keys that are there were read, each page once: the live map stands for them, and the keys are counted.

@@ -1,18 +1,17 @@
 -- All that stands on a flash, as opening has it in memory.
-use Rattle.std.specs.Prelude.{◌≡◌, ◌≢◌, ℕ, ◌*◌, ◌<◌, true, [], length}
-use Rattle.pk_base.specs.Shape.{Shape, pinned}
+use Rattle.std.specs.Prelude.{◌≡◌, ◌≢◌, ℕ, ◌<◌, true, [], length}
+use Rattle.pk_base.specs.Shape.{Shape, root_pages, pinned}
 use Rattle.pk_base.specs.Page.{Flash, page_at, erased}
 use Rattle.pk_base.specs.Map.{Map}
-use Rattle.pk_plan.specs.declared.owner.Owner.TheVariants.{Journal, Meta, Values as for_values}
-use Rattle.pk_pool.specs.declared.state.BlockState.TheVariants.{Owned}
-use Rattle.pk_pool.specs.Blocks.{Blocks, PoolOnFlash, used_by}
-use Rattle.pk_nand.specs.BoardState.{BoardState}
+use Rattle.pk_plan.specs.declared.owner.Owner.TheVariants.{Values as for_values}
+use Rattle.pk_pool.specs.Blocks.{used_by}
 use Rattle.pk_rootfmt.specs.Root.{is_root, named}
 use Rattle.pk_jrn.specs.Epochs.{EpochOnFlash}
 use Rattle.pk_jrn.specs.Replays.{buffer_of}
 use Rattle.pk_level.specs.Levels.{RunsOnFlash}
 use Rattle.pk_level.specs.Arenas.{HasArena}
 use Rattle.pk_model.specs.Found.{Found as FoundLists}
+use Rattle.pk_model.specs.Values.{all_pages, blocks_with}
 use Rattle.pk_steps.specs.Under.{IsUnder, IsValuePage, places}
 pub use Rattle.pk_scan.specs.Opening.{HaveBlocks}
 use Rattle.pk_scan.specs.Opening.{IsFoundEpoch}
@@ -22,10 +21,10 @@ use Rattle.pk_scan.specs.declared.contents.Found.{Found}
 
 -- The lists under the newest root are in memory: the newest epoch in the active buffer, the older one in the frozen buffer, the
 -- runs in the levels, of which the upper ones have frames, and nothing else has some.
-pub record HasLists {A : Type 0} (shape : Shape) (flash : Flash) (frames : ℕ) (f : Found A) (lists : FoundLists) (map : Map) : Type 0 where
+pub record ListsOnFlash {A : Type 0} (shape : Shape) (flash : Flash) (frames : ℕ) (f : Found A) (lists : FoundLists) (map : Map) : Type 0 where
   pub shape_is : f.root.shape ≡ shape
   pub grammar : is_root shape f.root.root ≡ true
-  pub place : f.root_page < 2 * shape.block_pages
+  pub place : f.root_page < root_pages shape
   pub under : IsUnder shape flash [] (f.root_page, f.root.root) lists map
   pub active_is : f.active ≡ buffer_of shape lists.newest
   pub frozen_is : f.frozen ≡ buffer_of shape lists.older
@@ -37,17 +36,19 @@ pub record HasLists {A : Type 0} (shape : Shape) (flash : Flash) (frames : ℕ) 
   pub run_blocks : HaveBlocks shape f.levels.runs f.root.root.runs
   pub arena_is : HasArena shape frames f.levels f.arena []
 
--- The live map stands for the values of the keys that are there, and each block has the owner that it is found to have.
-pub record HasBlocks {A : Type 0} (shape : Shape) (flash : Flash) (f : Found A) (lists : FoundLists) : Type 0 where
+-- The live map stands for the values of the keys that are there, and each block has the owner that it is found to have: the values'
+-- are those with a page of a value.
+pub record BlocksOnFlash {A : Type 0} (shape : Shape) (flash : Flash) (f : Found A) (lists : FoundLists) : Type 0 where
   pub lives : Lives shape (named f.root.root) f.live (places lists [])
   pub written : (k : ℕ) → IsValuePage shape (places lists []) k → page_at flash k ≢ erased
   pub owners : HasOwners shape f.root.root f.live f.pool
+  pub values_are : used_by for_values f.pool.states ≡ length (blocks_with shape (all_pages shape (places lists [])))
 
 -- The flash is opened: the lists under its newest root are in memory, the live map stands for the values of the keys that are
 -- there, each block has its owner, and the keys are counted.
-pub record IsOpened {A : Type 0} (shape : Shape) (flash : Flash) (frames : ℕ) (f : Found A) : Type 0 where
+pub record FoundOnFlash {A : Type 0} (shape : Shape) (flash : Flash) (frames : ℕ) (f : Found A) : Type 0 where
   pub found : FoundLists
   pub map : Map
-  pub lists : HasLists shape flash frames f found map
-  pub blocks : HasBlocks shape flash f found
+  pub lists : ListsOnFlash shape flash frames f found map
+  pub blocks : BlocksOnFlash shape flash f found
   pub keys_are : f.keys ≡ length (places found [])

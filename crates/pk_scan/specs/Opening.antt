@@ -1,11 +1,11 @@
 -- Opening, part by part: what the reading of a flash finds, and why it refuses.
 use Rattle.std.specs.Prelude.{◌≡◌, ⊤, ℕ, ◌+◌, ◌-◌, ◌<◌, ◌≤◌, List, [], ◌∷◌, nat_le, true, slice_index, slice_index_or, take, drop, Result, Ok, Err}
 use Rattle.std.specs.List.{AllByRecursion}
-use Rattle.pk_base.specs.Shape.{Shape, cap, caps, epoch_commits, epoch_pages, run_pages}
+use Rattle.pk_base.specs.Shape.{Shape, cap, caps, epoch_commits, run_pages}
 use Rattle.pk_base.specs.Key.{Key}
 use Rattle.pk_base.specs.Entry.{Entry, Place}
 use Rattle.pk_base.specs.EntryBytes.{IsEntry}
-use Rattle.pk_base.specs.Page.{Flash, page_at, Page, page_in}
+use Rattle.pk_base.specs.Page.{Flash, page_at, Page}
 use Rattle.pk_base.specs.Refusal.{Refusal, not_formatted, damaged}
 use Rattle.pk_nand.specs.BoardState.{BoardState}
 use Rattle.pk_nand.specs.Calls.{Rose}

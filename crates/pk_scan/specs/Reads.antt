@@ -1,7 +1,7 @@
 -- How many pages opening reads, by what stands on the flash.
 use Rattle.std.specs.Prelude.{ℕ, ◌+◌, ◌*◌, List, [], ◌∷◌, nat_le, if◌then◌else◌, Option, Some, None, Result, Ok, Err}
 use Rattle.pk_base.specs.Key.{Key}
-use Rattle.pk_base.specs.Shape.{Shape, charge, pinned, run_pages}
+use Rattle.pk_base.specs.Shape.{Shape, charge, root_pages, pinned, run_pages}
 use Rattle.pk_base.specs.Entry.{Place}
 use Rattle.pk_base.specs.Page.{Page, Flash, page_at}
 use Rattle.pk_base.specs.Refusal.{Refusal}
@@ -34,7 +34,7 @@ value_reads shape (e ∷ es) = charge shape e.1.len + value_reads shape es
 -- all reads under a root: the pages of the root blocks, of the epochs, the runs and the values
 unfoldable pub reads_under : Shape → (ℕ → Page) → ℕ → Root → Found → ℕ
 reads_under shape at frames root found =
-    2 * shape.block_pages + epoch_reads shape at root.older + epoch_reads shape at root.newest + run_reads shape (pinned shape frames) 1 root.counts
+    root_pages shape + epoch_reads shape at root.older + epoch_reads shape at root.newest + run_reads shape (pinned shape frames) 1 root.counts
     + value_reads shape (places found [])
 
 -- all reads under a root, where the lists of entries are found; else there is no map to open

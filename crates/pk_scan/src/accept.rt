@@ -6,59 +6,65 @@ ghost use Rattle.pk_base.specs.Entry.{Place};
 ghost use Rattle.pk_base.specs.EntryBytes.{IsPlace};
 ghost use Rattle.pk_nand.specs.Calls.{IsReady};
 ghost use Rattle.pk_nand.specs.Erased.{after_reads};
-ghost use Rattle.pk_scan.specs.Places.{place};
 ghost use Rattle.pk_live.specs.Lives.{Lives};
 ghost use Rattle.pk_scan.specs.Accepted.{Accepted, NotAccepted};
-ghost use Rattle.pk_nand.specs.Effects.{OnlyReading};
+ghost use Rattle.pk_scan.specs.Adopts.{owned_blocks};
 ghost use Rattle.pk_scan.specs.Board.{StaysReady};
 
 use crate::errors::PageError;
 use crate::taken::take_value;
 use crate::values::check_value;
-use pk_base::{Key, Shape};
+use pk_base::{Key, Place, Shape};
 use pk_live::Live;
 use pk_nand::Nand;
+use pk_pool::Pool;
 use std::alloc::Allocator;
 
 /// Takes the pages of a value and checks them: one step of the reading of a flash, whose earlier values `live` stands for.
-/// `named` are the blocks that the root names; a value of `len` bytes has `Shape::charge(len)` pages from `page` on. `buf` has
-/// the bytes of a page, which are lost.
+/// In the pool the blocks that the root names have their owners. `buf` has the bytes of a page, which are lost.
 ///
 /// `Damaged` names the first page of a value whose pages may not be taken, before any read, or the first page that is wrong.
 /// `Fault` where a read failed. After either the live map stands for nothing.
 pub fn accept_value<B: Nand, A: Allocator>(
     board: &mut B,
     shape: &Shape,
-    named: &[u16],
+    pool: &Pool<A>,
     live: &mut Live<A>,
     key: &Key,
-    page: u32,
-    len: u32,
+    place: Place,
     buf: &mut [u8],
 ) -> Result<(), PageError>
     requires ready { IsReady (B.state board.old) shape.now }
-    requires place { IsPlace shape.now (place page len) }
-    requires lives { (taken : List (KeySpec × Place)) × Lives shape.now named.now live.old taken }
+    requires place { IsPlace shape.now place }
+    requires lives { (taken : List (KeySpec × Place))
+        × Lives shape.now (owned_blocks pool.now) live.old taken }
     requires room { length buf.old ≡ shape.now.page_bytes }
+
+    // The reading finds the value behind those that were taken, and the live map stands for it too.
     ensures accepted { OnOk result ((taken : List (KeySpec × Place))
-        → Lives shape.now named.now live.old taken
-        → Accepted shape.now (B.state board.old).pages named.now taken key.now (place page len)) }
+        → Lives shape.now (owned_blocks pool.now) live.old taken
+        → Accepted shape.now (B.state board.old).pages
+        (owned_blocks pool.now) taken key.now place) }
     ensures lives { OnOk result ((taken : List (KeySpec × Place))
-        → Lives shape.now named.now live.old taken
-        → Lives shape.now named.now live.new (taken ++ (key.now, place page len) ∷ [])) }
-    ensures ok { OnOk result
-        (B.state board.new ≡ after_reads (spec.charge shape.now len) (B.state board.old)) }
+        → Lives shape.now (owned_blocks pool.now) live.old taken
+        → Lives shape.now (owned_blocks pool.now) live.new (taken ++ (key.now, place) ∷ [])) }
+
+    // It refuses with the page that is answered.
     ensures err { IfErr result (λ e. (taken : List (KeySpec × Place))
-        → Lives shape.now named.now live.old taken
+        → Lives shape.now (owned_blocks pool.now) live.old taken
         → NotAccepted shape.now (B.state board.old) (B.state board.new)
-        named.now taken key.now (place page len) e) }
+        (owned_blocks pool.now) taken key.now place e) }
+
+    // Nothing but its pages is read.
+    ensures ok { OnOk result
+        (B.state board.new ≡ after_reads (spec.charge shape.now place.len) (B.state board.old)) }
     ensures board { StaysReady shape.now (B.state board.old) (B.state board.new) }
     ensures buffer { length buf.new ≡ length buf.old }
 {
-    if !take_value(shape, named, live, page, len) {
-        return Err(PageError::Damaged { page });
+    if !take_value(shape, pool, live, place) {
+        return Err(PageError::Damaged { page: place.page });
     }
-    match check_value(board, shape, key, page, len, buf) {
+    match check_value(board, shape, key, place, buf) {
         Ok(()) => Ok(()),
         Err(error) => Err(error),
     }

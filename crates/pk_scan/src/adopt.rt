@@ -2,15 +2,14 @@
 ghost use Rattle.std.specs.Prelude.{◌≡◌, ◌≤◌, ◌-◌, ◌++◌, List, length, true, false, count_by, slice_index_or};
 ghost use Rattle.std.specs.List.{concat};
 ghost use Rattle.pk_base.specs.Key.{Key};
-ghost use Rattle.pk_base.specs.Page.{Flash};
 ghost use Rattle.pk_base.specs.Shape.{data_blocks};
 ghost use Rattle.pk_base.specs.Entry.{Place};
 ghost use Rattle.pk_plan.specs.declared.owner.Owner.TheVariants.{Journal, Meta, Values};
-ghost use Rattle.pk_pool.specs.Blocks.{PoolOnFlash, used_by, unused};
+ghost use Rattle.pk_pool.specs.Blocks.{used_by, unused};
 ghost use Rattle.pk_rootfmt.specs.Root as spec;
 ghost use Rattle.pk_rootfmt.specs.Root.{named, is_root};
 ghost use Rattle.pk_live.specs.Lives.{Lives};
-ghost use Rattle.pk_scan.specs.Adopts.{is_among, Adopts, HasOwners, NamesOwned, MayAdopt};
+ghost use Rattle.pk_scan.specs.Adopts.{is_among, Adopts, NamesOwned, MayAdopt};
 
 use pk_live::Live;
 use pk_pool::{Owner, Pool};
@@ -87,20 +86,4 @@ pub fn adopt_values<A: Allocator>(pool: &mut Pool<A>, live: &Live<A>)
             pool.adopt(block, Owner::Values);
         }
     }
-}
-
-/// Makes the blocks that the root names, and those that have a live page, their owners'. The pool is as it is made; the live map
-/// stands for values in none of the blocks that the root names.
-pub fn give_owners<A: Allocator>(pool: &mut Pool<A>, root: &Root<A>, live: &Live<A>)
-    requires unused { pool.old ≡ unused root.now.shape }
-    requires fits { (flash : Flash) → PoolOnFlash pool.old flash }
-    requires root { is_root root.now.shape root.now.root ≡ true }
-    requires lives { (taken : List (Key × Place))
-        × Lives root.now.shape (named root.now.root) live.now taken }
-    ensures { HasOwners root.now.shape root.now.root live.now pool.new }
-{
-    root.shape().known();
-    adopt_blocks(pool, root);
-    adopt_values(pool, live);
-    pool.known();
 }

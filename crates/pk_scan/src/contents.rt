@@ -42,8 +42,6 @@ pub struct Memory<A: Region> {
     pub found: Found<A>,
     /// The walk over all keys that are there.
     pub walk: Walk<A>,
-    /// The blocks that the root names.
-    pub named: Vec<u16, A>,
     /// The bytes of a page.
     pub page: Vec<u8, A>,
 }

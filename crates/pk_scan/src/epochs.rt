@@ -6,7 +6,6 @@ ghost use Rattle.pk_model.specs.Found.{newest_epoch, older_epoch};
 ghost use Rattle.pk_nand.specs.Calls.{IsReady};
 ghost use Rattle.pk_nand.specs.Erased.{after_reads};
 ghost use Rattle.pk_rootfmt.specs.Root.{is_root};
-ghost use Rattle.pk_nand.specs.Effects.{OnlyReading};
 ghost use Rattle.pk_scan.specs.Board.{StaysReady};
 ghost use Rattle.pk_scan.specs.Opening.{PartNotRead, OlderHeld, NewestHeld};
 ghost use Rattle.pk_jrn.specs.Replays.{epoch_reads};
@@ -31,14 +30,20 @@ pub fn read_older<B: Nand, A: Region>(
     requires grammar { is_root root.now.shape root.now.root ≡ true }
     requires empty { into.old ≡ no_entries root.now.shape }
     requires room { length buf.old ≡ root.now.shape.page_bytes }
+
+    // What the epoch holds, and so many reads.
     ensures held { OnOk result
         (OlderHeld root.now.shape (B.state board.old).pages root.now.root into.new) }
     ensures reads { OnOk result (B.state board.new ≡ after_reads
         (epoch_reads root.now.shape (page_at (B.state board.old).pages) root.now.root.older)
         (B.state board.old)) }
+
+    // Or the reading refuses it, or a read failed.
     ensures err { IfErr result (λ e. PartNotRead
         (older_epoch root.now.shape (page_at (B.state board.old).pages) root.now.root)
         (B.state board.old) (B.state board.new) e) }
+
+    // Either way nothing but reads was done.
     ensures board { StaysReady root.now.shape (B.state board.old) (B.state board.new) }
     ensures buffer { length buf.new ≡ length buf.old }
 {
@@ -71,14 +76,20 @@ pub fn read_newest<B: Nand, A: Region>(
     requires grammar { is_root root.now.shape root.now.root ≡ true }
     requires empty { into.old ≡ no_entries root.now.shape }
     requires room { length buf.old ≡ root.now.shape.page_bytes }
+
+    // What the epoch holds, and so many reads.
     ensures held { IfOk result (λ epoch.
         NewestHeld root.now.shape (B.state board.old).pages root.now.root into.new epoch) }
     ensures reads { OnOk result (B.state board.new ≡ after_reads
         (epoch_reads root.now.shape (page_at (B.state board.old).pages) root.now.root.newest)
         (B.state board.old)) }
+
+    // Or the reading refuses it, or a read failed.
     ensures err { IfErr result (λ e. PartNotRead
         (newest_epoch root.now.shape (page_at (B.state board.old).pages) root.now.root)
         (B.state board.old) (B.state board.new) e) }
+
+    // Either way nothing but reads was done.
     ensures board { StaysReady root.now.shape (B.state board.old) (B.state board.new) }
     ensures buffer { length buf.new ≡ length buf.old }
 {

@@ -4,9 +4,6 @@ ghost use Rattle.pk_base.specs.Page.{page_at};
 ghost use Rattle.pk_model.specs.Found.{runs_from};
 ghost use Rattle.pk_nand.specs.Calls.{IsReady};
 ghost use Rattle.pk_nand.specs.Erased.{after_reads};
-ghost use Rattle.pk_pin.specs.Frames.{free_frames};
-ghost use Rattle.pk_rootfmt.specs.Root.{is_root};
-ghost use Rattle.pk_nand.specs.Effects.{OnlyReading};
 ghost use Rattle.pk_scan.specs.Board.{StaysReady};
 ghost use Rattle.pk_scan.specs.Reads.{pages_of_runs};
 ghost use Rattle.pk_scan.specs.Opening.{PartNotOpened, MayLoadLevel, MayLoadRuns, LoadsLevel, LoadsRuns, level_of, level_reads};
@@ -33,13 +30,19 @@ fn load_level<B: Nand, A: Region>(
     requires ready { IsReady (B.state board.old) root.now.shape }
     requires may { MayLoadLevel root.now level arena.old levels.old }
     requires room { length buf.old ≡ root.now.shape.page_bytes }
+
+    // The run stands at its level, behind so many reads.
     ensures loaded { OnOk result (LoadsLevel root.now.shape root.now.root level
         (B.state board.old).pages arena.old arena.new levels.old levels.new) }
     ensures reads { OnOk result (B.state board.new
         ≡ after_reads (level_reads root.now level) (B.state board.old)) }
+
+    // Or the reading refuses it, a read failed, or memory is wanting.
     ensures err { IfErr result (λ e. PartNotOpened
         (level_of root.now (page_at (B.state board.old).pages) level)
         (B.state board.old) (B.state board.new) e) }
+
+    // Either way nothing but reads was done.
     ensures board { StaysReady root.now.shape (B.state board.old) (B.state board.new) }
     ensures buffer { length buf.new ≡ length buf.old }
 {
@@ -77,14 +80,20 @@ pub fn load_runs<B: Nand, A: Region>(
     requires ready { IsReady (B.state board.old) root.now.shape }
     requires may { MayLoadRuns root.now arena.old levels.old }
     requires room { length buf.old ≡ root.now.shape.page_bytes }
+
+    // The runs stand at their levels, behind so many reads.
     ensures loaded { OnOk result (LoadsRuns root.now
         (B.state board.old).pages arena.old arena.new levels.old levels.new) }
     ensures reads { OnOk result (B.state board.new
         ≡ after_reads (pages_of_runs root.now.shape root.now.root.counts) (B.state board.old)) }
+
+    // Or the reading refuses one, a read failed, or memory is wanting.
     ensures err { IfErr result (λ e. PartNotOpened
         (runs_from root.now.shape (page_at (B.state board.old).pages)
         1 root.now.root.counts root.now.root.runs)
         (B.state board.old) (B.state board.new) e) }
+
+    // Either way nothing but reads was done.
     ensures board { StaysReady root.now.shape (B.state board.old) (B.state board.new) }
     ensures buffer { length buf.new ≡ length buf.old }
 {

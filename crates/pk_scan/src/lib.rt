@@ -11,7 +11,6 @@ mod errors;
 mod levels;
 mod lists;
 mod memory;
-mod names;
 mod opening;
 mod pages;
 mod refused;
@@ -21,7 +20,7 @@ mod values;
 mod visible;
 
 pub use accept::accept_value;
-pub use adopt::{adopt_blocks, adopt_values, give_owners};
+pub use adopt::{adopt_blocks, adopt_values};
 pub use contents::Found;
 pub use epochs::{read_newest, read_older};
 pub use errors::{OpenError, PageError};

@@ -1,12 +1,12 @@
 //! The newest root, and all lists of entries that are found under it.
-ghost use Rattle.std.specs.Prelude.{◌≡◌, ◌*◌, ◌<◌, length, true, Some, IfOk, IfErr, OnOk};
+ghost use Rattle.std.specs.Prelude.{◌≡◌, ◌<◌, length, true, Some, IfOk, IfErr, OnOk};
 ghost use Rattle.pk_base.specs.Page.{page_at};
+ghost use Rattle.pk_base.specs.Shape.{root_pages};
 ghost use Rattle.pk_model.specs.Found.{Found as FoundLists, found_under};
 ghost use Rattle.pk_nand.specs.Calls.{IsReady};
 ghost use Rattle.pk_nand.specs.Erased.{after_reads};
 ghost use Rattle.pk_rootfmt.specs.Newest.{newest_root};
 ghost use Rattle.pk_rootfmt.specs.Root.{is_root};
-ghost use Rattle.pk_nand.specs.Effects.{OnlyReading};
 ghost use Rattle.pk_scan.specs.Board.{StaysReady};
 ghost use Rattle.pk_scan.specs.Memory.{AwaitsLists, LoadsLists};
 ghost use Rattle.pk_scan.specs.Opening.{NotOpened, PartNotOpened};
@@ -31,15 +31,21 @@ pub fn find_root<B: Nand, A: Allocator>(
 ) -> Result<u32, OpenError>
     requires ready { IsReady (B.state board.old) root.old.shape }
     requires room { length buf.old ≡ root.old.shape.page_bytes }
+
+    // The newest root, behind so many reads.
     ensures found { IfOk result (λ page.
         newest_root root.old.shape (page_at (B.state board.old).pages)
         ≡ Some (page, root.new.root)) }
-    ensures place { IfOk result (λ page. page < 2 * root.old.shape.block_pages) }
+    ensures place { IfOk result (λ page. page < root_pages root.old.shape) }
     ensures grammar { OnOk result (is_root root.old.shape root.new.root ≡ true) }
     ensures reads { OnOk result (B.state board.new
-        ≡ after_reads (2 * root.old.shape.block_pages) (B.state board.old)) }
+        ≡ after_reads (root_pages root.old.shape) (B.state board.old)) }
+
+    // Or there is none, or a read failed.
     ensures err { IfErr result (λ e.
         NotOpened root.old.shape (B.state board.old) (B.state board.new) e) }
+
+    // Either way nothing but reads was done.
     ensures shape { root.new.shape ≡ root.old.shape }
     ensures board { StaysReady root.old.shape (B.state board.old) (B.state board.new) }
     ensures buffer { length buf.new ≡ length buf.old }
@@ -66,6 +72,7 @@ pub fn read_lists<B: Nand, A: Region>(
     requires awaits { AwaitsLists found.old }
     requires room { length buf.old ≡ found.old.root.shape.page_bytes }
 
+    // The lists, and that nothing else changes.
     ensures loads { OnOk result ((lists : FoundLists)
         × LoadsLists (B.state board.old).pages found.old found.new lists) }
     ensures kept { found.new ≡ record found.old {
@@ -78,9 +85,13 @@ pub fn read_lists<B: Nand, A: Region>(
     ensures reads { OnOk result (B.state board.new ≡ after_reads
         (list_reads found.old.root.shape (page_at (B.state board.old).pages) found.old.root.root)
         (B.state board.old)) }
+
+    // Or the reading refuses one, a read failed, or memory is wanting.
     ensures err { IfErr result (λ e. PartNotOpened
         (found_under found.old.root.shape (page_at (B.state board.old).pages) found.old.root.root)
         (B.state board.old) (B.state board.new) e) }
+
+    // Either way nothing but reads was done.
     ensures board { StaysReady found.old.root.shape (B.state board.old) (B.state board.new) }
     ensures buffer { length buf.new ≡ length buf.old }
 {

@@ -45,13 +45,7 @@ impl<A: Region> Memory<A> {
         shape.known();
         let found = Found::nothing(alloc, shape, frames)?;
         let walk = Walk::new(alloc, shape)?;
-        let named = Vec::with_capacity(alloc, 4 + shape.meta_blocks() as usize)?;
         let page = Vec::from_elem(alloc, 0u8, shape.page_bytes() as usize)?;
-        Ok(Memory {
-            found,
-            walk,
-            named,
-            page,
-        })
+        Ok(Memory { found, walk, page })
     }
 }

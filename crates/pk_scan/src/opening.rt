@@ -1,27 +1,25 @@
 //! Opening in one call.
 ghost use Rattle.std.specs.Prelude.{◌≡◌, ◌*◌, ◌+◌, ◌≤◌, [], length, IfOk, IfErr, OnOk};
 ghost use Rattle.pk_base.specs.Page.{page_at};
+ghost use Rattle.pk_base.specs.Shape.{root_pages};
 ghost use Rattle.pk_model.specs.Found.{Found as FoundLists};
 ghost use Rattle.pk_model.specs.Values.{values_of};
 ghost use Rattle.pk_nand.specs.Calls.{IsReady};
 ghost use Rattle.pk_nand.specs.Erased.{after_reads};
 ghost use Rattle.pk_rootfmt.specs.Root.{named};
 ghost use Rattle.pk_steps.specs.Under.{places};
-ghost use Rattle.pk_walk.specs.Walking.{most_read};
-ghost use Rattle.pk_scan.specs.Starting.{IsAtStart};
-ghost use Rattle.pk_scan.specs.Opened.{IsOpened};
+ghost use Rattle.pk_scan.specs.Adopts.{RootOwned};
+ghost use Rattle.pk_scan.specs.Opened.{FoundOnFlash};
 ghost use Rattle.pk_nand.specs.Effects.{OnlyReading};
-ghost use Rattle.pk_scan.specs.Opening.{HoldsFound, NotOpened, PartNotOpened, ReadsValues, wanted_behind};
-ghost use Rattle.pk_scan.specs.Reads.{list_reads, opened, value_reads};
-ghost use Rattle.pk_scan.specs.Runs.{LeasedMore};
+ghost use Rattle.pk_scan.specs.Opening.{NotOpened, PartNotOpened};
+ghost use Rattle.pk_scan.specs.Reads.{list_reads, opened};
 ghost use Rattle.pk_scan.specs.Board.{StaysReady};
 ghost use Rattle.pk_scan.specs.Memory.{AwaitsLists, AwaitsValues, FindsLists, FindsValues, HoldsLists};
 
-use crate::adopt::give_owners;
+use crate::adopt::{adopt_blocks, adopt_values};
 use crate::contents::{Found, Memory};
 use crate::errors::OpenError;
 use crate::lists::{find_root, read_lists};
-use crate::names::list_named;
 use crate::visible::{Lists, read_values};
 use pk_base::Shape;
 use pk_nand::Nand;
@@ -37,6 +35,7 @@ fn fill_lists<B: Nand, A: Region>(
     requires awaits { AwaitsLists memory.old.found }
     requires room { length memory.old.page.items ≡ memory.old.found.root.shape.page_bytes }
 
+    // The root and the lists, and that nothing else changes.
     ensures finds { OnOk result ((lists : FoundLists)
         × FindsLists (B.state board.old).pages memory.old.found memory.new.found lists) }
     ensures kept { memory.new ≡ record memory.old {
@@ -54,9 +53,11 @@ fn fill_lists<B: Nand, A: Region>(
     ensures shape { memory.new.found.root.shape ≡ memory.old.found.root.shape }
     ensures room { length memory.new.page.items ≡ memory.old.found.root.shape.page_bytes }
     ensures reads { OnOk result (B.state board.new
-        ≡ after_reads (2 * memory.old.found.root.shape.block_pages
+        ≡ after_reads (root_pages memory.old.found.root.shape
         + list_reads memory.old.found.root.shape (page_at (B.state board.old).pages)
         memory.new.found.root.root) (B.state board.old)) }
+
+    // Or the reading refuses one, a read failed, or memory is wanting.
     ensures err { IfErr result (λ e.
         NotOpened memory.old.found.root.shape (B.state board.old) (B.state board.new) e) }
     ensures board { StaysReady memory.old.found.root.shape (B.state board.old) (B.state board.new) }
@@ -77,25 +78,31 @@ fn fill_lists<B: Nand, A: Region>(
     }
 }
 
-// Reads the values of all keys that are there under the root, takes their pages, and counts the keys.
+// Gives the blocks that the root names their owners, reads the values of all keys that are there under it, takes their pages, and
+// counts the keys.
 fn fill_values<B: Nand, A: Region>(board: &mut B, memory: &mut Memory<A>) -> Result<(), OpenError>
     requires ready { IsReady (B.state board.old) memory.old.found.root.shape }
     requires awaits { AwaitsValues memory.old }
     requires held { (lists : FoundLists)
         × HoldsLists (B.state board.old).pages memory.old.found lists }
 
+    // The values and the owners of the root's blocks, and that nothing else changes.
     ensures finds { OnOk result ((lists : FoundLists)
         → HoldsLists (B.state board.old).pages memory.old.found lists
         → FindsValues (B.state board.old) (B.state board.new) memory.new.found lists) }
     ensures kept { memory.new ≡ record memory.old {
       walk = memory.new.walk;
-      named = memory.new.named;
       page = memory.new.page;
       found = record memory.old.found {
         live = memory.new.found.live;
+        pool = memory.new.found.pool;
         keys = memory.new.found.keys;
       };
     } }
+    ensures owned { RootOwned
+        memory.old.found.root.shape memory.old.found.root.root memory.new.found.pool }
+
+    // Or the reading refuses a value, or a read failed.
     ensures err { IfErr result (λ e. (lists : FoundLists)
         → HoldsLists (B.state board.old).pages memory.old.found lists
         → PartNotOpened
@@ -106,7 +113,8 @@ fn fill_values<B: Nand, A: Region>(board: &mut B, memory: &mut Memory<A>) -> Res
 {
     let shape = *memory.found.root.shape();
     shape.known();
-    list_named(&memory.found.root, &mut memory.named);
+    // first of all: no value may lie in a block that has its owner
+    adopt_blocks(&mut memory.found.pool, &memory.found.root);
     let lists = Lists {
         arena: &memory.found.arena,
         levels: &memory.found.levels,
@@ -116,7 +124,7 @@ fn fill_values<B: Nand, A: Region>(board: &mut B, memory: &mut Memory<A>) -> Res
     match read_values(
         board,
         &shape,
-        &memory.named,
+        &memory.found.pool,
         &mut memory.walk,
         &lists,
         &mut memory.found.live,
@@ -145,18 +153,20 @@ pub fn scan<B: Nand, A: Region>(
 ) -> Result<Found<A>, OpenError>
     requires ready { IsReady (B.state board.old) shape }
     requires frames { frames ≤ 16384 }
-    ensures opened { IfOk result (λ f. IsOpened shape (B.state board.old).pages frames f) }
+    ensures opened { IfOk result (λ f. FoundOnFlash shape (B.state board.old).pages frames f) }
     ensures reads { OnOk result (B.state board.new
         ≡ after_reads (opened shape (B.state board.old).pages frames) (B.state board.old)) }
     ensures err { IfErr result (λ e. NotOpened shape (B.state board.old) (B.state board.new) e) }
     ensures rest { OnlyReading (B.state board.old) (B.state board.new) }
 {
+    shape.known();
     match Memory::new(alloc, shape, frames) {
         Ok(mut memory) => match fill_lists(alloc, board, &mut memory) {
             Ok(()) => match fill_values(board, &mut memory) {
                 Ok(()) => {
                     let mut found = memory.found;
-                    give_owners(&mut found.pool, &found.root, &found.live);
+                    adopt_values(&mut found.pool, &found.live);
+                    found.pool.known();
                     Ok(found)
                 }
                 Err(error) => Err(error),

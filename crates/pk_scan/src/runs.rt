@@ -64,11 +64,15 @@ fn take_page<B: Nand, A: Allocator>(
     requires before { (es : List EntrySpec)
         × RunOnFlash into.old (B.state board.old).pages arena.old es × IsLast last.now es }
     requires sized { length buf.old ≡ into.old.shape.page_bytes }
+
+    // The page stands in the run, behind one read.
     ensures taken { IfOk result (λ key. (es : List EntrySpec)
         → RunOnFlash into.old (B.state board.old).pages arena.old es → IsLast last.now es
         → PageTaken (B.state board.old).pages arena.new into.old into.new es entries key) }
     ensures added { OnOk result (PageAdded pins arena.old arena.new into.old into.new entries) }
     ensures ok { OnOk result (B.state board.new ≡ after_read (B.state board.old)) }
+
+    // Or it does not go on, or its read failed.
     ensures err { IfErr result (λ e. (es : List EntrySpec)
         → RunOnFlash into.old (B.state board.old).pages arena.old es → IsLast last.now es
         → PageRefused (B.state board.old) (B.state board.new) into.old es entries e) }
@@ -105,12 +109,18 @@ fn read_pages<B: Nand, A: Allocator>(
     requires ready { IsReady (B.state board.old) into.old.shape }
     requires awaits { AwaitsPages pins count (B.state board.old).pages arena.old into.old }
     requires sized { length buf.old ≡ into.old.shape.page_bytes }
+
+    // The run stands for all its pages, behind so many reads.
     ensures has_run { OnOk result (HasRun into.old.shape into.old.level count into.old.blocks
         (B.state board.old).pages arena.new into.new) }
     ensures reads { OnOk result (B.state board.new
         ≡ after_reads (run_pages into.old.shape count) (B.state board.old)) }
+
+    // Or the reading refuses one, or a read failed.
     ensures err { IfErr result (λ e. NotRead into.old.shape into.old.level count into.old.blocks
         (B.state board.old) (B.state board.new) e) }
+
+    // Either way the run stands for the pages before, and nothing but reads was done.
     ensures loads { LoadsPages pins (B.state board.old).pages into.old.blocks
         arena.old arena.new into.old into.new }
     ensures board { StaysReady into.old.shape (B.state board.old) (B.state board.new) }
@@ -155,12 +165,17 @@ pub fn load_run<B: Nand, A: Allocator>(
     requires free { pins ≡ true → run_pages into.old.shape count ≤ free_frames arena.old }
     requires sized { length buf.old ≡ into.old.shape.page_bytes }
 
+    // The run stands for its entries, behind so many reads.
     ensures has_run { OnOk result (HasRun into.old.shape into.old.level count blocks.now
         (B.state board.old).pages arena.new into.new) }
     ensures reads { OnOk result (B.state board.new
         ≡ after_reads (run_pages into.old.shape count) (B.state board.old)) }
+
+    // Or the reading refuses it, or a read failed.
     ensures err { IfErr result (λ e. NotRead into.old.shape into.old.level count blocks.now
         (B.state board.old) (B.state board.new) e) }
+
+    // Either way the run stands for the pages before, and nothing but reads was done.
     ensures loads { LoadsPages pins (B.state board.old).pages blocks.now
         arena.old arena.new into.old into.new }
     ensures board { StaysReady into.old.shape (B.state board.old) (B.state board.new) }

@@ -8,23 +8,33 @@ ghost use Rattle.pk_base.specs.EntryBytes.{IsPlace};
 ghost use Rattle.pk_live.specs.Values.{IsLive, count_of};
 ghost use Rattle.pk_segfmt.specs.Value.{value_pages};
 ghost use Rattle.pk_model.specs.Values.{fits, all_pages};
-ghost use Rattle.pk_scan.specs.Places.{place};
+ghost use Rattle.pk_scan.specs.Adopts as spec;
+ghost use Rattle.pk_scan.specs.Adopts.{owned_blocks};
 ghost use Rattle.pk_live.specs.Lives.{Lives, StartsWithNone};
 
-use pk_base::Shape;
+use pk_base::{Place, Shape};
 use pk_live::Live;
+use pk_pool::{BlockState, Pool};
 use std::alloc::Allocator;
 
-// Whether the block is one of those that are named.
-fn is_named(named: &[u16], block: u32) -> bool
-    ensures { result ≡ list_any (λ b. b == block) named.now }
+// Whether a block of this state has an owner; a block past the last one has none.
+fn has_owner(state: Option<BlockState>) -> bool
+    ensures { result ≡ spec.has_owner state }
 {
-    for b in named {
-        if *b as u32 == block {
-            return true;
-        }
+    match state {
+        Some(BlockState::Owned(_)) => true,
+        Some(BlockState::Root) => false,
+        Some(BlockState::Free) => false,
+        Some(BlockState::Ready) => false,
+        None => false,
     }
-    false
+}
+
+// Whether the block has an owner.
+fn is_owned<A: Allocator>(pool: &Pool<A>, block: u32) -> bool
+    ensures { result ≡ list_any (λ b. b == block) (owned_blocks pool.now) }
+{
+    has_owner(pool.state(block))
 }
 
 // Whether a live value begins at one of the pages from here up to `end`.
@@ -72,55 +82,56 @@ fn are_few(shape: &Shape, pages: u32, blocks: u32) -> bool
 }
 
 // Whether the pages of a value may be taken.
-fn has_room<A: Allocator>(shape: &Shape, named: &[u16], live: &Live<A>, page: u32, len: u32) -> bool
-    requires place { IsPlace shape.now (place page len) }
-    requires lives { (taken : List (Key × Place)) × Lives shape.now named.now live.now taken }
-    ensures { (taken : List (Key × Place)) → Lives shape.now named.now live.now taken
-        → result ≡ fits shape.now named.now
-        (all_pages shape.now taken ++ value_pages shape.now (place page len)) }
+fn has_room<A: Allocator>(shape: &Shape, pool: &Pool<A>, live: &Live<A>, place: Place) -> bool
+    requires place { IsPlace shape.now place }
+    requires lives { (taken : List (Key × Place))
+        × Lives shape.now (owned_blocks pool.now) live.now taken }
+    ensures { (taken : List (Key × Place))
+        → Lives shape.now (owned_blocks pool.now) live.now taken
+        → result ≡ fits shape.now (owned_blocks pool.now)
+        (all_pages shape.now taken ++ value_pages shape.now place) }
 {
     live.known();
     // so that the numbers of pages are known to fit
     let _ = shape.page_count();
-    let count = shape.charge(len);
-    let block = page / shape.block_pages();
-    if is_named(named, block) {
+    let count = shape.charge(place.len);
+    let block = place.page / shape.block_pages();
+    if is_owned(pool, block) {
         return false;
     }
-    if overlaps(live, page, count) {
+    if overlaps(live, place.page, count) {
         return false;
     }
     let pages = live.total() + count;
     are_few(shape, pages, blocks_used(live, block))
 }
 
-/// Whether the pages of a value lie in no block that is named, none of them belongs to a value that was taken before, and
+/// Whether the pages of a value lie in no block that has an owner, none of them belongs to a value that was taken before, and
 /// with them the live pages and the blocks that have one are not too many. If so they are live from now on, and their block
-/// is closed; else the live map stays.
-///
-/// `named` are the blocks that the root names; a value of `len` bytes has `Shape::charge(len)` pages from `page` on.
+/// is closed; else the live map stays. The block gets its owner when all values are taken.
 pub fn take_value<A: Allocator>(
     shape: &Shape,
-    named: &[u16],
+    pool: &Pool<A>,
     live: &mut Live<A>,
-    page: u32,
-    len: u32,
+    place: Place,
 ) -> bool
-    requires place { IsPlace shape.now (place page len) }
-    requires lives { (taken : List (Key × Place)) × Lives shape.now named.now live.old taken }
-    ensures fits { (taken : List (Key × Place)) → Lives shape.now named.now live.old taken
-        → result ≡ fits shape.now named.now
-        (all_pages shape.now taken ++ value_pages shape.now (place page len)) }
+    requires place { IsPlace shape.now place }
+    requires lives { (taken : List (Key × Place))
+        × Lives shape.now (owned_blocks pool.now) live.old taken }
+    ensures fits { (taken : List (Key × Place))
+        → Lives shape.now (owned_blocks pool.now) live.old taken
+        → result ≡ fits shape.now (owned_blocks pool.now)
+        (all_pages shape.now taken ++ value_pages shape.now place) }
     ensures taken { result ≡ true → (taken : List (Key × Place)) (key : Key)
-        → Lives shape.now named.now live.old taken
-        → Lives shape.now named.now live.new (taken ++ (key, place page len) ∷ []) }
+        → Lives shape.now (owned_blocks pool.now) live.old taken
+        → Lives shape.now (owned_blocks pool.now) live.new (taken ++ (key, place) ∷ []) }
     ensures left { result ≡ false → live.new ≡ live.old }
 {
-    if !has_room(shape, named, live, page, len) {
+    if !has_room(shape, pool, live, place) {
         return false;
     }
-    let block = page / shape.block_pages();
-    live.set(page, shape.charge(len));
+    let block = place.page / shape.block_pages();
+    live.set(place.page, shape.charge(place.len));
     live.close(block);
     true
 }

@@ -1,5 +1,5 @@
 //! Values, each read from its pages.
-ghost use Rattle.std.specs.Prelude.{◌≡◌, ◌==◌, ◌<◌, ◌≤◌, ◌+◌, nat_eq, length, drop, true, IfErr, OnOk, OnErr};
+ghost use Rattle.std.specs.Prelude.{◌≡◌, ◌==◌, ◌<◌, ◌≤◌, ◌+◌, nat_eq, length, drop, true, IfErr, OnOk};
 ghost use Rattle.std.specs.List.{list_all, starts_with};
 ghost use Rattle.pk_base.specs.Shape as spec;
 ghost use Rattle.pk_base.specs.EntryBytes.{IsPlace};
@@ -7,14 +7,12 @@ ghost use Rattle.pk_base.specs.Page.{page_at};
 ghost use Rattle.pk_nand.specs.Calls.{IsReady, after_read};
 ghost use Rattle.pk_nand.specs.Erased.{after_reads};
 ghost use Rattle.pk_segfmt.specs.Value.{head_bytes};
-ghost use Rattle.pk_scan.specs.Places.{place};
 ghost use Rattle.pk_scan.specs.Pages.{front_of, fits_page, left_at, is_right};
 ghost use Rattle.pk_scan.specs.Checked.{HasValue, NotFound, PageRefused};
-ghost use Rattle.pk_nand.specs.Effects.{OnlyReading};
 ghost use Rattle.pk_scan.specs.Board.{StaysReady};
 
 use crate::errors::PageError;
-use pk_base::{Key, Shape};
+use pk_base::{HEAD_BYTES, Key, Place, Shape};
 use pk_nand::{Nand, PageRead};
 use pk_segfmt::head;
 
@@ -63,7 +61,7 @@ fn fits(shape: &Shape, key: &Key, len: u32, i: u32, bytes: &[u8]) -> bool
         ≡ fits_page (front_of (head_bytes key.now len) i) (left_at shape.now len i) bytes.now }
 {
     shape.known();
-    let left = (32 + len as usize).saturating_sub(i as usize * bytes.len());
+    let left = (HEAD_BYTES + len as usize).saturating_sub(i as usize * bytes.len());
     if i == 0 {
         begins_with_head(shape, key, len, bytes) && ends_in_zeros(bytes, left)
     } else {
@@ -76,65 +74,76 @@ fn check_page<B: Nand>(
     board: &mut B,
     shape: &Shape,
     key: &Key,
-    page: u32,
-    len: u32,
+    place: Place,
     i: u32,
     buf: &mut [u8],
 ) -> Result<(), PageError>
     requires ready { IsReady (B.state board.old) shape.now }
-    requires place { IsPlace shape.now (place page len) }
-    requires within { i < spec.charge shape.now len }
+    requires place { IsPlace shape.now place }
+    requires within { i < spec.charge shape.now place.len }
     requires room { length buf.old ≡ shape.now.page_bytes }
+
+    // The page is right, by one read.
     ensures right { OnOk result (is_right shape.now (page_at (B.state board.old).pages)
-        key.now (place page len) i ≡ true) }
+        key.now place i ≡ true) }
     ensures ok { OnOk result (B.state board.new ≡ after_read (B.state board.old)) }
+
+    // Or it is not, or its read failed.
     ensures err { IfErr result (λ e. PageRefused shape.now
-        (B.state board.old) (B.state board.new) key.now (place page len) i e) }
+        (B.state board.old) (B.state board.new) key.now place i e) }
     ensures buffer { length buf.new ≡ length buf.old }
 {
     // so that the numbers of pages are known to fit
     let _ = shape.page_count();
-    match board.read(page + i, buf) {
+    match board.read(place.page + i, buf) {
         Ok(PageRead::Whole) => {
-            if fits(shape, key, len, i, buf) {
+            if fits(shape, key, place.len, i, buf) {
                 Ok(())
             } else {
-                Err(PageError::Damaged { page: page + i })
+                Err(PageError::Damaged {
+                    page: place.page + i,
+                })
             }
         }
-        Ok(_) => Err(PageError::Damaged { page: page + i }),
+        Ok(_) => Err(PageError::Damaged {
+            page: place.page + i,
+        }),
         Err(_) => Err(PageError::Fault),
     }
 }
 
 /// Checks that the pages of a value are Whole, begin with the head of this key and length, hold the value, and have zeros
-/// behind it. Reads them in order, up to the first that is wrong; a value of `len` bytes has `Shape::charge(len)` pages from
-/// `page` on. `buf` has the bytes of a page, which are lost.
+/// behind it. Reads them in order, up to the first that is wrong. `buf` has the bytes of a page, which are lost.
 ///
 /// `Damaged` names the first page that is wrong. `Fault` where a read failed, behind pages that are right.
 pub fn check_value<B: Nand>(
     board: &mut B,
     shape: &Shape,
     key: &Key,
-    page: u32,
-    len: u32,
+    place: Place,
     buf: &mut [u8],
 ) -> Result<(), PageError>
     requires ready { IsReady (B.state board.old) shape.now }
-    requires place { IsPlace shape.now (place page len) }
+    requires place { IsPlace shape.now place }
     requires room { length buf.old ≡ shape.now.page_bytes }
+
+    // The value stands there, by a read of each page.
     ensures value { OnOk result
-        (HasValue shape.now (B.state board.old).pages key.now (place page len)) }
+        (HasValue shape.now (B.state board.old).pages key.now place) }
     ensures ok { OnOk result
-        (B.state board.new ≡ after_reads (spec.charge shape.now len) (B.state board.old)) }
+        (B.state board.new ≡ after_reads (spec.charge shape.now place.len) (B.state board.old)) }
+
+    // Or a page is wrong, or its read failed.
     ensures err { IfErr result (λ e. NotFound shape.now
-        (B.state board.old) (B.state board.new) key.now (place page len) e) }
+        (B.state board.old) (B.state board.new) key.now place e) }
+
+    // Either way nothing but reads was done.
     ensures board { StaysReady shape.now (B.state board.old) (B.state board.new) }
     ensures buffer { length buf.new ≡ length buf.old }
 {
     shape.known();
-    for i in 0..shape.charge(len) {
-        match check_page(board, shape, key, page, len, i, buf) {
+    for i in 0..shape.charge(place.len) {
+        match check_page(board, shape, key, place, i, buf) {
             Ok(()) => {}
             Err(error) => return Err(error),
         }

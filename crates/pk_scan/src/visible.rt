@@ -7,23 +7,22 @@ ghost use Rattle.pk_base.specs.EntryBytes.{IsPlace};
 ghost use Rattle.pk_base.specs.Page.{page_at};
 ghost use Rattle.pk_model.specs.Values.{values_of};
 ghost use Rattle.pk_nand.specs.Calls.{IsReady};
-ghost use Rattle.pk_nand.specs.Erased.{after_reads};
-ghost use Rattle.pk_walk.specs.Walking.{IsLeft, SkipsNone, most_read, pages_read};
+ghost use Rattle.pk_walk.specs.Walking.{IsLeft};
 ghost use Rattle.pk_live.specs.Lives.{Lives};
-ghost use Rattle.pk_nand.specs.Effects.{OnlyReading};
-ghost use Rattle.pk_scan.specs.Opening.{OnlyReads, PartNotOpened, ReadsValues};
-ghost use Rattle.pk_scan.specs.Reads.{value_reads};
+ghost use Rattle.pk_scan.specs.Adopts.{owned_blocks};
+ghost use Rattle.pk_scan.specs.Opening.{PartNotOpened};
 ghost use Rattle.pk_scan.specs.Board.{StaysReady};
 ghost use Rattle.pk_scan.specs.Taken.{TakesValues, ReadsExactly};
 
 use crate::accept::accept_value;
 use crate::errors::OpenError;
-use pk_base::{Entry, Shape};
+use pk_base::{Entry, Place, Shape};
 use pk_buf::Buffer;
 use pk_level::Levels;
 use pk_live::Live;
 use pk_nand::Nand;
 use pk_pin::PinArena;
+use pk_pool::Pool;
 use pk_region::Region;
 use pk_walk::Walk;
 
@@ -36,8 +35,8 @@ pub struct Lists<'a, A: Region> {
     pub frozen: &'a Buffer<A>,
 }
 
-/// Reads the values of all keys that the walk gives, in its order, and takes their pages: those of the blocks that the root
-/// names are not free for them. Answers how many keys there are. `Damaged` names the first value whose pages may not be taken, or
+/// Reads the values of all keys that the walk gives, in its order, and takes their pages: those of blocks that have an owner,
+/// which are those that the root names, are not free for them. Answers how many keys there are. `Damaged` names the first value whose pages may not be taken, or
 /// its first page that is wrong; `Fault` where a read failed. `buf` has the bytes of a page, which are lost.
 ///
 /// A walk that begins at the first key reads each page of the runs without frames once, and the pages of the values are read
@@ -45,7 +44,7 @@ pub struct Lists<'a, A: Region> {
 pub fn read_values<B: Nand, A: Region>(
     board: &mut B,
     shape: &Shape,
-    named: &[u16],
+    pool: &Pool<A>,
     walk: &mut Walk<A>,
     lists: &Lists<A>,
     live: &mut Live<A>,
@@ -57,24 +56,30 @@ pub fn read_values<B: Nand, A: Region>(
         × IsLeft walk.old (B.state board.old).pages lists.now.arena.now lists.now.levels.now.runs
         lists.now.active.now.entries lists.now.frozen.now.entries es
         × AllByRecursion (λ e. IsPlace shape.now e.1) es }
-    requires none { Lives shape.now named.now live.old [] }
+    requires none { Lives shape.now (owned_blocks pool.now) live.old [] }
     requires room { length buf.old ≡ shape.now.page_bytes }
 
+    // The values of all keys, and so many reads.
     ensures read { IfOk result (λ keys. (es : List (Key × Place))
         → IsLeft walk.old (B.state board.old).pages lists.now.arena.now lists.now.levels.now.runs
         lists.now.active.now.entries lists.now.frozen.now.entries es
-        → TakesValues shape.now (B.state board.old).pages named.now live.new keys es) }
+        → TakesValues shape.now (B.state board.old).pages
+        (owned_blocks pool.now) live.new keys es) }
     ensures exact { OnOk result ((es : List (Key × Place))
         → IsLeft walk.old (B.state board.old).pages lists.now.arena.now lists.now.levels.now.runs
         lists.now.active.now.entries lists.now.frozen.now.entries es
         → ReadsExactly shape.now lists.now.levels.now.runs walk.old es
         (B.state board.old) (B.state board.new)) }
+
+    // Or the reading refuses one, or a read failed.
     ensures err { IfErr result (λ e. (es : List (Key × Place))
         → IsLeft walk.old (B.state board.old).pages lists.now.arena.now lists.now.levels.now.runs
         lists.now.active.now.entries lists.now.frozen.now.entries es
         → PartNotOpened
-        (values_of shape.now (page_at (B.state board.old).pages) named.now [] es)
+        (values_of shape.now (page_at (B.state board.old).pages) (owned_blocks pool.now) [] es)
         (B.state board.old) (B.state board.new) e) }
+
+    // Either way nothing but reads was done.
     ensures board { StaysReady shape.now (B.state board.old) (B.state board.new) }
     ensures buffer { length buf.new ≡ length buf.old }
 {
@@ -82,7 +87,8 @@ pub fn read_values<B: Nand, A: Region>(
     for keys in 0..shape.limit() + 1 {
         match walk.next(board, lists.arena, lists.levels, lists.active, lists.frozen) {
             Ok(Some(Entry::Put { key, page, len })) => {
-                match accept_value(board, shape, named, live, &key, page, len, buf) {
+                let place = Place { page, len };
+                match accept_value(board, shape, pool, live, &key, place, buf) {
                     Ok(()) => {}
                     Err(error) => return Err(OpenError::from(error)),
                 }

@@ -14,8 +14,12 @@ pub fn read_page<B: Nand>(board: &mut B, page: u32, buf: &mut [u8]) -> Result<()
     requires exists { page < length (B.state board.old).pages }
     requires room { length buf.old ≡ (shape_of (B.state board.old)).page_bytes }
     requires whole { (bytes : List ℕ) × (page_at (B.state board.old).pages page ≡ whole bytes) }
+
+    // The bytes, by one read.
     ensures bytes { OnOk result (page_at (B.state board.old).pages page ≡ whole buf.new) }
     ensures ok { OnOk result (B.state board.new ≡ after_read (B.state board.old)) }
+
+    // Or the read failed.
     ensures reading { IfErr result (λ e. e ≡ Reading) }
     ensures err { OnErr result (ReadFailed (B.state board.old) (B.state board.new) page) }
 {
@@ -31,15 +35,21 @@ pub fn write_page<B: Nand>(board: &mut B, page: u32, buf: &[u8]) -> Result<(), F
     requires exists { page < length (B.state board.old).pages }
     requires full { length buf.now ≡ (shape_of (B.state board.old)).page_bytes }
     requires order { InOrder (shape_of (B.state board.old)) (B.state board.old).pages page }
+
+    // One program.
     ensures ok { OnOk result (B.state board.new ≡ after_program (B.state board.old) page buf.now) }
     ensures written { OnOk result (page_at (B.state board.new).pages page ≡ whole buf.now) }
     ensures cuts { OnOk result (Reached (B.state board.old) (B.state board.new) (λ flash _.
         SameOutside page 1 (B.state board.old).pages flash)) }
+
+    // Or it failed.
     ensures stopped { IfErr result (λ e. e ≡ Stopped) }
     ensures err { OnErr result (ProgramFailed (B.state board.old) (B.state board.new) page
         buf.now) }
     ensures cuts_err { OnErr result (Went (B.state board.old) (B.state board.new) (λ flash _.
         SameOutside page 1 (B.state board.old).pages flash)) }
+
+    // Either way the board may be called again.
     ensures ready { (shape : spec.Shape) → IsReady (B.state board.old) shape
         → IsReady (B.state board.new) shape }
 {

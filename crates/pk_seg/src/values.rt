@@ -32,6 +32,8 @@ pub fn write_value<B: Nand>(
         ≤ shape.now.block_pages }
     requires order { InOrder shape.now (B.state board.old).pages page }
     requires room { length buf.old ≡ shape.now.page_bytes }
+
+    // The value stands there, and its pages were programmed in order.
     ensures stored { OnOk result (IsStored shape.now (page_at (B.state board.new).pages) key.now
         page value.now) }
     ensures ok { OnOk result (B.state board.new
@@ -44,12 +46,16 @@ pub fn write_value<B: Nand>(
     ensures cuts { OnOk result (Reached (B.state board.old) (B.state board.new) (λ flash _.
         SameOutside page (spec.charge shape.now (length value.now)) (B.state board.old).pages
         flash)) }
+
+    // Or one of the programs failed.
     ensures stopped { IfErr result (λ e. e ≡ Stopped) }
     ensures err { OnErr result (WriteFailed shape.now key.now page value.now (B.state board.old)
         (B.state board.new)) }
     ensures cuts_err { OnErr result (Went (B.state board.old) (B.state board.new) (λ flash _.
         SameOutside page (spec.charge shape.now (length value.now)) (B.state board.old).pages
         flash)) }
+
+    // Either way the board and the buffer may be used again.
     ensures ready { IsReady (B.state board.new) shape.now }
     ensures buffer { length buf.new ≡ length buf.old }
 {
@@ -97,14 +103,20 @@ pub fn read_value<B: Nand>(
     requires value { (key : List ℕ) × (value : List ℕ)
         × IsFront shape.now (B.state board.old).pages page (length into.old) key value }
     requires room { length buf.old ≡ shape.now.page_bytes }
+
+    // The front, and so many reads.
     ensures front { OnOk result ((key value : List ℕ)
         → IsFront shape.now (B.state board.old).pages page (length into.old) key value
         → into.new ≡ take (length into.old) value) }
     ensures ok { OnOk result (B.state board.new
         ≡ after_reads (spec.fetched shape.now (length into.old)) (B.state board.old)) }
+
+    // Or one of them failed.
     ensures reading { IfErr result (λ e. e ≡ Reading) }
     ensures err { OnErr result (ReadsFailed (B.state board.old) (B.state board.new) page
         (spec.fetched shape.now (length into.old))) }
+
+    // Either way the board and the buffers may be used again.
     ensures ready { IsReady (B.state board.new) shape.now }
     ensures len { length into.new ≡ length into.old }
     ensures buffer { length buf.new ≡ length buf.old }
@@ -133,13 +145,19 @@ pub fn read_head<B: Nand>(
     requires head { (key : List ℕ) × (len : ℕ)
         × HasHead shape.now (B.state board.old).pages page key len }
     requires room { length buf.old ≡ shape.now.page_bytes }
+
+    // The head, by one read.
     ensures head { IfOk result (λ h. HasHead shape.now (B.state board.old).pages page h.key h.len) }
     ensures only { IfOk result (λ h. (key : List ℕ) (len : ℕ)
         → HasHead shape.now (B.state board.old).pages page key len
         → h ≡ record { key = key; len = len }) }
     ensures ok { OnOk result (B.state board.new ≡ after_read (B.state board.old)) }
+
+    // Or it failed.
     ensures reading { IfErr result (λ e. e ≡ Reading) }
     ensures err { OnErr result (ReadFailed (B.state board.old) (B.state board.new) page) }
+
+    // Either way the board and the buffer may be used again.
     ensures ready { IsReady (B.state board.new) shape.now }
     ensures buffer { length buf.new ≡ length buf.old }
 {

@@ -31,6 +31,7 @@ pub fn submit<D: Engine, B: Nand>(
     requires unworn { is_worn (B.state board.old) ≡ false }
     requires is_built { D.built drive.old request.now ≡ true }
     requires none { (D.sight drive.old).pending ≡ [] }
+
     // What is handed over, and the buffer for data.
     requires sized { request.now.opcode ≡ STORE
         → request.now.size ≤ greatest (shape_of (B.state board.old))
@@ -40,6 +41,7 @@ pub fn submit<D: Engine, B: Nand>(
         → value.now ≡ [] }
     requires room { 65536 ≤ length into.old }
     requires room_value { greatest (shape_of (B.state board.old)) ≤ length into.old }
+
     // The drive, the board and the buffer.
     ensures agrees { OnOk result
         (D.agrees drive.new (B.state board.new).shape (B.state board.new).pages) }
@@ -47,12 +49,14 @@ pub fn submit<D: Engine, B: Nand>(
     ensures none { OnOk result ((D.sight drive.new).pending ≡ []) }
     ensures fits { IfOk result (λ o. o.data_len ≤ length into.new) }
     ensures rest { OnlyFlash (B.state board.old) (B.state board.new) }
+
     // The command.
     ensures submits { IfOk result (λ o. Submits (B.state board.old) (B.state board.new)
         (D.sight drive.old) (D.sight drive.new) (command_of request.now value.now)
         (reply_of o into.new)) }
     ensures stops { OnErr result (SubmitStops (B.state board.old) (B.state board.new)
         (D.sight drive.old) (command_of request.now value.now)) }
+
     // Counts.
     ensures reads { IfOk result
         (λ o. (B.state board.new).reads ≡ reads_after (B.state board.old).reads o.reads) }

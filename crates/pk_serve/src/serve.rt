@@ -33,6 +33,7 @@ pub fn serve_next<D: Engine, B: Board>(
     requires running { IsRunning (D.agrees drive.old) (D.sight drive.old) (B.state board.old) }
     requires count { taken < 2 ^ 32 - 1 }
     requires buffers { HasBuffers (B.state board.old) shape.now value.old into.old }
+
     // The drive, the board and the buffers.
     ensures runs_on { OnOk result (KeepsRunning (D.agrees drive.new) (D.sight drive.new)
         (B.state board.old) (B.state board.new)) }
@@ -40,10 +41,12 @@ pub fn serve_next<D: Engine, B: Board>(
         value.old value.new into.old into.new }
     ensures in_faults { OnOk result
         ((B.state board.new).in_faults ≡ (B.state board.old).in_faults) }
+
     // The command that was served.
     ensures advances { OnOk result (Advances (B.state board.old) (B.state board.new)
         (D.sight drive.old) (D.sight drive.new) (bytes_of held.old.heads) (bytes_of held.new.heads)
         taken (λ c. (r : Request) × (command_of r c.value ≡ c) × (D.built drive.old r ≡ true))) }
+
     // How none was.
     ensures blames { IfErr result (Blames (B.state board.old) (B.state board.new)) }
     ensures quits { IfErr result (λ end. Quits (B.state board.old) (B.state board.new)
@@ -91,15 +94,20 @@ pub fn serve_entries<D: Engine, B: Board>(
     into: &mut [u8],
     shape: &Shape,
 ) -> End
+    // The drive with no record held, and the buffers.
     requires running { IsRunning (D.agrees drive.old) (D.sight drive.old) (B.state board.old) }
     requires none { held.old.heads ≡ [] }
     requires buffers { HasBuffers (B.state board.old) shape.now value.old into.old }
-    ensures shape { (B.state board.new).shape ≡ (B.state board.old).shape }
-    ensures blames { Blames (B.state board.old) (B.state board.new) result }
+
+    // The commands that were served.
     ensures consumes { Consumes (B.state board.old) (B.state board.new) result }
     ensures ends { Ends (B.state board.old) (B.state board.new) (D.sight drive.old)
         (D.sight drive.new) (bytes_of held.new.heads) (ToldBy D D.sight D.agrees D.built drive.new)
         result }
+
+    // The drive and the board behind them.
+    ensures shape { (B.state board.new).shape ≡ (B.state board.old).shape }
+    ensures blames { Blames (B.state board.old) (B.state board.new) result }
     ensures open { IsFault result
         ⊎ IsRunning (D.agrees drive.new) (D.sight drive.new) (B.state board.new) }
 {
@@ -125,13 +133,18 @@ pub fn serve_all<D: Engine, B: Board>(
     into: &mut [u8],
     shape: &Shape,
 ) -> End
+    // The drive with no record held, and the buffers.
     requires running { IsRunning (D.agrees drive.old) (D.sight drive.old) (B.state board.old) }
     requires none { held.old.heads ≡ [] }
     requires buffers { HasBuffers (B.state board.old) shape.now value.old into.old }
-    ensures blames { Blames (B.state board.old) (B.state board.new) result }
+
+    // The commands that were served.
     ensures consumes { Consumes (B.state board.old) (B.state board.new) result }
     ensures ends { Ends (B.state board.old) (B.state board.new) (D.sight drive.old)
         (D.sight drive.new) [] (ToldBy D D.sight D.agrees D.built drive.new) result }
+
+    // The drive and the board behind them.
+    ensures blames { Blames (B.state board.old) (B.state board.new) result }
     ensures none { IsFault result ⊎ (((D.sight drive.new).pending ≡ [])
         × (D.agrees drive.new (B.state board.new).shape (B.state board.new).pages)) }
 {

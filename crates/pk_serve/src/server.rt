@@ -57,20 +57,25 @@ impl Server {
 
     /// Serves the script of the input on a drive of this shape, and takes no memory.
     pub fn serve<D: Engine, B: Board>(&mut self, drive: &mut D, board: &mut B) -> End
+        // The drive and the board.
         requires agrees { D.agrees drive.old (B.state board.old).shape (B.state board.old).pages }
         requires runs { (D.sight drive.old).stopped ≡ false }
         requires shape { (B.state board.old).shape ≡ Some self.old }
+
+        // How serving ended.
         ensures blames { Blames (B.state board.old) (B.state board.new) result }
         ensures says { SaysOfScript (B.state board.old) (B.state board.new) result }
+        ensures causes { Causes (B.state board.old) (B.state board.new) (D.sight drive.old)
+            (Told D D.sight D.agrees D.built (B.state board.new)) result }
+        ensures complete { Completes D D.built (B.state board.old) (B.state board.new)
+            (D.sight drive.old) result }
+
+        // The commands that were kept, wherever it was cut, and those that were answered.
         ensures kept { KeepsScript (B.state board.old) (B.state board.new) (D.sight drive.old) }
         ensures kept_untold { KeepsSome (B.state board.old) (B.state board.new)
             (D.sight drive.old) }
         ensures served { Answers (B.state board.old) (B.state board.new) (D.sight drive.old)
             (Told D D.sight D.agrees D.built (B.state board.new)) result }
-        ensures causes { Causes (B.state board.old) (B.state board.new) (D.sight drive.old)
-            (Told D D.sight D.agrees D.built (B.state board.new)) result }
-        ensures complete { Completes D D.built (B.state board.old) (B.state board.new)
-            (D.sight drive.old) result }
     {
         self.held.clear();
         serve_all(

@@ -22,10 +22,13 @@ use pk_queue::Queue;
 
 /// Gives bytes to the host; none where there are none.
 pub fn give<B: Board>(board: &mut B, bytes: &[u8]) -> Result<(), End>
+    // What stays of the board.
     ensures flash { ((B.state board.new).shape ≡ (B.state board.old).shape)
         × ((B.state board.new).pages ≡ (B.state board.old).pages) }
     ensures input { (B.state board.new).input ≡ (B.state board.old).input }
     ensures in_faults { (B.state board.new).in_faults ≡ (B.state board.old).in_faults }
+
+    // The posts, or a fault.
     ensures posts { OnOk result (Posts (B.state board.old) (B.state board.new) bytes.now) }
     ensures quiet { OnOk result (NoFaults (B.state board.old) (B.state board.new)) }
     ensures fault { IfErr result (Faulted (B.state board.old) (B.state board.new)) }
@@ -42,10 +45,13 @@ pub fn give<B: Board>(board: &mut B, bytes: &[u8]) -> Result<(), End>
 
 /// Gives the held records to the host, in order.
 pub fn give_all<B: Board>(board: &mut B, heads: &[[u8; 24]]) -> Result<(), End>
+    // What stays of the board.
     ensures flash { ((B.state board.new).shape ≡ (B.state board.old).shape)
         × ((B.state board.new).pages ≡ (B.state board.old).pages) }
     ensures input { (B.state board.new).input ≡ (B.state board.old).input }
     ensures in_faults { (B.state board.new).in_faults ≡ (B.state board.old).in_faults }
+
+    // The posts, or a fault.
     ensures posts { OnOk result
         (Posts (B.state board.old) (B.state board.new) (bytes_of heads.now)) }
     ensures quiet { OnOk result (NoFaults (B.state board.old) (B.state board.new)) }
@@ -62,25 +68,32 @@ pub fn give_all<B: Board>(board: &mut B, heads: &[[u8; 24]]) -> Result<(), End>
     Ok(())
 }
 
-/// Commits, and gives out the records that were held.
+/// Commits, and gives out the records that were held; nothing is done where no entry is pending and no record is held.
 pub fn flush<D: Engine, B: Board>(drive: &mut D, board: &mut B, held: &mut Queue) -> Result<(), End>
     requires { IsRunning (D.agrees drive.old) (D.sight drive.old) (B.state board.old) }
+
     // The drive and the board.
     ensures runs_on { OnOk result (KeepsRunning (D.agrees drive.new) (D.sight drive.new)
         (B.state board.old) (B.state board.new)) }
     ensures none { OnOk result ((D.sight drive.new).pending ≡ []) }
     ensures requests { OnOk result (ServesSame (D.built drive.old) (D.built drive.new)) }
     ensures rest { InstallsNone (B.state board.old) (B.state board.new) }
+
     // The records.
     ensures held { OnOk result (held.new ≡ record held.old { heads = [] }) }
     ensures room { held.new.room ≡ held.old.room }
     ensures serves { OnOk result (Flushed (B.state board.old) (B.state board.new)
         (D.sight drive.old) (D.sight drive.new) (bytes_of held.old.heads)) }
+
     // A fault.
     ensures fault { IfErr result (Faulted (B.state board.old) (B.state board.new)) }
     ensures breaks { IfErr result (Breaks (B.state board.old) (B.state board.new)
         (D.sight drive.old) (bytes_of held.old.heads)) }
 {
+    // so a command that only reads, behind a flush of its own, makes none before its record
+    if drive.pending() == 0 && held.held().is_empty() {
+        return Ok(());
+    }
     match drive.commit(board) {
         Ok(()) => {}
         Err(_) => return Err(End::Flash),
@@ -101,6 +114,7 @@ pub fn prepare<D: Engine, B: Board>(
     request: &Request,
 ) -> Result<(), End>
     requires { IsRunning (D.agrees drive.old) (D.sight drive.old) (B.state board.old) }
+
     // The drive and the board.
     ensures runs_on { OnOk result (KeepsRunning (D.agrees drive.new) (D.sight drive.new)
         (B.state board.old) (B.state board.new)) }
@@ -108,10 +122,12 @@ pub fn prepare<D: Engine, B: Board>(
     ensures built { OnOk result
         (D.built drive.old request.now ≡ true → D.built drive.new request.now ≡ true) }
     ensures rest { InstallsNone (B.state board.old) (B.state board.new) }
+
     // The records.
     ensures room { held.new.room ≡ held.old.room }
     ensures keeps { OnOk result (Keeps (B.state board.old) (B.state board.new) (D.sight drive.old)
         (D.sight drive.new) (bytes_of held.old.heads) (bytes_of held.new.heads)) }
+
     // A fault.
     ensures fault { IfErr result (Faulted (B.state board.old) (B.state board.new)) }
     ensures breaks { IfErr result (Breaks (B.state board.old) (B.state board.new)
@@ -166,15 +182,18 @@ pub fn finish<D: Engine, B: Board>(
     requires running { IsRunning (D.agrees drive.old) (D.sight drive.old) (B.state board.old) }
     requires has_room { waits ≡ true → length held.old.heads < held.old.room }
     requires bare { waits ≡ true → bytes.now ≡ [] }
+
     // The drive and the board.
     ensures runs_on { OnOk result (KeepsRunning (D.agrees drive.new) (D.sight drive.new)
         (B.state board.old) (B.state board.new)) }
     ensures rest { TakesNone (B.state board.old) (B.state board.new) }
+
     // The records.
     ensures room { held.new.room ≡ held.old.room }
     ensures keeps { OnOk result (Keeps (B.state board.old) (B.state board.new) (D.sight drive.old)
         (D.sight drive.new) (bytes_of held.old.heads ++ (head ++ bytes.now))
         (bytes_of held.new.heads)) }
+
     // A fault.
     ensures fault { IfErr result (Faulted (B.state board.old) (B.state board.new)) }
     ensures breaks { IfErr result (Breaks (B.state board.old) (B.state board.new)
@@ -213,17 +232,20 @@ pub fn serve_one<D: Engine, B: Board>(
     requires count { entry.now.before < 2 ^ 32 - 1 }
     requires handed { IsHanded shape.now entry.now.request.opcode entry.now.request.size value.now }
     requires has_room { HasRoom (B.state board.old) shape.now into.old }
+
     // The drive, the board and the buffers.
     ensures runs_on { OnOk result (KeepsRunning (D.agrees drive.new) (D.sight drive.new)
         (B.state board.old) (B.state board.new)) }
     ensures rest { TakesNone (B.state board.old) (B.state board.new) }
     ensures rooms { SameRoom held.old.room held.new.room into.old into.new }
+
     // The command, with the value of which these bytes were handed over.
     ensures serves { OnOk result ((v : List ℕ)
         → IsValue shape.now entry.now.request.opcode entry.now.request.size value.now v
         → Serves (B.state board.old) (B.state board.new) (D.sight drive.old) (D.sight drive.new)
         (bytes_of held.old.heads) (bytes_of held.new.heads) entry.now.before
         (command_of entry.now.request v)) }
+
     // A fault.
     ensures fault { IfErr result (Faulted (B.state board.old) (B.state board.new)) }
     ensures stops { IfErr result (λ end. (v : List ℕ)

@@ -26,6 +26,7 @@ use std::alloc::Global;
 /// `serves` carries what the project is about: over any sessions on a made drive, each cut off anywhere, every record that was
 /// posted is the finite map's, and each session begins from the map after the commands that were kept of the one before.
 pub fn run<B: Board>(alloc: Global, words: &[&str], board: &mut B) -> Status
+    // The words, the status and its cause.
     ensures words { result.0 ≡ 2 → (spec.word_of (map (λ w. w.now) words.now) ≡ None)
         × (B.state board.new ≡ B.state board.old) }
     ensures no_words { spec.word_of (map (λ w. w.now) words.now) ≡ None
@@ -34,6 +35,11 @@ pub fn run<B: Board>(alloc: Global, words: &[&str], board: &mut B) -> Status
     ensures memory { ((shape : Form)
         → spec.word_of (map (λ w. w.now) words.now) ≢ Some (spec.make shape)) → result.0 ≡ 7
         → Untouched (B.state board.old) (B.state board.new) }
+    ensures later { (word : spec.Word) → spec.word_of (map (λ w. w.now) words.now) ≡ Some word
+        → spec.is_later word ≡ true
+        → (B.state board.new ≡ B.state board.old) × ((result.0 ≡ 11) ⊎ (result.0 ≡ 7)) }
+
+    // The words that touch the flash.
     ensures makes { (shape : Form)
         → spec.word_of (map (λ w. w.now) words.now) ≡ Some (spec.make shape)
         → MakeRun shape (B.state board.old) (B.state board.new) result.0 }
@@ -43,15 +49,14 @@ pub fn run<B: Board>(alloc: Global, words: &[&str], board: &mut B) -> Status
     ensures serves { (frames : ℕ)
         → spec.word_of (map (λ w. w.now) words.now) ≡ Some (spec.serve frames)
         → ServeRun frames (B.state board.old) (B.state board.new) result.0 }
+
+    // Those that touch no flash, and what any word leaves of it.
     ensures assembles { spec.word_of (map (λ w. w.now) words.now) ≡ Some spec.assemble
         → TextRun assembled (B.state board.old) (B.state board.new) result.0 }
     ensures shows { spec.word_of (map (λ w. w.now) words.now) ≡ Some spec.show
         → TextRun shown (B.state board.old) (B.state board.new) result.0 }
     ensures rests { Rests (spec.word_of (map (λ w. w.now) words.now)) (B.state board.old)
         (B.state board.new) }
-    ensures later { (word : spec.Word) → spec.word_of (map (λ w. w.now) words.now) ≡ Some word
-        → spec.is_later word ≡ true
-        → (B.state board.new ≡ B.state board.old) × ((result.0 ≡ 11) ⊎ (result.0 ≡ 7)) }
 {
     match word_of(alloc, words) {
         Ok(Some(word)) => obey(alloc, word, board),
@@ -62,20 +67,26 @@ pub fn run<B: Board>(alloc: Global, words: &[&str], board: &mut B) -> Status
 
 fn obey<B: Board>(alloc: Global, word: Word, board: &mut B) -> Status
     requires { (frames : ℕ) → seen word ≡ spec.serve frames → frames ≤ 16384 }
+
+    // The status and its cause.
     ensures tells { Tells (B.state board.old) (B.state board.new) result.0 }
     ensures memory { ((shape : Form) → seen word ≢ spec.make shape) → result.0 ≡ 7
         → Untouched (B.state board.old) (B.state board.new) }
+    ensures later { spec.is_later (seen word) ≡ true
+        → (B.state board.new ≡ B.state board.old) × (result.0 ≡ 11) }
+
+    // The words that touch the flash.
     ensures makes { (shape : Form) → seen word ≡ spec.make shape
         → MakeRun shape (B.state board.old) (B.state board.new) result.0 }
     ensures serves { (frames : ℕ) → seen word ≡ spec.serve frames
         → ServeRun frames (B.state board.old) (B.state board.new) result.0 }
+
+    // Those that touch no flash, and what any word leaves of it.
     ensures assembles { seen word ≡ spec.assemble
         → TextRun assembled (B.state board.old) (B.state board.new) result.0 }
     ensures shows { seen word ≡ spec.show
         → TextRun shown (B.state board.old) (B.state board.new) result.0 }
     ensures rests { RestsIn (seen word) (B.state board.old) (B.state board.new) }
-    ensures later { spec.is_later (seen word) ≡ true
-        → (B.state board.new ≡ B.state board.old) × (result.0 ≡ 11) }
 {
     match word {
         Word::Make(shape) => make(alloc, shape, board),

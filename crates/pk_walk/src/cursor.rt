@@ -105,15 +105,18 @@ impl<A: Allocator> Cursor<A> {
         requires stands { (es : List EntrySpec)
             × RunOnFlash run.now (B.state board.old).pages arena.now es }
         requires may { MayLoad (B.state board.old).pages run.now p self.old }
+
         // The page.
         ensures loads { OnOk result (Loads run.now p (B.state board.old) (B.state board.new)
             self.old self.new) }
         ensures page { OnOk result (page_at (B.state board.old).pages (page_of run.now p)
             ≡ whole self.new.bytes) }
+
         // Only a read fails.
         ensures fails { OnErr result (FailsToLoad run.now p (B.state board.old)
             (B.state board.new) self.old self.new) }
         ensures reading { IfErr result (λ fault. fault ≡ Reading) }
+
         // The flash is as it was.
         ensures same { (B.state board.new).pages ≡ (B.state board.old).pages }
         ensures ready { IsReady (B.state board.new) run.now.shape }
@@ -145,14 +148,17 @@ impl<A: Allocator> Cursor<A> {
             × RunOnFlash run.now (B.state board.old).pages arena.now es
             × Follows (B.state board.old).pages run.now es position self.old }
         requires exists { self.old.place < run.now.count }
+
         // The entry at the place.
         ensures shows { IfOk result (λ e. Shows run.now arena.now (B.state board.old)
             (B.state board.new) self.old self.new e) }
+
         // The cursor stays at its place in any case, and only a read fails.
         ensures stays { StaysAt (B.state board.old).pages run.now self.old self.new }
         ensures fails { OnErr result (FailsToShow run.now (B.state board.old)
             (B.state board.new) self.old self.new) }
         ensures reading { IfErr result (λ fault. fault ≡ Reading) }
+
         // The flash is as it was.
         ensures same { (B.state board.new).pages ≡ (B.state board.old).pages }
         ensures ready { IsReady (B.state board.new) run.now.shape }

@@ -88,16 +88,19 @@ impl<A: Allocator> Cursors<A> {
         requires follow { (ess : List (List EntrySpec))
             × RunsOnFlash (B.state board.old).pages arena.now levels.now.runs ess
             × FollowEach (B.state board.old).pages levels.now.runs ess position.now self.old }
+
         // The first wanted entry.
         ensures finds { IfOk result (λ found. FindsInEach (least_first (is_wanted position.now))
             levels.now.runs arena.now position.now (B.state board.old) (B.state board.new)
             self.old self.new found) }
+
         // The cursors go on in any case, and only a read fails.
         ensures go_on { GoOn (B.state board.old).pages arena.now levels.now.shape
             levels.now.runs position.now self.old self.new }
         ensures reading { IfErr result (λ fault. fault ≡ Reading) }
         ensures err { OnErr result (ReadsFail (pages_read levels.now.runs self.old)
             (pages_read levels.now.runs self.new) (B.state board.old) (B.state board.new)) }
+
         // The flash is as it was.
         ensures same { (B.state board.new).pages ≡ (B.state board.old).pages }
         ensures ready { IsReady (B.state board.new) levels.now.shape }

@@ -28,15 +28,18 @@ pub fn seek<A: Allocator, B: Nand>(
     requires shape { cursor.old.shape ≡ run.now.shape }
     requires follows { (es : List EntrySpec) × RunOnFlash run.now (B.state board.old).pages arena.now es
         × Follows (B.state board.old).pages run.now es position.now cursor.old }
+
     // The first wanted entry.
     ensures finds { IfOk result (λ found. FindsIn run.now arena.now position.now
         (B.state board.old) (B.state board.new) cursor.old cursor.new found) }
+
     // The cursor goes on in any case, and only a read fails.
     ensures goes_on { GoesOn (B.state board.old).pages arena.now run.now position.now
         cursor.old cursor.new }
     ensures reading { IfErr result (λ fault. fault ≡ Reading) }
     ensures err { OnErr result (ReadsFail (read_of run.now.leases cursor.old.loaded)
         (read_of run.now.leases cursor.new.loaded) (B.state board.old) (B.state board.new)) }
+
     // The flash is as it was.
     ensures same { (B.state board.new).pages ≡ (B.state board.old).pages }
     ensures ready { IsReady (B.state board.new) run.now.shape }

@@ -112,10 +112,12 @@ impl<A: Region> Walk<A> {
             × RunsOnFlash (B.state board.old).pages arena.now levels.now.runs ess
             × FollowEach (B.state board.old).pages levels.now.runs ess self.old.position
             self.old.cursors }
+
         // The next entry.
         ensures comes { IfOk result (λ found. Comes levels.now.runs arena.now
             active.now.entries frozen.now.entries (B.state board.old) (B.state board.new)
             self.old self.new found) }
+
         // The walk goes on in any case, and only a read fails.
         ensures walks_on { WalksOn (B.state board.old).pages arena.now levels.now.runs
             self.old self.new }
@@ -123,6 +125,7 @@ impl<A: Region> Walk<A> {
         ensures reading { IfErr result (λ fault. fault ≡ Reading) }
         ensures err { OnErr result (ReadsFail (pages_read levels.now.runs self.old.cursors)
             (pages_read levels.now.runs self.new.cursors) (B.state board.old) (B.state board.new)) }
+
         // The flash is as it was.
         ensures same { (B.state board.new).pages ≡ (B.state board.old).pages }
         ensures ready { IsReady (B.state board.new) levels.now.shape }
@@ -163,16 +166,22 @@ impl<A: Region> Walk<A> {
         requires left { (rest : List (KeySpec × Place))
             × IsLeft self.old (B.state board.old).pages arena.now levels.now.runs active.now.entries
             frozen.now.entries rest }
+
+        // The next key that is there.
         ensures gives { IfOk result (λ found. (rest : List (KeySpec × Place))
             → IsLeft self.old (B.state board.old).pages arena.now levels.now.runs active.now.entries
             frozen.now.entries rest → (later : List (KeySpec × Place)) × Gives found rest later
             × IsLeft self.new (B.state board.new).pages arena.now levels.now.runs active.now.entries
             frozen.now.entries later) }
+
+        // Or a read failed, and it is still to come.
         ensures kept { OnErr result ((rest : List (KeySpec × Place))
             → IsLeft self.old (B.state board.old).pages arena.now levels.now.runs active.now.entries
             frozen.now.entries rest
             → IsLeft self.new (B.state board.new).pages arena.now levels.now.runs active.now.entries
             frozen.now.entries rest) }
+
+        // How many pages are read, from the first key to the last.
         ensures shape { self.new.shape ≡ self.old.shape }
         ensures reads { OnOk result (Reads (pages_read levels.now.runs self.old.cursors)
             (pages_read levels.now.runs self.new.cursors) (B.state board.old) (B.state board.new)) }
@@ -183,6 +192,8 @@ impl<A: Region> Walk<A> {
             (pages_read levels.now.runs self.new.cursors) (B.state board.old) (B.state board.new)) }
         ensures ended { IfOk result (λ found. found ≡ None → SkipsNone self.old
             → pages_read levels.now.runs self.new.cursors ≡ most_read levels.now.runs) }
+
+        // Which fault, and that nothing but reads was done.
         ensures reading { IfErr result (λ fault. fault ≡ Reading) }
         ensures err { OnErr result (ReadsFail (pages_read levels.now.runs self.old.cursors)
             (pages_read levels.now.runs self.new.cursors) (B.state board.old) (B.state board.new)) }
@@ -235,16 +246,19 @@ fn least_of_all<A: Region, B: Nand>(
     requires follow { (ess : List (List EntrySpec))
         × RunsOnFlash (B.state board.old).pages arena.now levels.now.runs ess
         × FollowEach (B.state board.old).pages levels.now.runs ess position.now cursors.old }
+
     // The first entry that is left.
     ensures finds { IfOk result (λ found. FindsInEach (first_left position.now
         active.now.entries frozen.now.entries) levels.now.runs arena.now position.now
         (B.state board.old) (B.state board.new) cursors.old cursors.new found) }
+
     // The cursors go on in any case, and only a read fails.
     ensures go_on { GoOn (B.state board.old).pages arena.now levels.now.shape
         levels.now.runs position.now cursors.old cursors.new }
     ensures reading { IfErr result (λ fault. fault ≡ Reading) }
     ensures err { OnErr result (ReadsFail (pages_read levels.now.runs cursors.old)
         (pages_read levels.now.runs cursors.new) (B.state board.old) (B.state board.new)) }
+
     // The flash is as it was.
     ensures same { (B.state board.new).pages ≡ (B.state board.old).pages }
     ensures ready { IsReady (B.state board.new) levels.now.shape }

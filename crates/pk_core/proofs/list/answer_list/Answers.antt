@@ -11,8 +11,8 @@ use Rattle.pk_core.proofs.list.answer_list.Goals as goal
 
 pub put_left-requires-clause-may : goal.put_left-requires-clause-may
 put_left-requires-clause-may g c =
-    let left = c.start_walk.ensures.left (g.B.Nand.state c.args.board.now).pages c.args.arena.now c.args.levels.now.runs c.args.log.now.active.entries c.args.log.now.frozen.entries c.requires.stand.0 c.requires.stand.1 in
-    record { ready = c.requires.ready; same_shape = c.start_walk.ensures.shape ∙ c.requires.shape; left = (left.0, left.1) }
+    let left = c.start_walk.ensures.left (g.B.Nand.state c.args.board.now).pages c.args.arena.now c.args.levels.now.runs c.args.log.now.active.entries c.args.log.now.frozen.entries c.requires.may.stand.0 c.requires.may.stand.1 in
+    record { ready = c.requires.may.ready; same_shape = c.start_walk.ensures.shape ∙ c.requires.may.same_shape; left = (left.0, left.1) }
 
 pub reads_since-requires-clause-up : goal.reads_since-requires-clause-up
 reads_since-requires-clause-up g c =

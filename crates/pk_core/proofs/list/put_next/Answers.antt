@@ -1,4 +1,3 @@
-use Rattle.std.proofs.Common.{subst}
 use Rattle.pk_core.proofs.Listing.{gives_key, gives_none}
 use Rattle.pk_core.proofs.list.put_next.Goals as goal
 

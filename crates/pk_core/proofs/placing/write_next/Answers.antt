@@ -1,4 +1,4 @@
-use Rattle.std.proofs.Common.{ℕ, inr, length, subst}
+use Rattle.std.proofs.Common.{ℕ, inr, subst}
 use Rattle.pk_core.specs.Placing.{Reserves}
 use Rattle.pk_core.proofs.Filling.{places_value}
 use Rattle.pk_core.proofs.placing.write_next.Goals as goal

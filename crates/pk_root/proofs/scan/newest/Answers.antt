@@ -1,5 +1,5 @@
 use Rattle.std.proofs.Common.{◌≡◌, ◌∙◌, ◌*◌, arith, ap}
-use Rattle.pk_base.specs.Shape.{Shape}
+use Rattle.pk_base.specs.Shape.{root_pages}
 use Rattle.pk_base.specs.Page.{page_at}
 use Rattle.pk_rootfmt.specs.Newest.{newest_root}
 use Rattle.pk_root.specs.Scanned.{found_at}
@@ -18,7 +18,7 @@ loop-page-preserved g c = record {
 -- all pages of the root blocks were read
 ended : (g : Over) (c : goal.After-loop-page g) → found_at c.loop-page.best c.loop-page.into.root ≡ newest_root c.args.into.now.shape (page_at (g.B.Nand.state c.args.board.now).pages)
 ended g c =
-    let pages : c.block_pages-pages.result ≡ c.args.into.now.shape.block_pages = c.block_pages-pages.ensures.value ∙ ap (λ (s : Shape). s.block_pages) c.shape.ensures in
+    let pages : c.root_pages-pages.result ≡ root_pages c.args.into.now.shape = c.root_pages-pages.ensures.value ∙ ap root_pages c.shape.ensures in
     let all : c.loop-page.page ≡ 2 * c.args.into.now.shape.block_pages = omega (arith, c.loop-page-test.false, c.loop-page.auto.page-end, pages) in
     Scanned-end _ (g.B.Nand.state c.loop-page.board) c.args.into.now.shape c.loop-page.best c.args.into.now c.loop-page.into (rw all at c.loop-page.invariant.scanned)
 

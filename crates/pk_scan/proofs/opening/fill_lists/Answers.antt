@@ -1,9 +1,10 @@
-use Rattle.std.proofs.Common.{◌≡◌, ◌+◌, ◌*◌, ◌∙◌, refl, sym, ap, subst}
+use Rattle.std.proofs.Common.{◌≡◌, ◌+◌, refl, sym, ap, subst}
 use Rattle.pk_base.specs.Page.{page_at}
+use Rattle.pk_base.specs.Shape.{root_pages}
 use Rattle.pk_nand.specs.Erased.{after_reads}
 use Rattle.pk_rootfmt.specs.Root.{Root}
 use Rattle.pk_scan.specs.Reads.{list_reads}
-use Rattle.pk_scan.proofs.Boards.{stays_both, stays_ready_behind}
+use Rattle.pk_scan.proofs.Boards.{stays_both}
 use Rattle.pk_scan.proofs.Whole.{root_then_lists, lists_refuse, finds_lists}
 use Rattle.pk_scan.proofs.opening.fill_lists.Goals as goal
 
@@ -19,7 +20,7 @@ pub returns-in-Ok-read_lists-clause-reads : goal.returns-in-Ok-read_lists-clause
 returns-in-Ok-read_lists-clause-reads g c =
     let shape = c.args.memory.now.found.root.shape in
     let old = g.B.Nand.state c.args.board.now in
-    subst (λ (r : Root). g.B.Nand.state c.read_lists.new.board ≡ after_reads (2 * shape.block_pages + list_reads shape (page_at old.pages) r) old) (sym (ap (λ x. x.root.root) c.read_lists.ensures.kept))
+    subst (λ (r : Root). g.B.Nand.state c.read_lists.new.board ≡ after_reads (root_pages shape + list_reads shape (page_at old.pages) r) old) (sym (ap (λ x. x.root.root) c.read_lists.ensures.kept))
     (root_then_lists shape c.find_root.new.root.shape c.find_root.new.root.root old (g.B.Nand.state c.find_root.new.board) (g.B.Nand.state c.read_lists.new.board)
     c.find_root.ensures.shape c.in-Ok.ensures.reads c.find_root.ensures.board.pages c.in-Ok-read_lists.ensures.reads)
 

@@ -1,4 +1,8 @@
-use Rattle.std.proofs.Common.{◌≡◌, ◌+◌, ◌∙◌, ℕ, List, [], subst}
+use Rattle.std.proofs.Common.{◌≡◌, ◌+◌, ◌∙◌, ℕ, List, [], sym, subst, Result}
+use Rattle.pk_base.specs.Key.{Key}
+use Rattle.pk_base.specs.Refusal.{Refusal}
+use Rattle.pk_rootfmt.specs.Root.{Root, named}
+use Rattle.pk_pool.specs.Blocks.{Blocks, unused}
 use Rattle.pk_base.specs.Shape.{Shape}
 use Rattle.pk_base.specs.Page.{page_at}
 use Rattle.pk_nand.specs.Erased.{after_reads}
@@ -8,8 +12,31 @@ use Rattle.pk_walk.specs.Walking.{most_read}
 use Rattle.pk_scan.specs.Opening.{PartNotOpened, ReadsValues}
 use Rattle.pk_scan.specs.Reads.{value_reads}
 use Rattle.pk_live.proofs.Nothing.{Lives-none}
+use Rattle.pk_scan.specs.Adopts.{owned_blocks, NamesOwned}
+use Rattle.pk_scan.proofs.Owned.{owned_named, values_same, Lives-same}
 use Rattle.pk_scan.proofs.Whole.{left_to_give, places_are}
 use Rattle.pk_scan.proofs.opening.fill_values.Goals as goal
+
+named_now : (shape : Shape) (root : Root) (old new : Blocks) → old ≡ unused shape → NamesOwned root old new → NamesOwned root (unused shape) new
+named_now shape root old new is owned = subst (λ (p : Blocks). NamesOwned root p new) is owned
+
+pub returns-in-Ok-clause-owned : goal.returns-in-Ok-clause-owned
+returns-in-Ok-clause-owned g c =
+    record {
+      named_owned = named_now c.args.memory.now.found.root.shape c.args.memory.now.found.root.root c.args.memory.now.found.pool c.adopt_blocks.new.pool c.requires.awaits.pool_unused c.adopt_blocks.ensures.named;
+      journal = c.adopt_blocks.ensures.journal;
+      meta = c.adopt_blocks.ensures.meta;
+      values = c.adopt_blocks.ensures.values;
+    }
+
+pub returns-in-Err-clause-owned : goal.returns-in-Err-clause-owned
+returns-in-Err-clause-owned g c =
+    record {
+      named_owned = named_now c.args.memory.now.found.root.shape c.args.memory.now.found.root.root c.args.memory.now.found.pool c.adopt_blocks.new.pool c.requires.awaits.pool_unused c.adopt_blocks.ensures.named;
+      journal = c.adopt_blocks.ensures.journal;
+      meta = c.adopt_blocks.ensures.meta;
+      values = c.adopt_blocks.ensures.values;
+    }
 
 pub read_values-requires-clause-left : goal.read_values-requires-clause-left
 read_values-requires-clause-left g c =
@@ -20,16 +47,22 @@ read_values-requires-clause-left g c =
     (places found [], left_to_give f.root.shape flash f.root.root f.active f.frozen f.epoch f.arena f.levels found held c.args.memory.now.walk c.requires.awaits.starts, rw c.shape.ensures (places_are f.root.shape flash f.root.root found held.finds))
 
 pub read_values-requires-clause-none : goal.read_values-requires-clause-none
-read_values-requires-clause-none g c = rw (c.shape.ensures, c.requires.awaits.none_live) (Lives-none c.args.memory.now.found.root.shape c.deref.result.now (rw c.shape.ensures at c.known.ensures))
+read_values-requires-clause-none g c = rw (c.shape.ensures, c.requires.awaits.none_live) (Lives-none c.args.memory.now.found.root.shape (owned_blocks c.adopt_blocks.new.pool) (rw c.shape.ensures at c.known.ensures))
 
 pub returns-in-Ok-clause-finds : goal.returns-in-Ok-clause-finds
 returns-in-Ok-clause-finds g c found held =
     let f = c.args.memory.now.found in
     let old = g.B.Nand.state c.args.board.now in
     let left = left_to_give f.root.shape old.pages f.root.root f.active f.frozen f.epoch f.arena f.levels found held c.args.memory.now.walk c.requires.awaits.starts in
+    let pool = c.adopt_blocks.new.pool in
+    let same = owned_named f.root.shape f.root.root (rw c.shape.ensures at c.known.ensures) c.requires.awaits.grammar pool (named_now f.root.shape f.root.root f.pool pool c.requires.awaits.pool_unused c.adopt_blocks.ensures.named) in
+    let read = subst (λ (s : Shape). ReadsValues s old.pages (owned_blocks pool) c.read_values.new.live (places found [])) c.shape.ensures (c.in-Ok.ensures.read (places found []) left).values in
     record {
-      values = subst (λ (ns : List ℕ). ReadsValues f.root.shape old.pages ns c.read_values.new.live (places found [])) (c.deref.ensures.value ∙ c.list_named.ensures)
-          (subst (λ (s : Shape). ReadsValues s old.pages c.deref.result.now c.read_values.new.live (places found [])) c.shape.ensures (c.in-Ok.ensures.read (places found []) left).values);
+      values = record {
+        values = read.values;
+        read = sym (values_same f.root.shape (owned_blocks pool) (named f.root.root) same (page_at old.pages) [] (places found [])) ∙ read.read;
+        lives = Lives-same f.root.shape (owned_blocks pool) (named f.root.root) same c.read_values.new.live (places found []) read.lives;
+      };
       keys_are = (c.in-Ok.ensures.read (places found []) left).keys_are;
       reads = subst (λ (s : Shape). g.B.Nand.state c.read_values.new.board ≡ after_reads (most_read f.levels.runs + value_reads s (places found [])) old) c.shape.ensures
           ((c.in-Ok.ensures.exact (places found []) left).exact c.requires.awaits.starts.skips_none (c.requires.awaits.starts.none_read f.levels.runs));
@@ -41,5 +74,7 @@ returns-in-Err-clause-err g c found held =
     let old = g.B.Nand.state c.args.board.now in
     let new = g.B.Nand.state c.read_values.new.board in
     let left = left_to_give f.root.shape old.pages f.root.root f.active f.frozen f.epoch f.arena f.levels found held c.args.memory.now.walk c.requires.awaits.starts in
-    subst (λ (ns : List ℕ). PartNotOpened (values_of f.root.shape (page_at old.pages) ns [] (places found [])) old new c.in-Err.error) (c.deref.ensures.value ∙ c.list_named.ensures)
-    (subst (λ (s : Shape). PartNotOpened (values_of s (page_at old.pages) c.deref.result.now [] (places found [])) old new c.in-Err.error) c.shape.ensures (c.in-Err.ensures.err (places found []) left))
+    let pool = c.adopt_blocks.new.pool in
+    let same = owned_named f.root.shape f.root.root (rw c.shape.ensures at c.known.ensures) c.requires.awaits.grammar pool (named_now f.root.shape f.root.root f.pool pool c.requires.awaits.pool_unused c.adopt_blocks.ensures.named) in
+    subst (λ (part : Result (List (Key × List ℕ)) Refusal). PartNotOpened part old new c.in-Err.error) (values_same f.root.shape (owned_blocks pool) (named f.root.root) same (page_at old.pages) [] (places found []))
+    (subst (λ (s : Shape). PartNotOpened (values_of s (page_at old.pages) (owned_blocks pool) [] (places found [])) old new c.in-Err.error) c.shape.ensures (c.in-Err.ensures.err (places found []) left))

@@ -4,7 +4,7 @@ use Rattle.std.specs.List.{list_any}
 use Rattle.pk_base.specs.Shape.{limit, data_blocks}
 use Rattle.pk_live.specs.Values.{count_of, IsLive}
 use Rattle.pk_live.proofs.Counts.{sum-le-pages}
-use Rattle.pk_scan.specs.Places.{place}
+use Rattle.pk_scan.specs.Adopts.{owned_blocks}
 use Rattle.pk_scan.proofs.Taking.{named_refuses, overlap_refuses, counts_decide}
 use Rattle.pk_scan.proofs.taken.has_room.Goals as goal
 
@@ -15,26 +15,26 @@ overflow_add-pages g c =
     let block : c.args.shape.now.block_pages ≤ 256 = c.page_count.ensures.shape.block_most in
     omega (arith, total, block, c.total.ensures, c.charge-count.ensures.most)
 
-pub returns-then-is_named : goal.returns-then-is_named
-returns-then-is_named g c taken lives =
-    let told = c.is_named.ensures ∙ ap (λ (n : ℕ). list_any (λ b. b == c.args.page / n) c.args.named.now) c.block_pages.ensures.value in
-    named_refuses c.args.shape.now c.args.named.now c.args.live.now taken (place c.args.page c.args.len) c.page_count.ensures.shape c.requires.place lives c.is_named.result told c.if-is_named.true
+pub returns-then-is_owned : goal.returns-then-is_owned
+returns-then-is_owned g c taken lives =
+    let told = c.is_owned.ensures ∙ ap (λ (n : ℕ). list_any (λ b. b == c.args.place.page / n) (owned_blocks c.args.pool.now)) c.block_pages.ensures.value in
+    named_refuses c.args.shape.now (owned_blocks c.args.pool.now) c.args.live.now taken c.args.place c.page_count.ensures.shape c.requires.place lives c.is_owned.result told c.if-is_owned.true
 
 pub returns-then-overlaps : goal.returns-then-overlaps
 returns-then-overlaps g c taken lives =
-    let told = c.is_named.ensures ∙ ap (λ (n : ℕ). list_any (λ b. b == c.args.page / n) c.args.named.now) c.block_pages.ensures.value in
-    let over = subst (λ (k : ℕ). IsTrue c.overlaps.result ↔ ((p : ℕ) × (c.args.page ≤ p) × (p < c.args.page + k) × IsLive c.args.live.now p)) c.charge-count.ensures.value c.overlaps.ensures in
-    overlap_refuses c.args.shape.now c.args.named.now c.args.live.now taken (place c.args.page c.args.len) c.page_count.ensures.shape c.requires.place lives c.is_named.result c.overlaps.result told
-    c.if-is_named.false over c.if-overlaps.true
+    let told = c.is_owned.ensures ∙ ap (λ (n : ℕ). list_any (λ b. b == c.args.place.page / n) (owned_blocks c.args.pool.now)) c.block_pages.ensures.value in
+    let over = subst (λ (k : ℕ). IsTrue c.overlaps.result ↔ ((p : ℕ) × (c.args.place.page ≤ p) × (p < c.args.place.page + k) × IsLive c.args.live.now p)) c.charge-count.ensures.value c.overlaps.ensures in
+    overlap_refuses c.args.shape.now (owned_blocks c.args.pool.now) c.args.live.now taken c.args.place c.page_count.ensures.shape c.requires.place lives c.is_owned.result c.overlaps.result told
+    c.if-is_owned.false over c.if-overlaps.true
 
 pub returns : goal.returns
 returns g c taken lives =
-    let told = c.is_named.ensures ∙ ap (λ (n : ℕ). list_any (λ b. b == c.args.page / n) c.args.named.now) c.block_pages.ensures.value in
-    let over = subst (λ (k : ℕ). IsTrue c.overlaps.result ↔ ((p : ℕ) × (c.args.page ≤ p) × (p < c.args.page + k) × IsLive c.args.live.now p)) c.charge-count.ensures.value c.overlaps.ensures in
+    let told = c.is_owned.ensures ∙ ap (λ (n : ℕ). list_any (λ b. b == c.args.place.page / n) (owned_blocks c.args.pool.now)) c.block_pages.ensures.value in
+    let over = subst (λ (k : ℕ). IsTrue c.overlaps.result ↔ ((p : ℕ) × (c.args.place.page ≤ p) × (p < c.args.place.page + k) × IsLive c.args.live.now p)) c.charge-count.ensures.value c.overlaps.ensures in
     let used =
     c.blocks_used.ensures.value
-    ∙ ap (λ (n : ℕ). count_by (λ b. b) c.args.live.now.closed + cond (count_of c.args.live.now (c.args.page / n) == 0) 1 0) c.block_pages.ensures.value in
+    ∙ ap (λ (n : ℕ). count_by (λ b. b) c.args.live.now.closed + cond (count_of c.args.live.now (c.args.place.page / n) == 0) 1 0) c.block_pages.ensures.value in
     c.are_few.ensures
     ∙ ap (λ (k : ℕ). nat_le (c.total.result + k) (limit c.args.shape.now) && nat_le c.blocks_used.result (data_blocks c.args.shape.now - 1)) c.charge-count.ensures.value
-    ∙ counts_decide c.args.shape.now c.args.named.now c.args.live.now taken (place c.args.page c.args.len) c.page_count.ensures.shape c.requires.place lives c.is_named.result c.overlaps.result
-    c.total.result c.blocks_used.result told c.if-is_named.false over c.if-overlaps.false c.total.ensures used
+    ∙ counts_decide c.args.shape.now (owned_blocks c.args.pool.now) c.args.live.now taken c.args.place c.page_count.ensures.shape c.requires.place lives c.is_owned.result c.overlaps.result
+    c.total.result c.blocks_used.result told c.if-is_owned.false over c.if-overlaps.false c.total.ensures used

@@ -1,4 +1,4 @@
-use Rattle.std.proofs.Common.{ap, ◌≤◌, arith, [], false}
+use Rattle.std.proofs.Common.{ap, ◌≤◌, arith, false}
 use Rattle.pk_nand.specs.Calls.{last_count}
 use Rattle.pk_core.proofs.Unchanging.{unread_look}
 use Rattle.pk_core.proofs.Served.{looks_behind, does_behind, delete_is_other}
@@ -12,7 +12,7 @@ use Rattle.pk_core.proofs.drive.Drive.delete.Goals as goal
 
 pub delete_at-requires-clause-looks : goal.delete_at-requires-clause-looks
 delete_at-requires-clause-looks g c =
-    looks_behind c.args.self.now c.look.new.self (g.B.Nand.state c.args.board.now).pages (g.B.Nand.state c.look.new.board).pages c.named_key-key.result c.in-Ok.old c.look.ensures.same c.look.ensures.pages c.in-Ok.ensures.looks
+    looks_behind c.args.self.now c.look.new.self (g.B.Nand.state c.args.board.now).pages (g.B.Nand.state c.look.new.board).pages c.key-key.result c.in-Ok.old c.look.ensures.same c.look.ensures.pages c.in-Ok.ensures.looks
 
 pub returns-in-Ok-clause-executes : goal.returns-in-Ok-clause-executes
 returns-in-Ok-clause-executes g c = λ v into.
@@ -41,7 +41,7 @@ returns-in-Err-clause-moves g c = λ _. stays_same _ _ c.look.ensures.same
 
 pub returns-in-Ok-clause-quiet : goal.returns-in-Ok-clause-quiet
 returns-in-Ok-clause-quiet g c = λ zero none.
-    quiet_delete_behind c.args.self.now c.look.new.self (g.B.Nand.state c.args.board.now) (g.B.Nand.state c.look.new.board) (g.B.Nand.state c.delete_at.new.board) c.named_key-key.result _ c.delete_at.result.reads c.look.ensures.same c.in-Ok.ensures.reads (c.named_key-key.ensures.key []) (c.delete_at.ensures.programs zero) (omega (arith, c.delete_at.ensures.told.0, c.reads_since-reads.ensures.reads, c.read_count-before.ensures.value, c.in-Ok.ensures.reads.within)) none
+    quiet_delete_behind c.args.self.now c.look.new.self (g.B.Nand.state c.args.board.now) (g.B.Nand.state c.look.new.board) (g.B.Nand.state c.delete_at.new.board) c.key-key.result _ c.delete_at.result.reads c.look.ensures.same c.in-Ok.ensures.reads c.key-key.ensures (c.delete_at.ensures.programs zero) (omega (arith, c.delete_at.ensures.told.0, c.reads_since-reads.ensures.reads, c.read_count-before.ensures.value, c.in-Ok.ensures.reads.within)) none
 
 pub returns-in-Err-clause-quiet : goal.returns-in-Err-clause-quiet
 returns-in-Err-clause-quiet g c = λ zero. absurd (told_refused c.refusal.result 0x88 0 0 c.reads_since.result false c.refusal.ensures (λ e. omega (arith, e)) zero)

@@ -12,7 +12,7 @@ pub take_out-requires-clause-can : goal.take_out-requires-clause-can
 take_out-requires-clause-can g c =
     let r = c.requires in
     let looks = subst (λ p. Looks c.args.self.now (g.B.Nand.state c.args.board.now).pages c.args.key p) c.in-Some.is r.looks in
-    can_take c.args.self.now (g.B.Nand.state c.args.board.now) c.args.request.now [] c.args.key r.servable r.opcode (r.named []) r.is_key r.bytes c.in-Some.place looks
+    can_take c.args.self.now (g.B.Nand.state c.args.board.now) c.args.request.now [] c.args.key r.servable r.opcode r.named c.known.ensures.key c.known.ensures.bytes c.in-Some.place looks
 
 pub take_out-requires-clause-one_freeze : goal.take_out-requires-clause-one_freeze
 take_out-requires-clause-one_freeze g c =
@@ -24,7 +24,7 @@ returns-in-None-clause-executes g c = λ v into.
     let r = c.requires in
     let looks = subst (λ p. Looks c.args.self.now (g.B.Nand.state c.args.board.now).pages c.args.key p) c.in-None.is r.looks in
     executes_quiet c.args.self.now c.args.self.now (g.B.Nand.state c.args.board.now) (g.B.Nand.state c.args.board.now) c.args.request.now (command_of c.args.request.now v) c.refusal.result into 0 c.requires.servable refl refl (ap (λ (o : Outcome). o.stopped) c.refusal.ensures)
-    (delete_missing c.args.self.now (g.B.Nand.state c.args.board.now) c.args.request.now v c.args.key r.servable r.opcode (r.named v) r.is_key r.bytes c.args.self.now into c.refusal.result c.args.reads looks refl c.refusal.ensures)
+    (delete_missing c.args.self.now (g.B.Nand.state c.args.board.now) c.args.request.now v c.args.key r.servable r.opcode r.named c.known.ensures.key c.known.ensures.bytes c.args.self.now into c.refusal.result c.args.reads looks refl c.refusal.ensures)
 
 pub returns-in-Ok-clause-executes : goal.returns-in-Ok-clause-executes
 returns-in-Ok-clause-executes g c = λ v into.
@@ -34,11 +34,11 @@ returns-in-Ok-clause-executes g c = λ v into.
     record {
       stops = e.stays.stopped ∙ (r.servable.runs ∙ sym (ap (λ (o : Outcome). o.stopped) c.served.ensures));
       agrees = λ _. (
-        delete_agrees c.args.self.now (g.B.Nand.state c.args.board.now) c.args.request.now [] c.args.key r.servable r.opcode (r.named []) r.is_key r.bytes c.in-Some.place looks
+        delete_agrees c.args.self.now (g.B.Nand.state c.args.board.now) c.args.request.now [] c.args.key r.servable r.opcode r.named c.known.ensures.key c.known.ensures.bytes c.in-Some.place looks
             c.take_out.new.self (g.B.Nand.state c.take_out.new.board) e.step.ended (shape_stays (g.B.Nand.state c.args.board.now) (g.B.Nand.state c.take_out.new.board) e.step.works.rest),
         few_same c.args.self.now c.take_out.new.self e.stays.same_shape e.stays.few,
       );
-      does = delete_done c.args.self.now (g.B.Nand.state c.args.board.now) c.args.request.now v c.args.key r.servable r.opcode (r.named v) r.is_key r.bytes c.in-Some.place looks
+      does = delete_done c.args.self.now (g.B.Nand.state c.args.board.now) c.args.request.now v c.args.key r.servable r.opcode r.named c.known.ensures.key c.known.ensures.bytes c.in-Some.place looks
           c.take_out.new.self (g.B.Nand.state c.take_out.new.board) into c.served.result c.args.reads e.step.ended e.stays.frames (shape_stays (g.B.Nand.state c.args.board.now) (g.B.Nand.state c.take_out.new.board) e.step.works.rest) e.step.works e.step.roots_few c.served.ensures;
     }
 
@@ -50,7 +50,7 @@ returns-in-Err-clause-executes g c = λ v into.
     record {
       stops = sym (ap (λ (o : Outcome). o.stopped) c.stopping.ensures);
       agrees = λ runs. absurd (never (ap (λ (o : Outcome). o.stopped) c.stopping.ensures) runs);
-      does = delete_stopped c.args.self.now (g.B.Nand.state c.args.board.now) c.args.request.now v c.args.key r.servable r.opcode (r.named v) r.is_key r.bytes c.in-Some.place looks
+      does = delete_stopped c.args.self.now (g.B.Nand.state c.args.board.now) c.args.request.now v c.args.key r.servable r.opcode r.named c.known.ensures.key c.known.ensures.bytes c.in-Some.place looks
           _ (g.B.Nand.state c.take_out.new.board) into c.stopping.result c.args.reads e.step.broken e.step.stops e.step.roots_few c.stopping.ensures;
     }
 

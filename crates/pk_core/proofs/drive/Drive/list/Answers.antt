@@ -13,11 +13,10 @@ returns-clause-executes g c =
     (list_runs _ (g.B.Nand.state c.args.board.now) (g.B.Nand.state c.answer_list.new.board) c.args.request.now c.answer_list.result c.answer_list.new.into s.agrees c.requires.opcode s.passed c.answer_list.ensures.lists)
     (list_does _ (g.B.Nand.state c.args.board.now) (g.B.Nand.state c.answer_list.new.board) c.args.request.now c.answer_list.result c.answer_list.new.into s.agrees c.requires.opcode s.passed c.answer_list.ensures.lists))
 
-pub returns-clause-rest : goal.returns-clause-rest
-returns-clause-rest g c =
-    list_reading _ (g.B.Nand.state c.args.board.now) (g.B.Nand.state c.answer_list.new.board) c.args.request.now c.answer_list.result c.answer_list.new.into (rw (← c.self.view_is) at c.requires.servable.agrees) c.requires.opcode
-    (rw (← c.self.view_is) at c.requires.servable.passed) c.answer_list.ensures.lists
-
-pub returns-clause-few : goal.returns-clause-few
-returns-clause-few g c =
-    rw (← c.self.view_is) (few_of_shape _ (g.B.Nand.state c.args.board.now) (g.B.Nand.state c.answer_list.new.board) (rw (← c.self.view_is) at c.requires.servable.agrees) c.answer_list.ensures.few)
+pub returns-clause-only : goal.returns-clause-only
+returns-clause-only g c = record {
+  same = c.self.view_is;
+  rest = (list_reading _ (g.B.Nand.state c.args.board.now) (g.B.Nand.state c.answer_list.new.board) c.args.request.now c.answer_list.result c.answer_list.new.into (rw (← c.self.view_is) at c.requires.servable.agrees) c.requires.opcode
+      (rw (← c.self.view_is) at c.requires.servable.passed) c.answer_list.ensures.lists);
+  few = rw (← c.self.view_is) (few_of_shape _ (g.B.Nand.state c.args.board.now) (g.B.Nand.state c.answer_list.new.board) (rw (← c.self.view_is) at c.requires.servable.agrees) c.answer_list.ensures.few);
+}

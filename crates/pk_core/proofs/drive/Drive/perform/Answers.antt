@@ -45,18 +45,18 @@ returns-in-194-clause-performs g c =
 
 pub returns-in-2-clause-performs : goal.returns-in-2-clause-performs
 returns-in-2-clause-performs g c =
-    performs_looking c.args.self.now c.retrieve.new.self (g.B.Nand.state c.args.board.now) (g.B.Nand.state c.retrieve.new.board) c.args.request.now c.args.value.now c.retrieve.result (ap only_looks c.in-2.is) c.retrieve.ensures.same c.retrieve.ensures.rest
-    (few_for_looks c.args.self.now.log.shape c.args.request.now.opcode 0x02 c.args.request.now.size refl _ _ c.in-2.is c.retrieve.ensures.few)
+    performs_looking c.args.self.now c.retrieve.new.self (g.B.Nand.state c.args.board.now) (g.B.Nand.state c.retrieve.new.board) c.args.request.now c.args.value.now c.retrieve.result (ap only_looks c.in-2.is) c.retrieve.ensures.only.same c.retrieve.ensures.only.rest
+    (few_for_looks c.args.self.now.log.shape c.args.request.now.opcode 0x02 c.args.request.now.size refl _ _ c.in-2.is c.retrieve.ensures.only.few)
 
 pub returns-in-6-clause-performs : goal.returns-in-6-clause-performs
 returns-in-6-clause-performs g c =
-    performs_looking c.args.self.now c.list.new.self (g.B.Nand.state c.args.board.now) (g.B.Nand.state c.list.new.board) c.args.request.now c.args.value.now c.list.result (ap only_looks c.in-6.is) c.list.ensures.same c.list.ensures.rest
-    (few_for_looks c.args.self.now.log.shape c.args.request.now.opcode 0x06 c.args.request.now.size refl _ _ c.in-6.is c.list.ensures.few)
+    performs_looking c.args.self.now c.list.new.self (g.B.Nand.state c.args.board.now) (g.B.Nand.state c.list.new.board) c.args.request.now c.args.value.now c.list.result (ap only_looks c.in-6.is) c.list.ensures.only.same c.list.ensures.only.rest
+    (few_for_looks c.args.self.now.log.shape c.args.request.now.opcode 0x06 c.args.request.now.size refl _ _ c.in-6.is c.list.ensures.only.few)
 
 pub returns-in-20-clause-performs : goal.returns-in-20-clause-performs
 returns-in-20-clause-performs g c =
-    performs_looking c.args.self.now c.exist.new.self (g.B.Nand.state c.args.board.now) (g.B.Nand.state c.exist.new.board) c.args.request.now c.args.value.now c.exist.result (ap only_looks c.in-20.is) c.exist.ensures.same c.exist.ensures.rest
-    (few_for_looks c.args.self.now.log.shape c.args.request.now.opcode 0x14 c.args.request.now.size refl _ _ c.in-20.is c.exist.ensures.few)
+    performs_looking c.args.self.now c.exist.new.self (g.B.Nand.state c.args.board.now) (g.B.Nand.state c.exist.new.board) c.args.request.now c.args.value.now c.exist.result (ap only_looks c.in-20.is) c.exist.ensures.only.same c.exist.ensures.only.rest
+    (few_for_looks c.args.self.now.log.shape c.args.request.now.opcode 0x14 c.args.request.now.size refl _ _ c.in-20.is c.exist.ensures.only.few)
 
 pub returns-in-1-clause-performs : goal.returns-in-1-clause-performs
 returns-in-1-clause-performs g c =

@@ -3,7 +3,7 @@ use Rattle.pk_base.specs.Shape.{Shape}
 use Rattle.pk_nand.specs.declared.types.Fault.TheVariants.{Stopped}
 use Rattle.pk_nand.specs.Calls.{IsReady}
 use Rattle.pk_model.proofs.Steps.{Step-broken}
-use Rattle.pk_core.specs.Parts.{Parts}
+use Rattle.pk_core.specs.Parts.{Parts, frames_of}
 use Rattle.pk_core.specs.Moves.{KeepsAll, BreaksAll}
 use Rattle.pk_core.specs.Noting.{IsPlaced}
 use Rattle.pk_core.specs.Changes.{PutsAll, FailsToPut}
@@ -61,7 +61,7 @@ pub returns-in-Ok-clause-stays : goal.returns-in-Ok-clause-stays
 returns-in-Ok-clause-stays g c =
     let one = c.place_value.ensures.rest in
     let two = c.note_put.ensures.rest in
-    stays_committed c.commit_if_full.result c.args.self.now c.note_put.new.self c.commit_if_full.new.self (ap (λ (d : Parts). d.frames) two ∙ ap (λ (d : Parts). d.frames) one)
+    stays_committed c.commit_if_full.result c.args.self.now c.note_put.new.self c.commit_if_full.new.self (ap (λ (d : Parts). frames_of d) two ∙ ap (λ (d : Parts). frames_of d) one)
     (ap (λ (d : Parts). d.stopped) two ∙ ap (λ (d : Parts). d.stopped) one) (ap (λ (d : Parts). d.log.shape) two ∙ ap (λ (d : Parts). d.log.shape) one) c.commit_if_full.ensures.rest c.commit_if_full.ensures.few
 
 pub returns-in-Err-clause-step : goal.returns-in-Err-clause-step

@@ -4,4 +4,4 @@ use Rattle.pk_core.proofs.Counting.{report_done}
 use Rattle.pk_core.proofs.drive.Drive.report.Goals as goal
 
 pub returns-clause-does : goal.returns-clause-does
-returns-clause-does g c = report_done c.args.self.now c.served.result c.put_counts.new.into c.served.ensures (c.put_counts.ensures.bytes ∙ ap report_of c.numbers.ensures.numbers)
+returns-clause-does g c = report_done c.args.self.now c.served.result c.put_counts.new.into c.served.ensures (c.put_counts.ensures.bytes ∙ ap report_of c.counts.ensures.numbers)

@@ -12,11 +12,11 @@ use Rattle.pk_core.proofs.Programming.{quiet_store_behind}
 use Rattle.pk_core.proofs.drive.Drive.store.Goals as goal
 
 pub store_over-requires-clause-named : goal.store_over-requires-clause-named
-store_over-requires-clause-named g c = c.named_key-key.ensures.key c.args.value.now
+store_over-requires-clause-named g c = c.key-key.ensures
 
 pub store_over-requires-clause-looks : goal.store_over-requires-clause-looks
 store_over-requires-clause-looks g c =
-    looks_behind c.args.self.now c.look.new.self (g.B.Nand.state c.args.board.now).pages (g.B.Nand.state c.look.new.board).pages c.named_key-key.result c.in-Ok.old c.look.ensures.same c.look.ensures.pages c.in-Ok.ensures.looks
+    looks_behind c.args.self.now c.look.new.self (g.B.Nand.state c.args.board.now).pages (g.B.Nand.state c.look.new.board).pages c.key-key.result c.in-Ok.old c.look.ensures.same c.look.ensures.pages c.in-Ok.ensures.looks
 
 pub returns-in-Ok-clause-executes : goal.returns-in-Ok-clause-executes
 returns-in-Ok-clause-executes g c = λ into.
@@ -44,14 +44,14 @@ pub returns-in-Err-clause-opens : goal.returns-in-Err-clause-opens
 returns-in-Err-clause-opens g c = λ _. stays_opens _ _ _ (stays_same _ _ c.look.ensures.same)
 
 pub returns-in-Ok-clause-noted : goal.returns-in-Ok-clause-noted
-returns-in-Ok-clause-noted g c = λ zero. subst (λ k. IsNoted c.store_over.new.self k) (c.named_key-key.ensures.key c.args.value.now) (c.store_over.ensures.noted zero)
+returns-in-Ok-clause-noted g c = λ zero. subst (λ k. IsNoted c.store_over.new.self k) c.key-key.ensures (c.store_over.ensures.noted zero)
 
 pub returns-in-Err-clause-noted : goal.returns-in-Err-clause-noted
 returns-in-Err-clause-noted g c = λ zero. absurd (told_refused c.refusal.result 0x88 0 0 c.reads_since.result false c.refusal.ensures (λ e. omega (arith, e)) zero)
 
 pub returns-in-Ok-clause-quiet : goal.returns-in-Ok-clause-quiet
 returns-in-Ok-clause-quiet g c = λ zero none room.
-    quiet_store_behind c.args.self.now c.look.new.self (g.B.Nand.state c.args.board.now) (g.B.Nand.state c.look.new.board) (g.B.Nand.state c.store_over.new.board) c.args.request.now.size c.named_key-key.result _ c.store_over.result.reads c.look.ensures.same c.in-Ok.ensures.reads (c.named_key-key.ensures.key c.args.value.now) (c.store_over.ensures.programs zero) (omega (arith, c.store_over.ensures.told.0, c.reads_since-reads.ensures.reads, c.read_count-before.ensures.value, c.in-Ok.ensures.reads.within)) none room
+    quiet_store_behind c.args.self.now c.look.new.self (g.B.Nand.state c.args.board.now) (g.B.Nand.state c.look.new.board) (g.B.Nand.state c.store_over.new.board) c.args.request.now.size c.key-key.result _ c.store_over.result.reads c.look.ensures.same c.in-Ok.ensures.reads c.key-key.ensures (c.store_over.ensures.programs zero) (omega (arith, c.store_over.ensures.told.0, c.reads_since-reads.ensures.reads, c.read_count-before.ensures.value, c.in-Ok.ensures.reads.within)) none room
 
 pub returns-in-Err-clause-quiet : goal.returns-in-Err-clause-quiet
 returns-in-Err-clause-quiet g c = λ zero. absurd (told_refused c.refusal.result 0x88 0 0 c.reads_since.result false c.refusal.ensures (λ e. omega (arith, e)) zero)

@@ -13,12 +13,12 @@ use Rattle.pk_core.proofs.drive.Drive.store_over.Goals as goal
 pub fault_of_store-requires-clause-old_short : goal.fault_of_store-requires-clause-old_short
 fault_of_store-requires-clause-old_short g c =
     let r = c.requires in
-    short_place c.args.self.now (g.B.Nand.state c.args.board.now) r.servable.agrees c.args.key c.args.old r.is_key r.looks
+    short_place c.args.self.now (g.B.Nand.state c.args.board.now) r.servable.agrees c.args.key c.args.old c.known.ensures.key r.looks
 
 pub put-requires-clause-can : goal.put-requires-clause-can
 put-requires-clause-can g c =
     let r = c.requires in
-    can_put c.args.self.now (g.B.Nand.state c.args.board.now) c.args.request.now c.args.value.now c.args.key c.args.old r.servable r.opcode r.whole r.named r.is_key r.bytes r.looks (sym c.fault_of_store.ensures ∙ c.in-None.is)
+    can_put c.args.self.now (g.B.Nand.state c.args.board.now) c.args.request.now c.args.value.now c.args.key c.args.old r.servable r.opcode r.whole r.named c.known.ensures.key c.known.ensures.bytes r.looks (sym c.fault_of_store.ensures ∙ c.in-None.is)
 
 pub put-requires-clause-one_freeze : goal.put-requires-clause-one_freeze
 put-requires-clause-one_freeze g c =
@@ -29,7 +29,7 @@ pub returns-in-Some-clause-executes : goal.returns-in-Some-clause-executes
 returns-in-Some-clause-executes g c = λ into.
     let r = c.requires in
     executes_quiet c.args.self.now c.args.self.now (g.B.Nand.state c.args.board.now) (g.B.Nand.state c.args.board.now) c.args.request.now (command_of c.args.request.now c.args.value.now) c.refusal.result into 0 c.requires.servable refl refl (ap (λ (o : Outcome). o.stopped) c.refusal.ensures)
-    (store_refused c.args.self.now (g.B.Nand.state c.args.board.now) c.args.request.now c.args.value.now c.args.key c.args.old r.servable r.opcode r.whole r.named r.is_key r.bytes r.looks
+    (store_refused c.args.self.now (g.B.Nand.state c.args.board.now) c.args.request.now c.args.value.now c.args.key c.args.old r.servable r.opcode r.whole r.named c.known.ensures.key c.known.ensures.bytes r.looks
     c.in-Some.status c.args.self.now into c.refusal.result c.args.reads (sym c.fault_of_store.ensures ∙ c.in-Some.is) refl c.refusal.ensures)
 
 pub returns-in-Ok-clause-executes : goal.returns-in-Ok-clause-executes
@@ -39,11 +39,11 @@ returns-in-Ok-clause-executes g c = λ into.
     record {
       stops = e.stays.stopped ∙ (r.servable.runs ∙ sym (ap (λ (o : Outcome). o.stopped) c.served.ensures));
       agrees = λ _. (
-        store_agrees c.args.self.now (g.B.Nand.state c.args.board.now) c.args.request.now c.args.value.now c.args.key c.args.old r.servable r.opcode r.whole r.named r.is_key r.bytes r.looks
+        store_agrees c.args.self.now (g.B.Nand.state c.args.board.now) c.args.request.now c.args.value.now c.args.key c.args.old r.servable r.opcode r.whole r.named c.known.ensures.key c.known.ensures.bytes r.looks
             (sym c.fault_of_store.ensures ∙ c.in-None.is) c.put.new.self (g.B.Nand.state c.put.new.board) e.step.ended (shape_stays (g.B.Nand.state c.args.board.now) (g.B.Nand.state c.put.new.board) e.step.works.rest),
         few_same c.args.self.now c.put.new.self e.stays.same_shape e.stays.few,
       );
-      does = store_done c.args.self.now (g.B.Nand.state c.args.board.now) c.args.request.now c.args.value.now c.args.key c.args.old r.servable r.opcode r.whole r.named r.is_key r.bytes r.looks
+      does = store_done c.args.self.now (g.B.Nand.state c.args.board.now) c.args.request.now c.args.value.now c.args.key c.args.old r.servable r.opcode r.whole r.named c.known.ensures.key c.known.ensures.bytes r.looks
           (sym c.fault_of_store.ensures ∙ c.in-None.is) c.put.new.self (g.B.Nand.state c.put.new.board) into c.served.result c.args.reads
           e.step.ended e.stays.frames (shape_stays (g.B.Nand.state c.args.board.now) (g.B.Nand.state c.put.new.board) e.step.works.rest) e.step.works e.step.roots_few c.served.ensures;
     }
@@ -55,7 +55,7 @@ returns-in-Err-clause-executes g c = λ into.
     record {
       stops = sym (ap (λ (o : Outcome). o.stopped) c.stopping.ensures);
       agrees = λ runs. absurd (never (ap (λ (o : Outcome). o.stopped) c.stopping.ensures) runs);
-      does = store_stopped c.args.self.now (g.B.Nand.state c.args.board.now) c.args.request.now c.args.value.now c.args.key c.args.old r.servable r.opcode r.whole r.named r.is_key r.bytes r.looks
+      does = store_stopped c.args.self.now (g.B.Nand.state c.args.board.now) c.args.request.now c.args.value.now c.args.key c.args.old r.servable r.opcode r.whole r.named c.known.ensures.key c.known.ensures.bytes r.looks
           (sym c.fault_of_store.ensures ∙ c.in-None.is) _ (g.B.Nand.state c.put.new.board) into c.stopping.result c.args.reads e.step.broken e.step.stops e.step.roots_few c.stopping.ensures;
     }
 

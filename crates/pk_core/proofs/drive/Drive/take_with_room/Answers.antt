@@ -4,7 +4,7 @@ use Rattle.pk_nand.specs.declared.types.Fault.TheVariants.{Stopped}
 use Rattle.pk_nand.specs.Calls.{IsReady}
 use Rattle.pk_model.specs.Steps.{Step}
 use Rattle.pk_model.proofs.Steps.{Step-says}
-use Rattle.pk_core.specs.Parts.{Parts}
+use Rattle.pk_core.specs.Parts.{Parts, frames_of}
 use Rattle.pk_core.specs.Moves.{KeepsAll, BreaksAll}
 use Rattle.pk_core.specs.Changes.{TakesAll, FailsToTake}
 use Rattle.pk_core.proofs.Putting.{some_drops, some_taken, take_changed, take_failed}
@@ -42,7 +42,7 @@ returns-clause-step g c =
 pub returns-clause-stays : goal.returns-clause-stays
 returns-clause-stays g c =
     let rest = c.note_gone.ensures.rest in
-    stays_committed c.commit_if_full.result c.args.self.now c.note_gone.new.self c.commit_if_full.new.self (ap (λ (d : Parts). d.frames) rest) (ap (λ (d : Parts). d.stopped) rest) (ap (λ (d : Parts). d.log.shape) rest)
+    stays_committed c.commit_if_full.result c.args.self.now c.note_gone.new.self c.commit_if_full.new.self (ap (λ (d : Parts). frames_of d) rest) (ap (λ (d : Parts). d.stopped) rest) (ap (λ (d : Parts). d.log.shape) rest)
     c.commit_if_full.ensures.rest c.commit_if_full.ensures.few
 
 pub returns-clause-moves : goal.returns-clause-moves

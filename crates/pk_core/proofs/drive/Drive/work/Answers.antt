@@ -5,10 +5,10 @@ use Rattle.pk_core.proofs.drive.Drive.work.Goals as goal
 
 pub loop-made-init : goal.loop-made-init
 loop-made-init g c = record {
-  agrees = c.requires.agrees;
-  unstopped = c.requires.unstopped;
-  none = c.requires.none;
-  steps = steps_none _ _ c.requires.count c.requires.none;
+  agrees = c.requires.may.agrees;
+  unstopped = c.requires.may.unstopped;
+  none = c.requires.may.none;
+  steps = steps_none _ _ c.requires.count c.requires.may.none;
   erased = omega arith;
   stays = stays_same _ _ refl;
 }

@@ -2,7 +2,7 @@ use Rattle.std.proofs.Common.{refl, ap, ◌∙◌, subst}
 use Rattle.pk_nand.specs.BoardState.{BoardState}
 use Rattle.pk_core.proofs.Standing.{stands_for, stands_here, still_stands, agrees_so}
 use Rattle.pk_core.proofs.Building.{still_unbuilt}
-use Rattle.pk_core.specs.Parts.{Parts, sight_of}
+use Rattle.pk_core.specs.Parts.{Parts, sight_of, frames_of}
 use Rattle.pk_core.proofs.Unchanging.{agrees_ready}
 use Rattle.pk_core.proofs.Executing.{none_between}
 use Rattle.pk_pool.specs.Blocks.{IsShared}
@@ -35,7 +35,7 @@ returns-in-Ok-clause-unbuilt g c =
 pub returns-in-Ok-clause-stands : goal.returns-in-Ok-clause-stands
 returns-in-Ok-clause-stands g c = λ shape frames m stands.
     let same = ap (λ (s : BoardState). s.shape) c.in-Ok.ensures.step.works.rest in
-    still_stands _ (g.B.Nand.state c.commit_pending.new.board) shape frames m (same ∙ stands.shape_is) (ap (λ (d : Parts). d.frames) c.in-Ok.ensures.rest ∙ stands.frames_is)
+    still_stands _ (g.B.Nand.state c.commit_pending.new.board) shape frames m (same ∙ stands.shape_is) (ap (λ (d : Parts). frames_of d) c.in-Ok.ensures.rest ∙ stands.frames_is)
     (c.in-Ok.ensures.step.ended shape m (stands_for c.args.self.now (g.B.Nand.state c.args.board.now) shape frames m c.requires.agrees.0 stands)).stands
 
 pub returns-in-Ok-clause-cuts : goal.returns-in-Ok-clause-cuts

@@ -2,11 +2,12 @@ use Rattle.std.proofs.Common.{subst}
 use Rattle.pk_pool.specs.Blocks.{IsShared}
 use Rattle.pk_core.specs.Parts.{Parts}
 use Rattle.std.proofs.Common.{refl}
+use Rattle.pk_core.proofs.Counting.{agrees_counts}
 use Rattle.pk_core.proofs.Steadying.{between_steady}
 use Rattle.pk_core.proofs.engine.DriveEngine.counts.Goals as goal
 
 pub returns-clause-map : goal.returns-clause-map
-returns-clause-map g c = λ shape flash m agrees runs is. c.numbers.ensures.map shape flash m agrees.0 is
+returns-clause-map g c = λ shape flash m agrees runs is. agrees_counts c.args.self.now shape flash m agrees.0 is
 
 pub returns-clause-steady : goal.returns-clause-steady
 returns-clause-steady g c = λ shape flash m agrees runs is. between_steady c.args.self.now _ shape flash agrees refl (subst (λ (d : Parts). IsShared d.pool.shape d.pool.states) c.self.view_is c.known.ensures)

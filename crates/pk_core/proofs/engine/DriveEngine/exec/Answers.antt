@@ -107,3 +107,9 @@ returns-in-Some-clause-calls g c = λ _ _. few_within 0 _ _ _ (omega arith) (few
 pub returns-in-None-clause-calls : goal.returns-in-None-clause-calls
 returns-in-None-clause-calls g c = λ no_store no_delete.
     few_told c.args.self.now (g.B.Nand.state c.args.board.now) (g.B.Nand.state c.perform-outcome.new.board) c.requires.agrees.0 c.args.request.now.opcode c.args.request.now.size (c.perform-outcome.ensures.performs.calls no_store no_delete)
+
+pub returns-in-None-clause-report : goal.returns-in-None-clause-report
+returns-in-None-clause-report g c = λ is. let r = c.perform-outcome.ensures.report is in (r.fine, r.rests)
+
+pub returns-in-None-clause-report_data : goal.returns-in-None-clause-report_data
+returns-in-None-clause-report_data g c = λ is _. (c.perform-outcome.ensures.report is).bytes

@@ -3,7 +3,7 @@ use Rattle.pk_base.specs.Shape.{Shape, greatest}
 use Rattle.pk_nvme.specs.Seen.{command_of}
 use Rattle.pk_nvme.specs.Opcode.{op_of}
 use Rattle.pk_model.proofs.Answering.{store_sized}
-use Rattle.pk_core.proofs.drive.Drive.can_serve.Goals as goal
+use Rattle.pk_core.proofs.engine.DriveEngine.is_built.Goals as goal
 
 pub is_built_for-requires : goal.is_built_for-requires
 is_built_for-requires g c = λ is.

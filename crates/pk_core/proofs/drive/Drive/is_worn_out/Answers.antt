@@ -1,9 +1,0 @@
-use Rattle.std.proofs.Common.{ℕ, ◌∙◌, ap, sym, nat_le}
-use Rattle.pk_rootfmt.specs.Held.{Held}
-use Rattle.pk_core.specs.Parts.{Parts}
-use Rattle.pk_core.proofs.Counting.{worn_is}
-use Rattle.pk_core.proofs.drive.Drive.is_worn_out.Goals as goal
-
-pub returns : goal.returns
-returns g c = λ shape flash a.
-    ap (λ (n : ℕ). nat_le 9223372036854775808 n) (c.number.ensures ∙ ap (λ (h : Held). h.root.number) c.root.ensures ∙ ap (λ (d : Parts). d.log.root.number) c.self.view_is ∙ sym (worn_is c.args.self.now shape flash a))

@@ -1,7 +1,0 @@
-use Rattle.std.proofs.Common.{◌∙◌, ap, sum}
-use Rattle.pk_core.specs.Parts.{Parts}
-use Rattle.pk_core.proofs.Counting.{agrees_counts}
-use Rattle.pk_core.proofs.drive.Drive.live.Goals as goal
-
-pub returns-clause-map : goal.returns-clause-map
-returns-clause-map g c = λ shape flash m a read. c.total.ensures.value ∙ ap (λ (d : Parts). sum d.space.live.heads) c.self.view_is ∙ (agrees_counts c.args.self.now shape flash m a read).live_is
