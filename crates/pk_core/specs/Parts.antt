@@ -1,26 +1,28 @@
 -- What a drive keeps in memory, and what contracts see of it.
-use Rattle.std.specs.Prelude.{ℕ, Bool, true, [], length, sum, count_by, Option, Some, None, nat_le, ◌==◌, ◌||◌, ◌&&◌, not}
-use Rattle.pk_nvme.specs.declared.opcode.TheConstants.{STORE, DELETE}
-use Rattle.pk_base.specs.Shape.{buffer, charge, limit}
+use Rattle.std.specs.Prelude.{ℕ, Bool, true, false, List, [], length, sum, count_by, Option, Some, None, ◌==◌, ◌&&◌, not}
+use Rattle.pk_nvme.specs.declared.opcode.TheConstants.{STORE}
+use Rattle.pk_base.specs.Shape.{charge, limit}
 use Rattle.pk_nvme.specs.declared.request.Request.{Request}
 use Rattle.pk_nvme.specs.Seen.{command_of}
 use Rattle.pk_plan.specs.declared.owner.Owner.TheVariants.{Values}
 use Rattle.pk_pin.specs.Frames.{Frames, leased_frames}
-use Rattle.pk_pool.specs.Blocks.{Blocks, is_free, is_ready, used_by}
+use Rattle.pk_pool.specs.Blocks.{Blocks, is_ready, used_by}
 use Rattle.pk_level.specs.Levels.{Levels, run_of}
-use Rattle.pk_jrn.specs.Epochs.{left_of}
 use Rattle.pk_model.specs.Answer.{early}
 use Rattle.pk_model.specs.Sight.{Sight, Counts}
 use Rattle.pk_log.specs.State.{LogState}
 use Rattle.pk_data.specs.State.{DataState, needs_reclaim}
 use Rattle.pk_data.specs.declared.open_block.OpenBlock.{OpenBlock}
-use Rattle.pk_core.specs.Jobs.{Jobs, no_jobs, all_but}
+use Rattle.pk_work.specs.Work.{work}
+use Rattle.pk_schedule.specs.Index.{Index, Schedule, index, merging}
+use Rattle.pk_schedule.specs.Steps.{backlog_of}
 
--- the log, the runs with the arena of their frames, where values lie, the blocks, how many keys there are, and whether it stopped
+-- the log, the runs with the arena of their frames, the jobs that keep both short, where values lie, the blocks, how many keys there are, and whether it stopped
 pub record Parts : Type 0 where
   pub log : LogState
   pub levels : Levels
   pub arena : Frames
+  pub schedule : Schedule
   pub space : DataState
   pub pool : Blocks
   pub keys : ℕ
@@ -30,9 +32,13 @@ pub record Parts : Type 0 where
 abbrev pub frames_of : Parts → ℕ
 frames_of d = length d.arena.used
 
--- what runs: no job is built
-abbrev pub jobs_of : Parts → Jobs
-jobs_of d = no_jobs
+-- where it keeps which key has its value where
+abbrev pub index_of : Parts → Index
+index_of d = index d.log d.levels d.arena d.pool d.schedule
+
+-- the blocks that a reclaim holds for values: none runs
+abbrev pub outputs_of : Parts → List ℕ
+outputs_of d = []
 
 -- the sixteen numbers of a Report
 abbrev pub counts_of : Parts → Counts
@@ -50,9 +56,9 @@ counts_of d = record {
   run3 = (run_of d.levels 3).count;
   run4 = (run_of d.levels 4).count;
   epoch = d.log.epoch.used;
-  blocks = all_but (used_by Values d.pool.states) (jobs_of d).blocks.values;
+  blocks = used_by Values d.pool.states;
   ready = count_by is_ready d.pool.states;
-  merge = (jobs_of d).merge;
+  merge = merging d.schedule.phase;
 }
 
 -- the number of the block that takes values, where there is one
@@ -60,27 +66,20 @@ abbrev pub block_if_open : Option OpenBlock → Option ℕ
 block_if_open None = None
 block_if_open (Some o) = Some o.block
 
--- a background step that is left erases a free block
 abbrev pub sight_of : Parts → Sight
 sight_of d = record {
   pending = d.log.pending;
   stopped = d.stopped;
   counts = counts_of d;
   open_block = block_if_open d.space.open_block;
-  reclaims = (jobs_of d).reclaims;
+  reclaims = false;
   fresh = d.log.epoch.takes_more;
-  work = count_by is_free d.pool.states;
+  work = work d.log.shape (backlog_of (index_of d));
 }
 
--- a Store or Delete may want a freeze while the frozen buffer has entries: the active one is full, or the epoch takes no more pages
-abbrev pub wants_second_freeze : Parts → Bool
-wants_second_freeze d = nat_le 1 (length d.log.frozen.entries) && (nat_le (buffer d.log.shape) (length d.log.active.entries) || left_of d.log.epoch == 0)
-
--- What is built of a command that passed the checks that read it alone: all but a second freeze and a reclaim.
+-- What is built of a command that passed the checks that read it alone: all but a reclaim.
 abbrev pub is_built_for : Parts → ℕ → ℕ → Bool
-is_built_for d opcode size =
-    not ((opcode == STORE || opcode == DELETE) && wants_second_freeze d)
-    && not (opcode == STORE && needs_reclaim d.log.shape d.space d.pool (charge d.log.shape size))
+is_built_for d opcode size = not (opcode == STORE && needs_reclaim d.log.shape d.space d.pool (charge d.log.shape size))
 
 -- what is built of a command of which those checks say this: it passes, or is refused with a status
 abbrev pub built_if : Parts → Request → Option ℕ → Bool

@@ -9,6 +9,7 @@ use pk_log::Log;
 use pk_pin::PinArena;
 use pk_pool::Pool;
 use pk_region::Region;
+use pk_schedule::Schedule;
 use pk_walk::Walk;
 use std::marker::Model;
 
@@ -18,6 +19,7 @@ pub struct Drive<A: Region> {
     pub(crate) log: Log<A>,
     pub(crate) levels: Levels<A>,
     pub(crate) arena: PinArena<A>,
+    pub(crate) schedule: Schedule<A>,
     pub(crate) space: Data<A>,
     pub(crate) pool: Pool<A>,
     pub(crate) keys: u32,
@@ -38,6 +40,7 @@ impl<A: Region> Model for Drive<A> {
       log = d.log;
       levels = d.levels;
       arena = d.arena;
+      schedule = d.schedule;
       space = d.space;
       pool = d.pool;
       keys = d.keys;

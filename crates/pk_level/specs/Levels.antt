@@ -51,6 +51,13 @@ RunsOnFlash flash arena [] (es ∷ ess) = ⊥
 RunsOnFlash flash arena (r ∷ rs) [] = ⊥
 RunsOnFlash flash arena (r ∷ rs) (es ∷ ess) = RunOnFlash r flash arena es × RunsOnFlash flash arena rs ess
 
+-- the runs have this shape, and their pages stand in these blocks
+abbrev pub HaveBlocks : Shape → List Kept → List (List ℕ) → Type 0
+HaveBlocks shape [] [] = ⊤
+HaveBlocks shape [] (bs ∷ bss) = ⊥
+HaveBlocks shape (r ∷ rs) [] = ⊥
+HaveBlocks shape (r ∷ rs) (bs ∷ bss) = (r.shape ≡ shape) × (r.blocks ≡ bs) × HaveBlocks shape rs bss
+
 -- all entries, those of the first run first
 abbrev pub all_entries : List (List Entry) → List Entry
 all_entries ess = flat_map (λ es. es) ess

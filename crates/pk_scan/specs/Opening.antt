@@ -18,6 +18,7 @@ use Rattle.pk_jrn.specs.Epochs.{JournalEpoch, HasCommit, found_at_opening, Epoch
 use Rattle.pk_jrn.specs.Replays.{buffer_of}
 use Rattle.pk_pin.specs.Frames.{Frames, free_frames}
 use Rattle.pk_run.specs.Kept.{Kept, RunOnFlash}
+pub use Rattle.pk_level.specs.Levels.{HaveBlocks}
 use Rattle.pk_level.specs.Levels.{Levels, RunsOnFlash, with_run}
 use Rattle.pk_level.specs.Arenas.{IsPinnedIf, leases_of}
 use Rattle.pk_model.specs.Found.{Found, found_under, newest_epoch, older_epoch, runs_from}
@@ -86,13 +87,6 @@ NewestHeld shape flash root into epoch =
     × IsFoundEpoch shape flash root epoch × EpochOnFlash epoch flash
 
 -- ---- runs
-
--- the runs have this shape, and these blocks
-abbrev pub HaveBlocks : Shape → List Kept → List (List ℕ) → Type 0
-HaveBlocks shape [] [] = ⊤
-HaveBlocks shape [] (bs ∷ bss) = ⊥
-HaveBlocks shape (r ∷ rs) [] = ⊥
-HaveBlocks shape (r ∷ rs) (bs ∷ bss) = (r.shape ≡ shape) × (r.blocks ≡ bs) × HaveBlocks shape rs bss
 
 -- The runs from this level on have so many entries; each page has a frame up to the last level that is pinned, and none behind it.
 abbrev pub HaveFrames : ℕ → ℕ → List Kept → List ℕ → Type 0

@@ -1,0 +1,156 @@
+-- What a step of the jobs asks of an index and its flash, and what it leaves.
+use Rattle.std.specs.Prelude.{◌≡◌, ◌⊎◌, ℕ, ◌+◌, ◌/◌, ◌<◌, ◌≤◌, [], length, map, Bool, true, false, ◌==◌, ◌&&◌, slice_get, Option, Some, None, Result, Ok, Err}
+use Rattle.pk_base.specs.Shape.{Shape}
+use Rattle.pk_base.specs.Page.{Flash, page_at}
+use Rattle.pk_base.specs.Map.{Map}
+use Rattle.pk_work.specs.Backlog.{Backlog}
+use Rattle.pk_work.specs.Rest.{Lowers}
+use Rattle.pk_work.specs.Work.{work, merging as merging_left}
+use Rattle.pk_nand.specs.BoardState.{BoardState}
+use Rattle.pk_nand.specs.Calls.{IsReady}
+use Rattle.pk_plan.specs.declared.owner.Owner.TheVariants.{Values}
+use Rattle.pk_rootfmt.specs.Root.{Root}
+use Rattle.pk_pool.specs.declared.state.BlockState.TheVariants.{Owned}
+use Rattle.pk_pool.specs.Blocks.{Blocks, used_by}
+use Rattle.pk_pool.specs.Unready.{unready}
+use Rattle.pk_root.specs.declared.next.Next.{Next}
+use Rattle.pk_run.specs.Kept.{Kept, most_pages, most_blocks}
+use Rattle.pk_level.specs.Levels.{run_of}
+use Rattle.pk_model.specs.Found.{Found}
+use Rattle.pk_model.specs.Growth.{Grows, Reaches, Goes}
+use Rattle.pk_model.specs.Crashes.{CrashFinds, background}
+use Rattle.pk_steps.specs.Under.{IsUnder, IsValuePage, places}
+use Rattle.pk_merge.specs.Remaining.{steps_left}
+use Rattle.pk_compact.specs.declared.freezing.FreezeJob.{FreezeJob}
+use Rattle.pk_compact.specs.declared.freezing.FreezeJob.TheVariants.{Idle as NoFreeze}
+use Rattle.pk_compact.specs.FreezeSteps.{freeze_left, install_steps, taken_by}
+use Rattle.pk_schedule.specs.declared.phase.Phase.{Phase}
+use Rattle.pk_schedule.specs.declared.phase.Phase.TheVariants.{Idle, Running, Ready}
+use Rattle.pk_log.specs.State.{LogState}
+use Rattle.pk_schedule.specs.Index.{Index, IndexOnFlash, output, source_at}
+
+-- ---- what is left
+
+-- How many steps are left of the merge that runs: those of its job with one for its end, and those of its install.
+abbrev pub merge_left : Phase → Index → Option ℕ
+merge_left Idle x = None
+merge_left (Running level) x =
+    Some (steps_left (source_at x level) (run_of x.levels level) (output x.schedule) x.schedule.job.merger (most_pages (output x.schedule)) (most_blocks (output x.schedule)) + 1 + install_steps x.log.next)
+merge_left (Ready level) x = Some (install_steps x.log.next)
+
+-- how many are left of the freeze that runs
+abbrev pub freeze_rest_of : FreezeJob → Next → Option ℕ
+freeze_rest_of job next = if length (taken_by job) == 0 then None else Some (freeze_left job next)
+
+-- What of a drive's backlog the index tells: no reclaim runs, and none is due.
+abbrev pub backlog_of : Index → Backlog
+backlog_of x = record {
+  frozen = length x.log.frozen.entries;
+  runs = map (λ r. r.count) x.levels.runs;
+  merge = merge_left x.schedule.phase x;
+  freeze = freeze_rest_of x.schedule.freeze x.log.next;
+  reclaim = None;
+  is_due = false;
+  may_freeze = false;
+  unready = unready x.pool.states;
+}
+
+-- no merge runs
+abbrev pub is_between : Phase → Bool
+is_between Idle = true
+is_between (Running level) = false
+is_between (Ready level) = false
+
+-- no merge runs, and nothing is frozen
+abbrev pub has_no_merge : Index → Bool
+has_no_merge x = is_between x.schedule.phase && (length x.log.frozen.entries == 0)
+
+-- ---- what a step asks
+
+-- The index stands on the flash, whose map this is, with nothing pending, and the values lie in blocks of their own.
+pub record MayWork (x : Index) (frames : ℕ) (flash : Flash) (top : ℕ × Root) (found : Found) (m : Map) : Type 0 where
+  pub stands : IndexOnFlash x frames flash top found
+  pub none_pending : x.log.pending ≡ []
+  pub under : IsUnder x.log.shape flash [] top found m
+  pub values : (k : ℕ) → IsValuePage x.log.shape (places found []) k → slice_get x.pool.states (k / x.log.shape.block_pages) ≡ Some (Owned Values)
+  pub number : x.log.root.number < 18446744073709551615
+
+-- ---- what it leaves
+
+-- of the log only the root, what its installer does next, and the frozen buffer may differ
+abbrev pub KeepsActive : LogState → LogState → Type 0
+KeepsActive log log' = log' ≡ record log { root = log'.root; next = log'.next; frozen = log'.frozen }
+
+-- The blocks for values are the same ones, and no page of one differs.
+pub record KeepsValues (shape : Shape) (pool : Blocks) (old : Flash) (pool' : Blocks) (new : Flash) : Type 0 where
+  pub size : length pool'.states ≡ length pool.states
+  pub owned : (b : ℕ) → slice_get pool.states b ≡ Some (Owned Values) → slice_get pool'.states b ≡ Some (Owned Values)
+  pub no_more : (b : ℕ) → slice_get pool'.states b ≡ Some (Owned Values) → slice_get pool.states b ≡ Some (Owned Values)
+  pub as_many : used_by Values pool'.states ≡ used_by Values pool.states
+  pub pages : (k : ℕ) → slice_get pool.states (k / shape.block_pages) ≡ Some (Owned Values) → page_at new k ≡ page_at old k
+
+-- One step further the index stands on the flash, with the same map and the same places of its values, under the same root or the one that
+-- follows; so it is wherever the step is cut.
+pub record IndexMoves (x : Index) (frames : ℕ) (old : BoardState) (found : Found) (m : Map) (x' : Index) (new : BoardState) : Type 0 where
+  pub then_top : ℕ × Root
+  pub then_found : Found
+  pub stands : IndexOnFlash x' frames new.pages then_top then_found
+  pub same_shape : x'.log.shape ≡ x.log.shape
+  pub none_pending : x'.log.pending ≡ []
+  pub under : IsUnder x.log.shape new.pages [] then_top then_found m
+  pub same_places : places then_found [] ≡ places found []
+  pub values : KeepsValues x.log.shape x.pool old.pages x'.pool new.pages
+  pub numbers : x'.log.root.number ≤ x.log.root.number + 1
+  pub grows : Grows x.log.shape old.pages new.pages
+  pub cuts : Reaches x.log.shape old new (CrashFinds x.log.shape background old.pages m)
+
+-- for whatever stands there
+abbrev pub Moves : Index → BoardState → Index → BoardState → Type 0
+Moves x old x' new = (frames : ℕ) (top : ℕ × Root) (found : Found) (m : Map) → MayWork x frames old.pages top found m → IndexMoves x frames old found m x' new
+
+-- A read failed: the index stands as before, and as much is left; of the job no more differs than the bytes of a page.
+pub record Unmoved (x : Index) (x' : Index) : Type 0 where
+  pub rest : x' ≡ record x { schedule = record x.schedule { job = x'.schedule.job } }
+  pub same_backlog : backlog_of x' ≡ backlog_of x
+  pub same_output : output x'.schedule ≡ output x.schedule
+
+-- ---- a step of the merges
+
+-- It lowers what is left of the background work, and what is left to empty the frozen buffer.
+pub record LessIsLeft (x x' : Index) : Type 0 where
+  pub work : work x.log.shape (backlog_of x') < work x.log.shape (backlog_of x)
+  pub merging : merging_left x.log.shape (backlog_of x') < merging_left x.log.shape (backlog_of x)
+
+-- for every flash on which the index may stand
+abbrev pub Less : Index → Flash → Index → Type 0
+Less x flash x' = (frames : ℕ) (top : ℕ × Root) (found : Found) (m : Map) → MayWork x frames flash top found m → LessIsLeft x x'
+
+abbrev pub StandsStill : Index → BoardState → Index → BoardState → Type 0
+StandsStill x old x' new = (frames : ℕ) (top : ℕ × Root) (found : Found) (m : Map) → MayWork x frames old.pages top found m → IndexOnFlash x' frames new.pages top found
+
+-- the same of a step that stopped the drive
+abbrev pub Breaks : Index → BoardState → BoardState → Type 0
+Breaks x old new =
+    (frames : ℕ) (top : ℕ × Root) (found : Found) (m : Map) → MayWork x frames old.pages top found m
+    → Goes x.log.shape old new (CrashFinds x.log.shape background old.pages m)
+
+-- ---- a step of a freeze
+
+-- what a step of a freeze asks: no merge runs, and nothing is frozen
+pub record MayFreeze (x : Index) (frames : ℕ) (flash : Flash) (top : ℕ × Root) (found : Found) (m : Map) : Type 0 where
+  pub may : MayWork x frames flash top found m
+  pub none_merges : has_no_merge x ≡ true
+
+-- The freeze is one step further, and the log is as before, but for what its installer does next; less is left of the freeze.
+pub record FreezeMoves (x x' : Index) : Type 0 where
+  pub log : x'.log ≡ record x.log { next = x'.log.next }
+  pub rest : x' ≡ record x { log = x'.log; pool = x'.pool; schedule = record x.schedule { freeze = x'.schedule.freeze } }
+  pub lowers : Lowers (freeze_left x.schedule.freeze x.log.next) (unready x.pool.states) (freeze_left x'.schedule.freeze x'.log.next) (unready x'.pool.states)
+
+-- The freeze is over: an empty epoch is the newest one, and the buffers are exchanged.
+pub record Freezes (x x' : Index) : Type 0 where
+  pub rest : x' ≡ record x { log = x'.log; pool = x'.pool; schedule = record x.schedule { freeze = NoFreeze } }
+  pub active : x'.log.active ≡ x.log.frozen
+  pub frozen : x'.log.frozen ≡ x.log.active
+  pub unused : x'.log.epoch.used ≡ 0
+  pub takes_more : x'.log.epoch.takes_more ≡ true

@@ -1,0 +1,174 @@
+//! The schedule of merges and freezes.
+ghost use Rattle.std.specs.Prelude.{◌≡◌, ◌≤◌, ◌<◌, ℕ, length, IfOk, IfErr, OnOk, OnErr, Ok, Err, MatchBool, MatchOption, not, ◌==◌};
+ghost use Rattle.pk_base.specs.Map.{Map};
+ghost use Rattle.pk_base.specs.Shape.{pinned};
+ghost use Rattle.pk_nand.specs.Calls.{IsReady, Rose};
+ghost use Rattle.pk_nand.specs.Effects.{AtMostOneCall, NoFault, OnlyFlash, OnlyReading, Stops, Works};
+ghost use Rattle.pk_nand.specs.declared.types.Fault.TheVariants.{Reading, Stopped};
+ghost use Rattle.pk_rootfmt.specs.Root.{Root as RootValue};
+ghost use Rattle.pk_model.specs.Found.{Found};
+ghost use Rattle.pk_model.specs.Wear.{roots};
+ghost use Rattle.pk_merge.specs.Jobs.{IsIdle};
+ghost use Rattle.pk_compact.specs.FreezeSteps.{taken_by};
+ghost use Rattle.pk_compact.specs.declared.freezing.FreezeJob.TheVariants.{Idle as NoFreeze};
+ghost use Rattle.pk_schedule.specs.declared.phase.Phase.TheVariants.{Idle as NoMerge};
+ghost use Rattle.pk_schedule.specs.Index.{index, merging as merging_of};
+ghost use Rattle.pk_schedule.specs.Steps.{MayWork, MayFreeze, Moves, Less, Unmoved, StandsStill, Breaks, FreezeMoves, Freezes, has_no_merge};
+
+use crate::phase::{Phase, Stepped};
+use pk_compact::FreezeJob;
+use pk_level::Levels;
+use pk_log::Log;
+use pk_merge::MergeJob;
+use pk_nand::{Fault, Nand};
+use pk_pin::PinArena;
+use pk_plan::Plan;
+use pk_pool::Pool;
+use pk_region::Region;
+use std::alloc::AllocError;
+use std::marker::Model;
+
+/// The merge that runs, or none, and the freeze that runs, or none. It does not own what it works on: each call is lent the log, the
+/// runs, the frames and the blocks of one drive.
+#[derive(Drop)]
+pub struct Schedule<A: Region> {
+    job: MergeJob<A>,
+    phase: Phase,
+    freeze: FreezeJob,
+}
+
+impl<A: Region> Model for Schedule<A> {
+    ghost use Rattle.pk_schedule.specs.Index as spec;
+
+    ghost Value = { spec.Schedule };
+
+    ghost view = { λ s. record { job = s.job; phase = s.phase; freeze = s.freeze } };
+}
+
+impl<A: Region> Schedule<A> {
+    /// Nothing runs, for an arena of so many frames. All memory of the jobs is taken here.
+    pub fn new(alloc: A, plan: Plan, frames: u32) -> Result<Schedule<A>, AllocError>
+        ensures idle { IfOk result (λ s. (s.phase ≡ NoMerge) × (s.freeze ≡ NoFreeze) × IsIdle plan s.job) }
+        ensures pins { IfOk result (λ s. s.job.pinned ≡ pinned plan frames) }
+    {
+        let job = MergeJob::new(alloc, plan, frames)?;
+        Ok(Schedule {
+            job,
+            phase: Phase::Idle,
+            freeze: FreezeJob::Idle,
+        })
+    }
+
+    /// The level into which a merge runs; 0 where none does.
+    pub fn merging(&self) -> u8
+        ensures { result ≡ merging_of self.now.phase }
+    {
+        match self.phase {
+            Phase::Idle => 0,
+            Phase::Running { level } => level,
+            Phase::Ready { level } => level,
+        }
+    }
+
+    /// Whether a freeze has begun and is not over.
+    pub fn freezes(&self) -> bool
+        ensures { result ≡ not (length (taken_by self.now.freeze) == 0) }
+    {
+        match self.freeze {
+            FreezeJob::Idle => false,
+            _ => true,
+        }
+    }
+
+    /// Whether no merge runs, and nothing is frozen: a step of the merges would do nothing.
+    pub fn has_no_merge(&self, log: &Log<A>) -> bool
+        ensures { (levels : _) (arena : _) (pool : _) → result ≡ has_no_merge (index log.now levels arena pool self.now) }
+    {
+        match self.phase {
+            Phase::Idle => log.frozen().len() == 0,
+            _ => false,
+        }
+    }
+
+    /// One step of the merges, by at most one call of the board: the next merge begins, its output grows, the root block that is next
+    /// is erased, or its root is programmed. In the step that programs the root the runs are exchanged, and the blocks and frames of
+    /// the former ones are given back. `Reading` where a read fails: all is as it was, and the step can be made again. `Stopped` where
+    /// a program or an erase fails; nothing is to be used any more then. `buf` has a page's bytes, which are lost.
+    pub fn step<B: Nand>(
+        &mut self,
+        board: &mut B,
+        pool: &mut Pool<A>,
+        arena: &mut PinArena<A>,
+        levels: &mut Levels<A>,
+        log: &mut Log<A>,
+        buf: &mut [u8],
+    ) -> Result<Stepped, Fault>
+        // They are the index of the drive on this board.
+        requires ready { IsReady (B.state board.old) log.old.shape }
+        requires may { (frames : ℕ) × (top : ℕ × RootValue) × (found : Found) × (m : Map) × MayWork (index log.old levels.old arena.old pool.old self.old) frames (B.state board.old).pages top found m }
+        requires room { length buf.old ≡ log.old.shape.page_bytes }
+
+        // Nothing is left to do, or a step was made.
+        ensures idle { result ≡ Ok Stepped.Idle → (has_no_merge (index log.old levels.old arena.old pool.old self.old) ≡ true)
+            × (index log.new levels.new arena.new pool.new self.new ≡ index log.old levels.old arena.old pool.old self.old) × (B.state board.new ≡ B.state board.old) }
+        ensures works { result ≡ Ok Stepped.Worked → has_no_merge (index log.old levels.old arena.old pool.old self.old) ≡ false }
+        ensures moves { result ≡ Ok Stepped.Worked → Moves (index log.old levels.old arena.old pool.old self.old) (B.state board.old) (index log.new levels.new arena.new pool.new self.new) (B.state board.new) }
+        ensures less { result ≡ Ok Stepped.Worked → Less (index log.old levels.old arena.old pool.old self.old) (B.state board.old).pages (index log.new levels.new arena.new pool.new self.new) }
+        ensures same_freeze { self.new.freeze ≡ self.old.freeze }
+
+        // A call failed.
+        ensures unmoved { result ≡ Err Reading → Unmoved (index log.old levels.old arena.old pool.old self.old) (index log.new levels.new arena.new pool.new self.new)
+            × OnlyReading (B.state board.old) (B.state board.new) }
+        ensures again { result ≡ Err Reading → StandsStill (index log.old levels.old arena.old pool.old self.old) (B.state board.old) (index log.new levels.new arena.new pool.new self.new) (B.state board.new) }
+        ensures unread { result ≡ Err Reading → Rose (B.state board.old).read_faults (B.state board.new).read_faults × Rose (B.state board.old).flash_faults (B.state board.new).flash_faults }
+        ensures broken { result ≡ Err Stopped → Breaks (index log.old levels.old arena.old pool.old self.old) (B.state board.old) (B.state board.new) × Stops (B.state board.old) (B.state board.new) }
+
+        // The board.
+        ensures sound { OnOk result (NoFault (B.state board.old) (B.state board.new)) }
+        ensures calls { AtMostOneCall (B.state board.old) (B.state board.new) }
+        ensures rest { OnlyFlash (B.state board.old) (B.state board.new) }
+        ensures installs { roots (B.state board.new) ≤ roots (B.state board.old) + 1 }
+        ensures ready { IsReady (B.state board.new) log.old.shape }
+        ensures buffer { length buf.new ≡ length buf.old }
+    {
+        std::process::abort()
+    }
+
+    /// One step of a freeze of the active buffer, by at most one call of the board: a block of the empty epoch, the other one, the
+    /// erase before the root, its program. True exactly where this call programmed it: the empty epoch is the newest one then, and the
+    /// buffers are exchanged. Nothing may be pending, no merge run, and nothing be frozen. `Stopped` where the call fails; nothing is
+    /// to be used any more then. `buf` has a page's bytes, which are lost.
+    pub fn freeze_step<B: Nand>(
+        &mut self,
+        board: &mut B,
+        pool: &mut Pool<A>,
+        arena: &PinArena<A>,
+        levels: &Levels<A>,
+        log: &mut Log<A>,
+        buf: &mut [u8],
+    ) -> Result<bool, Fault>
+        requires ready { IsReady (B.state board.old) log.old.shape }
+        requires may { (frames : ℕ) × (top : ℕ × RootValue) × (found : Found) × (m : Map) × MayFreeze (index log.old levels.now arena.now pool.old self.old) frames (B.state board.old).pages top found m }
+        requires room { length buf.old ≡ log.old.shape.page_bytes }
+
+        // The freeze is a step further, or over.
+        ensures moves { OnOk result (Moves (index log.old levels.now arena.now pool.old self.old) (B.state board.old) (index log.new levels.now arena.now pool.new self.new) (B.state board.new)) }
+        ensures freezes { IfOk result (λ done. MatchBool done
+            (Freezes (index log.old levels.now arena.now pool.old self.old) (index log.new levels.now arena.now pool.new self.new))
+            (FreezeMoves (index log.old levels.now arena.now pool.old self.old) (index log.new levels.now arena.now pool.new self.new))) }
+
+        // Or the call failed.
+        ensures stopped { IfErr result (λ fault. fault ≡ Stopped) }
+        ensures broken { OnErr result (Breaks (index log.old levels.now arena.now pool.old self.old) (B.state board.old) (B.state board.new) × Stops (B.state board.old) (B.state board.new)) }
+
+        // The board.
+        ensures sound { OnOk result (Works (B.state board.old) (B.state board.new)) }
+        ensures calls { AtMostOneCall (B.state board.old) (B.state board.new) }
+        ensures rest { OnlyFlash (B.state board.old) (B.state board.new) }
+        ensures installs { roots (B.state board.new) ≤ roots (B.state board.old) + 1 }
+        ensures ready { IsReady (B.state board.new) log.old.shape }
+        ensures buffer { length buf.new ≡ length buf.old }
+    {
+        std::process::abort()
+    }
+}
