@@ -278,7 +278,7 @@ module _ (d : Parts) (old new : BoardState) (m : MayTick d old) where
           cuts = λ _. for_its_map d old m.agrees (λ s f x. Reaches s old (record old { reads = n; flash_faults = all; read_faults = failed; failed_at = at }) (CrashFinds s background old.pages x)) (
             [],
             Reached-start old (record old { reads = n; flash_faults = all; read_faults = failed; failed_at = at }) (CrashFinds d.log.shape background old.pages m.agrees.all) refl refl refl refl
-            (refl, under_reads d.log.shape old.pages [] m.agrees.top m.agrees.found m.agrees.all may.under),
+                (refl, under_reads d.log.shape old.pages [] m.agrees.top m.agrees.found m.agrees.all may.under),
             tt,
           );
           cuts_stopped = λ e. absurd (false_true e);
