@@ -154,3 +154,4 @@ pub record Freezes (x x' : Index) : Type 0 where
   pub frozen : x'.log.frozen ≡ x.log.active
   pub unused : x'.log.epoch.used ≡ 0
   pub takes_more : x'.log.epoch.takes_more ≡ true
+  pub lowers : Lowers (freeze_left x.schedule.freeze x.log.next) (unready x.pool.states) 0 (unready x'.pool.states)

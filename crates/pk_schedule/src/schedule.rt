@@ -7,13 +7,14 @@ ghost use Rattle.pk_nand.specs.Effects.{AtMostOneCall, NoFault, OnlyFlash, OnlyR
 ghost use Rattle.pk_nand.specs.declared.types.Fault.TheVariants.{Reading, Stopped};
 ghost use Rattle.pk_rootfmt.specs.Root.{Root as RootValue};
 ghost use Rattle.pk_model.specs.Found.{Found};
+ghost use Rattle.pk_model.specs.Growth.{Grows};
 ghost use Rattle.pk_model.specs.Wear.{roots};
 ghost use Rattle.pk_merge.specs.Jobs.{IsIdle};
 ghost use Rattle.pk_compact.specs.FreezeSteps.{taken_by};
 ghost use Rattle.pk_compact.specs.declared.freezing.FreezeJob.TheVariants.{Idle as NoFreeze};
 ghost use Rattle.pk_schedule.specs.declared.phase.Phase.TheVariants.{Idle as NoMerge};
 ghost use Rattle.pk_schedule.specs.Index.{index, merging as merging_of};
-ghost use Rattle.pk_schedule.specs.Steps.{MayWork, MayFreeze, Moves, Less, Unmoved, StandsStill, Breaks, FreezeMoves, Freezes, has_no_merge};
+ghost use Rattle.pk_schedule.specs.Steps.{MayWork, MayFreeze, Moves, Less, Unmoved, StandsStill, Breaks, KeepsActive, FreezeMoves, Freezes, has_no_merge};
 
 use crate::phase::{Phase, Stepped};
 use pk_compact::FreezeJob;
@@ -114,6 +115,8 @@ impl<A: Region> Schedule<A> {
         ensures works { result ≡ Ok Stepped.Worked → has_no_merge (index log.old levels.old arena.old pool.old self.old) ≡ false }
         ensures moves { result ≡ Ok Stepped.Worked → Moves (index log.old levels.old arena.old pool.old self.old) (B.state board.old) (index log.new levels.new arena.new pool.new self.new) (B.state board.new) }
         ensures less { result ≡ Ok Stepped.Worked → Less (index log.old levels.old arena.old pool.old self.old) (B.state board.old).pages (index log.new levels.new arena.new pool.new self.new) }
+        ensures active { KeepsActive log.old log.new }
+        ensures grows { Grows log.old.shape (B.state board.old).pages (B.state board.new).pages }
         ensures same_freeze { self.new.freeze ≡ self.old.freeze }
 
         // A call failed.
@@ -156,6 +159,8 @@ impl<A: Region> Schedule<A> {
         ensures freezes { IfOk result (λ done. MatchBool done
             (Freezes (index log.old levels.now arena.now pool.old self.old) (index log.new levels.now arena.now pool.new self.new))
             (FreezeMoves (index log.old levels.now arena.now pool.old self.old) (index log.new levels.now arena.now pool.new self.new))) }
+        ensures same_log { (log.new.shape ≡ log.old.shape) × (log.new.pending ≡ log.old.pending) }
+        ensures grows { Grows log.old.shape (B.state board.old).pages (B.state board.new).pages }
 
         // Or the call failed.
         ensures stopped { IfErr result (λ fault. fault ≡ Stopped) }
