@@ -1,5 +1,5 @@
 -- What a step of the jobs asks of an index and its flash, and what it leaves.
-use Rattle.std.specs.Prelude.{◌≡◌, ◌⊎◌, ℕ, ◌+◌, ◌/◌, ◌<◌, ◌≤◌, [], length, map, Bool, true, false, ◌==◌, ◌&&◌, slice_get, Option, Some, None, Result, Ok, Err}
+use Rattle.std.specs.Prelude.{◌≡◌, ◌⊎◌, ℕ, ◌+◌, ◌/◌, ◌<◌, ◌≤◌, [], length, map, Bool, true, false, ◌==◌, ◌&&◌, if◌then◌else◌, slice_get, Option, Some, None, Result, Ok, Err}
 use Rattle.pk_base.specs.Shape.{Shape}
 use Rattle.pk_base.specs.Page.{Flash, page_at}
 use Rattle.pk_base.specs.Map.{Map}
