@@ -1,5 +1,5 @@
 //! The schedule of merges and freezes.
-ghost use Rattle.std.specs.Prelude.{◌≡◌, ◌≤◌, ◌<◌, ◌+◌, ℕ, true, false, length, IfOk, IfErr, OnOk, OnErr, Ok, Err, MatchBool, MatchOption, not, ◌==◌};
+ghost use Rattle.std.specs.Prelude.{◌≡◌, ◌≤◌, ◌<◌, ◌+◌, true, false, ℕ, length, IfOk, IfErr, OnOk, OnErr, Ok, Err, MatchBool, MatchOption, not, ◌==◌};
 ghost use Rattle.pk_base.specs.Map.{Map};
 ghost use Rattle.pk_base.specs.Shape.{pinned};
 ghost use Rattle.pk_nand.specs.Calls.{IsReady, Rose};
@@ -14,7 +14,7 @@ ghost use Rattle.pk_compact.specs.FreezeSteps.{taken_by};
 ghost use Rattle.pk_compact.specs.declared.freezing.FreezeJob.TheVariants.{Idle as NoFreeze};
 ghost use Rattle.pk_schedule.specs.declared.phase.Phase.TheVariants.{Idle as NoMerge};
 ghost use Rattle.pk_schedule.specs.Index.{index, merging as merging_of};
-ghost use Rattle.pk_schedule.specs.Steps.{MayWork, MayFreeze, Moves, Less, Unmoved, KeepsActive, StandsStill, Breaks, FreezeMoves, Freezes, has_no_merge};
+ghost use Rattle.pk_schedule.specs.Steps.{MayWork, MayFreeze, Moves, Less, Unmoved, StandsStill, KeepsActive, Breaks, FreezeMoves, Freezes, has_no_merge};
 
 use crate::phase::{Phase, Stepped};
 use pk_compact::FreezeJob;
@@ -115,8 +115,11 @@ impl<A: Region> Schedule<A> {
         ensures works { result ≡ Ok Stepped.Worked → has_no_merge (index log.old levels.old arena.old pool.old self.old) ≡ false }
         ensures moves { result ≡ Ok Stepped.Worked → Moves (index log.old levels.old arena.old pool.old self.old) (B.state board.old) (index log.new levels.new arena.new pool.new self.new) (B.state board.new) }
         ensures less { result ≡ Ok Stepped.Worked → Less (index log.old levels.old arena.old pool.old self.old) (B.state board.old).pages (index log.new levels.new arena.new pool.new self.new) }
-        ensures active { KeepsActive log.old log.new }
         ensures same_freeze { self.new.freeze ≡ self.old.freeze }
+
+        // Whatever came of it, of the log only the root, what its installer does next, and the frozen buffer may differ.
+        ensures active { KeepsActive log.old log.new }
+        ensures grows { Grows log.old.shape (B.state board.old).pages (B.state board.new).pages }
 
         // A call failed.
         ensures unmoved { result ≡ Err Reading → Unmoved (index log.old levels.old arena.old pool.old self.old) (index log.new levels.new arena.new pool.new self.new)
@@ -130,7 +133,6 @@ impl<A: Region> Schedule<A> {
         ensures calls { AtMostOneCall (B.state board.old) (B.state board.new) }
         ensures rest { OnlyFlash (B.state board.old) (B.state board.new) }
         ensures installs { roots (B.state board.new) ≤ roots (B.state board.old) + 1 }
-        ensures grows { Grows log.old.shape (B.state board.old).pages (B.state board.new).pages }
         ensures ready { IsReady (B.state board.new) log.old.shape }
         ensures buffer { length buf.new ≡ length buf.old }
     {
@@ -160,7 +162,9 @@ impl<A: Region> Schedule<A> {
             (Freezes (index log.old levels.now arena.now pool.old self.old) (index log.new levels.now arena.now pool.new self.new))
             (FreezeMoves (index log.old levels.now arena.now pool.old self.old) (index log.new levels.now arena.now pool.new self.new))) }
 
+        // Whatever came of it, the flash has grown, and nothing is pending.
         ensures same_log { (log.new.shape ≡ log.old.shape) × (log.new.pending ≡ log.old.pending) }
+        ensures grows { Grows log.old.shape (B.state board.old).pages (B.state board.new).pages }
 
         // Or the call failed.
         ensures stopped { IfErr result (λ fault. fault ≡ Stopped) }
@@ -171,7 +175,6 @@ impl<A: Region> Schedule<A> {
         ensures calls { AtMostOneCall (B.state board.old) (B.state board.new) }
         ensures rest { OnlyFlash (B.state board.old) (B.state board.new) }
         ensures installs { roots (B.state board.new) ≤ roots (B.state board.old) + 1 }
-        ensures grows { Grows log.old.shape (B.state board.old).pages (B.state board.new).pages }
         ensures ready { IsReady (B.state board.new) log.old.shape }
         ensures buffer { length buf.new ≡ length buf.old }
     {
