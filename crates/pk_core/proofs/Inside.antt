@@ -1,5 +1,5 @@
 -- Steps of merges and of a freeze inside a command: each keeps the map.
-use Rattle.std.proofs.Common.{◌≡◌, ◌≢◌, ◌⊎◌, inl, inr, ℕ, ◌+◌, ◌-◌, ◌<◌, ◌≤◌, refl, sym, ap, subst, ◌∙◌, arith, Bool, true, false, ◌&&◌, ◌==◌, T, List, [], ◌∷◌, length, min, eqb→eq, Result, Ok, Err}
+use Rattle.std.proofs.Common.{◌≡◌, ◌≢◌, ◌⊎◌, inl, inr, ℕ, ◌+◌, ◌-◌, ◌<◌, ◌≤◌, refl, sym, ap, subst, ◌∙◌, arith, Bool, true, false, ◌&&◌, ◌==◌, T, List, [], ◌∷◌, length, min, eqb→eq, Some, Result, Ok, Err}
 use Rattle.std.specs.Prelude.{IfOk, IfErr, OnOk, OnErr, MatchBool}
 use Rattle.pk_base.specs.Shape.{Shape}
 use Rattle.pk_base.specs.Page.{Flash, page_at}
@@ -33,7 +33,7 @@ use Rattle.pk_work.specs.Work.{merging}
 use Rattle.pk_core.specs.Parts.{Parts, frames_of, index_of}
 use Rattle.pk_core.specs.Agreeing.{DriveOnFlashWith}
 use Rattle.pk_core.specs.Moves.{StandsFor, Keeps, KeepsAll, BreaksAll, MayStep, StepKeeps, LeavesValues}
-use Rattle.pk_core.specs.Emptying.{Unread, Halts, Came, ReadsUpTo, StepOrRead, KeepsOrReads, OnRunning, MayEmpty, merges_left}
+use Rattle.pk_core.specs.Emptying.{Came, ReadsUpTo, OnRunning, MayEmpty, MergesOnce, FreezesOnce, merges_left}
 use Rattle.pk_core.specs.Staying.{Stays}
 use Rattle.pk_core.proofs.Standing.{same_found}
 use Rattle.pk_core.proofs.Keeping.{KeepsAll-none}
@@ -118,28 +118,23 @@ module _ (d : Parts) (old : BoardState) (may : MayEmpty d old) where
       let w = there.with in
       let same : new.pages ≡ old.pages = ap (λ (b : BoardState). b.pages) read_only in
       let here : with_index d x ≡ with_job x = ap (with_index d) unmoved.rest in
-      let stands : StandsFor (with_job x) d.log.shape old.pages m = record {
-        top = there.top;
-        found = there.found;
-        without = there.without;
-        with = record {
-          shape_is = refl;
-          is_flash = w.is_flash;
-          index =
-              let I : Index → Flash → Type 0 = λ y f. IndexOnFlash y (frames_of d) f there.top there.found in
-              subst (λ y. I y old.pages) unmoved.rest (subst (λ f. I x f) same (still (frames_of d) there.top there.found m (may_work m there)));
-          committed = w.committed;
-          pending = w.pending;
-          placed = w.placed;
-          former = w.former;
-          former_read = w.former_read;
-          keys_are = w.keys_are;
-        };
+      let D : Flash → Type 0 = λ f. DriveOnFlashWith (with_job x) d.log.shape f there.top there.found there.without m in
+      let agrees : D old.pages = record {
+        shape_is = refl;
+        is_flash = w.is_flash;
+        index =
+            let I : Index → Flash → Type 0 = λ y f. IndexOnFlash y (frames_of d) f there.top there.found in
+            subst (λ y. I y old.pages) unmoved.rest (subst (λ f. I x f) same (still (frames_of d) there.top there.found m (may_work m there)));
+        committed = w.committed;
+        pending = w.pending;
+        placed = w.placed;
+        former = w.former;
+        former_read = w.former_read;
+        keys_are = w.keys_are;
       } in
       let K : Parts → Type 0 = λ e. Keeps d e d.log.shape m old new in
-      let S : Flash → Type 0 = λ f. StandsFor (with_job x) d.log.shape f m in
       subst K (sym here) (record {
-        stands = subst S (sym same) stands;
+        stands = record { top = there.top; found = there.found; without = there.without; with = subst D (sym same) agrees };
         same_places = λ was. ap (λ (f : Found). places f d.log.pending) (same_found d d.log.shape old.pages m was there);
         still = inl (ap (λ (f : Flash). reading d.log.shape f []) same);
         cuts = ([], Reached-start old new (CrashFinds d.log.shape commit old.pages m) (ap (λ (b : BoardState). b.shape) read_only) same (ap (λ (b : BoardState). b.trail) read_only) (ap (λ (b : BoardState). b.posted) read_only) (refl, inl refl), tt);
@@ -246,37 +241,35 @@ module _ (d : Parts) (old : BoardState) (may : MayEmpty d old) (x : Index) (new 
       let broken = step.broken refl in
       (broken_breaks d old may new broken.0, record { flash = broken.1.flash; stop = broken.1.stop; read = broken.1.read })
 
-  pub merge_steps : (r : Result Stepped Fault) → MergeStep (index_of d) old x new r → old.read_faults ≤ last_count → old.reads ≤ last_count → KeepsOrReads d its 1 old new r
-  merge_steps r step few few_reads = record {
-    came = merge_came r step few;
-    rest = step.rest;
-    reads = one_call old new few_reads step.calls;
-    roots_few = step.installs;
-    ready = step.ready;
-  }
-
-  pub merge_idle : (r : Result Stepped Fault) → MergeStep (index_of d) old x new r → r ≡ Ok Idle → (has_no_merge (index_of d) ≡ true) × (its ≡ d) × (new ≡ old)
-  merge_idle r step is = let idle = step.idle is in (idle.0, ap (with_index d) idle.1, idle.2)
-
-  pub merge_less : (r : Result Stepped Fault) → MergeStep (index_of d) old x new r → r ≡ Ok Worked → merges_left its < merges_left d
-  merge_less r step is =
-      let less = (step.less is (frames_of d) some.1.top some.1.found some.0 (may_work d old may some.0 some.1)).merging in
-      subst (λ (s : Shape). merging s (backlog_of x) < merges_left d) (sym (same_shape step.active)) less
-
-  pub merge_leaves : (r : Result Stepped Fault) → MergeStep (index_of d) old x new r → OnRunning (LeavesValues d its) r
+  merge_leaves : (r : Result Stepped Fault) → MergeStep (index_of d) old x new r → OnRunning (LeavesValues d its) r
   merge_leaves (Ok Idle) step = same_leaves (step.idle refl).1
   merge_leaves (Ok Worked) step = moved_leaves (same_shape step.active) (step.moves refl)
   merge_leaves (Err Reading) step = still_leaves (step.unmoved refl).0
   merge_leaves (Err Stopped) step = tt
 
-  pub merge_stays : (r : Result Stepped Fault) → MergeStep (index_of d) old x new r → OnRunning (Stays d its) r
+  merge_stays : (r : Result Stepped Fault) → MergeStep (index_of d) old x new r → OnRunning (Stays d its) r
   merge_stays (Ok Idle) step = same_stays (step.idle refl).1
   merge_stays (Ok Worked) step = moved_stays (same_epoch step.active) (step.moves refl)
   merge_stays (Err Reading) step = still_stays (step.unmoved refl).0
   merge_stays (Err Stopped) step = tt
 
-  pub merge_none : (r : Result Stepped Fault) → MergeStep (index_of d) old x new r → x.log.pending ≡ []
-  merge_none r step = ap (λ (l : LogState). l.pending) step.active ∙ may.none_pending
+  pub merges_once : (r : Result Stepped Fault) → MergeStep (index_of d) old x new r → old.read_faults ≤ last_count → old.reads ≤ last_count → MergesOnce d its old new r
+  merges_once r step few few_reads = record {
+    step = record {
+      came = merge_came r step few;
+      rest = step.rest;
+      reads = one_call old new few_reads step.calls;
+      roots_few = step.installs;
+      ready = step.ready;
+    };
+    idle = λ is. let idle = step.idle is in (idle.0, ap (with_index d) idle.1, idle.2);
+    less = λ is.
+        let less = (step.less is (frames_of d) some.1.top some.1.found some.0 (may_work d old may some.0 some.1)).merging in
+        subst (λ (s : Shape). merging s (backlog_of x) < merges_left d) (sym (same_shape step.active)) less;
+    none_pending = ap (λ (l : LogState). l.pending) step.active ∙ may.none_pending;
+    leaves = merge_leaves r step;
+    stays = merge_stays r step;
+  }
 
   -- ---- a step of a freeze
 
@@ -284,32 +277,39 @@ module _ (d : Parts) (old : BoardState) (may : MayEmpty d old) (x : Index) (new 
   abbrev pub FreezeDone : Bool → Type 0
   FreezeDone done = MatchBool done (Freezes (index_of d) x) (FreezeMoves (index_of d) x)
 
-  pub freeze_steps : (r : Result Bool Fault) → OnOk r (Moves (index_of d) old x new) → IfErr r (λ fault. fault ≡ Stopped) → OnErr r (Breaks (index_of d) old new × Stops old new) → OnOk r (Works old new)
-      → roots new ≤ roots old + 1 → IsReady new d.log.shape → StepKeeps d its 1 old new r
-  freeze_steps (Ok done) moves stopped broken works few ready = record {
-    ended = moved_keeps d old may x new ready moves;
-    broken = tt;
-    works = works;
-    stops = tt;
-    stopped = tt;
-    roots_few = few;
-    ready = ready;
-  }
-  freeze_steps (Err fault) moves stopped broken works few ready = record {
-    ended = tt;
-    broken = broken_breaks d old may new broken.0;
-    works = tt;
-    stops = broken.1;
-    stopped = stopped;
-    roots_few = few;
-    ready = ready;
-  }
+  freeze_stays : (done : Bool) → Moves (index_of d) old x new → FreezeDone done → Stays d its
+  freeze_stays true moves done = begun_stays done.takes_more moves
+  freeze_stays false moves done = moved_stays (ap (λ (l : LogState). l.epoch) done.log) moves
 
-  pub freeze_leaves : (r : Result Bool Fault) → OnOk r (Moves (index_of d) old x new) → x.log.shape ≡ d.log.shape → OnOk r (LeavesValues d its)
-  freeze_leaves (Ok done) moves same = moved_leaves same moves
-  freeze_leaves (Err fault) moves same = tt
-
-  pub freeze_stays : (r : Result Bool Fault) → OnOk r (Moves (index_of d) old x new) → IfOk r FreezeDone → OnOk r (Stays d its)
-  freeze_stays (Ok true) moves done = begun_stays done.takes_more moves
-  freeze_stays (Ok false) moves done = moved_stays (ap (λ (l : LogState). l.epoch) done.log) moves
-  freeze_stays (Err fault) moves done = tt
+  pub freezes_once : (r : Result Bool Fault) → OnOk r (Moves (index_of d) old x new) → IfOk r FreezeDone → (x.log.shape ≡ d.log.shape) × (x.log.pending ≡ d.log.pending) → IfErr r (λ fault. fault ≡ Stopped)
+      → OnErr r (Breaks (index_of d) old new × Stops old new) → OnOk r (Works old new) → roots new ≤ roots old + 1 → IsReady new d.log.shape → FreezesOnce d its old new r
+  freezes_once (Ok done) moves freezes same stopped broken works few ready = record {
+    step = record {
+      ended = moved_keeps d old may x new ready moves;
+      broken = tt;
+      works = works;
+      stops = tt;
+      stopped = tt;
+      roots_few = few;
+      ready = ready;
+    };
+    freezes = freezes;
+    none_pending = same.1 ∙ may.none_pending;
+    leaves = moved_leaves same.0 moves;
+    stays = freeze_stays done moves freezes;
+  }
+  freezes_once (Err fault) moves freezes same stopped broken works few ready = record {
+    step = record {
+      ended = tt;
+      broken = broken_breaks d old may new broken.0;
+      works = tt;
+      stops = broken.1;
+      stopped = stopped;
+      roots_few = few;
+      ready = ready;
+    };
+    freezes = tt;
+    none_pending = same.1 ∙ may.none_pending;
+    leaves = tt;
+    stays = tt;
+  }

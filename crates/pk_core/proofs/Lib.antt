@@ -14,6 +14,7 @@ pub mod Amounts
 pub mod ReadSteps
 pub mod Inside
 pub mod Emptied
+pub mod Quieted
 pub mod Unchanging
 pub mod Counting
 pub mod Filling

@@ -167,3 +167,7 @@ pub running_ok : {T : Type 0} (P Q : Type 0) (r : Result T Fault) → (P → Q) 
 running_ok P Q (Ok x) f stopped p = f p
 running_ok P Q (Err Reading) f stopped p = let other : Reading ≡ Stopped = stopped in absurd cc
 running_ok P Q (Err Stopped) f stopped p = tt
+
+pub running_stopped : (T P : Type 0) (e : Fault) → e ≡ Stopped → OnRunning {T = T} P (Err e)
+running_stopped T P Reading stopped = absurd cc
+running_stopped T P Stopped stopped = tt

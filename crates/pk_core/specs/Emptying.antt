@@ -1,5 +1,5 @@
 -- Room for a further entry: merges to the end and a freeze, in steps of which one may fail by a read.
-use Rattle.std.specs.Prelude.{◌≡◌, ◌<◌, ◌≤◌, ◌+◌, ℕ, [], Result, Ok, Err}
+use Rattle.std.specs.Prelude.{◌≡◌, ◌<◌, ◌≤◌, ◌+◌, ℕ, [], Bool, true, Result, Ok, Err, IfOk, OnOk, MatchBool}
 use Rattle.pk_base.specs.Shape.{Shape}
 use Rattle.pk_nand.specs.declared.types.Fault.{Fault}
 use Rattle.pk_nand.specs.declared.types.Fault.TheVariants.{Reading, Stopped}
@@ -8,9 +8,12 @@ use Rattle.pk_nand.specs.Calls.{IsReady, Rose}
 use Rattle.pk_nand.specs.Effects.{OnlyFlash, NoFault}
 use Rattle.pk_model.specs.Wear.{roots}
 use Rattle.pk_work.specs.Work.{merging}
-use Rattle.pk_schedule.specs.Steps.{backlog_of}
+use Rattle.pk_schedule.specs.declared.phase.Stepped.{Stepped}
+use Rattle.pk_schedule.specs.declared.phase.Stepped.TheVariants.{Worked, Idle}
+use Rattle.pk_schedule.specs.Steps.{backlog_of, has_no_merge, FreezeMoves, Freezes}
 use Rattle.pk_core.specs.Parts.{Parts, index_of}
-use Rattle.pk_core.specs.Moves.{KeepsAll, BreaksAll, MayStep}
+use Rattle.pk_core.specs.Moves.{KeepsAll, BreaksAll, MayStep, StepKeeps, LeavesValues}
+use Rattle.pk_core.specs.Staying.{Stays}
 
 -- ---- what a step leaves that may read
 
@@ -68,3 +71,20 @@ pub record MayEmpty (d : Parts) (board : BoardState) : Type 0 where
   pub may : MayStep d board
   pub none_pending : d.log.pending ≡ []
   pub number : roots board < 18446744073709551615
+
+-- A step of the merges was made, a read of it failed, or nothing was left to do.
+pub record MergesOnce (before after : Parts) (old new : BoardState) (result : Result Stepped Fault) : Type 0 where
+  pub step : KeepsOrReads before after 1 old new result
+  pub idle : result ≡ Ok Idle → (has_no_merge (index_of before) ≡ true) × (after ≡ before) × (new ≡ old)
+  pub less : result ≡ Ok Worked → merges_left after < merges_left before
+  pub none_pending : after.log.pending ≡ []
+  pub leaves : OnRunning (LeavesValues before after) result
+  pub stays : OnRunning (Stays before after) result
+
+-- A step of a freeze was made, or it is over.
+pub record FreezesOnce (before after : Parts) (old new : BoardState) (result : Result Bool Fault) : Type 0 where
+  pub step : StepKeeps before after 1 old new result
+  pub freezes : IfOk result (λ done. MatchBool done (Freezes (index_of before) (index_of after)) (FreezeMoves (index_of before) (index_of after)))
+  pub none_pending : after.log.pending ≡ []
+  pub leaves : OnOk result (LeavesValues before after)
+  pub stays : OnOk result (Stays before after)

@@ -5,10 +5,10 @@ ghost use Rattle.pk_model.specs.Wear.{roots, is_worn};
 ghost use Rattle.pk_log.specs.State.{needs_freeze as needs_freeze_for};
 ghost use Rattle.pk_work.specs.Rest.{whole_freeze};
 ghost use Rattle.pk_work.specs.Calls.{room_calls};
-ghost use Rattle.pk_schedule.specs.Steps.{FreezeMoves, Freezes, has_no_merge};
+ghost use Rattle.pk_schedule.specs.Steps.{has_no_merge};
 ghost use Rattle.pk_core.specs.Parts.{index_of};
 ghost use Rattle.pk_core.specs.Moves.{MayStep, StepKeeps, LeavesValues};
-ghost use Rattle.pk_core.specs.Emptying.{MayEmpty, KeepsOrReads, OnRunning, merges_left};
+ghost use Rattle.pk_core.specs.Emptying.{MayEmpty, MergesOnce, FreezesOnce, KeepsOrReads, OnRunning, merges_left};
 ghost use Rattle.pk_core.specs.Staying.{Stays};
 
 use crate::drive::Drive;
@@ -19,19 +19,8 @@ use pk_schedule::Stepped;
 impl<A: Region> Drive<A> {
     // One step of the merges, by at most one call of the board. `Reading` where a read fails: the step can be made again.
     fn merge_once<B: Nand>(&mut self, board: &mut B) -> Result<Stepped, Fault>
-        requires may { MayEmpty self.old (B.state board.old) }
-
-        // The map, and less that is left.
-        ensures step { KeepsOrReads self.old self.new 1 (B.state board.old) (B.state board.new)
-            result }
-        ensures idle { result ≡ Ok Stepped.Idle → (has_no_merge (index_of self.old) ≡ true)
-            × (self.new ≡ self.old) × (B.state board.new ≡ B.state board.old) }
-        ensures less { result ≡ Ok Stepped.Worked → merges_left self.new < merges_left self.old }
-
-        // What else stays.
-        ensures none { self.new.log.pending ≡ [] }
-        ensures leaves { OnRunning (LeavesValues self.old self.new) result }
-        ensures moves { OnRunning (Stays self.old self.new) result }
+        requires { MayEmpty self.old (B.state board.old) }
+        ensures { MergesOnce self.old self.new (B.state board.old) (B.state board.new) result }
     {
         // so that the board's counts are known to be of 64 bits
         let _ = board.read_count();
@@ -75,18 +64,7 @@ impl<A: Region> Drive<A> {
     fn freeze_once<B: Nand>(&mut self, board: &mut B) -> Result<bool, Fault>
         requires may { MayEmpty self.old (B.state board.old) }
         requires none_merges { has_no_merge (index_of self.old) ≡ true }
-
-        // The map, and the freeze.
-        ensures step { StepKeeps self.old self.new 1 (B.state board.old) (B.state board.new)
-            result }
-        ensures freezes { IfOk result (λ done. MatchBool done
-            (Freezes (index_of self.old) (index_of self.new))
-            (FreezeMoves (index_of self.old) (index_of self.new))) }
-
-        // What else stays.
-        ensures none { self.new.log.pending ≡ [] }
-        ensures leaves { OnOk result (LeavesValues self.old self.new) }
-        ensures moves { OnOk result (Stays self.old self.new) }
+        ensures { FreezesOnce self.old self.new (B.state board.old) (B.state board.new) result }
     {
         self.schedule.freeze_step(
             board,
