@@ -46,3 +46,5 @@ pub mod Quieting
 pub mod Sights
 pub mod Staying
 pub mod Steadying
+pub mod Indexing
+pub mod Advancing
