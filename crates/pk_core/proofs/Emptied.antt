@@ -24,7 +24,7 @@ use Rattle.pk_work.proofs.Within.{merging_most}
 use Rattle.pk_schedule.specs.declared.phase.Stepped.{Stepped}
 use Rattle.pk_schedule.specs.declared.phase.Stepped.TheVariants.{Worked, Idle}
 use Rattle.pk_schedule.specs.Steps.{FreezeMoves, Freezes, backlog_of, has_no_merge, is_between}
-use Rattle.pk_core.specs.Parts.{Parts, index_of}
+use Rattle.pk_core.specs.Parts.{Parts, frames_of, index_of}
 use Rattle.pk_core.specs.Moves.{KeepsAll, BreaksAll, MayStep, StepKeeps, LeavesValues}
 use Rattle.pk_core.specs.Emptying.{StepOrRead, KeepsOrReads, MergesOnce, FreezesOnce, merges_left, MayEmpty}
 use Rattle.pk_core.specs.Staying.{Stays}
@@ -34,7 +34,7 @@ use Rattle.pk_core.proofs.Staying.{stays_same, stays_then}
 use Rattle.pk_core.proofs.Steps.{none_step, keeps_later, may_after, leaves_none, leaves_twice}
 use Rattle.pk_core.proofs.Freezing.{no_need, left_some}
 use Rattle.pk_core.proofs.Amounts.{room_few}
-use Rattle.pk_core.proofs.Working.{backlog_within}
+use Rattle.pk_schedule.proofs.Backlogs.{index_backlog}
 use Rattle.pk_core.proofs.ReadSteps.{Passes, passes_none, step_passes, reading_passes, reads_nothing, reading_failed, reading_then, reading_end}
 
 -- ---- steps in a row
@@ -260,7 +260,7 @@ module _ (a : Parts) (s0 : BoardState) (b : Parts) (s : BoardState) (ready : IsR
 pub left_most : (d : Parts) (board : BoardState) → MayStep d board → merges_left d ≤ emptying d.log.shape 4
 left_most d board may =
     let there = may.stands.1 in
-    merging_most d.log.shape (backlog_of (index_of d)) (backlog_within d d.log.shape board.pages there.top there.found there.without may.stands.0 there.with)
+    merging_most d.log.shape (backlog_of (index_of d)) (index_backlog (index_of d) (frames_of d) board.pages there.top there.found there.with.index there.with.placed.size)
 
 its_shape : (d : Parts) (board : BoardState) → MayStep d board → IsShape d.log.shape
 its_shape d board may = may.stands.1.with.index.logs.is_shape

@@ -38,7 +38,7 @@ use Rattle.pk_core.specs.Staying.{Stays}
 use Rattle.pk_core.proofs.Standing.{same_found}
 use Rattle.pk_core.proofs.Keeping.{KeepsAll-none}
 use Rattle.pk_core.proofs.Staying.{stays_same}
-use Rattle.pk_core.proofs.Moved.{with_index, agrees_moved}
+use Rattle.pk_core.proofs.Indexing.{with_index, may_work as may_work_with, moved_with}
 
 -- ---- what a step asks
 
@@ -52,17 +52,11 @@ module _ (d : Parts) (old : BoardState) (may : MayEmpty d old) where
   Here m = StandsFor d d.log.shape old.pages m
 
   pub may_work : (m : Map) (there : Here m) → MayWork (index_of d) (frames_of d) old.pages there.top there.found m
-  may_work m there = record {
-    stands = there.with.index;
-    none_pending = may.none_pending;
-    under = subst (λ (es : List Entry). IsUnder d.log.shape old.pages es there.top there.found m) may.none_pending there.with.pending;
-    values = there.with.former;
-    number =
-        let few = may.number in
-        let of_board : roots old ≡ there.top.1.number = ap (λ (s : Shape). root_number s old.pages) (shape_is old d.log.shape may.may.ready) ∙ number_top d.log.shape old.pages there.top there.with.index.logs.is_top in
-        let of_log : d.log.root.number ≡ there.top.1.number = ap (λ (r : Root). r.number) there.with.index.logs.root_is in
-        omega (arith, few, of_board, of_log);
-  }
+  may_work m there = may_work_with d old.pages there.top there.found there.without m there.with may.none_pending (
+      let few = may.number in
+      let of_board : roots old ≡ there.top.1.number = ap (λ (s : Shape). root_number s old.pages) (shape_is old d.log.shape may.may.ready) ∙ number_top d.log.shape old.pages there.top there.with.index.logs.is_top in
+      let of_log : d.log.root.number ≡ there.top.1.number = ap (λ (r : Root). r.number) there.with.index.logs.root_is in
+      omega (arith, few, of_board, of_log))
 
   -- for some map
   pub some_work : (frames : ℕ) × (top : ℕ × Root) × (found : Found) × (m : Map) × MayWork (index_of d) frames old.pages top found m
@@ -91,7 +85,7 @@ module _ (d : Parts) (old : BoardState) (may : MayEmpty d old) where
           top = is.then_top;
           found = is.then_found;
           without = m;
-          with = agrees_moved d x old new there.top there.found there.without m there.with may.none_pending is ready;
+          with = moved_with d old new there.top there.found there.without m there.with may.none_pending x ready is;
         };
         same_places = λ was.
             ap (places is.then_found) is.none_pending

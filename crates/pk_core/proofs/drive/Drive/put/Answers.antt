@@ -1,4 +1,4 @@
-use Rattle.std.proofs.Common.{ap, ◌≤◌, length}
+use Rattle.std.proofs.Common.{ap, ◌≤◌, length, Err}
 use Rattle.pk_base.specs.Shape.{charge}
 use Rattle.pk_core.specs.Parts.{Parts}
 use Rattle.pk_core.specs.Changes.{StaysBetween}
@@ -53,7 +53,7 @@ returns-in-Err-clause-stays g c =
     let e = c.in-Err.ensures in
     let a = c.args.self.now in
     let b = c.make_room.new.self in
-    running_failed Unit Unit (LeavesValues a b × (length b.log.pending ≤ length a.log.pending)) (StaysBetween a b) c.in-Err.fault (λ is. stays_kept a b is.0 is.1 c.requires.can.few) (running_both (LeavesValues a b) (length b.log.pending ≤ length a.log.pending) _ e.leaves e.pending)
+    running_failed Unit Unit (LeavesValues a b × (length b.log.pending ≤ length a.log.pending)) (StaysBetween a b) c.in-Err.fault (λ is. stays_kept a b is.0 is.1 c.requires.can.few) (running_both {T = Unit {0}} (LeavesValues a b) (length b.log.pending ≤ length a.log.pending) (Err c.in-Err.fault) e.leaves e.pending)
 
 pub returns-in-Err-clause-opens : goal.returns-in-Err-clause-opens
 returns-in-Err-clause-opens g c =

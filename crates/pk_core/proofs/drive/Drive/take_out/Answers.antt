@@ -1,4 +1,4 @@
-use Rattle.std.proofs.Common.{◌≤◌, length}
+use Rattle.std.proofs.Common.{◌≤◌, length, Err}
 use Rattle.pk_core.specs.Changes.{StaysBetween}
 use Rattle.pk_core.specs.Moves.{LeavesValues}
 use Rattle.pk_core.specs.Staying.{Stays}
@@ -51,4 +51,4 @@ returns-in-Err-clause-stays g c =
     let e = c.in-Err.ensures in
     let a = c.args.self.now in
     let b = c.make_room.new.self in
-    running_failed Unit Unit (LeavesValues a b × (length b.log.pending ≤ length a.log.pending)) (StaysBetween a b) c.in-Err.fault (λ is. stays_kept a b is.0 is.1 c.requires.can.few) (running_both (LeavesValues a b) (length b.log.pending ≤ length a.log.pending) _ e.leaves e.pending)
+    running_failed Unit Unit (LeavesValues a b × (length b.log.pending ≤ length a.log.pending)) (StaysBetween a b) c.in-Err.fault (λ is. stays_kept a b is.0 is.1 c.requires.can.few) (running_both {T = Unit {0}} (LeavesValues a b) (length b.log.pending ≤ length a.log.pending) (Err c.in-Err.fault) e.leaves e.pending)
