@@ -1,6 +1,6 @@
 -- A background step of the jobs, by the drive and its board.
-use Rattle.std.proofs.Common.{◌≡◌, ◌⊎◌, inl, inr, ℕ, ◌+◌, ◌<◌, ◌≤◌, refl, sym, ap, subst, ◌∙◌, arith, Bool, true, false, List, [], length, Option, Some, None}
-use Rattle.std.specs.Prelude.{◌&&◌, ◌==◌, MatchBool, map}
+use Rattle.std.proofs.Common.{◌≡◌, ◌⊎◌, inl, inr, ℕ, ◌+◌, ◌<◌, ◌≤◌, refl, sym, ap, subst, ◌∙◌, arith, Bool, true, false, List, [], ◌∷◌, length, Option, Some, None}
+use Rattle.std.specs.Prelude.{◌&&◌, ◌==◌, MatchBool, map, slice_get}
 use Rattle.std.proofs.lemmas.Bool.{eq-eqb, eqb-true}
 use Rattle.pk_base.specs.Shape.{Shape}
 use Rattle.pk_base.specs.Firsts.{firsts}
@@ -12,9 +12,11 @@ use Rattle.pk_nand.specs.BoardState.{BoardState, shape_or_none}
 use Rattle.pk_nand.specs.Calls.{IsReady, Rose, last_count}
 use Rattle.pk_nand.specs.Effects.{AtMostOneCall, NoFault, OnlyFlash, OnlyReading, Stops, Works}
 use Rattle.pk_nand.proofs.Reaching.{Reached-start}
-use Rattle.pk_work.specs.Backlog.{Backlog}
 use Rattle.pk_work.specs.Work.{work}
 use Rattle.pk_work.proofs.Targets.{next_told}
+use Rattle.pk_pool.specs.Blocks.{PoolOnFlash, IsShared, IsOwned}
+use Rattle.pk_pool.specs.Taking.{ErasesOne, ErasesNone, FailsToErase}
+use Rattle.pk_compact.specs.FreezeSteps.{taken_by}
 use Rattle.pk_model.specs.Found.{Found}
 use Rattle.pk_model.specs.Reading.{reading}
 use Rattle.pk_model.specs.Sight.{Sight, IsIdle}
@@ -31,30 +33,18 @@ use Rattle.pk_log.specs.State.{LogState}
 use Rattle.pk_schedule.specs.declared.phase.Phase.{Phase}
 use Rattle.pk_schedule.specs.declared.phase.Phase.TheVariants.{Idle as NoMerge, Running, Ready}
 use Rattle.pk_schedule.specs.Index.{Index, IndexOnFlash, MergeStands, merging}
-use Rattle.pk_schedule.specs.Steps.{MayWork, MayFreeze, IndexMoves, Moves, Less, Unmoved, StandsStill, Breaks, KeepsActive, backlog_of, has_no_merge, is_between}
+use Rattle.pk_schedule.specs.Steps.{MayWork, MayFreeze, IndexMoves, Moves, Less, Unmoved, StandsStill, Breaks, FreezeMoves, Freezes, KeepsActive, backlog_of, has_no_merge, is_between}
 use Rattle.pk_core.specs.Parts.{Parts, frames_of, index_of, sight_of}
 use Rattle.pk_core.specs.Agreeing.{DriveOnFlashWith, DriveOnFlash}
 use Rattle.pk_core.specs.Staying.{Stays}
 use Rattle.pk_core.specs.Ticking.{MayTick, Ticks, Advances}
 use Rattle.pk_core.proofs.Unchanging.{own, for_its_map, agrees_ready}
+use Rattle.pk_core.proofs.Staying.{stays_same, step_stays}
+use Rattle.pk_core.proofs.Ticking.{ticks_nothing, ticks_failed, step_agrees, step_ticks, step_lowers, kept_drive, busy_freeze, busy_free, worked_fine, idle_fine, stopped_fine, stopped_idle, stopped_worked, worked_idle}
+use Rattle.pk_core.proofs.Remaining.{freeze_less}
 use Rattle.pk_core.proofs.Indexing.{with_index, may_work, frames_stay, moved_with, moved_agrees}
 
 -- ---- answers
-
-pub worked_unread : Worked ≡ Fault false → ⊥
-worked_unread e = cc
-
-pub worked_idle : Worked ≡ Idle → ⊥
-worked_idle e = cc
-
-pub fault_idle : (b : Bool) → Fault b ≡ Idle → ⊥
-fault_idle b e = cc
-
-pub fault_worked : (b : Bool) → Fault b ≡ Worked → ⊥
-fault_worked b e = cc
-
-pub stopped_unread : Fault true ≡ Fault false → ⊥
-stopped_unread e = cc
 
 true_false : true ≡ false → ⊥
 true_false e = cc
@@ -76,6 +66,10 @@ merge_busy : (p : Phase) (x : Index) (flash : Flash) (root : Root) (found : Foun
 merge_busy NoMerge x flash root found stands busy none empty = true_false (sym (eq-eqb (length x.log.frozen.entries) 0 empty) ∙ busy)
 merge_busy (Running level) x flash root found stands busy none empty = level_some x.log.shape (length (firsts found.older)) (map length found.runs) level stands.into.due none
 merge_busy (Ready level) x flash root found stands busy none empty = level_some x.log.shape (length (firsts found.older)) (map length found.runs) level stands.into.due none
+
+none_there : (bs : List ℕ) → length bs ≡ 0 → bs ≡ []
+none_there [] e = refl
+none_there (b ∷ bs) e = absurd (omega (arith, e))
 
 -- what a merge may change of the log is not pending
 pub active_pending : (log log' : LogState) → KeepsActive log log' → log.pending ≡ [] → log'.pending ≡ []
@@ -116,24 +110,24 @@ module _ (d : Parts) (old new : BoardState) (m : MayTick d old) where
     moved = moves (frames_of d) m.agrees.top m.agrees.found m.agrees.all may
 
     -- the drive behind it
-    abbrev then : Parts
-    then = with_index d x'
+    abbrev later : Parts
+    later = with_index d x'
 
-    agrees_then : DriveOnFlashWith then d.log.shape new.pages moved.then_top moved.then_found m.agrees.all m.agrees.all
-    agrees_then = moved_with d old new m.agrees.top m.agrees.found m.agrees.without m.agrees.all with m.none x' ready moved
+    agrees_later : DriveOnFlashWith later d.log.shape new.pages moved.then_top moved.then_found m.agrees.all m.agrees.all
+    agrees_later = moved_with d old new m.agrees.top m.agrees.found m.agrees.without m.agrees.all with m.none x' ready moved
 
-    ticks_moved : NoFault old new → AtMostOneCall old new → OnlyFlash old new → roots new ≤ roots old + 1 → Grows d.log.shape old.pages new.pages → Ticks old new (sight_of d) (sight_of then) Worked
+    ticks_moved : NoFault old new → AtMostOneCall old new → OnlyFlash old new → roots new ≤ roots old + 1 → Grows d.log.shape old.pages new.pages → Ticks old new (sight_of d) (sight_of later) Worked
     ticks_moved sound calls rest installs grows = record {
-      stands = λ _. for_its_map d old m.agrees (λ s f x. HoldsMap s f new (sight_of then) x)
-          (record { shape_is = ready.shape_is; frames_is = moved.stands.arena_is.size; map_is = under_reads d.log.shape new.pages x'.log.pending moved.then_top moved.then_found m.agrees.all agrees_then.pending });
+      stands = λ _. for_its_map d old m.agrees (λ s f x. HoldsMap s f new (sight_of later) x)
+          (record { shape_is = ready.shape_is; frames_is = moved.stands.arena_is.size; map_is = under_reads d.log.shape new.pages x'.log.pending moved.then_top moved.then_found m.agrees.all agrees_later.pending });
       cuts = λ _. for_its_map d old m.agrees (λ s f x. Reaches s old new (CrashFinds s background old.pages x)) moved.cuts;
       cuts_stopped = λ e. absurd (false_true e);
       idle_rests = λ e. absurd (worked_idle e);
-      unmade = λ e. absurd (worked_unread e);
+      unmade = λ e. absurd (worked_fine e);
       grows = grown grows;
       rest = rest;
       calls = calls;
-      unread = λ e. absurd (worked_unread e);
+      unread = λ e. absurd (worked_fine e);
       up = (let e = sound.1 in omega (arith, e));
       flash_up = λ _. (let e = sound.0 in omega (arith, e));
       worked = λ _. sound;
@@ -142,12 +136,12 @@ module _ (d : Parts) (old new : BoardState) (m : MayTick d old) where
       installs = installs;
     }
 
-    lower : ((frames : ℕ) (top : ℕ × Root) (found : Found) (x : Map) → MayWork (index_of d) frames old.pages top found x → work d.log.shape (backlog_of x') < work d.log.shape (backlog_of (index_of d))) → (sight_of then).work < (sight_of d).work
+    lower : ((frames : ℕ) (top : ℕ × Root) (found : Found) (x : Map) → MayWork (index_of d) frames old.pages top found x → work d.log.shape (backlog_of x') < work d.log.shape (backlog_of (index_of d))) → (sight_of later).work < (sight_of d).work
     lower less =
         let e = less (frames_of d) m.agrees.top m.agrees.found m.agrees.all may in
         subst (λ s. work s (backlog_of x') < work d.log.shape (backlog_of (index_of d))) (sym moved.same_shape) e
 
-    pub advances_moved : Ticks old new (sight_of d) (sight_of then) Worked → Stays d then → (sight_of then).work < (sight_of d).work → (IsIdle d.log.shape old.pages (sight_of d) → ⊥) → Advances d then old new Worked
+    pub advances_moved : Ticks old new (sight_of d) (sight_of later) Worked → Stays d later → (sight_of later).work < (sight_of d).work → (IsIdle d.log.shape old.pages (sight_of d) → ⊥) → Advances d later old new Worked
     advances_moved ticks stays lowers busy = record {
       ticks = ticks;
       stops = m.unstopped;
@@ -161,7 +155,7 @@ module _ (d : Parts) (old new : BoardState) (m : MayTick d old) where
     }
 
     -- of the log no more differs than a merge may change
-    stays_merged : KeepsActive d.log x'.log → Stays d then
+    stays_merged : KeepsActive d.log x'.log → Stays d later
     stays_merged keeps = record {
       fresh = record {
         stays = λ e. ap (λ l. l.epoch.takes_more) keeps ∙ e;
@@ -173,9 +167,23 @@ module _ (d : Parts) (old new : BoardState) (m : MayTick d old) where
     }
 
     pub merge_advances : has_no_merge (index_of d) ≡ false → Less (index_of d) old.pages x' → KeepsActive d.log x'.log → NoFault old new → AtMostOneCall old new → OnlyFlash old new → roots new ≤ roots old + 1 → Grows d.log.shape old.pages new.pages
-        → Advances d then old new Worked
+        → Advances d later old new Worked
     merge_advances busy less keeps sound calls rest installs grows =
         advances_moved (ticks_moved sound calls rest installs grows) (stays_merged keeps) (lower (λ frames top found x may'. (less frames top found x may').work)) (busy_merge busy)
+
+    -- a freeze that goes on leaves the epoch, and one that is over begins one
+    stays_frozen : (done : Bool) → MatchBool done (Freezes (index_of d) x') (FreezeMoves (index_of d) x') → Stays d later
+    stays_frozen true f = record { fresh = record { stays = λ e. f.takes_more; begun = inr f.takes_more }; blocks = record { used = moved.values.as_many; open_same = refl } }
+    stays_frozen false f = record {
+      fresh = record { stays = λ e. ap (λ (l : LogState). l.epoch.takes_more) f.log ∙ e; begun = inl (ap (λ (l : LogState). l.root.epoch) f.log) };
+      blocks = record { used = moved.values.as_many; open_same = refl };
+    }
+
+    pub freeze_advances : (done : Bool) → has_no_merge (index_of d) ≡ true → (length (taken_by d.schedule.freeze) == 0) ≡ false → MatchBool done (Freezes (index_of d) x') (FreezeMoves (index_of d) x')
+        → IsShared d.pool.shape d.pool.states → Works old new → AtMostOneCall old new → roots new ≤ roots old + 1 → Grows d.log.shape old.pages new.pages → Advances d later old new Worked
+    freeze_advances done merged runs freezes shared works calls installs grows =
+        let less = freeze_less d.log.shape (index_of d) x' done merged runs freezes in
+        advances_moved (ticks_moved works.no_fault calls works.rest installs grows) (stays_frozen done freezes) (lower (λ frames top found x may'. less)) (busy_freeze d old m.agrees shared runs)
 
   -- ---- one of which a call failed that stops the drive
 
@@ -184,15 +192,15 @@ module _ (d : Parts) (old new : BoardState) (m : MayTick d old) where
     stands = λ e. absurd (true_false e);
     cuts = λ e. absurd (true_false e);
     cuts_stopped = λ _. for_its_map d old m.agrees (λ s f x. Goes s old new (CrashFinds s background old.pages x)) (breaks (frames_of d) m.agrees.top m.agrees.found m.agrees.all may);
-    idle_rests = λ e. absurd (fault_idle true e);
-    unmade = λ e. absurd (stopped_unread e);
+    idle_rests = λ e. absurd (stopped_idle true e);
+    unmade = λ e. absurd (stopped_fine e);
     grows = grown grows;
     rest = stops.rest;
     calls = calls;
-    unread = λ e. absurd (stopped_unread e);
+    unread = λ e. absurd (stopped_fine e);
     up = (let e = stops.read in omega (arith, e));
     flash_up = λ few. (let e = stops.flash in omega (arith, e, few));
-    worked = λ e. absurd (fault_worked true e);
+    worked = λ e. absurd (stopped_worked true e);
     stop = λ _. stops.stop;
     no_stop = λ e. absurd (true_false e);
     installs = installs;
@@ -207,8 +215,8 @@ module _ (d : Parts) (old new : BoardState) (m : MayTick d old) where
     agrees = λ e. absurd (true_false e);
     moves = λ e. absurd (true_false e);
     number = λ e. absurd (true_false e);
-    lowers = λ e. absurd (fault_worked true e);
-    idle = λ e. absurd (fault_idle true e);
+    lowers = λ e. absurd (stopped_worked true e);
+    idle = λ e. absurd (stopped_idle true e);
     busy = λ idle. absurd (busy idle);
   }
 
@@ -253,8 +261,8 @@ module _ (d : Parts) (old new : BoardState) (m : MayTick d old) where
             keys_are = with.keys_are;
           };
         } in
-        let then : DriveOnFlash (with_index d x') old.shape old.pages = subst T (sym unmoved.rest) here (subst (λ f. IndexOnFlash x' (frames_of d) f m.agrees.top m.agrees.found) pages_same still) in
-        subst (λ (b : BoardState). DriveOnFlash (with_index d x') b.shape b.pages) (sym reading_only) then
+        let later : DriveOnFlash (with_index d x') old.shape old.pages = subst T (sym unmoved.rest) here (subst (λ f. IndexOnFlash x' (frames_of d) f m.agrees.top m.agrees.found) pages_same still) in
+        subst (λ (b : BoardState). DriveOnFlash (with_index d x') b.shape b.pages) (sym reading_only) later
 
     ticks_unread : Rose old.read_faults new.read_faults → Rose old.flash_faults new.flash_faults → AtMostOneCall old new → Ticks old new (sight_of d) (sight_of (with_index d x')) (Fault false)
     ticks_unread rose flash calls =
@@ -273,7 +281,7 @@ module _ (d : Parts) (old new : BoardState) (m : MayTick d old) where
             tt,
           );
           cuts_stopped = λ e. absurd (false_true e);
-          idle_rests = λ e. absurd (fault_idle false e);
+          idle_rests = λ e. absurd (stopped_idle false e);
           unmade = λ _. (refl, refl);
           grows = inl refl;
           rest = refl;
@@ -281,7 +289,7 @@ module _ (d : Parts) (old new : BoardState) (m : MayTick d old) where
           unread = λ _. rose;
           up = omega (arith, rose, counted);
           flash_up = λ few. omega (arith, flash, few);
-          worked = λ e. absurd (fault_worked false e);
+          worked = λ e. absurd (stopped_worked false e);
           stop = λ e. absurd (false_true e);
           no_stop = λ _. refl;
           installs = omega arith;
@@ -298,7 +306,51 @@ module _ (d : Parts) (old new : BoardState) (m : MayTick d old) where
           agrees = λ _. agrees_still;
           moves = λ _. subst T (sym same_drive) (record { fresh = record { stays = λ e. e; begun = inl refl }; blocks = record { used = refl; open_same = refl } });
           number = λ _. (let e = ap (λ (e : Parts). e.log.root.number) same_drive in omega (arith, e));
-          lowers = λ e. absurd (fault_worked false e);
-          idle = λ e. absurd (fault_idle false e);
+          lowers = λ e. absurd (stopped_worked false e);
+          idle = λ e. absurd (stopped_idle false e);
           busy = λ idle. absurd (busy idle);
         }
+
+  -- ---- an erase
+
+  pub erase_advances : (d' : Parts) → ErasesOne d.pool old d'.pool new → d' ≡ record d { pool = d'.pool } → IsShared d.pool.shape d.pool.states → IsReady new d.pool.shape
+      → ((b : ℕ) → IsOwned d.pool b → slice_get d'.pool.states b ≡ slice_get d.pool.states b) → PoolOnFlash d'.pool new.pages → Advances d d' old new Worked
+  erase_advances d' one rest shared ready owned fits = record {
+    ticks = step_ticks d d' old new m.agrees one rest shared ready owned fits m.none;
+    stops = ap (λ (e : Parts). e.stopped) rest ∙ m.unstopped;
+    none = ap (λ (e : Parts). e.log.pending) rest ∙ m.none;
+    agrees = λ _. step_agrees d d' old new m.agrees one rest shared ready owned fits;
+    moves = λ _. step_stays d d' old new (inl one) rest;
+    number = λ _. (let e = ap (λ (e : Parts). e.log.root.number) rest in omega (arith, e));
+    lowers = λ _. step_lowers d d' old new m.agrees one rest shared ready owned fits;
+    idle = λ e. absurd (worked_idle e);
+    busy = λ idle. absurd (busy_free d old m.agrees shared one.block one.lowest.here idle);
+  }
+
+  pub idle_advances : (d' : Parts) → ErasesNone d.pool old d'.pool new → d' ≡ record d { pool = d'.pool } → has_no_merge (index_of d) ≡ true → (length (taken_by d.schedule.freeze) == 0) ≡ true → Advances d d' old new Idle
+  idle_advances d' none rest merged frozen =
+      let same = kept_drive d d' old new none rest in
+      record {
+        ticks = ticks_nothing d old new d' Idle same none.same m.none refl idle_fine;
+        stops = ap (λ (e : Parts). e.stopped) same ∙ m.unstopped;
+        none = ap (λ (e : Parts). e.log.pending) same ∙ m.none;
+        agrees = λ _. subst (λ (b : BoardState). DriveOnFlash d' b.shape b.pages) (sym none.same) (subst (λ e. DriveOnFlash e old.shape old.pages) (sym same) m.agrees);
+        moves = λ _. stays_same d d' same;
+        number = λ _. (let e = ap (λ (e : Parts). e.log.root.number) same in omega (arith, e));
+        lowers = λ e. absurd (worked_idle (sym e));
+        idle = λ _. (record { no_merge = merged; no_freeze = none_there (taken_by d.schedule.freeze) (eqb-true (length (taken_by d.schedule.freeze)) 0 frozen); none_free = none.none_free }, same);
+        busy = λ _. refl;
+      }
+
+  pub erase_failed : (d' : Parts) → FailsToErase d.pool old new → d' ≡ record d { stopped = true } → IsShared d.pool.shape d.pool.states → Advances d d' old new (Fault true)
+  erase_failed d' failed rest shared = record {
+    ticks = ticks_failed d old new m.agrees failed.block failed.lowest.here shared d' failed.failed m.none;
+    stops = ap (λ (e : Parts). e.stopped) rest;
+    none = ap (λ (e : Parts). e.log.pending) rest ∙ m.none;
+    agrees = λ e. absurd (true_false e);
+    moves = λ e. absurd (true_false e);
+    number = λ e. absurd (true_false e);
+    lowers = λ e. absurd (stopped_worked true e);
+    idle = λ e. absurd (stopped_idle true e);
+    busy = λ idle. absurd (busy_free d old m.agrees shared failed.block failed.lowest.here idle);
+  }

@@ -46,4 +46,5 @@ pub mod Sights
 pub mod Staying
 pub mod Steadying
 pub mod Indexing
+pub mod Remaining
 pub mod Advancing

@@ -84,6 +84,7 @@ impl<A: Region> Drive<A> {
         requires freezes { (length (taken_by self.old.schedule.freeze) == 0) ≡ false }
         ensures { Advances self.old self.new (B.state board.old) (B.state board.new) result }
     {
+        self.pool.known();
         match self.schedule.freeze_step(
             board,
             &mut self.pool,
