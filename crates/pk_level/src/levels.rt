@@ -1,6 +1,7 @@
 //! The four runs.
-ghost use Rattle.std.specs.Prelude.{◌≡◌, ◌+◌, ◌-◌, ◌<◌, ◌≤◌, List, [], ◌∷◌, length, slice_get, Some, IfOk, IfErr, OnOk, OnErr};
+ghost use Rattle.std.specs.Prelude.{◌≡◌, ◌+◌, ◌-◌, ◌<◌, ◌≤◌, List, [], ◌∷◌, length, map, slice_get, Some, IsNone, IfSome, ◌↔◌, IfOk, IfErr, OnOk, OnErr};
 ghost use Rattle.pk_base.specs.Entry.{Entry as EntrySpec};
+ghost use Rattle.pk_base.specs.Merge.{next_merge};
 ghost use Rattle.pk_base.specs.Shape.{pinned as pinned_by};
 ghost use Rattle.pk_base.specs.Page.{Flash};
 ghost use Rattle.pk_nand.specs.Calls.{IsReady};
@@ -110,6 +111,21 @@ impl<A: Allocator> Levels<A> {
         ensures { result ≡ (run_of self.now level).count }
     {
         self.run(level).entries()
+    }
+
+    /// The level into which the next merge goes, for so many frozen keys. None exactly where no key is frozen.
+    pub fn next_merge(&self, frozen: u32) -> Option<u8>
+        ensures target { result ≡ next_merge self.now.shape frozen (map (λ r. r.count) self.now.runs) }
+        ensures none { IsNone result ↔ (frozen ≡ 0) }
+        ensures level { IfSome result (λ t. 1 ≤ t × t ≤ 4) }
+    {
+        let counts = [
+            self.first.entries(),
+            self.second.entries(),
+            self.third.entries(),
+            self.fourth.entries(),
+        ];
+        self.plan.next_merge(frozen, &counts)
     }
 
     /// Puts a run in place of the one of its level, which is handed back. All its pages have frames where those of the level have.
