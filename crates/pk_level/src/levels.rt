@@ -1,5 +1,6 @@
 //! The four runs.
 ghost use Rattle.std.specs.Prelude.{◌≡◌, ◌+◌, ◌-◌, ◌<◌, ◌≤◌, List, [], ◌∷◌, length, map, slice_get, Some, IsNone, IfSome, ◌↔◌, IfOk, IfErr, OnOk, OnErr};
+ghost use Rattle.std.specs.List.{AllByRecursion};
 ghost use Rattle.pk_base.specs.Entry.{Entry as EntrySpec};
 ghost use Rattle.pk_base.specs.Merge.{next_merge};
 ghost use Rattle.pk_base.specs.Shape.{pinned as pinned_by};
@@ -7,6 +8,7 @@ ghost use Rattle.pk_base.specs.Page.{Flash};
 ghost use Rattle.pk_nand.specs.Calls.{IsReady};
 ghost use Rattle.pk_nand.specs.declared.types.Fault.TheVariants.{Reading};
 ghost use Rattle.pk_pin.specs.Frames.{Frames};
+ghost use Rattle.pk_run.specs.Kept.{IsKept};
 ghost use Rattle.pk_run.specs.Search.{IsFound};
 ghost use Rattle.pk_level.specs.Levels as spec;
 ghost use Rattle.pk_level.specs.Levels.{IsLevels, IsOfLevel, RunsOnFlash, ReadsUpTo, ReadFailsWithin, no_runs, run_of, with_run, all_entries, reads_through};
@@ -67,12 +69,16 @@ impl<A: Allocator + Clone> Levels<A> {
 }
 
 impl<A: Allocator> Levels<A> {
-    /// All levels keep this. No look-up reads more often than there are levels without frames.
+    /// All levels keep this, and each run keeps within its level. No look-up reads more often than there are levels without frames.
     pub fn known(&self)
         ensures levels { IsLevels self.now }
+        ensures runs { AllByRecursion IsKept self.now.runs }
         ensures few { reads_through self.now.runs + self.now.pinned ≤ 4 }
     {
-        let _ = &self.first;
+        self.first.known();
+        self.second.known();
+        self.third.known();
+        self.fourth.known();
     }
 
     /// How many levels have frames for all their pages: the upper ones.

@@ -1,3 +1,4 @@
 pub mod Carried
 pub mod Grown
 pub mod Running
+pub mod Entries
