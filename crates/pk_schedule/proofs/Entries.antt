@@ -3,6 +3,7 @@ use Rattle.std.proofs.Common.{◌≡◌, ◌⊎◌, inl, inr, ℕ, zero, suc, �
 use Rattle.std.specs.Prelude.{slice_index, slice_index_or}
 use Rattle.std.specs.List.{AllByRecursion}
 use Rattle.std.specs.FinMap.Entries.{find, is_sorted, same_entries}
+use Rattle.std.proofs.lemmas.List.{reverse-append}
 use Rattle.pk_base.specs.Key.{key_cmp}
 use Rattle.pk_base.specs.Shape.{Shape}
 use Rattle.pk_base.specs.Entry.{Entry}
@@ -23,7 +24,7 @@ use Rattle.pk_model.specs.Tree.{run_at}
 use Rattle.pk_model.proofs.MapLemmas.{key_total, key_antisymm}
 use Rattle.pk_model.proofs.Lookups.{find-firsts, firsts_sorted}
 use Rattle.pk_model.proofs.Merges.{first_some, find-append_lists}
-use Rattle.pk_model.proofs.Entries.{epoch_all, runs_all, all_reverse, all_firsts, journal_are, meta_are}
+use Rattle.pk_model.proofs.Entries.{epoch_all, runs_all, all_put, all_append, journal_are, meta_are}
 use Rattle.pk_model.proofs.StrangePages.{bind_ok}
 use Rattle.pk_steps.specs.Merging.{source_of, output_of as whole_output}
 use Rattle.pk_steps.proofs.FourRuns.{pieces_of}
@@ -72,6 +73,15 @@ count_at (r ∷ rs) zero d inside = refl
 count_at (r ∷ rs) (suc i) d inside = count_at rs i d (omega (arith, inside))
 
 -- ---- each can be written
+
+module _ (P : Entry → Type 0) where
+  all_reverse : (es : List Entry) → AllByRecursion P es → AllByRecursion P (reverse es)
+  all_reverse [] all = tt
+  all_reverse (e ∷ es) all = subst (AllByRecursion P) (sym (reverse-append (e ∷ []) es)) (all_append P (reverse es) (e ∷ []) (all_reverse es all.1) (all.0, tt))
+
+  all_firsts : (es : List Entry) → AllByRecursion P es → AllByRecursion P (firsts es)
+  all_firsts [] all = tt
+  all_firsts (e ∷ es) all = all_put P e.0 e.1 (firsts es) all.0 (all_firsts es all.1)
 
 module _ (shape : Shape) (flash : Flash) (root : Root) (found : Found) (is : found_under shape (page_at flash) root ≡ Ok found) where
   abbrev Are : List Entry → Type 0
