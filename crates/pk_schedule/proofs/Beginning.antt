@@ -26,7 +26,7 @@ use Rattle.pk_work.specs.Backlog.{Backlog, due_level}
 use Rattle.pk_work.specs.Steps.{MovesMerge}
 use Rattle.pk_work.specs.Work.{work, merging as merging_left}
 use Rattle.pk_work.proofs.Paging.{few_pages}
-use Rattle.pk_work.proofs.Lowering.{merge_moves}
+use Rattle.pk_work.proofs.Lowering.{moves as merge_moves}
 use Rattle.pk_run.specs.Kept.{Kept, RunOnFlash, IsKept, empty, most_pages, most_blocks}
 use Rattle.pk_level.specs.Levels.{Levels, IsLevels, RunsOnFlash, HaveBlocks, run_of}
 use Rattle.pk_level.specs.Arenas.{HasArena}
@@ -66,11 +66,11 @@ use Rattle.pk_schedule.proofs.Entries.{output_same, frozen_many, frozen_rising, 
 use Rattle.pk_schedule.proofs.Leveled.{Fit, run_fits, run_blocks_in, frames_left}
 
 -- the source, for a buffer and runs in any memory
-abbrev pub source_in : {X : Type 0} → Index → ℕ → Source X
-source_in x level = if level == 1 then Frozen (behind x.log.frozen) else Run (behind (run_of x.levels (level - 1)))
+abbrev pub source_in : (X : Type 0) → Index → ℕ → Source X
+source_in X x level = if level == 1 then Frozen (behind x.log.frozen) else Run (behind (run_of x.levels (level - 1)))
 
-pub in_shows : {X : Type 0} (x : Index) (level : ℕ) → ShowsSame (source_in {X = X} x level) (source_at x level)
-in_shows x level = elim (level == 1) as (λ b. ShowsSame (if b then Frozen (behind x.log.frozen) else Run (behind (run_of x.levels (level - 1)))) (if b then Frozen (behind x.log.frozen) else Run (behind (run_of x.levels (level - 1))))) [ true ↦ refl | false ↦ refl ]
+pub in_shows : (X : Type 0) (x : Index) (level : ℕ) → ShowsSame (source_in X x level) (source_at x level)
+in_shows X x level = elim (level == 1) as (λ b. ShowsSame {X = X} {Y = Unit {0}} (if b then Frozen (behind x.log.frozen) else Run (behind (run_of x.levels (level - 1)))) (if b then Frozen (behind x.log.frozen) else Run (behind (run_of x.levels (level - 1))))) [ true ↦ refl | false ↦ refl ]
 
 -- ---- what the choice of a level says
 
@@ -209,7 +209,23 @@ module _ (x : Index) (frames : ℕ) (old : BoardState) (top : ℕ × Root) (foun
       let free = frames_left x.log.shape frames x.levels x.arena level levels_are kept stands.levels_shape stands.levels_pinned has_arena is_level (subst (λ (n : ℕ). nat_le level n ≡ true) stands.pins_are pins) in
       le_trans (few_pages x.log.shape level (length (merged level es fs)) is_shape output_few) free
 
-  module _ {X : Type 0} where
+  rising_of : (b : Bool) (f : Table) (gs : List Entry) → T (is_sorted key_cmp f.entries) → T (is_sorted key_cmp gs) → T (is_sorted key_cmp (if b then f.entries else gs))
+  rising_of true f gs one two = one
+  rising_of false f gs one two = two
+
+  each_of : (b : Bool) (f : Table) (gs : List Entry) → AllByRecursion (IsEntry x.log.shape) f.entries → AllByRecursion (IsEntry x.log.shape) gs → AllByRecursion (IsEntry x.log.shape) (if b then f.entries else gs)
+  each_of true f gs one two = one
+  each_of false f gs one two = two
+
+  above_shape : (level == 1) ≡ false → (run_of x.levels (level - 1)).shape ≡ x.log.shape
+  above_shape e = (fit (level - 1) (more level low e) (let h = high in omega (arith, h))).same_shape
+    where
+      more : (l : ℕ) → 1 ≤ l → (l == 1) ≡ false → 1 ≤ l - 1
+      more zero h e = absurd (omega (arith, h))
+      more (suc zero) h e = absurd (let z : ⊥ = cc in z)
+      more (suc (suc l)) h e = omega arith
+
+  module _ (X : Type 0) where
     has_of : (b : Bool) (f : Table) (r : Kept) (gs : List Entry) → RunOnFlash r old.pages x.arena gs → Has {X = X} (if b then Frozen (behind f) else Run (behind r)) old.pages x.arena (if b then f.entries else gs)
     has_of true f r gs s = refl
     has_of false f r gs s = s
@@ -222,23 +238,7 @@ module _ (x : Index) (frames : ℕ) (old : BoardState) (top : ℕ × Root) (foun
     meta_of true f r all = λ i y got. absurd (let z : ⊥ = cc in z)
     meta_of false f r all = all
 
-    rising_of : (b : Bool) (f : Table) (gs : List Entry) → T (is_sorted key_cmp f.entries) → T (is_sorted key_cmp gs) → T (is_sorted key_cmp (if b then f.entries else gs))
-    rising_of true f gs one two = one
-    rising_of false f gs one two = two
-
-    each_of : (b : Bool) (f : Table) (gs : List Entry) → AllByRecursion (IsEntry x.log.shape) f.entries → AllByRecursion (IsEntry x.log.shape) gs → AllByRecursion (IsEntry x.log.shape) (if b then f.entries else gs)
-    each_of true f gs one two = one
-    each_of false f gs one two = two
-
-    above_shape : (level == 1) ≡ false → (run_of x.levels (level - 1)).shape ≡ x.log.shape
-    above_shape e = (fit (level - 1) (more level low e) (let h = high in omega (arith, h))).same_shape
-      where
-        more : (l : ℕ) → 1 ≤ l → (l == 1) ≡ false → 1 ≤ l - 1
-        more zero h e = absurd (omega (arith, h))
-        more (suc zero) h e = absurd (let z : ⊥ = cc in z)
-        more (suc (suc l)) h e = omega arith
-
-    pub can_begin : CanBegin (source_in {X = X} x level) (run_of x.levels level) (nat_le level x.schedule.job.pinned) x.log.shape level x.pool old.pages x.arena es fs
+    pub can_begin : CanBegin (source_in X x level) (run_of x.levels level) (nat_le level x.schedule.job.pinned) x.log.shape level x.pool old.pages x.arena es fs
     can_begin = record {
       has = has_of (level == 1) x.log.frozen (run_of x.levels (level - 1)) (run_at found.runs (level - 1)) above_is;
       stands = run_is level low high;
@@ -258,3 +258,117 @@ module _ (x : Index) (frames : ℕ) (old : BoardState) (top : ℕ × Root) (foun
       room = quota;
       frames = pin;
     }
+
+  -- ---- the index behind its beginning
+
+  abbrev pub job : Job
+  job = begun x.schedule.job.merger.shape x.schedule.job level
+
+  abbrev pub begun_index : Index
+  begun_index = record x { schedule = record x.schedule { job = job; phase = Running level } }
+
+  out_shape : (output_of job).shape ≡ x.log.shape
+  out_shape = is_idle.merger
+
+  into_then : MergesInto begun_index top.1 found level
+  into_then = record {
+    due = due;
+    target = refl;
+    has_output = refl;
+    output_shape = out_shape;
+    output_level = refl;
+    held = record { different = refl; owned = λ b is. absurd is; unnamed = λ b is named. is };
+    spares = ap (λ (ss : List (Option Kept)). without ss level) is_idle.spares;
+    merger_shape = is_idle.merger;
+  }
+
+  undone : IsDone (source_at x level) (run_of x.levels level) job.merger → ⊥
+  undone d = let some = source_some in let none = d.0.0 in omega (arith, some, none)
+
+  pages_few : pages_in (source_at x level) ≤ cap x.log.shape (level - 1)
+  pages_few = of_pages (level == 1) refl
+    where
+      of_pages : (b : Bool) → (level == 1) ≡ b → pages_in {X = Unit {0}} (if b then Frozen (behind x.log.frozen) else Run (behind (run_of x.levels (level - 1)))) ≤ cap x.log.shape (level - 1)
+      of_pages true e = omega arith
+      of_pages false e = (fit (level - 1) (more level low e) (let h = high in omega (arith, h))).pages
+        where
+          more : (l : ℕ) → 1 ≤ l → (l == 1) ≡ false → 1 ≤ l - 1
+          more zero h e = absurd (omega (arith, h))
+          more (suc zero) h e = absurd (let z : ⊥ = cc in z)
+          more (suc (suc l)) h e = omega arith
+
+  module _ (X : Type 0)
+      (begins : CanBegin (source_in X x level) (run_of x.levels level) (pins job) x.schedule.job.merger.shape level x.pool old.pages x.arena es fs → JobRuns (source_in X x level) (run_of x.levels level) job x.pool old.pages x.arena es fs)
+      (within : IsWithin (source_in X x level) (run_of x.levels level) (output_of job) job.merger) (ready : IsReady old x.log.shape) where
+    same : Shown (source_in X x level) (source_at x level)
+    same = shown (source_in X x level) (source_at x level) (in_shows X x level)
+
+    job_runs : JobRuns (source_at x level) (run_of x.levels level) job x.pool old.pages x.arena es fs
+    job_runs = job_carried (source_in X x level) (source_at x level) same (run_of x.levels level) job x.pool old.pages x.arena es fs
+        (begins (subst (λ (s : Shape). CanBegin (source_in X x level) (run_of x.levels level) (pins job) s level x.pool old.pages x.arena es fs) (sym is_idle.merger) (can_begin X)))
+
+    runs_then : MergeRuns begun_index old.pages top.1 found level
+    runs_then = record { into = into_then; runs = job_runs; undone = undone }
+
+    index_then : IndexOnFlash begun_index frames old.pages top found
+    index_then = record {
+      logs = stands.logs;
+      pool_shape = stands.pool_shape;
+      pool_fits = stands.pool_fits;
+      levels_shape = stands.levels_shape;
+      levels_pinned = stands.levels_pinned;
+      stand = stands.stand;
+      run_blocks = stands.run_blocks;
+      arena_is = has_arena;
+      journal = stands.journal;
+      journal_few = stands.journal_few;
+      runs = stands.runs;
+      runs_few = (let few = stands.runs_few in let zero_blocks = no_blocks in omega (arith, few, zero_blocks));
+      pins_are = stands.pins_are;
+      merge = runs_then;
+      freeze = record { taken = stands.freeze.taken; different = stands.freeze.different };
+    }
+
+    pub begin_moves : IndexMoves x frames old found m begun_index old
+    begin_moves = record {
+      then_top = top;
+      then_found = found;
+      stands = index_then;
+      same_shape = refl;
+      none_pending = may.none_pending;
+      under = may.under;
+      same_places = refl;
+      values = record { size = refl; owned = λ b is. is; no_more = λ b is. is; as_many = refl; pages = λ k is. refl };
+      numbers = omega arith;
+      grows = inl refl;
+      cuts = Reaches-none x.log.shape old (CrashFinds x.log.shape background old.pages m) ready.shape_is old refl (refl, under_reads x.log.shape old.pages [] top found m may.under);
+    }
+
+    -- ---- what is left
+
+    whole : steps_left (source_at x level) (run_of x.levels level) (output_of job) job.merger (most_pages (output_of job)) (most_blocks (output_of job)) + 7 ≤ whole_merge x.log.shape level
+    whole =
+        let own : steps_left (source_in X x level) (run_of x.levels level) (output_of job) job.merger (most_pages (output_of job)) (most_blocks (output_of job)) + 7 ≤ whole_merge (output_of job).shape level
+        = within (subst (λ (n : ℕ). n ≤ cap (output_of job).shape (level - 1)) same.pages (subst (λ (s : Shape). pages_in (source_at x level) ≤ cap s (level - 1)) (sym out_shape) pages_few))
+            (subst (λ (s : Shape). length (run_of x.levels level).firsts ≤ cap s level) (sym out_shape) (fit level low high).pages) in
+        let left = left_same (source_in X x level) (source_at x level) same (run_of x.levels level) (output_of job) job.merger (most_pages (output_of job)) (most_blocks (output_of job)) in
+        let most = subst (λ (s : Shape). steps_left (source_in X x level) (run_of x.levels level) (output_of job) job.merger (most_pages (output_of job)) (most_blocks (output_of job)) + 7 ≤ whole_merge s level) out_shape own in
+        omega (arith, left, most)
+
+    begun_left : ℕ
+    begun_left = steps_left (source_at x level) (run_of x.levels level) (output_of job) job.merger (most_pages (output_of job)) (most_blocks (output_of job)) + 1 + install_steps x.log.next
+
+    not_begun : left_of (whole_merge x.log.shape level) (merge_left x.schedule.phase x) ≡ whole_merge x.log.shape level
+    not_begun = ap (λ (p : Phase). left_of (whole_merge x.log.shape level) (merge_left p x)) idle
+
+    pub begin_lowers : MovesMerge x.log.shape (backlog_of x) (backlog_of begun_index)
+    begin_lowers = record {
+      level = level;
+      left = steps_left (source_at x level) (run_of x.levels level) (output_of job) job.merger (most_pages (output_of job)) (most_blocks (output_of job)) + 1 + install_steps x.log.next;
+      due = next_now;
+      moved = refl;
+      lowers = record { none_ready = omega arith; less = (let most = whole in let few = few_steps (erases_next x.log.next) in let e = not_begun in omega (arith, most, few, e)) };
+    }
+
+    pub begin_less : LessIsLeft x begun_index
+    begin_less = let l = merge_moves x.log.shape (backlog_of x) (backlog_of begun_index) begin_lowers in record { work = l.0; merging = l.1 }

@@ -220,8 +220,8 @@ module _ (x : Index) (frames : ℕ) (old : BoardState) (top : ℕ × Root) (foun
         (same_frames : length arena.used ≡ length x.arena.used) (leases : LeavesLeases out x.arena (output_of job) arena)
         (others : LeavesRuns x.pool out old.pages x.arena new.pages arena)
         (runs : JobRuns (source_at x level) (run_of x.levels level) job pool new.pages arena (entries_at x found level) (run_at found.runs level)) where
-      abbrev then : Index
-      then = record x { arena = arena; pool = pool; schedule = record x.schedule { job = job; phase = phase } }
+      abbrev stepped : Index
+      stepped = record x { arena = arena; pool = pool; schedule = record x.schedule { job = job; phase = phase } }
 
       pool_shape : pool.shape ≡ x.log.shape
       pool_shape = grew_shape x.pool out pool (output_of job) grew ∙ stands.pool_shape
@@ -235,7 +235,7 @@ module _ (x : Index) (frames : ℕ) (old : BoardState) (top : ℕ × Root) (foun
         | inr spare ↦ spare_unnamed b spare is
       ]
 
-      pub into_then : MergesInto then top.1 found level
+      pub into_then : MergesInto stepped top.1 found level
       into_then = record {
         due = into.due;
         target = ap (λ (j : Job). j.target) is_job ∙ into.target;
@@ -254,7 +254,7 @@ module _ (x : Index) (frames : ℕ) (old : BoardState) (top : ℕ × Root) (foun
       kept : (o : Owner) (b : ℕ) → slice_get x.pool.states b ≡ Some (Owned o) → slice_get pool.states b ≡ Some (Owned o)
       kept o b owned = grew_kept x.pool out pool (output_of job) grew b o owned
 
-      pub index_then : MergeStands phase then new.pages top.1 found → IndexOnFlash then frames new.pages top found
+      pub index_then : MergeStands phase stepped new.pages top.1 found → IndexOnFlash stepped frames new.pages top found
       index_then merge = record {
         logs = logs_elsewhere x.log old.pages new.pages top found (named_same new.pages end) stands.logs;
         pool_shape = pool_shape;
@@ -282,7 +282,7 @@ module _ (x : Index) (frames : ℕ) (old : BoardState) (top : ℕ × Root) (foun
         };
       }
 
-      pub moves_then : MergeStands phase then new.pages top.1 found → IndexMoves x frames old found m then new
+      pub moves_then : MergeStands phase stepped new.pages top.1 found → IndexMoves x frames old found m stepped new
       moves_then merge = record {
         then_top = top;
         then_found = found;
