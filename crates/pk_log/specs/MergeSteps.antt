@@ -54,6 +54,10 @@ pub record MayMerge (log : LogState) (flash : Flash) (top : ℕ × Root) (found 
   pub few : count ≤ room log.shape level
   pub number : log.root.number < 18446744073709551615
 
+-- of a log only the root, what its installer does next, and the frozen buffer may differ
+abbrev pub KeepsActive : LogState → LogState → Type 0
+KeepsActive log log' = log' ≡ record log { root = log'.root; next = log'.next; frozen = log'.frozen }
+
 -- a merge into level 1 empties the frozen buffer
 abbrev pub frozen_after : ℕ → Table → Table
 frozen_after level frozen = if level == 1 then record frozen { entries = [] } else frozen

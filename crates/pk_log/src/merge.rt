@@ -6,8 +6,9 @@ ghost use Rattle.pk_nand.specs.Effects.{AtMostOneCall};
 ghost use Rattle.pk_rootfmt.specs.Root.{Root as RootValue};
 ghost use Rattle.pk_root.specs.Installing.{erases_next};
 ghost use Rattle.pk_model.specs.Found.{Found};
+ghost use Rattle.pk_model.specs.Growth.{Grows};
 ghost use Rattle.pk_model.specs.Steps.{Step};
-ghost use Rattle.pk_log.specs.MergeSteps.{MayPrepare, LogPrepares, LogPrepareBreaks, MayMerge, LogMerges, LogMergeBreaks, frozen_after};
+ghost use Rattle.pk_log.specs.MergeSteps.{MayPrepare, LogPrepares, LogPrepareBreaks, MayMerge, LogMerges, LogMergeBreaks, KeepsActive, frozen_after};
 
 use crate::log::Log;
 use pk_buf::Buffer;
@@ -44,7 +45,8 @@ impl<A: Region> Log<A> {
             (LogPrepareBreaks self.old (B.state board.old) (B.state board.new))
             self.old.shape 0 (B.state board.old) (B.state board.new) result }
         ensures calls { AtMostOneCall (B.state board.old) (B.state board.new) }
-        ensures same_shape { self.new.shape ≡ self.old.shape }
+        ensures grows { Grows self.old.shape (B.state board.old).pages (B.state board.new).pages }
+        ensures same_log { self.new ≡ record self.old { next = self.new.next } }
     {
         prepare_root(board, self.root.shape(), &mut self.installer)
     }
@@ -72,7 +74,8 @@ impl<A: Region> Log<A> {
             (LogMergeBreaks self.old (B.state board.old) level count taken.now (B.state board.new))
             self.old.shape 1 (B.state board.old) (B.state board.new) result }
         ensures calls { AtMostOneCall (B.state board.old) (B.state board.new) }
-        ensures same_shape { self.new.shape ≡ self.old.shape }
+        ensures grows { Grows self.old.shape (B.state board.old).pages (B.state board.new).pages }
+        ensures keeps { KeepsActive self.old self.new }
         ensures buffer { length buf.new ≡ length buf.old }
     {
         match install_merge(
