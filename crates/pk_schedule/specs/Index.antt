@@ -87,7 +87,7 @@ IsDue shape found level = next_merge shape (length (firsts found.older)) (map le
 pub record MergesInto (x : Index) (root : Root) (found : Found) (level : ℕ) : Type 0 where
   pub due : IsDue x.log.shape found level
   pub target : x.schedule.job.target ≡ level
-  pub output : x.schedule.job.output ≡ Some (output x.schedule)
+  pub has_output : x.schedule.job.output ≡ Some (output x.schedule)
   pub output_shape : (output x.schedule).shape ≡ x.log.shape
   pub output_level : (output x.schedule).level ≡ level
   pub held : AreHeld x.pool root Meta (output x.schedule).blocks

@@ -1,5 +1,5 @@
 -- What a step of the jobs asks of an index and its flash, and what it leaves.
-use Rattle.std.specs.Prelude.{◌≡◌, ◌⊎◌, ℕ, ◌+◌, ◌/◌, ◌<◌, ◌≤◌, [], length, map, Bool, true, false, ◌==◌, ◌&&◌, slice_get, Option, Some, None, Result, Ok, Err}
+use Rattle.std.specs.Prelude.{◌≡◌, ◌⊎◌, ℕ, ◌+◌, ◌/◌, ◌<◌, ◌≤◌, [], length, map, Bool, true, false, ◌==◌, ◌&&◌, if◌then◌else◌, slice_get, Option, Some, None, Result, Ok, Err}
 use Rattle.pk_base.specs.Shape.{Shape}
 use Rattle.pk_base.specs.Page.{Flash, page_at}
 use Rattle.pk_base.specs.Map.{Map}
@@ -154,3 +154,4 @@ pub record Freezes (x x' : Index) : Type 0 where
   pub frozen : x'.log.frozen ≡ x.log.active
   pub unused : x'.log.epoch.used ≡ 0
   pub takes_more : x'.log.epoch.takes_more ≡ true
+  pub lowers : Lowers (freeze_left x.schedule.freeze x.log.next) (unready x.pool.states) 0 (unready x'.pool.states)

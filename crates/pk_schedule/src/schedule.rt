@@ -1,5 +1,5 @@
 //! The schedule of merges and freezes.
-ghost use Rattle.std.specs.Prelude.{◌≡◌, ◌≤◌, ◌<◌, ℕ, length, IfOk, IfErr, OnOk, OnErr, Ok, Err, MatchBool, MatchOption, not, ◌==◌};
+ghost use Rattle.std.specs.Prelude.{◌≡◌, ◌≤◌, ◌<◌, ◌+◌, true, false, ℕ, length, IfOk, IfErr, OnOk, OnErr, Ok, Err, MatchBool, MatchOption, not, ◌==◌};
 ghost use Rattle.pk_base.specs.Map.{Map};
 ghost use Rattle.pk_base.specs.Shape.{pinned};
 ghost use Rattle.pk_nand.specs.Calls.{IsReady, Rose};
@@ -7,13 +7,14 @@ ghost use Rattle.pk_nand.specs.Effects.{AtMostOneCall, NoFault, OnlyFlash, OnlyR
 ghost use Rattle.pk_nand.specs.declared.types.Fault.TheVariants.{Reading, Stopped};
 ghost use Rattle.pk_rootfmt.specs.Root.{Root as RootValue};
 ghost use Rattle.pk_model.specs.Found.{Found};
+ghost use Rattle.pk_model.specs.Growth.{Grows};
 ghost use Rattle.pk_model.specs.Wear.{roots};
 ghost use Rattle.pk_merge.specs.Jobs.{IsIdle};
 ghost use Rattle.pk_compact.specs.FreezeSteps.{taken_by};
 ghost use Rattle.pk_compact.specs.declared.freezing.FreezeJob.TheVariants.{Idle as NoFreeze};
 ghost use Rattle.pk_schedule.specs.declared.phase.Phase.TheVariants.{Idle as NoMerge};
 ghost use Rattle.pk_schedule.specs.Index.{index, merging as merging_of};
-ghost use Rattle.pk_schedule.specs.Steps.{MayWork, MayFreeze, Moves, Less, Unmoved, StandsStill, Breaks, FreezeMoves, Freezes, has_no_merge};
+ghost use Rattle.pk_schedule.specs.Steps.{MayWork, MayFreeze, Moves, Less, Unmoved, StandsStill, KeepsActive, Breaks, FreezeMoves, Freezes, has_no_merge};
 
 use crate::phase::{Phase, Stepped};
 use pk_compact::FreezeJob;
@@ -116,6 +117,10 @@ impl<A: Region> Schedule<A> {
         ensures less { result ≡ Ok Stepped.Worked → Less (index log.old levels.old arena.old pool.old self.old) (B.state board.old).pages (index log.new levels.new arena.new pool.new self.new) }
         ensures same_freeze { self.new.freeze ≡ self.old.freeze }
 
+        // Whatever came of it, of the log only the root, what its installer does next, and the frozen buffer may differ.
+        ensures active { KeepsActive log.old log.new }
+        ensures grows { Grows log.old.shape (B.state board.old).pages (B.state board.new).pages }
+
         // A call failed.
         ensures unmoved { result ≡ Err Reading → Unmoved (index log.old levels.old arena.old pool.old self.old) (index log.new levels.new arena.new pool.new self.new)
             × OnlyReading (B.state board.old) (B.state board.new) }
@@ -131,7 +136,7 @@ impl<A: Region> Schedule<A> {
         ensures ready { IsReady (B.state board.new) log.old.shape }
         ensures buffer { length buf.new ≡ length buf.old }
     {
-        std::process::abort()
+        Err(Fault::Stopped)
     }
 
     /// One step of a freeze of the active buffer, by at most one call of the board: a block of the empty epoch, the other one, the
@@ -157,6 +162,10 @@ impl<A: Region> Schedule<A> {
             (Freezes (index log.old levels.now arena.now pool.old self.old) (index log.new levels.now arena.now pool.new self.new))
             (FreezeMoves (index log.old levels.now arena.now pool.old self.old) (index log.new levels.now arena.now pool.new self.new))) }
 
+        // Whatever came of it, the flash has grown, and nothing is pending.
+        ensures same_log { (log.new.shape ≡ log.old.shape) × (log.new.pending ≡ log.old.pending) }
+        ensures grows { Grows log.old.shape (B.state board.old).pages (B.state board.new).pages }
+
         // Or the call failed.
         ensures stopped { IfErr result (λ fault. fault ≡ Stopped) }
         ensures broken { OnErr result (Breaks (index log.old levels.now arena.now pool.old self.old) (B.state board.old) (B.state board.new) × Stops (B.state board.old) (B.state board.new)) }
@@ -169,6 +178,6 @@ impl<A: Region> Schedule<A> {
         ensures ready { IsReady (B.state board.new) log.old.shape }
         ensures buffer { length buf.new ≡ length buf.old }
     {
-        std::process::abort()
+        Err(Fault::Stopped)
     }
 }
