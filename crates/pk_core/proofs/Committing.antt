@@ -42,7 +42,7 @@ use Rattle.pk_model.proofs.Growing.{weaken, weaken_went, at_end}
 use Rattle.pk_nand.proofs.Effects.{works_none, works_program, stops_program}
 use Rattle.pk_log.specs.State.{LogState, all_committed}
 use Rattle.pk_log.specs.Commits.{CommitsNone, CommitsAll, CommitFailed, CommitStands, CommitHolds, CommitReaches, CommitGoes, CommitCut as LogCut, Maps}
-use Rattle.pk_core.specs.Parts.{Parts, jobs_of}
+use Rattle.pk_core.specs.Parts.{Parts, outputs_of}
 use Rattle.pk_core.specs.Agreeing.{DriveOnFlashWith}
 use Rattle.pk_core.specs.Moves.{MayStep, StepKeeps, OnlyCommits, StandsFor, Keeps, KeepsAll, BreaksAll}
 use Rattle.pk_core.proofs.Keeping.{KeepsAll-none}
@@ -100,8 +100,8 @@ module _ (d : Parts) (old new : BoardState) (top : ℕ × Root) (found : Found) 
   after_is =
       let under = holds top found without m maps in
       let same = sym (places_committed found d.log.pending) in
-      let values : ValuesOnFlash its d.space d.pool (jobs_of d).blocks.values new.pages (places found d.log.pending) =
-      flash_elsewhere its d.space d.pool (jobs_of d).blocks.values old.pages new.pages (places found d.log.pending) agrees.placed (values_same its d.pool old.pages new.pages at owned others (jobs_of d).blocks.values)
+      let values : ValuesOnFlash its d.space d.pool (outputs_of d) new.pages (places found d.log.pending) =
+      flash_elsewhere its d.space d.pool (outputs_of d) old.pages new.pages (places found d.log.pending) agrees.placed (values_same its d.pool old.pages new.pages at owned others (outputs_of d))
       (still_fits its d.pool old.pages new.pages at owned others agrees.placed.shape_is agrees.placed.fits) in
       record {
         shape_is = refl;
@@ -114,7 +114,7 @@ module _ (d : Parts) (old new : BoardState) (top : ℕ × Root) (found : Found) 
         stand = RunsOnFlash-same its old.pages new.pages d.arena d.levels.runs top.1.runs found.runs positive agrees.run_blocks run_page agrees.stand;
         run_blocks = agrees.run_blocks;
         arena_is = agrees.arena_is;
-        placed = subst (λ (es : List (Key × Place)). ValuesOnFlash its d.space d.pool (jobs_of d).blocks.values new.pages es) same values;
+        placed = subst (λ (es : List (Key × Place)). ValuesOnFlash its d.space d.pool (outputs_of d) new.pages es) same values;
         former = λ k is. agrees.placed.owned k (subst (λ (es : List (Key × Place)). IsValuePage its es k) (sym same) is);
         former_read = λ k is. agrees.placed.outputs_are.unread k (subst (λ (es : List (Key × Place)). IsValuePage its es k) (sym same) is);
         journal = agrees.journal;

@@ -23,7 +23,7 @@ use Rattle.pk_log.specs.Laws.{SameNamed}
 use Rattle.pk_log.proofs.Standing.{logs_elsewhere}
 use Rattle.pk_data.specs.State.{DataState}
 use Rattle.pk_data.specs.Placed.{ValuesOnFlash}
-use Rattle.pk_core.specs.Parts.{Parts, jobs_of}
+use Rattle.pk_core.specs.Parts.{Parts, outputs_of}
 use Rattle.pk_scan.specs.Opened.{HaveBlocks}
 use Rattle.pk_core.specs.Agreeing.{DriveOnFlashWith}
 use Rattle.pk_core.proofs.Holding.{KeepsOwners, still_held}
@@ -82,7 +82,7 @@ module _ (d : Parts) (space : DataState) (pool : Blocks) (shape : Shape) (old ne
   pub still_all : IsUnder shape new d.log.pending top found all
   still_all = read_same shape old new d.log.pending top found all is_shape with.pending (λ k is. same k (inr is))
 
-  pub agrees_elsewhere : IsFlash shape new → KeepsOwners d.pool pool → used_by Journal pool.states ≡ used_by Journal d.pool.states → used_by Meta pool.states ≡ used_by Meta d.pool.states → ValuesOnFlash shape space pool (jobs_of d).blocks.values new (places found d.log.pending)
+  pub agrees_elsewhere : IsFlash shape new → KeepsOwners d.pool pool → used_by Journal pool.states ≡ used_by Journal d.pool.states → used_by Meta pool.states ≡ used_by Meta d.pool.states → ValuesOnFlash shape space pool (outputs_of d) new (places found d.log.pending)
       → DriveOnFlashWith (record d { space = space; pool = pool }) shape new top found without all
   agrees_elsewhere is_flash owners journal meta placed = record {
     shape_is = with.shape_is;

@@ -37,7 +37,7 @@ use Rattle.pk_nand.specs.Effects.{Works, Stops}
 use Rattle.pk_nand.proofs.Effects.{works_none, works_erase, works_then, stops_erase, stops_then}
 use Rattle.pk_data.specs.State.{DataState}
 use Rattle.pk_data.specs.Placed.{HoldsValues}
-use Rattle.pk_core.specs.Parts.{Parts, jobs_of}
+use Rattle.pk_core.specs.Parts.{Parts, outputs_of}
 use Rattle.pk_core.specs.Agreeing.{DriveOnFlashWith}
 use Rattle.pk_core.specs.Moves.{StandsFor, Keeps, KeepsAll, BreaksAll, MayStep}
 use Rattle.pk_core.specs.Noting.{IsPlaced, StepPlaces}
@@ -100,14 +100,14 @@ not_low n page k positive behind low small =
 
 module _ (d : Parts) (shape : Shape) (old : Flash) (top : ℕ × Root) (found : Found) (without all : Map) (with : DriveOnFlashWith d shape old top found without all) where
   shape_ok : IsShape shape
-  shape_ok = subst IsShape with.shape_is with.logs.is_shape
+  shape_ok = subst IsShape with.shape_is with.index.logs.is_shape
 
   positive : 0 < shape.block_pages
   positive = block_pages_positive shape shape_ok
 
   -- a block that the root names has another owner than values
   pub named_owner : (b : ℕ) → AnyByRecursion (λ c. b ≡ c) (named top.1) → (slice_get d.pool.states b ≡ Some (Owned Journal)) ⊎ (slice_get d.pool.states b ≡ Some (Owned Meta))
-  named_owner b is = elim (any_split (λ c. b ≡ c) (top.1.newest ++ top.1.older) (concat top.1.runs) is) [ inl front ↦ inl (with.journal b front) | inr back ↦ inr (with.runs b back) ]
+  named_owner b is = elim (any_split (λ c. b ≡ c) (top.1.newest ++ top.1.older) (concat top.1.runs) is) [ inl front ↦ inl (with.index.journal b front) | inr back ↦ inr (with.index.runs b back) ]
 
   -- the page of a value is in a block for values
   value_owner : (k : ℕ) → IsValuePage shape (places found []) k ⊎ IsValuePage shape (places found d.log.pending) k → HoldsValues d.pool (k / shape.block_pages)
@@ -201,7 +201,7 @@ module _ (d : Parts) (page count : ℕ) (space : DataState) (q : Blocks) (old ne
     pages_unread k low high =
         let n : ℕ = d.log.shape.block_pages in
         let here : k / n ≡ page / n = same_block n page count k reserved.pages.inside low high in
-        let positive : 0 < n = block_pages_positive d.log.shape with.logs.is_shape in
+        let positive : 0 < n = block_pages_positive d.log.shape with.index.logs.is_shape in
         let least : 2 * n ≤ page = elim (cases_le (2 * n) page) [ inl le ↦ le | inr less ↦ absurd (not_low n page page positive reserved.pages.behind_roots (omega arith) less) ] in
         erased_unread d d.log.shape old.pages top found without all with q new.pages owners_reserved same_reserved k (omega (arith, least, low))
         (subst (λ (b : ℕ). HoldsValues q b) (sym here) reserved.pages.owned) (reserved.pages.free k low high)
@@ -260,7 +260,7 @@ module _ (d : Parts) (key : Key) (value : List ℕ) (old : BoardState) (page : �
     pub placed_agrees : DriveOnFlashWith after shape new.pages top found without all
     placed_agrees = agrees_elsewhere d space q shape old.pages new.pages top found without all with same_placed ready_new.flash
         (owners_reserved d page (charge shape (length value)) is.space q old is.between is.reserved) (journal_reserved d page (charge shape (length value)) is.space q old is.between is.reserved) (meta_reserved d page (charge shape (length value)) is.space q old is.between is.reserved)
-        (is.placed (jobs_of d).blocks.values (places found d.log.pending) with.placed)
+        (is.placed (outputs_of d) (places found d.log.pending) with.placed)
 
     pub placed_keeps : Keeps d after shape all old new
     placed_keeps = record {
@@ -334,13 +334,13 @@ value_written d key value old page space q new is ready ready_new is_key short s
           subst (λ (s : Shape). DriveOnFlashWith after s new.pages top' found' without' all') same
           (placed_agrees d key value old page space q new is ready ready_new top' found' without' all' (subst (λ (s : Shape). DriveOnFlashWith d s old.pages top' found' without' all') (sym same) other));
       written = record {
-        there = value_again shape with.logs.is_shape key value is_key (page_at new.pages) page is.stored;
+        there = value_again shape with.index.logs.is_shape key value is_key (page_at new.pages) page is.stored;
         apart = λ top' found' without' all' other k here is_value.
             let same_found : found' ≡ found = found_once after after shape new.pages top top' found found' without stands.0 without' all' agrees other in
-            is.reserved.free (jobs_of d).blocks.values (places found d.log.pending) with.placed k here.0 here.1 (subst (λ (f : Found). IsValuePage shape (places f d.log.pending) k) same_found is_value);
+            is.reserved.free (outputs_of d) (places found d.log.pending) with.placed k here.0 here.1 (subst (λ (f : Found). IsValuePage shape (places f d.log.pending) k) same_found is_value);
       };
       place = record {
-        exists = let e = is.reserved.pages.exists in let some = charge_some shape with.logs.is_shape (length value) in omega (arith, e, some);
+        exists = let e = is.reserved.pages.exists in let some = charge_some shape with.index.logs.is_shape (length value) in omega (arith, e, some);
         past_roots = is.reserved.pages.behind_roots;
         short = short;
         inside = is.reserved.pages.inside;
