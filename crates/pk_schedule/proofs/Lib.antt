@@ -1,1 +1,5 @@
 pub mod Keeping
+pub mod Exchanging
+pub mod Giving
+pub mod Standing
+pub mod Freezing
