@@ -40,10 +40,11 @@ use Rattle.pk_data.specs.Entries.{span_of, span_if_some, Held, Moves}
 use Rattle.pk_data.specs.Laws.{value_blocks}
 use Rattle.pk_data.proofs.Lists.{found_page, found_place}
 use Rattle.pk_data.proofs.Unchanged.{lie_in_few}
-use Rattle.pk_core.specs.Parts.{Parts, outputs_of}
+use Rattle.pk_core.specs.Parts.{Parts, frames_of, index_of, outputs_of}
 use Rattle.pk_core.specs.Agreeing.{DriveOnFlashWith}
 use Rattle.pk_core.specs.Moves.{StandsFor}
 use Rattle.pk_core.specs.Noting.{Puts, Drops, more_keys}
+use Rattle.pk_schedule.proofs.Keeping.{index_pushed}
 use Rattle.pk_core.proofs.Writing.{named_owner, journal_or_values, meta_or_values}
 
 -- ---- numbers
@@ -178,22 +179,12 @@ module _ (d : Parts) (flash : Flash) (m : Map) (key : Key) (value : List ℕ) (p
     put_agrees logs room = record {
       shape_is = refl;
       is_flash = p.with.is_flash;
-      logs = logs;
+      index = index_pushed (index_of d) (frames_of d) flash p.top p.found e p.with.index logs;
       committed = p.with.committed;
       pending = under_now room;
-      levels_shape = p.with.levels_shape;
-      levels_pinned = p.with.levels_pinned;
-      stand = p.with.stand;
-      run_blocks = p.with.run_blocks;
-      arena_is = p.with.arena_is;
       placed = subst (λ (xs : List (Key × Place)). ValuesOnFlash d.log.shape space d.pool (outputs_of d) flash xs) (sym places_are) placed_now;
       former = p.with.former;
       former_read = p.with.former_read;
-      journal = p.with.journal;
-      journal_few = p.with.journal_few;
-      runs = p.with.runs;
-      runs_few = p.with.runs_few;
-      jobs_hold = p.with.jobs_hold;
       keys_are = keys_put key place es old d.keys (rising d d.log.shape flash p.top p.found p.without m p.with) p.old_is p.with.keys_are ∙ ap length (sym places_are);
     }
 
@@ -302,22 +293,12 @@ module _ (d : Parts) (flash : Flash) (m : Map) (key : Key) (old : Place) (p : Dr
   gone_agrees space placed_now logs room = record {
     shape_is = refl;
     is_flash = p.with.is_flash;
-    logs = logs;
+    index = index_pushed (index_of d) (frames_of d) flash p.top p.found gone p.with.index logs;
     committed = p.with.committed;
     pending = deletes d.log.shape flash d.log.pending p.top p.found m key p.with.pending room;
-    levels_shape = p.with.levels_shape;
-    levels_pinned = p.with.levels_pinned;
-    stand = p.with.stand;
-    run_blocks = p.with.run_blocks;
-    arena_is = p.with.arena_is;
     placed = subst (λ (xs : List (Key × Place)). ValuesOnFlash d.log.shape space d.pool (outputs_of d) flash xs) (sym places_gone) placed_now;
     former = p.with.former;
     former_read = p.with.former_read;
-    journal = p.with.journal;
-    journal_few = p.with.journal_few;
-    runs = p.with.runs;
-    runs_few = p.with.runs_few;
-    jobs_hold = p.with.jobs_hold;
     keys_are = gone_keys.0 ∙ ap length (sym places_gone);
   }
 

@@ -3,3 +3,4 @@ pub mod Exchanging
 pub mod Giving
 pub mod Standing
 pub mod Freezing
+pub mod Backlogs
