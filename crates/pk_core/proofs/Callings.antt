@@ -166,7 +166,7 @@ few_of_levels shape pinned (r1 ∷ r2 ∷ r3 ∷ r4 ∷ r5 ∷ rs) a b c d four 
 
 -- the levels have the shape of the log
 pub few_of_shape : (d : Parts) (old new : BoardState) → DriveOnFlash d old.shape old.pages → FewCalls (most_calls d.levels.shape) old new → FewCalls (most_calls d.log.shape) old new
-few_of_shape d old new a f = subst (λ s. FewCalls (most_calls s) old new) (a.with.levels_shape ∙ sym a.with.shape_is) f
+few_of_shape d old new a f = subst (λ s. FewCalls (most_calls s) old new) a.with.index.levels_shape f
 
 -- ---- by the opcode
 

@@ -1,7 +1,7 @@
 -- A commit of the pending entries keeps the map.
 use Rattle.std.proofs.Common.{◌≡◌, ◌≢◌, ◌⊎◌, inl, inr, ℕ, ◌+◌, ◌-◌, ◌/◌, ◌<◌, ◌≤◌, if◌then◌else◌, arith, Bool, true, false, List, [], ◌++◌, length, reverse, Some, Result, Ok, Err, refl, sym, ap, subst, ◌∙◌, append-nil}
 use Rattle.std.specs.Prelude.{slice_get, IsOk, IfErr, OnOk, OnErr}
-use Rattle.std.specs.List.{flat_map, concat}
+use Rattle.std.specs.List.{flat_map}
 use Rattle.pk_base.specs.Shape.{Shape, epoch_pages}
 use Rattle.pk_base.specs.Page.{Flash, page_at, page_in, whole}
 use Rattle.pk_base.specs.Entry.{Entry, Place}
@@ -10,7 +10,7 @@ use Rattle.pk_base.specs.Firsts.{firsts}
 use Rattle.pk_base.specs.Map.{Map}
 use Rattle.pk_base.specs.Mark.{all_posted}
 use Rattle.pk_base.proofs.ShapeLemmas.{block_pages_positive}
-use Rattle.pk_plan.specs.declared.owner.Owner.TheVariants.{Journal, Meta}
+use Rattle.pk_plan.specs.declared.owner.Owner.TheVariants.{Journal}
 use Rattle.pk_nand.specs.declared.types.Fault.{Fault}
 use Rattle.pk_nand.specs.declared.types.Fault.TheVariants.{Stopped}
 use Rattle.pk_nand.specs.BoardState.{BoardState}
@@ -19,8 +19,8 @@ use Rattle.pk_nand.proofs.Leaving.{page_at-slice_set}
 use Rattle.pk_nand.proofs.Writing.{shape_is}
 use Rattle.pk_rootfmt.specs.Root.{Root}
 use Rattle.pk_rootfmt.specs.Newest.{newest_root}
-use Rattle.pk_pool.specs.declared.state.BlockState.{BlockState}
 use Rattle.pk_pool.specs.declared.state.BlockState.TheVariants.{Owned}
+use Rattle.pk_pool.specs.Blocks.{PoolOnFlash}
 use Rattle.pk_jrn.specs.Epochs.{left_of, next_page}
 use Rattle.pk_jrn.specs.Appends.{next_bytes}
 use Rattle.pk_jrn.proofs.Appending.{page_left}
@@ -42,12 +42,13 @@ use Rattle.pk_model.proofs.Growing.{weaken, weaken_went, at_end}
 use Rattle.pk_nand.proofs.Effects.{works_none, works_program, stops_program}
 use Rattle.pk_log.specs.State.{LogState, all_committed}
 use Rattle.pk_log.specs.Commits.{CommitsNone, CommitsAll, CommitFailed, CommitStands, CommitHolds, CommitReaches, CommitGoes, CommitCut as LogCut, Maps}
-use Rattle.pk_core.specs.Parts.{Parts, jobs_of}
+use Rattle.pk_core.specs.Parts.{Parts, frames_of, index_of, outputs_of}
 use Rattle.pk_core.specs.Agreeing.{DriveOnFlashWith}
 use Rattle.pk_core.specs.Moves.{MayStep, StepKeeps, OnlyCommits, StandsFor, Keeps, KeepsAll, BreaksAll}
 use Rattle.pk_core.proofs.Keeping.{KeepsAll-none}
 use Rattle.pk_core.proofs.Standing.{same_found}
-use Rattle.pk_core.proofs.Elsewhere.{RunsOnFlash-same, values_same, still_fits}
+use Rattle.pk_schedule.proofs.Keeping.{index_committed}
+use Rattle.pk_core.proofs.Elsewhere.{values_same, still_fits}
 
 -- the drive with another log
 abbrev pub with_log : Parts → LogState → Parts
@@ -56,9 +57,6 @@ with_log d log = record d { log = log }
 -- the places are those with the pending entries
 pub places_committed : (found : Found) (es : List Entry) → places (committed found es) [] ≡ places found es
 places_committed found es = ap (λ (xs : List Entry). placed (firsts (reverse xs ++ reverse found.older ++ flat_map (λ ys. ys) found.runs))) (append-nil (found.newest ++ es))
-
-meta_not_journal : (states : List BlockState) (b : ℕ) → slice_get states b ≡ Some (Owned Meta) → slice_get states b ≡ Some (Owned Journal) → ⊥
-meta_not_journal states b one other = cc
 
 -- ---- the next page of the epoch was programmed
 
@@ -75,53 +73,39 @@ module _ (d : Parts) (old new : BoardState) (top : ℕ × Root) (found : Found) 
   others k other = ap (λ (s : BoardState). page_at s.pages k) made ∙ page_at-slice_set old.pages at k (whole bytes) other
 
   positive : 0 < its.block_pages
-  positive = block_pages_positive its agrees.logs.is_shape
+  positive = block_pages_positive its agrees.index.logs.is_shape
 
   -- it lies in a block of the newest epoch
   among : AnyByRecursion (λ b. at / its.block_pages ≡ b) top.1.newest
   among =
-      let logs = agrees.logs in
+      let logs = agrees.index.logs in
       let inside : d.log.epoch.used < epoch_pages its = subst (λ (s : Shape). d.log.epoch.used < epoch_pages s) logs.epoch_shape (page_left d.log.epoch (logs.pending_room some)) in
       let same : page_in its top.1.newest d.log.epoch.used ≡ at = λ i. page_in (sym logs.epoch_shape i) (sym logs.epoch_blocks i) d.log.epoch.used in
       subst (λ (k : ℕ). AnyByRecursion (λ b. k / its.block_pages ≡ b) top.1.newest) same
       (among_newest its top.1 (valid_blocks its (page_at old.pages) top logs.is_top) positive d.log.epoch.used inside)
 
   owned : slice_get d.pool.states (at / its.block_pages) ≡ Some (Owned Journal)
-  owned = agrees.journal (at / its.block_pages) (any_front (λ c. at / its.block_pages ≡ c) top.1.newest top.1.older among)
-
-  -- no page of a run
-  run_page : (k : ℕ) → AnyByRecursion (λ b. k / its.block_pages ≡ b) (concat top.1.runs) → page_at new.pages k ≡ page_at old.pages k
-  run_page k is = others k (λ e. meta_not_journal d.pool.states (at / its.block_pages) (subst (λ (x : ℕ). slice_get d.pool.states (x / its.block_pages) ≡ Some (Owned Meta)) e (agrees.runs (k / its.block_pages) is)) owned)
+  owned = agrees.index.journal (at / its.block_pages) (any_front (λ c. at / its.block_pages ≡ c) top.1.newest top.1.older among)
 
   maps : Maps d.log old top found without m
-  maps = record { logs = agrees.logs; without = agrees.committed; all = agrees.pending }
+  maps = record { logs = agrees.index.logs; without = agrees.committed; all = agrees.pending }
 
   after_is : DriveOnFlashWith (with_log d (all_committed d.log)) its new.pages top (committed found d.log.pending) m m
   after_is =
       let under = holds top found without m maps in
       let same = sym (places_committed found d.log.pending) in
-      let values : ValuesOnFlash its d.space d.pool (jobs_of d).blocks.values new.pages (places found d.log.pending) =
-      flash_elsewhere its d.space d.pool (jobs_of d).blocks.values old.pages new.pages (places found d.log.pending) agrees.placed (values_same its d.pool old.pages new.pages at owned others (jobs_of d).blocks.values)
-      (still_fits its d.pool old.pages new.pages at owned others agrees.placed.shape_is agrees.placed.fits) in
+      let fits : PoolOnFlash d.pool new.pages = still_fits its d.pool old.pages new.pages at owned others agrees.placed.shape_is agrees.placed.fits in
+      let values : ValuesOnFlash its d.space d.pool (outputs_of d) new.pages (places found d.log.pending) =
+      flash_elsewhere its d.space d.pool (outputs_of d) old.pages new.pages (places found d.log.pending) agrees.placed (values_same its d.pool old.pages new.pages at owned others (outputs_of d)) fits in
       record {
         shape_is = refl;
         is_flash = ready.flash;
-        logs = logs_after top found agrees.logs;
+        index = index_committed (index_of d) (frames_of d) old.pages new.pages top found agrees.index at among others fits (logs_after top found agrees.index.logs);
         committed = under;
         pending = under;
-        levels_shape = agrees.levels_shape;
-        levels_pinned = agrees.levels_pinned;
-        stand = RunsOnFlash-same its old.pages new.pages d.arena d.levels.runs top.1.runs found.runs positive agrees.run_blocks run_page agrees.stand;
-        run_blocks = agrees.run_blocks;
-        arena_is = agrees.arena_is;
-        placed = subst (λ (es : List (Key × Place)). ValuesOnFlash its d.space d.pool (jobs_of d).blocks.values new.pages es) same values;
+        placed = subst (λ (es : List (Key × Place)). ValuesOnFlash its d.space d.pool (outputs_of d) new.pages es) same values;
         former = λ k is. agrees.placed.owned k (subst (λ (es : List (Key × Place)). IsValuePage its es k) (sym same) is);
         former_read = λ k is. agrees.placed.outputs_are.unread k (subst (λ (es : List (Key × Place)). IsValuePage its es k) (sym same) is);
-        journal = agrees.journal;
-        journal_few = agrees.journal_few;
-        runs = agrees.runs;
-        runs_few = agrees.runs_few;
-        jobs_hold = agrees.jobs_hold;
         keys_are = agrees.keys_are ∙ ap length same;
       }
 
@@ -138,7 +122,7 @@ module _ (shape : Shape) (top : ℕ × Root) (found : Found) (es : List Entry) (
   )
 
 pub maps_of : (d : Parts) (board : BoardState) (top : ℕ × Root) (found : Found) (without m : Map) → DriveOnFlashWith d d.log.shape board.pages top found without m → Maps d.log board top found without m
-maps_of d board top found without m agrees = record { logs = agrees.logs; without = agrees.committed; all = agrees.pending }
+maps_of d board top found without m agrees = record { logs = agrees.index.logs; without = agrees.committed; all = agrees.pending }
 
 -- ---- the whole commit
 
@@ -214,7 +198,7 @@ pub commit_roots : (d : Parts) (shape : Shape) (m : Map) (old new : BoardState) 
 commit_roots d shape m old new before after stands reaches =
     let there = subst (λ (s : Shape). StandsFor d s old.pages m) (sym stands.with.shape_is) stands in
     let run = reaches there.top there.found there.without m (maps_of d old there.top there.found there.without m there.with) in
-    roots_of old new d.log.shape there.top before after there.with.logs.is_top
+    roots_of old new d.log.shape there.top before after there.with.index.logs.is_top
     (top_in_cut d.log.shape there.top there.found d.log.pending there.without m new.pages (all_posted run.0)
     (at_end run.0 old new (LogCut d.log.shape there.top there.found d.log.pending there.without m) run.1))
 
@@ -222,7 +206,7 @@ pub commit_roots_err : (d : Parts) (shape : Shape) (m : Map) (old new : BoardSta
 commit_roots_err d shape m old new before after stands goes =
     let there = subst (λ (s : Shape). StandsFor d s old.pages m) (sym stands.with.shape_is) stands in
     let run = goes there.top there.found there.without m (maps_of d old there.top there.found there.without m there.with) in
-    roots_of old new d.log.shape there.top before after there.with.logs.is_top
+    roots_of old new d.log.shape there.top before after there.with.index.logs.is_top
     (top_in_cut d.log.shape there.top there.found d.log.pending there.without m new.pages (all_posted run.0)
     (run.1.cuts new.pages (all_posted run.0) run.1.stands))
 

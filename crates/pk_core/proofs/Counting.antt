@@ -26,7 +26,7 @@ use Rattle.pk_drive.specs.Drive.{CountsMap}
 use Rattle.pk_drive.specs.Exec.{report_of}
 use Rattle.pk_drive.specs.Seen.{reply_of}
 use Rattle.pk_drive.specs.declared.types.Outcome.{Outcome}
-use Rattle.pk_core.specs.Parts.{Parts, sight_of, counts_of, jobs_of, frames_of}
+use Rattle.pk_core.specs.Parts.{Parts, sight_of, counts_of, outputs_of, frames_of}
 use Rattle.pk_core.specs.Agreeing.{DriveOnFlashWith, DriveOnFlash}
 use Rattle.pk_core.specs.Done.{Does}
 use Rattle.pk_core.specs.Quiet.{DoneWithout}
@@ -45,10 +45,10 @@ pub counts_map : (d : Parts) (shape : Shape) (flash : Flash) (top : ℕ × Root)
 counts_map d shape flash top found without all a =
     let c = counts shape flash d.log.pending top found all a.placed.is_shape a.is_flash a.pending in
     record {
-      live_is = total_of shape d.space d.pool (jobs_of d).blocks.values flash (places found d.log.pending) a.placed ∙ sym c.live_is;
+      live_is = total_of shape d.space d.pool (outputs_of d) flash (places found d.log.pending) a.placed ∙ sym c.live_is;
       limit_is = ap (λ s. limit s) a.shape_is;
       keys_is = a.keys_are ∙ sym c.len_is;
-      pinned_is = a.levels_pinned;
+      pinned_is = a.index.levels_pinned;
       frames_is = refl;
     }
 
@@ -70,7 +70,7 @@ pub worn_is : (d : Parts) (shape : Shape) (flash : Flash) → DriveOnFlash d (So
 unfolding root_number
 worn_is d shape flash a =
     let same : a.shape ≡ shape = sym (told_same shape a.shape a.told_is) in
-    subst (λ s. number_of (newest_root s (page_at flash)) ≡ d.log.root.number) same (ap number_of a.with.committed.is_top ∙ ap (λ r. r.number) (sym a.with.logs.root_is))
+    subst (λ s. number_of (newest_root s (page_at flash)) ≡ d.log.root.number) same (ap number_of a.with.committed.is_top ∙ ap (λ r. r.number) (sym a.with.index.logs.root_is))
 
 -- ---- commands without a call of the board
 

@@ -55,7 +55,7 @@ module _ (d : Parts) (old new : BoardState) (r : Request) (o : Outcome) (into : 
   c = command_of r []
 
   abbrev l : ListsInto old new o into (list_bytes (fitting (min r.size 65536 - 4) (keys_there (key c) (d.log.active.entries ∷ d.log.frozen.entries ∷ a.found.runs))))
-  l = lists a.found.runs a.with.stand
+  l = lists a.found.runs a.with.index.stand
 
   is_list : op_of c.opcode ≡ Some ListKeys
   is_list = ap op_of is

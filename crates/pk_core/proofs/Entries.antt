@@ -40,10 +40,11 @@ use Rattle.pk_data.specs.Entries.{span_of, span_if_some, Held, Moves}
 use Rattle.pk_data.specs.Laws.{value_blocks}
 use Rattle.pk_data.proofs.Lists.{found_page, found_place}
 use Rattle.pk_data.proofs.Unchanged.{lie_in_few}
-use Rattle.pk_core.specs.Parts.{Parts, jobs_of}
+use Rattle.pk_core.specs.Parts.{Parts, frames_of, index_of, outputs_of}
 use Rattle.pk_core.specs.Agreeing.{DriveOnFlashWith}
 use Rattle.pk_core.specs.Moves.{StandsFor}
 use Rattle.pk_core.specs.Noting.{Puts, Drops, more_keys}
+use Rattle.pk_schedule.proofs.Keeping.{index_pushed}
 use Rattle.pk_core.proofs.Writing.{named_owner, journal_or_values, meta_or_values}
 
 -- ---- numbers
@@ -74,7 +75,7 @@ limit_few shape is =
 
 module _ (d : Parts) (shape : Shape) (flash : Flash) (top : ℕ × Root) (found : Found) (lower m : Map) (with : DriveOnFlashWith d shape flash top found lower m) where
   shape_is : IsShape shape
-  shape_is = subst IsShape with.shape_is with.logs.is_shape
+  shape_is = subst IsShape with.shape_is with.index.logs.is_shape
 
   rising : T (is_sorted key_cmp (places found d.log.pending))
   rising = placed_sorted (counting found d.log.pending) (firsts_sorted (entries_in_order found d.log.pending))
@@ -134,7 +135,7 @@ module _ (d : Parts) (flash : Flash) (m : Map) (key : Key) (value : List ℕ) (p
   puts_moves o n o_is n_is = record {
     shape = d.log.shape;
     pool = d.pool;
-    outputs = (jobs_of d).blocks.values;
+    outputs = (outputs_of d);
     flash = flash;
     es = es;
     key = key;
@@ -151,7 +152,7 @@ module _ (d : Parts) (flash : Flash) (m : Map) (key : Key) (value : List ℕ) (p
   places_are : places p.found (d.log.pending ++ e ∷ []) ≡ put key_cmp key place es
   places_are = ap (λ xs. placed (firsts xs)) (entries_in_order-push p.found d.log.pending e) ∙ placed-put key place (counting p.found d.log.pending) (firsts_sorted (entries_in_order p.found d.log.pending))
 
-  module _ (space : DataState) (placed_now : ValuesOnFlash d.log.shape space d.pool (jobs_of d).blocks.values flash (put key_cmp key place es)) where
+  module _ (space : DataState) (placed_now : ValuesOnFlash d.log.shape space d.pool (outputs_of d) flash (put key_cmp key place es)) where
     -- no page of the value is in a block that the root names
     unnamed : (k : ℕ) → IsPageOf d.log.shape k place → AnyByRecursion (λ b. k / d.log.shape.block_pages ≡ b) (named p.top.1) → ⊥
     unnamed k is in_named =
@@ -163,10 +164,10 @@ module _ (d : Parts) (flash : Flash) (m : Map) (key : Key) (value : List ℕ) (p
 
     fit_now : fits d.log.shape (named p.top.1) (all_pages d.log.shape (put key_cmp key place es)) ≡ true
     fit_now =
-        let few = lie_in_few d.log.shape space d.pool (jobs_of d).blocks.values flash (put key_cmp key place es) placed_now in
+        let few = lie_in_few d.log.shape space d.pool (outputs_of d) flash (put key_cmp key place es) placed_now in
         let most = p.room in
         let same = live_put d d.log.shape flash p.top p.found p.without m p.with key place value p.written.there in
-        fits_more d.log.shape (named p.top.1) (value_blocks d.pool (jobs_of d).blocks.values) es key place (fit d d.log.shape flash p.top p.found p.without m p.with)
+        fits_more d.log.shape (named p.top.1) (value_blocks d.pool (outputs_of d)) es key place (fit d d.log.shape flash p.top p.found p.without m p.with)
         unnamed (λ k is is_value. p.written.apart p.top p.found p.without m p.with k is is_value)
         (omega (arith, most, same)) few.1 few.0
 
@@ -178,22 +179,12 @@ module _ (d : Parts) (flash : Flash) (m : Map) (key : Key) (value : List ℕ) (p
     put_agrees logs room = record {
       shape_is = refl;
       is_flash = p.with.is_flash;
-      logs = logs;
+      index = index_pushed (index_of d) (frames_of d) flash p.top p.found e p.with.index logs;
       committed = p.with.committed;
       pending = under_now room;
-      levels_shape = p.with.levels_shape;
-      levels_pinned = p.with.levels_pinned;
-      stand = p.with.stand;
-      run_blocks = p.with.run_blocks;
-      arena_is = p.with.arena_is;
-      placed = subst (λ (xs : List (Key × Place)). ValuesOnFlash d.log.shape space d.pool (jobs_of d).blocks.values flash xs) (sym places_are) placed_now;
+      placed = subst (λ (xs : List (Key × Place)). ValuesOnFlash d.log.shape space d.pool (outputs_of d) flash xs) (sym places_are) placed_now;
       former = p.with.former;
       former_read = p.with.former_read;
-      journal = p.with.journal;
-      journal_few = p.with.journal_few;
-      runs = p.with.runs;
-      runs_few = p.with.runs_few;
-      jobs_hold = p.with.jobs_hold;
       keys_are = keys_put key place es old d.keys (rising d d.log.shape flash p.top p.found p.without m p.with) p.old_is p.with.keys_are ∙ ap length (sym places_are);
     }
 
@@ -218,12 +209,12 @@ put_stands_at d flash m key value page old p log space keys o n noted o_is n_is 
     let e : Entry = (key, Some (placed_at page (length value))) in
     let placed_now = moved (puts_moves d flash m key value page old p o n o_is n_is) in
     let P : LogState → ℕ → Type 0 = λ l k. StandsFor (record d { log = l; space = space; keys = k }) d.log.shape flash (insert m key value) in
-    let logs : LogOnFlash (pushed d.log e) flash p.top p.found = subst (λ (l : LogState). LogOnFlash l flash p.top p.found) noted.pushed_is (noted.stands flash p.top p.found p.with.logs) in
+    let logs : LogOnFlash (pushed d.log e) flash p.top p.found = subst (λ (l : LogState). LogOnFlash l flash p.top p.found) noted.pushed_is (noted.stands flash p.top p.found p.with.index.logs) in
     let there : P (pushed d.log e) (more_keys d.keys old) = record {
       top = p.top;
       found = p.found;
       without = p.without;
-      with = put_agrees d flash m key value page old p space placed_now logs (noted.fits_in flash p.top p.found p.with.logs);
+      with = put_agrees d flash m key value page old p space placed_now logs (noted.fits_in flash p.top p.found p.with.index.logs);
     } in
     subst (λ (l : LogState). P l keys) (sym noted.pushed_is) (subst (λ (k : ℕ). P (pushed d.log e) k) (sym keys_are) there)
 
@@ -276,7 +267,7 @@ module _ (d : Parts) (flash : Flash) (m : Map) (key : Key) (old : Place) (p : Dr
   drops_held n n_is = record {
     shape = d.log.shape;
     pool = d.pool;
-    outputs = (jobs_of d).blocks.values;
+    outputs = (outputs_of d);
     flash = flash;
     es = values_before;
     key = key;
@@ -296,28 +287,18 @@ module _ (d : Parts) (flash : Flash) (m : Map) (key : Key) (old : Place) (p : Dr
   places_gone : places p.found (d.log.pending ++ gone ∷ []) ≡ without key values_before
   places_gone = ap (λ xs. placed (firsts xs)) (entries_in_order-push p.found d.log.pending gone) ∙ placed-gone key (counting p.found d.log.pending) (firsts_sorted (entries_in_order p.found d.log.pending))
 
-  pub gone_agrees : (space : DataState) → ValuesOnFlash d.log.shape space d.pool (jobs_of d).blocks.values flash (without key values_before) → LogOnFlash (pushed d.log gone) flash p.top p.found
+  pub gone_agrees : (space : DataState) → ValuesOnFlash d.log.shape space d.pool (outputs_of d) flash (without key values_before) → LogOnFlash (pushed d.log gone) flash p.top p.found
       → length (firsts (p.found.newest ++ (d.log.pending ++ gone ∷ []))) ≤ buffer d.log.shape
       → DriveOnFlashWith (record d { log = pushed d.log gone; space = space; keys = d.keys - 1 }) d.log.shape flash p.top p.found p.without (remove m key)
   gone_agrees space placed_now logs room = record {
     shape_is = refl;
     is_flash = p.with.is_flash;
-    logs = logs;
+    index = index_pushed (index_of d) (frames_of d) flash p.top p.found gone p.with.index logs;
     committed = p.with.committed;
     pending = deletes d.log.shape flash d.log.pending p.top p.found m key p.with.pending room;
-    levels_shape = p.with.levels_shape;
-    levels_pinned = p.with.levels_pinned;
-    stand = p.with.stand;
-    run_blocks = p.with.run_blocks;
-    arena_is = p.with.arena_is;
-    placed = subst (λ (xs : List (Key × Place)). ValuesOnFlash d.log.shape space d.pool (jobs_of d).blocks.values flash xs) (sym places_gone) placed_now;
+    placed = subst (λ (xs : List (Key × Place)). ValuesOnFlash d.log.shape space d.pool (outputs_of d) flash xs) (sym places_gone) placed_now;
     former = p.with.former;
     former_read = p.with.former_read;
-    journal = p.with.journal;
-    journal_few = p.with.journal_few;
-    runs = p.with.runs;
-    runs_few = p.with.runs_few;
-    jobs_hold = p.with.jobs_hold;
     keys_are = gone_keys.0 ∙ ap length (sym places_gone);
   }
 
@@ -329,12 +310,12 @@ unfolding drops_held
 gone_stands_at d flash m key old p log space n noted n_is removed =
     let e : Entry = (key, None) in
     let placed_now = removed (drops_held d flash m key old p n n_is) in
-    let logs : LogOnFlash (pushed d.log e) flash p.top p.found = subst (λ (l : LogState). LogOnFlash l flash p.top p.found) noted.pushed_is (noted.stands flash p.top p.found p.with.logs) in
+    let logs : LogOnFlash (pushed d.log e) flash p.top p.found = subst (λ (l : LogState). LogOnFlash l flash p.top p.found) noted.pushed_is (noted.stands flash p.top p.found p.with.index.logs) in
     let there : StandsFor (record d { log = pushed d.log e; space = space; keys = d.keys - 1 }) d.log.shape flash (remove m key) = record {
       top = p.top;
       found = p.found;
       without = p.without;
-      with = gone_agrees d flash m key old p space placed_now logs (noted.fits_in flash p.top p.found p.with.logs);
+      with = gone_agrees d flash m key old p space placed_now logs (noted.fits_in flash p.top p.found p.with.index.logs);
     } in
     subst (λ (l : LogState). StandsFor (record d { log = l; space = space; keys = d.keys - 1 }) d.log.shape flash (remove m key)) (sym noted.pushed_is) there
 

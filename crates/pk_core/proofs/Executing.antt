@@ -34,5 +34,5 @@ never is not = let e : true ≡ false = sym is ∙ not in cc
 pub none_between : (d : Parts) (told : Option Shape) (flash : Flash) → DriveOnFlash d told flash → d.log.pending ≡ [] → DriveOnFlashBetween d told flash
 none_between d told flash agrees none = (
   agrees,
-  subst (λ (n : ℕ). n < page_entries d.log.shape) (sym (ap length none)) (entries_some d.log.shape agrees.with.logs.is_shape),
+  subst (λ (n : ℕ). n < page_entries d.log.shape) (sym (ap length none)) (entries_some d.log.shape agrees.with.index.logs.is_shape),
 )

@@ -52,7 +52,7 @@ pub leased_are : (d : Parts) (shape : Shape) (flash : Flash) (top : ℕ × Root)
     → leased_frames d.arena ≡ sum (map (run_pages shape) (take (pinned shape (frames_of d)) (entries_of d.levels.runs)))
 leased_are d shape flash top found without all agrees =
     let pins : ℕ = d.levels.pinned in
-    sym (leases_counted d.arena (leases_of d.levels.runs ++ []) agrees.arena_is.only_these)
+    sym (leases_counted d.arena (leases_of d.levels.runs ++ []) agrees.index.arena_is.only_these)
     ∙ ap (λ (ls : List ℕ). length ls) (append-nil (leases_of d.levels.runs))
-    ∙ many shape flash d.arena pins 1 pins d.levels.runs top.1.runs found.runs (omega arith) agrees.run_blocks agrees.stand agrees.arena_is.pins
-    ∙ ap (λ (n : ℕ). sum (map (run_pages shape) (take n (entries_of d.levels.runs)))) agrees.levels_pinned
+    ∙ many shape flash d.arena pins 1 pins d.levels.runs top.1.runs found.runs (omega arith) agrees.index.run_blocks agrees.index.stand agrees.index.arena_is.pins
+    ∙ ap (λ (n : ℕ). sum (map (run_pages shape) (take n (entries_of d.levels.runs)))) agrees.index.levels_pinned

@@ -4,7 +4,6 @@ pub mod Standing
 pub mod Keeping
 pub mod Leased
 pub mod Elsewhere
-pub mod Holding
 pub mod Committing
 pub mod Building
 pub mod Freezing

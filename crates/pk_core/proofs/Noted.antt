@@ -126,7 +126,7 @@ module _ (d e : Parts) (old new : BoardState) (c : Command) (a : DriveOnFlash d 
   stores_here : (same : b.shape ≡ a.shape) → StoresIn a.shape old.pages new.pages (sight_of d) (sight_of e) c
   stores_here same =
       let T : Shape → Type 0 = λ s. StoresIn s old.pages new.pages (sight_of d) (sight_of e) c in
-      let active : find key_cmp (key c) (firsts (reverse (b.found.newest ++ e.log.pending))) ≡ Some (Some n.place) = ap (λ (t : Table). find key_cmp (key c) t.entries) (sym b.with.logs.active_is) ∙ n.found in
+      let active : find key_cmp (key c) (firsts (reverse (b.found.newest ++ e.log.pending))) ≡ Some (Some n.place) = ap (λ (t : Table). find key_cmp (key c) t.entries) (sym b.with.index.logs.active_is) ∙ n.found in
       let room : HasOpenRoom b.shape old.pages (sight_of d) (charge b.shape c.size) → block_if_open e.space.open_block ≡ block_if_open d.space.open_block =
       subst (λ s. HasOpenRoom s old.pages (sight_of d) (charge s c.size) → block_if_open e.space.open_block ≡ block_if_open d.space.open_block) (sym same) open_stays in
       subst T same (record {

@@ -9,6 +9,11 @@ use Rattle.pk_rootfmt.specs.Root.{Root, named}
 use Rattle.pk_jrn.specs.Epochs.{JournalEpoch}
 use Rattle.pk_pool.specs.Blocks.{Blocks}
 use Rattle.pk_level.specs.Arenas.{HasArena}
+use Rattle.pk_level.specs.Levels.{HaveBlocks}
+use Rattle.pk_merge.specs.Jobs.{IsIdle}
+use Rattle.pk_compact.specs.declared.freezing.FreezeJob.TheVariants.{Idle as NoFreeze}
+use Rattle.pk_schedule.specs.declared.phase.Phase.TheVariants.{Idle}
+use Rattle.pk_schedule.specs.Index.{Schedule, IndexOnFlash, index}
 use Rattle.pk_model.specs.Found.{Found, found_under}
 use Rattle.pk_model.specs.Tree.{Tree, IsTree}
 use Rattle.pk_steps.specs.Under.{IsUnder, places}
@@ -28,7 +33,7 @@ use Rattle.pk_core.specs.Agreeing.{DriveOnFlash}
 use Rattle.pk_core.specs.Moves.{StandsFor}
 use Rattle.pk_core.specs.Opening.{OpenedOn}
 use Rattle.pk_core.proofs.Standing.{still_stands}
-use Rattle.pk_core.proofs.Holding.{none_held}
+use Rattle.pk_schedule.proofs.Keeping.{IsFound, index_opens}
 
 -- the lists are what a log is opened with
 log_opens : {A : Type 0} (shape : Shape) (flash : Flash) (frames : ℕ) (f : Opened A) (found : Found) (m : Map) → ListsOnFlash shape flash frames f found m → Opens f.root f.root_page f.epoch f.active f.frozen flash found
@@ -60,15 +65,42 @@ values_found shape flash f found is has = record {
 }
 
 -- the parts of a drive behind what was found
-module _ {A : Type 0} (shape : Shape) (flash : Flash) (frames : ℕ) (f : Opened A) (log : LogState) (space : DataState) where
+module _ {A : Type 0} (shape : Shape) (flash : Flash) (frames : ℕ) (f : Opened A) (log : LogState) (space : DataState) (s : Schedule) where
   abbrev parts : Parts
-  parts = record { log = log; levels = f.levels; arena = f.arena; space = space; pool = f.pool; keys = f.keys; stopped = false }
+  parts = record { log = log; levels = f.levels; arena = f.arena; schedule = s; space = space; pool = f.pool; keys = f.keys; stopped = false }
+
+  -- the index of what was found, in which nothing runs
+  index_found : IsShape f.root.shape → (was : FoundOnFlash shape flash frames f) → log ≡ opened f.root f.root_page f.epoch f.active f.frozen
+      → ((x : Flash) (found : Found) → Opens f.root f.root_page f.epoch f.active f.frozen x found → LogOnFlash log x (f.root_page, f.root.root) found)
+      → (s.phase ≡ Idle) × (s.freeze ≡ NoFreeze) × IsIdle f.root.shape s.job → s.job.pinned ≡ pinned f.root.shape (length f.arena.used)
+      → IndexOnFlash (index log f.levels f.arena f.pool s) (length f.arena.used) flash (f.root_page, f.root.root) was.found
+  index_found held was log_is stands idle pins =
+      let own : f.root.shape ≡ log.shape = sym (ap (λ (l : LogState). l.shape) log_is) in
+      let its : shape ≡ log.shape = sym was.lists.shape_is ∙ own in
+      let frames_are : frames ≡ length f.arena.used = sym was.lists.arena_is.size in
+      let found : IsFound log f.levels f.arena f.pool (length f.arena.used) flash (f.root_page, f.root.root) was.found = record {
+        logs = stands flash was.found (log_opens shape flash frames f was.found was.map was.lists);
+        pool_shape = was.blocks.owners.pool_shape ∙ its;
+        pool_fits = was.blocks.owners.pool_fits flash;
+        levels_shape = was.lists.levels_shape ∙ its;
+        levels_pinned = was.lists.levels_pinned ∙ (λ i. pinned (its i) (frames_are i));
+        stand = was.lists.stand;
+        run_blocks = subst (λ (x : Shape). HaveBlocks x f.levels.runs f.root.root.runs) its was.lists.run_blocks;
+        arena_is = subst (λ (n : ℕ). HasArena log.shape n f.levels f.arena []) frames_are (subst (λ (x : Shape). HasArena x frames f.levels f.arena []) its was.lists.arena_is);
+        journal = was.blocks.owners.journal;
+        journal_few = was.blocks.owners.journal_few;
+        runs = was.blocks.owners.runs;
+        runs_few = was.blocks.owners.runs_few;
+      } in
+      index_opens log f.levels f.arena f.pool (length f.arena.used) flash (f.root_page, f.root.root) was.found found s
+      (idle.0, idle.1, subst (λ (x : Shape). IsIdle x s.job) own idle.2) (pins ∙ ap (λ (x : Shape). pinned x (length f.arena.used)) own)
 
   pub opens_on : IsShape f.root.shape → IsFlash shape flash → FoundOnFlash shape flash frames f
       → log ≡ opened f.root f.root_page f.epoch f.active f.frozen → ((x : Flash) (found : Found) → Opens f.root f.root_page f.epoch f.active f.frozen x found → LogOnFlash log x (f.root_page, f.root.root) found)
       → space ≡ with_none_open f.live → ((s : Shape) (named : List ℕ) (p : Blocks) (x : Flash) (es : List (Key × Place)) → FoundAtOpening s named f.live p x es → ValuesOnFlash s space p [] x es)
+      → (s.phase ≡ Idle) × (s.freeze ≡ NoFreeze) × IsIdle f.root.shape s.job → s.job.pinned ≡ pinned f.root.shape (length f.arena.used)
       → OpenedOn shape flash frames parts
-  opens_on held is_flash was log_is stands space_is places_so =
+  opens_on held is_flash was log_is stands space_is places_so idle pins =
       let is : IsShape shape = subst IsShape was.lists.shape_is held in
       let none : log.pending ≡ [] = ap (λ (l : LogState). l.pending) log_is in
       let placed : ValuesOnFlash shape space f.pool [] flash (places was.found []) = places_so shape (named f.root.root) f.pool flash (places was.found []) (values_found shape flash f was.found is was.blocks) in
@@ -79,22 +111,12 @@ module _ {A : Type 0} (shape : Shape) (flash : Flash) (frames : ℕ) (f : Opened
         with = record {
           shape_is = ap (λ (l : LogState). l.shape) log_is ∙ was.lists.shape_is;
           is_flash = is_flash;
-          logs = stands flash was.found (log_opens shape flash frames f was.found was.map was.lists);
+          index = index_found held was log_is stands idle pins;
           committed = was.lists.under;
           pending = subst (λ (es : List Entry). IsUnder shape flash es (f.root_page, f.root.root) was.found was.map) (sym none) was.lists.under;
-          levels_shape = was.lists.levels_shape;
-          levels_pinned = was.lists.levels_pinned ∙ ap (pinned shape) (sym was.lists.arena_is.size);
-          stand = was.lists.stand;
-          run_blocks = was.lists.run_blocks;
-          arena_is = subst (λ (n : ℕ). HasArena shape n f.levels f.arena []) (sym was.lists.arena_is.size) was.lists.arena_is;
           placed = subst (λ (es : List Entry). ValuesOnFlash shape space f.pool [] flash (places was.found es)) (sym none) placed;
           former = placed.owned;
           former_read = λ k is output. output;
-          journal = was.blocks.owners.journal;
-          journal_few = omega (arith, was.blocks.owners.journal_few);
-          runs = was.blocks.owners.runs;
-          runs_few = omega (arith, was.blocks.owners.runs_few);
-          jobs_hold = none_held f.pool f.root.root;
           keys_are = was.keys_are ∙ sym (ap (λ (es : List Entry). length (places was.found es)) none);
         };
         frames_are = was.lists.arena_is.size;

@@ -150,7 +150,7 @@ module _ (d : Parts) (shape : Shape) (flash : Flash) (top : ℕ × Root) (found 
   room_is : (is_some (find key_cmp k d.log.active.entries) ≡ true) ⊎ ((length d.log.active.entries == d.log.active.capacity) ≡ false)
   room_is =
       let T : Found → Type 0 = λ f. IsSome (find key_cmp k (firsts (f.newest ++ d.log.pending))) ⊎ (length (firsts (f.newest ++ d.log.pending)) < buffer shape) in
-      let active = a.logs.active_is in
+      let active = a.index.logs.active_is in
       elim (subst T its_found q.room) [
         | inl there ↦ inl (ap (λ (t : Table). is_some (find key_cmp k t.entries)) active ∙ (found_same k entries ∙ some_true (find key_cmp k (firsts entries)) there))
         | inr less ↦ inr (
@@ -164,14 +164,14 @@ module _ (d : Parts) (shape : Shape) (flash : Flash) (top : ℕ × Root) (found 
     | inr some ↦ inr (none_length d.log.pending some)
     | inl clear ↦ inl (
         let e : JournalEpoch = d.log.epoch in
-        let its_shape : e.shape ≡ shape = a.logs.epoch_shape ∙ a.shape_is in
-        let its_blocks : e.blocks ≡ q.tree.root.newest = a.logs.epoch_blocks ∙ ap (λ (t : ℕ × Root). t.1.newest) (sym its_top) in
+        let its_shape : e.shape ≡ shape = a.index.logs.epoch_shape ∙ a.shape_is in
+        let its_blocks : e.blocks ≡ q.tree.root.newest = a.index.logs.epoch_blocks ∙ ap (λ (t : ℕ × Root). t.1.newest) (sym its_top) in
         let last : page_at flash (page_in e.shape e.blocks (epoch_pages e.shape - 1)) ≡ erased = subst (λ s. page_at flash (page_in s e.blocks (epoch_pages s - 1)) ≡ erased) (sym its_shape) (subst (λ bs. page_at flash (page_in shape bs (epoch_pages shape - 1)) ≡ erased) (sym its_blocks) clear) in
         let positive = block_pages_positive e.shape (subst IsShape (sym its_shape) a.placed.is_shape) in
-        let within = a.logs.epoch_fits.within in
+        let within = a.index.logs.epoch_fits.within in
         let less : e.used < epoch_pages e.shape = elim (cases_lt e.used (epoch_pages e.shape)) [
           | inl lt ↦ lt
-          | inr ge ↦ (let page = a.logs.epoch_fits.before (epoch_pages e.shape - 1) (omega (arith, ge, positive)) in absurd (not_whole page.0 (sym page.1 ∙ last)))
+          | inr ge ↦ (let page = a.index.logs.epoch_fits.before (epoch_pages e.shape - 1) (omega (arith, ge, positive)) in absurd (not_whole page.0 (sym page.1 ∙ last)))
         ] in
         ap (λ b. (if b then epoch_pages e.shape - e.used else 0) == 0) q.fresh ∙ ne_eqb (epoch_pages e.shape - e.used) 0 (λ f. omega (arith, f, less)))
   ]

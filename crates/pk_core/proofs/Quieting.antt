@@ -20,7 +20,7 @@ module _ (d : Parts) (old new : BoardState) (a : DriveOnFlash d old.shape old.pa
   told = ap shape_or_none a.told_is
 
   reads_few : o.reads ≤ 4 - d.levels.pinned → o.reads ≤ 4 - pinned a.shape (frames_of d)
-  reads_few few = subst (λ p. o.reads ≤ 4 - p) a.with.levels_pinned few
+  reads_few few = subst (λ p. o.reads ≤ 4 - p) a.with.index.levels_pinned few
 
   quietly : (count : ℕ) → Programs count old new → o.reads ≤ 4 - d.levels.pinned → Quietly a.shape old new (frames_of d) o.reads count
   quietly count made few = record { programs_are = made.programs; no_erase = made.erases; few_reads = reads_few few }

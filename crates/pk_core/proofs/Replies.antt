@@ -48,9 +48,9 @@ places_visible found pending =
 pub keys_listed : (d : Parts) (shape : Shape) (flash : Flash) (top : ℕ × Root) (found : Found) (without all : Map) (from : Key) → DriveOnFlashWith d shape flash top found without all
     → keys_there from (d.log.active.entries ∷ d.log.frozen.entries ∷ found.runs) ≡ keys_from from all
 keys_listed d shape flash top found without all from with =
-    let is_shape = subst IsShape with.shape_is with.logs.is_shape in
+    let is_shape = subst IsShape with.shape_is with.index.logs.is_shape in
     ap (λ (es : List (Key × Place)). not_below from (keys_of es))
-    ((λ i. visible ((with.logs.active_is i).entries ∷ (with.logs.frozen_is i).entries ∷ found.runs)) ∙ places_visible found d.log.pending)
+    ((λ i. visible ((with.index.logs.active_is i).entries ∷ (with.index.logs.frozen_is i).entries ∷ found.runs)) ∙ places_visible found d.log.pending)
     ∙ ap (not_below from) (sym (counts shape flash d.log.pending top found all is_shape with.is_flash with.pending).keys_are)
 
 -- ---- counts of reads

@@ -124,8 +124,8 @@ module _ (d : Parts) (shape : Shape) (flash : Flash) (top : ℕ × Root) (found 
     behind_roots = behind_roots d.pool.shape d.pool.states b Ready ready_is_not_root ready shared;
     exists = (let within = slice_get_within d.pool.states b Ready ready in let size = a.placed.size in omega (arith, within, size));
     unnamed = λ is. elim (in_append b (top.1.newest ++ top.1.older) (concat top.1.runs) is) [
-      | inl journal ↦ ready_or_owned d.pool b Journal ready (a.journal b journal)
-      | inr meta ↦ ready_or_owned d.pool b Meta ready (a.runs b meta)
+      | inl journal ↦ ready_or_owned d.pool b Journal ready (a.index.journal b journal)
+      | inr meta ↦ ready_or_owned d.pool b Meta ready (a.index.runs b meta)
     ];
     not_open = λ e. ready_or_owned d.pool b Values ready (open_is_owned shape d.pool flash d.space.open_block b a.placed.open_is e);
     all_erased = λ k is.
@@ -160,10 +160,10 @@ module _ (d : Parts) (shape : Shape) (flash : Flash) (top : ℕ × Root) (found 
   -- ---- the lists
 
   active_is : length d.log.active.entries ≡ length (firsts (found.newest ++ d.log.pending))
-  active_is = ap (λ (t : Table). length t.entries) a.logs.active_is ∙ firsts-reverse (found.newest ++ d.log.pending)
+  active_is = ap (λ (t : Table). length t.entries) a.index.logs.active_is ∙ firsts-reverse (found.newest ++ d.log.pending)
 
   frozen_is : length d.log.frozen.entries ≡ length (firsts found.older)
-  frozen_is = ap (λ (t : Table). length t.entries) a.logs.frozen_is ∙ firsts-reverse found.older
+  frozen_is = ap (λ (t : Table). length t.entries) a.index.logs.frozen_is ∙ firsts-reverse found.older
 
   work_is : count_by is_free d.pool.states ≤ most_work shape
   unfolding most_work
@@ -177,10 +177,10 @@ module _ (d : Parts) (shape : Shape) (flash : Flash) (top : ℕ × Root) (found 
   four : length d.levels.runs ≡ 4
   four =
       let valid = valid_root shape (page_at flash) top a.committed.is_top in
-      same_length shape d.levels.runs top.1.runs a.run_blocks ∙ four_runs shape top.1 valid
+      same_length shape d.levels.runs top.1.runs a.index.run_blocks ∙ four_runs shape top.1 valid
 
   runs_are : entries_of_runs (counts_of d) ≡ map length found.runs
-  runs_are = counts_are flash d.arena d.levels.runs found.runs d.levels.shape four a.stand
+  runs_are = counts_are flash d.arena d.levels.runs found.runs d.levels.shape four a.index.stand
 
   leased_is : leased_frames d.arena ≡ pages_of_runs shape (pinned shape (frames_of d)) (entries_of_runs (counts_of d))
   leased_is =

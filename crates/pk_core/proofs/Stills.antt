@@ -1,8 +1,8 @@
--- Calls of the flash that change no page that is read.
-use Rattle.std.proofs.Common.{◌≡◌, inl, ℕ, zero, suc, ◌+◌, ◌/◌, ◌<◌, ◌≤◌, refl, sym, ap, subst, ◌∙◌, arith, List, [], ◌++◌, length, Some}
+-- Calls of the flash that change no page that is read, or kept.
+use Rattle.std.proofs.Common.{◌≡◌, ◌⊎◌, inl, ℕ, zero, suc, ◌+◌, ◌/◌, ◌<◌, ◌≤◌, refl, sym, ap, subst, ◌∙◌, arith, List, [], ◌++◌, length, Some}
 use Rattle.pk_base.specs.Shape.{Shape, charge}
 use Rattle.pk_base.specs.Key.{Key}
-use Rattle.pk_base.specs.Page.{Flash}
+use Rattle.pk_base.specs.Page.{Flash, page_at}
 use Rattle.pk_base.specs.Entry.{Entry}
 use Rattle.pk_base.specs.Mark.{program, erase, after, all_posted}
 use Rattle.pk_segfmt.specs.Stored.{page_of}
@@ -21,13 +21,25 @@ use Rattle.pk_model.proofs.Running.{Reaches-none, Reaches-erase, Goes-erase, Rea
 use Rattle.pk_nand.proofs.Effects.{works_none, works_program, works_then, stops_program, stops_then}
 use Rattle.pk_core.proofs.Unread.{IsReadBy, SameRead, same_top}
 
-module _ (shape : Shape) (root : Root) (found : Found) (pending : List Entry) (start : Flash) where
-  -- nothing was given out, and no page differs that is read
-  abbrev pub StillCut : Flash → List ℕ → Type 0
-  StillCut flash posted = (posted ≡ []) × SameRead shape root found pending start flash
+-- kept: which other pages are kept
+module _ (shape : Shape) (root : Root) (found : Found) (pending : List Entry) (kept : ℕ → Type 0) (start : Flash) where
+  -- the page is read, or kept
+  abbrev pub IsStill : ℕ → Type 0
+  IsStill k = IsReadBy shape root found pending k ⊎ kept k
 
-  grows_still : (a b : Flash) → SameRead shape root found pending start a → SameRead shape root found pending start b → Grows shape a b
-  grows_still a b first second = inl (same_top shape root found pending start b second ∙ sym (same_top shape root found pending start a first))
+  -- no such page differs
+  abbrev pub SameStill : Flash → Type 0
+  SameStill flash = (k : ℕ) → IsStill k → page_at flash k ≡ page_at start k
+
+  -- nothing was given out, and no such page differs
+  abbrev pub StillCut : Flash → List ℕ → Type 0
+  StillCut flash posted = (posted ≡ []) × SameStill flash
+
+  pub read_still : (flash : Flash) → SameStill flash → SameRead shape root found pending start flash
+  read_still flash same k is = same k (inl is)
+
+  grows_still : (a b : Flash) → SameStill a → SameStill b → Grows shape a b
+  grows_still a b first second = inl (same_top shape root found pending start b (read_still b second) ∙ sym (same_top shape root found pending start a (read_still a first)))
 
   module _ (a b c : BoardState) (has : a.shape ≡ Some shape) (begun : Reaches shape a b StillCut) where
     silent : all_posted begun.0 ≡ []
@@ -42,18 +54,18 @@ module _ (shape : Shape) (root : Root) (found : Found) (pending : List Entry) (s
     pub still_goes : Goes shape b c StillCut → Goes shape a c StillCut
     still_goes more = Goes-then shape begun.0 a b StillCut has begun.1 begun.2 c StillCut behind more
 
-  pub still_end : (a b : BoardState) → Reaches shape a b StillCut → SameRead shape root found pending start b.pages
+  pub still_end : (a b : BoardState) → Reaches shape a b StillCut → SameStill b.pages
   still_end a b run = (at_end run.0 a b StillCut run.1).1
 
-  pub went_end : (a b : BoardState) → Goes shape a b StillCut → SameRead shape root found pending start b.pages
+  pub went_end : (a b : BoardState) → Goes shape a b StillCut → SameStill b.pages
   went_end a b run = (run.1.cuts _ _ run.1.stands).1
 
-  module _ (old : BoardState) (has : old.shape ≡ Some shape) (so_far : SameRead shape root found pending start old.pages) where
+  module _ (old : BoardState) (has : old.shape ≡ Some shape) (so_far : SameStill old.pages) where
     pub still_none : (new : BoardState) → new ≡ old → Reaches shape old new StillCut
     still_none new same = Reaches-none shape old StillCut has new same (refl, so_far)
 
     -- an erase of a block of which no page is read
-    module _ (block : ℕ) (unread : (k : ℕ) → k / shape.block_pages ≡ block → IsReadBy shape root found pending k → ⊥) where
+    module _ (block : ℕ) (unread : (k : ℕ) → k / shape.block_pages ≡ block → IsStill k → ⊥) where
       within_erase : (f : Flash) → Interrupted shape (erase block) old.pages f [] → StillCut f []
       within_erase f cut = (refl, λ k is. untouched shape (erase block) k _ _ (λ here. unread k here is) (cut.pages k) ∙ so_far k is)
 
@@ -67,9 +79,9 @@ module _ (shape : Shape) (root : Root) (found : Found) (pending : List Entry) (s
       still_erase_failed new failed = Goes-erase shape old StillCut has block within_erase grows_erase new failed
 
     -- a program of a page that is not read
-    module _ (page : ℕ) (bytes : List ℕ) (unread : IsReadBy shape root found pending page → ⊥) where
+    module _ (page : ℕ) (bytes : List ℕ) (unread : IsStill page → ⊥) where
       within_program : (f : Flash) → Interrupted shape (program page bytes) old.pages f [] → StillCut f []
-      within_program f cut = (refl, λ k is. untouched shape (program page bytes) k _ _ (λ here. unread (subst (λ (j : ℕ). IsReadBy shape root found pending j) here is)) (cut.pages k) ∙ so_far k is)
+      within_program f cut = (refl, λ k is. untouched shape (program page bytes) k _ _ (λ here. unread (subst (λ (j : ℕ). IsStill j) here is)) (cut.pages k) ∙ so_far k is)
 
       grows_program : Grows shape old.pages (after shape (program page bytes) old.pages)
       grows_program = grows_still old.pages (after shape (program page bytes) old.pages) so_far (within_program (after shape (program page bytes) old.pages) (interrupted_done shape (program page bytes) old.pages)).1
@@ -81,7 +93,7 @@ module _ (shape : Shape) (root : Root) (found : Found) (pending : List Entry) (s
       still_program_failed new failed = Goes-program shape old StillCut has page bytes within_program grows_program new failed
 
   -- the pages of a value
-  module _ (old : BoardState) (has : old.shape ≡ Some shape) (so_far : SameRead shape root found pending start old.pages) (key : Key) (page : ℕ) (value : List ℕ) (unread : (k : ℕ) → page ≤ k → k < page + charge shape (length value) → IsReadBy shape root found pending k → ⊥) where
+  module _ (old : BoardState) (has : old.shape ≡ Some shape) (so_far : SameStill old.pages) (key : Key) (page : ℕ) (value : List ℕ) (unread : (k : ℕ) → page ≤ k → k < page + charge shape (length value) → IsStill k → ⊥) where
     shape_stays : (n : ℕ) → (written shape key page value n old).shape ≡ Some shape
     shape_stays zero = has
     shape_stays (suc n) = shape_stays n

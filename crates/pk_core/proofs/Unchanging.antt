@@ -184,7 +184,7 @@ module _ (d : Parts) (board : BoardState) (a : DriveOnFlash d board.shape board.
 
   -- what a look-up says of this map
   pub looked : (k : Key) (p : Option Place) → Looks d board.pages k p → IsPlaceIn d.log.shape board.pages a.found d.log.pending a.all k p
-  looked k p looks = looks a.top a.found a.all own.logs own.stand own.pending
+  looked k p looks = looks a.top a.found a.all own.index.logs own.index.stand own.pending
 
 -- ---- the value at a place
 
@@ -206,7 +206,7 @@ value_there d flash top found without all k p is_key a is =
     let v : List ℕ = is.there.0 in
     let lies = (found_has (λ e. IsPlace shape e.1) k p (places found d.log.pending) is.placed a.placed.places).1 in
     let head : IsHead shape k p.len = record { is_key = is_key; short = lies.short } in
-    let stands = value_found shape (page_at flash) k p v a.logs.is_shape head (λ page bytes whole. (a.is_flash.full page bytes whole).0) is.there.1 in
+    let stands = value_found shape (page_at flash) k p v a.index.logs.is_shape head (λ page bytes whole. (a.is_flash.full page bytes whole).0) is.there.1 in
     let own_head : IsHead shape k (length v) = subst (λ n. IsHead shape k n) (sym stands.0) head in
     record {
       value = v;
@@ -354,7 +354,7 @@ value_breaks d d' old mid new page n same before broken =
 pub few_of : (d : Parts) (old : BoardState) (a : DriveOnFlash d old.shape old.pages) (k : Key) (p : Place) (n size : ℕ) → IsKey k → Looks d old.pages k (Some p) → n ≡ min p.len size → 4 - d.levels.pinned + fetched d.log.shape n ≤ 68
 few_of d old a k p n size is_key looks is =
     let short = (value_of d old a k p is_key looks).short in
-    let most = few_fetched d.log.shape n (own d old a).logs.is_shape (omega (arith, is, short)) in
+    let most = few_fetched d.log.shape n (own d old a).index.logs.is_shape (omega (arith, is, short)) in
     omega (arith, most)
 
 module _ (d d' : Parts) (old new : BoardState) (r : Request) (v into : List ℕ) (a : DriveOnFlash d old.shape old.pages) (same : d' ≡ d) (passed : early d.log.shape (command_of r []) ≡ None)
@@ -376,7 +376,7 @@ module _ (d d' : Parts) (old new : BoardState) (r : Request) (v into : List ℕ)
   same_sight reply reads is = subst (λ x. Does old new (sight_of d) (sight_of x) (command_of r v) reply reads false) (sym same) is
 
   pinned_is : d.levels.pinned ≡ pinned d.log.shape (frames_of d)
-  pinned_is = (own d old a).levels_pinned
+  pinned_is = (own d old a).index.levels_pinned
 
   -- the step and the bound on the map of the drive
   abbrev Allowed : Reply → ℕ → Type 0

@@ -21,7 +21,7 @@ use Rattle.pk_nand.specs.BoardState.{BoardState, shape_or_none}
 use Rattle.pk_nand.specs.Calls.{IsReady}
 use Rattle.pk_pool.specs.declared.state.BlockState.{BlockState}
 use Rattle.pk_pool.specs.declared.state.BlockState.TheVariants.{Free, Ready, Owned}
-use Rattle.pk_pool.specs.Blocks.{Blocks, IsShared, IsSpare, is_owned_by, used_by, with_state}
+use Rattle.pk_pool.specs.Blocks.{Blocks, PoolOnFlash, IsShared, IsSpare, is_owned_by, used_by, with_state}
 use Rattle.pk_pool.proofs.States.{get-set_other}
 use Rattle.pk_pool.proofs.Sharing.{count-set}
 use Rattle.pk_pool.proofs.Fitting.{block_of}
@@ -37,15 +37,15 @@ use Rattle.pk_nand.specs.Effects.{Works, Stops}
 use Rattle.pk_nand.proofs.Effects.{works_none, works_erase, works_then, stops_erase, stops_then}
 use Rattle.pk_data.specs.State.{DataState}
 use Rattle.pk_data.specs.Placed.{HoldsValues}
-use Rattle.pk_core.specs.Parts.{Parts, jobs_of}
+use Rattle.pk_core.specs.Parts.{Parts, outputs_of}
 use Rattle.pk_core.specs.Agreeing.{DriveOnFlashWith}
 use Rattle.pk_core.specs.Moves.{StandsFor, Keeps, KeepsAll, BreaksAll, MayStep}
 use Rattle.pk_core.specs.Noting.{IsPlaced, StepPlaces}
 use Rattle.pk_core.specs.Placing.{Reserves, PlacesValue, FailsToPlace}
 use Rattle.pk_core.proofs.Standing.{found_once}
-use Rattle.pk_core.proofs.Unread.{IsReadBy, SameRead, same_top, still_without, agrees_elsewhere}
-use Rattle.pk_core.proofs.Holding.{KeepsOwners}
-use Rattle.pk_core.proofs.Stills.{StillCut, still_then, still_goes, still_end, went_end, still_none, still_erase, still_erase_failed, still_written, still_write_failed, works_written, stops_written}
+use Rattle.pk_schedule.proofs.Keeping.{IsBeside}
+use Rattle.pk_core.proofs.Unread.{IsReadBy, SameRead, KeepsOwners, same_top, still_without, agrees_elsewhere}
+use Rattle.pk_core.proofs.Stills.{IsStill, SameStill, StillCut, still_then, still_goes, still_end, went_end, still_none, still_erase, still_erase_failed, still_written, still_write_failed, works_written, stops_written}
 
 -- ---- blocks and their owners
 
@@ -96,18 +96,22 @@ not_low n page k positive behind low small =
     let less : page / n < 2 = (div-lt_iff_lt-mul positive).1 (omega (arith, low, small)) in
     omega (arith, less, behind)
 
+-- the page lies in a block of the journal or of a run
+abbrev pub IsIndexed : Blocks → Shape → ℕ → Type 0
+IsIndexed pool shape k = (slice_get pool.states (k / shape.block_pages) ≡ Some (Owned Journal)) ⊎ (slice_get pool.states (k / shape.block_pages) ≡ Some (Owned Meta))
+
 -- ---- what is read
 
 module _ (d : Parts) (shape : Shape) (old : Flash) (top : ℕ × Root) (found : Found) (without all : Map) (with : DriveOnFlashWith d shape old top found without all) where
   shape_ok : IsShape shape
-  shape_ok = subst IsShape with.shape_is with.logs.is_shape
+  shape_ok = subst IsShape with.shape_is with.index.logs.is_shape
 
   positive : 0 < shape.block_pages
   positive = block_pages_positive shape shape_ok
 
   -- a block that the root names has another owner than values
   pub named_owner : (b : ℕ) → AnyByRecursion (λ c. b ≡ c) (named top.1) → (slice_get d.pool.states b ≡ Some (Owned Journal)) ⊎ (slice_get d.pool.states b ≡ Some (Owned Meta))
-  named_owner b is = elim (any_split (λ c. b ≡ c) (top.1.newest ++ top.1.older) (concat top.1.runs) is) [ inl front ↦ inl (with.journal b front) | inr back ↦ inr (with.runs b back) ]
+  named_owner b is = elim (any_split (λ c. b ≡ c) (top.1.newest ++ top.1.older) (concat top.1.runs) is) [ inl front ↦ inl (with.index.journal b front) | inr back ↦ inr (with.index.runs b back) ]
 
   -- the page of a value is in a block for values
   value_owner : (k : ℕ) → IsValuePage shape (places found []) k ⊎ IsValuePage shape (places found d.log.pending) k → HoldsValues d.pool (k / shape.block_pages)
@@ -150,6 +154,41 @@ module _ (d : Parts) (shape : Shape) (old : Flash) (top : ℕ × Root) (found : 
         | inr meta ↦ meta_or_values q (k / shape.block_pages) (owners (k / shape.block_pages) Meta meta) held
       ]
 
+  -- ---- what is kept besides
+
+  -- no page is kept of a block that has no owner
+  pub spare_still : (block : ℕ) → IsSpare d.pool block → 2 ≤ block → (k : ℕ) → k / shape.block_pages ≡ block → IsStill shape top.1 found d.log.pending (IsIndexed d.pool shape) k → ⊥
+  spare_still block spare behind k here (inl is) = spare_unread block spare behind k here is
+  spare_still block spare behind k here (inr (inl journal)) = spare_or_owned d.pool block Journal spare (subst (λ (b : ℕ). slice_get d.pool.states b ≡ Some (Owned Journal)) here journal)
+  spare_still block spare behind k here (inr (inr meta)) = spare_or_owned d.pool block Meta spare (subst (λ (b : ℕ). slice_get d.pool.states b ≡ Some (Owned Meta)) here meta)
+
+  -- nor is one that is Erased, and stands in a block for values
+  pub erased_still : (q : Blocks) (now : Flash) → KeepsOwners d.pool q → SameRead shape top.1 found d.log.pending old now
+      → (k : ℕ) → 2 * shape.block_pages ≤ k → HoldsValues q (k / shape.block_pages) → page_at now k ≡ erased → IsStill shape top.1 found d.log.pending (IsIndexed d.pool shape) k → ⊥
+  erased_still q now owners same k high held none (inl is) = erased_unread q now owners same k high held none is
+  erased_still q now owners same k high held none (inr (inl journal)) = journal_or_values q (k / shape.block_pages) (owners (k / shape.block_pages) Journal journal) held
+  erased_still q now owners same k high held none (inr (inr meta)) = meta_or_values q (k / shape.block_pages) (owners (k / shape.block_pages) Meta meta) held
+
+  -- so the blocks of the journal and of runs are as before
+  pub beside_still : (q : Blocks) (now : Flash) → KeepsOwners d.pool q → q.shape ≡ shape → PoolOnFlash q now → used_by Journal q.states ≡ used_by Journal d.pool.states → used_by Meta q.states ≡ used_by Meta d.pool.states
+      → SameStill shape top.1 found d.log.pending (IsIndexed d.pool shape) old now → IsBeside d.pool old q now
+  beside_still q now owners q_shape fits journal meta same =
+      let its : d.pool.shape ≡ shape = with.placed.shape_is in
+      let at : (b k : ℕ) → k / d.pool.shape.block_pages ≡ b → b ≡ k / shape.block_pages = λ b k here. sym here ∙ ap (λ (s : Shape). k / s.block_pages) its in
+      record {
+        meta = record {
+          shape = q_shape ∙ sym its;
+          fits = fits;
+          used = meta;
+          owned = λ b is. owners b Meta is;
+          same = λ b k is here. same k (inr (inr (subst (λ (c : ℕ). slice_get d.pool.states c ≡ Some (Owned Meta)) (at b k here) is)));
+        };
+        low = λ k small. same k (inl (inl (inl (subst (λ (s : Shape). k < 2 * s.block_pages) its small))));
+        owned = λ b is. owners b Journal is;
+        used = journal;
+        same = λ b k is here. same k (inr (inl (subst (λ (c : ℕ). slice_get d.pool.states c ≡ Some (Owned Journal)) (at b k here) is)));
+      }
+
 -- ---- a block is taken, or none
 
 module _ (d : Parts) (page count : ℕ) (space : DataState) (q : Blocks) (old new : BoardState) (reserved : Reserves d.log.shape d.space d.pool old page count space q new) where
@@ -179,31 +218,31 @@ module _ (d : Parts) (page count : ℕ) (space : DataState) (q : Blocks) (old ne
 
   module _ (ready : IsReady old d.log.shape) (top : ℕ × Root) (found : Found) (without all : Map) (with : DriveOnFlashWith d d.log.shape old.pages top found without all) where
     abbrev still : Flash → List ℕ → Type 0
-    still = StillCut d.log.shape top.1 found d.log.pending old.pages
+    still = StillCut d.log.shape top.1 found d.log.pending (IsIndexed d.pool d.log.shape) old.pages
 
-    start : SameRead d.log.shape top.1 found d.log.pending old.pages old.pages
+    start : SameStill d.log.shape top.1 found d.log.pending (IsIndexed d.pool d.log.shape) old.pages old.pages
     start k is = refl
 
     pub reserve_reaches : Reaches d.log.shape old new still
     reserve_reaches = elim reserved.taken [
-      | inl next ↦ still_none d.log.shape top.1 found d.log.pending old.pages old ready.shape_is start new next.same_board
+      | inl next ↦ still_none d.log.shape top.1 found d.log.pending (IsIndexed d.pool d.log.shape) old.pages old ready.shape_is start new next.same_board
       | inr opens ↦ elim opens.choice [
-        | inl taken ↦ still_none d.log.shape top.1 found d.log.pending old.pages old ready.shape_is start new taken.same
-        | inr free ↦ still_erase d.log.shape top.1 found d.log.pending old.pages old ready.shape_is start opens.block (spare_unread d d.log.shape old.pages top found without all with opens.block opens.spare opens.place.0) new free.erase
+        | inl taken ↦ still_none d.log.shape top.1 found d.log.pending (IsIndexed d.pool d.log.shape) old.pages old ready.shape_is start new taken.same
+        | inr free ↦ still_erase d.log.shape top.1 found d.log.pending (IsIndexed d.pool d.log.shape) old.pages old ready.shape_is start opens.block (spare_still d d.log.shape old.pages top found without all with opens.block opens.spare opens.place.0) new free.erase
       ]
     ]
 
-    same_reserved : SameRead d.log.shape top.1 found d.log.pending old.pages new.pages
-    same_reserved = still_end d.log.shape top.1 found d.log.pending old.pages old new reserve_reaches
+    same_reserved : SameStill d.log.shape top.1 found d.log.pending (IsIndexed d.pool d.log.shape) old.pages new.pages
+    same_reserved = still_end d.log.shape top.1 found d.log.pending (IsIndexed d.pool d.log.shape) old.pages old new reserve_reaches
 
     -- no page is read of those that were found
-    pub pages_unread : (k : ℕ) → page ≤ k → k < page + count → IsReadBy d.log.shape top.1 found d.log.pending k → ⊥
+    pub pages_unread : (k : ℕ) → page ≤ k → k < page + count → IsStill d.log.shape top.1 found d.log.pending (IsIndexed d.pool d.log.shape) k → ⊥
     pages_unread k low high =
         let n : ℕ = d.log.shape.block_pages in
         let here : k / n ≡ page / n = same_block n page count k reserved.pages.inside low high in
-        let positive : 0 < n = block_pages_positive d.log.shape with.logs.is_shape in
+        let positive : 0 < n = block_pages_positive d.log.shape with.index.logs.is_shape in
         let least : 2 * n ≤ page = elim (cases_le (2 * n) page) [ inl le ↦ le | inr less ↦ absurd (not_low n page page positive reserved.pages.behind_roots (omega arith) less) ] in
-        erased_unread d d.log.shape old.pages top found without all with q new.pages owners_reserved same_reserved k (omega (arith, least, low))
+        erased_still d d.log.shape old.pages top found without all with q new.pages owners_reserved (λ j is. same_reserved j (inl is)) k (omega (arith, least, low))
         (subst (λ (b : ℕ). HoldsValues q b) (sym here) reserved.pages.owned) (reserved.pages.free k low high)
       where
         cases_le : (a b : ℕ) → (a ≤ b) ⊎ (b < a)
@@ -225,9 +264,9 @@ breaks_for before old new f shape m stands =
 
 -- a cut at which no page differs that is read is one of a step that keeps the map
 pub still_commits : (d : Parts) (shape : Shape) (old : Flash) (top : ℕ × Root) (found : Found) (without all : Map) → DriveOnFlashWith d shape old top found without all
-    → (f : Flash) (q : List ℕ) → StillCut shape top.1 found d.log.pending old f q → CrashFinds shape commit old all f q
+    → (f : Flash) (q : List ℕ) → StillCut shape top.1 found d.log.pending (IsIndexed d.pool shape) old f q → CrashFinds shape commit old all f q
 still_commits d shape old top found without all with f q is =
-    (is.0, inl (under_reads shape f [] top found without (still_without d d.space d.pool shape old f top found without all with is.1) ∙ sym (under_reads shape old [] top found without with.committed)))
+    (is.0, inl (under_reads shape f [] top found without (still_without d d.space d.pool shape old f top found without all with (λ k is_read. is.1 k (inl is_read))) ∙ sym (under_reads shape old [] top found without with.committed)))
 
 -- ---- the value is written
 
@@ -244,30 +283,33 @@ module _ (d : Parts) (key : Key) (value : List ℕ) (old : BoardState) (page : �
       (subst (λ (b : BoardState). Works is.between b) (sym is.writes) (works_written shape key page value (charge shape (length value)) is.between))
 
   module _ (top : ℕ × Root) (found : Found) (without all : Map) (with : DriveOnFlashWith d shape old.pages top found without all) where
-    pub placed_reaches : Reaches shape old new (StillCut shape top.1 found d.log.pending old.pages)
+    pub placed_reaches : Reaches shape old new (StillCut shape top.1 found d.log.pending (IsIndexed d.pool shape) old.pages)
     placed_reaches =
         let count : ℕ = charge shape (length value) in
         let before = reserve_reaches d page count is.space q old is.between is.reserved ready top found without all with in
-        let so_far = still_end shape top.1 found d.log.pending old.pages old is.between before in
+        let so_far = still_end shape top.1 found d.log.pending (IsIndexed d.pool shape) old.pages old is.between before in
         let unread = pages_unread d page count is.space q old is.between is.reserved ready top found without all with in
-        let more = still_written shape top.1 found d.log.pending old.pages is.between is.reserved.ready.shape_is so_far key page value unread count (omega arith) in
-        still_then shape top.1 found d.log.pending old.pages old is.between new ready.shape_is before
-        (subst (λ (b : BoardState). Reaches shape is.between b (StillCut shape top.1 found d.log.pending old.pages)) (sym is.writes) more)
+        let more = still_written shape top.1 found d.log.pending (IsIndexed d.pool shape) old.pages is.between is.reserved.ready.shape_is so_far key page value unread count (omega arith) in
+        still_then shape top.1 found d.log.pending (IsIndexed d.pool shape) old.pages old is.between new ready.shape_is before
+        (subst (λ (b : BoardState). Reaches shape is.between b (StillCut shape top.1 found d.log.pending (IsIndexed d.pool shape) old.pages)) (sym is.writes) more)
 
-    same_placed : SameRead shape top.1 found d.log.pending old.pages new.pages
-    same_placed = still_end shape top.1 found d.log.pending old.pages old new placed_reaches
+    same_placed : SameStill shape top.1 found d.log.pending (IsIndexed d.pool shape) old.pages new.pages
+    same_placed = still_end shape top.1 found d.log.pending (IsIndexed d.pool shape) old.pages old new placed_reaches
 
     pub placed_agrees : DriveOnFlashWith after shape new.pages top found without all
-    placed_agrees = agrees_elsewhere d space q shape old.pages new.pages top found without all with same_placed ready_new.flash
-        (owners_reserved d page (charge shape (length value)) is.space q old is.between is.reserved) (journal_reserved d page (charge shape (length value)) is.space q old is.between is.reserved) (meta_reserved d page (charge shape (length value)) is.space q old is.between is.reserved)
-        (is.placed (jobs_of d).blocks.values (places found d.log.pending) with.placed)
+    placed_agrees =
+        let values = is.placed (outputs_of d) (places found d.log.pending) with.placed in
+        let owners = owners_reserved d page (charge shape (length value)) is.space q old is.between is.reserved in
+        let beside = beside_still d shape old.pages top found without all with q new.pages owners values.shape_is values.fits (journal_reserved d page (charge shape (length value)) is.space q old is.between is.reserved)
+        (meta_reserved d page (charge shape (length value)) is.space q old is.between is.reserved) same_placed in
+        agrees_elsewhere d space q shape old.pages new.pages top found without all with (λ k is. same_placed k (inl is)) ready_new.flash owners beside values
 
     pub placed_keeps : Keeps d after shape all old new
     placed_keeps = record {
       stands = record { top = top; found = found; without = without; with = placed_agrees };
       same_places = λ was. ap (λ (f : Found). places f d.log.pending) (found_once d d shape old.pages was.top top was.found found was.without all without all was.with with);
       still = (still_commits d shape old.pages top found without all with new.pages [] (refl, same_placed)).1;
-      cuts = (placed_reaches.0, weaken placed_reaches.0 old new (StillCut shape top.1 found d.log.pending old.pages) (CrashFinds shape commit old.pages all) (still_commits d shape old.pages top found without all with) placed_reaches.1, placed_reaches.2);
+      cuts = (placed_reaches.0, weaken placed_reaches.0 old new (StillCut shape top.1 found d.log.pending (IsIndexed d.pool shape) old.pages) (CrashFinds shape commit old.pages all) (still_commits d shape old.pages top found without all with) placed_reaches.1, placed_reaches.2);
     }
 
   pub placed_keeps_all : KeepsAll d after old new
@@ -283,24 +325,24 @@ module _ (d : Parts) (key : Key) (value : List ℕ) (old new : BoardState) (shar
       (stops_written d.log.shape key write.page value write.between new write.failed)
 
   module _ (top : ℕ × Root) (found : Found) (without all : Map) (with : DriveOnFlashWith d d.log.shape old.pages top found without all) where
-    pub placing_goes : FailsToPlace d.log.shape key value d.space d.pool old new → Goes d.log.shape old new (StillCut d.log.shape top.1 found d.log.pending old.pages)
+    pub placing_goes : FailsToPlace d.log.shape key value d.space d.pool old new → Goes d.log.shape old new (StillCut d.log.shape top.1 found d.log.pending (IsIndexed d.pool d.log.shape) old.pages)
     placing_goes (inl erase) =
         let spare : IsSpare d.pool erase.block = inl erase.lowest.here in
-        still_erase_failed d.log.shape top.1 found d.log.pending old.pages old ready.shape_is (λ k is. refl) erase.block
-        (spare_unread d d.log.shape old.pages top found without all with erase.block spare (behind_roots d.pool.shape d.pool.states erase.block shared erase.lowest.here)) new erase.failed
+        still_erase_failed d.log.shape top.1 found d.log.pending (IsIndexed d.pool d.log.shape) old.pages old ready.shape_is (λ k is. refl) erase.block
+        (spare_still d d.log.shape old.pages top found without all with erase.block spare (behind_roots d.pool.shape d.pool.states erase.block shared erase.lowest.here)) new erase.failed
     placing_goes (inr write) =
         let count : ℕ = charge d.log.shape (length value) in
         let before = reserve_reaches d write.page count write.space write.pool old write.between write.reserved ready top found without all with in
-        let so_far = still_end d.log.shape top.1 found d.log.pending old.pages old write.between before in
+        let so_far = still_end d.log.shape top.1 found d.log.pending (IsIndexed d.pool d.log.shape) old.pages old write.between before in
         let unread = pages_unread d write.page count write.space write.pool old write.between write.reserved ready top found without all with in
-        still_goes d.log.shape top.1 found d.log.pending old.pages old write.between new ready.shape_is before
-        (still_write_failed d.log.shape top.1 found d.log.pending old.pages write.between write.reserved.ready.shape_is so_far key write.page value unread new write.failed)
+        still_goes d.log.shape top.1 found d.log.pending (IsIndexed d.pool d.log.shape) old.pages old write.between new ready.shape_is before
+        (still_write_failed d.log.shape top.1 found d.log.pending (IsIndexed d.pool d.log.shape) old.pages write.between write.reserved.ready.shape_is so_far key write.page value unread new write.failed)
 
   pub breaks_placing : FailsToPlace d.log.shape key value d.space d.pool old new → BreaksAll d old new
   breaks_placing failed = breaks_for d old new (λ m stands.
       let with = stands.with in
       let went = placing_goes stands.top stands.found stands.without m with failed in
-      (went.0, weaken_went went.0 old new (StillCut d.log.shape stands.top.1 stands.found d.log.pending old.pages) (CrashFinds d.log.shape commit old.pages m) (still_commits d d.log.shape old.pages stands.top stands.found stands.without m with) went.1, went.2))
+      (went.0, weaken_went went.0 old new (StillCut d.log.shape stands.top.1 stands.found d.log.pending (IsIndexed d.pool d.log.shape) old.pages) (CrashFinds d.log.shape commit old.pages m) (still_commits d d.log.shape old.pages stands.top stands.found stands.without m with) went.1, went.2))
 
 -- ---- the roots
 
@@ -324,7 +366,7 @@ value_written d key value old page space q new is ready ready_new is_key short s
     let without = stands.1.without in
     let after : Parts = record d { space = space; pool = q } in
     let run = placed_reaches d key value old page space q new is ready ready_new top found without stands.0 with in
-    let same = still_end shape top.1 found d.log.pending old.pages old new run in
+    let same = still_end shape top.1 found d.log.pending (IsIndexed d.pool shape) old.pages old new run in
     let agrees = placed_agrees d key value old page space q new is ready ready_new top found without stands.0 with in
     let count : ℕ = charge shape (length value) in
     let placed : IsPlaced d after old new key value page = record {
@@ -334,13 +376,13 @@ value_written d key value old page space q new is ready ready_new is_key short s
           subst (λ (s : Shape). DriveOnFlashWith after s new.pages top' found' without' all') same
           (placed_agrees d key value old page space q new is ready ready_new top' found' without' all' (subst (λ (s : Shape). DriveOnFlashWith d s old.pages top' found' without' all') (sym same) other));
       written = record {
-        there = value_again shape with.logs.is_shape key value is_key (page_at new.pages) page is.stored;
+        there = value_again shape with.index.logs.is_shape key value is_key (page_at new.pages) page is.stored;
         apart = λ top' found' without' all' other k here is_value.
             let same_found : found' ≡ found = found_once after after shape new.pages top top' found found' without stands.0 without' all' agrees other in
-            is.reserved.free (jobs_of d).blocks.values (places found d.log.pending) with.placed k here.0 here.1 (subst (λ (f : Found). IsValuePage shape (places f d.log.pending) k) same_found is_value);
+            is.reserved.free (outputs_of d) (places found d.log.pending) with.placed k here.0 here.1 (subst (λ (f : Found). IsValuePage shape (places f d.log.pending) k) same_found is_value);
       };
       place = record {
-        exists = let e = is.reserved.pages.exists in let some = charge_some shape with.logs.is_shape (length value) in omega (arith, e, some);
+        exists = let e = is.reserved.pages.exists in let some = charge_some shape with.index.logs.is_shape (length value) in omega (arith, e, some);
         past_roots = is.reserved.pages.behind_roots;
         short = short;
         inside = is.reserved.pages.inside;
@@ -355,7 +397,7 @@ value_written d key value old page space q new is ready ready_new is_key short s
       stops = tt;
       stopped = tt;
       ready = ready_new;
-      roots_few = same_roots shape old new ready.shape_is ready_new.shape_is (same_top shape top.1 found d.log.pending old.pages new.pages same);
+      roots_few = same_roots shape old new ready.shape_is ready_new.shape_is (same_top shape top.1 found d.log.pending old.pages new.pages (λ k is_read. same k (inl is_read)));
     }
 
 pub value_broken : (d behind : Parts) (key : Key) (value : List ℕ) (old new : BoardState) (e : Fault) → FailsToPlace d.log.shape key value d.space d.pool old new → e ≡ Stopped
@@ -364,14 +406,14 @@ pub value_broken : (d behind : Parts) (key : Key) (value : List ℕ) (old new : 
 value_broken d behind key value old new e failed is_stopped shared ready ready_new stands =
     let with = stands.1.with in
     let went = placing_goes d key value old new shared ready stands.1.top stands.1.found stands.1.without stands.0 with failed in
-    let same = went_end d.log.shape stands.1.top.1 stands.1.found d.log.pending old.pages old new went in
+    let same = went_end d.log.shape stands.1.top.1 stands.1.found d.log.pending (IsIndexed d.pool d.log.shape) old.pages old new went in
     record {
       ended = tt;
       broken = breaks_placing d key value old new shared ready failed;
       works = tt;
       stops = stops_placing d key value old new shared ready failed;
       stopped = is_stopped;
-      roots_few = same_roots d.log.shape old new ready.shape_is ready_new.shape_is (same_top d.log.shape stands.1.top.1 stands.1.found d.log.pending old.pages new.pages same);
+      roots_few = same_roots d.log.shape old new ready.shape_is ready_new.shape_is (same_top d.log.shape stands.1.top.1 stands.1.found d.log.pending old.pages new.pages (λ k is_read. same k (inl is_read)));
       ready = ready_new;
     }
 

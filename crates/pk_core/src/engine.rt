@@ -155,7 +155,7 @@ impl<A: Region> Engine for Drive<A> {
             epoch: self.log.epoch_used(),
             blocks: self.pool.used(Owner::Values),
             ready: self.pool.ready(),
-            merge: 0,
+            merge: self.schedule.merging() as u32,
         }
     }
 

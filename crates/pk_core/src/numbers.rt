@@ -12,7 +12,7 @@ use crate::drive::Drive;
 use crate::quiet::served;
 use pk_base::put_u32;
 use pk_drive::{Counts, Engine, Outcome};
-use pk_nvme::opcode::{DELETE, STORE};
+use pk_nvme::opcode::STORE;
 use pk_region::Region;
 
 /// Writes the sixteen numbers in their order.
@@ -58,24 +58,15 @@ impl<A: Region> Drive<A> {
         served(0, 64, 0)
     }
 
-    // A Store or a Delete may want a second freeze.
-    fn wants_second_freeze(&self) -> bool
-        ensures { result ≡ spec.wants_second_freeze self.now }
-    {
-        self.log.frozen().len() >= 1
-            && (self.log.active().len() >= self.shape().buffer() || self.log.left() == 0)
-    }
-
     /// What is built of a command that passed the checks that read it alone.
     pub(crate) fn is_built_for(&self, opcode: u8, size: u32) -> bool
         requires { opcode ≡ STORE → size ≤ shape_spec.greatest self.now.log.shape }
         ensures { result ≡ spec.is_built_for self.now opcode size }
     {
         let shape = self.shape();
-        !((opcode == STORE || opcode == DELETE) && self.wants_second_freeze())
-            && !(opcode == STORE
-                && self
-                    .space
-                    .needs_reclaim(&shape, &self.pool, shape.charge(size)))
+        !(opcode == STORE
+            && self
+                .space
+                .needs_reclaim(&shape, &self.pool, shape.charge(size)))
     }
 }

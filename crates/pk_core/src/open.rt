@@ -22,8 +22,10 @@ use pk_base::Shape;
 use pk_data::Data;
 use pk_log::Log;
 use pk_nand::Nand;
+use pk_plan::Plan;
 use pk_region::Region;
 use pk_scan::{Found, OpenError, scan};
+use pk_schedule::Schedule;
 use pk_walk::Walk;
 use std::alloc::AllocError;
 
@@ -46,10 +48,12 @@ impl<A: Region> Drive<A> {
         )?;
         let page = Vec::from_elem(alloc, 0u8, shape.page_bytes() as usize)?;
         let walk = Walk::new(alloc, shape)?;
+        let schedule = Schedule::new(alloc, Plan::of(shape), found.arena.frames())?;
         Ok(Drive {
             log,
             levels: found.levels,
             arena: found.arena,
+            schedule,
             space: Data::new(found.live),
             pool: found.pool,
             keys: found.keys,

@@ -5,6 +5,7 @@
 //! see the former lists.
 #![tactic(auto)]
 
+mod exchange;
 mod merging;
 mod phase;
 mod schedule;

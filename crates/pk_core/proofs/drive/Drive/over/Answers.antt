@@ -1,7 +1,14 @@
+use Rattle.std.proofs.Common.{◌≡◌, ap, ◌∙◌, subst, length}
+use Rattle.pk_base.specs.Shape.{Shape, pinned}
+use Rattle.pk_merge.specs.Jobs.{IsIdle}
 use Rattle.pk_core.proofs.Opening.{opens_on}
 use Rattle.pk_core.proofs.drive.Drive.over.Goals as goal
 
 pub returns : goal.returns
 returns g c = λ shape flash frames is_flash was.
-    opens_on shape flash frames c.args.found c.in_ok-log.log c.new-3.result
-    (rw c.shape.ensures at c.known.ensures) is_flash was c.in_ok-log.ensures.value c.in_ok-log.ensures.stands c.new-3.ensures.value c.new-3.ensures.placed
+    let plan : c.of.result ≡ c.args.found.root.shape = cc in
+    let idle = c.in_ok-schedule.ensures.idle in
+    opens_on shape flash frames c.args.found c.in_ok-log.log c.new-4.result c.in_ok-schedule.schedule
+    (rw c.shape.ensures at c.known.ensures) is_flash was c.in_ok-log.ensures.value c.in_ok-log.ensures.stands c.new-4.ensures.value c.new-4.ensures.placed
+    (idle.0, idle.1, subst (λ (s : Shape). IsIdle s c.in_ok-schedule.schedule.job) plan idle.2)
+    (c.in_ok-schedule.ensures.pins ∙ (λ i. pinned (plan i) (c.frames.ensures.states i)))
