@@ -62,12 +62,6 @@ store_built d r value op whole built passed =
     let all : is_built_for d 0x01 r.size ≡ true = ap (λ o. is_built_for d o r.size) (sym op) ∙ wants_of d r built passed in
     ap (λ n. needs_reclaim d.log.shape d.space d.pool (charge d.log.shape n)) whole ∙ not_true (needs_reclaim d.log.shape d.space d.pool (charge d.log.shape r.size)) all
 
-pub store_keyed : (shape : Shape) (r : Request) → r.opcode ≡ 0x01 → early shape (command_of r []) ≡ None → IsKeyLength r.key_len
-store_keyed shape r is passed = key_sized shape (command_of r []) Store (λ n. refl) (ap op_of is) passed
-
-pub delete_keyed : (shape : Shape) (r : Request) → r.opcode ≡ 0x10 → early shape (command_of r []) ≡ None → IsKeyLength r.key_len
-delete_keyed shape r is passed = key_sized shape (command_of r []) Delete (λ n. refl) (ap op_of is) passed
-
 pub store_short : (shape : Shape) (r : Request) → r.opcode ≡ 0x01 → early shape (command_of r []) ≡ None → r.size ≤ greatest shape
 store_short shape r is passed = store_sized shape (command_of r []) (ap op_of is) passed
 
@@ -451,13 +445,6 @@ module _ (d : Parts) (old : BoardState) (r : Request) (v : List ℕ) (k : Key) (
 
 pub looks_behind : (d e : Parts) (flash flash' : Flash) (k : Key) (o : Option Place) → e ≡ d → flash' ≡ flash → Looks d flash k o → Looks e flash' k o
 looks_behind d e flash flash' k o same pages looks = subst (λ (x : Parts). Looks x flash' k o) (sym same) (subst (λ (f : Flash). Looks d f k o) (sym pages) looks)
-
-pub servable_behind : (d e : Parts) (old new : BoardState) (most : ℕ) (r : Request) → e ≡ d → ReadsOnly old new most → IsServable d old r → IsServable e new r
-servable_behind d e old new most r same made s =
-    let n : ℕ = new.reads in
-    let few : n ≤ last_count = made.few in
-    let here : IsServable d (record old { reads = n }) r = record { agrees = s.agrees; runs = s.runs; unworn = s.unworn; built = s.built; passed = s.passed; few = s.few; counted = few } in
-    subst (λ (x : Parts). IsServable x new r) (sym same) (subst (λ (b : BoardState). IsServable d b r) (sym made.board) here)
 
 pub does_behind : (d e f : Parts) (old mid new : BoardState) (most : ℕ) (c : Command) (into : List ℕ) (o : Outcome) → e ≡ d → ReadsOnly old mid most → (op_of c.opcode ≡ Some Retrieve → ⊥)
     → IsCounted mid new → o.reads ≡ new.reads - old.reads

@@ -65,10 +65,6 @@ keeps_later r a b c n k most s0 s1 s2 u ready same few first second =
     later r (λ (x : Unit). KeepsAll b c s1 s2) (λ (x : Unit). KeepsAll a c s0 s2) (BreaksAll b s1 s2) (BreaksAll a s0 s2) a.log.shape b.log.shape n k most s0 s1 s2 same few first.works first.roots_few
     (λ x kept. KeepsAll-then a b c s0 s1 s2 ready first.ended kept) (λ broken. BreaksAll-then a b s0 s1 s2 ready first.ended broken) second
 
-pub keeps_broken : (e : Fault) (a b c : Parts) (n most : ℕ) (old new : BoardState) → n ≤ most → StepKeeps {T = Unit} a b n old new (Err e) → StepKeeps {T = Unit} a c most old new (Err e)
-keeps_broken e a b c n most old new few step =
-    Step-broken e (λ (x : Unit). KeepsAll a b old new) (λ (x : Unit). KeepsAll a c old new) (BreaksAll a old new) (BreaksAll a old new) a.log.shape n most old new few (λ broken. broken) step
-
 -- ---- what a drive runs by
 
 pub stays_by : (a b c : Parts) → LeavesValues a b → StaysBetween b c → StaysBetween a c
