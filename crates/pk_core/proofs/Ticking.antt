@@ -149,7 +149,7 @@ module _ (d : Parts) (old new : BoardState) (a : DriveOnFlash d old.shape old.pa
   grown : (new : BoardState) → newest_root d.log.shape (page_at new.pages) ≡ newest_root d.log.shape (page_at old.pages) → Grows (shape_or_none old.shape) old.pages new.pages
   grown new same = inl (subst (λ o. newest_root (shape_or_none o) (page_at new.pages) ≡ newest_root (shape_or_none o) (page_at old.pages)) (sym has) same)
 
-  unread : (k : ℕ) → k / d.log.shape.block_pages ≡ block → IsStill d.log.shape a.top.1 a.found d.log.pending Kept old.pages k → ⊥
+  unread : (k : ℕ) → k / d.log.shape.block_pages ≡ block → IsStill d.log.shape a.top.1 a.found d.log.pending Kept k → ⊥
   unread = spare_still d d.log.shape old.pages a.top a.found a.without a.all (own d old a) block (inl free) (behind_roots d.pool.shape d.pool.states block Free free_is_not_root free shared)
 
   -- a cut at which no page differs that is read is one of the step

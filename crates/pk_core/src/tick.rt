@@ -156,8 +156,9 @@ impl<A: Region> Drive<A> {
         ensures idle { TellsIdle (B.state board.old) (sight_of self.old) result }
         ensures lowers { LowersWork self.old self.new result }
     {
-        let answer = self.advance(board);
-        match answer {
+        self.pool.known();
+        match self.advance(board) {
+            Ticked::Worked => Ticked::Worked,
             Ticked::Idle => {
                 if self.is_reclaim_due() {
                     Ticked::Worked
@@ -165,7 +166,7 @@ impl<A: Region> Drive<A> {
                     Ticked::Idle
                 }
             }
-            _ => answer,
+            Ticked::Fault { stopped } => Ticked::Fault { stopped },
         }
     }
 }
