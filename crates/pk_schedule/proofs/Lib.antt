@@ -10,3 +10,4 @@ pub mod Running
 pub mod Entries
 pub mod Leveled
 pub mod Beginning
+pub mod Stepping

@@ -121,7 +121,7 @@ module _ (x : Index) (frames : ℕ) (old : BoardState) (top : ℕ × Root) (foun
       abbrev Holds : Flash → List ℕ → Type 0
       Holds = CrashFinds x.log.shape background old.pages m
 
-      same_leaves : new.shape ≡ old.shape → new.pages ≡ old.pages → new.trail ≡ old.trail → new.posted ≡ old.posted → Leaves x.log.shape old top found m new
+      pub same_leaves : new.shape ≡ old.shape → new.pages ≡ old.pages → new.trail ≡ old.trail → new.posted ≡ old.posted → Leaves x.log.shape old top found m new
       same_leaves shape pages trail posted = record {
         under = subst (λ (f : Flash). IsUnder x.log.shape f [] top found m) (sym pages) may.under;
         cuts = ([], Reached-start old new Holds shape pages trail posted (refl, under_reads x.log.shape old.pages [] top found m may.under), tt);
