@@ -4,3 +4,6 @@ pub mod Giving
 pub mod Standing
 pub mod Freezing
 pub mod Backlogs
+pub mod Replacing
+pub mod Ended
+pub mod Waiting
