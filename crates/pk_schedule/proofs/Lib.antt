@@ -11,3 +11,6 @@ pub mod Entries
 pub mod Leveled
 pub mod Beginning
 pub mod Stepping
+pub mod Replacing
+pub mod Ended
+pub mod Waiting

@@ -7,6 +7,7 @@
 
 mod exchange;
 mod merging;
+mod install;
 mod phase;
 mod schedule;
 
