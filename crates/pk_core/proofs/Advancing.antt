@@ -79,9 +79,6 @@ active_pending log log' keeps none = ap (λ (l : LogState). l.pending) keeps ∙
 -- ---- a step
 
 module _ (d : Parts) (old new : BoardState) (m : MayTick d old) where
-  abbrev a : DriveOnFlash d old.shape old.pages
-  a = m.agrees
-
   with : DriveOnFlashWith d d.log.shape old.pages m.agrees.top m.agrees.found m.agrees.without m.agrees.all
   with = own d old m.agrees
 
