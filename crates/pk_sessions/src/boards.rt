@@ -19,6 +19,12 @@ const ROOM: Room = Room {
     marks: 200,
 };
 
+// For sessions of some hundred commands.
+const LONG: Room = Room {
+    posted: 65536,
+    marks: 1500,
+};
+
 /// The shape of 33 blocks of 8 pages.
 pub fn small() -> Result<Shape, Fail> {
     Ok(Shape::new(512, 8, 33).ok().ok_or("a shape")?)
@@ -41,10 +47,30 @@ pub fn board(
     pages: Vec<PageState>,
     input: Vec<u8>,
 ) -> Result<Flash, Fail> {
+    board_in(alloc, shape, pages, input, ROOM)
+}
+
+/// The same with room for some hundred commands.
+pub fn long_board(
+    alloc: Global,
+    shape: Shape,
+    pages: Vec<PageState>,
+    input: Vec<u8>,
+) -> Result<Flash, Fail> {
+    board_in(alloc, shape, pages, input, LONG)
+}
+
+fn board_in(
+    alloc: Global,
+    shape: Shape,
+    pages: Vec<PageState>,
+    input: Vec<u8>,
+    room: Room,
+) -> Result<Flash, Fail> {
     if !is_flash(&shape, &pages) {
         return Err(Fail::from("pages of the shape"));
     }
-    Ok(Flash::with_pages(alloc, shape, pages, input, ROOM)?)
+    Ok(Flash::with_pages(alloc, shape, pages, input, room)?)
 }
 
 /// The pages behind the first k marks, of which the next, where there is one, leaves this.

@@ -11,6 +11,7 @@ pub mod damage;
 pub mod ends;
 pub mod erases;
 pub mod faults;
+pub mod merges;
 mod pages;
 pub mod program;
 pub mod recut;

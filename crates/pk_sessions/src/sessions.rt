@@ -65,13 +65,13 @@ pub fn values_stay<P: Program>(alloc: Global) -> Result<(), Fail> {
     Ok(())
 }
 
-/// Each session that stores begins an epoch. The third would freeze entries over frozen ones, which is not built.
+/// Each session that stores begins an epoch. The third merges the frozen entries into run 1 before it freezes further ones.
 pub fn three_stores<P: Program>(alloc: Global) -> Result<(), Fail> {
     let mut pages = made::<P>(alloc, &MAKE_WORKED)?;
     for (key, status, answers, keys) in [
         (0x61u8, 0u8, [Answer::Done].as_slice(), b"a".as_slice()),
         (0x62, 0, &[Answer::Done], b"ab"),
-        (0x63, 11, &[], b"ab"),
+        (0x63, 0, &[Answer::Done], b"abc"),
     ] {
         pages = serve_as::<P>(alloc, pages, &[Ask::Store(key, THREE)], status, answers)?;
         pages = serve_as::<P>(alloc, pages, &[Ask::List], 0, &[Answer::Keys(keys)])?;

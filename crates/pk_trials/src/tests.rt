@@ -184,3 +184,28 @@ fn cut_over_runs(rt: HostRuntime) -> Result<(), Fail> {
 fn torn_pages(rt: HostRuntime) -> Result<(), Fail> {
     pk_sessions::runs::torn_pages::<Pink>(rt.alloc())
 }
+
+#[test]
+fn first_merge(rt: HostRuntime) -> Result<(), Fail> {
+    pk_sessions::merges::first_merge::<Pink>(rt.alloc())
+}
+
+#[test]
+fn one_step(rt: HostRuntime) -> Result<(), Fail> {
+    pk_sessions::merges::one_step::<Pink>(rt.alloc())
+}
+
+#[test]
+fn two_runs(rt: HostRuntime) -> Result<(), Fail> {
+    pk_sessions::merges::two_runs::<Pink>(rt.alloc())
+}
+
+#[test]
+fn roots_fill_a_block(rt: HostRuntime) -> Result<(), Fail> {
+    pk_sessions::merges::roots_fill_a_block::<Pink>(rt.alloc())
+}
+
+#[test]
+fn every_cut_of_merges(rt: HostRuntime) -> Result<(), Fail> {
+    pk_sessions::merges::every_cut_of_merges::<Pink>(rt.alloc())
+}
