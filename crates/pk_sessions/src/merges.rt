@@ -242,7 +242,7 @@ const FIRST_THERE: u16 = 2000;
 
 fn value_of(key: u16) -> Value {
     Value {
-        first: key as u8,
+        first: (key % 256) as u8,
         len: 5,
     }
 }
