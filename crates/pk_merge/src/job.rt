@@ -46,7 +46,13 @@ impl<A: Region> Model for MergeJob<A> {
 
     ghost Value = { spec.Job };
 
-    ghost view = { λ j. record { pinned = j.pinned; target = j.target; output = j.output; merger = j.merger; spares = j.spares } };
+    ghost view = { λ j. record {
+      pinned = j.pinned;
+      target = j.target;
+      output = j.output;
+      merger = j.merger;
+      spares = j.spares;
+    } };
 }
 
 impl<A: Region> MergeJob<A> {

@@ -50,9 +50,16 @@ impl<A: Region> Model for Merger<A> {
 
     ghost Value = { spec.Merger };
 
-    ghost view = { λ m. record { shape = m.gathered.shape; source = m.source; target = m.target; gathered = m.gathered.entries } };
+    ghost view = { λ m. record {
+      shape = m.gathered.shape;
+      source = m.source;
+      target = m.target;
+      gathered = m.gathered.entries;
+    } };
 
-    ghost invariant = { λ m. (m.source.shape ≡ m.gathered.shape) × (m.target.shape ≡ m.gathered.shape) × (length m.page.items ≡ m.gathered.shape.page_bytes) };
+    ghost invariant = { λ m. (m.source.shape ≡ m.gathered.shape)
+        × (m.target.shape ≡ m.gathered.shape) × (length m.page.items
+        ≡ m.gathered.shape.page_bytes) };
 }
 
 impl<A: Region> Merger<A> {
