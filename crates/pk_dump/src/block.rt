@@ -1,5 +1,8 @@
 //! Blocks: what each is for, and a letter for each of its pages.
-ghost use Rattle.std.specs.Prelude.{◌≡◌, ◌≤◌, ◌<◌};
+ghost use Rattle.std.specs.Prelude.{◌≡◌, ◌≤◌, ◌<◌, nat_lt, MatchBool, MatchOption, ◌⊎◌};
+ghost use Rattle.pk_live.specs.Values.{IsLive};
+ghost use Rattle.pk_dump.specs.declared.picture.BlockUse.TheVariants.{Root as RootBlock, Rest};
+ghost use Rattle.pk_dump.specs.declared.picture.Life.TheVariants.{Live as Living, Dead, Unknown};
 ghost use Rattle.pk_rootfmt.specs.Held.{older_of, blocks_or_none};
 ghost use Rattle.pk_dump.specs.Uses.{is_among, run_of, use_of};
 
@@ -54,6 +57,8 @@ fn named_use<A: Allocator>(root: &Root<A>, block: u16) -> BlockUse
 /// What a block is for under the newest root, if there is one.
 fn block_use<A: Allocator>(root: Option<&Root<A>>, block: u32) -> BlockUse
     requires { block < 65536 }
+    ensures { MatchBool (nat_lt block 2) (result ≡ RootBlock)
+        (MatchOption root.now (result ≡ Rest) (λ r. result ≡ use_of r.now.root block)) }
 {
     if block < 2 {
         return BlockUse::Root;
@@ -65,7 +70,11 @@ fn block_use<A: Allocator>(root: Option<&Root<A>>, block: u32) -> BlockUse
 }
 
 /// What is known of the value to which a page belongs.
-fn life_of<A: Allocator>(live: Option<&Live<A>>, page: u32) -> Life {
+fn life_of<A: Allocator>(live: Option<&Live<A>>, page: u32) -> Life
+    ensures { MatchOption live.now (result ≡ Unknown)
+        (λ l. ((result ≡ Living) × IsLive l.now page)
+        ⊎ ((result ≡ Dead) × (IsLive l.now page → ⊥))) }
+{
     match live {
         Some(live) => {
             if live.is_live(page) {
