@@ -4,7 +4,8 @@ ghost use Rattle.pk_live.specs.Values.{IsLive};
 ghost use Rattle.pk_dump.specs.declared.picture.BlockUse.TheVariants.{Root as RootBlock, Rest};
 ghost use Rattle.pk_dump.specs.declared.picture.Life.TheVariants.{Live as Living, Dead, Unknown};
 ghost use Rattle.pk_rootfmt.specs.Held.{older_of, blocks_or_none};
-ghost use Rattle.pk_dump.specs.Uses.{is_among, run_of, use_of};
+ghost use Rattle.pk_dump.specs.Uses.{run_of, use_of};
+ghost use Rattle.pk_scan.specs.Adopts.{is_among};
 
 use crate::form::Form;
 use crate::picture::{BlockUse, Life, letter};
@@ -18,14 +19,14 @@ use std::fmt::Write;
 /// Whether the run of a level has a block.
 fn in_run<A: Allocator>(root: &Root<A>, level: u8, block: u16) -> bool
     requires { 1 ≤ level × level ≤ 4 }
-    ensures { result ≡ is_among block (run_of root.now.root level) }
+    ensures { result ≡ is_among (run_of root.now.root level) block }
 {
     root.blocks(level).contains(&block)
 }
 
 /// Whether the older epoch has a block.
 fn in_older<A: Allocator>(root: &Root<A>, block: u16) -> bool
-    ensures { result ≡ is_among block (blocks_or_none (older_of root.now.root.older)) }
+    ensures { result ≡ is_among (blocks_or_none (older_of root.now.root.older)) block }
 {
     match root.older() {
         Some(blocks) => blocks.contains(&block),

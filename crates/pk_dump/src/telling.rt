@@ -73,23 +73,15 @@ fn find<B: Nand>(alloc: Global, board: &mut B, shape: Shape) -> Result<Finding, 
     let Ok(mut root) = Root::new(alloc, shape) else {
         return Err(DumpError::Memory);
     };
-    let pages = match read_pages(alloc, board, &shape, &mut buf) {
-        Ok(pages) => pages,
-        Err(error) => return Err(error),
-    };
-    let newest = match find_newest(board, &mut root, &mut buf) {
-        Ok(newest) => newest,
-        Err(error) => return Err(error),
-    };
-    match reading_of(alloc, board, shape) {
-        Ok(reading) => Ok(Finding {
-            pages,
-            root,
-            newest,
-            reading,
-        }),
-        Err(error) => Err(error),
-    }
+    let pages = read_pages(alloc, board, &shape, &mut buf)?;
+    let newest = find_newest(board, &mut root, &mut buf)?;
+    let reading = reading_of(alloc, board, shape)?;
+    Ok(Finding {
+        pages,
+        root,
+        newest,
+        reading,
+    })
 }
 
 /// Tells of what was found.
@@ -125,14 +117,10 @@ pub fn dump<B: Nand>(
     requires ready { IsReady (B.state board.old) shape }
     ensures board { StaysReady shape (B.state board.old) (B.state board.new) }
 {
-    match find(alloc, board, shape) {
-        Ok(found) => {
-            let mut out = String::new(alloc);
-            match tell(alloc, &mut out, form, &found) {
-                Ok(()) => Ok(out),
-                Err(_) => Err(DumpError::Memory),
-            }
-        }
-        Err(error) => Err(error),
+    let found = find(alloc, board, shape)?;
+    let mut out = String::new(alloc);
+    match tell(alloc, &mut out, form, &found) {
+        Ok(()) => Ok(out),
+        Err(_) => Err(DumpError::Memory),
     }
 }
