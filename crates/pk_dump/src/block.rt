@@ -1,5 +1,5 @@
 //! Blocks: what each is for, and a letter for each of its pages.
-ghost use Rattle.std.specs.Prelude.{◌≡◌, ◌≤◌, ◌<◌, nat_lt, MatchBool, MatchOption, ◌⊎◌};
+ghost use Rattle.std.specs.Prelude.{◌≡◌, ◌≤◌, ◌<◌, nat_lt, MatchBool, MatchOption, option_copied, ◌⊎◌};
 ghost use Rattle.pk_live.specs.Values.{IsLive};
 ghost use Rattle.pk_dump.specs.declared.picture.BlockUse.TheVariants.{Root as RootBlock, Rest};
 ghost use Rattle.pk_dump.specs.declared.picture.Life.TheVariants.{Live as Living, Dead, Unknown};
@@ -59,7 +59,8 @@ fn named_use<A: Allocator>(root: &Root<A>, block: u16) -> BlockUse
 fn block_use<A: Allocator>(root: Option<&Root<A>>, block: u32) -> BlockUse
     requires { block < 65536 }
     ensures { MatchBool (nat_lt block 2) (result ≡ RootBlock)
-        (MatchOption root.now (result ≡ Rest) (λ r. result ≡ use_of r.now.root block)) }
+        (MatchOption (option_copied root.entry) (result ≡ Rest)
+        (λ r. result ≡ use_of r.root block)) }
 {
     if block < 2 {
         return BlockUse::Root;
@@ -72,9 +73,8 @@ fn block_use<A: Allocator>(root: Option<&Root<A>>, block: u32) -> BlockUse
 
 /// What is known of the value to which a page belongs.
 fn life_of<A: Allocator>(live: Option<&Live<A>>, page: u32) -> Life
-    ensures { MatchOption live.now (result ≡ Unknown)
-        (λ l. ((result ≡ Living) × IsLive l.now page)
-        ⊎ ((result ≡ Dead) × (IsLive l.now page → ⊥))) }
+    ensures { MatchOption (option_copied live.entry) (result ≡ Unknown)
+        (λ l. ((result ≡ Living) × IsLive l page) ⊎ ((result ≡ Dead) × (IsLive l page → ⊥))) }
 {
     match live {
         Some(live) => {
