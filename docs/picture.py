@@ -21,7 +21,7 @@ COLOURS = {
     ".": ("#ffffff", "erased"),
     "x": ("#e41a1c", "torn"),
 }
-CELL, LABEL, TOP = 14, 150, 44
+CELL, LABEL, TOP = 14, 150, 58
 
 
 def items(lines):
@@ -49,7 +49,7 @@ def read(lines):
             shape = fields["blocks"], fields["block_pages"], fields["page_bytes"]
             heading = "{} blocks of {} pages of {} bytes".format(*shape)
         elif name == "block":
-            blocks.append((f"{fields['number']} {fields['use']}", fields["pages"]))
+            blocks.append((f"{fields['number']} {fields['use'].replace('-', ' ')}", fields["pages"]))
         elif name in ("map", "no-root", "fails"):
             heading += ": " + ending(name, fields)
             failing = int(fields["page"]) if name == "fails" else None
@@ -94,7 +94,7 @@ def cell(x, y, letter, title, fails):
 def drawn(heading, blocks, failing):
     """The picture as text."""
     pages = max(len(letters) for _, letters in blocks)
-    parts, y = [text(10, 20, heading, 14)], TOP
+    parts, y = [text(10, 20, heading, 14), text(10, 40, "a row is a block, a cell a page")], TOP
     for number, label, letters in folded(blocks):
         parts.append(text(10, y + CELL - 4, label))
         for i, letter in enumerate(letters):

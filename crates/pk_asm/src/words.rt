@@ -120,9 +120,13 @@ fn decode(word: &[u8], value: &mut Bytes) -> bool
     requires empty { value.old.items ≡ [] }
     requires even { length word.now % 2 ≡ 0 }
     requires fits { length word.now ≤ 2 * value.old.room }
+
+    // Whether it is digits, and the bytes that it spells.
     ensures read { result ≡ is_some (result_ok (decode_of word.now)) }
     ensures value { result ≡ true
         → value.new ≡ record value.old { items = unwrap_or (result_ok (decode_of word.now)) [] } }
+
+    // The room stays, and what was read so far has the length of its digits.
     ensures room { value.new.room ≡ value.old.room }
     ensures short { 2 * length value.new.items ≤ length word.now }
 {

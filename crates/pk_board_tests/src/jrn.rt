@@ -22,8 +22,10 @@ use std::test::*;
 // A board of Erased pages of which the call of the flash with this number fails, with its shape.
 fn board(alloc: Global, call: u64, left: Left) -> Result<(Flash, Shape), Fail>
     ensures ready { IfOk result (λ b. IsReady (⟦<Flash as Nand>⟧.state b.0) b.1) }
-    ensures numbers { IfOk result (λ b. (b.1.page_bytes ≡ 512) × (b.1.block_pages ≡ 16) × (b.1.blocks ≡ 64)) }
-    ensures erased { IfOk result (λ b. AreErased b.1 (⟦<Flash as Nand>⟧.state b.0).pages (2 ∷ 3 ∷ [])) }
+    ensures numbers { IfOk result (λ b. (b.1.page_bytes ≡ 512) × (b.1.block_pages ≡ 16)
+        × (b.1.blocks ≡ 64)) }
+    ensures erased { IfOk result (λ b. AreErased b.1 (⟦<Flash as Nand>⟧.state b.0).pages (2 ∷ 3
+        ∷ [])) }
 {
     let shape = worked()?;
     let board = erased_board(alloc, shape, call, left)?;

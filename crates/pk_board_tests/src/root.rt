@@ -16,7 +16,8 @@ use std::test::*;
 // Makes `root` the first root but for its number; false where that is no number of a root.
 fn set_root<A: Allocator>(root: &mut Root<A>, number: u64, page: &mut [u8]) -> bool
     requires { length page.old ≡ root.old.shape.page_bytes }
-    ensures root { IsTrue result → (is_root root.new.shape root.new.root ≡ true) × (root.new.root.number ≡ number) }
+    ensures root { IsTrue result → (is_root root.new.shape root.new.root ≡ true)
+        × (root.new.root.number ≡ number) }
     ensures shape { root.new.shape ≡ root.old.shape }
 {
     put_root(root.shape(), number, page);
@@ -34,7 +35,9 @@ fn open<B: Nand, A: Allocator>(
 ) -> Result<Option<Installer>, Fault>
     requires ready { IsReady (B.state board.old) root.old.shape }
     requires room { length buf.old ≡ root.old.shape.page_bytes }
-    ensures fits { IfOk result (λ found. IfSome found (λ installer. (top : ℕ × RootValue) × InstallerOnFlash root.new.shape installer top (B.state board.new).pages × (top.1.number ≡ root.new.root.number))) }
+    ensures fits { IfOk result (λ found. IfSome found (λ installer. (top : ℕ × RootValue)
+        × InstallerOnFlash root.new.shape installer top (B.state board.new).pages
+        × (top.1.number ≡ root.new.root.number))) }
     ensures shape { root.new.shape ≡ root.old.shape }
     ensures ready { IsReady (B.state board.new) root.new.shape }
 {
@@ -55,8 +58,11 @@ fn step<B: Nand, A: Allocator>(
 ) -> Result<u64, Fault>
     requires ready { IsReady (B.state board.old) root.old.shape }
     requires room { length buf.old ≡ root.old.shape.page_bytes }
-    requires fits { (top : ℕ × RootValue) × InstallerOnFlash root.old.shape installer.old top (B.state board.old).pages × (top.1.number ≡ former) }
-    ensures fits { IfOk result (λ number. (top : ℕ × RootValue) × InstallerOnFlash root.new.shape installer.new top (B.state board.new).pages × (top.1.number ≡ number)) }
+    requires fits { (top : ℕ × RootValue) × InstallerOnFlash root.old.shape installer.old top
+        (B.state board.old).pages × (top.1.number ≡ former) }
+    ensures fits { IfOk result (λ number. (top : ℕ × RootValue)
+        × InstallerOnFlash root.new.shape installer.new top (B.state board.new).pages
+        × (top.1.number ≡ number)) }
     ensures shape { root.new.shape ≡ root.old.shape }
     ensures ready { IsReady (B.state board.new) root.new.shape }
 {

@@ -131,7 +131,9 @@ fn counting(alloc: Global, len: usize) -> Result<Vec<u8>, AllocError> {
 
 // The shape is that of the rows, and the value is not too long, nor the front.
 fn are_numbers(shape: &Shape, value: &Vec<u8>, into: &Vec<u8>) -> bool
-    ensures { IsTrue result → (shape.now.page_bytes ≡ 512) × (shape.now.block_pages ≡ 16) × (shape.now.blocks ≡ 64) × (length value.now.items ≤ greatest shape.now) × (length into.now.items ≤ length value.now.items) }
+    ensures { IsTrue result → (shape.now.page_bytes ≡ 512) × (shape.now.block_pages ≡ 16)
+        × (shape.now.blocks ≡ 64) × (length value.now.items ≤ greatest shape.now)
+        × (length into.now.items ≤ length value.now.items) }
 {
     shape.page_bytes() == 512
         && shape.block_pages() == 16

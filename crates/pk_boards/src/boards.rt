@@ -21,8 +21,13 @@ const ROOM: Room = Room {
 
 /// The shape of 64 blocks of 16 pages of 512 bytes.
 pub fn worked() -> Result<Shape, Fail>
-    ensures shape { IfOk result (λ s. s ≡ record { page_bytes = 512; block_pages = 16; blocks = 64 }) }
-    ensures numbers { IfOk result (λ s. (s.page_bytes ≡ 512) × (s.block_pages ≡ 16) × (s.blocks ≡ 64)) }
+    ensures shape { IfOk result (λ s. s ≡ record {
+      page_bytes = 512;
+      block_pages = 16;
+      blocks = 64;
+    }) }
+    ensures numbers { IfOk result (λ s. (s.page_bytes ≡ 512) × (s.block_pages ≡ 16)
+        × (s.blocks ≡ 64)) }
 {
     match Shape::new(512, 16, 64) {
         Ok(shape) => Ok(shape),
@@ -38,8 +43,10 @@ pub fn small() -> Result<Shape, Fail> {
 /// A board of Erased pages, of which the call of the flash with this number fails and leaves this.
 pub fn erased_board(alloc: Global, shape: Shape, call: u64, left: Left) -> Result<Flash, Fail>
     ensures ready { IfOk result (λ b. IsReady (⟦<Flash as Nand>⟧.state b) shape) }
-    ensures pages { IfOk result (λ b. (⟦<Flash as Nand>⟧.state b).pages ≡ replicate (page_count shape) erased) }
-    ensures each { IfOk result (λ b. (k : ℕ) → k < page_count shape → IsErased (⟦<Flash as Nand>⟧.state b).pages k) }
+    ensures pages { IfOk result (λ b. (⟦<Flash as Nand>⟧.state b).pages ≡ replicate
+        (page_count shape) erased) }
+    ensures each { IfOk result (λ b. (k : ℕ) → k < page_count shape
+        → IsErased (⟦<Flash as Nand>⟧.state b).pages k) }
 {
     let mut board = Flash::new(alloc, Some(shape), Vec::new(alloc), ROOM)?;
     board.fail(alloc, call, left)?;

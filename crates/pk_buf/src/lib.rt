@@ -39,7 +39,9 @@ impl<A: Region> Model for Buffer<A> {
 
     ghost view = { λ b. record { capacity = b.capacity; entries = contents b.slots.items } };
 
-    ghost invariant = { λ b. T (is_sorted key_cmp (contents b.slots.items)) × (length b.slots.items ≤ b.capacity) × (b.capacity ≤ b.slots.capacity) × (b.capacity < 2 ^ 32) };
+    ghost invariant = { λ b. T (is_sorted key_cmp (contents b.slots.items))
+        × (length b.slots.items ≤ b.capacity) × (b.capacity ≤ b.slots.capacity)
+        × (b.capacity < 2 ^ 32) };
 }
 
 // Whether the slot's key is below this one.

@@ -240,7 +240,8 @@ impl<A: Allocator> Data<A> {
         ensures moved { self.new ≡ with_head (with_heads self.old
             (heads_without old self.old.live.heads)) new.page new.count }
         ensures placed { (m : Moves self.old old new)
-            → ValuesOnFlash m.shape self.new m.pool m.outputs m.flash (put key_cmp m.key m.place m.es) }
+            → ValuesOnFlash m.shape self.new m.pool m.outputs m.flash
+            (put key_cmp m.key m.place m.es) }
     {
         clear(&mut self.live, old);
         self.live.set(new.page, new.count);
@@ -250,7 +251,8 @@ impl<A: Allocator> Data<A> {
     pub fn remove(&mut self, span: Span)
         requires { Held self.old span }
         ensures removed { self.new ≡ with_head self.old span.page 0 }
-        ensures placed { (h : Held self.old span) → ValuesOnFlash h.shape self.new h.pool h.outputs h.flash
+        ensures placed { (h : Held self.old span)
+            → ValuesOnFlash h.shape self.new h.pool h.outputs h.flash
             (without h.key h.es) }
     {
         self.live.clear(span.page, span.count);

@@ -1,7 +1,11 @@
 //! Blocks: what each is for, and a letter for each of its pages.
-ghost use Rattle.std.specs.Prelude.{◌≡◌, ◌≤◌, ◌<◌};
+ghost use Rattle.std.specs.Prelude.{◌≡◌, ◌≤◌, ◌<◌, nat_lt, MatchBool, MatchOption, option_copied, ◌⊎◌};
+ghost use Rattle.pk_live.specs.Values.{IsLive};
+ghost use Rattle.pk_dump.specs.declared.picture.BlockUse.TheVariants.{Root as RootBlock, Rest};
+ghost use Rattle.pk_dump.specs.declared.picture.Life.TheVariants.{Live as Living, Dead, Unknown};
 ghost use Rattle.pk_rootfmt.specs.Held.{older_of, blocks_or_none};
-ghost use Rattle.pk_dump.specs.Uses.{is_among, run_of, use_of};
+ghost use Rattle.pk_dump.specs.Uses.{run_of, use_of};
+ghost use Rattle.pk_scan.specs.Adopts.{is_among};
 
 use crate::form::Form;
 use crate::picture::{BlockUse, Life, letter};
@@ -15,14 +19,14 @@ use std::fmt::Write;
 /// Whether the run of a level has a block.
 fn in_run<A: Allocator>(root: &Root<A>, level: u8, block: u16) -> bool
     requires { 1 ≤ level × level ≤ 4 }
-    ensures { result ≡ is_among block (run_of root.now.root level) }
+    ensures { result ≡ is_among (run_of root.now.root level) block }
 {
     root.blocks(level).contains(&block)
 }
 
 /// Whether the older epoch has a block.
 fn in_older<A: Allocator>(root: &Root<A>, block: u16) -> bool
-    ensures { result ≡ is_among block (blocks_or_none (older_of root.now.root.older)) }
+    ensures { result ≡ is_among (blocks_or_none (older_of root.now.root.older)) block }
 {
     match root.older() {
         Some(blocks) => blocks.contains(&block),
@@ -54,6 +58,9 @@ fn named_use<A: Allocator>(root: &Root<A>, block: u16) -> BlockUse
 /// What a block is for under the newest root, if there is one.
 fn block_use<A: Allocator>(root: Option<&Root<A>>, block: u32) -> BlockUse
     requires { block < 65536 }
+    ensures { MatchBool (nat_lt block 2) (result ≡ RootBlock)
+        (MatchOption (option_copied root.entry) (result ≡ Rest)
+        (λ r. result ≡ use_of r.root block)) }
 {
     if block < 2 {
         return BlockUse::Root;
@@ -65,7 +72,10 @@ fn block_use<A: Allocator>(root: Option<&Root<A>>, block: u32) -> BlockUse
 }
 
 /// What is known of the value to which a page belongs.
-fn life_of<A: Allocator>(live: Option<&Live<A>>, page: u32) -> Life {
+fn life_of<A: Allocator>(live: Option<&Live<A>>, page: u32) -> Life
+    ensures { MatchOption (option_copied live.entry) (result ≡ Unknown)
+        (λ l. ((result ≡ Living) × IsLive l page) ⊎ ((result ≡ Dead) × (IsLive l page → ⊥))) }
+{
     match live {
         Some(live) => {
             if live.is_live(page) {

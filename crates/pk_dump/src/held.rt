@@ -1,5 +1,5 @@
 //! Pages at their places in an epoch or a run.
-ghost use Rattle.std.specs.Prelude.{◌≡◌, IfSome};
+ghost use Rattle.std.specs.Prelude.{◌≡◌, ◌*◌, ◌≤◌, length, MatchOption};
 ghost use Rattle.pk_base.specs.Page.{page_in as page_in_blocks};
 
 use crate::form::Form;
@@ -20,9 +20,10 @@ pub enum Held {
     Entries { count: u32 },
 }
 
-/// The page at a place of these blocks.
+/// The page at a place of these blocks; `None` exactly behind their last page.
 pub fn page_in(shape: &Shape, blocks: &[u16], place: u32) -> Option<u32>
-    ensures { IfSome result (λ page. page ≡ page_in_blocks shape.now blocks.now place) }
+    ensures { MatchOption result (length blocks.now * shape.now.block_pages ≤ place)
+        (λ page. page ≡ page_in_blocks shape.now blocks.now place) }
 {
     let count = shape.block_pages();
     match blocks.get((place / count) as usize) {

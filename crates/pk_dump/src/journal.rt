@@ -5,6 +5,7 @@ ghost use Rattle.pk_base.specs.Shape.{epoch_commits};
 ghost use Rattle.pk_nand.specs.Seen.{state};
 ghost use Rattle.pk_dump.specs.Pages.{IsFull, AreFull};
 ghost use Rattle.pk_dump.specs.Holds.{HoldsCommit};
+ghost use Rattle.pk_dump.specs.Named.{newest_named, older_named};
 
 use crate::form::Form;
 use crate::held::{Held, page_in, tell_held};
@@ -15,6 +16,36 @@ use pk_nand::PageState;
 use pk_rootfmt::Root;
 use std::alloc::{AllocError, Allocator};
 use std::fmt::Write;
+
+/// An epoch that a root names: its number, and its blocks.
+#[derive(Clone, Copy, Debug, PartialEq, Eq)]
+pub struct NamedEpoch {
+    pub number: u64,
+    pub blocks: [u16; 2],
+}
+
+/// The newest epoch of a root.
+fn newest_of<A: Allocator>(root: &Root<A>) -> NamedEpoch
+    ensures { result ≡ newest_named root.now.root }
+{
+    NamedEpoch {
+        number: root.epoch(),
+        blocks: root.newest(),
+    }
+}
+
+/// The older epoch of a root, where it names one.
+fn older_of<A: Allocator>(root: &Root<A>) -> Option<NamedEpoch>
+    ensures { result ≡ older_named root.now.root }
+{
+    match root.older() {
+        Some(blocks) => Some(NamedEpoch {
+            number: root.epoch().saturating_sub(1),
+            blocks,
+        }),
+        None => None,
+    }
+}
 
 /// Whether a page is the one of this number and index.
 fn is_of(head: JrnHead, number: u64, index: u32) -> bool
@@ -103,23 +134,23 @@ fn tell_commit(
     }
 }
 
-/// Tells of the commits of the epoch of this number in these blocks.
+/// Tells of the commits of an epoch.
 fn tell_epoch(
     out: &mut String,
     form: Form,
     shape: &Shape,
-    number: u64,
-    blocks: [u16; 2],
+    epoch: NamedEpoch,
     pages: &[PageState],
 ) -> Result<(), AllocError>
     requires { AreFull shape.now pages.now }
 {
+    let number = epoch.number;
     match form {
         Form::People => writeln!(out, "epoch {number}")?,
         Form::Programs => writeln!(out, "epoch number={number}")?,
     }
     for index in 0..shape.epoch_commits() {
-        let Some(at) = page_in(shape, &blocks, index) else {
+        let Some(at) = page_in(shape, &epoch.blocks, index) else {
             return Ok(());
         };
         let Some(page) = pages.get(at as usize) else {
@@ -142,16 +173,9 @@ pub fn tell_epochs<A: Allocator>(
     requires { AreFull root.now.shape pages.now }
 {
     let shape = root.shape();
-    tell_epoch(out, form, shape, root.epoch(), root.newest(), pages)?;
-    match root.older() {
-        Some(blocks) => tell_epoch(
-            out,
-            form,
-            shape,
-            root.epoch().saturating_sub(1),
-            blocks,
-            pages,
-        ),
+    tell_epoch(out, form, shape, newest_of(root), pages)?;
+    match older_of(root) {
+        Some(older) => tell_epoch(out, form, shape, older, pages),
         None => Ok(()),
     }
 }

@@ -6,6 +6,7 @@
 
 mod block;
 mod errors;
+mod finding;
 mod form;
 mod held;
 mod journal;

@@ -46,8 +46,12 @@ fn read_page<B: Nand>(
     requires ready { IsReady (B.state board.old) shape.now }
     requires exists { page < spec.page_count shape.now }
     requires room { length buf.old ≡ shape.now.page_bytes }
+
+    // The page as it stands.
     ensures found { IfOk result (λ p. state p ≡ page_at (B.state board.old).pages page) }
     ensures full { IfOk result (λ p. IsFull shape.now (state p)) }
+
+    // Either way board and buffer may be used again.
     ensures board { StaysReady shape.now (B.state board.old) (B.state board.new) }
     ensures buffer { length buf.new ≡ length buf.old }
 {

@@ -113,7 +113,7 @@ pub fn tell_roots(
     requires { AreFull shape.now pages.now }
 {
     let mut root = Root::new(alloc, *shape)?;
-    for at in 0..2 * shape.block_pages() {
+    for at in 0..shape.root_pages() {
         let Some(page) = pages.get(at as usize) else {
             return Ok(());
         };

@@ -4,6 +4,7 @@ ghost use Rattle.pk_base.specs.Page.{whole};
 ghost use Rattle.pk_nand.specs.Seen.{state};
 ghost use Rattle.pk_dump.specs.Pages.{IsFull, AreFull};
 ghost use Rattle.pk_dump.specs.Holds.{HoldsRunPage};
+ghost use Rattle.pk_dump.specs.Named.{wanted_of};
 
 use crate::form::Form;
 use crate::held::{Held, page_in, tell_held};
@@ -21,6 +22,20 @@ pub struct Wanted {
     pub level: u8,
     pub index: u32,
     pub count: u32,
+}
+
+/// The page of this index in a run of so many entries: each but the last is full.
+fn wanted_page(shape: &Shape, level: u8, entries: u32, index: u32) -> Wanted
+    ensures { result ≡ wanted_of shape.now level entries index }
+{
+    shape.known();
+    let most = shape.entries() as u64;
+    let left = (entries as u64).saturating_sub(index as u64 * most);
+    Wanted {
+        level,
+        index,
+        count: most.min(left) as u32,
+    }
 }
 
 /// What these bytes are as this page of a run.
@@ -115,16 +130,8 @@ fn tell_run(
         Form::People => writeln!(out, "run {level}: {entries} entries")?,
         Form::Programs => writeln!(out, "run level={level} entries={entries}")?,
     }
-    let most = shape.entries();
-    let mut left = entries;
-    for index in 0..entries.div_ceil(most) {
-        let count = left.min(most);
-        left -= count;
-        let wanted = Wanted {
-            level,
-            index,
-            count,
-        };
+    for index in 0..entries.div_ceil(shape.entries()) {
+        let wanted = wanted_page(shape, level, entries, index);
         let Some(at) = page_in(shape, blocks, index) else {
             return Ok(());
         };

@@ -5,9 +5,11 @@ ghost use Rattle.pk_nand.specs.Calls.{IsReady};
 ghost use Rattle.pk_rootfmt.specs.Newest.{newest_root};
 ghost use Rattle.pk_scan.specs.Board.{StaysReady};
 ghost use Rattle.pk_dump.specs.Pages.{AreFull};
+ghost use Rattle.pk_dump.specs.Findings.{IsFindingOf};
 
 use crate::block::tell_blocks;
 use crate::errors::DumpError;
+use crate::finding::Finding;
 use crate::form::Form;
 use crate::journal::tell_epochs;
 use crate::pages::read_pages;
@@ -15,22 +17,11 @@ use crate::reading::{Reading, reading_of, tell_reading};
 use crate::root::tell_roots;
 use crate::run::tell_runs;
 use pk_base::Shape;
-use pk_nand::{Nand, PageState};
+use pk_nand::Nand;
 use pk_root::newest;
 use pk_rootfmt::Root;
 use std::alloc::{AllocError, Global};
 use std::fmt::Write;
-
-/// What was found on a flash.
-#[derive(Drop)]
-struct Finding {
-    pages: Vec<PageState>,
-    /// The newest root, and its page where there is one.
-    root: Root<Global>,
-    newest: Option<u32>,
-    reading: Reading,
-    ghost full: { AreFull root.shape pages.items },
-}
 
 /// Tells of the shape of a flash.
 fn tell_shape(out: &mut String, form: Form, shape: &Shape) -> Result<(), AllocError> {
@@ -73,6 +64,7 @@ fn find_newest<B: Nand>(
 /// Finds what stands on a flash.
 fn find<B: Nand>(alloc: Global, board: &mut B, shape: Shape) -> Result<Finding, DumpError>
     requires ready { IsReady (B.state board.old) shape }
+    ensures found { IfOk result (λ f. IsFindingOf shape (B.state board.old).pages f) }
     ensures board { StaysReady shape (B.state board.old) (B.state board.new) }
 {
     let Ok(mut buf) = Vec::from_elem(alloc, 0u8, shape.page_bytes() as usize) else {
@@ -81,23 +73,15 @@ fn find<B: Nand>(alloc: Global, board: &mut B, shape: Shape) -> Result<Finding, 
     let Ok(mut root) = Root::new(alloc, shape) else {
         return Err(DumpError::Memory);
     };
-    let pages = match read_pages(alloc, board, &shape, &mut buf) {
-        Ok(pages) => pages,
-        Err(error) => return Err(error),
-    };
-    let newest = match find_newest(board, &mut root, &mut buf) {
-        Ok(newest) => newest,
-        Err(error) => return Err(error),
-    };
-    match reading_of(alloc, board, shape) {
-        Ok(reading) => Ok(Finding {
-            pages,
-            root,
-            newest,
-            reading,
-        }),
-        Err(error) => Err(error),
-    }
+    let pages = read_pages(alloc, board, &shape, &mut buf)?;
+    let newest = find_newest(board, &mut root, &mut buf)?;
+    let reading = reading_of(alloc, board, shape)?;
+    Ok(Finding {
+        pages,
+        root,
+        newest,
+        reading,
+    })
 }
 
 /// Tells of what was found.
@@ -133,14 +117,10 @@ pub fn dump<B: Nand>(
     requires ready { IsReady (B.state board.old) shape }
     ensures board { StaysReady shape (B.state board.old) (B.state board.new) }
 {
-    match find(alloc, board, shape) {
-        Ok(found) => {
-            let mut out = String::new(alloc);
-            match tell(alloc, &mut out, form, &found) {
-                Ok(()) => Ok(out),
-                Err(_) => Err(DumpError::Memory),
-            }
-        }
-        Err(error) => Err(error),
+    let found = find(alloc, board, shape)?;
+    let mut out = String::new(alloc);
+    match tell(alloc, &mut out, form, &found) {
+        Ok(()) => Ok(out),
+        Err(_) => Err(DumpError::Memory),
     }
 }

@@ -29,7 +29,12 @@ fn format<B: Nand>(board: &mut B, alloc: Global, shape: &Shape, buf: &mut [u8]) 
     requires pages { (B.state board.old).pages ≡ replicate 1024 erased }
     requires room { length buf.old ≡ 512 }
     ensures ready { IfOk result (λ u. IsReady (B.state board.new) shape.now) }
-    ensures pages { IfOk result (λ u. (B.state board.new).pages ≡ slice_set (replicate 1024 erased) 0 (whole (root_bytes (record { page_bytes = 512; block_pages = 16; blocks = 64 }) first_root))) }
+    ensures pages { IfOk result (λ u. (B.state board.new).pages ≡ slice_set
+        (replicate 1024 erased) 0 (whole (root_bytes (record {
+          page_bytes = 512;
+          block_pages = 16;
+          blocks = 64;
+        }) first_root))) }
     ensures buffer { length buf.new ≡ length buf.old }
 {
     match board.load(alloc) {
@@ -47,7 +52,11 @@ fn format<B: Nand>(board: &mut B, alloc: Global, shape: &Shape, buf: &mut [u8]) 
 // Gives blocks 2 and 3 to the journal.
 fn adopt_first<A: Allocator>(pool: &mut Pool<A>)
     requires { pool.old ≡ unused (record { page_bytes = 512; block_pages = 16; blocks = 64 }) }
-    ensures adopted { pool.new ≡ with_state (with_state (unused (record { page_bytes = 512; block_pages = 16; blocks = 64 })) 2 (Owned Journal)) 3 (Owned Journal) }
+    ensures adopted { pool.new ≡ with_state (with_state (unused (record {
+      page_bytes = 512;
+      block_pages = 16;
+      blocks = 64;
+    })) 2 (Owned Journal)) 3 (Owned Journal) }
     ensures fits { (flash : Pages) → PoolOnFlash pool.old flash → PoolOnFlash pool.new flash }
 {
     pool.adopt(2, Owner::Journal);
@@ -63,8 +72,13 @@ fn freeze_first<B: Nand, A: Allocator>(
 ) -> Result<([u16; 2], Option<u32>), Fault>
     requires shape { root.old.shape ≡ record { page_bytes = 512; block_pages = 16; blocks = 64 } }
     requires ready { IsReady (B.state board.old) root.old.shape }
-    requires pages { (B.state board.old).pages ≡ slice_set (replicate 1024 erased) 0 (whole (root_bytes (record { page_bytes = 512; block_pages = 16; blocks = 64 }) first_root)) }
-    requires pool { pool.old ≡ with_state (with_state (unused (record { page_bytes = 512; block_pages = 16; blocks = 64 })) 2 (Owned Journal)) 3 (Owned Journal) }
+    requires pages { (B.state board.old).pages ≡ slice_set (replicate 1024 erased) 0 (whole
+        (root_bytes (record { page_bytes = 512; block_pages = 16; blocks = 64 }) first_root)) }
+    requires pool { pool.old ≡ with_state (with_state (unused (record {
+      page_bytes = 512;
+      block_pages = 16;
+      blocks = 64;
+    })) 2 (Owned Journal)) 3 (Owned Journal) }
     requires fits { (flash : Pages) → PoolOnFlash pool.old flash }
     requires room { length buf.old ≡ 512 }
 {

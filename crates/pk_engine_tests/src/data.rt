@@ -36,8 +36,13 @@ fn store<A: Allocator, B: Nand>(
 ) -> Result<Span, Fault>
     requires ready { IsReady (B.state board.old) shape.now }
     requires short { length value.now ≤ greatest shape.now }
-    requires keeps { (es : List (KeySpec × Place)) × ValuesOnFlash shape.now data.old pool.old [] (B.state board.old).pages es × T (is_sorted key_cmp es) × (span_if_some shape.now (find key_cmp key.now es) ≡ old) }
-    ensures keeps { IfOk result (λ span. (es : List (KeySpec × Place)) × ValuesOnFlash shape.now data.new pool.new [] (B.state board.new).pages es × T (is_sorted key_cmp es) × (span_if_some shape.now (find key_cmp key.now es) ≡ Some span)) }
+    requires keeps { (es : List (KeySpec × Place))
+        × ValuesOnFlash shape.now data.old pool.old [] (B.state board.old).pages es
+        × T (is_sorted key_cmp es) × (span_if_some shape.now (find key_cmp key.now es) ≡ old) }
+    ensures keeps { IfOk result (λ span. (es : List (KeySpec × Place))
+        × ValuesOnFlash shape.now data.new pool.new [] (B.state board.new).pages es
+        × T (is_sorted key_cmp es) × (span_if_some shape.now (find key_cmp key.now es)
+        ≡ Some span)) }
     ensures ready { IsReady (B.state board.new) shape.now }
 {
     // so that the length of the value is known to fit
@@ -75,7 +80,8 @@ fn store_often<A: Allocator, B: Nand>(
 ) -> Result<Option<Span>, Fault>
     requires ready { IsReady (B.state board.old) shape.now }
     requires placed { ValuesOnFlash shape.now data.old pool.old [] (B.state board.old).pages [] }
-    ensures placed { IfOk result (λ _. (es : List (KeySpec × Place)) × ValuesOnFlash shape.now data.new pool.new [] (B.state board.new).pages es) }
+    ensures placed { IfOk result (λ _. (es : List (KeySpec × Place))
+        × ValuesOnFlash shape.now data.new pool.new [] (B.state board.new).pages es) }
 {
     if value.len() > shape.greatest() as usize {
         return Err(Fault::Reading);
@@ -93,7 +99,8 @@ fn store_often<A: Allocator, B: Nand>(
 
 // Gives the least closed block back, if it has no live page.
 fn release_least<A: Allocator>(data: &mut Data<A>, pool: &mut Pool<A>) -> Option<u32>
-    requires placed { (shape : ShapeSpec) × (flash : FlashSpec) × (es : List (KeySpec × Place)) × ValuesOnFlash shape data.old pool.old [] flash es }
+    requires placed { (shape : ShapeSpec) × (flash : FlashSpec) × (es : List (KeySpec × Place))
+        × ValuesOnFlash shape data.old pool.old [] flash es }
 {
     match data.live().least_closed() {
         None => None,

@@ -27,7 +27,11 @@ impl Model for GoodMachine {
 
     ghost Value = { Machine };
 
-    ghost coded = { Prim.hlevel (codes, code {R = key_cmp} (coded_list coded_ℕ) (coded_list coded_ℕ)) };
+    ghost coded = { Prim.hlevel (
+      codes,
+      code {R = key_cmp} (coded_list coded_ℕ)
+          (coded_list coded_ℕ),
+    ) };
 
     ghost view = { λ g. g.machine };
 

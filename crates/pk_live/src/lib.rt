@@ -28,7 +28,11 @@ impl<A: Allocator> Model for Live<A> {
 
     ghost Value = { Values };
 
-    ghost view = { λ a. record { block_pages = a.block_pages; heads = a.heads.items; closed = a.closed.items } };
+    ghost view = { λ a. record {
+      block_pages = a.block_pages;
+      heads = a.heads.items;
+      closed = a.closed.items;
+    } };
 
     ghost invariant = { λ a. IsCounted a.block_pages a.total a.heads.items a.counts.items a.closed.items };
 }

@@ -33,7 +33,12 @@ impl<A: Allocator> Model for Cursor<A> {
 
     ghost Value = { spec.Cursor };
 
-    ghost view = { λ c. record { shape = c.shape; place = c.place; loaded = c.loaded; bytes = c.page.items } };
+    ghost view = { λ c. record {
+      shape = c.shape;
+      place = c.place;
+      loaded = c.loaded;
+      bytes = c.page.items;
+    } };
 
     ghost invariant = { λ c. length c.page.items ≡ c.shape.page_bytes };
 }
@@ -104,15 +109,21 @@ impl<A: Allocator> Cursor<A> {
         requires follows { Follows (B.state board.old).pages run.now self.old }
         requires exists { self.old.place < run.now.count }
         requires wants { wants_page self.old ≡ true }
+
+        // The page is loaded.
         ensures loaded { OnOk result (self.new
             ≡ record self.old { loaded = suc (own_page self.old); bytes = self.new.bytes }) }
         ensures follows { Follows (B.state board.old).pages run.now self.new }
         ensures ok { OnOk result
             (B.state board.new ≡ after_look run.now.leases (B.state board.old)) }
+
+        // Or its read failed.
         ensures kept { OnErr result (self.new ≡ record self.old { bytes = self.new.bytes }) }
         ensures reading { IfErr result (λ fault. fault ≡ Reading) }
         ensures err { OnErr result (ReadFailed (B.state board.old) (B.state board.new)
             (page_of run.now (own_page self.old))) }
+
+        // Either way the flash is as it was.
         ensures same { (B.state board.new).pages ≡ (B.state board.old).pages }
         ensures ready { IsReady (B.state board.new) run.now.shape }
     {

@@ -25,7 +25,8 @@ impl<A: Allocator> Model for Gathered<A> {
 
     ghost view = { λ g. record { shape = g.shape; entries = seen_all g.entries.items } };
 
-    ghost invariant = { λ g. (length g.entries.items ≤ page_entries g.shape) × (page_entries g.shape ≤ vec_capacity g.entries) };
+    ghost invariant = { λ g. (length g.entries.items ≤ page_entries g.shape)
+        × (page_entries g.shape ≤ vec_capacity g.entries) };
 }
 
 impl<A: Allocator> Gathered<A> {

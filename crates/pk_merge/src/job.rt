@@ -46,7 +46,13 @@ impl<A: Region> Model for MergeJob<A> {
 
     ghost Value = { spec.Job };
 
-    ghost view = { λ j. record { pinned = j.pinned; target = j.target; output = j.output; merger = j.merger; spares = j.spares } };
+    ghost view = { λ j. record {
+      pinned = j.pinned;
+      target = j.target;
+      output = j.output;
+      merger = j.merger;
+      spares = j.spares;
+    } };
 }
 
 impl<A: Region> MergeJob<A> {
@@ -230,11 +236,17 @@ impl<A: Region> MergeJob<A> {
     pub fn give_back(&mut self, pool: &mut Pool<A>, arena: &mut PinArena<A>, former: Run<A>)
         requires blocks { AreOwned pool.old former.blocks }
         requires frames { AreLeased arena.old former.leases }
+
+        // The run is a spare one.
         ensures kept { self.new ≡ given_to self.old former }
+
+        // Its blocks are free.
         ensures pool { pool.new ≡ freed pool.old former.blocks }
         ensures blocks { LeavesBlocks former.blocks pool.old pool.new }
         ensures unready { unready pool.new.states ≡ unready pool.old.states }
         ensures fits { (flash : Flash) → PoolOnFlash pool.old flash → PoolOnFlash pool.new flash }
+
+        // Its frames are free.
         ensures arena { arena.new ≡ given_all arena.old former.leases }
         ensures others { LeavesOthers former.leases arena.old arena.new }
         ensures leases { (before behind : List ℕ)

@@ -50,9 +50,16 @@ impl<A: Region> Model for Merger<A> {
 
     ghost Value = { spec.Merger };
 
-    ghost view = { λ m. record { shape = m.gathered.shape; source = m.source; target = m.target; gathered = m.gathered.entries } };
+    ghost view = { λ m. record {
+      shape = m.gathered.shape;
+      source = m.source;
+      target = m.target;
+      gathered = m.gathered.entries;
+    } };
 
-    ghost invariant = { λ m. (m.source.shape ≡ m.gathered.shape) × (m.target.shape ≡ m.gathered.shape) × (length m.page.items ≡ m.gathered.shape.page_bytes) };
+    ghost invariant = { λ m. (m.source.shape ≡ m.gathered.shape)
+        × (m.target.shape ≡ m.gathered.shape) × (length m.page.items
+        ≡ m.gathered.shape.page_bytes) };
 }
 
 impl<A: Region> Merger<A> {
@@ -251,6 +258,8 @@ impl<A: Region> Merger<A> {
             (B.state board.old).pages arena.old es fs }
         requires tells { Tells source.now target.now out.old self.old next }
         requires bound { length self.old.gathered ≤ page_entries self.old.shape }
+
+        // What was done, or the call that failed.
         ensures acts { OnOk result (Acts source.now target.now pins out.old self.old pool.old
             (B.state board.old) arena.old next out.new self.new pool.new
             (B.state board.new) arena.new) }
@@ -258,6 +267,8 @@ impl<A: Region> Merger<A> {
             pool.old (B.state board.old) fault self.new (B.state board.new)) }
         ensures kept { OnErr result
             ((out.new ≡ out.old) × (pool.new ≡ pool.old) × (arena.new ≡ arena.old)) }
+
+        // Either way the board may be called as before.
         ensures ready { IsReady (B.state board.new) out.old.shape }
     {
         out.known();
@@ -297,14 +308,20 @@ impl<A: Region> Merger<A> {
         requires follows { FollowsIn source.now (B.state board.old).pages self.old.source }
         requires exists { self.old.source.place < count_of source.now }
         requires wants { wants_page_in source.now self.old.source ≡ true }
+
+        // The page is loaded.
         ensures loads { OnOk result (LoadsSource source.now self.old (B.state board.old) self.new
             (B.state board.new)) }
+
+        // Or its read failed.
         ensures kept { OnErr result (self.new ≡ record self.old
             { source = record self.old.source { bytes = self.new.source.bytes } }) }
         ensures follows { FollowsIn source.now (B.state board.old).pages self.new.source }
         ensures reading { IfErr result (λ fault. fault ≡ Reading) }
         ensures err { OnErr result (LookFails source.now self.old.source (B.state board.old)
             (B.state board.new)) }
+
+        // Either way the flash is as it was.
         ensures same { (B.state board.new).pages ≡ (B.state board.old).pages }
         ensures ready { (shape : shapes.Shape) → IsReady (B.state board.old) shape
             → IsReady (B.state board.new) shape }
@@ -328,14 +345,20 @@ impl<A: Region> Merger<A> {
         requires follows { Follows (B.state board.old).pages target.now self.old.target }
         requires exists { self.old.target.place < target.now.count }
         requires wants { wants_page self.old.target ≡ true }
+
+        // The page is loaded.
         ensures loads { OnOk result (LoadsTarget target.now self.old (B.state board.old) self.new
             (B.state board.new)) }
+
+        // Or its read failed.
         ensures kept { OnErr result (self.new ≡ record self.old
             { target = record self.old.target { bytes = self.new.target.bytes } }) }
         ensures follows { Follows (B.state board.old).pages target.now self.new.target }
         ensures reading { IfErr result (λ fault. fault ≡ Reading) }
         ensures err { OnErr result (ReadFailed (B.state board.old) (B.state board.new)
             (page_of target.now (own_page self.old.target))) }
+
+        // Either way the flash is as it was.
         ensures same { (B.state board.new).pages ≡ (B.state board.old).pages }
         ensures ready { IsReady (B.state board.new) target.now.shape }
     {
@@ -357,24 +380,34 @@ impl<A: Region> Merger<A> {
         requires stands { (es : List EntrySpec)
             × RunOnFlash out.old (B.state board.old).pages arena.old es }
         requires output { IsOutput out.old (B.state board.old).pages }
+
+        // The page has a place in the blocks, and its entries are all there.
         requires place { length out.old.firsts
             < length out.old.blocks * out.old.shape.block_pages }
         requires room { length out.old.firsts < most_pages out.old }
         requires full { out.old.count ≡ length out.old.firsts * page_entries out.old.shape }
         requires content { IsContent out.old.shape out.old.level (length out.old.firsts)
             self.old.gathered }
+
+        // A frame is free where one is wanted.
         requires pinned { IsPinnedIf pins out.old }
         requires free { pins ≡ true → 0 < free_frames arena.old }
         requires frames { arena.old.page_bytes ≡ out.old.shape.page_bytes }
         requires shape { self.old.shape ≡ out.old.shape }
+
+        // The page stands.
         ensures programmed { OnOk result (ProgramsPage pins out.old self.old.gathered
             (B.state board.old) arena.old out.new (B.state board.new) arena.new) }
         ensures taken { OnOk result (self.new ≡ record self.old { gathered = [] }) }
+
+        // Or its program failed, and all is as before.
         ensures stopped { IfErr result (λ e. e ≡ Stopped) }
         ensures failed { OnErr result (FailsToProgram out.old self.old.gathered
             (B.state board.old) (B.state board.new)) }
         ensures kept { OnErr result ((out.new ≡ out.old) × (arena.new ≡ arena.old)) }
         ensures same { OnErr result (self.new ≡ self.old) }
+
+        // Either way the board may be called as before.
         ensures ready { IsReady (B.state board.new) out.old.shape }
     {
         match program_page(
@@ -410,15 +443,21 @@ impl<A: Region> Merger<A> {
         requires running { (es : List EntrySpec) × (fs : List EntrySpec)
             × Running source.now target.now pins out.old self.old pool.old
             (B.state board.old).pages arena.old es fs }
+
+        // What the step did, and whether it was the last one.
         ensures steps { OnOk result (Steps source.now target.now pins out.old self.old pool.old
             (B.state board.old) arena.old out.new self.new pool.new
             (B.state board.new) arena.new) }
         ensures done { IfOk result (λ done. IsTrue done
             ↔ IsDone source.now target.now self.new) }
+
+        // Or the call that failed.
         ensures fails { IfErr result (λ fault. Fails source.now target.now out.old self.old
             pool.old (B.state board.old) fault self.new (B.state board.new)) }
         ensures kept { OnErr result
             ((out.new ≡ out.old) × (pool.new ≡ pool.old) × (arena.new ≡ arena.old)) }
+
+        // Either way the board may be called as before.
         ensures ready { IsReady (B.state board.new) out.old.shape }
     {
         out.known();

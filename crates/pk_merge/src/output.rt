@@ -44,12 +44,18 @@ pub fn take_block<B: Nand, A: Allocator>(
     requires fits { PoolOnFlash pool.old (B.state board.old).pages }
     requires below { used_by Meta pool.old.states < quota_of pool.old.shape Meta }
     requires room { length out.old.blocks < most_blocks out.old }
+
+    // A block more.
     ensures taken { OnOk result (TakesBlock pool.old out.old (B.state board.old) pool.new out.new
         (B.state board.new)) }
+
+    // Or its erase failed, and all is as before.
     ensures stopped { IfErr result (λ e. e ≡ Stopped) }
     ensures failed { OnErr result
         (FailsToErase pool.old (B.state board.old) (B.state board.new)) }
     ensures kept { OnErr result ((out.new ≡ out.old) × (pool.new ≡ pool.old)) }
+
+    // Either way board and pool fit each other.
     ensures ready { IsReady (B.state board.new) pool.new.shape }
     ensures shape { pool.new.shape ≡ pool.old.shape }
     ensures fits { PoolOnFlash pool.new (B.state board.new).pages }
@@ -96,21 +102,31 @@ pub fn program_page<B: Nand, A: Allocator>(
     requires stands { (es : List EntrySpec)
         × RunOnFlash out.old (B.state board.old).pages arena.old es }
     requires output { IsOutput out.old (B.state board.old).pages }
+
+    // The page has a place in the blocks, and its entries are all there.
     requires place { length out.old.firsts < length out.old.blocks * out.old.shape.block_pages }
     requires room { length out.old.firsts < most_pages out.old }
     requires full { out.old.count ≡ length out.old.firsts * page_entries out.old.shape }
     requires content { IsContent out.old.shape out.old.level (length out.old.firsts)
         (seen_all entries.now) }
+
+    // A frame is free where one is wanted.
     requires pinned { IsPinnedIf pins out.old }
     requires free { pins ≡ true → 0 < free_frames arena.old }
     requires frames { arena.old.page_bytes ≡ out.old.shape.page_bytes }
     requires sized { length buf.old ≡ out.old.shape.page_bytes }
+
+    // The page stands.
     ensures programmed { OnOk result (ProgramsPage pins out.old (seen_all entries.now)
         (B.state board.old) arena.old out.new (B.state board.new) arena.new) }
+
+    // Or its program failed, and all is as before.
     ensures stopped { IfErr result (λ e. e ≡ Stopped) }
     ensures failed { OnErr result (FailsToProgram out.old (seen_all entries.now)
         (B.state board.old) (B.state board.new)) }
     ensures kept { OnErr result ((out.new ≡ out.old) × (arena.new ≡ arena.old)) }
+
+    // Either way the board may be called as before.
     ensures ready { IsReady (B.state board.new) out.old.shape }
 {
     out.known();

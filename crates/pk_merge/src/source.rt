@@ -59,14 +59,20 @@ impl<'a, A: Region> Source<'a, A> {
         requires follows { FollowsIn self.now (B.state board.old).pages cursor.old }
         requires exists { cursor.old.place < count_of self.now }
         requires wants { wants_page_in self.now cursor.old ≡ true }
+
+        // The page is loaded.
         ensures loaded { OnOk result (cursor.new ≡ record cursor.old
             { loaded = suc (own_page cursor.old); bytes = cursor.new.bytes }) }
         ensures follows { FollowsIn self.now (B.state board.old).pages cursor.new }
         ensures ok { OnOk result (B.state board.new ≡ after_look_at self.now (B.state board.old)) }
+
+        // Or its read failed.
         ensures kept { OnErr result (cursor.new ≡ record cursor.old { bytes = cursor.new.bytes }) }
         ensures reading { IfErr result (λ fault. fault ≡ Reading) }
         ensures err { OnErr result
             (LookFails self.now cursor.old (B.state board.old) (B.state board.new)) }
+
+        // Either way the flash is as it was.
         ensures same { (B.state board.new).pages ≡ (B.state board.old).pages }
         ensures ready { (shape : spec.Shape) → IsReady (B.state board.old) shape
             → IsReady (B.state board.new) shape }

@@ -25,9 +25,15 @@ impl Model for Page {
 
     ghost Value = { Listing };
 
-    ghost view = { λ p. record { bytes = p.bytes.items; count = p.count; left = p.left; full = p.full } };
+    ghost view = { λ p. record {
+      bytes = p.bytes.items;
+      count = p.count;
+      left = p.left;
+      full = p.full;
+    } };
 
-    ghost invariant = { λ p. (length p.bytes.items + p.left ≤ p.bytes.room) × (p.count + p.left < 2 ^ 31) };
+    ghost invariant = { λ p. (length p.bytes.items + p.left ≤ p.bytes.room)
+        × (p.count + p.left < 2 ^ 31) };
 }
 
 impl Page {

@@ -42,7 +42,11 @@ impl Model for MapMachine {
 
     ghost Value = { Machine };
 
-    ghost coded = { Prim.hlevel (codes, code {R = key_cmp} (coded_list coded_ℕ) (coded_list coded_ℕ)) };
+    ghost coded = { Prim.hlevel (
+      codes,
+      code {R = key_cmp} (coded_list coded_ℕ)
+          (coded_list coded_ℕ),
+    ) };
 
     ghost view = { λ m. record { shape = m.shape; map = m.map } };
 

@@ -75,7 +75,8 @@ fn is_place(shape: &Shape, place: Place) -> bool
 
 // The shape is that of the rows, and the value is not too long.
 fn are_numbers(shape: &Shape, value: &Vec<u8>) -> bool
-    ensures { IsTrue result → (shape.now.page_bytes ≡ 512) × (shape.now.block_pages ≡ 16) × (shape.now.blocks ≡ 64) × (length value.now.items ≤ greatest shape.now) }
+    ensures { IsTrue result → (shape.now.page_bytes ≡ 512) × (shape.now.block_pages ≡ 16)
+        × (shape.now.blocks ≡ 64) × (length value.now.items ≤ greatest shape.now) }
 {
     shape.page_bytes() == 512
         && shape.block_pages() == 16
@@ -189,8 +190,10 @@ fn bytes_are_checked(rt: HostRuntime) -> Result<(), Fail> {
 
 // Takes the pages of a value where it may stand there.
 fn take<A: Allocator>(shape: &Shape, pool: &Pool<A>, live: &mut Live<A>, place: Place) -> bool
-    requires { (taken : List (KeySpec × PlaceSpec)) × Lives shape.now (owned_blocks pool.now) live.old taken }
-    ensures { (taken : List (KeySpec × PlaceSpec)) × Lives shape.now (owned_blocks pool.now) live.new taken }
+    requires { (taken : List (KeySpec × PlaceSpec))
+        × Lives shape.now (owned_blocks pool.now) live.old taken }
+    ensures { (taken : List (KeySpec × PlaceSpec))
+        × Lives shape.now (owned_blocks pool.now) live.new taken }
 {
     if !is_place(shape, place) {
         return false;
@@ -215,8 +218,10 @@ fn take_many<A: Allocator>(
     each: u32,
     blocks: u32,
 ) -> u32
-    requires { (taken : List (KeySpec × PlaceSpec)) × Lives shape.now (owned_blocks pool.now) live.old taken }
-    ensures { (taken : List (KeySpec × PlaceSpec)) × Lives shape.now (owned_blocks pool.now) live.new taken }
+    requires { (taken : List (KeySpec × PlaceSpec))
+        × Lives shape.now (owned_blocks pool.now) live.old taken }
+    ensures { (taken : List (KeySpec × PlaceSpec))
+        × Lives shape.now (owned_blocks pool.now) live.new taken }
 {
     if each > 4 || blocks > 64 {
         return 0;

@@ -44,9 +44,14 @@ impl<A: Allocator> Model for PinArena<A> {
 
     ghost Value = { Frames };
 
-    ghost view = { λ a. record { page_bytes = a.page_bytes; used = a.used.items; frames = chunks a.page_bytes (length a.used.items) a.bytes.items } };
+    ghost view = { λ a. record {
+      page_bytes = a.page_bytes;
+      used = a.used.items;
+      frames = chunks a.page_bytes (length a.used.items) a.bytes.items;
+    } };
 
-    ghost invariant = { λ a. (a.free ≡ count_by not a.used.items) × (length a.used.items < 2 ^ 32) × (length a.bytes.items ≡ length a.used.items * a.page_bytes) };
+    ghost invariant = { λ a. (a.free ≡ count_by not a.used.items) × (length a.used.items < 2 ^ 32)
+        × (length a.bytes.items ≡ length a.used.items * a.page_bytes) };
 }
 
 // Takes the first place that is not used.

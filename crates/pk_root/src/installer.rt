@@ -40,7 +40,8 @@ fn erase_other<B: Nand>(board: &mut B, shape: &Shape, beside: u32) -> Result<u32
 
     // The other block is Erased.
     ensures erases { IfOk result (λ page.
-        ErasesOther shape.now (Erase beside) (B.state board.old) (Program page) (B.state board.new)) }
+        ErasesOther shape.now (Erase beside) (B.state board.old) (Program page)
+        (B.state board.new)) }
     ensures stopped { IfErr result (λ e. e ≡ Stopped) }
     ensures failed { OnErr result (FailsToErase shape.now (Erase beside) (B.state board.old)
         (B.state board.new)) }
@@ -189,7 +190,8 @@ impl Installer {
         ensures cases { IfOk result (λ installed. MatchBool installed
             (Installs root.now.shape root.now.root self.old (B.state board.old) self.new
             (B.state board.new))
-            (ErasesOther root.now.shape self.old (B.state board.old) self.new (B.state board.new))) }
+            (ErasesOther root.now.shape self.old (B.state board.old) self.new
+            (B.state board.new))) }
         ensures turn { IfOk result (λ installed. installed ≡ not (erases_next self.old)) }
         ensures programs_next { IfOk result (λ installed. installed ≡ false
             → erases_next self.new ≡ false) }

@@ -36,9 +36,26 @@ impl<A: Allocator> Model for Run<A> {
 
     ghost Value = { Kept };
 
-    ghost view = { λ r. record { shape = r.shape; level = r.level; count = r.count; blocks = r.blocks.items; firsts = r.firsts.items; leases = r.leases.items } };
+    ghost view = { λ r. record {
+      shape = r.shape;
+      level = r.level;
+      count = r.count;
+      blocks = r.blocks.items;
+      firsts = r.firsts.items;
+      leases = r.leases.items;
+    } };
 
-    ghost invariant = { λ r. IsKept (record { shape = r.shape; level = r.level; count = r.count; blocks = r.blocks.items; firsts = r.firsts.items; leases = r.leases.items }) × (cap r.shape r.level ≤ vec_capacity r.firsts) × (cap r.shape r.level ≤ vec_capacity r.leases) × (blocks_of r.shape (cap r.shape r.level) ≤ vec_capacity r.blocks) };
+    ghost invariant = { λ r. IsKept (record {
+      shape = r.shape;
+      level = r.level;
+      count = r.count;
+      blocks = r.blocks.items;
+      firsts = r.firsts.items;
+      leases = r.leases.items;
+    })
+        × (cap r.shape r.level ≤ vec_capacity r.firsts)
+        × (cap r.shape r.level ≤ vec_capacity r.leases)
+        × (blocks_of r.shape (cap r.shape r.level) ≤ vec_capacity r.blocks) };
 }
 
 impl<A: Allocator + Clone> Run<A> {
@@ -226,7 +243,8 @@ impl<A: Allocator> Run<A> {
 
         // The entry of the key, by at most one read.
         ensures found { IfOk result (λ found. (es : List EntrySpec)
-            → RunOnFlash self.now (B.state board.old).pages arena.now es → IsFound key.now es found) }
+            → RunOnFlash self.now (B.state board.old).pages arena.now es
+            → IsFound key.now es found) }
         ensures looks { OnOk result (Looks self.now key.now (B.state board.old)
             (B.state board.new)) }
         ensures calls { OnOk result ((B.state board.new ≡ B.state board.old)

@@ -26,7 +26,8 @@ fn lookup<A: Allocator, B: Nand>(
     buf: &mut [u8],
 ) -> Result<Option<Entry>, Fault>
     requires ready { IsReady (B.state board.old) levels.now.shape }
-    requires stand { (flash : Pages) (frames : Frames) → RunsOnFlash flash frames levels.now.runs ([] ∷ [] ∷ [] ∷ [] ∷ []) }
+    requires stand { (flash : Pages) (frames : Frames)
+        → RunsOnFlash flash frames levels.now.runs ([] ∷ [] ∷ [] ∷ [] ∷ []) }
     requires room { length buf.old ≡ levels.now.shape.page_bytes }
 {
     levels.lookup(board, arena, key, buf)

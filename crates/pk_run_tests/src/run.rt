@@ -41,7 +41,8 @@ fn board_with_page(alloc: Global, shape: Shape, call: u64) -> Result<Flash, Fail
 // A frame with these bytes, where one is wanted and free.
 fn frame_with<A: Allocator>(arena: &mut PinArena<A>, wanted: bool, bytes: &[u8]) -> Option<Lease>
     requires { length bytes.now ≡ arena.old.page_bytes }
-    ensures { MatchOption result (arena.new ≡ arena.old) (λ l. IsLeased arena.new l × (frame_of arena.new l ≡ bytes.now)) }
+    ensures { MatchOption result (arena.new ≡ arena.old) (λ l. IsLeased arena.new l
+        × (frame_of arena.new l ≡ bytes.now)) }
 {
     if !wanted {
         return None;
@@ -64,13 +65,16 @@ fn open<A: Allocator, B: Nand>(
     buf: &mut [u8],
 ) -> Result<bool, Fault>
     requires ready { IsReady (B.state board.old) run.old.shape }
-    requires empty { (run.old.firsts ≡ []) × (run.old.leases ≡ []) × (run.old.count ≡ 0) × (run.old.level ≡ 1) }
+    requires empty { (run.old.firsts ≡ []) × (run.old.leases ≡ []) × (run.old.count ≡ 0)
+        × (run.old.level ≡ 1) }
     requires block { 1 ≤ length run.old.blocks }
     requires stands { (flash : Pages) (frames : Frames) → RunOnFlash run.old flash frames [] }
     requires room { length buf.old ≡ run.old.shape.page_bytes }
     requires frames { arena.old.page_bytes ≡ run.old.shape.page_bytes }
-    ensures stands { IfOk result (λ opened. IsTrue opened → (es : List EntrySpec) × RunOnFlash run.new (B.state board.new).pages arena.new es) }
-    ensures ready { IfOk result (λ opened. IsTrue opened → IsReady (B.state board.new) run.new.shape) }
+    ensures stands { IfOk result (λ opened. IsTrue opened → (es : List EntrySpec)
+        × RunOnFlash run.new (B.state board.new).pages arena.new es) }
+    ensures ready { IfOk result (λ opened. IsTrue opened
+        → IsReady (B.state board.new) run.new.shape) }
     ensures shape { run.new.shape ≡ run.old.shape }
     ensures pages { IfOk result (λ opened. IsTrue opened → length run.new.firsts ≡ 1) }
 {
@@ -109,7 +113,8 @@ fn opened<A: Allocator + Clone, B: Nand>(
 ) -> Result<Option<(Run<A>, PinArena<A>)>, AllocError>
     requires ready { IsReady (B.state board.old) shape }
     requires room { length buf.old ≡ shape.page_bytes }
-    ensures stands { IfOk result (λ some. IfSome some (λ parts. (es : List EntrySpec) × RunOnFlash parts.0 (B.state board.new).pages parts.1 es)) }
+    ensures stands { IfOk result (λ some. IfSome some (λ parts. (es : List EntrySpec)
+        × RunOnFlash parts.0 (B.state board.new).pages parts.1 es)) }
     ensures ready { IfOk result (λ some. IfSome some (λ parts. IsReady (B.state board.new) shape)) }
     ensures shape { IfOk result (λ some. IfSome some (λ parts. parts.0.shape ≡ shape)) }
     ensures pages { IfOk result (λ some. IfSome some (λ parts. length parts.0.firsts ≡ 1)) }

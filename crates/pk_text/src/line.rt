@@ -78,8 +78,12 @@ pub fn give_line<B: Board>(
     requires number { number < 2 ^ 63 }
     requires value_room { value.old.room ≡ 1100000 }
     requires out_room { out.old.room ≡ 1100064 }
+
+    // The buffers may be used again.
     ensures value_room { value.new.room ≡ value.old.room }
     ensures out_room { out.new.room ≡ out.old.room }
+
+    // What was posted, and the number of the next line.
     ensures few { IfOk result (λ next. next ≤ number + 1) }
     ensures ok { IfOk result
         (λ next. Gives number line.now next (B.state board.old) (B.state board.new)) }

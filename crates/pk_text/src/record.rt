@@ -100,7 +100,11 @@ fn show_some<B: Board>(
 ) -> Result<u32, TextEnd>
     requires some { 0 < left }
     requires room { text.old.room ≡ 8192 }
+
+    // The buffer may be used again.
     ensures room { text.new.room ≡ text.old.room }
+
+    // How much was shown, or why the run ends.
     ensures some { IfOk result (λ count. 0 < count) }
     ensures few { IfOk result (λ count. count ≤ left) }
     ensures advances { IfOk result (λ count. (more : List ℕ → Written)

@@ -35,7 +35,12 @@ impl<A: Allocator> Model for Cursor<A> {
 
     ghost Value = { spec.Cursor };
 
-    ghost view = { λ c. record { shape = c.shape; place = c.place; loaded = c.loaded; bytes = c.page.items } };
+    ghost view = { λ c. record {
+      shape = c.shape;
+      place = c.place;
+      loaded = c.loaded;
+      bytes = c.page.items;
+    } };
 
     ghost invariant = { λ c. length c.page.items ≡ c.shape.page_bytes };
 }

@@ -26,7 +26,8 @@ pub fn seek<A: Allocator, B: Nand>(
 ) -> Result<Option<Entry>, Fault>
     requires ready { IsReady (B.state board.old) run.now.shape }
     requires shape { cursor.old.shape ≡ run.now.shape }
-    requires follows { (es : List EntrySpec) × RunOnFlash run.now (B.state board.old).pages arena.now es
+    requires follows { (es : List EntrySpec)
+        × RunOnFlash run.now (B.state board.old).pages arena.now es
         × Follows (B.state board.old).pages run.now es position.now cursor.old }
 
     // The first wanted entry.

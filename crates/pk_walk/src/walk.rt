@@ -44,7 +44,11 @@ impl<A: Region> Model for Walk<A> {
 
     ghost view = { λ w. record { shape = w.shape; position = w.position; cursors = w.cursors } };
 
-    ghost invariant = { λ w. IsWalk (record { shape = w.shape; position = w.position; cursors = w.cursors }) };
+    ghost invariant = { λ w. IsWalk (record {
+      shape = w.shape;
+      position = w.position;
+      cursors = w.cursors;
+    }) };
 }
 
 impl<A: Region> Walk<A> {

@@ -37,11 +37,16 @@ pub fn reclaims()
 
 /// What a job has left, by how far it has come.
 pub fn jobs()
+    // Of a merge.
     ensures merge { MergeWithin }
     ensures merge_programs { MergePrograms }
     ensures merge_takes { MergeTakes }
+
+    // Of a freeze.
     ensures freeze { FreezeWithin }
     ensures freeze_takes { FreezeTakes }
+
+    // Of a reclaim.
     ensures reclaim { ReclaimWithin }
     ensures reclaim_reads { ReclaimReads }
     ensures reclaim_programs { ReclaimPrograms }
