@@ -118,7 +118,7 @@ module _ (pool : Blocks) (root : Held) (next : Next) (has_entries : Bool) (old :
     next_valid : is_root root.shape (next_root root.root blocks has_entries) ≡ true
     next_valid =
         let P : List ℕ → Type 0 = λ bs. T (is_root root.shape (next_root root.root bs has_entries)) in
-        is_true _ (subst P (sym t.blocks_are) (next_is_root root.shape root.root t.first t.second valid may.none_named two (may.apart.unnamed t.first t.first_spare) (may.apart.unnamed t.second t.second_spare) may.number has_entries))
+        is_true _ (subst P (sym t.blocks_are) (next_is_root root.shape root.root t.first t.second valid may.none_named two (may.apart.unnamed t.first t.first_spare) (may.apart.unnamed t.second t.second_spare) (let low = may.number in omega (arith, low)) has_entries))
 
     frozen_is : next_root root.root blocks has_entries ≡ frozen_root top.1 found t.first t.second
     frozen_is =

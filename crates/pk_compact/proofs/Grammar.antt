@@ -92,7 +92,7 @@ module _ (shape : Shape) (first second : ℕ) (two : AreTwo shape first second) 
 -- ---- the next root
 
 module _ (shape : Shape) (root : Root) (first second : ℕ) (is : T (is_root shape root)) (none_older : root.older ≡ []) (two : AreTwo shape first second)
-    (first_new : In first (named root) → ⊥) (second_new : In second (named root) → ⊥) (small : root.number < 9223372036854775808) where
+    (first_new : In first (named root) → ⊥) (second_new : In second (named root) → ⊥) (small : root.number < 18446744073709551615) where
   was : Known shape root
   was = known shape root is
 

@@ -6,6 +6,7 @@ pub mod Numbering
 pub mod Frozen
 pub mod Examples
 pub mod NextRoot
+pub mod Growing
 pub mod TakingOne
 pub mod FreezeRoot
 pub mod FreezeStepping

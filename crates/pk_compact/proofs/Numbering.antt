@@ -33,7 +33,7 @@ same_front shape old new same = same_newest shape old new (newest_root_same shap
 -- ---- an erase of a block behind the root blocks
 
 module _ (shape : Shape) (is_shape : IsShape shape) (block : ℕ) (behind : 2 ≤ block) (old new : BoardState) (ready : IsReady old shape) where
-  failed_front : EraseFailed old new block → SameFront shape old.pages new.pages
+  pub failed_front : EraseFailed old new block → SameFront shape old.pages new.pages
   failed_front failed k low = elim failed.left [
     | inl marked ↦
         untouched (shape_of old) (erase block) k _ _ (λ is. not_behind shape block k is_shape behind low (subst (λ (s : Shape). k / s.block_pages ≡ block) (shape_is old shape ready) is)) (marked.0.pages k)

@@ -60,7 +60,7 @@ pub record IsFreezing (pool : Blocks) (root : Held) (next : Next) (job : FreezeJ
   pub none_older : found.older ≡ []
   pub none_named : root.root.older ≡ []
   pub told : (length found.newest == 0) ≡ not has_entries
-  pub number : root.root.number < 9223372036854775808
+  pub number : root.root.number < 18446744073709551615
   pub room : used_by Journal pool.states ≤ 2 + length (taken_by job)
   pub owned : (b : ℕ) → AnyByRecursion (λ c. b ≡ c) root.root.newest → slice_get pool.states b ≡ Some (Owned Journal)
   pub apart : IsApart root.shape pool root.root found

@@ -5,6 +5,7 @@ ghost use Rattle.pk_nand.specs.Calls.{IsReady};
 ghost use Rattle.pk_nand.specs.Effects.{AtMostOneCall};
 ghost use Rattle.pk_rootfmt.specs.Root.{Root as RootValue};
 ghost use Rattle.pk_model.specs.Found.{Found};
+ghost use Rattle.pk_model.specs.Growth.{Grows};
 ghost use Rattle.pk_model.specs.Steps.{Step};
 ghost use Rattle.pk_compact.specs.FreezeSteps.{IsFreezing, FreezeSteps, FreezeStepBreaks};
 
@@ -54,6 +55,7 @@ pub fn freeze_step<B: Nand, A: Allocator>(
         (B.state board.new))
         root.old.shape 1 (B.state board.old) (B.state board.new) result }
     ensures calls { AtMostOneCall (B.state board.old) (B.state board.new) }
+    ensures grows { Grows root.old.shape (B.state board.old).pages (B.state board.new).pages }
     ensures root_shape { root.new.shape ≡ root.old.shape }
     ensures buffer { length buf.new ≡ length buf.old }
 {

@@ -19,7 +19,7 @@ fn older<A: Allocator>(root: &Root<A>, has_entries: bool) -> Option<[u16; 2]>
 
 /// Makes the root the next one: an empty epoch in these blocks, and the former one as the older where it has entries.
 pub(crate) fn follow<A: Allocator>(root: &mut Root<A>, blocks: [u16; 2], has_entries: bool)
-    requires number { root.old.root.number < 9223372036854775808 }
+    requires number { root.old.root.number < 18446744073709551615 }
     requires epoch { root.old.root.epoch ≤ root.old.root.number }
     requires newest { length root.old.root.newest ≡ 2 }
     ensures { root.new ≡ record root.old { root = next_root root.old.root blocks has_entries } }

@@ -5,6 +5,7 @@ ghost use Rattle.pk_nand.specs.Calls.{IsReady};
 ghost use Rattle.pk_nand.specs.Effects.{AtMostOneCall};
 ghost use Rattle.pk_rootfmt.specs.Root.{Root as RootValue};
 ghost use Rattle.pk_model.specs.Found.{Found};
+ghost use Rattle.pk_model.specs.Growth.{Grows};
 ghost use Rattle.pk_model.specs.Steps.{Step};
 ghost use Rattle.pk_root.specs.Installing.{erases_next, SameBehind};
 ghost use Rattle.pk_compact.specs.Installing.{CanPrepare, Prepares, PrepareBreaks, CanInstall, InstallsRoot, InstallBreaks};
@@ -32,6 +33,7 @@ pub fn prepare_root<B: Nand>(
         (PrepareBreaks shape.now installer.old (B.state board.old) (B.state board.new))
         shape.now 0 (B.state board.old) (B.state board.new) result }
     ensures calls { AtMostOneCall (B.state board.old) (B.state board.new) }
+    ensures grows { Grows shape.now (B.state board.old).pages (B.state board.new).pages }
 {
     shape.known();
     match installer.erase(board, shape) {
@@ -61,6 +63,7 @@ pub fn install_root<B: Nand, A: Allocator>(
         (B.state board.new))
         root.now.shape 1 (B.state board.old) (B.state board.new) result }
     ensures calls { AtMostOneCall (B.state board.old) (B.state board.new) }
+    ensures grows { Grows root.now.shape (B.state board.old).pages (B.state board.new).pages }
     ensures buffer { length buf.new ≡ length buf.old }
 {
     root.shape().known();

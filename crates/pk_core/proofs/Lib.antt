@@ -8,6 +8,12 @@ pub mod Committing
 pub mod Building
 pub mod Freezing
 pub mod Rooming
+pub mod Amounts
+pub mod ReadSteps
+pub mod Inside
+pub mod Emptied
+pub mod Quieted
+pub mod Came
 pub mod Unchanging
 pub mod Counting
 pub mod Filling

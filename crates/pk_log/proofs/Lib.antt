@@ -3,4 +3,5 @@ pub mod Pushing
 pub mod Committing
 pub mod Freezing
 pub mod FreezeStepping
+pub mod Merging
 pub mod Examples

@@ -35,7 +35,7 @@ pub record CanStep (log : LogState) (pool : Blocks) (job : FreezeJob) (flash : F
   pub under : IsUnder log.shape flash [] top found m
   pub pool_shape : pool.shape ≡ log.shape
   pub pool_fits : PoolOnFlash pool flash
-  pub number : log.root.number < 9223372036854775808
+  pub number : log.root.number < 18446744073709551615
   pub room : used_by Journal pool.states ≤ 2 + length (taken_by job)
   pub owned : (b : ℕ) → AnyByRecursion (λ c. b ≡ c) log.root.newest → slice_get pool.states b ≡ Some (Owned Journal)
   pub apart : IsApart log.shape pool log.root found

@@ -4,6 +4,7 @@ ghost use Rattle.pk_base.specs.Map.{Map};
 ghost use Rattle.pk_nand.specs.Calls.{IsReady};
 ghost use Rattle.pk_rootfmt.specs.Root.{Root as RootValue};
 ghost use Rattle.pk_model.specs.Found.{Found};
+ghost use Rattle.pk_model.specs.Growth.{Grows};
 ghost use Rattle.pk_pool.specs.Blocks.{PoolOnFlash};
 ghost use Rattle.pk_model.specs.Steps.{Step};
 ghost use Rattle.pk_nand.specs.Effects.{AtMostOneCall};
@@ -87,7 +88,9 @@ impl<A: Region> Log<A> {
             (LogStepBreaks self.old pool.old job.old (B.state board.old) (B.state board.new))
             self.old.shape 1 (B.state board.old) (B.state board.new) result }
         ensures calls { AtMostOneCall (B.state board.old) (B.state board.new) }
+        ensures grows { Grows self.old.shape (B.state board.old).pages (B.state board.new).pages }
         ensures same_shape { self.new.shape ≡ self.old.shape }
+        ensures pending { self.new.pending ≡ self.old.pending }
         ensures buffer { length buf.new ≡ length buf.old }
     {
         let has_entries = self.active.len() > 0;

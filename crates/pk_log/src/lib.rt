@@ -6,6 +6,7 @@
 mod freeze;
 mod laws;
 mod log;
+mod merge;
 
 pub use laws::elsewhere;
 pub use log::Log;

@@ -1,2 +1,13 @@
 pub mod Keeping
+pub mod Exchanging
+pub mod Giving
+pub mod Standing
+pub mod Freezing
 pub mod Backlogs
+pub mod Carried
+pub mod Grown
+pub mod Running
+pub mod Entries
+pub mod Leveled
+pub mod Beginning
+pub mod Stepping

@@ -5,6 +5,8 @@
 //! see the former lists.
 #![tactic(auto)]
 
+mod exchange;
+mod merging;
 mod phase;
 mod schedule;
 

@@ -33,9 +33,9 @@ use std::marker::Model;
 /// runs, the frames and the blocks of one drive.
 #[derive(Drop)]
 pub struct Schedule<A: Region> {
-    job: MergeJob<A>,
-    phase: Phase,
-    freeze: FreezeJob,
+    pub(crate) job: MergeJob<A>,
+    pub(crate) phase: Phase,
+    pub(crate) freeze: FreezeJob,
 }
 
 impl<A: Region> Model for Schedule<A> {
@@ -178,6 +178,7 @@ impl<A: Region> Schedule<A> {
         ensures ready { IsReady (B.state board.new) log.old.shape }
         ensures buffer { length buf.new ≡ length buf.old }
     {
-        Err(Fault::Stopped)
+        pool.known();
+        log.freeze_step(board, pool, &mut self.freeze, buf)
     }
 }

@@ -1,5 +1,7 @@
 use Rattle.std.proofs.Common.{sym, ◌∙◌}
 use Rattle.pk_compact.proofs.FreezeStepping.{first_step, second_step, take_broken, epoch_least, newest_two, can_prepare_at, erase_step, erase_broken, can_install, root_step, root_broken}
+use Rattle.pk_compact.proofs.Growing.{took_grows, take_failed_grows}
+use Rattle.pk_compact.proofs.TakingOne.{is_shape, spare_behind}
 use Rattle.pk_compact.proofs.freezing.freeze_step.Goals as goal
 
 pub follow-requires-clause-epoch : goal.follow-requires-clause-epoch
@@ -51,3 +53,33 @@ returns-in-Ok-install_root-clause-step g c =
 pub returns-in-Err-install_root-clause-step : goal.returns-in-Err-install_root-clause-step
 returns-in-Err-install_root-clause-step g c =
     root_broken c.args.pool.now c.args.root.now c.args.installer.now c.args.job.now c.args.has_entries (g.B.Nand.state c.args.board.now) c.known.ensures c.requires.ready c.requires.may c.in-HasTwo.first c.in-HasTwo.second c.in-HasTwo.is c.follow.new.root c.follow.ensures c.args.pool.now c.follow.new.root c.install_root.new.installer c.args.job.now (g.B.Nand.state c.install_root.new.board) c.in-Err-install_root.fault c.in-Err-install_root.ensures.step
+
+pub returns-in-Ok-clause-grows : goal.returns-in-Ok-clause-grows
+returns-in-Ok-clause-grows g c =
+    let may = c.requires.may in
+    let old = g.B.Nand.state c.args.board.now in
+    let right = is_shape c.args.pool.now c.args.root.now c.args.installer.now c.args.job.now c.args.has_entries old c.known.ensures c.requires.ready may.0 may.1 may.2 may.3 in
+    took_grows c.args.root.now.shape right c.in-Ok.first old (g.B.Nand.state c.take_block.new.board) c.in-Ok.ensures.taken.1 c.requires.ready c.in-Ok.ensures.spare.1
+
+pub returns-in-Ok-take_block-clause-grows : goal.returns-in-Ok-take_block-clause-grows
+returns-in-Ok-take_block-clause-grows g c =
+    let may = c.requires.may in
+    let old = g.B.Nand.state c.args.board.now in
+    let right = is_shape c.args.pool.now c.args.root.now c.args.installer.now c.args.job.now c.args.has_entries old c.known.ensures c.requires.ready may.0 may.1 may.2 may.3 in
+    took_grows c.args.root.now.shape right c.in-Ok-take_block.second old (g.B.Nand.state c.take_block-in-HasOne.new.board) c.in-Ok-take_block.ensures.taken.1 c.requires.ready c.in-Ok-take_block.ensures.spare.1
+
+pub returns-in-Err-clause-grows : goal.returns-in-Err-clause-grows
+returns-in-Err-clause-grows g c =
+    let may = c.requires.may in
+    let old = g.B.Nand.state c.args.board.now in
+    let right = is_shape c.args.pool.now c.args.root.now c.args.installer.now c.args.job.now c.args.has_entries old c.known.ensures c.requires.ready may.0 may.1 may.2 may.3 in
+    let behind = spare_behind c.args.pool.now c.args.root.now c.args.installer.now c.args.job.now c.args.has_entries old c.known.ensures c.requires.ready may.0 may.1 may.2 may.3 in
+    take_failed_grows c.args.root.now.shape right c.args.pool.now old (g.B.Nand.state c.take_block.new.board) c.requires.ready behind c.in-Err.ensures.failed
+
+pub returns-in-Err-take_block-clause-grows : goal.returns-in-Err-take_block-clause-grows
+returns-in-Err-take_block-clause-grows g c =
+    let may = c.requires.may in
+    let old = g.B.Nand.state c.args.board.now in
+    let right = is_shape c.args.pool.now c.args.root.now c.args.installer.now c.args.job.now c.args.has_entries old c.known.ensures c.requires.ready may.0 may.1 may.2 may.3 in
+    let behind = spare_behind c.args.pool.now c.args.root.now c.args.installer.now c.args.job.now c.args.has_entries old c.known.ensures c.requires.ready may.0 may.1 may.2 may.3 in
+    take_failed_grows c.args.root.now.shape right c.args.pool.now old (g.B.Nand.state c.take_block-in-HasOne.new.board) c.requires.ready behind c.in-Err-take_block.ensures.failed

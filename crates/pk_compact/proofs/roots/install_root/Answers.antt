@@ -3,6 +3,7 @@ use Rattle.std.specs.Prelude.{MatchBool}
 use Rattle.pk_base.specs.Shape.{Shape, IsShape}
 use Rattle.pk_root.specs.Installing.{Installs, ErasesOther}
 use Rattle.pk_model.proofs.Steps.{roots_few}
+use Rattle.pk_compact.proofs.Growing.{install_grows, install_failed_grows}
 use Rattle.pk_compact.proofs.NextRoot.{greater, few, is_installed, install_breaks, fails_to_install, install_works, install_stops, install_number}
 use Rattle.pk_compact.proofs.roots.install_root.Goals as goal
 
@@ -54,3 +55,23 @@ returns-in-Err-clause-step g c =
       roots_few = roots_few shape 1 old new c.requires.ready c.step.ensures.ready (install_number shape c.args.root.now.root c.args.installer.now old new most failed);
       ready = c.step.ensures.ready;
     }
+
+pub returns-in-Ok-clause-grows : goal.returns-in-Ok-clause-grows
+returns-in-Ok-clause-grows g c =
+    let old = g.B.Nand.state c.args.board.now in
+    let new = g.B.Nand.state c.step.new.board in
+    let shape = c.args.root.now.shape in
+    let is_shape = subst (λ (s : Shape). IsShape s) c.shape.ensures c.known.ensures in
+    let can = c.requires.can in
+    let done : c.in-Ok.field-0 ≡ true = c.in-Ok.ensures.turn ∙ ap not c.requires.programs in
+    let P : Bool → Type 0 = λ b. MatchBool b (Installs shape c.args.root.now.root c.args.installer.now old c.step.new.self new) (ErasesOther shape c.args.installer.now old c.step.new.self new) in
+    install_grows shape is_shape c.args.root.now.root c.args.installer.now old new can.0 can.1 can.2 can.3 can.4 c.step.ensures.behind c.step.new.self (subst P done c.in-Ok.ensures.cases)
+
+pub returns-in-Err-clause-grows : goal.returns-in-Err-clause-grows
+returns-in-Err-clause-grows g c =
+    let old = g.B.Nand.state c.args.board.now in
+    let new = g.B.Nand.state c.step.new.board in
+    let shape = c.args.root.now.shape in
+    let is_shape = subst (λ (s : Shape). IsShape s) c.shape.ensures c.known.ensures in
+    let can = c.requires.can in
+    install_failed_grows shape is_shape c.args.root.now.root c.args.installer.now old new can.0 can.1 can.2 can.3 can.4 c.step.ensures.behind (fails_to_install shape c.args.root.now.root c.args.installer.now old new c.requires.programs c.in-Err.ensures.failed)

@@ -1,0 +1,117 @@
+-- The install of a merge over a log.
+use Rattle.std.proofs.Common.{◌≡◌, ℕ, ◌-◌, ◌+◌, ◌*◌, ◌<◌, ◌≤◌, refl, sym, ap, subst, ◌∙◌, arith, Bool, true, false, List, [], ◌++◌, length, slice_index, ◌==◌, if◌then◌else◌, mul-le-mul_right}
+use Rattle.pk_base.specs.Shape.{Shape}
+use Rattle.pk_base.specs.Page.{Flash, page_at}
+use Rattle.pk_base.specs.Entry.{Entry}
+use Rattle.pk_base.specs.Map.{Map}
+use Rattle.pk_nand.specs.BoardState.{BoardState}
+use Rattle.pk_rootfmt.specs.Root.{Root}
+use Rattle.pk_rootfmt.specs.Held.{Held}
+use Rattle.pk_root.specs.declared.next.Next.{Next}
+use Rattle.pk_root.specs.Installing.{SameBehind}
+use Rattle.pk_buf.specs.Table.{Table}
+use Rattle.pk_jrn.specs.Epochs.{EpochOnFlash}
+use Rattle.pk_jrn.specs.Laws.{SameBlocks}
+use Rattle.pk_jrn.specs.Replays.{buffer_of}
+use Rattle.pk_jrn.proofs.Places.{EpochOnFlash-same}
+use Rattle.pk_model.specs.Found.{Found}
+use Rattle.pk_model.proofs.Commits.{blocks_of_root}
+use Rattle.pk_steps.specs.Merging.{merged_root, merged_found}
+use Rattle.pk_steps.proofs.NewestBlocks.{valid_root}
+use Rattle.pk_compact.specs.Installing.{CanPrepare, IsPrepared}
+use Rattle.pk_compact.specs.Merging.{CanMerge, HasMerged}
+use Rattle.pk_log.specs.State.{LogState}
+use Rattle.pk_log.specs.Logs.{LogOnFlash}
+use Rattle.pk_log.specs.MergeSteps.{MayPrepare, LogPrepared, MayMerge, LogMerged, frozen_after}
+
+-- the epoch that a log writes does not lie in the root blocks
+epoch_behind : (log : LogState) (old new : Flash) (top : ℕ × Root) (found : Found) → LogOnFlash log old top found → SameBehind log.shape old new → EpochOnFlash log.epoch new
+epoch_behind log old new top found logs behind =
+    let blocks = blocks_of_root log.shape top.1 (valid_root log.shape (page_at old) top logs.is_top) in
+    let P : Shape → List ℕ → Type 0 = λ s bs. SameBlocks s bs old new in
+    let there : P log.shape top.1.newest = λ n small k low high. behind k (let twice : 2 * log.shape.block_pages ≤ slice_index top.1.newest n * log.shape.block_pages = mul-le-mul_right log.shape.block_pages (blocks.beyond n small) in omega (arith, twice, low)) in
+    EpochOnFlash-same log.epoch old new (subst (λ s. P s log.epoch.blocks) (sym logs.epoch_shape) (subst (λ bs. P log.shape bs) (sym logs.epoch_blocks) there)) logs.epoch_fits
+
+-- ---- the erase
+
+pub can_prepare : (log : LogState) (flash : Flash) (top : ℕ × Root) (found : Found) (m : Map) → MayPrepare log flash top found m → CanPrepare log.shape log.next flash top found m
+can_prepare log flash top found m may = record { installs = may.logs.installs; under = may.under }
+
+pub log_prepared : (log : LogState) (old new : BoardState) (top : ℕ × Root) (found : Found) (m : Map) (next' : Next) → MayPrepare log old.pages top found m → IsPrepared log.shape old top found m next' new
+    → LogPrepared log old top found m (record log { next = next' }) new
+log_prepared log old new top found m next' may is =
+    let logs = may.logs in
+    record {
+      same_log = refl;
+      programs_next = is.programs_next;
+      logs = record {
+        is_shape = logs.is_shape;
+        is_top = is.under.is_top;
+        root_is = logs.root_is;
+        is_found = is.under.is_found;
+        installs = is.installs;
+        epoch_shape = logs.epoch_shape;
+        epoch_number = logs.epoch_number;
+        epoch_blocks = logs.epoch_blocks;
+        epoch_fits = epoch_behind log old.pages new.pages top found logs is.behind;
+        active_is = logs.active_is;
+        frozen_is = logs.frozen_is;
+        pending_are = logs.pending_are;
+        pending_few = logs.pending_few;
+        pending_room = logs.pending_room;
+      };
+      under = is.under;
+      behind = is.behind;
+      cuts = is.cuts;
+    }
+
+-- ---- the program
+
+pub can_merge : (log : LogState) (flash : Flash) (top : ℕ × Root) (found : Found) (m : Map) (level count : ℕ) (taken : List ℕ) → MayMerge log flash top found m level count taken
+    → CanMerge (record { shape = log.shape; root = log.root }) log.next flash top found m level count taken
+can_merge log flash top found m level count taken may = record {
+  installs = may.logs.installs;
+  top_is = sym may.logs.root_is;
+  under = may.under;
+  merged = may.merged;
+  few = may.few;
+  number = may.number;
+}
+
+-- the frozen buffer holds what is left of the older epoch
+emptied : (one : Bool) (shape : Shape) (frozen : Table) (older : List Entry) → frozen ≡ buffer_of shape older
+    → (if one then record frozen { entries = [] } else frozen) ≡ buffer_of shape (if one then [] else older)
+emptied true shape frozen older is = ap (λ (t : Table). record t { entries = [] }) is
+emptied false shape frozen older is = is
+
+pub log_merged : (log : LogState) (old new : BoardState) (top : ℕ × Root) (found : Found) (m : Map) (level count : ℕ) (taken : List ℕ) (root' : Root) (next' : Next) (frozen' : Table) (log' : LogState)
+    → MayMerge log old.pages top found m level count taken → HasMerged log.shape old top found m level count taken root' next' new → frozen' ≡ frozen_after level log.frozen
+    → log' ≡ record log { root = root'; next = next'; frozen = frozen' } → LogMerged log old top found m level count taken log' new
+log_merged log old new top found m level count taken root' next' frozen' log' may is emptied_is log_is =
+    let logs = may.logs in
+    let there : LogMerged log old top found m level count taken (record log { root = root'; next = next'; frozen = frozen' }) new = record {
+      page = is.page;
+      merged_is = (λ i. record log { root = is.root_is i; next = next'; frozen = emptied_is i });
+      logs = record {
+        is_shape = logs.is_shape;
+        is_top = is.under.is_top;
+        root_is = refl;
+        is_found = is.under.is_found;
+        installs = is.installs;
+        epoch_shape = logs.epoch_shape;
+        epoch_number = logs.epoch_number ∙ sym (ap (λ (r : Root). r.epoch) is.root_is);
+        epoch_blocks = logs.epoch_blocks ∙ sym (ap (λ (r : Root). r.newest) is.root_is);
+        epoch_fits = epoch_behind log old.pages new.pages top found logs is.behind;
+        active_is = logs.active_is;
+        frozen_is = emptied_is ∙ emptied (level == 1) log.shape log.frozen found.older logs.frozen_is;
+        pending_are = logs.pending_are;
+        pending_few = logs.pending_few;
+        pending_room = logs.pending_room;
+      };
+      under = is.under;
+      number = is.number;
+      behind = is.behind;
+      cuts = is.cuts;
+    } in
+    let P : LogState → Type 0 = λ l. LogMerged log old top found m level count taken l new in
+    subst P (sym log_is) there

@@ -1,0 +1,109 @@
+-- Blocks of one owner that are given back to the pool, and one that is taken: what becomes of the others.
+use Rattle.std.proofs.Common.{◌≡◌, ◌≢◌, ◌⊎◌, inl, inr, ℕ, ◌+◌, cond, Bool, true, false, T, List, [], ◌∷◌, ◌++◌, length, Some, refl, sym, ap, subst, ◌∙◌, arith, length-set}
+use Rattle.std.specs.Prelude.{slice_get}
+use Rattle.std.proofs.lemmas.Bool.{cases_eq}
+use Rattle.std.proofs.lemmas.Option.{same_Some}
+use Rattle.pk_plan.specs.declared.owner.Owner.{Owner}
+use Rattle.pk_plan.specs.declared.owner.Owner.TheVariants.{Journal, Meta, Values}
+use Rattle.pk_rootfmt.specs.Root.{differ}
+use Rattle.pk_model.proofs.Commits.{apart, rest_differs}
+use Rattle.pk_pool.specs.declared.state.BlockState.{BlockState}
+use Rattle.pk_pool.specs.declared.state.BlockState.TheVariants.{Free, Ready, Owned}
+use Rattle.pk_pool.specs.Blocks.{Blocks, IsSpare, with_state, used_by, is_owned_by, same_owner}
+use Rattle.pk_pool.specs.Unready.{unready}
+use Rattle.pk_pool.proofs.Counting.{given_back as one_given}
+use Rattle.pk_pool.proofs.Sharing.{count-set, used_given, used_adopted}
+use Rattle.pk_pool.proofs.States.{get-set_other, get-set_same, set_is, owned_is_not_free, owned_is_not_ready}
+use Rattle.pk_steps.proofs.Places.{In}
+use Rattle.pk_compact.specs.Freezing.{given_back}
+
+pub in_or_not : (b : ℕ) (xs : List ℕ) → In b xs ⊎ (In b xs → ⊥)
+in_or_not b [] = inr (λ is. is)
+in_or_not b (x ∷ xs) = elim (cases_eq b x) [
+  | inl same ↦ inl (inl same)
+  | inr other ↦ elim (in_or_not b xs) [ inl is ↦ inl (inr is) | inr absent ↦ inr (λ is. elim is [ inl e ↦ other e | inr there ↦ absent there ]) ]
+]
+
+-- a state with an owner is neither free nor another owner's
+other_owner : (o p : Owner) → (o ≡ p → ⊥) → same_owner p o ≡ false
+other_owner Journal Journal differs = absurd (differs refl)
+other_owner Journal Meta differs = refl
+other_owner Journal Values differs = refl
+other_owner Meta Journal differs = refl
+other_owner Meta Meta differs = absurd (differs refl)
+other_owner Meta Values differs = refl
+other_owner Values Journal differs = refl
+other_owner Values Meta differs = refl
+other_owner Values Values differs = absurd (differs refl)
+
+-- a count of an owner stays where a state of none of his becomes another such
+same_count : (p : Owner) (states : List BlockState) (b : ℕ) (s t : BlockState) → is_owned_by p s ≡ false → is_owned_by p t ≡ false → slice_get states b ≡ Some s → used_by p (with_state (record { shape = record { page_bytes = 0; block_pages = 0; blocks = 0 }; states = states }) b t).states ≡ used_by p states
+same_count p states b s t none none' is =
+    let was : cond {A = ℕ} (is_owned_by p s) 1 0 ≡ 0 = rw none refl in
+    let now : cond {A = ℕ} (is_owned_by p t) 1 0 ≡ 0 = rw none' refl in
+    omega (arith, count-set (is_owned_by p) states b s t is, was, now)
+
+-- These blocks of one owner are free, and all others are what they were.
+pub record GivesBack (o : Owner) (blocks : List ℕ) (pool pool' : Blocks) : Type 0 where
+  pub same_shape : pool'.shape ≡ pool.shape
+  pub size : length pool'.states ≡ length pool.states
+  pub others : (b : ℕ) → (In b blocks → ⊥) → slice_get pool'.states b ≡ slice_get pool.states b
+  pub gone : (b : ℕ) → In b blocks → slice_get pool'.states b ≡ Some Free
+  pub fewer : used_by o pool'.states + length blocks ≡ used_by o pool.states
+  pub same_used : (p : Owner) → (o ≡ p → ⊥) → used_by p pool'.states ≡ used_by p pool.states
+  pub same_unready : unready pool'.states ≡ unready pool.states
+
+pub gives_back : (o : Owner) (blocks : List ℕ) (pool : Blocks) → T (differ blocks) → ((b : ℕ) → In b blocks → slice_get pool.states b ≡ Some (Owned o)) → GivesBack o blocks pool (given_back pool blocks)
+gives_back o [] pool d owned = record { same_shape = refl; size = refl; others = λ b away. refl; gone = λ b is. absurd is; fewer = omega arith; same_used = λ p away. refl; same_unready = refl }
+gives_back o (x ∷ xs) pool d owned =
+    let here : slice_get pool.states x ≡ Some (Owned o) = owned x (inl refl) in
+    let not_x : (b : ℕ) → In b xs → b ≢ x = λ b is e. apart x (x ∷ []) xs d (inl refl) (subst (λ y. In y xs) e is) in
+    let middle : Blocks = with_state pool x Free in
+    let rest : GivesBack o xs middle (given_back middle xs) = gives_back o xs middle (rest_differs x xs d) (λ b is. get-set_other pool.states x b Free (not_x b is) ∙ owned b (inr is)) in
+    let one = used_given pool.states x o here in
+    let more = rest.fewer in
+    record {
+      same_shape = rest.same_shape;
+      size = rest.size ∙ length-set pool.states x Free;
+      others = λ b away. rest.others b (λ is. away (inr is)) ∙ get-set_other pool.states x b Free (λ e. away (inl e));
+      gone = λ b is. elim is [
+        | inl e ↦ subst (λ y. slice_get (given_back middle xs).states y ≡ Some Free) (sym e) (rest.others x (λ there. not_x x there refl) ∙ set_is pool.states x (Owned o) Free here)
+        | inr there ↦ rest.gone b there
+      ];
+      fewer = omega (arith, one, more);
+      same_used = λ p away. rest.same_used p away ∙ same_count p pool.states x (Owned o) Free (other_owner o p away) refl here;
+      same_unready = rest.same_unready ∙ one_given pool.states x o here;
+    }
+
+-- ---- a spare block that is taken
+
+-- The block has this owner, and all others are what they were.
+pub record TakesFor (o : Owner) (x : ℕ) (pool pool' : Blocks) : Type 0 where
+  pub same_shape : pool'.shape ≡ pool.shape
+  pub size : length pool'.states ≡ length pool.states
+  pub others : (b : ℕ) → (b ≡ x → ⊥) → slice_get pool'.states b ≡ slice_get pool.states b
+  pub has : slice_get pool'.states x ≡ Some (Owned o)
+  pub more : used_by o pool'.states ≡ used_by o pool.states + 1
+  pub same_used : (p : Owner) → (o ≡ p → ⊥) → used_by p pool'.states ≡ used_by p pool.states
+
+pub takes_for : (o : Owner) (x : ℕ) (pool : Blocks) → IsSpare pool x → TakesFor o x pool (with_state pool x (Owned o))
+takes_for o x pool spare = record {
+  same_shape = refl;
+  size = length-set pool.states x (Owned o);
+  others = λ b away. get-set_other pool.states x b (Owned o) away;
+  has = elim spare [ inl free ↦ set_is pool.states x Free (Owned o) free | inr ready ↦ set_is pool.states x Ready (Owned o) ready ];
+  more = used_adopted pool.shape pool.states x o spare;
+  same_used = λ p away. elim spare [
+    | inl free ↦ same_count p pool.states x Free (Owned o) refl (other_owner o p away) free
+    | inr ready ↦ same_count p pool.states x Ready (Owned o) refl (other_owner o p away) ready
+  ];
+}
+
+-- a block with an owner is not spare
+pub not_spare : (pool : Blocks) (o : Owner) (b : ℕ) → slice_get pool.states b ≡ Some (Owned o) → IsSpare pool b → ⊥
+not_spare pool o b owned (inl free) = owned_is_not_free {o = o} (same_Some (Owned o) Free (sym owned ∙ free))
+not_spare pool o b owned (inr ready) = owned_is_not_ready {o = o} (same_Some (Owned o) Ready (sym owned ∙ ready))
+
+-- and has no other owner
+pub one_owner : (pool : Blocks) (o p : Owner) (b : ℕ) → slice_get pool.states b ≡ Some (Owned o) → slice_get pool.states b ≡ Some (Owned p) → o ≡ p
+one_owner pool o p b is is' = cc

@@ -1,0 +1,56 @@
+-- What stands of an index before a step: its owners, its pages, and the merge that does not run.
+use Rattle.std.proofs.Common.{◌≡◌, ◌≢◌, ◌⊎◌, inl, inr, ℕ, ◌+◌, ◌*◌, ◌/◌, ◌<◌, ◌≤◌, Bool, true, false, ◌&&◌, List, [], ◌∷◌, ◌++◌, length, Some, refl, sym, ap, subst, ◌∙◌, arith, mul-le-mul_right}
+use Rattle.std.specs.Prelude.{slice_get}
+use Rattle.std.specs.List.{concat}
+use Rattle.pk_base.specs.Shape.{Shape}
+use Rattle.pk_base.specs.Page.{Flash, page_at}
+use Rattle.pk_base.specs.Map.{Map}
+use Rattle.pk_base.proofs.ShapeLemmas.{block_pages_positive}
+use Rattle.pk_plan.specs.declared.owner.Owner.{Owner}
+use Rattle.pk_plan.specs.declared.owner.Owner.TheVariants.{Journal, Meta, Values}
+use Rattle.pk_rootfmt.specs.Root.{Root, named}
+use Rattle.pk_model.specs.Found.{Found}
+use Rattle.pk_pool.specs.declared.state.BlockState.TheVariants.{Owned}
+use Rattle.pk_pool.specs.Blocks.{Blocks, IsShared, IsSpare}
+use Rattle.pk_pool.proofs.Sharing.{behind_roots}
+use Rattle.pk_pool.proofs.States.{owned_is_not_root}
+use Rattle.pk_steps.proofs.Places.{In, in_append}
+use Rattle.pk_steps.specs.Under.{IsValuePage, places}
+use Rattle.pk_merge.specs.Jobs.{IsIdle}
+use Rattle.pk_compact.specs.Freezing.{IsApart}
+use Rattle.pk_schedule.specs.declared.phase.Phase.{Phase}
+use Rattle.pk_schedule.specs.declared.phase.Phase.TheVariants.{Idle, Running, Ready}
+use Rattle.pk_schedule.specs.Index.{Index, IndexOnFlash, MergeStands}
+use Rattle.pk_schedule.specs.Steps.{MayWork, is_between}
+use Rattle.pk_schedule.proofs.Giving.{not_spare, one_owner}
+
+pub both_true : (a b : Bool) → (a && b) ≡ true → (a ≡ true) × (b ≡ true)
+both_true true b e = (refl, e)
+both_true false b e = absurd (let x : ⊥ = cc in x)
+
+-- a page of a block behind the root blocks lies behind them
+pub beyond : (n k : ℕ) → 0 < n → 2 ≤ k / n → 2 * n ≤ k
+beyond n k some least = let twice : 2 * n ≤ (k / n) * n = mul-le-mul_right n least in omega (arith, twice, some)
+
+-- no merge runs: the job is idle
+pub idle_of : (p : Phase) (x : Index) (flash : Flash) (root : Root) (found : Found) → is_between p ≡ true → MergeStands p x flash root found → (p ≡ Idle) × IsIdle x.log.shape x.schedule.job
+idle_of Idle x flash root found is m = (refl, m)
+idle_of (Running level) x flash root found is m = absurd (let e : ⊥ = cc in e)
+idle_of (Ready level) x flash root found is m = absurd (let e : ⊥ = cc in e)
+
+module _ (x : Index) (frames : ℕ) (flash : Flash) (top : ℕ × Root) (found : Found) (m : Map) (may : MayWork x frames flash top found m) where
+  -- a block that the root names is the journal's or a run's
+  pub named_owned : (b : ℕ) → In b (named top.1) → (slice_get x.pool.states b ≡ Some (Owned Journal)) ⊎ (slice_get x.pool.states b ≡ Some (Owned Meta))
+  named_owned b is = elim (in_append b (top.1.newest ++ top.1.older) (concat top.1.runs) is) [ inl front ↦ inl (may.stands.journal b front) | inr back ↦ inr (may.stands.runs b back) ]
+
+  -- no spare block is read
+  pub apart_top : IsApart x.log.shape x.pool top.1 found
+  apart_top = record {
+    unnamed = λ b spare is. elim (named_owned b is) [ inl journal ↦ not_spare x.pool Journal b journal spare | inr meta ↦ not_spare x.pool Meta b meta spare ];
+    no_value = λ b k spare here value. not_spare x.pool Values b (subst (λ n. slice_get x.pool.states n ≡ Some (Owned Values)) here (may.values k value)) spare;
+  }
+
+  -- a page of a block with an owner lies behind the root blocks
+  pub owned_beyond : IsShared x.pool.shape x.pool.states → (o : Owner) (k : ℕ) → slice_get x.pool.states (k / x.log.shape.block_pages) ≡ Some (Owned o) → 2 * x.log.shape.block_pages ≤ k
+  owned_beyond shared o k owned = beyond x.log.shape.block_pages k (block_pages_positive x.log.shape may.stands.logs.is_shape)
+      (behind_roots x.pool.shape x.pool.states (k / x.log.shape.block_pages) (Owned o) (owned_is_not_root {o = o}) owned shared)
