@@ -350,7 +350,7 @@ module _ (x : Index) (frames : ℕ) (old : BoardState) (top : ℕ × Root) (foun
     whole =
         let own : steps_left (source_in X x level) (run_of x.levels level) (output_of job) job.merger (most_pages (output_of job)) (most_blocks (output_of job)) + 7 ≤ whole_merge (output_of job).shape level
         = within (subst (λ (n : ℕ). n ≤ cap (output_of job).shape (level - 1)) same.pages (subst (λ (s : Shape). pages_in (source_at x level) ≤ cap s (level - 1)) (sym out_shape) pages_few))
-            (subst (λ (s : Shape). length (run_of x.levels level).firsts ≤ cap s level) (sym out_shape) (fit level low high).pages) in
+        (subst (λ (s : Shape). length (run_of x.levels level).firsts ≤ cap s level) (sym out_shape) (fit level low high).pages) in
         let left = left_same (source_in X x level) (source_at x level) same (run_of x.levels level) (output_of job) job.merger (most_pages (output_of job)) (most_blocks (output_of job)) in
         let most = subst (λ (s : Shape). steps_left (source_in X x level) (run_of x.levels level) (output_of job) job.merger (most_pages (output_of job)) (most_blocks (output_of job)) + 7 ≤ whole_merge s level) out_shape own in
         omega (arith, left, most)
@@ -372,3 +372,21 @@ module _ (x : Index) (frames : ℕ) (old : BoardState) (top : ℕ × Root) (foun
 
     pub begin_less : LessIsLeft x begun_index
     begin_less = let l = merge_moves x.log.shape (backlog_of x) (backlog_of begun_index) begin_lowers in record { work = l.0; merging = l.1 }
+
+  -- ---- by the contract of the job
+
+  module _ (X : Type 0) (j : Job) (is : j ≡ job)
+      (begins : (source : Source X) (target_run : Kept) (pool : Blocks) (flash : Flash) (arena : Frames) (gs hs : List Entry) → CanBegin source target_run (pins j) x.schedule.job.merger.shape level pool flash arena gs hs → JobRuns source target_run j pool flash arena gs hs)
+      (within : (source : Source X) (target_run : Kept) → IsWithin source target_run (output_of j) j.merger) (ready : IsReady old x.log.shape) where
+    can : CanBegin (source_in X x level) (run_of x.levels level) (pins job) x.schedule.job.merger.shape level x.pool old.pages x.arena es fs → JobRuns (source_in X x level) (run_of x.levels level) job x.pool old.pages x.arena es fs
+    can = subst (λ (k : Job). CanBegin (source_in X x level) (run_of x.levels level) (pins k) x.schedule.job.merger.shape level x.pool old.pages x.arena es fs → JobRuns (source_in X x level) (run_of x.levels level) k x.pool old.pages x.arena es fs) is
+        (begins (source_in X x level) (run_of x.levels level) x.pool old.pages x.arena es fs)
+
+    few : IsWithin (source_in X x level) (run_of x.levels level) (output_of job) job.merger
+    few = subst (λ (k : Job). IsWithin (source_in X x level) (run_of x.levels level) (output_of k) k.merger) is (within (source_in X x level) (run_of x.levels level))
+
+    pub moves_by : IndexMoves x frames old found m (record x { schedule = record x.schedule { job = j; phase = Running level } }) old
+    moves_by = subst (λ (k : Job). IndexMoves x frames old found m (record x { schedule = record x.schedule { job = k; phase = Running level } }) old) (sym is) (begin_moves X can few ready)
+
+    pub less_by : LessIsLeft x (record x { schedule = record x.schedule { job = j; phase = Running level } })
+    less_by = subst (λ (k : Job). LessIsLeft x (record x { schedule = record x.schedule { job = k; phase = Running level } })) (sym is) (begin_less X can few ready)

@@ -61,6 +61,7 @@ differ_of (x ∷ xs) d =
     swapped : (ys : List ℕ) → T (list_any (λ c. x == c) ys) → In x ys
     swapped [] t = absurd t
     swapped (y ∷ ys) t = elim (or_cases (x == y) (list_any (λ c. x == c) ys) t) [ inl is ↦ inl (eqb→eq x y is) | inr is ↦ inr (swapped ys is) ]
+
     first : T (list_any (λ c. x == c) xs) → ⊥
     first t = let there = in_got xs x (swapped xs t) in let same = d 0 (suc there.0) x refl there.1 in omega (arith, same)
 
@@ -105,9 +106,11 @@ module _ (pool : Blocks) (out : Kept) (pool' : Blocks) (out' : Kept) where
           turned Journal e f = cc
           turned Meta e f = cc
           turned Values e f = cc
+
       here : IsSpare pool b → slice_get (slice_set pool.states b (Owned Meta)) b ≡ Some (Owned Meta)
       here (inl free) = set_is pool.states b Free (Owned Meta) free
       here (inr ready) = set_is pool.states b Ready (Owned Meta) ready
+
       clash : slice_get (slice_set pool.states b (Owned Meta)) b ≡ Some (Owned o) → IsSpare pool b → ⊥
       clash got spare = meta_not o not_meta (same_Some (Owned Meta) (Owned o) (sym (here spare) ∙ got))
 
@@ -122,6 +125,7 @@ module _ (pool : Blocks) (out : Kept) (pool' : Blocks) (out' : Kept) where
     where
       none : cond {A = ℕ} (same_owner o Meta) 1 0 ≡ 0
       none = rw not_meta refl
+
       counted : IsSpare pool b → used_by o (slice_set pool.states b (Owned Meta)) ≡ used_by o pool.states
       counted (inl free) = omega (arith, count-set (is_owned_by o) pool.states b Free (Owned Meta) free, none)
       counted (inr ready) = omega (arith, count-set (is_owned_by o) pool.states b Ready (Owned Meta) ready, none)

@@ -1,6 +1,6 @@
 -- What the step of a merge's job leaves of an index, whether it was done or a call of it failed.
 use Rattle.std.proofs.Common.{◌≡◌, ◌≢◌, ◌⊎◌, inl, inr, ℕ, ◌+◌, ◌-◌, ◌*◌, ◌<◌, ◌≤◌, Bool, true, false, T, List, [], ◌∷◌, ◌++◌, length, map, Option, Some, None, refl, sym, ap, subst, ◌∙◌, arith}
-use Rattle.std.specs.Prelude.{IsTrue, ◌↔◌}
+use Rattle.std.specs.Prelude.{unwrap_or}
 use Rattle.pk_base.specs.Shape.{Shape, IsShape, cap}
 use Rattle.pk_base.specs.Entry.{Entry}
 use Rattle.pk_base.specs.Map.{Map}
@@ -17,7 +17,7 @@ use Rattle.pk_pool.specs.Unready.{unready}
 use Rattle.pk_work.specs.Rest.{Lowers, left_of, whole_merge}
 use Rattle.pk_work.specs.Steps.{MovesMerge}
 use Rattle.pk_work.proofs.Lowering.{moves as merge_moves}
-use Rattle.pk_run.specs.Kept.{Kept, RunOnFlash, most_pages, most_blocks}
+use Rattle.pk_run.specs.Kept.{Kept, RunOnFlash, empty, most_pages, most_blocks}
 use Rattle.pk_level.specs.Levels.{run_of}
 use Rattle.pk_model.specs.Found.{Found}
 use Rattle.pk_model.specs.Growth.{Grows, Goes}
@@ -141,7 +141,7 @@ module _ (x : Index) (frames : ℕ) (old : BoardState) (top : ℕ × Root) (foun
 
       -- the merge goes on
       pub goes_on : (IsDone source target job.merger → ⊥) → IndexMoves x frames old found m (behind (Running level)) new
-      goes_on undone = moves_to (Running level) (record { into = into_behind (Running level); runs = runs_then; undone = λ d. undone (done_same (source_at x level) source there target job.merger d) })
+      goes_on undone = moves_to (Running level) (record { into = into_behind (Running level); runs = runs_then; undone = λ d. undone (done_same source (source_at x level) back target job.merger d) })
 
       -- its output is whole
       pub completes : Completes source target x.schedule.job x.pool old.pages x.arena job new.pages arena true → IndexMoves x frames old found m (behind (Ready level)) new
@@ -168,17 +168,17 @@ module _ (x : Index) (frames : ℕ) (old : BoardState) (top : ℕ × Root) (foun
         falls = elim lowers [
           | inl done ↦ absurd (runs_now.undone (done_same (source_at x level) source there target x.schedule.job.merger done))
           | inr l ↦ (
-            let before = left_same (source_at x level) source there target out x.schedule.job.merger (most_pages out) (most_blocks out) in
-            let after = left_same (source_at x level) source there target (output_of job) job.merger (most_pages out) (most_blocks out) in
-            let i = into_behind (Running level) in
-            let shape : (output_of job).shape ≡ out.shape = i.output_shape ∙ sym into.output_shape in
-            let at : (output_of job).level ≡ out.level = i.output_level ∙ sym into.output_level in
-            let P : Shape → ℕ → Type 0 = λ s n. Lowers (Left out x.schedule.job.merger (most_pages out) (most_blocks out)) (unready x.pool.states)
-                (Left (output_of job) job.merger (cap s n) (Rattle.pk_base.specs.Shape.blocks_of s (cap s n))) (unready pool.states) in
-            let none_ready = l.none_ready in
-            let less = l.less in
-            let here : P out.shape out.level = record { none_ready = none_ready; less = omega (arith, less, before, after) } in
-            subst (λ (s : Shape). P s (output_of job).level) (sym shape) (subst (λ (n : ℕ). P out.shape n) (sym at) here))
+              let before = left_same (source_at x level) source there target out x.schedule.job.merger (most_pages out) (most_blocks out) in
+              let after = left_same (source_at x level) source there target (output_of job) job.merger (most_pages out) (most_blocks out) in
+              let i = into_behind (Running level) in
+              let shape : (output_of job).shape ≡ out.shape = i.output_shape ∙ sym into.output_shape in
+              let at : (output_of job).level ≡ out.level = i.output_level ∙ sym into.output_level in
+              let P : Shape → ℕ → Type 0 = λ s n. Lowers (Left out x.schedule.job.merger (most_pages out) (most_blocks out)) (unready x.pool.states)
+              (Left (output_of job) job.merger (cap s n) (Rattle.pk_base.specs.Shape.blocks_of s (cap s n))) (unready pool.states) in
+              let none_ready = l.none_ready in
+              let less = l.less in
+              let here : P out.shape out.level = record { none_ready = none_ready; less = omega (arith, less, before, after) } in
+              subst (λ (s : Shape). P s (output_of job).level) (sym shape) (subst (λ (n : ℕ). P out.shape n) (sym at) here))
         ]
 
         pub less_running : LessIsLeft x (behind (Running level))
@@ -215,3 +215,58 @@ module _ (x : Index) (frames : ℕ) (old : BoardState) (top : ℕ × Root) (foun
 
     pub stopped_grows : (new : BoardState) → StepWent x.pool out old new → Grows x.log.shape old.pages new.pages
     stopped_grows new went = front_grows x frames old top found m may shared ready level into new.pages (went_end x.pool out old new went)
+
+    -- ---- a step whose read failed
+
+    module _ (new : BoardState) (job : Job) (pool : Blocks) (arena : Frames)
+        (again : RunsOn source target x.schedule.job x.pool old.pages x.arena job pool new.pages arena)
+        (same_output : job.output ≡ x.schedule.job.output) (same_pool : pool ≡ x.pool) (same_arena : arena ≡ x.arena)
+        (fails : FailsToRead source target x.schedule.job.merger old job.merger new)
+        (is_job : job ≡ record x.schedule.job { output = job.output; merger = job.merger }) (only : OnlyReading old new) where
+      abbrev pub reread : Phase → Index
+      reread p = record x { arena = arena; pool = pool; schedule = record x.schedule { job = job; phase = p } }
+
+      out_same : output_of job ≡ out
+      out_same = ap (λ (o : Option Kept). unwrap_or o (empty job.merger.shape job.target)) (same_output ∙ into.has_output)
+
+      steps_same : steps_left (source_at x level) target (output_of job) job.merger (most_pages (output_of job)) (most_blocks (output_of job)) ≡ steps_left (source_at x level) target out x.schedule.job.merger (most_pages out) (most_blocks out)
+      steps_same =
+          ap (λ (o : Kept). steps_left (source_at x level) target o job.merger (most_pages o) (most_blocks o)) out_same
+          ∙ ap (λ (j : Merger). steps_left (source_at x level) target out j (most_pages out) (most_blocks out)) fails.merger
+          ∙ reread_left (source_at x level) target out x.schedule.job.merger job.merger.source.bytes job.merger.target.bytes (most_pages out) (most_blocks out)
+
+      left_same_then : merge_left x.schedule.phase (reread x.schedule.phase) ≡ merge_left x.schedule.phase x
+      left_same_then = subst (λ (p : Phase). merge_left p (reread p) ≡ merge_left p x) (sym was) (ap (λ (n : ℕ). Some (n + 1 + install_steps x.log.next)) steps_same)
+
+      pub unmoved : Unmoved x (reread x.schedule.phase)
+      unmoved = record {
+        rest = (λ i. record x { arena = same_arena i; pool = same_pool i; schedule = record x.schedule { job = job } });
+        same_backlog = (λ i. record (backlog_of x) { merge = left_same_then i; unready = unready (same_pool i).states });
+        same_output = out_same;
+      }
+
+      still_runs : LeavesRuns x.pool out old.pages x.arena new.pages arena
+      still_runs = λ other gs shape meta apart s. subst (λ (a : Frames). RunOnFlash other new.pages a gs) (sym same_arena) (subst (λ (f : Flash). RunOnFlash other f x.arena gs) (sym fails.same) s)
+
+      runs_again : JobRuns (source_at x level) target job pool new.pages arena es fs
+      runs_again = job_carried source (source_at x level) back target job pool new.pages arena es fs (again es fs job_now)
+
+      again_grew : Grew x.pool out pool (output_of job)
+      again_grew = inl (same_pool, ap (λ (r : Kept). r.blocks) out_same)
+
+      again_leaves : Leaves x.log.shape old top found m new
+      again_leaves = same_leaves x frames old top found m may shared ready level into new (ap (λ (b : BoardState). b.shape) only) (ap (λ (b : BoardState). b.pages) only) (ap (λ (b : BoardState). b.trail) only) (ap (λ (b : BoardState). b.posted) only)
+
+      not_done : IsDone (source_at x level) target job.merger → ⊥
+      not_done d = runs_now.undone (subst (λ (j : Merger). IsDone (source_at x level) target j) fails.merger d)
+
+      pub stands_still : IndexOnFlash (reread x.schedule.phase) frames new.pages top found
+      stands_still =
+          let frames_same : length arena.used ≡ length x.arena.used = ap (λ (a : Frames). length a.used) same_arena in
+          let leases = kept_leases out (output_of job) x.arena arena (ap (λ (r : Kept). r.leases) out_same) same_arena in
+          subst (λ (p : Phase). IndexOnFlash (reread p) frames new.pages top found) (sym was)
+          (index_then x frames old top found m may shared ready level into new (Running level) job pool arena is_job again_grew (inl fails.same) again_leaves frames_same leases still_runs runs_again (record {
+            into = into_then x frames old top found m may shared ready level into new (Running level) job pool arena is_job again_grew (inl fails.same) again_leaves frames_same leases still_runs runs_again;
+            runs = runs_again;
+            undone = not_done;
+          }))
