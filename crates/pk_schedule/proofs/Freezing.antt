@@ -192,7 +192,7 @@ module _ (x : Index) (frames : ℕ) (old : BoardState) (top : ℕ × Root) (foun
             runs_few = more.1.others Meta (λ e. let c : ⊥ = cc in c) ∙ may.stands.runs_few;
             pins_are = may.stands.pins_are;
             merge = merge_idle on_index refl refl refl new.pages top.1 found;
-            freeze = record { taken = subst R may.stands.logs.root_is on.still.taken; different = on.still.different };
+            freeze = record { taken = subst R may.stands.logs.root_is on.still.taken; different = on.still.different; none_frozen = λ some. none_frozen };
           }
 
       values_on : KeepsValues shape x.pool old.pages pool' new.pages
@@ -313,7 +313,7 @@ module _ (x : Index) (frames : ℕ) (old : BoardState) (top : ℕ × Root) (foun
             runs_few = gives.same_used Meta (λ e. let c : ⊥ = cc in c) ∙ may.stands.runs_few;
             pins_are = may.stands.pins_are;
             merge = merge_idle over_index refl refl refl new.pages then_root (frozen found);
-            freeze = record { taken = tt; different = refl };
+            freeze = record { taken = tt; different = refl; none_frozen = λ some. absurd (omega (arith, some)) };
           }
 
       values_over : KeepsValues shape x.pool old.pages pool' new.pages

@@ -195,6 +195,7 @@ module _ (x : Index) (frames : ℕ) (old new : Flash) (top : ℕ × Root) (found
             unnamed = t.unnamed;
           }) f.taken;
       different = f.different;
+      none_frozen = f.none_frozen;
     }
 
     pub index_then : LogOnFlash log_then new top found_then → IndexOnFlash then frames new top found_then
@@ -329,7 +330,7 @@ module _ (log : LogState) (levels : Levels) (arena : Frames) (pool : Blocks) (fr
         runs_few = (let few = f.runs_few in let blocks : length (output_of job).blocks ≡ 0 = ap (λ (r : Kept). length r.blocks) none in omega (arith, few, blocks));
         pins_are = pins_are;
         merge = is;
-        freeze = record { taken = tt; different = refl };
+        freeze = record { taken = tt; different = refl; none_frozen = λ some. absurd (omega (arith, some)) };
       }
 
   -- an index that was found stands with a schedule in which nothing runs

@@ -1,12 +1,16 @@
 -- The exchange of runs behind a merge.
-use Rattle.std.specs.Prelude.{◌≡◌, ℕ, List, ◌++◌, ◌==◌, if◌then◌else◌, Some}
+use Rattle.std.specs.Prelude.{◌≡◌, ℕ, ◌-◌, List, ◌++◌, true, slice_get, Some}
+use Rattle.std.specs.List.{AllByRecursion}
 use Rattle.pk_base.specs.Page.{Flash}
 use Rattle.pk_pin.specs.Frames.{Frames, AreLeases}
+use Rattle.pk_plan.specs.declared.owner.Owner.TheVariants.{Journal}
+use Rattle.pk_pool.specs.declared.state.BlockState.TheVariants.{Owned}
 use Rattle.pk_pool.specs.Blocks.{Blocks, PoolOnFlash}
 use Rattle.pk_pool.specs.Unready.{unready}
+use Rattle.pk_rootfmt.specs.Root.{differ}
 use Rattle.pk_run.specs.Kept.{Kept}
 use Rattle.pk_level.specs.Levels.{Levels, IsOfLevel, run_of, with_run}
-use Rattle.pk_merge.specs.Jobs.{Job, AreOwned, AreLeased, LeavesOthers, held_at, taken_from, given_to, given_all}
+use Rattle.pk_merge.specs.Jobs.{Job, AreOwned, AreLeased, LeavesOthers, held_at, taken_from, given_to, given_all, ended}
 use Rattle.pk_compact.specs.Freezing.{given_back}
 
 -- The job has this run for the level, which may stand there, and what the former one has may be given back.
@@ -31,3 +35,43 @@ pub record Exchanges (levels : Levels) (arena : Frames) (pool : Blocks) (job : J
 abbrev pub ExchangesRun : Levels → Frames → Blocks → Job → ℕ → Levels → Frames → Blocks → Job → Type 0
 ExchangesRun levels arena pool job level levels' arena' pool' job' =
     (r : Kept) → CanExchange levels arena pool job level r → Exchanges levels arena pool job level r levels' arena' pool' job'
+
+-- These blocks are different ones of the journal.
+pub record CanFree (pool : Blocks) (blocks : List ℕ) : Type 0 where
+  pub different : differ blocks ≡ true
+  pub owned : AllByRecursion (λ b. slice_get pool.states b ≡ Some (Owned Journal)) blocks
+
+-- ---- the end of a merge
+
+-- A merge into level 1: its output may stand there, and behind the exchange the blocks of the older epoch may be given back.
+pub record CanEndFirst (levels : Levels) (arena : Frames) (pool : Blocks) (job : Job) (older : List ℕ) : Type 0 where
+  pub out : Kept
+  pub first : CanExchange levels arena pool job 1 out
+  pub then_free : (levels' : Levels) (arena' : Frames) (pool' : Blocks) (job' : Job) → Exchanges levels arena pool job 1 out levels' arena' pool' job' → CanFree pool' older
+
+-- Its run was exchanged, and the blocks of the older epoch are free.
+pub record EndsFirst (levels : Levels) (arena : Frames) (pool : Blocks) (job : Job) (older : List ℕ) (levels' : Levels) (arena' : Frames) (pool' : Blocks) (job' : Job) : Type 0 where
+  pub then_pool : Blocks
+  pub then_job : Job
+  pub first : ExchangesRun levels arena pool job 1 levels' arena' then_pool then_job
+  pub freed : pool' ≡ given_back then_pool older
+  pub pool_fits : (flash : Flash) → PoolOnFlash then_pool flash → PoolOnFlash pool' flash
+  pub over : job' ≡ ended then_job
+
+-- A merge into a deeper level: its output may stand there, and behind the exchange so may a run without entries in place of the source.
+pub record CanEndDeep (levels : Levels) (arena : Frames) (pool : Blocks) (job : Job) (level : ℕ) : Type 0 where
+  pub out : Kept
+  pub first : CanExchange levels arena pool job level out
+  pub then_second : (levels' : Levels) (arena' : Frames) (pool' : Blocks) (job' : Job) → Exchanges levels arena pool job level out levels' arena' pool' job'
+      → (r : Kept) × CanExchange levels' arena' pool' job' (level - 1) r
+
+-- Both runs were exchanged.
+pub record EndsDeep (levels : Levels) (arena : Frames) (pool : Blocks) (job : Job) (level : ℕ) (levels' : Levels) (arena' : Frames) (pool' : Blocks) (job' : Job) : Type 0 where
+  pub then_levels : Levels
+  pub then_arena : Frames
+  pub then_pool : Blocks
+  pub then_job : Job
+  pub last_job : Job
+  pub first : ExchangesRun levels arena pool job level then_levels then_arena then_pool then_job
+  pub second : ExchangesRun then_levels then_arena then_pool then_job (level - 1) levels' arena' pool' last_job
+  pub over : job' ≡ ended last_job

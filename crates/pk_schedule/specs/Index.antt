@@ -1,5 +1,5 @@
 -- The index of a drive, where it keeps which key has its value where: its log and its runs, the blocks of both, and the jobs that keep the lists short.
-use Rattle.std.specs.Prelude.{◌≡◌, ⊤, ℕ, ◌+◌, ◌-◌, List, [], length, map, ◌==◌, ◌++◌, if◌then◌else◌, slice_get, Option, Some, true}
+use Rattle.std.specs.Prelude.{◌≡◌, ⊤, ℕ, ◌+◌, ◌-◌, ◌<◌, List, [], length, map, ◌==◌, ◌++◌, if◌then◌else◌, slice_get, Option, Some, true}
 use Rattle.std.specs.Borrow.{Bor}
 use Rattle.std.specs.List.{concat, AllByRecursion}
 use Rattle.pk_base.specs.Shape.{Shape, pinned}
@@ -111,10 +111,11 @@ MergeStands Idle x flash root found = IsIdle x.log.shape x.schedule.job
 MergeStands (Running level) x flash root found = MergeRuns x flash root found level
 MergeStands (Ready level) x flash root found = MergeWaits x flash root found level
 
--- The blocks that a freeze has taken are different ones of the journal, Erased, and the root names none of them.
+-- The blocks that a freeze has taken are different ones of the journal, Erased, and the root names none of them. It takes some only where nothing is frozen.
 pub record FreezeStands (x : Index) (flash : Flash) (root : Root) : Type 0 where
   pub taken : AllByRecursion (IsTaken x.log.shape x.pool flash root) (taken_by x.schedule.freeze)
   pub different : differ (taken_by x.schedule.freeze) ≡ true
+  pub none_frozen : 0 < length (taken_by x.schedule.freeze) → x.log.frozen.entries ≡ []
 
 -- ---- how it stands to a flash
 

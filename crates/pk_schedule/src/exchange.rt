@@ -1,13 +1,33 @@
 //! The exchange of runs behind a merge.
 ghost use Rattle.std.specs.Prelude.{◌≡◌, ◌≤◌, ℕ};
+ghost use Rattle.pk_base.specs.Page.{Flash};
+ghost use Rattle.pk_pool.specs.Blocks.{PoolOnFlash};
+ghost use Rattle.pk_rootfmt.specs.Held.{blocks_or_none};
 ghost use Rattle.pk_run.specs.Kept.{Kept};
-ghost use Rattle.pk_schedule.specs.Exchanges.{CanExchange, ExchangesRun};
+ghost use Rattle.pk_compact.specs.Freezing.{given_back};
+ghost use Rattle.pk_schedule.specs.declared.phase.Phase.TheVariants.{Idle};
+ghost use Rattle.pk_schedule.specs.Exchanges.{CanExchange, ExchangesRun, CanFree, CanEndFirst, EndsFirst, CanEndDeep, EndsDeep};
 
+use crate::phase::Phase;
 use crate::schedule::Schedule;
+use pk_compact::give_back;
 use pk_level::Levels;
 use pk_pin::PinArena;
 use pk_pool::Pool;
 use pk_region::Region;
+use std::alloc::Allocator;
+
+// Gives the blocks of an epoch back, where there is one that is named no more.
+fn free_epoch<A: Allocator>(pool: &mut Pool<A>, blocks: Option<[u16; 2]>)
+    requires { CanFree pool.old (blocks_or_none blocks) }
+    ensures given { pool.new ≡ given_back pool.old (blocks_or_none blocks) }
+    ensures fits { (flash : Flash) → PoolOnFlash pool.old flash → PoolOnFlash pool.new flash }
+{
+    match blocks {
+        Some(blocks) => give_back(pool, blocks, false),
+        None => {}
+    }
+}
 
 impl<A: Region> Schedule<A> {
     // Puts the job's run of this level in place of the former one, whose blocks and frames are given back.
@@ -26,5 +46,42 @@ impl<A: Region> Schedule<A> {
         let run = self.job.take(level);
         let former = levels.install_run(level, run);
         self.job.give_back(pool, arena, former);
+    }
+
+    // Ends the merge into level 1, whose root is installed: the blocks of the older epoch are given back as well.
+    pub(crate) fn end_first(
+        &mut self,
+        pool: &mut Pool<A>,
+        arena: &mut PinArena<A>,
+        levels: &mut Levels<A>,
+        older: Option<[u16; 2]>,
+    )
+        requires can { CanEndFirst levels.old arena.old pool.old self.old.job (blocks_or_none older) }
+        ensures ends { EndsFirst levels.old arena.old pool.old self.old.job (blocks_or_none older) levels.new arena.new pool.new self.new.job }
+        ensures rest { self.new ≡ record self.old { job = self.new.job; phase = Idle } }
+    {
+        self.exchange(pool, arena, levels, 1);
+        free_epoch(pool, older);
+        self.job.end();
+        self.phase = Phase::Idle;
+    }
+
+    // Ends the merge into a deeper level, whose root is installed: a run without entries stands in place of its source.
+    pub(crate) fn end_deep(
+        &mut self,
+        pool: &mut Pool<A>,
+        arena: &mut PinArena<A>,
+        levels: &mut Levels<A>,
+        level: u8,
+    )
+        requires level { 2 ≤ level × level ≤ 4 }
+        requires can { CanEndDeep levels.old arena.old pool.old self.old.job level }
+        ensures ends { EndsDeep levels.old arena.old pool.old self.old.job level levels.new arena.new pool.new self.new.job }
+        ensures rest { self.new ≡ record self.old { job = self.new.job; phase = Idle } }
+    {
+        self.exchange(pool, arena, levels, level);
+        self.exchange(pool, arena, levels, level - 1);
+        self.job.end();
+        self.phase = Phase::Idle;
     }
 }
