@@ -4,6 +4,9 @@ pub mod Giving
 pub mod Standing
 pub mod Freezing
 pub mod Backlogs
+pub mod Replacing
+pub mod Ended
+pub mod Waiting
 pub mod Carried
 pub mod Grown
 pub mod Running
