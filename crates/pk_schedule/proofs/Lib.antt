@@ -7,3 +7,7 @@ pub mod Backlogs
 pub mod Replacing
 pub mod Ended
 pub mod Waiting
+pub mod Preparing
+pub mod Installing
+pub mod Replaced
+pub mod Installed
