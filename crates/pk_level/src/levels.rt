@@ -1,11 +1,14 @@
 //! The four runs.
-ghost use Rattle.std.specs.Prelude.{◌≡◌, ◌+◌, ◌-◌, ◌<◌, ◌≤◌, List, [], ◌∷◌, length, slice_get, Some, IfOk, IfErr, OnOk, OnErr};
+ghost use Rattle.std.specs.Prelude.{◌≡◌, ◌+◌, ◌-◌, ◌<◌, ◌≤◌, List, [], ◌∷◌, length, map, slice_get, Some, IsNone, IfSome, ◌↔◌, IfOk, IfErr, OnOk, OnErr};
+ghost use Rattle.std.specs.List.{AllByRecursion};
 ghost use Rattle.pk_base.specs.Entry.{Entry as EntrySpec};
+ghost use Rattle.pk_base.specs.Merge.{next_merge};
 ghost use Rattle.pk_base.specs.Shape.{pinned as pinned_by};
 ghost use Rattle.pk_base.specs.Page.{Flash};
 ghost use Rattle.pk_nand.specs.Calls.{IsReady};
 ghost use Rattle.pk_nand.specs.declared.types.Fault.TheVariants.{Reading};
 ghost use Rattle.pk_pin.specs.Frames.{Frames};
+ghost use Rattle.pk_run.specs.Kept.{IsKept};
 ghost use Rattle.pk_run.specs.Search.{IsFound};
 ghost use Rattle.pk_level.specs.Levels as spec;
 ghost use Rattle.pk_level.specs.Levels.{IsLevels, IsOfLevel, RunsOnFlash, ReadsUpTo, ReadFailsWithin, no_runs, run_of, with_run, all_entries, reads_through};
@@ -66,12 +69,16 @@ impl<A: Allocator + Clone> Levels<A> {
 }
 
 impl<A: Allocator> Levels<A> {
-    /// All levels keep this. No look-up reads more often than there are levels without frames.
+    /// All levels keep this, and each run keeps within its level. No look-up reads more often than there are levels without frames.
     pub fn known(&self)
         ensures levels { IsLevels self.now }
+        ensures runs { AllByRecursion IsKept self.now.runs }
         ensures few { reads_through self.now.runs + self.now.pinned ≤ 4 }
     {
-        let _ = &self.first;
+        self.first.known();
+        self.second.known();
+        self.third.known();
+        self.fourth.known();
     }
 
     /// How many levels have frames for all their pages: the upper ones.
@@ -110,6 +117,21 @@ impl<A: Allocator> Levels<A> {
         ensures { result ≡ (run_of self.now level).count }
     {
         self.run(level).entries()
+    }
+
+    /// The level into which the next merge goes, for so many frozen keys. None exactly where no key is frozen.
+    pub fn next_merge(&self, frozen: u32) -> Option<u8>
+        ensures target { result ≡ next_merge self.now.shape frozen (map (λ r. r.count) self.now.runs) }
+        ensures none { IsNone result ↔ (frozen ≡ 0) }
+        ensures level { IfSome result (λ t. 1 ≤ t × t ≤ 4) }
+    {
+        let counts = [
+            self.first.entries(),
+            self.second.entries(),
+            self.third.entries(),
+            self.fourth.entries(),
+        ];
+        self.plan.next_merge(frozen, &counts)
     }
 
     /// Puts a run in place of the one of its level, which is handed back. All its pages have frames where those of the level have.

@@ -11,3 +11,10 @@ pub mod Preparing
 pub mod Installing
 pub mod Replaced
 pub mod Installed
+pub mod Carried
+pub mod Grown
+pub mod Running
+pub mod Entries
+pub mod Leveled
+pub mod Beginning
+pub mod Stepping

@@ -1,3 +1,4 @@
 pub mod Index
 pub mod Steps
 pub mod Exchanges
+pub mod Sources

@@ -7,6 +7,7 @@
 
 mod exchange;
 mod install;
+mod merging;
 mod phase;
 mod schedule;
 

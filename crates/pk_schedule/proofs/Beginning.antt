@@ -1,0 +1,392 @@
+-- The next merge begins: it can be, its source has an entry, and the index stands as before with it.
+use Rattle.std.proofs.Common.{◌≡◌, ◌⊎◌, inl, inr, ℕ, zero, suc, ◌+◌, ◌-◌, ◌*◌, ◌<◌, ◌≤◌, Bool, true, false, T, ◌==◌, nat_eq, if◌then◌else◌, List, [], ◌∷◌, ◌++◌, length, map, nat_le, Option, Some, None, refl, sym, ap, subst, ◌∙◌, arith, leb→le, leb-false, le_trans, eqb→eq}
+use Rattle.std.specs.Prelude.{slice_index, slice_index_or, slice_get, unwrap_or}
+use Rattle.std.specs.List.{AllByRecursion, concat}
+use Rattle.std.specs.FinMap.Entries.{is_sorted}
+use Rattle.pk_base.specs.Key.{key_cmp}
+use Rattle.pk_base.specs.Shape.{Shape, IsShape, cap, page_entries, pinned, run_pages, run_blocks, buffer}
+use Rattle.pk_base.specs.Entry.{Entry}
+use Rattle.pk_base.specs.EntryBytes.{IsEntry}
+use Rattle.pk_base.specs.Page.{Flash, page_at}
+use Rattle.pk_base.specs.Map.{Map}
+use Rattle.pk_base.specs.Merge.{next_merge, room}
+use Rattle.pk_base.specs.Firsts.{firsts}
+use Rattle.pk_buf.specs.Table.{Table}
+use Rattle.pk_nand.specs.BoardState.{BoardState}
+use Rattle.pk_nand.specs.Calls.{IsReady}
+use Rattle.pk_pin.specs.Frames.{Frames, free_frames}
+use Rattle.pk_plan.specs.declared.owner.Owner.TheVariants.{Meta}
+use Rattle.pk_plan.specs.Quotas.{quota_of}
+use Rattle.pk_rootfmt.specs.Root.{Root, is_root}
+use Rattle.pk_pool.specs.declared.state.BlockState.TheVariants.{Owned}
+use Rattle.pk_pool.specs.Blocks.{Blocks, used_by}
+use Rattle.pk_pool.specs.Unready.{unready}
+use Rattle.pk_work.specs.Rest.{Lowers, left_of, whole_merge}
+use Rattle.pk_work.specs.Backlog.{Backlog, due_level}
+use Rattle.pk_work.specs.Steps.{MovesMerge}
+use Rattle.pk_work.specs.Work.{work, merging as merging_left}
+use Rattle.pk_work.proofs.Paging.{few_pages}
+use Rattle.pk_work.proofs.Lowering.{moves as merge_moves}
+use Rattle.pk_run.specs.Kept.{Kept, RunOnFlash, IsKept, empty, most_pages, most_blocks}
+use Rattle.pk_level.specs.Levels.{Levels, IsLevels, RunsOnFlash, HaveBlocks, run_of}
+use Rattle.pk_level.specs.Arenas.{HasArena}
+use Rattle.pk_model.specs.Found.{Found}
+use Rattle.pk_model.specs.Crashes.{CrashFinds, background}
+use Rattle.pk_model.specs.Tree.{run_at}
+use Rattle.pk_model.proofs.Running.{Reaches-none}
+use Rattle.pk_model.proofs.Commits.{root_valid}
+use Rattle.pk_model.proofs.Roots.{newest_sound}
+use Rattle.pk_model.proofs.ValueSets.{is_true}
+use Rattle.pk_steps.specs.Under.{IsUnder, places}
+use Rattle.pk_steps.specs.Merging.{output_of as whole_output}
+use Rattle.pk_steps.proofs.Untouched.{under_reads}
+use Rattle.pk_steps.proofs.Places.{In}
+use Rattle.pk_steps.proofs.FourRuns.{IsLevel, next_is_level}
+use Rattle.pk_steps.proofs.Outputs.{output_fits}
+use Rattle.pk_steps.proofs.Amounts.{quota_fits}
+use Rattle.pk_root.specs.declared.next.Next.{Next}
+use Rattle.pk_root.specs.Installing.{erases_next}
+use Rattle.pk_merge.specs.declared.source.Source.{Source}
+use Rattle.pk_merge.specs.declared.source.Source.TheVariants.{Frozen, Run}
+use Rattle.pk_merge.specs.Sources.{count_of, pages_in, blocks_in, Has, IsOf}
+use Rattle.pk_merge.specs.Merging.{IsDone}
+use Rattle.pk_merge.specs.Outputs.{AreMeta}
+use Rattle.pk_merge.specs.Running.{CanBegin, merged}
+use Rattle.pk_merge.specs.Remaining.{IsWithin, steps_left}
+use Rattle.pk_merge.specs.Jobs.{Job, JobRuns, IsIdle, begun, pins, output_of, all_spare, without}
+use Rattle.pk_compact.specs.FreezeSteps.{install_steps}
+use Rattle.pk_schedule.specs.declared.phase.Phase.{Phase}
+use Rattle.pk_schedule.specs.declared.phase.Phase.TheVariants.{Idle, Running, Ready}
+use Rattle.pk_schedule.specs.Index.{Index, Schedule, IndexOnFlash, IsDue, MergesInto, MergeRuns, MergeStands, behind, output, source_at, entries_at}
+use Rattle.pk_schedule.specs.Steps.{MayWork, IndexMoves, LessIsLeft, merge_left, backlog_of}
+use Rattle.pk_schedule.specs.Sources.{ShowsSame}
+use Rattle.pk_schedule.proofs.Carried.{Shown, shown, same_shown, job_carried, left_same}
+use Rattle.pk_schedule.proofs.Grown.{got_in}
+use Rattle.pk_schedule.proofs.Entries.{output_same, frozen_many, frozen_rising, counts_same, run_stands, count_at, frozen_are, run_are}
+use Rattle.pk_schedule.proofs.Leveled.{Fit, run_fits, run_blocks_in, frames_left}
+
+-- the source, for a buffer and runs in any memory
+abbrev pub source_in : (X : Type 0) → Index → ℕ → Source X
+source_in X x level = if level == 1 then Frozen (behind x.log.frozen) else Run (behind (run_of x.levels (level - 1)))
+
+pub in_shows : (X : Type 0) (x : Index) (level : ℕ) → ShowsSame (source_in X x level) (source_at x level)
+in_shows X x level = elim (level == 1) as (λ b. ShowsSame {X = X} {Y = Unit {0}} (if b then Frozen (behind x.log.frozen) else Run (behind (run_of x.levels (level - 1)))) (if b then Frozen (behind x.log.frozen) else Run (behind (run_of x.levels (level - 1))))) [ true ↦ refl | false ↦ refl ]
+
+-- ---- what the choice of a level says
+
+pub record Chosen (a b c d : Bool) (level : ℕ) : Type 0 where
+  pub some : a ≡ false
+  pub which : (level ≡ 1) ⊎ ((level ≡ 2) × (b ≡ false)) ⊎ ((level ≡ 3) × (c ≡ false)) ⊎ ((level ≡ 4) × (d ≡ false))
+
+same_level : (x y : ℕ) → ◌≡◌ {A = Option ℕ} (Some x) (Some y) → y ≡ x
+same_level x y e = cc
+
+chosen : (a b c d : Bool) (level : ℕ) → (if a then None else if b then Some 1 else if c then Some 2 else if d then Some 3 else Some 4) ≡ Some level → Chosen a b c d level
+chosen true b c d level e = absurd (let x : ⊥ = cc in x)
+chosen false true c d level e = record { some = refl; which = inl (same_level 1 level e) }
+chosen false false true d level e = record { some = refl; which = inr (inl (same_level 2 level e, refl)) }
+chosen false false false true level e = record { some = refl; which = inr (inr (inl (same_level 3 level e, refl))) }
+chosen false false false false level e = record { some = refl; which = inr (inr (inr (same_level 4 level e, refl))) }
+
+few_steps : (b : Bool) → (if b then 2 else 1) ≤ 2
+few_steps true = omega arith
+few_steps false = omega arith
+
+not_zero : (n : ℕ) → (n == 0) ≡ false → 1 ≤ n
+not_zero zero e = absurd (let x : ⊥ = cc in x)
+not_zero (suc n) e = omega arith
+
+module _ (x : Index) (frames : ℕ) (old : BoardState) (top : ℕ × Root) (found : Found) (m : Map) (may : MayWork x frames old.pages top found m)
+    (levels_are : IsLevels x.levels) (kept : AllByRecursion IsKept x.levels.runs) (frozen_few : length x.log.frozen.entries ≤ x.log.frozen.capacity)
+    (idle : x.schedule.phase ≡ Idle) (level : ℕ) (next : next_merge x.levels.shape (length x.log.frozen.entries) (map (λ r. r.count) x.levels.runs) ≡ Some level) where
+  stands : IndexOnFlash x frames old.pages top found
+  stands = may.stands
+
+  is_shape : IsShape x.log.shape
+  is_shape = stands.logs.is_shape
+
+  is_idle : IsIdle x.log.shape x.schedule.job
+  is_idle = subst (λ (p : Phase). MergeStands p x old.pages top.1 found) idle stands.merge
+
+  counts : List ℕ
+  counts = map (λ r. r.count) x.levels.runs
+
+  next_now : next_merge x.log.shape (length x.log.frozen.entries) (map (λ r. r.count) x.levels.runs) ≡ Some level
+  next_now = subst (λ (s : Shape). next_merge s (length x.log.frozen.entries) (map (λ r. r.count) x.levels.runs) ≡ Some level) stands.levels_shape next
+
+  pub due : IsDue x.log.shape found level
+  due = (λ i. next_merge x.log.shape (sym (frozen_many x.log.shape x.log.frozen found.older stands.logs.frozen_is) i) (sym (counts_same old.pages x.arena x.levels.runs found.runs stands.stand) i)) ∙ next_now
+
+  is_level : IsLevel level
+  is_level = next_is_level x.log.shape (length x.log.frozen.entries) (map (λ r. r.count) x.levels.runs) level next_now
+
+  low : 1 ≤ level
+  low = elim is_level [ inl e ↦ omega (arith, e) | inr (inl e) ↦ omega (arith, e) | inr (inr (inl e)) ↦ omega (arith, e) | inr (inr (inr e)) ↦ omega (arith, e) ]
+
+  high : level ≤ 4
+  high = elim is_level [ inl e ↦ omega (arith, e) | inr (inl e) ↦ omega (arith, e) | inr (inr (inl e)) ↦ omega (arith, e) | inr (inr (inr e)) ↦ omega (arith, e) ]
+
+  four : length x.levels.runs ≡ 4
+  four = levels_are.four
+
+  fit : (l : ℕ) → 1 ≤ l → l ≤ 4 → Fit x.log.shape l (run_of x.levels l)
+  fit l least most = subst (λ (s : Shape). Fit s l (run_of x.levels l)) stands.levels_shape (run_fits x.levels l levels_are kept least most)
+
+  -- ---- the source has an entry
+
+  picked : Chosen (length x.log.frozen.entries == 0) (nat_le (length x.log.frozen.entries + slice_index (map (λ r. r.count) x.levels.runs) 0) (room x.log.shape 1))
+      (nat_le (slice_index (map (λ r. r.count) x.levels.runs) 0 + slice_index (map (λ r. r.count) x.levels.runs) 1) (room x.log.shape 2))
+      (nat_le (slice_index (map (λ r. r.count) x.levels.runs) 1 + slice_index (map (λ r. r.count) x.levels.runs) 2) (room x.log.shape 3)) level
+  picked = chosen _ _ _ _ level next_now
+
+  count_is : (i : ℕ) (d : Kept) → i < 4 → slice_index (map (λ r. r.count) x.levels.runs) i ≡ (slice_index_or x.levels.runs i d).count
+  count_is i d small = count_at x.levels.runs i d (let f = four in omega (arith, f, small))
+
+  capacity : length x.log.frozen.entries ≤ buffer x.log.shape
+  capacity = subst (λ (n : ℕ). length x.log.frozen.entries ≤ n) (ap (λ (t : Table). t.capacity) stands.logs.frozen_is) frozen_few
+
+  abbrev HasSome : ℕ → Type 0
+  HasSome l = 1 ≤ count_of (source_at x l)
+
+  pub source_some : HasSome level
+  source_some = elim picked.which [
+    | inl e ↦ subst HasSome (sym e) (not_zero (length x.log.frozen.entries) picked.some)
+    | inr (inl (e, full)) ↦ subst HasSome (sym e) (
+        let over = leb-false _ _ full in let few = capacity in let c = count_is 0 (empty x.levels.shape 1) (omega arith) in omega (arith, over, few, c))
+    | inr (inr (inl (e, full))) ↦ subst HasSome (sym e) (
+        let over = leb-false _ _ full in let few = (fit 1 (omega arith) (omega arith)).entries in let b = count_is 0 (empty x.levels.shape 1) (omega arith) in let c = count_is 1 (empty x.levels.shape 2) (omega arith) in omega (arith, over, few, b, c))
+    | inr (inr (inr (e, full))) ↦ subst HasSome (sym e) (
+        let over = leb-false _ _ full in let few = (fit 2 (omega arith) (omega arith)).entries in let b = count_is 1 (empty x.levels.shape 2) (omega arith) in let c = count_is 2 (empty x.levels.shape 3) (omega arith) in omega (arith, over, few, b, c))
+  ]
+
+  -- ---- no merge has an output
+
+  none : output x.schedule ≡ empty x.schedule.job.merger.shape x.schedule.job.target
+  none = ap (λ (o : Option Kept). unwrap_or o (empty x.schedule.job.merger.shape x.schedule.job.target)) is_idle.output
+
+  has_arena : HasArena x.log.shape frames x.levels x.arena []
+  has_arena = subst (λ (ls : List ℕ). HasArena x.log.shape frames x.levels x.arena ls) (ap (λ (r : Kept). r.leases) none) stands.arena_is
+
+  no_blocks : length (output x.schedule).blocks ≡ 0
+  no_blocks = ap (λ (r : Kept). length r.blocks) none
+
+  -- ---- it can be begun
+
+  abbrev es : List Entry
+  es = entries_at x found level
+
+  abbrev fs : List Entry
+  fs = run_at found.runs level
+
+  output_few : length (merged level es fs) ≤ room x.log.shape level
+  output_few = subst (λ (xs : List Entry). length xs ≤ room x.log.shape level) (sym (output_same x found level stands.logs.frozen_is)) (output_fits x.log.shape old.pages [] top found m level is_shape may.under due)
+
+  run_is : (l : ℕ) → 1 ≤ l → l ≤ 4 → RunOnFlash (run_of x.levels l) old.pages x.arena (run_at found.runs l)
+  run_is l least most = run_stands old.pages x.arena x.levels.runs found.runs (l - 1) (empty x.levels.shape l) (let f = four in omega (arith, f, least, most)) stands.stand
+
+  above_is : RunOnFlash (run_of x.levels (level - 1)) old.pages x.arena (run_at found.runs (level - 1))
+  above_is = run_stands old.pages x.arena x.levels.runs found.runs (level - 1 - 1) (empty x.levels.shape (level - 1)) (let f = four in let h = high in omega (arith, f, h)) stands.stand
+
+  above_blocks : AreMeta x.pool (run_of x.levels (level - 1)).blocks
+  above_blocks = λ i b got. stands.runs b (run_blocks_in x.log.shape x.levels.runs top.1.runs (level - 1 - 1) (empty x.levels.shape (level - 1)) (let f = four in let h = high in omega (arith, f, h)) stands.run_blocks b (got_in _ i b got))
+
+  target_blocks : AreMeta x.pool (run_of x.levels level).blocks
+  target_blocks = λ i b got. stands.runs b (run_blocks_in x.log.shape x.levels.runs top.1.runs (level - 1) (empty x.levels.shape level) (let f = four in let h = high in let l = low in omega (arith, f, h, l)) stands.run_blocks b (got_in _ i b got))
+
+  is_grammar : is_root x.log.shape top.1 ≡ true
+  is_grammar = is_true _ (root_valid x.log.shape (page_at old.pages top.0) top.1 (newest_sound x.log.shape (page_at old.pages) top may.under.is_top).there)
+
+  quota : used_by Meta x.pool.states + run_blocks x.log.shape (length (merged level es fs)) ≤ quota_of x.pool.shape Meta
+  quota =
+      let few = quota_fits x.log.shape top.1 level (length (merged level es fs)) is_shape is_grammar low high output_few in
+      let used = stands.runs_few in
+      let zero_blocks = no_blocks in
+      let same : quota_of x.pool.shape Meta ≡ quota_of x.log.shape Meta = ap (λ (s : Shape). quota_of s Meta) stands.pool_shape in
+      omega (arith, few, used, zero_blocks, same)
+
+  pin : nat_le level x.schedule.job.pinned ≡ true → run_pages x.log.shape (length (merged level es fs)) ≤ free_frames x.arena
+  pin pins =
+      let free = frames_left x.log.shape frames x.levels x.arena level levels_are kept stands.levels_shape stands.levels_pinned has_arena is_level (subst (λ (n : ℕ). nat_le level n ≡ true) stands.pins_are pins) in
+      le_trans (few_pages x.log.shape level (length (merged level es fs)) is_shape output_few) free
+
+  rising_of : (b : Bool) (f : Table) (gs : List Entry) → T (is_sorted key_cmp f.entries) → T (is_sorted key_cmp gs) → T (is_sorted key_cmp (if b then f.entries else gs))
+  rising_of true f gs one two = one
+  rising_of false f gs one two = two
+
+  each_of : (b : Bool) (f : Table) (gs : List Entry) → AllByRecursion (IsEntry x.log.shape) f.entries → AllByRecursion (IsEntry x.log.shape) gs → AllByRecursion (IsEntry x.log.shape) (if b then f.entries else gs)
+  each_of true f gs one two = one
+  each_of false f gs one two = two
+
+  above_shape : (level == 1) ≡ false → (run_of x.levels (level - 1)).shape ≡ x.log.shape
+  above_shape e = (fit (level - 1) (more level low e) (let h = high in omega (arith, h))).same_shape
+    where
+      more : (l : ℕ) → 1 ≤ l → (l == 1) ≡ false → 1 ≤ l - 1
+      more zero h e = absurd (omega (arith, h))
+      more (suc zero) h e = absurd (let z : ⊥ = cc in z)
+      more (suc (suc l)) h e = omega arith
+
+  module _ (X : Type 0) where
+    has_of : (b : Bool) (f : Table) (r : Kept) (gs : List Entry) → RunOnFlash r old.pages x.arena gs → Has {X = X} (if b then Frozen (behind f) else Run (behind r)) old.pages x.arena (if b then f.entries else gs)
+    has_of true f r gs s = refl
+    has_of false f r gs s = s
+
+    of_of : (b : Bool) (f : Table) (r : Kept) → (b ≡ false → r.shape ≡ x.log.shape) → IsOf {X = X} x.log.shape (if b then Frozen (behind f) else Run (behind r))
+    of_of true f r e = tt
+    of_of false f r e = e refl
+
+    meta_of : (b : Bool) (f : Table) (r : Kept) → AreMeta x.pool r.blocks → AreMeta x.pool (blocks_in {X = X} (if b then Frozen (behind f) else Run (behind r)))
+    meta_of true f r all = λ i y got. absurd (let z : ⊥ = cc in z)
+    meta_of false f r all = all
+
+    pub can_begin : CanBegin (source_in X x level) (run_of x.levels level) (nat_le level x.schedule.job.pinned) x.log.shape level x.pool old.pages x.arena es fs
+    can_begin = record {
+      has = has_of (level == 1) x.log.frozen (run_of x.levels (level - 1)) (run_at found.runs (level - 1)) above_is;
+      stands = run_is level low high;
+      rising = rising_of (level == 1) x.log.frozen (run_at found.runs (level - 1)) (frozen_rising x.log.shape x.log.frozen found.older stands.logs.frozen_is) above_is.rising;
+      lists = record {
+        each_source = each_of (level == 1) x.log.frozen (run_at found.runs (level - 1)) (frozen_are x.log.shape old.pages top.1 found may.under.is_found x.log.frozen stands.logs.frozen_is) (run_are x.log.shape old.pages top.1 found may.under.is_found (level - 1));
+        each_target = run_are x.log.shape old.pages top.1 found may.under.is_found level;
+        few = output_few;
+      };
+      of_source = of_of (level == 1) x.log.frozen (run_of x.levels (level - 1)) above_shape;
+      of_target = (fit level low high).same_shape;
+      of_pool = stands.pool_shape;
+      of_frames = stands.arena_is.page_bytes_is;
+      fits = stands.pool_fits;
+      source_owned = meta_of (level == 1) x.log.frozen (run_of x.levels (level - 1)) above_blocks;
+      target_owned = target_blocks;
+      room = quota;
+      frames = pin;
+    }
+
+  -- ---- the index behind its beginning
+
+  abbrev pub job : Job
+  job = begun x.schedule.job.merger.shape x.schedule.job level
+
+  abbrev pub begun_index : Index
+  begun_index = record x { schedule = record x.schedule { job = job; phase = Running level } }
+
+  out_shape : (output_of job).shape ≡ x.log.shape
+  out_shape = is_idle.merger
+
+  into_then : MergesInto begun_index top.1 found level
+  into_then = record {
+    due = due;
+    target = refl;
+    has_output = refl;
+    output_shape = out_shape;
+    output_level = refl;
+    held = record { different = refl; owned = λ b is. absurd is; unnamed = λ b is named. is };
+    spares = ap (λ (ss : List (Option Kept)). without ss level) is_idle.spares;
+    merger_shape = is_idle.merger;
+  }
+
+  undone : IsDone (source_at x level) (run_of x.levels level) job.merger → ⊥
+  undone d = let some = source_some in let none = d.0.0 in omega (arith, some, none)
+
+  pages_few : pages_in (source_at x level) ≤ cap x.log.shape (level - 1)
+  pages_few = of_pages (level == 1) refl
+    where
+      of_pages : (b : Bool) → (level == 1) ≡ b → pages_in {X = Unit {0}} (if b then Frozen (behind x.log.frozen) else Run (behind (run_of x.levels (level - 1)))) ≤ cap x.log.shape (level - 1)
+      of_pages true e = omega arith
+      of_pages false e = (fit (level - 1) (more level low e) (let h = high in omega (arith, h))).pages
+        where
+          more : (l : ℕ) → 1 ≤ l → (l == 1) ≡ false → 1 ≤ l - 1
+          more zero h e = absurd (omega (arith, h))
+          more (suc zero) h e = absurd (let z : ⊥ = cc in z)
+          more (suc (suc l)) h e = omega arith
+
+  module _ (X : Type 0)
+      (begins : CanBegin (source_in X x level) (run_of x.levels level) (pins job) x.schedule.job.merger.shape level x.pool old.pages x.arena es fs → JobRuns (source_in X x level) (run_of x.levels level) job x.pool old.pages x.arena es fs)
+      (within : IsWithin (source_in X x level) (run_of x.levels level) (output_of job) job.merger) (ready : IsReady old x.log.shape) where
+    same : Shown (source_in X x level) (source_at x level)
+    same = shown (source_in X x level) (source_at x level) (in_shows X x level)
+
+    job_runs : JobRuns (source_at x level) (run_of x.levels level) job x.pool old.pages x.arena es fs
+    job_runs = job_carried (source_in X x level) (source_at x level) same (run_of x.levels level) job x.pool old.pages x.arena es fs
+        (begins (subst (λ (s : Shape). CanBegin (source_in X x level) (run_of x.levels level) (pins job) s level x.pool old.pages x.arena es fs) (sym is_idle.merger) (can_begin X)))
+
+    runs_then : MergeRuns begun_index old.pages top.1 found level
+    runs_then = record { into = into_then; runs = job_runs; undone = undone }
+
+    index_then : IndexOnFlash begun_index frames old.pages top found
+    index_then = record {
+      logs = stands.logs;
+      pool_shape = stands.pool_shape;
+      pool_fits = stands.pool_fits;
+      levels_shape = stands.levels_shape;
+      levels_pinned = stands.levels_pinned;
+      stand = stands.stand;
+      run_blocks = stands.run_blocks;
+      arena_is = has_arena;
+      journal = stands.journal;
+      journal_few = stands.journal_few;
+      runs = stands.runs;
+      runs_few = (let few = stands.runs_few in let zero_blocks = no_blocks in omega (arith, few, zero_blocks));
+      pins_are = stands.pins_are;
+      merge = runs_then;
+      freeze = record { taken = stands.freeze.taken; different = stands.freeze.different; none_frozen = stands.freeze.none_frozen };
+    }
+
+    pub begin_moves : IndexMoves x frames old found m begun_index old
+    begin_moves = record {
+      then_top = top;
+      then_found = found;
+      stands = index_then;
+      same_shape = refl;
+      none_pending = may.none_pending;
+      under = may.under;
+      same_places = refl;
+      values = record { size = refl; owned = λ b is. is; no_more = λ b is. is; as_many = refl; pages = λ k is. refl };
+      numbers = omega arith;
+      grows = inl refl;
+      cuts = Reaches-none x.log.shape old (CrashFinds x.log.shape background old.pages m) ready.shape_is old refl (refl, under_reads x.log.shape old.pages [] top found m may.under);
+    }
+
+    -- ---- what is left
+
+    whole : steps_left (source_at x level) (run_of x.levels level) (output_of job) job.merger (most_pages (output_of job)) (most_blocks (output_of job)) + 7 ≤ whole_merge x.log.shape level
+    whole =
+        let own : steps_left (source_in X x level) (run_of x.levels level) (output_of job) job.merger (most_pages (output_of job)) (most_blocks (output_of job)) + 7 ≤ whole_merge (output_of job).shape level
+        = within (subst (λ (n : ℕ). n ≤ cap (output_of job).shape (level - 1)) same.pages (subst (λ (s : Shape). pages_in (source_at x level) ≤ cap s (level - 1)) (sym out_shape) pages_few))
+        (subst (λ (s : Shape). length (run_of x.levels level).firsts ≤ cap s level) (sym out_shape) (fit level low high).pages) in
+        let left = left_same (source_in X x level) (source_at x level) same (run_of x.levels level) (output_of job) job.merger (most_pages (output_of job)) (most_blocks (output_of job)) in
+        let most = subst (λ (s : Shape). steps_left (source_in X x level) (run_of x.levels level) (output_of job) job.merger (most_pages (output_of job)) (most_blocks (output_of job)) + 7 ≤ whole_merge s level) out_shape own in
+        omega (arith, left, most)
+
+    begun_left : ℕ
+    begun_left = steps_left (source_at x level) (run_of x.levels level) (output_of job) job.merger (most_pages (output_of job)) (most_blocks (output_of job)) + 1 + install_steps x.log.next
+
+    not_begun : left_of (whole_merge x.log.shape level) (merge_left x.schedule.phase x) ≡ whole_merge x.log.shape level
+    not_begun = ap (λ (p : Phase). left_of (whole_merge x.log.shape level) (merge_left p x)) idle
+
+    pub begin_lowers : MovesMerge x.log.shape (backlog_of x) (backlog_of begun_index)
+    begin_lowers = record {
+      level = level;
+      left = steps_left (source_at x level) (run_of x.levels level) (output_of job) job.merger (most_pages (output_of job)) (most_blocks (output_of job)) + 1 + install_steps x.log.next;
+      due = next_now;
+      moved = refl;
+      lowers = record { none_ready = omega arith; less = (let most = whole in let few = few_steps (erases_next x.log.next) in let e = not_begun in omega (arith, most, few, e)) };
+    }
+
+    pub begin_less : LessIsLeft x begun_index
+    begin_less = let l = merge_moves x.log.shape (backlog_of x) (backlog_of begun_index) begin_lowers in record { work = l.0; merging = l.1 }
+
+  -- ---- by the contract of the job
+
+  module _ (X : Type 0) (j : Job) (is : j ≡ job)
+      (begins : (source : Source X) (target_run : Kept) (pool : Blocks) (flash : Flash) (arena : Frames) (gs hs : List Entry) → CanBegin source target_run (pins j) x.schedule.job.merger.shape level pool flash arena gs hs → JobRuns source target_run j pool flash arena gs hs)
+      (within : (source : Source X) (target_run : Kept) → IsWithin source target_run (output_of j) j.merger) (ready : IsReady old x.log.shape) where
+    can : CanBegin (source_in X x level) (run_of x.levels level) (pins job) x.schedule.job.merger.shape level x.pool old.pages x.arena es fs → JobRuns (source_in X x level) (run_of x.levels level) job x.pool old.pages x.arena es fs
+    can = subst (λ (k : Job). CanBegin (source_in X x level) (run_of x.levels level) (pins k) x.schedule.job.merger.shape level x.pool old.pages x.arena es fs → JobRuns (source_in X x level) (run_of x.levels level) k x.pool old.pages x.arena es fs) is
+        (begins (source_in X x level) (run_of x.levels level) x.pool old.pages x.arena es fs)
+
+    few : IsWithin (source_in X x level) (run_of x.levels level) (output_of job) job.merger
+    few = subst (λ (k : Job). IsWithin (source_in X x level) (run_of x.levels level) (output_of k) k.merger) is (within (source_in X x level) (run_of x.levels level))
+
+    pub moves_by : IndexMoves x frames old found m (record x { schedule = record x.schedule { job = j; phase = Running level } }) old
+    moves_by = subst (λ (k : Job). IndexMoves x frames old found m (record x { schedule = record x.schedule { job = k; phase = Running level } }) old) (sym is) (begin_moves X can few ready)
+
+    pub less_by : LessIsLeft x (record x { schedule = record x.schedule { job = j; phase = Running level } })
+    less_by = subst (λ (k : Job). LessIsLeft x (record x { schedule = record x.schedule { job = k; phase = Running level } })) (sym is) (begin_less X can few ready)

@@ -1,0 +1,226 @@
+-- What a step of a merge's job leaves of the pool, of pages and of frames: at most one block more for the output, and no page of another's block.
+use Rattle.std.proofs.Common.{◌≡◌, ◌≢◌, ◌⊎◌, inl, inr, ℕ, zero, suc, ◌+◌, ◌*◌, ◌/◌, ◌<◌, ◌≤◌, Bool, true, false, not, ◌&&◌, ◌||◌, ◌==◌, nat_le, leb→le, leb-false, eqb→eq, cond, T, List, [], ◌∷◌, ◌++◌, length, Option, Some, None, refl, sym, ap, subst, ◌∙◌, arith, length-append}
+use Rattle.std.specs.Prelude.{slice_get, slice_set}
+use Rattle.std.specs.List.{list_any, concat}
+use Rattle.std.proofs.lemmas.Bool.{cases_eq}
+use Rattle.std.proofs.lemmas.List.{length-set}
+use Rattle.std.proofs.lemmas.Option.{same_Some}
+use Rattle.pk_base.specs.Shape.{Shape}
+use Rattle.pk_base.specs.Entry.{Entry}
+use Rattle.pk_base.specs.Page.{Flash, page_at}
+use Rattle.pk_nand.specs.BoardState.{BoardState}
+use Rattle.pk_pin.specs.Frames.{Frames}
+use Rattle.pk_plan.specs.declared.owner.Owner.{Owner}
+use Rattle.pk_plan.specs.declared.owner.Owner.TheVariants.{Journal, Meta, Values}
+use Rattle.pk_rootfmt.specs.Root.{differ}
+use Rattle.pk_pool.specs.declared.state.BlockState.TheVariants.{Free, Ready, Owned}
+use Rattle.pk_pool.specs.Blocks.{Blocks, IsSpare, used_by, is_owned_by, same_owner, with_state}
+use Rattle.pk_pool.specs.Taking.{SameButBlock}
+use Rattle.pk_pool.proofs.States.{get-set_other, set_is, owned_is_not_free, owned_is_not_ready}
+use Rattle.pk_pool.proofs.Sharing.{count-set, used_adopted}
+use Rattle.pk_pool.proofs.Fitting.{block_of}
+use Rattle.pk_run.specs.Kept.{Kept}
+use Rattle.pk_level.specs.Levels.{RunsOnFlash, HaveBlocks}
+use Rattle.pk_model.specs.Laws.{AnyByRecursion}
+use Rattle.pk_model.proofs.Commits.{both}
+use Rattle.pk_model.proofs.Growing.{at_end}
+use Rattle.pk_model.proofs.SamePages.{any_front, any_back}
+use Rattle.pk_steps.proofs.Places.{In, in_append, not_of}
+use Rattle.pk_merge.specs.declared.source.Source.{Source}
+use Rattle.pk_merge.specs.declared.next.Next.{Next}
+use Rattle.pk_merge.specs.declared.next.Next.TheVariants.{LoadSource, LoadTarget, Gather, TakeBlock, Program, End}
+use Rattle.pk_merge.specs.Merging.{Merger}
+use Rattle.pk_merge.specs.Outputs.{AreMeta, AreApart, KeepsPage}
+use Rattle.pk_merge.specs.Steps.{Acts}
+use Rattle.pk_merge.specs.Elsewhere.{IsForOutput, StepReaches, StepWent, LeavesRuns}
+
+-- ---- lists
+
+pub got_in : (xs : List ℕ) (i b : ℕ) → slice_get xs i ≡ Some b → In b xs
+got_in [] i b e = absurd (let x : ⊥ = cc in x)
+got_in (x ∷ xs) zero b e = inl (sym (same_Some x b e))
+got_in (x ∷ xs) (suc i) b e = inr (got_in xs i b e)
+
+pub in_got : (xs : List ℕ) (b : ℕ) → In b xs → (i : ℕ) × (slice_get xs i ≡ Some b)
+in_got [] b is = absurd is
+in_got (x ∷ xs) b (inl e) = (0, ap (λ (y : ℕ). Some y) (sym e))
+in_got (x ∷ xs) b (inr is) = let r = in_got xs b is in (suc r.0, r.1)
+
+or_cases : (a b : Bool) → T (a || b) → T a ⊎ T b
+or_cases true b p = inl tt
+or_cases false b p = inr p
+
+-- elements at different places that are different
+pub differ_of : (xs : List ℕ) → ((i j b : ℕ) → slice_get xs i ≡ Some b → slice_get xs j ≡ Some b → i ≡ j) → T (differ xs)
+differ_of [] d = tt
+differ_of (x ∷ xs) d =
+    both (not (list_any (λ c. x == c) xs)) (differ xs)
+    (not_of (list_any (λ c. x == c) xs) (λ t. first t))
+    (differ_of xs (λ i j b got had. let same = d (suc i) (suc j) b got had in omega (arith, same)))
+  where
+    swapped : (ys : List ℕ) → T (list_any (λ c. x == c) ys) → In x ys
+    swapped [] t = absurd t
+    swapped (y ∷ ys) t = elim (or_cases (x == y) (list_any (λ c. x == c) ys) t) [ inl is ↦ inl (eqb→eq x y is) | inr is ↦ inr (swapped ys is) ]
+
+    first : T (list_any (λ c. x == c) xs) → ⊥
+    first t = let there = in_got xs x (swapped xs t) in let same = d 0 (suc there.0) x refl there.1 in omega (arith, same)
+
+-- ---- the pool
+
+pub owned_not_spare : (pool : Blocks) (b : ℕ) (o : Owner) → slice_get pool.states b ≡ Some (Owned o) → IsSpare pool b → ⊥
+owned_not_spare pool b o owned (inl free) = owned_is_not_free {o = o} (same_Some (Owned o) Free (sym owned ∙ free))
+owned_not_spare pool b o owned (inr ready) = owned_is_not_ready {o = o} (same_Some (Owned o) Ready (sym owned ∙ ready))
+
+-- the pool and the output are as before, or the output has one spare block more
+abbrev pub Grew : Blocks → Kept → Blocks → Kept → Type 0
+Grew pool out pool' out' =
+    ((pool' ≡ pool) × (out'.blocks ≡ out.blocks))
+    ⊎ ((b : ℕ) × IsSpare pool b × (pool' ≡ with_state pool b (Owned Meta)) × (out'.blocks ≡ out.blocks ++ b ∷ []))
+
+module _ (pool : Blocks) (out : Kept) (pool' : Blocks) (out' : Kept) where
+  pub grew_shape : Grew pool out pool' out' → pool'.shape ≡ pool.shape
+  grew_shape (inl s) = ap (λ (p : Blocks). p.shape) s.0
+  grew_shape (inr (b, spare, is, more)) = ap (λ (p : Blocks). p.shape) is
+
+  -- what has an owner keeps it
+  pub grew_kept : Grew pool out pool' out' → (c : ℕ) (o : Owner) → slice_get pool.states c ≡ Some (Owned o) → slice_get pool'.states c ≡ Some (Owned o)
+  grew_kept (inl s) c o owned = subst (λ (p : Blocks). slice_get p.states c ≡ Some (Owned o)) (sym s.0) owned
+  grew_kept (inr (b, spare, is, more)) c o owned =
+      let other : c ≢ b = λ e. owned_not_spare pool c o owned (subst (λ (y : ℕ). IsSpare pool y) (sym e) spare) in
+      subst (λ (p : Blocks). slice_get p.states c ≡ Some (Owned o)) (sym is) (get-set_other pool.states b c (Owned Meta) other ∙ owned)
+
+  -- no other owner has one more
+  pub grew_no_more : Grew pool out pool' out' → (c : ℕ) (o : Owner) → same_owner o Meta ≡ false → slice_get pool'.states c ≡ Some (Owned o) → slice_get pool.states c ≡ Some (Owned o)
+  grew_no_more (inl s) c o not_meta owned = subst (λ (p : Blocks). slice_get p.states c ≡ Some (Owned o)) s.0 owned
+  grew_no_more (inr (b, spare, is, more)) c o not_meta owned =
+      let now : slice_get (slice_set pool.states b (Owned Meta)) c ≡ Some (Owned o) = subst (λ (p : Blocks). slice_get p.states c ≡ Some (Owned o)) is owned in
+      elim (cases_eq c b) [
+        | inl e ↦ absurd (clash (subst (λ (y : ℕ). slice_get (slice_set pool.states b (Owned Meta)) y ≡ Some (Owned o)) e now) spare)
+        | inr other ↦ sym (get-set_other pool.states b c (Owned Meta) other) ∙ now
+      ]
+    where
+      meta_not : (o : Owner) → same_owner o Meta ≡ false → Owned Meta ≡ Owned o → ⊥
+      meta_not o not_meta e = let f : same_owner Meta Meta ≡ is_owned_by Meta (Owned o) = ap (is_owned_by Meta) e in turned o not_meta f
+        where
+          turned : (o : Owner) → same_owner o Meta ≡ false → true ≡ same_owner Meta o → ⊥
+          turned Journal e f = cc
+          turned Meta e f = cc
+          turned Values e f = cc
+
+      here : IsSpare pool b → slice_get (slice_set pool.states b (Owned Meta)) b ≡ Some (Owned Meta)
+      here (inl free) = set_is pool.states b Free (Owned Meta) free
+      here (inr ready) = set_is pool.states b Ready (Owned Meta) ready
+
+      clash : slice_get (slice_set pool.states b (Owned Meta)) b ≡ Some (Owned o) → IsSpare pool b → ⊥
+      clash got spare = meta_not o not_meta (same_Some (Owned Meta) (Owned o) (sym (here spare) ∙ got))
+
+  pub grew_size : Grew pool out pool' out' → length pool'.states ≡ length pool.states
+  grew_size (inl s) = ap (λ (p : Blocks). length p.states) s.0
+  grew_size (inr (b, spare, is, more)) = ap (λ (p : Blocks). length p.states) is ∙ length-set pool.states b (Owned Meta)
+
+  -- other owners have as many
+  pub grew_used : Grew pool out pool' out' → (o : Owner) → same_owner o Meta ≡ false → used_by o pool'.states ≡ used_by o pool.states
+  grew_used (inl s) o not_meta = ap (λ (p : Blocks). used_by o p.states) s.0
+  grew_used (inr (b, spare, is, more)) o not_meta = ap (λ (p : Blocks). used_by o p.states) is ∙ counted spare
+    where
+      none : cond {A = ℕ} (same_owner o Meta) 1 0 ≡ 0
+      none = rw not_meta refl
+
+      counted : IsSpare pool b → used_by o (slice_set pool.states b (Owned Meta)) ≡ used_by o pool.states
+      counted (inl free) = omega (arith, count-set (is_owned_by o) pool.states b Free (Owned Meta) free, none)
+      counted (inr ready) = omega (arith, count-set (is_owned_by o) pool.states b Ready (Owned Meta) ready, none)
+
+  -- the output has those that there are more of
+  pub grew_meta : Grew pool out pool' out' → used_by Meta pool'.states + length out.blocks ≡ used_by Meta pool.states + length out'.blocks
+  grew_meta (inl s) = let one = ap (λ (p : Blocks). used_by Meta p.states) s.0 in let two = ap (λ (bs : List ℕ). length bs) s.1 in omega (arith, one, two)
+  grew_meta (inr (b, spare, is, more)) =
+      let one = ap (λ (p : Blocks). used_by Meta p.states) is in
+      let two = used_adopted pool.shape pool.states b Meta spare in
+      let three = ap (λ (bs : List ℕ). length bs) more in
+      let four = length-append out.blocks (b ∷ []) in
+      omega (arith, one, two, three, four)
+
+  -- a block of the output was its before, or was spare
+  pub grew_from : Grew pool out pool' out' → (c : ℕ) → In c out'.blocks → In c out.blocks ⊎ IsSpare pool c
+  grew_from (inl s) c is = inl (subst (λ (bs : List ℕ). In c bs) s.1 is)
+  grew_from (inr (b, spare, e, more)) c is = elim (in_append c out.blocks (b ∷ []) (subst (λ (bs : List ℕ). In c bs) more is)) [
+    | inl was ↦ inl was
+    | inr (inl here) ↦ inr (subst (λ (y : ℕ). IsSpare pool y) (sym here) spare)
+    | inr (inr none) ↦ absurd none
+  ]
+
+-- ---- each action
+
+pub acts_grow : {X : Type 0} (source : Source X) (target : Kept) (pins : Bool) (out : Kept) (m : Merger) (pool : Blocks) (old : BoardState) (before : Frames) (next : Next) (out' : Kept) (m' : Merger) (pool' : Blocks) (new : BoardState) (after : Frames)
+    → Acts source target pins out m pool old before next out' m' pool' new after → Grew pool out pool' out'
+acts_grow source target pins out m pool old before LoadSource out' m' pool' new after (l, o, p, a) = inl (p, ap (λ (r : Kept). r.blocks) o)
+acts_grow source target pins out m pool old before LoadTarget out' m' pool' new after (l, o, p, a) = inl (p, ap (λ (r : Kept). r.blocks) o)
+acts_grow source target pins out m pool old before Gather out' m' pool' new after (n, e, o, p, a) = inl (p, ap (λ (r : Kept). r.blocks) o)
+acts_grow source target pins out m pool old before End out' m' pool' new after (n, e, o, p, a) = inl (p, ap (λ (r : Kept). r.blocks) o)
+acts_grow source target pins out m pool old before TakeBlock out' m' pool' new after (k, e, a, fits) = inr (k.block, k.spare, k.pool_is, ap (λ (r : Kept). r.blocks) k.run_is)
+acts_grow source target pins out m pool old before Program out' m' pool' new after (k, e, p) = inl (p, ap (λ (r : Kept). r.blocks) k.run_is)
+
+page_frames : (pins : Bool) (old new : Frames) (bytes : List ℕ) (lease : Option ℕ) → KeepsPage pins old new bytes lease → length new.used ≡ length old.used
+page_frames pins old new bytes None k = ap (λ (a : Frames). length a.used) k.1
+page_frames pins old new bytes (Some l) k = ap (λ (a : Frames). length a.used) k.2 ∙ length-set old.used l true
+
+-- there are as many frames
+pub acts_frames : {X : Type 0} (source : Source X) (target : Kept) (pins : Bool) (out : Kept) (m : Merger) (pool : Blocks) (old : BoardState) (before : Frames) (next : Next) (out' : Kept) (m' : Merger) (pool' : Blocks) (new : BoardState) (after : Frames)
+    → Acts source target pins out m pool old before next out' m' pool' new after → length after.used ≡ length before.used
+acts_frames source target pins out m pool old before LoadSource out' m' pool' new after (l, o, p, a) = ap (λ (f : Frames). length f.used) a
+acts_frames source target pins out m pool old before LoadTarget out' m' pool' new after (l, o, p, a) = ap (λ (f : Frames). length f.used) a
+acts_frames source target pins out m pool old before Gather out' m' pool' new after (n, e, o, p, a) = ap (λ (f : Frames). length f.used) a
+acts_frames source target pins out m pool old before End out' m' pool' new after (n, e, o, p, a) = ap (λ (f : Frames). length f.used) a
+acts_frames source target pins out m pool old before TakeBlock out' m' pool' new after (k, e, a, fits) = ap (λ (f : Frames). length f.used) a
+acts_frames source target pins out m pool old before Program out' m' pool' new after (k, e, p) = page_frames pins before after _ k.lease k.frame
+
+-- ---- pages
+
+-- no page differs, or none outside a block that is for the output
+abbrev pub SameEnd : Blocks → Kept → Flash → Flash → Type 0
+SameEnd pool out old new = (new ≡ old) ⊎ ((b : ℕ) × IsForOutput pool out b × SameButBlock out.shape b old new)
+
+pub reached_end : (pool : Blocks) (out : Kept) (old new : BoardState) → StepReaches pool out old new → SameEnd pool out old.pages new.pages
+reached_end pool out old new (inl (inl e)) = inl (ap (λ (b : BoardState). b.pages) e)
+reached_end pool out old new (inl (inr e)) = inl (ap (λ (b : BoardState). b.pages) e)
+reached_end pool out old new (inr (b, is, (marks, r))) = inr (b, is, at_end marks old new (λ f q. SameButBlock out.shape b old.pages f) r)
+
+pub went_end : (pool : Blocks) (out : Kept) (old new : BoardState) → StepWent pool out old new → SameEnd pool out old.pages new.pages
+went_end pool out old new (b, is, (marks, r)) = inr (b, is, r.cuts new.pages _ r.stands)
+
+in_or_out : (first count k : ℕ) → (k < first) ⊎ ((first + count ≤ k) ⊎ ((first ≤ k) × (k < first + count)))
+in_or_out first count k =
+    elim (nat_le first k) as (λ b. nat_le first k ≡ b → (k < first) ⊎ ((first + count ≤ k) ⊎ ((first ≤ k) × (k < first + count)))) [
+      | false ↦ λ e. inl (leb-false first k e)
+      | true ↦ λ e. elim (nat_le (first + count) k) as (λ b. nat_le (first + count) k ≡ b → (k < first) ⊎ ((first + count ≤ k) ⊎ ((first ≤ k) × (k < first + count)))) [
+        | true ↦ λ f. inr (inl (leb→le (first + count) k (subst T (sym f) tt)))
+        | false ↦ λ f. inr (inr (leb→le first k (subst T (sym e) tt), leb-false (first + count) k f))
+      ] refl
+    ] refl
+
+pub same_page : (pool : Blocks) (out : Kept) (old new : Flash) → SameEnd pool out old new → (k : ℕ) → (IsForOutput pool out (k / out.shape.block_pages) → ⊥) → page_at new k ≡ page_at old k
+same_page pool out old new (inl e) k other = ap (λ (f : Flash). page_at f k) e
+same_page pool out old new (inr (b, is, s)) k other =
+    let n : ℕ = out.shape.block_pages in
+    elim (in_or_out (b * n) n k) [
+      | inl low ↦ s.below k low
+      | inr (inl high) ↦ s.above k high
+      | inr (inr within) ↦ absurd (other (subst (λ (y : ℕ). IsForOutput pool out y) (sym (block_of n k b within.0 within.1)) is))
+    ]
+
+-- ---- runs
+
+-- runs whose blocks are none of the output's stand
+pub runs_leave : (shape : Shape) (pool : Blocks) (out : Kept) (old : Flash) (before : Frames) (new : Flash) (after : Frames) → LeavesRuns pool out old before new after → out.shape ≡ shape
+    → (rs : List Kept) (bss : List (List ℕ)) (ess : List (List Entry)) → HaveBlocks shape rs bss → ((b : ℕ) → In b (concat bss) → slice_get pool.states b ≡ Some (Owned Meta)) → ((b : ℕ) → In b (concat bss) → In b out.blocks → ⊥)
+    → RunsOnFlash old before rs ess → RunsOnFlash new after rs ess
+runs_leave shape pool out old before new after leaves is [] [] [] have meta apart s = tt
+runs_leave shape pool out old before new after leaves is [] [] (es ∷ ess) have meta apart s = absurd s
+runs_leave shape pool out old before new after leaves is [] (bs ∷ bss) ess have meta apart s = absurd have
+runs_leave shape pool out old before new after leaves is (r ∷ rs) [] ess have meta apart s = absurd have
+runs_leave shape pool out old before new after leaves is (r ∷ rs) (bs ∷ bss) [] have meta apart s = absurd s
+runs_leave shape pool out old before new after leaves is (r ∷ rs) (bs ∷ bss) (es ∷ ess) have meta apart s =
+    let front : (i b : ℕ) → slice_get r.blocks i ≡ Some b → In b (concat (bs ∷ bss)) = λ i b got. any_front (λ y. b ≡ y) bs (concat bss) (got_in bs i b (subst (λ (xs : List ℕ). slice_get xs i ≡ Some b) have.1 got)) in (
+      leaves r es (have.0 ∙ sym is) (λ i b got. meta b (front i b got)) (λ i j b got had. apart b (front i b got) (got_in out.blocks j b had)) s.0,
+      runs_leave shape pool out old before new after leaves is rs bss ess have.2 (λ b among. meta b (any_back (λ y. b ≡ y) bs (concat bss) among)) (λ b among. apart b (any_back (λ y. b ≡ y) bs (concat bss) among)) s.1,
+    )

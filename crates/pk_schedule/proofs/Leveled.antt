@@ -1,0 +1,131 @@
+-- The run of each level, and the frames that a merge into it finds free.
+use Rattle.std.proofs.Common.{◌≡◌, ◌⊎◌, inl, inr, ℕ, zero, suc, ◌+◌, ◌-◌, ◌*◌, ◌<◌, ◌≤◌, Bool, true, false, T, if◌then◌else◌, List, [], ◌∷◌, ◌++◌, length, map, nat_le, max, refl, sym, ap, subst, ◌∙◌, arith, leb→le, leb-false, length-append, mul-le-mul_right, le_trans}
+use Rattle.std.specs.Prelude.{slice_index_or, slice_get, Some}
+use Rattle.std.specs.List.{AllByRecursion, concat}
+use Rattle.pk_base.specs.Shape.{Shape, cap, page_entries, need, pinned}
+use Rattle.pk_base.specs.Merge.{room}
+use Rattle.pk_model.proofs.SamePages.{any_front, any_back}
+use Rattle.pk_pin.specs.Frames.{Frames, free_frames, leased_frames, AreLeases}
+use Rattle.pk_pin.proofs.Leases.{leases_counted, frames_counted}
+use Rattle.pk_run.specs.Kept.{Kept, IsKept}
+use Rattle.pk_level.specs.Levels.{Levels, IsLevels, IsOfLevel, AreOfLevels, HaveBlocks, run_of}
+use Rattle.pk_level.specs.Arenas.{HasArena, ArePinnedTo, IsPinnedIf, leases_of}
+use Rattle.pk_steps.proofs.FourRuns.{Four, four_of, IsLevel}
+use Rattle.pk_steps.proofs.Places.{In}
+
+-- a run of a level, which keeps within it
+pub record Fit (shape : Shape) (level : ℕ) (r : Kept) : Type 0 where
+  pub same_shape : r.shape ≡ shape
+  pub same_level : r.level ≡ level
+  pub pages : length r.firsts ≤ cap shape level
+  pub entries : r.count ≤ room shape level
+
+fit_of : (shape : Shape) (pinned level : ℕ) (r : Kept) → IsOfLevel shape pinned level r → IsKept r → Fit shape level r
+fit_of shape pinned level r o k =
+    let few : length r.firsts ≤ cap shape level = subst (λ (l : ℕ). length r.firsts ≤ cap shape l) o.same_level (subst (λ (s : Shape). length r.firsts ≤ cap s r.level) o.same_shape k.pages) in
+    let many : r.count ≤ length r.firsts * page_entries shape = subst (λ (s : Shape). r.count ≤ length r.firsts * page_entries s) o.same_shape k.entries in
+    record { same_shape = o.same_shape; same_level = o.same_level; pages = few; entries = le_trans many (mul-le-mul_right (page_entries shape) few) }
+
+fits_at : (shape : Shape) (pinned level : ℕ) (rs : List Kept) (i : ℕ) (d : Kept) → i < length rs → AreOfLevels shape pinned level rs → AllByRecursion IsKept rs → Fit shape (level + i) (slice_index_or rs i d)
+fits_at shape pinned level [] i d inside of_levels kept = absurd (omega (arith, inside))
+fits_at shape pinned level (r ∷ rs) zero d inside of_levels kept = subst (λ (l : ℕ). Fit shape l r) (omega arith) (fit_of shape pinned level r of_levels.0 kept.0)
+fits_at shape pinned level (r ∷ rs) (suc i) d inside of_levels kept = subst (λ (l : ℕ). Fit shape l (slice_index_or rs i d)) (omega arith) (fits_at shape pinned (suc level) rs i d (omega (arith, inside)) of_levels.1 kept.1)
+
+pub run_fits : (levels : Levels) (level : ℕ) → IsLevels levels → AllByRecursion IsKept levels.runs → 1 ≤ level → level ≤ 4 → Fit levels.shape level (run_of levels level)
+run_fits levels level is kept least most =
+    let four = is.four in
+    subst (λ (l : ℕ). Fit levels.shape l (run_of levels level)) (omega (arith, least)) (fits_at levels.shape levels.pinned 1 levels.runs (level - 1) _ (omega (arith, four, least, most)) is.each kept)
+
+-- its blocks are named
+pub run_blocks_in : (shape : Shape) (rs : List Kept) (bss : List (List ℕ)) (i : ℕ) (d : Kept) → i < length rs → HaveBlocks shape rs bss → (b : ℕ) → In b (slice_index_or rs i d).blocks → In b (concat bss)
+run_blocks_in shape [] bss i d inside have b is = absurd (omega (arith, inside))
+run_blocks_in shape (r ∷ rs) [] i d inside have b is = absurd have
+run_blocks_in shape (r ∷ rs) (bs ∷ bss) zero d inside have b is = any_front (λ y. b ≡ y) bs (concat bss) (subst (λ (xs : List ℕ). In b xs) have.1 is)
+run_blocks_in shape (r ∷ rs) (bs ∷ bss) (suc i) d inside have b is = any_back (λ y. b ≡ y) bs (concat bss) (run_blocks_in shape rs bss i d (omega (arith, inside)) have.2 b is)
+
+-- ---- frames
+
+-- so many pages of a level may have frames, where so many levels are pinned
+abbrev bound : Shape → ℕ → ℕ → ℕ
+bound shape p level = if nat_le level p then cap shape level else 0
+
+pinned_pages : (shape : Shape) (b : Bool) (level : ℕ) (r : Kept) → IsPinnedIf b r → Fit shape level r → length r.leases ≤ (if b then cap shape level else 0)
+pinned_pages shape true level r pins fit = let e : length r.leases ≡ length r.firsts = pins in let few = fit.pages in omega (arith, e, few)
+pinned_pages shape false level r pins fit = let e : length r.leases ≡ 0 = ap (λ (ls : List ℕ). length ls) pins in omega (arith, e)
+
+need_most : (shape : Shape) (frames : ℕ) → need shape (pinned shape frames) ≤ frames
+need_most shape frames =
+    elim (nat_le (need shape 4) frames) as (λ b. nat_le (need shape 4) frames ≡ b → need shape (if b then 4 else if nat_le (need shape 3) frames then 3 else if nat_le (need shape 2) frames then 2 else if nat_le (need shape 1) frames then 1 else 0) ≤ frames) [
+      | true ↦ λ e. leb→le _ _ (subst T (sym e) tt)
+      | false ↦ λ e. elim (nat_le (need shape 3) frames) as (λ b. nat_le (need shape 3) frames ≡ b → need shape (if b then 3 else if nat_le (need shape 2) frames then 2 else if nat_le (need shape 1) frames then 1 else 0) ≤ frames) [
+        | true ↦ λ e. leb→le _ _ (subst T (sym e) tt)
+        | false ↦ λ e. elim (nat_le (need shape 2) frames) as (λ b. nat_le (need shape 2) frames ≡ b → need shape (if b then 2 else if nat_le (need shape 1) frames then 1 else 0) ≤ frames) [
+          | true ↦ λ e. leb→le _ _ (subst T (sym e) tt)
+          | false ↦ λ e. elim (nat_le (need shape 1) frames) as (λ b. nat_le (need shape 1) frames ≡ b → need shape (if b then 1 else 0) ≤ frames) [
+            | true ↦ λ e. leb→le _ _ (subst T (sym e) tt)
+            | false ↦ λ e. omega arith
+          ] refl
+        ] refl
+      ] refl
+    ] refl
+
+-- those of the pinned levels and of an output into one of them
+abbrev AllFit : Shape → ℕ → ℕ → Type 0
+AllFit shape p level = bound shape p 1 + bound shape p 2 + bound shape p 3 + bound shape p 4 + cap shape level ≤ need shape p
+
+needed : (shape : Shape) (p level : ℕ) → p ≤ 4 → IsLevel level → level ≤ p → AllFit shape p level
+needed shape zero level few is within = absurd (elim is [ inl e ↦ omega (arith, e, within) | inr (inl e) ↦ omega (arith, e, within) | inr (inr (inl e)) ↦ omega (arith, e, within) | inr (inr (inr e)) ↦ omega (arith, e, within) ])
+needed shape (suc zero) level few (inl e) within = subst (λ (l : ℕ). AllFit shape 1 l) (sym e) (omega arith)
+needed shape (suc zero) level few (inr (inl e)) within = absurd (omega (arith, e, within))
+needed shape (suc zero) level few (inr (inr (inl e))) within = absurd (omega (arith, e, within))
+needed shape (suc zero) level few (inr (inr (inr e))) within = absurd (omega (arith, e, within))
+needed shape (suc (suc zero)) level few (inl e) within = subst (λ (l : ℕ). AllFit shape 2 l) (sym e) (omega arith)
+needed shape (suc (suc zero)) level few (inr (inl e)) within = subst (λ (l : ℕ). AllFit shape 2 l) (sym e) (omega arith)
+needed shape (suc (suc zero)) level few (inr (inr (inl e))) within = absurd (omega (arith, e, within))
+needed shape (suc (suc zero)) level few (inr (inr (inr e))) within = absurd (omega (arith, e, within))
+needed shape (suc (suc (suc zero))) level few (inl e) within = subst (λ (l : ℕ). AllFit shape 3 l) (sym e) (omega arith)
+needed shape (suc (suc (suc zero))) level few (inr (inl e)) within = subst (λ (l : ℕ). AllFit shape 3 l) (sym e) (omega arith)
+needed shape (suc (suc (suc zero))) level few (inr (inr (inl e))) within = subst (λ (l : ℕ). AllFit shape 3 l) (sym e) (omega arith)
+needed shape (suc (suc (suc zero))) level few (inr (inr (inr e))) within = absurd (omega (arith, e, within))
+needed shape (suc (suc (suc (suc zero)))) level few (inl e) within = subst (λ (l : ℕ). AllFit shape 4 l) (sym e) (omega arith)
+needed shape (suc (suc (suc (suc zero)))) level few (inr (inl e)) within = subst (λ (l : ℕ). AllFit shape 4 l) (sym e) (omega arith)
+needed shape (suc (suc (suc (suc zero)))) level few (inr (inr (inl e))) within = subst (λ (l : ℕ). AllFit shape 4 l) (sym e) (omega arith)
+needed shape (suc (suc (suc (suc zero)))) level few (inr (inr (inr e))) within = subst (λ (l : ℕ). AllFit shape 4 l) (sym e) (omega arith)
+needed shape (suc (suc (suc (suc (suc p))))) level few is within = absurd (omega (arith, few))
+
+-- the leases of four runs
+leases_most : (shape : Shape) (p : ℕ) (levels : Levels) → IsLevels levels → AllByRecursion IsKept levels.runs → levels.shape ≡ shape → ArePinnedTo p 1 levels.runs
+    → length (leases_of levels.runs ++ []) ≤ bound shape p 1 + bound shape p 2 + bound shape p 3 + bound shape p 4
+leases_most shape p levels is kept same pins =
+    let four = four_of levels.runs is.four in
+    let P : List Kept → Type 0 = λ rs. AreOfLevels shape levels.pinned 1 rs → AllByRecursion IsKept rs → ArePinnedTo p 1 rs → length (leases_of rs ++ []) ≤ bound shape p 1 + bound shape p 2 + bound shape p 3 + bound shape p 4 in
+    subst P (sym four.are) (explicit four.a four.b four.c four.d) (subst (λ (s : Shape). AreOfLevels s levels.pinned 1 levels.runs) same is.each) kept pins
+  where
+    explicit : (a b c d : Kept) → AreOfLevels shape levels.pinned 1 (a ∷ b ∷ c ∷ d ∷ []) → AllByRecursion IsKept (a ∷ b ∷ c ∷ d ∷ []) → ArePinnedTo p 1 (a ∷ b ∷ c ∷ d ∷ [])
+        → length (leases_of (a ∷ b ∷ c ∷ d ∷ []) ++ []) ≤ bound shape p 1 + bound shape p 2 + bound shape p 3 + bound shape p 4
+    explicit a b c d o k f =
+        let one = pinned_pages shape (nat_le 1 p) 1 a f.0 (fit_of shape levels.pinned 1 a o.0 k.0) in
+        let two = pinned_pages shape (nat_le 2 p) 2 b f.1.0 (fit_of shape levels.pinned 2 b o.1.0 k.1.0) in
+        let three = pinned_pages shape (nat_le 3 p) 3 c f.1.1.0 (fit_of shape levels.pinned 3 c o.1.1.0 k.1.1.0) in
+        let fourth = pinned_pages shape (nat_le 4 p) 4 d f.1.1.1.0 (fit_of shape levels.pinned 4 d o.1.1.1.0 k.1.1.1.0) in
+        let la = length-append a.leases (b.leases ++ (c.leases ++ (d.leases ++ []))) in
+        let lb = length-append b.leases (c.leases ++ (d.leases ++ [])) in
+        let lc = length-append c.leases (d.leases ++ []) in
+        let ld = length-append d.leases [] in
+        let all = length-append (leases_of (a ∷ b ∷ c ∷ d ∷ [])) [] in
+        omega (arith, one, two, three, fourth, la, lb, lc, ld, all)
+
+-- where no merge runs, there are frames for the output of one into a pinned level
+pub frames_left : (shape : Shape) (frames : ℕ) (levels : Levels) (arena : Frames) (level : ℕ) → IsLevels levels → AllByRecursion IsKept levels.runs → levels.shape ≡ shape → levels.pinned ≡ pinned shape frames
+    → HasArena shape frames levels arena [] → IsLevel level → nat_le level (pinned shape frames) ≡ true → cap shape level ≤ free_frames arena
+frames_left shape frames levels arena level is kept same pins has is_level within =
+    let p : ℕ = pinned shape frames in
+    let few : p ≤ 4 = subst (λ (n : ℕ). n ≤ 4) pins is.most in
+    let below : level ≤ p = leb→le _ _ (subst T (sym within) tt) in
+    let enough = needed shape p level few is_level below in
+    let most = need_most shape frames in
+    let taken = leases_most shape p levels is kept same (subst (λ (n : ℕ). ArePinnedTo n 1 levels.runs) pins has.pins) in
+    let counted = leases_counted arena (leases_of levels.runs ++ []) has.only_these in
+    let all = frames_counted arena in
+    let size = has.size in
+    omega (arith, enough, most, taken, counted, all, size)

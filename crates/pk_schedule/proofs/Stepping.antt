@@ -1,0 +1,381 @@
+-- What the step of a merge's job leaves of an index, whether it was done or a call of it failed.
+use Rattle.std.proofs.Common.{◌≡◌, ◌≢◌, ◌⊎◌, inl, inr, ℕ, ◌+◌, ◌-◌, ◌*◌, ◌<◌, ◌≤◌, Bool, true, false, T, List, [], ◌∷◌, ◌++◌, length, map, Option, Some, None, Result, Ok, Err, refl, sym, ap, subst, ◌∙◌, arith}
+use Rattle.std.specs.Prelude.{unwrap_or, IsTrue, ◌↔◌}
+use Rattle.pk_base.specs.Shape.{Shape, IsShape, cap}
+use Rattle.pk_base.specs.Entry.{Entry}
+use Rattle.pk_base.specs.Map.{Map}
+use Rattle.pk_base.specs.Merge.{next_merge}
+use Rattle.pk_base.specs.Page.{Flash}
+use Rattle.pk_nand.specs.BoardState.{BoardState}
+use Rattle.pk_nand.specs.Calls.{IsReady}
+use Rattle.pk_nand.specs.Effects.{OnlyReading}
+use Rattle.pk_nand.specs.declared.types.Fault.TheVariants.{Reading, Stopped}
+use Rattle.pk_nand.specs.declared.types.Fault.{Fault}
+use Rattle.pk_pin.specs.Frames.{Frames}
+use Rattle.pk_rootfmt.specs.Root.{Root}
+use Rattle.pk_pool.specs.Blocks.{Blocks, IsShared}
+use Rattle.pk_pool.specs.Unready.{unready}
+use Rattle.pk_work.specs.Rest.{Lowers, left_of, whole_merge}
+use Rattle.pk_work.specs.Steps.{MovesMerge}
+use Rattle.pk_work.proofs.Lowering.{moves as merge_moves}
+use Rattle.pk_run.specs.Kept.{Kept, RunOnFlash, empty, most_pages, most_blocks}
+use Rattle.pk_level.specs.Levels.{run_of}
+use Rattle.pk_model.specs.Found.{Found}
+use Rattle.pk_model.specs.Growth.{Grows, Goes}
+use Rattle.pk_model.specs.Crashes.{CrashFinds, background}
+use Rattle.pk_model.specs.Tree.{run_at}
+use Rattle.pk_model.specs.Wear.{roots}
+use Rattle.pk_steps.specs.Merging.{output_of as whole_output}
+use Rattle.pk_steps.proofs.FourRuns.{next_is_level}
+use Rattle.pk_merge.specs.declared.source.Source.{Source}
+use Rattle.pk_merge.specs.declared.source.Source.TheVariants.{Frozen, Run}
+use Rattle.pk_merge.specs.Cursors.{Cursor}
+use Rattle.pk_merge.specs.Sources.{wants_page_in}
+use Rattle.pk_merge.specs.Merging.{Merger, IsDone, can_gather}
+use Rattle.pk_merge.specs.Running.{IsWhole, merged}
+use Rattle.pk_merge.specs.Steps.{Steps, Fails, FailsToRead}
+use Rattle.pk_merge.specs.Elsewhere.{LeavesRuns, LeavesLeases, StepReaches, StepWent}
+use Rattle.pk_merge.specs.Remaining.{steps_left, LowersTo}
+use Rattle.pk_merge.specs.Jobs.{Job, JobRuns, RunsOn, Completes, pins, output_of}
+use Rattle.pk_merge.proofs.Leasing.{kept_leases}
+use Rattle.pk_compact.specs.Laws.{Leaves}
+use Rattle.pk_compact.proofs.NextRoot.{roots_same}
+use Rattle.pk_compact.proofs.Numbering.{same_front}
+use Rattle.pk_compact.specs.FreezeSteps.{install_steps}
+use Rattle.pk_schedule.specs.declared.phase.Phase.{Phase}
+use Rattle.pk_schedule.specs.declared.phase.Phase.TheVariants.{Idle, Running, Ready}
+use Rattle.pk_schedule.specs.Index.{Index, IndexOnFlash, IsDue, MergesInto, MergeRuns, MergeStands, output, source_at, entries_at}
+use Rattle.pk_schedule.specs.Steps.{MayWork, IndexMoves, LessIsLeft, Unmoved, merge_left, backlog_of}
+use Rattle.pk_schedule.specs.Sources.{ShowsSame}
+use Rattle.pk_schedule.proofs.Carried.{Shown, shown, same_shown, job_carried, left_same, done_same}
+use Rattle.pk_schedule.proofs.Grown.{Grew, SameEnd, acts_grow, acts_frames, reached_end, went_end}
+use Rattle.pk_schedule.proofs.Entries.{output_same, frozen_many, counts_same}
+use Rattle.pk_schedule.proofs.Running.{job_leaves, job_breaks, same_leaves, front_same, grows as front_grows, into_then, index_then, moves_then}
+
+not_both : (b : Bool) → b ≡ true → b ≡ false → ⊥
+not_both true e f = absurd (let z : ⊥ = cc in z)
+not_both false e f = absurd (let z : ⊥ = cc in z)
+
+-- the fault of an answer
+pub fault_is : {Y : Type 0} (a b : Fault) → ◌≡◌ {A = Result Y Fault} (Err a) (Err b) → a ≡ b
+fault_is a b e = cc
+
+pub other_answer : {Y Z : Type 0} (a b : Fault) → ◌≡◌ {A = Result Y Fault} (Err a) (Err b) → ◌≡◌ {A = Result Z Fault} (Err a) (Err b)
+other_answer a b e = ap (λ (f : Fault). Err f) (fault_is a b e)
+
+-- a step more, or the last one
+goes_lowers : (a b u v i : ℕ) → Lowers a u b v → Lowers (a + 1 + i) u (b + 1 + i) v
+goes_lowers a b u v i l = let less = l.less in record { none_ready = l.none_ready; less = omega (arith, less) }
+
+ends_lowers : (a b u v i : ℕ) → Lowers a u b v → Lowers (a + 1 + i) u i v
+ends_lowers a b u v i l = let less = l.less in record { none_ready = l.none_ready; less = omega (arith, less) }
+
+-- a read that failed leaves as much of a merge
+abbrev Reread : Merger → Merger → Type 0
+Reread m m' = m' ≡ record m { source = record m.source { bytes = m'.source.bytes }; target = record m.target { bytes = m'.target.bytes } }
+
+wants_same : {X : Type 0} (source : Source X) (c : Cursor) (bytes : List ℕ) → wants_page_in source (record c { bytes = bytes }) ≡ wants_page_in source c
+wants_same (Frozen b) c bytes = refl
+wants_same (Run r) c bytes = refl
+
+reread_left : {X : Type 0} (source : Source X) (target out : Kept) (m : Merger) (one two : List ℕ) (pages blocks : ℕ)
+    → steps_left source target out (record m { source = record m.source { bytes = one }; target = record m.target { bytes = two } }) pages blocks ≡ steps_left source target out m pages blocks
+unfolding can_gather
+reread_left source target out m one two pages blocks = let w = wants_same source m.source one in rw w refl
+
+module _ (x : Index) (frames : ℕ) (old : BoardState) (top : ℕ × Root) (found : Found) (m : Map) (may : MayWork x frames old.pages top found m) (shared : IsShared x.pool.shape x.pool.states) (ready : IsReady old x.log.shape)
+    (level : ℕ) (was : x.schedule.phase ≡ Running level) where
+  stands : IndexOnFlash x frames old.pages top found
+  stands = may.stands
+
+  abbrev out : Kept
+  out = output x.schedule
+
+  abbrev es : List Entry
+  es = entries_at x found level
+
+  abbrev fs : List Entry
+  fs = run_at found.runs level
+
+  abbrev target : Kept
+  target = run_of x.levels level
+
+  pub runs_now : MergeRuns x old.pages top.1 found level
+  runs_now = subst (λ (p : Phase). MergeStands p x old.pages top.1 found) was stands.merge
+
+  into : MergesInto x top.1 found level
+  into = runs_now.into
+
+  next_now : next_merge x.log.shape (length x.log.frozen.entries) (map (λ r. r.count) x.levels.runs) ≡ Some level
+  next_now = (λ i. next_merge x.log.shape (frozen_many x.log.shape x.log.frozen found.older stands.logs.frozen_is i) (counts_same old.pages x.arena x.levels.runs found.runs stands.stand i)) ∙ into.due
+
+  -- its level is one of four
+  pub level_within : (1 ≤ level) × (level ≤ 4)
+  level_within = elim (next_is_level x.log.shape (length x.log.frozen.entries) (map (λ r. r.count) x.levels.runs) level next_now) [
+    | inl e ↦ (omega (arith, e), omega (arith, e))
+    | inr (inl e) ↦ (omega (arith, e), omega (arith, e))
+    | inr (inr (inl e)) ↦ (omega (arith, e), omega (arith, e))
+    | inr (inr (inr e)) ↦ (omega (arith, e), omega (arith, e))
+  ]
+
+  -- no root is installed
+  pub few_roots : (new : BoardState) → IsReady new x.log.shape → SameEnd x.pool out old.pages new.pages → roots new ≤ roots old + 1
+  few_roots new after end =
+      let same = roots_same x.log.shape old new ready after (same_front x.log.shape old.pages new.pages (front_same x frames old top found m may shared ready level into new.pages end)) in
+      omega (arith, same)
+
+  left_now : merge_left x.schedule.phase x ≡ Some (steps_left (source_at x level) target out x.schedule.job.merger (most_pages out) (most_blocks out) + 1 + install_steps x.log.next)
+  left_now = ap (λ (p : Phase). merge_left p x) was
+
+  module _ {X : Type 0} (source : Source X) (shows : ShowsSame (source_at x level) source) where
+    there : Shown (source_at x level) source
+    there = shown (source_at x level) source shows
+
+    back : Shown source (source_at x level)
+    back = shown source (source_at x level) (same_shown (source_at x level) source shows)
+
+    pub job_now : JobRuns source target x.schedule.job x.pool old.pages x.arena es fs
+    job_now = job_carried (source_at x level) source there target x.schedule.job x.pool old.pages x.arena es fs runs_now.runs
+
+    -- ---- a step that was done
+
+    module _ (new : BoardState) (job : Job) (pool : Blocks) (arena : Frames)
+        (running : RunsOn source target x.schedule.job x.pool old.pages x.arena job pool new.pages arena)
+        (steps : Steps source target (pins x.schedule.job) out x.schedule.job.merger x.pool old x.arena (output_of job) job.merger pool new arena)
+        (is_job : job ≡ record x.schedule.job { output = job.output; merger = job.merger })
+        (others : LeavesRuns x.pool out old.pages x.arena new.pages arena)
+        (leases : LeavesLeases out x.arena (output_of job) arena)
+        (cuts : StepReaches x.pool out old new) where
+      runs_then : JobRuns (source_at x level) target job pool new.pages arena es fs
+      runs_then = job_carried source (source_at x level) back target job pool new.pages arena es fs (running es fs job_now)
+
+      grew : Grew x.pool out pool (output_of job)
+      grew = acts_grow source target (pins x.schedule.job) out x.schedule.job.merger x.pool old x.arena steps.next (output_of job) steps.between pool new arena steps.acts
+
+      same_frames : length arena.used ≡ length x.arena.used
+      same_frames = acts_frames source target (pins x.schedule.job) out x.schedule.job.merger x.pool old x.arena steps.next (output_of job) steps.between pool new arena steps.acts
+
+      pub end : SameEnd x.pool out old.pages new.pages
+      end = reached_end x.pool out old new cuts
+
+      leaves : Leaves x.log.shape old top found m new
+      leaves = job_leaves x frames old top found m may shared ready level into new source target x.schedule.job.merger x.arena es fs job_now.running steps.next (output_of job) steps.between pool arena steps.tells steps.acts
+
+      abbrev pub behind : Phase → Index
+      behind p = record x { arena = arena; pool = pool; schedule = record x.schedule { job = job; phase = p } }
+
+      moves_to : (p : Phase) → MergeStands p (behind p) new.pages top.1 found → IndexMoves x frames old found m (behind p) new
+      moves_to p merge = moves_then x frames old top found m may shared ready level into new p job pool arena is_job grew end leaves same_frames leases others runs_then merge
+
+      into_behind : (p : Phase) → MergesInto (behind p) top.1 found level
+      into_behind p = into_then x frames old top found m may shared ready level into new p job pool arena is_job grew end leaves same_frames leases others runs_then
+
+      -- the merge goes on
+      pub goes_on : (IsDone source target job.merger → ⊥) → IndexMoves x frames old found m (behind (Running level)) new
+      goes_on undone = moves_to (Running level) (record { into = into_behind (Running level); runs = runs_then; undone = λ d. undone (done_same source (source_at x level) back target job.merger d) })
+
+      pub goes_on_at : (IsDone source target job.merger → ⊥) → IndexMoves x frames old found m (behind x.schedule.phase) new
+      goes_on_at undone = subst (λ (p : Phase). IndexMoves x frames old found m (behind p) new) (sym was) (goes_on undone)
+
+      -- its output is whole
+      pub completes : Completes source target x.schedule.job x.pool old.pages x.arena job new.pages arena true → IndexMoves x frames old found m (behind (Ready level)) new
+      completes whole =
+          let all : IsWhole (pins x.schedule.job) (output_of job) new.pages arena (merged (output_of job).level es fs) = whole refl es fs job_now in
+          let is : (output_of job).level ≡ level = (into_behind (Ready level)).output_level in
+          let its : merged (output_of job).level es fs ≡ whole_output level found = ap (λ (l : ℕ). merged l es fs) is ∙ output_same x found level stands.logs.frozen_is in
+          let pinned : pins x.schedule.job ≡ pins job = sym (ap (λ (j : Job). pins j) is_job) in
+          moves_to (Ready level) (record { into = into_behind (Ready level); whole = subst (λ (b : Bool). IsWhole b (output_of job) new.pages arena (whole_output level found)) pinned (subst (λ (xs : List Entry). IsWhole (pins x.schedule.job) (output_of job) new.pages arena xs) its all) })
+
+      pub flash_grows : Grows x.log.shape old.pages new.pages
+      flash_grows = front_grows x frames old top found m may shared ready level into new.pages end
+
+      -- ---- what is left
+
+      module _ (lowers : LowersTo source target out x.schedule.job.merger x.pool (output_of job) job.merger pool (most_pages out) (most_blocks out)) where
+        left_then : ℕ
+        left_then = steps_left (source_at x level) target (output_of job) job.merger (most_pages (output_of job)) (most_blocks (output_of job))
+
+        abbrev Left : Kept → Merger → ℕ → ℕ → ℕ
+        Left o j pages blocks = steps_left (source_at x level) target o j pages blocks
+
+        falls : Lowers (Left out x.schedule.job.merger (most_pages out) (most_blocks out)) (unready x.pool.states) (Left (output_of job) job.merger (most_pages (output_of job)) (most_blocks (output_of job))) (unready pool.states)
+        falls = elim lowers [
+          | inl done ↦ absurd (runs_now.undone (done_same (source_at x level) source there target x.schedule.job.merger done))
+          | inr l ↦ (
+              let before = left_same (source_at x level) source there target out x.schedule.job.merger (most_pages out) (most_blocks out) in
+              let after = left_same (source_at x level) source there target (output_of job) job.merger (most_pages out) (most_blocks out) in
+              let i = into_behind (Running level) in
+              let shape : (output_of job).shape ≡ out.shape = i.output_shape ∙ sym into.output_shape in
+              let at : (output_of job).level ≡ out.level = i.output_level ∙ sym into.output_level in
+              let P : Shape → ℕ → Type 0 = λ s n. Lowers (Left out x.schedule.job.merger (most_pages out) (most_blocks out)) (unready x.pool.states)
+              (Left (output_of job) job.merger (cap s n) (Rattle.pk_base.specs.Shape.blocks_of s (cap s n))) (unready pool.states) in
+              let none_ready = l.none_ready in
+              let less = l.less in
+              let here : P out.shape out.level = record { none_ready = none_ready; less = omega (arith, less, before, after) } in
+              subst (λ (s : Shape). P s (output_of job).level) (sym shape) (subst (λ (n : ℕ). P out.shape n) (sym at) here))
+        ]
+
+        pub less_running : LessIsLeft x (behind (Running level))
+        less_running =
+            let moved : MovesMerge x.log.shape (backlog_of x) (backlog_of (behind (Running level))) = record {
+              level = level;
+              left = Left (output_of job) job.merger (most_pages (output_of job)) (most_blocks (output_of job)) + 1 + install_steps x.log.next;
+              due = next_now;
+              moved = refl;
+              lowers = subst (λ (o : Option ℕ). Lowers (left_of (whole_merge x.log.shape level) o) (unready x.pool.states) (Left (output_of job) job.merger (most_pages (output_of job)) (most_blocks (output_of job)) + 1 + install_steps x.log.next) (unready pool.states)) (sym left_now)
+                  (goes_lowers _ _ _ _ (install_steps x.log.next) falls);
+            } in
+            let l = merge_moves x.log.shape (backlog_of x) (backlog_of (behind (Running level))) moved in
+            record { work = l.0; merging = l.1 }
+
+        pub less_at : LessIsLeft x (behind x.schedule.phase)
+        less_at = subst (λ (p : Phase). LessIsLeft x (behind p)) (sym was) less_running
+
+        pub less_ready : LessIsLeft x (behind (Ready level))
+        less_ready =
+            let moved : MovesMerge x.log.shape (backlog_of x) (backlog_of (behind (Ready level))) = record {
+              level = level;
+              left = install_steps x.log.next;
+              due = next_now;
+              moved = refl;
+              lowers = subst (λ (o : Option ℕ). Lowers (left_of (whole_merge x.log.shape level) o) (unready x.pool.states) (install_steps x.log.next) (unready pool.states)) (sym left_now)
+                  (ends_lowers _ _ _ _ (install_steps x.log.next) falls);
+            } in
+            let l = merge_moves x.log.shape (backlog_of x) (backlog_of (behind (Ready level))) moved in
+            record { work = l.0; merging = l.1 }
+
+    -- ---- a step whose program or erase failed
+
+    module _ (new : BoardState) (j' : Merger) (fails : Fails source target out x.schedule.job.merger x.pool old Stopped j' new) where
+      pub goes_broken : Goes x.log.shape old new (CrashFinds x.log.shape background old.pages m)
+      goes_broken = job_breaks x frames old top found m may shared ready level into new source target x.schedule.job.merger x.arena es fs job_now.running j' fails
+
+    pub stopped_grows : (new : BoardState) → StepWent x.pool out old new → Grows x.log.shape old.pages new.pages
+    stopped_grows new went = front_grows x frames old top found m may shared ready level into new.pages (went_end x.pool out old new went)
+
+    -- ---- a step whose read failed
+
+    module _ (new : BoardState) (job : Job) (pool : Blocks) (arena : Frames)
+        (again : RunsOn source target x.schedule.job x.pool old.pages x.arena job pool new.pages arena)
+        (same_output : job.output ≡ x.schedule.job.output) (same_pool : pool ≡ x.pool) (same_arena : arena ≡ x.arena)
+        (fails : FailsToRead source target x.schedule.job.merger old job.merger new)
+        (is_job : job ≡ record x.schedule.job { output = job.output; merger = job.merger }) (only : OnlyReading old new) where
+      abbrev pub reread : Phase → Index
+      reread p = record x { arena = arena; pool = pool; schedule = record x.schedule { job = job; phase = p } }
+
+      out_same : output_of job ≡ out
+      out_same = ap (λ (o : Option Kept). unwrap_or o (empty job.merger.shape job.target)) (same_output ∙ into.has_output)
+
+      steps_same : steps_left (source_at x level) target (output_of job) job.merger (most_pages (output_of job)) (most_blocks (output_of job)) ≡ steps_left (source_at x level) target out x.schedule.job.merger (most_pages out) (most_blocks out)
+      steps_same =
+          ap (λ (o : Kept). steps_left (source_at x level) target o job.merger (most_pages o) (most_blocks o)) out_same
+          ∙ ap (λ (j : Merger). steps_left (source_at x level) target out j (most_pages out) (most_blocks out)) fails.merger
+          ∙ reread_left (source_at x level) target out x.schedule.job.merger job.merger.source.bytes job.merger.target.bytes (most_pages out) (most_blocks out)
+
+      left_same_then : merge_left x.schedule.phase (reread x.schedule.phase) ≡ merge_left x.schedule.phase x
+      left_same_then = subst (λ (p : Phase). merge_left p (reread p) ≡ merge_left p x) (sym was) (ap (λ (n : ℕ). Some (n + 1 + install_steps x.log.next)) steps_same)
+
+      pub unmoved : Unmoved x (reread x.schedule.phase)
+      unmoved = record {
+        rest = (λ i. record x { arena = same_arena i; pool = same_pool i; schedule = record x.schedule { job = job } });
+        same_backlog = (λ i. record (backlog_of x) { merge = left_same_then i; unready = unready (same_pool i).states });
+        same_output = out_same;
+      }
+
+      still_runs : LeavesRuns x.pool out old.pages x.arena new.pages arena
+      still_runs = λ other gs shape meta apart s. subst (λ (a : Frames). RunOnFlash other new.pages a gs) (sym same_arena) (subst (λ (f : Flash). RunOnFlash other f x.arena gs) (sym fails.same) s)
+
+      runs_again : JobRuns (source_at x level) target job pool new.pages arena es fs
+      runs_again = job_carried source (source_at x level) back target job pool new.pages arena es fs (again es fs job_now)
+
+      again_grew : Grew x.pool out pool (output_of job)
+      again_grew = inl (same_pool, ap (λ (r : Kept). r.blocks) out_same)
+
+      again_leaves : Leaves x.log.shape old top found m new
+      again_leaves = same_leaves x frames old top found m may shared ready level into new (ap (λ (b : BoardState). b.shape) only) (ap (λ (b : BoardState). b.pages) only) (ap (λ (b : BoardState). b.trail) only) (ap (λ (b : BoardState). b.posted) only)
+
+      not_done : IsDone (source_at x level) target job.merger → ⊥
+      not_done d = runs_now.undone (subst (λ (j : Merger). IsDone (source_at x level) target j) fails.merger d)
+
+      pub stands_still : IndexOnFlash (reread x.schedule.phase) frames new.pages top found
+      stands_still =
+          let frames_same : length arena.used ≡ length x.arena.used = ap (λ (a : Frames). length a.used) same_arena in
+          let leases = kept_leases out (output_of job) x.arena arena (ap (λ (r : Kept). r.leases) out_same) same_arena in
+          subst (λ (p : Phase). IndexOnFlash (reread p) frames new.pages top found) (sym was)
+          (index_then x frames old top found m may shared ready level into new (Running level) job pool arena is_job again_grew (inl fails.same) again_leaves frames_same leases still_runs runs_again (record {
+            into = into_then x frames old top found m may shared ready level into new (Running level) job pool arena is_job again_grew (inl fails.same) again_leaves frames_same leases still_runs runs_again;
+            runs = runs_again;
+            undone = not_done;
+          }))
+
+  -- ---- by the contract of the job, whose target is the run of the level
+
+  module _ {X : Type 0} (source : Source X) (shows : ShowsSame (source_at x level) source) (t : Kept) (is_target : t ≡ run_of x.levels level) where
+    pub ran : JobRuns source t x.schedule.job x.pool old.pages x.arena (entries_at x found level) (run_at found.runs level)
+    ran = subst (λ (k : Kept). JobRuns source k x.schedule.job x.pool old.pages x.arena (entries_at x found level) (run_at found.runs level)) (sym is_target) (job_now source shows)
+
+    module _ (new : BoardState) (job : Job) (pool : Blocks) (arena : Frames) where
+      abbrev IsJob : Type 0
+      IsJob = job ≡ record x.schedule.job { output = job.output; merger = job.merger }
+
+      abbrev at : Phase → Index
+      at p = record x { arena = arena; pool = pool; schedule = record x.schedule { job = job; phase = p } }
+
+      abbrev OfStep : Kept → Type 0 → Type 0
+      OfStep k Then = RunsOn source k x.schedule.job x.pool old.pages x.arena job pool new.pages arena → Steps source k (pins x.schedule.job) out x.schedule.job.merger x.pool old x.arena (output_of job) job.merger pool new arena
+          → IsJob → LeavesRuns x.pool out old.pages x.arena new.pages arena → LeavesLeases out x.arena (output_of job) arena → StepReaches x.pool out old new → Then
+
+      pub goes_by : OfStep t ((done : Bool) → (IsTrue done ↔ IsDone source t job.merger) → done ≡ false → IndexMoves x frames old found m (at x.schedule.phase) new)
+      goes_by = subst (λ (k : Kept). OfStep k ((done : Bool) → (IsTrue done ↔ IsDone source k job.merger) → done ≡ false → IndexMoves x frames old found m (at x.schedule.phase) new)) (sym is_target)
+          (λ running steps is_job others leases cuts done is e. goes_on_at source shows new job pool arena running steps is_job others leases cuts (λ d. not_both done (is.1 d) e))
+
+      pub completes_by : OfStep t ((done : Bool) → done ≡ true → Completes source t x.schedule.job x.pool old.pages x.arena job new.pages arena done → IndexMoves x frames old found m (at (Ready level)) new)
+      completes_by = subst (λ (k : Kept). OfStep k ((done : Bool) → done ≡ true → Completes source k x.schedule.job x.pool old.pages x.arena job new.pages arena done → IndexMoves x frames old found m (at (Ready level)) new)) (sym is_target)
+          (λ running steps is_job others leases cuts done e whole. completes source shows new job pool arena running steps is_job others leases cuts (subst (λ (b : Bool). Completes source target x.schedule.job x.pool old.pages x.arena job new.pages arena b) e whole))
+
+      pub less_goes_by : OfStep t (LowersTo source t out x.schedule.job.merger x.pool (output_of job) job.merger pool (most_pages out) (most_blocks out) → LessIsLeft x (at x.schedule.phase))
+      less_goes_by = subst (λ (k : Kept). OfStep k (LowersTo source k out x.schedule.job.merger x.pool (output_of job) job.merger pool (most_pages out) (most_blocks out) → LessIsLeft x (at x.schedule.phase))) (sym is_target)
+          (λ running steps is_job others leases cuts lowers. less_at source shows new job pool arena running steps is_job others leases cuts lowers)
+
+      pub less_ends_by : OfStep t (LowersTo source t out x.schedule.job.merger x.pool (output_of job) job.merger pool (most_pages out) (most_blocks out) → LessIsLeft x (at (Ready level)))
+      less_ends_by = subst (λ (k : Kept). OfStep k (LowersTo source k out x.schedule.job.merger x.pool (output_of job) job.merger pool (most_pages out) (most_blocks out) → LessIsLeft x (at (Ready level)))) (sym is_target)
+          (λ running steps is_job others leases cuts lowers. less_ready source shows new job pool arena running steps is_job others leases cuts lowers)
+
+      -- a call that failed
+      abbrev OfRead : Kept → Type 0 → Type 0
+      OfRead k Then = RunsOn source k x.schedule.job x.pool old.pages x.arena job pool new.pages arena → (job.output ≡ x.schedule.job.output) × (pool ≡ x.pool) × (arena ≡ x.arena)
+          → (fault : Fault) → fault ≡ Reading → Fails source k out x.schedule.job.merger x.pool old fault job.merger new → IsJob → OnlyReading old new → Then
+
+      pub unmoved_by : OfRead t (Unmoved x (at x.schedule.phase))
+      unmoved_by = subst (λ (k : Kept). OfRead k (Unmoved x (at x.schedule.phase))) (sym is_target)
+          (λ again kept fault e fails is_job only. unmoved source shows new job pool arena again kept.0 kept.1 kept.2 (subst (λ (f : Fault). Fails source target out x.schedule.job.merger x.pool old f job.merger new) e fails) is_job only)
+
+      pub stands_by : OfRead t (IndexOnFlash (at x.schedule.phase) frames new.pages top found)
+      stands_by = subst (λ (k : Kept). OfRead k (IndexOnFlash (at x.schedule.phase) frames new.pages top found)) (sym is_target)
+          (λ again kept fault e fails is_job only. stands_still source shows new job pool arena again kept.0 kept.1 kept.2 (subst (λ (f : Fault). Fails source target out x.schedule.job.merger x.pool old f job.merger new) e fails) is_job only)
+
+      pub broken_by : (fault : Fault) → fault ≡ Stopped → Fails source t out x.schedule.job.merger x.pool old fault job.merger new → Goes x.log.shape old new (CrashFinds x.log.shape background old.pages m)
+      broken_by = subst (λ (k : Kept). (fault : Fault) → fault ≡ Stopped → Fails source k out x.schedule.job.merger x.pool old fault job.merger new → Goes x.log.shape old new (CrashFinds x.log.shape background old.pages m)) (sym is_target)
+          (λ fault e fails. goes_broken source shows new job.merger (subst (λ (f : Fault). Fails source target out x.schedule.job.merger x.pool old f job.merger new) e fails))
+
+  -- ---- what the flash is behind it
+
+  pub ok_end : (new : BoardState) → StepReaches x.pool out old new → SameEnd x.pool out old.pages new.pages
+  ok_end new cuts = reached_end x.pool out old new cuts
+
+  pub stopped_end : (new : BoardState) → StepWent x.pool out old new → SameEnd x.pool out old.pages new.pages
+  stopped_end new went = went_end x.pool out old new went
+
+  pub read_end : (new : BoardState) → OnlyReading old new → SameEnd x.pool out old.pages new.pages
+  read_end new only = inl (ap (λ (b : BoardState). b.pages) only)
+
+  pub grows_by : (new : BoardState) → SameEnd x.pool out old.pages new.pages → Grows x.log.shape old.pages new.pages
+  grows_by new end = front_grows x frames old top found m may shared ready level into new.pages end
+
+  pub ready_by : (new : BoardState) → IsReady new x.schedule.job.merger.shape → IsReady new x.log.shape
+  ready_by new after = subst (λ (s : Shape). IsReady new s) into.merger_shape after
+
+  -- whichever call failed
+  pub failed_end : {Y : Type 0} (new : BoardState) (fault : Fault) → (◌≡◌ {A = Result Y Fault} (Err fault) (Err Reading) → OnlyReading old new) → (◌≡◌ {A = Result Y Fault} (Err fault) (Err Stopped) → StepWent x.pool out old new) → SameEnd x.pool out old.pages new.pages
+  failed_end new Reading read went = read_end new (read refl)
+  failed_end new Stopped read went = stopped_end new (went refl)
