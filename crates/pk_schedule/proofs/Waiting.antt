@@ -174,7 +174,7 @@ module _ (x : Index) (frames : ℕ) (old : BoardState) (top : ℕ × Root) (foun
 
   -- ---- the job
 
-  abbrev idle_job : Job
+  abbrev pub idle_job : Job
   idle_job = record { pinned = job.pinned; target = 0; output = None; merger = job.merger; spares = all_spare shape }
 
   pub job_is : done_with shape idle_job level out job.merger ≡ job
@@ -234,16 +234,16 @@ module _ (x : Index) (frames : ℕ) (old : BoardState) (top : ℕ × Root) (foun
   -- ---- a merge into level 1
 
   -- the journal's blocks stay
-  journal_stays : (b : ℕ) → slice_get x.pool.states b ≡ Some (Owned Journal) → slice_get (given_back x.pool (run_of x.levels level).blocks).states b ≡ Some (Owned Journal)
+  pub journal_stays : (b : ℕ) → slice_get x.pool.states b ≡ Some (Owned Journal) → slice_get (given_back x.pool (run_of x.levels level).blocks).states b ≡ Some (Owned Journal)
   journal_stays b owned = gives_one.others b (λ among. other_owner (one_owner x.pool Journal Meta b owned (former_owned level b among))) ∙ owned
     where
       other_owner : Journal ≡ Meta → ⊥
       other_owner e = cc
 
-  older_differs : T (differ root.older)
+  pub older_differs : T (differ root.older)
   older_differs = differ_back root.newest root.older (differ_front (root.newest ++ root.older) (concat root.runs) all_differ)
 
-  older_owned : (b : ℕ) → In b root.older → slice_get x.pool.states b ≡ Some (Owned Journal)
+  pub older_owned : (b : ℕ) → In b root.older → slice_get x.pool.states b ≡ Some (Owned Journal)
   older_owned b among = may.stands.journal b (any_back (λ c. b ≡ c) root.newest root.older among)
 
   free_older : CanFree (given_back x.pool (run_of x.levels level).blocks) root.older
@@ -286,7 +286,7 @@ module _ (x : Index) (frames : ℕ) (old : BoardState) (top : ℕ × Root) (foun
         let same : times l ((run_of x.levels level).leases ++ (source.leases ++ leases_of runs_two)) ≡ times l ((run_of x.levels level).leases ++ leases_of runs_one) = omega (arith, set, here, none, one, two, three) in
         same ∙ rows_one l
 
-    source_stays : (b : ℕ) → In b source.blocks → slice_get (given_back x.pool (run_of x.levels level).blocks).states b ≡ Some (Owned Meta)
+    pub source_stays : (b : ℕ) → In b source.blocks → slice_get (given_back x.pool (run_of x.levels level).blocks).states b ≡ Some (Owned Meta)
     source_stays b among =
         gives_one.others b (λ there. runs_apart b (level - 1 - 1) (level - 1) root.runs (λ e. omega (arith, e, deep)) runs_differ
         (subst (λ xs. In b xs) (blocks_are (level - 1)) among) (subst (λ xs. In b xs) (blocks_are level) there)) ∙ former_owned (level - 1) b among
