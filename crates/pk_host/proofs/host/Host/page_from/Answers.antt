@@ -14,7 +14,7 @@ returns-clause-pages g c = elim c.match-ask.branch [
 
 pub returns-clause-follows : goal.returns-clause-follows
 returns-clause-follows g c = elim c.match-ask.branch [
-  | in-Ok+in-0 w ↦ follows_read _ _ c.args.from.now _ c.match-ask.each c.match-ask.result c.requires w.in-Ok.ensures.replies w.in-0.is (w.each-is ∙ w.read_keys.ensures) (w.result-is ∙ ap (λ (n : ℕ). Ok (nat_lt 0 n)) (w.len.ensures ∙ ap (λ (ks : List Key). length ks) (sym w.each-is)))
+  | in-Ok+in-0 w ↦ follows_read _ _ c.args.from.now _ c.match-ask.each c.match-ask.result c.requires w.in-Ok.ensures.replies w.in-0.is (w.each-is ∙ w.read_keys.ensures) (w.result-is ∙ ap (λ (n : ℕ). Ok (nat_lt 0 n)) (w.len.ensures.count ∙ ap (λ (ks : List Key). length ks) (sym w.each-is)))
   | in-Ok+in_default w ↦ ok_never c.match-ask.result _ _ w.result-is
   | in-Err w ↦ ok_never c.match-ask.result _ _ w.result-is
 ]
