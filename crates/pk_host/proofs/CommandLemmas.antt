@@ -11,11 +11,11 @@ use Rattle.pk_nvme.specs.Reply.{Reply, refusal}
 use Rattle.pk_nvme.specs.Opcode.{op_of}
 use Rattle.pk_nvme.specs.declared.opcode.Opcode.{Opcode}
 use Rattle.pk_nvme.specs.declared.opcode.Opcode.TheVariants.{Store}
-use Rattle.pk_nvme.specs.declared.status.TheConstants.{SUCCESSFUL_COMPLETION, CAPACITY_EXCEEDED, INVALID_VALUE_SIZE, INVALID_KEY_SIZE, KEY_DOES_NOT_EXIST, UNRECOVERED_ERROR, KEY_EXISTS}
+use Rattle.pk_nvme.specs.declared.status.TheConstants.{CAPACITY_EXCEEDED, INVALID_VALUE_SIZE, INVALID_KEY_SIZE, KEY_DOES_NOT_EXIST, UNRECOVERED_ERROR, KEY_EXISTS}
 use Rattle.pk_nvme.specs.declared.opcode.TheConstants.{STORE, RETRIEVE, DELETE, EXIST}
 use Rattle.pk_model.specs.Answer.{first_of, check, late_of, live_after, refused, reply, reply_of, map_after, effect, Answer}
 use Rattle.pk_model.specs.Run.{StepIn}
-use Rattle.pk_host.specs.Calls.{of_key, list_of}
+use Rattle.pk_host.specs.Calls.{of_key, list_of, report}
 
 zero_is_not_87 : ◌≡◌ {A = ℕ} 0 KEY_DOES_NOT_EXIST → ⊥
 zero_is_not_87 e = omega (arith, e)
@@ -29,12 +29,13 @@ module _ (shape : Shape) (most frames : ℕ) (m : Map) (c : Command) (k : Opcode
   -- the reply and the map of a command of this kind
   pub record ServedAs (a : Reply) (left : Map) : Type 0 where
     pub own : List ℕ
+    pub eleven : length own ≡ 11
     pub replied : a ≡ reply_of shape most frames m own c (Some k)
     pub leaves : left ≡ effect m c (Some k)
 
   served : (a : Reply) (left : Map) → op_of c.opcode ≡ Some k → refused shape most m c ≡ None → Answer shape most frames m c a left → ServedAs a left
   unfolding reply map_after
-  served a left is none x = record { own = x.own; replied = x.replied ∙ rw (none, is) refl; leaves = x.leaves ∙ rw (none, is) refl }
+  served a left is none x = record { own = x.own; eleven = x.eleven; replied = x.replied ∙ rw (none, is) refl; leaves = x.leaves ∙ rw (none, is) refl }
 
   refuses : (a : Reply) (left : Map) (status : ℕ) → refused shape most m c ≡ Some status → Answer shape most frames m c a left → (a ≡ refusal status) × (left ≡ m)
   unfolding reply map_after
@@ -134,3 +135,7 @@ module _ (shape : Shape) (most : ℕ) (m : Map) (k : Key) (h : IsKey k) where
 -- a List of 65,536 bytes is never refused
 pub list_by : (shape : Shape) (most : ℕ) (m : Map) (from : Key) → length from ≤ 16 → refused shape most m (list_of from) ≡ None
 list_by shape most m from short = ap (λ b. first_of (first_of (check b INVALID_KEY_SIZE) None) None) (le-leb (length from) 16 short)
+
+-- nor is a Report
+pub report_by : (shape : Shape) (most : ℕ) (m : Map) → refused shape most m report ≡ None
+report_by shape most m = refl

@@ -7,3 +7,4 @@ pub mod RisingLemmas
 pub mod PageLemmas
 pub mod FetchLemmas
 pub mod CauseLemmas
+pub mod ReportLemmas

@@ -7,12 +7,13 @@ use Rattle.pk_base.specs.Key.{Key}
 use Rattle.pk_base.specs.Fields.{padded}
 use Rattle.pk_base.specs.Map.{Map}
 use Rattle.pk_base.specs.declared.sizes.TheConstants.{KEY_BYTES}
-use Rattle.pk_nvme.specs.declared.opcode.TheConstants.{STORE, RETRIEVE, LIST, DELETE, EXIST}
+use Rattle.pk_nvme.specs.declared.opcode.TheConstants.{STORE, RETRIEVE, LIST, DELETE, EXIST, REPORT}
 use Rattle.pk_nvme.specs.declared.status.TheConstants.{SUCCESSFUL_COMPLETION, KEY_DOES_NOT_EXIST, UNRECOVERED_ERROR}
 use Rattle.pk_nvme.specs.declared.limits.TheConstants.{NAMESPACE, MOST_LIST_BYTES}
 use Rattle.pk_nvme.specs.Command.{Command}
 use Rattle.pk_nvme.specs.Reply.{Reply}
 use Rattle.pk_nand.specs.Calls.{Rose}
+use Rattle.pk_model.specs.Answer.{report_bytes}
 use Rattle.pk_host.specs.Port.{PortState, Replies}
 use Rattle.pk_host.specs.declared.sizes.TheConstants.{FIRST_BYTES}
 use Rattle.pk_host.specs.declared.types.HostError.{HostError}
@@ -55,6 +56,9 @@ delete_of key = of_key DELETE key 0 0 []
 
 abbrev pub exist_of : Key → Command
 exist_of key = of_key EXIST key 0 0 []
+
+abbrev pub report : Command
+report = of_key REPORT [] 0 0 []
 
 -- ---- what a call makes of a reply
 
@@ -124,6 +128,11 @@ Cuts p key most bytes whole = (m : Map) → p.map ≡ Some m → (bytes ≡ opti
 
 abbrev pub Holds : PortState → Key → ℕ → Option (List ℕ) → Type 0
 Holds p key most bytes = (m : Map) → p.map ≡ Some m → bytes ≡ option_map (take most) (get m key)
+
+-- sixteen numbers: five of the map and of some frames, and eleven of the drive's own
+abbrev pub Numbers : PortState → List ℕ → Type 0
+Numbers p bytes =
+    (m : Map) → p.map ≡ Some m → (frames : ℕ) × (own : List ℕ) × (length own ≡ 11) × (bytes ≡ report_bytes p.shape p.limit frames m own)
 
 -- ---- the commands of a call
 

@@ -1,5 +1,6 @@
 //! A page of keys, with room for as many as one List can give.
-ghost use Rattle.std.specs.Prelude.{◌≡◌, ◌<◌, ◌++◌, [], ◌∷◌, length, slice_index_or, IfOk};
+ghost use Rattle.std.specs.Prelude.{◌≡◌, ◌≤◌, ◌<◌, ◌++◌, [], ◌∷◌, length, slice_index_or, IfOk};
+ghost use Rattle.pk_host.specs.declared.sizes.TheConstants.{MOST_KEYS};
 
 use crate::sizes::MOST_KEYS;
 use pk_base::Key;
@@ -37,7 +38,8 @@ impl KeyPage {
 
     /// How many keys there are.
     pub fn len(&self) -> u32
-        ensures { result ≡ length self.now }
+        ensures count { result ≡ length self.now }
+        ensures most { result ≤ MOST_KEYS }
     {
         self.keys.len() as u32
     }

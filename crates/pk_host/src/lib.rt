@@ -9,7 +9,8 @@ mod key_page;
 mod listing;
 mod lists;
 mod port;
-mod sizes;
+mod report;
+pub mod sizes;
 mod types;
 mod whole;
 

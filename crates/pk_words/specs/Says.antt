@@ -1,0 +1,52 @@
+-- What each word says, from the map that it finds to the one that it leaves.
+use Rattle.std.specs.Prelude.{◌≡◌, ◌⊎◌, ℕ, List, ◌++◌, length, Option}
+use Rattle.std.specs.FinMap.{get}
+use Rattle.pk_base.specs.Key.{Key}
+use Rattle.pk_base.specs.Shape.{Shape}
+use Rattle.pk_base.specs.Map.{Map, keys_from}
+use Rattle.pk_nvme.specs.Command.{Command}
+use Rattle.pk_nvme.specs.Reply.{Reply}
+use Rattle.pk_nvme.specs.declared.status.TheConstants.{UNRECOVERED_ERROR}
+use Rattle.pk_model.specs.Answer.{report_bytes}
+use Rattle.pk_model.specs.Run.{StepIn}
+use Rattle.pk_host.specs.Listing.{start_of}
+use Rattle.pk_words.specs.Lines.{failed_line, status_line, value_line, key_lines, report_lines}
+
+-- a text from one map to another, on a drive of this shape, this limit of live pages and so many frames; and what holds where a read failed
+abbrev pub Saying : Type 1
+Saying = Type 0 → Shape → ℕ → ℕ → Map → List ℕ → Map → Type 0
+
+-- How the one command of a word was answered.
+pub record SaysStatus (c : Command) (failed : Type 0) (shape : Shape) (most frames : ℕ) (m : Map) (text : List ℕ) (m' : Map) : Type 0 where
+  pub reply : Reply
+  pub stepped : StepIn shape most frames m c reply m'
+  pub unread : reply.status ≡ UNRECOVERED_ERROR → failed
+  pub spelled : text ≡ status_line reply.status
+
+-- a text that was found, or that a read failed
+abbrev pub Finds : Type 0 → List ℕ → List ℕ → Type 0
+Finds failed found text = (text ≡ found) ⊎ (failed × (text ≡ failed_line))
+
+-- the whole value of a key
+abbrev pub SaysValue : Key → Saying
+SaysValue key failed shape most frames m text m' = (m' ≡ m) × Finds failed (value_line (get m key)) text
+
+-- the keys of a map that are not below this one, or all of them
+abbrev pub wanted_keys : Option Key → Map → List Key
+wanted_keys from m = keys_from (start_of from) m
+
+-- all keys that are wanted, or a front of them and that a read failed
+abbrev pub ListsKeys : Type 0 → List Key → List ℕ → Type 0
+ListsKeys failed wanted text =
+    (text ≡ key_lines wanted)
+    ⊎ ((front : List Key) × (behind : List Key) × (wanted ≡ front ++ behind) × failed × (text ≡ key_lines front ++ failed_line))
+
+abbrev pub SaysKeys : Option Key → Saying
+SaysKeys from failed shape most frames m text m' = (m' ≡ m) × ListsKeys failed (wanted_keys from m) text
+
+-- The numbers of a Report.
+pub record SaysNumbers (failed : Type 0) (shape : Shape) (most frames : ℕ) (m : Map) (text : List ℕ) (m' : Map) : Type 0 where
+  pub same : m' ≡ m
+  pub own : List ℕ
+  pub eleven : length own ≡ 11
+  pub found : Finds failed (report_lines (report_bytes shape most frames m own)) text
