@@ -40,18 +40,9 @@ impl<A: Allocator> Model for Levels<A> {
 
     ghost Value = { spec.Levels };
 
-    ghost view = { λ l. record {
-      shape = l.plan;
-      pinned = l.pinned;
-      runs = l.first ∷ l.second
-          ∷ l.third ∷ l.fourth ∷ [];
-    } };
+    ghost view = { λ l. record { shape = l.plan; pinned = l.pinned; runs = l.first ∷ l.second ∷ l.third ∷ l.fourth ∷ [] } };
 
-    ghost invariant = { λ l. IsLevels (record {
-      shape = l.plan;
-      pinned = l.pinned;
-      runs = l.first ∷ l.second ∷ l.third ∷ l.fourth ∷ [];
-    }) };
+    ghost invariant = { λ l. IsLevels (record { shape = l.plan; pinned = l.pinned; runs = l.first ∷ l.second ∷ l.third ∷ l.fourth ∷ [] }) };
 }
 
 impl<A: Allocator + Clone> Levels<A> {

@@ -18,6 +18,3 @@ pub mod Entries
 pub mod Leveled
 pub mod Beginning
 pub mod Stepping
-pub mod Replacing
-pub mod Ended
-pub mod Waiting

@@ -6,8 +6,8 @@
 #![tactic(auto)]
 
 mod exchange;
-mod merging;
 mod install;
+mod merging;
 mod phase;
 mod schedule;
 

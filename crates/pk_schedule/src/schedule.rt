@@ -137,18 +137,10 @@ impl<A: Region> Schedule<A> {
         ensures buffer { length buf.new ≡ length buf.old }
     {
         match self.phase {
-            Phase::Idle => Ok(self.begin(levels, log)),
-            Phase::Running { level } => match self.run_job(board, pool, arena, levels, log, level) {
-                Ok(()) => Ok(Stepped::Worked),
-                Err(fault) => Err(fault),
-            },
-            Phase::Ready { level } => match self.install(board, pool, arena, levels, log, level, buf) {
-                Ok(()) => Ok(Stepped::Worked),
-                Err(fault) => Err(fault),
-            },
             Phase::Idle => match self.begin(levels, log) {
                 Stepped::Worked => Ok(Stepped::Worked),
                 Stepped::Idle => Ok(Stepped::Idle),
+            },
             Phase::Running { level } => {
                 match self.run_job(board, pool, arena, levels, log, level) {
                     Ok(()) => Ok(Stepped::Worked),
