@@ -1,5 +1,5 @@
 #!/bin/sh
-# Checks the documents beside the sources, in a second; .ci/run begins with it, and it may be run by hand. Each fault is a line.
+# Checks the documents beside the sources, in a second. It is run by hand, before a landing. Each fault is a line.
 #
 # The index of lemma files is the one that docs/lemmas.sh writes; README keeps to its size; every link leads to a file; every crate,
 # every file of definitions, every clause of GUARANTEES and every wrong body that a document names exists.
