@@ -1,5 +1,4 @@
-use Rattle.std.proofs.Common.{sym}
-use Rattle.pk_schedule.proofs.Stepping.{level_within, few_roots, ran, goes_by, completes_by, less_goes_by, less_ends_by, unmoved_by, stands_by, broken_by, ok_end, stopped_end, read_end, grows_by, ready_by, failed_end, fault_is, other_answer}
+use Rattle.pk_schedule.proofs.Stepping.{level_within, few_roots, ran, goes_by, completes_by, less_goes_by, less_ends_by, unmoved_by, stands_by, broken_by, ok_end, grows_by, ready_by, failed_end, fault_is, other_answer}
 use Rattle.pk_schedule.proofs.schedule.Schedule.run_job.Goals as goal
 
 pub source_of-source-requires : goal.source_of-source-requires
