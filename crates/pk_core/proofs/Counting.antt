@@ -3,7 +3,7 @@ use Rattle.std.proofs.Common.{◌≡◌, ℕ, ◌+◌, ◌*◌, ◌<◌, ◌≤�
 use Rattle.std.specs.List.{flat_map}
 use Rattle.std.proofs.lemmas.List.{flat_map_more, take_more}
 use Rattle.pk_base.specs.Fields.{u32}
-use Rattle.pk_base.specs.Shape.{Shape, limit}
+use Rattle.pk_base.specs.Shape.{Shape, limit, pinned}
 use Rattle.pk_base.specs.Page.{Flash, page_at}
 use Rattle.pk_base.specs.Map.{Map}
 use Rattle.pk_nvme.specs.Seen.{command_of}
@@ -48,7 +48,7 @@ counts_map d shape flash top found without all a =
       live_is = total_of shape d.space d.pool (outputs_of d) flash (places found d.log.pending) a.placed ∙ sym c.live_is;
       limit_is = ap (λ s. limit s) a.shape_is;
       keys_is = a.keys_are ∙ sym c.len_is;
-      pinned_is = a.index.levels_pinned;
+      pinned_is = a.index.levels_pinned ∙ ap (λ s. pinned s (frames_of d)) a.shape_is;
       frames_is = refl;
     }
 

@@ -1,27 +1,21 @@
 -- Over a flash on which nothing is written but roots, a drive serves every request.
 use Rattle.std.proofs.Common.{◌≡◌, inl, inr, ℕ, suc, ◌+◌, ◌-◌, ◌*◌, ◌/◌, ◌%◌, ◌<◌, ◌≤◌, refl, sym, ap, subst, ◌∙◌, arith, Bool, true, false, not, ◌&&◌, ◌||◌, ◌==◌, cond, T, List, [], ◌∷◌, ◌++◌, length, nat_le, nat_lt, Option, Some, None, Ok, zero-mul, mul-le-mul_right, div-add-mod', mod-lt, leb→le}
 use Rattle.std.specs.Prelude.{slice_get, MatchOption}
-use Rattle.std.specs.List.{list_all, concat}
 use Rattle.std.proofs.Math.ListN.{set}
-use Rattle.std.proofs.Math.Nat.{zero-div, zero-mod, mul_comm}
+use Rattle.std.proofs.Math.Nat.{mul_comm}
 use Rattle.std.proofs.lemmas.Bool.{cases_eq, false_from_ne_true}
 use Rattle.std.proofs.lemmas.List.Sums.{sum_by-cons}
 use Rattle.std.proofs.lemmas.Option.{slice_get_within, same_Some}
 use Rattle.pk_base.specs.Key.{Key}
-use Rattle.pk_base.specs.Shape.{Shape, IsShape, meta_blocks, data_blocks, buffer, charge}
-use Rattle.pk_base.specs.Page.{Flash, page_at, erased, page_in}
-use Rattle.pk_base.specs.Entry.{Entry, Place}
+use Rattle.pk_base.specs.Shape.{Shape, IsShape, meta_blocks, data_blocks, charge}
+use Rattle.pk_base.specs.Page.{Flash, page_at, erased}
+use Rattle.pk_base.specs.Entry.{Place}
 use Rattle.pk_base.specs.Map.{Map}
-use Rattle.pk_base.specs.Refusal.{◌>>=◌, ensure}
 use Rattle.pk_base.proofs.ShapeLemmas.{block_pages_positive}
 use Rattle.pk_nvme.specs.Seen.{command_of}
 use Rattle.pk_nvme.specs.declared.request.Request.{Request}
-use Rattle.pk_jrnfmt.specs.Epoch.{epoch}
-use Rattle.pk_jrn.specs.Epochs.{left_of}
-use Rattle.pk_jrn.specs.Replays.{buffer_of}
-use Rattle.pk_buf.specs.Table.{Table}
 use Rattle.pk_plan.specs.declared.owner.Owner.TheVariants.{Journal, Meta, Values as for_values}
-use Rattle.pk_rootfmt.specs.Root.{Root, is_root}
+use Rattle.pk_rootfmt.specs.Root.{Root}
 use Rattle.pk_pool.specs.declared.state.BlockState.{BlockState}
 use Rattle.pk_pool.specs.declared.state.BlockState.TheVariants.{Root as root_block, Free, Ready, Owned}
 use Rattle.pk_pool.specs.Blocks.{Blocks, is_owned_by, used_by}
@@ -29,28 +23,13 @@ use Rattle.pk_pool.proofs.States.{get-set_other, get-set_same}
 use Rattle.pk_pool.proofs.Sharing.{used_given}
 use Rattle.pk_pool.proofs.Fitting.{apart, block_of}
 use Rattle.pk_model.specs.Answer.{early}
-use Rattle.pk_model.specs.Found.{Found, older_epoch, newest_epoch, runs_from, found_under}
-use Rattle.pk_model.specs.Laws.{IsWholePage}
-use Rattle.pk_model.proofs.StrangePages.{bind_ok}
-use Rattle.pk_model.proofs.Roots.{newest_sound}
-use Rattle.pk_model.proofs.RootAlone.{all_back}
-use Rattle.pk_model.proofs.Commits.{left_part, right_part, all_front, root_valid, ends}
-use Rattle.pk_jrn.proofs.Journals.{ok_same}
-use Rattle.pk_compact.proofs.Grammar.{known}
+use Rattle.pk_model.specs.Found.{Found}
 use Rattle.pk_data.specs.declared.open_block.OpenBlock.{OpenBlock}
 use Rattle.pk_data.specs.State.{DataState, fits_open, needs_reclaim}
 use Rattle.pk_data.specs.Placed.{ValuesOnFlash, IsOpenIn, IsNotOpen, HoldsValues}
-use Rattle.pk_core.specs.Parts.{Parts, wants_second_freeze, built_if, is_built}
+use Rattle.pk_core.specs.Parts.{Parts, built_if, is_built}
 use Rattle.pk_core.specs.Agreeing.{DriveOnFlashWith, DriveOnFlash}
 use Rattle.pk_core.specs.Fresh.{IsFresh, FreshServes}
-
--- what is read behind a test that was passed
-passed : (b : Bool) (page : ℕ) (es read : List Entry) → ensure b page >>= (λ _. Ok es) ≡ Ok read → es ≡ read
-passed true page es read e = ok_same es read e
-passed false page es read e = cc
-
-abbrev in_flash : Shape → ℕ → Bool
-in_flash shape b = nat_le 2 b && nat_lt b shape.blocks
 
 -- ---- pages behind the root blocks
 
@@ -64,37 +43,6 @@ module _ (shape : Shape) (flash : Flash) (is_shape : IsShape shape) (fresh : IsF
       let low : 2 * n ≤ b * n = mul-le-mul_right n behind in
       let high : b * n + n ≤ shape.blocks * n = apart b shape.blocks n exists in
       fresh k (omega (arith, whole, low)) (omega (arith, whole, high, mod-lt k some, mul_comm n shape.blocks))
-
-  -- an epoch in such blocks has no entries
-  no_entries : (number : ℕ) (blocks : List ℕ) → T (list_all (in_flash shape) blocks) → epoch shape (page_at flash) number blocks ≡ Ok []
-  unfolding epoch
-  no_entries number [] all = rw (zero-mul shape.block_pages) refl
-  no_entries number (b ∷ bs) all =
-      let n : ℕ = shape.block_pages in
-      let some = block_pages_positive shape is_shape in
-      let here : T (in_flash shape b) = left_part (in_flash shape b) (list_all (in_flash shape) bs) all in
-      let behind : 2 ≤ b = leb→le 2 b (left_part (nat_le 2 b) (nat_lt b shape.blocks) here) in
-      let exists : b < shape.blocks = leb→le (suc b) shape.blocks (right_part (nat_le 2 b) (nat_lt b shape.blocks) here) in
-      let first : page_at flash (b * n + 0) ≡ erased = page_erased b (b * n + 0) (block_of n (b * n + 0) b (omega arith) (omega (arith, some))) behind exists in
-      let first_page : page_at flash (page_in shape (b ∷ bs) 0) ≡ erased = rw (zero-div n, zero-mod n) first in
-      ends shape (page_at flash) (b ∷ bs) number 0 [] (length (b ∷ bs) * n) (λ w. subst IsWholePage first_page w)
-
-  -- so none is found that is older
-  none_read : (root : Root) (es : List Entry) → T (list_all (in_flash shape) root.older) → older_epoch shape (page_at flash) root ≡ Ok es → [] ≡ es
-  none_read root es inside is =
-      let read = rw (no_entries (root.epoch - 1) root.older inside) at is in
-      passed (length root.older == 0 || nat_le 1 (length {A = Entry} [])) (page_in shape root.older 0) [] es read
-
-  none_older : (root : Root) (found : Found) → T (is_root shape root) → found_under shape (page_at flash) root ≡ Ok found → found.older ≡ []
-  unfolding found_under
-  none_older root found valid is =
-      let inside = all_back (in_flash shape) root.newest root.older (all_front (in_flash shape) (root.newest ++ root.older) (concat root.runs) (known shape root valid).inside) in
-      let one = bind_ok (older_epoch shape (page_at flash) root) _ found is in
-      let two = bind_ok (newest_epoch shape (page_at flash) root) _ found one.2 in
-      let three = bind_ok (runs_from shape (page_at flash) 1 root.counts root.runs) _ found two.2 in
-      let parts : record { newest = two.0; older = one.0; runs = three.0 } ≡ found = ok_same _ _ three.2 in
-      let older : one.0 ≡ found.older = ap (λ (f : Found). f.older) parts in
-      sym (none_read root one.0 inside one.1 ∙ older)
 
 -- ---- blocks for values
 
@@ -150,33 +98,20 @@ module _ (shape : Shape) (space : DataState) (pool : Blocks) (flash : Flash) (es
 
 -- ---- requests
 
--- change: a Store or a Delete, store: a Store; second: a second freeze is wanted; full: a reclaim is
-neither : (change second store full : Bool) → second ≡ false → full ≡ false → (not (change && second) && not (store && full)) ≡ true
-neither true second true full no_second no_full = rw (no_second, no_full) refl
-neither true second false full no_second no_full = rw no_second refl
-neither false second true full no_second no_full = rw no_full refl
-neither false second false full no_second no_full = refl
+-- store: a Store; full: a reclaim is wanted
+not_full : (store full : Bool) → full ≡ false → not (store && full) ≡ true
+not_full store full none = ap not (and_false store full none)
 
-built_of : (d : Parts) (r : Request) → wants_second_freeze d ≡ false → ((count : ℕ) → needs_reclaim d.log.shape d.space d.pool count ≡ false) → (answer : Option ℕ) → built_if d r answer ≡ true
-built_of d r second reclaim (Some status) = refl
-built_of d r second reclaim None =
-    neither (r.opcode == 0x01 || r.opcode == 0x10) (wants_second_freeze d) (r.opcode == 0x01) (needs_reclaim d.log.shape d.space d.pool (charge d.log.shape r.size)) second (reclaim (charge d.log.shape r.size))
+built_of : (d : Parts) (r : Request) → ((count : ℕ) → needs_reclaim d.log.shape d.space d.pool count ≡ false) → (answer : Option ℕ) → built_if d r answer ≡ true
+built_of d r reclaim (Some status) = refl
+built_of d r reclaim None = not_full (r.opcode == 0x01) (needs_reclaim d.log.shape d.space d.pool (charge d.log.shape r.size)) (reclaim (charge d.log.shape r.size))
 
 module _ (shape : Shape) (d : Parts) (flash : Flash) (top : ℕ × Root) (found : Found) (without all : Map) (a : DriveOnFlashWith d shape flash top found without all) (fresh : IsFresh shape flash) where
-  valid : T (is_root shape top.1)
-  valid = root_valid shape (page_at flash top.0) top.1 (newest_sound shape (page_at flash) top a.committed.is_top).there
-
-  no_second : wants_second_freeze d ≡ false
-  no_second =
-      let older : found.older ≡ [] = none_older shape flash a.placed.is_shape fresh top.1 found valid a.committed.is_found in
-      let frozen : d.log.frozen ≡ buffer_of d.log.shape [] = a.logs.frozen_is ∙ ap (buffer_of d.log.shape) older in
-      ap (λ (t : Table). nat_le 1 (length t.entries) && (nat_le (buffer d.log.shape) (length d.log.active.entries) || left_of d.log.epoch == 0)) frozen
-
   reclaims_none : (count : ℕ) → needs_reclaim d.log.shape d.space d.pool count ≡ false
   reclaims_none count = ap (λ s. needs_reclaim s d.space d.pool count) a.shape_is ∙ no_reclaim shape d.space d.pool flash _ a.placed fresh count
 
   pub serves_all : (r : Request) → is_built d r ≡ true
-  serves_all r = built_of d r no_second reclaims_none (early d.log.shape (command_of r []))
+  serves_all r = built_of d r reclaims_none (early d.log.shape (command_of r []))
 
 pub fresh_serves : FreshServes
 fresh_serves shape d flash between fresh =

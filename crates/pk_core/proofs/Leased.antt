@@ -15,7 +15,9 @@ use Rattle.pk_level.specs.Levels.{RunsOnFlash}
 use Rattle.pk_level.specs.Arenas.{IsPinnedIf, ArePinnedTo, leases_of}
 use Rattle.pk_model.specs.Found.{Found}
 use Rattle.pk_scan.specs.Opened.{HaveBlocks}
-use Rattle.pk_core.specs.Parts.{Parts, frames_of}
+use Rattle.pk_schedule.specs.Index.{merging, output}
+use Rattle.pk_schedule.proofs.Keeping.{idle_leases}
+use Rattle.pk_core.specs.Parts.{Parts, frames_of, index_of}
 use Rattle.pk_core.specs.Agreeing.{DriveOnFlashWith}
 
 le_true : (x y : ℕ) → x ≤ y → nat_le x y ≡ true
@@ -47,12 +49,17 @@ module _ (shape : Shape) (flash : Flash) (arena : Frames) (pins : ℕ) where
       let whole = sum_by-cons (λ (x : ℕ). x) (run_pages shape r.count) (map (run_pages shape) (take left (entries_of rs))) in
       both ∙ (let e : length r.leases + length (leases_of rs) ≡ run_pages shape r.count + sum (map (run_pages shape) (take left (entries_of rs))) = omega (arith, one, others) in e) ∙ sym whole
 
--- the leased frames of a drive are the pages of its pinned runs
-pub leased_are : (d : Parts) (shape : Shape) (flash : Flash) (top : ℕ × Root) (found : Found) (without all : Map) → DriveOnFlashWith d shape flash top found without all
+-- where no merge runs, the leased frames of a drive are the pages of its pinned runs
+pub leased_are : (d : Parts) (shape : Shape) (flash : Flash) (top : ℕ × Root) (found : Found) (without all : Map) → DriveOnFlashWith d shape flash top found without all → merging d.schedule.phase ≡ 0
     → leased_frames d.arena ≡ sum (map (run_pages shape) (take (pinned shape (frames_of d)) (entries_of d.levels.runs)))
-leased_are d shape flash top found without all agrees =
+leased_are d shape flash top found without all agrees idle =
     let pins : ℕ = d.levels.pinned in
-    sym (leases_counted d.arena (leases_of d.levels.runs ++ []) agrees.index.arena_is.only_these)
+    let x = agrees.index in
+    let none : (output d.schedule).leases ≡ [] = idle_leases (index_of d) (frames_of d) flash top found x idle in
+    let here : leased_frames d.arena ≡ sum (map (run_pages d.log.shape) (take (pinned d.log.shape (frames_of d)) (entries_of d.levels.runs))) =
+    sym (leases_counted d.arena (leases_of d.levels.runs ++ (output d.schedule).leases) x.arena_is.only_these)
+    ∙ ap (λ (ls : List ℕ). length (leases_of d.levels.runs ++ ls)) none
     ∙ ap (λ (ls : List ℕ). length ls) (append-nil (leases_of d.levels.runs))
-    ∙ many shape flash d.arena pins 1 pins d.levels.runs top.1.runs found.runs (omega arith) agrees.index.run_blocks agrees.index.stand agrees.index.arena_is.pins
-    ∙ ap (λ (n : ℕ). sum (map (run_pages shape) (take n (entries_of d.levels.runs)))) agrees.index.levels_pinned
+    ∙ many d.log.shape flash d.arena pins 1 pins d.levels.runs top.1.runs found.runs (omega arith) x.run_blocks x.stand x.arena_is.pins
+    ∙ ap (λ (n : ℕ). sum (map (run_pages d.log.shape) (take n (entries_of d.levels.runs)))) x.levels_pinned in
+    subst (λ (s : Shape). leased_frames d.arena ≡ sum (map (run_pages s) (take (pinned s (frames_of d)) (entries_of d.levels.runs)))) agrees.shape_is here

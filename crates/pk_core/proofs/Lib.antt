@@ -8,6 +8,12 @@ pub mod Committing
 pub mod Building
 pub mod Freezing
 pub mod Rooming
+pub mod Amounts
+pub mod ReadSteps
+pub mod Inside
+pub mod Emptied
+pub mod Quieted
+pub mod Came
 pub mod Unchanging
 pub mod Counting
 pub mod Filling
@@ -39,3 +45,7 @@ pub mod Quieting
 pub mod Sights
 pub mod Staying
 pub mod Steadying
+pub mod Due
+pub mod Indexing
+pub mod Remaining
+pub mod Advancing

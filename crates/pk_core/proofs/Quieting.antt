@@ -1,5 +1,5 @@
 -- A Store and a Delete that wait for nothing, as the contract of a drive has them.
-use Rattle.std.proofs.Common.{◌≡◌, ℕ, ◌+◌, ◌-◌, ◌≤◌, sym, ap, subst, List, true}
+use Rattle.std.proofs.Common.{◌≡◌, ℕ, ◌+◌, ◌-◌, ◌≤◌, sym, ap, subst, ◌∙◌, List, true}
 use Rattle.pk_base.specs.Shape.{charge, pinned}
 use Rattle.pk_nvme.specs.Command.{key}
 use Rattle.pk_nvme.specs.Seen.{command_of}
@@ -20,7 +20,7 @@ module _ (d : Parts) (old new : BoardState) (a : DriveOnFlash d old.shape old.pa
   told = ap shape_or_none a.told_is
 
   reads_few : o.reads ≤ 4 - d.levels.pinned → o.reads ≤ 4 - pinned a.shape (frames_of d)
-  reads_few few = subst (λ p. o.reads ≤ 4 - p) a.with.index.levels_pinned few
+  reads_few few = subst (λ p. o.reads ≤ 4 - p) (a.with.index.levels_pinned ∙ ap (λ s. pinned s (frames_of d)) a.with.shape_is) few
 
   quietly : (count : ℕ) → Programs count old new → o.reads ≤ 4 - d.levels.pinned → Quietly a.shape old new (frames_of d) o.reads count
   quietly count made few = record { programs_are = made.programs; no_erase = made.erases; few_reads = reads_few few }

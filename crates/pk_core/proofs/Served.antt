@@ -1,5 +1,5 @@
 -- The answers of commands that change the map.
-use Rattle.std.proofs.Common.{◌≡◌, ◌≢◌, inl, inr, ℕ, ◌+◌, ◌-◌, ◌/◌, ◌%◌, ◌<◌, ◌≤◌, refl, sym, ap, subst, ◌∙◌, arith, Bool, true, false, not, ◌&&◌, ◌||◌, ◌==◌, List, [], length, sum, nat_le, is_some, Option, Some, None, Ok, leb-true}
+use Rattle.std.proofs.Common.{◌≡◌, ◌≢◌, inl, inr, ℕ, ◌+◌, ◌-◌, ◌/◌, ◌%◌, ◌<◌, ◌≤◌, refl, sym, ap, subst, ◌∙◌, arith, Bool, true, false, not, ◌&&◌, ◌||◌, ◌==◌, List, [], length, sum, nat_le, is_some, min, Option, Some, None, Result, Ok, Err, leb-true}
 use Rattle.std.specs.Prelude.{MatchOption}
 use Rattle.std.specs.FinMap.{get, insert, remove, contains_key}
 use Rattle.pk_base.specs.Entry.{Place}
@@ -12,6 +12,8 @@ use Rattle.pk_nvme.specs.Command.{Command, key}
 use Rattle.pk_nvme.specs.Reply.{Reply, refusal}
 use Rattle.pk_nvme.specs.Seen.{command_of}
 use Rattle.pk_nvme.specs.declared.request.Request.{Request}
+use Rattle.pk_nand.specs.declared.types.Fault.{Fault}
+use Rattle.pk_nand.specs.declared.types.Fault.TheVariants.{Reading, Stopped}
 use Rattle.pk_nand.specs.BoardState.{BoardState}
 use Rattle.pk_nand.specs.Calls.{last_count}
 use Rattle.pk_nvme.specs.Opcode.{op_of}
@@ -24,54 +26,41 @@ use Rattle.pk_model.specs.Sight.{Sight}
 use Rattle.pk_model.proofs.Answering.{serves, refuses_late, store_sized, key_sized, IsKeyLength}
 use Rattle.pk_model.proofs.Machines.{store_check, store_late, live_stored}
 use Rattle.pk_data.specs.State.{needs_reclaim}
-use Rattle.pk_nand.specs.Effects.{Works, Stops, OnlyFlash}
+use Rattle.pk_nand.specs.Effects.{NoFault, OnlyFlash}
 use Rattle.pk_drive.specs.Drive.{HoldsMap}
 use Rattle.pk_model.specs.Growth.{Reaches, Goes}
 use Rattle.pk_drive.specs.Exec.{Executed, most_installs}
-use Rattle.pk_model.specs.Crashes.{CrashFinds, change, command}
+use Rattle.pk_model.specs.Crashes.{CrashFinds, commit, change, command}
 use Rattle.pk_drive.specs.Seen.{reply_of as shown}
 use Rattle.pk_model.specs.Wear.{roots}
 use Rattle.pk_drive.specs.declared.types.Outcome.{Outcome}
 use Rattle.pk_model.proofs.Growing.{weaken, weaken_went}
-use Rattle.pk_core.specs.Parts.{Parts, sight_of, wants_second_freeze, is_built_for, built_if, is_built, frames_of}
+use Rattle.pk_core.specs.Parts.{Parts, sight_of, is_built_for, built_if, is_built, frames_of}
 use Rattle.pk_core.specs.Agreeing.{DriveOnFlash}
-use Rattle.pk_core.specs.Done.{Does}
+use Rattle.pk_core.specs.Done.{Does, Executes}
 use Rattle.pk_core.specs.Finding.{IsPlaceIn}
-use Rattle.pk_core.specs.Moves.{StandsFor}
+use Rattle.pk_core.specs.Moves.{StandsFor, Keeps}
+use Rattle.pk_core.specs.Emptying.{Unread, Halts, OnRunning}
 use Rattle.pk_core.specs.Quiet.{ReadsOnly, Looks, eleven}
-use Rattle.pk_core.specs.Changes.{MayPut, MayTake, CanPut, CanTake, Changes, PutsAll, FailsToPut, TakesAll, FailsToTake}
-use Rattle.pk_core.specs.Serving.{IsServable, pages_at}
+use Rattle.pk_core.specs.Changes.{MayPut, MayTake, CanPut, CanTake, Changes, PutsOrReads, TakesOrReads, StaysBetween}
+use Rattle.pk_core.specs.Serving.{IsServable, IsCounted, outcome_for, stopped_by, pages_at}
 use Rattle.pk_core.proofs.Standing.{stands_so, agrees_so}
 use Rattle.pk_core.proofs.Counting.{counts_map}
-use Rattle.pk_core.proofs.Unchanging.{own, looked, value_of, for_its_map, same_early, reads_none, does_reads, AnswersAll, agrees_ready}
+use Rattle.pk_core.proofs.Unchanging.{own, unread_step, looked, value_of, for_its_map, same_early, reads_none, does_reads, AnswersAll, agrees_ready}
 
 -- ---- what is built
 
-both_false : (a b : Bool) → (not a && not b) ≡ true → (a ≡ false) × (b ≡ false)
-both_false false false e = (refl, refl)
-both_false false true e = cc
-both_false true b e = cc
+not_true : (b : Bool) → not b ≡ true → b ≡ false
+not_true false e = refl
+not_true true e = cc
 
 wants_of : (d : Parts) (r : Request) → is_built d r ≡ true → early d.log.shape (command_of r []) ≡ None → is_built_for d r.opcode r.size ≡ true
 wants_of d r built passed = ap (built_if d r) (sym passed) ∙ built
 
-pub store_built : (d : Parts) (r : Request) (value : List ℕ) → r.opcode ≡ 0x01 → length value ≡ r.size → is_built d r ≡ true → early d.log.shape (command_of r []) ≡ None
-    → (wants_second_freeze d ≡ false) × (needs_reclaim d.log.shape d.space d.pool (charge d.log.shape (length value)) ≡ false)
+pub store_built : (d : Parts) (r : Request) (value : List ℕ) → r.opcode ≡ 0x01 → length value ≡ r.size → is_built d r ≡ true → early d.log.shape (command_of r []) ≡ None → needs_reclaim d.log.shape d.space d.pool (charge d.log.shape (length value)) ≡ false
 store_built d r value op whole built passed =
     let all : is_built_for d 0x01 r.size ≡ true = ap (λ o. is_built_for d o r.size) (sym op) ∙ wants_of d r built passed in
-    let both = both_false (wants_second_freeze d) (needs_reclaim d.log.shape d.space d.pool (charge d.log.shape r.size)) all in
-    (both.0, ap (λ n. needs_reclaim d.log.shape d.space d.pool (charge d.log.shape n)) whole ∙ both.1)
-
-pub delete_built : (d : Parts) (r : Request) → r.opcode ≡ 0x10 → is_built d r ≡ true → early d.log.shape (command_of r []) ≡ None → wants_second_freeze d ≡ false
-delete_built d r op built passed =
-    let all : is_built_for d 0x10 r.size ≡ true = ap (λ o. is_built_for d o r.size) (sym op) ∙ wants_of d r built passed in
-    (both_false (wants_second_freeze d) false all).0
-
-pub store_keyed : (shape : Shape) (r : Request) → r.opcode ≡ 0x01 → early shape (command_of r []) ≡ None → IsKeyLength r.key_len
-store_keyed shape r is passed = key_sized shape (command_of r []) Store (λ n. refl) (ap op_of is) passed
-
-pub delete_keyed : (shape : Shape) (r : Request) → r.opcode ≡ 0x10 → early shape (command_of r []) ≡ None → IsKeyLength r.key_len
-delete_keyed shape r is passed = key_sized shape (command_of r []) Delete (λ n. refl) (ap op_of is) passed
+    ap (λ n. needs_reclaim d.log.shape d.space d.pool (charge d.log.shape n)) whole ∙ not_true (needs_reclaim d.log.shape d.space d.pool (charge d.log.shape r.size)) all
 
 pub store_short : (shape : Shape) (r : Request) → r.opcode ≡ 0x01 → early shape (command_of r []) ≡ None → r.size ≤ greatest shape
 store_short shape r is passed = store_sized shape (command_of r []) (ap op_of is) passed
@@ -95,10 +84,20 @@ no_yes e = cc
 ok_sound : ◌≡◌ {A = ℕ} 0 0x88 → ⊥
 ok_sound e = cc
 
-module _ (d : Parts) (old new : BoardState) (a : DriveOnFlash d old.shape old.pages) (c : Command) (after : Map) (counted : old.reads ≤ last_count) (few_roots : roots new ≤ roots old + 1) (one : most_installs c.opcode c.size ≡ 65535)
-    (other : op_of c.opcode ≡ Some Retrieve → ⊥) (leaves : map_after d.log.shape (limit d.log.shape) a.all c ≡ after) where
+module _ (d : Parts) (old new : BoardState) (a : DriveOnFlash d old.shape old.pages) (c : Command) (after : Map) (count : IsCounted old new) (few_roots : roots new ≤ roots old + 65535) (one : most_installs c.opcode c.size ≡ 65535)
+    (rest : OnlyFlash old new) (other : op_of c.opcode ≡ Some Retrieve → ⊥) (leaves : map_after d.log.shape (limit d.log.shape) a.all c ≡ after) where
   told : old.shape ≡ Some d.log.shape
   told = a.told_is ∙ ap (λ s. Some s) (sym a.with.shape_is)
+
+  same_shape : new.shape ≡ old.shape
+  same_shape = ap (λ (b : BoardState). b.shape) rest
+
+  -- the pages that were read
+  abbrev made : ℕ
+  made = new.reads - old.reads
+
+  counted : new.reads ≡ min (old.reads + made) last_count
+  counted = let up = count.up in let few = count.few in omega (arith, up, few)
 
   -- where the change is cut, the command is
   exec_cut : (f : Flash) (q : List ℕ) → CrashFinds d.log.shape (change after) old.pages a.all f q → CrashFinds d.log.shape (command c) old.pages a.all f q
@@ -106,10 +105,15 @@ module _ (d : Parts) (old new : BoardState) (a : DriveOnFlash d old.shape old.pa
   exec_cut f q (quiet, inr (inl is)) = (quiet, inr (inl is))
   exec_cut f q (quiet, inr (inr is)) = (quiet, inr (inr (is ∙ ap (λ m. Ok m) (sym leaves))))
 
-  pub does_change : (e : Parts) (reply : Reply) → Changes e d.log.shape a.all after old new → frames_of e ≡ frames_of d → new.shape ≡ old.shape → Works old new → reply.status ≢ 0x88 → Step d.log.shape (frames_of d) a.all c reply after
-      → Does old new (sight_of d) (sight_of e) c reply 0 false
-  does_change e reply changed same_frames same_shape works sound step = record {
-    stands = λ _. for_its_map d old a (λ s f m. Executed s f new (sight_of e) m c reply 0) (record {
+  -- so is it where the map is kept
+  kept_cut : (f : Flash) (q : List ℕ) → CrashFinds d.log.shape commit old.pages a.all f q → CrashFinds d.log.shape (command c) old.pages a.all f q
+  kept_cut f q (quiet, inl same) = (quiet, inl same)
+  kept_cut f q (quiet, inr is) = (quiet, inr (inl is))
+
+  pub does_change : (e : Parts) (reply : Reply) → Changes e d.log.shape a.all after old new → frames_of e ≡ frames_of d → NoFault old new → reply.status ≢ 0x88 → Step d.log.shape (frames_of d) a.all c reply after
+      → Does old new (sight_of d) (sight_of e) c reply (new.reads - old.reads) false
+  does_change e reply changed same_frames none sound step = record {
+    stands = λ _. for_its_map d old a (λ s f m. Executed s f new (sight_of e) m c reply made) (record {
       left = after;
       stepped = step;
       stands = subst (λ (f : ℕ). HoldsMap d.log.shape f new (sight_of e) after) same_frames (stands_so e new d.log.shape after (same_shape ∙ told) changed.stands);
@@ -118,41 +122,72 @@ module _ (d : Parts) (old new : BoardState) (a : DriveOnFlash d old.shape old.pa
     cuts = λ _. for_its_map d old a (λ s f m. Reaches s old new (CrashFinds s (command c) old.pages m))
         (changed.cuts.0, weaken changed.cuts.0 old new (CrashFinds d.log.shape (change after) old.pages a.all) (CrashFinds d.log.shape (command c) old.pages a.all) exec_cut changed.cuts.1, changed.cuts.2);
     cuts_stopped = λ is. absurd (yes_no is);
-    rest = works.rest;
-    reads_are = let same = works.reads in omega (arith, same, counted);
-    up = let same = works.no_fault.1 in omega (arith, same);
-    flash_up = λ _. let same = works.no_fault.0 in omega (arith, same);
+    rest = rest;
+    reads_are = counted;
+    up = (let same = none.1 in omega (arith, same));
+    flash_up = λ _. (let same = none.0 in omega (arith, same));
     unread = λ is. absurd (sound is);
-    sound = λ _. works.no_fault;
+    sound = λ _. none;
     stop = λ is. absurd (yes_no is);
     stop_status = λ is. absurd (yes_no is);
-    no_stop = λ _. works.no_fault.2;
+    no_stop = λ _. none.2;
     installs = omega (arith, few_roots, one);
   }
 
-  pub does_stop : (s : Sight) → Goes d.log.shape old new (CrashFinds d.log.shape (change after) old.pages a.all) → Stops old new → Does old new (sight_of d) s c (refusal 0x88) 0 true
-  does_stop s went stops = record {
+  -- a read failed before the change
+  pub does_keep : (e : Parts) → Keeps d e d.log.shape a.all old new → frames_of e ≡ frames_of d → Unread old new → early d.log.shape c ≡ None → Does old new (sight_of d) (sight_of e) c (refusal 0x88) (new.reads - old.reads) false
+  does_keep e kept same_frames unread passes = record {
+    stands = λ _. for_its_map d old a (λ s f m. Executed s f new (sight_of e) m c (refusal 0x88) made) (record {
+      left = a.all;
+      stepped = unread_step d.log.shape (frames_of d) a.all c passes;
+      stands = subst (λ (f : ℕ). HoldsMap d.log.shape f new (sight_of e) a.all) same_frames (stands_so e new d.log.shape a.all (same_shape ∙ told) kept.stands);
+      bounded = λ is. absurd (other is);
+    });
+    cuts = λ _. for_its_map d old a (λ s f m. Reaches s old new (CrashFinds s (command c) old.pages m))
+        (kept.cuts.0, weaken kept.cuts.0 old new (CrashFinds d.log.shape commit old.pages a.all) (CrashFinds d.log.shape (command c) old.pages a.all) kept_cut kept.cuts.1, kept.cuts.2);
+    cuts_stopped = λ is. absurd (yes_no is);
+    rest = rest;
+    reads_are = counted;
+    up = unread.up;
+    flash_up = λ few. (let rose = unread.flash in omega (arith, rose, few));
+    unread = λ _ _. unread.read;
+    sound = λ is. absurd (is refl);
+    stop = λ is. absurd (yes_no is);
+    stop_status = λ is. absurd (yes_no is);
+    no_stop = λ _. unread.no_stop;
+    installs = omega (arith, few_roots, one);
+  }
+
+  pub does_stop : (s : Sight) → Goes d.log.shape old new (CrashFinds d.log.shape (change after) old.pages a.all) → Halts old new → Does old new (sight_of d) s c (refusal 0x88) (new.reads - old.reads) true
+  does_stop s went halts = record {
     stands = λ is. absurd (no_yes is);
     cuts = λ is. absurd (no_yes is);
     cuts_stopped = λ _. for_its_map d old a (λ s f m. Goes s old new (CrashFinds s (command c) old.pages m))
         (went.0, weaken_went went.0 old new (CrashFinds d.log.shape (change after) old.pages a.all) (CrashFinds d.log.shape (command c) old.pages a.all) exec_cut went.1, went.2);
-    rest = stops.rest;
-    reads_are = let same = stops.reads in omega (arith, same, counted);
-    up = let same = stops.read in omega (arith, same);
-    flash_up = λ few. let rose = stops.flash in omega (arith, rose, few);
+    rest = rest;
+    reads_are = counted;
+    up = (let same = halts.read in omega (arith, same));
+    flash_up = λ few. (let rose = halts.flash in omega (arith, rose, few));
     unread = λ _ is. absurd (no_yes is);
     sound = λ is. absurd (is refl);
-    stop = λ _. stops.stop;
+    stop = λ _. halts.stop;
     stop_status = λ _. refl;
     no_stop = λ is. absurd (no_yes is);
     installs = omega (arith, few_roots, one);
   }
 
+-- nothing was read
+pub none_read : (n : ℕ) → 0 ≡ n - n
+none_read n = omega arith
+
 -- the shape of a board stays
 pub shape_stays : (old new : BoardState) → OnlyFlash old new → new.shape ≡ old.shape
 shape_stays old new only = ap (λ (b : BoardState). b.shape) only
 
-pub few_same : (d e : Parts) → e.log.shape ≡ d.log.shape → length e.log.pending < page_entries d.log.shape → length e.log.pending < page_entries e.log.shape
+agrees_behind : (d : Parts) (old new : BoardState) → DriveOnFlash d old.shape old.pages → (e : Parts) (m : Map) → OnlyFlash old new → StandsFor e d.log.shape new.pages m → DriveOnFlash e new.shape new.pages
+agrees_behind d old new a e m rest stands = agrees_so e new.shape d.log.shape new.pages m (shape_stays old new rest ∙ (a.told_is ∙ ap (λ x. Some x) (sym a.with.shape_is))) stands
+
+few_same : (d e : Parts) → e.log.shape ≡ d.log.shape → length e.log.pending < page_entries d.log.shape → length e.log.pending < page_entries e.log.shape
 few_same d e same few = subst (λ (s : Shape). length e.log.pending < page_entries s) (sym same) few
 
 -- ---- steps of the map
@@ -284,7 +319,7 @@ module _ (d : Parts) (old : BoardState) (r : Request) (value : List ℕ) (k : Ke
       ready = agrees_ready d old s.agrees;
       may = (all, may_put);
       short = let short = store_short d.log.shape r op s.passed in omega (arith, short, whole);
-      no_reclaim = (store_built d r value op whole s.built s.passed).1;
+      no_reclaim = store_built d r value op whole s.built s.passed;
       few = s.few;
     }
 
@@ -297,25 +332,34 @@ module _ (d : Parts) (old : BoardState) (r : Request) (value : List ℕ) (k : Ke
     one_root : most_installs r.opcode r.size ≡ 65535
     one_root = ap (λ x. most_installs x r.size) op
 
-    pub store_done : (e : Parts) (new : BoardState) (into : List ℕ) (outcome : Outcome) (reads : ℕ) → PutsAll d e old new k value o → frames_of e ≡ frames_of d → new.shape ≡ old.shape → Works old new → roots new ≤ roots old + 1
-        → outcome ≡ record { status = 0; result = 0; data_len = 0; reads = reads; stopped = false }
-        → Does old new (sight_of d) (sight_of e) c (shown outcome into) 0 outcome.stopped
-    store_done e new into outcome reads puts same_frames same_shape works few_roots told_is =
-        let step : Step d.log.shape (frames_of d) all c (success 0 []) (insert all k value) =
+    -- what putting it came to
+    pub store_came : (answer : Result Unit Fault) (e : Parts) (new : BoardState) (most : ℕ) (into : List ℕ) (outcome : Outcome) (reads : ℕ) → PutsOrReads d e most old new k value o answer → most + 4 ≤ 65535 → IsCounted old new → OnRunning (StaysBetween d e) answer
+        → outcome ≡ outcome_for answer reads → Executes d (stopped_by e answer) old new c outcome into (new.reads - old.reads)
+    unfolding its_drive
+    store_came (Ok u) e new most into outcome reads step few count stays told_is =
+        let few_roots = step.roots_few in
+        let puts : Changes e d.log.shape all (insert all k value) old new = step.came.0 d.log.shape all may_put in
+        let stepped : Step d.log.shape (frames_of d) all c (success 0 []) (insert all k value) =
         subst (λ q. Step d.log.shape (frames_of d) all c (success 0 []) (insert all q value)) (sym named) (store_step d.log.shape (frames_of d) all c passes (ap op_of op) late_none) in
-        let done = does_change d old new s.agrees c (insert all k value) s.counted few_roots one_root (store_other r.opcode op) leaves_put e (success 0 []) (puts d.log.shape all may_put) same_frames same_shape works ok_sound step in
-        subst (λ (x : Outcome). Does old new (sight_of d) (sight_of e) c (shown x into) 0 x.stopped) (sym told_is) done
-
-    pub store_stopped : (behind : Sight) (new : BoardState) (into : List ℕ) (outcome : Outcome) (reads : ℕ) → FailsToPut d old new k value o → Stops old new → roots new ≤ roots old + 1
-        → outcome ≡ record { status = 0x88; result = 0; data_len = 0; reads = reads; stopped = true }
-        → Does old new (sight_of d) behind c (shown outcome into) 0 outcome.stopped
-    store_stopped behind new into outcome reads fails stops few_roots told_is =
-        let done = does_stop d old new s.agrees c (insert all k value) s.counted few_roots one_root (store_other r.opcode op) leaves_put behind (fails d.log.shape all may_put) stops in
-        subst (λ (x : Outcome). Does old new (sight_of d) behind c (shown x into) 0 x.stopped) (sym told_is) done
-
-    pub store_agrees : (e : Parts) (new : BoardState) → PutsAll d e old new k value o → new.shape ≡ old.shape → DriveOnFlash e new.shape new.pages
-    store_agrees e new puts same_shape =
-        agrees_so e new.shape d.log.shape new.pages (insert all k value) (same_shape ∙ (s.agrees.told_is ∙ ap (λ x. Some x) (sym s.agrees.with.shape_is))) (puts d.log.shape all may_put).stands
+        let done = does_change d old new s.agrees c (insert all k value) count (omega (arith, few, few_roots)) one_root step.rest (store_other r.opcode op) leaves_put e (success 0 []) puts stays.frames step.came.1 ok_sound stepped in
+        subst (λ (x : Outcome). Executes d e old new c x into (new.reads - old.reads)) (sym told_is) (record {
+          stops = stays.stopped ∙ s.runs;
+          agrees = λ _. (agrees_behind d old new s.agrees e (insert all k value) step.rest puts.stands, few_same d e stays.same_shape stays.few);
+          does = done;
+        })
+    store_came (Err Reading) e new most into outcome reads step few count stays told_is =
+        let few_roots = step.roots_few in
+        let kept : Keeps d e d.log.shape all old new = step.came.0 d.log.shape all (its_drive d old s.agrees k o is_key looks) in
+        let done = does_keep d old new s.agrees c (insert all k value) count (omega (arith, few, few_roots)) one_root step.rest (store_other r.opcode op) leaves_put e kept stays.frames step.came.1 passes in
+        subst (λ (x : Outcome). Executes d e old new c x into (new.reads - old.reads)) (sym told_is) (record {
+          stops = stays.stopped ∙ s.runs;
+          agrees = λ _. (agrees_behind d old new s.agrees e all step.rest kept.stands, few_same d e stays.same_shape stays.few);
+          does = done;
+        })
+    store_came (Err Stopped) e new most into outcome reads step few count stays told_is =
+        let few_roots = step.roots_few in
+        let done = does_stop d old new s.agrees c (insert all k value) count (omega (arith, few, few_roots)) one_root step.rest (store_other r.opcode op) leaves_put (sight_of (record e { stopped = true })) (step.came.0 d.log.shape all may_put) step.came.1 in
+        subst (λ (x : Outcome). Executes d (record e { stopped = true }) old new c x into (new.reads - old.reads)) (sym told_is) (record { stops = refl; agrees = λ is. absurd (no_yes is); does = done })
 
 -- ---- a Delete
 
@@ -368,48 +412,51 @@ module _ (d : Parts) (old : BoardState) (r : Request) (v : List ℕ) (k : Key) (
     gone_root : most_installs r.opcode r.size ≡ 65535
     gone_root = ap (λ x. most_installs x r.size) op
 
-    pub delete_done : (e : Parts) (new : BoardState) (into : List ℕ) (outcome : Outcome) (reads : ℕ) → TakesAll d e old new k p → frames_of e ≡ frames_of d → new.shape ≡ old.shape → Works old new → roots new ≤ roots old + 1
-        → outcome ≡ record { status = 0; result = 0; data_len = 0; reads = reads; stopped = false }
-        → Does old new (sight_of d) (sight_of e) dc (shown outcome into) 0 outcome.stopped
-    delete_done e new into outcome reads takes same_frames same_shape works few_roots told_is =
-        let step : Step d.log.shape (frames_of d) its_map dc (success 0 []) (remove its_map k) =
+    -- what taking it out came to
+    pub delete_came : (answer : Result Unit Fault) (e : Parts) (new : BoardState) (most : ℕ) (into : List ℕ) (outcome : Outcome) (reads : ℕ) → TakesOrReads d e most old new k p answer → most + 4 ≤ 65535 → IsCounted old new → OnRunning (StaysBetween d e) answer
+        → outcome ≡ outcome_for answer reads → Executes d (stopped_by e answer) old new dc outcome into (new.reads - old.reads)
+    unfolding its_drive
+    delete_came (Ok u) e new most into outcome reads step few count stays told_is =
+        let few_roots = step.roots_few in
+        let takes : Changes e d.log.shape its_map (remove its_map k) old new = step.came.0 d.log.shape its_map may_take in
+        let stepped : Step d.log.shape (frames_of d) its_map dc (success 0 []) (remove its_map k) =
         subst (λ q. Step d.log.shape (frames_of d) its_map dc (success 0 []) (remove its_map q)) (sym named) (delete_step d.log.shape (frames_of d) its_map dc delete_passed (ap op_of op) gone_late) in
-        let done = does_change d old new s.agrees dc (remove its_map k) s.counted few_roots gone_root (delete_other r.opcode op) leaves_gone e (success 0 []) (takes d.log.shape its_map may_take) same_frames same_shape works ok_sound step in
-        subst (λ (x : Outcome). Does old new (sight_of d) (sight_of e) dc (shown x into) 0 x.stopped) (sym told_is) done
-
-    pub delete_stopped : (behind : Sight) (new : BoardState) (into : List ℕ) (outcome : Outcome) (reads : ℕ) → FailsToTake d old new k p → Stops old new → roots new ≤ roots old + 1
-        → outcome ≡ record { status = 0x88; result = 0; data_len = 0; reads = reads; stopped = true }
-        → Does old new (sight_of d) behind dc (shown outcome into) 0 outcome.stopped
-    delete_stopped behind new into outcome reads fails stops few_roots told_is =
-        let done = does_stop d old new s.agrees dc (remove its_map k) s.counted few_roots gone_root (delete_other r.opcode op) leaves_gone behind (fails d.log.shape its_map may_take) stops in
-        subst (λ (x : Outcome). Does old new (sight_of d) behind dc (shown x into) 0 x.stopped) (sym told_is) done
-
-    pub delete_agrees : (e : Parts) (new : BoardState) → TakesAll d e old new k p → new.shape ≡ old.shape → DriveOnFlash e new.shape new.pages
-    delete_agrees e new takes same_shape =
-        agrees_so e new.shape d.log.shape new.pages (remove its_map k) (same_shape ∙ (s.agrees.told_is ∙ ap (λ x. Some x) (sym s.agrees.with.shape_is))) (takes d.log.shape its_map may_take).stands
+        let done = does_change d old new s.agrees dc (remove its_map k) count (omega (arith, few, few_roots)) gone_root step.rest (delete_other r.opcode op) leaves_gone e (success 0 []) takes stays.frames step.came.1 ok_sound stepped in
+        subst (λ (x : Outcome). Executes d e old new dc x into (new.reads - old.reads)) (sym told_is) (record {
+          stops = stays.stopped ∙ s.runs;
+          agrees = λ _. (agrees_behind d old new s.agrees e (remove its_map k) step.rest takes.stands, few_same d e stays.same_shape stays.few);
+          does = done;
+        })
+    delete_came (Err Reading) e new most into outcome reads step few count stays told_is =
+        let few_roots = step.roots_few in
+        let kept : Keeps d e d.log.shape its_map old new = step.came.0 d.log.shape its_map (its_drive d old s.agrees k (Some p) is_key looks) in
+        let done = does_keep d old new s.agrees dc (remove its_map k) count (omega (arith, few, few_roots)) gone_root step.rest (delete_other r.opcode op) leaves_gone e kept stays.frames step.came.1 delete_passed in
+        subst (λ (x : Outcome). Executes d e old new dc x into (new.reads - old.reads)) (sym told_is) (record {
+          stops = stays.stopped ∙ s.runs;
+          agrees = λ _. (agrees_behind d old new s.agrees e its_map step.rest kept.stands, few_same d e stays.same_shape stays.few);
+          does = done;
+        })
+    delete_came (Err Stopped) e new most into outcome reads step few count stays told_is =
+        let few_roots = step.roots_few in
+        let done = does_stop d old new s.agrees dc (remove its_map k) count (omega (arith, few, few_roots)) gone_root step.rest (delete_other r.opcode op) leaves_gone (sight_of (record e { stopped = true })) (step.came.0 d.log.shape its_map may_take) step.came.1 in
+        subst (λ (x : Outcome). Executes d (record e { stopped = true }) old new dc x into (new.reads - old.reads)) (sym told_is) (record { stops = refl; agrees = λ is. absurd (no_yes is); does = done })
 
 -- ---- behind the reads of a look-up
 
 pub looks_behind : (d e : Parts) (flash flash' : Flash) (k : Key) (o : Option Place) → e ≡ d → flash' ≡ flash → Looks d flash k o → Looks e flash' k o
 looks_behind d e flash flash' k o same pages looks = subst (λ (x : Parts). Looks x flash' k o) (sym same) (subst (λ (f : Flash). Looks d f k o) (sym pages) looks)
 
-pub servable_behind : (d e : Parts) (old new : BoardState) (most : ℕ) (r : Request) → e ≡ d → ReadsOnly old new most → IsServable d old r → IsServable e new r
-servable_behind d e old new most r same made s =
-    let n : ℕ = new.reads in
-    let few : n ≤ last_count = made.few in
-    let here : IsServable d (record old { reads = n }) r = record { agrees = s.agrees; runs = s.runs; unworn = s.unworn; built = s.built; passed = s.passed; few = s.few; counted = few } in
-    subst (λ (x : Parts). IsServable x new r) (sym same) (subst (λ (b : BoardState). IsServable d b r) (sym made.board) here)
-
-pub does_behind : (d e f : Parts) (old mid new : BoardState) (most : ℕ) (c : Command) (into : List ℕ) (o : Outcome) (reads : ℕ) → e ≡ d → ReadsOnly old mid most → (op_of c.opcode ≡ Some Retrieve → ⊥)
-    → o.reads ≡ reads → reads ≡ mid.reads - old.reads
-    → Does mid new (sight_of e) (sight_of f) c (shown o into) 0 o.stopped → Does old new (sight_of d) (sight_of f) c (shown o into) o.reads o.stopped
-does_behind d e f old mid new most c into o reads same made other told_is is does =
+pub does_behind : (d e f : Parts) (old mid new : BoardState) (most : ℕ) (c : Command) (into : List ℕ) (o : Outcome) → e ≡ d → ReadsOnly old mid most → (op_of c.opcode ≡ Some Retrieve → ⊥)
+    → IsCounted mid new → o.reads ≡ new.reads - old.reads
+    → Does mid new (sight_of e) (sight_of f) c (shown o into) (new.reads - mid.reads) o.stopped → Does old new (sight_of d) (sight_of f) c (shown o into) o.reads o.stopped
+does_behind d e f old mid new most c into o same made other count told_is does =
     let n : ℕ = mid.reads in
     let few : n ≤ last_count = made.few in
     let up : old.reads ≤ n = made.up in
-    let here : Does mid new (sight_of d) (sight_of f) c (shown o into) 0 o.stopped = subst (λ (x : Parts). Does mid new (sight_of x) (sight_of f) c (shown o into) 0 o.stopped) same does in
-    let x : Does (record old { reads = n }) new (sight_of d) (sight_of f) c (shown o into) 0 o.stopped = subst (λ (b : BoardState). Does b new (sight_of d) (sight_of f) c (shown o into) 0 o.stopped) made.board here in
-    let count = x.reads_are in
+    let here : Does mid new (sight_of d) (sight_of f) c (shown o into) (new.reads - n) o.stopped = subst (λ (x : Parts). Does mid new (sight_of x) (sight_of f) c (shown o into) (new.reads - n) o.stopped) same does in
+    let x : Does (record old { reads = n }) new (sight_of d) (sight_of f) c (shown o into) (new.reads - n) o.stopped = subst (λ (b : BoardState). Does b new (sight_of d) (sight_of f) c (shown o into) (new.reads - n) o.stopped) made.board here in
+    let more = count.up in
+    let last = count.few in
     record {
       stands = λ run shape frames m st.
           let y = x.stands run shape frames m (record { shape_is = st.shape_is; frames_is = st.frames_is; map_is = st.map_is }) in
@@ -421,7 +468,7 @@ does_behind d e f old mid new most c into o reads same made other told_is is doe
           let y = x.cuts_stopped run shape frames m (record { shape_is = st.shape_is; frames_is = st.frames_is; map_is = st.map_is }) in
           (y.0, record { trail = y.1.trail; posted = y.1.posted; same_shape = y.1.same_shape; cuts = y.1.cuts; stands = y.1.stands }, y.2);
       rest = x.rest;
-      reads_are = omega (arith, count, told_is, is, few, up);
+      reads_are = omega (arith, told_is, more, last, up);
       up = x.up;
       flash_up = x.flash_up;
       unread = x.unread;

@@ -107,13 +107,6 @@ pub commit_stays_ok : (r : Result Unit Fault) (d : Parts) (log' : LogState) (old
 commit_stays_ok (Ok x) d log' old new made = commit_stays d log' old new made
 commit_stays_ok (Err e) d log' old new made = tt
 
--- a freeze begins an epoch
-pub freeze_stays : (d : Parts) (log' : LogState) (pool' : Blocks) (old new : BoardState) (top : ℕ × Root) (found : Found) (m : Map) → LogFroze d.log d.pool old top found m log' pool' new → used_by Values pool'.states ≡ used_by Values d.pool.states
-    → Stays d (record d { log = log'; pool = pool' })
-freeze_stays d log' pool' old new top found m froze used =
-    let more : log'.epoch.takes_more ≡ true = ap (λ (l : LogState). l.epoch.takes_more) froze.begun_is in
-    record { fresh = record { stays = λ _. more; begun = inr more }; blocks = record { used = used; open_same = refl } }
-
 -- an entry is noted
 pub note_stays : (d : Parts) (e : Entry) (log' : LogState) (space' : DataState) (keys' : ℕ) → log' ≡ pushed d.log e → space'.open_block ≡ d.space.open_block → Stays d (record d { log = log'; space = space'; keys = keys' })
 note_stays d e log' space' keys' is same =

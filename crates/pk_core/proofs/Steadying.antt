@@ -1,26 +1,21 @@
 -- A drive that agrees with its flash is steady: its numbers are those of what stands there.
-use Rattle.std.proofs.Common.{◌≡◌, inl, inr, ℕ, suc, ◌+◌, ◌*◌, ◌/◌, ◌<◌, ◌≤◌, refl, sym, ap, subst, ◌∙◌, arith, Bool, true, false, T, List, [], ◌∷◌, ◌++◌, length, map, Option, Some, None, Result, Ok, Err}
+use Rattle.std.proofs.Common.{◌≡◌, ◌≢◌, inl, inr, ℕ, suc, ◌+◌, ◌*◌, ◌/◌, ◌<◌, ◌≤◌, refl, sym, ap, subst, ◌∙◌, arith, Bool, true, false, T, List, [], ◌∷◌, ◌++◌, length, map, Option, Some, None, Result, Ok, Err}
 use Rattle.std.specs.Prelude.{slice_get, slice_index_or, count_by, MatchOption, OnOk, ◌%◌, ◌&&◌, ◌==◌, nat_le, bytes_eq, zip}
 use Rattle.std.specs.List.{concat, list_all}
 use Rattle.std.proofs.Common.{eqb→eq, div-add-mod', mod-lt}
-use Rattle.std.proofs.lemmas.List.{length-map}
-use Rattle.std.proofs.lemmas.List.Sums.{count_by-le-length}
 use Rattle.std.proofs.lemmas.Option.{slice_get_within}
 use Rattle.pk_base.specs.Shape.{Shape, IsShape, page_entries, caps, run_blocks, pinned}
 use Rattle.pk_base.specs.Page.{Flash, page_at}
 use Rattle.pk_base.specs.Entry.{Entry}
 use Rattle.pk_base.specs.Map.{Map}
 use Rattle.pk_base.specs.Firsts.{firsts}
+use Rattle.pk_base.specs.Merge.{next_merge}
 use Rattle.pk_base.proofs.ShapeLemmas.{block_pages_positive}
 use Rattle.pk_buf.specs.Table.{Table}
 use Rattle.pk_rootfmt.specs.Root.{Root, differ, is_root}
-use Rattle.pk_rootfmt.proofs.PageLemmas.{same_bytes}
-use Rattle.pk_compact.proofs.Grammar.{known}
-use Rattle.pk_steps.proofs.NewestBlocks.{valid_root}
-use Rattle.pk_scan.specs.Opened.{HaveBlocks}
 use Rattle.pk_plan.specs.declared.owner.Owner.{Owner}
 use Rattle.pk_plan.specs.declared.owner.Owner.TheVariants.{Journal, Meta, Values}
-use Rattle.pk_pin.specs.Frames.{Frames, leased_frames}
+use Rattle.pk_pin.specs.Frames.{leased_frames}
 use Rattle.pk_pool.specs.declared.state.BlockState.{BlockState}
 use Rattle.pk_pool.specs.declared.state.BlockState.TheVariants.{Root as RootBlock, Free, Ready, Owned}
 use Rattle.pk_nand.specs.Calls.{IsErasedBlock}
@@ -28,7 +23,6 @@ use Rattle.pk_pool.specs.Blocks.{Blocks, IsShared, is_ready, is_free, is_owned_b
 use Rattle.pk_pool.proofs.States.{ready_is_not_root}
 use Rattle.pk_pool.proofs.Sharing.{behind_roots}
 use Rattle.pk_run.specs.Kept.{Kept, empty}
-use Rattle.pk_level.specs.Levels.{RunsOnFlash}
 use Rattle.pk_jrn.proofs.Puts.{firsts-reverse}
 use Rattle.pk_model.specs.Found.{Found}
 use Rattle.pk_model.specs.Values.{all_pages}
@@ -40,7 +34,16 @@ use Rattle.pk_data.specs.declared.open_block.OpenBlock.{OpenBlock}
 use Rattle.pk_nand.specs.BoardState.{BoardState}
 use Rattle.pk_nand.specs.Effects.{OnlyFlash}
 use Rattle.pk_drive.specs.Steady.{Steadies, IsSteady, IsReadyBlock, HasReady, entries_of_runs, live_blocks, pages_of_runs}
-use Rattle.pk_core.specs.Parts.{Parts, sight_of, counts_of, block_if_open, frames_of}
+use Rattle.pk_work.specs.Backlog.{IsBacklog}
+use Rattle.pk_work.specs.Work.{work}
+use Rattle.pk_work.proofs.Within.{work_most}
+use Rattle.pk_schedule.specs.declared.phase.Phase.{Phase}
+use Rattle.pk_schedule.specs.declared.phase.Phase.TheVariants.{Idle, Running, Ready as ReadyToInstall}
+use Rattle.pk_schedule.specs.Index.{Index, MergeStands, merging}
+use Rattle.pk_schedule.specs.Steps.{backlog_of}
+use Rattle.pk_schedule.proofs.Backlogs.{index_backlog, four, entries_are}
+use Rattle.pk_drive.specs.Exec.{IsNextMerge}
+use Rattle.pk_core.specs.Parts.{Parts, sight_of, counts_of, block_if_open, frames_of, index_of}
 use Rattle.pk_core.specs.Agreeing.{DriveOnFlashWith, DriveOnFlash, DriveOnFlashBetween}
 use Rattle.pk_core.proofs.Leased.{leased_are}
 use Rattle.pk_core.proofs.Rooming.{entries_some}
@@ -73,37 +76,11 @@ open_is_owned : (shape : Shape) (pool : Blocks) (flash : Flash) (o : Option Open
 open_is_owned shape pool flash None b is e = cc
 open_is_owned shape pool flash (Some o) b is e = subst (HoldsValues pool) (some_block o.block b e) is.owned
 
--- ---- four runs
-
 is_true : (b : Bool) → T b → b ≡ true
 is_true true t = refl
 is_true false t = absurd t
 
-first_and_last : (a b c : Bool) → T (a && b && c) → T a × T c
-first_and_last true true true t = (tt, tt)
-first_and_last false b c t = absurd t
-first_and_last true false c t = absurd t
-first_and_last true true false t = absurd t
-
-four_runs : (shape : Shape) (root : Root) → T (is_root shape root) → length root.runs ≡ 4
-four_runs shape root valid =
-    let parts = first_and_last (length root.counts == 4) (list_all (λ p. nat_le p.0 (p.1 * page_entries shape)) (zip root.counts (caps shape))) (bytes_eq (map length root.runs) (map (run_blocks shape) root.counts)) (known shape root valid).runs in
-    let counts : length root.counts ≡ 4 = eqb→eq (length root.counts) 4 parts.0 in
-    let sizes : map length root.runs ≡ map (run_blocks shape) root.counts = same_bytes _ _ (is_true (bytes_eq (map length root.runs) (map (run_blocks shape) root.counts)) parts.1) in
-    sym (length-map root.runs length) ∙ (ap (λ (ns : List ℕ). length ns) sizes ∙ (length-map root.counts (run_blocks shape) ∙ counts))
-
-same_length : (shape : Shape) (rs : List Kept) (bss : List (List ℕ)) → HaveBlocks shape rs bss → length rs ≡ length bss
-same_length shape [] [] h = refl
-same_length shape [] (bs ∷ bss) h = absurd h
-same_length shape (r ∷ rs) [] h = absurd h
-same_length shape (r ∷ rs) (bs ∷ bss) h = ap suc (same_length shape rs bss h.2)
-
--- each run has as many entries as it counts
-sizes_are : (flash : Flash) (arena : Frames) (rs : List Kept) (ess : List (List Entry)) → RunsOnFlash flash arena rs ess → map (λ (r : Kept). r.count) rs ≡ map length ess
-sizes_are flash arena [] [] h = refl
-sizes_are flash arena [] (es ∷ ess) h = absurd h
-sizes_are flash arena (r ∷ rs) [] h = absurd h
-sizes_are flash arena (r ∷ rs) (es ∷ ess) h = λ i. sym h.0.many i ∷ sizes_are flash arena rs ess h.1 i
+-- ---- four runs
 
 counts_of_four : (rs : List Kept) (shape : Shape) → length rs ≡ 4
     → (slice_index_or rs 0 (empty shape 1)).count ∷ (slice_index_or rs 1 (empty shape 2)).count ∷ (slice_index_or rs 2 (empty shape 3)).count ∷ (slice_index_or rs 3 (empty shape 4)).count ∷ [] ≡ map (λ (r : Kept). r.count) rs
@@ -114,9 +91,13 @@ counts_of_four (a ∷ b ∷ c ∷ []) shape e = absurd (omega (arith, e))
 counts_of_four (a ∷ b ∷ c ∷ d ∷ []) shape e = refl
 counts_of_four (a ∷ b ∷ c ∷ d ∷ x ∷ rs) shape e = absurd (omega (arith, e))
 
-counts_are : (flash : Flash) (arena : Frames) (rs : List Kept) (ess : List (List Entry)) (shape : Shape) → length rs ≡ 4 → RunsOnFlash flash arena rs ess
-    → (slice_index_or rs 0 (empty shape 1)).count ∷ (slice_index_or rs 1 (empty shape 2)).count ∷ (slice_index_or rs 2 (empty shape 3)).count ∷ (slice_index_or rs 3 (empty shape 4)).count ∷ [] ≡ map length ess
-counts_are flash arena rs ess shape four stand = counts_of_four rs shape four ∙ sizes_are flash arena rs ess stand
+-- ---- the merge
+
+-- the merge that runs is the next one
+merge_due : (phase : Phase) (x : Index) (flash : Flash) (root : Root) (found : Found) → MergeStands phase x flash root found → merging phase ≢ 0 → next_merge x.log.shape (length (firsts found.older)) (map length found.runs) ≡ Some (merging phase)
+merge_due Idle x flash root found m some = absurd (some refl)
+merge_due (Running level) x flash root found m some = m.into.due
+merge_due (ReadyToInstall level) x flash root found m some = m.into.due
 
 module _ (d : Parts) (shape : Shape) (flash : Flash) (top : ℕ × Root) (found : Found) (without all : Map) (a : DriveOnFlashWith d shape flash top found without all) (shared : IsShared d.pool.shape d.pool.states) where
   ready_block : (b : ℕ) → slice_get d.pool.states b ≡ Some Ready → IsReadyBlock shape flash top.1 (block_if_open d.space.open_block) b
@@ -165,27 +146,33 @@ module _ (d : Parts) (shape : Shape) (flash : Flash) (top : ℕ × Root) (found 
   frozen_is : length d.log.frozen.entries ≡ length (firsts found.older)
   frozen_is = ap (λ (t : Table). length t.entries) a.index.logs.frozen_is ∙ firsts-reverse found.older
 
-  work_is : count_by is_free d.pool.states ≤ most_work shape
+  -- ---- work and runs
+
+  within : IsBacklog d.log.shape (backlog_of (index_of d))
+  within = index_backlog (index_of d) (frames_of d) flash top found a.index (a.placed.size ∙ ap (λ s. s.blocks) (sym a.shape_is))
+
+  work_is : work d.log.shape (backlog_of (index_of d)) ≤ most_work shape
   unfolding most_work
   work_is =
-      let few = count_by-le-length is_free d.pool.states in
-      let size = a.placed.size in
-      omega (arith, few, size)
+      let most = work_most d.log.shape (backlog_of (index_of d)) a.index.logs.is_shape within in
+      let least : work d.log.shape (backlog_of (index_of d)) ≤ most_work d.log.shape = omega (arith, most) in
+      subst (λ s. work d.log.shape (backlog_of (index_of d)) ≤ most_work s) a.shape_is least
 
-  -- ---- runs
-
-  four : length d.levels.runs ≡ 4
-  four =
-      let valid = valid_root shape (page_at flash) top a.committed.is_top in
-      same_length shape d.levels.runs top.1.runs a.index.run_blocks ∙ four_runs shape top.1 valid
+  four_are : entries_of_runs (counts_of d) ≡ map (λ (r : Kept). r.count) d.levels.runs
+  four_are = counts_of_four d.levels.runs d.levels.shape (four (index_of d) (frames_of d) flash top found a.index)
 
   runs_are : entries_of_runs (counts_of d) ≡ map length found.runs
-  runs_are = counts_are flash d.arena d.levels.runs found.runs d.levels.shape four a.index.stand
+  runs_are = four_are ∙ entries_are (index_of d) (frames_of d) flash top found a.index
 
-  leased_is : leased_frames d.arena ≡ pages_of_runs shape (pinned shape (frames_of d)) (entries_of_runs (counts_of d))
-  leased_is =
-      leased_are d shape flash top found without all a
-      ∙ ap (λ (ns : List ℕ). pages_of_runs shape (pinned shape (frames_of d)) ns) (sym (counts_of_four d.levels.runs d.levels.shape four))
+  next_is : IsNextMerge shape (counts_of d)
+  next_is some =
+      let due = merge_due d.schedule.phase (index_of d) flash top.1 found a.index.merge some in
+      (λ i. next_merge (sym a.shape_is i) (frozen_is i) (runs_are i)) ∙ due
+
+  leased_is : merging d.schedule.phase ≡ 0 → leased_frames d.arena ≡ pages_of_runs shape (pinned shape (frames_of d)) (entries_of_runs (counts_of d))
+  leased_is idle =
+      leased_are d shape flash top found without all a idle
+      ∙ ap (λ (ns : List ℕ). pages_of_runs shape (pinned shape (frames_of d)) ns) (sym four_are)
 
   -- ---- all of it
 
@@ -196,8 +183,8 @@ module _ (d : Parts) (shape : Shape) (flash : Flash) (top : ℕ × Root) (found 
     active = active_is;
     frozen = frozen_is;
     runs = runs_are;
-    merge = λ some. absurd (some refl);
-    leased = λ _. leased_is;
+    merge = next_is;
+    leased = leased_is;
     ready = has_ready;
     blocks_least = live_within;
     blocks_most = (let few = a.placed.few in omega (arith, few));

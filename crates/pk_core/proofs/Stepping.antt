@@ -1,20 +1,17 @@
 -- Background steps in a row.
 use Rattle.std.proofs.Common.{◌≡◌, ◌≢◌, ◌⊎◌, inl, inr, ℕ, ◌+◌, ◌-◌, ◌<◌, ◌≤◌, refl, sym, ap, subst, ◌∙◌, arith, Bool, true, false, List, [], ◌++◌, Option, Some, None, Ok}
 use Rattle.pk_base.specs.Shape.{Shape, limit}
-use Rattle.pk_base.specs.Page.{Flash}
+use Rattle.std.proofs.lemmas.Bool.{leb-false}
+use Rattle.pk_base.specs.Page.{Flash, page_at}
 use Rattle.pk_base.specs.Map.{Map}
 use Rattle.pk_base.specs.Mark.{all_posted}
 use Rattle.pk_nvme.specs.Command.{Command}
 use Rattle.pk_nvme.specs.Reply.{Reply, refusal}
 use Rattle.pk_nvme.specs.Seen.{command_of}
 use Rattle.pk_nvme.specs.declared.request.Request.{Request}
-use Rattle.pk_nand.specs.BoardState.{BoardState}
+use Rattle.pk_nand.specs.BoardState.{BoardState, shape_or_none}
 use Rattle.pk_nand.specs.Calls.{Rose, last_count}
 use Rattle.pk_nand.proofs.Reaching.{Reached-start}
-use Rattle.pk_pool.specs.declared.state.BlockState.TheVariants.{Free, Ready}
-use Rattle.pk_pool.specs.Blocks.{Blocks, IsNowhere, is_ready}
-use Rattle.pk_pool.specs.Taking.{ErasesOne, ErasesNone}
-use Rattle.pk_pool.proofs.Sharing.{count-set}
 use Rattle.pk_nvme.specs.Opcode.{op_of}
 use Rattle.pk_nvme.specs.declared.opcode.Opcode.{Opcode}
 use Rattle.pk_nvme.specs.declared.opcode.Opcode.TheVariants.{Retrieve, Tick}
@@ -23,7 +20,9 @@ use Rattle.pk_model.specs.Reading.{reading}
 use Rattle.pk_model.specs.Run.{Step}
 use Rattle.pk_model.specs.Sight.{Sight}
 use Rattle.pk_model.proofs.Answering.{serves}
-use Rattle.pk_model.specs.Wear.{roots}
+use Rattle.pk_rootfmt.specs.Root.{Root}
+use Rattle.pk_rootfmt.specs.Newest.{newest_root}
+use Rattle.pk_model.specs.Wear.{number_of, root_number, roots, is_worn}
 use Rattle.pk_drive.specs.Drive.{HoldsMap}
 use Rattle.pk_nand.specs.Effects.{OnlyFlash, NoFault, AtMostOneCall}
 use Rattle.pk_model.specs.Crashes.{CrashFinds, background, command}
@@ -38,10 +37,10 @@ use Rattle.pk_core.specs.Agreeing.{DriveOnFlash}
 use Rattle.pk_core.specs.Done.{Does}
 use Rattle.pk_core.specs.Quiet.{eleven}
 use Rattle.pk_core.specs.Staying.{Stays}
-use Rattle.pk_core.specs.Ticking.{Ticks}
-use Rattle.pk_core.specs.Stepping.{has_failed, Steps, outcome_of, erased_in, Erases}
+use Rattle.pk_core.specs.Ticking.{MayTick, Ticks, HasNoStep, Advances}
+use Rattle.pk_core.specs.Stepping.{has_failed, Steps, outcome_of}
 use Rattle.pk_core.proofs.Unchanging.{for_its_map, same_early, unread_step}
-use Rattle.pk_core.proofs.Staying.{stays_then}
+use Rattle.pk_core.proofs.Staying.{stays_same, stays_then}
 use Rattle.pk_core.proofs.Callings.{few_none, few_more, few_within}
 use Rattle.pk_core.proofs.Ticking.{yes_no}
 
@@ -51,7 +50,9 @@ pub record Ongoing (first : Parts) (old : BoardState) (d : Parts) (board : Board
   pub unstopped : d.stopped ≡ false
   pub none : d.log.pending ≡ []
   pub steps : Steps old board (sight_of first) (sight_of d) Worked made
-  pub erased : erased_in d.pool ≡ erased_in first.pool + made
+  pub less : (sight_of d).work + made ≤ (sight_of first).work
+  pub number : d.log.root.number ≤ first.log.root.number + made
+  pub counted : board.read_faults ≤ last_count
   pub stays : Stays first d
 
 -- ---- no step
@@ -247,71 +248,48 @@ module _ (old new : BoardState) (d d' : Parts) (r : Request) (v : List ℕ) (a :
 
 -- ---- the loop
 
--- a step that did not fail is as good as one that worked
-as_worked : (old new : BoardState) (s t : Sight) (answer : Ticked) (n : ℕ) → has_failed answer ≡ false → Steps old new s t answer n → Steps old new s t Worked n
-as_worked old new s t Worked n e w = w
-as_worked old new s t Idle n e w = record {
-  stands = w.stands;
-  cuts = w.cuts;
-  cuts_stopped = w.cuts_stopped;
-  rest = w.rest;
-  calls = w.calls;
-  few = w.few;
-  more_reads = w.more_reads;
-  within = w.within;
-  up = w.up;
-  flash_up = w.flash_up;
-  unread = λ f. absurd (worked_fault false f);
-  sound = w.sound;
-  stop = w.stop;
-  no_stop = w.no_stop;
-  installs = w.installs;
+-- before the first step
+pub ongoing_none : (d : Parts) (board : BoardState) → MayTick d board → board.reads ≤ last_count → Ongoing d board d board 0
+ongoing_none d board may few = record {
+  agrees = may.agrees;
+  unstopped = may.unstopped;
+  none = may.none;
+  steps = steps_none board (sight_of d) few may.none;
+  less = omega arith;
+  number = omega arith;
+  counted = may.counted;
+  stays = stays_same d d refl;
 }
-as_worked old new s t (Fault stopped) n e w = absurd (yes_no true e refl)
 
-runs_on : (answer : Ticked) → has_failed answer ≡ false → stopped_by answer ≡ false
-runs_on Worked e = refl
-runs_on Idle e = refl
-runs_on (Fault stopped) e = absurd (yes_no true e refl)
+module _ (first : Parts) (old : BoardState) (d : Parts) (board : BoardState) (made : ℕ) (o : Ongoing first old d board made) where
+  -- a further step may be made
+  pub ongoing_may : (most : ℕ) → made < most → first.log.root.number + most ≤ 18446744073709551615 → MayTick d board
+  ongoing_may most more numbers = record { agrees = o.agrees; unstopped = o.unstopped; none = o.none; number = (let e = o.number in omega (arith, e, more, numbers)); counted = o.counted }
 
--- what a step makes of the count of erased blocks
-one_more : (p q : Blocks) (old new : BoardState) → ErasesOne p old q new → erased_in q ≡ erased_in p + 1
-one_more p q old new one =
-    let all = count-set is_ready p.states one.block Free Ready one.lowest.here in
-    ap (λ x. erased_in x) one.marked ∙ omega (arith, all)
+  module _ (e : Parts) (next : BoardState) (answer : Ticked) (step : Advances d e board next answer) where
+    -- it ends behind any step
+    pub ongoing_last : (most : ℕ) → made < most → Steps old next (sight_of first) (sight_of e) answer most
+    ongoing_last most less = steps_within old next (sight_of first) (sight_of e) answer (made + 1) most (omega (arith, less)) (steps_more old board (sight_of first) (sight_of d) made o.steps next (sight_of e) answer step.ticks)
 
-module _ (first : Parts) (old : BoardState) (d e : Parts) (board next : BoardState) (made : ℕ) (answer : Ticked) (o : Ongoing first old d board made) (ticks : Ticks board next (sight_of d) (sight_of e) answer)
-    (erases : stopped_by answer ≡ false → ErasesOne d.pool board e.pool next ⊎ ErasesNone d.pool board e.pool next) where
-  behind : Steps old next (sight_of first) (sight_of e) answer (made + 1)
-  behind = steps_more old board (sight_of first) (sight_of d) made o.steps next (sight_of e) answer ticks
+    pub ongoing_stays : stopped_by answer ≡ false → Stays first e
+    ongoing_stays runs = stays_then first d e o.stays (step.moves runs)
 
-  -- it goes on behind a step that erased a block
-  pub ongoing_more : has_failed answer ≡ false → erased_in d.pool ≢ erased_in e.pool → e.stopped ≡ stopped_by answer → e.log.pending ≡ [] → (stopped_by answer ≡ false → DriveOnFlash e next.shape next.pages) → (stopped_by answer ≡ false → Stays d e) → Ongoing first old e next (made + 1)
-  ongoing_more fine other stops none agrees stays =
-      let runs = runs_on answer fine in
-      let before = o.erased in
-      record {
-        agrees = agrees runs;
-        unstopped = stops ∙ runs;
-        none = none;
-        steps = as_worked old next (sight_of first) (sight_of e) answer (made + 1) fine behind;
-        erased = elim (erases runs) [
-          | inl one ↦ (let more = one_more d.pool e.pool board next one in omega (arith, before, more))
-          | inr nothing ↦ absurd (other (ap (λ x. erased_in x) (sym nothing.kept)))
-        ];
-        stays = stays_then first d e o.stays (stays runs);
-      }
+  -- it goes on behind a step that worked
+  pub ongoing_more : (e : Parts) (next : BoardState) → Advances d e board next Worked → Ongoing first old e next (made + 1)
+  ongoing_more e next step = record {
+    agrees = step.agrees refl;
+    unstopped = step.stops;
+    none = step.none;
+    steps = steps_more old board (sight_of first) (sight_of d) made o.steps next (sight_of e) Worked step.ticks;
+    less = (let was = o.less in let now = step.lowers refl in omega (arith, was, now));
+    number = (let was = o.number in let now = step.number refl in omega (arith, was, now));
+    counted = (let was = o.counted in let same = (step.ticks.worked refl).1 in omega (arith, was, same));
+    stays = stays_then first d e o.stays (step.moves refl);
+  }
 
-  -- it ends behind any step
-  pub ongoing_last : (most : ℕ) → made < most → Steps old next (sight_of first) (sight_of e) answer most
-  ongoing_last most less = steps_within old next (sight_of first) (sight_of e) answer (made + 1) most (omega (arith, less)) behind
-
-  -- behind one that erased no block, every free block is erased
-  pub ongoing_done : (most : ℕ) → has_failed answer ≡ false → erased_in d.pool ≡ erased_in e.pool → Erases first.pool e.pool most
-  ongoing_done most fine same = elim (erases (runs_on answer fine)) [
-    | inl one ↦ (let more = one_more d.pool e.pool board next one in absurd (omega (arith, same, more)))
-    | inr nothing ↦ inr (subst (λ x. IsNowhere Free x.states) (sym nothing.kept) nothing.none_free)
-  ]
+  -- where no step is left, nothing is left but a reclaim
+  pub ongoing_done : (e : Parts) (next : BoardState) → Advances d e board next Idle → HasNoStep e
+  ongoing_done e next step = let idle = step.idle refl in subst HasNoStep (sym idle.1) idle.0
 
 pub stopped_is : (o : Outcome) (answer : Ticked) (reads : ℕ) → o ≡ outcome_of answer reads → o.stopped ≡ stopped_by answer
 stopped_is o Worked reads told = ap (λ x. x.stopped) told
@@ -325,3 +303,21 @@ pub not_failed : (o : Outcome) (answer : Ticked) (reads : ℕ) → o ≡ outcome
 not_failed o Worked reads told e = refl
 not_failed o Idle reads told e = refl
 not_failed o (Fault stopped) reads told e = absurd (other_status (sym (ap (λ x. x.status) told) ∙ e))
+
+-- ---- the numbers of roots
+
+-- the numbers of roots are not used up on a board that is not worn
+pub number_low : (d : Parts) (board : BoardState) → DriveOnFlash d board.shape board.pages → is_worn board ≡ false → d.log.root.number < 9223372036854775808
+unfolding root_number
+number_low d board a unworn =
+    let least = leb-false 9223372036854775808 (roots board) unworn in
+    let told : newest_root (shape_or_none board.shape) (page_at board.pages) ≡ Some a.top = subst (λ o. newest_root (shape_or_none o) (page_at board.pages) ≡ Some a.top) (sym a.told_is) a.with.committed.is_top in
+    let newest : roots board ≡ a.top.1.number = ap number_of told in
+    let kept = ap (λ (r : Root). r.number) a.with.index.logs.root_is in
+    omega (arith, least, newest, kept)
+
+pub tick_may : (d : Parts) (board : BoardState) → DriveOnFlash d board.shape board.pages → d.stopped ≡ false → d.log.pending ≡ [] → is_worn board ≡ false → board.read_faults ≤ last_count → MayTick d board
+tick_may d board agrees runs none unworn counted = record { agrees = agrees; unstopped = runs; none = none; number = (let low = number_low d board agrees unworn in omega (arith, low)); counted = counted }
+
+pub tick_numbers : (d : Parts) (board : BoardState) (steps : ℕ) → DriveOnFlash d board.shape board.pages → is_worn board ≡ false → steps < 4294967296 → d.log.root.number + steps ≤ 18446744073709551615
+tick_numbers d board steps agrees unworn few = let low = number_low d board agrees unworn in omega (arith, low, few)

@@ -1,6 +1,6 @@
 -- Steps inside a command: in a row, and what one that was broken off leaves.
 use Rattle.std.proofs.Common.{◌≡◌, ℕ, ◌+◌, ◌<◌, ◌≤◌, refl, sym, ap, subst, ◌∙◌, arith, false, List, length, Option, Result, Ok, Err}
-use Rattle.std.specs.Prelude.{OnOk}
+use Rattle.std.specs.Prelude.{IfErr, OnOk}
 use Rattle.pk_base.specs.Entry.{Place}
 use Rattle.pk_base.specs.Shape.{Shape, greatest, page_entries}
 use Rattle.pk_base.specs.Key.{Key}
@@ -15,11 +15,13 @@ use Rattle.pk_model.specs.Steps.{RootsUpTo, Step}
 use Rattle.pk_model.proofs.Steps.{Step-none, Step-broken, Step-then}
 use Rattle.pk_core.specs.Parts.{Parts, frames_of}
 use Rattle.pk_core.specs.Moves.{KeepsAll, BreaksAll, MayStep, StepKeeps, OnlyCommits, LeavesValues}
-use Rattle.pk_core.specs.Changes.{PutsAll, FailsToPut, TakesAll, FailsToTake, CanPut, CanTake, StepPuts, StepTakes, StaysBetween}
+use Rattle.pk_core.specs.Emptying.{StepOrRead, KeepsOrReads, OnRunning}
+use Rattle.pk_core.specs.Changes.{PutsAll, FailsToPut, TakesAll, FailsToTake, CanPut, CanTake, StepPuts, StepTakes, PutsOrReads, TakesOrReads, StaysBetween}
 use Rattle.pk_core.proofs.Results.{on_ok}
 use Rattle.pk_core.proofs.Keeping.{KeepsAll-none, KeepsAll-then, BreaksAll-then}
 use Rattle.pk_core.proofs.Rooming.{stands_after}
-use Rattle.pk_core.proofs.Putting.{some_may_put, some_may_take, reclaim_same, puts_later, fails_later, takes_later, fails_to_take_later}
+use Rattle.pk_core.proofs.Putting.{some_may_put, some_may_take, reclaim_same, put_broken, take_broken, puts_later, fails_later, takes_later, fails_to_take_later}
+use Rattle.pk_core.proofs.ReadSteps.{Passes, reading_passes, reads_nothing, reading_failed, reading_then, running_ok}
 
 -- ---- steps that keep the map
 
@@ -28,20 +30,21 @@ none_step d most board u ready =
     Step-none u (λ (x : Unit). KeepsAll d d board board) (BreaksAll d board board) d.log.shape most board board refl ready (KeepsAll-none d d board board refl refl)
 
 pub leaves_none : (d : Parts) → LeavesValues d d
-leaves_none d = record { rest = refl; same_shape = refl; as_many = refl }
+leaves_none d = record { rest = refl; frames = refl; same_shape = refl; as_many = refl }
 
 pub shape_committed : (a b : Parts) → OnlyCommits a b → b.log.shape ≡ a.log.shape
 shape_committed a b rest = ap (λ (d : Parts). d.log.shape) rest
 
-leaves_committed : (a b c : Parts) → OnlyCommits a b → LeavesValues b c → LeavesValues a c
-leaves_committed a b c first second = record {
-  rest = second.rest ∙ ap (λ (d : Parts). record d { log = c.log; pool = c.pool }) first;
-  same_shape = second.same_shape ∙ shape_committed a b first;
-  as_many = second.as_many ∙ ap (λ (d : Parts). used_by Values d.pool.states) first;
+pub leaves_twice : (a b c : Parts) → LeavesValues a b → LeavesValues b c → LeavesValues a c
+leaves_twice a b c first second = record {
+  rest = second.rest ∙ ap (λ (d : Parts). record d { log = c.log; levels = c.levels; arena = c.arena; schedule = c.schedule; pool = c.pool }) first.rest;
+  frames = second.frames ∙ first.frames;
+  same_shape = second.same_shape ∙ first.same_shape;
+  as_many = second.as_many ∙ first.as_many;
 }
 
-pub leaves_then : (r : Result Unit Fault) (a b c : Parts) → OnlyCommits a b → OnOk r (LeavesValues b c) → OnOk r (LeavesValues a c)
-leaves_then r a b c first second = on_ok (λ (u : Unit). LeavesValues b c) (LeavesValues a c) r (λ u is. leaves_committed a b c first is) second
+pub leaves_committed : (a b : Parts) → OnlyCommits a b → LeavesValues a b
+leaves_committed a b rest = let T : Parts → Type 0 = λ d. LeavesValues a d in subst T (sym rest) (record { rest = refl; frames = refl; same_shape = refl; as_many = refl })
 
 -- what the next step asks
 pub may_after : (a b : Parts) (n : ℕ) (s0 s1 : BoardState) (u : Unit {0}) → MayStep a s0 → b.log.shape ≡ a.log.shape → StepKeeps a b n s0 s1 (Ok u) → MayStep b s1
@@ -62,22 +65,19 @@ keeps_later r a b c n k most s0 s1 s2 u ready same few first second =
     later r (λ (x : Unit). KeepsAll b c s1 s2) (λ (x : Unit). KeepsAll a c s0 s2) (BreaksAll b s1 s2) (BreaksAll a s0 s2) a.log.shape b.log.shape n k most s0 s1 s2 same few first.works first.roots_few
     (λ x kept. KeepsAll-then a b c s0 s1 s2 ready first.ended kept) (λ broken. BreaksAll-then a b s0 s1 s2 ready first.ended broken) second
 
-pub keeps_broken : (e : Fault) (a b c : Parts) (n most : ℕ) (old new : BoardState) → n ≤ most → StepKeeps {T = Unit} a b n old new (Err e) → StepKeeps {T = Unit} a c most old new (Err e)
-keeps_broken e a b c n most old new few step =
-    Step-broken e (λ (x : Unit). KeepsAll a b old new) (λ (x : Unit). KeepsAll a c old new) (BreaksAll a old new) (BreaksAll a old new) a.log.shape n most old new few (λ broken. broken) step
-
 -- ---- what a drive runs by
 
-stays_by : (a b c : Parts) → LeavesValues a b → StaysBetween b c → StaysBetween a c
+pub stays_by : (a b c : Parts) → LeavesValues a b → StaysBetween b c → StaysBetween a c
 stays_by a b c first second = record {
-  frames = second.frames ∙ ap (λ (d : Parts). frames_of d) first.rest;
+  frames = second.frames ∙ first.frames;
   stopped = second.stopped ∙ ap (λ (d : Parts). d.stopped) first.rest;
   same_shape = second.same_shape ∙ first.same_shape;
   few = subst (λ (s : Shape). length c.log.pending < page_entries s) first.same_shape second.few;
 }
 
-pub stays_then : (r : Result Unit Fault) (a b c : Parts) → LeavesValues a b → OnOk r (StaysBetween b c) → OnOk r (StaysBetween a c)
-stays_then r a b c first second = on_ok (λ (u : Unit). StaysBetween b c) (StaysBetween a c) r (λ u is. stays_by a b c first is) second
+-- behind a step that keeps the map, one that reads nothing
+pub stays_then : (r : Result Unit Fault) (a b c : Parts) → LeavesValues a b → IfErr r (λ e. e ≡ Stopped) → OnOk r (StaysBetween b c) → OnRunning (StaysBetween a c) r
+stays_then r a b c first stopped second = running_ok (StaysBetween b c) (StaysBetween a c) r (stays_by a b c first) stopped second
 
 -- behind a change in memory, and a commit
 pub stays_committed : (r : Result Unit Fault) (a c e : Parts) → frames_of c ≡ frames_of a → c.stopped ≡ a.stopped → c.log.shape ≡ a.log.shape
@@ -97,13 +97,28 @@ few_after a b same less few =
     let here : length a.log.pending < page_entries b.log.shape = subst (λ (s : Shape). length a.log.pending < page_entries s) (sym same) few in
     omega (arith, less, here)
 
-module _ (a b : Parts) (n : ℕ) (s0 s1 : BoardState) (u : Unit {0}) (leaves : LeavesValues a b) (less : length b.log.pending ≤ length a.log.pending) (step : StepKeeps a b n s0 s1 (Ok u)) where
+-- what a drive keeps to, where a read failed before the change
+pub stays_kept : (a b : Parts) → LeavesValues a b → length b.log.pending ≤ length a.log.pending → length a.log.pending < page_entries a.log.shape → StaysBetween a b
+stays_kept a b leaves less few = record {
+  frames = leaves.frames;
+  stopped = ap (λ (d : Parts). d.stopped) leaves.rest;
+  same_shape = leaves.same_shape;
+  few = omega (arith, less, few);
+}
+
+module _ (a b : Parts) (n : ℕ) (s0 s1 : BoardState) (u : Unit {0}) (leaves : LeavesValues a b) (less : length b.log.pending ≤ length a.log.pending) (step : KeepsOrReads a b n s0 s1 (Ok u)) where
+  keeps : KeepsAll a b s0 s1
+  keeps = step.came.0
+
+  made : Passes n s0 s1
+  made = reading_passes u (λ (x : Unit). KeepsAll a b s0 s1) (KeepsAll a b s0 s1) (BreaksAll a s0 s1) a.log.shape n s0 s1 step
+
   pub can_put_after : (key : Key) (value : List ℕ) (place : Option Place) → CanPut a s0 key value place → CanPut b s1 key value place
   can_put_after key value place can =
       let same = leaves.same_shape in
       record {
         ready = subst (λ (s : Shape). IsReady s1 s) (sym same) step.ready;
-        may = some_may_put a b s0 s1 key value place can.may step.ended same;
+        may = some_may_put a b s0 s1 key value place can.may keeps same;
         short = subst (λ (s : Shape). length value ≤ greatest s) (sym same) can.short;
         no_reclaim = reclaim_same a b (length value) false same (ap (λ (d : Parts). d.space) leaves.rest) leaves.as_many can.no_reclaim;
         few = few_after a b same less can.few;
@@ -114,19 +129,36 @@ module _ (a b : Parts) (n : ℕ) (s0 s1 : BoardState) (u : Unit {0}) (leaves : L
       let same = leaves.same_shape in
       record {
         ready = subst (λ (s : Shape). IsReady s1 s) (sym same) step.ready;
-        may = some_may_take a b s0 s1 key place can.may step.ended same;
+        may = some_may_take a b s0 s1 key place can.may keeps same;
         few = few_after a b same less can.few;
       }
 
-  module _ (r : Result Unit Fault) (e : Parts) (k most : ℕ) (s2 : BoardState) (ready : IsReady s0 a.log.shape) (few : n + k ≤ most) where
-    pub step_puts_later : (key : Key) (value : List ℕ) (place : Option Place) → StepPuts b e k s1 s2 key value place r → StepPuts a e most s0 s2 key value place r
+  module _ (r : Result Unit Fault) (e : Parts) (s2 : BoardState) (ready : IsReady s0 a.log.shape) where
+    pub step_puts_later : (key : Key) (value : List ℕ) (place : Option Place) → StepPuts b e 0 s1 s2 key value place r → PutsOrReads a e n s0 s2 key value place r
     step_puts_later key value place second =
-        later r (λ (x : Unit). PutsAll b e s1 s2 key value place) (λ (x : Unit). PutsAll a e s0 s2 key value place) (FailsToPut b s1 s2 key value place) (FailsToPut a s0 s2 key value place)
-        a.log.shape b.log.shape n k most s0 s1 s2 leaves.same_shape few step.works step.roots_few
-        (λ x puts. puts_later (Ok x) a b e s0 s1 s2 key value place ready step.ended puts) (λ fails. fails_later (Err Stopped) a b s0 s1 s2 key value place ready step.ended fails) second
+        reading_then r (λ (x : Unit). PutsAll b e s1 s2 key value place) (λ (x : Unit). PutsAll a e s0 s2 key value place) ⊥ (KeepsAll a e s0 s2) (FailsToPut b s1 s2 key value place) (FailsToPut a s0 s2 key value place)
+        a.log.shape n 0 n s0 s1 s2 (omega arith) made
+        (λ x puts. puts_later (Ok x) a b e s0 s1 s2 key value place ready keeps puts) (λ none. absurd none) (λ fails. fails_later (Err Stopped) a b s0 s1 s2 key value place ready keeps fails)
+        (subst (λ (s : Shape). StepOrRead (λ (x : Unit). PutsAll b e s1 s2 key value place) ⊥ (FailsToPut b s1 s2 key value place) s 0 s1 s2 r) leaves.same_shape
+        (reads_nothing r (λ (x : Unit). PutsAll b e s1 s2 key value place) ⊥ (FailsToPut b s1 s2 key value place) b.log.shape 0 s1 s2 second))
 
-    pub step_takes_later : (key : Key) (place : Place) → StepTakes b e k s1 s2 key place r → StepTakes a e most s0 s2 key place r
+    pub step_takes_later : (key : Key) (place : Place) → StepTakes b e 0 s1 s2 key place r → TakesOrReads a e n s0 s2 key place r
     step_takes_later key place second =
-        later r (λ (x : Unit). TakesAll b e s1 s2 key place) (λ (x : Unit). TakesAll a e s0 s2 key place) (FailsToTake b s1 s2 key place) (FailsToTake a s0 s2 key place)
-        a.log.shape b.log.shape n k most s0 s1 s2 leaves.same_shape few step.works step.roots_few
-        (λ x takes. takes_later (Ok x) a b e s0 s1 s2 key place ready step.ended takes) (λ fails. fails_to_take_later (Err Stopped) a b s0 s1 s2 key place ready step.ended fails) second
+        reading_then r (λ (x : Unit). TakesAll b e s1 s2 key place) (λ (x : Unit). TakesAll a e s0 s2 key place) ⊥ (KeepsAll a e s0 s2) (FailsToTake b s1 s2 key place) (FailsToTake a s0 s2 key place)
+        a.log.shape n 0 n s0 s1 s2 (omega arith) made
+        (λ x takes. takes_later (Ok x) a b e s0 s1 s2 key place ready keeps takes) (λ none. absurd none) (λ fails. fails_to_take_later (Err Stopped) a b s0 s1 s2 key place ready keeps fails)
+        (subst (λ (s : Shape). StepOrRead (λ (x : Unit). TakesAll b e s1 s2 key place) ⊥ (FailsToTake b s1 s2 key place) s 0 s1 s2 r) leaves.same_shape
+        (reads_nothing r (λ (x : Unit). TakesAll b e s1 s2 key place) ⊥ (FailsToTake b s1 s2 key place) b.log.shape 0 s1 s2 second))
+
+-- ---- room could not be made
+
+module _ (e : Fault) (a b : Parts) (n : ℕ) (s0 s1 : BoardState) (ready : IsReady s0 a.log.shape) (step : KeepsOrReads {T = Unit {0}} a b n s0 s1 (Err e)) where
+  pub put_failed_before : (key : Key) (value : List ℕ) (place : Option Place) → PutsOrReads a b n s0 s1 key value place (Err e)
+  put_failed_before key value place =
+      reading_failed e (λ (x : Unit). KeepsAll a b s0 s1) (λ (x : Unit). PutsAll a b s0 s1 key value place) (KeepsAll a b s0 s1) (KeepsAll a b s0 s1) (BreaksAll a s0 s1) (FailsToPut a s0 s1 key value place)
+      a.log.shape n n s0 s1 (omega arith) (λ kept. kept) (put_broken a s0 s1 key value place ready) step
+
+  pub take_failed_before : (key : Key) (place : Place) → TakesOrReads a b n s0 s1 key place (Err e)
+  take_failed_before key place =
+      reading_failed e (λ (x : Unit). KeepsAll a b s0 s1) (λ (x : Unit). TakesAll a b s0 s1 key place) (KeepsAll a b s0 s1) (KeepsAll a b s0 s1) (BreaksAll a s0 s1) (FailsToTake a s0 s1 key place)
+      a.log.shape n n s0 s1 (omega arith) (λ kept. kept) (take_broken a s0 s1 key place ready) step

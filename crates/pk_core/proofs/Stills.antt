@@ -21,15 +21,15 @@ use Rattle.pk_model.proofs.Running.{Reaches-none, Reaches-erase, Goes-erase, Rea
 use Rattle.pk_nand.proofs.Effects.{works_none, works_program, works_then, stops_program, stops_then}
 use Rattle.pk_core.proofs.Unread.{IsReadBy, SameRead, same_top}
 
+-- the page is read, or kept
+abbrev pub IsStill : Shape → Root → Found → List Entry → (ℕ → Type 0) → ℕ → Type 0
+IsStill shape root found pending kept k = IsReadBy shape root found pending k ⊎ kept k
+
 -- kept: which other pages are kept
 module _ (shape : Shape) (root : Root) (found : Found) (pending : List Entry) (kept : ℕ → Type 0) (start : Flash) where
-  -- the page is read, or kept
-  abbrev pub IsStill : ℕ → Type 0
-  IsStill k = IsReadBy shape root found pending k ⊎ kept k
-
   -- no such page differs
   abbrev pub SameStill : Flash → Type 0
-  SameStill flash = (k : ℕ) → IsStill k → page_at flash k ≡ page_at start k
+  SameStill flash = (k : ℕ) → IsStill shape root found pending kept k → page_at flash k ≡ page_at start k
 
   -- nothing was given out, and no such page differs
   abbrev pub StillCut : Flash → List ℕ → Type 0
@@ -65,7 +65,7 @@ module _ (shape : Shape) (root : Root) (found : Found) (pending : List Entry) (k
     still_none new same = Reaches-none shape old StillCut has new same (refl, so_far)
 
     -- an erase of a block of which no page is read
-    module _ (block : ℕ) (unread : (k : ℕ) → k / shape.block_pages ≡ block → IsStill k → ⊥) where
+    module _ (block : ℕ) (unread : (k : ℕ) → k / shape.block_pages ≡ block → IsStill shape root found pending kept k → ⊥) where
       within_erase : (f : Flash) → Interrupted shape (erase block) old.pages f [] → StillCut f []
       within_erase f cut = (refl, λ k is. untouched shape (erase block) k _ _ (λ here. unread k here is) (cut.pages k) ∙ so_far k is)
 
@@ -79,9 +79,9 @@ module _ (shape : Shape) (root : Root) (found : Found) (pending : List Entry) (k
       still_erase_failed new failed = Goes-erase shape old StillCut has block within_erase grows_erase new failed
 
     -- a program of a page that is not read
-    module _ (page : ℕ) (bytes : List ℕ) (unread : IsStill page → ⊥) where
+    module _ (page : ℕ) (bytes : List ℕ) (unread : IsStill shape root found pending kept page → ⊥) where
       within_program : (f : Flash) → Interrupted shape (program page bytes) old.pages f [] → StillCut f []
-      within_program f cut = (refl, λ k is. untouched shape (program page bytes) k _ _ (λ here. unread (subst (λ (j : ℕ). IsStill j) here is)) (cut.pages k) ∙ so_far k is)
+      within_program f cut = (refl, λ k is. untouched shape (program page bytes) k _ _ (λ here. unread (subst (λ (j : ℕ). IsStill shape root found pending kept j) here is)) (cut.pages k) ∙ so_far k is)
 
       grows_program : Grows shape old.pages (after shape (program page bytes) old.pages)
       grows_program = grows_still old.pages (after shape (program page bytes) old.pages) so_far (within_program (after shape (program page bytes) old.pages) (interrupted_done shape (program page bytes) old.pages)).1
@@ -93,7 +93,7 @@ module _ (shape : Shape) (root : Root) (found : Found) (pending : List Entry) (k
       still_program_failed new failed = Goes-program shape old StillCut has page bytes within_program grows_program new failed
 
   -- the pages of a value
-  module _ (old : BoardState) (has : old.shape ≡ Some shape) (so_far : SameStill old.pages) (key : Key) (page : ℕ) (value : List ℕ) (unread : (k : ℕ) → page ≤ k → k < page + charge shape (length value) → IsStill k → ⊥) where
+  module _ (old : BoardState) (has : old.shape ≡ Some shape) (so_far : SameStill old.pages) (key : Key) (page : ℕ) (value : List ℕ) (unread : (k : ℕ) → page ≤ k → k < page + charge shape (length value) → IsStill shape root found pending kept k → ⊥) where
     shape_stays : (n : ℕ) → (written shape key page value n old).shape ≡ Some shape
     shape_stays zero = has
     shape_stays (suc n) = shape_stays n

@@ -1,6 +1,6 @@
 -- A background step: a spare block is erased, or nothing is done.
 use Rattle.std.proofs.Common.{◌≡◌, ◌≢◌, inl, inr, ℕ, zero, suc, ◌+◌, ◌-◌, ◌*◌, ◌/◌, ◌<◌, ◌≤◌, refl, sym, ap, subst, ◌∙◌, arith, Bool, true, false, cond, List, [], ◌∷◌, ◌++◌, length, Option, Some, None, Ok, nat_le}
-use Rattle.std.specs.Prelude.{slice_get, filter, count_by, MatchOption, MatchBool, ◌↔◌, ◌&&◌, ◌==◌, not}
+use Rattle.std.specs.Prelude.{slice_get, filter, count_by, unwrap_or, MatchOption, MatchBool, ◌↔◌, ◌&&◌, ◌==◌, not}
 use Rattle.std.proofs.lemmas.Bool.{le-leb, eqb-true, eq-eqb}
 use Rattle.std.proofs.lemmas.Bool.Decides.{leb_tells}
 use Rattle.std.specs.List.{range_with_len, concat}
@@ -19,10 +19,20 @@ use Rattle.pk_nand.proofs.Touching.{untouched_after}
 use Rattle.pk_pool.specs.declared.state.BlockState.{BlockState}
 use Rattle.pk_pool.specs.declared.state.BlockState.TheVariants.{Root as RootBlock, Free, Ready, Owned}
 use Rattle.pk_pool.specs.Blocks.{Blocks, PoolOnFlash, IsShared, IsOwned, IsNowhere, is_root, is_free, is_ready, is_owned_by, used_by, with_state}
+use Rattle.pk_pool.specs.Unready.{unready}
 use Rattle.pk_pool.specs.Taking.{ErasesOne, ErasesNone}
 use Rattle.pk_pool.proofs.States.{free_is_not_root}
 use Rattle.pk_pool.proofs.Sharing.{count-set, behind_roots}
+use Rattle.pk_run.specs.Kept.{Kept as KeptRun, empty}
+use Rattle.pk_work.specs.Backlog.{Backlog, due_level}
+use Rattle.pk_work.specs.Work.{work, merging as merging_left, merging_from}
+use Rattle.pk_compact.specs.FreezeSteps.{taken_by}
+use Rattle.pk_model.specs.Found.{Found}
 use Rattle.pk_model.specs.Reading.{reading}
+use Rattle.pk_schedule.specs.declared.phase.Phase.{Phase}
+use Rattle.pk_schedule.specs.declared.phase.Phase.TheVariants.{Idle as NoMerge, Running, Ready as ReadyOutput}
+use Rattle.pk_schedule.specs.Index.{Index, MergeStands, merging, output}
+use Rattle.pk_schedule.specs.Steps.{backlog_of, merge_left, has_no_merge, is_between}
 use Rattle.pk_model.specs.Sight.{is_erased, has_open_room, IsIdle}
 use Rattle.pk_steps.specs.Under.{places}
 use Rattle.pk_steps.proofs.Untouched.{under_reads}
@@ -36,23 +46,41 @@ use Rattle.pk_model.specs.Wear.{number_of, root_number, roots}
 use Rattle.pk_drive.specs.Drive.{HoldsMap}
 use Rattle.pk_nand.specs.Effects.{AtMostOneCall}
 use Rattle.pk_drive.specs.Seen.{stopped_by}
-use Rattle.pk_drive.specs.Tick.{TellsIdle}
+use Rattle.pk_drive.specs.Tick.{TellsIdle, WaitsForReclaim}
 use Rattle.pk_model.specs.Crashes.{CrashFinds, background}
 use Rattle.pk_drive.specs.declared.types.Ticked.{Ticked}
 use Rattle.pk_drive.specs.declared.types.Ticked.TheVariants.{Worked, Idle, Fault}
 use Rattle.pk_model.proofs.Growing.{weaken, weaken_went}
 use Rattle.pk_data.specs.Laws.{SameValues}
-use Rattle.pk_core.specs.Parts.{Parts, sight_of, block_if_open, jobs_of}
+use Rattle.pk_core.specs.Parts.{Parts, sight_of, index_of, block_if_open, outputs_of}
 use Rattle.pk_core.specs.Agreeing.{DriveOnFlashWith, DriveOnFlash}
-use Rattle.pk_core.specs.Ticking.{Ticks, has_no_work}
-use Rattle.pk_core.proofs.Unread.{IsReadBy, SameRead, same_top, still_without, still_all, agrees_elsewhere}
-use Rattle.pk_core.proofs.Stills.{StillCut, still_end, went_end, still_erase, still_erase_failed}
-use Rattle.pk_core.proofs.Writing.{spare_unread}
+use Rattle.pk_core.specs.Ticking.{Ticks, HasNoStep, is_reclaim_due}
+use Rattle.pk_core.proofs.Unread.{KeepsOwners, SameRead, same_top, still_without, still_all, agrees_elsewhere}
+use Rattle.pk_core.proofs.Stills.{IsStill, SameStill, StillCut, read_still, still_end, went_end, still_erase, still_erase_failed}
+use Rattle.pk_core.proofs.Writing.{IsIndexed, spare_still, beside_still}
 use Rattle.pk_core.proofs.Unchanging.{own, for_its_map}
 
 pub yes_no : (b : Bool) → b ≡ false → b ≡ true → ⊥
 yes_no true e f = cc
 yes_no false e f = cc
+
+due_same : (shape : Shape) (b : Backlog) (left : ℕ) → due_level shape (record b { unready = left }) ≡ due_level shape b
+unfolding due_level
+due_same shape b left = refl
+
+-- an erase lowers the work
+erase_lowers : (shape : Shape) (b : Backlog) (left : ℕ) → left < b.unready → work shape (record b { unready = left }) < work shape b
+unfolding work
+erase_lowers shape b left less =
+    let same : due_level shape (record b { unready = left }) ≡ due_level shape b = due_same shape b left in
+    let merges : merging_left shape (record b { unready = left }) ≡ merging_left shape b = ap (λ l. merging_from shape l b.merge) same in
+    omega (arith, merges, less)
+
+-- what is left of a merge does not depend on the pool
+merge_beside : (p : Phase) (x : Index) (q : Blocks) → merge_left p (record x { pool = q }) ≡ merge_left p x
+merge_beside NoMerge x q = refl
+merge_beside (Running level) x q = refl
+merge_beside (ReadyOutput level) x q = refl
 
 -- ---- nothing is done
 
@@ -107,8 +135,12 @@ free_or_values : (p : Blocks) (b : ℕ) → slice_get p.states b ≡ Some Free �
 free_or_values p b free held = cc
 
 module _ (d : Parts) (old new : BoardState) (a : DriveOnFlash d old.shape old.pages) (block : ℕ) (free : slice_get d.pool.states block ≡ Some Free) (shared : IsShared d.pool.shape d.pool.states) where
+  -- the pages of the index are kept
+  abbrev pub Kept : ℕ → Type 0
+  Kept = IsIndexed d.pool d.log.shape
+
   abbrev pub Still : Flash → List ℕ → Type 0
-  Still = StillCut d.log.shape a.top.1 a.found d.log.pending old.pages
+  Still = StillCut d.log.shape a.top.1 a.found d.log.pending Kept old.pages
 
   has : old.shape ≡ Some d.log.shape
   has = a.told_is ∙ ap (λ s. Some s) (sym a.with.shape_is)
@@ -117,15 +149,15 @@ module _ (d : Parts) (old new : BoardState) (a : DriveOnFlash d old.shape old.pa
   grown : (new : BoardState) → newest_root d.log.shape (page_at new.pages) ≡ newest_root d.log.shape (page_at old.pages) → Grows (shape_or_none old.shape) old.pages new.pages
   grown new same = inl (subst (λ o. newest_root (shape_or_none o) (page_at new.pages) ≡ newest_root (shape_or_none o) (page_at old.pages)) (sym has) same)
 
-  unread : (k : ℕ) → k / d.log.shape.block_pages ≡ block → IsReadBy d.log.shape a.top.1 a.found d.log.pending k → ⊥
-  unread = spare_unread d d.log.shape old.pages a.top a.found a.without a.all (own d old a) block (inl free) (behind_roots d.pool.shape d.pool.states block Free free_is_not_root free shared)
+  unread : (k : ℕ) → k / d.log.shape.block_pages ≡ block → IsStill d.log.shape a.top.1 a.found d.log.pending Kept k → ⊥
+  unread = spare_still d d.log.shape old.pages a.top a.found a.without a.all (own d old a) block (inl free) (behind_roots d.pool.shape d.pool.states block Free free_is_not_root free shared)
 
   -- a cut at which no page differs that is read is one of the step
   cut_is : d.log.pending ≡ [] → (f : Flash) (q : List ℕ) → Still f q → CrashFinds d.log.shape background old.pages a.all f q
   cut_is none f q is =
       let w = own d old a in
       let s = d.log.shape in
-      let held = under_reads s f [] a.top a.found a.without (still_without d d.space d.pool s old.pages f a.top a.found a.without a.all w is.1) in
+      let held = under_reads s f [] a.top a.found a.without (still_without d d.space d.pool s old.pages f a.top a.found a.without a.all w (read_still s a.top.1 a.found d.log.pending Kept old.pages f is.1)) in
       let first = under_reads s old.pages [] a.top a.found a.without w.committed in
       let second = subst (λ p. reading s old.pages p ≡ Ok a.all) none (under_reads s old.pages d.log.pending a.top a.found a.all w.pending) in
       (is.0, held ∙ (sym first ∙ second))
@@ -138,21 +170,24 @@ module _ (d : Parts) (old new : BoardState) (a : DriveOnFlash d old.shape old.pa
     after_it = record d { pool = q }
 
     reached : Reaches d.log.shape old new Still
-    reached = still_erase d.log.shape a.top.1 a.found d.log.pending old.pages old has (λ k is. refl) block unread new made
+    reached = still_erase d.log.shape a.top.1 a.found d.log.pending Kept old.pages old has (λ k is. refl) block unread new made
+
+    kept_same : SameStill d.log.shape a.top.1 a.found d.log.pending Kept old.pages new.pages
+    kept_same = still_end d.log.shape a.top.1 a.found d.log.pending Kept old.pages old new reached
 
     same : SameRead d.log.shape a.top.1 a.found d.log.pending old.pages new.pages
-    same = still_end d.log.shape a.top.1 a.found d.log.pending old.pages old new reached
+    same = read_still d.log.shape a.top.1 a.found d.log.pending Kept old.pages new.pages kept_same
 
-    values_same : SameValues d.log.shape d.pool (jobs_of d).blocks.values old.pages new.pages
+    values_same : SameValues d.log.shape d.pool (outputs_of d) old.pages new.pages
     values_same k held no_output =
         let pages : new.pages ≡ after (shape_or_none old.shape) (erase block) old.pages = ap (λ b. b.pages) made in
         let in_shape : new.pages ≡ after d.log.shape (erase block) old.pages = pages ∙ ap (λ o. after (shape_or_none o) (erase block) old.pages) has in
         ap (λ f. page_at f k) in_shape ∙ untouched_after d.log.shape (erase block) old.pages k (λ here. free_or_values d.pool block free (subst (λ b. HoldsValues d.pool b) here held))
 
-    placed : ValuesOnFlash d.log.shape d.space q (jobs_of d).blocks.values new.pages (places a.found d.log.pending)
+    placed : ValuesOnFlash d.log.shape d.space q (outputs_of d) new.pages (places a.found d.log.pending)
     placed =
-        subst (λ p. ValuesOnFlash d.log.shape d.space p (jobs_of d).blocks.values new.pages (places a.found d.log.pending)) (sym marked)
-        (block_elsewhere d.log.shape d.space d.pool (jobs_of d).blocks.values block Free Ready old.pages new.pages (places a.found d.log.pending) (own d old a).placed free refl refl values_same (subst (λ p. PoolOnFlash p new.pages) marked fits))
+        subst (λ p. ValuesOnFlash d.log.shape d.space p (outputs_of d) new.pages (places a.found d.log.pending)) (sym marked)
+        (block_elsewhere d.log.shape d.space d.pool (outputs_of d) block Free Ready old.pages new.pages (places a.found d.log.pending) (own d old a).placed free refl refl values_same (subst (λ p. PoolOnFlash p new.pages) marked fits))
 
     journal_same : used_by Journal q.states ≡ used_by Journal d.pool.states
     journal_same =
@@ -165,7 +200,24 @@ module _ (d : Parts) (old new : BoardState) (a : DriveOnFlash d old.shape old.pa
         ap (λ p. used_by Meta p.states) marked ∙ omega (arith, all)
 
     agrees_now : DriveOnFlashWith (record d { pool = q }) d.log.shape new.pages a.top a.found a.without a.all
-    agrees_now = agrees_elsewhere d d.space q d.log.shape old.pages new.pages a.top a.found a.without a.all (own d old a) same ready.flash (λ b o is. owned b (o, is) ∙ is) journal_same meta_same placed
+    agrees_now =
+        let owners : KeepsOwners d.pool q = λ b o is. owned b (o, is) ∙ is in
+        let its : q.shape ≡ d.log.shape = ap (λ p. p.shape) marked ∙ (own d old a).placed.shape_is in
+        agrees_elsewhere d d.space q d.log.shape old.pages new.pages a.top a.found a.without a.all (own d old a) same ready.flash owners
+        (beside_still d d.log.shape old.pages a.top a.found a.without a.all (own d old a) q new.pages owners its fits journal_same meta_same kept_same) placed
+
+    less_left : unready q.states + 1 ≡ unready d.pool.states
+    less_left =
+        let all = count-set (λ s. not (is_ready s)) d.pool.states block Free Ready free in
+        ap (λ p. unready p.states + 1) marked ∙ omega (arith, all)
+
+    pub lowers_erased : (sight_of (record d { pool = q })).work < (sight_of d).work
+    lowers_erased =
+        let merge = merge_beside d.schedule.phase (index_of d) q in
+        let backlog : backlog_of (record (index_of d) { pool = q }) ≡ record (backlog_of (index_of d)) { unready = unready q.states } = λ i. record (backlog_of (index_of d)) { merge = merge i; unready = unready q.states } in
+        let same = ap (work d.log.shape) backlog in
+        let less = erase_lowers d.log.shape (backlog_of (index_of d)) (unready q.states) (omega (arith, less_left)) in
+        omega (arith, same, less)
 
     pub agrees_erased : DriveOnFlash (record d { pool = q }) new.shape new.pages
     agrees_erased = record { shape = d.log.shape; top = a.top; found = a.found; without = a.without; all = a.all; told_is = ready.shape_is; with = agrees_now }
@@ -197,7 +249,7 @@ module _ (d : Parts) (old new : BoardState) (a : DriveOnFlash d old.shape old.pa
   pub ticks_failed : (d' : Parts) → EraseFailed old new block → d.log.pending ≡ [] → Ticks old new (sight_of d) (sight_of d') (Fault true)
   ticks_failed d' failed none =
       let stops = stops_erase old new block failed in
-      let went = still_erase_failed d.log.shape a.top.1 a.found d.log.pending old.pages old has (λ k is. refl) block unread new failed in
+      let went = still_erase_failed d.log.shape a.top.1 a.found d.log.pending Kept old.pages old has (λ k is. refl) block unread new failed in
       let made = failed.rest in
       record {
         stands = λ e. absurd (yes_no true e refl);
@@ -205,7 +257,7 @@ module _ (d : Parts) (old new : BoardState) (a : DriveOnFlash d old.shape old.pa
         cuts_stopped = λ _. for_its_map d old a (λ s f m. Goes s old new (CrashFinds s background old.pages m)) (went.0, weaken_went went.0 old new Still (CrashFinds d.log.shape background old.pages a.all) (cut_is none) went.1, went.2);
         idle_rests = λ e. absurd (stopped_idle true e);
         unmade = λ e. absurd (stopped_fine e);
-        grows = grown new (same_top d.log.shape a.top.1 a.found d.log.pending old.pages new.pages (went_end d.log.shape a.top.1 a.found d.log.pending old.pages old new went));
+        grows = grown new (same_top d.log.shape a.top.1 a.found d.log.pending old.pages new.pages (read_still d.log.shape a.top.1 a.found d.log.pending Kept old.pages new.pages (went_end d.log.shape a.top.1 a.found d.log.pending Kept old.pages old new went)));
         rest = stops.rest;
         calls = inr (inr (inr (ap (λ b. b.reads) made, ap (λ b. b.programs) made, ap (λ b. b.erases) made)));
         unread = λ e. absurd (stopped_fine e);
@@ -216,7 +268,7 @@ module _ (d : Parts) (old new : BoardState) (a : DriveOnFlash d old.shape old.pa
         no_stop = λ e. absurd (yes_no true e refl);
         installs =
             (let e = same_roots d.log.shape old new has (ap (λ b. b.shape) made ∙ has)
-            (same_top d.log.shape a.top.1 a.found d.log.pending old.pages new.pages (went_end d.log.shape a.top.1 a.found d.log.pending old.pages old new went)) in omega (arith, e));
+            (same_top d.log.shape a.top.1 a.found d.log.pending old.pages new.pages (read_still d.log.shape a.top.1 a.found d.log.pending Kept old.pages new.pages (went_end d.log.shape a.top.1 a.found d.log.pending Kept old.pages old new went))) in omega (arith, e));
       }
 
 -- ---- counts of blocks
@@ -290,62 +342,114 @@ not_true : (b : Bool) → not b ≡ true → b ≡ false
 not_true true e = cc
 not_true false e = refl
 
+between_merges : (p : Phase) → is_between p ≡ true → merging p ≡ 0
+between_merges NoMerge e = refl
+between_merges (Running level) e = absurd (yes_no (is_between (Running level)) refl e)
+between_merges (ReadyOutput level) e = absurd (yes_no (is_between (ReadyOutput level)) refl e)
+
+-- no run is taken where no merge runs
+none_taken : (p : Phase) (x : Index) (flash : Flash) (root : Root) (found : Found) → MergeStands p x flash root found → is_between p ≡ true → length (output x.schedule).blocks ≡ 0
+none_taken NoMerge x flash root found stands e = ap (λ (o : Option KeptRun). length (unwrap_or o (empty x.schedule.job.merger.shape x.schedule.job.target)).blocks) stands.output
+none_taken (Running level) x flash root found stands e = absurd (yes_no (is_between (Running level)) refl e)
+none_taken (ReadyOutput level) x flash root found stands e = absurd (yes_no (is_between (ReadyOutput level)) refl e)
+
+-- where no merge is due, none runs, and nothing is frozen
+pub no_merge_is : (x : Index) → has_no_merge x ≡ true → (is_between x.schedule.phase ≡ true) × (length x.log.frozen.entries ≡ 0)
+no_merge_is x e =
+    let parts = both_true (is_between x.schedule.phase) (length x.log.frozen.entries == 0) e in
+    (parts.0, eqb-true (length x.log.frozen.entries) 0 parts.1)
+
 module _ (d : Parts) (old : BoardState) (a : DriveOnFlash d old.shape old.pages) (shared : IsShared d.pool.shape d.pool.states) where
-  all_blocks : 2 + length (named a.top.1) + used_by Values d.pool.states + count_by is_ready d.pool.states + count_by is_free d.pool.states ≡ d.log.shape.blocks
+  with : DriveOnFlashWith d d.log.shape old.pages a.top a.found a.without a.all
+  with = own d old a
+
+  all_blocks : 2 + length (named a.top.1) + length (taken_by d.schedule.freeze) + length (output d.schedule).blocks + used_by Values d.pool.states + count_by is_ready d.pool.states + count_by is_free d.pool.states ≡ d.log.shape.blocks
   all_blocks =
       let all = all_counted d.pool.states in
       let split = length-append (a.top.1.newest ++ a.top.1.older) (concat a.top.1.runs) in
-      let journal = a.with.journal_few in
-      let meta : used_by Meta d.pool.states ≡ length (concat a.top.1.runs) + 0 = a.with.runs_few in
-      let size = (own d old a).placed.size in
+      let journal = with.index.journal_few in
+      let meta = with.index.runs_few in
+      let size = with.placed.size in
       let two = shared.roots in
       omega (arith, all, split, journal, meta, size, two)
 
   open_room : has_open_room d.log.shape old.pages (block_if_open d.space.open_block) ≡ fits_open d.log.shape d.space (most_pages d.log.shape)
-  open_room = room_is d.log.shape d.pool old.pages d.space.open_block (own d old a).placed.open_is
+  open_room = room_is d.log.shape d.pool old.pages d.space.open_block with.placed.open_is
 
-  none_idle : IsNowhere Free d.pool.states → has_no_work d ≡ true → IsIdle d.log.shape old.pages (sight_of d)
-  none_idle none rests =
-      let parts = both_true (length d.log.frozen.entries == 0) (not ((used_by Values d.pool.states == data_blocks d.log.shape - 1) && not (fits_open d.log.shape d.space (most_pages d.log.shape)))) rests in
+  -- every block without an owner is erased where no step is left
+  none_unready : HasNoStep d → 2 + length (named a.top.1) + used_by Values d.pool.states + count_by is_ready d.pool.states ≡ d.log.shape.blocks
+  none_unready no_step =
       let all = all_blocks in
-      let no_free = none_free d.pool.states none in
+      let taken = ap (λ (bs : List ℕ). length bs) no_step.no_freeze in
+      let output = none_taken d.schedule.phase (index_of d) old.pages a.top.1 a.found with.index.merge (no_merge_is (index_of d) no_step.no_merge).0 in
+      let no_free = none_free d.pool.states no_step.none_free in
+      omega (arith, all, no_free, taken, output)
+
+  -- nothing is left to do where no step is, and no reclaim is due
+  none_idle : HasNoStep d → is_reclaim_due d ≡ false → IsIdle d.log.shape old.pages (sight_of d)
+  none_idle no_step rests =
+      let merged = no_merge_is (index_of d) no_step.no_merge in
       record {
         top = a.top;
-        is_newest = (own d old a).committed.is_top;
-        no_merge = refl;
-        none_frozen = eqb-true (length d.log.frozen.entries) 0 parts.0;
+        is_newest = with.committed.is_top;
+        no_merge = between_merges d.schedule.phase merged.0;
+        none_frozen = merged.1;
         no_reclaim = refl;
-        all_erased = omega (arith, all, no_free);
-        has_room = ap (λ b. (used_by Values d.pool.states == data_blocks d.log.shape - 1) && not b) open_room ∙ not_true _ parts.1;
+        all_erased = none_unready no_step;
+        has_room = ap (λ b. (used_by Values d.pool.states == data_blocks d.log.shape - 1) && not b) open_room ∙ rests;
       }
 
-  idle_rests : IsIdle d.log.shape old.pages (sight_of d) → has_no_work d ≡ true
-  idle_rests idle =
-      let frozen : (length d.log.frozen.entries == 0) ≡ true = eq-eqb (length d.log.frozen.entries) 0 idle.none_frozen in
-      let room : ((used_by Values d.pool.states == data_blocks d.log.shape - 1) && not (fits_open d.log.shape d.space (most_pages d.log.shape))) ≡ false =
-      ap (λ b. (used_by Values d.pool.states == data_blocks d.log.shape - 1) && not b) (sym open_room) ∙ idle.has_room in
-      λ i. frozen i && not (room i)
+  -- and nothing but a reclaim, where one is due
+  pub waits_for_reclaim : HasNoStep d → is_reclaim_due d ≡ true → WaitsForReclaim d.log.shape old.pages (sight_of d)
+  waits_for_reclaim no_step due =
+      let merged = no_merge_is (index_of d) no_step.no_merge in
+      record {
+        top = a.top;
+        is_newest = with.committed.is_top;
+        no_merge = between_merges d.schedule.phase merged.0;
+        none_frozen = merged.1;
+        all_erased = none_unready no_step;
+        is_due = ap (λ b. (used_by Values d.pool.states == data_blocks d.log.shape - 1) && not b) open_room ∙ due;
+      }
+
+  pub idle_rests : IsIdle d.log.shape old.pages (sight_of d) → is_reclaim_due d ≡ false
+  idle_rests idle = ap (λ b. (used_by Values d.pool.states == data_blocks d.log.shape - 1) && not b) (sym open_room) ∙ idle.has_room
 
   same_top_is : (x y : ℕ × Root) → ◌≡◌ {A = Option (ℕ × Root)} (Some x) (Some y) → x ≡ y
   same_top_is x y e = cc
 
-  free_busy : (block : ℕ) → slice_get d.pool.states block ≡ Some Free → IsIdle d.log.shape old.pages (sight_of d) → ⊥
-  free_busy block free idle =
-      let top : idle.top ≡ a.top = same_top_is idle.top a.top (sym idle.is_newest ∙ (own d old a).committed.is_top) in
+  all_erased_is : IsIdle d.log.shape old.pages (sight_of d) → 2 + length (named a.top.1) + used_by Values d.pool.states + count_by is_ready d.pool.states ≡ d.log.shape.blocks
+  all_erased_is idle =
+      let top : idle.top ≡ a.top = same_top_is idle.top a.top (sym idle.is_newest ∙ with.committed.is_top) in
+      subst (λ (t : ℕ × Root). 2 + length (named t.1) + used_by Values d.pool.states + count_by is_ready d.pool.states ≡ d.log.shape.blocks) top idle.all_erased
+
+  -- it is not idle where a freeze runs, or a free block was not erased
+  pub busy_freeze : (length (taken_by d.schedule.freeze) == 0) ≡ false → IsIdle d.log.shape old.pages (sight_of d) → ⊥
+  busy_freeze some idle =
+      let all = all_blocks in
+      let whole = all_erased_is idle in
+      let none : length (taken_by d.schedule.freeze) ≡ 0 = omega (arith, all, whole) in
+      yes_no (length (taken_by d.schedule.freeze) == 0) some (eq-eqb (length (taken_by d.schedule.freeze)) 0 none)
+
+  pub busy_free : (block : ℕ) → slice_get d.pool.states block ≡ Some Free → IsIdle d.log.shape old.pages (sight_of d) → ⊥
+  busy_free block free idle =
       let all = all_blocks in
       let one = some_free d.pool.states block free in
-      let whole : 2 + length (named a.top.1) + used_by Values d.pool.states + count_by is_ready d.pool.states ≡ d.log.shape.blocks =
-      subst (λ (t : ℕ × Root). 2 + length (named t.1) + used_by Values d.pool.states + count_by is_ready d.pool.states ≡ d.log.shape.blocks) top idle.all_erased in
+      let whole = all_erased_is idle in
       omega (arith, all, one, whole)
 
-  -- it tells so where no block is free that was not erased
-  pub tells_where_none : (answer : Ticked) → IsNowhere Free d.pool.states → (answer ≡ Idle → has_no_work d ≡ true) → (has_no_work d ≡ true → answer ≡ Idle) → TellsIdle old (sight_of d) answer
-  tells_where_none answer none to back =
-      for_its_map d old a (λ s f m. (answer ≡ Idle) ↔ IsIdle s old.pages (sight_of d)) (λ e. none_idle none (to e), λ idle. back (idle_rests idle))
+  -- ---- what it tells
 
-  pub tells_where_free : (answer : Ticked) (block : ℕ) → slice_get d.pool.states block ≡ Some Free → (answer ≡ Idle → ⊥) → TellsIdle old (sight_of d) answer
-  tells_where_free answer block free other =
-      for_its_map d old a (λ s f m. (answer ≡ Idle) ↔ IsIdle s old.pages (sight_of d)) (λ e. absurd (other e), λ idle. absurd (free_busy block free idle))
+  -- an answer that tells of a step, or of one that failed
+  pub tells_step : (answer : Ticked) → (answer ≡ Idle → ⊥) → (IsIdle d.log.shape old.pages (sight_of d) → answer ≡ Idle) → TellsIdle old (sight_of d) answer
+  tells_step answer other busy = for_its_map d old a (λ s f m. (answer ≡ Idle) ↔ IsIdle s old.pages (sight_of d)) (λ e. absurd (other e), busy)
+
+  -- it is idle where no step is left, and no reclaim is due
+  pub tells_idle : HasNoStep d → is_reclaim_due d ≡ false → TellsIdle old (sight_of d) Idle
+  tells_idle no_step rests = for_its_map d old a (λ s f m. (Idle ≡ Idle) ↔ IsIdle s old.pages (sight_of d)) (λ _. none_idle no_step rests, λ _. refl)
+
+  pub tells_due : is_reclaim_due d ≡ true → TellsIdle old (sight_of d) Worked
+  tells_due due = for_its_map d old a (λ s f m. (Worked ≡ Idle) ↔ IsIdle s old.pages (sight_of d)) (λ e. absurd (worked_idle e), λ idle. absurd (yes_no (is_reclaim_due d) (idle_rests idle) due))
 
 -- ---- a call that erases a spare block, or finds none
 
@@ -369,6 +473,9 @@ module _ (d d' : Parts) (old new : BoardState) (a : DriveOnFlash d old.shape old
 
   pub step_agrees : DriveOnFlash d' new.shape new.pages
   step_agrees = subst (λ x. DriveOnFlash x new.shape new.pages) (sym rest) (agrees_erased d old new a one.block one.lowest.here shared one.erase own_ready d'.pool one.marked fits owned)
+
+  pub step_lowers : (sight_of d').work < (sight_of d).work
+  step_lowers = subst (λ x. (sight_of x).work < (sight_of d).work) (sym rest) (lowers_erased d old new a one.block one.lowest.here shared one.erase own_ready d'.pool one.marked fits owned)
 
   pub step_ticks : d.log.pending ≡ [] → Ticks old new (sight_of d) (sight_of d') Worked
   step_ticks none = subst (λ x. Ticks old new (sight_of d) (sight_of x) Worked) (sym rest) (ticks_erased d old new a one.block one.lowest.here shared one.erase own_ready d'.pool one.marked fits owned none)

@@ -17,7 +17,8 @@ use Rattle.pk_steps.specs.Under.{places}
 use Rattle.pk_model.specs.Growth.{Reaches, Goes}
 use Rattle.pk_core.specs.Parts.{Parts, frames_of}
 use Rattle.pk_model.specs.Crashes.{CrashFinds, change}
-use Rattle.pk_core.specs.Moves.{StandsFor}
+use Rattle.pk_core.specs.Moves.{StandsFor, KeepsAll}
+use Rattle.pk_core.specs.Emptying.{StepOrRead}
 
 -- A key may get a value: its value stood at this place until now, or there was none, and the live pages are within their limit with the new one.
 pub record MayPut (d : Parts) (shape : Shape) (flash : Flash) (m : Map) (key : Key) (value : List ℕ) (old : Option Place) : Type 0 where
@@ -80,6 +81,16 @@ StepPuts before after most old new key value place result =
 abbrev pub StepTakes : Parts → Parts → ℕ → BoardState → BoardState → Key → Place → Result Unit Fault → Type 0
 StepTakes before after most old new key place result =
     Step (λ (u : Unit). TakesAll before after old new key place) (FailsToTake before old new key place) before.log.shape most old new result
+
+-- Steps that give the key its value, or a read of them failed and the map is as it was.
+abbrev pub PutsOrReads : Parts → Parts → ℕ → BoardState → BoardState → Key → List ℕ → Option Place → Result Unit Fault → Type 0
+PutsOrReads before after most old new key value place result =
+    StepOrRead (λ (u : Unit). PutsAll before after old new key value place) (KeepsAll before after old new) (FailsToPut before old new key value place) before.log.shape most old new result
+
+-- the same of steps that take it away
+abbrev pub TakesOrReads : Parts → Parts → ℕ → BoardState → BoardState → Key → Place → Result Unit Fault → Type 0
+TakesOrReads before after most old new key place result =
+    StepOrRead (λ (u : Unit). TakesAll before after old new key place) (KeepsAll before after old new) (FailsToTake before old new key place) before.log.shape most old new result
 
 -- the drive runs as before, and fewer entries are pending than a page of the journal takes
 pub record StaysBetween (before after : Parts) : Type 0 where

@@ -3,6 +3,7 @@ pub mod Agreeing
 pub mod Finding
 pub mod Done
 pub mod Moves
+pub mod Emptying
 pub mod Staying
 pub mod Programming
 pub mod Performing

@@ -18,7 +18,7 @@ use Rattle.pk_steps.specs.Under.{IsValuePage, places}
 use Rattle.pk_model.specs.Growth.{Reaches, Goes}
 use Rattle.pk_model.specs.Crashes.{CrashFinds, commit}
 use Rattle.pk_model.specs.Steps.{Step}
-use Rattle.pk_core.specs.Parts.{Parts}
+use Rattle.pk_core.specs.Parts.{Parts, frames_of}
 use Rattle.pk_core.specs.Agreeing.{DriveOnFlashWith}
 
 -- the drive agrees with these pages, for this map with the pending entries
@@ -60,9 +60,10 @@ StepKeeps {T} before after most old new result =
 abbrev pub OnlyCommits : Parts → Parts → Type 0
 OnlyCommits before after = after ≡ record before { log = record before.log { epoch = after.log.epoch; pending = after.log.pending } }
 
--- nothing differs but the log and the blocks, of which as many are for values
+-- nothing differs but the index; it has as many frames, and as many blocks are for values
 pub record LeavesValues (before after : Parts) : Type 0 where
-  pub rest : after ≡ record before { log = after.log; pool = after.pool }
+  pub rest : after ≡ record before { log = after.log; levels = after.levels; arena = after.arena; schedule = after.schedule; pool = after.pool }
+  pub frames : frames_of after ≡ frames_of before
   pub same_shape : after.log.shape ≡ before.log.shape
   pub as_many : used_by Values after.pool.states ≡ used_by Values before.pool.states
 

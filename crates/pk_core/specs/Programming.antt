@@ -31,6 +31,10 @@ PutsQuietly d k count old new = needs_freeze d.log k ≡ false → FillsQuietly 
 abbrev pub TakesQuietly : Parts → Key → BoardState → BoardState → Type 0
 TakesQuietly d k old new = needs_freeze d.log k ≡ false → Programs (commits_for d.log.shape (sight_of d)) old new
 
+-- nor is a page read
+abbrev pub ReadsQuietly : Parts → Key → BoardState → BoardState → Type 0
+ReadsQuietly d k old new = needs_freeze d.log k ≡ false → new.reads ≡ old.reads
+
 -- A Store that was answered so, whose key needs no freeze and whose value has room in the open block, made the programs of its value
 -- and of a commit, and the reads of a look-up.
 abbrev pub QuietStore : Parts → BoardState → BoardState → Request → List ℕ → Outcome → Type 0

@@ -1,13 +1,17 @@
 -- Commands that change the map: what a drive needs to serve one.
-use Rattle.std.specs.Prelude.{◌≡◌, ◌≤◌, ◌<◌, ℕ, [], length, true, false, Option, Some, None}
+use Rattle.std.specs.Prelude.{◌≡◌, ◌≤◌, ◌<◌, ℕ, [], length, ◌+◌, true, false, Option, Some, None, Result, Ok, Err}
 use Rattle.pk_base.specs.Entry.{Place}
 use Rattle.pk_base.specs.Shape.{Shape, charge, page_entries}
 use Rattle.pk_nvme.specs.Seen.{command_of}
+use Rattle.pk_nvme.specs.declared.status.TheConstants.{SUCCESSFUL_COMPLETION, UNRECOVERED_ERROR}
 use Rattle.pk_nvme.specs.declared.request.Request.{Request}
+use Rattle.pk_nand.specs.declared.types.Fault.{Fault}
+use Rattle.pk_nand.specs.declared.types.Fault.TheVariants.{Reading, Stopped}
 use Rattle.pk_nand.specs.BoardState.{BoardState}
 use Rattle.pk_nand.specs.Calls.{last_count}
 use Rattle.pk_model.specs.Answer.{early}
 use Rattle.pk_model.specs.Wear.{is_worn}
+use Rattle.pk_drive.specs.declared.types.Outcome.{Outcome}
 use Rattle.pk_core.specs.Parts.{Parts, is_built}
 use Rattle.pk_core.specs.Agreeing.{DriveOnFlash}
 
@@ -25,3 +29,29 @@ pub record IsServable (d : Parts) (board : BoardState) (r : Request) : Type 0 wh
 abbrev pub pages_at : Shape → Option Place → ℕ
 pages_at shape None = 0
 pages_at shape (Some p) = charge shape p.len
+
+-- ---- how many pages were read
+
+-- at most four pages were read since the board had this count
+pub record IsReadSince (before : ℕ) (board : BoardState) : Type 0 where
+  pub up : before ≤ board.reads
+  pub few : board.reads ≤ before + 4
+
+-- the count of reads went up, or stayed, within 64 bits
+pub record IsCounted (old new : BoardState) : Type 0 where
+  pub up : old.reads ≤ new.reads
+  pub few : new.reads ≤ last_count
+
+-- ---- what a change of the map came to
+
+-- its outcome, behind so many reads
+abbrev pub outcome_for : Result Unit Fault → ℕ → Outcome
+outcome_for (Ok u) reads = record { status = SUCCESSFUL_COMPLETION; result = 0; data_len = 0; reads = reads; stopped = false }
+outcome_for (Err Reading) reads = record { status = UNRECOVERED_ERROR; result = 0; data_len = 0; reads = reads; stopped = false }
+outcome_for (Err Stopped) reads = record { status = UNRECOVERED_ERROR; result = 0; data_len = 0; reads = reads; stopped = true }
+
+-- the drive, which a call stops that failed for good
+abbrev pub stopped_by : Parts → Result Unit Fault → Parts
+stopped_by d (Ok u) = d
+stopped_by d (Err Reading) = d
+stopped_by d (Err Stopped) = record d { stopped = true }

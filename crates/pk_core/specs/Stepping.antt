@@ -1,10 +1,8 @@
 -- Background steps in a row, and the answer of the command that wants them.
-use Rattle.std.specs.Prelude.{◌≡◌, ℕ, ◌+◌, ◌≤◌, ◌⊎◌, Bool, true, false, count_by}
+use Rattle.std.specs.Prelude.{◌≡◌, ℕ, ◌+◌, ◌≤◌, ◌⊎◌, Bool, true, false}
 use Rattle.pk_nvme.specs.declared.status.TheConstants.{SUCCESSFUL_COMPLETION, UNRECOVERED_ERROR}
 use Rattle.pk_nand.specs.BoardState.{BoardState}
 use Rattle.pk_nand.specs.Calls.{Rose, last_count}
-use Rattle.pk_pool.specs.declared.state.BlockState.TheVariants.{Free}
-use Rattle.pk_pool.specs.Blocks.{Blocks, IsNowhere, is_ready}
 use Rattle.pk_model.specs.Sight.{Sight}
 use Rattle.pk_model.specs.Wear.{roots}
 use Rattle.pk_nand.specs.Effects.{OnlyFlash, NoFault}
@@ -15,6 +13,8 @@ use Rattle.pk_drive.specs.Seen.{stopped_by}
 use Rattle.pk_drive.specs.declared.types.Ticked.{Ticked}
 use Rattle.pk_drive.specs.declared.types.Ticked.TheVariants.{Worked, Idle, Fault}
 use Rattle.pk_drive.specs.declared.types.Outcome.{Outcome}
+use Rattle.pk_core.specs.Parts.{Parts, sight_of}
+use Rattle.pk_core.specs.Ticking.{HasNoStep}
 
 -- a call of the flash failed
 abbrev pub has_failed : Ticked → Bool
@@ -46,10 +46,6 @@ outcome_of Worked reads = record { status = SUCCESSFUL_COMPLETION; result = 0; d
 outcome_of Idle reads = record { status = SUCCESSFUL_COMPLETION; result = 0; data_len = 0; reads = reads; stopped = false }
 outcome_of (Fault stopped) reads = record { status = UNRECOVERED_ERROR; result = 0; data_len = 0; reads = reads; stopped = stopped }
 
--- how many free blocks were erased in this session
-abbrev pub erased_in : Blocks → ℕ
-erased_in p = count_by is_ready p.states
-
--- so many more free blocks were erased, or every free block is
-abbrev pub Erases : Blocks → Blocks → ℕ → Type 0
-Erases p q most = (erased_in q ≡ erased_in p + most) ⊎ IsNowhere Free q.states
+-- so many steps less are left, or nothing is left but a reclaim
+abbrev pub Lessens : Parts → Parts → ℕ → Type 0
+Lessens before after steps = ((sight_of after).work + steps ≤ (sight_of before).work) ⊎ HasNoStep after

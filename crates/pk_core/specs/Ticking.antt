@@ -1,11 +1,12 @@
 -- A background step.
-use Rattle.std.specs.Prelude.{◌≡◌, ◌+◌, ◌-◌, ◌≤◌, Bool, true, false, ◌&&◌, not, ◌==◌, [], length}
+use Rattle.std.specs.Prelude.{◌≡◌, ◌+◌, ◌-◌, ◌<◌, ◌≤◌, Bool, true, false, ◌&&◌, not, ◌==◌, []}
 use Rattle.pk_base.specs.Shape.{data_blocks, most_pages}
 use Rattle.pk_plan.specs.declared.owner.Owner.TheVariants.{Values}
-use Rattle.pk_pool.specs.Blocks.{used_by}
+use Rattle.pk_pool.specs.declared.state.BlockState.TheVariants.{Free}
+use Rattle.pk_pool.specs.Blocks.{IsNowhere, used_by}
 use Rattle.pk_nand.specs.BoardState.{BoardState, shape_of}
 use Rattle.pk_nand.specs.Calls.{Rose, last_count}
-use Rattle.pk_model.specs.Sight.{Sight}
+use Rattle.pk_model.specs.Sight.{Sight, IsIdle}
 use Rattle.pk_model.specs.Growth.{Grows}
 use Rattle.pk_model.specs.Wear.{roots}
 use Rattle.pk_nand.specs.Effects.{OnlyFlash, OnlyReading, NoFault, AtMostOneCall}
@@ -15,14 +16,20 @@ use Rattle.pk_drive.specs.Seen.{stopped_by}
 use Rattle.pk_drive.specs.declared.types.Ticked.{Ticked}
 use Rattle.pk_drive.specs.declared.types.Ticked.TheVariants.{Worked, Idle, Fault}
 use Rattle.pk_data.specs.State.{fits_open}
-use Rattle.pk_core.specs.Parts.{Parts}
+use Rattle.pk_compact.specs.FreezeSteps.{taken_by}
+use Rattle.pk_schedule.specs.Steps.{has_no_merge}
+use Rattle.pk_core.specs.Parts.{Parts, index_of, sight_of}
 use Rattle.pk_core.specs.Agreeing.{DriveOnFlash}
+use Rattle.pk_core.specs.Staying.{Stays}
 
--- a step asks for a drive that runs and agrees with its board, with nothing pending
+-- a step asks for a drive that runs and agrees with its board, with nothing pending, and whose next root has a number
 pub record MayTick (d : Parts) (board : BoardState) : Type 0 where
   pub agrees : DriveOnFlash d board.shape board.pages
   pub unstopped : d.stopped ≡ false
   pub none : d.log.pending ≡ []
+  pub number : d.log.root.number < 18446744073709551615
+  -- the board counts in 64 bits
+  pub counted : board.read_faults ≤ last_count
 
 -- what a step did to a drive and its board: the clauses of the drive's contract, as one record
 pub record Ticks (old new : BoardState) (before after : Sight) (answer : Ticked) : Type 0 where
@@ -42,6 +49,24 @@ pub record Ticks (old new : BoardState) (before after : Sight) (answer : Ticked)
   pub no_stop : stopped_by answer ≡ false → new.stop_faults ≡ old.stop_faults
   pub installs : roots new ≤ roots old + 1
 
--- nothing is frozen, and the values have a block to go to
-abbrev pub has_no_work : Parts → Bool
-has_no_work d = (length d.log.frozen.entries == 0) && not ((used_by Values d.pool.states == data_blocks d.log.shape - 1) && not (fits_open d.log.shape d.space (most_pages d.log.shape)))
+-- as many blocks have values as may have, and the open one does not take every value
+abbrev pub is_reclaim_due : Parts → Bool
+is_reclaim_due d = (used_by Values d.pool.states == data_blocks d.log.shape - 1) && not (fits_open d.log.shape d.space (most_pages d.log.shape))
+
+-- No merge and no freeze runs, nothing is frozen, and every free block was erased in this session: nothing is left but a reclaim, where one is due.
+pub record HasNoStep (d : Parts) : Type 0 where
+  pub no_merge : has_no_merge (index_of d) ≡ true
+  pub no_freeze : taken_by d.schedule.freeze ≡ []
+  pub none_free : IsNowhere Free d.pool.states
+
+-- What a step did to a drive that might make one: it worked, so that less is left, or failed, or nothing is left to do but a reclaim.
+pub record Advances (d d' : Parts) (old new : BoardState) (answer : Ticked) : Type 0 where
+  pub ticks : Ticks old new (sight_of d) (sight_of d') answer
+  pub stops : d'.stopped ≡ stopped_by answer
+  pub none : d'.log.pending ≡ []
+  pub agrees : stopped_by answer ≡ false → DriveOnFlash d' new.shape new.pages
+  pub moves : stopped_by answer ≡ false → Stays d d'
+  pub number : stopped_by answer ≡ false → d'.log.root.number ≤ d.log.root.number + 1
+  pub lowers : answer ≡ Worked → (sight_of d').work < (sight_of d).work
+  pub idle : answer ≡ Idle → HasNoStep d × (d' ≡ d)
+  pub busy : IsIdle d.log.shape old.pages (sight_of d) → answer ≡ Idle

@@ -3,12 +3,13 @@ ghost use Rattle.std.specs.Prelude.{◌≡◌, length, false, OnOk};
 ghost use Rattle.pk_base.specs.Shape as spec;
 ghost use Rattle.pk_model.specs.Wear.{is_worn};
 ghost use Rattle.pk_log.specs.State.{needs_freeze as needs_freeze_for};
-ghost use Rattle.pk_core.specs.Parts.{wants_second_freeze};
-ghost use Rattle.pk_core.specs.Changes.{CanPut, CanTake, StepPuts, StepTakes, StaysBetween};
+ghost use Rattle.pk_work.specs.Calls.{room_calls};
+ghost use Rattle.pk_core.specs.Changes.{CanPut, CanTake, StepPuts, StepTakes, PutsOrReads, TakesOrReads, StaysBetween};
+ghost use Rattle.pk_core.specs.Emptying.{OnRunning};
 ghost use Rattle.pk_core.specs.Parts.{sight_of};
 ghost use Rattle.pk_core.specs.Staying.{Stays, StaysOrOpens, IsNoted};
 ghost use Rattle.pk_drive.specs.Moving.{commits_for};
-ghost use Rattle.pk_core.specs.Programming.{Programs, FillsQuietly, PutsQuietly, TakesQuietly};
+ghost use Rattle.pk_core.specs.Programming.{Programs, FillsQuietly, PutsQuietly, TakesQuietly, ReadsQuietly};
 
 use crate::drive::Drive;
 use pk_base::{Key, Place};
@@ -50,7 +51,8 @@ impl<A: Region> Drive<A> {
         }
     }
 
-    /// A key gets this value, in place of the one at `old`. `Stopped` where a call of the board fails.
+    /// A key gets this value, in place of the one at `old`. `Reading` where a read of a merge fails, which had to make room: the map
+    /// is as it was. `Stopped` where a program or an erase fails.
     pub(crate) fn put<B: Nand>(
         &mut self,
         board: &mut B,
@@ -59,18 +61,19 @@ impl<A: Region> Drive<A> {
         old: Option<Place>,
     ) -> Result<(), Fault>
         requires can { CanPut self.old (B.state board.old) key value.now old }
-        requires one_freeze { wants_second_freeze self.old ≡ false }
         requires unworn { is_worn (B.state board.old) ≡ false }
 
         // The map, and then the drive beside it.
-        ensures step { StepPuts self.old self.new 1 (B.state board.old) (B.state board.new)
-            key value.now old result }
-        ensures stays { OnOk result (StaysBetween self.old self.new) }
-        ensures opens { OnOk result (StaysOrOpens self.old self.new
-            (spec.charge self.old.log.shape (length value.now))) }
+        ensures step { PutsOrReads self.old self.new (room_calls self.old.log.shape)
+            (B.state board.old) (B.state board.new) key value.now old result }
+        ensures stays { OnRunning (StaysBetween self.old self.new) result }
+        ensures opens { OnRunning (StaysOrOpens self.old self.new
+            (spec.charge self.old.log.shape (length value.now))) result }
         ensures noted { OnOk result (IsNoted self.new key) }
         ensures programs { OnOk result (PutsQuietly self.old key
             (spec.charge self.old.log.shape (length value.now)) (B.state board.old)
+            (B.state board.new)) }
+        ensures quiet { OnOk result (ReadsQuietly self.old key (B.state board.old)
             (B.state board.new)) }
     {
         match self.make_room(board, &key) {
@@ -95,7 +98,8 @@ impl<A: Region> Drive<A> {
         self.commit_if_full(board)
     }
 
-    /// A key loses its value, the one at `old`. `Stopped` where a call of the board fails.
+    /// A key loses its value, the one at `old`. `Reading` where a read of a merge fails, which had to make room: the map is as it was.
+    /// `Stopped` where a program or an erase fails.
     pub(crate) fn take_out<B: Nand>(
         &mut self,
         board: &mut B,
@@ -103,16 +107,17 @@ impl<A: Region> Drive<A> {
         old: Place,
     ) -> Result<(), Fault>
         requires can { CanTake self.old (B.state board.old) key old }
-        requires one_freeze { wants_second_freeze self.old ≡ false }
         requires unworn { is_worn (B.state board.old) ≡ false }
 
         // The map, and then the drive beside it.
-        ensures step { StepTakes self.old self.new 1 (B.state board.old) (B.state board.new)
-            key old result }
-        ensures stays { OnOk result (StaysBetween self.old self.new) }
-        ensures moves { OnOk result (Stays self.old self.new) }
+        ensures step { TakesOrReads self.old self.new (room_calls self.old.log.shape)
+            (B.state board.old) (B.state board.new) key old result }
+        ensures stays { OnRunning (StaysBetween self.old self.new) result }
+        ensures moves { OnRunning (Stays self.old self.new) result }
         ensures programs { OnOk result
             (TakesQuietly self.old key (B.state board.old) (B.state board.new)) }
+        ensures quiet { OnOk result (ReadsQuietly self.old key (B.state board.old)
+            (B.state board.new)) }
     {
         match self.make_room(board, &key) {
             Ok(()) => self.take_with_room(board, key, old),

@@ -6,6 +6,7 @@
 
 mod change;
 mod drive;
+mod emptying;
 mod engine;
 mod filled;
 mod laws;

@@ -1,11 +1,11 @@
-//! Room for one more entry: a freeze of the log, and a commit where the journal page is full.
-ghost use Rattle.std.specs.Prelude.{◌≡◌, ◌≤◌, ◌<◌, [], length, false, OnOk};
-ghost use Rattle.pk_base.specs.Key.{Key as KeySpec};
+//! Room for one more entry: merges and a freeze where the buffer or the journal is full, and a commit where the journal page is.
+ghost use Rattle.std.specs.Prelude.{◌≡◌, ◌≤◌, ◌<◌, length, false, OnOk};
 ghost use Rattle.pk_base.specs.Shape.{page_entries};
 ghost use Rattle.pk_model.specs.Wear.{is_worn};
 ghost use Rattle.pk_log.specs.State.{needs_freeze as needs_freeze_for};
-ghost use Rattle.pk_core.specs.Parts.{wants_second_freeze};
+ghost use Rattle.pk_work.specs.Calls.{room_calls};
 ghost use Rattle.pk_core.specs.Moves.{MayStep, StepKeeps, OnlyCommits, LeavesValues};
+ghost use Rattle.pk_core.specs.Emptying.{KeepsOrReads, OnRunning};
 ghost use Rattle.pk_core.specs.Staying.{Stays};
 ghost use Rattle.pk_core.specs.Programming.{Programs};
 
@@ -15,63 +15,22 @@ use pk_nand::{Fault, Nand};
 use pk_region::Region;
 
 impl<A: Region> Drive<A> {
-    /// Freezes the active buffer, so that any key has room. Nothing may be pending, and nothing frozen.
-    pub(crate) fn freeze_log<B: Nand>(&mut self, board: &mut B) -> Result<(), Fault>
-        // The drive has nothing pending and nothing frozen.
-        requires may { MayStep self.old (B.state board.old) }
-        requires none_pending { self.old.log.pending ≡ [] }
-        requires none_frozen { self.old.log.frozen.entries ≡ [] }
-        requires unworn { is_worn (B.state board.old) ≡ false }
-
-        // The key has room, and all but the log and its blocks stays.
-        ensures step { StepKeeps self.old self.new 1 (B.state board.old)
-            (B.state board.new) result }
-        ensures room { OnOk result ((key : KeySpec) → needs_freeze_for self.new.log key ≡ false) }
-        ensures none { OnOk result (self.new.log.pending ≡ []) }
-        ensures leaves { OnOk result (LeavesValues self.old self.new) }
-        ensures moves { OnOk result (Stays self.old self.new) }
-    {
-        self.pool.known();
-        self.log.freeze(board, &mut self.pool, &mut self.page)
-    }
-
-    // Freezes the active buffer where a further entry of the key wants it.
-    fn freeze_if_needed<B: Nand>(&mut self, board: &mut B, key: &Key) -> Result<(), Fault>
-        // The drive has nothing pending and nothing frozen.
-        requires may { MayStep self.old (B.state board.old) }
-        requires none_pending { self.old.log.pending ≡ [] }
-        requires none_frozen { self.old.log.frozen.entries ≡ [] }
-        requires unworn { is_worn (B.state board.old) ≡ false }
-
-        // The key has room, and all but the log and its blocks stays.
-        ensures step { StepKeeps self.old self.new 1 (B.state board.old)
-            (B.state board.new) result }
-        ensures room { OnOk result (needs_freeze_for self.new.log key.now ≡ false) }
-        ensures none { OnOk result (self.new.log.pending ≡ []) }
-        ensures leaves { OnOk result (LeavesValues self.old self.new) }
-        ensures moves { OnOk result (Stays self.old self.new) }
-    {
-        if self.log.needs_freeze(key) {
-            self.freeze_log(board)
-        } else {
-            Ok(())
-        }
-    }
-
-    /// Makes room for a further entry of the key: where that wants a freeze, the pending entries are committed, and the active
-    /// buffer is frozen if it is wanted still.
+    /// Makes room for a further entry of the key: where that wants a freeze, the pending entries are committed, merges empty the
+    /// frozen buffer, and the active one is frozen. `Reading` where a read of a merge fails: the map is as it was.
     pub(crate) fn make_room<B: Nand>(&mut self, board: &mut B, key: &Key) -> Result<(), Fault>
         requires may { MayStep self.old (B.state board.old) }
         requires unworn { is_worn (B.state board.old) ≡ false }
-        requires one_freeze { wants_second_freeze self.old ≡ false }
 
-        // The key has room, and all but the log and its blocks stays.
-        ensures step { StepKeeps self.old self.new 1 (B.state board.old)
-            (B.state board.new) result }
+        // The map, and the key has room.
+        ensures step { KeepsOrReads self.old self.new (room_calls self.old.log.shape)
+            (B.state board.old) (B.state board.new) result }
         ensures room { OnOk result (needs_freeze_for self.new.log key.now ≡ false) }
-        ensures pending { OnOk result (length self.new.log.pending ≤ length self.old.log.pending) }
-        ensures leaves { OnOk result (LeavesValues self.old self.new) }
-        ensures moves { OnOk result (Stays self.old self.new) }
+
+        // What else stays; all of it where nothing is to be done.
+        ensures pending { OnRunning (length self.new.log.pending ≤ length self.old.log.pending)
+            result }
+        ensures leaves { OnRunning (LeavesValues self.old self.new) result }
+        ensures moves { OnRunning (Stays self.old self.new) result }
         ensures idle { OnOk result (needs_freeze_for self.old.log key.now ≡ false
             → (self.new ≡ self.old) × (B.state board.new ≡ B.state board.old)) }
     {
@@ -79,7 +38,7 @@ impl<A: Region> Drive<A> {
             return Ok(());
         }
         match self.commit_pending(board) {
-            Ok(()) => self.freeze_if_needed(board, key),
+            Ok(()) => self.empty_active(board),
             Err(fault) => Err(fault),
         }
     }

@@ -8,10 +8,10 @@ ghost use Rattle.pk_nvme.specs.Seen.{command_of};
 ghost use Rattle.pk_model.specs.Answer.{store_fault as store_fault_of};
 ghost use Rattle.pk_core.specs.Done.{Executes};
 ghost use Rattle.pk_core.specs.Quiet.{Looks};
-ghost use Rattle.pk_core.specs.Serving.{IsServable, pages_at as pages_at_by};
+ghost use Rattle.pk_core.specs.Serving.{IsServable, IsReadSince, IsCounted, outcome_for, stopped_by, pages_at as pages_at_by};
 ghost use Rattle.pk_nvme.specs.declared.opcode.TheConstants.{STORE, DELETE};
 ghost use Rattle.pk_core.specs.Staying.{Stays, StaysOrOpens, IsNoted};
-ghost use Rattle.pk_core.specs.Programming.{PutsQuietly, TakesQuietly, QuietStore, QuietDelete};
+ghost use Rattle.pk_core.specs.Programming.{PutsQuietly, TakesQuietly, ReadsQuietly, QuietStore, QuietDelete};
 ghost use Rattle.pk_nvme.specs.declared.status.TheConstants.{SUCCESSFUL_COMPLETION};
 
 use crate::drive::Drive;
@@ -19,7 +19,7 @@ use crate::quiet::{reads_since, refusal, served};
 use pk_base::{Key, Place, Shape};
 use pk_drive::Outcome;
 use pk_model::early::store_fault;
-use pk_nand::Nand;
+use pk_nand::{Fault, Nand};
 use pk_nvme::Request;
 use pk_nvme::status::{KEY_DOES_NOT_EXIST, UNRECOVERED_ERROR};
 use pk_region::Region;
@@ -70,6 +70,21 @@ fn stopping(reads: u32) -> Outcome
 }
 
 impl<A: Region> Drive<A> {
+    // A change of the map came to this, behind so many reads. A call that failed for good stops the drive.
+    fn changed(&mut self, answer: Result<(), Fault>, reads: u32) -> Outcome
+        ensures told { result ≡ outcome_for answer reads }
+        ensures rest { self.new ≡ stopped_by self.old answer }
+    {
+        match answer {
+            Ok(()) => served(0, 0, reads),
+            Err(Fault::Reading) => refusal(UNRECOVERED_ERROR, reads),
+            Err(Fault::Stopped) => {
+                self.stopped = true;
+                stopping(reads)
+            }
+        }
+    }
+
     // The check of a Store that fails on the map, where the key has its value at this place.
     fn fault_of_store(&self, request: &Request, old: &Option<Place>) -> Option<u8>
         requires old_short { MatchOption old.now (Unit {0})
@@ -86,7 +101,7 @@ impl<A: Region> Drive<A> {
         store_fault(request, old.is_some(), live, shape.limit() as u64)
     }
 
-    // A Store whose key has its value at this place, behind so many reads.
+    // A Store whose key has its value at this place, as was found since the board had this count of reads.
     fn store_over<B: Nand>(
         &mut self,
         board: &mut B,
@@ -94,7 +109,7 @@ impl<A: Region> Drive<A> {
         value: &[u8],
         key: Key,
         old: Option<Place>,
-        reads: u32,
+        before: u64,
     ) -> Outcome
         // The command is one that it serves, and its key has its value at this place.
         requires servable { IsServable self.old (B.state board.old) request.now }
@@ -102,31 +117,34 @@ impl<A: Region> Drive<A> {
         requires whole { length value.now ≡ request.now.size }
         requires named { key ≡ key_in (command_of request.now []) }
         requires looks { Looks self.old (B.state board.old).pages key old }
+        requires found { IsReadSince before (B.state board.old) }
 
         // The command.
         ensures executes { (into : List ℕ)
             → Executes self.old self.new (B.state board.old) (B.state board.new)
-            (command_of request.now value.now) result into 0 }
-        ensures told { (result.reads ≡ reads) × (result.data_len ≡ 0) }
+            (command_of request.now value.now) result into
+            ((B.state board.new).reads - (B.state board.old).reads) }
+        ensures told { (result.reads ≡ (B.state board.new).reads - before)
+            × (result.data_len ≡ 0) }
+        ensures reads { IsCounted (B.state board.old) (B.state board.new) }
 
-        // The blocks for values, and the programs of a Store that waits for nothing.
+        // The blocks for values, and the calls of a Store that waits for nothing.
         ensures opens { result.stopped ≡ false → StaysOrOpens self.old self.new
             (spec.charge self.old.log.shape request.now.size) }
         ensures noted { result.status ≡ SUCCESSFUL_COMPLETION → IsNoted self.new key }
         ensures programs { result.status ≡ SUCCESSFUL_COMPLETION → PutsQuietly self.old key
             (spec.charge self.old.log.shape request.now.size) (B.state board.old)
             (B.state board.new) }
+        ensures quiet { result.status ≡ SUCCESSFUL_COMPLETION
+            → ReadsQuietly self.old key (B.state board.old) (B.state board.new) }
     {
         known(&key);
         match self.fault_of_store(request, &old) {
-            Some(status) => refusal(status, reads),
-            None => match self.put(board, key, value, old) {
-                Ok(()) => served(0, 0, reads),
-                Err(_) => {
-                    self.stopped = true;
-                    stopping(reads)
-                }
-            },
+            Some(status) => refusal(status, reads_since(board, before)),
+            None => {
+                let answer = self.put(board, key, value, old);
+                self.changed(answer, reads_since(board, before))
+            }
         }
     }
 
@@ -159,50 +177,50 @@ impl<A: Region> Drive<A> {
         let before = board.read_count();
         let key = request.key();
         match self.look(board, &key) {
-            Ok(old) => {
-                let reads = reads_since(board, before);
-                self.store_over(board, request, value, key, old, reads)
-            }
+            Ok(old) => self.store_over(board, request, value, key, old, before),
             Err(_) => refusal(UNRECOVERED_ERROR, reads_since(board, before)),
         }
     }
 
-    // A Delete whose key has its value at this place, behind so many reads.
+    // A Delete whose key has its value at this place, as was found since the board had this count of reads.
     fn delete_at<B: Nand>(
         &mut self,
         board: &mut B,
         request: &Request,
         key: Key,
         old: Option<Place>,
-        reads: u32,
+        before: u64,
     ) -> Outcome
         // The command is one that it serves, and its key has its value at this place.
         requires servable { IsServable self.old (B.state board.old) request.now }
         requires opcode { request.now.opcode ≡ DELETE }
         requires named { key ≡ key_in (command_of request.now []) }
         requires looks { Looks self.old (B.state board.old).pages key old }
+        requires found { IsReadSince before (B.state board.old) }
 
         // The command.
         ensures executes { (v into : List ℕ)
             → Executes self.old self.new (B.state board.old) (B.state board.new)
-            (command_of request.now v) result into 0 }
-        ensures told { (result.reads ≡ reads) × (result.data_len ≡ 0) }
+            (command_of request.now v) result into
+            ((B.state board.new).reads - (B.state board.old).reads) }
+        ensures told { (result.reads ≡ (B.state board.new).reads - before)
+            × (result.data_len ≡ 0) }
+        ensures reads { IsCounted (B.state board.old) (B.state board.new) }
 
-        // The blocks for values, and the programs of a Delete that waits for nothing.
+        // The blocks for values, and the calls of a Delete that waits for nothing.
         ensures moves { result.stopped ≡ false → Stays self.old self.new }
         ensures programs { result.status ≡ SUCCESSFUL_COMPLETION
             → TakesQuietly self.old key (B.state board.old) (B.state board.new) }
+        ensures quiet { result.status ≡ SUCCESSFUL_COMPLETION
+            → ReadsQuietly self.old key (B.state board.old) (B.state board.new) }
     {
         known(&key);
         match old {
-            None => refusal(KEY_DOES_NOT_EXIST, reads),
-            Some(place) => match self.take_out(board, key, place) {
-                Ok(()) => served(0, 0, reads),
-                Err(_) => {
-                    self.stopped = true;
-                    stopping(reads)
-                }
-            },
+            None => refusal(KEY_DOES_NOT_EXIST, reads_since(board, before)),
+            Some(place) => {
+                let answer = self.take_out(board, key, place);
+                self.changed(answer, reads_since(board, before))
+            }
         }
     }
 
@@ -221,10 +239,7 @@ impl<A: Region> Drive<A> {
         let before = board.read_count();
         let key = request.key();
         match self.look(board, &key) {
-            Ok(old) => {
-                let reads = reads_since(board, before);
-                self.delete_at(board, request, key, old, reads)
-            }
+            Ok(old) => self.delete_at(board, request, key, old, before),
             Err(_) => refusal(UNRECOVERED_ERROR, reads_since(board, before)),
         }
     }

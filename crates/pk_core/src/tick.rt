@@ -1,14 +1,16 @@
 //! The background steps.
-ghost use Rattle.std.specs.Prelude.{◌≡◌, ◌⊎◌, ℕ, [], true, false, IfOk, OnOk, OnErr, MatchBool, slice_get};
+ghost use Rattle.std.specs.Prelude.{◌≡◌, ◌==◌, ℕ, [], length, true, false, IfOk, OnOk, OnErr, MatchBool, slice_get};
 ghost use Rattle.pk_nand.specs.Calls.{IsReady};
 ghost use Rattle.pk_pool.specs.Blocks.{PoolOnFlash, IsShared, IsOwned};
 ghost use Rattle.pk_pool.specs.Taking.{ErasesOne, ErasesNone, FailsToErase};
-ghost use Rattle.pk_drive.specs.Tick.{TellsIdle};
+ghost use Rattle.pk_drive.specs.Tick.{TellsIdle, LowersWork};
 ghost use Rattle.pk_drive.specs.Seen.{stopped_by};
-ghost use Rattle.pk_core.specs.Parts.{sight_of};
+ghost use Rattle.pk_compact.specs.FreezeSteps.{taken_by};
+ghost use Rattle.pk_schedule.specs.Steps.{has_no_merge};
+ghost use Rattle.pk_core.specs.Parts.{index_of, sight_of};
 ghost use Rattle.pk_core.specs.Agreeing.{DriveOnFlash};
 ghost use Rattle.pk_core.specs.Ticking as spec;
-ghost use Rattle.pk_core.specs.Ticking.{MayTick, Ticks};
+ghost use Rattle.pk_core.specs.Ticking.{MayTick, Ticks, Advances};
 ghost use Rattle.pk_core.specs.Staying.{Stays};
 
 use crate::drive::Drive;
@@ -16,6 +18,7 @@ use pk_drive::Ticked;
 use pk_nand::{Fault, Nand};
 use pk_plan::Owner;
 use pk_region::Region;
+use pk_schedule::Stepped;
 
 impl<A: Region> Drive<A> {
     // Erases the lowest free block that was not erased in this session; false where there is none. A failure stops the drive.
@@ -49,18 +52,94 @@ impl<A: Region> Drive<A> {
         }
     }
 
-    // Nothing is frozen, and the values have a block to go to.
-    fn has_no_work(&self) -> bool
-        ensures { result ≡ spec.has_no_work self.now }
+    // One step of the merges, of which one runs, or the frozen buffer has entries.
+    fn merge_step<B: Nand>(&mut self, board: &mut B) -> Ticked
+        requires may { MayTick self.old (B.state board.old) }
+        requires merges { has_no_merge (index_of self.old) ≡ false }
+        ensures { Advances self.old self.new (B.state board.old) (B.state board.new) result }
     {
-        let shape = self.shape();
-        self.log.frozen().len() == 0
-            && !(self.pool.used(Owner::Values) == shape.data_blocks() - 1
-                && !self.space.fits_open(&shape, shape.most_pages()))
+        match self.schedule.step(
+            board,
+            &mut self.pool,
+            &mut self.arena,
+            &mut self.levels,
+            &mut self.log,
+            &mut self.page,
+        ) {
+            Ok(Stepped::Worked) => Ticked::Worked,
+            // a merge runs, or is due
+            Ok(Stepped::Idle) => unreachable!(),
+            Err(Fault::Reading) => Ticked::Fault { stopped: false },
+            Err(Fault::Stopped) => {
+                self.stopped = true;
+                Ticked::Fault { stopped: true }
+            }
+        }
     }
 
-    /// One background step, as far as such steps are built: the lowest free block that was not erased in this session is erased.
-    /// A Tick makes them in a row, and is told more of each than `tick` tells. It is idle exactly where nothing is left to do; where a freeze, a merge or a reclaim would be next, nothing is done.
+    // One step of the freeze that runs.
+    fn freeze_step<B: Nand>(&mut self, board: &mut B) -> Ticked
+        requires may { MayTick self.old (B.state board.old) }
+        requires merged { has_no_merge (index_of self.old) ≡ true }
+        requires freezes { (length (taken_by self.old.schedule.freeze) == 0) ≡ false }
+        ensures { Advances self.old self.new (B.state board.old) (B.state board.new) result }
+    {
+        self.pool.known();
+        match self.schedule.freeze_step(
+            board,
+            &mut self.pool,
+            &self.arena,
+            &self.levels,
+            &mut self.log,
+            &mut self.page,
+        ) {
+            Ok(_) => Ticked::Worked,
+            Err(_) => {
+                self.stopped = true;
+                Ticked::Fault { stopped: true }
+            }
+        }
+    }
+
+    // The lowest free block that was not erased in this session is erased; idle where there is none.
+    fn erase_step<B: Nand>(&mut self, board: &mut B) -> Ticked
+        requires may { MayTick self.old (B.state board.old) }
+        requires merged { has_no_merge (index_of self.old) ≡ true }
+        requires frozen { (length (taken_by self.old.schedule.freeze) == 0) ≡ true }
+        ensures { Advances self.old self.new (B.state board.old) (B.state board.new) result }
+    {
+        match self.erase_spare(board) {
+            Ok(true) => Ticked::Worked,
+            Ok(false) => Ticked::Idle,
+            Err(_) => Ticked::Fault { stopped: true },
+        }
+    }
+
+    /// The next background step of those that are built, all but reclaims: a merge's, a freeze's, or the erase of a free block. Idle
+    /// where there is none.
+    pub(crate) fn advance<B: Nand>(&mut self, board: &mut B) -> Ticked
+        requires may { MayTick self.old (B.state board.old) }
+        ensures { Advances self.old self.new (B.state board.old) (B.state board.new) result }
+    {
+        if !self.schedule.has_no_merge(&self.log) {
+            self.merge_step(board)
+        } else if self.schedule.freezes() {
+            self.freeze_step(board)
+        } else {
+            self.erase_step(board)
+        }
+    }
+
+    // As many blocks have values as may have, and the open one does not take every value.
+    fn is_reclaim_due(&self) -> bool
+        ensures { result ≡ spec.is_reclaim_due self.now }
+    {
+        let shape = self.shape();
+        self.pool.used(Owner::Values) == shape.data_blocks() - 1
+            && !self.space.fits_open(&shape, shape.most_pages())
+    }
+
+    /// One background step. It is idle exactly where nothing is left to do; where nothing but a reclaim is left, nothing is done.
     pub(crate) fn step<B: Nand>(&mut self, board: &mut B) -> Ticked
         requires may { MayTick self.old (B.state board.old) }
 
@@ -72,23 +151,23 @@ impl<A: Region> Drive<A> {
         ensures moves { stopped_by result ≡ false → Stays self.old self.new }
 
         // The step.
-        ensures erases { stopped_by result ≡ false
-            → ErasesOne self.old.pool (B.state board.old) self.new.pool (B.state board.new)
-            ⊎ ErasesNone self.old.pool (B.state board.old) self.new.pool (B.state board.new) }
         ensures ticks { Ticks (B.state board.old) (B.state board.new) (sight_of self.old)
             (sight_of self.new) result }
         ensures idle { TellsIdle (B.state board.old) (sight_of self.old) result }
+        ensures lowers { LowersWork (B.state board.old) (B.state board.new) (sight_of self.old)
+            (sight_of self.new) result }
     {
-        match self.erase_spare(board) {
-            Ok(true) => Ticked::Worked,
-            Ok(false) => {
-                if self.has_no_work() {
-                    Ticked::Idle
-                } else {
+        self.pool.known();
+        match self.advance(board) {
+            Ticked::Worked => Ticked::Worked,
+            Ticked::Idle => {
+                if self.is_reclaim_due() {
                     Ticked::Worked
+                } else {
+                    Ticked::Idle
                 }
             }
-            Err(_) => Ticked::Fault { stopped: true },
+            Ticked::Fault { stopped } => Ticked::Fault { stopped },
         }
     }
 }

@@ -1,5 +1,5 @@
 //! The command that wants background steps.
-ghost use Rattle.std.specs.Prelude.{◌≡◌, ◌≢◌, ◌≤◌, ℕ, List, [], false, true};
+ghost use Rattle.std.specs.Prelude.{◌≡◌, ◌≤◌, ◌+◌, ℕ, List, [], false};
 ghost use Rattle.pk_nvme.specs.Seen.{command_of};
 ghost use Rattle.pk_nand.specs.Calls.{last_count};
 ghost use Rattle.pk_drive.specs.Seen.{stopped_by};
@@ -8,7 +8,7 @@ ghost use Rattle.pk_core.specs.Agreeing.{DriveOnFlash};
 ghost use Rattle.pk_core.specs.Serving.{IsServable};
 ghost use Rattle.pk_core.specs.Done.{Executes};
 ghost use Rattle.pk_core.specs.Ticking.{MayTick};
-ghost use Rattle.pk_core.specs.Stepping.{Steps, Erases, erased_in, has_failed, outcome_of};
+ghost use Rattle.pk_core.specs.Stepping.{Steps, Lessens, has_failed, outcome_of};
 ghost use Rattle.pk_nvme.specs.declared.status.TheConstants.{SUCCESSFUL_COMPLETION};
 ghost use Rattle.pk_nvme.specs.declared.opcode.TheConstants.{TICK};
 ghost use Rattle.pk_drive.specs.Calling.{FewCalls};
@@ -21,17 +21,6 @@ use pk_nand::Nand;
 use pk_nvme::Request;
 use pk_nvme::status::UNRECOVERED_ERROR;
 use pk_region::Region;
-
-// A further step may do more: this one did something, as the counts of erased blocks before and behind it tell.
-fn goes_on(answer: Ticked, before: u32, after: u32) -> bool
-    ensures goes { result ≡ true → (has_failed answer ≡ false) × (before ≢ after) }
-    ensures ends { result ≡ false → has_failed answer ≡ false → before ≡ after }
-{
-    match answer {
-        Ticked::Fault { .. } => false,
-        _ => before != after,
-    }
-}
 
 // What the last step came to, behind so many reads.
 fn answer_of(last: Ticked, reads: u32) -> Outcome
@@ -51,17 +40,11 @@ fn answer_of(last: Ticked, reads: u32) -> Outcome
 }
 
 impl<A: Region> Drive<A> {
-    // How many free blocks were erased in this session.
-    fn ready_blocks(&self) -> u32
-        ensures { result ≡ erased_in self.now.pool }
-    {
-        self.pool.ready()
-    }
-
-    // Makes so many background steps, fewer where one does nothing, as an idle one, or fails. The last one answers.
+    // Makes so many background steps, fewer where nothing is left but a reclaim, or a call fails. The last one answers.
     fn work<B: Nand>(&mut self, board: &mut B, steps: u32) -> Ticked
         requires may { MayTick self.old (B.state board.old) }
         requires count { (B.state board.old).reads ≤ last_count }
+        requires numbers { self.old.log.root.number + steps ≤ 18446744073709551615 }
 
         // The drive.
         ensures stops { self.new.stopped ≡ stopped_by result }
@@ -73,19 +56,19 @@ impl<A: Region> Drive<A> {
         // The steps.
         ensures steps { Steps (B.state board.old) (B.state board.new) (sight_of self.old)
             (sight_of self.new) result steps }
-        ensures done { has_failed result ≡ false → Erases self.old.pool self.new.pool steps }
+        ensures done { has_failed result ≡ false → Lessens self.old self.new steps }
     {
         for made in 0..steps {
-            let before = self.ready_blocks();
-            let answer = self.step(board);
-            if !goes_on(answer, before, self.ready_blocks()) {
-                return answer;
+            match self.advance(board) {
+                Ticked::Worked => {}
+                Ticked::Idle => return Ticked::Idle,
+                Ticked::Fault { stopped } => return Ticked::Fault { stopped },
             }
         }
         Ticked::Worked
     }
 
-    /// Makes as many background steps as the command wants, fewer where a further one would do nothing: each erases a block.
+    /// Makes as many background steps as the command wants, fewer where a further one would do nothing.
     pub(crate) fn tick_command<B: Nand>(&mut self, board: &mut B, request: &Request) -> Outcome
         // The command is one that it serves, and nothing is pending.
         requires servable { IsServable self.old (B.state board.old) request.now }
@@ -101,7 +84,7 @@ impl<A: Region> Drive<A> {
         // Its steps.
         ensures none { self.new.log.pending ≡ [] }
         ensures done { result.status ≡ SUCCESSFUL_COMPLETION
-            → Erases self.old.pool self.new.pool request.now.size }
+            → Lessens self.old self.new request.now.size }
         ensures moves { result.stopped ≡ false → Stays self.old self.new }
         ensures calls { FewCalls request.now.size (B.state board.old) (B.state board.new) }
     {

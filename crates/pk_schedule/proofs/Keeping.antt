@@ -1,11 +1,12 @@
 -- An index stands as before where others change pages and owners that are none of its own, where entries are noted, and where they are committed.
-use Rattle.std.proofs.Common.{◌≡◌, ◌⊎◌, inl, inr, ℕ, ◌*◌, ◌/◌, ◌%◌, ◌<◌, List, [], ◌∷◌, ◌++◌, length, slice_index, Option, Some, refl, sym, ap, subst, ◌∙◌, arith, mod-lt, div-lt_iff_lt-mul}
+use Rattle.std.proofs.Common.{◌≡◌, ◌⊎◌, inl, inr, ℕ, ◌+◌, ◌*◌, ◌/◌, ◌%◌, ◌<◌, ◌≤◌, Bool, true, false, List, [], ◌∷◌, ◌++◌, length, map, slice_index, Option, Some, None, refl, sym, ap, subst, ◌∙◌, arith, mod-lt, div-lt_iff_lt-mul}
 use Rattle.std.specs.Prelude.{slice_get, unwrap_or}
 use Rattle.std.specs.List.{concat, AllByRecursion}
 use Rattle.std.proofs.lemmas.Nat.{div-mul-add}
 use Rattle.pk_base.specs.Shape.{Shape, IsShape, pinned}
 use Rattle.pk_base.specs.Page.{Flash, page_at}
 use Rattle.pk_base.specs.Entry.{Entry}
+use Rattle.pk_base.specs.Firsts.{firsts}
 use Rattle.pk_base.proofs.ShapeLemmas.{block_pages_positive}
 use Rattle.pk_buf.specs.Table.{Table}
 use Rattle.pk_plan.specs.declared.owner.Owner.TheVariants.{Journal, Meta}
@@ -25,6 +26,7 @@ use Rattle.pk_model.specs.Tree.{run_at}
 use Rattle.pk_model.proofs.Commits.{member}
 use Rattle.pk_model.proofs.SamePages.{any_front, any_back}
 use Rattle.pk_steps.specs.Roots.{committed}
+use Rattle.pk_steps.proofs.FourRuns.{IsLevel, next_is_level}
 use Rattle.pk_merge.specs.Elsewhere.{IsElsewhere}
 use Rattle.pk_merge.specs.Jobs.{Job, IsIdle, pins, output_of}
 use Rattle.pk_merge.proofs.Elsewhere.{runs_elsewhere}
@@ -37,7 +39,7 @@ use Rattle.pk_log.specs.Laws.{SameNamed}
 use Rattle.pk_log.proofs.Standing.{logs_elsewhere}
 use Rattle.pk_schedule.specs.declared.phase.Phase.{Phase}
 use Rattle.pk_schedule.specs.declared.phase.Phase.TheVariants.{Idle, Running, Ready}
-use Rattle.pk_schedule.specs.Index.{Index, Schedule, IndexOnFlash, MergesInto, MergeRuns, MergeWaits, MergeStands, FreezeStands, AreHeld, index, output, source_at, entries_at}
+use Rattle.pk_schedule.specs.Index.{Index, Schedule, IndexOnFlash, MergesInto, MergeRuns, MergeWaits, MergeStands, FreezeStands, AreHeld, index, merging, output, source_at, entries_at}
 
 -- ---- runs
 
@@ -335,3 +337,23 @@ module _ (log : LogState) (levels : Levels) (arena : Frames) (pool : Blocks) (fr
   index_opens f s idle pins_are =
       let S : Phase → FreezeJob → Type 0 = λ p j. IndexOnFlash (index log levels arena pool (record { job = s.job; phase = p; freeze = j })) frames flash top found in
       subst (λ (p : Phase). S p s.freeze) (sym idle.0) (subst (λ (j : FreezeJob). S Idle j) (sym idle.1) (idle_opens f s.job idle.2 pins_are))
+
+-- ---- no merge
+
+no_leases : (shape : Shape) (job : Job) → IsIdle shape job → (output_of job).leases ≡ []
+no_leases shape job is = ap (λ (o : Option Kept). (unwrap_or o (empty job.merger.shape job.target)).leases) is.output
+
+not_level : (level : ℕ) → IsLevel level → level ≡ 0 → ⊥
+not_level level (inl e) none = omega (arith, e, none)
+not_level level (inr (inl e)) none = omega (arith, e, none)
+not_level level (inr (inr (inl e))) none = omega (arith, e, none)
+not_level level (inr (inr (inr e))) none = omega (arith, e, none)
+
+idle_in : (phase : Phase) (x : Index) (flash : Flash) (root : Root) (found : Found) → MergeStands phase x flash root found → merging phase ≡ 0 → IsIdle x.log.shape x.schedule.job
+idle_in Idle x flash root found m none = m
+idle_in (Running level) x flash root found m none = absurd (not_level level (next_is_level x.log.shape (length (firsts found.older)) (map length found.runs) level m.into.due) none)
+idle_in (Ready level) x flash root found m none = absurd (not_level level (next_is_level x.log.shape (length (firsts found.older)) (map length found.runs) level m.into.due) none)
+
+-- where no merge runs, its output has no frames
+pub idle_leases : (x : Index) (frames : ℕ) (flash : Flash) (top : ℕ × Root) (found : Found) → IndexOnFlash x frames flash top found → merging x.schedule.phase ≡ 0 → (output x.schedule).leases ≡ []
+idle_leases x frames flash top found stands none = no_leases x.log.shape x.schedule.job (idle_in x.schedule.phase x flash top.1 found stands.merge none)

@@ -8,21 +8,29 @@ use Rattle.pk_core.proofs.Executing.{executes_quiet}
 use Rattle.pk_core.proofs.Staying.{stays_same, stays_from}
 use Rattle.pk_core.proofs.Statuses.{told_refused}
 use Rattle.pk_core.proofs.Programming.{quiet_delete_behind}
+use Rattle.pk_core.proofs.Quieted.{reads_behind}
 use Rattle.pk_core.proofs.drive.Drive.delete.Goals as goal
 
 pub delete_at-requires-clause-looks : goal.delete_at-requires-clause-looks
 delete_at-requires-clause-looks g c =
     looks_behind c.args.self.now c.look.new.self (g.B.Nand.state c.args.board.now).pages (g.B.Nand.state c.look.new.board).pages c.key-key.result c.in-Ok.old c.look.ensures.same c.look.ensures.pages c.in-Ok.ensures.looks
 
+pub delete_at-requires-clause-found : goal.delete_at-requires-clause-found
+delete_at-requires-clause-found g c =
+    let made = c.in-Ok.ensures.reads in
+    let is = c.read_count-before.ensures.value in
+    record { up = (let up = made.up in omega (arith, is, up)); few = (let within = made.within in omega (arith, is, within)) }
+
 pub returns-in-Ok-clause-executes : goal.returns-in-Ok-clause-executes
 returns-in-Ok-clause-executes g c = λ v into.
-    let did = c.delete_at.ensures.executes v into in
+    let e = c.delete_at.ensures in
+    let did = e.executes v into in
     record {
       stops = did.stops;
       agrees = did.agrees;
       does = does_behind c.args.self.now c.look.new.self c.delete_at.new.self (g.B.Nand.state c.args.board.now) (g.B.Nand.state c.look.new.board) (g.B.Nand.state c.delete_at.new.board) _ _ into
-          c.delete_at.result c.reads_since-reads.result c.look.ensures.same c.in-Ok.ensures.reads (delete_is_other c.args.request.now c.requires.opcode) c.delete_at.ensures.told.0
-          (omega (arith, c.reads_since-reads.ensures.reads, c.read_count-before.ensures.value)) (did.does);
+          c.delete_at.result c.look.ensures.same c.in-Ok.ensures.reads (delete_is_other c.args.request.now c.requires.opcode) e.reads
+          (omega (arith, e.told.0, c.read_count-before.ensures.value)) (did.does);
     }
 
 pub returns-in-Err-clause-executes : goal.returns-in-Err-clause-executes
@@ -41,7 +49,12 @@ returns-in-Err-clause-moves g c = λ _. stays_same _ _ c.look.ensures.same
 
 pub returns-in-Ok-clause-quiet : goal.returns-in-Ok-clause-quiet
 returns-in-Ok-clause-quiet g c = λ zero none.
-    quiet_delete_behind c.args.self.now c.look.new.self (g.B.Nand.state c.args.board.now) (g.B.Nand.state c.look.new.board) (g.B.Nand.state c.delete_at.new.board) c.key-key.result _ c.delete_at.result.reads c.look.ensures.same c.in-Ok.ensures.reads c.key-key.ensures (c.delete_at.ensures.programs zero) (omega (arith, c.delete_at.ensures.told.0, c.reads_since-reads.ensures.reads, c.read_count-before.ensures.value, c.in-Ok.ensures.reads.within)) none
+    let e = c.delete_at.ensures in
+    let mid = g.B.Nand.state c.look.new.board in
+    let new = g.B.Nand.state c.delete_at.new.board in
+    let same = reads_behind c.args.self.now c.look.new.self mid new c.key-key.result _ c.look.ensures.same c.key-key.ensures (e.quiet zero) none in
+    quiet_delete_behind c.args.self.now c.look.new.self (g.B.Nand.state c.args.board.now) mid new c.key-key.result _ c.delete_at.result.reads c.look.ensures.same c.in-Ok.ensures.reads c.key-key.ensures (e.programs zero)
+    (omega (arith, e.told.0, same, c.read_count-before.ensures.value, c.in-Ok.ensures.reads.within)) none
 
 pub returns-in-Err-clause-quiet : goal.returns-in-Err-clause-quiet
 returns-in-Err-clause-quiet g c = λ zero. absurd (told_refused c.refusal.result 0x88 0 0 c.reads_since.result false c.refusal.ensures (λ e. omega (arith, e)) zero)

@@ -1,38 +1,24 @@
-use Rattle.std.specs.Prelude.{Ok}
-use Rattle.pk_core.proofs.Freezing.{may_here, freeze_step, leaves_if, room_if, none_if, stays_if}
+use Rattle.pk_core.proofs.Emptied.{ongoing_begin, may_freeze, ongoing_more, ongoing_end, ongoing_failed, room_behind}
+use Rattle.pk_core.proofs.Staying.{stays_then}
 use Rattle.pk_core.proofs.drive.Drive.freeze_log.Goals as goal
 
-pub freeze-requires-clause-can : goal.freeze-requires-clause-can
-freeze-requires-clause-can g c =
-    let r = rw (← c.self.view_is) at c.requires in
-    may_here (Ok tt) _ (g.B.Nand.state c.args.board.now) (g.B.Nand.state c.args.board.now) r.may.ready r.none_pending r.none_frozen r.unworn r.may.stands
+pub freezes-init : goal.freezes-init
+freezes-init g c = ongoing_begin c.args.self.now (g.B.Nand.state c.args.board.now) c.requires.may c.requires.none_pending c.requires.none_merges
 
-pub returns-clause-step : goal.returns-clause-step
-returns-clause-step g c =
-    let e = c.freeze.ensures in
-    let r = rw (← c.self.view_is) at c.requires in
-    rw (← c.self.view_is) (freeze_step c.freeze.result _ c.freeze.new.self c.freeze.new.pool (g.B.Nand.state c.args.board.now) (g.B.Nand.state c.freeze.new.board) r.may.ready r.none_pending r.none_frozen r.unworn c.known.ensures e.fits e.step)
+pub freeze_once-requires-clause-may : goal.freeze_once-requires-clause-may
+freeze_once-requires-clause-may g c = may_freeze c.args.self.now (g.B.Nand.state c.args.board.now) c.freezes.self (g.B.Nand.state c.freezes.board) c.requires.may.ready c.freezes.invariant c.requires.number
 
-pub returns-clause-leaves : goal.returns-clause-leaves
-returns-clause-leaves g c =
-    let e = c.freeze.ensures in
-    let r = rw (← c.self.view_is) at c.requires in
-    rw (← c.self.view_is) (leaves_if c.freeze.result _ (g.B.Nand.state c.args.board.now) (g.B.Nand.state c.freeze.new.board) r.may.ready r.none_pending r.none_frozen r.unworn r.may.stands c.freeze.new.self c.freeze.new.pool e.step.ready c.known.ensures e.step.ended e.fits e.same_shape)
+pub returns-in-Ok-true-clause-step : goal.returns-in-Ok-true-clause-step
+returns-in-Ok-true-clause-step g c = ongoing_end c.args.self.now (g.B.Nand.state c.args.board.now) c.freezes.self (g.B.Nand.state c.freezes.board) c.requires.may.ready c.freezes.invariant c.freeze_once.new.self (g.B.Nand.state c.freeze_once.new.board) c.in-Ok-true.field-0 c.in-Ok-true.ensures
 
-pub returns-clause-room : goal.returns-clause-room
-returns-clause-room g c =
-    let e = c.freeze.ensures in
-    let r = rw (← c.self.view_is) at c.requires in
-    room_if c.freeze.result _ (g.B.Nand.state c.args.board.now) (g.B.Nand.state c.freeze.new.board) r.may.ready r.none_pending r.none_frozen r.unworn r.may.stands c.freeze.new.self c.freeze.new.pool e.step.ended
+pub returns-in-Ok-true-clause-room : goal.returns-in-Ok-true-clause-room
+returns-in-Ok-true-clause-room g c = room_behind c.args.self.now (g.B.Nand.state c.args.board.now) c.freezes.self (g.B.Nand.state c.freezes.board) c.requires.may.ready c.freezes.invariant c.freeze_once.new.self (g.B.Nand.state c.freeze_once.new.board) c.in-Ok-true.field-0 c.in-Ok-true.field-0-test c.in-Ok-true.ensures
 
-pub returns-clause-none : goal.returns-clause-none
-returns-clause-none g c =
-    let e = c.freeze.ensures in
-    let r = rw (← c.self.view_is) at c.requires in
-    none_if c.freeze.result _ (g.B.Nand.state c.args.board.now) (g.B.Nand.state c.freeze.new.board) r.may.ready r.none_pending r.none_frozen r.unworn r.may.stands c.freeze.new.self c.freeze.new.pool e.step.ended
+pub returns-in-Ok-true-clause-moves : goal.returns-in-Ok-true-clause-moves
+returns-in-Ok-true-clause-moves g c = stays_then _ _ _ c.freezes.invariant.stays c.in-Ok-true.ensures.stays
 
-pub returns-clause-moves : goal.returns-clause-moves
-returns-clause-moves g c =
-    let e = c.freeze.ensures in
-    let r = rw (← c.self.view_is) at c.requires in
-    rw (← c.self.view_is) (stays_if c.freeze.result _ (g.B.Nand.state c.args.board.now) (g.B.Nand.state c.freeze.new.board) r.may.ready r.none_pending r.none_frozen r.unworn r.may.stands c.freeze.new.self c.freeze.new.pool e.step.ready c.known.ensures e.step.ended e.fits)
+pub freezes-preserved : goal.freezes-preserved
+freezes-preserved g c = ongoing_more c.args.self.now (g.B.Nand.state c.args.board.now) c.freezes.self (g.B.Nand.state c.freezes.board) c.requires.may.ready c.freezes.invariant c.freeze_once.new.self (g.B.Nand.state c.freeze_once.new.board) c.in-Ok-false.field-0 c.in-Ok-false.field-0-test c.in-Ok-false.ensures
+
+pub returns-in-Err-clause-step : goal.returns-in-Err-clause-step
+returns-in-Err-clause-step g c = ongoing_failed c.args.self.now (g.B.Nand.state c.args.board.now) c.freezes.self (g.B.Nand.state c.freezes.board) c.requires.may.ready c.freezes.invariant c.freeze_once.new.self (g.B.Nand.state c.freeze_once.new.board) c.in-Err.fault c.in-Err.ensures

@@ -1,52 +1,79 @@
-use Rattle.std.proofs.Common.{sym, ap, ◌∙◌, arith, refl}
-use Rattle.pk_core.specs.Parts.{Parts}
-use Rattle.pk_core.proofs.Steps.{none_step, leaves_none, shape_committed, leaves_then, may_after, keeps_later, keeps_broken}
-use Rattle.pk_core.proofs.Rooming.{none_frozen, still_unworn}
-use Rattle.pk_core.proofs.Staying.{stays_same, stays_then_ok}
+use Rattle.std.proofs.Common.{ap, sym, ◌∙◌, ◌≡◌, ◌≤◌, arith, refl, false, length, List, []}
+use Rattle.pk_base.specs.Entry.{Entry}
+use Rattle.pk_base.specs.Key.{Key}
+use Rattle.pk_log.specs.State.{needs_freeze}
+use Rattle.pk_core.specs.Moves.{LeavesValues}
+use Rattle.pk_core.specs.Staying.{Stays}
+use Rattle.pk_core.proofs.Results.{on_ok}
+use Rattle.pk_core.proofs.Steps.{leaves_none, leaves_twice, leaves_committed, shape_committed, may_after}
+use Rattle.pk_core.proofs.ReadSteps.{running_says, running_stopped}
+use Rattle.pk_core.proofs.Emptied.{none_reads, room_committed, not_committed}
+use Rattle.pk_core.proofs.Rooming.{still_unworn}
+use Rattle.pk_core.proofs.Staying.{stays_same, stays_then}
 use Rattle.pk_core.proofs.Programming.{not_wanted_ok}
 use Rattle.pk_core.proofs.drive.Drive.make_room.Goals as goal
 
 pub returns-then-not-needs_freeze-clause-step : goal.returns-then-not-needs_freeze-clause-step
-returns-then-not-needs_freeze-clause-step g c = none_step c.args.self.now 1 (g.B.Nand.state c.args.board.now) tt c.requires.may.ready
+returns-then-not-needs_freeze-clause-step g c = none_reads c.args.self.now _ (g.B.Nand.state c.args.board.now) c.requires.may.ready
 
 pub returns-then-not-needs_freeze-clause-leaves : goal.returns-then-not-needs_freeze-clause-leaves
 returns-then-not-needs_freeze-clause-leaves g c = leaves_none c.args.self.now
 
-pub freeze_if_needed-requires-clause-may : goal.freeze_if_needed-requires-clause-may
-freeze_if_needed-requires-clause-may g c =
-    let e = c.in-Ok.ensures in
-    may_after c.args.self.now c.commit_pending.new.self 0 (g.B.Nand.state c.args.board.now) (g.B.Nand.state c.commit_pending.new.board) tt c.requires.may (shape_committed c.args.self.now c.commit_pending.new.self e.rest) e.step
-
-pub freeze_if_needed-requires-clause-none_frozen : goal.freeze_if_needed-requires-clause-none_frozen
-freeze_if_needed-requires-clause-none_frozen g c =
-    let r = rw (← c.self.view_is) at c.requires in
-    ap (λ (d : Parts). d.log.frozen.entries) c.in-Ok.ensures.rest
-    ∙ rw (← c.self.view_is) (none_frozen _ _ (g.B.Nand.state c.args.board.now).pages r.may.stands.0 c.args.key.now r.may.stands.1 (sym c.needs_freeze.ensures ∙ c.if-not-needs_freeze.false) r.one_freeze)
-
-pub freeze_if_needed-requires-clause-unworn : goal.freeze_if_needed-requires-clause-unworn
-freeze_if_needed-requires-clause-unworn g c = still_unworn (g.B.Nand.state c.args.board.now) (g.B.Nand.state c.commit_pending.new.board) c.in-Ok.ensures.step.roots_few c.requires.unworn
-
-pub returns-in-Ok-clause-step : goal.returns-in-Ok-clause-step
-returns-in-Ok-clause-step g c =
-    let e = c.in-Ok.ensures in
-    keeps_later c.freeze_if_needed.result c.args.self.now c.commit_pending.new.self c.freeze_if_needed.new.self 0 1 1 (g.B.Nand.state c.args.board.now) (g.B.Nand.state c.commit_pending.new.board) (g.B.Nand.state c.freeze_if_needed.new.board) tt
-    c.requires.may.ready (shape_committed c.args.self.now c.commit_pending.new.self e.rest) (omega arith) e.step c.freeze_if_needed.ensures.step
-
-pub returns-in-Ok-clause-leaves : goal.returns-in-Ok-clause-leaves
-returns-in-Ok-clause-leaves g c =
-    leaves_then c.freeze_if_needed.result c.args.self.now c.commit_pending.new.self c.freeze_if_needed.new.self c.in-Ok.ensures.rest c.freeze_if_needed.ensures.leaves
-
-pub returns-in-Err-clause-step : goal.returns-in-Err-clause-step
-returns-in-Err-clause-step g c = keeps_broken _ c.args.self.now c.commit_pending.new.self c.commit_pending.new.self 0 1 (g.B.Nand.state c.args.board.now) (g.B.Nand.state c.commit_pending.new.board) (omega arith) c.in-Err.ensures.step
-
 pub returns-then-not-needs_freeze-clause-moves : goal.returns-then-not-needs_freeze-clause-moves
 returns-then-not-needs_freeze-clause-moves g c = stays_same _ _ refl
-
-pub returns-in-Ok-clause-moves : goal.returns-in-Ok-clause-moves
-returns-in-Ok-clause-moves g c = stays_then_ok c.freeze_if_needed.result _ _ _ c.in-Ok.ensures.moves c.freeze_if_needed.ensures.moves
 
 pub returns-then-not-needs_freeze-clause-idle : goal.returns-then-not-needs_freeze-clause-idle
 returns-then-not-needs_freeze-clause-idle g c = λ _. (refl, refl)
 
+pub empty_active-requires-clause-may : goal.empty_active-requires-clause-may
+empty_active-requires-clause-may g c =
+    let e = c.in-Ok.ensures in
+    may_after c.args.self.now c.commit_pending.new.self 0 (g.B.Nand.state c.args.board.now) (g.B.Nand.state c.commit_pending.new.board) tt c.requires.may (shape_committed c.args.self.now c.commit_pending.new.self e.rest) e.step
+
+pub empty_active-requires-clause-unworn : goal.empty_active-requires-clause-unworn
+empty_active-requires-clause-unworn g c = still_unworn (g.B.Nand.state c.args.board.now) (g.B.Nand.state c.commit_pending.new.board) c.in-Ok.ensures.step.roots_few c.requires.unworn
+
+pub returns-in-Ok-clause-step : goal.returns-in-Ok-clause-step
+returns-in-Ok-clause-step g c =
+    let e = c.in-Ok.ensures in
+    room_committed c.empty_active.result c.args.self.now c.commit_pending.new.self c.empty_active.new.self (g.B.Nand.state c.args.board.now) (g.B.Nand.state c.commit_pending.new.board) (g.B.Nand.state c.empty_active.new.board)
+    c.requires.may.ready (shape_committed c.args.self.now c.commit_pending.new.self e.rest) e.step c.empty_active.ensures.step
+
+pub returns-in-Ok-clause-room : goal.returns-in-Ok-clause-room
+returns-in-Ok-clause-room g c =
+    let log = c.empty_active.new.self.log in
+    on_ok (λ (u : Unit). (key : Key) → needs_freeze log key ≡ false) (needs_freeze log c.args.key.now ≡ false) c.empty_active.result (λ u room. room c.args.key.now) c.empty_active.ensures.room
+
+pub returns-in-Ok-clause-pending : goal.returns-in-Ok-clause-pending
+returns-in-Ok-clause-pending g c =
+    let after = c.empty_active.new.self.log.pending in
+    running_says (after ≡ []) (length after ≤ _) c.empty_active.result (λ none. let same = ap (λ (es : List Entry). length es) none in omega (arith, same)) c.empty_active.ensures.none
+
+pub returns-in-Ok-clause-leaves : goal.returns-in-Ok-clause-leaves
+returns-in-Ok-clause-leaves g c =
+    let a = c.args.self.now in
+    let b = c.commit_pending.new.self in
+    let d = c.empty_active.new.self in
+    running_says (LeavesValues b d) (LeavesValues a d) c.empty_active.result (leaves_twice a b d (leaves_committed a b c.in-Ok.ensures.rest)) c.empty_active.ensures.leaves
+
+pub returns-in-Ok-clause-moves : goal.returns-in-Ok-clause-moves
+returns-in-Ok-clause-moves g c =
+    let a = c.args.self.now in
+    let b = c.commit_pending.new.self in
+    let d = c.empty_active.new.self in
+    running_says (Stays b d) (Stays a d) c.empty_active.result (stays_then a b d c.in-Ok.ensures.moves) c.empty_active.ensures.moves
+
 pub returns-in-Ok-clause-idle : goal.returns-in-Ok-clause-idle
-returns-in-Ok-clause-idle g c = rw (← c.self.view_is) (not_wanted_ok _ c.freeze_if_needed.result _ (sym c.needs_freeze.ensures ∙ c.if-not-needs_freeze.false))
+returns-in-Ok-clause-idle g c = rw (← c.self.view_is) (not_wanted_ok _ c.empty_active.result _ (sym c.needs_freeze.ensures ∙ c.if-not-needs_freeze.false))
+
+pub returns-in-Err-clause-step : goal.returns-in-Err-clause-step
+returns-in-Err-clause-step g c = not_committed c.in-Err.fault c.args.self.now c.commit_pending.new.self (g.B.Nand.state c.args.board.now) (g.B.Nand.state c.commit_pending.new.board) c.in-Err.ensures.step
+
+pub returns-in-Err-clause-pending : goal.returns-in-Err-clause-pending
+returns-in-Err-clause-pending g c = running_stopped Unit _ c.in-Err.fault c.in-Err.ensures.step.stopped
+
+pub returns-in-Err-clause-leaves : goal.returns-in-Err-clause-leaves
+returns-in-Err-clause-leaves g c = running_stopped Unit _ c.in-Err.fault c.in-Err.ensures.step.stopped
+
+pub returns-in-Err-clause-moves : goal.returns-in-Err-clause-moves
+returns-in-Err-clause-moves g c = running_stopped Unit _ c.in-Err.fault c.in-Err.ensures.step.stopped

@@ -1,11 +1,13 @@
-use Rattle.std.proofs.Common.{ap, arith, length}
+use Rattle.std.proofs.Common.{ap, ◌≤◌, length, Err}
+use Rattle.pk_base.specs.Shape.{charge}
 use Rattle.pk_core.specs.Parts.{Parts}
-use Rattle.pk_core.specs.Changes.{PutsAll, FailsToPut}
-use Rattle.pk_core.specs.Moves.{KeepsAll, BreaksAll}
-use Rattle.pk_model.proofs.Steps.{Step-broken}
-use Rattle.pk_core.proofs.Putting.{put_broken}
-use Rattle.pk_core.proofs.Steps.{can_put_after, step_puts_later, stays_then}
-use Rattle.pk_core.proofs.Staying.{opens_put}
+use Rattle.pk_core.specs.Changes.{StaysBetween}
+use Rattle.pk_core.specs.Moves.{LeavesValues}
+use Rattle.pk_core.specs.Staying.{Stays, StaysOrOpens}
+use Rattle.pk_core.proofs.Steps.{can_put_after, step_puts_later, stays_then, stays_kept, put_failed_before}
+use Rattle.pk_core.proofs.ReadSteps.{running_ok, running_failed, running_both}
+use Rattle.pk_core.proofs.Staying.{stays_opens, opens_put}
+use Rattle.pk_core.proofs.Quieted.{put_reads_none}
 use Rattle.pk_core.proofs.Programming.{put_idle}
 use Rattle.pk_core.proofs.drive.Drive.put.Goals as goal
 
@@ -15,30 +17,47 @@ make_room-requires-clause-may g c = record { ready = c.requires.can.ready; stand
 pub put_with_room-requires-clause-can : goal.put_with_room-requires-clause-can
 put_with_room-requires-clause-can g c =
     let e = c.in-Ok.ensures in
-    can_put_after c.args.self.now c.make_room.new.self 1 (g.B.Nand.state c.args.board.now) (g.B.Nand.state c.make_room.new.board) tt e.leaves e.pending e.step c.args.key c.args.value.now c.args.old c.requires.can
+    can_put_after c.args.self.now c.make_room.new.self _ (g.B.Nand.state c.args.board.now) (g.B.Nand.state c.make_room.new.board) tt e.leaves e.pending e.step c.args.key c.args.value.now c.args.old c.requires.can
 
 pub returns-in-Ok-clause-step : goal.returns-in-Ok-clause-step
 returns-in-Ok-clause-step g c =
     let e = c.in-Ok.ensures in
-    step_puts_later c.args.self.now c.make_room.new.self 1 (g.B.Nand.state c.args.board.now) (g.B.Nand.state c.make_room.new.board) tt e.leaves e.pending e.step c.put_with_room.result c.put_with_room.new.self 0 1 (g.B.Nand.state c.put_with_room.new.board)
-    c.requires.can.ready (omega arith) c.args.key c.args.value.now c.args.old c.put_with_room.ensures.step
+    step_puts_later c.args.self.now c.make_room.new.self _ (g.B.Nand.state c.args.board.now) (g.B.Nand.state c.make_room.new.board) tt e.leaves e.pending e.step c.put_with_room.result c.put_with_room.new.self (g.B.Nand.state c.put_with_room.new.board)
+    c.requires.can.ready c.args.key c.args.value.now c.args.old c.put_with_room.ensures.step
 
 pub returns-in-Ok-clause-stays : goal.returns-in-Ok-clause-stays
 returns-in-Ok-clause-stays g c =
-    stays_then c.put_with_room.result c.args.self.now c.make_room.new.self c.put_with_room.new.self c.in-Ok.ensures.leaves c.put_with_room.ensures.stays
-
-pub returns-in-Err-clause-step : goal.returns-in-Err-clause-step
-returns-in-Err-clause-step g c =
-    Step-broken _ (λ (u : Unit). KeepsAll c.args.self.now c.make_room.new.self (g.B.Nand.state c.args.board.now) (g.B.Nand.state c.make_room.new.board)) (λ (u : Unit). PutsAll c.args.self.now c.make_room.new.self (g.B.Nand.state c.args.board.now) (g.B.Nand.state c.make_room.new.board) c.args.key c.args.value.now c.args.old)
-    (BreaksAll c.args.self.now (g.B.Nand.state c.args.board.now) (g.B.Nand.state c.make_room.new.board)) (FailsToPut c.args.self.now (g.B.Nand.state c.args.board.now) (g.B.Nand.state c.make_room.new.board) c.args.key c.args.value.now c.args.old)
-    c.args.self.now.log.shape 1 1 (g.B.Nand.state c.args.board.now) (g.B.Nand.state c.make_room.new.board) (omega arith)
-    (λ broken. put_broken c.args.self.now (g.B.Nand.state c.args.board.now) (g.B.Nand.state c.make_room.new.board) c.args.key c.args.value.now c.args.old c.requires.can.ready broken) c.in-Err.ensures.step
+    let e = c.put_with_room.ensures in
+    stays_then c.put_with_room.result c.args.self.now c.make_room.new.self c.put_with_room.new.self c.in-Ok.ensures.leaves e.step.stopped e.stays
 
 pub returns-in-Ok-clause-opens : goal.returns-in-Ok-clause-opens
 returns-in-Ok-clause-opens g c =
     let e = c.in-Ok.ensures in
-    opens_put c.put_with_room.result c.args.self.now c.make_room.new.self c.put_with_room.new.self (length c.args.value.now) e.moves e.leaves.same_shape (ap (λ (d : Parts). d.space) e.leaves.rest) c.put_with_room.ensures.opens
+    let opens = StaysOrOpens c.args.self.now c.put_with_room.new.self (charge c.args.self.now.log.shape (length c.args.value.now)) in
+    running_ok opens opens c.put_with_room.result (λ is. is) c.put_with_room.ensures.step.stopped
+    (opens_put c.put_with_room.result c.args.self.now c.make_room.new.self c.put_with_room.new.self (length c.args.value.now) e.moves e.leaves.same_shape (ap (λ (d : Parts). d.space) e.leaves.rest) c.put_with_room.ensures.opens)
 
 pub returns-in-Ok-clause-programs : goal.returns-in-Ok-clause-programs
 returns-in-Ok-clause-programs g c =
     put_idle c.put_with_room.result c.args.self.now c.make_room.new.self (g.B.Nand.state c.args.board.now) (g.B.Nand.state c.make_room.new.board) (g.B.Nand.state c.put_with_room.new.board) c.args.key (length c.args.value.now) c.in-Ok.ensures.idle c.put_with_room.ensures.programs
+
+pub returns-in-Ok-clause-quiet : goal.returns-in-Ok-clause-quiet
+returns-in-Ok-clause-quiet g c = put_reads_none c.put_with_room.result c.args.self.now c.make_room.new.self (g.B.Nand.state c.args.board.now) (g.B.Nand.state c.make_room.new.board) (g.B.Nand.state c.put_with_room.new.board) c.args.key c.in-Ok.ensures.idle c.put_with_room.ensures.step.works
+
+pub returns-in-Err-clause-step : goal.returns-in-Err-clause-step
+returns-in-Err-clause-step g c =
+    put_failed_before c.in-Err.fault c.args.self.now c.make_room.new.self _ (g.B.Nand.state c.args.board.now) (g.B.Nand.state c.make_room.new.board) c.requires.can.ready c.in-Err.ensures.step c.args.key c.args.value.now c.args.old
+
+pub returns-in-Err-clause-stays : goal.returns-in-Err-clause-stays
+returns-in-Err-clause-stays g c =
+    let e = c.in-Err.ensures in
+    let a = c.args.self.now in
+    let b = c.make_room.new.self in
+    running_failed Unit Unit (LeavesValues a b × (length b.log.pending ≤ length a.log.pending)) (StaysBetween a b) c.in-Err.fault (λ is. stays_kept a b is.0 is.1 c.requires.can.few) (running_both {T = Unit {0}} (LeavesValues a b) (length b.log.pending ≤ length a.log.pending) (Err c.in-Err.fault) e.leaves e.pending)
+
+pub returns-in-Err-clause-opens : goal.returns-in-Err-clause-opens
+returns-in-Err-clause-opens g c =
+    let a = c.args.self.now in
+    let b = c.make_room.new.self in
+    let count = charge a.log.shape (length c.args.value.now) in
+    running_failed Unit Unit (Stays a b) (StaysOrOpens a b count) c.in-Err.fault (stays_opens a b count) c.in-Err.ensures.moves

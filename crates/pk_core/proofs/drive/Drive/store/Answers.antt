@@ -9,6 +9,7 @@ use Rattle.pk_core.proofs.Staying.{stays_same, stays_opens, opens_from}
 use Rattle.pk_core.specs.Staying.{IsNoted}
 use Rattle.pk_core.proofs.Statuses.{told_refused}
 use Rattle.pk_core.proofs.Programming.{quiet_store_behind}
+use Rattle.pk_core.proofs.Quieted.{reads_behind}
 use Rattle.pk_core.proofs.drive.Drive.store.Goals as goal
 
 pub store_over-requires-clause-named : goal.store_over-requires-clause-named
@@ -18,15 +19,22 @@ pub store_over-requires-clause-looks : goal.store_over-requires-clause-looks
 store_over-requires-clause-looks g c =
     looks_behind c.args.self.now c.look.new.self (g.B.Nand.state c.args.board.now).pages (g.B.Nand.state c.look.new.board).pages c.key-key.result c.in-Ok.old c.look.ensures.same c.look.ensures.pages c.in-Ok.ensures.looks
 
+pub store_over-requires-clause-found : goal.store_over-requires-clause-found
+store_over-requires-clause-found g c =
+    let made = c.in-Ok.ensures.reads in
+    let is = c.read_count-before.ensures.value in
+    record { up = (let up = made.up in omega (arith, is, up)); few = (let within = made.within in omega (arith, is, within)) }
+
 pub returns-in-Ok-clause-executes : goal.returns-in-Ok-clause-executes
 returns-in-Ok-clause-executes g c = λ into.
-    let did = c.store_over.ensures.executes into in
+    let e = c.store_over.ensures in
+    let did = e.executes into in
     record {
       stops = did.stops;
       agrees = did.agrees;
       does = does_behind c.args.self.now c.look.new.self c.store_over.new.self (g.B.Nand.state c.args.board.now) (g.B.Nand.state c.look.new.board) (g.B.Nand.state c.store_over.new.board) _ _ into
-          c.store_over.result c.reads_since-reads.result c.look.ensures.same c.in-Ok.ensures.reads (store_is_other c.args.request.now c.requires.opcode) c.store_over.ensures.told.0
-          (omega (arith, c.reads_since-reads.ensures.reads, c.read_count-before.ensures.value)) (did.does);
+          c.store_over.result c.look.ensures.same c.in-Ok.ensures.reads (store_is_other c.args.request.now c.requires.opcode) e.reads
+          (omega (arith, e.told.0, c.read_count-before.ensures.value)) (did.does);
     }
 
 pub returns-in-Err-clause-executes : goal.returns-in-Err-clause-executes
@@ -51,7 +59,12 @@ returns-in-Err-clause-noted g c = λ zero. absurd (told_refused c.refusal.result
 
 pub returns-in-Ok-clause-quiet : goal.returns-in-Ok-clause-quiet
 returns-in-Ok-clause-quiet g c = λ zero none room.
-    quiet_store_behind c.args.self.now c.look.new.self (g.B.Nand.state c.args.board.now) (g.B.Nand.state c.look.new.board) (g.B.Nand.state c.store_over.new.board) c.args.request.now.size c.key-key.result _ c.store_over.result.reads c.look.ensures.same c.in-Ok.ensures.reads c.key-key.ensures (c.store_over.ensures.programs zero) (omega (arith, c.store_over.ensures.told.0, c.reads_since-reads.ensures.reads, c.read_count-before.ensures.value, c.in-Ok.ensures.reads.within)) none room
+    let e = c.store_over.ensures in
+    let mid = g.B.Nand.state c.look.new.board in
+    let new = g.B.Nand.state c.store_over.new.board in
+    let same = reads_behind c.args.self.now c.look.new.self mid new c.key-key.result _ c.look.ensures.same c.key-key.ensures (e.quiet zero) none in
+    quiet_store_behind c.args.self.now c.look.new.self (g.B.Nand.state c.args.board.now) mid new c.args.request.now.size c.key-key.result _ c.store_over.result.reads c.look.ensures.same c.in-Ok.ensures.reads c.key-key.ensures (e.programs zero)
+    (omega (arith, e.told.0, same, c.read_count-before.ensures.value, c.in-Ok.ensures.reads.within)) none room
 
 pub returns-in-Err-clause-quiet : goal.returns-in-Err-clause-quiet
 returns-in-Err-clause-quiet g c = λ zero. absurd (told_refused c.refusal.result 0x88 0 0 c.reads_since.result false c.refusal.ensures (λ e. omega (arith, e)) zero)

@@ -1,7 +1,13 @@
 use Rattle.std.proofs.Common.{◌∙◌, sym, arith}
-use Rattle.pk_core.proofs.Stepping.{tick_does, stopped_is, not_failed}
+use Rattle.pk_core.proofs.Stepping.{tick_does, tick_may, tick_numbers, stopped_is, not_failed}
 use Rattle.pk_core.proofs.Executing.{none_between}
 use Rattle.pk_core.proofs.drive.Drive.tick_command.Goals as goal
+
+pub work-last-requires-clause-may : goal.work-last-requires-clause-may
+work-last-requires-clause-may g c = tick_may c.args.self.now (g.B.Nand.state c.args.board.now) c.requires.servable.agrees c.requires.servable.runs c.requires.none c.requires.servable.unworn c.read_count-before.ensures.faults
+
+pub work-last-requires-clause-numbers : goal.work-last-requires-clause-numbers
+work-last-requires-clause-numbers g c = tick_numbers c.args.self.now (g.B.Nand.state c.args.board.now) c.args.request.now.size c.requires.servable.agrees c.requires.servable.unworn (omega arith)
 
 pub returns-clause-executes : goal.returns-clause-executes
 returns-clause-executes g c = λ v into. record {

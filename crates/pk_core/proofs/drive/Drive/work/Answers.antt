@@ -1,34 +1,34 @@
-use Rattle.std.proofs.Common.{refl, sym, ◌∙◌, arith}
-use Rattle.pk_core.proofs.Stepping.{steps_none, ongoing_more, ongoing_last, ongoing_done}
-use Rattle.pk_core.proofs.Staying.{stays_same, stays_then}
+use Rattle.std.proofs.Common.{inr, arith}
+use Rattle.pk_core.proofs.Stepping.{ongoing_none, ongoing_may, ongoing_more, ongoing_last, ongoing_done, ongoing_stays, steps_within}
+use Rattle.pk_core.specs.Parts.{sight_of}
+use Rattle.pk_drive.specs.declared.types.Ticked.TheVariants.{Worked, Idle, Fault}
 use Rattle.pk_core.proofs.drive.Drive.work.Goals as goal
 
 pub loop-made-init : goal.loop-made-init
-loop-made-init g c = record {
-  agrees = c.requires.may.agrees;
-  unstopped = c.requires.may.unstopped;
-  none = c.requires.may.none;
-  steps = steps_none _ _ c.requires.count c.requires.may.none;
-  erased = omega arith;
-  stays = stays_same _ _ refl;
-}
+loop-made-init g c = ongoing_none _ _ c.requires.may c.requires.count
+
+pub advance-requires : goal.advance-requires
+advance-requires g c = record { may = ongoing_may c.args.self.now (g.B.Nand.state c.args.board.now) c.loop-made.self (g.B.Nand.state c.loop-made.board) c.loop-made.made c.loop-made.invariant c.args.steps (omega (arith, c.loop-made-test.true)) c.requires.numbers }
 
 pub loop-made-preserved : goal.loop-made-preserved
-loop-made-preserved g c =
-    let goes = c.goes_on.ensures.goes c.if-not-goes_on.false in
-    ongoing_more c.args.self.now (g.B.Nand.state c.args.board.now) c.loop-made.self c.step-answer.new.self (g.B.Nand.state c.loop-made.board) (g.B.Nand.state c.step-answer.new.board) c.loop-made.made
-    c.step-answer.result c.loop-made.invariant c.step-answer.ensures.ticks c.step-answer.ensures.erases goes.0 (λ e. goes.1 (c.ready_blocks-before.ensures ∙ (e ∙ sym c.ready_blocks.ensures))) c.step-answer.ensures.stops c.step-answer.ensures.none
-    c.step-answer.ensures.agrees c.step-answer.ensures.moves
+loop-made-preserved g c = ongoing_more c.args.self.now (g.B.Nand.state c.args.board.now) c.loop-made.self (g.B.Nand.state c.loop-made.board) c.loop-made.made c.loop-made.invariant c.advance.new.self (g.B.Nand.state c.advance.new.board) c.in-Worked.ensures
 
-pub returns-then-not-goes_on-clause-steps : goal.returns-then-not-goes_on-clause-steps
-returns-then-not-goes_on-clause-steps g c =
-    ongoing_last c.args.self.now (g.B.Nand.state c.args.board.now) c.loop-made.self c.step-answer.new.self (g.B.Nand.state c.loop-made.board) (g.B.Nand.state c.step-answer.new.board) c.loop-made.made
-    c.step-answer.result c.loop-made.invariant c.step-answer.ensures.ticks c.step-answer.ensures.erases c.args.steps (omega (arith, c.loop-made-test.true))
+pub returns-in-Idle-clause-steps : goal.returns-in-Idle-clause-steps
+returns-in-Idle-clause-steps g c =
+    ongoing_last c.args.self.now (g.B.Nand.state c.args.board.now) c.loop-made.self (g.B.Nand.state c.loop-made.board) c.loop-made.made c.loop-made.invariant c.advance.new.self (g.B.Nand.state c.advance.new.board) Idle c.in-Idle.ensures c.args.steps (omega (arith, c.loop-made-test.true))
 
-pub returns-then-not-goes_on-clause-done : goal.returns-then-not-goes_on-clause-done
-returns-then-not-goes_on-clause-done g c = λ fine.
-    ongoing_done c.args.self.now (g.B.Nand.state c.args.board.now) c.loop-made.self c.step-answer.new.self (g.B.Nand.state c.loop-made.board) (g.B.Nand.state c.step-answer.new.board) c.loop-made.made
-    c.step-answer.result c.loop-made.invariant c.step-answer.ensures.ticks c.step-answer.ensures.erases c.args.steps fine (sym c.ready_blocks-before.ensures ∙ (c.goes_on.ensures.ends c.if-not-goes_on.true fine ∙ c.ready_blocks.ensures))
+pub returns-in-Idle-clause-done : goal.returns-in-Idle-clause-done
+returns-in-Idle-clause-done g c = λ _.
+    inr (ongoing_done c.args.self.now (g.B.Nand.state c.args.board.now) c.loop-made.self (g.B.Nand.state c.loop-made.board) c.loop-made.made c.loop-made.invariant c.advance.new.self (g.B.Nand.state c.advance.new.board) c.in-Idle.ensures)
 
-pub returns-then-not-goes_on-clause-moves : goal.returns-then-not-goes_on-clause-moves
-returns-then-not-goes_on-clause-moves g c = λ runs. stays_then _ _ _ c.loop-made.invariant.stays (c.step-answer.ensures.moves runs)
+pub returns-in-Fault-clause-moves : goal.returns-in-Fault-clause-moves
+returns-in-Fault-clause-moves g c =
+    ongoing_stays c.args.self.now (g.B.Nand.state c.args.board.now) c.loop-made.self (g.B.Nand.state c.loop-made.board) c.loop-made.made c.loop-made.invariant c.advance.new.self (g.B.Nand.state c.advance.new.board) (Fault c.in-Fault.stopped) c.in-Fault.ensures
+
+pub returns-in-Fault-clause-steps : goal.returns-in-Fault-clause-steps
+returns-in-Fault-clause-steps g c =
+    ongoing_last c.args.self.now (g.B.Nand.state c.args.board.now) c.loop-made.self (g.B.Nand.state c.loop-made.board) c.loop-made.made c.loop-made.invariant c.advance.new.self (g.B.Nand.state c.advance.new.board) (Fault c.in-Fault.stopped) c.in-Fault.ensures c.args.steps (omega (arith, c.loop-made-test.true))
+
+pub returns-clause-steps : goal.returns-clause-steps
+returns-clause-steps g c =
+    steps_within (g.B.Nand.state c.args.board.now) (g.B.Nand.state c.loop-made.board) (sight_of c.args.self.now) (sight_of c.loop-made.self) Worked c.loop-made.made c.args.steps (omega (arith, c.loop-made.auto.made-end)) c.loop-made.invariant.steps

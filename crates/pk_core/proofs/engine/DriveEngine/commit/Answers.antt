@@ -29,8 +29,7 @@ returns-in-Ok-clause-agrees g c =
 pub returns-in-Ok-clause-unbuilt : goal.returns-in-Ok-clause-unbuilt
 returns-in-Ok-clause-unbuilt g c =
     let rest = c.in-Ok.ensures.rest in
-    still_unbuilt c.args.self.now c.commit_pending.new.self (ap (λ (d : Parts). d.log.shape) rest) (ap (λ (d : Parts). d.log.frozen) rest) (ap (λ (d : Parts). d.log.active) rest)
-    (ap (λ (d : Parts). d.space) rest) (ap (λ (d : Parts). d.pool) rest) c.in-Ok.ensures.pages_left
+    still_unbuilt c.args.self.now c.commit_pending.new.self (ap (λ (d : Parts). d.log.shape) rest) (ap (λ (d : Parts). d.space) rest) (ap (λ (d : Parts). d.pool) rest)
 
 pub returns-in-Ok-clause-stands : goal.returns-in-Ok-clause-stands
 returns-in-Ok-clause-stands g c = λ shape frames m stands.

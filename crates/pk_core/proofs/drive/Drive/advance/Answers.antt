@@ -1,0 +1,16 @@
+use Rattle.std.proofs.Common.{sym, ap, ◌∙◌}
+use Rattle.pk_core.specs.Parts.{Parts, index_of}
+use Rattle.pk_schedule.specs.Steps.{has_no_merge}
+use Rattle.pk_core.proofs.drive.Drive.advance.Goals as goal
+
+pub merge_step-requires-clause-merges : goal.merge_step-requires-clause-merges
+merge_step-requires-clause-merges g c =
+    ap (λ (d : Parts). has_no_merge (index_of d)) (sym c.self.view_is) ∙ (sym (c.has_no_merge.ensures c.self.inside.levels c.self.inside.arena c.self.inside.pool) ∙ c.if-not-has_no_merge.true)
+
+pub freeze_step-requires-clause-merged : goal.freeze_step-requires-clause-merged
+freeze_step-requires-clause-merged g c =
+    ap (λ (d : Parts). has_no_merge (index_of d)) (sym c.self.view_is) ∙ (sym (c.has_no_merge.ensures c.self.inside.levels c.self.inside.arena c.self.inside.pool) ∙ c.if-not-has_no_merge.false)
+
+pub erase_step-requires-clause-merged : goal.erase_step-requires-clause-merged
+erase_step-requires-clause-merged g c =
+    ap (λ (d : Parts). has_no_merge (index_of d)) (sym c.self.view_is) ∙ (sym (c.has_no_merge.ensures c.self.inside.levels c.self.inside.arena c.self.inside.pool) ∙ c.if-not-has_no_merge.false)
