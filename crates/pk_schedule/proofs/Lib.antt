@@ -7,6 +7,10 @@ pub mod Backlogs
 pub mod Replacing
 pub mod Ended
 pub mod Waiting
+pub mod Preparing
+pub mod Installing
+pub mod Replaced
+pub mod Installed
 pub mod Carried
 pub mod Grown
 pub mod Running
