@@ -226,8 +226,7 @@ module _ (d : Parts) (old : BoardState) (may : MayEmpty d old) (x : Index) (new 
   merge_came (Ok Worked) step few = (moved_keeps d old may x new step.ready (step.moves refl), step.sound)
   merge_came (Err Reading) step few =
       let unmoved = step.unmoved refl in
-      let rose = step.unread refl in
-      (
+      let rose = step.unread refl in (
         still_keeps d old may x new unmoved.0 unmoved.1 (step.again refl),
         record { read = rose.0; up = (let up = rose.0 in omega (arith, up, few)); flash = rose.1; no_stop = ap (λ (b : BoardState). b.stop_faults) unmoved.1 },
       )
