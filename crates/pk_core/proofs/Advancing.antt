@@ -27,7 +27,7 @@ use Rattle.pk_steps.specs.Under.{IsUnder}
 use Rattle.pk_steps.proofs.Untouched.{under_reads}
 use Rattle.pk_drive.specs.Drive.{HoldsMap}
 use Rattle.pk_drive.specs.Seen.{stopped_by}
-use Rattle.pk_drive.specs.Tick.{TellsIdle}
+use Rattle.pk_drive.specs.Tick.{TellsIdle, Waits, LowersWork}
 use Rattle.pk_drive.specs.declared.types.Ticked.{Ticked}
 use Rattle.pk_drive.specs.declared.types.Ticked.TheVariants.{Worked, Idle, Fault}
 use Rattle.pk_log.specs.State.{LogState}
@@ -38,10 +38,10 @@ use Rattle.pk_schedule.specs.Steps.{MayWork, MayFreeze, IndexMoves, Moves, Less,
 use Rattle.pk_core.specs.Parts.{Parts, frames_of, index_of, sight_of}
 use Rattle.pk_core.specs.Agreeing.{DriveOnFlashWith, DriveOnFlash}
 use Rattle.pk_core.specs.Staying.{Stays}
-use Rattle.pk_core.specs.Ticking.{MayTick, Ticks, Advances, LowersWork, is_reclaim_due}
+use Rattle.pk_core.specs.Ticking.{MayTick, Ticks, Advances, is_reclaim_due}
 use Rattle.pk_core.proofs.Unchanging.{own, for_its_map, agrees_ready}
 use Rattle.pk_core.proofs.Staying.{stays_same, step_stays}
-use Rattle.pk_core.proofs.Ticking.{ticks_nothing, ticks_failed, step_agrees, step_ticks, step_lowers, kept_drive, busy_freeze, busy_free, tells_step, tells_idle, tells_due, worked_fine, idle_fine, stopped_fine, stopped_idle, stopped_worked, worked_idle}
+use Rattle.pk_core.proofs.Ticking.{ticks_nothing, ticks_failed, step_agrees, step_ticks, step_lowers, kept_drive, waits_for_reclaim, busy_freeze, busy_free, tells_step, tells_idle, tells_due, worked_fine, idle_fine, stopped_fine, stopped_idle, stopped_worked, worked_idle}
 use Rattle.pk_core.proofs.Remaining.{freeze_less}
 use Rattle.pk_core.proofs.Indexing.{with_index, may_work, frames_stay, moved_with, moved_agrees}
 
@@ -79,9 +79,6 @@ active_pending log log' keeps none = ap (λ (l : LogState). l.pending) keeps ∙
 -- ---- a step
 
 module _ (d : Parts) (old new : BoardState) (m : MayTick d old) where
-  abbrev a : DriveOnFlash d old.shape old.pages
-  a = m.agrees
-
   with : DriveOnFlashWith d d.log.shape old.pages m.agrees.top m.agrees.found m.agrees.without m.agrees.all
   with = own d old m.agrees
 
@@ -278,7 +275,7 @@ module _ (d : Parts) (old new : BoardState) (m : MayTick d old) where
           cuts = λ _. for_its_map d old m.agrees (λ s f x. Reaches s old (record old { reads = n; flash_faults = all; read_faults = failed; failed_at = at }) (CrashFinds s background old.pages x)) (
             [],
             Reached-start old (record old { reads = n; flash_faults = all; read_faults = failed; failed_at = at }) (CrashFinds d.log.shape background old.pages m.agrees.all) refl refl refl refl
-            (refl, under_reads d.log.shape old.pages [] m.agrees.top m.agrees.found m.agrees.all may.under),
+                (refl, under_reads d.log.shape old.pages [] m.agrees.top m.agrees.found m.agrees.all may.under),
             tt,
           );
           cuts_stopped = λ e. absurd (false_true e);
@@ -363,8 +360,8 @@ module _ (d d' : Parts) (old new : BoardState) (m : MayTick d old) where
   pub ticks_due : Advances d d' old new Idle → Ticks old new (sight_of d) (sight_of d') Worked
   ticks_due made = ticks_nothing d old new d' Worked (made.idle refl).1 (made.ticks.idle_rests refl).0 m.none refl worked_fine
 
-  pub lowers_not : Advances d d' old new Idle → is_reclaim_due d' ≡ true → LowersWork d d' Worked
-  lowers_not made due = λ _. let idle = made.idle refl in inr (idle.0, ap is_reclaim_due (sym idle.1) ∙ due, idle.1)
+  pub lowers_worked : Advances d d' old new Worked → LowersWork old new (sight_of d) (sight_of d') Worked
+  lowers_worked made = λ e shape frames x st. inl (made.lowers e)
 
   module _ (shared : IsShared d.pool.shape d.pool.states) where
     pub tells_worked : Advances d d' old new Worked → TellsIdle old (sight_of d) Worked
@@ -376,5 +373,9 @@ module _ (d d' : Parts) (old new : BoardState) (m : MayTick d old) where
     pub tells_reclaim : Advances d d' old new Idle → is_reclaim_due d' ≡ true → TellsIdle old (sight_of d) Worked
     tells_reclaim made due = let idle = made.idle refl in tells_due d old m.agrees shared (ap is_reclaim_due (sym idle.1) ∙ due)
 
-pub lowers_worked : (d d' : Parts) (old new : BoardState) → Advances d d' old new Worked → LowersWork d d' Worked
-lowers_worked d d' old new made = λ e. inl (made.lowers e)
+    pub lowers_not : Advances d d' old new Idle → is_reclaim_due d' ≡ true → LowersWork old new (sight_of d) (sight_of d') Worked
+    lowers_not made due = λ e.
+        let idle = made.idle refl in
+        let rests = made.ticks.idle_rests refl in
+        for_its_map d old m.agrees (λ s f x. ((sight_of d').work < (sight_of d).work) ⊎ Waits old new (sight_of d) (sight_of d') s)
+        (inr (record { waits = waits_for_reclaim d old m.agrees shared idle.0 (ap is_reclaim_due (sym idle.1) ∙ due); same_board = rests.0; same_drive = rests.1 }))

@@ -67,7 +67,7 @@ freeze_rest_cases job next = by (length (taken_by job) == 0)
 -- the work behind a step of a freeze, which leaves runs and merge as they were
 freeze_work : (shape : Shape) (x x' : Index) → is_between x.schedule.phase ≡ true → length x.log.frozen.entries ≡ 0 → (length (taken_by x.schedule.freeze) == 0) ≡ false → x'.levels ≡ x.levels → x'.schedule.phase ≡ x.schedule.phase
     → ((freeze_rest_of x'.schedule.freeze x'.log.next ≡ None) × Lowers (freeze_left x.schedule.freeze x.log.next) (unready x.pool.states) 0 (unready x'.pool.states))
-        ⊎ ((length x'.log.frozen.entries ≡ length x.log.frozen.entries) × (freeze_rest_of x'.schedule.freeze x'.log.next ≡ Some (freeze_left x'.schedule.freeze x'.log.next)) × Lowers (freeze_left x.schedule.freeze x.log.next) (unready x.pool.states) (freeze_left x'.schedule.freeze x'.log.next) (unready x'.pool.states))
+    ⊎ ((length x'.log.frozen.entries ≡ length x.log.frozen.entries) × (freeze_rest_of x'.schedule.freeze x'.log.next ≡ Some (freeze_left x'.schedule.freeze x'.log.next)) × Lowers (freeze_left x.schedule.freeze x.log.next) (unready x.pool.states) (freeze_left x'.schedule.freeze x'.log.next) (unready x'.pool.states))
     → work shape (backlog_of x') < work shape (backlog_of x)
 freeze_work shape x x' between none_frozen runs levels phase moved =
     let still : is_between x'.schedule.phase ≡ true = ap is_between phase ∙ between in

@@ -46,7 +46,7 @@ use Rattle.pk_model.specs.Wear.{number_of, root_number, roots}
 use Rattle.pk_drive.specs.Drive.{HoldsMap}
 use Rattle.pk_nand.specs.Effects.{AtMostOneCall}
 use Rattle.pk_drive.specs.Seen.{stopped_by}
-use Rattle.pk_drive.specs.Tick.{TellsIdle}
+use Rattle.pk_drive.specs.Tick.{TellsIdle, WaitsForReclaim}
 use Rattle.pk_model.specs.Crashes.{CrashFinds, background}
 use Rattle.pk_drive.specs.declared.types.Ticked.{Ticked}
 use Rattle.pk_drive.specs.declared.types.Ticked.TheVariants.{Worked, Idle, Fault}
@@ -376,22 +376,40 @@ module _ (d : Parts) (old : BoardState) (a : DriveOnFlash d old.shape old.pages)
   open_room : has_open_room d.log.shape old.pages (block_if_open d.space.open_block) ≡ fits_open d.log.shape d.space (most_pages d.log.shape)
   open_room = room_is d.log.shape d.pool old.pages d.space.open_block with.placed.open_is
 
+  -- every block without an owner is erased where no step is left
+  none_unready : HasNoStep d → 2 + length (named a.top.1) + used_by Values d.pool.states + count_by is_ready d.pool.states ≡ d.log.shape.blocks
+  none_unready no_step =
+      let all = all_blocks in
+      let taken = ap (λ (bs : List ℕ). length bs) no_step.no_freeze in
+      let output = none_taken d.schedule.phase (index_of d) old.pages a.top.1 a.found with.index.merge (no_merge_is (index_of d) no_step.no_merge).0 in
+      let no_free = none_free d.pool.states no_step.none_free in
+      omega (arith, all, no_free, taken, output)
+
   -- nothing is left to do where no step is, and no reclaim is due
   none_idle : HasNoStep d → is_reclaim_due d ≡ false → IsIdle d.log.shape old.pages (sight_of d)
   none_idle no_step rests =
       let merged = no_merge_is (index_of d) no_step.no_merge in
-      let all = all_blocks in
-      let taken = ap (λ (bs : List ℕ). length bs) no_step.no_freeze in
-      let output = none_taken d.schedule.phase (index_of d) old.pages a.top.1 a.found with.index.merge merged.0 in
-      let no_free = none_free d.pool.states no_step.none_free in
       record {
         top = a.top;
         is_newest = with.committed.is_top;
         no_merge = between_merges d.schedule.phase merged.0;
         none_frozen = merged.1;
         no_reclaim = refl;
-        all_erased = omega (arith, all, no_free, taken, output);
+        all_erased = none_unready no_step;
         has_room = ap (λ b. (used_by Values d.pool.states == data_blocks d.log.shape - 1) && not b) open_room ∙ rests;
+      }
+
+  -- and nothing but a reclaim, where one is due
+  pub waits_for_reclaim : HasNoStep d → is_reclaim_due d ≡ true → WaitsForReclaim d.log.shape old.pages (sight_of d)
+  waits_for_reclaim no_step due =
+      let merged = no_merge_is (index_of d) no_step.no_merge in
+      record {
+        top = a.top;
+        is_newest = with.committed.is_top;
+        no_merge = between_merges d.schedule.phase merged.0;
+        none_frozen = merged.1;
+        all_erased = none_unready no_step;
+        is_due = ap (λ b. (used_by Values d.pool.states == data_blocks d.log.shape - 1) && not b) open_room ∙ due;
       }
 
   pub idle_rests : IsIdle d.log.shape old.pages (sight_of d) → is_reclaim_due d ≡ false

@@ -1,5 +1,5 @@
 -- A background step.
-use Rattle.std.specs.Prelude.{◌≡◌, ◌⊎◌, ◌+◌, ◌-◌, ◌<◌, ◌≤◌, Bool, true, false, ◌&&◌, not, ◌==◌, []}
+use Rattle.std.specs.Prelude.{◌≡◌, ◌+◌, ◌-◌, ◌<◌, ◌≤◌, Bool, true, false, ◌&&◌, not, ◌==◌, []}
 use Rattle.pk_base.specs.Shape.{data_blocks, most_pages}
 use Rattle.pk_plan.specs.declared.owner.Owner.TheVariants.{Values}
 use Rattle.pk_pool.specs.declared.state.BlockState.TheVariants.{Free}
@@ -70,7 +70,3 @@ pub record Advances (d d' : Parts) (old new : BoardState) (answer : Ticked) : Ty
   pub lowers : answer ≡ Worked → (sight_of d').work < (sight_of d).work
   pub idle : answer ≡ Idle → HasNoStep d × (d' ≡ d)
   pub busy : IsIdle d.log.shape old.pages (sight_of d) → answer ≡ Idle
-
--- less is left behind a step that worked, unless nothing was left but a reclaim, and nothing was done
-abbrev pub LowersWork : Parts → Parts → Ticked → Type 0
-LowersWork d d' answer = answer ≡ Worked → ((sight_of d').work < (sight_of d).work) ⊎ (HasNoStep d × (is_reclaim_due d ≡ true) × (d' ≡ d))

@@ -3,14 +3,14 @@ ghost use Rattle.std.specs.Prelude.{◌≡◌, ◌==◌, ℕ, [], length, true, 
 ghost use Rattle.pk_nand.specs.Calls.{IsReady};
 ghost use Rattle.pk_pool.specs.Blocks.{PoolOnFlash, IsShared, IsOwned};
 ghost use Rattle.pk_pool.specs.Taking.{ErasesOne, ErasesNone, FailsToErase};
-ghost use Rattle.pk_drive.specs.Tick.{TellsIdle};
+ghost use Rattle.pk_drive.specs.Tick.{TellsIdle, LowersWork};
 ghost use Rattle.pk_drive.specs.Seen.{stopped_by};
 ghost use Rattle.pk_compact.specs.FreezeSteps.{taken_by};
 ghost use Rattle.pk_schedule.specs.Steps.{has_no_merge};
 ghost use Rattle.pk_core.specs.Parts.{index_of, sight_of};
 ghost use Rattle.pk_core.specs.Agreeing.{DriveOnFlash};
 ghost use Rattle.pk_core.specs.Ticking as spec;
-ghost use Rattle.pk_core.specs.Ticking.{MayTick, Ticks, Advances, LowersWork};
+ghost use Rattle.pk_core.specs.Ticking.{MayTick, Ticks, Advances};
 ghost use Rattle.pk_core.specs.Staying.{Stays};
 
 use crate::drive::Drive;
@@ -154,7 +154,8 @@ impl<A: Region> Drive<A> {
         ensures ticks { Ticks (B.state board.old) (B.state board.new) (sight_of self.old)
             (sight_of self.new) result }
         ensures idle { TellsIdle (B.state board.old) (sight_of self.old) result }
-        ensures lowers { LowersWork self.old self.new result }
+        ensures lowers { LowersWork (B.state board.old) (B.state board.new) (sight_of self.old)
+            (sight_of self.new) result }
     {
         self.pool.known();
         match self.advance(board) {

@@ -18,7 +18,7 @@ ghost use Rattle.pk_model.specs.Crashes.{background, commit, command};
 ghost use Rattle.pk_drive.specs.Call.{KeepsMap, CallReaches, CallGoes};
 ghost use Rattle.pk_drive.specs.Exec.{ExecStands, most_installs, report_of, IsNextMerge};
 ghost use Rattle.pk_drive.specs.Commit.{CommitPrograms};
-ghost use Rattle.pk_drive.specs.Tick.{TellsIdle};
+ghost use Rattle.pk_drive.specs.Tick.{TellsIdle, LowersWork};
 ghost use Rattle.pk_drive.specs.Seen.{reply_of, stopped_by, counts_of};
 ghost use Rattle.pk_model.specs.Growth.{Grows};
 ghost use Rattle.pk_drive.specs.Calling.{FewCalls, most_calls_of, only_looks};
@@ -226,6 +226,8 @@ pub trait Engine {
             → (B.state board.new ≡ B.state board.old) × (sight self.new ≡ sight self.old) }
         ensures unmade { result ≡ Ticked.Fault false → (sight self.new ≡ sight self.old)
             × OnlyReading (B.state board.old) (B.state board.new) }
+        ensures lowers { LowersWork (B.state board.old) (B.state board.new) (sight self.old)
+            (sight self.new) result }
 
         // Counts of calls, of faults and of roots.
         ensures calls { AtMostOneCall (B.state board.old) (B.state board.new) }

@@ -326,7 +326,7 @@ module _ (x : Index) (frames : ℕ) (old : BoardState) (top : ℕ × Root) (foun
       runs_few = (let few = stands.runs_few in let zero_blocks = no_blocks in omega (arith, few, zero_blocks));
       pins_are = stands.pins_are;
       merge = runs_then;
-      freeze = record { taken = stands.freeze.taken; different = stands.freeze.different };
+      freeze = record { taken = stands.freeze.taken; different = stands.freeze.different; none_frozen = stands.freeze.none_frozen };
     }
 
     pub begin_moves : IndexMoves x frames old found m begun_index old

@@ -4,6 +4,13 @@ pub mod Giving
 pub mod Standing
 pub mod Freezing
 pub mod Backlogs
+pub mod Replacing
+pub mod Ended
+pub mod Waiting
+pub mod Preparing
+pub mod Installing
+pub mod Replaced
+pub mod Installed
 pub mod Carried
 pub mod Grown
 pub mod Running

@@ -279,6 +279,7 @@ module _ (x : Index) (frames : ℕ) (old : BoardState) (top : ℕ × Root) (foun
         freeze = record {
           taken = all_of (IsTaken x.log.shape x.pool old.pages top.1) (IsTaken x.log.shape pool new.pages top.1) (taken_by x.schedule.freeze) (taken_same new.pages end pool (kept Journal)) stands.freeze.taken;
           different = stands.freeze.different;
+          none_frozen = stands.freeze.none_frozen;
         };
       }
 

@@ -1,6 +1,6 @@
 -- What the step of a merge's job leaves of an index, whether it was done or a call of it failed.
-use Rattle.std.proofs.Common.{◌≡◌, ◌≢◌, ◌⊎◌, inl, inr, ℕ, ◌+◌, ◌-◌, ◌*◌, ◌<◌, ◌≤◌, Bool, true, false, T, List, [], ◌∷◌, ◌++◌, length, map, Option, Some, None, refl, sym, ap, subst, ◌∙◌, arith}
-use Rattle.std.specs.Prelude.{unwrap_or}
+use Rattle.std.proofs.Common.{◌≡◌, ◌≢◌, ◌⊎◌, inl, inr, ℕ, ◌+◌, ◌-◌, ◌*◌, ◌<◌, ◌≤◌, Bool, true, false, T, List, [], ◌∷◌, ◌++◌, length, map, Option, Some, None, Result, Ok, Err, refl, sym, ap, subst, ◌∙◌, arith}
+use Rattle.std.specs.Prelude.{unwrap_or, IsTrue, ◌↔◌}
 use Rattle.pk_base.specs.Shape.{Shape, IsShape, cap}
 use Rattle.pk_base.specs.Entry.{Entry}
 use Rattle.pk_base.specs.Map.{Map}
@@ -9,7 +9,8 @@ use Rattle.pk_base.specs.Page.{Flash}
 use Rattle.pk_nand.specs.BoardState.{BoardState}
 use Rattle.pk_nand.specs.Calls.{IsReady}
 use Rattle.pk_nand.specs.Effects.{OnlyReading}
-use Rattle.pk_nand.specs.declared.types.Fault.TheVariants.{Stopped}
+use Rattle.pk_nand.specs.declared.types.Fault.TheVariants.{Reading, Stopped}
+use Rattle.pk_nand.specs.declared.types.Fault.{Fault}
 use Rattle.pk_pin.specs.Frames.{Frames}
 use Rattle.pk_rootfmt.specs.Root.{Root}
 use Rattle.pk_pool.specs.Blocks.{Blocks, IsShared}
@@ -23,7 +24,9 @@ use Rattle.pk_model.specs.Found.{Found}
 use Rattle.pk_model.specs.Growth.{Grows, Goes}
 use Rattle.pk_model.specs.Crashes.{CrashFinds, background}
 use Rattle.pk_model.specs.Tree.{run_at}
+use Rattle.pk_model.specs.Wear.{roots}
 use Rattle.pk_steps.specs.Merging.{output_of as whole_output}
+use Rattle.pk_steps.proofs.FourRuns.{next_is_level}
 use Rattle.pk_merge.specs.declared.source.Source.{Source}
 use Rattle.pk_merge.specs.declared.source.Source.TheVariants.{Frozen, Run}
 use Rattle.pk_merge.specs.Cursors.{Cursor}
@@ -36,6 +39,8 @@ use Rattle.pk_merge.specs.Remaining.{steps_left, LowersTo}
 use Rattle.pk_merge.specs.Jobs.{Job, JobRuns, RunsOn, Completes, pins, output_of}
 use Rattle.pk_merge.proofs.Leasing.{kept_leases}
 use Rattle.pk_compact.specs.Laws.{Leaves}
+use Rattle.pk_compact.proofs.NextRoot.{roots_same}
+use Rattle.pk_compact.proofs.Numbering.{same_front}
 use Rattle.pk_compact.specs.FreezeSteps.{install_steps}
 use Rattle.pk_schedule.specs.declared.phase.Phase.{Phase}
 use Rattle.pk_schedule.specs.declared.phase.Phase.TheVariants.{Idle, Running, Ready}
@@ -45,7 +50,18 @@ use Rattle.pk_schedule.specs.Sources.{ShowsSame}
 use Rattle.pk_schedule.proofs.Carried.{Shown, shown, same_shown, job_carried, left_same, done_same}
 use Rattle.pk_schedule.proofs.Grown.{Grew, SameEnd, acts_grow, acts_frames, reached_end, went_end}
 use Rattle.pk_schedule.proofs.Entries.{output_same, frozen_many, counts_same}
-use Rattle.pk_schedule.proofs.Running.{job_leaves, job_breaks, same_leaves, grows as front_grows, into_then, index_then, moves_then}
+use Rattle.pk_schedule.proofs.Running.{job_leaves, job_breaks, same_leaves, front_same, grows as front_grows, into_then, index_then, moves_then}
+
+not_both : (b : Bool) → b ≡ true → b ≡ false → ⊥
+not_both true e f = absurd (let z : ⊥ = cc in z)
+not_both false e f = absurd (let z : ⊥ = cc in z)
+
+-- the fault of an answer
+pub fault_is : {Y : Type 0} (a b : Fault) → ◌≡◌ {A = Result Y Fault} (Err a) (Err b) → a ≡ b
+fault_is a b e = cc
+
+pub other_answer : {Y Z : Type 0} (a b : Fault) → ◌≡◌ {A = Result Y Fault} (Err a) (Err b) → ◌≡◌ {A = Result Z Fault} (Err a) (Err b)
+other_answer a b e = ap (λ (f : Fault). Err f) (fault_is a b e)
 
 -- a step more, or the last one
 goes_lowers : (a b u v i : ℕ) → Lowers a u b v → Lowers (a + 1 + i) u (b + 1 + i) v
@@ -92,6 +108,21 @@ module _ (x : Index) (frames : ℕ) (old : BoardState) (top : ℕ × Root) (foun
 
   next_now : next_merge x.log.shape (length x.log.frozen.entries) (map (λ r. r.count) x.levels.runs) ≡ Some level
   next_now = (λ i. next_merge x.log.shape (frozen_many x.log.shape x.log.frozen found.older stands.logs.frozen_is i) (counts_same old.pages x.arena x.levels.runs found.runs stands.stand i)) ∙ into.due
+
+  -- its level is one of four
+  pub level_within : (1 ≤ level) × (level ≤ 4)
+  level_within = elim (next_is_level x.log.shape (length x.log.frozen.entries) (map (λ r. r.count) x.levels.runs) level next_now) [
+    | inl e ↦ (omega (arith, e), omega (arith, e))
+    | inr (inl e) ↦ (omega (arith, e), omega (arith, e))
+    | inr (inr (inl e)) ↦ (omega (arith, e), omega (arith, e))
+    | inr (inr (inr e)) ↦ (omega (arith, e), omega (arith, e))
+  ]
+
+  -- no root is installed
+  pub few_roots : (new : BoardState) → IsReady new x.log.shape → SameEnd x.pool out old.pages new.pages → roots new ≤ roots old + 1
+  few_roots new after end =
+      let same = roots_same x.log.shape old new ready after (same_front x.log.shape old.pages new.pages (front_same x frames old top found m may shared ready level into new.pages end)) in
+      omega (arith, same)
 
   left_now : merge_left x.schedule.phase x ≡ Some (steps_left (source_at x level) target out x.schedule.job.merger (most_pages out) (most_blocks out) + 1 + install_steps x.log.next)
   left_now = ap (λ (p : Phase). merge_left p x) was
@@ -143,6 +174,9 @@ module _ (x : Index) (frames : ℕ) (old : BoardState) (top : ℕ × Root) (foun
       pub goes_on : (IsDone source target job.merger → ⊥) → IndexMoves x frames old found m (behind (Running level)) new
       goes_on undone = moves_to (Running level) (record { into = into_behind (Running level); runs = runs_then; undone = λ d. undone (done_same source (source_at x level) back target job.merger d) })
 
+      pub goes_on_at : (IsDone source target job.merger → ⊥) → IndexMoves x frames old found m (behind x.schedule.phase) new
+      goes_on_at undone = subst (λ (p : Phase). IndexMoves x frames old found m (behind p) new) (sym was) (goes_on undone)
+
       -- its output is whole
       pub completes : Completes source target x.schedule.job x.pool old.pages x.arena job new.pages arena true → IndexMoves x frames old found m (behind (Ready level)) new
       completes whole =
@@ -193,6 +227,9 @@ module _ (x : Index) (frames : ℕ) (old : BoardState) (top : ℕ × Root) (foun
             } in
             let l = merge_moves x.log.shape (backlog_of x) (backlog_of (behind (Running level))) moved in
             record { work = l.0; merging = l.1 }
+
+        pub less_at : LessIsLeft x (behind x.schedule.phase)
+        less_at = subst (λ (p : Phase). LessIsLeft x (behind p)) (sym was) less_running
 
         pub less_ready : LessIsLeft x (behind (Ready level))
         less_ready =
@@ -270,3 +307,75 @@ module _ (x : Index) (frames : ℕ) (old : BoardState) (top : ℕ × Root) (foun
             runs = runs_again;
             undone = not_done;
           }))
+
+  -- ---- by the contract of the job, whose target is the run of the level
+
+  module _ {X : Type 0} (source : Source X) (shows : ShowsSame (source_at x level) source) (t : Kept) (is_target : t ≡ run_of x.levels level) where
+    pub ran : JobRuns source t x.schedule.job x.pool old.pages x.arena (entries_at x found level) (run_at found.runs level)
+    ran = subst (λ (k : Kept). JobRuns source k x.schedule.job x.pool old.pages x.arena (entries_at x found level) (run_at found.runs level)) (sym is_target) (job_now source shows)
+
+    module _ (new : BoardState) (job : Job) (pool : Blocks) (arena : Frames) where
+      abbrev IsJob : Type 0
+      IsJob = job ≡ record x.schedule.job { output = job.output; merger = job.merger }
+
+      abbrev at : Phase → Index
+      at p = record x { arena = arena; pool = pool; schedule = record x.schedule { job = job; phase = p } }
+
+      abbrev OfStep : Kept → Type 0 → Type 0
+      OfStep k Then = RunsOn source k x.schedule.job x.pool old.pages x.arena job pool new.pages arena → Steps source k (pins x.schedule.job) out x.schedule.job.merger x.pool old x.arena (output_of job) job.merger pool new arena
+          → IsJob → LeavesRuns x.pool out old.pages x.arena new.pages arena → LeavesLeases out x.arena (output_of job) arena → StepReaches x.pool out old new → Then
+
+      pub goes_by : OfStep t ((done : Bool) → (IsTrue done ↔ IsDone source t job.merger) → done ≡ false → IndexMoves x frames old found m (at x.schedule.phase) new)
+      goes_by = subst (λ (k : Kept). OfStep k ((done : Bool) → (IsTrue done ↔ IsDone source k job.merger) → done ≡ false → IndexMoves x frames old found m (at x.schedule.phase) new)) (sym is_target)
+          (λ running steps is_job others leases cuts done is e. goes_on_at source shows new job pool arena running steps is_job others leases cuts (λ d. not_both done (is.1 d) e))
+
+      pub completes_by : OfStep t ((done : Bool) → done ≡ true → Completes source t x.schedule.job x.pool old.pages x.arena job new.pages arena done → IndexMoves x frames old found m (at (Ready level)) new)
+      completes_by = subst (λ (k : Kept). OfStep k ((done : Bool) → done ≡ true → Completes source k x.schedule.job x.pool old.pages x.arena job new.pages arena done → IndexMoves x frames old found m (at (Ready level)) new)) (sym is_target)
+          (λ running steps is_job others leases cuts done e whole. completes source shows new job pool arena running steps is_job others leases cuts (subst (λ (b : Bool). Completes source target x.schedule.job x.pool old.pages x.arena job new.pages arena b) e whole))
+
+      pub less_goes_by : OfStep t (LowersTo source t out x.schedule.job.merger x.pool (output_of job) job.merger pool (most_pages out) (most_blocks out) → LessIsLeft x (at x.schedule.phase))
+      less_goes_by = subst (λ (k : Kept). OfStep k (LowersTo source k out x.schedule.job.merger x.pool (output_of job) job.merger pool (most_pages out) (most_blocks out) → LessIsLeft x (at x.schedule.phase))) (sym is_target)
+          (λ running steps is_job others leases cuts lowers. less_at source shows new job pool arena running steps is_job others leases cuts lowers)
+
+      pub less_ends_by : OfStep t (LowersTo source t out x.schedule.job.merger x.pool (output_of job) job.merger pool (most_pages out) (most_blocks out) → LessIsLeft x (at (Ready level)))
+      less_ends_by = subst (λ (k : Kept). OfStep k (LowersTo source k out x.schedule.job.merger x.pool (output_of job) job.merger pool (most_pages out) (most_blocks out) → LessIsLeft x (at (Ready level)))) (sym is_target)
+          (λ running steps is_job others leases cuts lowers. less_ready source shows new job pool arena running steps is_job others leases cuts lowers)
+
+      -- a call that failed
+      abbrev OfRead : Kept → Type 0 → Type 0
+      OfRead k Then = RunsOn source k x.schedule.job x.pool old.pages x.arena job pool new.pages arena → (job.output ≡ x.schedule.job.output) × (pool ≡ x.pool) × (arena ≡ x.arena)
+          → (fault : Fault) → fault ≡ Reading → Fails source k out x.schedule.job.merger x.pool old fault job.merger new → IsJob → OnlyReading old new → Then
+
+      pub unmoved_by : OfRead t (Unmoved x (at x.schedule.phase))
+      unmoved_by = subst (λ (k : Kept). OfRead k (Unmoved x (at x.schedule.phase))) (sym is_target)
+          (λ again kept fault e fails is_job only. unmoved source shows new job pool arena again kept.0 kept.1 kept.2 (subst (λ (f : Fault). Fails source target out x.schedule.job.merger x.pool old f job.merger new) e fails) is_job only)
+
+      pub stands_by : OfRead t (IndexOnFlash (at x.schedule.phase) frames new.pages top found)
+      stands_by = subst (λ (k : Kept). OfRead k (IndexOnFlash (at x.schedule.phase) frames new.pages top found)) (sym is_target)
+          (λ again kept fault e fails is_job only. stands_still source shows new job pool arena again kept.0 kept.1 kept.2 (subst (λ (f : Fault). Fails source target out x.schedule.job.merger x.pool old f job.merger new) e fails) is_job only)
+
+      pub broken_by : (fault : Fault) → fault ≡ Stopped → Fails source t out x.schedule.job.merger x.pool old fault job.merger new → Goes x.log.shape old new (CrashFinds x.log.shape background old.pages m)
+      broken_by = subst (λ (k : Kept). (fault : Fault) → fault ≡ Stopped → Fails source k out x.schedule.job.merger x.pool old fault job.merger new → Goes x.log.shape old new (CrashFinds x.log.shape background old.pages m)) (sym is_target)
+          (λ fault e fails. goes_broken source shows new job.merger (subst (λ (f : Fault). Fails source target out x.schedule.job.merger x.pool old f job.merger new) e fails))
+
+  -- ---- what the flash is behind it
+
+  pub ok_end : (new : BoardState) → StepReaches x.pool out old new → SameEnd x.pool out old.pages new.pages
+  ok_end new cuts = reached_end x.pool out old new cuts
+
+  pub stopped_end : (new : BoardState) → StepWent x.pool out old new → SameEnd x.pool out old.pages new.pages
+  stopped_end new went = went_end x.pool out old new went
+
+  pub read_end : (new : BoardState) → OnlyReading old new → SameEnd x.pool out old.pages new.pages
+  read_end new only = inl (ap (λ (b : BoardState). b.pages) only)
+
+  pub grows_by : (new : BoardState) → SameEnd x.pool out old.pages new.pages → Grows x.log.shape old.pages new.pages
+  grows_by new end = front_grows x frames old top found m may shared ready level into new.pages end
+
+  pub ready_by : (new : BoardState) → IsReady new x.schedule.job.merger.shape → IsReady new x.log.shape
+  ready_by new after = subst (λ (s : Shape). IsReady new s) into.merger_shape after
+
+  -- whichever call failed
+  pub failed_end : {Y : Type 0} (new : BoardState) (fault : Fault) → (◌≡◌ {A = Result Y Fault} (Err fault) (Err Reading) → OnlyReading old new) → (◌≡◌ {A = Result Y Fault} (Err fault) (Err Stopped) → StepWent x.pool out old new) → SameEnd x.pool out old.pages new.pages
+  failed_end new Reading read went = read_end new (read refl)
+  failed_end new Stopped read went = stopped_end new (went refl)

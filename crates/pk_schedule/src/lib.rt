@@ -6,6 +6,7 @@
 #![tactic(auto)]
 
 mod exchange;
+mod install;
 mod merging;
 mod phase;
 mod schedule;

@@ -136,7 +136,24 @@ impl<A: Region> Schedule<A> {
         ensures ready { IsReady (B.state board.new) log.old.shape }
         ensures buffer { length buf.new ≡ length buf.old }
     {
-        Err(Fault::Stopped)
+        match self.phase {
+            Phase::Idle => match self.begin(levels, log) {
+                Stepped::Worked => Ok(Stepped::Worked),
+                Stepped::Idle => Ok(Stepped::Idle),
+            },
+            Phase::Running { level } => {
+                match self.run_job(board, pool, arena, levels, log, level) {
+                    Ok(()) => Ok(Stepped::Worked),
+                    Err(fault) => Err(fault),
+                }
+            }
+            Phase::Ready { level } => {
+                match self.install(board, pool, arena, levels, log, level, buf) {
+                    Ok(()) => Ok(Stepped::Worked),
+                    Err(fault) => Err(fault),
+                }
+            }
+        }
     }
 
     /// One step of a freeze of the active buffer, by at most one call of the board: a block of the empty epoch, the other one, the

@@ -1,6 +1,5 @@
 use Rattle.pk_core.proofs.Advancing.{erase_advances, idle_advances, erase_failed}
-use Rattle.pk_core.proofs.Ticking.{one_erased, none_erased, kept_drive}
-use Rattle.pk_core.proofs.Unchanging.{agrees_ready}
+use Rattle.pk_core.proofs.Ticking.{one_erased, none_erased}
 use Rattle.pk_core.proofs.drive.Drive.erase_step.Goals as goal
 
 pub returns-in-Ok-true : goal.returns-in-Ok-true

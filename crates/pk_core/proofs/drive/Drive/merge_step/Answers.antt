@@ -1,5 +1,6 @@
-use Rattle.std.proofs.Common.{ap, ◌∙◌, refl, Ok, Err}
+use Rattle.std.proofs.Common.{ap, ◌∙◌, refl, true, Ok, Err}
 use Rattle.pk_schedule.specs.Index.{index}
+use Rattle.pk_core.specs.Parts.{Parts}
 use Rattle.pk_core.proofs.Advancing.{may_some, merge_advances, unread_advances, stop_advances, busy_merge, active_pending}
 use Rattle.pk_core.proofs.drive.Drive.merge_step.Goals as goal
 
@@ -32,4 +33,5 @@ returns-in-Err-Stopped g c =
     let e = c.step.ensures in
     let was = c.in-Err-Stopped.is ∙ ap Err c.in-Err-Stopped.field-0-is in
     let broken = e.broken was in
-    rw (← c.self.view_is) (stop_advances _ (g.B.Nand.state c.args.board.now) (g.B.Nand.state c.step.new.board) r.may _ refl (active_pending c.self.inside.log c.step.new.log e.active r.may.none) (busy_merge _ (g.B.Nand.state c.args.board.now) (g.B.Nand.state c.args.board.now) r.may r.merges) broken.0 broken.1 e.calls e.installs e.grows)
+    let later : Parts = record { log = c.step.new.log; levels = c.step.new.levels; arena = c.step.new.arena; schedule = c.step.new.self; space = c.self.inside.space; pool = c.step.new.pool; keys = c.self.inside.keys; stopped = true } in
+    rw (← c.self.view_is) (stop_advances _ (g.B.Nand.state c.args.board.now) (g.B.Nand.state c.step.new.board) r.may later refl (active_pending c.self.inside.log c.step.new.log e.active r.may.none) (busy_merge _ (g.B.Nand.state c.args.board.now) (g.B.Nand.state c.args.board.now) r.may r.merges) broken.0 broken.1 e.calls e.installs e.grows)

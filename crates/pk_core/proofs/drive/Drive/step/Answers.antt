@@ -8,7 +8,7 @@ pub returns-in-Worked-clause-idle : goal.returns-in-Worked-clause-idle
 returns-in-Worked-clause-idle g c = tells_worked c.args.self.now c.advance.new.self (g.B.Nand.state c.args.board.now) (g.B.Nand.state c.advance.new.board) c.requires.may (subst (λ (d : Parts). IsShared d.pool.shape d.pool.states) c.self.view_is c.known.ensures) c.in-Worked.ensures
 
 pub returns-in-Worked-clause-lowers : goal.returns-in-Worked-clause-lowers
-returns-in-Worked-clause-lowers g c = lowers_worked c.args.self.now c.advance.new.self (g.B.Nand.state c.args.board.now) (g.B.Nand.state c.advance.new.board) c.in-Worked.ensures
+returns-in-Worked-clause-lowers g c = lowers_worked c.args.self.now c.advance.new.self (g.B.Nand.state c.args.board.now) (g.B.Nand.state c.advance.new.board) c.requires.may c.in-Worked.ensures
 
 pub returns-then-is_reclaim_due-clause-ticks : goal.returns-then-is_reclaim_due-clause-ticks
 returns-then-is_reclaim_due-clause-ticks g c = ticks_due c.args.self.now c.advance.new.self (g.B.Nand.state c.args.board.now) (g.B.Nand.state c.advance.new.board) c.requires.may c.in-Idle.ensures
@@ -18,7 +18,7 @@ returns-then-is_reclaim_due-clause-idle g c =
     tells_reclaim c.args.self.now c.advance.new.self (g.B.Nand.state c.args.board.now) (g.B.Nand.state c.advance.new.board) c.requires.may (subst (λ (d : Parts). IsShared d.pool.shape d.pool.states) c.self.view_is c.known.ensures) c.in-Idle.ensures (sym c.is_reclaim_due.ensures ∙ c.if-is_reclaim_due.true)
 
 pub returns-then-is_reclaim_due-clause-lowers : goal.returns-then-is_reclaim_due-clause-lowers
-returns-then-is_reclaim_due-clause-lowers g c = lowers_not c.args.self.now c.advance.new.self (g.B.Nand.state c.args.board.now) (g.B.Nand.state c.advance.new.board) c.requires.may c.in-Idle.ensures (sym c.is_reclaim_due.ensures ∙ c.if-is_reclaim_due.true)
+returns-then-is_reclaim_due-clause-lowers g c = lowers_not c.args.self.now c.advance.new.self (g.B.Nand.state c.args.board.now) (g.B.Nand.state c.advance.new.board) c.requires.may (subst (λ (d : Parts). IsShared d.pool.shape d.pool.states) c.self.view_is c.known.ensures) c.in-Idle.ensures (sym c.is_reclaim_due.ensures ∙ c.if-is_reclaim_due.true)
 
 pub returns-else-is_reclaim_due-clause-idle : goal.returns-else-is_reclaim_due-clause-idle
 returns-else-is_reclaim_due-clause-idle g c =

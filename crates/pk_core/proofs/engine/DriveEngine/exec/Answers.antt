@@ -19,6 +19,7 @@ use Rattle.pk_core.proofs.Statuses.{told_refused, early_refuses, zero_runs}
 use Rattle.pk_core.proofs.Noted.{stores_all}
 use Rattle.pk_core.proofs.Quieting.{quietly_stores, quietly_deletes}
 use Rattle.std.proofs.Common.{arith}
+use Rattle.pk_core.proofs.Due.{merges_next}
 use Rattle.pk_core.proofs.Callings.{few_within, few_none, few_told}
 use Rattle.pk_core.proofs.engine.DriveEngine.exec.Goals as goal
 
@@ -113,3 +114,10 @@ returns-in-None-clause-report g c = λ is. let r = c.perform-outcome.ensures.rep
 
 pub returns-in-None-clause-report_data : goal.returns-in-None-clause-report_data
 returns-in-None-clause-report_data g c = λ is _. (c.perform-outcome.ensures.report is).bytes
+
+pub returns-in-Some-clause-merge : goal.returns-in-Some-clause-merge
+returns-in-Some-clause-merge g c = λ _. merges_next c.args.self.now (g.B.Nand.state c.args.board.now) c.requires.agrees (subst (λ (d : Parts). IsShared d.pool.shape d.pool.states) c.self.view_is c.known.ensures)
+
+pub returns-in-None-clause-merge : goal.returns-in-None-clause-merge
+returns-in-None-clause-merge g c = λ runs.
+    merges_next c.perform-outcome.new.self (g.B.Nand.state c.perform-outcome.new.board) (c.perform-outcome.ensures.executes.agrees runs) (subst (λ (d : Parts). IsShared d.pool.shape d.pool.states) c.self-in-None.view_is c.known-in-None.ensures)

@@ -1,0 +1,121 @@
+-- A step of the install of a merge, for whatever stands on the flash.
+use Rattle.std.proofs.Common.{◌≡◌, ℕ, ◌≤◌, false, true, List, [], ◌∷◌, refl, sym, ap, subst, ◌∙◌, Option, Result, Ok, Err}
+use Rattle.std.specs.Prelude.{OnOk, OnErr}
+use Rattle.pk_base.specs.Map.{Map}
+use Rattle.pk_nand.specs.declared.types.Fault.{Fault}
+use Rattle.pk_nand.specs.BoardState.{BoardState}
+use Rattle.pk_nand.specs.Effects.{OnlyFlash, Stops}
+use Rattle.pk_rootfmt.specs.Root.{Root}
+use Rattle.pk_rootfmt.specs.Held.{older_of, blocks_or_none}
+use Rattle.pk_root.specs.Installing.{erases_next}
+use Rattle.pk_pin.specs.Frames.{Frames}
+use Rattle.pk_model.specs.Found.{Found}
+use Rattle.pk_model.specs.Steps.{Step}
+use Rattle.pk_pool.specs.Blocks.{Blocks, IsShared}
+use Rattle.pk_level.specs.Levels.{Levels, IsLevels}
+use Rattle.pk_run.specs.Kept.{Kept}
+use Rattle.pk_log.specs.State.{LogState}
+use Rattle.pk_log.specs.MergeSteps.{MayPrepare, LogPrepared, LogPrepares, LogPrepareBreaks, MayMerge, LogMerges, LogMergeBreaks}
+use Rattle.pk_schedule.specs.declared.phase.Phase.TheVariants.{Idle, Ready}
+use Rattle.pk_schedule.specs.Exchanges.{CanEndFirst, EndsFirst, CanEndDeep, EndsDeep}
+use Rattle.pk_schedule.specs.Index.{Index, Schedule, output}
+use Rattle.pk_schedule.specs.Steps.{MayWork, IndexMoves, Moves, Less, LessIsLeft, Breaks}
+use Rattle.pk_schedule.proofs.Installing.{installed_moves, installed_less}
+use Rattle.pk_schedule.proofs.Preparing.{prepared_moves, prepared_less}
+use Rattle.pk_schedule.proofs.Replaced.{replaced_one, replaced_deep}
+use Rattle.pk_schedule.proofs.Waiting as wait
+
+same_older : (blocks : List ℕ) → blocks_or_none (older_of blocks) ≡ blocks
+same_older [] = refl
+same_older (b ∷ bs) = refl
+
+-- for which the index may be the one of the flash
+abbrev pub Stands : Index → BoardState → Type 0
+Stands x old = (frames : ℕ) × (top : ℕ × Root) × (found : Found) × (m : Map) × MayWork x frames old.pages top found m
+
+module _ (x : Index) (level : ℕ) (is : x.schedule.phase ≡ Ready level) (shared : IsShared x.pool.shape x.pool.states) (known : IsLevels x.levels) (old : BoardState) where
+  -- ---- what is asked of the parts
+
+  pub ask_prepare : Stands x old → (top : ℕ × Root) × (found : Found) × (m : Map) × MayPrepare x.log old.pages top found m
+  ask_prepare s = (s.1, s.2, s.3, wait.may_prepare x s.0 old s.1 s.2 s.3 s.4 level is shared known)
+
+  -- the output, as it is told
+  module _ (out : Kept) (count : ℕ) (blocks : List ℕ) (out_is : out ≡ output x.schedule) (count_is : count ≡ out.count) (blocks_are : blocks ≡ out.blocks) where
+    told : (P : ℕ → List ℕ → Type 0) → P (output x.schedule).count (output x.schedule).blocks → P count blocks
+    told P is = subst (λ n. P n blocks) (sym (count_is ∙ ap (λ (r : Kept). r.count) out_is)) (subst (λ bs. P (output x.schedule).count bs) (sym (blocks_are ∙ ap (λ (r : Kept). r.blocks) out_is)) is)
+
+    pub may_merge : (frames : ℕ) (top : ℕ × Root) (found : Found) (m : Map) → MayWork x frames old.pages top found m → MayMerge x.log old.pages top found m level count blocks
+    may_merge frames top found m may = told (λ n bs. MayMerge x.log old.pages top found m level n bs) (wait.may_merge x frames old top found m may level is shared known)
+
+    pub ask_merge : Stands x old → (top : ℕ × Root) × (found : Found) × (m : Map) × MayMerge x.log old.pages top found m level count blocks
+    ask_merge s = (s.1, s.2, s.3, may_merge s.0 s.1 s.2 s.3 s.4)
+
+    pub merge_breaks : (new : BoardState) → LogMergeBreaks x.log old level count blocks new → Breaks x old new
+    merge_breaks new broken frames top found m may = broken top found m (may_merge frames top found m may)
+
+    pub merges_told : (log' : LogState) (new : BoardState) → LogMerges x.log old level count blocks log' new → LogMerges x.log old level (output x.schedule).count (output x.schedule).blocks log' new
+    merges_told log' new merges =
+        let P : ℕ → List ℕ → Type 0 = λ n bs. LogMerges x.log old level n bs log' new in
+        subst (λ n. P n (output x.schedule).blocks) (count_is ∙ ap (λ (r : Kept). r.count) out_is) (subst (λ bs. P count bs) (blocks_are ∙ ap (λ (r : Kept). r.blocks) out_is) merges)
+
+  older_is : (s : Stands x old) → blocks_or_none (older_of x.log.root.older) ≡ s.1.1.older
+  older_is s = same_older x.log.root.older ∙ ap (λ (r : Root). r.older) s.4.stands.logs.root_is
+
+  pub ask_first : Stands x old → level ≡ 1 → (older : Option (List ℕ)) → older ≡ older_of x.log.root.older → CanEndFirst x.levels x.arena x.pool x.schedule.job (blocks_or_none older)
+  ask_first s one older told = subst (λ os. CanEndFirst x.levels x.arena x.pool x.schedule.job os) (sym (ap blocks_or_none told ∙ older_is s)) (wait.can_end_first x s.0 old s.1 s.2 s.3 s.4 level is shared known one)
+
+  pub ask_level : Stands x old → (1 ≤ level) × (level ≤ 4)
+  ask_level s = (wait.least x s.0 old s.1 s.2 s.3 s.4 level is shared known, wait.most x s.0 old s.1 s.2 s.3 s.4 level is shared known)
+
+  pub ask_deep : Stands x old → 2 ≤ level → CanEndDeep x.levels x.arena x.pool x.schedule.job level
+  ask_deep s deep = wait.can_end_deep x s.0 old s.1 s.2 s.3 s.4 level is shared known deep
+
+  -- ---- what the step leaves
+
+  abbrev Made : Index → BoardState → Type 0
+  Made x' new = (frames : ℕ) (top : ℕ × Root) (found : Found) (m : Map) → MayWork x frames old.pages top found m → IndexMoves x frames old found m x' new × LessIsLeft x x'
+
+  module _ (new : BoardState) (log' : LogState) where
+    prepared : erases_next x.log.next ≡ true → LogPrepares x.log old log' new → Made (record x { log = log' }) new
+    prepared erases prepares frames top found m may =
+        let p = prepares top found m (wait.may_prepare x frames old top found m may level is shared known) in
+        let Q : LogState → Type 0 = λ l. LogPrepared x.log old top found m l new in
+        let P : LogState → Type 0 = λ l. IndexMoves x frames old found m (record x { log = l }) new × LessIsLeft x (record x { log = l }) in
+        let q : Q (record x.log { next = log'.next }) = subst Q p.same_log p in
+        subst P (sym p.same_log) (prepared_moves x frames old top found m may level is shared known new log'.next erases q, prepared_less x frames old top found m may level is shared known new log'.next erases q)
+
+    pub made_prepared : erases_next x.log.next ≡ true → (r : Result Unit Fault) → Step (λ u. LogPrepares x.log old log' new) (LogPrepareBreaks x.log old new) x.log.shape 0 old new r
+        → OnOk r (Moves x old (record x { log = log' }) new) × OnOk r (Less x old.pages (record x { log = log' })) × OnErr r (Breaks x old new × Stops old new) × OnlyFlash old new
+    made_prepared erases (Ok u) step = (
+      λ frames top found m may. (prepared erases step.ended frames top found m may).0,
+      λ frames top found m may. (prepared erases step.ended frames top found m may).1,
+      tt,
+      step.works.rest,
+    )
+    made_prepared erases (Err fault) step = (tt, tt, (λ frames top found m may. step.broken top found m (wait.may_prepare x frames old top found m may level is shared known), step.stops), step.stops.rest)
+
+    module _ (programs : erases_next x.log.next ≡ false) (merges : LogMerges x.log old level (output x.schedule).count (output x.schedule).blocks log' new)
+        (levels' : Levels) (arena' : Frames) (pool' : Blocks) (schedule' : Schedule) (rest : schedule' ≡ record x.schedule { job = schedule'.job; phase = Idle }) where
+      abbrev then_index : LogState → Schedule → Index
+      then_index l s = record { log = l; levels = levels'; arena = arena'; pool = pool'; schedule = s }
+
+      abbrev ended_schedule : Schedule
+      ended_schedule = record x.schedule { job = schedule'.job; phase = Idle }
+
+      pub made_first : level ≡ 1 → (older : Option (List ℕ)) → older ≡ older_of x.log.root.older
+          → EndsFirst x.levels x.arena x.pool x.schedule.job (blocks_or_none older) levels' arena' pool' schedule'.job → Made (then_index log' schedule') new
+      made_first one older told e frames top found m may =
+          let f = merges top found m (wait.may_merge x frames old top found m may level is shared known) in
+          let e' = subst (λ os. EndsFirst x.levels x.arena x.pool x.schedule.job os levels' arena' pool' schedule'.job) (ap blocks_or_none told ∙ older_is (frames, top, found, m, may)) e in
+          let r = replaced_one x frames old top found m may level is shared known new f.behind one levels' arena' pool' schedule'.job e' in
+          let P : LogState → Schedule → Type 0 = λ l s. IndexMoves x frames old found m (then_index l s) new × LessIsLeft x (then_index l s) in
+          subst (λ s. P log' s) (sym rest) (subst (λ l. P l ended_schedule) (sym f.merged_is)
+          (installed_moves x frames old top found m may level is shared known new log' programs f levels' arena' pool' schedule'.job r, installed_less x frames old top found m may level is shared known new log' programs f levels' arena' pool' schedule'.job r))
+
+      pub made_deep : 2 ≤ level → EndsDeep x.levels x.arena x.pool x.schedule.job level levels' arena' pool' schedule'.job → Made (then_index log' schedule') new
+      made_deep deep e frames top found m may =
+          let f = merges top found m (wait.may_merge x frames old top found m may level is shared known) in
+          let r = replaced_deep x frames old top found m may level is shared known new f.behind deep levels' arena' pool' schedule'.job e in
+          let P : LogState → Schedule → Type 0 = λ l s. IndexMoves x frames old found m (then_index l s) new × LessIsLeft x (then_index l s) in
+          subst (λ s. P log' s) (sym rest) (subst (λ l. P l ended_schedule) (sym f.merged_is)
+          (installed_moves x frames old top found m may level is shared known new log' programs f levels' arena' pool' schedule'.job r, installed_less x frames old top found m may level is shared known new log' programs f levels' arena' pool' schedule'.job r))

@@ -1,0 +1,251 @@
+-- The root of a merge is installed, and the runs are exchanged, over an index.
+use Rattle.std.proofs.Common.{◌≡◌, ◌⊎◌, inl, inr, ℕ, zero, suc, ◌+◌, ◌-◌, ◌*◌, ◌/◌, ◌<◌, ◌≤◌, Bool, true, false, ◌==◌, nat_le, if◌then◌else◌, T, List, [], ◌∷◌, ◌++◌, length, map, slice_set, slice_index, slice_index_or, Option, Some, None, refl, sym, ap, subst, ◌∙◌, arith, length-append, append-nil}
+use Rattle.std.specs.Prelude.{slice_get, unwrap_or}
+use Rattle.std.specs.List.{concat, AllByRecursion}
+use Rattle.pk_base.specs.Shape.{Shape, IsShape}
+use Rattle.pk_base.specs.Entry.{Entry}
+use Rattle.pk_base.specs.Page.{Flash, page_at}
+use Rattle.pk_base.specs.Map.{Map}
+use Rattle.pk_buf.specs.Table.{Table}
+use Rattle.pk_work.specs.Backlog.{Backlog}
+use Rattle.pk_work.specs.Rest.{Lowers, left_of, whole_merge}
+use Rattle.pk_work.specs.Steps.{EndsMerge}
+use Rattle.pk_work.proofs.Lowering.{ends}
+use Rattle.pk_plan.specs.declared.owner.Owner.{Owner}
+use Rattle.pk_plan.specs.declared.owner.Owner.TheVariants.{Journal, Meta, Values}
+use Rattle.pk_nand.specs.BoardState.{BoardState}
+use Rattle.pk_rootfmt.specs.Root.{Root, named, differ}
+use Rattle.pk_root.specs.declared.next.Next.{Next}
+use Rattle.pk_root.specs.Installing.{SameBehind, erases_next}
+use Rattle.pk_pin.specs.Frames.{Frames, AreLeases}
+use Rattle.pk_model.specs.Found.{Found}
+use Rattle.pk_model.specs.Tree.{merged, blocks_after}
+use Rattle.pk_model.proofs.SamePages.{any_front, any_back}
+use Rattle.pk_model.proofs.ValueSets.{is_true}
+use Rattle.pk_pool.specs.declared.state.BlockState.TheVariants.{Free, Owned}
+use Rattle.pk_pool.specs.Blocks.{Blocks, IsShared, PoolOnFlash, used_by}
+use Rattle.pk_pool.specs.Unready.{unready}
+use Rattle.pk_run.specs.Kept.{Kept, empty}
+use Rattle.pk_level.specs.Levels.{Levels, IsLevels, RunsOnFlash, HaveBlocks, run_of, with_run}
+use Rattle.pk_level.specs.Arenas.{HasArena, leases_of, IsPinnedIf}
+use Rattle.pk_steps.specs.Merging.{IsMerged, merged_root, merged_found, output_of, freed_by, blocks_at}
+use Rattle.pk_steps.specs.Under.{IsUnder}
+use Rattle.pk_steps.specs.Next.{IsNext}
+use Rattle.pk_steps.proofs.FourRuns.{IsLevel}
+use Rattle.pk_steps.proofs.FreedCounts.{freed_counted}
+use Rattle.pk_steps.proofs.Following.{merged_next}
+use Rattle.pk_steps.proofs.Freeing.{freed}
+use Rattle.pk_steps.proofs.Merging.{in_after}
+use Rattle.pk_steps.proofs.Places.{In, in_append}
+use Rattle.pk_steps.proofs.Standing.{installed}
+use Rattle.pk_merge.specs.Jobs.{Job, IsIdle, taken_from, given_to, given_all, ended, pins}
+use Rattle.pk_merge.specs.Laws.{IsFormer}
+use Rattle.pk_merge.proofs.Ending.{idle_one}
+use Rattle.pk_merge.proofs.Leasing.{are_apart}
+use Rattle.pk_compact.specs.Freezing.{given_back}
+use Rattle.pk_compact.specs.FreezeSteps.{IsTaken, taken_by, install_steps}
+use Rattle.pk_log.specs.State.{LogState}
+use Rattle.pk_log.specs.Logs.{LogOnFlash}
+use Rattle.pk_log.specs.MergeSteps.{LogMerged, frozen_after}
+use Rattle.pk_schedule.specs.declared.phase.Phase.{Phase}
+use Rattle.pk_schedule.specs.declared.phase.Phase.TheVariants.{Idle, Ready}
+use Rattle.pk_schedule.specs.Exchanges.{Exchanges, EndsFirst, EndsDeep}
+use Rattle.pk_schedule.specs.Index.{Index, IndexOnFlash, output}
+use Rattle.pk_schedule.specs.Steps.{MayWork, KeepsValues, IndexMoves, LessIsLeft, backlog_of}
+use Rattle.pk_schedule.proofs.Backlogs.{index_backlog}
+use Rattle.pk_schedule.proofs.Ended.{SecondRun}
+use Rattle.pk_schedule.proofs.Giving.{GivesBack, gives_back, in_or_not, one_owner}
+use Rattle.pk_schedule.proofs.Preparing.{no_freeze, pool_still, output_stands, runs_stand, same_page, merge_is, due_now}
+use Rattle.pk_schedule.proofs.Replacing.{RunsOnFlash-set, HaveBlocks-set, ArePinnedTo-set, RunsOnFlash-given, at_set, at_other, map_set, given_bytes, given_size}
+use Rattle.pk_schedule.proofs.Standing.{named_owned}
+use Rattle.pk_schedule.proofs.Waiting as wait
+
+not_values : (pool : Blocks) (b : ℕ) → (slice_get pool.states b ≡ Some (Owned Journal)) ⊎ (slice_get pool.states b ≡ Some (Owned Meta)) → slice_get pool.states b ≡ Some (Owned Values) → ⊥
+not_values pool b (inl journal) values = let e : Journal ≡ Values = one_owner pool Journal Values b journal values in let c : ⊥ = cc in c
+not_values pool b (inr meta) values = let e : Meta ≡ Values = one_owner pool Meta Values b meta values in let c : ⊥ = cc in c
+
+not_free : (pool : Blocks) (b : ℕ) (o : Owner) → slice_get pool.states b ≡ Some Free → slice_get pool.states b ≡ Some (Owned o) → ⊥
+not_free pool b o free owned = cc
+
+-- the frozen buffer is empty, or as before
+frozen_size : (one : Bool) (t : Table) → length (if one then record t { entries = [] } else t).entries ≡ (if one then 0 else length t.entries)
+frozen_size true t = refl
+frozen_size false t = refl
+
+one_left : (a : Next) (u u' : ℕ) → erases_next a ≡ false → u' ≡ u → Lowers (install_steps a) u 0 u'
+one_left a u u' programs same = record { none_ready = omega (arith, same); less = (let one : install_steps a ≡ 1 = rw programs refl in omega (arith, one, same)) }
+
+module _ (x : Index) (frames : ℕ) (old : BoardState) (top : ℕ × Root) (found : Found) (m : Map) (may : MayWork x frames old.pages top found m) (level : ℕ) (is : x.schedule.phase ≡ Ready level)
+    (shared : IsShared x.pool.shape x.pool.states) (known : IsLevels x.levels) (new : BoardState) where
+  abbrev shape : Shape
+  shape = x.log.shape
+
+  abbrev out : Kept
+  out = output x.schedule
+
+  abbrev root : Root
+  root = top.1
+
+  abbrev then_root : Root
+  then_root = merged_root root level out.count out.blocks
+
+  abbrev then_found : Found
+  then_found = merged_found level found
+
+  -- What the exchange leaves of the runs, their frames and blocks, and of the job.
+  pub record Replaced (levels' : Levels) (arena' : Frames) (pool' : Blocks) (job' : Job) : Type 0 where
+    pub levels_shape : levels'.shape ≡ x.levels.shape
+    pub levels_pinned : levels'.pinned ≡ x.levels.pinned
+    pub stand : RunsOnFlash new.pages arena' levels'.runs then_found.runs
+    pub run_blocks : HaveBlocks shape levels'.runs then_root.runs
+    pub arena_is : HasArena shape frames levels' arena' []
+    pub same_shape : pool'.shape ≡ x.pool.shape
+    pub size : length pool'.states ≡ length x.pool.states
+    pub others : (b : ℕ) → (In b (freed_by level root) → ⊥) → slice_get pool'.states b ≡ slice_get x.pool.states b
+    pub gone : (b : ℕ) → In b (freed_by level root) → slice_get pool'.states b ≡ Some Free
+    pub journal_fewer : used_by Journal pool'.states + length root.older ≡ used_by Journal x.pool.states + length then_root.older
+    pub meta_fewer : used_by Meta pool'.states + length (concat root.runs) + length out.blocks ≡ used_by Meta x.pool.states + length (concat then_root.runs)
+    pub same_values : used_by Values pool'.states ≡ used_by Values x.pool.states
+    pub same_unready : unready pool'.states ≡ unready x.pool.states
+    pub pool_fits : (flash : Flash) → PoolOnFlash x.pool flash → PoolOnFlash pool' flash
+    pub idle : IsIdle shape job'
+    pub pinned_is : job'.pinned ≡ x.schedule.job.pinned
+    pub source : 2 ≤ level → slice_index (map (λ (r : Kept). r.count) levels'.runs) (level - 2) ≡ 0
+    pub above : (i : ℕ) → i + 2 < level → slice_index (map (λ (r : Kept). r.count) levels'.runs) i ≡ slice_index (map (λ (r : Kept). r.count) x.levels.runs) i
+
+  module _ (log' : LogState) (programs : erases_next x.log.next ≡ false) (f : LogMerged x.log old top found m level out.count out.blocks log' new) (levels' : Levels) (arena' : Frames) (pool' : Blocks) (job' : Job) (r : Replaced levels' arena' pool' job') where
+    abbrev then_log : LogState
+    then_log = record x.log { root = then_root; next = log'.next; frozen = frozen_after level x.log.frozen }
+
+    abbrev then_index : Index
+    then_index = record { log = then_log; levels = levels'; arena = arena'; pool = pool'; schedule = record { job = job'; phase = Idle; freeze = x.schedule.freeze } }
+
+    is_merged : IsMerged shape old.pages [] top found level out.count out.blocks
+    is_merged = wait.is_merged x frames old top found m may level is shared known
+
+    next : IsNext shape old.pages [] top found then_root then_found
+    next = merged_next shape old.pages [] top found m level out.count out.blocks may.stands.logs.is_shape may.under is_merged
+
+    -- what was freed is named no more
+    not_freed : (b : ℕ) → In b (named then_root) → In b (freed_by level root) → ⊥
+    not_freed b among gone = (freed shape old.pages [] top found m level out.count out.blocks b may.stands.logs.is_shape may.under is_merged gone).0 among
+
+    freed_named : (b : ℕ) → In b (freed_by level root) → In b (named root)
+    freed_named = (freed_counted shape root level out.count out.blocks (is_true _ (wait.valid x frames old top found m may level is shared known)) (wait.least x frames old top found m may level is shared known) (wait.most x frames old top found m may level is shared known)).2
+
+    older_in : (one : Bool) (b : ℕ) → In b (if one then [] else root.older) → In b root.older
+    older_in true b among = absurd among
+    older_in false b among = among
+
+    journal_stands : (b : ℕ) → In b (then_root.newest ++ then_root.older) → slice_get pool'.states b ≡ Some (Owned Journal)
+    journal_stands b among =
+        r.others b (not_freed b (any_front (λ c. b ≡ c) (then_root.newest ++ then_root.older) (concat then_root.runs) among))
+        ∙ may.stands.journal b (elim (in_append b root.newest (if level == 1 then [] else root.older) among) [
+          | inl newest ↦ any_front (λ c. b ≡ c) root.newest root.older newest
+          | inr older ↦ any_back (λ c. b ≡ c) root.newest root.older (older_in (level == 1) b older)
+        ])
+
+    runs_owned : (b : ℕ) → In b (concat then_root.runs) → slice_get pool'.states b ≡ Some (Owned Meta)
+    runs_owned b among =
+        r.others b (not_freed b (any_back (λ c. b ≡ c) (then_root.newest ++ then_root.older) (concat then_root.runs) among))
+        ∙ elim (in_after b level out.blocks root.runs among) [
+          | inl fresh ↦ (wait.waits x frames old top found m may level is shared known).into.held.owned b fresh
+          | inr former ↦ may.stands.runs b former
+        ]
+
+    none_taken : taken_by x.schedule.freeze ≡ []
+    none_taken = wait.none_taken x frames old top found m may level is shared known
+
+    no_blocks : length (output then_index.schedule).blocks ≡ 0
+    no_blocks = ap (λ o. length (unwrap_or o (empty job'.merger.shape job'.target)).blocks) r.idle.output
+
+    no_leases : (output then_index.schedule).leases ≡ []
+    no_leases = ap (λ o. (unwrap_or o (empty job'.merger.shape job'.target)).leases) r.idle.output
+
+    under : IsUnder shape new.pages [] (f.page, then_root) then_found m
+    under = let U : LogState → Type 0 = λ l. IsUnder shape new.pages [] (f.page, l.root) then_found m in subst U f.merged_is f.under
+
+    stands_then : IndexOnFlash then_index frames new.pages (f.page, then_root) then_found
+    stands_then =
+        let L : LogState → Type 0 = λ l. LogOnFlash l new.pages (f.page, l.root) then_found in
+        record {
+          logs = subst L f.merged_is f.logs;
+          pool_shape = r.same_shape ∙ may.stands.pool_shape;
+          pool_fits = r.pool_fits new.pages (pool_still x frames old top found m may level is shared known new.pages f.behind);
+          levels_shape = r.levels_shape ∙ may.stands.levels_shape;
+          levels_pinned = r.levels_pinned ∙ may.stands.levels_pinned;
+          stand = r.stand;
+          run_blocks = r.run_blocks;
+          arena_is = subst (λ ls. HasArena shape frames levels' arena' ls) (sym no_leases) r.arena_is;
+          journal = journal_stands;
+          journal_few =
+              (let was = may.stands.journal_few in
+              let fewer = r.journal_fewer in
+              let one = length-append root.newest root.older in
+              let two = length-append root.newest then_root.older in
+              let freeze : length (taken_by x.schedule.freeze) ≡ 0 = ap (λ (xs : List ℕ). length xs) none_taken in
+              omega (arith, was, fewer, one, two, freeze));
+          runs = runs_owned;
+          runs_few = (let was = may.stands.runs_few in let fewer = r.meta_fewer in let blocks = no_blocks in omega (arith, was, fewer, blocks));
+          pins_are = r.pinned_is ∙ may.stands.pins_are;
+          merge = r.idle;
+          freeze = record {
+            taken = subst (AllByRecursion (IsTaken shape pool' new.pages then_root)) (sym none_taken) tt;
+            different = may.stands.freeze.different;
+            none_frozen = λ some. absurd (let freeze : length (taken_by x.schedule.freeze) ≡ 0 = ap (λ (xs : List ℕ). length xs) none_taken in omega (arith, some, freeze));
+          };
+        }
+
+    values_then : KeepsValues shape x.pool old.pages pool' new.pages
+    values_then = record {
+      size = r.size;
+      owned = λ b owned. r.others b (λ gone. not_values x.pool b (named_owned x frames old.pages top found m may b (freed_named b gone)) owned) ∙ owned;
+      no_more = λ b owned. elim (in_or_not b (freed_by level root)) [
+        | inl gone ↦ absurd (not_free pool' b Values (r.gone b gone) owned)
+        | inr away ↦ sym (r.others b away) ∙ owned
+      ];
+      as_many = r.same_values;
+      pages = λ k owned. same_page x frames old top found m may level is shared known new.pages f.behind Values k owned;
+    }
+
+    pub installed_moves : IndexMoves x frames old found m then_index new
+    installed_moves = record {
+      then_top = (f.page, then_root);
+      then_found = then_found;
+      stands = stands_then;
+      same_shape = refl;
+      none_pending = may.none_pending;
+      under = under;
+      same_places = next.same_places;
+      values = values_then;
+      numbers = (let same : x.log.root.number ≡ root.number = ap (λ (r : Root). r.number) may.stands.logs.root_is in omega (arith, same));
+      grows = inr (installed shape old.pages new.pages [] top f.page found then_root then_found m may.stands.logs.is_shape tt may.under next under.is_top f.behind).1;
+      cuts = f.cuts;
+    }
+
+    over : backlog_of then_index ≡ record (backlog_of x) { frozen = length (frozen_after level x.log.frozen).entries; runs = map (λ (r : Kept). r.count) levels'.runs; merge = None; unready = unready pool'.states }
+    over = λ i. record {
+      frozen = length (frozen_after level x.log.frozen).entries;
+      runs = map (λ (r : Kept). r.count) levels'.runs;
+      merge = None;
+      freeze = (no_freeze x.schedule.freeze log'.next none_taken ∙ sym (no_freeze x.schedule.freeze x.log.next none_taken)) i;
+      reclaim = None;
+      is_due = false;
+      may_freeze = false;
+      unready = unready pool'.states;
+    }
+
+    pub installed_less : LessIsLeft x then_index
+    installed_less =
+        let step : EndsMerge shape (backlog_of x) (backlog_of then_index) = record {
+          level = level;
+          due = due_now x frames old top found m may level is shared known;
+          ended = over;
+          frozen = frozen_size (level == 1) x.log.frozen;
+          source = r.source;
+          above = r.above;
+          lowers = subst (λ o. Lowers (left_of (whole_merge shape level) o) (unready x.pool.states) 0 (unready pool'.states)) (sym (merge_is x frames old top found m may level is shared known))
+              (one_left x.log.next (unready x.pool.states) (unready pool'.states) programs r.same_unready);
+        } in
+        let less = ends shape (backlog_of x) (backlog_of then_index) (index_backlog x frames old.pages top found may.stands (shared.size ∙ ap (λ (s : Shape). s.blocks) may.stands.pool_shape)) step in
+        record { work = less.0; merging = less.1 }

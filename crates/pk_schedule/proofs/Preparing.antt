@@ -1,0 +1,182 @@
+-- The erase before the root of a merge, over an index.
+use Rattle.std.proofs.Common.{◌≡◌, ◌⊎◌, inl, inr, ℕ, zero, suc, ◌+◌, ◌-◌, ◌*◌, ◌/◌, ◌<◌, ◌≤◌, Bool, true, false, ◌==◌, if◌then◌else◌, List, [], ◌∷◌, ◌++◌, length, map, Option, Some, None, refl, sym, ap, subst, ◌∙◌, arith, mul-le-mul_right}
+use Rattle.std.specs.Prelude.{slice_get}
+use Rattle.std.specs.List.{AllByRecursion}
+use Rattle.pk_base.specs.Shape.{Shape}
+use Rattle.pk_base.specs.Firsts.{firsts}
+use Rattle.pk_base.specs.Merge.{next_merge}
+use Rattle.pk_base.specs.Page.{Flash, page_at}
+use Rattle.pk_base.specs.Map.{Map}
+use Rattle.pk_base.proofs.ShapeLemmas.{block_pages_positive}
+use Rattle.pk_work.specs.Backlog.{Backlog}
+use Rattle.pk_work.specs.Rest.{Lowers, left_of, whole_merge}
+use Rattle.pk_work.specs.Steps.{MovesMerge}
+use Rattle.pk_work.proofs.Lowering.{moves}
+use Rattle.pk_plan.specs.declared.owner.Owner.{Owner}
+use Rattle.pk_plan.specs.declared.owner.Owner.TheVariants.{Meta, Values}
+use Rattle.pk_nand.specs.BoardState.{BoardState}
+use Rattle.pk_rootfmt.specs.Root.{Root}
+use Rattle.pk_root.specs.declared.next.Next.{Next}
+use Rattle.pk_root.specs.Installing.{SameBehind, erases_next}
+use Rattle.pk_model.specs.Found.{Found}
+use Rattle.pk_model.specs.Laws.{AnyByRecursion}
+use Rattle.pk_pool.specs.declared.state.BlockState.TheVariants.{Owned, Ready as ReadyBlock}
+use Rattle.pk_pool.specs.Blocks.{Blocks, IsShared, PoolOnFlash}
+use Rattle.pk_pool.proofs.Fitting.{PoolOnFlash-same}
+use Rattle.pk_pool.proofs.Sharing.{behind_roots}
+use Rattle.pk_pool.proofs.States.{ready_is_not_root}
+use Rattle.pk_pool.specs.Unready.{unready}
+use Rattle.pk_run.specs.Kept.{Kept, RunOnFlash}
+use Rattle.pk_level.specs.Levels.{Levels, IsLevels, RunsOnFlash}
+use Rattle.pk_steps.specs.Merging.{output_of as whole_output}
+use Rattle.pk_compact.specs.FreezeSteps.{IsTaken, taken_by, install_steps}
+use Rattle.pk_compact.specs.declared.freezing.FreezeJob.{FreezeJob}
+use Rattle.pk_log.specs.State.{LogState}
+use Rattle.pk_log.specs.MergeSteps.{LogPrepared}
+use Rattle.pk_schedule.specs.declared.phase.Phase.{Phase}
+use Rattle.pk_schedule.specs.declared.phase.Phase.TheVariants.{Ready}
+use Rattle.pk_schedule.specs.Index.{Index, IndexOnFlash, MergesInto, MergeWaits, MergeStands, FreezeStands, output}
+use Rattle.pk_schedule.specs.Steps.{MayWork, KeepsValues, IndexMoves, LessIsLeft, backlog_of, merge_left, freeze_rest_of}
+use Rattle.pk_schedule.proofs.Backlogs.{frozen_is, entries_are}
+use Rattle.pk_schedule.proofs.Keeping.{RunOnFlash-same, RunsOnFlash-same}
+use Rattle.pk_schedule.proofs.Standing.{owned_beyond}
+use Rattle.pk_schedule.proofs.Waiting.{waits, none_taken}
+
+-- a block that counts as erased lies behind the root blocks
+pub pool_behind : (pool : Blocks) (old new : Flash) → IsShared pool.shape pool.states → SameBehind pool.shape old new → PoolOnFlash pool old → PoolOnFlash pool new
+pool_behind pool old new shared behind fits = PoolOnFlash-same pool old new (λ b k ready inside.
+    let least = behind_roots pool.shape pool.states b ReadyBlock ready_is_not_root ready shared in
+    let twice = mul-le-mul_right pool.shape.block_pages least in
+    let low = inside.0 in
+    behind k (omega (arith, twice, low))) fits
+
+-- no freeze runs
+pub no_freeze : (job : FreezeJob) (next : Next) → taken_by job ≡ [] → freeze_rest_of job next ≡ None
+no_freeze job next none = rw (ap (λ (xs : List ℕ). length xs) none) refl
+
+-- an install has one step less behind its erase
+one_fewer : (a b : Next) (u : ℕ) → erases_next a ≡ false → erases_next b ≡ true → Lowers (install_steps b) u (install_steps a) u
+one_fewer a b u programs erases = record {
+  none_ready = omega arith;
+  less = (let one : install_steps a ≡ 1 = rw programs refl in let both : install_steps b ≡ 2 = rw erases refl in omega (arith, one, both));
+}
+
+module _ (x : Index) (frames : ℕ) (old : BoardState) (top : ℕ × Root) (found : Found) (m : Map) (may : MayWork x frames old.pages top found m) (level : ℕ) (is : x.schedule.phase ≡ Ready level)
+    (shared : IsShared x.pool.shape x.pool.states) (known : IsLevels x.levels) where
+  abbrev shape : Shape
+  shape = x.log.shape
+
+  abbrev out : Kept
+  out = output x.schedule
+
+  ready : MergeWaits x old.pages top.1 found level
+  ready = waits x frames old top found m may level is shared known
+
+  none : taken_by x.schedule.freeze ≡ []
+  none = none_taken x frames old top found m may level is shared known
+
+  -- a flash of which no page behind the root blocks differs
+  module _ (new : Flash) (behind : SameBehind shape old.pages new) where
+    pub same_page : (o : Owner) (k : ℕ) → slice_get x.pool.states (k / shape.block_pages) ≡ Some (Owned o) → page_at new k ≡ page_at old.pages k
+    same_page o k owned = behind k (owned_beyond x frames old.pages top found m may shared o k owned)
+
+    pub pool_still : PoolOnFlash x.pool new
+    pool_still = pool_behind x.pool old.pages new shared (subst (λ (s : Shape). SameBehind s old.pages new) (sym may.stands.pool_shape) behind) may.stands.pool_fits
+
+    pub output_stands : RunOnFlash out new x.arena (whole_output level found)
+    output_stands =
+        let own : (k : ℕ) → AnyByRecursion (λ b. k / out.shape.block_pages ≡ b) out.blocks → page_at new k ≡ page_at old.pages k =
+        λ k among. same_page Meta k (ready.into.held.owned (k / shape.block_pages) (subst (λ (s : Shape). AnyByRecursion (λ b. k / s.block_pages ≡ b) out.blocks) ready.into.output_shape among)) in
+        RunOnFlash-same out old.pages new x.arena (whole_output level found) (subst (λ (s : Shape). 0 < s.block_pages) (sym ready.into.output_shape) (block_pages_positive shape may.stands.logs.is_shape)) own ready.whole.stands
+
+    pub runs_stand : RunsOnFlash new x.arena x.levels.runs found.runs
+    runs_stand = RunsOnFlash-same shape old.pages new x.arena x.levels.runs top.1.runs found.runs (block_pages_positive shape may.stands.logs.is_shape) may.stands.run_blocks
+        (λ k among. same_page Meta k (may.stands.runs (k / shape.block_pages) among)) may.stands.stand
+
+  -- what is left of the merge, and that it is the next one
+  pub merge_is : merge_left x.schedule.phase x ≡ Some (install_steps x.log.next)
+  merge_is = ap (λ q. merge_left q x) is
+
+  pub due_now : next_merge shape (backlog_of x).frozen (backlog_of x).runs ≡ Some level
+  due_now = (λ i. next_merge shape (frozen_is x frames old.pages top found may.stands i) (entries_are x frames old.pages top found may.stands i)) ∙ ready.into.due
+
+  module _ (new : BoardState) (next' : Next) (erases : erases_next x.log.next ≡ true) (p : LogPrepared x.log old top found m (record x.log { next = next' }) new) where
+    abbrev then_index : Index
+    then_index = record x { log = record x.log { next = next' } }
+
+    waits_on : MergeWaits then_index new.pages top.1 found level
+    waits_on = record {
+      into = record {
+        due = ready.into.due;
+        target = ready.into.target;
+        has_output = ready.into.has_output;
+        output_shape = ready.into.output_shape;
+        output_level = ready.into.output_level;
+        held = ready.into.held;
+        spares = ready.into.spares;
+        merger_shape = ready.into.merger_shape;
+      };
+      whole = record { stands = output_stands new.pages p.behind; blocks = ready.whole.blocks; pinned = ready.whole.pinned };
+    }
+
+    stands_on : IndexOnFlash then_index frames new.pages top found
+    stands_on = record {
+      logs = p.logs;
+      pool_shape = may.stands.pool_shape;
+      pool_fits = pool_still new.pages p.behind;
+      levels_shape = may.stands.levels_shape;
+      levels_pinned = may.stands.levels_pinned;
+      stand = runs_stand new.pages p.behind;
+      run_blocks = may.stands.run_blocks;
+      arena_is = may.stands.arena_is;
+      journal = may.stands.journal;
+      journal_few = may.stands.journal_few;
+      runs = may.stands.runs;
+      runs_few = may.stands.runs_few;
+      pins_are = may.stands.pins_are;
+      merge = subst (λ q. MergeStands q then_index new.pages top.1 found) (sym is) waits_on;
+      freeze = record {
+        taken = subst (AllByRecursion (IsTaken shape x.pool new.pages top.1)) (sym none) tt;
+        different = may.stands.freeze.different;
+        none_frozen = may.stands.freeze.none_frozen;
+      };
+    }
+
+    pub prepared_moves : IndexMoves x frames old found m then_index new
+    prepared_moves = record {
+      then_top = top;
+      then_found = found;
+      stands = stands_on;
+      same_shape = refl;
+      none_pending = may.none_pending;
+      under = p.under;
+      same_places = refl;
+      values = record { size = refl; owned = λ b owned. owned; no_more = λ b owned. owned; as_many = refl; pages = λ k owned. same_page new.pages p.behind Values k owned };
+      numbers = omega arith;
+      grows = inl (p.under.is_top ∙ sym may.under.is_top);
+      cuts = p.cuts;
+    }
+
+    moved : backlog_of then_index ≡ record (backlog_of x) { merge = Some (install_steps next') }
+    moved = λ i. record {
+      frozen = length x.log.frozen.entries;
+      runs = map (λ r. r.count) x.levels.runs;
+      merge = ap (λ q. merge_left q then_index) is i;
+      freeze = (no_freeze x.schedule.freeze next' none ∙ sym (no_freeze x.schedule.freeze x.log.next none)) i;
+      reclaim = None;
+      is_due = false;
+      may_freeze = false;
+      unready = unready x.pool.states;
+    }
+
+    pub prepared_less : LessIsLeft x then_index
+    prepared_less =
+        let step : MovesMerge shape (backlog_of x) (backlog_of then_index) = record {
+          level = level;
+          left = install_steps next';
+          due = due_now;
+          moved = moved;
+          lowers = subst (λ o. Lowers (left_of (whole_merge shape level) o) (unready x.pool.states) (install_steps next') (unready x.pool.states)) (sym merge_is) (one_fewer next' x.log.next (unready x.pool.states) p.programs_next erases);
+        } in
+        let less = moves shape (backlog_of x) (backlog_of then_index) step in
+        record { work = less.0; merging = less.1 }
