@@ -1,6 +1,6 @@
 -- What is left of the work is within its bounds: buffers and runs by the lists under the root, and no job has more left than the whole of it.
-use Rattle.std.proofs.Common.{◌≡◌, ◌⊎◌, inl, inr, ℕ, zero, suc, ◌+◌, ◌-◌, ◌*◌, ◌<◌, ◌≤◌, refl, sym, ap, subst, ◌∙◌, arith, Bool, true, false, T, ◌==◌, ◌||◌, if◌then◌else◌, List, [], ◌∷◌, length, map, Option, Some, None, Result, Ok}
-use Rattle.std.specs.Prelude.{slice_index, slice_index_or, count_by, unwrap_or, IfSome, not, nat_le, zip}
+use Rattle.std.proofs.Common.{◌≡◌, inl, inr, ℕ, zero, suc, ◌+◌, ◌-◌, ◌*◌, ◌<◌, ◌≤◌, refl, sym, ap, subst, ◌∙◌, arith, Bool, true, false, T, ◌==◌, ◌||◌, if◌then◌else◌, List, [], ◌∷◌, length, map, Option, Some, None, Result, Ok}
+use Rattle.std.specs.Prelude.{slice_index, slice_index_or, unwrap_or, IfSome, not, nat_le, zip}
 use Rattle.std.specs.List.{list_all}
 use Rattle.std.proofs.lemmas.List.Sums.{count_by-le-length}
 use Rattle.pk_base.specs.Shape.{Shape, IsShape, page_entries, buffer, cap, caps, run_pages}
@@ -9,15 +9,13 @@ use Rattle.pk_base.specs.Entry.{Entry}
 use Rattle.pk_base.specs.Firsts.{firsts}
 use Rattle.pk_base.specs.Merge.{room, next_merge}
 use Rattle.pk_base.specs.Refusal.{Refusal, ensure}
-use Rattle.pk_work.specs.Rest.{whole_merge, whole_freeze, steps_of}
-use Rattle.pk_work.specs.Jobs.{freeze_rest}
-use Rattle.pk_work.specs.Backlog.{Backlog, IsBacklog, due_level}
+use Rattle.pk_work.specs.Rest.{whole_merge, whole_freeze}
+use Rattle.pk_work.specs.Backlog.{IsBacklog, due_level}
 use Rattle.pk_work.proofs.Paging.{few_pages}
 use Rattle.pk_buf.specs.Table.{Table}
 use Rattle.pk_jrn.proofs.Puts.{firsts-reverse}
 use Rattle.pk_rootfmt.specs.Root.{Root, is_root}
 use Rattle.pk_pin.specs.Frames.{Frames}
-use Rattle.pk_pool.specs.Unready.{unready}
 use Rattle.pk_pool.specs.Blocks.{is_ready}
 use Rattle.pk_root.specs.declared.next.Next.{Next}
 use Rattle.pk_root.specs.Installing.{erases_next}
@@ -28,7 +26,6 @@ use Rattle.pk_model.proofs.StrangePages.{bind_ok}
 use Rattle.pk_steps.proofs.NewestBlocks.{valid_root}
 use Rattle.pk_steps.proofs.FourRuns.{Runs, Pieces, IsLevel, four_of_root, four_runs, pieces_of, next_is_level}
 use Rattle.pk_steps.proofs.Amounts.{run_most, epoch_most, WithinCaps, within_caps, counted_of}
-use Rattle.pk_merge.specs.declared.source.Source.{Source}
 use Rattle.pk_merge.specs.Sources.{pages_in}
 use Rattle.pk_merge.specs.Remaining.{steps_left}
 use Rattle.pk_merge.proofs.Counting.{within}

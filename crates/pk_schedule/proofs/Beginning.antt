@@ -1,16 +1,15 @@
 -- The next merge begins: it can be, its source has an entry, and the index stands as before with it.
-use Rattle.std.proofs.Common.{◌≡◌, ◌⊎◌, inl, inr, ℕ, zero, suc, ◌+◌, ◌-◌, ◌*◌, ◌<◌, ◌≤◌, Bool, true, false, T, ◌==◌, nat_eq, if◌then◌else◌, List, [], ◌∷◌, ◌++◌, length, map, nat_le, Option, Some, None, refl, sym, ap, subst, ◌∙◌, arith, leb→le, leb-false, le_trans, eqb→eq}
-use Rattle.std.specs.Prelude.{slice_index, slice_index_or, slice_get, unwrap_or}
-use Rattle.std.specs.List.{AllByRecursion, concat}
+use Rattle.std.proofs.Common.{◌≡◌, ◌⊎◌, inl, inr, ℕ, zero, suc, ◌+◌, ◌-◌, ◌<◌, ◌≤◌, Bool, true, false, T, ◌==◌, if◌then◌else◌, List, [], length, map, nat_le, Option, Some, None, refl, sym, ap, subst, ◌∙◌, arith, leb-false, le_trans}
+use Rattle.std.specs.Prelude.{slice_index, slice_index_or, unwrap_or}
+use Rattle.std.specs.List.{AllByRecursion}
 use Rattle.std.specs.FinMap.Entries.{is_sorted}
 use Rattle.pk_base.specs.Key.{key_cmp}
-use Rattle.pk_base.specs.Shape.{Shape, IsShape, cap, page_entries, pinned, run_pages, run_blocks, buffer}
+use Rattle.pk_base.specs.Shape.{Shape, IsShape, cap, run_pages, run_blocks, buffer}
 use Rattle.pk_base.specs.Entry.{Entry}
 use Rattle.pk_base.specs.EntryBytes.{IsEntry}
 use Rattle.pk_base.specs.Page.{Flash, page_at}
 use Rattle.pk_base.specs.Map.{Map}
 use Rattle.pk_base.specs.Merge.{next_merge, room}
-use Rattle.pk_base.specs.Firsts.{firsts}
 use Rattle.pk_buf.specs.Table.{Table}
 use Rattle.pk_nand.specs.BoardState.{BoardState}
 use Rattle.pk_nand.specs.Calls.{IsReady}
@@ -18,17 +17,13 @@ use Rattle.pk_pin.specs.Frames.{Frames, free_frames}
 use Rattle.pk_plan.specs.declared.owner.Owner.TheVariants.{Meta}
 use Rattle.pk_plan.specs.Quotas.{quota_of}
 use Rattle.pk_rootfmt.specs.Root.{Root, is_root}
-use Rattle.pk_pool.specs.declared.state.BlockState.TheVariants.{Owned}
 use Rattle.pk_pool.specs.Blocks.{Blocks, used_by}
-use Rattle.pk_pool.specs.Unready.{unready}
-use Rattle.pk_work.specs.Rest.{Lowers, left_of, whole_merge}
-use Rattle.pk_work.specs.Backlog.{Backlog, due_level}
+use Rattle.pk_work.specs.Rest.{left_of, whole_merge}
 use Rattle.pk_work.specs.Steps.{MovesMerge}
-use Rattle.pk_work.specs.Work.{work, merging as merging_left}
 use Rattle.pk_work.proofs.Paging.{few_pages}
 use Rattle.pk_work.proofs.Lowering.{moves as merge_moves}
 use Rattle.pk_run.specs.Kept.{Kept, RunOnFlash, IsKept, empty, most_pages, most_blocks}
-use Rattle.pk_level.specs.Levels.{Levels, IsLevels, RunsOnFlash, HaveBlocks, run_of}
+use Rattle.pk_level.specs.Levels.{IsLevels, run_of}
 use Rattle.pk_level.specs.Arenas.{HasArena}
 use Rattle.pk_model.specs.Found.{Found}
 use Rattle.pk_model.specs.Crashes.{CrashFinds, background}
@@ -37,14 +32,10 @@ use Rattle.pk_model.proofs.Running.{Reaches-none}
 use Rattle.pk_model.proofs.Commits.{root_valid}
 use Rattle.pk_model.proofs.Roots.{newest_sound}
 use Rattle.pk_model.proofs.ValueSets.{is_true}
-use Rattle.pk_steps.specs.Under.{IsUnder, places}
-use Rattle.pk_steps.specs.Merging.{output_of as whole_output}
 use Rattle.pk_steps.proofs.Untouched.{under_reads}
-use Rattle.pk_steps.proofs.Places.{In}
 use Rattle.pk_steps.proofs.FourRuns.{IsLevel, next_is_level}
 use Rattle.pk_steps.proofs.Outputs.{output_fits}
 use Rattle.pk_steps.proofs.Amounts.{quota_fits}
-use Rattle.pk_root.specs.declared.next.Next.{Next}
 use Rattle.pk_root.specs.Installing.{erases_next}
 use Rattle.pk_merge.specs.declared.source.Source.{Source}
 use Rattle.pk_merge.specs.declared.source.Source.TheVariants.{Frozen, Run}
@@ -53,14 +44,14 @@ use Rattle.pk_merge.specs.Merging.{IsDone}
 use Rattle.pk_merge.specs.Outputs.{AreMeta}
 use Rattle.pk_merge.specs.Running.{CanBegin, merged}
 use Rattle.pk_merge.specs.Remaining.{IsWithin, steps_left}
-use Rattle.pk_merge.specs.Jobs.{Job, JobRuns, IsIdle, begun, pins, output_of, all_spare, without}
+use Rattle.pk_merge.specs.Jobs.{Job, JobRuns, IsIdle, begun, pins, output_of, without}
 use Rattle.pk_compact.specs.FreezeSteps.{install_steps}
 use Rattle.pk_schedule.specs.declared.phase.Phase.{Phase}
-use Rattle.pk_schedule.specs.declared.phase.Phase.TheVariants.{Idle, Running, Ready}
-use Rattle.pk_schedule.specs.Index.{Index, Schedule, IndexOnFlash, IsDue, MergesInto, MergeRuns, MergeStands, behind, output, source_at, entries_at}
+use Rattle.pk_schedule.specs.declared.phase.Phase.TheVariants.{Idle, Running}
+use Rattle.pk_schedule.specs.Index.{Index, IndexOnFlash, IsDue, MergesInto, MergeRuns, MergeStands, behind, output, source_at, entries_at}
 use Rattle.pk_schedule.specs.Steps.{MayWork, IndexMoves, LessIsLeft, merge_left, backlog_of}
 use Rattle.pk_schedule.specs.Sources.{ShowsSame}
-use Rattle.pk_schedule.proofs.Carried.{Shown, shown, same_shown, job_carried, left_same}
+use Rattle.pk_schedule.proofs.Carried.{Shown, shown, job_carried, left_same}
 use Rattle.pk_schedule.proofs.Grown.{got_in}
 use Rattle.pk_schedule.proofs.Entries.{output_same, frozen_many, frozen_rising, counts_same, run_stands, count_at, frozen_are, run_are}
 use Rattle.pk_schedule.proofs.Leveled.{Fit, run_fits, run_blocks_in, frames_left}

@@ -1,5 +1,5 @@
 -- A merge runs as well over another source that shows the same.
-use Rattle.std.proofs.Common.{◌≡◌, ◌⊎◌, inl, inr, ℕ, ◌≤◌, Bool, List, length, refl, sym, ap, subst, ◌∙◌, arith}
+use Rattle.std.proofs.Common.{◌≡◌, ℕ, ◌≤◌, Bool, List, length, refl, sym, ap, subst, ◌∙◌, arith}
 use Rattle.pk_base.specs.Shape.{Shape}
 use Rattle.pk_base.specs.Entry.{Entry}
 use Rattle.pk_base.specs.Page.{Flash}
@@ -9,7 +9,7 @@ use Rattle.pk_pool.specs.Blocks.{Blocks}
 use Rattle.pk_run.specs.Kept.{Kept, RunOnFlash}
 use Rattle.pk_merge.specs.declared.source.Source.{Source}
 use Rattle.pk_merge.specs.declared.source.Source.TheVariants.{Frozen, Run}
-use Rattle.pk_merge.specs.Cursors.{Cursor, Follows, wants_page}
+use Rattle.pk_merge.specs.Cursors.{Cursor, Follows}
 use Rattle.pk_merge.specs.Sources.{count_of, pages_in, blocks_in, Has, FollowsIn, wants_page_in, IsOf}
 use Rattle.pk_merge.specs.Merging.{Merger, IsDone, can_gather}
 use Rattle.pk_merge.specs.Outputs.{AreMeta, AreApart}

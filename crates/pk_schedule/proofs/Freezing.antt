@@ -1,9 +1,8 @@
 -- A step of a freeze, over an index.
-use Rattle.std.proofs.Common.{◌≡◌, ◌≢◌, ◌⊎◌, inl, inr, ℕ, zero, suc, ◌+◌, ◌*◌, ◌/◌, ◌<◌, ◌≤◌, Bool, true, false, ◌==◌, if◌then◌else◌, T, List, [], ◌∷◌, ◌++◌, length, reverse, Some, Result, Ok, Err, refl, sym, ap, subst, ◌∙◌, arith, length-append, append-nil, eqb→eq}
+use Rattle.std.proofs.Common.{◌≡◌, inl, inr, ℕ, ◌+◌, ◌/◌, Bool, true, false, ◌==◌, if◌then◌else◌, T, List, [], ◌∷◌, ◌++◌, length, reverse, Some, Result, Ok, Err, refl, sym, ap, subst, ◌∙◌, arith, length-append, append-nil, eqb→eq}
 use Rattle.std.specs.Prelude.{slice_get, MatchBool, IfOk, OnOk, OnErr}
 use Rattle.std.specs.List.{concat, AllByRecursion}
 use Rattle.pk_base.specs.Shape.{Shape}
-use Rattle.pk_base.specs.Entry.{Entry}
 use Rattle.pk_base.specs.Firsts.{firsts}
 use Rattle.pk_base.specs.Page.{Flash, page_at}
 use Rattle.pk_base.specs.Map.{Map}
@@ -15,15 +14,13 @@ use Rattle.pk_nand.specs.declared.types.Fault.{Fault}
 use Rattle.pk_nand.specs.BoardState.{BoardState}
 use Rattle.pk_nand.specs.Effects.{Stops}
 use Rattle.pk_model.specs.Steps.{Step}
-use Rattle.pk_rootfmt.specs.Root.{Root, named, differ}
+use Rattle.pk_rootfmt.specs.Root.{Root, differ}
 use Rattle.pk_root.specs.declared.next.Next.{Next}
 use Rattle.pk_jrn.proofs.Puts.{firsts-reverse}
 use Rattle.pk_model.specs.Found.{Found, entries_in_order}
 use Rattle.pk_model.specs.Values.{placed}
-use Rattle.pk_model.specs.Growth.{Grows}
-use Rattle.pk_model.specs.Tree.{Follows}
 use Rattle.pk_model.proofs.Commits.{blocks_of_root, differ_front}
-use Rattle.pk_model.proofs.SamePages.{any_front, any_back}
+use Rattle.pk_model.proofs.SamePages.{any_front}
 use Rattle.pk_pool.specs.declared.state.BlockState.TheVariants.{Free, Owned}
 use Rattle.pk_pool.specs.Blocks.{Blocks, IsShared, used_by}
 use Rattle.pk_merge.specs.Jobs.{IsIdle}
@@ -34,7 +31,7 @@ use Rattle.pk_steps.specs.Under.{places}
 use Rattle.pk_steps.proofs.NewestBlocks.{valid_root}
 use Rattle.pk_steps.proofs.Places.{In}
 use Rattle.pk_steps.proofs.UnderRoot.{none_named}
-use Rattle.pk_compact.specs.Freezing.{IsApart, given_back}
+use Rattle.pk_compact.specs.Freezing.{IsApart}
 use Rattle.pk_compact.specs.FreezeSteps.{IsTaken, TakesOne, taken_by}
 use Rattle.pk_compact.specs.declared.freezing.FreezeJob.{FreezeJob}
 use Rattle.pk_compact.specs.declared.freezing.FreezeJob.TheVariants.{Idle as NoFreeze}
@@ -44,13 +41,12 @@ use Rattle.pk_log.specs.Logs.{LogOnFlash}
 use Rattle.pk_log.specs.Freezes.{begun}
 use Rattle.pk_log.specs.FreezeSteps.{CanStep, LogGoesOn, LogFrozen, LogSteps, LogStepBreaks}
 use Rattle.pk_log.proofs.Freezing.{none_of_firsts}
-use Rattle.pk_schedule.specs.declared.phase.Phase.{Phase}
 use Rattle.pk_schedule.specs.declared.phase.Phase.TheVariants.{Idle}
-use Rattle.pk_schedule.specs.Index.{Index, IndexOnFlash, FreezeStands, MergeStands}
+use Rattle.pk_schedule.specs.Index.{Index, IndexOnFlash, MergeStands}
 use Rattle.pk_schedule.specs.Steps.{MayWork, MayFreeze, KeepsValues, IndexMoves, Moves, Breaks, FreezeMoves, Freezes, has_no_merge, is_between}
 use Rattle.pk_schedule.proofs.Giving.{GivesBack, gives_back, TakesFor, takes_for, in_or_not, not_spare, one_owner}
 use Rattle.pk_schedule.proofs.Keeping.{RunsOnFlash-same}
-use Rattle.pk_schedule.proofs.Standing.{both_true, idle_of, named_owned, apart_top, owned_beyond}
+use Rattle.pk_schedule.proofs.Standing.{both_true, idle_of, apart_top, owned_beyond}
 
 length_none : {X : Type 0} (xs : List X) → length xs ≡ 0 → xs ≡ []
 length_none [] none = refl

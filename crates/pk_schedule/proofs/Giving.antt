@@ -1,5 +1,5 @@
 -- Blocks of one owner that are given back to the pool, and one that is taken: what becomes of the others.
-use Rattle.std.proofs.Common.{◌≡◌, ◌≢◌, ◌⊎◌, inl, inr, ℕ, ◌+◌, cond, Bool, true, false, T, List, [], ◌∷◌, ◌++◌, length, Some, refl, sym, ap, subst, ◌∙◌, arith, length-set}
+use Rattle.std.proofs.Common.{◌≡◌, ◌≢◌, ◌⊎◌, inl, inr, ℕ, ◌+◌, cond, false, T, List, [], ◌∷◌, length, Some, refl, sym, subst, ◌∙◌, arith, length-set}
 use Rattle.std.specs.Prelude.{slice_get}
 use Rattle.std.proofs.lemmas.Bool.{cases_eq}
 use Rattle.std.proofs.lemmas.Option.{same_Some}
@@ -13,7 +13,7 @@ use Rattle.pk_pool.specs.Blocks.{Blocks, IsSpare, with_state, used_by, is_owned_
 use Rattle.pk_pool.specs.Unready.{unready}
 use Rattle.pk_pool.proofs.Counting.{given_back as one_given}
 use Rattle.pk_pool.proofs.Sharing.{count-set, used_given, used_adopted}
-use Rattle.pk_pool.proofs.States.{get-set_other, get-set_same, set_is, owned_is_not_free, owned_is_not_ready}
+use Rattle.pk_pool.proofs.States.{get-set_other, set_is, owned_is_not_free, owned_is_not_ready}
 use Rattle.pk_steps.proofs.Places.{In}
 use Rattle.pk_compact.specs.Freezing.{given_back}
 

@@ -1,5 +1,5 @@
 -- What a step of a merge's job leaves of the pool, of pages and of frames: at most one block more for the output, and no page of another's block.
-use Rattle.std.proofs.Common.{◌≡◌, ◌≢◌, ◌⊎◌, inl, inr, ℕ, zero, suc, ◌+◌, ◌*◌, ◌/◌, ◌<◌, ◌≤◌, Bool, true, false, not, ◌&&◌, ◌||◌, ◌==◌, nat_le, leb→le, leb-false, eqb→eq, cond, T, List, [], ◌∷◌, ◌++◌, length, Option, Some, None, refl, sym, ap, subst, ◌∙◌, arith, length-append}
+use Rattle.std.proofs.Common.{◌≡◌, ◌≢◌, ◌⊎◌, inl, inr, ℕ, zero, suc, ◌+◌, ◌*◌, ◌/◌, ◌<◌, ◌≤◌, Bool, true, false, not, ◌||◌, ◌==◌, nat_le, leb→le, leb-false, eqb→eq, cond, T, List, [], ◌∷◌, ◌++◌, length, Option, Some, None, refl, sym, ap, subst, ◌∙◌, arith, length-append}
 use Rattle.std.specs.Prelude.{slice_get, slice_set}
 use Rattle.std.specs.List.{list_any, concat}
 use Rattle.std.proofs.lemmas.Bool.{cases_eq}
@@ -21,7 +21,6 @@ use Rattle.pk_pool.proofs.Sharing.{count-set, used_adopted}
 use Rattle.pk_pool.proofs.Fitting.{block_of}
 use Rattle.pk_run.specs.Kept.{Kept}
 use Rattle.pk_level.specs.Levels.{RunsOnFlash, HaveBlocks}
-use Rattle.pk_model.specs.Laws.{AnyByRecursion}
 use Rattle.pk_model.proofs.Commits.{both}
 use Rattle.pk_model.proofs.Growing.{at_end}
 use Rattle.pk_model.proofs.SamePages.{any_front, any_back}
@@ -30,7 +29,7 @@ use Rattle.pk_merge.specs.declared.source.Source.{Source}
 use Rattle.pk_merge.specs.declared.next.Next.{Next}
 use Rattle.pk_merge.specs.declared.next.Next.TheVariants.{LoadSource, LoadTarget, Gather, TakeBlock, Program, End}
 use Rattle.pk_merge.specs.Merging.{Merger}
-use Rattle.pk_merge.specs.Outputs.{AreMeta, AreApart, KeepsPage}
+use Rattle.pk_merge.specs.Outputs.{KeepsPage}
 use Rattle.pk_merge.specs.Steps.{Acts}
 use Rattle.pk_merge.specs.Elsewhere.{IsForOutput, StepReaches, StepWent, LeavesRuns}
 

@@ -1,62 +1,50 @@
 -- The root of a merge is installed, and the runs are exchanged, over an index.
-use Rattle.std.proofs.Common.{◌≡◌, ◌⊎◌, inl, inr, ℕ, zero, suc, ◌+◌, ◌-◌, ◌*◌, ◌/◌, ◌<◌, ◌≤◌, Bool, true, false, ◌==◌, nat_le, if◌then◌else◌, T, List, [], ◌∷◌, ◌++◌, length, map, slice_set, slice_index, slice_index_or, Option, Some, None, refl, sym, ap, subst, ◌∙◌, arith, length-append, append-nil}
+use Rattle.std.proofs.Common.{◌≡◌, ◌⊎◌, inl, inr, ℕ, ◌+◌, ◌-◌, ◌<◌, ◌≤◌, Bool, true, false, ◌==◌, if◌then◌else◌, List, [], ◌++◌, length, map, slice_index, Some, None, refl, sym, ap, subst, ◌∙◌, arith, length-append}
 use Rattle.std.specs.Prelude.{slice_get, unwrap_or}
 use Rattle.std.specs.List.{concat, AllByRecursion}
-use Rattle.pk_base.specs.Shape.{Shape, IsShape}
-use Rattle.pk_base.specs.Entry.{Entry}
-use Rattle.pk_base.specs.Page.{Flash, page_at}
+use Rattle.pk_base.specs.Shape.{Shape}
+use Rattle.pk_base.specs.Page.{Flash}
 use Rattle.pk_base.specs.Map.{Map}
 use Rattle.pk_buf.specs.Table.{Table}
-use Rattle.pk_work.specs.Backlog.{Backlog}
 use Rattle.pk_work.specs.Rest.{Lowers, left_of, whole_merge}
 use Rattle.pk_work.specs.Steps.{EndsMerge}
 use Rattle.pk_work.proofs.Lowering.{ends}
 use Rattle.pk_plan.specs.declared.owner.Owner.{Owner}
 use Rattle.pk_plan.specs.declared.owner.Owner.TheVariants.{Journal, Meta, Values}
 use Rattle.pk_nand.specs.BoardState.{BoardState}
-use Rattle.pk_rootfmt.specs.Root.{Root, named, differ}
+use Rattle.pk_rootfmt.specs.Root.{Root, named}
 use Rattle.pk_root.specs.declared.next.Next.{Next}
-use Rattle.pk_root.specs.Installing.{SameBehind, erases_next}
-use Rattle.pk_pin.specs.Frames.{Frames, AreLeases}
+use Rattle.pk_root.specs.Installing.{erases_next}
+use Rattle.pk_pin.specs.Frames.{Frames}
 use Rattle.pk_model.specs.Found.{Found}
-use Rattle.pk_model.specs.Tree.{merged, blocks_after}
 use Rattle.pk_model.proofs.SamePages.{any_front, any_back}
 use Rattle.pk_model.proofs.ValueSets.{is_true}
 use Rattle.pk_pool.specs.declared.state.BlockState.TheVariants.{Free, Owned}
 use Rattle.pk_pool.specs.Blocks.{Blocks, IsShared, PoolOnFlash, used_by}
 use Rattle.pk_pool.specs.Unready.{unready}
 use Rattle.pk_run.specs.Kept.{Kept, empty}
-use Rattle.pk_level.specs.Levels.{Levels, IsLevels, RunsOnFlash, HaveBlocks, run_of, with_run}
-use Rattle.pk_level.specs.Arenas.{HasArena, leases_of, IsPinnedIf}
-use Rattle.pk_steps.specs.Merging.{IsMerged, merged_root, merged_found, output_of, freed_by, blocks_at}
+use Rattle.pk_level.specs.Levels.{Levels, IsLevels, RunsOnFlash, HaveBlocks}
+use Rattle.pk_level.specs.Arenas.{HasArena}
+use Rattle.pk_steps.specs.Merging.{IsMerged, merged_root, merged_found, freed_by}
 use Rattle.pk_steps.specs.Under.{IsUnder}
 use Rattle.pk_steps.specs.Next.{IsNext}
-use Rattle.pk_steps.proofs.FourRuns.{IsLevel}
 use Rattle.pk_steps.proofs.FreedCounts.{freed_counted}
 use Rattle.pk_steps.proofs.Following.{merged_next}
 use Rattle.pk_steps.proofs.Freeing.{freed}
 use Rattle.pk_steps.proofs.Merging.{in_after}
 use Rattle.pk_steps.proofs.Places.{In, in_append}
 use Rattle.pk_steps.proofs.Standing.{installed}
-use Rattle.pk_merge.specs.Jobs.{Job, IsIdle, taken_from, given_to, given_all, ended, pins}
-use Rattle.pk_merge.specs.Laws.{IsFormer}
-use Rattle.pk_merge.proofs.Ending.{idle_one}
-use Rattle.pk_merge.proofs.Leasing.{are_apart}
-use Rattle.pk_compact.specs.Freezing.{given_back}
+use Rattle.pk_merge.specs.Jobs.{Job, IsIdle}
 use Rattle.pk_compact.specs.FreezeSteps.{IsTaken, taken_by, install_steps}
 use Rattle.pk_log.specs.State.{LogState}
 use Rattle.pk_log.specs.Logs.{LogOnFlash}
 use Rattle.pk_log.specs.MergeSteps.{LogMerged, frozen_after}
-use Rattle.pk_schedule.specs.declared.phase.Phase.{Phase}
 use Rattle.pk_schedule.specs.declared.phase.Phase.TheVariants.{Idle, Ready}
-use Rattle.pk_schedule.specs.Exchanges.{Exchanges, EndsFirst, EndsDeep}
 use Rattle.pk_schedule.specs.Index.{Index, IndexOnFlash, output}
 use Rattle.pk_schedule.specs.Steps.{MayWork, KeepsValues, IndexMoves, LessIsLeft, backlog_of}
 use Rattle.pk_schedule.proofs.Backlogs.{index_backlog}
-use Rattle.pk_schedule.proofs.Ended.{SecondRun}
-use Rattle.pk_schedule.proofs.Giving.{GivesBack, gives_back, in_or_not, one_owner}
-use Rattle.pk_schedule.proofs.Preparing.{no_freeze, pool_still, output_stands, runs_stand, same_page, merge_is, due_now}
-use Rattle.pk_schedule.proofs.Replacing.{RunsOnFlash-set, HaveBlocks-set, ArePinnedTo-set, RunsOnFlash-given, at_set, at_other, map_set, given_bytes, given_size}
+use Rattle.pk_schedule.proofs.Giving.{in_or_not, one_owner}
+use Rattle.pk_schedule.proofs.Preparing.{no_freeze, pool_still, same_page, merge_is, due_now}
 use Rattle.pk_schedule.proofs.Standing.{named_owned}
 use Rattle.pk_schedule.proofs.Waiting as wait
 

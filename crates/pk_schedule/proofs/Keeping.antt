@@ -9,17 +9,16 @@ use Rattle.pk_base.specs.Entry.{Entry}
 use Rattle.pk_base.specs.Firsts.{firsts}
 use Rattle.pk_base.proofs.ShapeLemmas.{block_pages_positive}
 use Rattle.pk_buf.specs.Table.{Table}
-use Rattle.pk_nand.specs.Calls.{IsErasedBlock}
 use Rattle.pk_plan.specs.declared.owner.Owner.TheVariants.{Journal, Meta}
 use Rattle.pk_rootfmt.specs.Root.{Root, named}
-use Rattle.pk_pin.specs.Frames.{Frames, AreLeases}
+use Rattle.pk_pin.specs.Frames.{Frames}
 use Rattle.pk_pool.specs.declared.state.BlockState.TheVariants.{Owned}
 use Rattle.pk_pool.specs.Blocks.{Blocks, PoolOnFlash, used_by}
 use Rattle.pk_pool.proofs.Fitting.{block_of}
 use Rattle.pk_run.specs.Kept.{Kept, RunOnFlash, page_of, empty}
 use Rattle.pk_run.proofs.Standing.{RunOnFlash-elsewhere}
 use Rattle.pk_level.specs.Levels.{Levels, RunsOnFlash, HaveBlocks, run_of}
-use Rattle.pk_level.specs.Arenas.{HasArena, leases_of}
+use Rattle.pk_level.specs.Arenas.{HasArena}
 use Rattle.pk_jrn.specs.Epochs.{JournalEpoch}
 use Rattle.pk_model.specs.Found.{Found}
 use Rattle.pk_model.specs.Laws.{AnyByRecursion}
@@ -29,9 +28,7 @@ use Rattle.pk_model.proofs.SamePages.{any_front, any_back}
 use Rattle.pk_steps.specs.Roots.{committed}
 use Rattle.pk_steps.proofs.FourRuns.{IsLevel, next_is_level}
 use Rattle.pk_merge.specs.Elsewhere.{IsElsewhere}
-use Rattle.pk_merge.specs.Jobs.{Job, JobRuns, IsIdle, pins, output_of}
-use Rattle.pk_merge.specs.Outputs.{AreMeta}
-use Rattle.pk_merge.specs.Running.{IsWhole}
+use Rattle.pk_merge.specs.Jobs.{Job, IsIdle, pins, output_of}
 use Rattle.pk_merge.proofs.Elsewhere.{runs_elsewhere}
 use Rattle.pk_compact.specs.declared.freezing.FreezeJob.{FreezeJob}
 use Rattle.pk_compact.specs.declared.freezing.FreezeJob.TheVariants.{Idle as NoFreeze}

@@ -1,16 +1,16 @@
 -- The run of each level, and the frames that a merge into it finds free.
-use Rattle.std.proofs.Common.{◌≡◌, ◌⊎◌, inl, inr, ℕ, zero, suc, ◌+◌, ◌-◌, ◌*◌, ◌<◌, ◌≤◌, Bool, true, false, T, if◌then◌else◌, List, [], ◌∷◌, ◌++◌, length, map, nat_le, max, refl, sym, ap, subst, ◌∙◌, arith, leb→le, leb-false, length-append, mul-le-mul_right, le_trans}
-use Rattle.std.specs.Prelude.{slice_index_or, slice_get, Some}
+use Rattle.std.proofs.Common.{◌≡◌, inl, inr, ℕ, zero, suc, ◌+◌, ◌-◌, ◌*◌, ◌<◌, ◌≤◌, Bool, true, false, T, if◌then◌else◌, List, [], ◌∷◌, ◌++◌, length, nat_le, refl, sym, ap, subst, arith, leb→le, length-append, mul-le-mul_right, le_trans}
+use Rattle.std.specs.Prelude.{slice_index_or}
 use Rattle.std.specs.List.{AllByRecursion, concat}
 use Rattle.pk_base.specs.Shape.{Shape, cap, page_entries, need, pinned}
 use Rattle.pk_base.specs.Merge.{room}
 use Rattle.pk_model.proofs.SamePages.{any_front, any_back}
-use Rattle.pk_pin.specs.Frames.{Frames, free_frames, leased_frames, AreLeases}
+use Rattle.pk_pin.specs.Frames.{Frames, free_frames}
 use Rattle.pk_pin.proofs.Leases.{leases_counted, frames_counted}
 use Rattle.pk_run.specs.Kept.{Kept, IsKept}
 use Rattle.pk_level.specs.Levels.{Levels, IsLevels, IsOfLevel, AreOfLevels, HaveBlocks, run_of}
 use Rattle.pk_level.specs.Arenas.{HasArena, ArePinnedTo, IsPinnedIf, leases_of}
-use Rattle.pk_steps.proofs.FourRuns.{Four, four_of, IsLevel}
+use Rattle.pk_steps.proofs.FourRuns.{four_of, IsLevel}
 use Rattle.pk_steps.proofs.Places.{In}
 
 -- a run of a level, which keeps within it

@@ -1,14 +1,12 @@
 -- The erase before the root of a merge, over an index.
-use Rattle.std.proofs.Common.{◌≡◌, ◌⊎◌, inl, inr, ℕ, zero, suc, ◌+◌, ◌-◌, ◌*◌, ◌/◌, ◌<◌, ◌≤◌, Bool, true, false, ◌==◌, if◌then◌else◌, List, [], ◌∷◌, ◌++◌, length, map, Option, Some, None, refl, sym, ap, subst, ◌∙◌, arith, mul-le-mul_right}
+use Rattle.std.proofs.Common.{◌≡◌, inl, ℕ, ◌/◌, ◌<◌, true, false, List, [], length, map, Some, None, refl, sym, ap, subst, ◌∙◌, arith, mul-le-mul_right}
 use Rattle.std.specs.Prelude.{slice_get}
 use Rattle.std.specs.List.{AllByRecursion}
 use Rattle.pk_base.specs.Shape.{Shape}
-use Rattle.pk_base.specs.Firsts.{firsts}
 use Rattle.pk_base.specs.Merge.{next_merge}
 use Rattle.pk_base.specs.Page.{Flash, page_at}
 use Rattle.pk_base.specs.Map.{Map}
 use Rattle.pk_base.proofs.ShapeLemmas.{block_pages_positive}
-use Rattle.pk_work.specs.Backlog.{Backlog}
 use Rattle.pk_work.specs.Rest.{Lowers, left_of, whole_merge}
 use Rattle.pk_work.specs.Steps.{MovesMerge}
 use Rattle.pk_work.proofs.Lowering.{moves}
@@ -27,16 +25,14 @@ use Rattle.pk_pool.proofs.Sharing.{behind_roots}
 use Rattle.pk_pool.proofs.States.{ready_is_not_root}
 use Rattle.pk_pool.specs.Unready.{unready}
 use Rattle.pk_run.specs.Kept.{Kept, RunOnFlash}
-use Rattle.pk_level.specs.Levels.{Levels, IsLevels, RunsOnFlash}
+use Rattle.pk_level.specs.Levels.{IsLevels, RunsOnFlash}
 use Rattle.pk_steps.specs.Merging.{output_of as whole_output}
 use Rattle.pk_compact.specs.FreezeSteps.{IsTaken, taken_by, install_steps}
 use Rattle.pk_compact.specs.declared.freezing.FreezeJob.{FreezeJob}
-use Rattle.pk_log.specs.State.{LogState}
 use Rattle.pk_log.specs.MergeSteps.{LogPrepared}
-use Rattle.pk_schedule.specs.declared.phase.Phase.{Phase}
 use Rattle.pk_schedule.specs.declared.phase.Phase.TheVariants.{Ready}
-use Rattle.pk_schedule.specs.Index.{Index, IndexOnFlash, MergesInto, MergeWaits, MergeStands, FreezeStands, output}
-use Rattle.pk_schedule.specs.Steps.{MayWork, KeepsValues, IndexMoves, LessIsLeft, backlog_of, merge_left, freeze_rest_of}
+use Rattle.pk_schedule.specs.Index.{Index, IndexOnFlash, MergeWaits, MergeStands, output}
+use Rattle.pk_schedule.specs.Steps.{MayWork, IndexMoves, LessIsLeft, backlog_of, merge_left, freeze_rest_of}
 use Rattle.pk_schedule.proofs.Backlogs.{frozen_is, entries_are}
 use Rattle.pk_schedule.proofs.Keeping.{RunOnFlash-same, RunsOnFlash-same}
 use Rattle.pk_schedule.proofs.Standing.{owned_beyond}

@@ -1,37 +1,34 @@
 -- What the exchange of runs leaves behind a merge: into level 1, and into a deeper one.
-use Rattle.std.proofs.Common.{◌≡◌, ◌⊎◌, inl, inr, ℕ, zero, suc, ◌+◌, ◌-◌, ◌<◌, ◌≤◌, Bool, true, false, ◌==◌, nat_le, if◌then◌else◌, T, List, [], ◌∷◌, ◌++◌, length, map, slice_set, slice_index, slice_index_or, Option, Some, None, refl, sym, ap, subst, ◌∙◌, arith, length-append, append-nil}
-use Rattle.std.specs.Prelude.{slice_get, unwrap_or}
+use Rattle.std.proofs.Common.{◌≡◌, ◌⊎◌, inl, inr, ℕ, ◌+◌, ◌-◌, ◌<◌, ◌≤◌, Bool, true, false, ◌==◌, nat_le, if◌then◌else◌, List, [], ◌++◌, length, map, slice_set, slice_index, slice_index_or, Some, None, refl, sym, ap, subst, ◌∙◌, arith, length-append, append-nil}
+use Rattle.std.specs.Prelude.{slice_get}
 use Rattle.std.specs.List.{concat}
 use Rattle.std.proofs.lemmas.Bool.Decides.{nat_tests}
 use Rattle.std.proofs.lemmas.List.{length-set, length-map}
 use Rattle.pk_base.specs.Shape.{Shape}
 use Rattle.pk_base.specs.Entry.{Entry}
-use Rattle.pk_base.specs.Page.{Flash}
 use Rattle.pk_base.specs.Map.{Map}
-use Rattle.pk_plan.specs.declared.owner.Owner.{Owner}
 use Rattle.pk_plan.specs.declared.owner.Owner.TheVariants.{Journal, Meta, Values}
 use Rattle.pk_nand.specs.BoardState.{BoardState}
-use Rattle.pk_rootfmt.specs.Root.{Root, named, differ}
-use Rattle.pk_root.specs.Installing.{SameBehind, erases_next}
+use Rattle.pk_rootfmt.specs.Root.{Root, named}
+use Rattle.pk_root.specs.Installing.{SameBehind}
 use Rattle.pk_pin.specs.Frames.{Frames, AreLeases, times}
 use Rattle.pk_pin.proofs.Leases.{times-append}
 use Rattle.pk_model.specs.Found.{Found}
 use Rattle.pk_model.specs.Tree.{merged, blocks_after}
 use Rattle.pk_model.proofs.SamePages.{any_front, any_back}
 use Rattle.pk_model.proofs.ValueSets.{is_true}
-use Rattle.pk_pool.specs.declared.state.BlockState.TheVariants.{Free, Owned}
-use Rattle.pk_pool.specs.Blocks.{Blocks, IsShared, PoolOnFlash, used_by}
+use Rattle.pk_pool.specs.declared.state.BlockState.TheVariants.{Free}
+use Rattle.pk_pool.specs.Blocks.{Blocks, IsShared, used_by}
 use Rattle.pk_pool.specs.Unready.{unready}
-use Rattle.pk_run.specs.Kept.{Kept, RunOnFlash, empty}
+use Rattle.pk_run.specs.Kept.{Kept, empty}
 use Rattle.pk_run.proofs.Standing.{RunOnFlash-empty}
 use Rattle.pk_level.specs.Levels.{Levels, IsLevels, RunsOnFlash, HaveBlocks, run_of, with_run}
 use Rattle.pk_level.specs.Arenas.{HasArena, ArePinnedTo, leases_of, IsPinnedIf}
-use Rattle.pk_steps.specs.Merging.{merged_root, merged_found, output_of, freed_by, blocks_at}
+use Rattle.pk_steps.specs.Merging.{merged_root, output_of, freed_by, blocks_at}
 use Rattle.pk_steps.proofs.FourRuns.{IsLevel}
 use Rattle.pk_steps.proofs.FreedCounts.{freed_counted}
 use Rattle.pk_steps.proofs.Places.{In, in_append}
-use Rattle.pk_merge.specs.Jobs.{Job, IsIdle, LeavesOthers, taken_from, given_to, given_all, ended, pins}
-use Rattle.pk_merge.specs.Laws.{IsFormer}
+use Rattle.pk_merge.specs.Jobs.{Job, IsIdle, LeavesOthers, taken_from, given_to, ended}
 use Rattle.pk_merge.proofs.Ending.{idle_one}
 use Rattle.pk_merge.proofs.Leasing.{are_apart}
 use Rattle.pk_compact.specs.Freezing.{given_back}

@@ -1,13 +1,12 @@
 -- A run that stands in place of another, in lists of runs.
-use Rattle.std.proofs.Common.{◌≡◌, inl, inr, ℕ, zero, suc, ◌+◌, ◌≤◌, ◌<◌, Bool, true, false, nat_le, T, List, [], ◌∷◌, ◌++◌, length, map, slice_set, slice_index_or, slice_index, Some, refl, sym, ap, subst, ◌∙◌, arith}
+use Rattle.std.proofs.Common.{◌≡◌, inl, inr, ℕ, zero, suc, ◌+◌, ◌≤◌, ◌<◌, false, nat_le, T, List, [], ◌∷◌, length, map, slice_set, slice_index_or, Some, refl, sym, ap, subst, ◌∙◌, arith}
 use Rattle.std.specs.Prelude.{slice_get}
-use Rattle.std.specs.List.{AllByRecursion}
 use Rattle.std.proofs.lemmas.List.{length-set}
 use Rattle.std.proofs.lemmas.Option.{same_Some}
 use Rattle.pk_base.specs.Shape.{Shape}
 use Rattle.pk_base.specs.Page.{Flash}
 use Rattle.pk_base.specs.Entry.{Entry}
-use Rattle.pk_pin.specs.Frames.{Frames, AreLeases, given, times}
+use Rattle.pk_pin.specs.Frames.{Frames, times}
 use Rattle.pk_pin.proofs.Leases.{times-append}
 use Rattle.pk_rootfmt.specs.Root.{differ}
 use Rattle.pk_run.specs.Kept.{Kept, RunOnFlash, empty}
@@ -15,7 +14,7 @@ use Rattle.pk_level.specs.Levels.{RunsOnFlash, HaveBlocks, AreOfLevels, IsOfLeve
 use Rattle.pk_level.specs.Arenas.{leases_of, IsPinnedIf, ArePinnedTo}
 use Rattle.pk_model.proofs.Commits.{apart, rest_differs}
 use Rattle.pk_steps.proofs.Places.{In}
-use Rattle.pk_merge.specs.Jobs.{LeavesOthers, HasNone, given_all, all_spare, spare_of, without, with_spare}
+use Rattle.pk_merge.specs.Jobs.{LeavesOthers, given_all, all_spare, spare_of, without, with_spare}
 
 -- ---- what stands
 

@@ -1,5 +1,5 @@
 -- A step of the job of a merge that runs: the index stands on the flash behind it, with the same map, wherever the step is cut.
-use Rattle.std.proofs.Common.{◌≡◌, ◌≢◌, ◌⊎◌, inl, inr, ℕ, ◌+◌, ◌*◌, ◌/◌, ◌<◌, ◌≤◌, Bool, true, false, T, List, [], ◌∷◌, ◌++◌, length, Option, Some, None, Result, Ok, Err, refl, sym, ap, subst, ◌∙◌, arith, div-lt_iff_lt-mul}
+use Rattle.std.proofs.Common.{◌≡◌, ◌≢◌, ◌⊎◌, inl, inr, ℕ, ◌*◌, ◌/◌, ◌<◌, ◌≤◌, List, [], ◌∷◌, ◌++◌, length, Option, Some, refl, sym, ap, subst, ◌∙◌, arith, div-lt_iff_lt-mul}
 use Rattle.std.specs.Prelude.{slice_get, slice_index}
 use Rattle.std.specs.List.{concat, AllByRecursion}
 use Rattle.pk_base.specs.Shape.{Shape, IsShape}
@@ -11,12 +11,12 @@ use Rattle.pk_nand.specs.BoardState.{BoardState}
 use Rattle.pk_nand.specs.Calls.{IsReady, after_read}
 use Rattle.pk_nand.specs.declared.types.Fault.TheVariants.{Stopped}
 use Rattle.pk_nand.proofs.Reaching.{Reached-start}
-use Rattle.pk_pin.specs.Frames.{Frames, AreLeases}
+use Rattle.pk_pin.specs.Frames.{Frames}
 use Rattle.pk_plan.specs.declared.owner.Owner.{Owner}
 use Rattle.pk_plan.specs.declared.owner.Owner.TheVariants.{Journal, Meta, Values}
-use Rattle.pk_rootfmt.specs.Root.{Root, named, differ}
-use Rattle.pk_pool.specs.declared.state.BlockState.TheVariants.{Root as RootBlock, Free, Ready as ReadyBlock, Owned}
-use Rattle.pk_pool.specs.Blocks.{Blocks, IsShared, IsSpare, PoolOnFlash, used_by}
+use Rattle.pk_rootfmt.specs.Root.{Root, named}
+use Rattle.pk_pool.specs.declared.state.BlockState.TheVariants.{Free, Ready as ReadyBlock, Owned}
+use Rattle.pk_pool.specs.Blocks.{Blocks, IsShared, IsSpare}
 use Rattle.pk_pool.proofs.States.{free_is_not_root, ready_is_not_root, owned_is_not_root}
 use Rattle.pk_pool.proofs.Sharing.{behind_roots}
 use Rattle.pk_pool.proofs.Fitting.{block_of}
@@ -24,12 +24,10 @@ use Rattle.pk_run.specs.Kept.{Kept, page_of, after_look}
 use Rattle.pk_level.specs.Levels.{run_of}
 use Rattle.pk_level.specs.Arenas.{leases_of}
 use Rattle.pk_model.specs.Found.{Found}
-use Rattle.pk_model.specs.Growth.{Grows, Reaches, Goes}
+use Rattle.pk_model.specs.Growth.{Grows, Goes}
 use Rattle.pk_model.specs.Crashes.{CrashFinds, background}
-use Rattle.pk_model.specs.Laws.{AnyByRecursion}
 use Rattle.pk_model.specs.Tree.{run_at}
-use Rattle.pk_model.proofs.Commits.{member}
-use Rattle.pk_model.proofs.SamePages.{any_front, any_back, newest_root_same}
+use Rattle.pk_model.proofs.SamePages.{any_back, newest_root_same}
 use Rattle.pk_model.proofs.ValueSets.{is_true}
 use Rattle.pk_root.specs.Laws.{SameFront}
 use Rattle.pk_steps.specs.Under.{IsUnder, IsValuePage, places}
@@ -43,7 +41,7 @@ use Rattle.pk_merge.specs.Sources.{after_look_at}
 use Rattle.pk_merge.specs.Merging.{Merger, Tells}
 use Rattle.pk_merge.specs.Running.{Running}
 use Rattle.pk_merge.specs.Steps.{Acts, Fails}
-use Rattle.pk_merge.specs.Elsewhere.{IsForOutput, IsLook, LeavesRuns, LeavesLeases}
+use Rattle.pk_merge.specs.Elsewhere.{IsForOutput, LeavesRuns, LeavesLeases}
 use Rattle.pk_merge.specs.Jobs.{Job, JobRuns, pins, output_of}
 use Rattle.pk_merge.proofs.Places.{block_there, block_of_page}
 use Rattle.pk_compact.specs.Laws.{IsUnread, Leaves}
@@ -52,9 +50,8 @@ use Rattle.pk_compact.proofs.Touching.{program_unread, erase_unread}
 use Rattle.pk_log.specs.Laws.{SameNamed}
 use Rattle.pk_log.proofs.Standing.{logs_elsewhere}
 use Rattle.pk_schedule.specs.declared.phase.Phase.{Phase}
-use Rattle.pk_schedule.specs.declared.phase.Phase.TheVariants.{Idle, Running as RunsInto, Ready}
-use Rattle.pk_schedule.specs.Index.{Index, Schedule, IndexOnFlash, MergesInto, MergeRuns, MergeWaits, MergeStands, FreezeStands, AreHeld, output, source_at, entries_at}
-use Rattle.pk_schedule.specs.Steps.{MayWork, IndexMoves, KeepsValues}
+use Rattle.pk_schedule.specs.Index.{Index, IndexOnFlash, MergesInto, MergeStands, output, source_at, entries_at}
+use Rattle.pk_schedule.specs.Steps.{MayWork, IndexMoves}
 use Rattle.pk_schedule.proofs.Grown.{Grew, SameEnd, got_in, in_got, differ_of, owned_not_spare, grew_shape, grew_kept, grew_no_more, grew_size, grew_used, grew_meta, grew_from, same_page, runs_leave}
 
 -- what holds of each of a list is shown of it and the ones that are left

@@ -1,9 +1,8 @@
 -- What stands of an index before a step: its owners, its pages, and the merge that does not run.
-use Rattle.std.proofs.Common.{◌≡◌, ◌≢◌, ◌⊎◌, inl, inr, ℕ, ◌+◌, ◌*◌, ◌/◌, ◌<◌, ◌≤◌, Bool, true, false, ◌&&◌, List, [], ◌∷◌, ◌++◌, length, Some, refl, sym, ap, subst, ◌∙◌, arith, mul-le-mul_right}
+use Rattle.std.proofs.Common.{◌≡◌, ◌⊎◌, inl, inr, ℕ, ◌*◌, ◌/◌, ◌<◌, ◌≤◌, Bool, true, false, ◌&&◌, ◌++◌, Some, refl, subst, arith, mul-le-mul_right}
 use Rattle.std.specs.Prelude.{slice_get}
 use Rattle.std.specs.List.{concat}
-use Rattle.pk_base.specs.Shape.{Shape}
-use Rattle.pk_base.specs.Page.{Flash, page_at}
+use Rattle.pk_base.specs.Page.{Flash}
 use Rattle.pk_base.specs.Map.{Map}
 use Rattle.pk_base.proofs.ShapeLemmas.{block_pages_positive}
 use Rattle.pk_plan.specs.declared.owner.Owner.{Owner}
@@ -11,18 +10,17 @@ use Rattle.pk_plan.specs.declared.owner.Owner.TheVariants.{Journal, Meta, Values
 use Rattle.pk_rootfmt.specs.Root.{Root, named}
 use Rattle.pk_model.specs.Found.{Found}
 use Rattle.pk_pool.specs.declared.state.BlockState.TheVariants.{Owned}
-use Rattle.pk_pool.specs.Blocks.{Blocks, IsShared, IsSpare}
+use Rattle.pk_pool.specs.Blocks.{IsShared}
 use Rattle.pk_pool.proofs.Sharing.{behind_roots}
 use Rattle.pk_pool.proofs.States.{owned_is_not_root}
 use Rattle.pk_steps.proofs.Places.{In, in_append}
-use Rattle.pk_steps.specs.Under.{IsValuePage, places}
 use Rattle.pk_merge.specs.Jobs.{IsIdle}
 use Rattle.pk_compact.specs.Freezing.{IsApart}
 use Rattle.pk_schedule.specs.declared.phase.Phase.{Phase}
 use Rattle.pk_schedule.specs.declared.phase.Phase.TheVariants.{Idle, Running, Ready}
-use Rattle.pk_schedule.specs.Index.{Index, IndexOnFlash, MergeStands}
+use Rattle.pk_schedule.specs.Index.{Index, MergeStands}
 use Rattle.pk_schedule.specs.Steps.{MayWork, is_between}
-use Rattle.pk_schedule.proofs.Giving.{not_spare, one_owner}
+use Rattle.pk_schedule.proofs.Giving.{not_spare}
 
 pub both_true : (a b : Bool) → (a && b) ≡ true → (a ≡ true) × (b ≡ true)
 both_true true b e = (refl, e)

@@ -1,5 +1,5 @@
 -- What the step of a merge's job leaves of an index, whether it was done or a call of it failed.
-use Rattle.std.proofs.Common.{◌≡◌, ◌≢◌, ◌⊎◌, inl, inr, ℕ, ◌+◌, ◌-◌, ◌*◌, ◌<◌, ◌≤◌, Bool, true, false, T, List, [], ◌∷◌, ◌++◌, length, map, Option, Some, None, Result, Ok, Err, refl, sym, ap, subst, ◌∙◌, arith}
+use Rattle.std.proofs.Common.{◌≡◌, inl, inr, ℕ, ◌+◌, ◌≤◌, Bool, true, false, List, length, map, Option, Some, Result, Err, refl, sym, ap, subst, ◌∙◌, arith}
 use Rattle.std.specs.Prelude.{unwrap_or, IsTrue, ◌↔◌}
 use Rattle.pk_base.specs.Shape.{Shape, IsShape, cap}
 use Rattle.pk_base.specs.Entry.{Entry}
@@ -43,8 +43,8 @@ use Rattle.pk_compact.proofs.NextRoot.{roots_same}
 use Rattle.pk_compact.proofs.Numbering.{same_front}
 use Rattle.pk_compact.specs.FreezeSteps.{install_steps}
 use Rattle.pk_schedule.specs.declared.phase.Phase.{Phase}
-use Rattle.pk_schedule.specs.declared.phase.Phase.TheVariants.{Idle, Running, Ready}
-use Rattle.pk_schedule.specs.Index.{Index, IndexOnFlash, IsDue, MergesInto, MergeRuns, MergeStands, output, source_at, entries_at}
+use Rattle.pk_schedule.specs.declared.phase.Phase.TheVariants.{Running, Ready}
+use Rattle.pk_schedule.specs.Index.{Index, IndexOnFlash, MergesInto, MergeRuns, MergeStands, output, source_at, entries_at}
 use Rattle.pk_schedule.specs.Steps.{MayWork, IndexMoves, LessIsLeft, Unmoved, merge_left, backlog_of}
 use Rattle.pk_schedule.specs.Sources.{ShowsSame}
 use Rattle.pk_schedule.proofs.Carried.{Shown, shown, same_shown, job_carried, left_same, done_same}

@@ -1,16 +1,15 @@
 -- A merge whose output stands: what its install asks for.
-use Rattle.std.proofs.Common.{◌≡◌, ◌⊎◌, inl, inr, ℕ, zero, suc, ◌+◌, ◌-◌, ◌/◌, ◌<◌, ◌≤◌, Bool, true, false, ◌==◌, nat_le, if◌then◌else◌, T, List, [], ◌∷◌, ◌++◌, length, map, slice_set, slice_index_or, Option, Some, None, Ok, refl, sym, ap, subst, ◌∙◌, arith, le→leb}
+use Rattle.std.proofs.Common.{◌≡◌, inl, inr, ℕ, zero, suc, ◌-◌, ◌/◌, ◌<◌, ◌≤◌, true, T, List, [], ◌∷◌, ◌++◌, length, map, slice_set, slice_index_or, Some, None, Ok, refl, sym, ap, subst, ◌∙◌, arith, le→leb}
 use Rattle.std.specs.Prelude.{slice_get}
 use Rattle.std.proofs.lemmas.List.{length-set}
 use Rattle.std.specs.List.{concat, AllByRecursion}
-use Rattle.pk_base.specs.Shape.{Shape, IsShape, run_blocks, pinned}
+use Rattle.pk_base.specs.Shape.{Shape, IsShape, run_blocks}
 use Rattle.pk_base.specs.Entry.{Entry}
 use Rattle.pk_base.specs.Firsts.{firsts}
 use Rattle.pk_base.specs.Merge.{room, next_merge}
-use Rattle.pk_base.specs.Page.{Flash, page_at}
+use Rattle.pk_base.specs.Page.{page_at}
 use Rattle.pk_base.specs.Map.{Map}
 use Rattle.pk_meta.specs.Run.{run}
-use Rattle.pk_plan.specs.declared.owner.Owner.{Owner}
 use Rattle.pk_plan.specs.declared.owner.Owner.TheVariants.{Journal, Meta, Values}
 use Rattle.pk_nand.specs.BoardState.{BoardState}
 use Rattle.pk_rootfmt.specs.Root.{Root, is_root, named, differ}
@@ -18,30 +17,29 @@ use Rattle.pk_pin.specs.Frames.{Frames, AreLeases, times}
 use Rattle.pk_pin.proofs.Leases.{times-append}
 use Rattle.pk_model.specs.Found.{Found}
 use Rattle.pk_model.proofs.Commits.{blocks_of_root, differ_front, apart}
-use Rattle.pk_model.proofs.SamePages.{any_front, any_back}
+use Rattle.pk_model.proofs.SamePages.{any_back}
 use Rattle.pk_model.proofs.ValueSets.{is_true}
 use Rattle.pk_pool.specs.declared.state.BlockState.TheVariants.{Owned}
 use Rattle.pk_pool.specs.Blocks.{Blocks, IsShared}
 use Rattle.pk_pool.proofs.Sharing.{behind_roots, exists}
 use Rattle.pk_pool.proofs.States.{owned_is_not_root}
-use Rattle.pk_run.specs.Kept.{Kept, RunOnFlash, IsPinned, empty}
-use Rattle.pk_level.specs.Levels.{Levels, IsLevels, IsOfLevel, run_of, with_run}
+use Rattle.pk_run.specs.Kept.{Kept, empty}
+use Rattle.pk_level.specs.Levels.{Levels, IsLevels, run_of, with_run}
 use Rattle.pk_level.specs.Arenas.{leases_of, IsPinnedIf}
-use Rattle.pk_steps.specs.Merging.{IsMerged, merged_root, output_of, blocks_at}
-use Rattle.pk_steps.proofs.FourRuns.{IsLevel, four_of_root, next_is_level}
+use Rattle.pk_steps.specs.Merging.{IsMerged, output_of, blocks_at}
+use Rattle.pk_steps.proofs.FourRuns.{IsLevel, next_is_level}
 use Rattle.pk_steps.proofs.Freeing.{differ_back, in_one}
 use Rattle.pk_steps.proofs.NewestBlocks.{valid_root}
 use Rattle.pk_steps.proofs.Outputs.{output_fits}
-use Rattle.pk_steps.proofs.Places.{In, in_append}
+use Rattle.pk_steps.proofs.Places.{In}
 use Rattle.pk_steps.proofs.Spelling.{merged_grammar}
-use Rattle.pk_merge.specs.Jobs.{Job, IsIdle, AreOwned, AreLeased, all_spare, held_at, taken_from, given_to, ended, pins}
+use Rattle.pk_merge.specs.Jobs.{Job, IsIdle, AreOwned, AreLeased, all_spare, held_at, taken_from, given_to, pins}
 use Rattle.pk_merge.specs.Laws.{IsFormer, done_with}
 use Rattle.pk_merge.proofs.Ending.{idle_one}
 use Rattle.pk_merge.proofs.Leasing.{are_leased}
 use Rattle.pk_compact.specs.Freezing.{given_back}
 use Rattle.pk_compact.specs.FreezeSteps.{taken_by}
 use Rattle.pk_log.specs.MergeSteps.{MayPrepare, MayMerge}
-use Rattle.pk_schedule.specs.declared.phase.Phase.{Phase}
 use Rattle.pk_schedule.specs.declared.phase.Phase.TheVariants.{Ready}
 use Rattle.pk_schedule.specs.Exchanges.{CanExchange, Exchanges, CanFree, CanEndFirst, CanEndDeep}
 use Rattle.pk_schedule.specs.Index.{Index, MergeStands, MergeWaits, output}

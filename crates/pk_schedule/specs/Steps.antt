@@ -1,5 +1,5 @@
 -- What a step of the jobs asks of an index and its flash, and what it leaves.
-use Rattle.std.specs.Prelude.{◌≡◌, ◌⊎◌, ℕ, ◌+◌, ◌/◌, ◌<◌, ◌≤◌, [], length, map, Bool, true, false, ◌==◌, ◌&&◌, if◌then◌else◌, slice_get, Option, Some, None, Result, Ok, Err}
+use Rattle.std.specs.Prelude.{◌≡◌, ℕ, ◌+◌, ◌/◌, ◌<◌, ◌≤◌, [], length, map, Bool, true, false, ◌==◌, ◌&&◌, if◌then◌else◌, slice_get, Option, Some, None}
 use Rattle.pk_base.specs.Shape.{Shape}
 use Rattle.pk_base.specs.Page.{Flash, page_at}
 use Rattle.pk_base.specs.Map.{Map}
@@ -7,14 +7,13 @@ use Rattle.pk_work.specs.Backlog.{Backlog}
 use Rattle.pk_work.specs.Rest.{Lowers}
 use Rattle.pk_work.specs.Work.{work, merging as merging_left}
 use Rattle.pk_nand.specs.BoardState.{BoardState}
-use Rattle.pk_nand.specs.Calls.{IsReady}
 use Rattle.pk_plan.specs.declared.owner.Owner.TheVariants.{Values}
 use Rattle.pk_rootfmt.specs.Root.{Root}
 use Rattle.pk_pool.specs.declared.state.BlockState.TheVariants.{Owned}
 use Rattle.pk_pool.specs.Blocks.{Blocks, used_by}
 use Rattle.pk_pool.specs.Unready.{unready}
 use Rattle.pk_root.specs.declared.next.Next.{Next}
-use Rattle.pk_run.specs.Kept.{Kept, most_pages, most_blocks}
+use Rattle.pk_run.specs.Kept.{most_pages, most_blocks}
 use Rattle.pk_level.specs.Levels.{run_of}
 use Rattle.pk_model.specs.Found.{Found}
 use Rattle.pk_model.specs.Growth.{Grows, Reaches, Goes}
@@ -27,6 +26,7 @@ use Rattle.pk_compact.specs.FreezeSteps.{freeze_left, install_steps, taken_by}
 use Rattle.pk_schedule.specs.declared.phase.Phase.{Phase}
 use Rattle.pk_schedule.specs.declared.phase.Phase.TheVariants.{Idle, Running, Ready}
 use Rattle.pk_log.specs.State.{LogState}
+pub use Rattle.pk_log.specs.MergeSteps.{KeepsActive}
 use Rattle.pk_schedule.specs.Index.{Index, IndexOnFlash, output, source_at}
 
 -- ---- what is left
@@ -76,10 +76,6 @@ pub record MayWork (x : Index) (frames : ℕ) (flash : Flash) (top : ℕ × Root
   pub number : x.log.root.number < 18446744073709551615
 
 -- ---- what it leaves
-
--- of the log only the root, what its installer does next, and the frozen buffer may differ
-abbrev pub KeepsActive : LogState → LogState → Type 0
-KeepsActive log log' = log' ≡ record log { root = log'.root; next = log'.next; frozen = log'.frozen }
 
 -- The blocks for values are the same ones, and no page of one differs.
 pub record KeepsValues (shape : Shape) (pool : Blocks) (old : Flash) (pool' : Blocks) (new : Flash) : Type 0 where

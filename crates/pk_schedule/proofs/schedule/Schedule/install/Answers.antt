@@ -1,4 +1,4 @@
-use Rattle.std.proofs.Common.{◌≡◌, ◌≤◌, sym, ap, ◌∙◌, arith}
+use Rattle.std.proofs.Common.{◌≡◌, sym, ap, ◌∙◌, arith}
 use Rattle.pk_rootfmt.specs.Held.{Held, older_of}
 use Rattle.pk_schedule.specs.Index.{Index, Schedule, index, output}
 use Rattle.pk_schedule.proofs.Installed.{ask_prepare, ask_merge, ask_first, ask_level, ask_deep, made_prepared, made_first, made_deep, merge_breaks, merges_told}
