@@ -121,11 +121,10 @@ impl Words {
         }
     }
 
-    /// Says the whole value of a key.
+    /// Says the whole value of a key, over a drive of the shape of these words.
     pub fn get<P: Port>(&mut self, port: &mut P, key: &Key) -> Result<(), PortFault>
-        requires { (P.state port.old).shape ≡ self.old.shape }
-        ensures said { OnOk result (Said (SaysValue key.now) (P.state port.old) (P.state port.new)
-            self.new.text) }
+        ensures said { OnOk result ((P.state port.old).shape ≡ self.old.shape
+            → Said (SaysValue key.now) (P.state port.old) (P.state port.new) self.new.text) }
         ensures fault { OnErr result
             (Rose (P.state port.old).port_faults (P.state port.new).port_faults) }
         ensures took { P.took port.old (retrieve_of key.now (greatest self.old.shape) ∷ [])
@@ -146,10 +145,9 @@ fn say_found<P: Port>(
     text: &mut Bytes,
 ) -> Result<(), PortFault>
     requires small { length buffer.old < 2 ^ 32 }
-    requires sized { length buffer.old ≡ greatest (P.state port.old).shape }
     requires room { 2 * length buffer.old + 11 ≤ text.old.room }
-    ensures said { OnOk result (Said (SaysValue key.now) (P.state port.old) (P.state port.new)
-        text.new.items) }
+    ensures said { OnOk result (length buffer.old ≡ greatest (P.state port.old).shape
+        → Said (SaysValue key.now) (P.state port.old) (P.state port.new) text.new.items) }
     ensures fault { OnErr result
         (Rose (P.state port.old).port_faults (P.state port.new).port_faults) }
     ensures took { P.took port.old (retrieve_of key.now (length buffer.old) ∷ []) port.new }
