@@ -18,7 +18,6 @@ use Rattle.pk_pool.specs.Taking.{ErasesOne, ErasesNone}
 use Rattle.pk_pool.proofs.Sharing.{count-set, used_adopted}
 use Rattle.pk_log.specs.State.{LogState, pushed}
 use Rattle.pk_log.specs.Commits.{CommitsNone, CommitsAll}
-use Rattle.pk_log.specs.Freezes.{LogFroze}
 use Rattle.pk_model.specs.Found.{Found}
 use Rattle.pk_data.specs.State.{DataState, fits_open, more_used, with_written}
 use Rattle.pk_data.specs.Placed.{HoldsValues, IsOpenIn}
