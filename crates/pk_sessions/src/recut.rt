@@ -6,7 +6,6 @@ use crate::script::{Answer, Ask, Value, records, retrieved};
 use crate::tried::{Program, holds, same};
 use crate::ways::{Ways, ways_of_erases};
 use pk_flash::{Flash, Left};
-use pk_nand::Mark;
 use std::alloc::{AllocError, Global};
 use std::test::*;
 
@@ -22,33 +21,22 @@ const THIRD: [Ask; 7] = [
     Ask::Retrieve(0x66),
 ];
 
-// Whether this mark is a program of a root.
-fn is_root(flash: &Flash, i: usize) -> bool {
-    if i >= flash.marks() {
-        return false;
+// Whether a value is there of the first session.
+fn has_values(held: &Held) -> bool {
+    let mut some = false;
+    for value in held {
+        some = some || value.is_some();
     }
-    match flash.mark(i) {
-        Mark::Program { page, .. } => *page < 16,
-        _ => false,
-    }
+    some
 }
 
-// Whether a root was written by the marks before this one, or by this one, where it is done.
-fn has_root(flash: &Flash, k: usize, left: &Left) -> bool {
-    let mut found = is_root(flash, k) && matches!(left, Left::Done);
-    for i in 0..k {
-        found = found || is_root(flash, i);
-    }
-    found
-}
-
-// The records of the third session on these values, with this one under the fifth key. Where the second session began an epoch over
-// one with entries, the Store would freeze a second time.
+// The records of the third session on these values, with this one under the fifth key. Where the blocks that values may have are both in
+// use, its Store wants a reclaim, which is not built.
 fn third_records(
     alloc: Global,
     held: &Held,
     fifth: Option<Value>,
-    is_frozen: bool,
+    is_full: bool,
 ) -> Result<Vec<u8>, AllocError> {
     let all = [
         retrieved(held[0]),
@@ -59,7 +47,7 @@ fn third_records(
         Answer::Done,
         Answer::Found(F),
     ];
-    let count = if is_frozen { 5 } else { all.len() };
+    let count = if is_full { 5 } else { all.len() };
     records(alloc, &all[..count])
 }
 
@@ -87,17 +75,17 @@ fn check_recut<P: Program>(
     let held = HELD.get(commands).ok_or("commands")?;
     let pages = cut(alloc, second, k, left)?;
     let third = served::<P>(alloc, small()?, pages, &THIRD)?;
-    let is_frozen = commands > 0 && has_root(second, k, left);
-    same(
-        third.status,
-        if is_frozen { 11 } else { 0 },
-        format_args!("the status, {commands}, mark {k}, way {way}"),
-    )?;
-    let with = third_records(alloc, held, Some(E), is_frozen)?;
-    let without = third_records(alloc, held, None, is_frozen)?;
+    let is_full = has_values(held);
+    let with = third_records(alloc, held, Some(E), is_full)?;
+    let without = third_records(alloc, held, None, false)?;
     let is_told = bytes_out(second, k) > bytes_before_store(alloc, held)?;
     let is_there = third.flash.posted() == with.as_slice();
     let is_missing = third.flash.posted() == without.as_slice();
+    same(
+        third.status,
+        if is_there && is_full { 11 } else { 0 },
+        format_args!("the status, {commands}, mark {k}, way {way}"),
+    )?;
     holds(
         is_there || (is_missing && !is_told),
         format_args!("what is there, {commands}, mark {k}, way {way}"),

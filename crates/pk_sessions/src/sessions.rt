@@ -65,15 +65,17 @@ pub fn values_stay<P: Program>(alloc: Global) -> Result<(), Fail> {
     Ok(())
 }
 
-/// Each session that stores begins an epoch. The third would freeze entries over frozen ones, which is not built.
-pub fn three_stores<P: Program>(alloc: Global) -> Result<(), Fail> {
+/// Each session that stores begins an epoch: it freezes the entries of the one before, behind a merge of those that were frozen.
+pub fn five_stores<P: Program>(alloc: Global) -> Result<(), Fail> {
     let mut pages = made::<P>(alloc, &MAKE_WORKED)?;
-    for (key, status, answers, keys) in [
-        (0x61u8, 0u8, [Answer::Done].as_slice(), b"a".as_slice()),
-        (0x62, 0, &[Answer::Done], b"ab"),
-        (0x63, 11, &[], b"ab"),
+    for (key, keys) in [
+        (0x61u8, b"a".as_slice()),
+        (0x62, b"ab"),
+        (0x63, b"abc"),
+        (0x64, b"abcd"),
+        (0x65, b"abcde"),
     ] {
-        pages = serve_as::<P>(alloc, pages, &[Ask::Store(key, THREE)], status, answers)?;
+        pages = serve_as::<P>(alloc, pages, &[Ask::Store(key, THREE)], 0, &[Answer::Done])?;
         pages = serve_as::<P>(alloc, pages, &[Ask::List], 0, &[Answer::Keys(keys)])?;
     }
     Ok(())

@@ -51,8 +51,8 @@ fn values_stay(rt: HostRuntime) -> Result<(), Fail> {
 }
 
 #[test]
-fn three_stores(rt: HostRuntime) -> Result<(), Fail> {
-    pk_sessions::sessions::three_stores::<Pink>(rt.alloc())
+fn five_stores(rt: HostRuntime) -> Result<(), Fail> {
+    pk_sessions::sessions::five_stores::<Pink>(rt.alloc())
 }
 
 #[test]
