@@ -1,5 +1,5 @@
 -- A background step of the jobs, by the drive and its board.
-use Rattle.std.proofs.Common.{◌≡◌, ◌⊎◌, inl, inr, ℕ, ◌+◌, ◌<◌, ◌≤◌, refl, sym, ap, subst, ◌∙◌, arith, Bool, true, false, List, [], ◌∷◌, length, Option, Some, None}
+use Rattle.std.proofs.Common.{◌≡◌, ◌⊎◌, inl, inr, ℕ, ◌+◌, ◌<◌, ◌≤◌, refl, sym, ap, subst, ◌∙◌, arith, Bool, true, false, List, [], ◌∷◌, length, Option, Some}
 use Rattle.std.specs.Prelude.{◌&&◌, ◌==◌, MatchBool, map, slice_get}
 use Rattle.std.proofs.lemmas.Bool.{eq-eqb, eqb-true}
 use Rattle.pk_base.specs.Shape.{Shape}
@@ -9,7 +9,7 @@ use Rattle.pk_base.specs.Map.{Map}
 use Rattle.pk_base.specs.Merge.{next_merge}
 use Rattle.pk_rootfmt.specs.Root.{Root}
 use Rattle.pk_nand.specs.BoardState.{BoardState, shape_or_none}
-use Rattle.pk_nand.specs.Calls.{IsReady, Rose, last_count}
+use Rattle.pk_nand.specs.Calls.{IsReady, Rose}
 use Rattle.pk_nand.specs.Effects.{AtMostOneCall, NoFault, OnlyFlash, OnlyReading, Stops, Works}
 use Rattle.pk_nand.proofs.Reaching.{Reached-start}
 use Rattle.pk_work.specs.Work.{work}
@@ -18,17 +18,13 @@ use Rattle.pk_pool.specs.Blocks.{PoolOnFlash, IsShared, IsOwned}
 use Rattle.pk_pool.specs.Taking.{ErasesOne, ErasesNone, FailsToErase}
 use Rattle.pk_compact.specs.FreezeSteps.{taken_by}
 use Rattle.pk_model.specs.Found.{Found}
-use Rattle.pk_model.specs.Reading.{reading}
 use Rattle.pk_model.specs.Sight.{Sight, IsIdle}
 use Rattle.pk_model.specs.Growth.{Grows, Reaches, Goes}
 use Rattle.pk_model.specs.Wear.{roots}
 use Rattle.pk_model.specs.Crashes.{CrashFinds, background}
-use Rattle.pk_steps.specs.Under.{IsUnder}
 use Rattle.pk_steps.proofs.Untouched.{under_reads}
 use Rattle.pk_drive.specs.Drive.{HoldsMap}
-use Rattle.pk_drive.specs.Seen.{stopped_by}
 use Rattle.pk_drive.specs.Tick.{TellsIdle, Waits, LowersWork}
-use Rattle.pk_drive.specs.declared.types.Ticked.{Ticked}
 use Rattle.pk_drive.specs.declared.types.Ticked.TheVariants.{Worked, Idle, Fault}
 use Rattle.pk_log.specs.State.{LogState}
 use Rattle.pk_schedule.specs.declared.phase.Phase.{Phase}
@@ -43,7 +39,7 @@ use Rattle.pk_core.proofs.Unchanging.{own, for_its_map, agrees_ready}
 use Rattle.pk_core.proofs.Staying.{stays_same, step_stays}
 use Rattle.pk_core.proofs.Ticking.{ticks_nothing, ticks_failed, step_agrees, step_ticks, step_lowers, kept_drive, waits_for_reclaim, busy_freeze, busy_free, tells_step, tells_idle, tells_due, worked_fine, idle_fine, stopped_fine, stopped_idle, stopped_worked, worked_idle}
 use Rattle.pk_core.proofs.Remaining.{freeze_less}
-use Rattle.pk_core.proofs.Indexing.{with_index, may_work, frames_stay, moved_with, moved_agrees}
+use Rattle.pk_core.proofs.Indexing.{with_index, may_work, moved_with, moved_agrees}
 
 -- ---- answers
 

@@ -5,7 +5,6 @@ use Rattle.std.proofs.lemmas.Bool.{cases_lt}
 use Rattle.std.proofs.lemmas.Grind.{div_ceil_times}
 use Rattle.std.specs.Int.{div_ceil}
 use Rattle.pk_base.specs.Shape.{Shape, IsShape, page_entries, dense, deepest}
-use Rattle.pk_work.specs.Work.{emptying}
 use Rattle.pk_work.specs.Calls.{room_calls}
 use Rattle.pk_work.proofs.Emptying.{emptying_most}
 

@@ -1,5 +1,5 @@
 -- A merge that runs between two commands is the next one.
-use Rattle.std.proofs.Common.{◌≡◌, sym, subst}
+use Rattle.std.proofs.Common.{sym, subst}
 use Rattle.pk_nand.specs.BoardState.{BoardState, shape_or_none}
 use Rattle.pk_pool.specs.Blocks.{IsShared}
 use Rattle.pk_drive.specs.Exec.{IsNextMerge}

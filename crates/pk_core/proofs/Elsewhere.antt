@@ -1,25 +1,14 @@
 -- What stays of a drive where no page differs that it needs.
-use Rattle.std.proofs.Common.{◌≡◌, ℕ, ◌*◌, ◌/◌, ◌%◌, ◌<◌, List, [], ◌∷◌, length, slice_index, Some, refl, sym, subst, arith, mod-lt, div-lt_iff_lt-mul}
+use Rattle.std.proofs.Common.{◌≡◌, ℕ, ◌/◌, List, Some, sym, subst}
 use Rattle.std.specs.Prelude.{slice_get}
-use Rattle.std.specs.List.{concat}
-use Rattle.std.proofs.lemmas.Nat.{div-mul-add}
 use Rattle.pk_base.specs.Shape.{Shape}
 use Rattle.pk_base.specs.Page.{Flash, page_at}
-use Rattle.pk_base.specs.Entry.{Entry}
 use Rattle.pk_plan.specs.declared.owner.Owner.TheVariants.{Journal, Values as for_values}
-use Rattle.pk_pin.specs.Frames.{Frames}
 use Rattle.pk_pool.specs.declared.state.BlockState.{BlockState}
 use Rattle.pk_pool.specs.declared.state.BlockState.TheVariants.{Ready, Owned}
 use Rattle.pk_pool.specs.Blocks.{Blocks, PoolOnFlash}
 use Rattle.pk_pool.proofs.Fitting.{block_of, PoolOnFlash-same}
-use Rattle.pk_run.specs.Kept.{Kept, page_of}
-use Rattle.pk_run.proofs.Standing.{RunOnFlash-elsewhere}
-use Rattle.pk_level.specs.Levels.{RunsOnFlash}
-use Rattle.pk_model.specs.Laws.{AnyByRecursion}
-use Rattle.pk_model.proofs.Commits.{member}
-use Rattle.pk_model.proofs.SamePages.{any_front, any_back}
 use Rattle.pk_data.specs.Laws.{SameValues}
-use Rattle.pk_scan.specs.Opened.{HaveBlocks}
 
 -- ---- states of blocks
 

@@ -14,7 +14,6 @@ use Rattle.pk_nand.specs.declared.types.Fault.{Fault}
 use Rattle.pk_nand.specs.BoardState.{BoardState}
 use Rattle.pk_nand.specs.Calls.{IsReady}
 use Rattle.pk_model.specs.Wear.{roots, is_worn}
-use Rattle.pk_model.specs.Steps.{Step}
 use Rattle.pk_model.proofs.Steps.{RootsUpTo-le, Step-broken}
 use Rattle.pk_compact.specs.FreezeSteps.{freeze_left}
 use Rattle.pk_work.specs.Rest.{whole_freeze}

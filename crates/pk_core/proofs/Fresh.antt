@@ -1,5 +1,5 @@
 -- Over a flash on which nothing is written but roots, a drive serves every request.
-use Rattle.std.proofs.Common.{◌≡◌, inl, inr, ℕ, suc, ◌+◌, ◌-◌, ◌*◌, ◌/◌, ◌%◌, ◌<◌, ◌≤◌, refl, sym, ap, subst, ◌∙◌, arith, Bool, true, false, not, ◌&&◌, ◌||◌, ◌==◌, cond, T, List, [], ◌∷◌, ◌++◌, length, nat_le, nat_lt, Option, Some, None, Ok, zero-mul, mul-le-mul_right, div-add-mod', mod-lt, leb→le}
+use Rattle.std.proofs.Common.{◌≡◌, inl, inr, ℕ, suc, ◌+◌, ◌-◌, ◌*◌, ◌/◌, ◌%◌, ◌<◌, ◌≤◌, refl, sym, ap, subst, ◌∙◌, arith, Bool, true, false, not, ◌&&◌, ◌==◌, cond, T, List, [], ◌∷◌, nat_le, Option, Some, None, mul-le-mul_right, div-add-mod', mod-lt, leb→le}
 use Rattle.std.specs.Prelude.{slice_get, MatchOption}
 use Rattle.std.proofs.Math.ListN.{set}
 use Rattle.std.proofs.Math.Nat.{mul_comm}
@@ -21,7 +21,7 @@ use Rattle.pk_pool.specs.declared.state.BlockState.TheVariants.{Root as root_blo
 use Rattle.pk_pool.specs.Blocks.{Blocks, is_owned_by, used_by}
 use Rattle.pk_pool.proofs.States.{get-set_other, get-set_same}
 use Rattle.pk_pool.proofs.Sharing.{used_given}
-use Rattle.pk_pool.proofs.Fitting.{apart, block_of}
+use Rattle.pk_pool.proofs.Fitting.{apart}
 use Rattle.pk_model.specs.Answer.{early}
 use Rattle.pk_model.specs.Found.{Found}
 use Rattle.pk_data.specs.declared.open_block.OpenBlock.{OpenBlock}

@@ -1,5 +1,5 @@
 -- A step of the jobs moves the index of a drive, and leaves its values where they are.
-use Rattle.std.proofs.Common.{◌≡◌, ℕ, ◌+◌, ◌/◌, ◌<◌, ◌≤◌, refl, sym, ap, subst, ◌∙◌, List, [], length}
+use Rattle.std.proofs.Common.{◌≡◌, ℕ, ◌/◌, ◌<◌, sym, ap, subst, ◌∙◌, List, [], length}
 use Rattle.pk_base.specs.Entry.{Entry}
 use Rattle.pk_base.specs.Page.{Flash}
 use Rattle.pk_base.specs.Map.{Map}
@@ -11,7 +11,7 @@ use Rattle.pk_steps.specs.Under.{IsUnder, IsValuePage, places}
 use Rattle.pk_data.specs.Placed.{ValuesOnFlash}
 use Rattle.pk_data.proofs.Unchanged.{ValuesOnFlash-kept}
 use Rattle.pk_schedule.specs.Index.{Index, IndexOnFlash}
-use Rattle.pk_schedule.specs.Steps.{MayWork, IndexMoves, Moves}
+use Rattle.pk_schedule.specs.Steps.{MayWork, IndexMoves}
 use Rattle.pk_core.specs.Parts.{Parts, frames_of, index_of}
 use Rattle.pk_core.specs.Agreeing.{DriveOnFlashWith, DriveOnFlash}
 

@@ -1,9 +1,8 @@
 -- Steps of merges and of a freeze inside a command: each keeps the map.
-use Rattle.std.proofs.Common.{◌≡◌, ◌≢◌, ◌⊎◌, inl, inr, ℕ, ◌+◌, ◌-◌, ◌<◌, ◌≤◌, refl, sym, ap, subst, ◌∙◌, arith, Bool, true, false, ◌&&◌, ◌==◌, T, List, [], ◌∷◌, length, min, eqb→eq, Some, Result, Ok, Err}
+use Rattle.std.proofs.Common.{◌≡◌, inl, inr, ℕ, ◌+◌, ◌<◌, ◌≤◌, refl, sym, ap, subst, ◌∙◌, arith, Bool, true, false, List, [], Some, Result, Ok, Err}
 use Rattle.std.specs.Prelude.{IfOk, IfErr, OnOk, OnErr, MatchBool}
 use Rattle.pk_base.specs.Shape.{Shape}
 use Rattle.pk_base.specs.Page.{Flash, page_at}
-use Rattle.pk_base.specs.Entry.{Entry}
 use Rattle.pk_base.specs.Map.{Map}
 use Rattle.pk_nand.specs.declared.types.Fault.{Fault}
 use Rattle.pk_nand.specs.declared.types.Fault.TheVariants.{Reading, Stopped}
@@ -19,9 +18,8 @@ use Rattle.pk_model.specs.Reading.{reading}
 use Rattle.pk_model.specs.Growth.{Goes}
 use Rattle.pk_model.specs.Crashes.{CrashFinds, background, commit}
 use Rattle.pk_model.specs.Wear.{root_number, roots}
-use Rattle.pk_model.specs.Steps.{Step}
 use Rattle.pk_model.proofs.Growing.{weaken, weaken_went}
-use Rattle.pk_steps.specs.Under.{IsUnder, places}
+use Rattle.pk_steps.specs.Under.{places}
 use Rattle.pk_steps.proofs.Untouched.{under_reads}
 use Rattle.pk_schedule.specs.declared.phase.Stepped.{Stepped}
 use Rattle.pk_schedule.specs.declared.phase.Stepped.TheVariants.{Worked, Idle}
@@ -32,7 +30,7 @@ use Rattle.pk_jrn.specs.Epochs.{JournalEpoch}
 use Rattle.pk_work.specs.Work.{merging}
 use Rattle.pk_core.specs.Parts.{Parts, frames_of, index_of}
 use Rattle.pk_core.specs.Agreeing.{DriveOnFlashWith}
-use Rattle.pk_core.specs.Moves.{StandsFor, Keeps, KeepsAll, BreaksAll, MayStep, StepKeeps, LeavesValues}
+use Rattle.pk_core.specs.Moves.{StandsFor, Keeps, KeepsAll, BreaksAll, LeavesValues}
 use Rattle.pk_core.specs.Emptying.{Came, ReadsUpTo, OnRunning, MayEmpty, MergesOnce, FreezesOnce, merges_left}
 use Rattle.pk_core.specs.Staying.{Stays}
 use Rattle.pk_core.proofs.Standing.{same_found}

@@ -1,13 +1,12 @@
 -- Steps of which one may fail by a read: in a row, and what is said of them otherwise.
-use Rattle.std.proofs.Common.{◌≡◌, ℕ, ◌+◌, ◌≤◌, refl, sym, subst, ◌∙◌, arith, Result, Ok, Err}
+use Rattle.std.proofs.Common.{◌≡◌, ℕ, ◌+◌, ◌≤◌, refl, subst, ◌∙◌, arith, Result, Ok, Err}
 use Rattle.std.specs.Prelude.{IfErr, OnOk}
 use Rattle.pk_base.specs.Shape.{Shape}
 use Rattle.pk_nand.specs.declared.types.Fault.{Fault}
 use Rattle.pk_nand.specs.declared.types.Fault.TheVariants.{Reading, Stopped}
 use Rattle.pk_nand.specs.BoardState.{BoardState}
 use Rattle.pk_nand.specs.Calls.{IsReady, Rose}
-use Rattle.pk_nand.specs.Effects.{OnlyFlash, NoFault, Works, Stops}
-use Rattle.pk_nand.proofs.Effects.{works_none}
+use Rattle.pk_nand.specs.Effects.{OnlyFlash, NoFault}
 use Rattle.pk_model.specs.Wear.{roots}
 use Rattle.pk_model.specs.Steps.{Step}
 use Rattle.pk_model.proofs.Steps.{RootsUpTo-le}

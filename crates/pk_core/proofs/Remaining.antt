@@ -1,5 +1,5 @@
 -- What a step of a freeze leaves of the background work.
-use Rattle.std.proofs.Common.{◌≡◌, ◌⊎◌, inl, inr, ℕ, ◌+◌, ◌<◌, ◌≤◌, refl, sym, ap, subst, ◌∙◌, arith, Bool, true, false, cond, length, Option, Some, None}
+use Rattle.std.proofs.Common.{◌≡◌, ◌⊎◌, inl, inr, ℕ, ◌<◌, refl, sym, ap, subst, ◌∙◌, arith, Bool, true, false, cond, length, Option, Some, None}
 use Rattle.std.specs.Prelude.{◌==◌, MatchBool, map}
 use Rattle.pk_base.specs.Shape.{Shape}
 use Rattle.pk_work.specs.Backlog.{Backlog}

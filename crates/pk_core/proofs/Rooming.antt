@@ -1,17 +1,9 @@
 -- What a step that keeps the map leaves for the next.
-use Rattle.std.proofs.Common.{◌≡◌, ℕ, ◌<◌, refl, sym, ap, subst, ◌∙◌, arith, Bool, true, false, not, ◌&&◌, ◌||◌, ◌==◌, T, List, [], ◌∷◌, length, nat_le, leb-false, le→leb, eqb→eq, is_some}
-use Rattle.std.specs.FinMap.Entries.{find}
-use Rattle.pk_base.specs.Entry.{Entry}
-use Rattle.pk_base.specs.Key.{Key, key_cmp}
+use Rattle.std.proofs.Common.{◌≡◌, ℕ, ◌<◌, sym, ap, subst, ◌∙◌, arith, false, nat_le}
 use Rattle.pk_base.specs.Map.{Map}
-use Rattle.pk_base.specs.Shape.{Shape, IsShape, buffer, page_entries}
-use Rattle.pk_base.specs.Page.{Flash}
+use Rattle.pk_base.specs.Shape.{Shape, IsShape, page_entries}
 use Rattle.pk_nand.specs.BoardState.{BoardState}
-use Rattle.pk_buf.specs.Table.{Table}
-use Rattle.pk_jrn.specs.Epochs.{left_of}
-use Rattle.pk_model.proofs.ValueSets.{is_true}
 use Rattle.pk_model.specs.Wear.{roots, is_worn}
-use Rattle.pk_log.specs.State.{needs_freeze}
 use Rattle.pk_core.specs.Parts.{Parts}
 use Rattle.pk_core.specs.Moves.{StandsFor, KeepsAll}
 

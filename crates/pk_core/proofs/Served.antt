@@ -23,7 +23,7 @@ use Rattle.pk_model.specs.Answer.{early, first_of, check, late_of, success, map_
 use Rattle.pk_model.specs.Bounds.{most_reads}
 use Rattle.pk_model.specs.Run.{Step}
 use Rattle.pk_model.specs.Sight.{Sight}
-use Rattle.pk_model.proofs.Answering.{serves, refuses_late, store_sized, key_sized, IsKeyLength}
+use Rattle.pk_model.proofs.Answering.{serves, refuses_late, store_sized}
 use Rattle.pk_model.proofs.Machines.{store_check, store_late, live_stored}
 use Rattle.pk_data.specs.State.{needs_reclaim}
 use Rattle.pk_nand.specs.Effects.{NoFault, OnlyFlash}

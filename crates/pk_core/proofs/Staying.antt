@@ -1,5 +1,5 @@
 -- What of a drive stays in steps in a row.
-use Rattle.std.proofs.Common.{◌≡◌, ◌⊎◌, inl, inr, ℕ, ◌+◌, refl, sym, ap, subst, ◌∙◌, arith, List, length, true, Option, Some, None, Result, Ok, Err}
+use Rattle.std.proofs.Common.{◌≡◌, ◌⊎◌, inl, inr, ℕ, ◌+◌, refl, sym, ap, subst, ◌∙◌, arith, List, length, Option, Some, None, Result, Ok, Err}
 use Rattle.std.specs.Prelude.{OnOk, MatchOption}
 use Rattle.pk_base.specs.Shape.{Shape, charge}
 use Rattle.pk_base.specs.Page.{Flash, page_at}
@@ -18,7 +18,6 @@ use Rattle.pk_pool.specs.Taking.{ErasesOne, ErasesNone}
 use Rattle.pk_pool.proofs.Sharing.{count-set, used_adopted}
 use Rattle.pk_log.specs.State.{LogState, pushed}
 use Rattle.pk_log.specs.Commits.{CommitsNone, CommitsAll}
-use Rattle.pk_model.specs.Found.{Found}
 use Rattle.pk_data.specs.State.{DataState, fits_open, more_used, with_written}
 use Rattle.pk_data.specs.Placed.{HoldsValues, IsOpenIn}
 use Rattle.pk_data.specs.declared.open_block.OpenBlock.{OpenBlock}

@@ -1,25 +1,25 @@
 -- A drive that agrees with its flash is steady: its numbers are those of what stands there.
-use Rattle.std.proofs.Common.{◌≡◌, ◌≢◌, inl, inr, ℕ, suc, ◌+◌, ◌*◌, ◌/◌, ◌<◌, ◌≤◌, refl, sym, ap, subst, ◌∙◌, arith, Bool, true, false, T, List, [], ◌∷◌, ◌++◌, length, map, Option, Some, None, Result, Ok, Err}
-use Rattle.std.specs.Prelude.{slice_get, slice_index_or, count_by, MatchOption, OnOk, ◌%◌, ◌&&◌, ◌==◌, nat_le, bytes_eq, zip}
-use Rattle.std.specs.List.{concat, list_all}
-use Rattle.std.proofs.Common.{eqb→eq, div-add-mod', mod-lt}
+use Rattle.std.proofs.Common.{◌≡◌, ◌≢◌, inl, inr, ℕ, ◌+◌, ◌*◌, ◌/◌, ◌<◌, ◌≤◌, refl, sym, ap, subst, ◌∙◌, arith, Bool, true, false, T, List, [], ◌∷◌, ◌++◌, length, map, Option, Some, None, Result, Ok, Err}
+use Rattle.std.specs.Prelude.{slice_get, slice_index_or, count_by, MatchOption, OnOk, ◌%◌}
+use Rattle.std.specs.List.{concat}
+use Rattle.std.proofs.Common.{div-add-mod', mod-lt}
 use Rattle.std.proofs.lemmas.Option.{slice_get_within}
-use Rattle.pk_base.specs.Shape.{Shape, IsShape, page_entries, caps, run_blocks, pinned}
-use Rattle.pk_base.specs.Page.{Flash, page_at}
+use Rattle.pk_base.specs.Shape.{Shape, IsShape, page_entries, pinned}
+use Rattle.pk_base.specs.Page.{Flash}
 use Rattle.pk_base.specs.Entry.{Entry}
 use Rattle.pk_base.specs.Map.{Map}
 use Rattle.pk_base.specs.Firsts.{firsts}
 use Rattle.pk_base.specs.Merge.{next_merge}
 use Rattle.pk_base.proofs.ShapeLemmas.{block_pages_positive}
 use Rattle.pk_buf.specs.Table.{Table}
-use Rattle.pk_rootfmt.specs.Root.{Root, differ, is_root}
+use Rattle.pk_rootfmt.specs.Root.{Root, differ}
 use Rattle.pk_plan.specs.declared.owner.Owner.{Owner}
 use Rattle.pk_plan.specs.declared.owner.Owner.TheVariants.{Journal, Meta, Values}
 use Rattle.pk_pin.specs.Frames.{leased_frames}
 use Rattle.pk_pool.specs.declared.state.BlockState.{BlockState}
 use Rattle.pk_pool.specs.declared.state.BlockState.TheVariants.{Root as RootBlock, Free, Ready, Owned}
 use Rattle.pk_nand.specs.Calls.{IsErasedBlock}
-use Rattle.pk_pool.specs.Blocks.{Blocks, IsShared, is_ready, is_free, is_owned_by, used_by}
+use Rattle.pk_pool.specs.Blocks.{Blocks, IsShared, is_ready, is_owned_by, used_by}
 use Rattle.pk_pool.proofs.States.{ready_is_not_root}
 use Rattle.pk_pool.proofs.Sharing.{behind_roots}
 use Rattle.pk_run.specs.Kept.{Kept, empty}

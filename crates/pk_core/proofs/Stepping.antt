@@ -1,5 +1,5 @@
 -- Background steps in a row.
-use Rattle.std.proofs.Common.{◌≡◌, ◌≢◌, ◌⊎◌, inl, inr, ℕ, ◌+◌, ◌-◌, ◌<◌, ◌≤◌, refl, sym, ap, subst, ◌∙◌, arith, Bool, true, false, List, [], ◌++◌, Option, Some, None, Ok}
+use Rattle.std.proofs.Common.{◌≡◌, ◌≢◌, inl, inr, ℕ, ◌+◌, ◌-◌, ◌<◌, ◌≤◌, refl, sym, ap, subst, ◌∙◌, arith, Bool, true, false, List, [], ◌++◌, Option, Some, None, Ok}
 use Rattle.pk_base.specs.Shape.{Shape, limit}
 use Rattle.std.proofs.lemmas.Bool.{leb-false}
 use Rattle.pk_base.specs.Page.{Flash, page_at}

@@ -4,20 +4,17 @@ use Rattle.std.specs.Prelude.{IfErr, OnOk}
 use Rattle.pk_base.specs.Entry.{Place}
 use Rattle.pk_base.specs.Shape.{Shape, greatest, page_entries}
 use Rattle.pk_base.specs.Key.{Key}
-use Rattle.pk_plan.specs.declared.owner.Owner.TheVariants.{Values}
 use Rattle.pk_nand.specs.declared.types.Fault.{Fault}
 use Rattle.pk_nand.specs.declared.types.Fault.TheVariants.{Stopped}
 use Rattle.pk_nand.specs.BoardState.{BoardState}
 use Rattle.pk_nand.specs.Calls.{IsReady}
 use Rattle.pk_nand.specs.Effects.{Works}
-use Rattle.pk_pool.specs.Blocks.{used_by}
 use Rattle.pk_model.specs.Steps.{RootsUpTo, Step}
-use Rattle.pk_model.proofs.Steps.{Step-none, Step-broken, Step-then}
+use Rattle.pk_model.proofs.Steps.{Step-none, Step-then}
 use Rattle.pk_core.specs.Parts.{Parts, frames_of}
 use Rattle.pk_core.specs.Moves.{KeepsAll, BreaksAll, MayStep, StepKeeps, OnlyCommits, LeavesValues}
 use Rattle.pk_core.specs.Emptying.{StepOrRead, KeepsOrReads, OnRunning}
 use Rattle.pk_core.specs.Changes.{PutsAll, FailsToPut, TakesAll, FailsToTake, CanPut, CanTake, StepPuts, StepTakes, PutsOrReads, TakesOrReads, StaysBetween}
-use Rattle.pk_core.proofs.Results.{on_ok}
 use Rattle.pk_core.proofs.Keeping.{KeepsAll-none, KeepsAll-then, BreaksAll-then}
 use Rattle.pk_core.proofs.Rooming.{stands_after}
 use Rattle.pk_core.proofs.Putting.{some_may_put, some_may_take, reclaim_same, put_broken, take_broken, puts_later, fails_later, takes_later, fails_to_take_later}

@@ -1,4 +1,4 @@
-use Rattle.std.proofs.Common.{ap, sym, ◌∙◌, ◌-◌, [], refl, subst, arith, false, ℕ}
+use Rattle.std.proofs.Common.{ap, sym, ◌-◌, [], refl, subst, arith, false, ℕ}
 use Rattle.pk_nvme.specs.Seen.{command_of}
 use Rattle.pk_drive.specs.declared.types.Outcome.{Outcome}
 use Rattle.pk_core.specs.Parts.{Parts}

@@ -8,11 +8,11 @@ use Rattle.pk_core.specs.Programming.{PutsQuietly, ReadsQuietly}
 use Rattle.pk_core.specs.Serving.{pages_at}
 use Rattle.pk_core.specs.Staying.{StaysOrOpens, IsNoted}
 use Rattle.pk_core.proofs.Amounts.{room_few}
-use Rattle.pk_core.proofs.Came.{told_reads, told_none, came_running, came_served}
+use Rattle.pk_core.proofs.Came.{came_running, came_served}
 use Rattle.pk_core.proofs.Executing.{executes_quiet}
 use Rattle.pk_core.proofs.Programming.{programs_whole}
 use Rattle.pk_core.proofs.Served.{short_place, can_put, store_refused, store_came, none_read}
-use Rattle.pk_core.proofs.Staying.{stays_same, stays_opens, opens_whole}
+use Rattle.pk_core.proofs.Staying.{opens_whole}
 use Rattle.pk_core.proofs.Statuses.{told_refused, store_refuses}
 use Rattle.pk_core.proofs.drive.Drive.store_over.Goals as goal
 
