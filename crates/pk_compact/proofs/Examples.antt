@@ -1,15 +1,11 @@
 -- A flash that was just formatted may be frozen.
-use Rattle.std.proofs.Common.{◌≡◌, inl, inr, ℕ, zero, suc, ◌<◌, [], ◌∷◌, replicate, Option, Some, None, Result, Ok, false, refl, sym, ap, subst, ◌∙◌, arith, slice_set}
-use Rattle.std.specs.Prelude.{slice_get, MatchOption}
+use Rattle.std.proofs.Common.{◌≡◌, inl, inr, ℕ, [], ◌∷◌, replicate, Some, Ok, false, refl, sym, subst, arith, slice_set}
+use Rattle.std.specs.Prelude.{slice_get}
 use Rattle.std.specs.FinMap.{from_entries}
-use Rattle.pk_base.specs.Shape.{Shape, page_count, checked, deepest, meta_blocks, limit, data_blocks, charge, greatest}
-use Rattle.pk_base.specs.declared.shape.ShapeError.{ShapeError}
+use Rattle.pk_base.specs.Shape.{Shape, checked, deepest, meta_blocks, limit, data_blocks, charge, greatest}
 use Rattle.pk_base.specs.Page.{Flash, page_at, erased, whole}
 use Rattle.pk_base.specs.Map.{Map}
 use Rattle.pk_plan.specs.declared.owner.Owner.TheVariants.{Journal}
-use Rattle.pk_nand.specs.BoardState.{BoardState}
-use Rattle.pk_nand.specs.Calls.{InOrder}
-use Rattle.pk_nand.specs.Erased.{after_reads}
 use Rattle.pk_jrnfmt.specs.Epoch.{epoch}
 use Rattle.pk_meta.specs.Run.{run}
 use Rattle.pk_rootfmt.specs.Root.{Root, root_bytes, root_page}
@@ -19,11 +15,12 @@ use Rattle.pk_model.specs.Found.{Found, found_under, runs_from}
 use Rattle.pk_model.specs.Values.{values_of}
 use Rattle.pk_model.specs.Reading.{map_under}
 use Rattle.pk_pool.specs.declared.state.BlockState.TheVariants.{Free, Ready, Owned}
-use Rattle.pk_pool.specs.Blocks.{Blocks, used_by, unused, with_state, IsSpare, PoolOnFlash}
+use Rattle.pk_pool.specs.Blocks.{Blocks, unused, with_state, IsSpare, PoolOnFlash}
 use Rattle.pk_root.specs.declared.next.Next.{Next}
 use Rattle.pk_root.specs.Installing.{InstallerOnFlash}
 use Rattle.pk_steps.proofs.Places.{In}
-use Rattle.pk_compact.specs.Freezing.{MayFreeze}
+use Rattle.pk_compact.specs.declared.freezing.FreezeJob.TheVariants.{Idle}
+use Rattle.pk_compact.specs.FreezeSteps.{IsFreezing}
 
 abbrev pub small : Shape
 small = record { page_bytes = 512; block_pages = 16; blocks = 64 }
@@ -83,7 +80,7 @@ is_owned b (inr (inr none)) = absurd none
 abbrev top : ℕ × Root
 top = (0, first)
 
-made_may : (next : Next) → PoolOnFlash adopted made → InstallerOnFlash small next top made → MayFreeze adopted (record { shape = small; root = first }) next made false top nothing empty
+made_may : (next : Next) → PoolOnFlash adopted made → InstallerOnFlash small next top made → IsFreezing adopted (record { shape = small; root = first }) next Idle made false top nothing empty
 made_may next pool_fits installs = record {
   pool_shape = refl;
   pool_fits = pool_fits;
@@ -97,17 +94,19 @@ made_may next pool_fits installs = record {
   room = omega arith;
   owned = is_owned;
   apart = record { unnamed = not_named; no_value = λ b k spare e is. is };
+  taken = tt;
+  different = refl;
 }
 
 pub first_may : (pool : Blocks) (root : Held) (next : Next) (flash : Flash) → root ≡ record { shape = small; root = first } → flash ≡ made → pool ≡ adopted → PoolOnFlash pool flash → InstallerOnFlash root.shape next (0, first) flash
-    → (x : ℕ × Root) × (f : Found) × (m : Map) × MayFreeze pool root next flash false x f m
+    → (x : ℕ × Root) × (f : Found) × (m : Map) × IsFreezing pool root next Idle flash false x f m
 first_may pool root next flash root_is flash_is pool_is pool_fits installs =
     let P : Blocks → Type 0 = λ p. PoolOnFlash p flash in
     let Q : Flash → Type 0 = λ f. PoolOnFlash adopted f in
     let R : Held → Type 0 = λ h. InstallerOnFlash h.shape next (0, first) flash in
     let S : Flash → Type 0 = λ f. InstallerOnFlash small next (0, first) f in
     let may = made_may next (subst Q flash_is (subst P pool_is pool_fits)) (subst S flash_is (subst R root_is installs)) in
-    let A : Blocks → Type 0 = λ p. MayFreeze p (record { shape = small; root = first }) next made false top nothing empty in
-    let B : Held → Type 0 = λ h. MayFreeze pool h next made false top nothing empty in
-    let C : Flash → Type 0 = λ f. MayFreeze pool root next f false top nothing empty in
+    let A : Blocks → Type 0 = λ p. IsFreezing p (record { shape = small; root = first }) next Idle made false top nothing empty in
+    let B : Held → Type 0 = λ h. IsFreezing pool h next Idle made false top nothing empty in
+    let C : Flash → Type 0 = λ f. IsFreezing pool root next Idle f false top nothing empty in
     (top, nothing, empty, subst C (sym flash_is) (subst B (sym root_is) (subst A (sym pool_is) may)))

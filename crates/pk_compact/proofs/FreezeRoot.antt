@@ -1,5 +1,5 @@
 -- A freeze that has both blocks: the erase before its root, and the program of the root.
-use Rattle.std.proofs.Common.{◌≡◌, ◌≢◌, ◌⊎◌, inl, inr, ℕ, ◌+◌, ◌*◌, ◌/◌, ◌<◌, ◌≤◌, List, [], ◌∷◌, ◌++◌, T, Bool, true, false, not, slice_index, length, Some, if◌then◌else◌, refl, sym, ap, subst, ◌∙◌, arith, mul-le-mul_right}
+use Rattle.std.proofs.Common.{◌≡◌, ◌≢◌, ◌⊎◌, inl, inr, ℕ, ◌+◌, ◌*◌, ◌/◌, ◌<◌, ◌≤◌, List, [], ◌∷◌, ◌++◌, T, Bool, true, false, slice_index, length, Some, if◌then◌else◌, refl, sym, ap, subst, ◌∙◌, arith, mul-le-mul_right}
 use Rattle.std.specs.Prelude.{slice_get}
 use Rattle.std.specs.List.{concat}
 use Rattle.pk_base.specs.Shape.{Shape, IsShape}
@@ -31,12 +31,11 @@ use Rattle.pk_steps.proofs.Untouched.{values_under}
 use Rattle.pk_steps.proofs.Places.{In, in_append}
 use Rattle.pk_compact.specs.Freezing.{IsApart, AreTwo, given_back}
 use Rattle.pk_compact.specs.Steps.{next_root}
-use Rattle.pk_compact.specs.declared.freezing.FreezeJob.{FreezeJob}
 use Rattle.pk_compact.specs.declared.freezing.FreezeJob.TheVariants.{Idle, HasTwo}
 use Rattle.pk_compact.specs.Installing.{IsPrepared, CanPrepare, CanInstall, IsInstalled}
-use Rattle.pk_compact.specs.FreezeSteps.{IsFreezing, IsTaken, AreOwned, FreezeGoesOn, FreezeInstalled, freeze_left}
+use Rattle.pk_compact.specs.FreezeSteps.{IsFreezing, IsTaken, AreOwned, FreezeGoesOn, FreezeInstalled}
 use Rattle.pk_compact.proofs.Apart.{owned_not_spare, spare_back}
-use Rattle.pk_compact.proofs.Frozen.{two_are, two_same, turned}
+use Rattle.pk_compact.proofs.Pairs.{two_are, two_same, turned}
 use Rattle.pk_compact.proofs.Grammar.{next_is_root}
 use Rattle.pk_compact.proofs.Installing.{epoch_erased, erased_behind}
 use Rattle.pk_compact.proofs.TakingOne.{all_more, is_shape, valid, grammar, spare_behind}

@@ -3,7 +3,7 @@ pub mod Installing
 pub mod Grammar
 pub mod Apart
 pub mod Numbering
-pub mod Frozen
+pub mod Pairs
 pub mod Examples
 pub mod NextRoot
 pub mod Growing
@@ -13,4 +13,3 @@ pub mod FreezeStepping
 pub mod MergeRoot
 pub mod Freed
 pub mod Touching
-pub mod Scheduling

@@ -32,7 +32,7 @@ use Rattle.pk_steps.specs.Under.{IsUnder}
 use Rattle.pk_steps.specs.Next.{IsNext}
 use Rattle.pk_steps.proofs.Untouched.{under_reads}
 use Rattle.pk_steps.proofs.Standing.{installed, installs}
-use Rattle.pk_compact.specs.Installing.{CanPrepare, IsPrepared, Prepares, PrepareBreaks, CanInstall, IsInstalled}
+use Rattle.pk_compact.specs.Installing.{CanPrepare, Prepares, PrepareBreaks, CanInstall, IsInstalled}
 use Rattle.pk_compact.proofs.Installing.{other_reaches, other_goes, other_under, other_behind}
 use Rattle.pk_compact.proofs.Numbering.{same_newest, last_number}
 

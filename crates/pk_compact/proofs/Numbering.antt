@@ -1,5 +1,5 @@
 -- The number of the newest root, where a freeze failed.
-use Rattle.std.proofs.Common.{◌≡◌, ◌⊎◌, inl, inr, ℕ, ◌+◌, ◌/◌, ◌≤◌, refl, ap, subst, ◌∙◌, arith, Some}
+use Rattle.std.proofs.Common.{◌≡◌, ◌⊎◌, inl, inr, ℕ, ◌+◌, ◌/◌, ◌≤◌, refl, ap, subst, arith, Some}
 use Rattle.pk_base.specs.Shape.{Shape, IsShape}
 use Rattle.pk_base.specs.Page.{Flash, page_at}
 use Rattle.pk_base.specs.Mark.{erase, all_posted}
@@ -10,14 +10,11 @@ use Rattle.pk_nand.proofs.Writing.{shape_is}
 use Rattle.pk_rootfmt.specs.Root.{Root}
 use Rattle.pk_rootfmt.specs.Newest.{newest_root}
 use Rattle.pk_model.proofs.SamePages.{newest_root_same}
-use Rattle.pk_pool.specs.Blocks.{Blocks, IsSpare}
 use Rattle.pk_root.specs.declared.next.Next.{Next}
-use Rattle.pk_root.specs.Installing.{KeepsRoot, FailsToInstall, FailsToErase}
+use Rattle.pk_root.specs.Installing.{FailsToInstall, FailsToErase}
 use Rattle.pk_root.specs.Laws.{SameFront}
 use Rattle.pk_model.specs.Wear.{root_number}
-use Rattle.pk_model.proofs.Growing.{at_end}
-use Rattle.pk_compact.specs.Steps.{FailsToTake, FailsToFinish, MayEraseOther}
-use Rattle.pk_compact.proofs.Taking.{leaves_others, not_behind, still_ready}
+use Rattle.pk_compact.proofs.Taking.{not_behind}
 
 pub same_newest : (shape : Shape) (old new : Flash) → newest_root shape (page_at new) ≡ newest_root shape (page_at old) → root_number shape new ≡ root_number shape old
 unfolding root_number
@@ -40,18 +37,7 @@ module _ (shape : Shape) (is_shape : IsShape shape) (block : ℕ) (behind : 2 �
     | inr same ↦ ap (λ (f : Flash). page_at f k) same.0
   ]
 
-pub take_number : (shape : Shape) → IsShape shape → (pool : Blocks) (old new : BoardState) → IsReady old shape → ((b : ℕ) → IsSpare pool b → 2 ≤ b) → FailsToTake pool old new → root_number shape new.pages ≡ root_number shape old.pages
-take_number shape is_shape pool old new ready spare_behind f =
-    let there = still_ready shape f.first old f.between f.first_taken ready is_shape in
-    same_front shape old.pages new.pages (λ k low.
-    failed_front shape is_shape f.second (spare_behind f.second f.second_spare) f.between new there f.failed k low
-    ∙ leaves_others shape f.first old f.between f.first_taken ready k (not_behind shape f.first k is_shape (spare_behind f.first f.first_spare) low))
-
 -- ---- an install
-
-prepared_number : (shape : Shape) (next next' : Next) (old new : BoardState) → MayEraseOther shape next old next' new → root_number shape new.pages ≡ root_number shape old.pages
-prepared_number shape next next' old new (inl same) = ap (λ (s : BoardState). root_number shape s.pages) same.1
-prepared_number shape next next' old new (inr e) = same_newest shape old.pages new.pages (at_end e.cuts.0 old new (λ cut _. KeepsRoot shape old.pages cut) e.cuts.1).newest
 
 pub last_number : (shape : Shape) (root : Root) (next : Next) (old new : BoardState) → root.number ≤ root_number shape old.pages + 1 → FailsToInstall shape root next old new ⊎ FailsToErase shape next old new
     → root_number shape new.pages ≤ root_number shape old.pages + 1
@@ -60,10 +46,3 @@ last_number shape root next old new few (inl f) = elim (f.cuts.1.cuts new.pages 
   | inr is ↦ (let e = is_newest shape new.pages f.page root is in omega (arith, e, few))
 ]
 last_number shape root next old new few (inr f) = let e = same_newest shape old.pages new.pages (f.cuts.1.cuts new.pages (all_posted f.cuts.0) f.cuts.1.stands).newest in omega (arith, e)
-
-pub finish_number : (shape : Shape) (root : Root) (next : Next) (old new : BoardState) → root.number ≤ root_number shape old.pages + 1 → FailsToFinish shape root next old new
-    → root_number shape new.pages ≤ root_number shape old.pages + 1
-finish_number shape root next old new few i =
-    let before = prepared_number shape next i.then_next old i.between i.prepared in
-    let after = last_number shape root i.then_next i.between new (omega (arith, few, before)) i.failed in
-    omega (arith, after, before)

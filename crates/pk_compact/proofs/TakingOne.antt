@@ -1,5 +1,5 @@
 -- A freeze takes one block more.
-use Rattle.std.proofs.Common.{◌≡◌, inl, inr, ℕ, ◌+◌, ◌-◌, ◌/◌, ◌<◌, ◌≤◌, List, [], ◌∷◌, ◌++◌, T, Bool, true, false, not, length, Some, refl, sym, ap, subst, ◌∙◌, arith, length-append, eqb→eq}
+use Rattle.std.proofs.Common.{◌≡◌, inl, inr, ℕ, ◌+◌, ◌/◌, ◌<◌, ◌≤◌, List, [], ◌∷◌, ◌++◌, T, Bool, true, false, not, length, Some, refl, sym, ap, subst, ◌∙◌, arith, length-append, eqb→eq}
 use Rattle.std.specs.Prelude.{slice_get, ◌&&◌, ◌||◌, ◌==◌}
 use Rattle.std.specs.List.{AllByRecursion}
 use Rattle.pk_base.specs.Shape.{Shape, IsShape}
@@ -30,14 +30,14 @@ use Rattle.pk_root.specs.Laws.{SameFront}
 use Rattle.pk_root.proofs.Places.{InstallerOnFlash-by_same}
 use Rattle.pk_steps.proofs.Places.{In}
 use Rattle.pk_compact.specs.Freezing.{IsApart}
-use Rattle.pk_compact.specs.Steps.{AtMostErases, FailsToTake}
+use Rattle.pk_compact.specs.Steps.{AtMostErases}
 use Rattle.pk_compact.specs.declared.freezing.FreezeJob.{FreezeJob}
 use Rattle.pk_compact.specs.FreezeSteps.{IsFreezing, IsTaken, FreezeGoesOn, taken_by, install_steps, freeze_left}
-use Rattle.pk_compact.proofs.Taking.{spare_before, leaves_others, not_behind, take_reaches, take_under, failed_goes, erased_stays}
+use Rattle.pk_compact.proofs.Taking.{spare_before, leaves_others, not_behind, take_reaches, take_under, take_goes as erase_goes, erased_stays}
 use Rattle.pk_compact.proofs.Grammar.{Known, known}
-use Rattle.pk_compact.proofs.Numbering.{same_front, take_number}
+use Rattle.pk_compact.proofs.Numbering.{same_front, failed_front}
 use Rattle.pk_compact.proofs.Apart.{owned_not_spare}
-use Rattle.pk_compact.proofs.Frozen.{still_owned}
+use Rattle.pk_compact.proofs.Pairs.{still_owned}
 
 -- a spare block is the journal's once it was taken
 now_owned : (pool : Blocks) (b : ℕ) → IsSpare pool b → slice_get (with_state pool b (Owned Journal)).states b ≡ Some (Owned Journal)
@@ -94,14 +94,13 @@ module _ (pool : Blocks) (root : Held) (next : Next) (job : FreezeJob) (has_entr
   apart_top = let P : Root → Type 0 = λ r. IsApart root.shape pool r found in subst P (sym is.top_is) is.apart
 
   -- a failed erase of a spare block
-  pub fails : (new : BoardState) → FailsToErase pool old new → FailsToTake pool old new
-  fails new f = record { first = f.block; second = f.block; between = old; first_spare = inl f.lowest.here; second_spare = inl f.lowest.here; first_taken = inl refl; failed = f.failed }
-
   pub take_goes : (new : BoardState) → FailsToErase pool old new → Goes root.shape old new (CrashFinds root.shape background old.pages m)
-  take_goes new f = failed_goes root.shape is_shape pool old new ready top found m is.under apart_top spare_behind (fails new f)
+  take_goes new f =
+      let spare : IsSpare pool f.block = inl f.lowest.here in
+      erase_goes root.shape is_shape top found m f.block (spare_behind f.block spare) (apart_top.unnamed f.block spare) (λ k. apart_top.no_value f.block k spare) old ready is.under new f.failed
 
   pub take_failed_number : (new : BoardState) → FailsToErase pool old new → root_number root.shape new.pages ≡ root_number root.shape old.pages
-  take_failed_number new f = take_number root.shape is_shape pool old new ready spare_behind (fails new f)
+  take_failed_number new f = same_front root.shape old.pages new.pages (failed_front root.shape is_shape f.block (spare_behind f.block (inl f.lowest.here)) old new ready f.failed)
 
   module _ (few : length (taken_by job) < 2) (b : ℕ) (new : BoardState) (taken : AtMostErases b old new) (spare : IsSpare pool b) (place : (2 ≤ b) × (b < pool.shape.blocks)) (is_erased : IsErasedBlock pool.shape new.pages b) where
     front : SameFront root.shape old.pages new.pages

@@ -4,5 +4,3 @@ pub mod Installing
 pub mod FreezeSteps
 pub mod Merging
 pub mod Laws
-pub mod MergeJob
-pub mod Scheduling

@@ -8,7 +8,7 @@ ghost use Rattle.pk_pool.specs.declared.state.BlockState.TheVariants.{Owned};
 ghost use Rattle.pk_pool.specs.Blocks.{used_by, with_state, IsSpare, PoolOnFlash};
 ghost use Rattle.pk_pool.specs.Taking.{FailsToErase};
 ghost use Rattle.pk_compact.specs.Freezing.{given_back};
-ghost use Rattle.pk_compact.specs.Steps.{AtMostErases, TakesTwo, FailsToTake};
+ghost use Rattle.pk_compact.specs.Steps.{AtMostErases};
 
 use pk_nand::{Fault, Nand};
 use pk_pool::{Owner, Pool};
@@ -41,38 +41,6 @@ pub(crate) fn take_block<B: Nand, A: Allocator>(
     pool.known();
     match pool.take(board, Owner::Journal) {
         Ok(block) => Ok(block as u16),
-        Err(fault) => Err(fault),
-    }
-}
-
-/// Takes two blocks for an epoch, each by at most one erase. `Stopped` where an erase fails.
-pub(crate) fn take_two<B: Nand, A: Allocator>(
-    board: &mut B,
-    pool: &mut Pool<A>,
-) -> Result<[u16; 2], Fault>
-    requires room { used_by Journal pool.old.states ≤ 2 }
-    requires ready { IsReady (B.state board.old) pool.old.shape }
-    requires fits { PoolOnFlash pool.old (B.state board.old).pages }
-
-    // Two blocks, each Erased.
-    ensures taken { IfOk result (λ blocks. TakesTwo pool.old (B.state board.old) blocks pool.new
-        (B.state board.new)) }
-
-    // Or an erase failed.
-    ensures stopped { IfErr result (λ e. e ≡ Stopped) }
-    ensures failed { OnErr result (FailsToTake pool.old (B.state board.old) (B.state board.new)) }
-
-    // Either way the pool and the flash agree.
-    ensures ready { IsReady (B.state board.new) pool.new.shape }
-    ensures fits { PoolOnFlash pool.new (B.state board.new).pages }
-    ensures shape { pool.new.shape ≡ pool.old.shape }
-{
-    pool.known();
-    match pool.take(board, Owner::Journal) {
-        Ok(first) => match pool.take(board, Owner::Journal) {
-            Ok(second) => Ok([first as u16, second as u16]),
-            Err(fault) => Err(fault),
-        },
         Err(fault) => Err(fault),
     }
 }

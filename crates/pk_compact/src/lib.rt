@@ -4,21 +4,14 @@
 #![tactic(auto)]
 
 mod blocks;
-mod epoch;
 mod freezing;
-mod install;
 mod laws;
 mod merge;
-mod merger;
 mod next;
 mod roots;
-mod schedule;
 
 pub use blocks::give_back;
-pub use epoch::freeze;
 pub use freezing::{FreezeJob, freeze_step};
 pub use laws::{merged, unread};
 pub use merge::install_merge;
-pub use merger::Merger;
 pub use roots::{install_root, prepare_root};
-pub use schedule::{Phase, Stepped, merge_step};

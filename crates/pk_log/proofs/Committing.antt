@@ -1,17 +1,16 @@
 -- What a commit leaves of a log and of a flash, cut or not.
-use Rattle.std.proofs.Common.{◌≡◌, ◌≢◌, inl, inr, ℕ, ◌+◌, ◌<◌, ◌≤◌, refl, sym, ap, subst, ◌∙◌, arith, List, [], ◌++◌, length, Some, Ok, append-nil}
+use Rattle.std.proofs.Common.{◌≡◌, ◌≢◌, inl, ℕ, ◌+◌, ◌<◌, ◌≤◌, refl, sym, ap, subst, ◌∙◌, arith, List, [], ◌++◌, length, Some, Ok, append-nil}
 use Rattle.pk_base.specs.Shape.{Shape, buffer, epoch_pages}
 use Rattle.pk_base.specs.Page.{Page, Flash, page_at, erased, whole, page_in}
 use Rattle.pk_base.specs.Firsts.{firsts}
 use Rattle.pk_base.specs.Map.{Map}
 use Rattle.pk_base.specs.Mark.{program, after}
 use Rattle.pk_base.proofs.ShapeLemmas.{block_pages_positive}
-use Rattle.pk_nand.specs.BoardState.{BoardState, shape_of}
+use Rattle.pk_nand.specs.BoardState.{BoardState}
 use Rattle.pk_nand.specs.Cut.{Interrupted}
 use Rattle.pk_nand.specs.Calls.{IsReady, after_program, ProgramFailed}
 use Rattle.pk_nand.proofs.Leaving.{page_at-slice_set}
 use Rattle.pk_nand.proofs.Reaching.{Reached-start}
-use Rattle.pk_nand.proofs.Writing.{shape_is}
 use Rattle.pk_jrnfmt.specs.Page.{journal_entries}
 use Rattle.pk_jrnfmt.specs.Epoch.{epoch}
 use Rattle.pk_rootfmt.specs.Root.{Root}

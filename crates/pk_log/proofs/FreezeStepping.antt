@@ -1,6 +1,5 @@
 -- A step of a freeze of a log.
-use Rattle.std.proofs.Common.{◌≡◌, ◌≢◌, ℕ, zero, suc, ◌-◌, ◌+◌, ◌*◌, ◌/◌, ◌<◌, ◌≤◌, refl, sym, ap, subst, ◌∙◌, arith, Bool, true, false, not, ◌==◌, List, [], ◌∷◌, ◌++◌, length, reverse, nat_lt, slice_index, if◌then◌else◌, append-nil, Some, mul-le-mul_right}
-use Rattle.std.specs.Prelude.{slice_get}
+use Rattle.std.proofs.Common.{◌≡◌, ℕ, ◌-◌, ◌+◌, ◌*◌, ◌/◌, ◌<◌, ◌≤◌, refl, sym, ap, subst, ◌∙◌, arith, Bool, true, false, not, ◌==◌, List, [], ◌∷◌, ◌++◌, length, reverse, nat_lt, slice_index, if◌then◌else◌, append-nil, mul-le-mul_right}
 use Rattle.std.specs.List.{concat}
 use Rattle.std.proofs.lemmas.Nat.{div-mul-add}
 use Rattle.pk_base.specs.Shape.{Shape}
@@ -8,7 +7,6 @@ use Rattle.pk_base.specs.Page.{Flash, page_at}
 use Rattle.pk_base.specs.Entry.{Entry}
 use Rattle.pk_base.specs.Firsts.{firsts}
 use Rattle.pk_base.specs.Map.{Map}
-use Rattle.pk_base.proofs.ShapeLemmas.{block_pages_positive}
 use Rattle.pk_work.specs.Rest.{Lowers}
 use Rattle.pk_plan.specs.declared.owner.Owner.TheVariants.{Journal}
 use Rattle.pk_nand.specs.BoardState.{BoardState}
@@ -24,7 +22,7 @@ use Rattle.pk_jrn.proofs.Puts.{firsts-reverse}
 use Rattle.pk_model.specs.Found.{Found}
 use Rattle.pk_model.proofs.Commits.{blocks_of_root, member}
 use Rattle.pk_model.proofs.SamePages.{any_front}
-use Rattle.pk_pool.specs.declared.state.BlockState.TheVariants.{Free, Owned}
+use Rattle.pk_pool.specs.declared.state.BlockState.TheVariants.{Free}
 use Rattle.pk_pool.specs.Blocks.{Blocks, PoolOnFlash, with_state}
 use Rattle.pk_pool.specs.Unready.{unready}
 use Rattle.pk_pool.proofs.Counting.{given_back}
@@ -36,14 +34,12 @@ use Rattle.pk_steps.proofs.UnderRoot.{none_named}
 use Rattle.pk_compact.specs.Freezing.{IsApart, given_back as back}
 use Rattle.pk_compact.specs.FreezeSteps.{IsFreezing, IsTaken, AreOwned, FreezeGoesOn, FreezeInstalled, FreezeSteps, taken_by, freeze_left}
 use Rattle.pk_compact.specs.declared.freezing.FreezeJob.{FreezeJob}
-use Rattle.pk_compact.specs.declared.freezing.FreezeJob.TheVariants.{HasTwo}
 use Rattle.pk_compact.proofs.TakingOne.{all_in}
-use Rattle.pk_compact.proofs.Frozen.{two_are, two_same}
+use Rattle.pk_compact.proofs.Pairs.{two_are, two_same}
 use Rattle.pk_log.specs.State.{LogState}
 use Rattle.pk_log.specs.Logs.{LogOnFlash}
-use Rattle.pk_log.specs.Freezes.{begun}
-use Rattle.pk_log.specs.FreezeSteps.{CanStep, LogGoesOn, LogFrozen}
-use Rattle.pk_log.proofs.Freezing.{none_of_firsts, tells_some, two_erased}
+use Rattle.pk_log.specs.FreezeSteps.{begun, CanStep, LogGoesOn, LogFrozen}
+use Rattle.pk_log.proofs.Buffers.{none_of_firsts, tells_some, two_erased}
 
 -- what a step did, by its answer
 module _ (pool : Blocks) (held : Held) (next : Next) (job : FreezeJob) (old : BoardState) (has_entries : Bool) (pool' : Blocks) (root' : Held) (next' : Next) (job' : FreezeJob) (new : BoardState) (answer : Bool)

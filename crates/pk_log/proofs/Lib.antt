@@ -1,7 +1,7 @@
 pub mod Standing
 pub mod Pushing
 pub mod Committing
-pub mod Freezing
+pub mod Buffers
 pub mod FreezeStepping
 pub mod Merging
 pub mod Examples

@@ -1,12 +1,11 @@
 -- The install of a merge over a log.
-use Rattle.std.proofs.Common.{◌≡◌, ℕ, ◌-◌, ◌+◌, ◌*◌, ◌<◌, ◌≤◌, refl, sym, ap, subst, ◌∙◌, arith, Bool, true, false, List, [], ◌++◌, length, slice_index, ◌==◌, if◌then◌else◌, mul-le-mul_right}
+use Rattle.std.proofs.Common.{◌≡◌, ℕ, ◌*◌, ◌≤◌, refl, sym, ap, subst, ◌∙◌, arith, Bool, true, false, List, [], slice_index, ◌==◌, if◌then◌else◌, mul-le-mul_right}
 use Rattle.pk_base.specs.Shape.{Shape}
 use Rattle.pk_base.specs.Page.{Flash, page_at}
 use Rattle.pk_base.specs.Entry.{Entry}
 use Rattle.pk_base.specs.Map.{Map}
 use Rattle.pk_nand.specs.BoardState.{BoardState}
 use Rattle.pk_rootfmt.specs.Root.{Root}
-use Rattle.pk_rootfmt.specs.Held.{Held}
 use Rattle.pk_root.specs.declared.next.Next.{Next}
 use Rattle.pk_root.specs.Installing.{SameBehind}
 use Rattle.pk_buf.specs.Table.{Table}
@@ -16,7 +15,6 @@ use Rattle.pk_jrn.specs.Replays.{buffer_of}
 use Rattle.pk_jrn.proofs.Places.{EpochOnFlash-same}
 use Rattle.pk_model.specs.Found.{Found}
 use Rattle.pk_model.proofs.Commits.{blocks_of_root}
-use Rattle.pk_steps.specs.Merging.{merged_root, merged_found}
 use Rattle.pk_steps.proofs.NewestBlocks.{valid_root}
 use Rattle.pk_compact.specs.Installing.{CanPrepare, IsPrepared}
 use Rattle.pk_compact.specs.Merging.{CanMerge, HasMerged}

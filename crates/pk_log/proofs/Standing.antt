@@ -1,14 +1,12 @@
 -- A log and the flash that it stands on.
-use Rattle.std.proofs.Common.{◌≡◌, inl, inr, ℕ, ◌+◌, ◌-◌, ◌*◌, ◌/◌, ◌<◌, ◌≤◌, refl, sym, ap, subst, ◌∙◌, arith, Bool, true, false, ◌&&◌, ◌||◌, T, List, ◌++◌, length, nat_le, nat_lt, slice_index, ◌==◌, Some, append-nil}
-use Rattle.std.specs.List.{list_all, concat}
+use Rattle.std.proofs.Common.{◌≡◌, inl, inr, ℕ, ◌+◌, ◌-◌, ◌*◌, ◌/◌, ◌<◌, ◌≤◌, refl, sym, ap, subst, ◌∙◌, arith, T, List, ◌++◌, length, slice_index, append-nil}
+use Rattle.std.specs.List.{concat}
 use Rattle.std.proofs.lemmas.Nat.{div-mul-add}
-use Rattle.std.proofs.lemmas.Bool.{ltb-true}
 use Rattle.pk_base.specs.Shape.{Shape, IsShape}
-use Rattle.pk_base.specs.Page.{Page, Flash, page_at, page_in}
+use Rattle.pk_base.specs.Page.{Flash, page_at, page_in}
 use Rattle.pk_base.proofs.ShapeLemmas.{block_pages_positive}
-use Rattle.pk_rootfmt.specs.Root.{Root, named, is_root, is_number, has_runs, differ}
+use Rattle.pk_rootfmt.specs.Root.{Root, named, is_root}
 use Rattle.pk_rootfmt.specs.Held.{Held}
-use Rattle.pk_rootfmt.specs.Newest.{newest_root}
 use Rattle.pk_root.proofs.Places.{InstallerOnFlash-after, InstallerOnFlash-by_same}
 use Rattle.pk_buf.specs.Table.{Table}
 use Rattle.pk_jrn.specs.Epochs.{JournalEpoch, AreBlocks}
@@ -17,10 +15,9 @@ use Rattle.pk_jrn.specs.Replays.{buffer_of}
 use Rattle.pk_jrn.proofs.Places.{EpochOnFlash-same}
 use Rattle.pk_model.specs.Found.{Found, found_under}
 use Rattle.pk_model.specs.Laws.{AnyByRecursion}
-use Rattle.pk_model.proofs.Roots.{newest_sound}
 use Rattle.pk_model.proofs.SamePages.{newest_root_same, found_same, in_some_block, agree_runs, any_front, any_back, any_in_concat}
 use Rattle.pk_steps.proofs.NewestBlocks.{newest_exist, newest_differ, valid_root}
-use Rattle.pk_model.proofs.Commits.{right_part, all_at, all_front, root_valid, blocks_of_root, differ_front, injective, member}
+use Rattle.pk_model.proofs.Commits.{blocks_of_root, member}
 use Rattle.pk_log.specs.State.{LogState, opened}
 use Rattle.pk_log.specs.Logs.{LogOnFlash, Opens}
 use Rattle.pk_log.specs.Laws.{SameNamed, LogsElsewhere}

@@ -7,7 +7,9 @@ use Rattle.pk_work.specs.Rest.{Lowers}
 use Rattle.pk_plan.specs.declared.owner.Owner.TheVariants.{Journal}
 use Rattle.pk_nand.specs.BoardState.{BoardState}
 use Rattle.pk_rootfmt.specs.Root.{Root, differ}
+use Rattle.pk_root.specs.declared.next.Next.{Next}
 use Rattle.pk_root.specs.Installing.{SameBehind}
+use Rattle.pk_jrn.specs.Epochs.{started}
 use Rattle.pk_model.specs.Found.{Found}
 use Rattle.pk_model.specs.Growth.{Reaches, Goes}
 use Rattle.pk_model.specs.Crashes.{CrashFinds, background}
@@ -24,7 +26,6 @@ use Rattle.pk_compact.specs.declared.freezing.FreezeJob.{FreezeJob}
 use Rattle.pk_compact.specs.declared.freezing.FreezeJob.TheVariants.{Idle}
 use Rattle.pk_log.specs.State.{LogState}
 use Rattle.pk_log.specs.Logs.{LogOnFlash}
-use Rattle.pk_log.specs.Freezes.{begun}
 
 -- Nothing is pending, and nothing frozen; the journal has no blocks but the root's two and those that the freeze has taken, and no spare block
 -- of the pool is read.
@@ -50,6 +51,10 @@ pub record LogGoesOn (log : LogState) (pool : Blocks) (job : FreezeJob) (old : B
   pub takes : TakesOne pool job pool' job'
   pub elsewhere : SameBut log.shape (taken_by job') old.pages new.pages
   pub cuts : Reaches log.shape old new (CrashFinds log.shape background old.pages m)
+
+-- an empty epoch in these blocks is the newest of this root, and the buffers are exchanged
+abbrev pub begun : LogState → Root → Next → List ℕ → LogState
+begun log root next blocks = record log { root = root; next = next; epoch = started log.shape root.epoch blocks; active = log.frozen; frozen = log.active }
 
 -- The freeze was made on the flash, and the log stands on it: an empty epoch is the newest one, the buffers are exchanged, and the blocks of a
 -- former epoch without entries are free.

@@ -1,7 +1,6 @@
 pub mod State
 pub mod Logs
 pub mod Commits
-pub mod Freezes
 pub mod FreezeSteps
 pub mod MergeSteps
 pub mod Laws

@@ -5,7 +5,6 @@ use Rattle.pk_base.specs.Map.{Map}
 use Rattle.pk_base.specs.Merge.{room}
 use Rattle.pk_nand.specs.BoardState.{BoardState}
 use Rattle.pk_rootfmt.specs.Root.{Root}
-use Rattle.pk_root.specs.declared.next.Next.{Next}
 use Rattle.pk_root.specs.Installing.{SameBehind, erases_next}
 use Rattle.pk_buf.specs.Table.{Table}
 use Rattle.pk_model.specs.Found.{Found}

@@ -38,9 +38,8 @@ use Rattle.pk_compact.specs.declared.freezing.FreezeJob.TheVariants.{Idle as NoF
 use Rattle.pk_compact.proofs.TakingOne.{all_in}
 use Rattle.pk_log.specs.State.{LogState}
 use Rattle.pk_log.specs.Logs.{LogOnFlash}
-use Rattle.pk_log.specs.Freezes.{begun}
-use Rattle.pk_log.specs.FreezeSteps.{CanStep, LogGoesOn, LogFrozen, LogSteps, LogStepBreaks}
-use Rattle.pk_log.proofs.Freezing.{none_of_firsts}
+use Rattle.pk_log.specs.FreezeSteps.{begun, CanStep, LogGoesOn, LogFrozen, LogSteps, LogStepBreaks}
+use Rattle.pk_log.proofs.Buffers.{none_of_firsts}
 use Rattle.pk_schedule.specs.declared.phase.Phase.TheVariants.{Idle}
 use Rattle.pk_schedule.specs.Index.{Index, IndexOnFlash, MergeStands}
 use Rattle.pk_schedule.specs.Steps.{MayWork, MayFreeze, KeepsValues, IndexMoves, Moves, Breaks, FreezeMoves, Freezes, has_no_merge, is_between}

@@ -25,7 +25,6 @@ use Rattle.pk_compact.specs.declared.freezing.FreezeJob.TheVariants.{Idle as NoF
 use Rattle.pk_compact.specs.FreezeSteps.{freeze_left, install_steps, taken_by}
 use Rattle.pk_schedule.specs.declared.phase.Phase.{Phase}
 use Rattle.pk_schedule.specs.declared.phase.Phase.TheVariants.{Idle, Running, Ready}
-use Rattle.pk_log.specs.State.{LogState}
 pub use Rattle.pk_log.specs.MergeSteps.{KeepsActive}
 use Rattle.pk_schedule.specs.Index.{Index, IndexOnFlash, output, source_at}
 

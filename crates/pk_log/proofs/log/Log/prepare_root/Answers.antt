@@ -1,4 +1,4 @@
-use Rattle.std.proofs.Common.{arith, rules}
+use Rattle.std.proofs.Common.{arith}
 use Rattle.pk_model.proofs.Steps.{Step-says}
 use Rattle.pk_log.proofs.Merging.{can_prepare, log_prepared}
 use Rattle.pk_log.proofs.log.Log.prepare_root.Goals as goal

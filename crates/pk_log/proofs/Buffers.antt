@@ -1,0 +1,44 @@
+-- Buffers without entries, and epochs in erased blocks.
+use Rattle.std.proofs.Common.{◌≡◌, ℕ, zero, suc, ◌<◌, refl, arith, true, false, not, ◌==◌, T, List, [], ◌∷◌, length, nat_lt, Option}
+use Rattle.std.proofs.lemmas.Bool.Decides.{nat_tests}
+use Rattle.std.specs.FinMap.Entries.{put, is_sorted}
+use Rattle.pk_base.specs.Key.{Key, key_cmp}
+use Rattle.pk_base.specs.Shape.{Shape}
+use Rattle.pk_base.specs.Page.{Flash}
+use Rattle.pk_base.specs.Entry.{Entry, Place}
+use Rattle.pk_base.specs.Firsts.{firsts}
+use Rattle.pk_jrn.specs.Epochs.{AreErased}
+use Rattle.pk_jrn.proofs.Puts.{put_grows, firsts_sorted}
+use Rattle.pk_nand.specs.Calls.{IsErasedBlock}
+
+-- ---- buffers without entries
+
+put_some : (k : Key) (v : Option Place) (table : List Entry) → T (is_sorted key_cmp table) → 0 < length (put key_cmp k v table)
+put_some k v [] up = omega arith
+put_some k v (x ∷ xs) up = let grows = put_grows k v (x ∷ xs) up in omega (arith, grows)
+
+-- some entries have a key
+firsts_some : (e : Entry) (es : List Entry) → 0 < length (firsts (e ∷ es))
+firsts_some e es = put_some e.0 e.1 (firsts es) (firsts_sorted es)
+
+pub none_of_firsts : (es : List Entry) → length (firsts es) ≡ 0 → es ≡ []
+none_of_firsts [] none = refl
+none_of_firsts (e ∷ es) none = let some = firsts_some e es in absurd (omega (arith, none, some))
+
+-- a buffer is empty exactly where its epoch is
+pub tells_some : (es : List Entry) (n : ℕ) → n ≡ length (firsts es) → (length es == 0) ≡ not (nat_lt 0 n)
+tells_some [] n is = rw is refl
+tells_some (e ∷ es) n is = both_some (length (e ∷ es)) n (omega arith) (let some = firsts_some e es in omega (arith, is, some))
+  where
+    both_some : (k n : ℕ) → 0 < k → 0 < n → (k == 0) ≡ not (nat_lt 0 n)
+    both_some k n more less =
+        let one : (k == 0) ≡ false = grind (arith, nat_tests) in
+        let two : nat_lt 0 n ≡ true = grind (arith, nat_tests) in
+        rw (one, two) refl
+
+-- ---- erased blocks
+
+pub two_erased : (shape : Shape) (flash : Flash) (first second : ℕ) → IsErasedBlock shape flash first → IsErasedBlock shape flash second → AreErased shape flash (first ∷ second ∷ [])
+two_erased shape flash first second one two zero small = one
+two_erased shape flash first second one two (suc zero) small = two
+two_erased shape flash first second one two (suc (suc n)) small = absurd (omega (arith, small))
