@@ -18,3 +18,6 @@ pub mod Amounts
 pub mod Outputs
 pub mod Spelling
 pub mod Remaining
+pub mod Moved
+pub mod Moving
+pub mod Emptying
