@@ -1,10 +1,9 @@
 -- A reclaim that runs, behind a read and behind a program.
-use Rattle.std.proofs.Common.{◌≡◌, ◌≢◌, ◌⊎◌, inl, inr, ℕ, zero, suc, ◌+◌, ◌-◌, ◌*◌, ◌/◌, ◌%◌, ◌<◌, ◌≤◌, refl, sym, ap, subst, ◌∙◌, arith, true, false, List, [], ◌∷◌, ◌++◌, length, length-append, Some}
+use Rattle.std.proofs.Common.{◌≡◌, ◌≢◌, ◌⊎◌, inl, inr, ℕ, ◌+◌, ◌-◌, ◌*◌, ◌/◌, ◌%◌, ◌<◌, ◌≤◌, refl, sym, ap, subst, ◌∙◌, arith, true, List, [], ◌∷◌, ◌++◌, length, length-append}
 use Rattle.std.specs.Prelude.{slice_set}
 use Rattle.std.specs.List.{AllByRecursion}
-use Rattle.std.specs.FinMap.Entries.{find}
 use Rattle.std.proofs.lemmas.Bool.{cases_lt, cases_eq}
-use Rattle.pk_base.specs.Key.{Key, key_cmp}
+use Rattle.pk_base.specs.Key.{Key}
 use Rattle.pk_base.specs.Shape.{Shape, IsShape, charge}
 use Rattle.pk_base.specs.Page.{Page, Flash, IsFlash, page_at, erased, whole}
 use Rattle.pk_base.specs.Entry.{Place}
@@ -17,8 +16,8 @@ use Rattle.pk_pool.proofs.Fitting.{apart, in_block}
 use Rattle.pk_base.proofs.ShapeLemmas.{block_pages_positive}
 use Rattle.pk_gc.specs.declared.course.Course.{Course}
 use Rattle.pk_gc.specs.declared.moves.Move.{Move}
-use Rattle.pk_gc.specs.State.{placed_at, new_place, source, target, unseen, read_next, programmed, begun_at, started}
-use Rattle.pk_gc.specs.Running.{AreInOrder, IsMove, IsWholeAt, IsRunning, IsNextValue, begun_move}
+use Rattle.pk_gc.specs.State.{placed_at, new_place, source, target, read_next, programmed, begun_at, started}
+use Rattle.pk_gc.specs.Running.{AreInOrder, IsMove, IsRunning, IsNextValue, begun_move}
 use Rattle.pk_segfmt.proofs.StoredLemmas.{charge_some}
 use Rattle.pk_model.specs.Laws.{AnyByRecursion}
 use Rattle.pk_steps.specs.Under.{IsValuePage}

@@ -1,5 +1,5 @@
 -- Every cut of the commit of the moves holds the map.
-use Rattle.std.proofs.Common.{◌≡◌, inl, inr, ℕ, ◌+◌, ◌<◌, ◌≤◌, refl, sym, ap, subst, ◌∙◌, arith, List, [], ◌∷◌, length, Some}
+use Rattle.std.proofs.Common.{◌≡◌, inl, inr, ℕ, ◌<◌, refl, sym, ap, subst, ◌∙◌, arith, List, [], Some}
 use Rattle.pk_base.specs.Shape.{Shape, epoch_pages}
 use Rattle.pk_base.specs.Page.{Page, Flash, page_at, page_in}
 use Rattle.pk_base.specs.Entry.{Entry}

@@ -1,5 +1,5 @@
 -- The moves that are left can be made, and leave no head in the victim.
-use Rattle.std.proofs.Common.{◌≡◌, ◌≢◌, ◌⊎◌, inl, inr, ℕ, zero, suc, ◌+◌, ◌-◌, ◌*◌, ◌/◌, ◌%◌, ◌<◌, ◌≤◌, refl, sym, ap, subst, ◌∙◌, arith, Bool, true, false, cond, T, List, [], ◌∷◌, ◌++◌, length, filter, take, drop, sum, get_or, count_by, ◌==◌, Option, Some, None, le_trans}
+use Rattle.std.proofs.Common.{◌≡◌, ◌≢◌, ◌⊎◌, inl, inr, ℕ, zero, suc, ◌+◌, ◌*◌, ◌/◌, ◌%◌, ◌<◌, ◌≤◌, refl, sym, ap, subst, ◌∙◌, arith, Bool, true, false, cond, T, List, [], ◌∷◌, length, take, drop, sum, get_or, count_by, ◌==◌, Option, Some, None}
 use Rattle.std.specs.Prelude.{slice_get, slice_set, slice_index, IsSome, is_some, is_none, nat_lt}
 use Rattle.std.specs.List.{AllByRecursion}
 use Rattle.std.specs.Ordering.{eq_by_cmp}
@@ -21,11 +21,10 @@ use Rattle.pk_live.specs.Lives.{head_of}
 use Rattle.pk_steps.specs.Moves.{AreApart, entries_of}
 use Rattle.pk_gc.specs.declared.course.Course.{Course}
 use Rattle.pk_gc.specs.declared.moves.Move.{Move}
-use Rattle.pk_gc.specs.State.{JobState, source, placed_at, new_place, entry_of, is_left, left_of, is_new, heads_behind, entries_behind, heads_all, entries_all, CanGo, CanGoAll}
+use Rattle.pk_gc.specs.State.{JobState, source, placed_at, new_place, entry_of, is_left, left_of, is_new, heads_behind, entries_behind, heads_all, CanGo, CanGoAll}
 use Rattle.pk_gc.specs.Running.{AreInOrder, IsMove, IsRunning}
 use Rattle.pk_gc.specs.Committing.{entries_left, HasRoom}
-use Rattle.pk_gc.specs.Copied.{IsCopied}
-use Rattle.pk_gc.specs.Stepping.{Hands, CanEnd}
+use Rattle.pk_gc.specs.Stepping.{Hands}
 use Rattle.pk_gc.specs.Ending.{CanGive, GivesUp}
 use Rattle.pk_gc.proofs.Copying.{disjoint}
 use Rattle.pk_gc.proofs.Finishing.{begins}

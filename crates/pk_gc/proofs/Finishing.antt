@@ -1,6 +1,6 @@
 -- The moves of a victim that is copied.
-use Rattle.std.proofs.Common.{◌≡◌, ◌≢◌, ◌⊎◌, inl, inr, ℕ, zero, suc, ◌+◌, ◌-◌, ◌*◌, ◌/◌, ◌<◌, ◌≤◌, refl, sym, ap, subst, ◌∙◌, arith, Bool, true, false, cond, T, List, [], ◌∷◌, ◌++◌, length, filter, ◌==◌, Option, Some, None, eqb→eq, le_trans, le_of_eq}
-use Rattle.std.specs.Prelude.{slice_index, nat_lt}
+use Rattle.std.proofs.Common.{◌≡◌, inl, inr, ℕ, ◌+◌, ◌/◌, ◌<◌, ◌≤◌, refl, sym, ap, subst, ◌∙◌, arith, true, false, cond, T, List, [], ◌∷◌, ◌==◌, Some, None, eqb→eq, le_trans, le_of_eq}
+use Rattle.std.specs.Prelude.{slice_index}
 use Rattle.std.specs.List.{AllByRecursion}
 use Rattle.std.specs.Ordering.{eq_by_cmp}
 use Rattle.std.specs.Cmp.{tied_itself}
@@ -13,20 +13,20 @@ use Rattle.pk_base.specs.Entry.{Place}
 use Rattle.pk_base.proofs.ShapeLemmas.{block_pages_positive}
 use Rattle.pk_segfmt.proofs.StoredLemmas.{charge_some}
 use Rattle.pk_rootfmt.specs.Root.{named}
-use Rattle.pk_model.specs.Laws.{AnyByRecursion, IsPageOf}
+use Rattle.pk_model.specs.Laws.{AnyByRecursion}
 use Rattle.pk_model.proofs.MapLemmas.{key_total, left_part, right_part, missing}
 use Rattle.pk_model.proofs.Lookups.{same_key}
-use Rattle.pk_steps.specs.Under.{IsValuePage, IsNamed, places}
+use Rattle.pk_steps.specs.Under.{IsValuePage, places}
 use Rattle.pk_pool.proofs.Fitting.{in_block, block_of}
 use Rattle.pk_live.specs.Lives.{head_of}
 use Rattle.pk_base.specs.EntryBytes.{IsEntry}
-use Rattle.pk_steps.specs.Moves.{entries_of, IsCopy, AreCopies, AreApart, LieIn, CanMove}
+use Rattle.pk_steps.specs.Moves.{entries_of, IsCopy, AreCopies, AreApart}
 use Rattle.pk_steps.specs.Victims.{AreMoved}
 use Rattle.pk_steps.proofs.Emptying.{lie_in_others}
 use Rattle.pk_gc.specs.declared.course.Course.{Course}
 use Rattle.pk_gc.specs.declared.moves.Move.{Move}
-use Rattle.pk_gc.specs.State.{placed_at, new_place, is_left, left_of, source, target, unseen}
-use Rattle.pk_gc.specs.Running.{IsMove, IsRunning}
+use Rattle.pk_gc.specs.State.{placed_at, new_place, is_left, left_of, source}
+use Rattle.pk_gc.specs.Running.{IsMove}
 use Rattle.pk_gc.specs.Copied.{IsCopied, Empties, MayMove}
 
 -- ---- heads and values

@@ -1,34 +1,29 @@
 -- The first head that was not seen is that of the next value.
-use Rattle.std.proofs.Common.{◌≡◌, ◌≢◌, ◌⊎◌, inl, inr, ℕ, zero, suc, ◌+◌, ◌-◌, ◌*◌, ◌/◌, ◌%◌, ◌<◌, ◌≤◌, refl, sym, ap, subst, ◌∙◌, arith, Bool, true, false, cond, T, List, [], ◌∷◌, length, take, Option, Some, None, Ok, add-zero}
+use Rattle.std.proofs.Common.{◌≡◌, inl, inr, ℕ, ◌+◌, ◌-◌, ◌*◌, ◌/◌, ◌%◌, ◌<◌, ◌≤◌, refl, sym, ap, subst, ◌∙◌, arith, true, false, cond, List, [], ◌∷◌, length, Option, Some, add-zero}
 use Rattle.std.specs.Prelude.{slice_index}
 use Rattle.std.specs.List.{AllByRecursion}
 use Rattle.std.specs.Ordering.{eq_by_cmp}
-use Rattle.std.specs.FinMap.Entries.{find, is_sorted}
-use Rattle.std.proofs.lemmas.Bool.{cases_lt, cases_eq}
+use Rattle.std.specs.FinMap.Entries.{find}
+use Rattle.std.proofs.lemmas.Bool.{cases_lt}
 use Rattle.std.proofs.lemmas.Nat.{div-add-mod'}
 use Rattle.std.proofs.Math.Nat.{mul-div-le}
 use Rattle.pk_base.specs.Key.{Key, IsKey, key_cmp}
-use Rattle.pk_base.specs.Shape.{Shape, IsShape, charge, dense}
-use Rattle.pk_base.specs.Page.{Page, Flash, page_at, erased, whole, torn}
+use Rattle.pk_base.specs.Shape.{Shape, charge, dense}
+use Rattle.pk_base.specs.Page.{page_at}
 use Rattle.pk_base.specs.Entry.{Place}
 use Rattle.pk_base.specs.EntryBytes.{IsPlace}
 use Rattle.pk_segfmt.specs.Head.{IsHead}
-use Rattle.pk_segfmt.specs.Value.{head_bytes, value_at}
-use Rattle.pk_segfmt.specs.Stored.{page_of, IsStored}
+use Rattle.pk_segfmt.specs.Value.{head_bytes}
+use Rattle.pk_segfmt.specs.Stored.{page_of}
 use Rattle.pk_segfmt.proofs.StoredLemmas.{charge_some, value_found, first_starts}
-use Rattle.pk_seg.specs.Stored.{HasHead}
-use Rattle.pk_model.specs.Laws.{IsPageOf, IsWholePage}
+use Rattle.pk_model.specs.Laws.{IsPageOf}
 use Rattle.pk_model.proofs.Lookups.{same_key}
-use Rattle.pk_steps.specs.Under.{IsValuePage}
 use Rattle.pk_pool.proofs.Fitting.{block_of}
 use Rattle.pk_live.specs.Lives.{head_of}
 use Rattle.pk_steps.specs.Moves.{AreApart}
-use Rattle.pk_gc.specs.declared.course.Course.{Course}
-use Rattle.pk_gc.specs.declared.moves.Move.{Move}
 use Rattle.pk_gc.specs.State.{source, unseen, live_from, live_unseen}
-use Rattle.pk_gc.specs.Running.{IsRunning, IsSparse, IsNextValue, IsWholeAt}
-use Rattle.pk_gc.specs.Victims.{AreDead}
-use Rattle.pk_gc.specs.Going.{AreHeld, NextIsValue}
+use Rattle.pk_gc.specs.Running.{IsWholeAt}
+use Rattle.pk_gc.specs.Going.{NextIsValue}
 use Rattle.pk_gc.proofs.Finishing.{begins, begun}
 use Rattle.pk_gc.proofs.Ending.{head_found, found_page}
 use Rattle.pk_gc.proofs.Counting.{live_begins}
@@ -110,6 +105,7 @@ next_is_value shape c moves held heads flash es page runs are sparse done behind
             | inr after ↦ let one = common shape q key p place es p.page are.apart found was.found (starts p refl) (omega (arith, after, page_is), omega (arith, high, page_is)) in ap (λ (x : Place). x.page) one.1 ∙ page_is
           ];
         },
+        count,
       ),
     )
   where

@@ -1,24 +1,22 @@
 -- A reclaim that runs, whatever others do.
-use Rattle.std.proofs.Common.{◌≡◌, ◌≢◌, ◌⊎◌, inl, inr, ℕ, zero, suc, ◌+◌, ◌-◌, ◌*◌, ◌/◌, ◌<◌, ◌≤◌, refl, sym, ap, subst, ◌∙◌, arith, Bool, true, false, not, cond, List, [], ◌∷◌, length, filter, Option, Some, None}
-use Rattle.std.specs.List.{AllByRecursion}
-use Rattle.std.specs.Ordering.{is_eq, eq_by_cmp}
+use Rattle.std.proofs.Common.{◌≡◌, inl, inr, ℕ, ◌+◌, ◌*◌, ◌/◌, ◌<◌, ◌≤◌, sym, ap, subst, ◌∙◌, arith, true, false, not, cond, List, [], ◌∷◌, filter, Some, None}
+use Rattle.std.specs.Ordering.{eq_by_cmp}
 use Rattle.std.specs.FinMap.Entries.{put, find, find-put, find-where_key}
 use Rattle.pk_base.specs.Key.{Key, key_cmp}
-use Rattle.pk_base.specs.Shape.{Shape, IsShape, charge}
-use Rattle.pk_base.specs.Page.{Flash, page_at, erased, whole}
+use Rattle.pk_base.specs.Shape.{Shape}
+use Rattle.pk_base.specs.Page.{Flash, page_at}
 use Rattle.pk_base.specs.Entry.{Place}
-use Rattle.pk_base.proofs.ShapeLemmas.{block_pages_positive}
 use Rattle.pk_segfmt.proofs.StoredLemmas.{charge_some}
-use Rattle.pk_model.specs.Laws.{AnyByRecursion, IsPageOf}
+use Rattle.pk_model.specs.Laws.{IsPageOf}
 use Rattle.pk_model.proofs.MapLemmas.{key_total, key_antisymm}
 use Rattle.pk_steps.specs.Under.{IsValuePage}
 use Rattle.pk_pool.proofs.Fitting.{block_of}
 use Rattle.pk_steps.proofs.Moved.{page_put}
 use Rattle.pk_gc.specs.declared.course.Course.{Course}
 use Rattle.pk_gc.specs.declared.moves.Move.{Move}
-use Rattle.pk_gc.specs.State.{source, target, unseen}
+use Rattle.pk_gc.specs.State.{source}
 use Rattle.pk_gc.specs.Running.{IsMove, IsRunning}
-use Rattle.pk_gc.specs.Keeping.{SameBlocks, RunsElsewhere, RunsStored, RunsDeleted}
+use Rattle.pk_gc.specs.Keeping.{RunsElsewhere, RunsStored, RunsDeleted}
 use Rattle.pk_gc.proofs.Copying.{map_all}
 
 pub runs_elsewhere : RunsElsewhere

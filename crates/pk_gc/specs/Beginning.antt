@@ -1,5 +1,5 @@
 -- The first step of a reclaim.
-use Rattle.std.specs.Prelude.{◌≡◌, ◌⊎◌, ℕ, ◌<◌, ◌≤◌, List, [], false, slice_set, Some}
+use Rattle.std.specs.Prelude.{◌≡◌, ◌⊎◌, ℕ, ◌<◌, ◌≤◌, [], false, slice_set}
 use Rattle.pk_plan.specs.declared.owner.Owner.TheVariants.{Values as for_values}
 use Rattle.pk_nand.specs.BoardState.{BoardState}
 use Rattle.pk_nand.specs.Calls.{IsErasedBlock}

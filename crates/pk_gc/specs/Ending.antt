@@ -1,5 +1,5 @@
 -- The end of a reclaim that has copied all values of its victim: it can be made.
-use Rattle.std.specs.Prelude.{◌≡◌, ℕ, ◌<◌, List, length, MatchOption, T}
+use Rattle.std.specs.Prelude.{◌≡◌, ◌<◌, List, length, MatchOption, T}
 use Rattle.std.specs.FinMap.Entries.{is_sorted}
 use Rattle.pk_base.specs.Key.{Key, key_cmp}
 use Rattle.pk_base.specs.Shape.{Shape, page_count}

@@ -3,7 +3,7 @@ use Rattle.std.specs.Prelude.{◌≡◌, ℕ, ◌+◌, ◌*◌, ◌<◌, ◌≤�
 use Rattle.std.specs.List.{AllByRecursion}
 use Rattle.std.specs.FinMap.Entries.{find, is_sorted}
 use Rattle.pk_base.specs.Key.{Key, IsKey, key_cmp}
-use Rattle.pk_base.specs.Shape.{Shape, dense}
+use Rattle.pk_base.specs.Shape.{Shape, charge, dense}
 use Rattle.pk_base.specs.Page.{Flash, IsFlash, page_at}
 use Rattle.pk_base.specs.Entry.{Place}
 use Rattle.pk_base.specs.EntryBytes.{IsPlace}
@@ -32,4 +32,4 @@ NextIsValue =
     (shape : Shape) (c : Course) (moves : List Move) (held heads : List ℕ) (flash : Flash) (es : List (Key × Place)) (page : ℕ)
     → IsRunning shape c moves held flash es → AreHeld shape flash es heads → IsSparse shape c heads → c.left ≡ 0
     → source shape c ≤ page → page < c.victim * shape.block_pages + shape.block_pages → 0 < slice_index heads page → AreDead heads (source shape c) page
-    → (length moves < dense shape) × ((key : Key) × (place : Place) × IsNextValue shape c flash es page key place)
+    → (length moves < dense shape) × ((key : Key) × (place : Place) × IsNextValue shape c flash es page key place × (slice_index heads page ≡ charge shape place.len))

@@ -1,11 +1,14 @@
 -- What a reclaim keeps in memory.
-use Rattle.std.specs.Prelude.{◌≡◌, ◌⊎◌, ℕ, zero, suc, ◌+◌, ◌-◌, ◌*◌, ◌%◌, ◌<◌, ◌≤◌, List, [], ◌∷◌, length, filter, map, sum, take, drop, slice_index, slice_get, slice_set, IsSome, is_none, nat_lt, Bool, true, false, if◌then◌else◌, Option, Some, None}
+use Rattle.std.specs.Prelude.{◌≡◌, ◌⊎◌, ℕ, zero, suc, ◌+◌, ◌-◌, ◌*◌, ◌%◌, ◌<◌, ◌≤◌, List, [], ◌∷◌, length, filter, take, slice_index, slice_get, slice_set, IsSome, is_none, nat_lt, Bool, true, false, if◌then◌else◌, Option, Some, None}
 use Rattle.std.specs.FinMap.Entries.{put, find}
 use Rattle.pk_base.specs.Key.{Key, key_cmp}
 use Rattle.pk_base.specs.Shape.{Shape}
 use Rattle.pk_base.specs.Entry.{Entry, Place, put_entry}
+use Rattle.pk_work.specs.Rest.{steps_of}
+use Rattle.pk_work.specs.Jobs.{reclaim_rest}
 use Rattle.pk_gc.specs.declared.course.Course.{Course}
 use Rattle.pk_gc.specs.declared.course.Phase.{Phase}
+use Rattle.pk_gc.specs.declared.course.Phase.TheVariants.{Idle, Copies, GivesBack}
 use Rattle.pk_gc.specs.declared.moves.Move.{Move}
 
 -- The shape, how far a reclaim has come, the values that were copied in it, and the page between a read and a program.
@@ -108,7 +111,12 @@ begun_at c seen count = record c { seen = seen; left = count; held = true }
 abbrev pub started : ℕ → ℕ → Course
 started victim output = record { victim = victim; output = output; seen = 0; used = 0; left = 0; held = false }
 
--- the steps that are left of it at most: two for each page that is still to be copied, and one for the commit
+-- what is left of the copy: a read and a program for each page that is still to be copied, the commit of the moves, and the giving back
 abbrev pub steps_left : Shape → List ℕ → Course → ℕ
-steps_left shape heads c =
-    2 * (c.left + live_unseen shape heads c) + 1 - (if c.held then 1 else 0)
+steps_left shape heads c = steps_of (reclaim_rest (c.left + live_unseen shape heads c) c.held 2)
+
+-- and of a reclaim, where one runs
+abbrev pub left_in : Shape → List ℕ → Phase → Option ℕ
+left_in shape heads Idle = None
+left_in shape heads (Copies c) = Some (steps_left shape heads c)
+left_in shape heads (GivesBack victim) = Some (steps_of (reclaim_rest 0 false 1))

@@ -1,7 +1,7 @@
 -- A step of a reclaim: when it may be made, and what it does.
-use Rattle.std.specs.Prelude.{◌≡◌, ◌≢◌, ◌⊎◌, ℕ, ◌+◌, ◌-◌, ◌*◌, ◌<◌, ◌≤◌, List, [], ◌∷◌, ◌++◌, length, slice_index, slice_set, Bool, true, false, Option, Some, None, MatchOption}
+use Rattle.std.specs.Prelude.{◌≡◌, ◌⊎◌, ℕ, ◌+◌, ◌-◌, ◌*◌, ◌<◌, ◌≤◌, List, [], ◌∷◌, ◌++◌, length, slice_index, slice_set, Bool, true, false, Some, MatchOption}
 use Rattle.pk_base.specs.Key.{Key}
-use Rattle.pk_base.specs.Shape.{Shape, charge, dense}
+use Rattle.pk_base.specs.Shape.{charge, dense}
 use Rattle.pk_base.specs.Page.{Flash}
 use Rattle.pk_base.specs.Entry.{Place}
 use Rattle.pk_nand.specs.BoardState.{BoardState}
@@ -21,7 +21,7 @@ use Rattle.pk_gc.specs.State.{JobState, CanGoAll, heads_all, entries_all, source
 use Rattle.pk_gc.specs.Running.{IsRunning, IsNextValue, begun_move}
 use Rattle.pk_gc.specs.Victims.{IsFull, AreDead, closed_with}
 use Rattle.pk_gc.specs.Beginning.{Begins}
-use Rattle.pk_gc.specs.Committing.{Rests, Refuses, Adds, HasRoom, entries_left}
+use Rattle.pk_gc.specs.Committing.{Refuses, Adds, HasRoom, entries_left}
 
 -- the parts that a step is handed: the live values, the open block, the blocks, the active buffer and the newest epoch
 pub record Hands : Type 0 where
@@ -84,7 +84,7 @@ pub record CanGoOn (c : Course) (job : JobState) (h : Hands) (flash : Flash) : T
   pub es : List (Key × Place)
   pub runs : IsRunning job.shape c job.moves job.page flash es
   pub next : c.left ≡ 0 → (page : ℕ) → source job.shape c ≤ page → page < c.victim * job.shape.block_pages + job.shape.block_pages → 0 < slice_index h.live.heads page → AreDead h.live.heads (source job.shape c) page
-      → (length job.moves < dense job.shape) × ((key : Key) × (place : Place) × IsNextValue job.shape c flash es page key place)
+      → (length job.moves < dense job.shape) × ((key : Key) × (place : Place) × IsNextValue job.shape c flash es page key place × (slice_index h.live.heads page ≡ charge job.shape place.len))
   pub end : c.left ≡ 0 → AreDead h.live.heads (source job.shape c) (c.victim * job.shape.block_pages + job.shape.block_pages) → CanEnd c job h
 
 -- a reclaim may start, its copy can go on, or its victim can be given back
@@ -116,6 +116,7 @@ pub record BeginsValue (c : Course) (job : JobState) (h : Hands) (old : BoardSta
   pub page : ℕ
   pub head : 0 < slice_index h.live.heads page
   pub inside : (source job.shape c ≤ page) × (page < c.victim * job.shape.block_pages + job.shape.block_pages)
+  pub first : AreDead h.live.heads (source job.shape c) page
   pub job_is : (es : List (Key × Place)) (key : Key) (place : Place) → IsNextValue job.shape c old.pages es page key place
       → job' ≡ record job { phase = Copies (begun_at c (page - c.victim * job.shape.block_pages) (charge job.shape place.len)); moves = job.moves ++ begun_move job.shape c page key place.len ∷ []; page = job'.page }
   pub board : new ≡ after_read old

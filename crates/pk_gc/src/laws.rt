@@ -4,6 +4,7 @@ ghost use Rattle.pk_gc.specs.Cuts.{CommitReaches};
 ghost use Rattle.pk_gc.specs.Ending.{GivesUp};
 ghost use Rattle.pk_gc.specs.Falling.{StartRuns, ReadRuns, ProgramRuns, BeginRuns, ReadFalls, ProgramFalls, BeginFalls, ProgramSparse, BeginSparse, FewerSparse};
 ghost use Rattle.pk_gc.specs.Going.{NextIsValue};
+ghost use Rattle.pk_gc.specs.Lowering.{StepLowers, LiveOfBlock};
 ghost use Rattle.pk_gc.specs.Keeping.{RunsElsewhere, RunsStored, RunsDeleted};
 
 /// Where a victim is copied, the moves that are left take all values out of it, and their commit leaves the map.
@@ -46,4 +47,10 @@ pub fn at_end()
 /// The first head that was not seen is that of the next value.
 pub fn next_value()
     ensures { NextIsValue }
+{}
+
+/// Each step that wants no freeze lowers what is left, where a block that is taken counts twice.
+pub fn lowers()
+    ensures steps { StepLowers }
+    ensures live { LiveOfBlock }
 {}

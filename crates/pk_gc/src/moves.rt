@@ -35,14 +35,14 @@ impl Move {
 }
 
 // Adds the entry of a move whose old place is still live.
-fn add_left<A: Allocator>(m: &Move, live: &Live<A>, into: &mut Vec<Entry, A>)
+fn add_left<A: Allocator>(one: &Move, live: &Live<A>, into: &mut Vec<Entry, A>)
     requires { length into.old.items < vec_capacity into.old }
-    ensures left { seen_all into.new.items ≡ seen_all into.old.items ++ entries_of (placed_at (left_of live.now.heads (m.now ∷ []))) }
+    ensures left { seen_all into.new.items ≡ seen_all into.old.items ++ entries_of (placed_at (left_of live.now.heads (one.now ∷ []))) }
     ensures few { length into.new.items ≤ length into.old.items + 1 }
     ensures room { vec_capacity into.new ≡ vec_capacity into.old }
 {
-    if live.is_head(m.from) {
-        into.push_reserved(m.entry());
+    if live.is_head(one.from) {
+        into.push_reserved(one.entry());
     }
 }
 
