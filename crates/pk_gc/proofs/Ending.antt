@@ -168,7 +168,7 @@ module _ (n victim output : ℕ) (other : victim ≢ output) where
   left_same heads m x of_m of_x order =
       ap (λ k. nat_lt 0 k) (index_of (heads_behind heads m) heads x.from (stays heads m x.from (λ same. let some = of_m.some in omega (arith, order, same, some)) (no_output m x.from of_m of_x.from_low (omega (arith, of_x.from_high, of_x.some)))))
 
-  lefts_same : (heads : List ℕ) (m : Move) (ms : List Move) → InBlocks n victim output m → AllByRecursion (InBlocks n victim output) ms → AllByRecursion (λ x. m.from + m.count ≤ x.from) ms → left_of (heads_behind heads m) ms ≡ left_of heads ms
+  pub lefts_same : (heads : List ℕ) (m : Move) (ms : List Move) → InBlocks n victim output m → AllByRecursion (InBlocks n victim output) ms → AllByRecursion (λ x. m.from + m.count ≤ x.from) ms → left_of (heads_behind heads m) ms ≡ left_of heads ms
   lefts_same heads m [] of_m all order = refl
   lefts_same heads m (x ∷ ms) of_m all order =
       (λ i. cond (left_same heads m x of_m all.0 order.0 i) (x ∷ lefts_same heads m ms of_m all.1 order.1 i) (lefts_same heads m ms of_m all.1 order.1 i))
@@ -192,7 +192,7 @@ module _ (n victim output : ℕ) (other : victim ≢ output) where
   -- ---- room in the buffer
 
   -- an entry more makes no key new
-  fewer_new : (es : List Entry) (k : Key) (v : Option Place) (xs : List Entry) → count_by (is_new (put key_cmp k v es)) xs ≤ count_by (is_new es) xs
+  pub fewer_new : (es : List Entry) (k : Key) (v : Option Place) (xs : List Entry) → count_by (is_new (put key_cmp k v es)) xs ≤ count_by (is_new es) xs
   fewer_new es k v [] = omega arith
   fewer_new es k v (x ∷ xs) =
       let rest = fewer_new es k v xs in
@@ -276,7 +276,7 @@ module _ (shape : Shape) (c : Course) (job : JobState) (h : Hands) (flash : Flas
   runs : IsRunning shape c job.moves job.page flash es
   runs = give.copied.runs
 
-  in_blocks : (ms : List Move) → AllByRecursion (IsMove shape c flash es) ms → AllByRecursion (InBlocks n c.victim c.output) ms
+  pub in_blocks : (ms : List Move) → AllByRecursion (IsMove shape c flash es) ms → AllByRecursion (InBlocks n c.victim c.output) ms
   in_blocks [] all = tt
   in_blocks (m ∷ ms) all =
       let move = all.0 in

@@ -1,11 +1,9 @@
 -- Each step of a reclaim lowers what is left of it.
-use Rattle.std.proofs.Common.{◌≡◌, ◌≢◌, ◌⊎◌, inl, inr, ℕ, zero, suc, ◌+◌, ◌-◌, ◌*◌, ◌<◌, ◌≤◌, refl, sym, ap, subst, ◌∙◌, arith, Bool, true, false, List, [], ◌∷◌, take, drop, sum, Option, Some, None}
-use Rattle.std.specs.Prelude.{slice_get, slice_set, slice_index, unwrap_or}
+use Rattle.std.proofs.Common.{◌≡◌, ◌≢◌, inl, inr, ℕ, zero, suc, ◌+◌, ◌-◌, ◌*◌, ◌<◌, ◌≤◌, refl, sym, ap, subst, ◌∙◌, arith, true, false, List, [], ◌∷◌, take, sum, Option, Some, None}
+use Rattle.std.specs.Prelude.{slice_get, slice_index, unwrap_or}
 use Rattle.std.proofs.lemmas.Bool.{cases_eq}
 use Rattle.std.proofs.lemmas.List.Sums.{sum_by-cons}
-use Rattle.pk_base.specs.Key.{Key}
 use Rattle.pk_base.specs.Shape.{Shape, charge, dense}
-use Rattle.pk_base.specs.Entry.{Place}
 use Rattle.pk_segfmt.proofs.StoredLemmas.{charge_some}
 use Rattle.pk_work.specs.Rest.{steps_of, left_of, whole_reclaim, Lowers}
 use Rattle.pk_work.specs.Jobs.{reclaim_rest}
@@ -16,17 +14,17 @@ use Rattle.pk_pool.specs.Blocks.{Blocks, IsOwned, with_state}
 use Rattle.pk_pool.specs.Unready.{unready}
 use Rattle.pk_pool.proofs.States.{get-set_other}
 use Rattle.pk_pool.proofs.Counting.{given_back, take_pays}
-use Rattle.pk_live.specs.Values.{Values, IsClosed, count_of, block_sum}
+use Rattle.pk_live.specs.Values.{Values, IsClosed, block_sum}
 use Rattle.pk_gc.specs.declared.course.Course.{Course}
 use Rattle.pk_gc.specs.declared.course.Phase.{Phase}
 use Rattle.pk_gc.specs.declared.course.Phase.TheVariants.{Idle, Copies, GivesBack}
 use Rattle.pk_gc.specs.declared.open_block.OpenBlock.{OpenBlock}
 use Rattle.pk_gc.specs.declared.reclaimed.Reclaimed.{Reclaimed}
 use Rattle.pk_gc.specs.declared.reclaimed.Reclaimed.TheVariants.{Worked, NeedsFreeze, Ended}
-use Rattle.pk_gc.specs.State.{JobState, source, unseen, live_from, live_unseen, steps_left, left_in, read_next, programmed, begun_at, started}
-use Rattle.pk_gc.specs.Victims.{HoldsValues, IsFull, IsVictim, Chooses, closed_with}
-use Rattle.pk_gc.specs.Beginning.{Begins, Starts, GivesBack as GivesDead}
-use Rattle.pk_gc.specs.Stepping.{Hands, CanGoOn, CanStepIn, StepsIn, GoesOn, Tries, Finishes}
+use Rattle.pk_gc.specs.State.{JobState, unseen, live_from, live_unseen, steps_left, left_in, read_next, programmed, started}
+use Rattle.pk_gc.specs.Victims.{HoldsValues, IsFull, Chooses, closed_with}
+use Rattle.pk_gc.specs.Beginning.{Begins}
+use Rattle.pk_gc.specs.Stepping.{Hands, CanGoOn, CanStepIn, StepsIn, GoesOn, Tries}
 use Rattle.pk_gc.specs.Lowering.{left_behind, StepLowers, LiveOfBlock}
 use Rattle.pk_gc.proofs.Counting.{read_falls, program_falls, begin_falls}
 

@@ -1,5 +1,5 @@
 -- Each step of a reclaim lowers what is left of it: the statements.
-use Rattle.std.specs.Prelude.{◌≡◌, ◌≢◌, ℕ, ◌+◌, ◌*◌, List, sum, take, drop, unwrap_or}
+use Rattle.std.specs.Prelude.{◌≡◌, ◌≢◌, ℕ, List, sum, take, drop, unwrap_or}
 use Rattle.pk_work.specs.Rest.{left_of, whole_reclaim, Lowers}
 use Rattle.pk_nand.specs.BoardState.{BoardState}
 use Rattle.pk_pool.specs.Unready.{unready}

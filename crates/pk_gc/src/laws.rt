@@ -4,6 +4,7 @@ ghost use Rattle.pk_gc.specs.Cuts.{CommitReaches};
 ghost use Rattle.pk_gc.specs.Ending.{GivesUp};
 ghost use Rattle.pk_gc.specs.Falling.{StartRuns, ReadRuns, ProgramRuns, BeginRuns, ReadFalls, ProgramFalls, BeginFalls, ProgramSparse, BeginSparse, FewerSparse};
 ghost use Rattle.pk_gc.specs.Going.{NextIsValue};
+ghost use Rattle.pk_gc.specs.Buffering.{MovesBuffered, MovesFit};
 ghost use Rattle.pk_gc.specs.Lowering.{StepLowers, LiveOfBlock};
 ghost use Rattle.pk_gc.specs.Keeping.{RunsElsewhere, RunsStored, RunsDeleted};
 
@@ -53,4 +54,10 @@ pub fn next_value()
 pub fn lowers()
     ensures steps { StepLowers }
     ensures live { LiveOfBlock }
+{}
+
+/// Behind the moves the active buffer mirrors the newest epoch with their entries, which has no more keys than a buffer takes.
+pub fn buffered()
+    ensures moves { MovesBuffered }
+    ensures fit { MovesFit }
 {}

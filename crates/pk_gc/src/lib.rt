@@ -12,7 +12,7 @@ mod victim;
 
 pub use course::{Course, Phase};
 pub use job::ReclaimJob;
-pub use laws::{at_end, copied, cuts, in_mid_copy, lowers, next_value, steps};
+pub use laws::{at_end, buffered, copied, cuts, in_mid_copy, lowers, next_value, steps};
 pub use moves::Move;
 pub use open_block::OpenBlock;
 pub use reclaimed::Reclaimed;
