@@ -21,6 +21,7 @@ ghost use Rattle.pk_gc.specs.declared.course.Course.{Course as CourseSpec};
 ghost use Rattle.pk_gc.specs.declared.course.Phase.TheVariants.{Idle, Copies, GivesBack};
 ghost use Rattle.pk_gc.specs.Victims.{closed_with};
 ghost use Rattle.pk_gc.specs.Stepping.{CanEnd, Finishes, CanStep, Steps, runs_in};
+ghost use Rattle.pk_gc.specs.Breaking.{Breaks};
 ghost use Rattle.pk_gc.specs.Committing.{Commits, entries_left};
 ghost use Rattle.pk_gc.specs.Running.{IsRunning, IsNextValue, begun_move};
 
@@ -122,6 +123,9 @@ impl<A: Region> ReclaimJob<A> {
         requires blocks { AreBlocks epoch.old.shape epoch.old.blocks }
         requires room { length buf.old ≡ self.old.shape.page_bytes }
         ensures steps { IfOk result (λ r. Steps self.old (record { live = live.old; front = front.old; pool = pool.old; active = active.old; epoch = epoch.old }) (B.state board.old) self.new (record { live = live.new; front = front.new; pool = pool.new; active = active.new; epoch = epoch.new }) (B.state board.new) r) }
+        ensures kept { OnErr result (self.new ≡ record self.old { page = self.new.page }) }
+        ensures kept_parts { OnErr result ((live.new.heads ≡ live.old.heads) × (pool.new ≡ pool.old) × (active.new ≡ active.old) × (epoch.new ≡ epoch.old)) }
+        ensures breaks { IfErr result (λ e. Breaks self.old (record { live = live.old; front = front.old; pool = pool.old; active = active.old; epoch = epoch.old }) (B.state board.old) (B.state board.new) e) }
         ensures shape { self.new.shape ≡ self.old.shape }
         ensures ready { IsReady (B.state board.new) self.old.shape }
         ensures buffer { length buf.new ≡ length buf.old }
