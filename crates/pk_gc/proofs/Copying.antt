@@ -21,7 +21,7 @@ use Rattle.pk_gc.specs.Running.{AreInOrder, IsMove, IsRunning, IsNextValue, begu
 use Rattle.pk_segfmt.proofs.StoredLemmas.{charge_some}
 use Rattle.pk_model.specs.Laws.{AnyByRecursion}
 use Rattle.pk_steps.specs.Under.{IsValuePage}
-use Rattle.pk_steps.specs.Moves.{AreApart}
+use Rattle.pk_moves.specs.Moves.{AreApart}
 
 -- pages of two blocks differ
 pub disjoint : (n v o k p : ℕ) → v ≢ o → v * n ≤ k → k < v * n + n → o * n ≤ p → p < o * n + n → k ≡ p → ⊥

@@ -18,10 +18,10 @@ use Rattle.pk_model.specs.Crashes.{CrashFinds, background}
 use Rattle.pk_model.proofs.Running.{Reaches-program, Goes-program}
 use Rattle.pk_steps.specs.Under.{IsUnder}
 use Rattle.pk_steps.specs.Roots.{committed}
-use Rattle.pk_steps.specs.Moves.{entries_of}
+use Rattle.pk_moves.specs.Moves.{entries_of}
 use Rattle.pk_steps.proofs.Untouched.{under_reads}
 use Rattle.pk_steps.proofs.NewestBlocks.{newest_exist, valid_root}
-use Rattle.pk_steps.proofs.Moving.{moves_commit, moves_committed}
+use Rattle.pk_moves.proofs.Moving.{moves_commit, moves_committed}
 use Rattle.pk_gc.specs.Cuts.{Journals, CommitReaches}
 
 module _ (shape : Shape) (board : BoardState) (top : ℕ × Root) (e : JournalEpoch) (es : List Entry) (bytes : List ℕ) (ready : IsReady board shape) (is : Journals shape e board.pages top) (left : 0 < left_of e)

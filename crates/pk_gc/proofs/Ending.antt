@@ -18,7 +18,7 @@ use Rattle.pk_model.proofs.MapLemmas.{key_total}
 use Rattle.pk_steps.specs.Under.{IsValuePage}
 use Rattle.pk_pool.proofs.States.{get-set_other}
 use Rattle.pk_live.specs.Lives.{head_of}
-use Rattle.pk_steps.specs.Moves.{AreApart, entries_of}
+use Rattle.pk_moves.specs.Moves.{AreApart, entries_of}
 use Rattle.pk_gc.specs.declared.course.Course.{Course}
 use Rattle.pk_gc.specs.declared.moves.Move.{Move}
 use Rattle.pk_gc.specs.State.{JobState, source, placed_at, new_place, entry_of, is_left, left_of, is_new, heads_behind, entries_behind, heads_all, CanGo, CanGoAll}

@@ -20,7 +20,7 @@ use Rattle.pk_model.specs.Laws.{IsPageOf}
 use Rattle.pk_model.proofs.Lookups.{same_key}
 use Rattle.pk_pool.proofs.Fitting.{block_of}
 use Rattle.pk_live.specs.Lives.{head_of}
-use Rattle.pk_steps.specs.Moves.{AreApart}
+use Rattle.pk_moves.specs.Moves.{AreApart}
 use Rattle.pk_gc.specs.State.{source, unseen, live_from, live_unseen}
 use Rattle.pk_gc.specs.Running.{IsWholeAt}
 use Rattle.pk_gc.specs.Going.{NextIsValue}

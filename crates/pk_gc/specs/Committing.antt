@@ -7,7 +7,7 @@ use Rattle.pk_jrnfmt.specs.Page.{journal_entries}
 use Rattle.pk_buf.specs.Table.{Table}
 use Rattle.pk_jrn.specs.Epochs.{JournalEpoch, left_of as pages_left, next_page, EpochOnFlash}
 use Rattle.pk_jrn.specs.Appends.{next_bytes, AddsAll}
-use Rattle.pk_steps.specs.Moves.{entries_of}
+use Rattle.pk_moves.specs.Moves.{entries_of}
 use Rattle.pk_gc.specs.declared.moves.Move.{Move}
 use Rattle.pk_gc.specs.declared.reclaimed.Committed.{Committed}
 use Rattle.pk_gc.specs.declared.reclaimed.Committed.TheVariants.{None, NeedsFreeze, All}

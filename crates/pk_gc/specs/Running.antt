@@ -10,7 +10,7 @@ use Rattle.pk_base.specs.EntryBytes.{IsPlace}
 use Rattle.pk_seg.specs.Stored.{HasHead}
 use Rattle.pk_model.specs.Laws.{AnyByRecursion}
 use Rattle.pk_steps.specs.Under.{IsValuePage}
-use Rattle.pk_steps.specs.Moves.{AreApart}
+use Rattle.pk_moves.specs.Moves.{AreApart}
 use Rattle.pk_gc.specs.declared.course.Course.{Course}
 use Rattle.pk_gc.specs.declared.moves.Move.{Move}
 use Rattle.pk_gc.specs.State.{new_place, placed_at, source, target, unseen, live_unseen}

@@ -1,7 +1,7 @@
 //! The values that a reclaim copied.
 ghost use Rattle.std.specs.Prelude.{◌≡◌, ◌+◌, ◌<◌, ◌≤◌, ◌++◌, ◌∷◌, [], length, vec_capacity, count_by};
 ghost use Rattle.pk_base.specs.Seen.{entry as seen, entries as seen_all};
-ghost use Rattle.pk_steps.specs.Moves.{entries_of};
+ghost use Rattle.pk_moves.specs.Moves.{entries_of};
 ghost use Rattle.pk_gc.specs.State.{entry_of, placed_at, left_of, heads_behind, entries_behind, heads_all, entries_all, CanGo, CanGoAll, is_new};
 
 use pk_base::{Entry, Key};

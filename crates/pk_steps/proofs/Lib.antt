@@ -18,6 +18,3 @@ pub mod Amounts
 pub mod Outputs
 pub mod Spelling
 pub mod Remaining
-pub mod Moved
-pub mod Moving
-pub mod Emptying

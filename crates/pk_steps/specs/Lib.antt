@@ -7,5 +7,3 @@ pub mod Next
 pub mod Freezing
 pub mod Merging
 pub mod Fitting
-pub mod Moves
-pub mod Victims

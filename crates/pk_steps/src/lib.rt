@@ -10,8 +10,6 @@ ghost use Rattle.pk_steps.specs.Next.{Installed, Installs};
 ghost use Rattle.pk_steps.specs.Freezing.{Frozen};
 ghost use Rattle.pk_steps.specs.Merging.{Merged, MergedGrammar, MergedStill, Freed, FreedCounted};
 ghost use Rattle.pk_steps.specs.Fitting.{OutputFits, QuotaFits};
-ghost use Rattle.pk_steps.specs.Moves.{Copies, Moves, PlacesMove, PlacesStay, MovesCommit, MovesCommitted};
-ghost use Rattle.pk_steps.specs.Victims.{LieInOthers, NoneLeft, OneIsSparse, FitOnePage, LeavesRoom};
 
 /// A flash holds a map exactly where one stands under its newest root.
 pub fn reading()
@@ -72,31 +70,4 @@ pub fn merges()
 pub fn sizes()
     ensures output { OutputFits }
     ensures quota { QuotaFits }
-{}
-
-/// A page that is copied to a block that nobody reads leaves the map.
-pub fn copies()
-    ensures { Copies }
-{}
-
-/// Entries that name copies of values leave the map, wherever the page that commits them is cut.
-pub fn moves()
-    ensures moves { Moves }
-    ensures places { PlacesMove }
-    ensures stay { PlacesStay }
-    ensures commit { MovesCommit }
-    ensures committed { MovesCommitted }
-{}
-
-/// Before the moves and behind them all values lie in as many blocks, and behind them none in the block that was reclaimed.
-pub fn blocks()
-    ensures others { LieInOthers }
-    ensures none_left { NoneLeft }
-{}
-
-/// A block is there whose values can be moved by one page of the journal, and every value has room behind their copies.
-pub fn victims()
-    ensures one_is_sparse { OneIsSparse }
-    ensures one_page { FitOnePage }
-    ensures room { LeavesRoom }
 {}

@@ -22,8 +22,8 @@ use Rattle.pk_model.specs.Laws.{AnyByRecursion, IsPageOf}
 use Rattle.pk_model.proofs.MapLemmas.{key_total, left_part, right_part, missing}
 use Rattle.pk_model.proofs.Lookups.{same_key}
 use Rattle.pk_steps.specs.Under.{IsValuePage}
-use Rattle.pk_steps.specs.Moves.{moved}
-use Rattle.pk_steps.specs.Victims.{exchanged, AreMoved, LieInOthers, NoneLeft, OneIsSparse, FitOnePage, LeavesRoom}
+use Rattle.pk_moves.specs.Moves.{moved}
+use Rattle.pk_moves.specs.Victims.{exchanged, AreMoved, LieInOthers, NoneLeft, OneIsSparse, FitOnePage, LeavesRoom}
 
 -- ---- keys that are found
 

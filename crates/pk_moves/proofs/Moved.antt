@@ -17,7 +17,7 @@ use Rattle.pk_model.proofs.Commits.{apart, rest_differs}
 use Rattle.pk_model.proofs.Lookups.{same_key}
 use Rattle.pk_steps.specs.Under.{IsValuePage}
 use Rattle.pk_steps.proofs.Places.{differ_append, differ_range, value_in, in_value, range_in, in_range}
-use Rattle.pk_steps.specs.Moves.{moved, AreApart}
+use Rattle.pk_moves.specs.Moves.{moved, AreApart}
 
 -- a key that is there is put over itself
 pub put_same : {X : Type 0} (k : Key) (x : X) (es : List (Key × X)) → T (is_sorted key_cmp es) → find key_cmp k es ≡ Some x → put key_cmp k x es ≡ es

@@ -26,9 +26,9 @@ use Rattle.pk_steps.specs.Under.{IsNamed, counting, places}
 use Rattle.pk_steps.proofs.Untouched.{values_under, programs}
 use Rattle.pk_steps.proofs.Places.{In, in_value, value_in, not_of, any_in_back, all_of, few_blocks}
 use Rattle.pk_steps.proofs.Committing.{commits, commit_done}
-use Rattle.pk_steps.specs.Moves.{entries_of, moved, AreCopies, CanMove, Moves, PlacesMove, MovesCommit, MovesCommitted, Copies}
+use Rattle.pk_moves.specs.Moves.{entries_of, moved, AreCopies, CanMove, Moves, PlacesMove, MovesCommit, MovesCommitted, Copies}
 use Rattle.pk_steps.proofs.Counting.{sorted_read}
-use Rattle.pk_steps.proofs.Moved.{put_same, page_moved, differ_moved, HaveLength, length_moved}
+use Rattle.pk_moves.proofs.Moved.{put_same, page_moved, differ_moved, HaveLength, length_moved}
 
 -- ---- a copy is read as the value
 
