@@ -1,0 +1,45 @@
+-- The first step of a reclaim.
+use Rattle.std.specs.Prelude.{◌≡◌, ◌⊎◌, ℕ, ◌<◌, ◌≤◌, [], false, slice_set}
+use Rattle.pk_plan.specs.declared.owner.Owner.TheVariants.{Values as for_values}
+use Rattle.pk_nand.specs.BoardState.{BoardState}
+use Rattle.pk_nand.specs.Calls.{IsErasedBlock}
+use Rattle.pk_pool.specs.declared.state.BlockState.TheVariants.{Free, Owned}
+use Rattle.pk_pool.specs.Blocks.{Blocks, IsSpare, with_state}
+use Rattle.pk_pool.specs.Taking.{ReachesIn, TakesReady, ErasesFree}
+use Rattle.pk_live.specs.Values.{Values, count_of}
+use Rattle.pk_gc.specs.declared.open_block.OpenBlock.{OpenBlock}
+use Rattle.pk_gc.specs.declared.reclaimed.Reclaimed.{Reclaimed}
+use Rattle.pk_gc.specs.declared.reclaimed.Reclaimed.TheVariants.{Worked, NeedsFreeze, Ended}
+use Rattle.pk_gc.specs.declared.course.Phase.TheVariants.{Copies}
+use Rattle.pk_gc.specs.State.{JobState, started}
+use Rattle.pk_gc.specs.Victims.{Chooses}
+
+-- The victim has live pages, and a block without an owner was taken for their copies, by at most one erase.
+pub record Starts (job : JobState) (live : Values) (front : OpenBlock) (p : Blocks) (old : BoardState) (job' : JobState) (live' : Values) (front' : OpenBlock) (q : Blocks) (new : BoardState) : Type 0 where
+  pub victim : ℕ
+  pub output : ℕ
+  pub chooses : Chooses job.shape live front live' front' victim
+  pub spare : IsSpare p output
+  pub place : 2 ≤ output × output < p.shape.blocks
+  pub taken : q ≡ with_state p output (Owned for_values)
+  pub choice : TakesReady p old output new ⊎ ErasesFree p old output new
+  pub are_erased : IsErasedBlock p.shape new.pages output
+  pub cuts : ReachesIn p.shape output old new
+  pub job_is : job' ≡ record job { phase = Copies (started victim output); moves = [] }
+
+-- The victim has no live page, and was given back.
+pub record GivesBack (job : JobState) (live : Values) (front : OpenBlock) (p : Blocks) (old : BoardState) (job' : JobState) (live' : Values) (front' : OpenBlock) (q : Blocks) (new : BoardState) : Type 0 where
+  pub victim : ℕ
+  pub chosen : Values
+  pub chooses : Chooses job.shape live front chosen front' victim
+  pub empty : count_of chosen victim ≡ 0
+  pub forgotten : live' ≡ record chosen { closed = slice_set chosen.closed victim false }
+  pub given : q ≡ with_state p victim Free
+  pub kept : job' ≡ job
+  pub same : new ≡ old
+
+-- what it did, by its answer
+abbrev pub Begins : JobState → Values → OpenBlock → Blocks → BoardState → JobState → Values → OpenBlock → Blocks → BoardState → Reclaimed → Type 0
+Begins job live front p old job' live' front' q new Worked = Starts job live front p old job' live' front' q new
+Begins job live front p old job' live' front' q new NeedsFreeze = ⊥
+Begins job live front p old job' live' front' q new Ended = GivesBack job live front p old job' live' front' q new

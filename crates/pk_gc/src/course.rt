@@ -1,0 +1,29 @@
+//! How far a reclaim has come.
+
+/// What a reclaim does.
+#[derive(Clone, Copy, Debug, PartialEq, Eq)]
+pub enum Phase {
+    /// None runs.
+    Idle,
+    /// The live values of a block are copied, and then their moves are committed.
+    Copies(Course),
+    /// The moves are in the journal. This block, in which no value is live any more, is to be given back.
+    GivesBack(u32),
+}
+
+/// How far the copy has come.
+#[derive(Clone, Copy, Debug, PartialEq, Eq)]
+pub struct Course {
+    /// The block whose live values are copied.
+    pub victim: u32,
+    /// The block that takes the copies.
+    pub output: u32,
+    /// How many pages of the victim were copied, or passed by.
+    pub seen: u32,
+    /// How many pages of the output are written.
+    pub used: u32,
+    /// How many pages of the last value are not written yet.
+    pub left: u32,
+    /// Whether the next one of them was read.
+    pub held: bool,
+}

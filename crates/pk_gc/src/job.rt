@@ -1,0 +1,436 @@
+//! The job.
+ghost use Rattle.std.specs.Prelude.{◌≡◌, ◌≤◌, ◌<◌, MatchOption, slice_set, ◌+◌, ◌-◌, ◌*◌, ◌++◌, ◌∷◌, length, ℕ, List, [], Some, None, true, false, IfOk, IfErr, OnOk, OnErr};
+ghost use Rattle.pk_base.specs.Key.{Key as KeySpec};
+ghost use Rattle.pk_base.specs.Shape as spec;
+ghost use Rattle.pk_base.specs.Entry.{Place};
+ghost use Rattle.pk_nand.specs.Calls.{IsReady, after_read, after_program, ReadFailed, ProgramFailed};
+ghost use Rattle.pk_nand.specs.declared.types.Fault.TheVariants.{Reading, Stopped};
+ghost use Rattle.pk_gc.specs.declared.reclaimed.Reclaimed.TheVariants.{Worked, Ended};
+ghost use Rattle.pk_gc.specs.State.{JobState, source, target, read_next, programmed, begun_at, started};
+ghost use Rattle.pk_pool.specs.Blocks.{PoolOnFlash};
+ghost use Rattle.pk_pool.specs.Taking.{FailsToErase};
+ghost use Rattle.pk_gc.specs.Victims.{IsFull, Chooses};
+ghost use Rattle.pk_gc.specs.Beginning.{Begins};
+ghost use Rattle.pk_base.specs.Page.{Flash};
+ghost use Rattle.pk_live.specs.Values.{IsClosed, count_of};
+ghost use Rattle.pk_pool.specs.Blocks.{IsOwned, with_state};
+ghost use Rattle.pk_pool.specs.declared.state.BlockState.TheVariants.{Free};
+ghost use Rattle.pk_jrn.specs.Epochs.{AreBlocks, next_page, EpochOnFlash};
+ghost use Rattle.pk_jrn.specs.Appends.{next_bytes};
+ghost use Rattle.pk_gc.specs.declared.course.Course.{Course as CourseSpec};
+ghost use Rattle.pk_gc.specs.declared.course.Phase.TheVariants.{Idle, Copies, GivesBack};
+ghost use Rattle.pk_gc.specs.Victims.{closed_with};
+ghost use Rattle.pk_gc.specs.Stepping.{CanEnd, Finishes, CanStep, Steps, runs_in};
+ghost use Rattle.pk_gc.specs.Breaking.{Breaks};
+ghost use Rattle.pk_gc.specs.Committing.{Commits, entries_left};
+ghost use Rattle.pk_gc.specs.Running.{IsRunning, IsNextValue, begun_move};
+
+use crate::course::{Course, Phase};
+use crate::moves::{Move, apply, fill_left, new_keys};
+use crate::open_block::OpenBlock;
+use crate::reclaimed::{Committed, Reclaimed};
+use crate::victim::{choose, close, next_head};
+use pk_base::{Entry, Shape};
+use pk_buf::Buffer;
+use pk_jrn::Epoch;
+use pk_live::Live;
+use pk_nand::{Fault, Nand};
+use pk_plan::Owner;
+use pk_pool::Pool;
+use pk_region::Region;
+use pk_seg::{read_page, write_page};
+use pk_segfmt::{Head, head};
+use std::alloc::AllocError;
+use std::marker::Model;
+
+/// A reclaim: how far it has come, the values that it copied, and the page between a read and a program.
+#[derive(Drop)]
+pub struct ReclaimJob<A: Region> {
+    shape: Shape,
+    phase: Phase,
+    moves: Vec<Move, A>,
+    entries: Vec<Entry, A>,
+    page: Vec<u8, A>,
+}
+
+impl<A: Region> Model for ReclaimJob<A> {
+    ghost use Rattle.std.specs.Prelude.{◌≡◌, ◌≤◌, length, vec_capacity};
+    ghost use Rattle.pk_base.specs.Shape.{dense};
+    ghost use Rattle.pk_gc.specs.State.{JobState};
+
+    ghost Value = { JobState };
+
+    ghost view = { λ j. record { shape = j.shape; phase = j.phase; moves = j.moves.items; page = j.page.items } };
+
+    ghost invariant = { λ j. (length j.moves.items ≤ dense j.shape) × (dense j.shape ≤ vec_capacity j.moves) × (dense j.shape ≤ vec_capacity j.entries) × (length j.page.items ≡ j.shape.page_bytes) };
+}
+
+impl<A: Region> ReclaimJob<A> {
+    /// No reclaim runs. All memory of the job is taken here.
+    pub fn new(alloc: A, shape: Shape) -> Result<ReclaimJob<A>, AllocError>
+        ensures { IfOk result (λ j. (j.shape ≡ shape) × (j.phase ≡ Idle) × (j.moves ≡ [])) }
+    {
+        shape.known();
+        let most = (3 * shape.block_pages() / 4) as usize;
+        let moves = Vec::with_capacity(alloc, most)?;
+        let entries = Vec::with_capacity(alloc, most)?;
+        let page = Vec::from_elem(alloc, 0u8, shape.page_bytes() as usize)?;
+        Ok(ReclaimJob {
+            shape,
+            phase: Phase::Idle,
+            moves,
+            entries,
+            page,
+        })
+    }
+
+    /// Whether a reclaim runs.
+    pub fn runs(&self) -> bool
+        ensures { result ≡ runs_in self.now.phase }
+    {
+        match self.phase {
+            Phase::Idle => false,
+            Phase::Copies(_) => true,
+            Phase::GivesBack(_) => true,
+        }
+    }
+
+    /// How far the reclaim has come.
+    pub fn phase(&self) -> Phase
+        ensures { result ≡ self.now.phase }
+    {
+        self.phase
+    }
+
+    /// A step of a reclaim, which is begun where none runs; at most one call of the board. `Reading` and `Stopped` where this
+    /// call fails.
+    pub fn step<B: Nand>(
+        &mut self,
+        board: &mut B,
+        pool: &mut Pool<A>,
+        live: &mut Live<A>,
+        active: &mut Buffer<A>,
+        epoch: &mut Epoch,
+        front: &mut OpenBlock,
+        buf: &mut [u8],
+    ) -> Result<Reclaimed, Fault>
+        requires can { CanStep self.old (record { live = live.old; front = front.old; pool = pool.old; active = active.old; epoch = epoch.old }) (B.state board.old).pages }
+        requires pool_shape { pool.old.shape ≡ self.old.shape }
+        requires epoch_shape { epoch.old.shape ≡ self.old.shape }
+        requires ready { IsReady (B.state board.old) self.old.shape }
+        requires pool_fits { PoolOnFlash pool.old (B.state board.old).pages }
+        requires epoch_fits { EpochOnFlash epoch.old (B.state board.old).pages }
+        requires blocks { AreBlocks epoch.old.shape epoch.old.blocks }
+        requires room { length buf.old ≡ self.old.shape.page_bytes }
+        ensures steps { IfOk result (λ r. Steps self.old (record { live = live.old; front = front.old; pool = pool.old; active = active.old; epoch = epoch.old }) (B.state board.old) self.new (record { live = live.new; front = front.new; pool = pool.new; active = active.new; epoch = epoch.new }) (B.state board.new) r) }
+        ensures kept { OnErr result (self.new ≡ record self.old { page = self.new.page }) }
+        ensures kept_parts { OnErr result ((live.new.heads ≡ live.old.heads) × (pool.new ≡ pool.old) × (active.new ≡ active.old) × (epoch.new ≡ epoch.old)) }
+        ensures breaks { IfErr result (λ e. Breaks self.old (record { live = live.old; front = front.old; pool = pool.old; active = active.old; epoch = epoch.old }) (B.state board.old) (B.state board.new) e) }
+        ensures shape { self.new.shape ≡ self.old.shape }
+        ensures ready { IsReady (B.state board.new) self.old.shape }
+        ensures buffer { length buf.new ≡ length buf.old }
+    {
+        match self.phase {
+            Phase::Idle => return self.begin(board, pool, live, front),
+            Phase::GivesBack(victim) => return self.give_back(pool, victim),
+            Phase::Copies(course) => {
+                if course.held {
+                    return self.program(board, course);
+                }
+                if course.left > 0 {
+                    return self.read(board, course);
+                }
+                let first = course.victim * self.shape.block_pages();
+                match next_head(live, first + course.seen, first + self.shape.block_pages()) {
+                    Some(page) => return self.begin_value(board, course, page),
+                    None => {
+                        return self.finish(board, pool, live, active, epoch, front, course, buf);
+                    }
+                }
+            }
+        }
+    }
+
+    // Chooses the victim. One without live pages is given back at once, else a block is taken for the copies.
+    fn begin<B: Nand>(
+        &mut self,
+        board: &mut B,
+        pool: &mut Pool<A>,
+        live: &mut Live<A>,
+        front: &mut OpenBlock,
+    ) -> Result<Reclaimed, Fault>
+        requires none { self.old.phase ≡ Idle }
+        requires shape { pool.old.shape ≡ self.old.shape }
+        requires full { IsFull self.old.shape live.old front.old pool.old }
+        requires ready { IsReady (B.state board.old) self.old.shape }
+        requires fits { PoolOnFlash pool.old (B.state board.old).pages }
+        ensures begins { IfOk result (λ r. Begins self.old live.old front.old pool.old (B.state board.old) self.new live.new front.new pool.new (B.state board.new) r) }
+        ensures kept { OnErr result (self.new ≡ self.old) }
+        ensures kept_pool { OnErr result (pool.new ≡ pool.old) }
+        ensures chose { OnErr result ((victim : ℕ) × Chooses self.old.shape live.old front.old live.new front.new victim) }
+        ensures stopped { IfErr result (λ e. e ≡ Stopped) }
+        ensures err { OnErr result (FailsToErase pool.old (B.state board.old) (B.state board.new)) }
+        ensures ready { IsReady (B.state board.new) self.old.shape }
+        ensures fits { PoolOnFlash pool.new (B.state board.new).pages }
+    {
+        self.shape.known();
+        let victim = choose(live, front, &self.shape);
+        if live.count(victim) == 0 {
+            live.forget(victim);
+            pool.give(victim);
+            return Ok(Reclaimed::Ended);
+        }
+        match pool.take(board, Owner::Values) {
+            Ok(output) => {
+                self.start(victim, output);
+                Ok(Reclaimed::Worked)
+            }
+            Err(fault) => Err(fault),
+        }
+    }
+
+    // A reclaim runs from now on.
+    fn start(&mut self, victim: u32, output: u32)
+        ensures { self.new ≡ record self.old { phase = Copies (started victim output); moves = [] } }
+    {
+        self.moves.clear();
+        self.phase = Phase::Copies(Course {
+            victim,
+            output,
+            seen: 0,
+            used: 0,
+            left: 0,
+            held: false,
+        });
+    }
+
+    // Notes the value that begins at this page of the victim, whose first page was read.
+    fn push(&mut self, course: Course, page: u32, found: Head)
+        requires room { length self.old.moves < spec.dense self.old.shape }
+        requires short { found.len ≤ spec.greatest self.old.shape }
+        requires output { course.output < self.old.shape.blocks }
+        requires used { course.used ≤ self.old.shape.block_pages }
+        requires victim { course.victim * self.old.shape.block_pages ≤ page }
+        ensures { self.new ≡ record self.old { phase = Copies (begun_at course (page - course.victim * self.old.shape.block_pages) (spec.charge self.old.shape found.len)); moves = self.old.moves ++ begun_move self.old.shape course page found.key found.len ∷ [] } }
+    {
+        self.shape.known();
+        let pages = self.shape.block_pages();
+        let count = self.shape.charge(found.len);
+        self.moves.push_reserved(Move {
+            key: found.key,
+            len: found.len,
+            from: page,
+            to: course.output * pages + course.used,
+            count,
+        });
+        self.phase = Phase::Copies(Course {
+            seen: page - course.victim * pages,
+            left: count,
+            held: true,
+            ..course
+        });
+    }
+
+    // Reads the first page of the next live value, and notes where it goes.
+    fn begin_value<B: Nand>(
+        &mut self,
+        board: &mut B,
+        course: Course,
+        page: u32,
+    ) -> Result<Reclaimed, Fault>
+        requires course { self.old.phase ≡ Copies course }
+        requires whole { course.left ≡ 0 }
+        requires room { length self.old.moves < spec.dense self.old.shape }
+        requires ready { IsReady (B.state board.old) self.old.shape }
+        requires runs { (es : List (KeySpec × Place)) × (key : KeySpec) × (place : Place) × IsRunning self.old.shape course self.old.moves self.old.page (B.state board.old).pages es × IsNextValue self.old.shape course (B.state board.old).pages es page key place }
+        ensures worked { IfOk result (λ r. r ≡ Worked) }
+        ensures shape { self.new.shape ≡ self.old.shape }
+        ensures board { OnOk result (B.state board.new ≡ after_read (B.state board.old)) }
+        ensures job { OnOk result ((es : List (KeySpec × Place)) (key : KeySpec) (place : Place) → IsNextValue self.old.shape course (B.state board.old).pages es page key place → self.new ≡ record self.old { phase = Copies (begun_at course (page - course.victim * self.old.shape.block_pages) (spec.charge self.old.shape place.len)); moves = self.old.moves ++ begun_move self.old.shape course page key place.len ∷ []; page = self.new.page }) }
+        ensures runs { OnOk result ((es : List (KeySpec × Place)) (key : KeySpec) (place : Place) → IsRunning self.old.shape course self.old.moves self.old.page (B.state board.old).pages es → IsNextValue self.old.shape course (B.state board.old).pages es page key place → IsRunning self.old.shape (begun_at course (page - course.victim * self.old.shape.block_pages) (spec.charge self.old.shape place.len)) (self.old.moves ++ begun_move self.old.shape course page key place.len ∷ []) self.new.page (B.state board.new).pages es) }
+        ensures kept { OnErr result (self.new ≡ record self.old { page = self.new.page }) }
+        ensures reading { IfErr result (λ e. e ≡ Reading) }
+        ensures err { OnErr result (ReadFailed (B.state board.old) (B.state board.new) page) }
+    {
+        self.shape.known();
+        match read_page(board, page, &mut self.page) {
+            Ok(()) => match head(&self.shape, &self.page) {
+                Ok(found) => {
+                    self.push(course, page, found);
+                    Ok(Reclaimed::Worked)
+                }
+                Err(_) => unreachable!(),
+            },
+            Err(fault) => Err(fault),
+        }
+    }
+
+    // Reads the next page of the value that is copied.
+    fn read<B: Nand>(&mut self, board: &mut B, course: Course) -> Result<Reclaimed, Fault>
+        requires course { self.old.phase ≡ Copies course }
+        requires some { 0 < course.left }
+        requires ready { IsReady (B.state board.old) self.old.shape }
+        requires runs { (es : List (KeySpec × Place)) × IsRunning self.old.shape course self.old.moves self.old.page (B.state board.old).pages es }
+        ensures worked { IfOk result (λ r. r ≡ Worked) }
+        ensures job { OnOk result (self.new ≡ record self.old { phase = Copies (read_next course); page = self.new.page }) }
+        ensures board { OnOk result (B.state board.new ≡ after_read (B.state board.old)) }
+        ensures runs { OnOk result ((es : List (KeySpec × Place)) → IsRunning self.old.shape course self.old.moves self.old.page (B.state board.old).pages es → IsRunning self.old.shape (read_next course) self.old.moves self.new.page (B.state board.new).pages es) }
+        ensures kept { OnErr result (self.new ≡ record self.old { page = self.new.page }) }
+        ensures reading { IfErr result (λ e. e ≡ Reading) }
+        ensures err { OnErr result (ReadFailed (B.state board.old) (B.state board.new) (source self.old.shape course)) }
+    {
+        self.shape.known();
+        let page = course.victim * self.shape.block_pages() + course.seen;
+        match read_page(board, page, &mut self.page) {
+            Ok(()) => {
+                self.phase = Phase::Copies(Course {
+                    held: true,
+                    ..course
+                });
+                Ok(Reclaimed::Worked)
+            }
+            Err(fault) => Err(fault),
+        }
+    }
+
+    // Programs the page that was read to the output.
+    fn program<B: Nand>(&mut self, board: &mut B, course: Course) -> Result<Reclaimed, Fault>
+        requires course { self.old.phase ≡ Copies course }
+        requires held { course.held ≡ true }
+        requires ready { IsReady (B.state board.old) self.old.shape }
+        requires runs { (es : List (KeySpec × Place)) × IsRunning self.old.shape course self.old.moves self.old.page (B.state board.old).pages es }
+        ensures worked { IfOk result (λ r. r ≡ Worked) }
+        ensures job { OnOk result (self.new ≡ record self.old { phase = Copies (programmed course) }) }
+        ensures board { OnOk result (B.state board.new ≡ after_program (B.state board.old) (target self.old.shape course) self.old.page) }
+        ensures runs { OnOk result ((es : List (KeySpec × Place)) → IsRunning self.old.shape course self.old.moves self.old.page (B.state board.old).pages es → IsRunning self.old.shape (programmed course) self.old.moves self.old.page (B.state board.new).pages es) }
+        ensures kept { OnErr result (self.new ≡ self.old) }
+        ensures stopped { IfErr result (λ e. e ≡ Stopped) }
+        ensures err { OnErr result (ProgramFailed (B.state board.old) (B.state board.new) (target self.old.shape course) self.old.page) }
+        ensures ready { IsReady (B.state board.new) self.old.shape }
+    {
+        self.shape.known();
+        let page = course.output * self.shape.block_pages() + course.used;
+        match write_page(board, page, &self.page) {
+            Ok(()) => {
+                self.phase = Phase::Copies(Course {
+                    seen: course.seen + 1,
+                    used: course.used + 1,
+                    left: course.left - 1,
+                    held: false,
+                    ..course
+                });
+                Ok(Reclaimed::Worked)
+            }
+            Err(fault) => Err(fault),
+        }
+    }
+
+    // Adds the moves that are left to the newest epoch, in one page of the journal.
+    fn commit<B: Nand>(
+        &mut self,
+        board: &mut B,
+        live: &Live<A>,
+        active: &Buffer<A>,
+        epoch: &mut Epoch,
+        buf: &mut [u8],
+    ) -> Result<Committed, Fault>
+        requires runs { (c : CourseSpec) × (es : List (KeySpec × Place)) × IsRunning self.old.shape c self.old.moves self.old.page (B.state board.old).pages es }
+        requires epoch { epoch.old.shape ≡ self.old.shape }
+        requires ready { IsReady (B.state board.old) self.old.shape }
+        requires fits { EpochOnFlash epoch.old (B.state board.old).pages }
+        requires blocks { AreBlocks epoch.old.shape epoch.old.blocks }
+        requires room { length buf.old ≡ self.old.shape.page_bytes }
+        ensures kept { self.new ≡ self.old }
+        ensures commits { IfOk result (λ r. Commits (entries_left live.now.heads self.old.moves) active.now epoch.old (B.state board.old) epoch.new (B.state board.new) r) }
+        ensures kept_epoch { OnErr result (epoch.new ≡ epoch.old) }
+        ensures stopped { IfErr result (λ e. e ≡ Stopped) }
+        ensures err { OnErr result (ProgramFailed (B.state board.old) (B.state board.new) (next_page epoch.old) (next_bytes epoch.old (entries_left live.now.heads self.old.moves))) }
+        ensures ready { IsReady (B.state board.new) self.old.shape }
+        ensures buffer { length buf.new ≡ length buf.old }
+    {
+        self.shape.known();
+        fill_left(&self.moves, live, &mut self.entries);
+        if self.entries.is_empty() {
+            return Ok(Committed::None);
+        }
+        if active.room() < new_keys(&self.entries, active) || epoch.left() == 0 {
+            return Ok(Committed::NeedsFreeze);
+        }
+        match epoch.append(board, &self.entries, buf) {
+            Ok(()) => return Ok(Committed::All),
+            Err(fault) => return Err(fault),
+        }
+    }
+
+    // The victim is closed no more, and the output takes the next values.
+    fn hand_over(&mut self, live: &mut Live<A>, front: &mut OpenBlock, course: Course)
+        requires closed { IsClosed live.old course.victim }
+        requires empty { count_of live.old course.victim ≡ 0 }
+        requires front { MatchOption front.old.block (Unit {0}) (λ b. b < length live.old.closed) }
+        ensures job { self.new ≡ record self.old { phase = GivesBack course.victim } }
+        ensures live { live.new ≡ record live.old { closed = closed_with front.old.block (slice_set live.old.closed course.victim false) } }
+        ensures front { front.new ≡ record { block = Some course.output; used = course.used } }
+    {
+        live.forget(course.victim);
+        close(live, front);
+        front.block = Some(course.output);
+        front.used = course.used;
+        self.phase = Phase::GivesBack(course.victim);
+    }
+
+    // Gives the victim back, and ends the reclaim.
+    fn give_back(&mut self, pool: &mut Pool<A>, victim: u32) -> Result<Reclaimed, Fault>
+        requires owned { IsOwned pool.old victim }
+        ensures ended { IfOk result (λ r. r ≡ Ended) }
+        ensures never { OnErr result ⊥ }
+        ensures job { self.new ≡ record self.old { phase = Idle } }
+        ensures given { pool.new ≡ with_state pool.old victim Free }
+        ensures fits { (flash : Flash) → PoolOnFlash pool.old flash → PoolOnFlash pool.new flash }
+    {
+        pool.give(victim);
+        self.phase = Phase::Idle;
+        Ok(Reclaimed::Ended)
+    }
+
+    // Commits the moves that are left. Where none is, the victim is given back at once.
+    fn finish<B: Nand>(
+        &mut self,
+        board: &mut B,
+        pool: &mut Pool<A>,
+        live: &mut Live<A>,
+        active: &mut Buffer<A>,
+        epoch: &mut Epoch,
+        front: &mut OpenBlock,
+        course: Course,
+        buf: &mut [u8],
+    ) -> Result<Reclaimed, Fault>
+        requires runs { (es : List (KeySpec × Place)) × IsRunning self.old.shape course self.old.moves self.old.page (B.state board.old).pages es }
+        requires can { CanEnd course self.old (record { live = live.old; front = front.old; pool = pool.old; active = active.old; epoch = epoch.old }) }
+        requires epoch { epoch.old.shape ≡ self.old.shape }
+        requires ready { IsReady (B.state board.old) self.old.shape }
+        requires fits { EpochOnFlash epoch.old (B.state board.old).pages }
+        requires blocks { AreBlocks epoch.old.shape epoch.old.blocks }
+        requires room { length buf.old ≡ self.old.shape.page_bytes }
+        ensures finishes { IfOk result (λ r. Finishes course self.old (record { live = live.old; front = front.old; pool = pool.old; active = active.old; epoch = epoch.old }) (B.state board.old) self.new (record { live = live.new; front = front.new; pool = pool.new; active = active.new; epoch = epoch.new }) (B.state board.new) r) }
+        ensures kept { OnErr result (self.new ≡ self.old) }
+        ensures kept_hands { OnErr result ((live.new ≡ live.old) × (front.new ≡ front.old) × (pool.new ≡ pool.old) × (active.new ≡ active.old) × (epoch.new ≡ epoch.old)) }
+        ensures stopped { IfErr result (λ e. e ≡ Stopped) }
+        ensures err { OnErr result (ProgramFailed (B.state board.old) (B.state board.new) (next_page epoch.old) (next_bytes epoch.old (entries_left live.old.heads self.old.moves))) }
+        ensures ready { IsReady (B.state board.new) self.old.shape }
+        ensures buffer { length buf.new ≡ length buf.old }
+    {
+        match self.commit(board, live, active, epoch, buf) {
+            Ok(Committed::NeedsFreeze) => return Ok(Reclaimed::NeedsFreeze),
+            Ok(Committed::None) => {
+                self.hand_over(live, front, course);
+                return self.give_back(pool, course.victim);
+            }
+            Ok(Committed::All) => {
+                apply(&self.moves, live, active);
+                self.hand_over(live, front, course);
+                return Ok(Reclaimed::Worked);
+            }
+            Err(fault) => return Err(fault),
+        }
+    }
+}

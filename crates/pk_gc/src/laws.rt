@@ -1,0 +1,63 @@
+//! What the moves of a reclaim make of the values, each the contract of a function that does nothing.
+ghost use Rattle.pk_gc.specs.Copied.{Empties, MayMove};
+ghost use Rattle.pk_gc.specs.Cuts.{CommitReaches};
+ghost use Rattle.pk_gc.specs.Ending.{GivesUp};
+ghost use Rattle.pk_gc.specs.Falling.{StartRuns, ReadRuns, ProgramRuns, BeginRuns, ReadFalls, ProgramFalls, BeginFalls, ProgramSparse, BeginSparse, FewerSparse};
+ghost use Rattle.pk_gc.specs.Going.{NextIsValue};
+ghost use Rattle.pk_gc.specs.Buffering.{MovesBuffered, MovesFit};
+ghost use Rattle.pk_gc.specs.Lowering.{StepLowers, LiveOfBlock};
+ghost use Rattle.pk_gc.specs.Keeping.{RunsElsewhere, RunsStored, RunsDeleted};
+
+/// Where a victim is copied, the moves that are left take all values out of it, and their commit leaves the map.
+pub fn copied()
+    ensures empties { Empties }
+    ensures may_move { MayMove }
+{}
+
+/// A reclaim runs on as it stands, whatever is written in other blocks, and whichever keys get a value there or lose theirs.
+pub fn in_mid_copy()
+    ensures elsewhere { RunsElsewhere }
+    ensures stored { RunsStored }
+    ensures deleted { RunsDeleted }
+{}
+
+/// Every cut of the commit of the moves holds the same map.
+pub fn cuts()
+    ensures { CommitReaches }
+{}
+
+/// A reclaim that runs stands behind each step of its copy, and each lowers the steps that are left.
+pub fn steps()
+    ensures start { StartRuns }
+    ensures read { ReadRuns }
+    ensures program { ProgramRuns }
+    ensures begin { BeginRuns }
+    ensures read_falls { ReadFalls }
+    ensures program_falls { ProgramFalls }
+    ensures begin_falls { BeginFalls }
+    ensures program_sparse { ProgramSparse }
+    ensures begin_sparse { BeginSparse }
+    ensures fewer_sparse { FewerSparse }
+{}
+
+/// A reclaim that has copied its victim can be ended.
+pub fn at_end()
+    ensures { GivesUp }
+{}
+
+/// The first head that was not seen is that of the next value.
+pub fn next_value()
+    ensures { NextIsValue }
+{}
+
+/// Each step that wants no freeze lowers what is left, where a block that is taken counts twice.
+pub fn lowers()
+    ensures steps { StepLowers }
+    ensures live { LiveOfBlock }
+{}
+
+/// Behind the moves the active buffer mirrors the newest epoch with their entries, which has no more keys than a buffer takes.
+pub fn buffered()
+    ensures moves { MovesBuffered }
+    ensures fit { MovesFit }
+{}

@@ -1,0 +1,18 @@
+//! Reclaims: the live values of a block are copied to another one, one page of the journal commits their moves, and the block
+//! is given back, by steps of at most one call of the board. The map of the flash is the same at every cut of each step.
+#![tactic(auto)]
+
+mod course;
+mod job;
+mod laws;
+mod moves;
+mod open_block;
+mod reclaimed;
+mod victim;
+
+pub use course::{Course, Phase};
+pub use job::ReclaimJob;
+pub use laws::{at_end, buffered, copied, cuts, in_mid_copy, lowers, next_value, steps};
+pub use moves::Move;
+pub use open_block::OpenBlock;
+pub use reclaimed::Reclaimed;

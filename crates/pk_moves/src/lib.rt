@@ -1,0 +1,33 @@
+//! What reclaims make of the map that a flash holds, as laws over definitions alone: values are copied, and one page of the journal
+//! says so.
+#![tactic(auto)]
+
+ghost use Rattle.pk_moves.specs.Moves.{Copies, Moves, PlacesMove, PlacesStay, MovesCommit, MovesCommitted};
+ghost use Rattle.pk_moves.specs.Victims.{LieInOthers, NoneLeft, OneIsSparse, FitOnePage, LeavesRoom};
+
+/// A page that is copied to a block that nobody reads leaves the map.
+pub fn copies()
+    ensures { Copies }
+{}
+
+/// Entries that name copies of values leave the map, wherever the page that commits them is cut.
+pub fn moves()
+    ensures moves { Moves }
+    ensures places { PlacesMove }
+    ensures stay { PlacesStay }
+    ensures commit { MovesCommit }
+    ensures committed { MovesCommitted }
+{}
+
+/// Before the moves and behind them all values lie in as many blocks, and behind them none in the block that was reclaimed.
+pub fn blocks()
+    ensures others { LieInOthers }
+    ensures none_left { NoneLeft }
+{}
+
+/// A block is there whose values can be moved by one page of the journal, and every value has room behind their copies.
+pub fn victims()
+    ensures one_is_sparse { OneIsSparse }
+    ensures one_page { FitOnePage }
+    ensures room { LeavesRoom }
+{}
