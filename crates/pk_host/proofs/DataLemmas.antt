@@ -18,7 +18,7 @@ use Rattle.pk_model.specs.Answer.{first_of, check, is_namespace, is_key_length, 
 use Rattle.pk_model.specs.Machine.{no_numbers}
 use Rattle.pk_model.proofs.Answering.{refuses_with, serves, list_sized}
 use Rattle.pk_host.specs.Port.{room_for, room_of}
-use Rattle.pk_host_tests.proofs.LeftLemmas.{first_none}
+use Rattle.pk_host.proofs.LeftLemmas.{first_none}
 
 -- ---- what fits
 

@@ -13,11 +13,10 @@ use Rattle.pk_nvme.specs.declared.status.TheConstants.{CAPACITY_EXCEEDED, KEY_DO
 use Rattle.pk_nvme.specs.Opcode.{op_of}
 use Rattle.pk_nvme.specs.Command.{Command, IsWhole, key, must_exist, must_be_new}
 use Rattle.pk_model.specs.Answer.{first_of, check, fault_of, early, late_of, live_after, refused, map_after, effect}
-use Rattle.pk_model.specs.Machine.{Machine}
 use Rattle.pk_model.proofs.Answering.{refuses_with, serves, key_sized, store_sized}
 use Rattle.pk_model.proofs.Machines.{live-empty, live-remove, live_stored}
-use Rattle.pk_host_tests.specs.Memory.{IsGood, IsHanded}
-use Rattle.pk_host_tests.proofs.EntryLemmas.{map_empty, map_insert, map_remove}
+use Rattle.pk_host.specs.Good.{IsGood, IsHanded, holding}
+use Rattle.pk_host.proofs.EntryLemmas.{map_empty, map_insert, map_remove}
 
 -- ---- checks that passed
 
@@ -56,10 +55,6 @@ store_alone n =
     ]
 
 -- ---- the map that is left
-
--- a machine of this shape with this map
-abbrev pub holding : Shape → Map → Machine
-holding shape m = record { shape = shape; map = m }
 
 pub good_empty : (shape : Shape) → IsGood (holding shape empty)
 good_empty shape = let none = live-empty shape in record { sized = map_empty shape; few = omega (arith, none) }
