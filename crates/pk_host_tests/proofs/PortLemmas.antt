@@ -38,7 +38,7 @@ module _ (old new : Machine) (faults : ℕ) (c : Command) (a : Answer) (h : Answ
 
   -- the data of the answer fit the buffer
   pub answer_fits : length a.bytes.items ≤ room_of c
-  answer_fits = subst (λ (r : Reply). length r.data_bytes ≤ room_of c) (sym h.reply_is) (data_fit old.shape (limit old.shape) old.map c)
+  answer_fits = subst (λ (r : Reply). length r.data_bytes ≤ room_of c) (sym h.reply_is) (data_fit old.shape (limit old.shape) 0 old.map no_numbers refl c)
 
   pub replies_so : IsGood old → a.status < 256 → a.result < 2 ^ 32 → Replies (seen old faults) (seen new faults) c (replied a)
   replies_so good status field = record {
