@@ -1,5 +1,5 @@
 -- The replies of the definition: their data fit the buffer that is asked for, and none is a read error.
-use Rattle.std.proofs.Common.{◌≡◌, ◌≢◌, ℕ, ◌+◌, ◌-◌, ◌*◌, ◌≤◌, ◌==◌, min, refl, sym, ap, subst, ◌∙◌, arith, Bool, true, false, not, ◌&&◌, ◌||◌, nat_le, if◌then◌else◌, List, [], ◌∷◌, ◌++◌, length, take, flat_map, Option, Some, None, unwrap_or, length-append}
+use Rattle.std.proofs.Common.{◌≡◌, ◌≢◌, ℕ, ◌-◌, ◌*◌, ◌≤◌, ◌==◌, min, refl, sym, ap, subst, ◌∙◌, arith, Bool, true, false, not, ◌&&◌, ◌||◌, nat_le, if◌then◌else◌, List, [], ◌∷◌, length, flat_map, Option, Some, None, unwrap_or, length-append}
 use Rattle.std.proofs.lemmas.Bool.{leb-true, eq-eqb}
 use Rattle.std.proofs.lemmas.List.{length-take}
 use Rattle.std.specs.FinMap.{get, contains_key, len}

@@ -1,5 +1,5 @@
 -- What a command that was served leaves of a drive on its board, and what it tells a host.
-use Rattle.std.proofs.Common.{◌≡◌, ◌≢◌, inl, inr, ℕ, ◌+◌, ◌≤◌, ◌<◌, ◌^◌, refl, sym, ap, subst, ◌∙◌, arith, List, [], ◌∷◌, length, take, Bool, true, false, nat_le, Option, Some, None, Result, Ok, Err}
+use Rattle.std.proofs.Common.{◌≡◌, ◌≢◌, inl, inr, ℕ, ◌+◌, ◌≤◌, ◌<◌, ◌^◌, refl, sym, ap, subst, ◌∙◌, arith, List, [], length, take, Bool, true, false, nat_le, Option, Some, Result, Ok, Err}
 use Rattle.std.proofs.lemmas.Bool.Decides.{nat_tests}
 use Rattle.std.proofs.lemmas.List.{length-take-le}
 use Rattle.std.specs.Result.{result_ok}
@@ -15,21 +15,18 @@ use Rattle.pk_nvme.specs.Reply.{Reply}
 use Rattle.pk_nand.specs.BoardState.{BoardState, shape_of, shape_or_none}
 use Rattle.pk_nand.specs.Calls.{Rose}
 use Rattle.pk_nand.specs.Effects.{OnlyFlash}
-use Rattle.pk_model.specs.Answer.{map_after, reply}
 use Rattle.pk_model.specs.Reading.{reading, Holds}
-use Rattle.pk_model.specs.Run.{Step, Exchange}
 use Rattle.pk_model.specs.Sight.{Sight}
 use Rattle.pk_model.specs.Wear.{root_number, roots, is_worn}
-use Rattle.pk_drive.specs.Drive.{HoldsMap}
 use Rattle.pk_drive.specs.Exec.{most_installs, IsValue}
-use Rattle.pk_drive.specs.Meter.{meter, Metered, reads_after}
-use Rattle.pk_serve.specs.Port.{Submitted, Submits, SubmitStops, StepCut}
+use Rattle.pk_drive.specs.Meter.{reads_after}
+use Rattle.pk_serve.specs.Port.{Submitted, Submits, SubmitStops}
 use Rattle.pk_host.specs.Good.{IsGood, IsHanded, holding}
 use Rattle.pk_host.specs.Port.{Steps, Replies, room_of}
 use Rattle.pk_host.proofs.LeftLemmas.{good_left}
 use Rattle.pk_host.proofs.DataLemmas.{data_fit}
 use Rattle.pk_port.specs.Ready.{Ready, Fits}
-use Rattle.pk_port.specs.Steps.{Mounted, mount, seen, Serves, Stops, Fails}
+use Rattle.pk_port.specs.Steps.{mount, seen, Serves, Fails}
 use Rattle.pk_port.specs.declared.halt.Halt.TheVariants.{Stopped}
 
 ok_told : (r : Result Map Refusal) (m : Map) → result_ok r ≡ Some m → r ≡ Ok m
@@ -130,17 +127,20 @@ module _ (agrees : Option Shape → Flash → Type 0) (shape : Shape) (old : Boa
 
     pub fails_so : SubmitStops old new d c → (serves serves' : Request → Bool) (r : Request) → command_of r c.value ≡ c → serves r ≡ true → d.stopped ≡ false → e.stopped ≡ true → is_worn old ≡ false → OnlyFlash old new
         → old.read_faults ≤ new.read_faults → Rose old.stop_faults new.stop_faults → Fails shape (mount old d serves) (mount new e serves') c Stopped
-    fails_so stops serves serves' r is built going stopped unworn rest up stop = inl (refl, record {
-      runs = record { going = going; unworn = unworn };
-      built = (r, is, built);
-      map = ready.map;
-      held = ready_holds;
-      went = stops shape d.counts.frames ready.map ready.stands ready.none;
-      stopped = stopped;
-      stop = stop;
-      up = up;
-      rest = rest;
-    })
+    fails_so stops serves serves' r is built going stopped unworn rest up stop = inl (
+      refl,
+      record {
+        runs = record { going = going; unworn = unworn };
+        built = (r, is, built);
+        map = ready.map;
+        held = ready_holds;
+        went = stops shape d.counts.frames ready.map ready.stands ready.none;
+        stopped = stopped;
+        stop = stop;
+        up = up;
+        rest = rest;
+      },
+    )
 
 -- data in front of a buffer, so many bytes
 pub front_few : (len : ℕ) (into : List ℕ) (most : ℕ) → len ≤ length into → length (take len into) ≤ most → len ≤ most

@@ -1,14 +1,9 @@
 -- One command through the port.
-use Rattle.std.proofs.Common.{◌≡◌, inl, inr, ℕ, ◌≤◌, refl, sym, ap, subst, ◌∙◌, List, [], ◌∷◌, take, length, Option, Some, arith}
+use Rattle.std.proofs.Common.{◌≡◌, inl, inr, ℕ, ◌≤◌, refl, sym, ap, subst, ◌∙◌, [], ◌∷◌, Option, Some, arith}
 use Rattle.pk_base.specs.Shape.{Shape}
 use Rattle.pk_nvme.specs.Command.{Command}
-use Rattle.pk_nvme.specs.Reply.{completion}
 use Rattle.pk_nand.specs.Calls.{Rose}
-use Rattle.pk_drive.specs.Seen.{reply_of}
-use Rattle.pk_drive.specs.declared.types.Outcome.{Outcome}
-use Rattle.pk_host.specs.Port.{PortState, Replies, Completes}
-use Rattle.pk_host.specs.declared.types.Completed.{Completed}
-use Rattle.pk_port.specs.Steps.{Mounted, Standing, Serves, Stops, Fails, Stepped, Chain}
+use Rattle.pk_port.specs.Steps.{Mounted, Standing, Serves, Fails, Stepped, Chain}
 use Rattle.pk_port.specs.declared.halt.Halt.{Halt}
 
 module _ (shape : Shape) (old new : Mounted) (before behind : ℕ) (halt halt' : Option Halt) (c : Command) (has : new.board.shape ≡ Some shape) where
@@ -37,16 +32,3 @@ module _ (shape : Shape) (old new : Mounted) (before behind : ℕ) (halt halt' :
   -- a chain of this command
   pub chain_one : (d : Command) → c ≡ d → Stepped shape first last c → Chain shape first (d ∷ []) last
   chain_one d e s = let T : Command → Type 0 = λ k. Stepped shape first last k in (last, subst T e s, refl)
-
--- a completion whose data stand in the front of a buffer
-pub completes_so : (old new : PortState) (c : Command) (o : Outcome) (cid taken : ℕ) (done : Completed) (bytes into : List ℕ)
-    → done.entry ≡ completion cid taken o.status o.result → done.data_len ≡ o.data_len → c.cid ≡ cid → o.data_len ≤ length into → take o.data_len into ≡ take o.data_len bytes
-    → Replies old new c (reply_of o bytes) → Completes old new c done into
-completes_so old new c o cid taken done bytes into entry len same room front replies = record {
-  head = taken;
-  reply = reply_of o bytes;
-  entry = entry ∙ ap (λ (n : ℕ). completion n taken o.status o.result) (sym same);
-  fits = omega (arith, len, room);
-  front = sym front ∙ ap (λ (n : ℕ). take n into) (sym len);
-  replies = replies;
-}

@@ -1,6 +1,5 @@
-use Rattle.std.proofs.Common.{◌≤◌, ◌∙◌, sym, refl, subst, ap, arith}
+use Rattle.std.proofs.Common.{◌≤◌, sym, refl, subst, ap, arith}
 use Rattle.pk_nvme.specs.Command.{Command}
-use Rattle.pk_nvme.specs.Seen.{command_of}
 use Rattle.pk_drive.specs.Seen.{reply_of}
 use Rattle.pk_host.specs.Good.{IsHanded}
 use Rattle.pk_host.specs.Port.{Replies, room_of}
@@ -25,11 +24,23 @@ returns-in-Ok-clause-completes g c =
     c.completed.ensures _ _ _ (ap (λ (k : Command). k.cid) (sym is)) (subst T is (c.in-Ok.ensures.replies _ _))
 
 pub returns-in-Ok-clause-took : goal.returns-in-Ok-clause-took
-returns-in-Ok-clause-took g c = (refl, refl, refl, refl, refl,
+returns-in-Ok-clause-took g c = (
+  refl,
+  refl,
+  refl,
+  refl,
+  refl,
   chain_one c.args.self.now.shape (mount (g.B.Nand.state c.args.self.now.board.now) (g.D.Engine.sight c.args.self.now.drive.now) (g.D.Engine.built c.args.self.now.drive.now)) (mount (g.B.Nand.state c.serve_lent.new.board) (g.D.Engine.sight c.serve_lent.new.drive) (g.D.Engine.built c.serve_lent.new.drive)) _ _ _ _ _ c.in-Ok.ensures.fits.shape_is _ (c.of-request.ensures c.args.value.now)
-  (stepped_ok c.args.self.now.shape _ _ _ _ _ _ _ c.in-Ok.ensures.fits.shape_is _ c.in-Ok.ensures.makes (ap (λ t. t.faults) c.answer.ensures) (ap (λ t. t.halt) c.answer.ensures)))
+      (stepped_ok c.args.self.now.shape _ _ _ _ _ _ _ c.in-Ok.ensures.fits.shape_is _ c.in-Ok.ensures.makes (ap (λ t. t.faults) c.answer.ensures) (ap (λ t. t.halt) c.answer.ensures)),
+)
 
 pub returns-in-Err-clause-took : goal.returns-in-Err-clause-took
-returns-in-Err-clause-took g c = (refl, refl, refl, refl, refl,
+returns-in-Err-clause-took g c = (
+  refl,
+  refl,
+  refl,
+  refl,
+  refl,
   chain_one c.args.self.now.shape (mount (g.B.Nand.state c.args.self.now.board.now) (g.D.Engine.sight c.args.self.now.drive.now) (g.D.Engine.built c.args.self.now.drive.now)) (mount (g.B.Nand.state c.serve_lent.new.board) (g.D.Engine.sight c.serve_lent.new.drive) (g.D.Engine.built c.serve_lent.new.drive)) _ _ _ _ _ c.in-Err.ensures.fits.shape_is _ (c.of-request.ensures c.args.value.now)
-  (stepped_err c.args.self.now.shape _ _ _ _ _ _ _ c.in-Err.ensures.fits.shape_is c.in-Err.halt c.in-Err.ensures.makes c.fail.ensures.rose c.fail.ensures.up c.fail.ensures.halt))
+      (stepped_err c.args.self.now.shape _ _ _ _ _ _ _ c.in-Err.ensures.fits.shape_is c.in-Err.halt c.in-Err.ensures.makes c.fail.ensures.rose c.fail.ensures.up c.fail.ensures.halt),
+)
