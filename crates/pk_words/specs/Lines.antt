@@ -1,13 +1,17 @@
 -- The lines that the words say.
-use Rattle.std.specs.Prelude.{ℕ, ◌+◌, zero, suc, ◌==◌, if◌then◌else◌, List, [], ◌∷◌, ◌++◌, length, flat_map, codes, Option, Some, None}
+use Rattle.std.specs.Prelude.{ℕ, ◌+◌, ◌==◌, if◌then◌else◌, List, [], ◌∷◌, ◌++◌, flat_map, codes, Option, Some, None}
 use Rattle.pk_base.specs.Key.{Key}
 use Rattle.pk_base.specs.Fields.{u32_at}
 use Rattle.pk_nvme.specs.Text.{number_text, hex_text, bytes_text}
-use Rattle.pk_nvme.specs.declared.status.TheConstants.{SUCCESSFUL_COMPLETION, KEY_DOES_NOT_EXIST}
+use Rattle.pk_nvme.specs.declared.status.TheConstants.{SUCCESSFUL_COMPLETION, KEY_DOES_NOT_EXIST, UNRECOVERED_ERROR}
 
 -- a command was refused with this status, in two hexadecimal digits
 abbrev pub refused_line : ℕ → List ℕ
 refused_line status = codes "refused " ++ hex_text (status ∷ []) ++ codes "\n"
+
+-- a read failed
+abbrev pub failed_line : List ℕ
+failed_line = refused_line UNRECOVERED_ERROR
 
 -- how a command was answered
 abbrev pub status_line : ℕ → List ℕ
@@ -30,7 +34,7 @@ abbrev pub number_line : List ℕ → ℕ → List ℕ
 number_line name n = name ++ codes " " ++ number_text n ++ codes "\n"
 
 -- the names of the numbers of a Report, in its order
-abbrev pub report_names : List (List ℕ)
+unfoldable pub report_names : List (List ℕ)
 report_names =
     codes "live" ∷ codes "limit" ∷ codes "keys" ∷ codes "pinned" ∷ codes "frames" ∷ codes "leased" ∷ codes "active" ∷ codes "frozen" ∷ codes "run1" ∷ codes "run2"
     ∷ codes "run3" ∷ codes "run4" ∷ codes "epoch" ∷ codes "blocks" ∷ codes "ready" ∷ codes "merge" ∷ []

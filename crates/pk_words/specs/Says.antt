@@ -1,5 +1,5 @@
 -- What each word says, from the map that it finds to the one that it leaves.
-use Rattle.std.specs.Prelude.{◌≡◌, ◌⊎◌, ℕ, List, [], ◌++◌, length, Option, Some, None}
+use Rattle.std.specs.Prelude.{◌≡◌, ◌⊎◌, ℕ, List, ◌++◌, length, Option}
 use Rattle.std.specs.FinMap.{get}
 use Rattle.pk_base.specs.Key.{Key}
 use Rattle.pk_base.specs.Shape.{Shape}
@@ -10,40 +10,43 @@ use Rattle.pk_nvme.specs.declared.status.TheConstants.{UNRECOVERED_ERROR}
 use Rattle.pk_model.specs.Answer.{report_bytes}
 use Rattle.pk_model.specs.Run.{StepIn}
 use Rattle.pk_host.specs.Listing.{start_of}
-use Rattle.pk_words.specs.Lines.{refused_line, status_line, value_line, key_lines, report_lines}
+use Rattle.pk_words.specs.Lines.{failed_line, status_line, value_line, key_lines, report_lines}
 
--- a text from one map to another, on a drive of this shape, this limit of live pages and so many frames
+-- a text from one map to another, on a drive of this shape, this limit of live pages and so many frames; and what holds where a read failed
 abbrev pub Saying : Type 1
-Saying = Shape → ℕ → ℕ → Map → List ℕ → Map → Type 0
+Saying = Type 0 → Shape → ℕ → ℕ → Map → List ℕ → Map → Type 0
 
 -- How the one command of a word was answered.
-pub record SaysStatus (c : Command) (shape : Shape) (most frames : ℕ) (m : Map) (text : List ℕ) (m' : Map) : Type 0 where
+pub record SaysStatus (c : Command) (failed : Type 0) (shape : Shape) (most frames : ℕ) (m : Map) (text : List ℕ) (m' : Map) : Type 0 where
   pub reply : Reply
   pub stepped : StepIn shape most frames m c reply m'
+  pub unread : reply.status ≡ UNRECOVERED_ERROR → failed
   pub spelled : text ≡ status_line reply.status
 
--- a word that only reads found this, or a read failed
-abbrev pub Finds : List ℕ → Map → List ℕ → Map → Type 0
-Finds found m text m' = (m' ≡ m) × ((text ≡ found) ⊎ (text ≡ refused_line UNRECOVERED_ERROR))
+-- a text that was found, or that a read failed
+abbrev pub Finds : Type 0 → List ℕ → List ℕ → Type 0
+Finds failed found text = (text ≡ found) ⊎ (failed × (text ≡ failed_line))
 
 -- the whole value of a key
 abbrev pub SaysValue : Key → Saying
-SaysValue key shape most frames m text m' = Finds (value_line (get m key)) m text m'
+SaysValue key failed shape most frames m text m' = (m' ≡ m) × Finds failed (value_line (get m key)) text
 
 -- the keys of a map that are not below this one, or all of them
 abbrev pub wanted_keys : Option Key → Map → List Key
 wanted_keys from m = keys_from (start_of from) m
 
--- All keys that are wanted, or the first of them and that a read failed.
-pub record SaysKeys (from : Option Key) (shape : Shape) (most frames : ℕ) (m : Map) (text : List ℕ) (m' : Map) : Type 0 where
-  pub same : m' ≡ m
-  pub front : List Key
-  pub behind : List Key
-  pub split : wanted_keys from m ≡ front ++ behind
-  pub spelled : ((behind ≡ []) × (text ≡ key_lines front)) ⊎ (text ≡ key_lines front ++ refused_line UNRECOVERED_ERROR)
+-- all keys that are wanted, or a front of them and that a read failed
+abbrev pub ListsKeys : Type 0 → List Key → List ℕ → Type 0
+ListsKeys failed wanted text =
+    (text ≡ key_lines wanted)
+    ⊎ ((front : List Key) × (behind : List Key) × (wanted ≡ front ++ behind) × failed × (text ≡ key_lines front ++ failed_line))
+
+abbrev pub SaysKeys : Option Key → Saying
+SaysKeys from failed shape most frames m text m' = (m' ≡ m) × ListsKeys failed (wanted_keys from m) text
 
 -- The numbers of a Report.
-pub record SaysNumbers (shape : Shape) (most frames : ℕ) (m : Map) (text : List ℕ) (m' : Map) : Type 0 where
+pub record SaysNumbers (failed : Type 0) (shape : Shape) (most frames : ℕ) (m : Map) (text : List ℕ) (m' : Map) : Type 0 where
+  pub same : m' ≡ m
   pub own : List ℕ
   pub eleven : length own ≡ 11
-  pub found : Finds (report_lines (report_bytes shape most frames m own)) m text m'
+  pub found : Finds failed (report_lines (report_bytes shape most frames m own)) text

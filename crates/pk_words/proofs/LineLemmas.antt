@@ -1,0 +1,32 @@
+-- Lines, and how long they are.
+use Rattle.std.proofs.Common.{◌≡◌, ℕ, ◌+◌, ◌*◌, ◌≤◌, ◌<◌, List, [], ◌∷◌, ◌++◌, length, take, slice_index_or, sym, ap, ◌∙◌, arith}
+use Rattle.std.specs.Prelude.{codes}
+use Rattle.std.proofs.lemmas.List.{append-nil, length-append, take_more}
+use Rattle.std.proofs.lemmas.Grind.{flat_map-append}
+use Rattle.pk_base.specs.Key.{Key}
+use Rattle.pk_nvme.specs.Bytes.{RoomyList}
+use Rattle.pk_nvme.specs.Text.{hex_text}
+use Rattle.pk_nvme.proofs.TextLemmas.{length-hex_text}
+use Rattle.pk_words.specs.Lines.{key_line, key_lines}
+
+pub length-key_line : (key : Key) → length (key_line key) ≡ 2 * length key + 1
+length-key_line key = omega (arith, length-append (hex_text key) (codes "\n"), length-hex_text key)
+
+-- the lines of one key more
+pub one_more : (ks : List Key) (i : ℕ) → i < length ks → key_lines (take (i + 1) ks) ≡ key_lines (take i ks) ++ key_line (slice_index_or ks i [])
+one_more ks i h =
+    ap key_lines (take_more ks i [] h) ∙ flat_map-append key_line (take i ks) (slice_index_or ks i [] ∷ []) ∙ ap (λ (xs : List ℕ). key_lines (take i ks) ++ xs) (append-nil (key_line (slice_index_or ks i [])))
+
+-- what stands in a text when so many keys of a page were said
+pub record AreSaid (page : List Key) (text initial : RoomyList) (i : ℕ) : Type 0 where
+  pub lines : text ≡ record initial { items = key_lines (take i page) }
+  pub most : length text.items ≤ 33 * i
+
+pub said_more : (page : List Key) (text next initial : RoomyList) (i : ℕ) (key : Key) → i < length page → AreSaid page text initial i → key ≡ slice_index_or page i []
+    → next ≡ record text { items = text.items ++ key_line key } → length next.items ≤ length text.items + 33 → AreSaid page next initial (i + 1)
+said_more page text next initial i key less h is added short = record {
+  lines =
+      added ∙ ap (λ (t : RoomyList). record t { items = t.items ++ key_line key }) h.lines ∙ ap (λ (k : Key). record initial { items = key_lines (take i page) ++ key_line k }) is
+      ∙ ap (λ (xs : List ℕ). record initial { items = xs }) (sym (one_more page i less));
+  most = omega (arith, h.most, short);
+}

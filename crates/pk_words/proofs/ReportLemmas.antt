@@ -1,0 +1,98 @@
+-- The lines of a Report one after another.
+use Rattle.std.proofs.Common.{◌≡◌, inl, inr, ℕ, ◌+◌, ◌*◌, ◌≤◌, ◌<◌, List, [], ◌∷◌, ◌++◌, length, drop, slice_index_or, replicate, Result, Err, refl, sym, ap, subst, ◌∙◌, arith, append_assoc, add-one}
+use Rattle.std.proofs.Math.Seq.{drop-cons}
+use Rattle.std.proofs.lemmas.List.{append-nil, drop_all}
+use Rattle.pk_base.specs.Fields.{u32_at}
+use Rattle.pk_nvme.specs.Bytes.{RoomyList}
+use Rattle.pk_host.specs.declared.types.HostError.{HostError}
+use Rattle.pk_host.specs.declared.types.HostError.TheVariants.{Refused, Port}
+use Rattle.pk_host.specs.Port.{PortState}
+use Rattle.pk_host.specs.Calls.{report, stored, Gives, IsCause, IsRefusal, Numbers, Leaves}
+use Rattle.pk_host.proofs.ReportLemmas.{report_leaves}
+use Rattle.pk_words.specs.Lines.{number_line, number_lines, report_names, report_lines, status_line}
+use Rattle.pk_words.specs.Says.{SaysNumbers}
+use Rattle.pk_words.specs.Said.{Said}
+
+-- the lines so far, and those of the numbers that are left
+pub record AreCounted (numbers : List ℕ) (text initial : RoomyList) (i : ℕ) : Type 0 where
+  pub lines : text.items ++ number_lines (drop i report_names) numbers (4 * i) ≡ report_lines numbers
+  pub room : text.room ≡ initial.room
+  pub most : length text.items ≤ 18 * i
+
+names_are : length report_names ≡ 16
+unfolding report_names
+names_are = refl
+
+pub counted_more : (numbers : List ℕ) (text next initial : RoomyList) (i : ℕ) (name : List ℕ) → i < 16 → AreCounted numbers text initial i → name ≡ slice_index_or report_names i []
+    → next ≡ record text { items = text.items ++ number_line name (u32_at numbers (4 * i)) } → length next.items ≤ length text.items + 18 → AreCounted numbers next initial (i + 1)
+counted_more numbers text next initial i name less h is added short =
+    let at : 4 * (i + 1) ≡ 4 * i + 4 = omega arith in
+    let line : List ℕ = number_line (slice_index_or report_names i []) (u32_at numbers (4 * i)) in
+    let rest : List ℕ = number_lines (drop (i + 1) report_names) numbers (4 * i + 4) in
+    let split : drop i report_names ≡ slice_index_or report_names i [] ∷ drop (i + 1) report_names = rw add-one (drop-cons report_names i [] (omega (arith, less, names_are))) in
+    record {
+      lines =
+          ap (λ (n : ℕ). next.items ++ number_lines (drop (i + 1) report_names) numbers n) at
+          ∙ ap (λ (t : RoomyList). t.items ++ rest) added
+          ∙ ap (λ (n : List ℕ). (text.items ++ number_line n (u32_at numbers (4 * i))) ++ rest) is
+          ∙ append_assoc text.items line rest
+          ∙ ap (λ (ns : List (List ℕ)). text.items ++ number_lines ns numbers (4 * i)) (sym split)
+          ∙ h.lines;
+      room = ap (λ (t : RoomyList). t.room) added ∙ h.room;
+      most = omega (arith, h.most, short);
+    }
+
+same_text : (text initial : RoomyList) (items : List ℕ) → text.items ≡ items → text.room ≡ initial.room → text ≡ record initial { items = items }
+same_text text initial items e f = λ i. record { items = e i; room = f i }
+
+pub counted_begins : (numbers : List ℕ) (text : RoomyList) → text.items ≡ [] → AreCounted numbers text text 0
+counted_begins numbers text none = record {
+  lines = ap (λ (xs : List ℕ). xs ++ report_lines numbers) none;
+  room = refl;
+  most = omega (arith, ap (λ (xs : List ℕ). length xs) none);
+}
+
+pub counted_all : (numbers : List ℕ) (text initial : RoomyList) (i : ℕ) → i ≡ 16 → AreCounted numbers text initial i → text ≡ record initial { items = report_lines numbers }
+counted_all numbers text initial i last there =
+    let h = subst (λ (n : ℕ). AreCounted numbers text initial n) last there in
+    let behind : drop 16 report_names ≡ [] = drop_all 16 report_names (omega (arith, names_are)) in
+    let items : text.items ≡ report_lines numbers = sym (append-nil text.items) ∙ ap (λ (ns : List (List ℕ)). text.items ++ number_lines ns numbers 64) (sym behind) ∙ h.lines in
+    same_text text initial (report_lines numbers) items h.room
+
+-- ---- what is said
+
+err_same : (e f : HostError) → ◌≡◌ {A = Result (Unit {0}) HostError} (Err e) (Err f) → e ≡ f
+err_same e f h = cc
+
+module _ (old new : PortState) where
+  pub said_numbers : (numbers text : List ℕ) → Numbers old numbers → Leaves old new (λ m. m) → text ≡ report_lines numbers → Said SaysNumbers old new text
+  said_numbers numbers text read leaves spelled m told =
+      let (frames, own, eleven, bytes) = read m told in record {
+        frames = frames;
+        left = m;
+        says = record {
+          same = refl;
+          own = own;
+          eleven = eleven;
+          found = inl (spelled ∙ ap report_lines bytes);
+        };
+        told = leaves m told;
+      }
+
+  pub refused_numbers : (error : HostError) (status : ℕ) (text : List ℕ) → error ≡ Refused status → Gives old new report stored (Err error) → IsCause old new stored error → text ≡ status_line status
+      → Said SaysNumbers old new text
+  refused_numbers error status text is (inr fault) cause spelled m told = absurd (let clash : Refused status ≡ Port = sym is ∙ err_same error Port fault.0 in cc)
+  refused_numbers error status text is (inl (a, x, e)) cause spelled m told =
+      let s = x.answers m told in
+      let refusal : IsRefusal old new stored status = subst (λ (f : HostError). IsCause old new stored f) is cause in
+      let read = refusal.told m told in record {
+        frames = s.frames;
+        left = m;
+        says = record {
+          same = refl;
+          own = replicate 11 0;
+          eleven = refl;
+          found = inr (refusal.unread read, spelled ∙ ap status_line read);
+        };
+        told = report_leaves old new a x m told;
+      }

@@ -1,0 +1,14 @@
+use Rattle.std.proofs.Common.{length, ap, ◌∷◌, [], arith}
+use Rattle.std.specs.Prelude.{codes}
+use Rattle.pk_nvme.specs.Bytes.{RoomyList}
+use Rattle.pk_nvme.specs.Text.{hex_text}
+use Rattle.pk_nvme.proofs.TextLemmas.{appended, length-hex_text}
+use Rattle.pk_words.proofs.lines.say_status.Goals as goal
+
+pub push-requires : goal.push-requires
+push-requires c =
+    let room = ap (λ (t : RoomyList). t.room) c.clear.ensures in
+    let none = ap (λ (t : RoomyList). length t.items) c.clear.ensures in
+    let a = appended c.clear.new.self c.extend-2.new.self (codes "refused ") c.extend-2.ensures in
+    let b = appended c.extend-2.new.self c.push_hex.new.self (hex_text (c.args.status ∷ [])) c.push_hex.ensures in
+    omega (arith, length-hex_text (c.args.status ∷ []))

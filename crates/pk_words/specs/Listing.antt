@@ -1,0 +1,64 @@
+-- A list of keys that is said piece by piece.
+use Rattle.std.specs.Prelude.{◌≡◌, ◌⊎◌, ◌<◌, ℕ, zero, suc, ◌+◌, ◌-◌, ◌*◌, ◌^◌, List, [], ◌∷◌, ◌++◌, Option, Some, None}
+use Rattle.std.specs.FinMap.{keys}
+use Rattle.pk_base.specs.Key.{Key}
+use Rattle.pk_base.specs.Map.{Map, keys_from}
+use Rattle.pk_base.specs.declared.sizes.TheConstants.{KEY_BYTES}
+use Rattle.pk_nand.specs.Calls.{Rose}
+use Rattle.pk_nvme.specs.Command.{Command}
+use Rattle.pk_host.specs.Port.{PortState}
+use Rattle.pk_host.specs.Calls.{exist_of, list_of}
+use Rattle.pk_host.specs.Listing.{above}
+use Rattle.pk_words.specs.Lines.{failed_line, key_lines}
+use Rattle.pk_words.specs.declared.listing.Place.{Place}
+use Rattle.pk_words.specs.declared.listing.Place.TheVariants.{First, From, After}
+
+-- the keys that are not said yet
+abbrev pub keys_left : Place → Map → List Key
+keys_left First m = keys m
+keys_left (From key) m = keys_from key m
+keys_left (After key) m = above key (keys m)
+
+-- the command that a list goes on with
+abbrev pub asked_at : Place → Command
+asked_at First = list_of []
+asked_at (From key) = exist_of key
+asked_at (After key) = list_of key
+
+-- ---- how far a list has come
+
+-- a key as a number that rises with it: digits to the base 257, and a missing byte below all others
+unfoldable pub rank : ℕ → Key → ℕ
+rank zero key = 0
+rank (suc n) [] = 0
+rank (suc n) (byte ∷ key) = suc byte * 257 ^ n + rank n key
+
+-- at most so many pieces come behind a key
+unfoldable pub pieces_after : Key → ℕ
+pieces_after key = 257 ^ KEY_BYTES - rank KEY_BYTES key
+
+unfoldable pub most_pieces : ℕ
+most_pieces = 257 ^ KEY_BYTES
+
+-- at most so many pieces are left: each makes it less
+abbrev pub pieces_left : Place → ℕ
+pieces_left First = most_pieces + 1
+pieces_left (From key) = pieces_after key + 1
+pieces_left (After key) = pieces_after key
+
+-- ---- a piece
+
+-- The lines of the next keys.
+pub record Continues (old : PortState) (place next : Place) (text : List ℕ) : Type 0 where
+  pub lines : (m : Map) → old.map ≡ Some m → (page : List Key) × (keys_left place m ≡ page ++ keys_left next m) × (text ≡ key_lines page)
+  pub falls : pieces_left next < pieces_left place
+
+-- no key is left, or a read failed, which is said
+abbrev pub Ends : PortState → PortState → Place → List ℕ → Type 0
+Ends old new place text =
+    (m : Map) → old.map ≡ Some m → ((text ≡ []) × (keys_left place m ≡ [])) ⊎ (Rose old.read_faults new.read_faults × (text ≡ failed_line))
+
+-- a list goes on at the next place, or it has ended
+abbrev pub Piece : PortState → PortState → Place → Option Place → List ℕ → Type 0
+Piece old new place (Some next) text = Continues old place next text
+Piece old new place None text = Ends old new place text

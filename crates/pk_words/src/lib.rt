@@ -1,0 +1,14 @@
+//! The words of the program over the port of a drive: what each says of the map that it finds, and of the one that it leaves.
+//!
+//! All memory is taken before the first command, and a call takes none.
+#![tactic(auto)]
+
+mod lines;
+mod listing;
+mod report;
+mod sizes;
+mod status;
+mod words;
+
+pub use listing::Place;
+pub use words::Words;
