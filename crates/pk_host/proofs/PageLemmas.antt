@@ -42,7 +42,21 @@ lists_leave shape most m (c ∷ cs) m' h (inr l) =
 pub took_lists : (old new : PortState) (cs : List Command) → Took old new cs → AreLists cs → Leaves old new (λ m. m)
 took_lists old new cs h are m told = let t = h.told m told in t.1 ∙ ap (λ (n : Map). Some n) (lists_leave old.shape old.limit m cs t.0 are t.2)
 
+-- so does a command that only asks
+pub took_one : (old new : PortState) (c : Command) (k : Opcode) → op_of c.opcode ≡ Some k → ((m : Map) → effect m c (Some k) ≡ m) → Took old new (c ∷ []) → Leaves old new (λ m. m)
+took_one old new c k is stays h m told =
+    let t = h.told m told in t.1 ∙ ap (λ (n : Map). Some n) (elim t.2 as (λ x. t.0 ≡ m) [
+      | inl same ↦ same
+      | inr after ↦ after ∙ map_after_same old.shape old.limit m c k is (stays m)
+    ])
+
 -- ---- one page
+
+pub all_read : (from : Key) (each ks : List Key) → each ≡ above from ks → AllByRecursion (IsBelow from) each
+all_read from each ks e = subst (AllByRecursion (IsBelow from)) (sym e) (are_above from ks)
+
+pub none_read : (from : Key) (each : List Key) → each ≡ [] → AllByRecursion (IsBelow from) each
+none_read from each e = subst (AllByRecursion (IsBelow from)) (sym e) tt
 
 not_refused : (o : Option ℕ) → o ≡ None → o ≡ Some 0 → ⊥
 not_refused None e z = cc

@@ -1,6 +1,8 @@
 //! The host: a buffer for keys, and the typed calls of one command each.
 ghost use Rattle.std.specs.Prelude.{◌≡◌, ◌≤◌, ◌<◌, ◌^◌, [], ◌∷◌, length, OnOk, OnErr, IfOk};
 ghost use Rattle.std.specs.FinMap as map;
+ghost use Rattle.std.specs.List.{AllByRecursion};
+ghost use Rattle.pk_base.specs.Key.{IsBelow};
 ghost use Rattle.pk_host.specs.Calls.{Gives, stored, retrieved, existed, store_of, retrieve_of, delete_of, exist_of, list_of, Leaves, Deletes, Fetches, Tests};
 ghost use Rattle.pk_host.specs.Listing.{Pages, Follows, TellsKeys, listed_by};
 
@@ -174,6 +176,7 @@ impl Host {
         ensures pages { OnOk result (Pages (P.state port.old) from.now each.new) }
         ensures follows { IfOk result (λ more. Follows (P.state port.old) from.now more) }
         ensures known { OnOk result (TellsKeys (P.state port.old)) }
+        ensures above { AllByRecursion (IsBelow from.now) each.new }
         ensures empty { OnErr result (each.new ≡ []) }
         ensures leaves { Leaves (P.state port.old) (P.state port.new) (λ m. m) }
         ensures took { P.took port.old (list_of from.now ∷ []) port.new }

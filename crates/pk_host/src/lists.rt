@@ -1,6 +1,8 @@
 //! Pages of keys, and all keys.
 ghost use Rattle.std.specs.Prelude.{◌≡◌, ◌≤◌, [], ◌∷◌, ◌++◌, length, true, OnOk, OnErr, IfOk, IfErr};
+ghost use Rattle.std.specs.List.{AllByRecursion};
 ghost use Rattle.std.specs.Option.{option_copied};
+ghost use Rattle.pk_base.specs.Key.{IsBelow};
 ghost use Rattle.pk_host.specs.Calls.{IsCause, Gives, list_of, Leaves, AreLists, TookSome};
 ghost use Rattle.pk_host.specs.Listing.{Pages, Follows, TellsKeys, ListsAll, listed_by, start_of};
 
@@ -54,6 +56,7 @@ impl Host {
         ensures follows { IfOk result (λ more.
             Follows (P.state port.old) (start_of (option_copied from.entry)) more) }
         ensures known { OnOk result (TellsKeys (P.state port.old)) }
+        ensures above { AllByRecursion (IsBelow (start_of (option_copied from.entry))) each.new }
         ensures empty { OnErr result (each.new ≡ []) }
         // The port.
         ensures leaves { Leaves (P.state port.old) (P.state port.new) (λ m. m) }

@@ -1,3 +1,6 @@
 pub mod LineLemmas
 pub mod SaidLemmas
 pub mod ReportLemmas
+pub mod RankLemmas
+pub mod ListLemmas
+pub mod PieceLemmas

@@ -100,5 +100,5 @@ module _ (old new : PortState) (key : Key) (size : ℕ) where
   said_failed error status text is is_key gives spelled =
       let cause : IsRefusal old new retrieved status = subst (λ (e : HostError). IsCause old new retrieved e) is (retrieve_cause old new key size error is_key gives) in
       found_on text (Err error) gives (λ e. let clash : Refused status ≡ Port = sym is ∙ err_same error Port e in cc) (λ m held told.
-          let read = cause.told m told in
-          inr (cause.unread read, spelled ∙ ap status_line read))
+      let read = cause.told m told in
+      inr (cause.unread read, spelled ∙ ap status_line read))

@@ -1,23 +1,35 @@
 -- A list of keys that is said piece by piece.
 use Rattle.std.specs.Prelude.{◌≡◌, ◌⊎◌, ◌<◌, ℕ, zero, suc, ◌+◌, ◌-◌, ◌*◌, ◌^◌, List, [], ◌∷◌, ◌++◌, Option, Some, None}
 use Rattle.std.specs.FinMap.{keys}
-use Rattle.pk_base.specs.Key.{Key}
+use Rattle.pk_base.specs.Fields.{AreBytes}
+use Rattle.pk_base.specs.Key.{Key, IsKey}
 use Rattle.pk_base.specs.Map.{Map, keys_from}
 use Rattle.pk_base.specs.declared.sizes.TheConstants.{KEY_BYTES}
 use Rattle.pk_nand.specs.Calls.{Rose}
 use Rattle.pk_nvme.specs.Command.{Command}
 use Rattle.pk_host.specs.Port.{PortState}
-use Rattle.pk_host.specs.Calls.{exist_of, list_of}
+use Rattle.pk_host.specs.Calls.{Leaves, exist_of, list_of}
 use Rattle.pk_host.specs.Listing.{above}
 use Rattle.pk_words.specs.Lines.{failed_line, key_lines}
+use Rattle.pk_words.specs.Says.{wanted_keys}
 use Rattle.pk_words.specs.declared.listing.Place.{Place}
 use Rattle.pk_words.specs.declared.listing.Place.TheVariants.{First, From, After}
 
 -- the keys that are not said yet
 abbrev pub keys_left : Place → Map → List Key
-keys_left First m = keys m
+keys_left First m = keys_from [] m
 keys_left (From key) m = keys_from key m
 keys_left (After key) m = above key (keys m)
+
+-- where a list begins
+abbrev pub start_at : Option Key → Place
+start_at None = First
+start_at (Some key) = From key
+
+-- behind a key, or at the first key of all
+abbrev pub behind : Option Key → Place
+behind None = First
+behind (Some key) = After key
 
 -- the command that a list goes on with
 abbrev pub asked_at : Place → Command
@@ -32,6 +44,11 @@ unfoldable pub rank : ℕ → Key → ℕ
 rank zero key = 0
 rank (suc n) [] = 0
 rank (suc n) (byte ∷ key) = suc byte * 257 ^ n + rank n key
+
+-- A key of 1 to 16 bytes.
+pub record IsText (key : Key) : Type 0 where
+  pub is_key : IsKey key
+  pub bytes : AreBytes key
 
 -- at most so many pieces come behind a key
 unfoldable pub pieces_after : Key → ℕ
@@ -62,3 +79,10 @@ Ends old new place text =
 abbrev pub Piece : PortState → PortState → Place → Option Place → List ℕ → Type 0
 Piece old new place (Some next) text = Continues old place next text
 Piece old new place None text = Ends old new place text
+
+-- ---- all pieces
+
+-- Some pieces were said: their lines are those of the first keys that are wanted, and the keys that are left are the others.
+pub record Listed (from : Option Key) (start now : PortState) (place : Place) (text : List ℕ) : Type 0 where
+  pub leaves : Leaves start now (λ m. m)
+  pub lines : (m : Map) → start.map ≡ Some m → (front : List Key) × (text ≡ key_lines front) × (wanted_keys from m ≡ front ++ keys_left place m)

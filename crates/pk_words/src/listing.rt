@@ -1,11 +1,19 @@
 //! A list of keys, piece by piece.
-ghost use Rattle.std.specs.Prelude.{◌≡◌, [], ◌∷◌, OnErr, IfOk};
+ghost use Rattle.std.specs.Prelude.{◌≡◌, ◌<◌, ◌-◌, ℕ, List, [], ◌∷◌, length, slice_index_or, Some, OnErr, IfOk};
 ghost use Rattle.std.specs.Option.{option_copied};
+ghost use Rattle.pk_base.specs.Fields.{AreBytes};
 ghost use Rattle.pk_nand.specs.Calls.{Rose};
+ghost use Rattle.pk_nvme.specs.Bytes.{RoomyList};
 ghost use Rattle.pk_host.specs.Calls.{Leaves, exist_of, list_of};
 ghost use Rattle.pk_host.specs.Listing.{start_of};
+ghost use Rattle.pk_words.specs.Listing.{Piece, IsText, asked_at, behind, start_at};
+ghost use Rattle.pk_words.specs.declared.listing.Place.TheVariants.{From};
+ghost use Rattle.pk_words.specs.Said.{Spoken};
 
+use crate::lines::{add_key, say_keys, say_status};
+use crate::words::Words;
 use pk_base::Key;
+use pk_host::{HostError, KeyPage, Port, PortFault};
 
 /// Where a list of keys goes on.
 #[derive(Drop)]
@@ -16,4 +24,124 @@ pub enum Place {
     From(Key),
     /// Behind this key.
     After(Key),
+}
+
+impl Place {
+    /// Where a list from this key on begins, or one of all keys.
+    pub fn from(key: Option<Key>) -> Place
+        ensures { result ≡ start_at key }
+    {
+        match key {
+            None => Place::First,
+            Some(key) => Place::From(key),
+        }
+    }
+}
+
+impl Words {
+    /// Says the next piece of a list, by one command. The place where the list goes on; nothing where this was its last piece, as no
+    /// key is left or as a read failed.
+    pub fn list<P: Port>(&mut self, port: &mut P, place: Place) -> Result<Option<Place>, PortFault>
+        ensures piece { IfOk result (λ next. Piece (P.state port.old) (P.state port.new) place next
+            self.new.text) }
+        ensures leaves { Leaves (P.state port.old) (P.state port.new) (λ m. m) }
+        ensures fault { OnErr result
+            (Rose (P.state port.old).port_faults (P.state port.new).port_faults) }
+        ensures took { P.took port.old (asked_at place ∷ []) port.new }
+        ensures shape { self.new.shape ≡ self.old.shape }
+    {
+        match place {
+            Place::First => self.list_after(port, None),
+            Place::From(key) => self.list_at(port, key),
+            Place::After(key) => {
+                is_text(&key);
+                self.list_after(port, Some(&key))
+            }
+        }
+    }
+
+    /// Says this key, where it is there.
+    fn list_at<P: Port>(&mut self, port: &mut P, key: Key) -> Result<Option<Place>, PortFault>
+        ensures piece { IfOk result (λ next. Piece (P.state port.old) (P.state port.new)
+            (From key) next self.new.text) }
+        ensures leaves { Leaves (P.state port.old) (P.state port.new) (λ m. m) }
+        ensures fault { OnErr result
+            (Rose (P.state port.old).port_faults (P.state port.new).port_faults) }
+        ensures took { P.took port.old (exist_of key ∷ []) port.new }
+        ensures shape { self.new.shape ≡ self.old.shape }
+    {
+        // so that the key is known to be one
+        let _ = key.bytes();
+        self.text.clear();
+        match self.host.exist(port, &key) {
+            Ok(true) => {
+                add_key(&key, &mut self.text);
+                Ok(Some(Place::After(key)))
+            }
+            Ok(false) => Ok(Some(Place::After(key))),
+            Err(HostError::Refused { status }) => {
+                say_status(status, &mut self.text);
+                Ok(None)
+            }
+            Err(_) => Err(PortFault),
+        }
+    }
+
+    /// Says a page of the keys behind this one, or from the first where there is none.
+    fn list_after<P: Port>(
+        &mut self,
+        port: &mut P,
+        from: Option<&Key>,
+    ) -> Result<Option<Place>, PortFault>
+        requires { (key : List ℕ) → option_copied from ≡ Some key → IsText key }
+        ensures piece { IfOk result (λ next. Piece (P.state port.old) (P.state port.new)
+            (behind (option_copied from.entry)) next self.new.text) }
+        ensures leaves { Leaves (P.state port.old) (P.state port.new) (λ m. m) }
+        ensures fault { OnErr result
+            (Rose (P.state port.old).port_faults (P.state port.new).port_faults) }
+        ensures took { P.took port.old (list_of (start_of (option_copied from.entry)) ∷ [])
+            port.new }
+        ensures shape { self.new.shape ≡ self.old.shape }
+    {
+        match self.host.list_page(port, from, &mut self.page) {
+            Ok(true) => {
+                say_keys(&self.page, &mut self.text);
+                Ok(Some(Place::After(last_of(&self.page))))
+            }
+            Ok(false) => {
+                self.text.clear();
+                Ok(None)
+            }
+            Err(HostError::Refused { status }) => {
+                say_status(status, &mut self.text);
+                Ok(None)
+            }
+            Err(_) => Err(PortFault),
+        }
+    }
+}
+
+/// The last key of a page that has one.
+fn last_of(page: &KeyPage) -> Key
+    requires { 0 < length page.now }
+    ensures last { result ≡ slice_index_or page.now (length page.now - 1) [] }
+    ensures text { IsText result }
+{
+    let last = page.at(page.len() - 1);
+    is_text(last);
+    last.copy()
+}
+
+/// A key is 1 to 16 bytes.
+fn is_text(key: &Key)
+    ensures { IsText key.now }
+{
+    are_bytes(key.bytes());
+}
+
+/// Bytes are numbers below 256.
+fn are_bytes(bytes: &[u8])
+    ensures { AreBytes bytes.now }
+{
+    let _ = bytes.len();
 }

@@ -56,7 +56,8 @@ fn add_number(name: &[u8], numbers: &[u8; 64], at: usize, text: &mut Bytes)
     requires short { length name.now ≤ 6 }
     requires room { length text.old.items + 18 ≤ text.old.room }
     ensures line { text.new ≡ record text.old {
-        items = text.old.items ++ number_line name.now (u32_at numbers.now at) } }
+      items = text.old.items ++ number_line name.now (u32_at numbers.now at);
+    } }
     ensures most { length text.new.items ≤ length text.old.items + 18 }
 {
     text.extend(name);

@@ -67,12 +67,7 @@ impl Words {
     }
 
     /// Stores a value under a key, and says how that was answered.
-    pub fn put<P: Port>(
-        &mut self,
-        port: &mut P,
-        key: &Key,
-        value: &[u8],
-    ) -> Result<(), PortFault>
+    pub fn put<P: Port>(&mut self, port: &mut P, key: &Key, value: &[u8]) -> Result<(), PortFault>
         requires { length value.now < 2 ^ 32 }
         ensures said { OnOk result (Said (SaysStatus (store_of key.now value.now Any))
             (P.state port.old) (P.state port.new) self.new.text) }

@@ -1,7 +1,7 @@
 use Rattle.std.proofs.Common.{◌∙◌, ℕ, List, Ok, nat_lt, length, refl, sym, ap}
 use Rattle.pk_base.specs.Key.{Key}
 use Rattle.pk_host.proofs.CallLemmas.{ok_if}
-use Rattle.pk_host.proofs.PageLemmas.{page_read, follows_read, knows_keys, took_lists, ok_only, ok_never}
+use Rattle.pk_host.proofs.PageLemmas.{page_read, follows_read, knows_keys, took_lists, ok_only, ok_never, all_read, none_read}
 use Rattle.pk_host.proofs.host.Host.page_from.Goals.{in-Ok+in-0, in-Ok+in_default, in-Err}
 use Rattle.pk_host.proofs.host.Host.page_from.Goals as goal
 
@@ -24,6 +24,13 @@ returns-clause-known g c = elim c.match-ask.branch [
   | in-Ok+in-0 w ↦ ok_if c.match-ask.result _ (knows_keys _ _ _ _ w.in-Ok.ensures.replies)
   | in-Ok+in_default w ↦ ok_only c.match-ask.result _ _ w.result-is
   | in-Err w ↦ ok_only c.match-ask.result _ _ w.result-is
+]
+
+pub returns-clause-above : goal.returns-clause-above
+returns-clause-above g c = elim c.match-ask.branch [
+  | in-Ok+in-0 w ↦ all_read c.args.from.now c.match-ask.each _ (w.each-is ∙ w.read_keys.ensures)
+  | in-Ok+in_default w ↦ none_read c.args.from.now c.match-ask.each (w.each-is ∙ c.clear.ensures)
+  | in-Err w ↦ none_read c.args.from.now c.match-ask.each (w.each-is ∙ c.clear.ensures)
 ]
 
 pub returns-clause-leaves : goal.returns-clause-leaves

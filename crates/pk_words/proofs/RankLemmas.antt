@@ -1,0 +1,65 @@
+-- A key's number rises with it.
+use Rattle.std.proofs.Common.{◌≡◌, ℕ, zero, suc, ◌+◌, ◌-◌, ◌*◌, ◌^◌, ◌≤◌, ◌<◌, cond, nat_lt, ◌==◌, true, false, List, [], ◌∷◌, length, refl, ap, arith}
+use Rattle.std.proofs.Math.Nat.{pow-succ', mul-le-mul_right}
+use Rattle.std.proofs.lemmas.Bool.{ltb-true, eqb-true}
+use Rattle.std.specs.declared.cmp.Ordering.{Ordering}
+use Rattle.std.specs.declared.cmp.Ordering.TheVariants.{Less, Equal, Greater}
+use Rattle.std.specs.Ordering.{nat_cmp, ordering_then}
+use Rattle.pk_base.specs.Fields.{AreBytes}
+use Rattle.pk_base.specs.Key.{Key, IsBelow, key_cmp}
+use Rattle.pk_words.specs.Listing.{rank, IsText, pieces_after, most_pieces}
+
+tail_bytes : (b : ℕ) (k : List ℕ) → AreBytes (b ∷ k) → AreBytes k
+tail_bytes b k h i = h (suc i)
+
+power : (n : ℕ) → 257 ^ suc n ≡ 257 * 257 ^ n
+power n = pow-succ' 257 n
+
+-- a first byte and all that may stand behind it
+byte_room : (b x : ℕ) → b < 256 → suc b * x + x ≤ 257 * x
+byte_room b x h = omega (arith, mul-le-mul_right x (let k : suc b ≤ 256 = omega arith in k))
+
+pub rank_fits : (n : ℕ) (k : Key) → length k ≤ n → AreBytes k → rank n k < 257 ^ n
+unfolding rank
+rank_fits zero [] short bytes = omega arith
+rank_fits zero (b ∷ k) short bytes = absurd (omega (arith, short))
+rank_fits (suc n) [] short bytes = omega (arith, power n, rank_fits n [] (omega arith) bytes)
+rank_fits (suc n) (b ∷ k) short bytes = omega (arith, power n, byte_room b (257 ^ n) (bytes 0), rank_fits n k (omega (arith, short)) (tail_bytes b k bytes))
+
+-- the order of two bytes
+byte_cases : (x y : ℕ) (rest : Ordering) (P : Type 0) → ordering_then (nat_cmp x y) rest ≡ Less → (x < y → P) → (x ≡ y → rest ≡ Less → P) → P
+byte_cases x y rest P e at_less at_same =
+    elim (nat_lt x y) as (λ b. nat_lt x y ≡ b → ordering_then (cond b Less (cond (x == y) Equal Greater)) rest ≡ Less → P) [
+      | true ↦ λ l h. at_less (ltb-true x y l)
+      | false ↦ λ l g. elim (x == y) as (λ b. (x == y) ≡ b → ordering_then (cond b Equal Greater) rest ≡ Less → P) [
+        | true ↦ λ s h. at_same (eqb-true x y s) h
+        | false ↦ λ s h. absurd (let clash : Greater ≡ Less = h in cc)
+      ] refl g
+    ] refl e
+
+pub rank_rises : (n : ℕ) (a b : Key) → length a ≤ n → length b ≤ n → AreBytes a → AreBytes b → IsBelow a b → rank n a < rank n b
+unfolding rank
+rank_rises n [] [] sa sb ba bb h = absurd (let clash : Equal ≡ Less = h in cc)
+rank_rises zero [] (y ∷ b) sa sb ba bb h = absurd (omega (arith, sb))
+rank_rises (suc n) [] (y ∷ b) sa sb ba bb h = omega (arith, mul-le-mul_right (257 ^ n) (let k : 1 ≤ suc y = omega arith in k), rank_fits n [] (omega arith) ba)
+rank_rises n (x ∷ a) [] sa sb ba bb h = absurd (let clash : Greater ≡ Less = h in cc)
+rank_rises zero (x ∷ a) (y ∷ b) sa sb ba bb h = absurd (omega (arith, sb))
+rank_rises (suc n) (x ∷ a) (y ∷ b) sa sb ba bb h = byte_cases x y (key_cmp a b) (rank (suc n) (x ∷ a) < rank (suc n) (y ∷ b)) h
+    (λ less. omega (arith, mul-le-mul_right (257 ^ n) (let k : suc (suc x) ≤ suc y = omega (arith, less) in k), rank_fits n a (omega (arith, sa)) (tail_bytes x a ba)))
+    (λ same rest. omega (arith, ap (λ (k : ℕ). suc k * 257 ^ n) same, rank_rises n a b (omega (arith, sa)) (omega (arith, sb)) (tail_bytes x a ba) (tail_bytes y b bb) rest))
+
+-- ---- the pieces of a list
+
+pub at_most : (key : Key) → pieces_after key ≤ most_pieces
+unfolding pieces_after most_pieces
+at_most key = omega arith
+
+pub after_first : (key : Key) → pieces_after key < most_pieces + 1
+after_first key = omega (arith, at_most key)
+
+less_left : (top a b : ℕ) → a < b → b < top → top - b < top - a
+less_left top a b h k = omega (arith, h, k)
+
+pub after_key : (from key : Key) → IsText from → IsText key → IsBelow from key → pieces_after key < pieces_after from
+unfolding pieces_after
+after_key from key f k below = less_left (257 ^ 16) (rank 16 from) (rank 16 key) (rank_rises 16 from key f.is_key.most k.is_key.most f.bytes k.bytes below) (rank_fits 16 key k.is_key.most k.bytes)
