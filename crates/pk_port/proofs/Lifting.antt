@@ -1,5 +1,5 @@
--- A function that meets a contract whose premise is P meets the one whose premise says only that some proof of P exists: a struct keeps no more of a
--- relation that is not known to have one proof at most, as `agrees` of an engine.
+-- A contract whose premise says only that a proof exists, from the one over the premise itself.
+-- A struct keeps no more of a relation that is not known to have one proof at most, as `agrees` of an engine.
 use Prim.Native.Nat.{ℕ}
 use mathlib.Core.Logic.{∥∥₁_elim}
 use mathlib.Core.List.{List}
