@@ -8,3 +8,7 @@ pub mod PageLemmas
 pub mod FetchLemmas
 pub mod CauseLemmas
 pub mod ReportLemmas
+pub mod EntryLemmas
+pub mod LeftLemmas
+pub mod DataLemmas
+pub mod HandedLemmas

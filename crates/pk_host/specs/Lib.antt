@@ -3,3 +3,4 @@ pub mod Calls
 pub mod Listing
 pub mod Received
 pub mod TookLaws
+pub mod Good

@@ -4,6 +4,7 @@
 #![tactic(auto)]
 
 mod ask;
+mod handed;
 mod host;
 mod key_page;
 mod listing;
@@ -14,6 +15,7 @@ pub mod sizes;
 mod types;
 mod whole;
 
+pub use handed::{are_fields, is_handed};
 pub use host::Host;
 pub use key_page::KeyPage;
 pub use port::Port;

@@ -1,4 +1,1 @@
-mod EntryLemmas
-mod LeftLemmas
-mod DataLemmas
 mod PortLemmas

@@ -17,9 +17,10 @@ use Rattle.pk_model.specs.declared.answer.Answer.{Answer}
 use Rattle.pk_model.proofs.HeldMap.{bytes-take}
 use Rattle.pk_host.specs.Port.{PortState, Steps, Replies, Completes, Took, room_for, room_of}
 use Rattle.pk_host.specs.declared.types.Completed.{Completed}
-use Rattle.pk_host_tests.specs.Memory.{seen, IsGood, IsHanded}
-use Rattle.pk_host_tests.proofs.LeftLemmas.{holding, good_left}
-use Rattle.pk_host_tests.proofs.DataLemmas.{data_fit, no_read_error}
+use Rattle.pk_host.specs.Good.{IsGood, IsHanded, holding}
+use Rattle.pk_host_tests.specs.Memory.{seen}
+use Rattle.pk_host.proofs.LeftLemmas.{good_left}
+use Rattle.pk_host.proofs.DataLemmas.{data_fit, no_read_error}
 
 module _ (old new : Machine) (faults : ℕ) (c : Command) (a : Answer) (h : Answers old new c a) where
   some_map : (m n : Map) → ◌≡◌ {A = Option Map} (Some m) (Some n) → m ≡ n
@@ -37,7 +38,7 @@ module _ (old new : Machine) (faults : ℕ) (c : Command) (a : Answer) (h : Answ
 
   -- the data of the answer fit the buffer
   pub answer_fits : length a.bytes.items ≤ room_of c
-  answer_fits = subst (λ (r : Reply). length r.data_bytes ≤ room_of c) (sym h.reply_is) (data_fit old.shape (limit old.shape) old.map c)
+  answer_fits = subst (λ (r : Reply). length r.data_bytes ≤ room_of c) (sym h.reply_is) (data_fit old.shape (limit old.shape) 0 old.map no_numbers refl c)
 
   pub replies_so : IsGood old → a.status < 256 → a.result < 2 ^ 32 → Replies (seen old faults) (seen new faults) c (replied a)
   replies_so good status field = record {
@@ -62,27 +63,6 @@ module _ (old new : Machine) (faults : ℕ) (c : Command) (a : Answer) (h : Answ
     untold = λ e. cc;
     told = λ m told. (new.map, refl, inr (map_is ∙ ap (λ (x : Map). map_after old.shape (limit old.shape) x c) (some_map old.map m told)));
   }
-
--- what a command needs of the buffer is below 2^32 bytes
-pub room_small : (size : ℕ) (o : Option Opcode) → size < 2 ^ 32 → room_for size o < 2 ^ 32
-room_small size None h = omega arith
-room_small size (Some Retrieve) h = h
-room_small size (Some ListKeys) h = h
-room_small size (Some Report) h = omega arith
-room_small size (Some Flush) h = omega arith
-room_small size (Some Store) h = omega arith
-room_small size (Some Delete) h = omega arith
-room_small size (Some Exist) h = omega arith
-room_small size (Some Tick) h = omega arith
-
--- a request's place of 16 bytes, and a value
-pub handed_so : (r : Request) (c : Command) (value : List ℕ) → command_of r value ≡ c → length r.key ≡ KEY_BYTES → AreBytes r.key → AreBytes value → IsWhole c → IsHanded c
-handed_so r c value e size keys bytes whole = record {
-  place_size = ap (λ (x : Command). length x.key_bytes) (sym e) ∙ size;
-  key_bytes = subst (λ (x : Command). AreBytes (key x)) e (bytes-take r.key_len r.key keys);
-  value_bytes = subst (λ (x : Command). AreBytes x.value) e bytes;
-  whole = whole;
-}
 
 -- the machine is good again, whether the command was answered or memory was missing
 pub good_by : {E : Type 0} (old new : Machine) (c : Command) (r : Result Answer E) → IfOk r (λ a. Answers old new c a) → OnErr r (new ≡ old) → IsGood old → IsHanded c → IsGood new

@@ -1,14 +1,13 @@
 //! A machine over a map in memory, whose map is known to be one of its shape, within its limit.
-ghost use Rattle.std.specs.Prelude.{◌≡◌, length, IfOk, OnErr};
+ghost use Rattle.std.specs.Prelude.{◌≡◌, IfOk, OnErr};
 ghost use Rattle.std.specs.FinMap.{empty};
-ghost use Rattle.pk_base.specs.Fields.{AreBytes};
 ghost use Rattle.pk_nvme.specs.Command.{command, IsWhole};
 ghost use Rattle.pk_model.specs.Machine.{Answers};
-ghost use Rattle.pk_host_tests.specs.Memory.{IsGood, IsHanded};
+ghost use Rattle.pk_host.specs.Good.{IsGood};
 
-use pk_base::{KEY_BYTES, Shape};
+use pk_base::Shape;
+use pk_host::is_handed;
 use pk_model::{Answer, MapMachine};
-use pk_nvme::Request;
 use std::alloc::{AllocError, Global};
 use std::marker::Model;
 
@@ -23,7 +22,7 @@ impl Model for GoodMachine {
     ghost use Rattle.std.specs.Coded.{codes, coded_ℕ, coded_list};
     ghost use Rattle.pk_base.specs.Key.{key_cmp};
     ghost use Rattle.pk_model.specs.Machine.{Machine};
-    ghost use Rattle.pk_host_tests.specs.Memory.{IsGood};
+    ghost use Rattle.pk_host.specs.Good.{IsGood};
 
     ghost Value = { Machine };
 
@@ -36,31 +35,6 @@ impl Model for GoodMachine {
     ghost view = { λ g. g.machine };
 
     ghost invariant = { λ g. IsGood g.machine };
-}
-
-// Bytes are numbers below 256.
-fn are_bytes(bytes: &[u8])
-    ensures { AreBytes bytes.now }
-{
-    let _ = bytes.len();
-}
-
-// The place of a key has 16 bytes.
-fn is_place(place: &[u8; KEY_BYTES])
-    ensures size { length place.now ≡ KEY_BYTES }
-    ensures bytes { AreBytes place.now }
-{
-    are_bytes(place);
-}
-
-// A command's key and value are bytes, and its value is whole.
-fn is_handed(entry: &[u8; 64], value: &[u8])
-    requires { IsWhole (command entry.now value.now) }
-    ensures { IsHanded (command entry.now value.now) }
-{
-    let request = Request::of(entry);
-    is_place(&request.key);
-    are_bytes(value);
 }
 
 impl GoodMachine {

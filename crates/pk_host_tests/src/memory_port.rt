@@ -8,7 +8,7 @@ ghost use Rattle.pk_host_tests.specs.Memory.{seen};
 
 use crate::machine::GoodMachine;
 use pk_base::Shape;
-use pk_host::{Completed, Port, PortFault};
+use pk_host::{Completed, Port, PortFault, are_fields, is_handed};
 use pk_model::Answer;
 use pk_nvme::{Request, completion};
 use std::alloc::{AllocError, Global};
@@ -20,30 +20,6 @@ pub struct MemoryPort {
     machine: GoodMachine,
     taken: u32,
     faults: u64,
-}
-
-// Numbers of 32 and of 8 bits are below 2^32 and below 256.
-fn is_u32(number: u32)
-    ensures { number < 2 ^ 32 }
-{
-    let _ = number;
-}
-
-fn is_u8(number: u8)
-    ensures { number < 256 }
-{
-    let _ = number;
-}
-
-// The size that a command names, and the status and the result of an answer, are such numbers.
-fn are_numbers(entry: &[u8; 64], answer: &Answer)
-    ensures size { (value : List ℕ) → (command entry.now value).size < 2 ^ 32 }
-    ensures status { answer.now.status < 256 }
-    ensures result_field { answer.now.result < 2 ^ 32 }
-{
-    is_u32(Request::of(entry).size);
-    is_u8(answer.status);
-    is_u32(answer.result);
 }
 
 /// Puts bytes into the front of a buffer.
@@ -103,7 +79,8 @@ impl Port for MemoryPort {
     ) -> Result<Completed, PortFault> {
         match self.machine.step(self.alloc, entry, value) {
             Ok(answer) => {
-                are_numbers(entry, &answer);
+                is_handed(entry, value);
+                are_fields(answer.status, answer.result);
                 self.taken = self.taken.wrapping_add(1);
                 Ok(completed(entry, self.taken, &answer, into))
             }

@@ -71,7 +71,7 @@ module _ (a b f : BoardState) (d e : Sight) (c : Command) (r : Reply) (reads : �
         let here : StepCut shape m c b.pages [] = (refl, (at_end first.0 a b (StepCut shape m c) first.1).1) in
         seen g q (commit_step a b d c shape frames m s none x.left here (left_of a b d c shape frames m s none r x.left x.stepped) g q h)
 
-  pub submits_both : (h : Sight) → CallReaches b f e commit → KeepsMap b f e h → h.pending ≡ [] → Submits a f d h c r
+  pub submits_both : (h : Sight) → CallReaches b f e commit → KeepsMap b f e h → h.pending ≡ [] → Submits a f d h c r reads
   submits_both h more after done shape frames m s none =
       let x = stands shape frames m s in
       let w = more shape frames x.left x.stands in
@@ -81,6 +81,7 @@ module _ (a b f : BoardState) (d e : Sight) (c : Command) (r : Reply) (reads : �
       record {
         left = x.left;
         stepped = x.stepped;
+        bounded = x.bounded;
         stands = y;
         holds = subst M done y.map_is;
         reached = Reaches-then shape g.0 a b (StepCut shape m c) s.shape_is g.1 g.2 f (CrashFinds shape commit b.pages x.left) (second shape frames m s none) w;

@@ -1,13 +1,16 @@
 -- One command on a drive with nothing pending.
-use Rattle.std.specs.Prelude.{◌≡◌, ◌⊎◌, ℕ, List, []}
+use Rattle.std.specs.Prelude.{◌≡◌, ◌⊎◌, ◌≤◌, ℕ, List, [], Some}
 use Rattle.pk_base.specs.Shape.{Shape, limit}
 use Rattle.pk_base.specs.Page.{Flash}
 use Rattle.pk_base.specs.Map.{Map}
 use Rattle.pk_nvme.specs.Command.{Command}
 use Rattle.pk_nvme.specs.Reply.{Reply}
+use Rattle.pk_nvme.specs.Opcode.{op_of}
+use Rattle.pk_nvme.specs.declared.opcode.Opcode.TheVariants.{Retrieve}
 use Rattle.pk_nand.specs.BoardState.{BoardState}
 use Rattle.pk_model.specs.Answer.{map_after}
 use Rattle.pk_model.specs.Run.{Step}
+use Rattle.pk_model.specs.Bounds.{most_reads}
 use Rattle.pk_model.specs.Reading.{Holds}
 use Rattle.pk_model.specs.Sight.{Sight}
 use Rattle.pk_drive.specs.Drive.{HoldsMap}
@@ -17,17 +20,18 @@ use Rattle.pk_model.specs.Growth.{Reaches, Goes}
 abbrev pub StepCut : Shape → Map → Command → Flash → List ℕ → Type 0
 StepCut shape m c flash posted = (posted ≡ []) × (Holds shape flash m ⊎ Holds shape flash (map_after shape (limit shape) m c))
 
--- a command that was answered
-pub record Submitted (shape : Shape) (frames : ℕ) (old new : BoardState) (after : Sight) (m : Map) (c : Command) (reply : Reply) : Type 0 where
+-- a command that was answered, with so many pages read for it
+pub record Submitted (shape : Shape) (frames : ℕ) (old new : BoardState) (after : Sight) (m : Map) (c : Command) (reply : Reply) (reads : ℕ) : Type 0 where
   pub left : Map
   pub stepped : Step shape frames m c reply left
+  pub bounded : op_of c.opcode ≡ Some Retrieve → reads ≤ most_reads shape frames m c
   pub stands : HoldsMap shape frames new after left
   pub holds : Holds shape new.pages left
   pub reached : Reaches shape old new (StepCut shape m c)
 
-abbrev pub Submits : BoardState → BoardState → Sight → Sight → Command → Reply → Type 0
-Submits old new before after c reply =
-    (shape : Shape) (frames : ℕ) (m : Map) → HoldsMap shape frames old before m → before.pending ≡ [] → Submitted shape frames old new after m c reply
+abbrev pub Submits : BoardState → BoardState → Sight → Sight → Command → Reply → ℕ → Type 0
+Submits old new before after c reply reads =
+    (shape : Shape) (frames : ℕ) (m : Map) → HoldsMap shape frames old before m → before.pending ≡ [] → Submitted shape frames old new after m c reply reads
 
 -- a command that stopped the drive
 abbrev pub SubmitStops : BoardState → BoardState → Sight → Command → Type 0

@@ -1,11 +1,11 @@
 //! One command, committed before it is answered.
-ghost use Rattle.std.specs.Prelude.{◌≡◌, ◌≢◌, ◌≤◌, ◌<◌, ◌+◌, ℕ, length, true, false, [], OnOk, OnErr, IfOk};
+ghost use Rattle.std.specs.Prelude.{◌≡◌, ◌≢◌, ◌≤◌, ◌<◌, ◌+◌, ℕ, List, length, true, false, [], OnOk, OnErr, IfOk};
 ghost use Rattle.pk_base.specs.Shape.{greatest};
 ghost use Rattle.pk_nvme.specs.Seen.{command_of};
 ghost use Rattle.pk_nand.specs.BoardState.{shape_of};
 ghost use Rattle.pk_nand.specs.Calls.{Rose};
 ghost use Rattle.pk_nand.specs.Effects.{OnlyFlash};
-ghost use Rattle.pk_drive.specs.Exec.{most_installs};
+ghost use Rattle.pk_drive.specs.Exec.{most_installs, IsValue};
 ghost use Rattle.pk_drive.specs.Meter.{reads_after};
 ghost use Rattle.pk_drive.specs.Seen.{reply_of};
 ghost use Rattle.pk_model.specs.Wear.{is_worn, roots};
@@ -46,16 +46,20 @@ pub fn submit<D: Engine, B: Nand>(
     ensures agrees { OnOk result
         (D.agrees drive.new (B.state board.new).shape (B.state board.new).pages) }
     ensures runs { OnOk result ((D.sight drive.new).stopped ≡ false) }
+    ensures stopped { OnErr result ((D.sight drive.new).stopped ≡ true) }
     ensures none { OnOk result ((D.sight drive.new).pending ≡ []) }
     ensures fits { IfOk result (λ o. o.data_len ≤ length into.new) }
     ensures rest { OnlyFlash (B.state board.old) (B.state board.new) }
 
-    // The command.
-    ensures submits { IfOk result (λ o. Submits (B.state board.old) (B.state board.new)
-        (D.sight drive.old) (D.sight drive.new) (command_of request.now value.now)
-        (reply_of o into.new)) }
-    ensures stops { OnErr result (SubmitStops (B.state board.old) (B.state board.new)
-        (D.sight drive.old) (command_of request.now value.now)) }
+    // The command, with the value of which these bytes were handed over.
+    ensures submits { IfOk result (λ o. (v : List ℕ)
+        → IsValue (shape_of (B.state board.old)) request.now.opcode request.now.size value.now v
+        → Submits (B.state board.old) (B.state board.new) (D.sight drive.old) (D.sight drive.new)
+        (command_of request.now v) (reply_of o into.new) o.reads) }
+    ensures stops { OnErr result ((v : List ℕ)
+        → IsValue (shape_of (B.state board.old)) request.now.opcode request.now.size value.now v
+        → SubmitStops (B.state board.old) (B.state board.new) (D.sight drive.old)
+        (command_of request.now v)) }
 
     // Counts.
     ensures reads { IfOk result

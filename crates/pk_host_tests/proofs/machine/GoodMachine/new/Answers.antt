@@ -1,6 +1,6 @@
 use Rattle.std.proofs.Common.{sym, subst}
-use Rattle.pk_host_tests.specs.Memory.{IsGood}
-use Rattle.pk_host_tests.proofs.LeftLemmas.{good_empty}
+use Rattle.pk_host.specs.Good.{IsGood}
+use Rattle.pk_host.proofs.LeftLemmas.{good_empty}
 use Rattle.pk_host_tests.proofs.machine.GoodMachine.new.Goals as goal
 
 pub invariant_of-result : goal.invariant_of-result

@@ -1,23 +1,21 @@
 -- The map that a command leaves: keys and values of their sizes, within the limit of live pages.
-use Rattle.std.proofs.Common.{◌≡◌, ℕ, ◌+◌, ◌-◌, ◌≤◌, ◌<◌, min, refl, sym, ap, subst, ◌∙◌, arith, Bool, true, false, not, ◌&&◌, ◌||◌, ◌==◌, nat_le, if◌then◌else◌, IsTrue, List, [], ◌∷◌, length, take, Option, Some, None}
+use Rattle.std.proofs.Common.{◌≡◌, ℕ, refl, sym, ap, subst, ◌∙◌, arith, Bool, true, false, not, ◌&&◌, ◌||◌, ◌==◌, nat_le, if◌then◌else◌, [], length, Option, Some, None}
 use Rattle.std.proofs.lemmas.Bool.{leb-true}
 use Rattle.std.proofs.lemmas.List.{length-take-le}
 use Rattle.std.specs.FinMap.{get, contains_key, insert, remove, empty}
-use Rattle.pk_base.specs.Key.{Key, IsKey}
-use Rattle.pk_base.specs.Shape.{Shape, limit, charge, greatest}
+use Rattle.pk_base.specs.Shape.{Shape, limit, charge}
 use Rattle.pk_base.specs.Map.{Map, live, pages_if_some}
 use Rattle.pk_nvme.specs.declared.opcode.TheConstants.{FLUSH, STORE, RETRIEVE, LIST, DELETE, EXIST, TICK, REPORT}
 use Rattle.pk_nvme.specs.declared.opcode.Opcode.{Opcode}
 use Rattle.pk_nvme.specs.declared.opcode.Opcode.TheVariants.{Flush, Store, Retrieve, List as ListKeys, Delete, Exist, Tick, Report}
 use Rattle.pk_nvme.specs.declared.status.TheConstants.{CAPACITY_EXCEEDED, KEY_DOES_NOT_EXIST, KEY_EXISTS}
 use Rattle.pk_nvme.specs.Opcode.{op_of}
-use Rattle.pk_nvme.specs.Command.{Command, IsWhole, key, must_exist, must_be_new}
+use Rattle.pk_nvme.specs.Command.{Command, key, must_exist, must_be_new}
 use Rattle.pk_model.specs.Answer.{first_of, check, fault_of, early, late_of, live_after, refused, map_after, effect}
-use Rattle.pk_model.specs.Machine.{Machine}
 use Rattle.pk_model.proofs.Answering.{refuses_with, serves, key_sized, store_sized}
 use Rattle.pk_model.proofs.Machines.{live-empty, live-remove, live_stored}
-use Rattle.pk_host_tests.specs.Memory.{IsGood, IsHanded}
-use Rattle.pk_host_tests.proofs.EntryLemmas.{map_empty, map_insert, map_remove}
+use Rattle.pk_host.specs.Good.{IsGood, IsHanded, holding}
+use Rattle.pk_host.proofs.EntryLemmas.{map_empty, map_insert, map_remove}
 
 -- ---- checks that passed
 
@@ -56,10 +54,6 @@ store_alone n =
     ]
 
 -- ---- the map that is left
-
--- a machine of this shape with this map
-abbrev pub holding : Shape → Map → Machine
-holding shape m = record { shape = shape; map = m }
 
 pub good_empty : (shape : Shape) → IsGood (holding shape empty)
 good_empty shape = let none = live-empty shape in record { sized = map_empty shape; few = omega (arith, none) }

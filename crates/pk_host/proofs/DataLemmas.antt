@@ -1,12 +1,12 @@
--- The replies of a machine in memory: their data fit the buffer that is asked for, and none is a read error.
-use Rattle.std.proofs.Common.{◌≡◌, ◌≢◌, ℕ, ◌+◌, ◌-◌, ◌≤◌, ◌==◌, min, refl, sym, ap, subst, ◌∙◌, arith, Bool, true, false, not, ◌&&◌, ◌||◌, nat_le, if◌then◌else◌, List, [], ◌∷◌, ◌++◌, length, take, flat_map, Option, Some, None, unwrap_or, length-append}
+-- The replies of the definition: their data fit the buffer that is asked for, and none is a read error.
+use Rattle.std.proofs.Common.{◌≡◌, ◌≢◌, ℕ, ◌-◌, ◌*◌, ◌≤◌, ◌==◌, min, refl, sym, ap, subst, ◌∙◌, arith, Bool, true, false, not, ◌&&◌, ◌||◌, nat_le, if◌then◌else◌, List, [], ◌∷◌, length, flat_map, Option, Some, None, unwrap_or, length-append}
 use Rattle.std.proofs.lemmas.Bool.{leb-true, eq-eqb}
 use Rattle.std.proofs.lemmas.List.{length-take}
-use Rattle.std.specs.FinMap.{get, contains_key}
+use Rattle.std.specs.FinMap.{get, contains_key, len}
 use Rattle.pk_base.specs.Key.{Key}
 use Rattle.pk_base.specs.Fields.{u32}
-use Rattle.pk_base.specs.Shape.{Shape, greatest}
-use Rattle.pk_base.specs.Map.{Map, keys_from}
+use Rattle.pk_base.specs.Shape.{Shape, greatest, pinned}
+use Rattle.pk_base.specs.Map.{Map, keys_from, live}
 use Rattle.pk_nvme.specs.declared.opcode.Opcode.{Opcode}
 use Rattle.pk_nvme.specs.declared.opcode.Opcode.TheVariants.{Flush, Store, Retrieve, List as ListKeys, Delete, Exist, Tick, Report}
 use Rattle.pk_nvme.specs.declared.limits.TheConstants.{COUNT_BYTES}
@@ -18,9 +18,13 @@ use Rattle.pk_model.specs.Answer.{first_of, check, is_namespace, is_key_length, 
 use Rattle.pk_model.specs.Machine.{no_numbers}
 use Rattle.pk_model.proofs.Answering.{refuses_with, serves, list_sized}
 use Rattle.pk_host.specs.Port.{room_for, room_of}
-use Rattle.pk_host_tests.proofs.LeftLemmas.{first_none}
+use Rattle.pk_host.proofs.LeftLemmas.{first_none}
 
 -- ---- what fits
+
+length-numbers : (ns : List ℕ) → length (flat_map u32 ns) ≡ 4 * length ns
+length-numbers [] = refl
+length-numbers (n ∷ ns) = let front = length-append (u32 n) (flat_map u32 ns) in let rest = length-numbers ns in omega (arith, front, rest)
 
 fitting_bytes : (room : ℕ) (ks : List Key) → length (flat_map listed (fitting room ks)) ≤ room
 fitting_bytes room [] = omega arith
@@ -39,15 +43,16 @@ list_fits size ks least =
     let whole = length-append (u32 (length (fitting (min size 65536 - 4) ks))) (flat_map listed (fitting (min size 65536 - 4) ks)) in
     omega (arith, keys, whole, least)
 
-module _ (shape : Shape) (most : ℕ) (m : Map) (c : Command) where
-  -- the reply of the machine
+module _ (shape : Shape) (most frames : ℕ) (m : Map) (own : List ℕ) (eleven : length own ≡ 11) (c : Command) where
+  -- the reply of the definition
   abbrev answer : Reply
-  answer = reply shape most 0 m no_numbers c
+  answer = reply shape most frames m own c
 
-  served_fits : (k : Opcode) → op_of c.opcode ≡ Some k → early shape c ≡ None → length (reply_of shape most 0 m no_numbers c (Some k)).data_bytes ≤ room_for c.size (Some k)
+  served_fits : (k : Opcode) → op_of c.opcode ≡ Some k → early shape c ≡ None → length (reply_of shape most frames m own c (Some k)).data_bytes ≤ room_for c.size (Some k)
   served_fits Retrieve is passed = let n = length-take c.size (unwrap_or (get m (key c)) []) in omega (arith, n)
   served_fits ListKeys is passed = list_fits c.size (keys_from (key c) m) (list_sized shape c is passed).least
-  served_fits Report is passed = omega arith
+  served_fits Report is passed =
+      let n = length-numbers (live shape m ∷ most ∷ len m ∷ pinned shape frames ∷ frames ∷ own) in omega (arith, n, eleven)
   served_fits Flush is passed = omega arith
   served_fits Store is passed = omega arith
   served_fits Delete is passed = omega arith
@@ -57,12 +62,12 @@ module _ (shape : Shape) (most : ℕ) (m : Map) (c : Command) where
   fits_by : (o : Option Opcode) → op_of c.opcode ≡ o → early shape c ≡ None → late_of shape most m c o ≡ None → length answer.data_bytes ≤ room_of c
   fits_by None is passed late = absurd (let clash : ◌≡◌ {A = Option ℕ} (Some 1) None = sym (ap (λ (o : Option Opcode). fault_of shape c o) is) ∙ passed in cc)
   fits_by (Some k) is passed late =
-      subst (λ (a : Reply). length a.data_bytes ≤ room_of c) (sym (serves shape most 0 m no_numbers c k is passed late).replied)
-      (subst (λ (o : Option Opcode). length (reply_of shape most 0 m no_numbers c (Some k)).data_bytes ≤ room_for c.size o) (sym is) (served_fits k is passed))
+      subst (λ (a : Reply). length a.data_bytes ≤ room_of c) (sym (serves shape most frames m own c k is passed late).replied)
+      (subst (λ (o : Option Opcode). length (reply_of shape most frames m own c (Some k)).data_bytes ≤ room_for c.size o) (sym is) (served_fits k is passed))
 
   pub data_fit : length answer.data_bytes ≤ room_of c
   data_fit = elim (refused shape most m c) as (λ r. refused shape most m c ≡ r → length answer.data_bytes ≤ room_of c) [
-    | Some status ↦ λ e. subst (λ (a : Reply). length a.data_bytes ≤ room_of c) (sym (refuses_with shape most 0 m no_numbers c status e).replied) (omega arith)
+    | Some status ↦ λ e. subst (λ (a : Reply). length a.data_bytes ≤ room_of c) (sym (refuses_with shape most frames m own c status e).replied) (omega arith)
     | None ↦ λ e. let both = first_none (early shape c) (late_of shape most m c (op_of c.opcode)) e in fits_by (op_of c.opcode) refl both.0 both.1
   ] refl
 

@@ -1,0 +1,33 @@
+-- What a command is handed over with, and the room that it needs.
+use Rattle.std.proofs.Common.{◌≡◌, ℕ, ◌<◌, ◌^◌, sym, ap, subst, ◌∙◌, arith, List, length, Option, Some, None}
+use Rattle.pk_base.specs.Fields.{AreBytes}
+use Rattle.pk_base.specs.declared.sizes.TheConstants.{KEY_BYTES}
+use Rattle.pk_nvme.specs.declared.opcode.Opcode.{Opcode}
+use Rattle.pk_nvme.specs.declared.opcode.Opcode.TheVariants.{Flush, Store, Retrieve, List as ListKeys, Delete, Exist, Tick, Report}
+use Rattle.pk_nvme.specs.declared.request.Request.{Request}
+use Rattle.pk_nvme.specs.Seen.{command_of}
+use Rattle.pk_nvme.specs.Command.{Command, IsWhole, key}
+use Rattle.pk_model.proofs.HeldMap.{bytes-take}
+use Rattle.pk_host.specs.Good.{IsHanded}
+use Rattle.pk_host.specs.Port.{room_for}
+
+-- what a command needs of the buffer is below 2^32 bytes
+pub room_small : (size : ℕ) (o : Option Opcode) → size < 2 ^ 32 → room_for size o < 2 ^ 32
+room_small size None h = omega arith
+room_small size (Some Retrieve) h = h
+room_small size (Some ListKeys) h = h
+room_small size (Some Report) h = omega arith
+room_small size (Some Flush) h = omega arith
+room_small size (Some Store) h = omega arith
+room_small size (Some Delete) h = omega arith
+room_small size (Some Exist) h = omega arith
+room_small size (Some Tick) h = omega arith
+
+-- a request's place of 16 bytes, and a value
+pub handed_so : (r : Request) (c : Command) (value : List ℕ) → command_of r value ≡ c → length r.key ≡ KEY_BYTES → AreBytes r.key → AreBytes value → IsWhole c → IsHanded c
+handed_so r c value e size keys bytes whole = record {
+  place_size = ap (λ (x : Command). length x.key_bytes) (sym e) ∙ size;
+  key_bytes = subst (λ (x : Command). AreBytes (key x)) e (bytes-take r.key_len r.key keys);
+  value_bytes = subst (λ (x : Command). AreBytes x.value) e bytes;
+  whole = whole;
+}

@@ -1,0 +1,4 @@
+pub mod Serving
+pub mod Stepping
+pub mod Lifting
+pub mod Growing

@@ -1,0 +1,147 @@
+-- What a command that was served leaves of a drive on its board, and what it tells a host.
+use Rattle.std.proofs.Common.{◌≡◌, ◌≢◌, inl, inr, ℕ, ◌+◌, ◌≤◌, ◌<◌, ◌^◌, refl, sym, ap, subst, ◌∙◌, arith, List, [], length, take, Bool, true, false, nat_le, Option, Some, Result, Ok, Err}
+use Rattle.std.proofs.lemmas.Bool.Decides.{nat_tests}
+use Rattle.std.proofs.lemmas.List.{length-take-le}
+use Rattle.std.specs.Result.{result_ok}
+use Rattle.pk_base.specs.Shape.{Shape, limit}
+use Rattle.pk_base.specs.Page.{Flash}
+use Rattle.pk_base.specs.Entry.{Entry}
+use Rattle.pk_base.specs.Map.{Map}
+use Rattle.pk_base.specs.Refusal.{Refusal}
+use Rattle.pk_nvme.specs.declared.request.Request.{Request}
+use Rattle.pk_nvme.specs.Seen.{command_of}
+use Rattle.pk_nvme.specs.Command.{Command}
+use Rattle.pk_nvme.specs.Reply.{Reply}
+use Rattle.pk_nand.specs.BoardState.{BoardState, shape_of, shape_or_none}
+use Rattle.pk_nand.specs.Calls.{Rose}
+use Rattle.pk_nand.specs.Effects.{OnlyFlash}
+use Rattle.pk_model.specs.Reading.{reading, Holds}
+use Rattle.pk_model.specs.Sight.{Sight}
+use Rattle.pk_model.specs.Wear.{root_number, roots, is_worn}
+use Rattle.pk_drive.specs.Exec.{most_installs, IsValue}
+use Rattle.pk_drive.specs.Meter.{reads_after}
+use Rattle.pk_serve.specs.Port.{Submitted, Submits, SubmitStops}
+use Rattle.pk_host.specs.Good.{IsGood, IsHanded, holding}
+use Rattle.pk_host.specs.Port.{Steps, Replies, room_of}
+use Rattle.pk_host.proofs.LeftLemmas.{good_left}
+use Rattle.pk_host.proofs.DataLemmas.{data_fit}
+use Rattle.pk_port.specs.Ready.{Ready, Fits}
+use Rattle.pk_port.specs.Steps.{mount, seen, Serves, Fails}
+use Rattle.pk_port.specs.declared.halt.Halt.TheVariants.{Stopped}
+
+ok_told : (r : Result Map Refusal) (m : Map) → result_ok r ≡ Some m → r ≡ Ok m
+ok_told (Ok x) m e = cc
+ok_told (Err refusal) m e = cc
+
+ok_same : (x y : Map) → ◌≡◌ {A = Result Map Refusal} (Ok x) (Ok y) → x ≡ y
+ok_same x y e = cc
+
+-- what is handed over, of a board of this shape
+pub value_on : (shape : Shape) (board : BoardState) (opcode size : ℕ) (handed value : List ℕ) → board.shape ≡ Some shape → IsValue shape opcode size handed value → IsValue (shape_of board) opcode size handed value
+value_on shape board opcode size handed value has h = let T : Shape → Type 0 = λ s. IsValue s opcode size handed value in subst T (sym (ap shape_or_none has)) h
+
+-- what a drive says of its roots is said of the board that it agrees with
+pub unworn_on : (agrees : Option Shape → Flash → Type 0) (shape : Shape) (board : BoardState) (worn : Bool) → board.shape ≡ Some shape → agrees board.shape board.pages
+    → ((s : Shape) (f : Flash) → agrees (Some s) f → worn ≡ nat_le 9223372036854775808 (root_number s f)) → worn ≡ false → is_worn board ≡ false
+unworn_on agrees shape board worn has agreed says not_worn =
+    let T : Option Shape → Type 0 = λ o. agrees o board.pages in
+    ap (λ o. nat_le 9223372036854775808 (root_number (shape_or_none o) board.pages)) has ∙ (sym (says shape board.pages (subst T has agreed)) ∙ not_worn)
+
+module _ (agrees : Option Shape → Flash → Type 0) (shape : Shape) (old : BoardState) (d : Sight) (ready : Ready agrees shape old d) where
+  -- the flash holds the map
+  pub ready_holds : Holds shape old.pages ready.map
+  ready_holds = let M : List Entry → Type 0 = λ p. reading shape old.pages p ≡ Ok ready.map in subst M ready.none ready.stands.map_is
+
+  module _ (new : BoardState) (e : Sight) (c : Command) where
+    -- ---- a command that was served
+
+    module _ (rep : Reply) (reads : ℕ) (submits : Submits old new d e c rep reads) where
+      abbrev done : Submitted shape d.counts.frames old new e ready.map c rep reads
+      done = submits shape d.counts.frames ready.map ready.stands ready.none
+
+      good_now : IsHanded c → IsGood (holding shape done.left)
+      good_now handed = elim done.stepped [
+        | inl answer ↦ subst (λ (m : Map). IsGood (holding shape m)) (sym answer.leaves) (good_left shape ready.map c ready.good handed)
+        | inr fault ↦ subst (λ (m : Map). IsGood (holding shape m)) (sym fault.leaves) ready.good
+      ]
+
+      -- the drive is ready again
+      pub fits_again : (agrees' : Option Shape → Flash → Type 0) → IsHanded c → agrees' new.shape new.pages → e.pending ≡ [] → Fits agrees' shape new e
+      fits_again agrees' handed agreed none = record {
+        shape_is = done.stands.shape_is;
+        ready = λ going. record {
+          agreed = agreed;
+          none = none;
+          map = done.left;
+          stands = record { shape_is = done.stands.shape_is; frames_is = refl; map_is = done.stands.map_is };
+          good = good_now handed;
+        };
+      }
+
+      pub serves_so : (serves serves' : Request → Bool) (r : Request) → command_of r c.value ≡ c → serves r ≡ true → d.stopped ≡ false → e.stopped ≡ false → is_worn old ≡ false → OnlyFlash old new
+          → old.read_faults ≤ new.read_faults → (rep.status ≡ 0x88 → Rose old.read_faults new.read_faults) → (rep.status ≢ 0x88 → new.read_faults ≡ old.read_faults) → new.stop_faults ≡ old.stop_faults
+          → new.reads ≡ reads_after old.reads reads → roots new ≤ roots old + most_installs c.opcode c.size
+          → Serves shape (mount old d serves) (mount new e serves') c (record { command = c; reply = rep; reads = reads })
+      serves_so serves serves' r is built going goes_on unworn rest up unread sound no_stop read few = record {
+        runs = record { going = going; unworn = unworn };
+        built = (r, is, built);
+        is = refl;
+        map = ready.map;
+        held = ready_holds;
+        left = done.left;
+        step = (done.stepped, done.bounded);
+        holds = done.holds;
+        reached = done.reached;
+        metered = record { reads = read; failed = unread; sound = sound; unworn = (let h : nat_le 9223372036854775808 (roots old) ≡ false = unworn in grind (arith, nat_tests)); installs = few };
+        up = up;
+        no_stop = no_stop;
+        rest = rest;
+        new_is = λ k. record { board = new; stopped = (goes_on ∙ sym going) k; frames = done.stands.frames_is k; serves = serves' };
+      }
+
+      pub replies_so : rep.status < 256 → rep.result < 2 ^ 32 → (rep.status ≡ 0x88 → Rose old.read_faults new.read_faults) → (before behind : ℕ) → Replies (seen shape old before) (seen shape new behind) c rep
+      replies_so small field unread before behind = record {
+        status_size = small;
+        result_size = field;
+        answers = λ m told.
+            let same : ready.map ≡ m = ok_same ready.map m (sym ready_holds ∙ ok_told _ m told) in
+            let T : Map → Type 0 = λ x. Steps (seen shape old before) (seen shape new behind) c rep x in
+            subst T same (record {
+              within = record { sized = ready.good.sized; few = ready.good.few };
+              frames = d.counts.frames;
+              left = done.left;
+              stepped = done.stepped;
+              told = ap result_ok done.holds;
+            });
+        unread = unread;
+      }
+
+      -- the data have room in the buffer that was asked for
+      pub data_so : length rep.data_bytes ≤ room_of c
+      data_so = elim done.stepped [
+        | inl answer ↦ subst (λ (a : Reply). length a.data_bytes ≤ room_of c) (sym answer.replied) (data_fit shape (limit shape) d.counts.frames ready.map answer.own answer.eleven c)
+        | inr fault ↦ subst (λ (a : Reply). length a.data_bytes ≤ room_of c) (sym fault.replied) (omega arith)
+      ]
+
+    -- ---- a command that stopped the drive
+
+    pub fails_so : SubmitStops old new d c → (serves serves' : Request → Bool) (r : Request) → command_of r c.value ≡ c → serves r ≡ true → d.stopped ≡ false → e.stopped ≡ true → is_worn old ≡ false → OnlyFlash old new
+        → old.read_faults ≤ new.read_faults → Rose old.stop_faults new.stop_faults → Fails shape (mount old d serves) (mount new e serves') c Stopped
+    fails_so stops serves serves' r is built going stopped unworn rest up stop = inl (
+      refl,
+      record {
+        runs = record { going = going; unworn = unworn };
+        built = (r, is, built);
+        map = ready.map;
+        held = ready_holds;
+        went = stops shape d.counts.frames ready.map ready.stands ready.none;
+        stopped = stopped;
+        stop = stop;
+        up = up;
+        rest = rest;
+      },
+    )
+
+-- data in front of a buffer, so many bytes
+pub front_few : (len : ℕ) (into : List ℕ) (most : ℕ) → len ≤ length into → length (take len into) ≤ most → len ≤ most
+front_few len into most fits few = let n = length-take-le len into fits in omega (arith, n, few)

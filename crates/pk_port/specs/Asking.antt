@@ -1,0 +1,50 @@
+-- What commands through a port have made of a board, and what every cut of it leaves.
+use Rattle.std.specs.Prelude.{◌≡◌, ◌⊎◌, ℕ, ◌≤◌, List, [], ◌++◌, Option, Some}
+use Rattle.pk_base.specs.Shape.{Shape}
+use Rattle.pk_base.specs.Page.{Flash}
+use Rattle.pk_base.specs.Map.{Map}
+use Rattle.pk_nvme.specs.Command.{Command}
+use Rattle.pk_nand.specs.BoardState.{BoardState}
+use Rattle.pk_nand.specs.Effects.{OnlyFlash}
+use Rattle.pk_model.specs.Growth.{Reaches}
+use Rattle.pk_model.specs.Kept.{Kept, AtMost, rise}
+use Rattle.pk_model.specs.Reading.{Holds}
+use Rattle.pk_model.specs.Run.{Exchange, commands, RunWithin, faults}
+use Rattle.pk_drive.specs.Meter.{meter, MeteredAll}
+
+-- the flash holds the map after commands from the front on, and no byte was given out
+abbrev pub KeptSilently : Shape → ℕ → Map → List Command → Option ℕ → Flash → List ℕ → Type 0
+KeptSilently shape frames start cs n flash posted = (posted ≡ []) × Kept shape frames start cs n [] flash
+
+-- these commands were answered so, from one map to another
+pub record Ran (shape : Shape) (frames : ℕ) (start : Map) (cs : List Command) (n : Option ℕ) (left : Map) : Type 0 where
+  pub all : List Exchange
+  pub are : commands all ≡ cs
+  pub ran : RunWithin shape frames start all left
+  pub few : AtMost n (faults all)
+
+-- These commands were served from one state of a board to a later one, and the flash holds the map that they left. Wherever it was cut off, it was kept.
+pub record Asked (shape : Shape) (frames : ℕ) (start : Map) (a b : BoardState) (cs : List Command) : Type 0 where
+  pub left : Map
+  pub answered : Ran shape frames start cs (rise a.read_faults b.read_faults) left
+  pub metered : MeteredAll (meter a) answered.all (meter b)
+  pub held : Holds shape b.pages left
+  pub shape_is : a.shape ≡ Some shape
+  pub reached : Reaches shape a b (KeptSilently shape frames start cs (rise a.read_faults b.read_faults))
+  pub rose : a.read_faults ≤ b.read_faults
+  pub no_stop : b.stop_faults ≡ a.stop_faults
+  pub rest : OnlyFlash a b
+
+-- where a byte was given out, the flash holds the map after all commands, and what was given out begins a text that is said of both maps
+pub record SaidAll (Says : List ℕ → Map → Type 0) (shape : Shape) (frames : ℕ) (start : Map) (cs : List Command) (n : Option ℕ) (flash : Flash) (posted : List ℕ) : Type 0 where
+  pub left : Map
+  pub answered : Ran shape frames start cs n left
+  pub held : Holds shape flash left
+  pub text : List ℕ
+  pub says : Says text left
+  pub unposted : List ℕ
+  pub front : posted ++ unposted ≡ text
+
+-- What every cut of a word keeps: the flash holds the map after commands of the word from the front on, and where a byte was given out, after all of them.
+abbrev pub KeptWord : (List ℕ → Map → Type 0) → Shape → ℕ → Map → List Command → Option ℕ → Flash → List ℕ → Type 0
+KeptWord Says shape frames start cs n flash posted = Kept shape frames start cs n [] flash × ((posted ≡ []) ⊎ SaidAll Says shape frames start cs n flash posted)

@@ -1,0 +1,4 @@
+pub mod Steps
+pub mod Ready
+pub mod Laws
+pub mod Asking

@@ -1,0 +1,22 @@
+-- What a port keeps to between two commands.
+use Rattle.std.specs.Prelude.{◌≡◌, [], false, Option, Some}
+use Rattle.pk_base.specs.Shape.{Shape}
+use Rattle.pk_base.specs.Page.{Flash}
+use Rattle.pk_base.specs.Map.{Map}
+use Rattle.pk_nand.specs.BoardState.{BoardState}
+use Rattle.pk_model.specs.Sight.{Sight}
+use Rattle.pk_drive.specs.Drive.{HoldsMap}
+use Rattle.pk_host.specs.Good.{IsGood, holding}
+
+-- A drive that agrees with its board, with nothing pending, stands for a map of the board's shape within its limit.
+pub record Ready (agrees : Option Shape → Flash → Type 0) (shape : Shape) (board : BoardState) (drive : Sight) : Type 0 where
+  pub agreed : agrees board.shape board.pages
+  pub none : drive.pending ≡ []
+  pub map : Map
+  pub stands : HoldsMap shape drive.counts.frames board drive map
+  pub good : IsGood (holding shape map)
+
+-- The board has this shape, and a drive that is not stopped is ready on it.
+pub record Fits (agrees : Option Shape → Flash → Type 0) (shape : Shape) (board : BoardState) (drive : Sight) : Type 0 where
+  pub shape_is : board.shape ≡ Some shape
+  pub ready : drive.stopped ≡ false → Ready agrees shape board drive

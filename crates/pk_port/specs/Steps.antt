@@ -1,0 +1,123 @@
+-- A drive with its board as a port: what each command does to both.
+use Rattle.std.specs.Prelude.{◌≡◌, ◌⊎◌, ℕ, ◌≤◌, List, [], ◌∷◌, Bool, true, false, Option, Some, Result, Ok, Err}
+use Rattle.std.specs.Result.{result_ok}
+use Rattle.pk_base.specs.Shape.{Shape, limit}
+use Rattle.pk_base.specs.Map.{Map}
+use Rattle.pk_nvme.specs.declared.request.Request.{Request}
+use Rattle.pk_nvme.specs.Command.{Command}
+use Rattle.pk_nvme.specs.Seen.{command_of}
+use Rattle.pk_nand.specs.BoardState.{BoardState}
+use Rattle.pk_nand.specs.Calls.{Rose}
+use Rattle.pk_nand.specs.Effects.{OnlyFlash}
+use Rattle.pk_model.specs.Growth.{Reaches, Goes}
+use Rattle.pk_model.specs.Reading.{reading, Holds}
+use Rattle.pk_model.specs.Run.{Exchange}
+use Rattle.pk_model.specs.Wear.{is_worn}
+use Rattle.pk_model.specs.Sight.{Sight}
+use Rattle.pk_drive.specs.Meter.{meter, Metered}
+use Rattle.pk_drive.specs.Seen.{reply_of}
+use Rattle.pk_drive.specs.declared.types.Outcome.{Outcome}
+use Rattle.pk_serve.specs.Port.{StepCut}
+use Rattle.pk_serve.specs.Serving.{StepWithin}
+use Rattle.pk_host.specs.Port.{PortState}
+use Rattle.pk_port.specs.declared.halt.Halt.{Halt}
+use Rattle.pk_port.specs.declared.halt.Halt.TheVariants.{Stopped, Worn, NotBuilt}
+
+-- What is told of a drive on its board: the board, whether the drive is stopped, its frames, and the requests that it serves.
+pub record Mounted : Type 0 where
+  pub board : BoardState
+  pub stopped : Bool
+  pub frames : ℕ
+  pub serves : Request → Bool
+
+-- what is told of a drive that is seen so, on this board
+abbrev pub mount : BoardState → Sight → (Request → Bool) → Mounted
+mount board drive serves = record { board = board; stopped = drive.stopped; frames = drive.counts.frames; serves = serves }
+
+-- What is told of a port: the drive on its board, the count of the port's faults, and why the last of them came.
+pub record Standing : Type 0 where
+  pub on : Mounted
+  pub faults : ℕ
+  pub halt : Option Halt
+
+-- what is told of a port over a drive that is seen so, on this board
+abbrev pub standing : BoardState → Sight → (Request → Bool) → ℕ → Option Halt → Standing
+standing board drive serves faults halt = record { on = mount board drive serves; faults = faults; halt = halt }
+
+-- what a host sees of a board of this shape, behind so many faults of the port
+abbrev pub seen : Shape → BoardState → ℕ → PortState
+seen shape board faults = record {
+  map = result_ok (reading shape board.pages []);
+  shape = shape;
+  limit = limit shape;
+  port_faults = faults;
+  read_faults = board.read_faults;
+}
+
+-- ---- one command
+
+-- the drive is not stopped, and more roots may be installed
+pub record Runs (on : Mounted) : Type 0 where
+  pub going : on.stopped ≡ false
+  pub unworn : is_worn on.board ≡ false
+
+-- whether the drive serves the request of this command
+abbrev pub Builds : Mounted → Command → Bool → Type 0
+Builds on c built = (r : Request) × (command_of r c.value ≡ c) × (on.serves r ≡ built)
+
+-- A command was served, from the map that the flash held to the one that it holds now. Wherever it is cut off, the flash holds one of both.
+pub record Serves (shape : Shape) (old new : Mounted) (c : Command) (x : Exchange) : Type 0 where
+  pub runs : Runs old
+  pub built : Builds old c true
+  pub is : x.command ≡ c
+  pub map : Map
+  pub held : Holds shape old.board.pages map
+  pub left : Map
+  pub step : StepWithin shape old.frames map x left
+  pub holds : Holds shape new.board.pages left
+  pub reached : Reaches shape old.board new.board (StepCut shape map c)
+  pub metered : Metered (meter old.board) x (meter new.board)
+  pub up : old.board.read_faults ≤ new.board.read_faults
+  pub no_stop : new.board.stop_faults ≡ old.board.stop_faults
+  pub rest : OnlyFlash old.board new.board
+  pub new_is : new ≡ record old { board = new.board; serves = new.serves }
+
+-- A command stopped the drive. Wherever it is cut off, the flash holds the map before it or the one after it.
+pub record Stops (shape : Shape) (old new : Mounted) (c : Command) : Type 0 where
+  pub runs : Runs old
+  pub built : Builds old c true
+  pub map : Map
+  pub held : Holds shape old.board.pages map
+  pub went : Goes shape old.board new.board (StepCut shape map c)
+  pub stopped : new.stopped ≡ true
+  pub stop : Rose old.board.stop_faults new.board.stop_faults
+  pub up : old.board.read_faults ≤ new.board.read_faults
+  pub rest : OnlyFlash old.board new.board
+
+-- why nothing is done
+abbrev pub HasCause : Mounted → Command → Halt → Type 0
+HasCause on c Stopped = on.stopped ≡ true
+HasCause on c Worn = is_worn on.board ≡ true
+HasCause on c NotBuilt = Builds on c false
+
+-- a command was not answered: it stopped the drive, or nothing was done
+abbrev pub Fails : Shape → Mounted → Mounted → Command → Halt → Type 0
+Fails shape old new c halt = ((halt ≡ Stopped) × Stops shape old new c) ⊎ (HasCause old c halt × (new ≡ old))
+
+-- what a drive makes of a command, with its data in front of a buffer
+abbrev pub Makes : Shape → Mounted → Mounted → Command → Result Outcome Halt → List ℕ → Type 0
+Makes shape old new c (Ok o) into = Serves shape old new c (record { command = c; reply = reply_of o into; reads = o.reads })
+Makes shape old new c (Err halt) into = Fails shape old new c halt
+
+-- One command through the port: it was served, or the port failed and says why.
+pub record Stepped (shape : Shape) (old new : Standing) (c : Command) : Type 0 where
+  pub shape_is : old.on.board.shape ≡ Some shape
+  pub up : old.faults ≤ new.faults
+  pub ended :
+      ((x : Exchange) × Serves shape old.on new.on c x × (new.faults ≡ old.faults) × (new.halt ≡ old.halt))
+      ⊎ ((halt : Halt) × Fails shape old.on new.on c halt × Rose old.faults new.faults × (new.halt ≡ Some halt))
+
+-- Commands one after another.
+abbrev pub Chain : Shape → Standing → List Command → Standing → Type 0
+Chain shape p [] q = q ≡ p
+Chain shape p (c ∷ cs) q = (mid : Standing) × Stepped shape p mid c × Chain shape mid cs q

@@ -1,0 +1,27 @@
+//! The port: a drive, its board and a buffer, lent together.
+ghost use Rattle.std.specs.Prelude.{◌≡◌, ◌≤◌, length};
+ghost use Rattle.pk_base.specs.Shape.{greatest};
+ghost use Rattle.pk_port.specs.Ready.{Fits};
+
+use crate::Tally;
+use pk_base::Shape;
+use pk_drive::Engine;
+use pk_nand::Nand;
+
+/// A drive on its board as a port. The board is free again when the port is dropped, and stands then as the chain of `took` says.
+#[derive(Drop)]
+pub struct DrivePort<'d, 'b, 't, 'm, D: Engine, B: Nand> {
+    /// The drive, stopped or with nothing pending.
+    pub drive: &'d mut D,
+    /// Its board.
+    pub board: &'b mut B,
+    /// What the port counts.
+    pub tally: &'t mut Tally,
+    /// Room for the data of any command: 65,536 bytes, or the greatest value where that is more.
+    pub buffer: &'m mut [u8],
+    /// The shape of the board.
+    pub shape: Shape,
+    ghost room: { 65536 ≤ length buffer.now },
+    ghost room_value: { greatest shape ≤ length buffer.now },
+    ghost fits: { ∥ Fits (D.agrees drive.now) shape (B.state board.now) (D.sight drive.now) ∥₁ },
+}
