@@ -1,8 +1,6 @@
-//! Tests of the parts of an engine, and of the drive: logs, values, freezes, a format and an opening.
+//! Tests of the parts of an engine, and of the drive: logs, values, a format and an opening.
 #![tactic(auto)]
 
-#[cfg(test)]
-mod compact;
 #[cfg(test)]
 mod data;
 #[cfg(test)]
