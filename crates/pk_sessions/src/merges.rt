@@ -197,7 +197,7 @@ pub fn roots_fill_a_block<P: Program>(alloc: Global) -> Result<(), Fail> {
     push_command(&mut script, REPORT, 0)?;
     let mut later = long_board(alloc, worked()?, pages, script)?;
     same(serve::<P>(alloc, &mut later), 0, "the status")?;
-    let stored = bytes_out(&flash, k).div_ceil(24) as u32;
+    let stored = u32::try_from(bytes_out(&flash, k).div_ceil(24)).map_err(|_| "records")?;
     let keys = numbers(later.posted(), 0)?[2];
     holds(
         stored <= keys && keys <= 300 && keys > 0,
