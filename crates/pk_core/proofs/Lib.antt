@@ -32,7 +32,6 @@ pub mod Doing
 pub mod Early
 pub mod Opening
 pub mod Formatting
-pub mod Fresh
 pub mod Steps
 pub mod Executing
 pub mod Places

@@ -16,4 +16,3 @@ pub mod Changes
 pub mod Serving
 pub mod Listed
 pub mod Opening
-pub mod Fresh

@@ -1,7 +1,7 @@
 -- What a drive keeps in memory, and what contracts see of it.
-use Rattle.std.specs.Prelude.{ℕ, Bool, true, false, List, [], length, sum, count_by, Option, Some, None, ◌==◌, ◌&&◌, not}
+use Rattle.std.specs.Prelude.{ℕ, ◌-◌, Bool, true, false, List, [], length, sum, count_by, Option, Some, None, ◌==◌, ◌&&◌, ◌||◌, not}
 use Rattle.pk_nvme.specs.declared.opcode.TheConstants.{STORE}
-use Rattle.pk_base.specs.Shape.{charge, limit}
+use Rattle.pk_base.specs.Shape.{charge, limit, data_blocks, most_pages}
 use Rattle.pk_nvme.specs.declared.request.Request.{Request}
 use Rattle.pk_nvme.specs.Seen.{command_of}
 use Rattle.pk_plan.specs.declared.owner.Owner.TheVariants.{Values}
@@ -11,19 +11,28 @@ use Rattle.pk_level.specs.Levels.{Levels, run_of}
 use Rattle.pk_model.specs.Answer.{early}
 use Rattle.pk_model.specs.Sight.{Sight, Counts}
 use Rattle.pk_log.specs.State.{LogState}
-use Rattle.pk_data.specs.State.{DataState, needs_reclaim}
+use Rattle.pk_data.specs.State.{DataState, needs_reclaim, fits_open}
 use Rattle.pk_data.specs.declared.open_block.OpenBlock.{OpenBlock}
+use Rattle.pk_jrn.specs.Epochs.{left_of as pages_left}
+use Rattle.pk_work.specs.Backlog.{Backlog, is_tight}
 use Rattle.pk_work.specs.Work.{work}
 use Rattle.pk_schedule.specs.Index.{Index, Schedule, index, merging}
-use Rattle.pk_schedule.specs.Steps.{backlog_of}
+use Rattle.pk_schedule.specs.Steps.{backlog_of as backlog_of_index}
+use Rattle.pk_gc.specs.declared.course.Phase.{Phase}
+use Rattle.pk_gc.specs.declared.course.Phase.TheVariants.{Idle, Copies, GivesBack}
+use Rattle.pk_gc.specs.State.{JobState, left_in}
+use Rattle.pk_gc.specs.Stepping.{runs_in}
+use Rattle.pk_gc.specs.Standing.{held_blocks}
 
--- the log, the runs with the arena of their frames, the jobs that keep both short, where values lie, the blocks, how many keys there are, and whether it stopped
+-- The log, the runs with the arena of their frames, the jobs that keep both short, where values lie, the reclaim, the blocks, how many
+-- keys there are, and whether it stopped.
 pub record Parts : Type 0 where
   pub log : LogState
   pub levels : Levels
   pub arena : Frames
   pub schedule : Schedule
   pub space : DataState
+  pub reclaim : JobState
   pub pool : Blocks
   pub keys : ℕ
   pub stopped : Bool
@@ -36,9 +45,9 @@ frames_of d = length d.arena.used
 abbrev pub index_of : Parts → Index
 index_of d = index d.log d.levels d.arena d.pool d.schedule
 
--- the blocks that a reclaim holds for values: none runs
+-- the blocks that a reclaim holds for values
 abbrev pub outputs_of : Parts → List ℕ
-outputs_of d = []
+outputs_of d = held_blocks d.reclaim.phase
 
 -- the sixteen numbers of a Report
 abbrev pub counts_of : Parts → Counts
@@ -56,10 +65,36 @@ counts_of d = record {
   run3 = (run_of d.levels 3).count;
   run4 = (run_of d.levels 4).count;
   epoch = d.log.epoch.used;
-  blocks = used_by Values d.pool.states;
+  blocks = used_by Values d.pool.states - length (outputs_of d);
   ready = count_by is_ready d.pool.states;
   merge = merging d.schedule.phase;
 }
+
+-- ---- what is left to do in the background
+
+-- No reclaim runs, as many blocks have values as may have, and the open one does not take every value.
+abbrev pub is_reclaim_due : Parts → Bool
+is_reclaim_due d = not (runs_in d.reclaim.phase) && ((used_by Values d.pool.states == data_blocks d.log.shape - 1) && not (fits_open d.log.shape d.space (most_pages d.log.shape)))
+
+-- a reclaim has its moves to commit yet
+abbrev pub is_copying : Phase → Bool
+is_copying Idle = false
+is_copying (Copies c) = true
+is_copying (GivesBack victim) = false
+
+-- A reclaim that is due or runs may need a freeze for the commit of its moves.
+abbrev pub may_freeze : Parts → Bool
+may_freeze d = (is_reclaim_due d || is_copying d.reclaim.phase) && is_tight d.log.shape (length d.log.active.entries) (pages_left d.log.epoch)
+
+-- that of the index, with the reclaim
+abbrev pub backlog_of : Parts → Backlog
+backlog_of d = record (backlog_of_index (index_of d)) {
+  reclaim = left_in d.log.shape d.space.live.heads d.reclaim.phase;
+  is_due = is_reclaim_due d;
+  may_freeze = may_freeze d;
+}
+
+-- ---- what is seen of it
 
 -- the number of the block that takes values, where there is one
 abbrev pub block_if_open : Option OpenBlock → Option ℕ
@@ -72,9 +107,9 @@ sight_of d = record {
   stopped = d.stopped;
   counts = counts_of d;
   open_block = block_if_open d.space.open_block;
-  reclaims = false;
+  reclaims = runs_in d.reclaim.phase;
   fresh = d.log.epoch.takes_more;
-  work = work d.log.shape (backlog_of (index_of d));
+  work = work d.log.shape (backlog_of d);
 }
 
 -- What is built of a command that passed the checks that read it alone: all but a reclaim.

@@ -18,7 +18,6 @@ use pk_model::early::early_fault;
 use pk_nand::{Nand, NandFault};
 use pk_nvme::Request;
 use pk_nvme::opcode::{DELETE, EXIST, FLUSH, LIST, REPORT, RETRIEVE, STORE, TICK};
-use pk_plan::Owner;
 use pk_region::Region;
 
 impl<A: Region> Drive<A> {
@@ -153,7 +152,7 @@ impl<A: Region> Engine for Drive<A> {
             run3: self.levels.entries(3),
             run4: self.levels.entries(4),
             epoch: self.log.epoch_used(),
-            blocks: self.pool.used(Owner::Values),
+            blocks: self.used_blocks(),
             ready: self.pool.ready(),
             merge: self.schedule.merging() as u32,
         }

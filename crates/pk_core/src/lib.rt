@@ -9,7 +9,6 @@ mod drive;
 mod emptying;
 mod engine;
 mod filled;
-mod laws;
 mod list;
 mod lookup;
 mod making;
@@ -26,6 +25,5 @@ mod tick;
 mod ticks;
 
 pub use drive::Drive;
-pub use laws::fresh_serves;
 pub use making::format;
 pub use pk_scan::OpenError;

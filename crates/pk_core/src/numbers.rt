@@ -3,6 +3,7 @@ ghost use Rattle.std.specs.Prelude.{◌≡◌, ◌≤◌, length, take, false};
 ghost use Rattle.pk_base.specs.Shape as shape_spec;
 ghost use Rattle.pk_drive.specs.Exec.{report_of};
 ghost use Rattle.pk_drive.specs.Seen.{counts_of};
+ghost use Rattle.pk_gc.specs.Standing.{held_blocks};
 ghost use Rattle.pk_core.specs.Parts as spec;
 ghost use Rattle.pk_core.specs.Quiet.{DoneWithout};
 ghost use Rattle.pk_nvme.specs.declared.status.TheConstants.{SUCCESSFUL_COMPLETION};
@@ -12,7 +13,9 @@ use crate::drive::Drive;
 use crate::quiet::served;
 use pk_base::put_u32;
 use pk_drive::{Counts, Engine, Outcome};
+use pk_gc::Phase;
 use pk_nvme::opcode::STORE;
+use pk_plan::Owner;
 use pk_region::Region;
 
 /// Writes the sixteen numbers in their order.
@@ -44,7 +47,27 @@ fn put_counts(counts: &Counts, into: &mut [u8])
     }
 }
 
+/// How many blocks a reclaim holds for values.
+fn held_count(phase: Phase) -> u32
+    ensures { result ≡ length (held_blocks phase) }
+{
+    match phase {
+        Phase::Idle => 0,
+        Phase::Copies(_) => 1,
+        Phase::GivesBack(_) => 1,
+    }
+}
+
 impl<A: Region> Drive<A> {
+    /// How many data blocks are in use, but for the one that a reclaim holds.
+    pub(crate) fn used_blocks(&self) -> u32
+        ensures { result ≡ (spec.counts_of self.now).blocks }
+    {
+        self.pool
+            .used(Owner::Values)
+            .saturating_sub(held_count(self.reclaim.phase()))
+    }
+
     /// Writes the numbers of a Report.
     pub(crate) fn report(&self, into: &mut [u8]) -> Outcome
         requires room { 64 ≤ length into.old }

@@ -7,9 +7,9 @@ ghost use Rattle.pk_drive.specs.Tick.{TellsIdle, LowersWork};
 ghost use Rattle.pk_drive.specs.Seen.{stopped_by};
 ghost use Rattle.pk_compact.specs.FreezeSteps.{taken_by};
 ghost use Rattle.pk_schedule.specs.Steps.{has_no_merge};
+ghost use Rattle.pk_core.specs.Parts as spec;
 ghost use Rattle.pk_core.specs.Parts.{index_of, sight_of};
 ghost use Rattle.pk_core.specs.Agreeing.{DriveOnFlash};
-ghost use Rattle.pk_core.specs.Ticking as spec;
 ghost use Rattle.pk_core.specs.Ticking.{MayTick, Ticks, Advances};
 ghost use Rattle.pk_core.specs.Staying.{Stays};
 
@@ -130,12 +130,13 @@ impl<A: Region> Drive<A> {
         }
     }
 
-    // As many blocks have values as may have, and the open one does not take every value.
+    // No reclaim runs, as many blocks have values as may have, and the open one does not take every value.
     fn is_reclaim_due(&self) -> bool
         ensures { result ≡ spec.is_reclaim_due self.now }
     {
         let shape = self.shape();
-        self.pool.used(Owner::Values) == shape.data_blocks() - 1
+        !self.reclaim.runs()
+            && self.pool.used(Owner::Values) == shape.data_blocks() - 1
             && !self.space.fits_open(&shape, shape.most_pages())
     }
 
