@@ -48,3 +48,6 @@ pub mod Due
 pub mod Indexing
 pub mod Remaining
 pub mod Advancing
+pub mod SameMaps
+pub mod Spacing
+pub mod SpaceSteps

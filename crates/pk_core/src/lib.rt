@@ -19,8 +19,11 @@ mod open;
 mod place;
 mod placing;
 mod quiet;
+mod reclaiming;
 mod room;
+mod space;
 mod store;
+mod storing;
 mod tick;
 mod ticks;
 

@@ -141,6 +141,8 @@ pub record FreezeMoves (x x' : Index) : Type 0 where
   pub log : x'.log ≡ record x.log { next = x'.log.next }
   pub rest : x' ≡ record x { log = x'.log; pool = x'.pool; schedule = record x.schedule { freeze = x'.schedule.freeze } }
   pub lowers : Lowers (freeze_left x.schedule.freeze x.log.next) (unready x.pool.states) (freeze_left x'.schedule.freeze x'.log.next) (unready x'.pool.states)
+  -- it has taken a block
+  pub some : 0 < length (taken_by x'.schedule.freeze)
 
 -- The freeze is over: an empty epoch is the newest one, and the buffers are exchanged.
 pub record Freezes (x x' : Index) : Type 0 where
