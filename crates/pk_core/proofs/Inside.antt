@@ -122,6 +122,7 @@ module _ (d : Parts) (old : BoardState) (may : MayEmpty d old) where
         placed = w.placed;
         former = w.former;
         former_read = w.former_read;
+        reclaim = w.reclaim;
         keys_are = w.keys_are;
       } in
       let K : Parts → Type 0 = λ e. Keeps d e d.log.shape m old new in

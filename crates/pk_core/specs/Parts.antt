@@ -1,7 +1,7 @@
 -- What a drive keeps in memory, and what contracts see of it.
-use Rattle.std.specs.Prelude.{ℕ, ◌-◌, Bool, true, false, List, [], length, sum, count_by, Option, Some, None, ◌==◌, ◌&&◌, ◌||◌, not}
+use Rattle.std.specs.Prelude.{ℕ, ◌-◌, Bool, true, false, List, [], length, sum, count_by, Option, Some, None, ◌==◌, ◌&&◌, not, if◌then◌else◌}
 use Rattle.pk_nvme.specs.declared.opcode.TheConstants.{STORE}
-use Rattle.pk_base.specs.Shape.{charge, limit, data_blocks, most_pages}
+use Rattle.pk_base.specs.Shape.{Shape, charge, limit, data_blocks, most_pages}
 use Rattle.pk_nvme.specs.declared.request.Request.{Request}
 use Rattle.pk_nvme.specs.Seen.{command_of}
 use Rattle.pk_plan.specs.declared.owner.Owner.TheVariants.{Values}
@@ -15,12 +15,13 @@ use Rattle.pk_data.specs.State.{DataState, needs_reclaim, fits_open}
 use Rattle.pk_data.specs.declared.open_block.OpenBlock.{OpenBlock}
 use Rattle.pk_jrn.specs.Epochs.{left_of as pages_left}
 use Rattle.pk_work.specs.Backlog.{Backlog, is_tight}
+use Rattle.pk_work.specs.Rest.{whole_reclaim}
 use Rattle.pk_work.specs.Work.{work}
 use Rattle.pk_schedule.specs.Index.{Index, Schedule, index, merging}
 use Rattle.pk_schedule.specs.Steps.{backlog_of as backlog_of_index}
 use Rattle.pk_gc.specs.declared.course.Phase.{Phase}
 use Rattle.pk_gc.specs.declared.course.Phase.TheVariants.{Idle, Copies, GivesBack}
-use Rattle.pk_gc.specs.State.{JobState, left_in}
+use Rattle.pk_gc.specs.State.{JobState, steps_left}
 use Rattle.pk_gc.specs.Stepping.{runs_in}
 use Rattle.pk_gc.specs.Standing.{held_blocks}
 
@@ -70,36 +71,43 @@ counts_of d = record {
   merge = merging d.schedule.phase;
 }
 
--- ---- what is left to do in the background
-
--- No reclaim runs, as many blocks have values as may have, and the open one does not take every value.
-abbrev pub is_reclaim_due : Parts → Bool
-is_reclaim_due d = not (runs_in d.reclaim.phase) && ((used_by Values d.pool.states == data_blocks d.log.shape - 1) && not (fits_open d.log.shape d.space (most_pages d.log.shape)))
-
--- a reclaim has its moves to commit yet
-abbrev pub is_copying : Phase → Bool
-is_copying Idle = false
-is_copying (Copies c) = true
-is_copying (GivesBack victim) = false
-
--- A reclaim that is due or runs may need a freeze for the commit of its moves.
-abbrev pub may_freeze : Parts → Bool
-may_freeze d = (is_reclaim_due d || is_copying d.reclaim.phase) && is_tight d.log.shape (length d.log.active.entries) (pages_left d.log.epoch)
-
--- that of the index, with the reclaim
-abbrev pub backlog_of : Parts → Backlog
-backlog_of d = record (backlog_of_index (index_of d)) {
-  reclaim = left_in d.log.shape d.space.live.heads d.reclaim.phase;
-  is_due = is_reclaim_due d;
-  may_freeze = may_freeze d;
-}
-
--- ---- what is seen of it
-
 -- the number of the block that takes values, where there is one
 abbrev pub block_if_open : Option OpenBlock → Option ℕ
 block_if_open None = None
 block_if_open (Some o) = Some o.block
+
+-- ---- what is left to do in the background
+
+-- As many blocks are in use as may be, beside that which a reclaim holds, and the open one does not take every value: a reclaim is due, or
+-- will be.
+abbrev pub is_reclaim_due : Parts → Bool
+is_reclaim_due d = ((counts_of d).blocks == data_blocks d.log.shape - 1) && not (fits_open d.log.shape d.space (most_pages d.log.shape))
+
+-- What is left of the reclaim that runs or is due. Behind the commit of its moves Stores may fill the open block, so that a further one is
+-- due behind it.
+abbrev pub reclaim_left : Shape → List ℕ → Bool → Phase → Option ℕ
+reclaim_left shape heads due Idle = if due then Some (whole_reclaim shape - 2) else None
+reclaim_left shape heads due (Copies c) = Some (steps_left shape heads c)
+reclaim_left shape heads due (GivesBack victim) = Some (if due then whole_reclaim shape - 1 else 1)
+
+-- a reclaim that is due or runs has its moves to commit yet
+abbrev pub has_moves : Bool → Phase → Bool
+has_moves due Idle = due
+has_moves due (Copies c) = true
+has_moves due (GivesBack victim) = due
+
+-- their commit may need a freeze
+abbrev pub may_freeze : Parts → Bool
+may_freeze d = has_moves (is_reclaim_due d) d.reclaim.phase && is_tight d.log.shape (length d.log.active.entries) (pages_left d.log.epoch)
+
+-- That of the index, with the reclaim. One that is due is told by what is left of it.
+abbrev pub backlog_of : Parts → Backlog
+backlog_of d = record (backlog_of_index (index_of d)) {
+  reclaim = reclaim_left d.log.shape d.space.live.heads (is_reclaim_due d) d.reclaim.phase;
+  may_freeze = may_freeze d;
+}
+
+-- ---- what contracts see
 
 abbrev pub sight_of : Parts → Sight
 sight_of d = record {
