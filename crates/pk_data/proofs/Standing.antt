@@ -95,7 +95,6 @@ module _ (shape : Shape) (d : DataState) (pool : Blocks) (outputs : List ℕ) (f
     closed_owned = p.closed_owned;
     owned_closed = p.owned_closed;
     behind_roots = p.behind_roots;
-    filled = p.filled;
     open_is = p.open_is;
     outputs_are = record {
       different = p.outputs_are.different;
@@ -140,7 +139,6 @@ module _ (shape : Shape) (d : DataState) (pool : Blocks) (outputs : List ℕ) (f
     closed_owned = p.closed_owned;
     owned_closed = p.owned_closed;
     behind_roots = p.behind_roots;
-    filled = p.filled;
     open_is = p.open_is;
     outputs_are = record {
       different = p.outputs_are.different;

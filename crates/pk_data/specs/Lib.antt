@@ -3,3 +3,4 @@ pub mod Placed
 pub mod Reserving
 pub mod Entries
 pub mod Laws
+pub mod Reclaiming

@@ -7,6 +7,7 @@
 mod data_space;
 mod laws;
 mod open_block;
+mod reclaim;
 mod span;
 
 pub use data_space::Data;

@@ -1,5 +1,5 @@
 //! The job.
-ghost use Rattle.std.specs.Prelude.{◌≡◌, ◌≤◌, ◌<◌, MatchOption, slice_set, ◌+◌, ◌-◌, ◌*◌, ◌++◌, ◌∷◌, length, ℕ, List, [], Some, None, true, false, IfOk, IfErr, OnOk, OnErr};
+ghost use Rattle.std.specs.Prelude.{◌≡◌, ◌⊎◌, ◌≤◌, ◌<◌, MatchOption, slice_set, ◌+◌, ◌-◌, ◌*◌, ◌++◌, ◌∷◌, length, ℕ, List, [], Some, None, true, false, IfOk, IfErr, OnOk, OnErr};
 ghost use Rattle.pk_base.specs.Key.{Key as KeySpec};
 ghost use Rattle.pk_base.specs.Shape as spec;
 ghost use Rattle.pk_base.specs.Entry.{Place};
@@ -125,6 +125,7 @@ impl<A: Region> ReclaimJob<A> {
         ensures steps { IfOk result (λ r. Steps self.old (record { live = live.old; front = front.old; pool = pool.old; active = active.old; epoch = epoch.old }) (B.state board.old) self.new (record { live = live.new; front = front.new; pool = pool.new; active = active.new; epoch = epoch.new }) (B.state board.new) r) }
         ensures kept { OnErr result (self.new ≡ record self.old { page = self.new.page }) }
         ensures kept_parts { OnErr result ((live.new.heads ≡ live.old.heads) × (pool.new ≡ pool.old) × (active.new ≡ active.old) × (epoch.new ≡ epoch.old)) }
+        ensures kept_values { OnErr result ((front.new ≡ front.old) × (live.new ≡ live.old) ⊎ (self.old.phase ≡ Idle) × (victim : ℕ) × Chooses self.old.shape live.old front.old live.new front.new victim) }
         ensures breaks { IfErr result (λ e. Breaks self.old (record { live = live.old; front = front.old; pool = pool.old; active = active.old; epoch = epoch.old }) (B.state board.old) (B.state board.new) e) }
         ensures shape { self.new.shape ≡ self.old.shape }
         ensures ready { IsReady (B.state board.new) self.old.shape }
