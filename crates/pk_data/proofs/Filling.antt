@@ -76,18 +76,18 @@ module _ (shape : Shape) (pool : Blocks) (outputs : List ℕ) (flash flash' : Fl
   abbrev then_pool : Blocks
   then_pool = with_state pool b (Owned for_values)
 
-  another : (c : ℕ) → HoldsValues pool c → c ≢ b
+  pub another : (c : ℕ) → HoldsValues pool c → c ≢ b
   another c held e =
       let h : slice_get pool.states b ≡ Some (Owned for_values) = subst (λ k. HoldsValues pool k) e held in
       elim spare [ inl free ↦ cc | inr ready ↦ cc ]
 
-  kept : (c : ℕ) → HoldsValues pool c → HoldsValues then_pool c
+  pub kept : (c : ℕ) → HoldsValues pool c → HoldsValues then_pool c
   kept c held = get-set_other pool.states b c (Owned for_values) (another c held) ∙ held
 
-  was : (c : ℕ) → c ≢ b → HoldsValues then_pool c → HoldsValues pool c
+  pub was : (c : ℕ) → c ≢ b → HoldsValues then_pool c → HoldsValues pool c
   was c ne held = sym (get-set_other pool.states b c (Owned for_values) ne) ∙ held
 
-  taken : HoldsValues then_pool b
+  pub taken : HoldsValues then_pool b
   taken = elim spare [ inl free ↦ set_is pool.states b Free (Owned for_values) free | inr ready ↦ set_is pool.states b Ready (Owned for_values) ready ]
 
   closed_owned : (closed : List Bool) (open_block : Option OpenBlock) → ((c : ℕ) → slice_get closed c ≡ Some true → HoldsValues pool c × IsNotOpen open_block c × (IsOutput outputs c → ⊥))

@@ -30,7 +30,7 @@ pub some_pages : (shape : Shape) → IsShape shape → 0 < shape.block_pages
 some_pages shape is_shape = let least : 8 ≤ shape.block_pages = is_shape.block_least in omega (arith, least)
 
 -- the open block, where the pool has it still and its pages are the same
-open_same : (shape : Shape) (p q : Blocks) (outputs : List ℕ) (old new : Flash) (open_block : Option OpenBlock)
+pub open_same : (shape : Shape) (p q : Blocks) (outputs : List ℕ) (old new : Flash) (open_block : Option OpenBlock)
     → ((b : ℕ) → HoldsValues p b → HoldsValues q b) → SameValues shape p outputs old new → ((b : ℕ) → IsOutput outputs b → IsNotOpen open_block b)
     → MatchOption open_block (Unit {0}) (λ o. IsOpenIn shape p old o) → MatchOption open_block (Unit {0}) (λ o. IsOpenIn shape q new o)
 open_same shape p q outputs old new None kept same not_open open_is = tt

@@ -4,3 +4,4 @@ pub mod Reserving
 pub mod Entries
 pub mod Laws
 pub mod Reclaiming
+pub mod Reclaims

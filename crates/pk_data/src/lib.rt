@@ -11,6 +11,6 @@ mod reclaim;
 mod span;
 
 pub use data_space::Data;
-pub use laws::{elsewhere, starts_with_none, value_blocks};
+pub use laws::{elsewhere, reclaims, starts_with_none, value_blocks};
 pub use open_block::OpenBlock;
 pub use span::Span;
