@@ -11,3 +11,4 @@ pub mod Holding
 pub mod Heads
 pub mod Relocating
 pub mod Ends
+pub mod Fronts

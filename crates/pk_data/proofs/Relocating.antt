@@ -69,14 +69,14 @@ module _ (shape : Shape) (is_shape : IsShape shape) (victim output : ℕ) (other
           let some = of_m.some in
           let above = order.0 in
           omega (arith, pages, some, above) in
-          (was.0, find-put key_cmp key_total x.key m.key (new_place m) es ∙ not_tied (eq_by_cmp key_cmp x.key m.key) (λ tied. apart (same_key x.key m.key tied)) was.1, was.2);
+          (was.0, find-put key_cmp key_total x.key m.key (new_place m) es ∙ not_tied (Some (new_place m)) (find key_cmp x.key es) (Some was.0) (eq_by_cmp key_cmp x.key m.key) (λ tied. apart (same_key x.key m.key tied)) was.1, was.2);
     },
     later heads es m old ms found from of_m blocks.1 order.1 are.1,
   )
     where
-      not_tied : {a : Option Place} {b : Option Place} {c : Option Place} (t : Bool) → (t ≡ true → ⊥) → b ≡ c → cond t a b ≡ c
-      not_tied true no is = absurd (no refl)
-      not_tied false no is = is
+      not_tied : (a b c : Option Place) (t : Bool) → (t ≡ true → ⊥) → b ≡ c → cond t a b ≡ c
+      not_tied a b c true never is = absurd (never refl)
+      not_tied a b c false never is = is
 
   -- the heads behind the moves are those of the moved values
   all_live : (heads : List ℕ) (es : List (Key × Place)) (ms : List Move) → AreLive shape heads es → T (is_sorted key_cmp es) → AllByRecursion (InBlocks n victim output) ms → AreInOrder ms
@@ -89,7 +89,7 @@ module _ (shape : Shape) (is_shape : IsShape shape) (victim output : ℕ) (other
             let old = are.0.value is in
             let es' : List (Key × Place) = put key_cmp m.key (new_place m) es in
             let now : AreLive shape (heads_behind heads m) es' =
-            subst (λ (hs : List ℕ). AreLive shape hs es') (λ i. set (set heads (old.2 i) 0) m.to (sym are.0.count_is i))
+            subst (λ (hs : List ℕ). AreLive shape hs es') ((λ i. set (set heads (old.2 i) 0) m.to (sym are.0.count_is i)) ∙ sym (ap (λ b. cond b (set (set heads m.from 0) m.to m.count) heads) is))
             (live_moved shape is_shape heads es m.key old.0 (new_place m) live rising old.1 are.0.is_place (λ k here there. free k (inl here) there)) in
             subst (λ (xs : List Move). AreLive shape (heads_all (heads_behind heads m) ms) (moved (placed_at xs) es')) (lefts_same n victim output other heads m ms blocks.0 blocks.1 order.0)
             (all_live (heads_behind heads m) es' ms now (is_sorted-put key_cmp key_total m.key (new_place m) es rising) blocks.1 order.1
