@@ -54,9 +54,9 @@ pub record MayReclaim (x : Space) (flash : Flash) (top : ℕ × Root) (found : F
 
 -- ---- what is left of it, and room
 
--- what is left before a step: a whole reclaim where none runs
+-- what is left before a step: a whole reclaim where none runs, but for two steps, which a block that is taken counts
 abbrev pub left_before : Space → ℕ
-left_before x = left_of (whole_reclaim x.log.shape) (left_in x.log.shape x.values.live.heads x.job.phase)
+left_before x = left_of (whole_reclaim x.log.shape - 2) (left_in x.log.shape x.values.live.heads x.job.phase)
 
 -- and behind it: nothing where none runs
 abbrev pub left_behind : Space → ℕ
