@@ -15,14 +15,13 @@ ghost use Rattle.pk_base.specs.Page.{Flash};
 ghost use Rattle.pk_live.specs.Values.{IsClosed, count_of};
 ghost use Rattle.pk_pool.specs.Blocks.{IsOwned, with_state};
 ghost use Rattle.pk_pool.specs.declared.state.BlockState.TheVariants.{Free};
-ghost use Rattle.pk_jrn.specs.Epochs.{AreBlocks, next_page, EpochOnFlash};
-ghost use Rattle.pk_jrn.specs.Appends.{next_bytes};
+ghost use Rattle.pk_jrn.specs.Epochs.{AreBlocks, EpochOnFlash};
 ghost use Rattle.pk_gc.specs.declared.course.Course.{Course as CourseSpec};
 ghost use Rattle.pk_gc.specs.declared.course.Phase.TheVariants.{Idle, Copies, GivesBack};
 ghost use Rattle.pk_gc.specs.Victims.{closed_with};
 ghost use Rattle.pk_gc.specs.Stepping.{CanEnd, Finishes, CanStep, Steps, runs_in};
 ghost use Rattle.pk_gc.specs.Breaking.{Breaks};
-ghost use Rattle.pk_gc.specs.Committing.{Commits, entries_left};
+ghost use Rattle.pk_gc.specs.Committing.{Commits, FailsToAdd, entries_left};
 ghost use Rattle.pk_gc.specs.Running.{IsRunning, IsNextValue, begun_move};
 
 use crate::course::{Course, Phase};
@@ -345,7 +344,7 @@ impl<A: Region> ReclaimJob<A> {
         ensures commits { IfOk result (λ r. Commits (entries_left live.now.heads self.old.moves) active.now epoch.old (B.state board.old) epoch.new (B.state board.new) r) }
         ensures kept_epoch { OnErr result (epoch.new ≡ epoch.old) }
         ensures stopped { IfErr result (λ e. e ≡ Stopped) }
-        ensures err { OnErr result (ProgramFailed (B.state board.old) (B.state board.new) (next_page epoch.old) (next_bytes epoch.old (entries_left live.now.heads self.old.moves))) }
+        ensures err { OnErr result (FailsToAdd (entries_left live.now.heads self.old.moves) active.now epoch.old (B.state board.old) (B.state board.new)) }
         ensures ready { IsReady (B.state board.new) self.old.shape }
         ensures buffer { length buf.new ≡ length buf.old }
     {
@@ -416,7 +415,7 @@ impl<A: Region> ReclaimJob<A> {
         ensures kept { OnErr result (self.new ≡ self.old) }
         ensures kept_hands { OnErr result ((live.new ≡ live.old) × (front.new ≡ front.old) × (pool.new ≡ pool.old) × (active.new ≡ active.old) × (epoch.new ≡ epoch.old)) }
         ensures stopped { IfErr result (λ e. e ≡ Stopped) }
-        ensures err { OnErr result (ProgramFailed (B.state board.old) (B.state board.new) (next_page epoch.old) (next_bytes epoch.old (entries_left live.old.heads self.old.moves))) }
+        ensures err { OnErr result (FailsToAdd (entries_left live.old.heads self.old.moves) active.old epoch.old (B.state board.old) (B.state board.new)) }
         ensures ready { IsReady (B.state board.new) self.old.shape }
         ensures buffer { length buf.new ≡ length buf.old }
     {
