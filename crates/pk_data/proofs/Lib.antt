@@ -11,4 +11,3 @@ pub mod Holding
 pub mod Heads
 pub mod Relocating
 pub mod Ends
-pub mod Fronts
