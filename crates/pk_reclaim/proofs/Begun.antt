@@ -1,5 +1,5 @@
 -- A reclaim begins: a victim was chosen, and a block taken for its copies; or a victim without live pages was given back.
-use Rattle.std.proofs.Common.{◌≡◌, ◌≢◌, ◌⊎◌, inl, inr, ℕ, ◌+◌, ◌-◌, ◌*◌, ◌/◌, ◌<◌, ◌≤◌, refl, sym, ap, subst, ◌∙◌, arith, true, false, List, [], ◌++◌, length, sum, take, drop, Option, Some, append-nil}
+use Rattle.std.proofs.Common.{◌≡◌, ◌≢◌, ◌⊎◌, inl, inr, ℕ, ◌+◌, ◌-◌, ◌*◌, ◌/◌, ◌<◌, ◌≤◌, refl, sym, ap, subst, ◌∙◌, arith, true, false, List, [], ◌∷◌, ◌++◌, length, sum, take, drop, Option, Some, append-nil}
 use Rattle.std.specs.Prelude.{slice_get}
 use Rattle.std.proofs.lemmas.Option.{slice_get_within}
 use Rattle.pk_base.specs.Key.{Key}
@@ -93,7 +93,7 @@ module _ (log : LogState) (values values' : DataState) (pool pool' : Blocks) (mo
     reaches = elim s.choice [ inl taken ↦ none_reaches quiet new taken.same | inr free ↦ erase_reaches quiet new free.erase ]
 
     taken : ValuesOnFlash shape values' pool' (s.output ∷ []) new.pages es × (used_by for_values pool'.states ≡ used_by for_values pool.states + 1)
-    taken = output_taken shape (job_in log moves page Idle) job' values values' pool pool' old new es placed s refl
+    taken = output_taken shape (job_in log moves page Idle) job' values values' pool pool' old new es placed s
 
     owners : SameOwners pool pool'
     owners = subst (λ (q : Blocks). SameOwners pool q) (sym s.taken) (owners_taken pool s.output s.spare)
@@ -149,7 +149,7 @@ module _ (log : LogState) (values values' : DataState) (pool pool' : Blocks) (mo
     given : ValuesOnFlash shape values' pool' [] new.pages es × (used_by for_values pool'.states + 1 ≡ used_by for_values pool.states)
     given = dead_given_back shape (job_in log moves page Idle) job' values values' pool pool' old new es placed g
 
-    with_chosen : DataState
+    abbrev with_chosen : DataState
     with_chosen = record { live = g.chosen; open_block = values'.open_block }
 
     held : HoldsValues pool g.victim

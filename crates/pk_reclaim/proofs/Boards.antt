@@ -91,7 +91,7 @@ roots_low shape old new ready told same = roots_stay shape old new ready told (n
 
 -- a mark that was interrupted, and touches none of their pages
 low_left : (shape : Shape) (mark : Mark) (old new : BoardState) → ((k : ℕ) → k < 2 * shape.block_pages → Touches shape mark k → ⊥) → shape_of old ≡ shape → LeftBy mark old new → SameLow shape old.pages new.pages
-low_left shape mark old new apart told (inl marked) k low = untouched shape mark k _ _ (apart k low) (subst (λ (s : Shape). Interrupted s mark old.pages new.pages []) told marked.0).pages k
+low_left shape mark old new apart told (inl marked) k low = untouched shape mark k _ _ (apart k low) ((subst (λ (s : Shape). Interrupted s mark old.pages new.pages []) told marked.0).pages k)
 low_left shape mark old new apart told (inr none) k low = ap (λ (f : Flash). page_at f k) none.0
 
 pub program_low : (shape : Shape) (old new : BoardState) (at : ℕ) (bytes : List ℕ) → IsReady old shape → 2 * shape.block_pages ≤ at → ProgramFailed old new at bytes → SameRoots shape old new

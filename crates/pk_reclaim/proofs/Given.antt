@@ -1,7 +1,7 @@
 -- A reclaim ended: no move was left, or its moves were committed before; the victim was given back.
 use Rattle.std.proofs.Common.{◌≡◌, ◌≢◌, ◌⊎◌, inl, inr, ℕ, ◌+◌, ◌-◌, ◌*◌, ◌/◌, ◌<◌, ◌≤◌, refl, sym, ap, subst, ◌∙◌, arith, true, false, List, [], ◌∷◌, ◌++◌, length, Option, Some}
 use Rattle.std.specs.Prelude.{nat_le}
-use Rattle.std.proofs.lemmas.Bool.{leb-true}
+use Rattle.std.proofs.lemmas.Bool.{le-leb}
 use Rattle.pk_base.specs.Key.{Key}
 use Rattle.pk_base.specs.Shape.{Shape, IsShape, data_blocks, dense, most_pages}
 use Rattle.pk_base.specs.Page.{Flash}
@@ -40,11 +40,11 @@ use Rattle.pk_reclaim.proofs.Ready.{job_in, space_in, can_give, hands}
 
 -- ---- the parts of hands
 
-pub record SameParts (d d' : DataState) (p q : Blocks) (active active' : Table) (epoch epoch' : JournalEpoch) : Type 0 where
+pub record SameParts (d d' : DataState) (p q : Blocks) (t t' : Table) (e e' : JournalEpoch) : Type 0 where
   pub values : d' ≡ d
   pub pool : q ≡ p
-  pub active : active' ≡ active
-  pub epoch : epoch' ≡ epoch
+  pub active : t' ≡ t
+  pub epoch : e' ≡ e
 
 pub same_parts : (d d' : DataState) (p q : Blocks) (active active' : Table) (epoch epoch' : JournalEpoch) → hands_of d' q active' epoch' ≡ hands_of d p active epoch → SameParts d d' p q active active' epoch epoch'
 same_parts d d' p q active active' epoch epoch' same = record {
@@ -60,7 +60,7 @@ pub output_fits : (shape : Shape) (d : DataState) (output used count : ℕ) → 
 output_fits shape d output used count is_shape is few most =
     let front : d.open_block ≡ Some (record { block = output; used = used }) = same_front d.open_block (Some (record { block = output; used = used })) is in
     let room = leaves_room shape is_shape in
-    ap (λ (o : Option OpenBlock). has_left shape o count) front ∙ leb-true (used + count) shape.block_pages (omega (arith, few, most, room))
+    ap (λ (o : Option OpenBlock). has_left shape o count) front ∙ le-leb (used + count) shape.block_pages (omega (arith, few, most, room))
 
 -- ---- the end without moves
 

@@ -1,5 +1,5 @@
 -- A block that is for values changes its state, and the journal and runs keep theirs.
-use Rattle.std.proofs.Common.{◌≡◌, ◌≢◌, ◌⊎◌, inl, inr, ℕ, ◌+◌, ◌*◌, ◌/◌, ◌<◌, refl, sym, ap, subst, ◌∙◌, arith, true, false, cond, List, ◌++◌, Option, Some}
+use Rattle.std.proofs.Common.{◌≡◌, ◌≢◌, ◌⊎◌, inl, inr, ℕ, ◌+◌, ◌*◌, ◌/◌, ◌<◌, refl, sym, ap, subst, ◌∙◌, arith, Bool, true, false, cond, List, ◌++◌, Option, Some}
 use Rattle.std.specs.Prelude.{slice_get}
 use Rattle.std.specs.List.{concat}
 use Rattle.std.proofs.lemmas.Option.{same_Some}
@@ -31,7 +31,7 @@ pub owners_same : (pool : Blocks) → SameOwners pool pool
 owners_same pool = record { shape_is = refl; journal = λ b is. is; journal_used = refl; meta = λ b is. is; meta_used = refl }
 
 -- the state is none of the owner's
-IsNone : Owner → BlockState → Type 0
+abbrev IsNone : Owner → BlockState → Type 0
 IsNone o s = is_owned_by o s ≡ false
 
 other_owner : (o : Owner) (s : BlockState) → IsNone o s → is_owned_by o (Owned o) ≡ true → s ≡ Owned o → ⊥
@@ -50,8 +50,8 @@ module _ (pool : Blocks) (b : ℕ) (s t : BlockState) (here : slice_get pool.sta
   counts : (o : Owner) → IsNone o s → IsNone o t → used_by o then.states ≡ used_by o pool.states
   counts o was now =
       let all = count-set (is_owned_by o) pool.states b s t here in
-      let before : cond (is_owned_by o s) 1 0 ≡ 0 = ap (λ (x : _). cond x 1 0) was in
-      let behind : cond (is_owned_by o t) 1 0 ≡ 0 = ap (λ (x : _). cond x 1 0) now in
+      let before : ◌≡◌ {A = ℕ} (cond (is_owned_by o s) 1 0) 0 = ap (λ (x : Bool). cond x 1 0) was in
+      let behind : ◌≡◌ {A = ℕ} (cond (is_owned_by o t) 1 0) 0 = ap (λ (x : Bool). cond x 1 0) now in
       omega (arith, all, before, behind)
 
   owners_set : IsNone Journal s → IsNone Meta s → IsNone Journal t → IsNone Meta t → SameOwners pool then
