@@ -5,7 +5,6 @@ pub mod Keeping
 pub mod Leased
 pub mod Elsewhere
 pub mod Committing
-pub mod Building
 pub mod Freezing
 pub mod Reclaiming
 pub mod Rooming
@@ -52,3 +51,4 @@ pub mod Advancing
 pub mod SameMaps
 pub mod Spacing
 pub mod SpaceSteps
+pub mod Storing

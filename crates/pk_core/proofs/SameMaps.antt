@@ -14,7 +14,7 @@ use Rattle.pk_model.specs.Growth.{Goes}
 use Rattle.pk_model.specs.Crashes.{CrashFinds, background, commit}
 use Rattle.pk_model.proofs.Growing.{Reaches-then, Goes-then, at_end, weaken, weaken_went}
 use Rattle.pk_core.specs.Parts.{Parts}
-use Rattle.pk_core.specs.Moves.{StandsFor, MayStep, KeepsAll, BreaksAll}
+use Rattle.pk_core.specs.Moves.{StandsFor, MayStep, Keeps, KeepsAll, BreaksAll}
 use Rattle.pk_core.specs.Emptying.{StepOrRead, KeepsOrReads}
 use Rattle.pk_core.specs.Reclaiming.{HoldsAll, FailsAll, CannotRead}
 use Rattle.pk_core.specs.Spacing.{SameMap, SameMapAll, MovesOrReads, StaysSame}
@@ -23,8 +23,11 @@ use Rattle.pk_core.proofs.Standing.{reads_as}
 use Rattle.pk_core.proofs.ReadSteps.{Passes, passes_none, reading_passes, reading_then, reading_failed, reading_end}
 
 -- a step that leaves the values where they are
+pub same_kept : (a b : Parts) (shape : Shape) (m : Map) (s0 s1 : BoardState) → Keeps a b shape m s0 s1 → SameMap b shape m s0 s1
+same_kept a b shape m s0 s1 kept = record { stands = kept.stands; still = kept.still; cuts = kept.cuts }
+
 pub same_of : (a b : Parts) (s0 s1 : BoardState) → KeepsAll a b s0 s1 → SameMapAll a b s0 s1
-same_of a b s0 s1 keeps shape m stands = let kept = keeps shape m stands in record { stands = kept.stands; still = kept.still; cuts = kept.cuts }
+same_of a b s0 s1 keeps shape m stands = same_kept a b shape m s0 s1 (keeps shape m stands)
 
 -- ---- one behind another
 

@@ -40,7 +40,7 @@ and_right : (x y : Bool) → (x && y) ≡ true → y ≡ true
 and_right true y e = e
 and_right false y e = cc
 
-wanted_full : (d : Parts) (count : ℕ) → needs count d ≡ true → data_blocks d.log.shape - 1 ≤ used_by Values d.pool.states
+pub wanted_full : (d : Parts) (count : ℕ) → needs count d ≡ true → data_blocks d.log.shape - 1 ≤ used_by Values d.pool.states
 wanted_full d count wanted = leb→le (data_blocks d.log.shape - 1) (used_by Values d.pool.states) (subst T (sym (and_right _ (nat_le (data_blocks d.log.shape - 1) (used_by Values d.pool.states)) wanted)) tt)
 
 turn_at : (p : Phase) (d : Parts) (count : ℕ) → AwaitsAt p count d → used_by Values d.pool.states ≤ data_blocks d.log.shape - 1 + length (held_blocks p)
@@ -74,7 +74,7 @@ unread_stays b c s0 s1 unread = record {
   fresh = record { stays = λ e. ap (λ (d : Parts). d.log.epoch.takes_more) unread.rest ∙ e; begun = inl (ap (λ (d : Parts). d.log.root.epoch) unread.rest) };
 }
 
-values_stay : (b c : Parts) → LeavesValues b c → Stays b c → StaysSame b c
+pub values_stay : (b c : Parts) → LeavesValues b c → Stays b c → StaysSame b c
 values_stay b c leaves stays = record { frames = leaves.frames; stopped = ap (λ (d : Parts). d.stopped) leaves.rest; same_shape = leaves.same_shape; fresh = stays.fresh }
 
 -- ---- one step

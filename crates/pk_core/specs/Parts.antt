@@ -1,17 +1,13 @@
 -- What a drive keeps in memory, and what contracts see of it.
 use Rattle.std.specs.Prelude.{ℕ, ◌-◌, Bool, true, false, List, [], length, sum, count_by, Option, Some, None, ◌==◌, ◌&&◌, not, if◌then◌else◌}
-use Rattle.pk_nvme.specs.declared.opcode.TheConstants.{STORE}
-use Rattle.pk_base.specs.Shape.{Shape, charge, limit, data_blocks, most_pages}
-use Rattle.pk_nvme.specs.declared.request.Request.{Request}
-use Rattle.pk_nvme.specs.Seen.{command_of}
+use Rattle.pk_base.specs.Shape.{Shape, limit, data_blocks, most_pages}
 use Rattle.pk_plan.specs.declared.owner.Owner.TheVariants.{Values}
 use Rattle.pk_pin.specs.Frames.{Frames, leased_frames}
 use Rattle.pk_pool.specs.Blocks.{Blocks, is_ready, used_by}
 use Rattle.pk_level.specs.Levels.{Levels, run_of}
-use Rattle.pk_model.specs.Answer.{early}
 use Rattle.pk_model.specs.Sight.{Sight, Counts}
 use Rattle.pk_log.specs.State.{LogState}
-use Rattle.pk_data.specs.State.{DataState, needs_reclaim, fits_open}
+use Rattle.pk_data.specs.State.{DataState, fits_open}
 use Rattle.pk_data.specs.declared.open_block.OpenBlock.{OpenBlock}
 use Rattle.pk_jrn.specs.Epochs.{left_of as pages_left}
 use Rattle.pk_work.specs.Backlog.{Backlog, is_tight}
@@ -119,16 +115,3 @@ sight_of d = record {
   fresh = d.log.epoch.takes_more;
   work = work d.log.shape (backlog_of d);
 }
-
--- What is built of a command that passed the checks that read it alone: all but a reclaim.
-abbrev pub is_built_for : Parts → ℕ → ℕ → Bool
-is_built_for d opcode size = not (opcode == STORE && needs_reclaim d.log.shape d.space d.pool (charge d.log.shape size))
-
--- what is built of a command of which those checks say this: it passes, or is refused with a status
-abbrev pub built_if : Parts → Request → Option ℕ → Bool
-built_if d r None = is_built_for d r.opcode r.size
-built_if d r (Some status) = true
-
--- a command that is refused by those checks is always served
-abbrev pub is_built : Parts → Request → Bool
-is_built d r = built_if d r (early d.log.shape (command_of r []))

@@ -4,7 +4,6 @@ ghost use Rattle.pk_base.specs.Shape.{greatest};
 ghost use Rattle.pk_nvme.specs.Seen.{command_of};
 ghost use Rattle.pk_model.specs.Answer.{early};
 ghost use Rattle.pk_model.specs.Wear.{is_worn};
-ghost use Rattle.pk_core.specs.Parts as spec;
 ghost use Rattle.pk_core.specs.Parts.{sight_of};
 ghost use Rattle.pk_core.specs.Agreeing.{DriveOnFlashBetween};
 ghost use Rattle.pk_core.specs.Serving.{IsServable};
@@ -72,8 +71,6 @@ impl<A: Region> Engine for Drive<A> {
 
     ghost agrees = { λ d told flash. DriveOnFlashBetween d told flash };
 
-    ghost built = { λ d request. spec.is_built d request };
-
     fn exec<B: Nand>(
         &mut self,
         board: &mut B,
@@ -115,13 +112,6 @@ impl<A: Region> Engine for Drive<A> {
         let answer = self.step(board);
         self.pool.known();
         answer
-    }
-
-    fn is_built(&self, request: &Request) -> bool {
-        match early_fault(&self.shape(), request) {
-            Some(_) => true,
-            None => self.is_built_for(request.opcode, request.size),
-        }
     }
 
     fn pending(&self) -> u32 {

@@ -1,6 +1,5 @@
-//! The bytes of a Report, and what of a drive is built.
+//! The numbers of a Report, and its bytes.
 ghost use Rattle.std.specs.Prelude.{◌≡◌, ◌≤◌, length, take, false};
-ghost use Rattle.pk_base.specs.Shape as shape_spec;
 ghost use Rattle.pk_drive.specs.Exec.{report_of};
 ghost use Rattle.pk_drive.specs.Seen.{counts_of};
 ghost use Rattle.pk_gc.specs.Standing.{held_blocks};
@@ -14,7 +13,6 @@ use crate::quiet::served;
 use pk_base::put_u32;
 use pk_drive::{Counts, Engine, Outcome};
 use pk_gc::Phase;
-use pk_nvme::opcode::STORE;
 use pk_plan::Owner;
 use pk_region::Region;
 
@@ -79,17 +77,5 @@ impl<A: Region> Drive<A> {
     {
         put_counts(&self.counts(), into);
         served(0, 64, 0)
-    }
-
-    /// What is built of a command that passed the checks that read it alone.
-    pub(crate) fn is_built_for(&self, opcode: u8, size: u32) -> bool
-        requires { opcode ≡ STORE → size ≤ shape_spec.greatest self.now.log.shape }
-        ensures { result ≡ spec.is_built_for self.now opcode size }
-    {
-        let shape = self.shape();
-        !(opcode == STORE
-            && self
-                .space
-                .needs_reclaim(&shape, &self.pool, shape.charge(size)))
     }
 }
