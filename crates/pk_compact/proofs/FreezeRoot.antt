@@ -256,6 +256,7 @@ module _ (pool : Blocks) (root : Held) (next : Next) (first second : ℕ) (has_e
     same_root = refl;
     lowers = one_fewer (erases_next next') (erases_next next) (unready pool.states) p.programs_next erases;
     takes = inl (refl, refl);
+    some = omega arith;
     elsewhere = λ k high other_block. p.behind k high;
     cuts = p.cuts;
   }

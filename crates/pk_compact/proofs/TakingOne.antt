@@ -170,6 +170,7 @@ module _ (pool : Blocks) (root : Held) (next : Next) (job : FreezeJob) (has_entr
         same_root = refl;
         lowers = lowers;
         takes = inr (b, spare, refl, job_is);
+        some = (let n = size in omega (arith, n));
         elsewhere = λ k high other. leaves_others root.shape b old new taken ready k (λ here. other (subst (λ xs. In (k / root.shape.block_pages) xs) (sym job_is) (subst (λ x. In x (taken_by job ++ b ∷ [])) (sym here) (in_last b (taken_by job)))));
         cuts = take_reaches root.shape is_shape top found m b place.0 unnamed_top (λ k. is.apart.no_value b k spare) old ready is.under new taken;
       }

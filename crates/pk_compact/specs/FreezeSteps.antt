@@ -83,6 +83,7 @@ pub record FreezeGoesOn (pool : Blocks) (root : Held) (next : Next) (job : Freez
   pub same_root : root' ≡ root
   pub lowers : Lowers (freeze_left job next) (unready pool.states) (freeze_left job' next') (unready pool'.states)
   pub takes : TakesOne pool job pool' job'
+  pub some : 0 < length (taken_by job')
   pub elsewhere : SameBut root.shape (taken_by job') old.pages new.pages
   pub cuts : Reaches root.shape old new (CrashFinds root.shape background old.pages m)
 

@@ -1,5 +1,5 @@
 -- A background step of the jobs, by the drive and its board.
-use Rattle.std.proofs.Common.{◌≡◌, ◌⊎◌, inl, inr, ℕ, ◌+◌, ◌<◌, ◌≤◌, refl, sym, ap, subst, ◌∙◌, arith, Bool, true, false, List, [], ◌∷◌, length, Option, Some}
+use Rattle.std.proofs.Common.{◌≡◌, ◌⊎◌, inl, inr, ℕ, ◌+◌, ◌-◌, ◌<◌, ◌≤◌, refl, sym, ap, subst, ◌∙◌, arith, Bool, true, false, List, [], ◌∷◌, length, Option, Some}
 use Rattle.std.specs.Prelude.{◌&&◌, ◌==◌, MatchBool, map, slice_get}
 use Rattle.std.proofs.lemmas.Bool.{eq-eqb, eqb-true}
 use Rattle.pk_base.specs.Shape.{Shape}
@@ -30,15 +30,16 @@ use Rattle.pk_log.specs.State.{LogState}
 use Rattle.pk_schedule.specs.declared.phase.Phase.{Phase}
 use Rattle.pk_schedule.specs.declared.phase.Phase.TheVariants.{Idle as NoMerge, Running, Ready}
 use Rattle.pk_schedule.specs.Index.{Index, IndexOnFlash, MergeStands, merging}
-use Rattle.pk_schedule.specs.Steps.{MayWork, MayFreeze, IndexMoves, Moves, Less, Unmoved, StandsStill, Breaks, FreezeMoves, Freezes, KeepsActive, backlog_of, has_no_merge, is_between}
-use Rattle.pk_core.specs.Parts.{Parts, frames_of, index_of, sight_of}
+use Rattle.pk_schedule.specs.Steps.{MayWork, MayFreeze, IndexMoves, Moves, Less, Unmoved, StandsStill, Breaks, FreezeMoves, Freezes, KeepsActive, backlog_of as backlog_of_index, has_no_merge, is_between}
+use Rattle.pk_gc.specs.Stepping.{runs_in}
+use Rattle.pk_core.specs.Parts.{Parts, frames_of, index_of, outputs_of, sight_of, backlog_of, is_reclaim_due, may_freeze}
 use Rattle.pk_core.specs.Agreeing.{DriveOnFlashWith, DriveOnFlash}
 use Rattle.pk_core.specs.Staying.{Stays}
-use Rattle.pk_core.specs.Ticking.{MayTick, Ticks, Advances, is_reclaim_due}
+use Rattle.pk_core.specs.Ticking.{MayTick, Ticks, Advances}
 use Rattle.pk_core.proofs.Unchanging.{own, for_its_map, agrees_ready}
 use Rattle.pk_core.proofs.Staying.{stays_same, step_stays}
-use Rattle.pk_core.proofs.Ticking.{ticks_nothing, ticks_failed, step_agrees, step_ticks, step_lowers, kept_drive, waits_for_reclaim, busy_freeze, busy_free, tells_step, tells_idle, tells_due, worked_fine, idle_fine, stopped_fine, stopped_idle, stopped_worked, worked_idle}
-use Rattle.pk_core.proofs.Remaining.{freeze_less}
+use Rattle.pk_core.proofs.Ticking.{ticks_nothing, ticks_failed, step_agrees, step_ticks, step_lowers, kept_drive, waits_for_reclaim, busy_freeze, busy_free, tells_step, tells_idle, tells_due, tells_running, worked_fine, idle_fine, stopped_fine, stopped_idle, stopped_worked, worked_idle}
+use Rattle.pk_core.proofs.Remaining.{merge_less, freeze_less}
 use Rattle.pk_core.proofs.Indexing.{with_index, may_work, moved_with, moved_agrees}
 
 -- ---- answers
@@ -130,11 +131,6 @@ module _ (d : Parts) (old new : BoardState) (m : MayTick d old) where
       installs = installs;
     }
 
-    lower : ((frames : ℕ) (top : ℕ × Root) (found : Found) (x : Map) → MayWork (index_of d) frames old.pages top found x → work d.log.shape (backlog_of x') < work d.log.shape (backlog_of (index_of d))) → (sight_of later).work < (sight_of d).work
-    lower less =
-        let e = less (frames_of d) m.agrees.top m.agrees.found m.agrees.all may in
-        subst (λ s. work s (backlog_of x') < work d.log.shape (backlog_of (index_of d))) (sym moved.same_shape) e
-
     pub advances_moved : Ticks old new (sight_of d) (sight_of later) Worked → Stays d later → (sight_of later).work < (sight_of d).work → (IsIdle d.log.shape old.pages (sight_of d) → ⊥) → Advances d later old new Worked
     advances_moved ticks stays lowers busy = record {
       ticks = ticks;
@@ -157,27 +153,27 @@ module _ (d : Parts) (old new : BoardState) (m : MayTick d old) where
             ap (λ r. r.epoch) moved.stands.logs.root_is
             ∙ (sym moved.stands.logs.epoch_number ∙ (ap (λ l. l.epoch.number) keeps ∙ (with.index.logs.epoch_number ∙ sym (ap (λ r. r.epoch) with.index.logs.root_is)))));
       };
-      blocks = record { used = moved.values.as_many; open_same = refl };
+      blocks = record { used = ap (λ (n : ℕ). n - length (outputs_of d)) moved.values.as_many; open_same = refl };
     }
 
-    pub merge_advances : has_no_merge (index_of d) ≡ false → Less (index_of d) old.pages x' → KeepsActive d.log x'.log → NoFault old new → AtMostOneCall old new → OnlyFlash old new → roots new ≤ roots old + 1 → Grows d.log.shape old.pages new.pages
+    pub merge_advances : has_no_merge (index_of d) ≡ false → Less (index_of d) old.pages x' → x'.schedule.freeze ≡ d.schedule.freeze → KeepsActive d.log x'.log → NoFault old new → AtMostOneCall old new → OnlyFlash old new → roots new ≤ roots old + 1 → Grows d.log.shape old.pages new.pages
         → Advances d later old new Worked
-    merge_advances busy less keeps sound calls rest installs grows =
-        advances_moved (ticks_moved sound calls rest installs grows) (stays_merged keeps) (lower (λ frames top found x may'. (less frames top found x may').work)) (busy_merge busy)
+    merge_advances busy less freeze keeps sound calls rest installs grows =
+        advances_moved (ticks_moved sound calls rest installs grows) (stays_merged keeps) (merge_less d x' moved.values.as_many moved.same_shape freeze keeps (less (frames_of d) m.agrees.top m.agrees.found m.agrees.all may).work) (busy_merge busy)
 
     -- a freeze that goes on leaves the epoch, and one that is over begins one
     stays_frozen : (done : Bool) → MatchBool done (Freezes (index_of d) x') (FreezeMoves (index_of d) x') → Stays d later
-    stays_frozen true f = record { fresh = record { stays = λ e. f.takes_more; begun = inr f.takes_more }; blocks = record { used = moved.values.as_many; open_same = refl } }
+    stays_frozen true f = record { fresh = record { stays = λ e. f.takes_more; begun = inr f.takes_more }; blocks = record { used = ap (λ (n : ℕ). n - length (outputs_of d)) moved.values.as_many; open_same = refl } }
     stays_frozen false f = record {
       fresh = record { stays = λ e. ap (λ (l : LogState). l.epoch.takes_more) f.log ∙ e; begun = inl (ap (λ (l : LogState). l.root.epoch) f.log) };
-      blocks = record { used = moved.values.as_many; open_same = refl };
+      blocks = record { used = ap (λ (n : ℕ). n - length (outputs_of d)) moved.values.as_many; open_same = refl };
     }
 
     pub freeze_advances : (done : Bool) → has_no_merge (index_of d) ≡ true → (length (taken_by d.schedule.freeze) == 0) ≡ false → MatchBool done (Freezes (index_of d) x') (FreezeMoves (index_of d) x')
         → IsShared d.pool.shape d.pool.states → Works old new → AtMostOneCall old new → roots new ≤ roots old + 1 → Grows d.log.shape old.pages new.pages → Advances d later old new Worked
     freeze_advances done merged runs freezes shared works calls installs grows =
-        let less = freeze_less d.log.shape (index_of d) x' done merged runs freezes in
-        advances_moved (ticks_moved works.no_fault calls works.rest installs grows) (stays_frozen done freezes) (lower (λ frames top found x may'. less)) (busy_freeze d old m.agrees shared runs)
+        let less = freeze_less d x' done merged runs freezes moved.values.as_many moved.same_shape with.index.logs.is_shape moved.stands.logs.epoch_shape in
+        advances_moved (ticks_moved works.no_fault calls works.rest installs grows) (stays_frozen done freezes) less (busy_freeze d old m.agrees shared runs)
 
   -- ---- one of which a call failed that stops the drive
 
@@ -222,7 +218,9 @@ module _ (d : Parts) (old new : BoardState) (m : MayTick d old) where
 
     seen_same : sight_of (with_index d x') ≡ sight_of d
     seen_same =
-        let w : work d.log.shape (backlog_of same_job) ≡ work d.log.shape (backlog_of (index_of d)) = ap (work d.log.shape) (ap backlog_of (sym unmoved.rest) ∙ unmoved.same_backlog) in
+        let index : backlog_of_index same_job ≡ backlog_of_index (index_of d) = ap backlog_of_index (sym unmoved.rest) ∙ unmoved.same_backlog in
+        let w : work d.log.shape (backlog_of (with_index d same_job)) ≡ work d.log.shape (backlog_of d) =
+        ap (λ b. work d.log.shape (record b { reclaim = (backlog_of d).reclaim; may_freeze = may_freeze d })) index in
         let rest : sight_of (with_index d same_job) ≡ sight_of d = λ i. record (sight_of d) { work = w i } in
         ap (λ y. sight_of (with_index d y)) unmoved.rest ∙ rest
 
@@ -252,6 +250,7 @@ module _ (d : Parts) (old new : BoardState) (m : MayTick d old) where
             placed = with.placed;
             former = with.former;
             former_read = with.former_read;
+            reclaim = with.reclaim;
             keys_are = with.keys_are;
           };
         } in
@@ -363,15 +362,20 @@ module _ (d d' : Parts) (old new : BoardState) (m : MayTick d old) where
     pub tells_worked : Advances d d' old new Worked → TellsIdle old (sight_of d) Worked
     tells_worked made = tells_step d old m.agrees shared Worked worked_idle made.busy
 
-    pub tells_nothing : Advances d d' old new Idle → is_reclaim_due d' ≡ false → TellsIdle old (sight_of d) Idle
-    tells_nothing made rests = let idle = made.idle refl in tells_idle d old m.agrees shared idle.0 (ap is_reclaim_due (sym idle.1) ∙ rests)
+    pub tells_nothing : Advances d d' old new Idle → runs_in d'.reclaim.phase ≡ false → is_reclaim_due d' ≡ false → TellsIdle old (sight_of d) Idle
+    tells_nothing made rests none_due =
+        let idle = made.idle refl in
+        tells_idle d old m.agrees shared idle.0 (ap (λ (e : Parts). runs_in e.reclaim.phase) (sym idle.1) ∙ rests) (ap is_reclaim_due (sym idle.1) ∙ none_due)
+
+    pub tells_runs : Advances d d' old new Idle → runs_in d'.reclaim.phase ≡ true → TellsIdle old (sight_of d) Worked
+    tells_runs made runs = let idle = made.idle refl in tells_running d old m.agrees shared (ap (λ (e : Parts). runs_in e.reclaim.phase) (sym idle.1) ∙ runs)
 
     pub tells_reclaim : Advances d d' old new Idle → is_reclaim_due d' ≡ true → TellsIdle old (sight_of d) Worked
     tells_reclaim made due = let idle = made.idle refl in tells_due d old m.agrees shared (ap is_reclaim_due (sym idle.1) ∙ due)
 
-    pub lowers_not : Advances d d' old new Idle → is_reclaim_due d' ≡ true → LowersWork old new (sight_of d) (sight_of d') Worked
-    lowers_not made due = λ e.
+    pub lowers_not : Advances d d' old new Idle → runs_in d'.reclaim.phase ≡ false → is_reclaim_due d' ≡ true → LowersWork old new (sight_of d) (sight_of d') Worked
+    lowers_not made none_runs due = λ e.
         let idle = made.idle refl in
         let rests = made.ticks.idle_rests refl in
         for_its_map d old m.agrees (λ s f x. ((sight_of d').work < (sight_of d).work) ⊎ Waits old new (sight_of d) (sight_of d') s)
-        (inr (record { waits = waits_for_reclaim d old m.agrees shared idle.0 (ap is_reclaim_due (sym idle.1) ∙ due); same_board = rests.0; same_drive = rests.1 }))
+        (inr (record { waits = waits_for_reclaim d old m.agrees shared idle.0 (ap (λ (e : Parts). runs_in e.reclaim.phase) (sym idle.1) ∙ none_runs) (ap is_reclaim_due (sym idle.1) ∙ due); same_board = rests.0; same_drive = rests.1 }))

@@ -1,11 +1,14 @@
 -- How many calls it takes to make room.
-use Rattle.std.proofs.Common.{ℕ, ◌+◌, ◌*◌, ◌<◌, ◌≤◌, arith, inl, inr}
+use Rattle.std.proofs.Common.{◌≡◌, ℕ, ◌+◌, ◌*◌, ◌<◌, ◌≤◌, arith, inl, inr, false, leb-false}
 use Rattle.std.proofs.Math.Nat.{mul-le-mul_left, mul-le-mul_right}
 use Rattle.std.proofs.lemmas.Bool.{cases_lt}
 use Rattle.std.proofs.lemmas.Grind.{div_ceil_times}
 use Rattle.std.specs.Int.{div_ceil}
 use Rattle.pk_base.specs.Shape.{Shape, IsShape, page_entries, dense, deepest}
 use Rattle.pk_work.specs.Calls.{room_calls}
+use Rattle.pk_nand.specs.BoardState.{BoardState}
+use Rattle.pk_model.specs.Wear.{roots, is_worn}
+use Rattle.pk_core.specs.Spacing.{store_most}
 use Rattle.pk_work.proofs.Emptying.{emptying_most}
 
 -- blocks of which each has at most as many pages as one page has entries
@@ -32,3 +35,23 @@ room_few shape is =
     let merges = emptying_most shape is in
     let deep = deepest_few shape is in
     omega (arith, merges, deep)
+
+dense_few : (shape : Shape) → IsShape shape → dense shape ≤ 511
+dense_few shape is =
+    let fit = is.moves_fit in
+    let most = is.page_most in
+    omega (arith, fit, most)
+
+-- nor does a Store that waits for reclaims, with a look-up before it
+pub store_few : (shape : Shape) → IsShape shape → store_most shape + 4 ≤ 65535
+store_few shape is =
+    let merges = emptying_most shape is in
+    let deep = deepest_few shape is in
+    let few = dense_few shape is in
+    omega (arith, merges, deep, few)
+
+-- so the numbers of roots last for as many more
+pub numbers_last : (board : BoardState) (most : ℕ) → is_worn board ≡ false → most ≤ 65535 → roots board + most < 18446744073709551615
+numbers_last board most unworn few =
+    let least = leb-false 9223372036854775808 (roots board) unworn in
+    omega (arith, least, few)

@@ -42,6 +42,7 @@ use Rattle.pk_model.proofs.Growing.{weaken, weaken_went, at_end}
 use Rattle.pk_nand.proofs.Effects.{works_none, works_program, stops_program}
 use Rattle.pk_log.specs.State.{LogState, all_committed}
 use Rattle.pk_log.specs.Commits.{CommitsNone, CommitsAll, CommitFailed, CommitStands, CommitHolds, CommitReaches, CommitGoes, CommitCut as LogCut, Maps}
+use Rattle.pk_gc.specs.Standing.{ReclaimOnFlash}
 use Rattle.pk_core.specs.Parts.{Parts, frames_of, index_of, outputs_of}
 use Rattle.pk_core.specs.Agreeing.{DriveOnFlashWith}
 use Rattle.pk_core.specs.Moves.{MayStep, StepKeeps, OnlyCommits, StandsFor, Keeps, KeepsAll, BreaksAll}
@@ -49,6 +50,7 @@ use Rattle.pk_core.proofs.Keeping.{KeepsAll-none}
 use Rattle.pk_core.proofs.Standing.{same_found}
 use Rattle.pk_schedule.proofs.Keeping.{index_committed}
 use Rattle.pk_core.proofs.Elsewhere.{values_same, still_fits}
+use Rattle.pk_core.proofs.Reclaiming.{reclaim_elsewhere}
 
 -- the drive with another log
 abbrev pub with_log : Parts → LogState → Parts
@@ -106,6 +108,9 @@ module _ (d : Parts) (old new : BoardState) (top : ℕ × Root) (found : Found) 
         placed = subst (λ (es : List (Key × Place)). ValuesOnFlash its d.space d.pool (outputs_of d) new.pages es) same values;
         former = λ k is. agrees.placed.owned k (subst (λ (es : List (Key × Place)). IsValuePage its es k) (sym same) is);
         former_read = λ k is. agrees.placed.outputs_are.unread k (subst (λ (es : List (Key × Place)). IsValuePage its es k) (sym same) is);
+        reclaim =
+            subst (λ (es : List (Key × Place)). ReclaimOnFlash its d.reclaim d.space.live d.pool new.pages es) same
+            (reclaim_elsewhere its d.reclaim d.space d.pool d.pool old.pages new.pages (places found d.log.pending) agrees.reclaim agrees.placed refl (λ k held not_open. values_same its d.pool old.pages new.pages at owned others [] k held (λ none. none)));
         keys_are = agrees.keys_are ∙ ap length same;
       }
 

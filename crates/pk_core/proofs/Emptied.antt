@@ -1,5 +1,5 @@
 -- Merges in a row, and the steps of a freeze, inside a command.
-use Rattle.std.proofs.Common.{◌≡◌, ℕ, ◌+◌, ◌-◌, ◌<◌, ◌≤◌, refl, sym, ap, subst, ◌∙◌, arith, Bool, true, false, ◌&&◌, ◌==◌, if◌then◌else◌, T, List, [], ◌∷◌, length, leb-false, eqb→eq, Result, Ok, Err}
+use Rattle.std.proofs.Common.{◌≡◌, ℕ, ◌+◌, ◌-◌, ◌<◌, ◌≤◌, refl, sym, ap, subst, ◌∙◌, arith, Bool, true, false, ◌&&◌, ◌==◌, if◌then◌else◌, T, List, [], ◌∷◌, length, eqb→eq, Result, Ok, Err}
 use Rattle.std.specs.Prelude.{MatchBool}
 use Rattle.pk_base.specs.Entry.{Entry}
 use Rattle.pk_base.specs.Key.{Key}
@@ -9,11 +9,15 @@ use Rattle.pk_buf.specs.Table.{Table}
 use Rattle.pk_jrn.specs.Epochs.{left_of}
 use Rattle.pk_root.specs.Installing.{erases_next}
 use Rattle.pk_log.specs.State.{LogState, needs_freeze}
+use Rattle.pk_log.specs.Logs.{LogOnFlash}
+use Rattle.pk_rootfmt.specs.Root.{Root}
+use Rattle.pk_model.specs.Found.{Found}
+use Rattle.pk_work.specs.Backlog.{is_tight}
 use Rattle.pk_schedule.specs.Index.{Index}
 use Rattle.pk_nand.specs.declared.types.Fault.{Fault}
 use Rattle.pk_nand.specs.BoardState.{BoardState}
 use Rattle.pk_nand.specs.Calls.{IsReady}
-use Rattle.pk_model.specs.Wear.{roots, is_worn}
+use Rattle.pk_model.specs.Wear.{roots}
 use Rattle.pk_model.proofs.Steps.{RootsUpTo-le, Step-broken}
 use Rattle.pk_compact.specs.FreezeSteps.{freeze_left}
 use Rattle.pk_work.specs.Rest.{whole_freeze}
@@ -24,15 +28,16 @@ use Rattle.pk_schedule.specs.declared.phase.Stepped.{Stepped}
 use Rattle.pk_schedule.specs.declared.phase.Stepped.TheVariants.{Worked, Idle}
 use Rattle.pk_schedule.specs.Steps.{FreezeMoves, Freezes, backlog_of, has_no_merge, is_between}
 use Rattle.pk_core.specs.Parts.{Parts, frames_of, index_of}
-use Rattle.pk_core.specs.Moves.{KeepsAll, BreaksAll, MayStep, StepKeeps, LeavesValues}
+use Rattle.pk_base.specs.Map.{Map}
+use Rattle.pk_core.specs.Moves.{StandsFor, KeepsAll, BreaksAll, MayStep, StepKeeps, LeavesValues}
 use Rattle.pk_core.specs.Emptying.{StepOrRead, KeepsOrReads, MergesOnce, FreezesOnce, merges_left, MayEmpty}
 use Rattle.pk_core.specs.Staying.{Stays}
+use Rattle.pk_core.specs.Reclaiming.{is_tight_for}
 use Rattle.pk_core.proofs.Keeping.{KeepsAll-none, KeepsAll-then, BreaksAll-then}
 use Rattle.pk_core.proofs.Rooming.{stands_after}
 use Rattle.pk_core.proofs.Staying.{stays_same, stays_then}
 use Rattle.pk_core.proofs.Steps.{none_step, keeps_later, may_after, leaves_none, leaves_twice}
-use Rattle.pk_core.proofs.Freezing.{no_need, left_some}
-use Rattle.pk_core.proofs.Amounts.{room_few}
+use Rattle.pk_core.proofs.Freezing.{no_need, left_some, frozen_is_room}
 use Rattle.pk_schedule.proofs.Backlogs.{index_backlog}
 use Rattle.pk_core.proofs.ReadSteps.{Passes, passes_none, step_passes, reading_passes, reads_nothing, reading_failed, reading_then, reading_end}
 
@@ -241,17 +246,34 @@ module _ (a : Parts) (s0 : BoardState) (b : Parts) (s : BoardState) (ready : IsR
 
   -- ---- behind it any key has room
 
-  pub room_behind : (c : Parts) (s1 : BoardState) (x : Bool) → x ≡ true → FreezesOnce b c s s1 (Ok x) → (key : Key) → needs_freeze c.log key ≡ false
-  room_behind c s1 x ended once key =
-      let freezes : Freezes (index_of b) (index_of c) = subst (λ done. MatchBool done (Freezes (index_of b) (index_of c)) (FreezeMoves (index_of b) (index_of c))) ended once.freezes in
-      let was = on.may.stands.1.with.index.logs in
-      let is = (stands_after b c s s1 on.may.stands once.leaves.same_shape once.step.ended).1.with.index.logs in
-      let entries : c.log.active.entries ≡ [] = ap (λ (t : Table). t.entries) freezes.active ∙ none_left (is_between b.schedule.phase) b.log.frozen.entries on.none_merges in
-      let capacity : c.log.active.capacity ≡ buffer b.log.shape = ap (λ (t : Table). t.capacity) freezes.active ∙ ap (λ (t : Table). t.capacity) was.frozen_is in
-      let left : left_of c.log.epoch ≡ epoch_pages c.log.shape = (λ i. if freezes.takes_more i then epoch_pages (is.epoch_shape i) - freezes.unused i else 0) ∙ minus_none (epoch_pages c.log.shape) in
-      let some = left_some b.log.shape was.is_shape in
-      let positive = block_pages_positive c.log.shape is.is_shape in
-      no_need c.log key entries (omega (arith, capacity, some)) (omega (arith, left, positive))
+  -- the active buffer is empty, and the newest epoch has all its pages
+  module _ (c : Parts) (s1 : BoardState) (x : Bool) (ended : x ≡ true) (once : FreezesOnce b c s s1 (Ok x)) where
+    freezes : Freezes (index_of b) (index_of c)
+    freezes = subst (λ done. MatchBool done (Freezes (index_of b) (index_of c)) (FreezeMoves (index_of b) (index_of c))) ended once.freezes
+
+    abbrev there : (m : Map) × StandsFor c c.log.shape s1.pages m
+    there = stands_after b c s s1 on.may.stands once.leaves.same_shape once.step.ended
+
+    logs : LogOnFlash c.log s1.pages there.1.top there.1.found
+    logs = there.1.with.index.logs
+
+    none_active : c.log.active.entries ≡ []
+    none_active = ap (λ (t : Table). t.entries) freezes.active ∙ none_left (is_between b.schedule.phase) b.log.frozen.entries on.none_merges
+
+    all_left : left_of c.log.epoch ≡ epoch_pages c.log.shape
+    all_left = (λ i. if freezes.takes_more i then epoch_pages (logs.epoch_shape i) - freezes.unused i else 0) ∙ minus_none (epoch_pages c.log.shape)
+
+    pub room_behind : (key : Key) → needs_freeze c.log key ≡ false
+    room_behind key =
+        let was = on.may.stands.1.with.index.logs in
+        let capacity : c.log.active.capacity ≡ buffer b.log.shape = ap (λ (t : Table). t.capacity) freezes.active ∙ ap (λ (t : Table). t.capacity) was.frozen_is in
+        let some = left_some b.log.shape was.is_shape in
+        let left = all_left in
+        let positive = block_pages_positive c.log.shape logs.is_shape in
+        no_need c.log key none_active (omega (arith, capacity, some)) (omega (arith, left, positive))
+
+    pub wide_behind : is_tight_for c ≡ false
+    wide_behind = (λ i. is_tight c.log.shape (length (none_active i)) (all_left i)) ∙ frozen_is_room c.log.shape logs.is_shape
 
 -- ---- both
 
@@ -265,21 +287,17 @@ its_shape : (d : Parts) (board : BoardState) → MayStep d board → IsShape d.l
 its_shape d board may = may.stands.1.with.index.logs.is_shape
 
 -- the numbers of roots last
-pub merges_last : (d : Parts) (board : BoardState) → MayStep d board → is_worn board ≡ false → roots board + merges_left d < 18446744073709551615
-merges_last d board may unworn =
-    let least = leb-false 9223372036854775808 (roots board) unworn in
+pub merges_last : (d : Parts) (board : BoardState) → MayStep d board → roots board + room_calls d.log.shape < 18446744073709551615 → roots board + merges_left d < 18446744073709551615
+merges_last d board may number =
     let left = left_most d board may in
-    let few = room_few d.log.shape (its_shape d board may) in
-    omega (arith, least, left, few)
+    omega (arith, number, left)
 
-module _ (a b : Parts) (s0 s1 : BoardState) (may : MayStep a s0) (unworn : is_worn s0 ≡ false) where
-  pub freeze_lasts : (step : KeepsOrReads {T = Unit {0}} a b (merges_left a + 1) s0 s1 (Ok tt)) → roots s1 + whole_freeze < 18446744073709551615
-  freeze_lasts step =
-      let least = leb-false 9223372036854775808 (roots s0) unworn in
+module _ (a b : Parts) (s0 s1 : BoardState) (may : MayStep a s0) where
+  pub freeze_lasts : roots s0 + room_calls a.log.shape < 18446744073709551615 → (step : KeepsOrReads {T = Unit {0}} a b (merges_left a + 1) s0 s1 (Ok tt)) → roots s1 + whole_freeze < 18446744073709551615
+  freeze_lasts number step =
       let left = left_most a s0 may in
-      let few = room_few a.log.shape (its_shape a s0 may) in
       let most = step.roots_few in
-      omega (arith, least, left, few, most)
+      omega (arith, number, left, most)
 
   pub room_made : (r : Result Unit Fault) (c : Parts) (s2 : BoardState) → b.log.shape ≡ a.log.shape → KeepsOrReads {T = Unit {0}} a b (merges_left a + 1) s0 s1 (Ok tt) → StepKeeps b c whole_freeze s1 s2 r
       → KeepsOrReads a c (room_calls a.log.shape) s0 s2 r

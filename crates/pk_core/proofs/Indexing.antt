@@ -1,6 +1,7 @@
 -- A step of the jobs moves the index of a drive, and leaves its values where they are.
 use Rattle.std.proofs.Common.{◌≡◌, ℕ, ◌/◌, ◌<◌, sym, ap, subst, ◌∙◌, List, [], length}
-use Rattle.pk_base.specs.Entry.{Entry}
+use Rattle.pk_base.specs.Entry.{Entry, Place}
+use Rattle.pk_base.specs.Key.{Key}
 use Rattle.pk_base.specs.Page.{Flash}
 use Rattle.pk_base.specs.Map.{Map}
 use Rattle.pk_rootfmt.specs.Root.{Root}
@@ -12,8 +13,10 @@ use Rattle.pk_data.specs.Placed.{ValuesOnFlash}
 use Rattle.pk_data.proofs.Unchanged.{ValuesOnFlash-kept}
 use Rattle.pk_schedule.specs.Index.{Index, IndexOnFlash}
 use Rattle.pk_schedule.specs.Steps.{MayWork, IndexMoves}
-use Rattle.pk_core.specs.Parts.{Parts, frames_of, index_of}
+use Rattle.pk_gc.specs.Standing.{ReclaimOnFlash}
+use Rattle.pk_core.specs.Parts.{Parts, frames_of, index_of, outputs_of}
 use Rattle.pk_core.specs.Agreeing.{DriveOnFlashWith, DriveOnFlash}
+use Rattle.pk_core.proofs.Reclaiming.{reclaim_elsewhere}
 
 -- the drive with another index
 abbrev pub with_index : Parts → Index → Parts
@@ -35,12 +38,22 @@ module _ (d : Parts) (old new : BoardState) (top : ℕ × Root) (found : Found) 
   pub frames_stay : length x'.arena.used ≡ frames_of d
   frames_stay = moved.stands.arena_is.size
 
-  still_placed : ValuesOnFlash d.log.shape d.space x'.pool [] new.pages (places moved.then_found [])
+  -- with nothing pending
+  was_placed : ValuesOnFlash d.log.shape d.space d.pool (outputs_of d) old.pages (places found [])
+  was_placed = subst (λ (es : List Entry). ValuesOnFlash d.log.shape d.space d.pool (outputs_of d) old.pages (places found es)) none a.placed
+
+  still_placed : ValuesOnFlash d.log.shape d.space x'.pool (outputs_of d) new.pages (places moved.then_found [])
   still_placed =
-      let was : ValuesOnFlash d.log.shape d.space d.pool [] old.pages (places found []) = subst (λ (es : List Entry). ValuesOnFlash d.log.shape d.space d.pool [] old.pages (places found es)) none a.placed in
       let same_shape = moved.stands.pool_shape ∙ (moved.same_shape ∙ sym a.index.pool_shape) in
-      let now = ValuesOnFlash-kept d.log.shape d.space d.pool x'.pool [] old.pages new.pages (places found []) was same_shape moved.values.size moved.values.as_many moved.values.owned moved.values.no_more (λ k held no_output. moved.values.pages k held) moved.stands.pool_fits in
-      subst (ValuesOnFlash d.log.shape d.space x'.pool [] new.pages) (sym moved.same_places) now
+      let now = ValuesOnFlash-kept d.log.shape d.space d.pool x'.pool (outputs_of d) old.pages new.pages (places found []) was_placed same_shape moved.values.size moved.values.as_many moved.values.owned moved.values.no_more (λ k held no_output. moved.values.pages k held) moved.stands.pool_fits in
+      subst (ValuesOnFlash d.log.shape d.space x'.pool (outputs_of d) new.pages) (sym moved.same_places) now
+
+  still_reclaims : ReclaimOnFlash d.log.shape d.reclaim d.space.live x'.pool new.pages (places moved.then_found [])
+  still_reclaims =
+      let R : List (Key × Place) → Type 0 = λ es. ReclaimOnFlash d.log.shape d.reclaim d.space.live d.pool old.pages es in
+      let was : R (places found []) = subst (λ (es : List Entry). R (places found es)) none a.reclaim in
+      let now = reclaim_elsewhere d.log.shape d.reclaim d.space d.pool x'.pool old.pages new.pages (places found []) was was_placed moved.values.as_many (λ k held not_open. moved.values.pages k held) in
+      subst (ReclaimOnFlash d.log.shape d.reclaim d.space.live x'.pool new.pages) (sym moved.same_places) now
 
   -- the drive agrees with the flash behind the step, for the same map
   pub moved_with : DriveOnFlashWith (with_index d x') d.log.shape new.pages moved.then_top moved.then_found all all
@@ -50,9 +63,10 @@ module _ (d : Parts) (old new : BoardState) (top : ℕ × Root) (found : Found) 
     index = subst (λ (n : ℕ). IndexOnFlash x' n new.pages moved.then_top moved.then_found) (sym frames_stay) moved.stands;
     committed = moved.under;
     pending = subst (λ (es : List Entry). IsUnder d.log.shape new.pages es moved.then_top moved.then_found all) (sym moved.none_pending) moved.under;
-    placed = subst (λ (es : List Entry). ValuesOnFlash d.log.shape d.space x'.pool [] new.pages (places moved.then_found es)) (sym moved.none_pending) still_placed;
+    placed = subst (λ (es : List Entry). ValuesOnFlash d.log.shape d.space x'.pool (outputs_of d) new.pages (places moved.then_found es)) (sym moved.none_pending) still_placed;
     former = λ k is. moved.values.owned (k / d.log.shape.block_pages) (a.former k (subst (λ es. IsValuePage d.log.shape es k) moved.same_places is));
-    former_read = λ k is out. out;
+    former_read = λ k is. a.former_read k (subst (λ es. IsValuePage d.log.shape es k) moved.same_places is);
+    reclaim = subst (λ (es : List Entry). ReclaimOnFlash d.log.shape d.reclaim d.space.live x'.pool new.pages (places moved.then_found es)) (sym moved.none_pending) still_reclaims;
     keys_are =
         a.keys_are ∙ (ap (λ (es : List Entry). length (places found es)) none ∙ (ap length (sym moved.same_places) ∙ ap (λ (es : List Entry). length (places moved.then_found es)) (sym moved.none_pending)));
   }

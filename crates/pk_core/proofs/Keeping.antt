@@ -20,7 +20,7 @@ use Rattle.pk_core.specs.Moves.{StandsFor, Keeps, KeepsAll, BreaksAll}
 use Rattle.pk_core.proofs.Standing.{same_found}
 
 -- where the second flash holds what the first held, or the map, a cut behind it is one behind the first
-cut_of_both : (shape : Shape) (m : Map) (first second flash : Flash) (front posted : List ℕ) → front ≡ []
+pub cut_of_both : (shape : Shape) (m : Map) (first second flash : Flash) (front posted : List ℕ) → front ≡ []
     → (reading shape second [] ≡ reading shape first []) ⊎ (reading shape second [] ≡ Ok m)
     → CrashFinds shape commit second m flash posted → CrashFinds shape commit first m flash (front ++ posted)
 cut_of_both shape m first second flash front posted none still cut = (

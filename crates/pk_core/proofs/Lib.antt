@@ -5,8 +5,8 @@ pub mod Keeping
 pub mod Leased
 pub mod Elsewhere
 pub mod Committing
-pub mod Building
 pub mod Freezing
+pub mod Reclaiming
 pub mod Rooming
 pub mod Amounts
 pub mod ReadSteps
@@ -32,7 +32,6 @@ pub mod Doing
 pub mod Early
 pub mod Opening
 pub mod Formatting
-pub mod Fresh
 pub mod Steps
 pub mod Executing
 pub mod Places
@@ -49,3 +48,7 @@ pub mod Due
 pub mod Indexing
 pub mod Remaining
 pub mod Advancing
+pub mod SameMaps
+pub mod Spacing
+pub mod SpaceSteps
+pub mod Storing

@@ -33,7 +33,7 @@ use Rattle.pk_core.specs.Parts.{Parts, sight_of, block_if_open}
 use Rattle.pk_core.specs.Agreeing.{DriveOnFlash}
 use Rattle.pk_core.specs.Noting.{Puts}
 use Rattle.pk_core.specs.Moves.{OnlyCommits}
-use Rattle.pk_core.specs.Staying.{IsNoted, SameBlocks, OpensOne}
+use Rattle.pk_core.specs.Staying.{IsNoted, SameBlocks, OpensOne, MakesRoom}
 use Rattle.pk_core.proofs.Ticking.{count_free}
 
 -- ---- the entry
@@ -113,14 +113,18 @@ found_first found pending k place is =
 told_same : (a b : Shape) → ◌≡◌ {A = Option Shape} (Some a) (Some b) → a ≡ b
 told_same a b e = cc
 
-module _ (d e : Parts) (old new : BoardState) (c : Command) (a : DriveOnFlash d old.shape old.pages) (b : DriveOnFlash e new.shape new.pages) (n : IsNoted e (key c)) (blocks : SameBlocks d e ⊎ OpensOne d e (charge d.log.shape c.size)) where
+module _ (d e : Parts) (old new : BoardState) (c : Command) (a : DriveOnFlash d old.shape old.pages) (b : DriveOnFlash e new.shape new.pages) (n : IsNoted e (key c)) (blocks : SameBlocks d e ⊎ (OpensOne d e (charge d.log.shape c.size) ⊎ MakesRoom d e (charge d.log.shape c.size))) where
+  has_room : HasOpenRoom a.shape old.pages (sight_of d) (charge a.shape c.size) → fits_open d.log.shape d.space (charge d.log.shape c.size) ≡ false → ⊥
+  has_room room none =
+      let left : fits_open a.shape d.space (charge a.shape c.size) ≡ true = left_is a.shape d.pool old.pages d.space.open_block room.0 (charge a.shape c.size) a.with.placed.open_is room.1 room.2 in
+      no_yes (fits_open a.shape d.space (charge a.shape c.size)) left (subst (λ s. fits_open s d.space (charge s c.size) ≡ false) a.with.shape_is none)
+
   -- where its value has room, the open block stays
   open_stays : HasOpenRoom a.shape old.pages (sight_of d) (charge a.shape c.size) → block_if_open e.space.open_block ≡ block_if_open d.space.open_block
   open_stays room = elim blocks [
     | inl same ↦ same.open_same
-    | inr one ↦ (
-        let left : fits_open a.shape d.space (charge a.shape c.size) ≡ true = left_is a.shape d.pool old.pages d.space.open_block room.0 (charge a.shape c.size) a.with.placed.open_is room.1 room.2 in
-        absurd (no_yes (fits_open a.shape d.space (charge a.shape c.size)) left (subst (λ s. fits_open s d.space (charge s c.size) ≡ false) a.with.shape_is one.no_room)))
+    | inr (inl one) ↦ absurd (has_room room one.no_room)
+    | inr (inr made) ↦ absurd (has_room room made.no_room)
   ]
 
   stores_here : (same : b.shape ≡ a.shape) → StoresIn a.shape old.pages new.pages (sight_of d) (sight_of e) c

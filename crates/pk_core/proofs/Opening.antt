@@ -1,5 +1,5 @@
 -- What opening found makes a drive that agrees with the flash.
-use Rattle.std.proofs.Common.{◌≡◌, ℕ, ◌<◌, ◌≤◌, Some, List, [], false, length, refl, sym, ap, subst, ◌∙◌, arith}
+use Rattle.std.proofs.Common.{◌≡◌, ℕ, ◌-◌, ◌/◌, ◌<◌, ◌≤◌, Some, List, [], false, length, refl, sym, ap, subst, ◌∙◌, arith}
 use Rattle.pk_base.specs.Shape.{Shape, IsShape, page_entries, pinned}
 use Rattle.pk_base.specs.Page.{Flash, IsFlash, page_at}
 use Rattle.pk_base.specs.Entry.{Entry, Place}
@@ -7,7 +7,8 @@ use Rattle.pk_base.specs.Key.{Key}
 use Rattle.pk_base.specs.Map.{Map}
 use Rattle.pk_rootfmt.specs.Root.{Root, named}
 use Rattle.pk_jrn.specs.Epochs.{JournalEpoch}
-use Rattle.pk_pool.specs.Blocks.{Blocks}
+use Rattle.pk_plan.specs.declared.owner.Owner.TheVariants.{Values as for_values}
+use Rattle.pk_pool.specs.Blocks.{Blocks, used_by}
 use Rattle.pk_level.specs.Arenas.{HasArena}
 use Rattle.pk_level.specs.Levels.{HaveBlocks}
 use Rattle.pk_merge.specs.Jobs.{IsIdle}
@@ -20,7 +21,12 @@ use Rattle.pk_steps.specs.Under.{IsUnder, places}
 use Rattle.pk_log.specs.State.{LogState, opened}
 use Rattle.pk_log.specs.Logs.{LogOnFlash, Opens}
 use Rattle.pk_data.specs.State.{DataState, with_none_open}
-use Rattle.pk_data.specs.Placed.{ValuesOnFlash, FoundAtOpening}
+use Rattle.pk_data.specs.Placed.{IsOutput, ValuesOnFlash, FoundAtOpening}
+use Rattle.pk_gc.specs.declared.course.Phase.{Phase}
+use Rattle.pk_gc.specs.declared.course.Phase.TheVariants.{Idle as NoReclaim}
+use Rattle.pk_gc.specs.State.{JobState}
+use Rattle.pk_gc.specs.Stepping.{runs_in}
+use Rattle.pk_gc.specs.Standing.{held_blocks}
 use Rattle.pk_scan.specs.Opened.{ListsOnFlash, BlocksOnFlash, FoundOnFlash}
 use Rattle.pk_scan.specs.declared.contents.Found.{Found as Opened}
 use Rattle.pk_nand.specs.BoardState.{BoardState}
@@ -33,6 +39,7 @@ use Rattle.pk_core.specs.Agreeing.{DriveOnFlash}
 use Rattle.pk_core.specs.Moves.{StandsFor}
 use Rattle.pk_core.specs.Opening.{OpenedOn}
 use Rattle.pk_core.proofs.Standing.{still_stands}
+use Rattle.pk_core.proofs.Reclaiming.{reclaim_rests}
 use Rattle.pk_schedule.proofs.Keeping.{IsFound, index_opens}
 
 -- the lists are what a log is opened with
@@ -65,9 +72,9 @@ values_found shape flash f found is has = record {
 }
 
 -- the parts of a drive behind what was found
-module _ {A : Type 0} (shape : Shape) (flash : Flash) (frames : ℕ) (f : Opened A) (log : LogState) (space : DataState) (s : Schedule) where
+module _ {A : Type 0} (shape : Shape) (flash : Flash) (frames : ℕ) (f : Opened A) (log : LogState) (space : DataState) (s : Schedule) (job : JobState) where
   abbrev parts : Parts
-  parts = record { log = log; levels = f.levels; arena = f.arena; schedule = s; space = space; pool = f.pool; keys = f.keys; stopped = false }
+  parts = record { log = log; levels = f.levels; arena = f.arena; schedule = s; space = space; reclaim = job; pool = f.pool; keys = f.keys; stopped = false }
 
   -- the index of what was found, in which nothing runs
   index_found : IsShape f.root.shape → (was : FoundOnFlash shape flash frames f) → log ≡ opened f.root f.root_page f.epoch f.active f.frozen
@@ -99,8 +106,9 @@ module _ {A : Type 0} (shape : Shape) (flash : Flash) (frames : ℕ) (f : Opened
       → log ≡ opened f.root f.root_page f.epoch f.active f.frozen → ((x : Flash) (found : Found) → Opens f.root f.root_page f.epoch f.active f.frozen x found → LogOnFlash log x (f.root_page, f.root.root) found)
       → space ≡ with_none_open f.live → ((s : Shape) (named : List ℕ) (p : Blocks) (x : Flash) (es : List (Key × Place)) → FoundAtOpening s named f.live p x es → ValuesOnFlash s space p [] x es)
       → (s.phase ≡ Idle) × (s.freeze ≡ NoFreeze) × IsIdle f.root.shape s.job → s.job.pinned ≡ pinned f.root.shape (length f.arena.used)
+      → (job.shape ≡ f.root.shape) × (job.phase ≡ NoReclaim) × (job.moves ≡ [])
       → OpenedOn shape flash frames parts
-  opens_on held is_flash was log_is stands space_is places_so idle pins =
+  opens_on held is_flash was log_is stands space_is places_so idle pins rests =
       let is : IsShape shape = subst IsShape was.lists.shape_is held in
       let none : log.pending ≡ [] = ap (λ (l : LogState). l.pending) log_is in
       let placed : ValuesOnFlash shape space f.pool [] flash (places was.found []) = places_so shape (named f.root.root) f.pool flash (places was.found []) (values_found shape flash f was.found is was.blocks) in
@@ -114,9 +122,12 @@ module _ {A : Type 0} (shape : Shape) (flash : Flash) (frames : ℕ) (f : Opened
           index = index_found held was log_is stands idle pins;
           committed = was.lists.under;
           pending = subst (λ (es : List Entry). IsUnder shape flash es (f.root_page, f.root.root) was.found was.map) (sym none) was.lists.under;
-          placed = subst (λ (es : List Entry). ValuesOnFlash shape space f.pool [] flash (places was.found es)) (sym none) placed;
+          placed =
+              subst (λ (es : List Entry). ValuesOnFlash shape space f.pool (held_blocks job.phase) flash (places was.found es)) (sym none)
+              (subst (λ (p : Phase). ValuesOnFlash shape space f.pool (held_blocks p) flash (places was.found [])) (sym rests.1) placed);
           former = placed.owned;
-          former_read = λ k is output. output;
+          former_read = λ k is. subst (λ (p : Phase). IsOutput (held_blocks p) (k / shape.block_pages) → ⊥) (sym rests.1) (λ none_held. none_held);
+          reclaim = reclaim_rests shape job space.live f.pool flash (places was.found log.pending) (rests.0 ∙ was.lists.shape_is) (ap runs_in rests.1);
           keys_are = was.keys_are ∙ sym (ap (λ (es : List Entry). length (places was.found es)) none);
         };
         frames_are = was.lists.arena_is.size;
@@ -124,7 +135,8 @@ module _ {A : Type 0} (shape : Shape) (flash : Flash) (frames : ℕ) (f : Opened
         none_pending = none;
         takes_none = ap (λ (l : LogState). l.epoch.takes_more) log_is ∙ ap (λ (e : JournalEpoch). e.takes_more) was.lists.epoch_is.1;
         none_open = ap (λ (s : DataState). s.open_block) space_is;
-        blocks_are = was.blocks.values_are;
+        blocks_are = ap (λ (p : Phase). used_by for_values f.pool.states - length (held_blocks p)) rests.1 ∙ (omega arith ∙ was.blocks.values_are);
+        rests = ap runs_in rests.1;
       }
 
 -- ---- what contracts say of it

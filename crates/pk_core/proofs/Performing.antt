@@ -9,18 +9,20 @@ use Rattle.pk_nand.specs.Effects.{OnlyReading}
 use Rattle.pk_drive.specs.Calling.{FewCalls, most_calls_of, only_looks}
 use Rattle.pk_drive.specs.declared.types.Outcome.{Outcome}
 use Rattle.pk_core.specs.Parts.{Parts}
-use Rattle.pk_core.specs.Staying.{Stays, StaysOrOpens, IsNoted}
+use Rattle.pk_core.specs.Staying.{Stays, StaysOrOpens, StaysOrFrees, IsNoted}
 use Rattle.pk_core.specs.Programming.{QuietStore, QuietDelete}
 use Rattle.pk_core.specs.Performing.{Performs}
-use Rattle.pk_core.proofs.Staying.{stays_same, stays_opens}
+use Rattle.pk_core.proofs.Staying.{stays_same, stays_frees}
 use Rattle.pk_core.proofs.Sights.{store_changes, delete_changes, tick_changes, delete_no_store}
 use Rattle.pk_core.proofs.Callings.{few_for_tick}
 
 module _ (d e : Parts) (old new : BoardState) (r : Request) (v : List ℕ) (o : Outcome) where
   pub performs_looking : only_looks r.opcode ≡ true → e ≡ d → OnlyReading old new → FewCalls (most_calls_of d.log.shape r.opcode r.size) old new → Performs d e old new r v o
   performs_looking only same reading calls = record {
-    opens = λ _. stays_opens d e (charge d.log.shape r.size) (stays_same d e same);
-    moves = λ _ _. stays_same d e same;
+    fresh = λ _. (stays_same d e same).fresh;
+    opens = λ is. absurd (store_changes r is only);
+    no_more = λ _ _. (stays_frees d e (stays_same d e same)).no_more;
+    moves = λ _ _ _. stays_same d e same;
     noted = λ is. absurd (store_changes r is only);
     quiet_store = λ is. absurd (store_changes r is only);
     quiet_delete = λ is. absurd (delete_changes r is only);
@@ -30,7 +32,9 @@ module _ (d e : Parts) (old new : BoardState) (r : Request) (v : List ℕ) (o : 
 
   pub performs_store : r.opcode ≡ 0x01 → (o.stopped ≡ false → StaysOrOpens d e (charge d.log.shape r.size)) → (o.status ≡ 0 → IsNoted e (key (command_of r v))) → QuietStore d old new r v o → Performs d e old new r v o
   performs_store is opens noted quiet = record {
-    opens = opens;
+    fresh = λ runs. (opens runs).fresh;
+    opens = λ _. opens;
+    no_more = λ other. absurd (other is);
     moves = λ other. absurd (other is);
     noted = λ _. noted;
     quiet_store = λ _. quiet;
@@ -41,8 +45,10 @@ module _ (d e : Parts) (old new : BoardState) (r : Request) (v : List ℕ) (o : 
 
   pub performs_delete : r.opcode ≡ 0x10 → (o.stopped ≡ false → Stays d e) → QuietDelete d old new r o → Performs d e old new r v o
   performs_delete is moves quiet = record {
-    opens = λ runs. stays_opens d e (charge d.log.shape r.size) (moves runs);
-    moves = λ _ runs. moves runs;
+    fresh = λ runs. (moves runs).fresh;
+    opens = λ store. absurd (delete_no_store r is store);
+    no_more = λ _ runs. (stays_frees d e (moves runs)).no_more;
+    moves = λ _ _ runs. moves runs;
     noted = λ store. absurd (delete_no_store r is store);
     quiet_store = λ store. absurd (delete_no_store r is store);
     quiet_delete = λ _. quiet;
@@ -50,10 +56,12 @@ module _ (d e : Parts) (old new : BoardState) (r : Request) (v : List ℕ) (o : 
     looks = λ only. absurd (delete_changes r is only);
   }
 
-  pub performs_tick : r.opcode ≡ 0xC0 → (o.stopped ≡ false → Stays d e) → FewCalls r.size old new → Performs d e old new r v o
+  pub performs_tick : r.opcode ≡ 0xC0 → (o.stopped ≡ false → StaysOrFrees d e) → FewCalls r.size old new → Performs d e old new r v o
   performs_tick is moves calls = record {
-    opens = λ runs. stays_opens d e (charge d.log.shape r.size) (moves runs);
-    moves = λ _ runs. moves runs;
+    fresh = λ runs. (moves runs).fresh;
+    opens = λ store. absurd (omega (arith, is, store));
+    no_more = λ _ runs. (moves runs).no_more;
+    moves = λ _ no_tick. absurd (no_tick is);
     noted = λ store. absurd (omega (arith, is, store));
     quiet_store = λ store. absurd (omega (arith, is, store));
     quiet_delete = λ delete. absurd (omega (arith, is, delete));

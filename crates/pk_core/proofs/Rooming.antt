@@ -1,15 +1,16 @@
 -- What a step that keeps the map leaves for the next.
-use Rattle.std.proofs.Common.{◌≡◌, ℕ, ◌<◌, sym, ap, subst, ◌∙◌, arith, false, nat_le}
+use Rattle.std.proofs.Common.{◌≡◌, ℕ, ◌+◌, ◌<◌, sym, ap, subst, ◌∙◌, arith}
 use Rattle.pk_base.specs.Map.{Map}
 use Rattle.pk_base.specs.Shape.{Shape, IsShape, page_entries}
 use Rattle.pk_nand.specs.BoardState.{BoardState}
-use Rattle.pk_model.specs.Wear.{roots, is_worn}
+use Rattle.pk_model.specs.Wear.{roots}
+use Rattle.pk_work.specs.Calls.{room_calls}
 use Rattle.pk_core.specs.Parts.{Parts}
 use Rattle.pk_core.specs.Moves.{StandsFor, KeepsAll}
 
--- the numbers of roots are not used up by a step that installs none
-pub still_unworn : (old new : BoardState) → roots new ≡ roots old → is_worn old ≡ false → is_worn new ≡ false
-still_unworn old new same unworn = ap (λ (n : ℕ). nat_le 9223372036854775808 n) same ∙ unworn
+-- the numbers of roots last behind a step that installs none
+pub still_numbers : (a b : Parts) (old new : BoardState) → b.log.shape ≡ a.log.shape → roots new ≡ roots old → roots old + room_calls a.log.shape < 18446744073709551615 → roots new + room_calls b.log.shape < 18446744073709551615
+still_numbers a b old new shapes same few = let calls : room_calls b.log.shape ≡ room_calls a.log.shape = ap room_calls shapes in omega (arith, same, few, calls)
 
 -- a step that keeps the map leaves a drive that stands for it
 pub stands_after : (a b : Parts) (old new : BoardState) → (m : Map) × StandsFor a a.log.shape old.pages m → b.log.shape ≡ a.log.shape → KeepsAll a b old new → (m : Map) × StandsFor b b.log.shape new.pages m

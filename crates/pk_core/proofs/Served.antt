@@ -35,32 +35,22 @@ use Rattle.pk_drive.specs.Seen.{reply_of as shown}
 use Rattle.pk_model.specs.Wear.{roots}
 use Rattle.pk_drive.specs.declared.types.Outcome.{Outcome}
 use Rattle.pk_model.proofs.Growing.{weaken, weaken_went}
-use Rattle.pk_core.specs.Parts.{Parts, sight_of, is_built_for, built_if, is_built, frames_of}
+use Rattle.pk_core.specs.Parts.{Parts, sight_of, frames_of}
 use Rattle.pk_core.specs.Agreeing.{DriveOnFlash}
 use Rattle.pk_core.specs.Done.{Does, Executes}
 use Rattle.pk_core.specs.Finding.{IsPlaceIn}
-use Rattle.pk_core.specs.Moves.{StandsFor, Keeps}
+use Rattle.pk_core.specs.Moves.{StandsFor}
 use Rattle.pk_core.specs.Emptying.{Unread, Halts, OnRunning}
 use Rattle.pk_core.specs.Quiet.{ReadsOnly, Looks, eleven}
-use Rattle.pk_core.specs.Changes.{MayPut, MayTake, CanPut, CanTake, Changes, PutsOrReads, TakesOrReads, StaysBetween}
+use Rattle.pk_core.specs.Changes.{MayPut, MayTake, CanPut, CanTake, Changes, TakesOrReads, StaysBetween}
+use Rattle.pk_core.specs.Spacing.{SameMap, MayStore, StoresOrReads}
+use Rattle.pk_core.proofs.SameMaps.{same_kept}
 use Rattle.pk_core.specs.Serving.{IsServable, IsCounted, outcome_for, stopped_by, pages_at}
 use Rattle.pk_core.proofs.Standing.{stands_so, agrees_so}
 use Rattle.pk_core.proofs.Counting.{counts_map}
 use Rattle.pk_core.proofs.Unchanging.{own, unread_step, looked, value_of, for_its_map, same_early, reads_none, does_reads, AnswersAll, agrees_ready}
 
--- ---- what is built
-
-not_true : (b : Bool) → not b ≡ true → b ≡ false
-not_true false e = refl
-not_true true e = cc
-
-wants_of : (d : Parts) (r : Request) → is_built d r ≡ true → early d.log.shape (command_of r []) ≡ None → is_built_for d r.opcode r.size ≡ true
-wants_of d r built passed = ap (built_if d r) (sym passed) ∙ built
-
-pub store_built : (d : Parts) (r : Request) (value : List ℕ) → r.opcode ≡ 0x01 → length value ≡ r.size → is_built d r ≡ true → early d.log.shape (command_of r []) ≡ None → needs_reclaim d.log.shape d.space d.pool (charge d.log.shape (length value)) ≡ false
-store_built d r value op whole built passed =
-    let all : is_built_for d 0x01 r.size ≡ true = ap (λ o. is_built_for d o r.size) (sym op) ∙ wants_of d r built passed in
-    ap (λ n. needs_reclaim d.log.shape d.space d.pool (charge d.log.shape n)) whole ∙ not_true (needs_reclaim d.log.shape d.space d.pool (charge d.log.shape r.size)) all
+-- ---- what a Store asks
 
 pub store_short : (shape : Shape) (r : Request) → r.opcode ≡ 0x01 → early shape (command_of r []) ≡ None → r.size ≤ greatest shape
 store_short shape r is passed = store_sized shape (command_of r []) (ap op_of is) passed
@@ -135,7 +125,7 @@ module _ (d : Parts) (old new : BoardState) (a : DriveOnFlash d old.shape old.pa
   }
 
   -- a read failed before the change
-  pub does_keep : (e : Parts) → Keeps d e d.log.shape a.all old new → frames_of e ≡ frames_of d → Unread old new → early d.log.shape c ≡ None → Does old new (sight_of d) (sight_of e) c (refusal 0x88) (new.reads - old.reads) false
+  pub does_keep : (e : Parts) → SameMap e d.log.shape a.all old new → frames_of e ≡ frames_of d → Unread old new → early d.log.shape c ≡ None → Does old new (sight_of d) (sight_of e) c (refusal 0x88) (new.reads - old.reads) false
   does_keep e kept same_frames unread passes = record {
     stands = λ _. for_its_map d old a (λ s f m. Executed s f new (sight_of e) m c (refusal 0x88) made) (record {
       left = a.all;
@@ -314,12 +304,14 @@ module _ (d : Parts) (old : BoardState) (r : Request) (value : List ℕ) (k : Ke
           room = omega (arith, few, same);
         }
 
+    may_store : MayStore d d.log.shape old.pages all k value
+    may_store = record { stands = may_put.stands; bytes = may_put.bytes; room = may_put.room }
+
     pub can_put : CanPut d old k value o
     can_put = record {
       ready = agrees_ready d old s.agrees;
       may = (all, may_put);
       short = let short = store_short d.log.shape r op s.passed in omega (arith, short, whole);
-      no_reclaim = store_built d r value op whole s.built s.passed;
       few = s.few;
     }
 
@@ -333,12 +325,12 @@ module _ (d : Parts) (old : BoardState) (r : Request) (value : List ℕ) (k : Ke
     one_root = ap (λ x. most_installs x r.size) op
 
     -- what putting it came to
-    pub store_came : (answer : Result Unit Fault) (e : Parts) (new : BoardState) (most : ℕ) (into : List ℕ) (outcome : Outcome) (reads : ℕ) → PutsOrReads d e most old new k value o answer → most + 4 ≤ 65535 → IsCounted old new → OnRunning (StaysBetween d e) answer
+    pub store_came : (answer : Result Unit Fault) (e : Parts) (new : BoardState) (most : ℕ) (into : List ℕ) (outcome : Outcome) (reads : ℕ) → StoresOrReads d e most old new k value answer → most + 4 ≤ 65535 → IsCounted old new → OnRunning (StaysBetween d e) answer
         → outcome ≡ outcome_for answer reads → Executes d (stopped_by e answer) old new c outcome into (new.reads - old.reads)
     unfolding its_drive
     store_came (Ok u) e new most into outcome reads step few count stays told_is =
         let few_roots = step.roots_few in
-        let puts : Changes e d.log.shape all (insert all k value) old new = step.came.0 d.log.shape all may_put in
+        let puts : Changes e d.log.shape all (insert all k value) old new = step.came.0 d.log.shape all may_store in
         let stepped : Step d.log.shape (frames_of d) all c (success 0 []) (insert all k value) =
         subst (λ q. Step d.log.shape (frames_of d) all c (success 0 []) (insert all q value)) (sym named) (store_step d.log.shape (frames_of d) all c passes (ap op_of op) late_none) in
         let done = does_change d old new s.agrees c (insert all k value) count (omega (arith, few, few_roots)) one_root step.rest (store_other r.opcode op) leaves_put e (success 0 []) puts stays.frames step.came.1 ok_sound stepped in
@@ -349,7 +341,7 @@ module _ (d : Parts) (old : BoardState) (r : Request) (value : List ℕ) (k : Ke
         })
     store_came (Err Reading) e new most into outcome reads step few count stays told_is =
         let few_roots = step.roots_few in
-        let kept : Keeps d e d.log.shape all old new = step.came.0 d.log.shape all (its_drive d old s.agrees k o is_key looks) in
+        let kept : SameMap e d.log.shape all old new = step.came.0 d.log.shape all (its_drive d old s.agrees k o is_key looks) in
         let done = does_keep d old new s.agrees c (insert all k value) count (omega (arith, few, few_roots)) one_root step.rest (store_other r.opcode op) leaves_put e kept stays.frames step.came.1 passes in
         subst (λ (x : Outcome). Executes d e old new c x into (new.reads - old.reads)) (sym told_is) (record {
           stops = stays.stopped ∙ s.runs;
@@ -358,7 +350,7 @@ module _ (d : Parts) (old : BoardState) (r : Request) (value : List ℕ) (k : Ke
         })
     store_came (Err Stopped) e new most into outcome reads step few count stays told_is =
         let few_roots = step.roots_few in
-        let done = does_stop d old new s.agrees c (insert all k value) count (omega (arith, few, few_roots)) one_root step.rest (store_other r.opcode op) leaves_put (sight_of (record e { stopped = true })) (step.came.0 d.log.shape all may_put) step.came.1 in
+        let done = does_stop d old new s.agrees c (insert all k value) count (omega (arith, few, few_roots)) one_root step.rest (store_other r.opcode op) leaves_put (sight_of (record e { stopped = true })) (step.came.0 d.log.shape all may_store) step.came.1 in
         subst (λ (x : Outcome). Executes d (record e { stopped = true }) old new c x into (new.reads - old.reads)) (sym told_is) (record { stops = refl; agrees = λ is. absurd (no_yes is); does = done })
 
 -- ---- a Delete
@@ -429,7 +421,7 @@ module _ (d : Parts) (old : BoardState) (r : Request) (v : List ℕ) (k : Key) (
         })
     delete_came (Err Reading) e new most into outcome reads step few count stays told_is =
         let few_roots = step.roots_few in
-        let kept : Keeps d e d.log.shape its_map old new = step.came.0 d.log.shape its_map (its_drive d old s.agrees k (Some p) is_key looks) in
+        let kept : SameMap e d.log.shape its_map old new = same_kept d e d.log.shape its_map old new (step.came.0 d.log.shape its_map (its_drive d old s.agrees k (Some p) is_key looks)) in
         let done = does_keep d old new s.agrees dc (remove its_map k) count (omega (arith, few, few_roots)) gone_root step.rest (delete_other r.opcode op) leaves_gone e kept stays.frames step.came.1 delete_passed in
         subst (λ (x : Outcome). Executes d e old new dc x into (new.reads - old.reads)) (sym told_is) (record {
           stops = stays.stopped ∙ s.runs;

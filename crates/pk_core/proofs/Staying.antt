@@ -1,7 +1,7 @@
 -- What of a drive stays in steps in a row.
-use Rattle.std.proofs.Common.{◌≡◌, ◌⊎◌, inl, inr, ℕ, ◌+◌, refl, sym, ap, subst, ◌∙◌, arith, List, length, Option, Some, None, Result, Ok, Err}
+use Rattle.std.proofs.Common.{◌≡◌, ◌⊎◌, inl, inr, ℕ, ◌+◌, ◌-◌, ◌≤◌, refl, sym, ap, subst, ◌∙◌, arith, true, List, length, Option, Some, None, Result, Ok, Err}
 use Rattle.std.specs.Prelude.{OnOk, MatchOption}
-use Rattle.pk_base.specs.Shape.{Shape, charge}
+use Rattle.pk_base.specs.Shape.{Shape, IsShape, charge, data_blocks}
 use Rattle.pk_base.specs.Page.{Flash, page_at}
 use Rattle.pk_base.specs.Entry.{Entry}
 use Rattle.pk_base.specs.Key.{Key}
@@ -22,11 +22,15 @@ use Rattle.pk_data.specs.State.{DataState, fits_open, more_used, with_written}
 use Rattle.pk_data.specs.Placed.{HoldsValues, IsOpenIn}
 use Rattle.pk_data.specs.declared.open_block.OpenBlock.{OpenBlock}
 use Rattle.pk_drive.specs.Moving.{KeepsFresh, BlocksGrow}
-use Rattle.pk_core.specs.Parts.{Parts, sight_of, block_if_open}
+use Rattle.pk_gc.specs.declared.course.Phase.{Phase}
+use Rattle.pk_gc.specs.declared.course.Phase.TheVariants.{Idle, Copies, GivesBack}
+use Rattle.pk_gc.specs.Standing.{held_blocks}
+use Rattle.pk_gc.specs.Stepping.{runs_in}
+use Rattle.pk_core.specs.Parts.{Parts, sight_of, counts_of, outputs_of, block_if_open}
 use Rattle.pk_core.specs.Agreeing.{DriveOnFlash}
 use Rattle.pk_core.specs.Moves.{StandsFor}
 use Rattle.pk_core.specs.Placing.{PlacesValue}
-use Rattle.pk_core.specs.Staying.{StaysFresh, SameBlocks, OpensOne, Stays, StaysOrOpens}
+use Rattle.pk_core.specs.Staying.{StaysFresh, SameBlocks, OpensOne, MakesRoom, Stays, StaysOrOpens, StaysOrFrees}
 
 -- ---- no step
 
@@ -41,7 +45,7 @@ stays_opens d e count s = record { fresh = s.fresh; blocks = inl s.blocks }
 
 -- ---- two steps
 
-fresh_then : (a b c : Parts) → StaysFresh a b → StaysFresh b c → StaysFresh a c
+pub fresh_then : (a b c : Parts) → StaysFresh a b → StaysFresh b c → StaysFresh a c
 fresh_then a b c first second = record {
   stays = λ e. second.stays (first.stays e);
   begun = elim second.begun [
@@ -62,11 +66,15 @@ opens_behind a b c count first shapes spaces second = record {
   fresh = fresh_then a b c first.fresh second.fresh;
   blocks = elim second.blocks [
     | inl same ↦ inl (blocks_then a b c first.blocks same)
-    | inr one ↦ inr (record {
+    | inr (inl one) ↦ inr (inl (record {
       no_room = (λ i. fits_open (sym shapes i) (sym spaces i) count) ∙ one.no_room;
       used = one.used ∙ ap (λ n. n + 1) first.blocks.used;
       other = λ e. one.other (e ∙ sym first.blocks.open_same);
-    })
+    }))
+    | inr (inr room) ↦ inr (inr (record {
+      no_room = (λ i. fits_open (sym shapes i) (sym spaces i) count) ∙ room.no_room;
+      no_more = (let less = room.no_more in let same = first.blocks.used in omega (arith, less, same));
+    }))
   ];
 }
 
@@ -75,8 +83,20 @@ opens_then a b c count first second = record {
   fresh = fresh_then a b c first.fresh second.fresh;
   blocks = elim first.blocks [
     | inl same ↦ inl (blocks_then a b c same second.blocks)
-    | inr one ↦ inr (record { no_room = one.no_room; used = second.blocks.used ∙ one.used; other = λ e. one.other (sym second.blocks.open_same ∙ e) })
+    | inr (inl one) ↦ inr (inl (record { no_room = one.no_room; used = second.blocks.used ∙ one.used; other = λ e. one.other (sym second.blocks.open_same ∙ e) }))
+    | inr (inr room) ↦ inr (inr (record { no_room = room.no_room; no_more = (let less = room.no_more in let same = second.blocks.used in omega (arith, less, same)) }))
   ];
+}
+
+-- ---- background steps
+
+pub stays_frees : (d e : Parts) → Stays d e → StaysOrFrees d e
+stays_frees d e s = record { fresh = s.fresh; no_more = (let same = s.blocks.used in omega (arith, same)) }
+
+pub frees_then : (a b c : Parts) → StaysOrFrees a b → StaysOrFrees b c → StaysOrFrees a c
+frees_then a b c first second = record {
+  fresh = fresh_then a b c first.fresh second.fresh;
+  no_more = (let one = first.no_more in let two = second.no_more in omega (arith, one, two));
 }
 
 -- ---- by what the calls answered
@@ -139,20 +159,33 @@ not_the_open : (shape : Shape) (pool : Blocks) (flash : Flash) (o : Option OpenB
 not_the_open shape pool flash None b is spare e = cc
 not_the_open shape pool flash (Some o) b is spare e = spare_or_values pool b spare (subst (HoldsValues pool) (some_same o.block b (sym e)) is.owned)
 
+some_data : (shape : Shape) → IsShape shape → 1 ≤ data_blocks shape
+unfolding data_blocks
+some_data shape is = let fits = is.data_fits in omega (arith, fits)
+
+-- what a reclaim holds is in use
+held_few : (p : Phase) (used all : ℕ) → (runs_in p ≡ true → used ≡ all) → 1 ≤ all → length (held_blocks p) ≤ used
+held_few Idle used all full some = omega arith
+held_few (Copies c) used all full some = let same = full refl in omega (arith, same, some)
+held_few (GivesBack victim) used all full some = let same = full refl in omega (arith, same, some)
+
 pub place_stays : (d : Parts) (key : Key) (value : List ℕ) (old : BoardState) (page : ℕ) (space : DataState) (q : Blocks) (new : BoardState) → PlacesValue d.log.shape key value d.space d.pool old page space q new
     → (m : Map) × StandsFor d d.log.shape old.pages m → StaysOrOpens d (record d { space = space; pool = q }) (charge d.log.shape (length value))
 place_stays d key value old page space q new is stands = record {
   fresh = record { stays = λ e. e; begun = inl refl };
   blocks = elim is.reserved.taken [
     | inl next ↦ inl (record {
-      used = ap (λ (p : Blocks). used_by Values p.states) next.same_pool;
+      used = ap (λ (p : Blocks). used_by Values p.states - length (outputs_of d)) next.same_pool;
       open_same = counted ∙ ap (λ (s : DataState). block_if_open s.open_block) next.kept;
     })
-    | inr opens ↦ inr (record {
+    | inr opens ↦ inr (inl (record {
       no_room = opens.no_room;
-      used = ap (λ (p : Blocks). used_by Values p.states) opens.taken ∙ used_adopted d.pool.shape d.pool.states opens.block Values opens.spare;
+      used =
+          let more : used_by Values q.states ≡ used_by Values d.pool.states + 1 = ap (λ (p : Blocks). used_by Values p.states) opens.taken ∙ used_adopted d.pool.shape d.pool.states opens.block Values opens.spare in
+          let few = held_few d.reclaim.phase (used_by Values d.pool.states) (data_blocks d.log.shape) stands.1.with.reclaim.full (some_data d.log.shape stands.1.with.placed.is_shape) in
+          omega (arith, more, few);
       other = λ e. not_the_open d.log.shape d.pool old.pages d.space.open_block opens.block stands.1.with.placed.open_is opens.spare (sym (counted ∙ ap (λ (s : DataState). block_if_open s.open_block) opens.opens) ∙ e);
-    })
+    }))
   ];
 }
   where
@@ -185,9 +218,10 @@ keeps_fresh d e old new a b rest s = record {
 pub blocks_stay : (d e : Parts) (opcode : ℕ) → SameBlocks d e → BlocksGrow opcode (sight_of d) (sight_of e)
 blocks_stay d e opcode same = inl (let used = same.used in omega (arith, used))
 
-pub blocks_grow : (d e : Parts) (opcode count : ℕ) → opcode ≡ 0x01 → SameBlocks d e ⊎ OpensOne d e count → BlocksGrow opcode (sight_of d) (sight_of e)
+pub blocks_grow : (d e : Parts) (opcode count : ℕ) → opcode ≡ 0x01 → SameBlocks d e ⊎ (OpensOne d e count ⊎ MakesRoom d e count) → BlocksGrow opcode (sight_of d) (sight_of e)
 blocks_grow d e opcode count is (inl same) = blocks_stay d e opcode same
-blocks_grow d e opcode count is (inr one) = inr (is, one.used, one.other)
+blocks_grow d e opcode count is (inr (inl one)) = inr (is, one.used, one.other)
+blocks_grow d e opcode count is (inr (inr room)) = inl room.no_more
 
 -- ---- the same of a drive that is another name for it, or of a count
 

@@ -1,6 +1,6 @@
 -- A drive that agrees with its flash is steady: its numbers are those of what stands there.
 use Rattle.std.proofs.Common.{◌≡◌, ◌≢◌, inl, inr, ℕ, ◌+◌, ◌*◌, ◌/◌, ◌<◌, ◌≤◌, refl, sym, ap, subst, ◌∙◌, arith, Bool, true, false, T, List, [], ◌∷◌, ◌++◌, length, map, Option, Some, None, Result, Ok, Err}
-use Rattle.std.specs.Prelude.{slice_get, slice_index_or, count_by, MatchOption, OnOk, ◌%◌}
+use Rattle.std.specs.Prelude.{slice_get, slice_index_or, count_by, MatchOption, IfSome, OnOk, ◌%◌, ◌&&◌, not}
 use Rattle.std.specs.List.{concat}
 use Rattle.std.proofs.Common.{div-add-mod', mod-lt}
 use Rattle.std.proofs.lemmas.Option.{slice_get_within}
@@ -27,9 +27,14 @@ use Rattle.pk_jrn.proofs.Puts.{firsts-reverse}
 use Rattle.pk_model.specs.Found.{Found}
 use Rattle.pk_model.specs.Values.{all_pages}
 use Rattle.pk_model.specs.Sight.{Sight, most_work}
-use Rattle.pk_steps.specs.Under.{places}
+use Rattle.pk_steps.specs.Under.{IsValuePage, places}
 use Rattle.pk_steps.proofs.Places.{In, in_append, few_blocks, in_value}
+use Rattle.pk_live.proofs.Ranges.{has}
 use Rattle.pk_data.specs.Placed.{HoldsValues, IsOpenIn}
+use Rattle.pk_data.specs.Laws.{is_for_values}
+use Rattle.pk_data.proofs.Outputs.{no_member, freed, freed_is, used_freed}
+use Rattle.pk_work.specs.Rest.{whole_reclaim}
+use Rattle.pk_core.proofs.Reclaiming.{reclaim_within}
 use Rattle.pk_data.specs.declared.open_block.OpenBlock.{OpenBlock}
 use Rattle.pk_nand.specs.BoardState.{BoardState}
 use Rattle.pk_nand.specs.Effects.{OnlyFlash}
@@ -40,10 +45,9 @@ use Rattle.pk_work.proofs.Within.{work_most}
 use Rattle.pk_schedule.specs.declared.phase.Phase.{Phase}
 use Rattle.pk_schedule.specs.declared.phase.Phase.TheVariants.{Idle, Running, Ready as ReadyToInstall}
 use Rattle.pk_schedule.specs.Index.{Index, MergeStands, merging}
-use Rattle.pk_schedule.specs.Steps.{backlog_of}
 use Rattle.pk_schedule.proofs.Backlogs.{index_backlog, four, entries_are}
 use Rattle.pk_drive.specs.Exec.{IsNextMerge}
-use Rattle.pk_core.specs.Parts.{Parts, sight_of, counts_of, block_if_open, frames_of, index_of}
+use Rattle.pk_core.specs.Parts.{Parts, sight_of, counts_of, block_if_open, frames_of, index_of, outputs_of, backlog_of, is_reclaim_due, reclaim_left}
 use Rattle.pk_core.specs.Agreeing.{DriveOnFlashWith, DriveOnFlash, DriveOnFlashBetween}
 use Rattle.pk_core.proofs.Leased.{leased_are}
 use Rattle.pk_core.proofs.Rooming.{entries_some}
@@ -79,6 +83,11 @@ open_is_owned shape pool flash (Some o) b is e = subst (HoldsValues pool) (some_
 is_true : (b : Bool) → T b → b ≡ true
 is_true true t = refl
 is_true false t = absurd t
+
+-- a block that is one for values has a state that says so
+for_values_told : (o : Option BlockState) → is_for_values o ≡ true → (s : BlockState) × (o ≡ Some s) × (is_owned_by Values s ≡ true)
+for_values_told None e = cc
+for_values_told (Some s) e = (s, refl, e)
 
 -- ---- four runs
 
@@ -129,14 +138,26 @@ module _ (d : Parts) (shape : Shape) (flash : Flash) (top : ℕ × Root) (found 
 
   -- ---- the blocks in use
 
-  live_within : live_blocks shape found d.log.pending ≤ used_by Values d.pool.states
+  -- a block with a page of a value is one for values that no reclaim holds
+  value_block : (k : ℕ) → IsValuePage shape (places found d.log.pending) k
+      → (s : BlockState) × (slice_get (freed d.pool.states (outputs_of d)) (k / shape.block_pages) ≡ Some s) × (is_owned_by Values s ≡ true)
+  value_block k is =
+      let b : ℕ = k / shape.block_pages in
+      let held : is_for_values (slice_get d.pool.states b) ≡ true = ap is_for_values (a.placed.owned k is) in
+      let no_output : has b (outputs_of d) ≡ false = no_member b (outputs_of d) (a.placed.outputs_are.unread k is) in
+      for_values_told (slice_get (freed d.pool.states (outputs_of d)) b) (freed_is (outputs_of d) d.pool.states b ∙ (λ i. held i && not (no_output i)))
+
+  live_within : live_blocks shape found d.log.pending ≤ (counts_of d).blocks
   live_within =
-      let blocks : List ℕ = blocks_from (is_owned_by Values) 0 d.pool.states in
+      let held : List BlockState = freed d.pool.states (outputs_of d) in
+      let blocks : List ℕ = blocks_from (is_owned_by Values) 0 held in
       let few = few_blocks shape (all_pages shape (places found d.log.pending)) blocks (λ k is.
       let none : 0 + k / shape.block_pages ≡ k / shape.block_pages = omega arith in
-      subst (λ x. In x blocks) none (block_in (is_owned_by Values) 0 d.pool.states (k / shape.block_pages) (Owned Values) (a.placed.owned k (in_value shape (places found d.log.pending) k is)) refl)) in
-      let many = many_blocks (is_owned_by Values) 0 d.pool.states in
-      omega (arith, few, many)
+      let there = value_block k (in_value shape (places found d.log.pending) k is) in
+      subst (λ x. In x blocks) none (block_in (is_owned_by Values) 0 held (k / shape.block_pages) there.0 there.1 there.2)) in
+      let many = many_blocks (is_owned_by Values) 0 held in
+      let left = used_freed (outputs_of d) d.pool.states a.placed.outputs_are.different a.placed.outputs_are.owned in
+      omega (arith, few, many, left)
 
   -- ---- the lists
 
@@ -148,15 +169,24 @@ module _ (d : Parts) (shape : Shape) (flash : Flash) (top : ℕ × Root) (found 
 
   -- ---- work and runs
 
-  within : IsBacklog d.log.shape (backlog_of (index_of d))
-  within = index_backlog (index_of d) (frames_of d) flash top found a.index (a.placed.size ∙ ap (λ s. s.blocks) (sym a.shape_is))
+  within : IsBacklog d.log.shape (backlog_of d)
+  within =
+      let index = index_backlog (index_of d) (frames_of d) flash top found a.index (a.placed.size ∙ ap (λ s. s.blocks) (sym a.shape_is)) in
+      record {
+        frozen_most = index.frozen_most;
+        runs_most = index.runs_most;
+        merge_most = index.merge_most;
+        freeze_most = index.freeze_most;
+        reclaim_most = subst (λ (s : Shape). IfSome (reclaim_left s d.space.live.heads (is_reclaim_due d) d.reclaim.phase) (λ left. left ≤ whole_reclaim s)) (sym a.shape_is) (reclaim_within d.reclaim.phase shape (is_reclaim_due d) d.reclaim d.space.live flash (places found d.log.pending) a.reclaim.stands);
+        unready_most = index.unready_most;
+      }
 
-  work_is : work d.log.shape (backlog_of (index_of d)) ≤ most_work shape
+  work_is : work d.log.shape (backlog_of d) ≤ most_work shape
   unfolding most_work
   work_is =
-      let most = work_most d.log.shape (backlog_of (index_of d)) a.index.logs.is_shape within in
-      let least : work d.log.shape (backlog_of (index_of d)) ≤ most_work d.log.shape = omega (arith, most) in
-      subst (λ s. work d.log.shape (backlog_of (index_of d)) ≤ most_work s) a.shape_is least
+      let most = work_most d.log.shape (backlog_of d) a.index.logs.is_shape within in
+      let least : work d.log.shape (backlog_of d) ≤ most_work d.log.shape = omega (arith, most) in
+      subst (λ s. work d.log.shape (backlog_of d) ≤ most_work s) a.shape_is least
 
   four_are : entries_of_runs (counts_of d) ≡ map (λ (r : Kept). r.count) d.levels.runs
   four_are = counts_of_four d.levels.runs d.levels.shape (four (index_of d) (frames_of d) flash top found a.index)

@@ -2,7 +2,7 @@
 use Rattle.std.proofs.Common.{◌≡◌, ℕ, ◌+◌, ◌<◌, ◌≤◌, refl, sym, ap, subst, ◌∙◌, arith, false, List, length, Option, Result, Ok, Err}
 use Rattle.std.specs.Prelude.{IfErr, OnOk}
 use Rattle.pk_base.specs.Entry.{Place}
-use Rattle.pk_base.specs.Shape.{Shape, greatest, page_entries}
+use Rattle.pk_base.specs.Shape.{Shape, charge, greatest, page_entries}
 use Rattle.pk_base.specs.Key.{Key}
 use Rattle.pk_nand.specs.declared.types.Fault.{Fault}
 use Rattle.pk_nand.specs.declared.types.Fault.TheVariants.{Stopped}
@@ -14,6 +14,7 @@ use Rattle.pk_model.proofs.Steps.{Step-none, Step-then}
 use Rattle.pk_core.specs.Parts.{Parts, frames_of}
 use Rattle.pk_core.specs.Moves.{KeepsAll, BreaksAll, MayStep, StepKeeps, OnlyCommits, LeavesValues}
 use Rattle.pk_core.specs.Emptying.{StepOrRead, KeepsOrReads, OnRunning}
+use Rattle.pk_core.specs.Spacing.{needs}
 use Rattle.pk_core.specs.Changes.{PutsAll, FailsToPut, TakesAll, FailsToTake, CanPut, CanTake, StepPuts, StepTakes, PutsOrReads, TakesOrReads, StaysBetween}
 use Rattle.pk_core.proofs.Keeping.{KeepsAll-none, KeepsAll-then, BreaksAll-then}
 use Rattle.pk_core.proofs.Rooming.{stands_after}
@@ -117,9 +118,12 @@ module _ (a b : Parts) (n : ℕ) (s0 s1 : BoardState) (u : Unit {0}) (leaves : L
         ready = subst (λ (s : Shape). IsReady s1 s) (sym same) step.ready;
         may = some_may_put a b s0 s1 key value place can.may keeps same;
         short = subst (λ (s : Shape). length value ≤ greatest s) (sym same) can.short;
-        no_reclaim = reclaim_same a b (length value) false same (ap (λ (d : Parts). d.space) leaves.rest) leaves.as_many can.no_reclaim;
         few = few_after a b same less can.few;
       }
+
+  -- a value that had room has it still
+  pub still_room : (size : ℕ) → needs (charge a.log.shape size) a ≡ false → needs (charge b.log.shape size) b ≡ false
+  still_room size room = reclaim_same a b size false leaves.same_shape (ap (λ (d : Parts). d.space) leaves.rest) leaves.as_many room
 
   pub can_take_after : (key : Key) (place : Place) → CanTake a s0 key place → CanTake b s1 key place
   can_take_after key place can =

@@ -24,7 +24,8 @@ use Rattle.pk_pool.specs.Taking.{ErasesOne, ErasesNone}
 use Rattle.pk_pool.proofs.States.{free_is_not_root}
 use Rattle.pk_pool.proofs.Sharing.{count-set, behind_roots}
 use Rattle.pk_run.specs.Kept.{Kept as KeptRun, empty}
-use Rattle.pk_work.specs.Backlog.{Backlog, due_level}
+use Rattle.pk_jrn.specs.Epochs.{left_of as pages_left}
+use Rattle.pk_work.specs.Backlog.{Backlog, due_level, is_tight}
 use Rattle.pk_work.specs.Work.{work, merging as merging_left, merging_from}
 use Rattle.pk_compact.specs.FreezeSteps.{taken_by}
 use Rattle.pk_model.specs.Found.{Found}
@@ -32,7 +33,7 @@ use Rattle.pk_model.specs.Reading.{reading}
 use Rattle.pk_schedule.specs.declared.phase.Phase.{Phase}
 use Rattle.pk_schedule.specs.declared.phase.Phase.TheVariants.{Idle as NoMerge, Running, Ready as ReadyOutput}
 use Rattle.pk_schedule.specs.Index.{Index, MergeStands, merging, output}
-use Rattle.pk_schedule.specs.Steps.{backlog_of, merge_left, has_no_merge, is_between}
+use Rattle.pk_schedule.specs.Steps.{merge_left, has_no_merge, is_between}
 use Rattle.pk_model.specs.Sight.{is_erased, has_open_room, IsIdle}
 use Rattle.pk_steps.specs.Under.{places}
 use Rattle.pk_steps.proofs.Untouched.{under_reads}
@@ -52,9 +53,11 @@ use Rattle.pk_drive.specs.declared.types.Ticked.{Ticked}
 use Rattle.pk_drive.specs.declared.types.Ticked.TheVariants.{Worked, Idle, Fault}
 use Rattle.pk_model.proofs.Growing.{weaken, weaken_went}
 use Rattle.pk_data.specs.Laws.{SameValues}
-use Rattle.pk_core.specs.Parts.{Parts, sight_of, index_of, block_if_open, outputs_of}
+use Rattle.pk_gc.specs.Stepping.{runs_in}
+use Rattle.pk_core.specs.Parts.{Parts, sight_of, counts_of, index_of, block_if_open, outputs_of, backlog_of, is_reclaim_due, reclaim_left, has_moves, may_freeze}
 use Rattle.pk_core.specs.Agreeing.{DriveOnFlashWith, DriveOnFlash}
-use Rattle.pk_core.specs.Ticking.{Ticks, HasNoStep, is_reclaim_due}
+use Rattle.pk_core.specs.Ticking.{Ticks, HasNoStep}
+use Rattle.pk_core.proofs.Reclaiming.{reclaim_elsewhere, holds_none}
 use Rattle.pk_core.proofs.Unread.{KeepsOwners, SameRead, same_top, still_without, still_all, agrees_elsewhere}
 use Rattle.pk_core.proofs.Stills.{IsStill, SameStill, StillCut, read_still, still_end, went_end, still_erase, still_erase_failed}
 use Rattle.pk_core.proofs.Writing.{IsIndexed, spare_still, beside_still}
@@ -75,6 +78,11 @@ erase_lowers shape b left less =
     let same : due_level shape (record b { unready = left }) ≡ due_level shape b = due_same shape b left in
     let merges : merging_left shape (record b { unready = left }) ≡ merging_left shape b = ap (λ l. merging_from shape l b.merge) same in
     omega (arith, merges, less)
+
+-- whether a reclaim is due is told by the shape and by how many blocks have values
+pub due_so : (d : Parts) (shape : Shape) (used : ℕ) → shape ≡ d.log.shape → used ≡ used_by Values d.pool.states
+    → (used - length (outputs_of d) == data_blocks shape - 1) && not (fits_open shape d.space (most_pages shape)) ≡ is_reclaim_due d
+due_so d shape used same many = λ i. (many i - length (outputs_of d) == data_blocks (same i) - 1) && not (fits_open (same i) d.space (most_pages (same i)))
 
 -- what is left of a merge does not depend on the pool
 merge_beside : (p : Phase) (x : Index) (q : Blocks) → merge_left p (record x { pool = q }) ≡ merge_left p x
@@ -178,11 +186,14 @@ module _ (d : Parts) (old new : BoardState) (a : DriveOnFlash d old.shape old.pa
     same : SameRead d.log.shape a.top.1 a.found d.log.pending old.pages new.pages
     same = read_still d.log.shape a.top.1 a.found d.log.pending Kept old.pages new.pages kept_same
 
-    values_same : SameValues d.log.shape d.pool (outputs_of d) old.pages new.pages
-    values_same k held no_output =
+    all_same : (k : ℕ) → HoldsValues d.pool (k / d.log.shape.block_pages) → page_at new.pages k ≡ page_at old.pages k
+    all_same k held =
         let pages : new.pages ≡ after (shape_or_none old.shape) (erase block) old.pages = ap (λ b. b.pages) made in
         let in_shape : new.pages ≡ after d.log.shape (erase block) old.pages = pages ∙ ap (λ o. after (shape_or_none o) (erase block) old.pages) has in
         ap (λ f. page_at f k) in_shape ∙ untouched_after d.log.shape (erase block) old.pages k (λ here. free_or_values d.pool block free (subst (λ b. HoldsValues d.pool b) here held))
+
+    values_same : SameValues d.log.shape d.pool (outputs_of d) old.pages new.pages
+    values_same k held no_output = all_same k held
 
     placed : ValuesOnFlash d.log.shape d.space q (outputs_of d) new.pages (places a.found d.log.pending)
     placed =
@@ -193,6 +204,11 @@ module _ (d : Parts) (old new : BoardState) (a : DriveOnFlash d old.shape old.pa
     journal_same =
         let all = count-set (is_owned_by Journal) d.pool.states block Free Ready free in
         ap (λ p. used_by Journal p.states) marked ∙ omega (arith, all)
+
+    values_many : used_by Values q.states ≡ used_by Values d.pool.states
+    values_many =
+        let all = count-set (is_owned_by Values) d.pool.states block Free Ready free in
+        ap (λ p. used_by Values p.states) marked ∙ omega (arith, all)
 
     meta_same : used_by Meta q.states ≡ used_by Meta d.pool.states
     meta_same =
@@ -205,6 +221,7 @@ module _ (d : Parts) (old new : BoardState) (a : DriveOnFlash d old.shape old.pa
         let its : q.shape ≡ d.log.shape = ap (λ p. p.shape) marked ∙ (own d old a).placed.shape_is in
         agrees_elsewhere d d.space q d.log.shape old.pages new.pages a.top a.found a.without a.all (own d old a) same ready.flash owners
         (beside_still d d.log.shape old.pages a.top a.found a.without a.all (own d old a) q new.pages owners its fits journal_same meta_same kept_same) placed
+        (reclaim_elsewhere d.log.shape d.reclaim d.space d.pool q old.pages new.pages (places a.found d.log.pending) (own d old a).reclaim (own d old a).placed values_many (λ k held not_open. all_same k held))
 
     less_left : unready q.states + 1 ≡ unready d.pool.states
     less_left =
@@ -214,9 +231,11 @@ module _ (d : Parts) (old new : BoardState) (a : DriveOnFlash d old.shape old.pa
     pub lowers_erased : (sight_of (record d { pool = q })).work < (sight_of d).work
     lowers_erased =
         let merge = merge_beside d.schedule.phase (index_of d) q in
-        let backlog : backlog_of (record (index_of d) { pool = q }) ≡ record (backlog_of (index_of d)) { unready = unready q.states } = λ i. record (backlog_of (index_of d)) { merge = merge i; unready = unready q.states } in
+        let due : is_reclaim_due (record d { pool = q }) ≡ is_reclaim_due d = due_so d d.log.shape (used_by Values q.states) refl values_many in
+        let may : may_freeze (record d { pool = q }) ≡ may_freeze d = ap (λ b. has_moves b d.reclaim.phase && is_tight d.log.shape (length d.log.active.entries) (pages_left d.log.epoch)) due in
+        let backlog : backlog_of (record d { pool = q }) ≡ record (backlog_of d) { unready = unready q.states } = λ i. record (backlog_of d) { merge = merge i; reclaim = reclaim_left d.log.shape d.space.live.heads (due i) d.reclaim.phase; may_freeze = may i; unready = unready q.states } in
         let same = ap (work d.log.shape) backlog in
-        let less = erase_lowers d.log.shape (backlog_of (index_of d)) (unready q.states) (omega (arith, less_left)) in
+        let less = erase_lowers d.log.shape (backlog_of d) (unready q.states) (omega (arith, less_left)) in
         omega (arith, same, less)
 
     pub agrees_erased : DriveOnFlash (record d { pool = q }) new.shape new.pages
@@ -385,35 +404,46 @@ module _ (d : Parts) (old : BoardState) (a : DriveOnFlash d old.shape old.pages)
       let no_free = none_free d.pool.states no_step.none_free in
       omega (arith, all, no_free, taken, output)
 
-  -- nothing is left to do where no step is, and no reclaim is due
-  none_idle : HasNoStep d → is_reclaim_due d ≡ false → IsIdle d.log.shape old.pages (sight_of d)
-  none_idle no_step rests =
+  -- where no reclaim runs, all blocks with values are in use
+  blocks_are : runs_in d.reclaim.phase ≡ false → (counts_of d).blocks ≡ used_by Values d.pool.states
+  blocks_are rests = ap (λ (os : List ℕ). used_by Values d.pool.states - length os) (holds_none d.reclaim.phase rests) ∙ omega arith
+
+  -- one is due by what is seen of the drive
+  due_is : ((counts_of d).blocks == data_blocks d.log.shape - 1) && not (has_open_room d.log.shape old.pages (block_if_open d.space.open_block)) ≡ is_reclaim_due d
+  due_is = ap (λ b. ((counts_of d).blocks == data_blocks d.log.shape - 1) && not b) open_room
+
+  all_unready : HasNoStep d → runs_in d.reclaim.phase ≡ false → 2 + length (named a.top.1) + (counts_of d).blocks + count_by is_ready d.pool.states ≡ d.log.shape.blocks
+  all_unready no_step rests = let all = none_unready no_step in let same = blocks_are rests in omega (arith, all, same)
+
+  -- nothing is left to do where no step is, and no reclaim runs or is due
+  none_idle : HasNoStep d → runs_in d.reclaim.phase ≡ false → is_reclaim_due d ≡ false → IsIdle d.log.shape old.pages (sight_of d)
+  none_idle no_step rests none_due =
       let merged = no_merge_is (index_of d) no_step.no_merge in
       record {
         top = a.top;
         is_newest = with.committed.is_top;
         no_merge = between_merges d.schedule.phase merged.0;
         none_frozen = merged.1;
-        no_reclaim = refl;
-        all_erased = none_unready no_step;
-        has_room = ap (λ b. (used_by Values d.pool.states == data_blocks d.log.shape - 1) && not b) open_room ∙ rests;
+        no_reclaim = rests;
+        all_erased = all_unready no_step rests;
+        has_room = due_is ∙ none_due;
       }
 
   -- and nothing but a reclaim, where one is due
-  pub waits_for_reclaim : HasNoStep d → is_reclaim_due d ≡ true → WaitsForReclaim d.log.shape old.pages (sight_of d)
-  waits_for_reclaim no_step due =
+  pub waits_for_reclaim : HasNoStep d → runs_in d.reclaim.phase ≡ false → is_reclaim_due d ≡ true → WaitsForReclaim d.log.shape old.pages (sight_of d)
+  waits_for_reclaim no_step rests due =
       let merged = no_merge_is (index_of d) no_step.no_merge in
       record {
         top = a.top;
         is_newest = with.committed.is_top;
         no_merge = between_merges d.schedule.phase merged.0;
         none_frozen = merged.1;
-        all_erased = none_unready no_step;
-        is_due = ap (λ b. (used_by Values d.pool.states == data_blocks d.log.shape - 1) && not b) open_room ∙ due;
+        all_erased = all_unready no_step rests;
+        is_due = due_is ∙ due;
       }
 
   pub idle_rests : IsIdle d.log.shape old.pages (sight_of d) → is_reclaim_due d ≡ false
-  idle_rests idle = ap (λ b. (used_by Values d.pool.states == data_blocks d.log.shape - 1) && not b) (sym open_room) ∙ idle.has_room
+  idle_rests idle = sym due_is ∙ idle.has_room
 
   same_top_is : (x y : ℕ × Root) → ◌≡◌ {A = Option (ℕ × Root)} (Some x) (Some y) → x ≡ y
   same_top_is x y e = cc
@@ -421,7 +451,9 @@ module _ (d : Parts) (old : BoardState) (a : DriveOnFlash d old.shape old.pages)
   all_erased_is : IsIdle d.log.shape old.pages (sight_of d) → 2 + length (named a.top.1) + used_by Values d.pool.states + count_by is_ready d.pool.states ≡ d.log.shape.blocks
   all_erased_is idle =
       let top : idle.top ≡ a.top = same_top_is idle.top a.top (sym idle.is_newest ∙ with.committed.is_top) in
-      subst (λ (t : ℕ × Root). 2 + length (named t.1) + used_by Values d.pool.states + count_by is_ready d.pool.states ≡ d.log.shape.blocks) top idle.all_erased
+      let seen = subst (λ (t : ℕ × Root). 2 + length (named t.1) + (counts_of d).blocks + count_by is_ready d.pool.states ≡ d.log.shape.blocks) top idle.all_erased in
+      let same = blocks_are idle.no_reclaim in
+      omega (arith, seen, same)
 
   -- it is not idle where a freeze runs, or a free block was not erased
   pub busy_freeze : (length (taken_by d.schedule.freeze) == 0) ≡ false → IsIdle d.log.shape old.pages (sight_of d) → ⊥
@@ -444,9 +476,13 @@ module _ (d : Parts) (old : BoardState) (a : DriveOnFlash d old.shape old.pages)
   pub tells_step : (answer : Ticked) → (answer ≡ Idle → ⊥) → (IsIdle d.log.shape old.pages (sight_of d) → answer ≡ Idle) → TellsIdle old (sight_of d) answer
   tells_step answer other busy = for_its_map d old a (λ s f m. (answer ≡ Idle) ↔ IsIdle s old.pages (sight_of d)) (λ e. absurd (other e), busy)
 
-  -- it is idle where no step is left, and no reclaim is due
-  pub tells_idle : HasNoStep d → is_reclaim_due d ≡ false → TellsIdle old (sight_of d) Idle
-  tells_idle no_step rests = for_its_map d old a (λ s f m. (Idle ≡ Idle) ↔ IsIdle s old.pages (sight_of d)) (λ _. none_idle no_step rests, λ _. refl)
+  -- it is idle where no step is left, and no reclaim runs or is due
+  pub tells_idle : HasNoStep d → runs_in d.reclaim.phase ≡ false → is_reclaim_due d ≡ false → TellsIdle old (sight_of d) Idle
+  tells_idle no_step rests none_due = for_its_map d old a (λ s f m. (Idle ≡ Idle) ↔ IsIdle s old.pages (sight_of d)) (λ _. none_idle no_step rests none_due, λ _. refl)
+
+  -- and is not where one runs
+  pub tells_running : runs_in d.reclaim.phase ≡ true → TellsIdle old (sight_of d) Worked
+  tells_running runs = for_its_map d old a (λ s f m. (Worked ≡ Idle) ↔ IsIdle s old.pages (sight_of d)) (λ e. absurd (worked_idle e), λ idle. absurd (yes_no (runs_in d.reclaim.phase) idle.no_reclaim runs))
 
   pub tells_due : is_reclaim_due d ≡ true → TellsIdle old (sight_of d) Worked
   tells_due due = for_its_map d old a (λ s f m. (Worked ≡ Idle) ↔ IsIdle s old.pages (sight_of d)) (λ e. absurd (worked_idle e), λ idle. absurd (yes_no (is_reclaim_due d) (idle_rests idle) due))

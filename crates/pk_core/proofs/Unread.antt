@@ -18,6 +18,7 @@ use Rattle.pk_steps.specs.Under.{IsUnder, places}
 use Rattle.pk_steps.proofs.Untouched.{same as read_same}
 use Rattle.pk_data.specs.State.{DataState}
 use Rattle.pk_data.specs.Placed.{ValuesOnFlash}
+use Rattle.pk_gc.specs.Standing.{ReclaimOnFlash}
 use Rattle.pk_core.specs.Parts.{Parts, frames_of, index_of, outputs_of}
 use Rattle.pk_schedule.proofs.Keeping.{IsBeside, index_elsewhere}
 use Rattle.pk_core.specs.Agreeing.{DriveOnFlashWith}
@@ -52,8 +53,9 @@ module _ (d : Parts) (space : DataState) (pool : Blocks) (shape : Shape) (old ne
   still_all = read_same shape old new d.log.pending top found all is_shape with.pending (λ k is. same k (inr is))
 
   pub agrees_elsewhere : IsFlash shape new → KeepsOwners d.pool pool → IsBeside d.pool old pool new → ValuesOnFlash shape space pool (outputs_of d) new (places found d.log.pending)
+      → ReclaimOnFlash shape d.reclaim space.live pool new (places found d.log.pending)
       → DriveOnFlashWith (record d { space = space; pool = pool }) shape new top found without all
-  agrees_elsewhere is_flash owners beside placed = record {
+  agrees_elsewhere is_flash owners beside placed reclaim = record {
     shape_is = with.shape_is;
     is_flash = is_flash;
     index = index_elsewhere (index_of d) (frames_of d) old new top found with.index pool beside;
@@ -62,5 +64,6 @@ module _ (d : Parts) (space : DataState) (pool : Blocks) (shape : Shape) (old ne
     placed = placed;
     former = λ k is. owners (k / shape.block_pages) Values (with.former k is);
     former_read = with.former_read;
+    reclaim = reclaim;
     keys_are = with.keys_are;
   }

@@ -1,10 +1,10 @@
 -- A value that was written into a block for values: what the drive stands for, at every cut and behind it.
-use Rattle.std.proofs.Common.{◌≡◌, ◌⊎◌, inl, inr, ℕ, zero, suc, ◌+◌, ◌*◌, ◌/◌, ◌%◌, ◌<◌, ◌≤◌, refl, sym, ap, subst, ◌∙◌, arith, List, [], ◌∷◌, ◌++◌, length, Some, Result, Ok, Err, slice_get, div-lt_iff_lt-mul}
+use Rattle.std.proofs.Common.{◌≡◌, ◌⊎◌, inl, inr, ℕ, zero, suc, ◌+◌, ◌*◌, ◌/◌, ◌%◌, ◌<◌, ◌≤◌, refl, sym, ap, subst, ◌∙◌, arith, true, false, List, [], ◌∷◌, ◌++◌, length, Option, Some, None, Result, Ok, Err, slice_get, div-lt_iff_lt-mul}
 use Rattle.std.specs.List.{concat}
-use Rattle.std.proofs.lemmas.Bool.{cases_eq}
+use Rattle.std.proofs.lemmas.Bool.{cases_eq, le-leb}
 use Rattle.std.proofs.lemmas.Nat.{div-add-mod'}
-use Rattle.pk_base.specs.Shape.{Shape, IsShape, charge, greatest}
-use Rattle.pk_base.specs.Page.{Flash, page_at, erased}
+use Rattle.pk_base.specs.Shape.{Shape, IsShape, charge, greatest, data_blocks}
+use Rattle.pk_base.specs.Page.{Flash, page_at, erased, whole}
 use Rattle.pk_base.specs.Key.{Key, IsKey}
 use Rattle.pk_base.specs.Map.{Map}
 use Rattle.pk_base.proofs.ShapeLemmas.{block_pages_positive}
@@ -13,7 +13,7 @@ use Rattle.pk_rootfmt.specs.Root.{Root, named}
 use Rattle.pk_rootfmt.specs.Newest.{newest_root}
 use Rattle.pk_plan.specs.declared.owner.Owner.{Owner}
 use Rattle.pk_plan.specs.declared.owner.Owner.TheVariants.{Journal, Meta, Values}
-use Rattle.std.specs.Prelude.{IfOk, IfErr, OnErr}
+use Rattle.std.specs.Prelude.{IfOk, IfErr, OnErr, ◌-◌, not, ◌&&◌, nat_le}
 use Rattle.pk_nand.specs.declared.types.Fault.{Fault}
 use Rattle.pk_nand.specs.declared.types.Fault.TheVariants.{Stopped}
 use Rattle.pk_model.specs.Steps.{Step}
@@ -35,14 +35,23 @@ use Rattle.pk_model.specs.Wear.{number_of, root_number, roots}
 use Rattle.pk_model.proofs.Growing.{weaken, weaken_went}
 use Rattle.pk_nand.specs.Effects.{Works, Stops}
 use Rattle.pk_nand.proofs.Effects.{works_none, works_erase, works_then, stops_erase, stops_then}
-use Rattle.pk_data.specs.State.{DataState}
-use Rattle.pk_data.specs.Placed.{HoldsValues}
+use Rattle.pk_segfmt.specs.Stored.{page_of}
+use Rattle.pk_nand.proofs.Leaving.{page_at-slice_set}
+use Rattle.pk_seg.specs.Stored.{written}
+use Rattle.pk_live.specs.Values.{Values as LiveValues}
+use Rattle.pk_base.specs.Entry.{Place}
+use Rattle.pk_data.specs.declared.open_block.OpenBlock.{OpenBlock}
+use Rattle.pk_data.specs.State.{DataState, fits_open, needs_reclaim, more_used}
+use Rattle.pk_data.specs.Placed.{HoldsValues, IsNotOpen}
+use Rattle.pk_data.specs.Reserving.{TakesNext}
+use Rattle.pk_gc.specs.Standing.{ReclaimOnFlash}
 use Rattle.pk_core.specs.Parts.{Parts, outputs_of}
 use Rattle.pk_core.specs.Agreeing.{DriveOnFlashWith}
 use Rattle.pk_core.specs.Moves.{StandsFor, Keeps, KeepsAll, BreaksAll, MayStep}
 use Rattle.pk_core.specs.Noting.{IsPlaced, StepPlaces}
 use Rattle.pk_core.specs.Placing.{Reserves, PlacesValue, FailsToPlace}
 use Rattle.pk_core.proofs.Standing.{found_once}
+use Rattle.pk_core.proofs.Reclaiming.{SameButOpen, runs_or_rests, reclaim_rests, reclaim_elsewhere, not_of_open}
 use Rattle.pk_schedule.proofs.Keeping.{IsBeside}
 use Rattle.pk_core.proofs.Unread.{IsReadBy, SameRead, KeepsOwners, same_top, still_without, agrees_elsewhere}
 use Rattle.pk_core.proofs.Stills.{IsStill, SameStill, StillCut, still_then, still_goes, still_end, went_end, still_none, still_erase, still_erase_failed, still_written, still_write_failed, works_written, stops_written}
@@ -270,8 +279,31 @@ still_commits d shape old top found without all with f q is =
 
 -- ---- the value is written
 
+-- no block is opened where all of them are in use
+never_opens : (shape : Shape) (space : DataState) (pool : Blocks) (count : ℕ) → fits_open shape space count ≡ false → needs_reclaim shape space pool count ≡ false → used_by Values pool.states ≡ data_blocks shape → ⊥
+never_opens shape space pool count none room full =
+    let few : nat_le (data_blocks shape - 1) (used_by Values pool.states) ≡ false = ap (λ b. not b && nat_le (data_blocks shape - 1) (used_by Values pool.states)) (sym none) ∙ room in
+    true_false (sym (le-leb (data_blocks shape - 1) (used_by Values pool.states) (omega (arith, full))) ∙ few)
+  where
+    true_false : true ≡ false → ⊥
+    true_false e = cc
+
+-- the block that takes values is the same one
+still_open : (o : Option OpenBlock) (count b : ℕ) → IsNotOpen o b → IsNotOpen (more_used o count) b
+still_open None count b other = other
+still_open (Some o) count b other = other
+
+-- no other page differs behind the programs of a value
+written_outside : (shape : Shape) (key : Key) (page : ℕ) (value : List ℕ) (n : ℕ) (old : BoardState) (k : ℕ) → (page ≤ k → k < page + n → ⊥) → page_at (written shape key page value n old).pages k ≡ page_at old.pages k
+written_outside shape key page value zero old k out = refl
+written_outside shape key page value (suc n) old k out =
+    page_at-slice_set (written shape key page value n old).pages (page + n) k (whole (page_of shape key value n)) (λ e. out (omega (arith, e)) (omega (arith, e)))
+    ∙ written_outside shape key page value n old k (λ low high. out low (omega (arith, high)))
+
+
 module _ (d : Parts) (key : Key) (value : List ℕ) (old : BoardState) (page : ℕ) (space : DataState) (q : Blocks) (new : BoardState)
-    (is : PlacesValue d.log.shape key value d.space d.pool old page space q new) (ready : IsReady old d.log.shape) (ready_new : IsReady new d.log.shape) where
+    (is : PlacesValue d.log.shape key value d.space d.pool old page space q new) (ready : IsReady old d.log.shape) (ready_new : IsReady new d.log.shape)
+    (room : needs_reclaim d.log.shape d.space d.pool (charge d.log.shape (length value)) ≡ false) where
   abbrev pub shape : Shape
   shape = d.log.shape
 
@@ -296,13 +328,38 @@ module _ (d : Parts) (key : Key) (value : List ℕ) (old : BoardState) (page : �
     same_placed : SameStill shape top.1 found d.log.pending (IsIndexed d.pool shape) old.pages new.pages
     same_placed = still_end shape top.1 found d.log.pending (IsIndexed d.pool shape) old.pages old new placed_reaches
 
+    -- a reclaim that runs leaves no room but that of the open block, where the value goes; the same values are live
+    placed_reclaims : ReclaimOnFlash shape d.reclaim space.live q new.pages (places found d.log.pending)
+    placed_reclaims = elim (runs_or_rests d.reclaim.phase) [
+      | inr rests ↦ reclaim_rests shape d.reclaim space.live q new.pages (places found d.log.pending) with.reclaim.shape_is rests
+      | inl runs ↦ elim is.reserved.taken [
+        | inr opens ↦ absurd (never_opens shape d.space d.pool (charge shape (length value)) opens.no_room room (with.reclaim.full runs))
+        | inl next ↦
+            let T : LiveValues → Blocks → Type 0 = λ l p. ReclaimOnFlash shape d.reclaim l p new.pages (places found d.log.pending) in
+            let live : space.live ≡ d.space.live = ap (λ (x : DataState). x.live) is.counted ∙ ap (λ (x : DataState). x.live) next.kept in
+            let now : T d.space.live d.pool =
+            reclaim_elsewhere shape d.reclaim d.space d.pool d.pool old.pages new.pages (places found d.log.pending) with.reclaim with.placed refl (written_in_open next) in
+            subst (λ (l : LiveValues). T l q) (sym live) (subst (λ (p : Blocks). T d.space.live p) (sym next.same_pool) now)
+      ]
+    ]
+      where
+        written_in_open : TakesNext shape d.space d.pool old (charge shape (length value)) is.space q is.between → SameButOpen shape d.pool d.space.open_block old.pages new.pages
+        written_in_open next k held not_open =
+            let count : ℕ = charge shape (length value) in
+            let values = is.placed (outputs_of d) (places found d.log.pending) with.placed in
+            let opens : space.open_block ≡ more_used d.space.open_block count = ap (λ (x : DataState). x.open_block) is.counted ∙ ap (λ (x : DataState). more_used x.open_block count) next.kept in
+            let other : IsNotOpen space.open_block (k / shape.block_pages) = subst (λ (o : Option OpenBlock). IsNotOpen o (k / shape.block_pages)) (sym opens) (still_open d.space.open_block count (k / shape.block_pages) not_open) in
+            ap (λ (b : BoardState). page_at b.pages k) is.writes
+            ∙ written_outside shape key page value count is.between k (λ low high. not_of_open shape space q (outputs_of d) new.pages (places found d.log.pending) page count k values is.in_open low high other)
+            ∙ ap (λ (b : BoardState). page_at b.pages k) next.same_board
+
     pub placed_agrees : DriveOnFlashWith after shape new.pages top found without all
     placed_agrees =
         let values = is.placed (outputs_of d) (places found d.log.pending) with.placed in
         let owners = owners_reserved d page (charge shape (length value)) is.space q old is.between is.reserved in
         let beside = beside_still d shape old.pages top found without all with q new.pages owners values.shape_is values.fits (journal_reserved d page (charge shape (length value)) is.space q old is.between is.reserved)
         (meta_reserved d page (charge shape (length value)) is.space q old is.between is.reserved) same_placed in
-        agrees_elsewhere d space q shape old.pages new.pages top found without all with (λ k is. same_placed k (inl is)) ready_new.flash owners beside values
+        agrees_elsewhere d space q shape old.pages new.pages top found without all with (λ k is. same_placed k (inl is)) ready_new.flash owners beside values placed_reclaims
 
     pub placed_keeps : Keeps d after shape all old new
     placed_keeps = record {
@@ -356,25 +413,26 @@ same_roots has_shape old new has has_new same =
 
 pub value_written : (d : Parts) (key : Key) (value : List ℕ) (old : BoardState) (page : ℕ) (space : DataState) (q : Blocks) (new : BoardState)
     → PlacesValue d.log.shape key value d.space d.pool old page space q new → IsReady old d.log.shape → IsReady new d.log.shape
+    → needs_reclaim d.log.shape d.space d.pool (charge d.log.shape (length value)) ≡ false
     → IsKey key → length value ≤ greatest d.log.shape → (m : Map) × StandsFor d d.log.shape old.pages m
     → Step (λ (p : ℕ). IsPlaced d (record d { space = space; pool = q }) old new key value p) (BreaksAll d old new) d.log.shape 0 old new (Ok page)
-value_written d key value old page space q new is ready ready_new is_key short stands =
+value_written d key value old page space q new is ready ready_new room is_key short stands =
     let shape : Shape = d.log.shape in
     let with = stands.1.with in
     let top = stands.1.top in
     let found = stands.1.found in
     let without = stands.1.without in
     let after : Parts = record d { space = space; pool = q } in
-    let run = placed_reaches d key value old page space q new is ready ready_new top found without stands.0 with in
+    let run = placed_reaches d key value old page space q new is ready ready_new room top found without stands.0 with in
     let same = still_end shape top.1 found d.log.pending (IsIndexed d.pool shape) old.pages old new run in
-    let agrees = placed_agrees d key value old page space q new is ready ready_new top found without stands.0 with in
+    let agrees = placed_agrees d key value old page space q new is ready ready_new room top found without stands.0 with in
     let count : ℕ = charge shape (length value) in
     let placed : IsPlaced d after old new key value page = record {
-      keeps = placed_keeps_all d key value old page space q new is ready ready_new;
+      keeps = placed_keeps_all d key value old page space q new is ready ready_new room;
       found = λ shape' top' found' without' all' other.
           let same : d.log.shape ≡ shape' = other.shape_is in
           subst (λ (s : Shape). DriveOnFlashWith after s new.pages top' found' without' all') same
-          (placed_agrees d key value old page space q new is ready ready_new top' found' without' all' (subst (λ (s : Shape). DriveOnFlashWith d s old.pages top' found' without' all') (sym same) other));
+          (placed_agrees d key value old page space q new is ready ready_new room top' found' without' all' (subst (λ (s : Shape). DriveOnFlashWith d s old.pages top' found' without' all') (sym same) other));
       written = record {
         there = value_again shape with.index.logs.is_shape key value is_key (page_at new.pages) page is.stored;
         apart = λ top' found' without' all' other k here is_value.
@@ -393,7 +451,7 @@ value_written d key value old page space q new is ready ready_new is_key short s
     record {
       ended = placed;
       broken = tt;
-      works = works_placed d key value old page space q new is ready ready_new;
+      works = works_placed d key value old page space q new is ready ready_new room;
       stops = tt;
       stopped = tt;
       ready = ready_new;
@@ -420,8 +478,9 @@ value_broken d behind key value old new e failed is_stopped shared ready ready_n
 -- by what the call answered
 pub place_step : (r : Result ℕ Fault) (d : Parts) (key : Key) (value : List ℕ) (old : BoardState) (space : DataState) (q : Blocks) (new : BoardState)
     → IfOk r (λ page. PlacesValue d.log.shape key value d.space d.pool old page space q new) → OnErr r (FailsToPlace d.log.shape key value d.space d.pool old new) → IfErr r (λ e. e ≡ Stopped)
-    → IsShared d.pool.shape d.pool.states → MayStep d old → IsReady new d.log.shape → IsKey key → length value ≤ greatest d.log.shape
+    → IsShared d.pool.shape d.pool.states → MayStep d old → IsReady new d.log.shape
+    → needs_reclaim d.log.shape d.space d.pool (charge d.log.shape (length value)) ≡ false → IsKey key → length value ≤ greatest d.log.shape
     → StepPlaces d (record d { space = space; pool = q }) old new key value r
-place_step (Ok page) d key value old space q new places fails stopped shared may after is_key short = value_written d key value old page space q new places may.ready after is_key short may.stands
-place_step (Err e) d key value old space q new places fails stopped shared may after is_key short =
+place_step (Ok page) d key value old space q new places fails stopped shared may after room is_key short = value_written d key value old page space q new places may.ready after room is_key short may.stands
+place_step (Err e) d key value old space q new places fails stopped shared may after room is_key short =
     value_broken d (record d { space = space; pool = q }) key value old new e fails stopped shared may.ready after may.stands

@@ -7,6 +7,7 @@ use Rattle.pk_rootfmt.specs.Root.{Root}
 use Rattle.pk_model.specs.Found.{Found}
 use Rattle.pk_steps.specs.Under.{IsUnder, IsValuePage, places}
 use Rattle.pk_data.specs.Placed.{HoldsValues, IsOutput, ValuesOnFlash}
+use Rattle.pk_gc.specs.Standing.{ReclaimOnFlash}
 use Rattle.pk_schedule.specs.Index.{IndexOnFlash}
 use Rattle.pk_core.specs.Parts.{Parts, frames_of, index_of, outputs_of}
 
@@ -22,6 +23,8 @@ pub record DriveOnFlashBeside (d : Parts) (outputs : List ℕ) (shape : Shape) (
   pub placed : ValuesOnFlash shape d.space d.pool outputs flash (places found d.log.pending)
   pub former : (k : ℕ) → IsValuePage shape (places found []) k → HoldsValues d.pool (k / shape.block_pages)
   pub former_read : (k : ℕ) → IsValuePage shape (places found []) k → IsOutput outputs (k / shape.block_pages) → ⊥
+  -- the reclaim stands to them
+  pub reclaim : ReclaimOnFlash shape d.reclaim d.space.live d.pool flash (places found d.log.pending)
   pub keys_are : d.keys ≡ length (places found d.log.pending)
 
 -- the same beside what runs in the drive

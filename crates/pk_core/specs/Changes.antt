@@ -1,18 +1,17 @@
 -- A change of the map: a key gets a value, or loses its own.
-use Rattle.std.specs.Prelude.{◌≡◌, ◌≤◌, ◌<◌, ℕ, List, length, false, Option, Some, Result}
+use Rattle.std.specs.Prelude.{◌≡◌, ◌≤◌, ◌<◌, ℕ, List, length, Option, Some, Result}
 use Rattle.std.specs.FinMap.{insert, remove}
 use Rattle.std.specs.FinMap.Entries.{find}
 use Rattle.pk_base.specs.Entry.{Place}
 use Rattle.pk_base.specs.Fields.{AreBytes}
 use Rattle.pk_base.specs.Key.{Key, key_cmp}
-use Rattle.pk_base.specs.Shape.{Shape, limit, greatest, charge, page_entries}
+use Rattle.pk_base.specs.Shape.{Shape, limit, greatest, page_entries}
 use Rattle.pk_base.specs.Page.{Flash}
 use Rattle.pk_base.specs.Map.{Map, live}
 use Rattle.pk_nand.specs.BoardState.{BoardState}
 use Rattle.pk_nand.specs.declared.types.Fault.{Fault}
 use Rattle.pk_nand.specs.Calls.{IsReady}
 use Rattle.pk_model.specs.Steps.{Step}
-use Rattle.pk_data.specs.State.{needs_reclaim}
 use Rattle.pk_steps.specs.Under.{places}
 use Rattle.pk_model.specs.Growth.{Reaches, Goes}
 use Rattle.pk_core.specs.Parts.{Parts, frames_of}
@@ -58,12 +57,11 @@ FailsToTake before old new key place = (shape : Shape) (m : Map) → MayTake bef
 
 -- ---- steps
 
--- what a put asks: the key may get the value, which is not too long and has room without a reclaim
+-- what a put asks: the key may get the value, which is not too long
 pub record CanPut (d : Parts) (board : BoardState) (key : Key) (value : List ℕ) (place : Option Place) : Type 0 where
   pub ready : IsReady board d.log.shape
   pub may : (m : Map) × MayPut d d.log.shape board.pages m key value place
   pub short : length value ≤ greatest d.log.shape
-  pub no_reclaim : needs_reclaim d.log.shape d.space d.pool (charge d.log.shape (length value)) ≡ false
   pub few : length d.log.pending < page_entries d.log.shape
 
 -- what a removal asks: the key may be taken

@@ -16,4 +16,5 @@ pub mod Changes
 pub mod Serving
 pub mod Listed
 pub mod Opening
-pub mod Fresh
+pub mod Reclaiming
+pub mod Spacing

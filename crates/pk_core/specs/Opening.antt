@@ -4,15 +4,14 @@ use Rattle.pk_base.specs.Shape.{Shape}
 use Rattle.pk_base.specs.Page.{Flash}
 use Rattle.pk_base.specs.Map.{Map}
 use Rattle.pk_rootfmt.specs.Root.{Root}
-use Rattle.pk_plan.specs.declared.owner.Owner.TheVariants.{Values as for_values}
-use Rattle.pk_pool.specs.Blocks.{used_by}
 use Rattle.pk_model.specs.Found.{Found}
 use Rattle.pk_drive.specs.Steady.{live_blocks}
-use Rattle.pk_core.specs.Parts.{Parts, frames_of}
+use Rattle.pk_gc.specs.Stepping.{runs_in}
+use Rattle.pk_core.specs.Parts.{Parts, counts_of, frames_of}
 use Rattle.pk_core.specs.Agreeing.{DriveOnFlashWith}
 
--- The drive agrees with the flash and runs, with these frames. Nothing is pending, the epoch takes no more pages, no block is open, and
--- so many blocks are the values' as have a page of one.
+-- The drive agrees with the flash and runs, with these frames. Nothing is pending, the epoch takes no more pages, no block is open, so
+-- many blocks are in use as have a page of a value, and no reclaim runs.
 pub record OpenedOn (shape : Shape) (flash : Flash) (frames : ℕ) (d : Parts) : Type 0 where
   pub top : ℕ × Root
   pub found : Found
@@ -23,4 +22,5 @@ pub record OpenedOn (shape : Shape) (flash : Flash) (frames : ℕ) (d : Parts) :
   pub none_pending : d.log.pending ≡ []
   pub takes_none : d.log.epoch.takes_more ≡ false
   pub none_open : d.space.open_block ≡ None
-  pub blocks_are : used_by for_values d.pool.states ≡ live_blocks shape found []
+  pub blocks_are : (counts_of d).blocks ≡ live_blocks shape found []
+  pub rests : runs_in d.reclaim.phase ≡ false

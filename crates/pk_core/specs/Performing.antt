@@ -1,6 +1,6 @@
 -- What a command leaves of epochs and blocks, which pages it programs, and how many calls of the flash it makes.
-use Rattle.std.specs.Prelude.{◌≡◌, ◌≢◌, ℕ, List, take, true, false}
-use Rattle.pk_nvme.specs.declared.opcode.TheConstants.{STORE, DELETE}
+use Rattle.std.specs.Prelude.{◌≡◌, ◌≢◌, ◌≤◌, ℕ, List, take, true, false}
+use Rattle.pk_nvme.specs.declared.opcode.TheConstants.{STORE, DELETE, TICK}
 use Rattle.pk_nvme.specs.declared.status.TheConstants.{SUCCESSFUL_COMPLETION, UNRECOVERED_ERROR}
 use Rattle.pk_base.specs.Shape.{charge}
 use Rattle.pk_nvme.specs.Command.{key}
@@ -12,13 +12,15 @@ use Rattle.pk_drive.specs.Exec.{report_of}
 use Rattle.pk_drive.specs.Calling.{FewCalls, most_calls_of, only_looks}
 use Rattle.pk_drive.specs.declared.types.Outcome.{Outcome}
 use Rattle.pk_core.specs.Parts.{Parts, counts_of}
-use Rattle.pk_core.specs.Staying.{Stays, StaysOrOpens, IsNoted}
+use Rattle.pk_core.specs.Staying.{StaysFresh, Stays, StaysOrOpens, IsNoted}
 use Rattle.pk_core.specs.Programming.{QuietStore, QuietDelete}
 
--- A command came to this outcome. A Store alone may open a block; what only looks changes nothing.
+-- A command came to this outcome. A Store alone may take a block more, beside it a Tick another open block; what only looks changes nothing.
 pub record Performs (before after : Parts) (old new : BoardState) (r : Request) (value : List ℕ) (o : Outcome) : Type 0 where
-  pub opens : o.stopped ≡ false → StaysOrOpens before after (charge before.log.shape r.size)
-  pub moves : r.opcode ≢ STORE → o.stopped ≡ false → Stays before after
+  pub fresh : o.stopped ≡ false → StaysFresh before after
+  pub opens : r.opcode ≡ STORE → o.stopped ≡ false → StaysOrOpens before after (charge before.log.shape r.size)
+  pub no_more : r.opcode ≢ STORE → o.stopped ≡ false → (counts_of after).blocks ≤ (counts_of before).blocks
+  pub moves : r.opcode ≢ STORE → r.opcode ≢ TICK → o.stopped ≡ false → Stays before after
   pub noted : r.opcode ≡ STORE → o.status ≡ SUCCESSFUL_COMPLETION → IsNoted after (key (command_of r value))
   pub quiet_store : r.opcode ≡ STORE → QuietStore before old new r value o
   pub quiet_delete : r.opcode ≡ DELETE → QuietDelete before old new r o

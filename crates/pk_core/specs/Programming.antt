@@ -35,6 +35,10 @@ TakesQuietly d k old new = needs_freeze d.log k ≡ false → Programs (commits_
 abbrev pub ReadsQuietly : Parts → Key → BoardState → BoardState → Type 0
 ReadsQuietly d k old new = needs_freeze d.log k ≡ false → new.reads ≡ old.reads
 
+-- nor where besides a value of so many pages has room in the open block
+abbrev pub ReadsNone : Parts → Key → ℕ → BoardState → BoardState → Type 0
+ReadsNone d k count old new = fits_open d.log.shape d.space count ≡ true → ReadsQuietly d k old new
+
 -- A Store that was answered so, whose key needs no freeze and whose value has room in the open block, made the programs of its value
 -- and of a commit, and the reads of a look-up.
 abbrev pub QuietStore : Parts → BoardState → BoardState → Request → List ℕ → Outcome → Type 0

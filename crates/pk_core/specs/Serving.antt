@@ -12,15 +12,14 @@ use Rattle.pk_nand.specs.Calls.{last_count}
 use Rattle.pk_model.specs.Answer.{early}
 use Rattle.pk_model.specs.Wear.{is_worn}
 use Rattle.pk_drive.specs.declared.types.Outcome.{Outcome}
-use Rattle.pk_core.specs.Parts.{Parts, is_built}
+use Rattle.pk_core.specs.Parts.{Parts}
 use Rattle.pk_core.specs.Agreeing.{DriveOnFlash}
 
--- The drive stands for its board, runs, is not worn out, and has built what this request wants, which passed the checks that read it alone.
+-- The drive stands for its board, runs and is not worn out, and the request passed the checks that read it alone.
 pub record IsServable (d : Parts) (board : BoardState) (r : Request) : Type 0 where
   pub agrees : DriveOnFlash d board.shape board.pages
   pub runs : d.stopped ≡ false
   pub unworn : is_worn board ≡ false
-  pub built : is_built d r ≡ true
   pub passed : early d.log.shape (command_of r []) ≡ None
   pub few : length d.log.pending < page_entries d.log.shape
   pub counted : board.reads ≤ last_count

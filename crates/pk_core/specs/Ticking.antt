@@ -1,9 +1,7 @@
 -- A background step.
-use Rattle.std.specs.Prelude.{◌≡◌, ◌+◌, ◌-◌, ◌<◌, ◌≤◌, Bool, true, false, ◌&&◌, not, ◌==◌, []}
-use Rattle.pk_base.specs.Shape.{data_blocks, most_pages}
-use Rattle.pk_plan.specs.declared.owner.Owner.TheVariants.{Values}
+use Rattle.std.specs.Prelude.{◌≡◌, ◌+◌, ◌<◌, ◌≤◌, true, false, []}
 use Rattle.pk_pool.specs.declared.state.BlockState.TheVariants.{Free}
-use Rattle.pk_pool.specs.Blocks.{IsNowhere, used_by}
+use Rattle.pk_pool.specs.Blocks.{IsNowhere}
 use Rattle.pk_nand.specs.BoardState.{BoardState, shape_of}
 use Rattle.pk_nand.specs.Calls.{Rose, last_count}
 use Rattle.pk_model.specs.Sight.{Sight, IsIdle}
@@ -15,7 +13,6 @@ use Rattle.pk_drive.specs.Call.{KeepsMap, CallReaches, CallGoes}
 use Rattle.pk_drive.specs.Seen.{stopped_by}
 use Rattle.pk_drive.specs.declared.types.Ticked.{Ticked}
 use Rattle.pk_drive.specs.declared.types.Ticked.TheVariants.{Worked, Idle, Fault}
-use Rattle.pk_data.specs.State.{fits_open}
 use Rattle.pk_compact.specs.FreezeSteps.{taken_by}
 use Rattle.pk_schedule.specs.Steps.{has_no_merge}
 use Rattle.pk_core.specs.Parts.{Parts, index_of, sight_of}
@@ -48,10 +45,6 @@ pub record Ticks (old new : BoardState) (before after : Sight) (answer : Ticked)
   pub stop : stopped_by answer ≡ true → Rose old.stop_faults new.stop_faults
   pub no_stop : stopped_by answer ≡ false → new.stop_faults ≡ old.stop_faults
   pub installs : roots new ≤ roots old + 1
-
--- as many blocks have values as may have, and the open one does not take every value
-abbrev pub is_reclaim_due : Parts → Bool
-is_reclaim_due d = (used_by Values d.pool.states == data_blocks d.log.shape - 1) && not (fits_open d.log.shape d.space (most_pages d.log.shape))
 
 -- No merge and no freeze runs, nothing is frozen, and every free block was erased in this session: nothing is left but a reclaim, where one is due.
 pub record HasNoStep (d : Parts) : Type 0 where

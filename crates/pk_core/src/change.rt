@@ -1,12 +1,13 @@
 //! Changes of the map: a key gets a value, or loses its own.
-ghost use Rattle.std.specs.Prelude.{◌≡◌, length, false, OnOk};
+ghost use Rattle.std.specs.Prelude.{◌≡◌, ◌<◌, ◌+◌, length, false, OnOk};
 ghost use Rattle.pk_base.specs.Shape as spec;
-ghost use Rattle.pk_model.specs.Wear.{is_worn};
+ghost use Rattle.pk_model.specs.Wear.{roots};
 ghost use Rattle.pk_log.specs.State.{needs_freeze as needs_freeze_for};
 ghost use Rattle.pk_work.specs.Calls.{room_calls};
 ghost use Rattle.pk_core.specs.Changes.{CanPut, CanTake, StepPuts, StepTakes, PutsOrReads, TakesOrReads, StaysBetween};
 ghost use Rattle.pk_core.specs.Emptying.{OnRunning};
 ghost use Rattle.pk_core.specs.Parts.{sight_of};
+ghost use Rattle.pk_core.specs.Spacing.{needs};
 ghost use Rattle.pk_core.specs.Staying.{Stays, StaysOrOpens, IsNoted};
 ghost use Rattle.pk_drive.specs.Moving.{commits_for};
 ghost use Rattle.pk_core.specs.Programming.{Programs, FillsQuietly, PutsQuietly, TakesQuietly, ReadsQuietly};
@@ -27,6 +28,7 @@ impl<A: Region> Drive<A> {
     ) -> Result<(), Fault>
         requires can { CanPut self.old (B.state board.old) key value.now old }
         requires no_freeze { needs_freeze_for self.old.log key ≡ false }
+        requires room { needs (spec.charge self.old.log.shape (length value.now)) self.old ≡ false }
 
         // The map, and then the drive beside it.
         ensures step { StepPuts self.old self.new 0 (B.state board.old) (B.state board.new)
@@ -61,7 +63,9 @@ impl<A: Region> Drive<A> {
         old: Option<Place>,
     ) -> Result<(), Fault>
         requires can { CanPut self.old (B.state board.old) key value.now old }
-        requires unworn { is_worn (B.state board.old) ≡ false }
+        requires room { needs (spec.charge self.old.log.shape (length value.now)) self.old ≡ false }
+        requires number { roots (B.state board.old) + room_calls self.old.log.shape
+            < 18446744073709551615 }
 
         // The map, and then the drive beside it.
         ensures step { PutsOrReads self.old self.new (room_calls self.old.log.shape)
@@ -107,7 +111,8 @@ impl<A: Region> Drive<A> {
         old: Place,
     ) -> Result<(), Fault>
         requires can { CanTake self.old (B.state board.old) key old }
-        requires unworn { is_worn (B.state board.old) ≡ false }
+        requires number { roots (B.state board.old) + room_calls self.old.log.shape
+            < 18446744073709551615 }
 
         // The map, and then the drive beside it.
         ensures step { TakesOrReads self.old self.new (room_calls self.old.log.shape)

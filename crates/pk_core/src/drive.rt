@@ -4,6 +4,7 @@ ghost use Rattle.pk_core.specs.Parts as spec;
 
 use pk_base::Shape;
 use pk_data::Data;
+use pk_gc::ReclaimJob;
 use pk_level::Levels;
 use pk_log::Log;
 use pk_pin::PinArena;
@@ -21,6 +22,7 @@ pub struct Drive<A: Region> {
     pub(crate) arena: PinArena<A>,
     pub(crate) schedule: Schedule<A>,
     pub(crate) space: Data<A>,
+    pub(crate) reclaim: ReclaimJob<A>,
     pub(crate) pool: Pool<A>,
     pub(crate) keys: u32,
     pub(crate) stopped: bool,
@@ -42,6 +44,7 @@ impl<A: Region> Model for Drive<A> {
       arena = d.arena;
       schedule = d.schedule;
       space = d.space;
+      reclaim = d.reclaim;
       pool = d.pool;
       keys = d.keys;
       stopped = d.stopped;

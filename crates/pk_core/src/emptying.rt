@@ -1,7 +1,7 @@
 //! Merges to the end and a whole freeze, inside a command that needs the room.
 ghost use Rattle.std.specs.Prelude.{◌≡◌, ◌≤◌, ◌<◌, ◌+◌, [], false, true, Ok, IfOk, OnOk, MatchBool};
 ghost use Rattle.pk_base.specs.Key.{Key as KeySpec};
-ghost use Rattle.pk_model.specs.Wear.{roots, is_worn};
+ghost use Rattle.pk_model.specs.Wear.{roots};
 ghost use Rattle.pk_log.specs.State.{needs_freeze as needs_freeze_for};
 ghost use Rattle.pk_work.specs.Rest.{whole_freeze};
 ghost use Rattle.pk_work.specs.Calls.{room_calls};
@@ -9,6 +9,7 @@ ghost use Rattle.pk_schedule.specs.Steps.{has_no_merge};
 ghost use Rattle.pk_core.specs.Parts.{index_of};
 ghost use Rattle.pk_core.specs.Moves.{MayStep, StepKeeps, LeavesValues};
 ghost use Rattle.pk_core.specs.Emptying.{MayEmpty, MergesOnce, FreezesOnce, KeepsOrReads, OnRunning, merges_left};
+ghost use Rattle.pk_core.specs.Reclaiming.{is_tight_for};
 ghost use Rattle.pk_core.specs.Staying.{Stays};
 
 use crate::drive::Drive;
@@ -88,6 +89,7 @@ impl<A: Region> Drive<A> {
         ensures step { StepKeeps self.old self.new whole_freeze (B.state board.old)
             (B.state board.new) result }
         ensures room { OnOk result ((key : KeySpec) → needs_freeze_for self.new.log key ≡ false) }
+        ensures wide { OnOk result (is_tight_for self.new ≡ false) }
 
         // What else stays.
         ensures none { OnOk result (self.new.log.pending ≡ []) }
@@ -108,12 +110,14 @@ impl<A: Region> Drive<A> {
     pub(crate) fn empty_active<B: Nand>(&mut self, board: &mut B) -> Result<(), Fault>
         requires may { MayStep self.old (B.state board.old) }
         requires none_pending { self.old.log.pending ≡ [] }
-        requires unworn { is_worn (B.state board.old) ≡ false }
+        requires number { roots (B.state board.old) + room_calls self.old.log.shape
+            < 18446744073709551615 }
 
-        // The map, and any key has room.
+        // The map, and any key has room, and so have the moves of a reclaim.
         ensures step { KeepsOrReads self.old self.new (room_calls self.old.log.shape)
             (B.state board.old) (B.state board.new) result }
         ensures room { OnOk result ((key : KeySpec) → needs_freeze_for self.new.log key ≡ false) }
+        ensures wide { OnOk result (is_tight_for self.new ≡ false) }
 
         // What else stays.
         ensures none { OnRunning (self.new.log.pending ≡ []) result }

@@ -4,7 +4,6 @@ ghost use Rattle.pk_base.specs.Shape.{greatest};
 ghost use Rattle.pk_nvme.specs.Seen.{command_of};
 ghost use Rattle.pk_model.specs.Answer.{early};
 ghost use Rattle.pk_model.specs.Wear.{is_worn};
-ghost use Rattle.pk_core.specs.Parts as spec;
 ghost use Rattle.pk_core.specs.Parts.{sight_of};
 ghost use Rattle.pk_core.specs.Agreeing.{DriveOnFlashBetween};
 ghost use Rattle.pk_core.specs.Serving.{IsServable};
@@ -18,7 +17,6 @@ use pk_model::early::early_fault;
 use pk_nand::{Nand, NandFault};
 use pk_nvme::Request;
 use pk_nvme::opcode::{DELETE, EXIST, FLUSH, LIST, REPORT, RETRIEVE, STORE, TICK};
-use pk_plan::Owner;
 use pk_region::Region;
 
 impl<A: Region> Drive<A> {
@@ -73,8 +71,6 @@ impl<A: Region> Engine for Drive<A> {
 
     ghost agrees = { λ d told flash. DriveOnFlashBetween d told flash };
 
-    ghost built = { λ d request. spec.is_built d request };
-
     fn exec<B: Nand>(
         &mut self,
         board: &mut B,
@@ -118,13 +114,6 @@ impl<A: Region> Engine for Drive<A> {
         answer
     }
 
-    fn is_built(&self, request: &Request) -> bool {
-        match early_fault(&self.shape(), request) {
-            Some(_) => true,
-            None => self.is_built_for(request.opcode, request.size),
-        }
-    }
-
     fn pending(&self) -> u32 {
         self.log.pending()
     }
@@ -153,7 +142,7 @@ impl<A: Region> Engine for Drive<A> {
             run3: self.levels.entries(3),
             run4: self.levels.entries(4),
             epoch: self.log.epoch_used(),
-            blocks: self.pool.used(Owner::Values),
+            blocks: self.used_blocks(),
             ready: self.pool.ready(),
             merge: self.schedule.merging() as u32,
         }

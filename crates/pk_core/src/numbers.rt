@@ -1,8 +1,8 @@
-//! The bytes of a Report, and what of a drive is built.
+//! The numbers of a Report, and its bytes.
 ghost use Rattle.std.specs.Prelude.{◌≡◌, ◌≤◌, length, take, false};
-ghost use Rattle.pk_base.specs.Shape as shape_spec;
 ghost use Rattle.pk_drive.specs.Exec.{report_of};
 ghost use Rattle.pk_drive.specs.Seen.{counts_of};
+ghost use Rattle.pk_gc.specs.Standing.{held_blocks};
 ghost use Rattle.pk_core.specs.Parts as spec;
 ghost use Rattle.pk_core.specs.Quiet.{DoneWithout};
 ghost use Rattle.pk_nvme.specs.declared.status.TheConstants.{SUCCESSFUL_COMPLETION};
@@ -12,7 +12,8 @@ use crate::drive::Drive;
 use crate::quiet::served;
 use pk_base::put_u32;
 use pk_drive::{Counts, Engine, Outcome};
-use pk_nvme::opcode::STORE;
+use pk_gc::Phase;
+use pk_plan::Owner;
 use pk_region::Region;
 
 /// Writes the sixteen numbers in their order.
@@ -44,7 +45,27 @@ fn put_counts(counts: &Counts, into: &mut [u8])
     }
 }
 
+/// How many blocks a reclaim holds for values.
+fn held_count(phase: Phase) -> u32
+    ensures { result ≡ length (held_blocks phase) }
+{
+    match phase {
+        Phase::Idle => 0,
+        Phase::Copies(_) => 1,
+        Phase::GivesBack(_) => 1,
+    }
+}
+
 impl<A: Region> Drive<A> {
+    /// How many data blocks are in use, but for the one that a reclaim holds.
+    pub(crate) fn used_blocks(&self) -> u32
+        ensures { result ≡ (spec.counts_of self.now).blocks }
+    {
+        self.pool
+            .used(Owner::Values)
+            .saturating_sub(held_count(self.reclaim.phase()))
+    }
+
     /// Writes the numbers of a Report.
     pub(crate) fn report(&self, into: &mut [u8]) -> Outcome
         requires room { 64 ≤ length into.old }
@@ -56,17 +77,5 @@ impl<A: Region> Drive<A> {
     {
         put_counts(&self.counts(), into);
         served(0, 64, 0)
-    }
-
-    /// What is built of a command that passed the checks that read it alone.
-    pub(crate) fn is_built_for(&self, opcode: u8, size: u32) -> bool
-        requires { opcode ≡ STORE → size ≤ shape_spec.greatest self.now.log.shape }
-        ensures { result ≡ spec.is_built_for self.now opcode size }
-    {
-        let shape = self.shape();
-        !(opcode == STORE
-            && self
-                .space
-                .needs_reclaim(&shape, &self.pool, shape.charge(size)))
     }
 }

@@ -20,6 +20,7 @@ ghost use Rattle.pk_model.specs.Tree.{Tree, IsTree};
 use crate::drive::Drive;
 use pk_base::Shape;
 use pk_data::Data;
+use pk_gc::ReclaimJob;
 use pk_log::Log;
 use pk_nand::Nand;
 use pk_plan::Plan;
@@ -49,12 +50,14 @@ impl<A: Region> Drive<A> {
         let page = Vec::from_elem(alloc, 0u8, shape.page_bytes() as usize)?;
         let walk = Walk::new(alloc, shape)?;
         let schedule = Schedule::new(alloc, Plan::of(shape), found.arena.frames())?;
+        let reclaim = ReclaimJob::new(alloc, shape)?;
         Ok(Drive {
             log,
             levels: found.levels,
             arena: found.arena,
             schedule,
             space: Data::new(found.live),
+            reclaim,
             pool: found.pool,
             keys: found.keys,
             stopped: false,

@@ -1,7 +1,7 @@
 //! Room for one more entry: merges and a freeze where the buffer or the journal is full, and a commit where the journal page is.
-ghost use Rattle.std.specs.Prelude.{◌≡◌, ◌≤◌, ◌<◌, length, false, OnOk};
+ghost use Rattle.std.specs.Prelude.{◌≡◌, ◌≤◌, ◌<◌, ◌+◌, length, false, OnOk};
 ghost use Rattle.pk_base.specs.Shape.{page_entries};
-ghost use Rattle.pk_model.specs.Wear.{is_worn};
+ghost use Rattle.pk_model.specs.Wear.{roots};
 ghost use Rattle.pk_log.specs.State.{needs_freeze as needs_freeze_for};
 ghost use Rattle.pk_work.specs.Calls.{room_calls};
 ghost use Rattle.pk_core.specs.Moves.{MayStep, StepKeeps, OnlyCommits, LeavesValues};
@@ -19,7 +19,8 @@ impl<A: Region> Drive<A> {
     /// frozen buffer, and the active one is frozen. `Reading` where a read of a merge fails: the map is as it was.
     pub(crate) fn make_room<B: Nand>(&mut self, board: &mut B, key: &Key) -> Result<(), Fault>
         requires may { MayStep self.old (B.state board.old) }
-        requires unworn { is_worn (B.state board.old) ≡ false }
+        requires number { roots (B.state board.old) + room_calls self.old.log.shape
+            < 18446744073709551615 }
 
         // The map, and the key has room.
         ensures step { KeepsOrReads self.old self.new (room_calls self.old.log.shape)

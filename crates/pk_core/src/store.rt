@@ -11,7 +11,7 @@ ghost use Rattle.pk_core.specs.Quiet.{Looks};
 ghost use Rattle.pk_core.specs.Serving.{IsServable, IsReadSince, IsCounted, outcome_for, stopped_by, pages_at as pages_at_by};
 ghost use Rattle.pk_nvme.specs.declared.opcode.TheConstants.{STORE, DELETE};
 ghost use Rattle.pk_core.specs.Staying.{Stays, StaysOrOpens, IsNoted};
-ghost use Rattle.pk_core.specs.Programming.{PutsQuietly, TakesQuietly, ReadsQuietly, QuietStore, QuietDelete};
+ghost use Rattle.pk_core.specs.Programming.{PutsQuietly, TakesQuietly, ReadsQuietly, ReadsNone, QuietStore, QuietDelete};
 ghost use Rattle.pk_nvme.specs.declared.status.TheConstants.{SUCCESSFUL_COMPLETION};
 
 use crate::drive::Drive;
@@ -135,14 +135,15 @@ impl<A: Region> Drive<A> {
         ensures programs { result.status ≡ SUCCESSFUL_COMPLETION → PutsQuietly self.old key
             (spec.charge self.old.log.shape request.now.size) (B.state board.old)
             (B.state board.new) }
-        ensures quiet { result.status ≡ SUCCESSFUL_COMPLETION
-            → ReadsQuietly self.old key (B.state board.old) (B.state board.new) }
+        ensures quiet { result.status ≡ SUCCESSFUL_COMPLETION → ReadsNone self.old key
+            (spec.charge self.old.log.shape request.now.size) (B.state board.old)
+            (B.state board.new) }
     {
         known(&key);
         match self.fault_of_store(request, &old) {
             Some(status) => refusal(status, reads_since(board, before)),
             None => {
-                let answer = self.put(board, key, value, old);
+                let answer = self.put_with_space(board, key, value, old);
                 self.changed(answer, reads_since(board, before))
             }
         }

@@ -7,16 +7,15 @@ ghost use Rattle.pk_drive.specs.Tick.{TellsIdle, LowersWork};
 ghost use Rattle.pk_drive.specs.Seen.{stopped_by};
 ghost use Rattle.pk_compact.specs.FreezeSteps.{taken_by};
 ghost use Rattle.pk_schedule.specs.Steps.{has_no_merge};
+ghost use Rattle.pk_core.specs.Parts as spec;
 ghost use Rattle.pk_core.specs.Parts.{index_of, sight_of};
 ghost use Rattle.pk_core.specs.Agreeing.{DriveOnFlash};
-ghost use Rattle.pk_core.specs.Ticking as spec;
 ghost use Rattle.pk_core.specs.Ticking.{MayTick, Ticks, Advances};
 ghost use Rattle.pk_core.specs.Staying.{Stays};
 
 use crate::drive::Drive;
 use pk_drive::Ticked;
 use pk_nand::{Fault, Nand};
-use pk_plan::Owner;
 use pk_region::Region;
 use pk_schedule::Stepped;
 
@@ -130,12 +129,12 @@ impl<A: Region> Drive<A> {
         }
     }
 
-    // As many blocks have values as may have, and the open one does not take every value.
+    // As many blocks are in use as may be, beside that which a reclaim holds, and the open one does not take every value.
     fn is_reclaim_due(&self) -> bool
         ensures { result ≡ spec.is_reclaim_due self.now }
     {
         let shape = self.shape();
-        self.pool.used(Owner::Values) == shape.data_blocks() - 1
+        self.used_blocks() == shape.data_blocks() - 1
             && !self.space.fits_open(&shape, shape.most_pages())
     }
 
@@ -161,7 +160,9 @@ impl<A: Region> Drive<A> {
         match self.advance(board) {
             Ticked::Worked => Ticked::Worked,
             Ticked::Idle => {
-                if self.is_reclaim_due() {
+                if self.reclaim.runs() {
+                    Ticked::Worked
+                } else if self.is_reclaim_due() {
                     Ticked::Worked
                 } else {
                     Ticked::Idle

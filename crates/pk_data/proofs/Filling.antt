@@ -25,7 +25,7 @@ use Rattle.pk_model.proofs.ValueSets.{is_true}
 use Rattle.pk_steps.specs.Under.{IsValuePage}
 use Rattle.pk_data.specs.declared.open_block.OpenBlock.{OpenBlock}
 use Rattle.pk_data.specs.State.{DataState, has_left, page_behind, fits_open, next_page, closed_with, opened, more_used, with_written, needs_reclaim}
-use Rattle.pk_data.specs.Placed.{ValuesOnFlash, AreOutputs, IsOpenIn, IsNotOpen, IsOutput, IsWritten, HoldsValues}
+use Rattle.pk_data.specs.Placed.{ValuesOnFlash, AreOutputs, IsOpenIn, IsNotOpen, IsOutput, HoldsValues}
 use Rattle.pk_data.specs.Reserving.{IsReserved, WritesNext, IsFreeOf}
 use Rattle.pk_data.specs.Entries.{IsInOpen}
 use Rattle.pk_data.specs.Laws.{SameValues}
@@ -72,43 +72,23 @@ found_next false next page answer e is = cc
 
 -- ---- another block
 
--- the open block, if there is one, has a written page
-abbrev IsBegun : Option OpenBlock → Type 0
-IsBegun None = Unit {0}
-IsBegun (Some o) = 1 ≤ o.used
-
--- for it had no room for so many pages, which fit into a block
-has_begun : (shape : Shape) (open_block : Option OpenBlock) (count : ℕ) → count ≤ most_pages shape → has_left shape open_block count ≡ false → IsBegun open_block
-has_begun shape None count most no_room = tt
-has_begun shape (Some o) count most no_room = elim (cases_lt o.used 1) [
-  | inl none ↦ (
-      let fits : nat_le (o.used + count) shape.block_pages ≡ true = is_true (nat_le (o.used + count) shape.block_pages) (le→leb (o.used + count) shape.block_pages (omega (arith, none, most))) in
-      let clash : true ≡ false = sym fits ∙ no_room in cc)
-  | inr some ↦ omega (arith, some)
-]
-
 module _ (shape : Shape) (pool : Blocks) (outputs : List ℕ) (flash flash' : Flash) (b : ℕ) (spare : IsSpare pool b) where
   abbrev then_pool : Blocks
   then_pool = with_state pool b (Owned for_values)
 
-  another : (c : ℕ) → HoldsValues pool c → c ≢ b
+  pub another : (c : ℕ) → HoldsValues pool c → c ≢ b
   another c held e =
       let h : slice_get pool.states b ≡ Some (Owned for_values) = subst (λ k. HoldsValues pool k) e held in
       elim spare [ inl free ↦ cc | inr ready ↦ cc ]
 
-  kept : (c : ℕ) → HoldsValues pool c → HoldsValues then_pool c
+  pub kept : (c : ℕ) → HoldsValues pool c → HoldsValues then_pool c
   kept c held = get-set_other pool.states b c (Owned for_values) (another c held) ∙ held
 
-  was : (c : ℕ) → c ≢ b → HoldsValues then_pool c → HoldsValues pool c
+  pub was : (c : ℕ) → c ≢ b → HoldsValues then_pool c → HoldsValues pool c
   was c ne held = sym (get-set_other pool.states b c (Owned for_values) ne) ∙ held
 
-  taken : HoldsValues then_pool b
+  pub taken : HoldsValues then_pool b
   taken = elim spare [ inl free ↦ set_is pool.states b Free (Owned for_values) free | inr ready ↦ set_is pool.states b Ready (Owned for_values) ready ]
-
-  -- a page of a block for values that was written is so still
-  still_written : SameValues shape pool outputs flash flash' → (c : ℕ) → HoldsValues pool c → (IsOutput outputs c → ⊥) → IsWritten shape flash c → IsWritten shape flash' c
-  still_written same c held other page =
-      (page.0, page.1, λ e. page.2 (sym (same page.0 (subst (λ k. HoldsValues pool k) (sym page.1) held) (subst (λ k. IsOutput outputs k → ⊥) (sym page.1) other)) ∙ e))
 
   closed_owned : (closed : List Bool) (open_block : Option OpenBlock) → ((c : ℕ) → slice_get closed c ≡ Some true → HoldsValues pool c × IsNotOpen open_block c × (IsOutput outputs c → ⊥))
       → MatchOption open_block (Unit {0}) (λ o. IsOpenIn shape pool flash o) → ((c : ℕ) → IsOutput outputs c → IsNotOpen open_block c)
@@ -127,19 +107,6 @@ module _ (shape : Shape) (pool : Blocks) (outputs : List ℕ) (flash flash' : Fl
     | inl e ↦ (let there = slice_get-get_or closed o.block false (omega (arith, size, open_is.exists)) in
         ap (λ k. slice_get (set closed o.block true) k) e ∙ set_is closed o.block _ true there)
     | inr other ↦ get-set_other closed o.block c true other ∙ old c (was c ne held) other no_output
-  ]
-
-  -- every other block has a written page, also the one that was open
-  filled : (open_block : Option OpenBlock) → IsBegun open_block → SameValues shape pool outputs flash flash'
-      → ((c : ℕ) → HoldsValues pool c → IsNotOpen open_block c → (IsOutput outputs c → ⊥) → IsWritten shape flash c) → MatchOption open_block (Unit {0}) (λ o. IsOpenIn shape pool flash o)
-      → (c : ℕ) → HoldsValues then_pool c → c ≢ b → (IsOutput outputs c → ⊥) → IsWritten shape flash' c
-  filled None begun same old open_is c held ne no_output = still_written same c (was c ne held) no_output (old c (was c ne held) tt no_output)
-  filled (Some o) begun same old open_is c held ne no_output = elim (cases_eq c o.block) [
-    | inl e ↦ (
-        let page : ℕ = o.block * shape.block_pages in
-        let in_block : page / shape.block_pages ≡ o.block = block_of shape.block_pages page o.block (omega arith) (omega (arith, begun, open_is.within)) in
-        still_written same c (was c ne held) no_output (page, in_block ∙ sym e, open_is.written page (omega arith) (omega (arith, begun))))
-    | inr other ↦ still_written same c (was c ne held) no_output (old c (was c ne held) other no_output)
   ]
 
   closed_size : (closed : List Bool) (open_block : Option OpenBlock) → length (closed_with open_block closed) ≡ length closed
@@ -167,10 +134,10 @@ module _ (shape : Shape) (pool : Blocks) (outputs : List ℕ) (flash flash' : Fl
     unread = are.unread;
   }
 
-  pub ValuesOnFlash-opened : (d : DataState) (es : List (Key × Place)) → ValuesOnFlash shape d pool outputs flash es → IsBegun d.open_block → 2 ≤ b → b < shape.blocks
+  pub ValuesOnFlash-opened : (d : DataState) (es : List (Key × Place)) → ValuesOnFlash shape d pool outputs flash es → 2 ≤ b → b < shape.blocks
       → used_by for_values then_pool.states ≤ data_blocks shape - 1 + length outputs → PoolOnFlash then_pool flash' → IsErasedBlock shape flash' b → SameButBlock shape b flash flash'
       → ValuesOnFlash shape (opened d b) then_pool outputs flash' es
-  ValuesOnFlash-opened d es p begun low exists few fits is_erased same =
+  ValuesOnFlash-opened d es p low exists few fits is_erased same =
       let pages = same_values p.is_shape same in
       record {
         is_shape = p.is_shape;
@@ -188,7 +155,6 @@ module _ (shape : Shape) (pool : Blocks) (outputs : List ℕ) (flash flash' : Fl
         closed_owned = closed_owned d.live.closed d.open_block p.closed_owned p.open_is p.outputs_are.not_open;
         owned_closed = owned_closed d.live.closed d.open_block p.closed_size p.owned_closed p.open_is;
         behind_roots = λ c held. elim (cases_eq c b) [ inl e ↦ subst (λ k. 2 ≤ k) (sym e) low | inr ne ↦ p.behind_roots c (was c ne held) ];
-        filled = filled d.open_block begun pages p.filled p.open_is;
         open_is = record {
           owned = taken;
           behind_roots = low;
@@ -222,7 +188,6 @@ wrote shape live (Some o) pool outputs old new es count p room w = record {
   closed_owned = p.closed_owned;
   owned_closed = p.owned_closed;
   behind_roots = p.behind_roots;
-  filled = λ b held other no_output. let page = p.filled b held other no_output in (page.0, page.1, λ e. page.2 (sym (outside_page page.0 (λ here. other (sym page.1 ∙ here))) ∙ e));
   open_is = record {
     owned = open_is.owned;
     behind_roots = open_is.behind_roots;
@@ -253,16 +218,6 @@ wrote shape live (Some o) pool outputs old new es count p room w = record {
 
     high_end : o.block * shape.block_pages + o.used + count ≤ o.block * pool.shape.block_pages + pool.shape.block_pages
     high_end = subst (λ (s : Shape). o.block * shape.block_pages + o.used + count ≤ o.block * s.block_pages + s.block_pages) (sym p.shape_is) (omega (arith, left))
-
-    -- pages of other blocks are not among them
-    outside_page : (k : ℕ) → k / shape.block_pages ≢ o.block → page_at new k ≡ page_at old k
-    outside_page k other = elim (cases_lt k (o.block * shape.block_pages + o.used)) [
-      | inl below ↦ w.outside.below k below
-      | inr not_below ↦ elim (cases_lt k ((o.block * shape.block_pages + o.used) + count)) [
-        | inl within ↦ absurd (other (block_of shape.block_pages k o.block (omega (arith, not_below)) (omega (arith, within, left))))
-        | inr above ↦ w.outside.above k (omega (arith, above))
-      ]
-    ]
 
     -- the pages of values are not among them
     value_page : (k : ℕ) → IsValuePage shape es k → page_at new k ≡ page_at old k
@@ -320,19 +275,19 @@ module _ (shape : Shape) (d : DataState) (p q : Blocks) (outputs : List ℕ) (ol
   in_shape : (P : Shape → Type 0) → P p.shape → P shape
   in_shape P is = subst P placed.shape_is is
 
-  pub opened_by : (count : ℕ) → needs_reclaim shape d p count ≡ false → fits_open shape d count ≡ false → count ≤ most_pages shape → ValuesOnFlash shape (opened d b) q outputs new.pages es
-  opened_by count room no_room most =
+  pub opened_by : (count : ℕ) → needs_reclaim shape d p count ≡ false → fits_open shape d count ≡ false → ValuesOnFlash shape (opened d b) q outputs new.pages es
+  opened_by count room no_room =
       let one_less : used_by for_values p.states < data_blocks shape - 1 =
       below (data_blocks shape - 1) (used_by for_values p.states) (few_more (fits_open shape d count) (nat_le (data_blocks shape - 1) (used_by for_values p.states)) room no_room) in
       let counted' : used_by for_values (with_state p b (Owned for_values)).states ≡ used_by for_values p.states + 1 = subst (λ (r : Blocks). used_by for_values r.states ≡ used_by for_values p.states + 1) taken_is counted in
       subst (λ (r : Blocks). ValuesOnFlash shape (opened d b) r outputs new.pages es) (sym taken_is)
-      (ValuesOnFlash-opened shape p outputs old.pages new.pages b spare d es placed (has_begun shape d.open_block count most no_room) place.0 (in_shape (λ s. b < s.blocks) place.1) (omega (arith, one_less, counted'))
+      (ValuesOnFlash-opened shape p outputs old.pages new.pages b spare d es placed place.0 (in_shape (λ s. b < s.blocks) place.1) (omega (arith, one_less, counted'))
       (subst (λ (r : Blocks). PoolOnFlash r new.pages) taken_is fits) (in_shape (λ s. IsErasedBlock s new.pages b) is_erased) (in_shape (λ s. SameButBlock s b old.pages new.pages) (reached_in p.shape b old new cuts)))
 
   pub opened_reserved : (count : ℕ) → needs_reclaim shape d p count ≡ false → fits_open shape d count ≡ false → 1 ≤ count → count ≤ most_pages shape
       → IsReserved shape (opened d b) q new.pages (b * shape.block_pages) count
   opened_reserved count room no_room some most =
-      reserved_next shape (opened d b) q outputs new.pages es (b * shape.block_pages) count (opened_by count room no_room most) some
+      reserved_next shape (opened d b) q outputs new.pages es (b * shape.block_pages) count (opened_by count room no_room) some
       (true_is (0 + count) shape.block_pages (omega (arith, most))) (omega arith)
     where
       true_is : (a n : ℕ) → a ≤ n → nat_le a n ≡ true
@@ -340,7 +295,7 @@ module _ (shape : Shape) (d : DataState) (p q : Blocks) (outputs : List ℕ) (ol
 
   pub opened_free : (count : ℕ) → needs_reclaim shape d p count ≡ false → fits_open shape d count ≡ false → 1 ≤ count → count ≤ most_pages shape → IsFreeOf shape es (b * shape.block_pages) count
   opened_free count room no_room some most k low high is =
-      (opened_by count room no_room most).written k is ((opened_reserved count room no_room some most).free k low high)
+      (opened_by count room no_room).written k is ((opened_reserved count room no_room some most).free k low high)
 
 -- an erase that failed leaves the values placed
 pub failed_keeps : (shape : Shape) (d : DataState) (p : Blocks) (outputs : List ℕ) (old new : BoardState) (es : List (Key × Place)) → ValuesOnFlash shape d p outputs old.pages es → FailsToErase p old new → PoolOnFlash p new.pages

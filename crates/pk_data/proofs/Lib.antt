@@ -7,3 +7,7 @@ pub mod Releasing
 pub mod Nothing
 pub mod Storing
 pub mod Outputs
+pub mod Holding
+pub mod Heads
+pub mod Relocating
+pub mod Ends

@@ -23,7 +23,7 @@ use Rattle.pk_steps.proofs.Places.{value_in, in_value}
 use Rattle.pk_live.specs.Lives.{is_used}
 use Rattle.pk_live.proofs.Blocks.{value_exists, block_exists}
 use Rattle.pk_data.specs.State.{with_none_open}
-use Rattle.pk_data.specs.Placed.{ValuesOnFlash, FoundAtOpening, HoldsValues, IsWritten}
+use Rattle.pk_data.specs.Placed.{ValuesOnFlash, FoundAtOpening, HoldsValues}
 use Rattle.pk_data.proofs.Lists.{apart_from}
 use Rattle.pk_data.proofs.Unchanged.{some_pages, filter_row}
 
@@ -131,10 +131,6 @@ module _ (shape : Shape) (named : List ℕ) (live : Values) (pool : Blocks) (fla
       let page = page_of b held in
       block_behind shape.block_pages page.0 b (some_pages shape f.is_shape) (page_behind shape es page.0 f.lives.places page.1) page.2
 
-  -- and is written
-  filled : (b : ℕ) → HoldsValues pool b → IsWritten shape flash b
-  filled b held = let page = page_of b held in (page.0, page.2, f.written page.0 page.1)
-
   pub found_placed : ValuesOnFlash shape (with_none_open live) pool [] flash es
   found_placed = record {
     is_shape = f.is_shape;
@@ -154,7 +150,6 @@ module _ (shape : Shape) (named : List ℕ) (live : Values) (pool : Blocks) (fla
     closed_owned = λ b is. (f.closed_owned b is, tt, λ output. output);
     owned_closed = λ b held other no_output. f.owned_closed b held;
     behind_roots = behind_roots;
-    filled = λ b held other no_output. filled b held;
     open_is = tt;
     outputs_are = record { different = refl; owned = λ b is. absurd is; not_open = λ b is. absurd is; unread = λ k is output. output };
   }

@@ -83,7 +83,6 @@ module _ (shape : Shape) (d : DataState) (p : Blocks) (outputs : List ℕ) (flas
         (kept c other old.0, old.1, old.2);
     owned_closed = λ c is not_open no_output. let old = was c is in get-set_other d.live.closed b c false old.0 ∙ placed.owned_closed c old.1 not_open no_output;
     behind_roots = λ c is. placed.behind_roots c (was c is).1;
-    filled = λ c is not_open no_output. placed.filled c (was c is).1 not_open no_output;
     open_is = open_stays d.open_block (placed.closed_owned b closed).1 placed.open_is;
     outputs_are = record {
       different = placed.outputs_are.different;

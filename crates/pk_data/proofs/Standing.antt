@@ -26,7 +26,8 @@ use Rattle.pk_data.specs.declared.span.Span.{Span}
 use Rattle.pk_data.specs.State.{DataState, with_head, with_heads}
 use Rattle.pk_data.specs.Placed.{ValuesOnFlash, IsOpenIn, IsOutput, IsNotOpen, HoldsValues, without}
 use Rattle.pk_data.specs.Entries.{span_if_some, heads_without, Held, Moves}
-use Rattle.pk_data.proofs.Lists.{put_without, nothing_out, find_gone, page_put, page_without, apart_put, apart_without, places_put, places_without, found_place, head_put, head_without, head_none, head_found}
+use Rattle.pk_data.proofs.Lists.{put_without, nothing_out, find_gone, page_put, page_without, found_place, head_none, head_found}
+use Rattle.pk_data.proofs.Heads.{AreLive, live_removed, live_added}
 
 -- pages that were written into a block for values
 pub record InBlock (shape : Shape) (pool : Blocks) (outputs : List ℕ) (flash : Flash) (place : Place) : Type 0 where
@@ -76,6 +77,9 @@ module _ (shape : Shape) (d : DataState) (pool : Blocks) (outputs : List ℕ) (f
   head_free place is free =
       head_at place.page is.exists ∙ ap Some (head_none shape p.is_shape es place.page (free place.page (omega arith, omega (arith, charge_some shape p.is_shape place.len))))
 
+  live : AreLive shape d.live.heads es
+  live = record { places = p.places; apart = p.apart; heads_are = p.heads_are }
+
   -- a key less
   pub ValuesOnFlash-removed : (key : Key) (place : Place) → T (is_sorted key_cmp es) → find key_cmp key es ≡ Some place → ValuesOnFlash shape (with_head d place.page 0) pool outputs flash (without key es)
   ValuesOnFlash-removed key place rising found = record {
@@ -84,18 +88,16 @@ module _ (shape : Shape) (d : DataState) (pool : Blocks) (outputs : List ℕ) (f
     size = p.size;
     fits = p.fits;
     few = p.few;
-    places = places_without shape key es p.places;
-    apart = apart_without shape key es p.apart;
+    places = after.places;
+    apart = after.apart;
     owned = λ k is. p.owned k (page_without shape key es k is);
     written = λ k is. p.written k (page_without shape key es k is);
     block_pages_is = p.block_pages_is;
-    heads_are = ap (λ hs. set hs place.page 0) p.heads_are
-        ∙ map_set (head_of shape es) (head_of shape (without key es)) (page_count shape) place.page 0 0 (found_place shape key place es p.places found).exists here other;
+    heads_are = after.heads_are;
     closed_size = p.closed_size;
     closed_owned = p.closed_owned;
     owned_closed = p.owned_closed;
     behind_roots = p.behind_roots;
-    filled = p.filled;
     open_is = p.open_is;
     outputs_are = record {
       different = p.outputs_are.different;
@@ -105,20 +107,8 @@ module _ (shape : Shape) (d : DataState) (pool : Blocks) (outputs : List ℕ) (f
     };
   }
     where
-      here : head_of shape (without key es) place.page ≡ 0
-      here =
-          let all = head_without shape key place es place.page rising found in
-          let own = head_found shape p.is_shape key place es p.apart found in
-          let is : (place.page == place.page) ≡ true = eq-eqb place.page place.page refl in
-          let all' : head_of shape es place.page ≡ head_of shape (without key es) place.page + charge shape place.len = rw is at all in
-          omega (arith, all', own)
-
-      other : (b : ℕ) → b ≢ place.page → head_of shape (without key es) b ≡ head_of shape es b
-      other b ne =
-          let all = head_without shape key place es b rising found in
-          let is : (place.page == b) ≡ false = ne_eqb place.page b (λ same. ne (sym same)) in
-          let all' : head_of shape es b ≡ head_of shape (without key es) b + 0 = rw is at all in
-          omega (arith, all')
+      after : AreLive shape (set d.live.heads place.page 0) (without key es)
+      after = live_removed shape p.is_shape d.live.heads es live key place rising found
 
   -- a key more
   pub ValuesOnFlash-added : (key : Key) (place : Place) → find key_cmp key es ≡ None → InBlock shape pool outputs flash place → ((k : ℕ) → IsPageOf shape k place → IsValuePage shape es k → ⊥)
@@ -129,18 +119,16 @@ module _ (shape : Shape) (d : DataState) (pool : Blocks) (outputs : List ℕ) (f
     size = p.size;
     fits = p.fits;
     few = p.few;
-    places = places_put shape key place es p.places within.is_place;
-    apart = apart_put shape key place es p.apart free;
+    places = after.places;
+    apart = after.apart;
     owned = λ k is. elim (page_put shape key place es k is) [ inl new ↦ within.owned k new | inr old ↦ p.owned k old ];
     written = λ k is. elim (page_put shape key place es k is) [ inl new ↦ within.written k new | inr old ↦ p.written k old ];
     block_pages_is = p.block_pages_is;
-    heads_are = ap (λ hs. set hs place.page (charge shape place.len)) p.heads_are
-        ∙ map_set (head_of shape es) (head_of shape (put key_cmp key place es)) (page_count shape) place.page (charge shape place.len) 0 within.is_place.exists here other;
+    heads_are = after.heads_are;
     closed_size = p.closed_size;
     closed_owned = p.closed_owned;
     owned_closed = p.owned_closed;
     behind_roots = p.behind_roots;
-    filled = p.filled;
     open_is = p.open_is;
     outputs_are = record {
       different = p.outputs_are.different;
@@ -150,20 +138,8 @@ module _ (shape : Shape) (d : DataState) (pool : Blocks) (outputs : List ℕ) (f
     };
   }
     where
-      here : head_of shape (put key_cmp key place es) place.page ≡ charge shape place.len
-      here =
-          let all = head_put shape key place es place.page none in
-          let before = head_none shape p.is_shape es place.page (free place.page (omega arith, omega (arith, charge_some shape p.is_shape place.len))) in
-          let is : (place.page == place.page) ≡ true = eq-eqb place.page place.page refl in
-          let all' : head_of shape (put key_cmp key place es) place.page ≡ head_of shape es place.page + charge shape place.len = rw is at all in
-          omega (arith, all', before)
-
-      other : (b : ℕ) → b ≢ place.page → head_of shape (put key_cmp key place es) b ≡ head_of shape es b
-      other b ne =
-          let all = head_put shape key place es b none in
-          let is : (place.page == b) ≡ false = ne_eqb place.page b (λ same. ne (sym same)) in
-          let all' : head_of shape (put key_cmp key place es) b ≡ head_of shape es b + 0 = rw is at all in
-          omega (arith, all')
+      after : AreLive shape (set d.live.heads place.page (charge shape place.len)) (put key_cmp key place es)
+      after = live_added shape p.is_shape d.live.heads es live key place none within.is_place free
 
 -- ---- the calls
 

@@ -20,7 +20,7 @@ use Rattle.pk_pool.proofs.Fitting.{block_of}
 use Rattle.pk_model.specs.Laws.{AnyByRecursion}
 use Rattle.pk_data.specs.declared.open_block.OpenBlock.{OpenBlock}
 use Rattle.pk_data.specs.State.{DataState}
-use Rattle.pk_data.specs.Placed.{ValuesOnFlash, IsNotOpen, IsOpenIn, IsOutput, IsWritten, HoldsValues}
+use Rattle.pk_data.specs.Placed.{ValuesOnFlash, IsNotOpen, IsOpenIn, IsOutput, HoldsValues}
 use Rattle.pk_live.proofs.Ranges.{has}
 use Rattle.pk_data.specs.Laws.{SameValues, FlashElsewhere, BlockElsewhere, LieInFew, NoneInSpare, value_blocks, is_for_values}
 use Rattle.pk_data.proofs.Outputs.{freed, length-freed, freed_is, used_freed, no_member}
@@ -30,7 +30,7 @@ pub some_pages : (shape : Shape) → IsShape shape → 0 < shape.block_pages
 some_pages shape is_shape = let least : 8 ≤ shape.block_pages = is_shape.block_least in omega (arith, least)
 
 -- the open block, where the pool has it still and its pages are the same
-open_same : (shape : Shape) (p q : Blocks) (outputs : List ℕ) (old new : Flash) (open_block : Option OpenBlock)
+pub open_same : (shape : Shape) (p q : Blocks) (outputs : List ℕ) (old new : Flash) (open_block : Option OpenBlock)
     → ((b : ℕ) → HoldsValues p b → HoldsValues q b) → SameValues shape p outputs old new → ((b : ℕ) → IsOutput outputs b → IsNotOpen open_block b)
     → MatchOption open_block (Unit {0}) (λ o. IsOpenIn shape p old o) → MatchOption open_block (Unit {0}) (λ o. IsOpenIn shape q new o)
 open_same shape p q outputs old new None kept same not_open open_is = tt
@@ -68,7 +68,6 @@ ValuesOnFlash-kept shape d p q outputs old new es placed shape_is size used kept
   closed_owned = λ b is. let c = placed.closed_owned b is in (kept b c.0, c.1, c.2);
   owned_closed = λ b held other no_output. placed.owned_closed b (was b held) other no_output;
   behind_roots = λ b held. placed.behind_roots b (was b held);
-  filled = λ b held other no_output. still_written b held no_output (placed.filled b (was b held) other no_output);
   open_is = open_same shape p q outputs old new d.open_block kept same placed.outputs_are.not_open placed.open_is;
   outputs_are = record {
     different = placed.outputs_are.different;
@@ -77,10 +76,6 @@ ValuesOnFlash-kept shape d p q outputs old new es placed shape_is size used kept
     unread = placed.outputs_are.unread;
   };
 }
-  where
-    still_written : (b : ℕ) → HoldsValues q b → (IsOutput outputs b → ⊥) → IsWritten shape old b → IsWritten shape new b
-    still_written b held no_output page =
-        (page.0, page.1, λ e. page.2 (sym (same page.0 (subst (λ c. HoldsValues p c) (sym page.1) (was b held)) (subst (λ c. IsOutput outputs c → ⊥) (sym page.1) no_output)) ∙ e))
 
 pub flash_elsewhere : FlashElsewhere
 flash_elsewhere shape d p outputs old new es placed same fits = ValuesOnFlash-kept shape d p p outputs old new es placed refl refl refl (λ b held. held) (λ b held. held) same fits

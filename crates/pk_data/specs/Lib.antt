@@ -3,3 +3,5 @@ pub mod Placed
 pub mod Reserving
 pub mod Entries
 pub mod Laws
+pub mod Reclaiming
+pub mod Reclaims

@@ -31,10 +31,6 @@ IsNotOpen (Some o) b = b ≢ o.block
 abbrev pub IsOutput : List ℕ → ℕ → Type 0
 IsOutput outputs b = AnyByRecursion (λ c. b ≡ c) outputs
 
--- a page of the block is not Erased
-abbrev pub IsWritten : Shape → Flash → ℕ → Type 0
-IsWritten shape flash b = (k : ℕ) × (k / shape.block_pages ≡ b) × (page_at flash k ≢ erased)
-
 -- The open block is one for values. Its first pages are written, and those behind them are Erased.
 pub record IsOpenIn (shape : Shape) (pool : Blocks) (flash : Flash) (o : OpenBlock) : Type 0 where
   pub owned : HoldsValues pool o.block
@@ -58,8 +54,8 @@ pub record AreOutputs (shape : Shape) (open_block : Option OpenBlock) (pool : Bl
   pub unread : (k : ℕ) → IsValuePage shape es k → IsOutput outputs (k / shape.block_pages) → ⊥
 
 -- The values of these keys are live. Their pages are written, and lie in blocks that the pool has for values. These blocks are no root
--- blocks. But for the outputs of a running reclaim, all of them other than the open one are closed and have a written page, and at most
--- one less than all data blocks are in use.
+-- blocks. But for the outputs of a running reclaim, all of them other than the open one are closed, and at most one less than all data
+-- blocks are in use.
 pub record ValuesOnFlash (shape : Shape) (d : DataState) (pool : Blocks) (outputs : List ℕ) (flash : Flash) (es : List (Key × Place)) : Type 0 where
   pub is_shape : IsShape shape
   pub shape_is : pool.shape ≡ shape
@@ -79,8 +75,6 @@ pub record ValuesOnFlash (shape : Shape) (d : DataState) (pool : Blocks) (output
   pub owned_closed : (b : ℕ) → HoldsValues pool b → IsNotOpen d.open_block b → (IsOutput outputs b → ⊥) → IsClosed d.live b
   -- the blocks for values lie behind the root blocks
   pub behind_roots : (b : ℕ) → HoldsValues pool b → 2 ≤ b
-  -- a block that is full has written pages
-  pub filled : (b : ℕ) → HoldsValues pool b → IsNotOpen d.open_block b → (IsOutput outputs b → ⊥) → IsWritten shape flash b
   -- the open block
   pub open_is : MatchOption d.open_block (Unit {0}) (λ o. IsOpenIn shape pool flash o)
   -- the blocks of a running reclaim

@@ -31,8 +31,8 @@ use std::marker::Model;
 /// Where values go: the live values with the blocks that are closed, and the block that takes the next value.
 #[derive(Drop)]
 pub struct Data<A: Allocator> {
-    live: Live<A>,
-    open_block: Option<OpenBlock>,
+    pub(crate) live: Live<A>,
+    pub(crate) open_block: Option<OpenBlock>,
 }
 
 impl<A: Allocator> Model for Data<A> {

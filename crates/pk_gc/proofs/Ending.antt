@@ -46,7 +46,7 @@ index_of : (xs ys : List ℕ) (k : ℕ) → slice_get xs k ≡ slice_get ys k �
 index_of xs ys k same = sym (unwrap_or-slice_get xs k 0) ∙ ap (λ o. unwrap_or o 0) same ∙ unwrap_or-slice_get ys k 0
 
 -- where no move is left, no head changes
-none_changes : (heads : List ℕ) (ms : List Move) → entries_left heads ms ≡ [] → heads_all heads ms ≡ heads
+pub none_changes : (heads : List ℕ) (ms : List Move) → entries_left heads ms ≡ [] → heads_all heads ms ≡ heads
 none_changes heads [] none = refl
 none_changes heads (m ∷ ms) none =
     elim (is_left heads m) as (λ b. is_left heads m ≡ b → entries_of (placed_at (cond b (m ∷ left_of heads ms) (left_of heads ms))) ≡ [] → heads_all (cond b (slice_set (slice_set heads m.from 0) m.to m.count) heads) ms ≡ heads) [
@@ -164,7 +164,7 @@ module _ (n victim output : ℕ) (other : victim ≢ output) where
   GoApart [] = Unit {0}
   GoApart (m ∷ ms) = AllByRecursion (λ x. x.to ≢ m.to) ms × GoApart ms
 
-  left_same : (heads : List ℕ) (m x : Move) → InBlocks n victim output m → InBlocks n victim output x → m.from + m.count ≤ x.from → is_left (heads_behind heads m) x ≡ is_left heads x
+  pub left_same : (heads : List ℕ) (m x : Move) → InBlocks n victim output m → InBlocks n victim output x → m.from + m.count ≤ x.from → is_left (heads_behind heads m) x ≡ is_left heads x
   left_same heads m x of_m of_x order =
       ap (λ k. nat_lt 0 k) (index_of (heads_behind heads m) heads x.from (stays heads m x.from (λ same. let some = of_m.some in omega (arith, order, same, some)) (no_output m x.from of_m of_x.from_low (omega (arith, of_x.from_high, of_x.some)))))
 

@@ -86,7 +86,7 @@ module _ (heads : List ℕ) where
         | false ↦ λ is. all_left P Q f ms all.1
       ] refl
 
-  page_left : (shape : Shape) (ms : List Move) (k : ℕ) → IsValuePage shape (placed_at (left_of heads ms)) k → IsValuePage shape (placed_at ms) k
+  pub page_left : (shape : Shape) (ms : List Move) (k : ℕ) → IsValuePage shape (placed_at (left_of heads ms)) k → IsValuePage shape (placed_at ms) k
   page_left shape [] k is = is
   page_left shape (m ∷ ms) k is =
       elim (is_left heads m) as (λ b. IsValuePage shape (placed_at (cond b (m ∷ left_of heads ms) (left_of heads ms))) k → IsValuePage shape (placed_at (m ∷ ms)) k) [

@@ -149,29 +149,29 @@ module _ (job : JobState) (h : Hands) (old : BoardState) (job' : JobState) (h' :
     ]
     goes_on r (inr at_end) free = tries r at_end free
 
-  begins_by : job.phase ≡ Idle → (r : Reclaimed) → IsFull job.shape h.live h.front h.pool → Begins job h.live h.front h.pool old job' h'.live h'.front h'.pool new r → r ≢ NeedsFreeze → LowersFrom (whole_reclaim job.shape)
+  begins_by : job.phase ≡ Idle → (r : Reclaimed) → IsFull job.shape h.live h.front h.pool → Begins job h.live h.front h.pool old job' h'.live h'.front h'.pool new r → r ≢ NeedsFreeze → LowersFrom (whole_reclaim job.shape - 2)
   begins_by idle Worked full is free =
       let left' : ℕ = steps_left job.shape h'.live.heads (started is.victim is.output) in
       let n : h'.live.block_pages ≡ job.shape.block_pages = chosen_pages job.shape h.live h.front h'.live h'.front is.victim is.chooses ∙ full.block_pages_is in
       let few : block_sum h'.live.heads job.shape.block_pages is.victim ≤ dense job.shape = subst (λ k. block_sum h'.live.heads k is.victim ≤ dense job.shape) n is.chooses.0.sparse in
       let all = live_at_start job.shape h'.live.heads is.victim is.output in
-      let within : left' + 2 ≤ whole_reclaim job.shape = pages_within (live_unseen job.shape h'.live.heads (started is.victim is.output)) (dense job.shape) (omega (arith, few, all)) in
-      let pays = take_pays h.pool is.output for_values (whole_reclaim job.shape) left' is.spare within in
-      lowers_by (whole_reclaim job.shape) (unready h.pool.states) (left_behind job' h') (unready h'.pool.states) left' (unready (with_state h.pool is.output (Owned for_values)).states)
+      let within : left' + 2 ≤ whole_reclaim job.shape - 2 = pages_within (live_unseen job.shape h'.live.heads (started is.victim is.output)) (dense job.shape) (omega (arith, few, all)) in
+      let pays = take_pays h.pool is.output for_values (whole_reclaim job.shape - 2) left' is.spare within in
+      lowers_by (whole_reclaim job.shape - 2) (unready h.pool.states) (left_behind job' h') (unready h'.pool.states) left' (unready (with_state h.pool is.output (Owned for_values)).states)
       (ap (λ (j : JobState). left_behind j h') is.job_is) (ap (λ (p : Blocks). unready p.states) is.taken) pays.none_ready pays.less
     where
-      pages_within : (pages most : ℕ) → pages ≤ most → (0 + pages - 0) + (0 + pages) + 2 * 0 + 2 + 2 ≤ most + most + 2 * 1 + 8
+      pages_within : (pages most : ℕ) → pages ≤ most → (0 + pages - 0) + (0 + pages) + 2 * 0 + 2 + 2 ≤ most + most + 2 * 1 + 8 - 2
       pages_within pages most few = omega (arith, few)
   begins_by idle NeedsFreeze full is free = absurd is
   begins_by idle Ended full is free =
       let held = victim_held job.shape h.live h.front h.pool is.chosen h'.front is.victim full is.chooses in
-      given (whole_reclaim job.shape) is.victim job h' idle is.given is.kept refl (for_values, held) (omega arith)
+      given (whole_reclaim job.shape - 2) is.victim job h' idle is.given is.kept refl (for_values, held) (omega arith)
 
 pub step_lowers : StepLowers
 step_lowers job h old job' h' new r can steps free = by_phase job.phase refl can steps
   where
     by_phase : (p : Phase) → job.phase ≡ p → CanStepIn p job h old.pages → StepsIn p job h old job' h' new r
-        → Lowers (left_of (whole_reclaim job.shape) (left_in job.shape h.live.heads p)) (unready h.pool.states) (left_behind job' h') (unready h'.pool.states)
+        → Lowers (left_of (whole_reclaim job.shape - 2) (left_in job.shape h.live.heads p)) (unready h.pool.states) (left_behind job' h') (unready h'.pool.states)
     by_phase Idle idle full begun = begins_by job h old job' h' new idle r full begun.0 free
     by_phase (Copies c) is on gone = goes_on job h old job' h' new c on r gone free
     by_phase (GivesBack victim) is owned gives = given job h old job' h' new (steps_of (reclaim_rest 0 false 1)) victim (record job { phase = Idle }) _ refl refl gives.job_is gives.hands owned (omega arith)

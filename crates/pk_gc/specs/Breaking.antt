@@ -1,24 +1,42 @@
 -- A step of a reclaim whose call of the board failed.
-use Rattle.std.specs.Prelude.{◌≡◌, ◌⊎◌, ℕ}
+use Rattle.std.specs.Prelude.{◌≡◌, ◌⊎◌, ℕ, ◌+◌, ◌*◌, true, false}
 use Rattle.pk_nand.specs.BoardState.{BoardState}
 use Rattle.pk_nand.specs.Calls.{ReadFailed, ProgramFailed}
 use Rattle.pk_nand.specs.declared.types.Fault.{Fault}
 use Rattle.pk_nand.specs.declared.types.Fault.TheVariants.{Reading, Stopped}
 use Rattle.pk_pool.specs.Taking.{FailsToErase}
-use Rattle.pk_jrn.specs.Epochs.{next_page}
-use Rattle.pk_jrn.specs.Appends.{next_bytes}
+use Rattle.pk_gc.specs.declared.course.Course.{Course}
 use Rattle.pk_gc.specs.declared.course.Phase.{Phase}
 use Rattle.pk_gc.specs.declared.course.Phase.TheVariants.{Idle, Copies, GivesBack}
-use Rattle.pk_gc.specs.State.{JobState, target}
-use Rattle.pk_gc.specs.Committing.{entries_left}
+use Rattle.pk_gc.specs.State.{JobState, source, target}
+use Rattle.pk_gc.specs.Committing.{FailsToAdd, entries_left}
+use Rattle.pk_gc.specs.Victims.{AreDead}
 use Rattle.pk_gc.specs.Stepping.{Hands}
 
--- the erase of the output failed; or a read; or the program of a copied page or of the moves; a block is given back without a call
+-- a page of a value was to be read, and this failed
+pub record FailsToRead (c : Course) (old new : BoardState) (e : Fault) : Type 0 where
+  pub fault : e ≡ Reading
+  pub free : c.held ≡ false
+  pub page : ℕ
+  pub failed : ReadFailed old new page
+
+-- the program of the page that was read failed
+pub record FailsToCopy (c : Course) (job : JobState) (old new : BoardState) (e : Fault) : Type 0 where
+  pub fault : e ≡ Stopped
+  pub held : c.held ≡ true
+  pub failed : ProgramFailed old new (target job.shape c) job.page
+
+-- no value was left to be copied, the moves had room, and the program of their page failed
+pub record FailsToCommit (c : Course) (job : JobState) (h : Hands) (old new : BoardState) (e : Fault) : Type 0 where
+  pub fault : e ≡ Stopped
+  pub whole : c.left ≡ 0
+  pub dead : AreDead h.live.heads (source job.shape c) (c.victim * job.shape.block_pages + job.shape.block_pages)
+  pub adds : FailsToAdd (entries_left h.live.heads job.moves) h.active h.epoch old new
+
+-- the erase of the output failed; or a read, or the program of a copied page or of the moves; a block is given back without a call
 abbrev pub BreaksIn : Phase → JobState → Hands → BoardState → BoardState → Fault → Type 0
 BreaksIn Idle job h old new e = (e ≡ Stopped) × FailsToErase h.pool old new
-BreaksIn (Copies c) job h old new e =
-    ((e ≡ Reading) × ((page : ℕ) × ReadFailed old new page))
-    ⊎ ((e ≡ Stopped) × (ProgramFailed old new (target job.shape c) job.page ⊎ ProgramFailed old new (next_page h.epoch) (next_bytes h.epoch (entries_left h.live.heads job.moves))))
+BreaksIn (Copies c) job h old new e = FailsToRead c old new e ⊎ (FailsToCopy c job old new e ⊎ FailsToCommit c job h old new e)
 BreaksIn (GivesBack victim) job h old new e = ⊥
 
 abbrev pub Breaks : JobState → Hands → BoardState → BoardState → Fault → Type 0

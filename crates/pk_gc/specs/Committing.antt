@@ -2,7 +2,7 @@
 use Rattle.std.specs.Prelude.{◌≡◌, ◌≢◌, ℕ, ◌+◌, ◌<◌, ◌≤◌, List, [], length, count_by}
 use Rattle.pk_base.specs.Entry.{Entry}
 use Rattle.pk_nand.specs.BoardState.{BoardState}
-use Rattle.pk_nand.specs.Calls.{after_program}
+use Rattle.pk_nand.specs.Calls.{after_program, ProgramFailed}
 use Rattle.pk_jrnfmt.specs.Page.{journal_entries}
 use Rattle.pk_buf.specs.Table.{Table}
 use Rattle.pk_jrn.specs.Epochs.{JournalEpoch, left_of as pages_left, next_page, EpochOnFlash}
@@ -46,6 +46,13 @@ pub record Adds (es : List Entry) (active : Table) (e : JournalEpoch) (old : Boa
   pub spells : journal_entries e.shape e.number e.used (next_bytes e es) ≡ Some es
   pub fits : EpochOnFlash e' new.pages
   pub list : AddsAll e es old.pages new.pages
+
+-- There were entries, with room for them, and the program of their page failed.
+pub record FailsToAdd (es : List Entry) (active : Table) (e : JournalEpoch) (old new : BoardState) : Type 0 where
+  pub some : es ≢ []
+  pub room : HasRoom active e es
+  pub spells : journal_entries e.shape e.number e.used (next_bytes e es) ≡ Some es
+  pub failed : ProgramFailed old new (next_page e) (next_bytes e es)
 
 -- what became of these entries, by the answer
 abbrev pub Commits : List Entry → Table → JournalEpoch → BoardState → JournalEpoch → BoardState → Committed → Type 0

@@ -1,5 +1,5 @@
 -- Each step of a reclaim lowers what is left of it: the statements.
-use Rattle.std.specs.Prelude.{◌≡◌, ◌≢◌, ℕ, List, sum, take, drop, unwrap_or}
+use Rattle.std.specs.Prelude.{◌≡◌, ◌≢◌, ℕ, ◌-◌, List, sum, take, drop, unwrap_or}
 use Rattle.pk_work.specs.Rest.{left_of, whole_reclaim, Lowers}
 use Rattle.pk_nand.specs.BoardState.{BoardState}
 use Rattle.pk_pool.specs.Unready.{unready}
@@ -8,9 +8,10 @@ use Rattle.pk_gc.specs.declared.reclaimed.Reclaimed.TheVariants.{NeedsFreeze}
 use Rattle.pk_gc.specs.State.{JobState, live_from, left_in}
 use Rattle.pk_gc.specs.Stepping.{Hands, CanStep, Steps}
 
--- what is left before a step, which is a whole reclaim where one is due, and what is left behind it
+-- What is left before a step, and behind it. Where one is due it is a whole reclaim, but for two steps: so much less than that is left once a
+-- block may be taken.
 abbrev pub left_before : JobState → Hands → ℕ
-left_before job h = left_of (whole_reclaim job.shape) (left_in job.shape h.live.heads job.phase)
+left_before job h = left_of (whole_reclaim job.shape - 2) (left_in job.shape h.live.heads job.phase)
 
 abbrev pub left_behind : JobState → Hands → ℕ
 left_behind job h = unwrap_or (left_in job.shape h.live.heads job.phase) 0

@@ -108,6 +108,7 @@ pub record ReadsNext (c : Course) (job : JobState) (old : BoardState) (job' : Jo
   pub some : 0 < c.left
   pub job_is : job' ≡ record job { phase = Copies (read_next c); page = job'.page }
   pub board : new ≡ after_read old
+  pub runs : (es : List (Key × Place)) → IsRunning job.shape c job.moves job.page old.pages es → IsRunning job.shape (read_next c) job.moves job'.page new.pages es
 
 -- the first page of the next value is read
 pub record BeginsValue (c : Course) (job : JobState) (h : Hands) (old : BoardState) (job' : JobState) (new : BoardState) : Type 0 where
@@ -120,6 +121,8 @@ pub record BeginsValue (c : Course) (job : JobState) (h : Hands) (old : BoardSta
   pub job_is : (es : List (Key × Place)) (key : Key) (place : Place) → IsNextValue job.shape c old.pages es page key place
       → job' ≡ record job { phase = Copies (begun_at c (page - c.victim * job.shape.block_pages) (charge job.shape place.len)); moves = job.moves ++ begun_move job.shape c page key place.len ∷ []; page = job'.page }
   pub board : new ≡ after_read old
+  pub runs : (es : List (Key × Place)) (key : Key) (place : Place) → IsRunning job.shape c job.moves job.page old.pages es → IsNextValue job.shape c old.pages es page key place
+      → IsRunning job.shape (begun_at c (page - c.victim * job.shape.block_pages) (charge job.shape place.len)) (job.moves ++ begun_move job.shape c page key place.len ∷ []) job'.page new.pages es
 
 -- no value is left to be copied, and the end is tried
 pub record Tries (c : Course) (job : JobState) (h : Hands) (old : BoardState) (job' : JobState) (h' : Hands) (new : BoardState) (r : Reclaimed) : Type 0 where

@@ -1,5 +1,5 @@
 //! The job.
-ghost use Rattle.std.specs.Prelude.{◌≡◌, ◌≤◌, ◌<◌, MatchOption, slice_set, ◌+◌, ◌-◌, ◌*◌, ◌++◌, ◌∷◌, length, ℕ, List, [], Some, None, true, false, IfOk, IfErr, OnOk, OnErr};
+ghost use Rattle.std.specs.Prelude.{◌≡◌, ◌⊎◌, ◌≤◌, ◌<◌, MatchOption, slice_set, ◌+◌, ◌-◌, ◌*◌, ◌++◌, ◌∷◌, length, ℕ, List, [], Some, None, true, false, IfOk, IfErr, OnOk, OnErr};
 ghost use Rattle.pk_base.specs.Key.{Key as KeySpec};
 ghost use Rattle.pk_base.specs.Shape as spec;
 ghost use Rattle.pk_base.specs.Entry.{Place};
@@ -15,14 +15,13 @@ ghost use Rattle.pk_base.specs.Page.{Flash};
 ghost use Rattle.pk_live.specs.Values.{IsClosed, count_of};
 ghost use Rattle.pk_pool.specs.Blocks.{IsOwned, with_state};
 ghost use Rattle.pk_pool.specs.declared.state.BlockState.TheVariants.{Free};
-ghost use Rattle.pk_jrn.specs.Epochs.{AreBlocks, next_page, EpochOnFlash};
-ghost use Rattle.pk_jrn.specs.Appends.{next_bytes};
+ghost use Rattle.pk_jrn.specs.Epochs.{AreBlocks, EpochOnFlash};
 ghost use Rattle.pk_gc.specs.declared.course.Course.{Course as CourseSpec};
 ghost use Rattle.pk_gc.specs.declared.course.Phase.TheVariants.{Idle, Copies, GivesBack};
 ghost use Rattle.pk_gc.specs.Victims.{closed_with};
 ghost use Rattle.pk_gc.specs.Stepping.{CanEnd, Finishes, CanStep, Steps, runs_in};
 ghost use Rattle.pk_gc.specs.Breaking.{Breaks};
-ghost use Rattle.pk_gc.specs.Committing.{Commits, entries_left};
+ghost use Rattle.pk_gc.specs.Committing.{Commits, FailsToAdd, entries_left};
 ghost use Rattle.pk_gc.specs.Running.{IsRunning, IsNextValue, begun_move};
 
 use crate::course::{Course, Phase};
@@ -125,6 +124,7 @@ impl<A: Region> ReclaimJob<A> {
         ensures steps { IfOk result (λ r. Steps self.old (record { live = live.old; front = front.old; pool = pool.old; active = active.old; epoch = epoch.old }) (B.state board.old) self.new (record { live = live.new; front = front.new; pool = pool.new; active = active.new; epoch = epoch.new }) (B.state board.new) r) }
         ensures kept { OnErr result (self.new ≡ record self.old { page = self.new.page }) }
         ensures kept_parts { OnErr result ((live.new.heads ≡ live.old.heads) × (pool.new ≡ pool.old) × (active.new ≡ active.old) × (epoch.new ≡ epoch.old)) }
+        ensures kept_values { OnErr result ((front.new ≡ front.old) × (live.new ≡ live.old) ⊎ (self.old.phase ≡ Idle) × (victim : ℕ) × Chooses self.old.shape live.old front.old live.new front.new victim) }
         ensures breaks { IfErr result (λ e. Breaks self.old (record { live = live.old; front = front.old; pool = pool.old; active = active.old; epoch = epoch.old }) (B.state board.old) (B.state board.new) e) }
         ensures shape { self.new.shape ≡ self.old.shape }
         ensures ready { IsReady (B.state board.new) self.old.shape }
@@ -344,7 +344,7 @@ impl<A: Region> ReclaimJob<A> {
         ensures commits { IfOk result (λ r. Commits (entries_left live.now.heads self.old.moves) active.now epoch.old (B.state board.old) epoch.new (B.state board.new) r) }
         ensures kept_epoch { OnErr result (epoch.new ≡ epoch.old) }
         ensures stopped { IfErr result (λ e. e ≡ Stopped) }
-        ensures err { OnErr result (ProgramFailed (B.state board.old) (B.state board.new) (next_page epoch.old) (next_bytes epoch.old (entries_left live.now.heads self.old.moves))) }
+        ensures err { OnErr result (FailsToAdd (entries_left live.now.heads self.old.moves) active.now epoch.old (B.state board.old) (B.state board.new)) }
         ensures ready { IsReady (B.state board.new) self.old.shape }
         ensures buffer { length buf.new ≡ length buf.old }
     {
@@ -415,7 +415,7 @@ impl<A: Region> ReclaimJob<A> {
         ensures kept { OnErr result (self.new ≡ self.old) }
         ensures kept_hands { OnErr result ((live.new ≡ live.old) × (front.new ≡ front.old) × (pool.new ≡ pool.old) × (active.new ≡ active.old) × (epoch.new ≡ epoch.old)) }
         ensures stopped { IfErr result (λ e. e ≡ Stopped) }
-        ensures err { OnErr result (ProgramFailed (B.state board.old) (B.state board.new) (next_page epoch.old) (next_bytes epoch.old (entries_left live.old.heads self.old.moves))) }
+        ensures err { OnErr result (FailsToAdd (entries_left live.old.heads self.old.moves) active.old epoch.old (B.state board.old) (B.state board.new)) }
         ensures ready { IsReady (B.state board.new) self.old.shape }
         ensures buffer { length buf.new ≡ length buf.old }
     {

@@ -174,6 +174,7 @@ module _ (log : LogState) (pool : Blocks) (job : FreezeJob) (old : BoardState) (
       same_log = refl;
       lowers = on.lowers;
       takes = on.takes;
+      some = on.some;
       elsewhere = on.elsewhere;
       cuts = on.cuts;
     }

@@ -49,6 +49,7 @@ pub record LogGoesOn (log : LogState) (pool : Blocks) (job : FreezeJob) (old : B
   pub same_log : log' ≡ record log { next = log'.next }
   pub lowers : Lowers (freeze_left job log.next) (unready pool.states) (freeze_left job' log'.next) (unready pool'.states)
   pub takes : TakesOne pool job pool' job'
+  pub some : 0 < length (taken_by job')
   pub elsewhere : SameBut log.shape (taken_by job') old.pages new.pages
   pub cuts : Reaches log.shape old new (CrashFinds log.shape background old.pages m)
 

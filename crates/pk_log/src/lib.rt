@@ -7,6 +7,7 @@ mod freeze;
 mod laws;
 mod log;
 mod merge;
+mod reclaim;
 
 pub use laws::elsewhere;
 pub use log::Log;

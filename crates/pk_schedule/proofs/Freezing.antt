@@ -215,7 +215,7 @@ module _ (x : Index) (frames : ℕ) (old : BoardState) (top : ℕ × Root) (foun
       }
 
       pub went_on : IndexMoves x frames old found m on_index new × FreezeMoves x on_index
-      went_on = (moves_on, record { log = refl; rest = refl; lowers = on.lowers })
+      went_on = (moves_on, record { log = refl; rest = refl; lowers = on.lowers; some = on.some })
 
     -- ---- the freeze is over
 

@@ -14,27 +14,32 @@ use Rattle.pk_merge.specs.Jobs.{Job, AreOwned, AreLeased, LeavesOthers, held_at,
 use Rattle.pk_compact.specs.Freezing.{given_back}
 
 -- The job has this run for the level, which may stand there, and what the former one has may be given back.
-pub record CanExchange (levels : Levels) (arena : Frames) (pool : Blocks) (job : Job) (level : ℕ) (r : Kept) : Type 0 where
+pub record CanExchange (levels : Levels) (arena : Frames) (pool : Blocks) (job : Job) (level : ℕ)
+    (r : Kept) : Type 0 where
   pub held : held_at job level ≡ Some r
   pub of_level : IsOfLevel levels.shape levels.pinned level r
   pub owned : AreOwned pool (run_of levels level).blocks
   pub leased : AreLeased arena (run_of levels level).leases
 
 -- The run stands in place of the former one of its level, whose blocks and frames are free; no other run has lost one.
-pub record Exchanges (levels : Levels) (arena : Frames) (pool : Blocks) (job : Job) (level : ℕ) (r : Kept) (levels' : Levels) (arena' : Frames) (pool' : Blocks) (job' : Job) : Type 0 where
+pub record Exchanges (levels : Levels) (arena : Frames) (pool : Blocks) (job : Job) (level : ℕ)
+    (r : Kept) (levels' : Levels) (arena' : Frames) (pool' : Blocks) (job' : Job) : Type 0 where
   pub levels_are : levels' ≡ with_run levels level r
   pub job_is : job' ≡ given_to (taken_from job level) (run_of levels level)
   pub pool_is : pool' ≡ given_back pool (run_of levels level).blocks
   pub arena_is : arena' ≡ given_all arena (run_of levels level).leases
   pub pool_fits : (flash : Flash) → PoolOnFlash pool flash → PoolOnFlash pool' flash
   pub others : LeavesOthers (run_of levels level).leases arena arena'
-  pub leases : (behind : List ℕ) → AreLeases arena ((run_of levels level).leases ++ behind) → AreLeases arena' behind
+  pub leases : (behind : List ℕ) → AreLeases arena ((run_of levels level).leases ++ behind)
+      → AreLeases arena' behind
   pub same_unready : unready pool'.states ≡ unready pool.states
 
 -- so for the run that the job has
-abbrev pub ExchangesRun : Levels → Frames → Blocks → Job → ℕ → Levels → Frames → Blocks → Job → Type 0
+abbrev pub ExchangesRun : Levels → Frames → Blocks → Job → ℕ → Levels → Frames → Blocks → Job
+    → Type 0
 ExchangesRun levels arena pool job level levels' arena' pool' job' =
-    (r : Kept) → CanExchange levels arena pool job level r → Exchanges levels arena pool job level r levels' arena' pool' job'
+    (r : Kept) → CanExchange levels arena pool job level r
+    → Exchanges levels arena pool job level r levels' arena' pool' job'
 
 -- These blocks are different ones of the journal.
 pub record CanFree (pool : Blocks) (blocks : List ℕ) : Type 0 where
@@ -44,13 +49,16 @@ pub record CanFree (pool : Blocks) (blocks : List ℕ) : Type 0 where
 -- ---- the end of a merge
 
 -- A merge into level 1: its output may stand there, and behind the exchange the blocks of the older epoch may be given back.
-pub record CanEndFirst (levels : Levels) (arena : Frames) (pool : Blocks) (job : Job) (older : List ℕ) : Type 0 where
+pub record CanEndFirst (levels : Levels) (arena : Frames) (pool : Blocks) (job : Job)
+    (older : List ℕ) : Type 0 where
   pub out : Kept
   pub first : CanExchange levels arena pool job 1 out
-  pub then_free : (levels' : Levels) (arena' : Frames) (pool' : Blocks) (job' : Job) → Exchanges levels arena pool job 1 out levels' arena' pool' job' → CanFree pool' older
+  pub then_free : (levels' : Levels) (arena' : Frames) (pool' : Blocks) (job' : Job)
+      → Exchanges levels arena pool job 1 out levels' arena' pool' job' → CanFree pool' older
 
 -- Its run was exchanged, and the blocks of the older epoch are free.
-pub record EndsFirst (levels : Levels) (arena : Frames) (pool : Blocks) (job : Job) (older : List ℕ) (levels' : Levels) (arena' : Frames) (pool' : Blocks) (job' : Job) : Type 0 where
+pub record EndsFirst (levels : Levels) (arena : Frames) (pool : Blocks) (job : Job) (older : List ℕ)
+    (levels' : Levels) (arena' : Frames) (pool' : Blocks) (job' : Job) : Type 0 where
   pub then_pool : Blocks
   pub then_job : Job
   pub first : ExchangesRun levels arena pool job 1 levels' arena' then_pool then_job
@@ -59,19 +67,23 @@ pub record EndsFirst (levels : Levels) (arena : Frames) (pool : Blocks) (job : J
   pub over : job' ≡ ended then_job
 
 -- A merge into a deeper level: its output may stand there, and behind the exchange so may a run without entries in place of the source.
-pub record CanEndDeep (levels : Levels) (arena : Frames) (pool : Blocks) (job : Job) (level : ℕ) : Type 0 where
+pub record CanEndDeep (levels : Levels) (arena : Frames) (pool : Blocks) (job : Job)
+    (level : ℕ) : Type 0 where
   pub out : Kept
   pub first : CanExchange levels arena pool job level out
-  pub then_second : (levels' : Levels) (arena' : Frames) (pool' : Blocks) (job' : Job) → Exchanges levels arena pool job level out levels' arena' pool' job'
+  pub then_second : (levels' : Levels) (arena' : Frames) (pool' : Blocks) (job' : Job)
+      → Exchanges levels arena pool job level out levels' arena' pool' job'
       → (r : Kept) × CanExchange levels' arena' pool' job' (level - 1) r
 
 -- Both runs were exchanged.
-pub record EndsDeep (levels : Levels) (arena : Frames) (pool : Blocks) (job : Job) (level : ℕ) (levels' : Levels) (arena' : Frames) (pool' : Blocks) (job' : Job) : Type 0 where
+pub record EndsDeep (levels : Levels) (arena : Frames) (pool : Blocks) (job : Job) (level : ℕ)
+    (levels' : Levels) (arena' : Frames) (pool' : Blocks) (job' : Job) : Type 0 where
   pub then_levels : Levels
   pub then_arena : Frames
   pub then_pool : Blocks
   pub then_job : Job
   pub last_job : Job
   pub first : ExchangesRun levels arena pool job level then_levels then_arena then_pool then_job
-  pub second : ExchangesRun then_levels then_arena then_pool then_job (level - 1) levels' arena' pool' last_job
+  pub second : ExchangesRun then_levels then_arena then_pool then_job (level - 1) levels' arena'
+      pool' last_job
   pub over : job' ≡ ended last_job

@@ -57,7 +57,13 @@ pub record Index : Type 0 where
   pub schedule : Schedule
 
 abbrev pub index : LogState → Levels → Frames → Blocks → Schedule → Index
-index log levels arena pool schedule = record { log = log; levels = levels; arena = arena; pool = pool; schedule = schedule }
+index log levels arena pool schedule = record {
+  log = log;
+  levels = levels;
+  arena = arena;
+  pool = pool;
+  schedule = schedule;
+}
 
 -- ---- what a merge is made of
 
@@ -67,21 +73,27 @@ behind x = record { ref_ptr = (0, 0); now = x }
 
 -- the source of a merge into this level: the frozen buffer, or the run above
 abbrev pub source_at : Index → ℕ → Source (Unit {0})
-source_at x level = if level == 1 then Frozen (behind x.log.frozen) else Run (behind (run_of x.levels (level - 1)))
+source_at x level =
+    if level == 1 then Frozen (behind x.log.frozen)
+    else Run (behind (run_of x.levels (level - 1)))
 
 -- its entries, rising by key
 abbrev pub entries_at : Index → Found → ℕ → List Entry
-entries_at x found level = if level == 1 then x.log.frozen.entries else run_at found.runs (level - 1)
+entries_at x found level =
+    if level == 1 then x.log.frozen.entries else run_at found.runs (level - 1)
 
 -- These blocks are different ones, the pool has them for this owner, and the root names none of them.
 pub record AreHeld (pool : Blocks) (root : Root) (owner : Owner) (blocks : List ℕ) : Type 0 where
   pub different : differ blocks ≡ true
-  pub owned : (b : ℕ) → AnyByRecursion (λ c. b ≡ c) blocks → slice_get pool.states b ≡ Some (Owned owner)
-  pub unnamed : (b : ℕ) → AnyByRecursion (λ c. b ≡ c) blocks → AnyByRecursion (λ c. b ≡ c) (named root) → ⊥
+  pub owned : (b : ℕ) → AnyByRecursion (λ c. b ≡ c) blocks
+      → slice_get pool.states b ≡ Some (Owned owner)
+  pub unnamed : (b : ℕ) → AnyByRecursion (λ c. b ≡ c) blocks
+      → AnyByRecursion (λ c. b ≡ c) (named root) → ⊥
 
 -- this is the level of the merge that is next
 abbrev pub IsDue : Shape → Found → ℕ → Type 0
-IsDue shape found level = next_merge shape (length (firsts found.older)) (map length found.runs) ≡ Some level
+IsDue shape found level =
+    next_merge shape (length (firsts found.older)) (map length found.runs) ≡ Some level
 
 -- The job makes the merge into this level, which is the next one.
 pub record MergesInto (x : Index) (root : Root) (found : Found) (level : ℕ) : Type 0 where
@@ -95,15 +107,19 @@ pub record MergesInto (x : Index) (root : Root) (found : Found) (level : ℕ) : 
   pub merger_shape : x.schedule.job.merger.shape ≡ x.log.shape
 
 -- It runs, and is not done.
-pub record MergeRuns (x : Index) (flash : Flash) (root : Root) (found : Found) (level : ℕ) : Type 0 where
+pub record MergeRuns (x : Index) (flash : Flash) (root : Root) (found : Found)
+    (level : ℕ) : Type 0 where
   pub into : MergesInto x root found level
-  pub runs : JobRuns (source_at x level) (run_of x.levels level) x.schedule.job x.pool flash x.arena (entries_at x found level) (run_at found.runs level)
+  pub runs : JobRuns (source_at x level) (run_of x.levels level) x.schedule.job x.pool flash x.arena
+      (entries_at x found level) (run_at found.runs level)
   pub undone : IsDone (source_at x level) (run_of x.levels level) x.schedule.job.merger → ⊥
 
 -- Its output stands whole, and waits for its root.
-pub record MergeWaits (x : Index) (flash : Flash) (root : Root) (found : Found) (level : ℕ) : Type 0 where
+pub record MergeWaits (x : Index) (flash : Flash) (root : Root) (found : Found)
+    (level : ℕ) : Type 0 where
   pub into : MergesInto x root found level
-  pub whole : IsWhole (pins x.schedule.job) (output x.schedule) flash x.arena (whole_output level found)
+  pub whole : IsWhole (pins x.schedule.job) (output x.schedule) flash x.arena
+      (whole_output level found)
 
 -- the merge stands so far as its phase says
 abbrev pub MergeStands : Phase → Index → Flash → Root → Found → Type 0
@@ -120,7 +136,8 @@ pub record FreezeStands (x : Index) (flash : Flash) (root : Root) : Type 0 where
 -- ---- how it stands to a flash
 
 -- The log and the runs are those of what stands under the newest root, and the jobs stand beside them.
-pub record IndexOnFlash (x : Index) (frames : ℕ) (flash : Flash) (top : ℕ × Root) (found : Found) : Type 0 where
+pub record IndexOnFlash (x : Index) (frames : ℕ) (flash : Flash) (top : ℕ × Root)
+    (found : Found) : Type 0 where
   pub logs : LogOnFlash x.log flash top found
   pub pool_shape : x.pool.shape ≡ x.log.shape
   pub pool_fits : PoolOnFlash x.pool flash
@@ -132,10 +149,14 @@ pub record IndexOnFlash (x : Index) (frames : ℕ) (flash : Flash) (top : ℕ ×
   -- the frames that are leased are theirs and those of a merge's output
   pub arena_is : HasArena x.log.shape frames x.levels x.arena (output x.schedule).leases
   -- the blocks of the journal and of runs are those that the root names, and those that jobs hold
-  pub journal : (b : ℕ) → AnyByRecursion (λ c. b ≡ c) (top.1.newest ++ top.1.older) → slice_get x.pool.states b ≡ Some (Owned Journal)
-  pub journal_few : used_by Journal x.pool.states ≡ length (top.1.newest ++ top.1.older) + length (taken_by x.schedule.freeze)
-  pub runs : (b : ℕ) → AnyByRecursion (λ c. b ≡ c) (concat top.1.runs) → slice_get x.pool.states b ≡ Some (Owned Meta)
-  pub runs_few : used_by Meta x.pool.states ≡ length (concat top.1.runs) + length (output x.schedule).blocks
+  pub journal : (b : ℕ) → AnyByRecursion (λ c. b ≡ c) (top.1.newest ++ top.1.older)
+      → slice_get x.pool.states b ≡ Some (Owned Journal)
+  pub journal_few : used_by Journal x.pool.states
+      ≡ length (top.1.newest ++ top.1.older) + length (taken_by x.schedule.freeze)
+  pub runs : (b : ℕ) → AnyByRecursion (λ c. b ≡ c) (concat top.1.runs)
+      → slice_get x.pool.states b ≡ Some (Owned Meta)
+  pub runs_few : used_by Meta x.pool.states
+      ≡ length (concat top.1.runs) + length (output x.schedule).blocks
   -- the jobs
   pub pins_are : x.schedule.job.pinned ≡ pinned x.log.shape frames
   pub merge : MergeStands x.schedule.phase x flash top.1 found

@@ -34,7 +34,9 @@ use Rattle.pk_schedule.specs.Index.{Index, IndexOnFlash, output, source_at}
 abbrev pub merge_left : Phase → Index → Option ℕ
 merge_left Idle x = None
 merge_left (Running level) x =
-    Some (steps_left (source_at x level) (run_of x.levels level) (output x.schedule) x.schedule.job.merger (most_pages (output x.schedule)) (most_blocks (output x.schedule)) + 1 + install_steps x.log.next)
+    Some (steps_left (source_at x level) (run_of x.levels level) (output x.schedule)
+    x.schedule.job.merger (most_pages (output x.schedule)) (most_blocks (output x.schedule)) + 1
+    + install_steps x.log.next)
 merge_left (Ready level) x = Some (install_steps x.log.next)
 
 -- how many are left of the freeze that runs
@@ -67,26 +69,33 @@ has_no_merge x = is_between x.schedule.phase && (length x.log.frozen.entries == 
 -- ---- what a step asks
 
 -- The index stands on the flash, whose map this is, with nothing pending, and the values lie in blocks of their own.
-pub record MayWork (x : Index) (frames : ℕ) (flash : Flash) (top : ℕ × Root) (found : Found) (m : Map) : Type 0 where
+pub record MayWork (x : Index) (frames : ℕ) (flash : Flash) (top : ℕ × Root) (found : Found)
+    (m : Map) : Type 0 where
   pub stands : IndexOnFlash x frames flash top found
   pub none_pending : x.log.pending ≡ []
   pub under : IsUnder x.log.shape flash [] top found m
-  pub values : (k : ℕ) → IsValuePage x.log.shape (places found []) k → slice_get x.pool.states (k / x.log.shape.block_pages) ≡ Some (Owned Values)
+  pub values : (k : ℕ) → IsValuePage x.log.shape (places found []) k
+      → slice_get x.pool.states (k / x.log.shape.block_pages) ≡ Some (Owned Values)
   pub number : x.log.root.number < 18446744073709551615
 
 -- ---- what it leaves
 
 -- The blocks for values are the same ones, and no page of one differs.
-pub record KeepsValues (shape : Shape) (pool : Blocks) (old : Flash) (pool' : Blocks) (new : Flash) : Type 0 where
+pub record KeepsValues (shape : Shape) (pool : Blocks) (old : Flash) (pool' : Blocks)
+    (new : Flash) : Type 0 where
   pub size : length pool'.states ≡ length pool.states
-  pub owned : (b : ℕ) → slice_get pool.states b ≡ Some (Owned Values) → slice_get pool'.states b ≡ Some (Owned Values)
-  pub no_more : (b : ℕ) → slice_get pool'.states b ≡ Some (Owned Values) → slice_get pool.states b ≡ Some (Owned Values)
+  pub owned : (b : ℕ) → slice_get pool.states b ≡ Some (Owned Values)
+      → slice_get pool'.states b ≡ Some (Owned Values)
+  pub no_more : (b : ℕ) → slice_get pool'.states b ≡ Some (Owned Values)
+      → slice_get pool.states b ≡ Some (Owned Values)
   pub as_many : used_by Values pool'.states ≡ used_by Values pool.states
-  pub pages : (k : ℕ) → slice_get pool.states (k / shape.block_pages) ≡ Some (Owned Values) → page_at new k ≡ page_at old k
+  pub pages : (k : ℕ) → slice_get pool.states (k / shape.block_pages) ≡ Some (Owned Values)
+      → page_at new k ≡ page_at old k
 
 -- One step further the index stands on the flash, with the same map and the same places of its values, under the same root or the one that
 -- follows; so it is wherever the step is cut.
-pub record IndexMoves (x : Index) (frames : ℕ) (old : BoardState) (found : Found) (m : Map) (x' : Index) (new : BoardState) : Type 0 where
+pub record IndexMoves (x : Index) (frames : ℕ) (old : BoardState) (found : Found) (m : Map)
+    (x' : Index) (new : BoardState) : Type 0 where
   pub then_top : ℕ × Root
   pub then_found : Found
   pub stands : IndexOnFlash x' frames new.pages then_top then_found
@@ -101,7 +110,8 @@ pub record IndexMoves (x : Index) (frames : ℕ) (old : BoardState) (found : Fou
 
 -- for whatever stands there
 abbrev pub Moves : Index → BoardState → Index → BoardState → Type 0
-Moves x old x' new = (frames : ℕ) (top : ℕ × Root) (found : Found) (m : Map) → MayWork x frames old.pages top found m → IndexMoves x frames old found m x' new
+Moves x old x' new = (frames : ℕ) (top : ℕ × Root) (found : Found) (m : Map)
+    → MayWork x frames old.pages top found m → IndexMoves x frames old found m x' new
 
 -- A read failed: the index stands as before, and as much is left; of the job no more differs than the bytes of a page.
 pub record Unmoved (x : Index) (x' : Index) : Type 0 where
@@ -118,10 +128,12 @@ pub record LessIsLeft (x x' : Index) : Type 0 where
 
 -- for every flash on which the index may stand
 abbrev pub Less : Index → Flash → Index → Type 0
-Less x flash x' = (frames : ℕ) (top : ℕ × Root) (found : Found) (m : Map) → MayWork x frames flash top found m → LessIsLeft x x'
+Less x flash x' = (frames : ℕ) (top : ℕ × Root) (found : Found) (m : Map)
+    → MayWork x frames flash top found m → LessIsLeft x x'
 
 abbrev pub StandsStill : Index → BoardState → Index → BoardState → Type 0
-StandsStill x old x' new = (frames : ℕ) (top : ℕ × Root) (found : Found) (m : Map) → MayWork x frames old.pages top found m → IndexOnFlash x' frames new.pages top found
+StandsStill x old x' new = (frames : ℕ) (top : ℕ × Root) (found : Found) (m : Map)
+    → MayWork x frames old.pages top found m → IndexOnFlash x' frames new.pages top found
 
 -- the same of a step that stopped the drive
 abbrev pub Breaks : Index → BoardState → BoardState → Type 0
@@ -132,21 +144,34 @@ Breaks x old new =
 -- ---- a step of a freeze
 
 -- what a step of a freeze asks: no merge runs, and nothing is frozen
-pub record MayFreeze (x : Index) (frames : ℕ) (flash : Flash) (top : ℕ × Root) (found : Found) (m : Map) : Type 0 where
+pub record MayFreeze (x : Index) (frames : ℕ) (flash : Flash) (top : ℕ × Root) (found : Found)
+    (m : Map) : Type 0 where
   pub may : MayWork x frames flash top found m
   pub none_merges : has_no_merge x ≡ true
 
 -- The freeze is one step further, and the log is as before, but for what its installer does next; less is left of the freeze.
 pub record FreezeMoves (x x' : Index) : Type 0 where
   pub log : x'.log ≡ record x.log { next = x'.log.next }
-  pub rest : x' ≡ record x { log = x'.log; pool = x'.pool; schedule = record x.schedule { freeze = x'.schedule.freeze } }
-  pub lowers : Lowers (freeze_left x.schedule.freeze x.log.next) (unready x.pool.states) (freeze_left x'.schedule.freeze x'.log.next) (unready x'.pool.states)
+  pub rest : x' ≡ record x {
+    log = x'.log;
+    pool = x'.pool;
+    schedule = record x.schedule { freeze = x'.schedule.freeze };
+  }
+  pub lowers : Lowers (freeze_left x.schedule.freeze x.log.next) (unready x.pool.states)
+      (freeze_left x'.schedule.freeze x'.log.next) (unready x'.pool.states)
+  -- it has taken a block
+  pub some : 0 < length (taken_by x'.schedule.freeze)
 
 -- The freeze is over: an empty epoch is the newest one, and the buffers are exchanged.
 pub record Freezes (x x' : Index) : Type 0 where
-  pub rest : x' ≡ record x { log = x'.log; pool = x'.pool; schedule = record x.schedule { freeze = NoFreeze } }
+  pub rest : x' ≡ record x {
+    log = x'.log;
+    pool = x'.pool;
+    schedule = record x.schedule { freeze = NoFreeze };
+  }
   pub active : x'.log.active ≡ x.log.frozen
   pub frozen : x'.log.frozen ≡ x.log.active
   pub unused : x'.log.epoch.used ≡ 0
   pub takes_more : x'.log.epoch.takes_more ≡ true
-  pub lowers : Lowers (freeze_left x.schedule.freeze x.log.next) (unready x.pool.states) 0 (unready x'.pool.states)
+  pub lowers : Lowers (freeze_left x.schedule.freeze x.log.next) (unready x.pool.states) 0
+      (unready x'.pool.states)

@@ -40,7 +40,8 @@ impl<A: Region> Schedule<A> {
     )
         requires level { 1 ≤ level × level ≤ 4 }
         requires can { (r : Kept) × CanExchange levels.old arena.old pool.old self.old.job level r }
-        ensures exchanged { ExchangesRun levels.old arena.old pool.old self.old.job level levels.new arena.new pool.new self.new.job }
+        ensures exchanged { ExchangesRun levels.old arena.old pool.old self.old.job level levels.new
+            arena.new pool.new self.new.job }
         ensures rest { self.new ≡ record self.old { job = self.new.job } }
     {
         let run = self.job.take(level);
@@ -56,8 +57,10 @@ impl<A: Region> Schedule<A> {
         levels: &mut Levels<A>,
         older: Option<[u16; 2]>,
     )
-        requires can { CanEndFirst levels.old arena.old pool.old self.old.job (blocks_or_none older) }
-        ensures ends { EndsFirst levels.old arena.old pool.old self.old.job (blocks_or_none older) levels.new arena.new pool.new self.new.job }
+        requires can { CanEndFirst levels.old arena.old pool.old self.old.job
+            (blocks_or_none older) }
+        ensures ends { EndsFirst levels.old arena.old pool.old self.old.job (blocks_or_none older)
+            levels.new arena.new pool.new self.new.job }
         ensures rest { self.new ≡ record self.old { job = self.new.job; phase = Idle } }
     {
         self.exchange(pool, arena, levels, 1);
@@ -76,7 +79,8 @@ impl<A: Region> Schedule<A> {
     )
         requires level { 2 ≤ level × level ≤ 4 }
         requires can { CanEndDeep levels.old arena.old pool.old self.old.job level }
-        ensures ends { EndsDeep levels.old arena.old pool.old self.old.job level levels.new arena.new pool.new self.new.job }
+        ensures ends { EndsDeep levels.old arena.old pool.old self.old.job level levels.new
+            arena.new pool.new self.new.job }
         ensures rest { self.new ≡ record self.old { job = self.new.job; phase = Idle } }
     {
         self.exchange(pool, arena, levels, level);

@@ -35,20 +35,27 @@ impl<A: Region> Schedule<A> {
         buf: &mut [u8],
     ) -> Result<(), Fault>
         requires ready { IsReady (B.state board.old) log.old.shape }
-        requires may { (frames : ℕ) × (top : ℕ × RootValue) × (found : Found) × (m : Map) × MayWork (index log.old levels.old arena.old pool.old self.old) frames (B.state board.old).pages top found m }
+        requires may { (frames : ℕ) × (top : ℕ × RootValue) × (found : Found) × (m : Map)
+            × MayWork (index log.old levels.old arena.old pool.old self.old) frames
+            (B.state board.old).pages top found m }
         requires phase { self.old.phase ≡ Ready level }
         requires room { length buf.old ≡ log.old.shape.page_bytes }
 
         // The install is a step further, or over.
-        ensures moves { OnOk result (Moves (index log.old levels.old arena.old pool.old self.old) (B.state board.old) (index log.new levels.new arena.new pool.new self.new) (B.state board.new)) }
-        ensures less { OnOk result (Less (index log.old levels.old arena.old pool.old self.old) (B.state board.old).pages (index log.new levels.new arena.new pool.new self.new)) }
+        ensures moves { OnOk result (Moves (index log.old levels.old arena.old pool.old self.old)
+            (B.state board.old) (index log.new levels.new arena.new pool.new self.new)
+            (B.state board.new)) }
+        ensures less { OnOk result (Less (index log.old levels.old arena.old pool.old self.old)
+            (B.state board.old).pages (index log.new levels.new arena.new pool.new self.new)) }
         ensures same_freeze { self.new.freeze ≡ self.old.freeze }
         ensures active { KeepsActive log.old log.new }
         ensures grows { Grows log.old.shape (B.state board.old).pages (B.state board.new).pages }
 
         // Or the call failed.
         ensures stopped { IfErr result (λ fault. fault ≡ Stopped) }
-        ensures broken { OnErr result (Breaks (index log.old levels.old arena.old pool.old self.old) (B.state board.old) (B.state board.new) × Stops (B.state board.old) (B.state board.new)) }
+        ensures broken { OnErr result (Breaks (index log.old levels.old arena.old pool.old self.old)
+            (B.state board.old) (B.state board.new) × Stops (B.state board.old)
+            (B.state board.new)) }
 
         // The board.
         ensures sound { OnOk result (Works (B.state board.old) (B.state board.new)) }

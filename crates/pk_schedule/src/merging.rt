@@ -30,7 +30,8 @@ use pk_region::Region;
 // The source of a merge into this level: the frozen buffer, or the run above.
 fn source_of<'a, A: Region>(log: &'a Log<A>, levels: &'a Levels<A>, level: u8) -> Source<'a, A>
     requires { 1 ≤ level × level ≤ 4 }
-    ensures { (arena : Frames) (pool : Blocks) (s : ScheduleSpec) → ShowsSame (source_at (index log.now levels.now arena pool s) level) result }
+    ensures { (arena : Frames) (pool : Blocks) (s : ScheduleSpec)
+        → ShowsSame (source_at (index log.now levels.now arena pool s) level) result }
 {
     if level == 1 {
         Source::Frozen(log.frozen())
@@ -43,11 +44,20 @@ impl<A: Region> Schedule<A> {
     // Begins the merge that is next, where something is frozen. No call of the board is made.
     pub(crate) fn begin(&mut self, levels: &Levels<A>, log: &Log<A>) -> Stepped
         requires idle { self.old.phase ≡ NoMerge }
-        requires may { (arena : Frames) × (pool : Blocks) × (flash : Flash) × (frames : ℕ) × (top : ℕ × RootValue) × (found : Found) × (m : Map) × MayWork (index log.now levels.now arena pool self.old) frames flash top found m }
-        ensures idle { result ≡ Stepped.Idle → (length log.now.frozen.entries ≡ 0) × (self.new ≡ self.old) }
+        requires may { (arena : Frames) × (pool : Blocks) × (flash : Flash) × (frames : ℕ)
+            × (top : ℕ × RootValue) × (found : Found) × (m : Map)
+            × MayWork (index log.now levels.now arena pool self.old) frames flash top found m }
+        ensures idle { result ≡ Stepped.Idle → (length log.now.frozen.entries ≡ 0)
+            × (self.new ≡ self.old) }
         ensures works { result ≡ Stepped.Worked → length log.now.frozen.entries ≡ 0 → ⊥ }
-        ensures moves { result ≡ Stepped.Worked → (arena : Frames) (pool : Blocks) (board : BoardState) → IsReady board log.now.shape → Moves (index log.now levels.now arena pool self.old) board (index log.now levels.now arena pool self.new) board }
-        ensures less { result ≡ Stepped.Worked → (arena : Frames) (pool : Blocks) (board : BoardState) → IsReady board log.now.shape → Less (index log.now levels.now arena pool self.old) board.pages (index log.now levels.now arena pool self.new) }
+        ensures moves { result ≡ Stepped.Worked → (arena : Frames) (pool : Blocks)
+            (board : BoardState) → IsReady board log.now.shape
+            → Moves (index log.now levels.now arena pool self.old) board
+            (index log.now levels.now arena pool self.new) board }
+        ensures less { result ≡ Stepped.Worked → (arena : Frames) (pool : Blocks)
+            (board : BoardState) → IsReady board log.now.shape
+            → Less (index log.now levels.now arena pool self.old) board.pages
+            (index log.now levels.now arena pool self.new) }
         ensures same_freeze { self.new.freeze ≡ self.old.freeze }
     {
         levels.known();
@@ -74,19 +84,31 @@ impl<A: Region> Schedule<A> {
     ) -> Result<(), Fault>
         requires ready { IsReady (B.state board.old) log.now.shape }
         requires phase { self.old.phase ≡ Running level }
-        requires may { (frames : ℕ) × (top : ℕ × RootValue) × (found : Found) × (m : Map) × MayWork (index log.now levels.now arena.old pool.old self.old) frames (B.state board.old).pages top found m }
+        requires may { (frames : ℕ) × (top : ℕ × RootValue) × (found : Found) × (m : Map)
+            × MayWork (index log.now levels.now arena.old pool.old self.old) frames
+            (B.state board.old).pages top found m }
 
         // The step was made.
-        ensures moves { OnOk result (Moves (index log.now levels.now arena.old pool.old self.old) (B.state board.old) (index log.now levels.now arena.new pool.new self.new) (B.state board.new)) }
-        ensures less { OnOk result (Less (index log.now levels.now arena.old pool.old self.old) (B.state board.old).pages (index log.now levels.now arena.new pool.new self.new)) }
+        ensures moves { OnOk result (Moves (index log.now levels.now arena.old pool.old self.old)
+            (B.state board.old) (index log.now levels.now arena.new pool.new self.new)
+            (B.state board.new)) }
+        ensures less { OnOk result (Less (index log.now levels.now arena.old pool.old self.old)
+            (B.state board.old).pages (index log.now levels.now arena.new pool.new self.new)) }
         ensures same_freeze { self.new.freeze ≡ self.old.freeze }
 
         // A call failed.
-        ensures unmoved { result ≡ Err Reading → Unmoved (index log.now levels.now arena.old pool.old self.old) (index log.now levels.now arena.new pool.new self.new)
+        ensures unmoved { result ≡ Err Reading → Unmoved (index log.now levels.now arena.old
+            pool.old self.old) (index log.now levels.now arena.new pool.new self.new)
             × OnlyReading (B.state board.old) (B.state board.new) }
-        ensures again { result ≡ Err Reading → StandsStill (index log.now levels.now arena.old pool.old self.old) (B.state board.old) (index log.now levels.now arena.new pool.new self.new) (B.state board.new) }
-        ensures unread { result ≡ Err Reading → Rose (B.state board.old).read_faults (B.state board.new).read_faults × Rose (B.state board.old).flash_faults (B.state board.new).flash_faults }
-        ensures broken { result ≡ Err Stopped → Breaks (index log.now levels.now arena.old pool.old self.old) (B.state board.old) (B.state board.new) × Stops (B.state board.old) (B.state board.new) }
+        ensures again { result ≡ Err Reading → StandsStill (index log.now levels.now arena.old
+            pool.old self.old) (B.state board.old) (index log.now levels.now arena.new pool.new
+            self.new) (B.state board.new) }
+        ensures unread { result ≡ Err Reading → Rose (B.state board.old).read_faults
+            (B.state board.new).read_faults × Rose (B.state board.old).flash_faults
+            (B.state board.new).flash_faults }
+        ensures broken { result ≡ Err Stopped → Breaks (index log.now levels.now arena.old pool.old
+            self.old) (B.state board.old) (B.state board.new)
+            × Stops (B.state board.old) (B.state board.new) }
 
         // The board.
         ensures sound { OnOk result (NoFault (B.state board.old) (B.state board.new)) }

@@ -49,7 +49,8 @@ impl<A: Region> Model for Schedule<A> {
 impl<A: Region> Schedule<A> {
     /// Nothing runs, for an arena of so many frames. All memory of the jobs is taken here.
     pub fn new(alloc: A, plan: Plan, frames: u32) -> Result<Schedule<A>, AllocError>
-        ensures idle { IfOk result (λ s. (s.phase ≡ NoMerge) × (s.freeze ≡ NoFreeze) × IsIdle plan s.job) }
+        ensures idle { IfOk result (λ s. (s.phase ≡ NoMerge) × (s.freeze ≡ NoFreeze)
+            × IsIdle plan s.job) }
         ensures pins { IfOk result (λ s. s.job.pinned ≡ pinned plan frames) }
     {
         let job = MergeJob::new(alloc, plan, frames)?;
@@ -83,7 +84,8 @@ impl<A: Region> Schedule<A> {
 
     /// Whether no merge runs, and nothing is frozen: a step of the merges would do nothing.
     pub fn has_no_merge(&self, log: &Log<A>) -> bool
-        ensures { (levels : _) (arena : _) (pool : _) → result ≡ has_no_merge (index log.now levels arena pool self.now) }
+        ensures { (levels : _) (arena : _) (pool : _) → result ≡ has_no_merge
+            (index log.now levels arena pool self.now) }
     {
         match self.phase {
             Phase::Idle => log.frozen().len() == 0,
@@ -106,15 +108,24 @@ impl<A: Region> Schedule<A> {
     ) -> Result<Stepped, Fault>
         // They are the index of the drive on this board.
         requires ready { IsReady (B.state board.old) log.old.shape }
-        requires may { (frames : ℕ) × (top : ℕ × RootValue) × (found : Found) × (m : Map) × MayWork (index log.old levels.old arena.old pool.old self.old) frames (B.state board.old).pages top found m }
+        requires may { (frames : ℕ) × (top : ℕ × RootValue) × (found : Found) × (m : Map)
+            × MayWork (index log.old levels.old arena.old pool.old self.old) frames
+            (B.state board.old).pages top found m }
         requires room { length buf.old ≡ log.old.shape.page_bytes }
 
         // Nothing is left to do, or a step was made.
-        ensures idle { result ≡ Ok Stepped.Idle → (has_no_merge (index log.old levels.old arena.old pool.old self.old) ≡ true)
-            × (index log.new levels.new arena.new pool.new self.new ≡ index log.old levels.old arena.old pool.old self.old) × (B.state board.new ≡ B.state board.old) }
-        ensures works { result ≡ Ok Stepped.Worked → has_no_merge (index log.old levels.old arena.old pool.old self.old) ≡ false }
-        ensures moves { result ≡ Ok Stepped.Worked → Moves (index log.old levels.old arena.old pool.old self.old) (B.state board.old) (index log.new levels.new arena.new pool.new self.new) (B.state board.new) }
-        ensures less { result ≡ Ok Stepped.Worked → Less (index log.old levels.old arena.old pool.old self.old) (B.state board.old).pages (index log.new levels.new arena.new pool.new self.new) }
+        ensures idle { result ≡ Ok Stepped.Idle → (has_no_merge (index log.old levels.old arena.old
+            pool.old self.old) ≡ true)
+            × (index log.new levels.new arena.new pool.new self.new ≡ index log.old levels.old
+            arena.old pool.old self.old) × (B.state board.new ≡ B.state board.old) }
+        ensures works { result ≡ Ok Stepped.Worked → has_no_merge
+            (index log.old levels.old arena.old pool.old self.old) ≡ false }
+        ensures moves { result ≡ Ok Stepped.Worked → Moves (index log.old levels.old arena.old
+            pool.old self.old) (B.state board.old) (index log.new levels.new arena.new pool.new
+            self.new) (B.state board.new) }
+        ensures less { result ≡ Ok Stepped.Worked → Less (index log.old levels.old arena.old
+            pool.old self.old) (B.state board.old).pages (index log.new levels.new arena.new
+            pool.new self.new) }
         ensures same_freeze { self.new.freeze ≡ self.old.freeze }
 
         // Whatever came of it, of the log only the root, what its installer does next, and the frozen buffer may differ.
@@ -122,11 +133,18 @@ impl<A: Region> Schedule<A> {
         ensures grows { Grows log.old.shape (B.state board.old).pages (B.state board.new).pages }
 
         // A call failed.
-        ensures unmoved { result ≡ Err Reading → Unmoved (index log.old levels.old arena.old pool.old self.old) (index log.new levels.new arena.new pool.new self.new)
+        ensures unmoved { result ≡ Err Reading → Unmoved (index log.old levels.old arena.old
+            pool.old self.old) (index log.new levels.new arena.new pool.new self.new)
             × OnlyReading (B.state board.old) (B.state board.new) }
-        ensures again { result ≡ Err Reading → StandsStill (index log.old levels.old arena.old pool.old self.old) (B.state board.old) (index log.new levels.new arena.new pool.new self.new) (B.state board.new) }
-        ensures unread { result ≡ Err Reading → Rose (B.state board.old).read_faults (B.state board.new).read_faults × Rose (B.state board.old).flash_faults (B.state board.new).flash_faults }
-        ensures broken { result ≡ Err Stopped → Breaks (index log.old levels.old arena.old pool.old self.old) (B.state board.old) (B.state board.new) × Stops (B.state board.old) (B.state board.new) }
+        ensures again { result ≡ Err Reading → StandsStill (index log.old levels.old arena.old
+            pool.old self.old) (B.state board.old) (index log.new levels.new arena.new pool.new
+            self.new) (B.state board.new) }
+        ensures unread { result ≡ Err Reading → Rose (B.state board.old).read_faults
+            (B.state board.new).read_faults × Rose (B.state board.old).flash_faults
+            (B.state board.new).flash_faults }
+        ensures broken { result ≡ Err Stopped → Breaks (index log.old levels.old arena.old pool.old
+            self.old) (B.state board.old) (B.state board.new)
+            × Stops (B.state board.old) (B.state board.new) }
 
         // The board.
         ensures sound { OnOk result (NoFault (B.state board.old) (B.state board.new)) }
@@ -170,14 +188,20 @@ impl<A: Region> Schedule<A> {
         buf: &mut [u8],
     ) -> Result<bool, Fault>
         requires ready { IsReady (B.state board.old) log.old.shape }
-        requires may { (frames : ℕ) × (top : ℕ × RootValue) × (found : Found) × (m : Map) × MayFreeze (index log.old levels.now arena.now pool.old self.old) frames (B.state board.old).pages top found m }
+        requires may { (frames : ℕ) × (top : ℕ × RootValue) × (found : Found) × (m : Map)
+            × MayFreeze (index log.old levels.now arena.now pool.old self.old) frames
+            (B.state board.old).pages top found m }
         requires room { length buf.old ≡ log.old.shape.page_bytes }
 
         // The freeze is a step further, or over.
-        ensures moves { OnOk result (Moves (index log.old levels.now arena.now pool.old self.old) (B.state board.old) (index log.new levels.now arena.now pool.new self.new) (B.state board.new)) }
+        ensures moves { OnOk result (Moves (index log.old levels.now arena.now pool.old self.old)
+            (B.state board.old) (index log.new levels.now arena.now pool.new self.new)
+            (B.state board.new)) }
         ensures freezes { IfOk result (λ done. MatchBool done
-            (Freezes (index log.old levels.now arena.now pool.old self.old) (index log.new levels.now arena.now pool.new self.new))
-            (FreezeMoves (index log.old levels.now arena.now pool.old self.old) (index log.new levels.now arena.now pool.new self.new))) }
+            (Freezes (index log.old levels.now arena.now pool.old self.old)
+            (index log.new levels.now arena.now pool.new self.new))
+            (FreezeMoves (index log.old levels.now arena.now pool.old self.old)
+            (index log.new levels.now arena.now pool.new self.new))) }
 
         // Whatever came of it, the flash has grown, and nothing is pending.
         ensures same_log { (log.new.shape ≡ log.old.shape) × (log.new.pending ≡ log.old.pending) }
@@ -185,7 +209,9 @@ impl<A: Region> Schedule<A> {
 
         // Or the call failed.
         ensures stopped { IfErr result (λ fault. fault ≡ Stopped) }
-        ensures broken { OnErr result (Breaks (index log.old levels.now arena.now pool.old self.old) (B.state board.old) (B.state board.new) × Stops (B.state board.old) (B.state board.new)) }
+        ensures broken { OnErr result (Breaks (index log.old levels.now arena.now pool.old self.old)
+            (B.state board.old) (B.state board.new) × Stops (B.state board.old)
+            (B.state board.new)) }
 
         // The board.
         ensures sound { OnOk result (Works (B.state board.old) (B.state board.new)) }

@@ -29,7 +29,7 @@ returns-clause-idle g c =
 
 pub returns-clause-seen : goal.returns-clause-seen
 returns-clause-seen g c =
-    rw (← c.self.view_is) (seen_ok c.commit.result (record { log = c.self.inside.log; levels = c.self.inside.levels; arena = c.self.inside.arena; schedule = c.self.inside.schedule; space = c.self.inside.space; pool = c.self.inside.pool; keys = c.self.inside.keys; stopped = c.self.inside.stopped }) c.commit.new.self (g.B.Nand.state c.args.board.now) (g.B.Nand.state c.commit.new.board) c.commit.ensures.ok)
+    rw (← c.self.view_is) (seen_ok c.commit.result (record { log = c.self.inside.log; levels = c.self.inside.levels; arena = c.self.inside.arena; schedule = c.self.inside.schedule; space = c.self.inside.space; reclaim = c.self.inside.reclaim; pool = c.self.inside.pool; keys = c.self.inside.keys; stopped = c.self.inside.stopped }) c.commit.new.self (g.B.Nand.state c.args.board.now) (g.B.Nand.state c.commit.new.board) c.commit.ensures.ok)
 
 pub returns-clause-moves : goal.returns-clause-moves
 returns-clause-moves g c =

@@ -1,4 +1,4 @@
-use Rattle.pk_core.proofs.Emptied.{ongoing_begin, may_freeze, ongoing_more, ongoing_end, ongoing_failed, room_behind}
+use Rattle.pk_core.proofs.Emptied.{ongoing_begin, may_freeze, ongoing_more, ongoing_end, ongoing_failed, room_behind, wide_behind}
 use Rattle.pk_core.proofs.Staying.{stays_then}
 use Rattle.pk_core.proofs.drive.Drive.freeze_log.Goals as goal
 
@@ -13,6 +13,9 @@ returns-in-Ok-true-clause-step g c = ongoing_end c.args.self.now (g.B.Nand.state
 
 pub returns-in-Ok-true-clause-room : goal.returns-in-Ok-true-clause-room
 returns-in-Ok-true-clause-room g c = room_behind c.args.self.now (g.B.Nand.state c.args.board.now) c.freezes.self (g.B.Nand.state c.freezes.board) c.requires.may.ready c.freezes.invariant c.freeze_once.new.self (g.B.Nand.state c.freeze_once.new.board) c.in-Ok-true.field-0 c.in-Ok-true.field-0-test c.in-Ok-true.ensures
+
+pub returns-in-Ok-true-clause-wide : goal.returns-in-Ok-true-clause-wide
+returns-in-Ok-true-clause-wide g c = wide_behind c.args.self.now (g.B.Nand.state c.args.board.now) c.freezes.self (g.B.Nand.state c.freezes.board) c.requires.may.ready c.freezes.invariant c.freeze_once.new.self (g.B.Nand.state c.freeze_once.new.board) c.in-Ok-true.field-0 c.in-Ok-true.field-0-test c.in-Ok-true.ensures
 
 pub returns-in-Ok-true-clause-moves : goal.returns-in-Ok-true-clause-moves
 returns-in-Ok-true-clause-moves g c = stays_then _ _ _ c.freezes.invariant.stays c.in-Ok-true.ensures.stays

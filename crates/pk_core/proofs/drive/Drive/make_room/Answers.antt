@@ -8,7 +8,7 @@ use Rattle.pk_core.proofs.Results.{on_ok}
 use Rattle.pk_core.proofs.Steps.{leaves_none, leaves_twice, leaves_committed, shape_committed, may_after}
 use Rattle.pk_core.proofs.ReadSteps.{running_says, running_stopped}
 use Rattle.pk_core.proofs.Emptied.{none_reads, room_committed, not_committed}
-use Rattle.pk_core.proofs.Rooming.{still_unworn}
+use Rattle.pk_core.proofs.Rooming.{still_numbers}
 use Rattle.pk_core.proofs.Staying.{stays_same, stays_then}
 use Rattle.pk_core.proofs.Programming.{not_wanted_ok}
 use Rattle.pk_core.proofs.drive.Drive.make_room.Goals as goal
@@ -30,8 +30,9 @@ empty_active-requires-clause-may g c =
     let e = c.in-Ok.ensures in
     may_after c.args.self.now c.commit_pending.new.self 0 (g.B.Nand.state c.args.board.now) (g.B.Nand.state c.commit_pending.new.board) tt c.requires.may (shape_committed c.args.self.now c.commit_pending.new.self e.rest) e.step
 
-pub empty_active-requires-clause-unworn : goal.empty_active-requires-clause-unworn
-empty_active-requires-clause-unworn g c = still_unworn (g.B.Nand.state c.args.board.now) (g.B.Nand.state c.commit_pending.new.board) c.in-Ok.ensures.step.roots_few c.requires.unworn
+pub empty_active-requires-clause-number : goal.empty_active-requires-clause-number
+empty_active-requires-clause-number g c =
+    still_numbers c.args.self.now c.commit_pending.new.self (g.B.Nand.state c.args.board.now) (g.B.Nand.state c.commit_pending.new.board) (shape_committed c.args.self.now c.commit_pending.new.self c.in-Ok.ensures.rest) c.in-Ok.ensures.step.roots_few c.requires.number
 
 pub returns-in-Ok-clause-step : goal.returns-in-Ok-clause-step
 returns-in-Ok-clause-step g c =

@@ -15,7 +15,7 @@ returns-in-Ok-Worked g c =
     let e = c.step.ensures in
     let was = c.in-Ok-Worked.is ∙ ap Ok c.in-Ok-Worked.field-0-is in
     let then = index c.step.new.log c.step.new.levels c.step.new.arena c.step.new.pool c.step.new.self in
-    rw (← c.self.view_is) (merge_advances _ (g.B.Nand.state c.args.board.now) (g.B.Nand.state c.step.new.board) r.may then e.ready (e.moves was) r.merges (e.less was) e.active c.in-Ok-Worked.ensures.sound e.calls e.rest e.installs e.grows)
+    rw (← c.self.view_is) (merge_advances _ (g.B.Nand.state c.args.board.now) (g.B.Nand.state c.step.new.board) r.may then e.ready (e.moves was) r.merges (e.less was) e.same_freeze e.active c.in-Ok-Worked.ensures.sound e.calls e.rest e.installs e.grows)
 
 pub returns-in-Err-Reading : goal.returns-in-Err-Reading
 returns-in-Err-Reading g c =
@@ -33,5 +33,5 @@ returns-in-Err-Stopped g c =
     let e = c.step.ensures in
     let was = c.in-Err-Stopped.is ∙ ap Err c.in-Err-Stopped.field-0-is in
     let broken = e.broken was in
-    let later : Parts = record { log = c.step.new.log; levels = c.step.new.levels; arena = c.step.new.arena; schedule = c.step.new.self; space = c.self.inside.space; pool = c.step.new.pool; keys = c.self.inside.keys; stopped = true } in
+    let later : Parts = record { log = c.step.new.log; levels = c.step.new.levels; arena = c.step.new.arena; schedule = c.step.new.self; space = c.self.inside.space; reclaim = c.self.inside.reclaim; pool = c.step.new.pool; keys = c.self.inside.keys; stopped = true } in
     rw (← c.self.view_is) (stop_advances _ (g.B.Nand.state c.args.board.now) (g.B.Nand.state c.step.new.board) r.may later refl (active_pending c.self.inside.log c.step.new.log e.active r.may.none) (busy_merge _ (g.B.Nand.state c.args.board.now) (g.B.Nand.state c.args.board.now) r.may r.merges) broken.0 broken.1 e.calls e.installs e.grows)

@@ -20,11 +20,11 @@ returns-clause-stands g c shape flash m drops =
     let p = rw (← c.self.view_is) at drops in
     let before = rw (c.shape-shape.ensures, ← c.self.view_is) at c.span_at-before.ensures in
     gone_stands _ shape flash m c.args.key c.args.old p c.push.new.self c.remove.new.self c.span_at-before.result
-    (record { pushed_is = c.push.ensures.pushed; stands = c.push.ensures.stands; fits_in = c.push.ensures.fits }) before c.remove.ensures.placed
+    (record { pushed_is = c.push.ensures.pushed; stands = c.push.ensures.stands; fits_in = c.push.ensures.fits }) before c.remove.ensures.removed c.remove.ensures.placed
 
 pub returns-clause-moves : goal.returns-clause-moves
 returns-clause-moves g c =
-    rw (← c.self.view_is) (note_stays (record { log = c.self.inside.log; levels = c.self.inside.levels; arena = c.self.inside.arena; schedule = c.self.inside.schedule; space = c.self.inside.space; pool = c.self.inside.pool; keys = c.self.inside.keys; stopped = c.self.inside.stopped }) _ c.push.new.self c.remove.new.self _ c.push.ensures.pushed (ap (λ s. s.open_block) c.remove.ensures.removed))
+    rw (← c.self.view_is) (note_stays (record { log = c.self.inside.log; levels = c.self.inside.levels; arena = c.self.inside.arena; schedule = c.self.inside.schedule; space = c.self.inside.space; reclaim = c.self.inside.reclaim; pool = c.self.inside.pool; keys = c.self.inside.keys; stopped = c.self.inside.stopped }) _ c.push.new.self c.remove.new.self _ c.push.ensures.pushed (ap (λ s. s.open_block) c.remove.ensures.removed))
 
 pub returns-clause-more : goal.returns-clause-more
 returns-clause-more g c = rw (← c.self.view_is) (pushed_more c.self.inside.log c.push.new.self _ c.push.ensures.pushed)

@@ -28,11 +28,11 @@ returns-clause-stands g c shape flash m value is_len puts =
     let before = rw (c.shape-shape.ensures, ← c.self.view_is) at c.span_if_there-before.ensures in
     let now = rw (c.shape-shape.ensures, ← c.self.view_is) at c.span_at-now.ensures in
     put_stands _ shape flash m c.args.key value c.args.page c.args.len c.args.old is_len p c.push.new.self c.replace.new.self c.more_keys-self-inside.result c.span_if_there-before.result c.span_at-now.result
-    (record { pushed_is = c.push.ensures.pushed; stands = c.push.ensures.stands; fits_in = c.push.ensures.fits }) before now c.replace.ensures.placed c.more_keys-self-inside.ensures
+    (record { pushed_is = c.push.ensures.pushed; stands = c.push.ensures.stands; fits_in = c.push.ensures.fits }) before now c.replace.ensures.moved c.replace.ensures.placed c.more_keys-self-inside.ensures
 
 pub returns-clause-moves : goal.returns-clause-moves
 returns-clause-moves g c =
-    rw (← c.self.view_is) (note_stays (record { log = c.self.inside.log; levels = c.self.inside.levels; arena = c.self.inside.arena; schedule = c.self.inside.schedule; space = c.self.inside.space; pool = c.self.inside.pool; keys = c.self.inside.keys; stopped = c.self.inside.stopped }) _ c.push.new.self c.replace.new.self c.more_keys-self-inside.result c.push.ensures.pushed (ap (λ s. s.open_block) c.replace.ensures.moved))
+    rw (← c.self.view_is) (note_stays (record { log = c.self.inside.log; levels = c.self.inside.levels; arena = c.self.inside.arena; schedule = c.self.inside.schedule; space = c.self.inside.space; reclaim = c.self.inside.reclaim; pool = c.self.inside.pool; keys = c.self.inside.keys; stopped = c.self.inside.stopped }) _ c.push.new.self c.replace.new.self c.more_keys-self-inside.result c.push.ensures.pushed (ap (λ s. s.open_block) c.replace.ensures.moved))
 
 pub returns-clause-noted : goal.returns-clause-noted
 returns-clause-noted g c =

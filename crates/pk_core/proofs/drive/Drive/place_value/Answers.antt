@@ -8,7 +8,7 @@ pub returns-clause-step : goal.returns-clause-step
 returns-clause-step g c =
     let r = rw (← c.self.view_is) at c.requires in
     let w = rw (c.shape-shape.ensures, ← c.self.view_is) at c.write_next.ensures in
-    rw (← c.self.view_is) (place_step c.write_next.result _ c.args.key.now c.args.value.now (g.B.Nand.state c.args.board.now) c.write_next.new.space c.write_next.new.pool (g.B.Nand.state c.write_next.new.board) w.places w.fails w.stopped c.known.ensures r.may w.ready c.bytes.ensures.key r.short)
+    rw (← c.self.view_is) (place_step c.write_next.result _ c.args.key.now c.args.value.now (g.B.Nand.state c.args.board.now) c.write_next.new.space c.write_next.new.pool (g.B.Nand.state c.write_next.new.board) w.places w.fails w.stopped c.known.ensures r.may w.ready r.room c.bytes.ensures.key r.short)
 
 pub returns-clause-opens : goal.returns-clause-opens
 returns-clause-opens g c =

@@ -4,7 +4,7 @@ use Rattle.pk_core.specs.Parts.{Parts}
 use Rattle.pk_core.specs.Changes.{StaysBetween}
 use Rattle.pk_core.specs.Moves.{LeavesValues}
 use Rattle.pk_core.specs.Staying.{Stays, StaysOrOpens}
-use Rattle.pk_core.proofs.Steps.{can_put_after, step_puts_later, stays_then, stays_kept, put_failed_before}
+use Rattle.pk_core.proofs.Steps.{can_put_after, still_room, step_puts_later, stays_then, stays_kept, put_failed_before}
 use Rattle.pk_core.proofs.ReadSteps.{running_ok, running_failed, running_both}
 use Rattle.pk_core.proofs.Staying.{stays_opens, opens_put}
 use Rattle.pk_core.proofs.Quieted.{put_reads_none}
@@ -18,6 +18,11 @@ pub put_with_room-requires-clause-can : goal.put_with_room-requires-clause-can
 put_with_room-requires-clause-can g c =
     let e = c.in-Ok.ensures in
     can_put_after c.args.self.now c.make_room.new.self _ (g.B.Nand.state c.args.board.now) (g.B.Nand.state c.make_room.new.board) tt e.leaves e.pending e.step c.args.key c.args.value.now c.args.old c.requires.can
+
+pub put_with_room-requires-clause-room : goal.put_with_room-requires-clause-room
+put_with_room-requires-clause-room g c =
+    let e = c.in-Ok.ensures in
+    still_room c.args.self.now c.make_room.new.self _ (g.B.Nand.state c.args.board.now) (g.B.Nand.state c.make_room.new.board) tt e.leaves e.pending e.step (length c.args.value.now) c.requires.room
 
 pub returns-in-Ok-clause-step : goal.returns-in-Ok-clause-step
 returns-in-Ok-clause-step g c =

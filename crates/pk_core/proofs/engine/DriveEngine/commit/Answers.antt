@@ -1,7 +1,6 @@
 use Rattle.std.proofs.Common.{refl, ap, ◌∙◌, subst}
 use Rattle.pk_nand.specs.BoardState.{BoardState}
 use Rattle.pk_core.proofs.Standing.{stands_for, stands_here, still_stands, agrees_so}
-use Rattle.pk_core.proofs.Building.{still_unbuilt}
 use Rattle.pk_core.specs.Parts.{Parts, sight_of, frames_of}
 use Rattle.pk_core.proofs.Unchanging.{agrees_ready}
 use Rattle.pk_core.proofs.Executing.{none_between}
@@ -25,11 +24,6 @@ returns-in-Ok-clause-agrees g c =
     none_between c.commit_pending.new.self (g.B.Nand.state c.commit_pending.new.board).shape (g.B.Nand.state c.commit_pending.new.board).pages
     (agrees_so _ (g.B.Nand.state c.commit_pending.new.board).shape a.shape (g.B.Nand.state c.commit_pending.new.board).pages a.all (same ∙ a.told_is)
     (c.in-Ok.ensures.step.ended a.shape a.all (record { top = a.top; found = a.found; without = a.without; with = a.with })).stands) c.in-Ok.ensures.none
-
-pub returns-in-Ok-clause-unbuilt : goal.returns-in-Ok-clause-unbuilt
-returns-in-Ok-clause-unbuilt g c =
-    let rest = c.in-Ok.ensures.rest in
-    still_unbuilt c.args.self.now c.commit_pending.new.self (ap (λ (d : Parts). d.log.shape) rest) (ap (λ (d : Parts). d.space) rest) (ap (λ (d : Parts). d.pool) rest)
 
 pub returns-in-Ok-clause-stands : goal.returns-in-Ok-clause-stands
 returns-in-Ok-clause-stands g c = λ shape frames m stands.

@@ -57,7 +57,7 @@ returns-in-Some-clause-fresh g c = λ _. keeps_fresh c.args.self.now c.args.self
 pub returns-in-None-clause-fresh : goal.returns-in-None-clause-fresh
 returns-in-None-clause-fresh g c = λ runs.
     let e = c.perform-outcome.ensures in
-    keeps_fresh c.args.self.now c.perform-outcome.new.self (g.B.Nand.state c.args.board.now) (g.B.Nand.state c.perform-outcome.new.board) c.requires.agrees.0 (e.executes.agrees runs).0 e.executes.does.rest (e.performs.opens runs).fresh
+    keeps_fresh c.args.self.now c.perform-outcome.new.self (g.B.Nand.state c.args.board.now) (g.B.Nand.state c.perform-outcome.new.board) c.requires.agrees.0 (e.executes.agrees runs).0 e.executes.does.rest (e.performs.fresh runs)
 
 pub returns-in-Some-clause-blocks : goal.returns-in-Some-clause-blocks
 returns-in-Some-clause-blocks g c = λ _. blocks_stay c.args.self.now c.args.self.now c.args.request.now.opcode (stays_same c.args.self.now c.args.self.now refl).blocks
@@ -66,12 +66,12 @@ pub returns-in-None-clause-blocks : goal.returns-in-None-clause-blocks
 returns-in-None-clause-blocks g c = λ runs.
     let e = c.perform-outcome.ensures in
     elim (cases_eq c.args.request.now.opcode 0x01) [
-      | inl is ↦ blocks_grow c.args.self.now c.perform-outcome.new.self c.args.request.now.opcode (charge c.args.self.now.log.shape c.args.request.now.size) is (e.performs.opens runs).blocks
-      | inr other ↦ blocks_stay c.args.self.now c.perform-outcome.new.self c.args.request.now.opcode (e.performs.moves other runs).blocks
+      | inl is ↦ blocks_grow c.args.self.now c.perform-outcome.new.self c.args.request.now.opcode (charge c.args.self.now.log.shape c.args.request.now.size) is (e.performs.opens is runs).blocks
+      | inr other ↦ inl (e.performs.no_more other runs)
     ]
 
-pub returns-in-None-clause-deletes : goal.returns-in-None-clause-deletes
-returns-in-None-clause-deletes g c = λ is runs. (c.perform-outcome.ensures.performs.moves (λ e. delete_no_store c.args.request.now is e) runs).blocks.open_same
+pub returns-in-None-clause-open_block : goal.returns-in-None-clause-open_block
+returns-in-None-clause-open_block g c = λ no_store no_tick runs. (c.perform-outcome.ensures.performs.moves no_store no_tick runs).blocks.open_same
 
 pub returns-in-Some-clause-stores : goal.returns-in-Some-clause-stores
 returns-in-Some-clause-stores g c = λ _ zero.
@@ -82,7 +82,7 @@ pub returns-in-None-clause-stores : goal.returns-in-None-clause-stores
 returns-in-None-clause-stores g c = λ is zero.
     let e = c.perform-outcome.ensures in
     let runs = zero_runs c.perform-outcome.result e.executes.does.stop_status zero in
-    stores_all c.args.self.now c.perform-outcome.new.self (g.B.Nand.state c.args.board.now) (g.B.Nand.state c.perform-outcome.new.board) (command_of c.args.request.now c.args.value.now) c.requires.agrees.0 (e.executes.agrees runs).0 (e.performs.noted is zero) (e.performs.opens runs).blocks e.executes.does.rest
+    stores_all c.args.self.now c.perform-outcome.new.self (g.B.Nand.state c.args.board.now) (g.B.Nand.state c.perform-outcome.new.board) (command_of c.args.request.now c.args.value.now) c.requires.agrees.0 (e.executes.agrees runs).0 (e.performs.noted is zero) (e.performs.opens is runs).blocks e.executes.does.rest
 
 pub returns-in-Some-clause-quiet_store : goal.returns-in-Some-clause-quiet_store
 returns-in-Some-clause-quiet_store g c = λ _ zero.

@@ -28,4 +28,4 @@ returns-clause-fresh g c = λ runs.
     keeps_fresh c.args.self.now c.step-answer.new.self (g.B.Nand.state c.args.board.now) (g.B.Nand.state c.step-answer.new.board) c.requires.agrees.0 (e.agrees runs) e.ticks.rest (e.moves runs).fresh
 
 pub returns-clause-blocks : goal.returns-clause-blocks
-returns-clause-blocks g c = λ runs. let used = (c.step-answer.ensures.moves runs).blocks.used in omega (arith, used)
+returns-clause-blocks g c = λ runs. (c.step-answer.ensures.moves runs).no_more

@@ -27,7 +27,7 @@ returns-in-Ok-clause-placed g c outputs es placed =
     let ok = c.in-Ok.ensures in
     rw c.open_next.ensures
     (opened_by c.args.shape.now c.args.self.now c.args.pool.now c.take.new.self outputs (g.B.Nand.state c.args.board.now) (g.B.Nand.state c.take.new.board) c.in-Ok.block es placed
-    ok.spare ok.place ok.taken ok.counted ok.erased ok.cuts c.take.ensures.fits c.args.count c.requires.room no_room c.requires.most)
+    ok.spare ok.place ok.taken ok.counted ok.erased ok.cuts c.take.ensures.fits c.args.count c.requires.room no_room)
 
 pub returns-in-Ok-clause-free : goal.returns-in-Ok-clause-free
 returns-in-Ok-clause-free g c outputs es placed =

@@ -50,9 +50,9 @@ returns-in-None-clause-steps g c =
     subst (λ (p : Phase). StepsIn p job hands old job' hands' new r) (sym is) (inr tries)) c.finish.ensures.finishes
 
 -- what holds of a call that was Ok, of its answer and by itself
-if_ok_both : {X E A B : Type 0} {P Q : X → Type 0} (r : Result X E) → ((x : X) → P x → A → B → Q x) → IfOk r P → OnOk r A → OnOk r B → IfOk r Q
-if_ok_both (Ok x) f is a b = f x is a b
-if_ok_both (Err e) f is a b = is
+if_ok_all : {X E A B C : Type 0} {P Q : X → Type 0} (r : Result X E) → ((x : X) → P x → A → B → C → Q x) → IfOk r P → OnOk r A → OnOk r B → OnOk r C → IfOk r Q
+if_ok_all (Ok x) f is a b c = f x is a b c
+if_ok_all (Err e) f is a b c = is
 
 pub returns-in-Some-clause-steps : goal.returns-in-Some-clause-steps
 returns-in-Some-clause-steps g c =
@@ -70,7 +70,7 @@ returns-in-Some-clause-steps g c =
     let end : course.victim * c.block_pages.result + c.block_pages-in-Copies.result ≡ course.victim * job.shape.block_pages + job.shape.block_pages = λ i. course.victim * pages i + pages_too i in
     let job' = c.begin_value.new.self in
     let new = g.B.Nand.state c.begin_value.new.board in
-    if_ok_both c.begin_value.result (λ r worked job_is board.
+    if_ok_all c.begin_value.result (λ r worked job_is board runs.
     let begins : BeginsValue course job hands old job' new = record {
       free = c.if-course.false;
       whole = whole;
@@ -80,5 +80,6 @@ returns-in-Some-clause-steps g c =
       first = subst (λ (x : ℕ). AreDead hands.live.heads x page) start found.3;
       job_is = job_is;
       board = board;
+      runs = runs;
     } in
-    subst (λ (p : Phase). StepsIn p job hands old job' hands new r) (sym is) (inl (worked, refl, inr (inr begins)))) c.begin_value.ensures.worked c.begin_value.ensures.job c.begin_value.ensures.board
+    subst (λ (p : Phase). StepsIn p job hands old job' hands new r) (sym is) (inl (worked, refl, inr (inr begins)))) c.begin_value.ensures.worked c.begin_value.ensures.job c.begin_value.ensures.board c.begin_value.ensures.runs

@@ -1,0 +1,312 @@
+-- Steps of reclaims inside a Store, until a value has room.
+use Rattle.std.proofs.Common.{◌≡◌, ◌⊎◌, inl, inr, ℕ, ◌+◌, ◌-◌, ◌≤◌, ◌<◌, Bool, true, false, [], length, refl, sym, ap, subst, ◌∙◌, arith, nat_le, leb→le, T, Result, Ok, Err}
+use Rattle.std.specs.Prelude.{◌&&◌, ◌||◌, not, OnOk}
+use Rattle.pk_base.specs.Map.{Map}
+use Rattle.pk_base.specs.Shape.{Shape, data_blocks, most_pages}
+use Rattle.pk_plan.specs.declared.owner.Owner.TheVariants.{Values}
+use Rattle.pk_pool.specs.Blocks.{used_by}
+use Rattle.pk_nand.specs.declared.types.Fault.{Fault}
+use Rattle.pk_nand.specs.declared.types.Fault.TheVariants.{Reading, Stopped}
+use Rattle.pk_nand.specs.BoardState.{BoardState}
+use Rattle.pk_nand.specs.Calls.{IsReady, last_count}
+use Rattle.pk_nand.specs.Effects.{AtMostOneCall, NoFault, OnlyFlash, Stops}
+use Rattle.pk_model.specs.Wear.{roots}
+use Rattle.pk_work.specs.Rest.{whole_reclaim}
+use Rattle.pk_work.specs.Calls.{room_calls, space_calls}
+use Rattle.pk_gc.specs.declared.course.Phase.{Phase}
+use Rattle.pk_gc.specs.declared.course.Phase.TheVariants.{Idle, Copies, GivesBack}
+use Rattle.pk_gc.specs.declared.course.Course.{Course}
+use Rattle.pk_gc.specs.declared.reclaimed.Reclaimed.{Reclaimed}
+use Rattle.pk_gc.specs.declared.reclaimed.Reclaimed.TheVariants.{Worked, NeedsFreeze, Ended}
+use Rattle.pk_gc.specs.State.{steps_left}
+use Rattle.pk_gc.specs.Standing.{held_blocks}
+use Rattle.pk_gc.specs.Stepping.{runs_in}
+use Rattle.pk_core.specs.Parts.{Parts, frames_of, outputs_of}
+use Rattle.pk_core.specs.Moves.{StandsFor, MayStep, StepKeeps, LeavesValues}
+use Rattle.pk_core.specs.Emptying.{KeepsOrReads, OnRunning}
+use Rattle.pk_core.specs.Staying.{Stays}
+use Rattle.pk_core.specs.Reclaiming.{MayReclaim, Lessens, LeavesIndex, DoesReclaim, Waits, CannotRead, FailsAll, is_tight_for}
+use Rattle.pk_core.specs.Spacing.{MovesOrReads, StaysSame, where_so, needs, has_moves, steps_for, space_left, Awaits, MaySpace, SpacesOnce}
+use Rattle.pk_core.proofs.Inside.{one_call}
+use Rattle.pk_core.proofs.SameMaps.{same_held, same_unread, breaks_failed, moves_kept, moves_later, moves_failed, moves_within, moves_none, may_moved, passes_moved, stays_none, stays_both}
+use Rattle.pk_core.proofs.Spacing.{left_at, AwaitsAt, works_less, ends_less}
+
+true_false : true ≡ false → ⊥
+true_false e = cc
+
+-- ---- what a step asks
+
+and_right : (x y : Bool) → (x && y) ≡ true → y ≡ true
+and_right true y e = e
+and_right false y e = cc
+
+pub wanted_full : (d : Parts) (count : ℕ) → needs count d ≡ true → data_blocks d.log.shape - 1 ≤ used_by Values d.pool.states
+wanted_full d count wanted = leb→le (data_blocks d.log.shape - 1) (used_by Values d.pool.states) (subst T (sym (and_right _ (nat_le (data_blocks d.log.shape - 1) (used_by Values d.pool.states)) wanted)) tt)
+
+turn_at : (p : Phase) (d : Parts) (count : ℕ) → AwaitsAt p count d → used_by Values d.pool.states ≤ data_blocks d.log.shape - 1 + length (held_blocks p)
+    → (runs_in p ≡ true) ⊎ (used_by Values d.pool.states ≡ data_blocks d.log.shape - 1)
+turn_at p d count (inl runs) few = inl runs
+turn_at Idle d count (inr wanted) few = let full = wanted_full d count wanted in inr (omega (arith, full, few))
+turn_at (Copies c) d count (inr wanted) few = inl refl
+turn_at (GivesBack victim) d count (inr wanted) few = inl refl
+
+some_at : (p : Phase) (d : Parts) (count : ℕ) → AwaitsAt p count d → 1 ≤ left_at p count d
+some_at Idle d count (inl runs) = absurd (true_false (sym runs))
+some_at Idle d count (inr wanted) = let steps : where_so (needs count d) (whole_reclaim d.log.shape) ≡ whole_reclaim d.log.shape = ap (λ x. where_so x (whole_reclaim d.log.shape)) wanted in omega (arith, steps)
+some_at (Copies c) d count awaits = omega arith
+some_at (GivesBack victim) d count awaits = omega arith
+
+-- ---- what stays in a step
+
+leaves_stay : (b c : Parts) → LeavesIndex b c → StaysSame b c
+leaves_stay b c leaves = record {
+  frames = ap (λ (d : Parts). frames_of d) leaves;
+  stopped = ap (λ (d : Parts). d.stopped) leaves;
+  same_shape = ap (λ (d : Parts). d.log.shape) leaves;
+  fresh = record { stays = λ e. ap (λ (d : Parts). d.log.epoch.takes_more) leaves ∙ e; begun = inl (ap (λ (d : Parts). d.log.root.epoch) leaves) };
+}
+
+unread_stays : (b c : Parts) (s0 s1 : BoardState) → CannotRead b c s0 s1 → StaysSame b c
+unread_stays b c s0 s1 unread = record {
+  frames = ap (λ (d : Parts). frames_of d) unread.rest;
+  stopped = ap (λ (d : Parts). d.stopped) unread.rest;
+  same_shape = ap (λ (d : Parts). d.log.shape) unread.rest;
+  fresh = record { stays = λ e. ap (λ (d : Parts). d.log.epoch.takes_more) unread.rest ∙ e; begun = inl (ap (λ (d : Parts). d.log.root.epoch) unread.rest) };
+}
+
+pub values_stay : (b c : Parts) → LeavesValues b c → Stays b c → StaysSame b c
+values_stay b c leaves stays = record { frames = leaves.frames; stopped = ap (λ (d : Parts). d.stopped) leaves.rest; same_shape = leaves.same_shape; fresh = stays.fresh }
+
+-- ---- one step
+
+module _ (count : ℕ) (b : Parts) (s0 : BoardState) (may : MaySpace count b s0) (most : count ≤ most_pages b.log.shape) (awaits : Awaits count b) where
+  abbrev it : StandsFor b b.log.shape s0.pages may.may.stands.0
+  it = may.may.stands.1
+
+  pub may_reclaim : MayReclaim b s0
+  may_reclaim = record { may = may.may; none_pending = may.none_pending; turn = turn_at b.reclaim.phase b count awaits it.with.placed.few }
+
+  module _ (c : Parts) (s1 : BoardState) (none : c.log.pending ≡ []) (same_roots : roots s1 ≡ roots s0) (calls : AtMostOneCall s0 s1) (rest : OnlyFlash s0 s1) (ready : IsReady s1 b.log.shape) (reads : s0.reads ≤ last_count) where
+    stepped : NoFault s0 s1 → Lessens b c s0 s1 → 1 + space_left count c ≤ space_left count b → SpacesOnce count b c s0 s1 (Ok tt)
+    stepped sound made less = record {
+      made = 1;
+      some = omega arith;
+      step = record {
+        came = (same_held b c s0 s1 none made.holds, sound);
+        rest = rest;
+        reads = one_call s0 s1 reads calls;
+        roots_few = omega (arith, same_roots);
+        ready = ready;
+      };
+      within = omega (arith, less);
+      left = less;
+      none_pending = none;
+      stays = leaves_stay b c made.leaves;
+    }
+
+    worked : NoFault s0 s1 → DoesReclaim b c s0 s1 Worked → SpacesOnce count b c s0 s1 (Ok tt)
+    worked sound made =
+        stepped sound made.0 (works_less count b c (ap (λ (d : Parts). d.log.shape) made.0.leaves) most b.reclaim.phase c.reclaim.phase awaits made.0.falls made.1)
+
+    ended : NoFault s0 s1 → DoesReclaim b c s0 s1 Ended → SpacesOnce count b c s0 s1 (Ok tt)
+    ended sound made =
+        let less = ends_less count b c (ap (λ (d : Parts). d.log.shape) made.0.leaves) most b.reclaim.phase awaits it.with.reclaim.full made.1.given made.1.from in
+        stepped sound made.0 (subst (λ (p : Phase). 1 + left_at p count c ≤ space_left count b) (sym made.1.idle) less)
+
+    pub space_worked : (x : Reclaimed) → x ≡ Worked → NoFault s0 s1 → DoesReclaim b c s0 s1 x → SpacesOnce count b c s0 s1 (Ok tt)
+    space_worked x is sound made = worked sound (subst (λ y. DoesReclaim b c s0 s1 y) is made)
+
+    pub space_ended : (x : Reclaimed) → x ≡ Ended → NoFault s0 s1 → DoesReclaim b c s0 s1 x → SpacesOnce count b c s0 s1 (Ok tt)
+    space_ended x is sound made = ended sound (subst (λ y. DoesReclaim b c s0 s1 y) is made)
+
+    pub space_failed : (e : Fault) → s0.read_faults ≤ last_count → (◌≡◌ {A = Result Reclaimed Fault} (Err e) (Err Reading) → CannotRead b c s0 s1)
+        → (◌≡◌ {A = Result Reclaimed Fault} (Err e) (Err Stopped) → FailsAll b s0 s1 × Stops s0 s1) → SpacesOnce count b c s0 s1 (Err e)
+    space_failed Reading few unread broken =
+        let is = unread refl in
+        let rose = is.read in
+        record {
+          made = 1;
+          some = omega arith;
+          step = record {
+            came = (same_unread b c s0 s1 is, record { read = is.read; up = omega (arith, rose, few); flash = is.flash; no_stop = ap (λ (s : BoardState). s.stop_faults) is.only });
+            rest = rest;
+            reads = one_call s0 s1 reads calls;
+            roots_few = omega (arith, same_roots);
+            ready = ready;
+          };
+          within = some_at b.reclaim.phase b count awaits;
+          left = tt;
+          none_pending = none;
+          stays = unread_stays b c s0 s1 is;
+        }
+    space_failed Stopped few unread broken =
+        let is = broken refl in
+        record {
+          made = 1;
+          some = omega arith;
+          step = record {
+            came = (breaks_failed b s0 s1 is.0, record { flash = is.1.flash; stop = is.1.stop; read = is.1.read });
+            rest = rest;
+            reads = one_call s0 s1 reads calls;
+            roots_few = omega (arith, same_roots);
+            ready = ready;
+          };
+          within = some_at b.reclaim.phase b count awaits;
+          left = tt;
+          none_pending = tt;
+          stays = tt;
+        }
+
+  -- ---- the moves find no room
+
+  calls_left : (c : Course) → is_tight_for b ≡ true → left_at (Copies c) count b ≡ steps_left b.log.shape b.space.live.heads c + room_calls b.log.shape
+  calls_left c tight = ap (λ x. steps_left b.log.shape b.space.live.heads c + where_so x (room_calls b.log.shape)) tight
+
+  pub waits_number : (c : Parts) (s1 : BoardState) → Waits b c s0 s1 → roots s1 + room_calls c.log.shape < 18446744073709551615
+  waits_number c s1 waits =
+      let here : space_left count b ≡ left_at (Copies waits.course) count b = ap (λ p. left_at p count b) waits.copies in
+      let calls = calls_left waits.course waits.tight in
+      let number = may.number in
+      let few : roots s0 + room_calls b.log.shape < 18446744073709551615 = omega (arith, number, here, calls) in
+      subst (λ (d : Parts). roots s1 + room_calls d.log.shape < 18446744073709551615) (sym waits.same) (subst (λ (s : BoardState). roots s + room_calls b.log.shape < 18446744073709551615) (sym waits.board) few)
+
+  pub waits_may : (c : Parts) (s1 : BoardState) → Waits b c s0 s1 → MayStep c s1
+  waits_may c s1 waits = subst (λ (d : Parts). MayStep d s1) (sym waits.same) (subst (λ (s : BoardState). MayStep b s) (sym waits.board) may.may)
+
+  module _ (course : Course) (copies : b.reclaim.phase ≡ Copies course) (tight : is_tight_for b ≡ true) (d : Parts) (s2 : BoardState) where
+    less_frozen : LeavesValues b d → is_tight_for d ≡ false → room_calls b.log.shape + space_left count d ≤ space_left count b
+    less_frozen leaves wide =
+        let there : d.reclaim.phase ≡ Copies course = ap (λ (x : Parts). x.reclaim.phase) leaves.rest ∙ copies in
+        let before : space_left count b ≡ left_at (Copies course) count b = ap (λ p. left_at p count b) copies in
+        let after : space_left count d ≡ left_at (Copies course) count d = ap (λ p. left_at p count d) there in
+        let steps : steps_left d.log.shape d.space.live.heads course ≡ steps_left b.log.shape b.space.live.heads course = λ i. steps_left (leaves.same_shape i) (ap (λ (x : Parts). x.space.live.heads) leaves.rest i) course in
+        let none : where_so (true && is_tight_for d) (room_calls d.log.shape) ≡ 0 = ap (λ x. where_so x (room_calls d.log.shape)) wide in
+        let calls = calls_left course tight in
+        omega (arith, before, after, steps, none, calls)
+
+    room_within : room_calls b.log.shape ≤ space_left count b
+    room_within =
+        let before : space_left count b ≡ left_at (Copies course) count b = ap (λ p. left_at p count b) copies in
+        let calls = calls_left course tight in
+        omega (arith, before, calls)
+
+    frozen_once : (r : Result Unit Fault) → KeepsOrReads b d (room_calls b.log.shape) s0 s2 r → OnOk r (is_tight_for d ≡ false) → OnRunning (d.log.pending ≡ []) r → OnRunning (LeavesValues b d) r → OnRunning (Stays b d) r
+        → SpacesOnce count b d s0 s2 r
+    frozen_once (Ok x) step wide none leaves stays = record {
+      made = room_calls b.log.shape;
+      some = omega arith;
+      step = moves_kept (Ok x) b d (room_calls b.log.shape) s0 s2 step;
+      within = room_within;
+      left = less_frozen leaves wide;
+      none_pending = none;
+      stays = values_stay b d leaves stays;
+    }
+    frozen_once (Err Reading) step wide none leaves stays = record {
+      made = room_calls b.log.shape;
+      some = omega arith;
+      step = moves_kept (Err Reading) b d (room_calls b.log.shape) s0 s2 step;
+      within = room_within;
+      left = tt;
+      none_pending = none;
+      stays = values_stay b d leaves stays;
+    }
+    frozen_once (Err Stopped) step wide none leaves stays = record {
+      made = room_calls b.log.shape;
+      some = omega arith;
+      step = moves_kept (Err Stopped) b d (room_calls b.log.shape) s0 s2 step;
+      within = room_within;
+      left = tt;
+      none_pending = tt;
+      stays = tt;
+    }
+
+  pub space_frozen : (c d : Parts) (s1 s2 : BoardState) (r : Result Unit Fault) → Waits b c s0 s1 → KeepsOrReads c d (room_calls c.log.shape) s1 s2 r → OnOk r (is_tight_for d ≡ false) → OnRunning (d.log.pending ≡ []) r
+      → OnRunning (LeavesValues c d) r → OnRunning (Stays c d) r → SpacesOnce count b d s0 s2 r
+  space_frozen c d s1 s2 r waits step wide none leaves stays =
+      let kept = subst (λ (s : BoardState). KeepsOrReads b d (room_calls b.log.shape) s s2 r) waits.board (subst (λ (x : Parts). KeepsOrReads x d (room_calls x.log.shape) s1 s2 r) waits.same step) in
+      frozen_once waits.course waits.copies waits.tight d s2 r kept wide none
+      (subst (λ (x : Parts). OnRunning (LeavesValues x d) r) waits.same leaves) (subst (λ (x : Parts). OnRunning (Stays x d) r) waits.same stays)
+
+-- where the moves wanted a freeze
+pub waits_is : (b c : Parts) (s0 s1 : BoardState) (x : Reclaimed) → x ≡ NeedsFreeze → DoesReclaim b c s0 s1 x → Waits b c s0 s1
+waits_is b c s0 s1 x is made = subst (λ y. DoesReclaim b c s0 s1 y) is made
+
+-- ---- several steps
+
+-- So many calls were made, the map is kept, and less is left.
+pub record Spacing (count : ℕ) (a : Parts) (s0 : BoardState) (b : Parts) (s : BoardState) : Type 0 where
+  pub made : ℕ
+  pub step : MovesOrReads {T = Unit {0}} a b made s0 s (Ok tt)
+  pub may : MayStep b s
+  pub none_pending : b.log.pending ≡ []
+  pub left : made + space_left count b ≤ space_left count a
+  pub stays : StaysSame a b
+
+pub spacing_begin : (count : ℕ) (a : Parts) (s0 : BoardState) → MaySpace count a s0 → Spacing count a s0 a s0
+spacing_begin count a s0 may = record {
+  made = 0;
+  step = moves_none a s0 may.may.ready;
+  may = may.may;
+  none_pending = may.none_pending;
+  left = omega arith;
+  stays = stays_none a;
+}
+
+module _ (count : ℕ) (a : Parts) (s0 : BoardState) (b : Parts) (s : BoardState) (ready : IsReady s0 a.log.shape) (on : Spacing count a s0 b s) where
+  pub may_space : MaySpace count a s0 → MaySpace count b s
+  may_space may = record {
+    may = on.may;
+    none_pending = on.none_pending;
+    number = (let few = may.number in let most = on.step.roots_few in let left = on.left in omega (arith, few, most, left));
+  }
+
+  pub most_still : count ≤ most_pages a.log.shape → count ≤ most_pages b.log.shape
+  most_still most = subst (λ (x : Shape). count ≤ most_pages x) (sym on.stays.same_shape) most
+
+  pub spacing_more : (c : Parts) (s1 : BoardState) → SpacesOnce count b c s s1 (Ok tt) → Spacing count a s0 c s1
+  spacing_more c s1 once = record {
+    made = on.made + once.made;
+    step = moves_later (Ok tt) a b c on.made once.made (on.made + once.made) s0 s s1 ready on.stays.same_shape (omega arith) on.step.came.0 (passes_moved a b on.made s0 s on.step) once.step;
+    may = may_moved b c once.made s s1 on.may once.stays.same_shape once.step;
+    none_pending = once.none_pending;
+    left = (let first = on.left in let second = once.left in omega (arith, first, second));
+    stays = stays_both a b c on.stays once.stays;
+  }
+
+  pub less_spacing : (c : Parts) (s1 : BoardState) → SpacesOnce count b c s s1 (Ok tt) → space_left count c < space_left count b
+  less_spacing c s1 once = let some = once.some in let left = once.left in omega (arith, some, left)
+
+  pub spacing_end : MovesOrReads {T = Unit {0}} a b (space_left count a) s0 s (Ok tt)
+  spacing_end = let left = on.left in moves_within a b on.made (space_left count a) s0 s (omega (arith, left)) on.step
+
+  spacing_broken : (e : Fault) (c : Parts) (s1 : BoardState) → SpacesOnce count b c s s1 (Err e) → MovesOrReads {T = Unit {0}} a c (space_left count a) s0 s1 (Err e)
+  spacing_broken e c s1 once =
+      let left = on.left in
+      let within = once.within in
+      moves_later (Err e) a b c on.made once.made (space_left count a) s0 s s1 ready on.stays.same_shape (omega (arith, left, within)) on.step.came.0 (passes_moved a b on.made s0 s on.step) once.step
+
+  pub spacing_failed : (e : Fault) (c : Parts) (s1 : BoardState) → SpacesOnce count b c s s1 (Err e) → MovesOrReads {T = Unit {0}} a c (space_left count a) s0 s1 (Err e)
+  spacing_failed e c s1 once = spacing_broken e c s1 once
+
+  pub failed_none : (e : Fault) (c : Parts) (s1 : BoardState) → SpacesOnce count b c s s1 (Err e) → OnRunning {T = Unit {0}} (c.log.pending ≡ []) (Err e)
+  failed_none e c s1 once = once.none_pending
+
+  pub failed_stays : (e : Fault) (c : Parts) (s1 : BoardState) → SpacesOnce count b c s s1 (Err e) → OnRunning {T = Unit {0}} (StaysSame a c) (Err e)
+  failed_stays Reading c s1 once = stays_both a b c on.stays once.stays
+  failed_stays Stopped c s1 once = tt
+
+-- ---- whether there is more to do
+
+or_both : (x y : Bool) → (x || y) ≡ false → y ≡ false
+or_both true y e = absurd (true_false e)
+or_both false y e = e
+
+or_either : (x y : Bool) → (x || y) ≡ true → (x ≡ true) ⊎ (y ≡ true)
+or_either true y e = inl refl
+or_either false y e = inr e
+
+pub awaits_is : (count : ℕ) (d : Parts) → (runs_in d.reclaim.phase || needs count d) ≡ true → Awaits count d
+awaits_is count d e = or_either (runs_in d.reclaim.phase) (needs count d) e
+
+pub room_is : (count : ℕ) (d : Parts) → (runs_in d.reclaim.phase || needs count d) ≡ false → needs count d ≡ false
+room_is count d e = or_both (runs_in d.reclaim.phase) (needs count d) e

@@ -1,0 +1,364 @@
+-- A key gets a value, wherever that has room.
+use Rattle.std.proofs.Common.{◌≡◌, ◌⊎◌, inl, inr, ℕ, ◌+◌, ◌-◌, ◌≤◌, ◌<◌, Bool, true, false, List, [], length, refl, sym, ap, subst, ◌∙◌, arith, nat_le, Option, Some, Result, Ok, Err}
+use Rattle.std.specs.Prelude.{◌&&◌, not, OnOk}
+use Rattle.std.specs.FinMap.{insert}
+use Rattle.std.specs.FinMap.Entries.{find}
+use Rattle.pk_base.specs.Entry.{Entry, Place}
+use Rattle.pk_base.specs.Key.{Key, key_cmp}
+use Rattle.pk_base.specs.Page.{Flash}
+use Rattle.pk_base.specs.Map.{Map}
+use Rattle.pk_base.specs.Shape.{Shape, IsShape, data_blocks, charge, greatest, page_entries}
+use Rattle.pk_plan.specs.declared.owner.Owner.TheVariants.{Values}
+use Rattle.pk_pool.specs.Blocks.{used_by}
+use Rattle.pk_nand.specs.declared.types.Fault.{Fault}
+use Rattle.pk_nand.specs.declared.types.Fault.TheVariants.{Reading, Stopped}
+use Rattle.pk_nand.specs.BoardState.{BoardState}
+use Rattle.pk_nand.specs.Calls.{IsReady, last_count}
+use Rattle.pk_nand.specs.Effects.{OnlyFlash}
+use Rattle.pk_model.specs.Found.{Found}
+use Rattle.pk_model.specs.Growth.{Reaches, Goes}
+use Rattle.pk_model.specs.Crashes.{CrashFinds, commit, change}
+use Rattle.pk_model.specs.Wear.{roots}
+use Rattle.pk_work.specs.Rest.{whole_reclaim}
+use Rattle.pk_work.specs.Calls.{room_calls, space_calls}
+use Rattle.pk_steps.specs.Under.{places}
+use Rattle.pk_gc.specs.declared.course.Phase.{Phase}
+use Rattle.pk_gc.specs.declared.course.Phase.TheVariants.{Idle, Copies, GivesBack}
+use Rattle.pk_gc.specs.Standing.{held_blocks, ReclaimStands}
+use Rattle.pk_gc.specs.Stepping.{runs_in}
+use Rattle.pk_log.specs.State.{needs_freeze}
+use Rattle.pk_data.specs.State.{fits_open}
+use Rattle.pk_core.specs.Parts.{Parts, counts_of, outputs_of, frames_of}
+use Rattle.pk_core.specs.Agreeing.{DriveOnFlash}
+use Rattle.pk_core.specs.Moves.{StandsFor, MayStep, KeepsAll, BreaksAll, StepKeeps, LeavesValues}
+use Rattle.pk_core.specs.Emptying.{StepOrRead, OnRunning}
+use Rattle.pk_core.specs.Staying.{Stays, StaysFresh, StaysOrOpens, IsNoted}
+use Rattle.pk_core.specs.Quiet.{ReadsOnly, ReadsFailing, Looks}
+use Rattle.pk_core.specs.Changes.{MayPut, CanPut, Changes, PutsAll, FailsToPut, PutsOrReads, StaysBetween}
+use Rattle.pk_core.specs.Programming.{PutsQuietly, ReadsNone}
+use Rattle.pk_core.specs.Reclaiming.{CannotRead, is_tight_for}
+use Rattle.pk_core.specs.Spacing.{SameMapAll, MovesOrReads, StaysSame, where_so, needs, steps_for, has_moves, space_left, MaySpace, MayStore, StoresAll, FailsToStore, StoresOrReads, CanStore}
+use Rattle.pk_core.proofs.Changing.{kept_goes}
+use Rattle.pk_core.proofs.Emptied.{keeps_reads, passes_keeps}
+use Rattle.pk_core.proofs.Keeping.{board_has}
+use Rattle.pk_core.proofs.Putting.{later_reaches, later_goes}
+use Rattle.pk_core.proofs.ReadSteps.{Passes, passes_none, reading_then, reading_failed, running_says}
+use Rattle.pk_core.proofs.Reclaiming.{reclaim_within}
+use Rattle.pk_core.proofs.Rooming.{entries_some}
+use Rattle.pk_core.proofs.SameMaps.{same_of, same_unread, moves_later, moves_kept, moves_failed, passes_moved, SameMapAll-then, stays_both}
+use Rattle.pk_core.proofs.SpaceSteps.{wanted_full, values_stay}
+use Rattle.pk_core.proofs.Standing.{found_once, agrees_so}
+use Rattle.pk_core.proofs.Staying.{fresh_then, stays_opens, stays_same}
+use Rattle.pk_core.proofs.Steps.{may_after}
+
+true_false : true ≡ false → ⊥
+true_false e = cc
+
+-- ---- how much the reclaims take
+
+where_few : (b : Bool) (n : ℕ) → where_so b n ≤ n
+where_few true n = omega arith
+where_few false n = omega arith
+
+steps_most : (p : Phase) (count : ℕ) (d : Parts) (flash : Flash) (es : List (Key × Place)) → ReclaimStands p d.log.shape d.reclaim d.space.live flash es → steps_for p count d ≤ whole_reclaim d.log.shape + 1
+steps_most Idle count d flash es stands = let few = where_few (needs count d) (whole_reclaim d.log.shape) in omega (arith, few)
+steps_most (Copies c) count d flash es stands = let few = reclaim_within (Copies c) d.log.shape true d.reclaim d.space.live flash es stands in omega (arith, few)
+steps_most (GivesBack victim) count d flash es stands = let few = where_few (needs count d) (whole_reclaim d.log.shape) in omega (arith, few)
+
+space_most : (count : ℕ) (d : Parts) (board : BoardState) → MayStep d board → space_left count d + 1 ≤ space_calls d.log.shape
+space_most count d board may =
+    let there = may.stands.1 in
+    let steps = steps_most d.reclaim.phase count d board.pages (places there.found d.log.pending) there.with.reclaim.stands in
+    let room = where_few (has_moves d.reclaim.phase count d && is_tight_for d) (room_calls d.log.shape) in
+    omega (arith, steps, room)
+
+-- ---- behind a commit
+
+module _ (count : ℕ) (a b : Parts) (s0 s1 : BoardState) (may : MayStep a s0) (same : b.log.shape ≡ a.log.shape) (step : StepKeeps {T = Unit {0}} a b 0 s0 s1 (Ok tt)) where
+  may_committed : MayStep b s1
+  may_committed = may_after a b 0 s0 s1 tt may same step
+
+  calls_same : space_calls b.log.shape ≡ space_calls a.log.shape
+  calls_same = ap (λ (s : Shape). space_calls s) same
+
+  pub space_committed : b.log.pending ≡ [] → roots s0 + space_calls a.log.shape < 18446744073709551615 → MaySpace count b s1
+  space_committed none number = record {
+    may = may_committed;
+    none_pending = none;
+    number = (
+        let most = space_most count b s1 may_committed in
+        let calls = calls_same in
+        let roots_same = step.roots_few in
+        omega (arith, number, most, calls, roots_same));
+  }
+
+  pub space_made : (r : Result Unit Fault) (c : Parts) (s2 : BoardState) → MovesOrReads b c (space_left count b) s1 s2 r → MovesOrReads a c (space_calls a.log.shape) s0 s2 r
+  space_made r c s2 second =
+      let most = space_most count b s1 may_committed in
+      let calls = calls_same in
+      moves_later r a b c 0 (space_left count b) (space_calls a.log.shape) s0 s1 s2 may.ready same (omega (arith, most, calls)) (same_of a b s0 s1 step.ended) (passes_keeps tt a b 0 s0 s1 step) second
+
+pub space_not_made : (e : Fault) (a b : Parts) (s0 s1 : BoardState) → StepKeeps {T = Unit {0}} a b 0 s0 s1 (Err e) → MovesOrReads {T = Unit {0}} a b (space_calls a.log.shape) s0 s1 (Err e)
+space_not_made e a b s0 s1 step = moves_failed e a b 0 (space_calls a.log.shape) s0 s1 (omega arith) (moves_kept (Err e) a b 0 s0 s1 (keeps_reads (Err e) a b 0 s0 s1 step))
+
+pub stays_made : (r : Result Unit Fault) (a b c : Parts) → LeavesValues a b → Stays a b → OnRunning (StaysSame b c) r → OnRunning (StaysSame a c) r
+stays_made r a b c leaves stays second = running_says (StaysSame b c) (StaysSame a c) r (stays_both a b c (values_stay a b leaves stays)) second
+
+-- ---- a look-up finds the former value
+
+reaches_behind : (shape : Shape) (old new : BoardState) (n : ℕ) (P : Flash → List ℕ → Type 0) → Reaches shape (record old { reads = n }) new P → Reaches shape old new P
+reaches_behind shape old new n P run = (run.0, record { trail = run.1.trail; posted = run.1.posted; same_shape = run.1.same_shape; cuts = run.1.cuts; stands = run.1.stands }, run.2)
+
+goes_behind : (shape : Shape) (old new : BoardState) (n : ℕ) (P : Flash → List ℕ → Type 0) → Goes shape (record old { reads = n }) new P → Goes shape old new P
+goes_behind shape old new n P run = (run.0, record { trail = run.1.trail; posted = run.1.posted; same_shape = run.1.same_shape; cuts = run.1.cuts; stands = run.1.stands }, run.2)
+
+pub its_drive : (d : Parts) (board : BoardState) (key : Key) (value : List ℕ) → CanStore d board key value → DriveOnFlash d board.shape board.pages
+its_drive d board key value can = agrees_so d board.shape d.log.shape board.pages can.may.0 can.ready.shape_is can.may.1.stands
+
+module _ (d : Parts) (flash : Flash) (key : Key) (value : List ℕ) (p : Option Place) (looks : Looks d flash key p) where
+  found_may : (shape : Shape) (m : Map) → MayStore d shape flash m key value → MayPut d shape flash m key value p
+  found_may shape m may =
+      let P : Shape → Type 0 = λ s. MayStore d s flash m key value → MayPut d s flash m key value p in
+      let here : P d.log.shape = λ is. record {
+        stands = is.stands;
+        old_is = (looks is.stands.top is.stands.found m is.stands.with.index.logs is.stands.with.index.stand is.stands.with.pending).placed;
+        bytes = is.bytes;
+        room = is.room;
+      } in
+      subst P may.stands.with.shape_is here may
+
+  pub found_can : (e : Parts) (s0 s1 : BoardState) → e ≡ d → s0.pages ≡ flash → s1.pages ≡ s0.pages → IsReady s1 d.log.shape → CanStore d s0 key value → CanPut e s1 key value p
+  found_can e s0 s1 same was pages ready can =
+      let T : Parts → Type 0 = λ x. CanPut x s1 key value p in
+      let M : Flash → Type 0 = λ f. MayStore d d.log.shape f can.may.0 key value in
+      let Q : Flash → Type 0 = λ f. MayPut d d.log.shape f can.may.0 key value p in
+      let put : Q flash = found_may d.log.shape can.may.0 (subst M was can.may.1) in
+      subst T (sym same) (record { ready = ready; may = (can.may.0, subst Q (sym (pages ∙ was)) put); short = can.short; few = can.few })
+
+-- the map changes behind the reads of a look-up
+module _ (d c : Parts) (s0 s2 : BoardState) (n : ℕ) (key : Key) (value : List ℕ) (p : Option Place) (looks : Looks d s0.pages key p) (up : s0.reads ≤ n) (few : n ≤ s0.reads + 4) where
+  abbrev mid : BoardState
+  mid = record s0 { reads = n }
+
+  looked_passes : Passes 4 s0 mid
+  looked_passes = record { no_fault = (refl, refl, refl, refl); rest = refl; reads = record { up = up; few = few }; roots_few = omega arith }
+
+  stores_looked : PutsAll d c mid s2 key value p → StoresAll d c s0 s2 key value
+  stores_looked puts shape m may =
+      let is = puts shape m (found_may d s0.pages key value p looks shape m may) in
+      record { stands = is.stands; cuts = reaches_behind shape s0 s2 n (CrashFinds shape (change (insert m key value)) s0.pages m) is.cuts }
+
+  keeps_looked : KeepsAll d c mid s2 → SameMapAll d c s0 s2
+  keeps_looked keeps shape m stands =
+      let is = keeps shape m stands in
+      record { stands = is.stands; still = is.still; cuts = reaches_behind shape s0 s2 n (CrashFinds shape commit s0.pages m) is.cuts }
+
+  fails_looked : FailsToPut d mid s2 key value p → FailsToStore d s0 s2 key value
+  fails_looked fails shape m may = goes_behind shape s0 s2 n (CrashFinds shape (change (insert m key value)) s0.pages m) (fails shape m (found_may d s0.pages key value p looks shape m may))
+
+  found_at : (r : Result Unit Fault) (k : ℕ) → PutsOrReads d c k mid s2 key value p r → StoresOrReads d c (4 + k) s0 s2 key value r
+  found_at r k second =
+      reading_then r (λ (x : Unit). PutsAll d c mid s2 key value p) (λ (x : Unit). StoresAll d c s0 s2 key value) (KeepsAll d c mid s2) (SameMapAll d c s0 s2) (FailsToPut d mid s2 key value p) (FailsToStore d s0 s2 key value)
+      d.log.shape 4 k (4 + k) s0 mid s2 (omega arith) looked_passes (λ x puts. stores_looked puts) keeps_looked fails_looked second
+
+pub found_stores : (r : Result Unit Fault) (d e c : Parts) (s0 s1 s2 : BoardState) (key : Key) (value : List ℕ) (p : Option Place) → e ≡ d → Looks d s0.pages key p → ReadsOnly s0 s1 (4 - d.levels.pinned)
+    → PutsOrReads e c (room_calls e.log.shape) s1 s2 key value p r → StoresOrReads d c (4 + room_calls d.log.shape) s0 s2 key value r
+found_stores r d e c s0 s1 s2 key value p same looks made second =
+    let within = made.within in
+    let here = subst (λ (x : Parts). PutsOrReads x c (room_calls x.log.shape) s1 s2 key value p r) same second in
+    let there = subst (λ (s : BoardState). PutsOrReads d c (room_calls d.log.shape) s s2 key value p r) made.board here in
+    found_at d c s0 s2 s1.reads key value p looks made.up (omega (arith, within)) r (room_calls d.log.shape) there
+
+-- a read of the look-up failed
+unread_parts : (d e : Parts) (s0 s1 : BoardState) (most : ℕ) → e ≡ d → ReadsFailing s0 s1 most → CannotRead d e s0 s1
+unread_parts d e s0 s1 most same made =
+    let T : Parts → Type 0 = λ x. CannotRead d x s0 s1 in
+    subst T (sym same) (record { rest = refl; stands = λ shape m stands. stands; only = made.board; read = made.rose; flash = made.flash })
+
+pub found_unread : (d e : Parts) (s0 s1 : BoardState) (k : ℕ) (key : Key) (value : List ℕ) → e ≡ d → s0.read_faults ≤ last_count → ReadsFailing s0 s1 (4 - d.levels.pinned) → IsReady s1 d.log.shape
+    → StoresOrReads d e (4 + k) s0 s1 key value (Err Reading)
+found_unread d e s0 s1 k key value same few made ready =
+    let up = made.up in
+    let within = made.within in
+    let rose = made.rose in
+    let T : BoardState → Type 0 = λ s. OnlyFlash s0 s in
+    let roots_same : roots s1 ≡ roots s0 = ap (λ (s : BoardState). roots s) made.board in
+    record {
+      came = (same_unread d e s0 s1 (unread_parts d e s0 s1 (4 - d.levels.pinned) same made), record { read = rose; up = omega (arith, rose, few); flash = made.flash; no_stop = ap (λ (s : BoardState). s.stop_faults) made.board });
+      rest = subst T (sym made.board) refl;
+      reads = record { up = up; few = omega (arith, within) };
+      roots_few = omega (arith, roots_same);
+      ready = ready;
+    }
+
+pub between_same : (d e : Parts) → e ≡ d → length d.log.pending < page_entries d.log.shape → StaysBetween d e
+between_same d e same few = let T : Parts → Type 0 = λ x. StaysBetween d x in subst T (sym same) (record { frames = refl; stopped = refl; same_shape = refl; few = few })
+
+pub between_from : (r : Result Unit Fault) (d e c : Parts) → e ≡ d → OnRunning (StaysBetween e c) r → OnRunning (StaysBetween d c) r
+between_from r d e c same is = subst (λ (x : Parts). OnRunning (StaysBetween x c) r) same is
+
+pub opens_looked : (r : Result Unit Fault) (d e c : Parts) (size : ℕ) → e ≡ d → OnRunning (StaysOrOpens e c (charge e.log.shape size)) r → OnRunning (StaysOrOpens d c (charge d.log.shape size)) r
+opens_looked r d e c size same is = subst (λ (x : Parts). OnRunning (StaysOrOpens x c (charge x.log.shape size)) r) same is
+
+-- ---- behind the reclaims
+
+module _ (a b : Parts) (s0 s1 : BoardState) (n : ℕ) (key : Key) (value : List ℕ) (can : CanStore a s0 key value) (stays : StaysSame a b) (none : b.log.pending ≡ []) (step : MovesOrReads {T = Unit {0}} a b n s0 s1 (Ok tt)) where
+  no_entries : length b.log.pending ≡ 0
+  no_entries = ap (λ (es : List Entry). length es) none
+
+  pub can_behind : CanStore b s1 key value
+  can_behind =
+      let m = can.may.0 in
+      let may = can.may.1 in
+      let P : Shape → Type 0 = λ s. MayStore b s s1.pages m key value in
+      let some = entries_some a.log.shape may.stands.with.index.logs.is_shape in
+      let empty = no_entries in
+      record {
+        ready = subst (λ (s : Shape). IsReady s1 s) (sym stays.same_shape) step.ready;
+        may = (m, subst P (sym stays.same_shape) (record { stands = (step.came.0 a.log.shape m may.stands).stands; bytes = may.bytes; room = may.room }));
+        short = subst (λ (s : Shape). length value ≤ greatest s) (sym stays.same_shape) can.short;
+        few = subst (λ (s : Shape). length b.log.pending < page_entries s) (sym stays.same_shape) (omega (arith, some, empty));
+      }
+
+  pub room_behind : needs (charge a.log.shape (length value)) b ≡ false → needs (charge b.log.shape (length value)) b ≡ false
+  room_behind room = subst (λ (s : Shape). needs (charge s (length value)) b ≡ false) (sym stays.same_shape) room
+
+  pub numbers_behind : roots s0 + (n + room_calls a.log.shape) < 18446744073709551615 → roots s1 + room_calls b.log.shape < 18446744073709551615
+  numbers_behind few =
+      let most = step.roots_few in
+      let calls : room_calls b.log.shape ≡ room_calls a.log.shape = ap (λ (s : Shape). room_calls s) stays.same_shape in
+      omega (arith, few, most, calls)
+
+  module _ (c : Parts) (s2 : BoardState) where
+    store_may : (shape : Shape) (m : Map) → MayStore a shape s0.pages m key value → MayStore b shape s1.pages m key value
+    store_may shape m may = record { stands = (step.came.0 shape m may.stands).stands; bytes = may.bytes; room = may.room }
+
+    stores_then : StoresAll b c s1 s2 key value → StoresAll a c s0 s2 key value
+    stores_then stores shape m may =
+        let one = step.came.0 shape m may.stands in
+        let later = stores shape m (store_may shape m may) in
+        record { stands = later.stands; cuts = later_reaches shape s0 s1 (board_has a s0 shape m can.ready may.stands) m (insert m key value) one.cuts one.still s2 later.cuts }
+
+    fails_then : FailsToStore b s1 s2 key value → FailsToStore a s0 s2 key value
+    fails_then fails shape m may =
+        let one = step.came.0 shape m may.stands in
+        later_goes shape s0 s1 (board_has a s0 shape m can.ready may.stands) m (insert m key value) one.cuts one.still s2 (fails shape m (store_may shape m may))
+
+    pub stores_behind : (r : Result Unit Fault) → StoresOrReads b c (4 + room_calls b.log.shape) s1 s2 key value r → StoresOrReads a c (n + (4 + room_calls a.log.shape)) s0 s2 key value r
+    stores_behind r second =
+        let here = subst (λ (s : Shape). StepOrRead (λ (x : Unit). StoresAll b c s1 s2 key value) (SameMapAll b c s1 s2) (FailsToStore b s1 s2 key value) s (4 + room_calls s) s1 s2 r) stays.same_shape second in
+        reading_then r (λ (x : Unit). StoresAll b c s1 s2 key value) (λ (x : Unit). StoresAll a c s0 s2 key value) (SameMapAll b c s1 s2) (SameMapAll a c s0 s2) (FailsToStore b s1 s2 key value) (FailsToStore a s0 s2 key value)
+        a.log.shape n (4 + room_calls a.log.shape) (n + (4 + room_calls a.log.shape)) s0 s1 s2 (omega arith) (passes_moved a b n s0 s1 step)
+        (λ x stores. stores_then stores) (λ same. SameMapAll-then a b c s0 s1 s2 can.ready step.came.0 same) fails_then here
+
+pub stores_failed : (e : Fault) (a b : Parts) (s0 s1 : BoardState) (n most : ℕ) (key : Key) (value : List ℕ) → CanStore a s0 key value → n ≤ most → MovesOrReads {T = Unit {0}} a b n s0 s1 (Err e) → StoresOrReads a b most s0 s1 key value (Err e)
+stores_failed e a b s0 s1 n most key value can few step =
+    reading_failed e (λ (x : Unit). SameMapAll a b s0 s1) (λ (x : Unit). StoresAll a b s0 s1 key value) (SameMapAll a b s0 s1) (SameMapAll a b s0 s1) (BreaksAll a s0 s1) (FailsToStore a s0 s1 key value)
+    a.log.shape n most s0 s1 few (λ same. same) (λ breaks shape m may. kept_goes shape s0 s1 (board_has a s0 shape m can.ready may.stands) m (insert m key value) (breaks shape m may.stands)) step
+
+-- ---- what stays
+
+between_both : (a b c : Parts) → StaysSame a b → StaysBetween b c → StaysBetween a c
+between_both a b c first second = record {
+  frames = second.frames ∙ first.frames;
+  stopped = second.stopped ∙ first.stopped;
+  same_shape = second.same_shape ∙ first.same_shape;
+  few = subst (λ (s : Shape). length c.log.pending < page_entries s) first.same_shape second.few;
+}
+
+pub stays_behind : (r : Result Unit Fault) (a b c : Parts) → StaysSame a b → OnRunning (StaysBetween b c) r → OnRunning (StaysBetween a c) r
+stays_behind r a b c first second = running_says (StaysBetween b c) (StaysBetween a c) r (between_both a b c first) second
+
+-- where the reclaims failed
+stays_none : (a b : Parts) → IsShape a.log.shape → StaysSame a b → b.log.pending ≡ [] → StaysBetween a b
+stays_none a b is same none =
+    let some = entries_some a.log.shape is in
+    let empty = ap (λ (es : List Entry). length es) none in
+    record { frames = same.frames; stopped = same.stopped; same_shape = same.same_shape; few = omega (arith, some, empty) }
+
+pub stays_failed : (e : Fault) (a b : Parts) (s0 : BoardState) (key : Key) (value : List ℕ) → CanStore a s0 key value → OnRunning {T = Unit {0}} (StaysSame a b) (Err e) → OnRunning {T = Unit {0}} (b.log.pending ≡ []) (Err e)
+    → OnRunning {T = Unit {0}} (StaysBetween a b) (Err e)
+stays_failed Reading a b s0 key value can same none = stays_none a b can.may.1.stands.with.index.logs.is_shape same none
+stays_failed Stopped a b s0 key value can same none = tt
+
+pub fresh_behind : (r : Result Unit Fault) (a b c : Parts) (count : ℕ) → StaysSame a b → OnRunning (StaysOrOpens b c count) r → OnRunning (StaysFresh a c) r
+fresh_behind r a b c count first second = running_says (StaysOrOpens b c count) (StaysFresh a c) r (λ is. fresh_then a b c first.fresh is.fresh) second
+
+pub fresh_failed : (e : Fault) (a b : Parts) → OnRunning {T = Unit {0}} (StaysSame a b) (Err e) → OnRunning {T = Unit {0}} (StaysFresh a b) (Err e)
+fresh_failed e a b same = running_says {T = Unit {0}} (StaysSame a b) (StaysFresh a b) (Err e) (λ is. is.fresh) same
+
+-- ---- no more blocks are in use
+
+blocks_most : (d : Parts) (shape : Shape) (flash : Flash) (m : Map) → StandsFor d shape flash m → (counts_of d).blocks ≤ data_blocks shape - 1
+blocks_most d shape flash m stands = let few = stands.with.placed.few in omega (arith, few)
+
+blocks_at : (p : Phase) (used all : ℕ) → all - 1 ≤ used → (runs_in p ≡ true → used ≡ all) → all - 1 ≤ used - length (held_blocks p)
+blocks_at Idle used all least full = omega (arith, least)
+blocks_at (Copies c) used all least full = let same = full refl in omega (arith, same)
+blocks_at (GivesBack victim) used all least full = let same = full refl in omega (arith, same)
+
+blocks_least : (d : Parts) (flash : Flash) (m : Map) (count : ℕ) → StandsFor d d.log.shape flash m → needs count d ≡ true → data_blocks d.log.shape - 1 ≤ (counts_of d).blocks
+blocks_least d flash m count stands wanted = blocks_at d.reclaim.phase (used_by Values d.pool.states) (data_blocks d.log.shape) (wanted_full d count wanted) stands.with.reclaim.full
+
+not_left : (x y : Bool) → (not x && y) ≡ true → x ≡ false
+not_left true y e = absurd (true_false (sym e))
+not_left false y e = refl
+
+pub no_fit : (d : Parts) (count : ℕ) → needs count d ≡ true → fits_open d.log.shape d.space count ≡ false
+no_fit d count wanted = not_left (fits_open d.log.shape d.space count) (nat_le (data_blocks d.log.shape - 1) (used_by Values d.pool.states)) wanted
+
+module _ (a : Parts) (s0 : BoardState) (key : Key) (value : List ℕ) (count : ℕ) (can : CanStore a s0 key value) (wanted : needs count a ≡ true) where
+  makes_room : (c : Parts) (s2 : BoardState) (m : Map) → StandsFor c a.log.shape s2.pages m → StaysFresh a c → StaysOrOpens a c count
+  makes_room c s2 m stands fresh =
+      let most = blocks_most c a.log.shape s2.pages m stands in
+      let least = blocks_least a s0.pages can.may.0 count can.may.1.stands wanted in
+      record { fresh = fresh; blocks = inr (inr (record { no_room = no_fit a count wanted; no_more = omega (arith, most, least) })) }
+
+  pub opens_behind : (r : Result Unit Fault) (c : Parts) (s2 : BoardState) (most : ℕ) → StoresOrReads a c most s0 s2 key value r → OnRunning (StaysFresh a c) r → OnRunning (StaysOrOpens a c count) r
+  opens_behind (Ok x) c s2 most step fresh = makes_room c s2 (insert can.may.0 key value) (step.came.0 a.log.shape can.may.0 can.may.1).stands fresh
+  opens_behind (Err Reading) c s2 most step fresh = makes_room c s2 can.may.0 (step.came.0 a.log.shape can.may.0 can.may.1.stands).stands fresh
+  opens_behind (Err Stopped) c s2 most step fresh = tt
+
+  -- such a value has no room in the open block
+  pub no_quiet : (r : Result Unit Fault) (s2 : BoardState) → OnOk r (PutsQuietly a key count s0 s2)
+  no_quiet (Ok x) s2 = λ none fits. absurd (true_false (sym fits ∙ no_fit a count wanted))
+  no_quiet (Err e) s2 = tt
+
+  pub no_reads : (r : Result Unit Fault) (s2 : BoardState) → OnOk r (ReadsNone a key count s0 s2)
+  no_reads (Ok x) s2 = λ fits. absurd (true_false (sym fits ∙ no_fit a count wanted))
+  no_reads (Err e) s2 = tt
+
+-- ---- where it has room
+
+pub store_can : (d : Parts) (board : BoardState) (key : Key) (value : List ℕ) (p : Option Place) → CanPut d board key value p → CanStore d board key value
+store_can d board key value p can = record {
+  ready = can.ready;
+  may = (can.may.0, record { stands = can.may.1.stands; bytes = can.may.1.bytes; room = can.may.1.room });
+  short = can.short;
+  few = can.few;
+}
+
+module _ (d : Parts) (s0 : BoardState) (key : Key) (value : List ℕ) (p : Option Place) (can : CanPut d s0 key value p) where
+  put_may : (shape : Shape) (m : Map) → MayStore d shape s0.pages m key value → MayPut d shape s0.pages m key value p
+  put_may shape m may =
+      let P : Shape → Type 0 = λ s. MayStore d s s0.pages m key value → MayPut d s s0.pages m key value p in
+      let was = can.may.1 in
+      let here : P d.log.shape = λ is. record {
+        stands = is.stands;
+        old_is = ap (λ (f : Found). find key_cmp key (places f d.log.pending)) (found_one is.stands) ∙ was.old_is;
+        bytes = is.bytes;
+        room = is.room;
+      } in
+      subst P may.stands.with.shape_is here may
+    where
+      found_one : (stands : StandsFor d d.log.shape s0.pages m) → stands.found ≡ can.may.1.stands.found
+      found_one stands = found_once d d d.log.shape s0.pages can.may.1.stands.top stands.top can.may.1.stands.found stands.found can.may.1.stands.without can.may.0 stands.without m can.may.1.stands.with stands.with
+
+  pub put_stores : (r : Result Unit Fault) (c : Parts) (s2 : BoardState) (n most : ℕ) → n ≤ most → PutsOrReads d c n s0 s2 key value p r → StoresOrReads d c most s0 s2 key value r
+  put_stores r c s2 n most few step =
+      reading_then r (λ (x : Unit). PutsAll d c s0 s2 key value p) (λ (x : Unit). StoresAll d c s0 s2 key value) (KeepsAll d c s0 s2) (SameMapAll d c s0 s2) (FailsToPut d s0 s2 key value p) (FailsToStore d s0 s2 key value)
+      d.log.shape 0 n most s0 s0 s2 (omega (arith, few)) (passes_none s0) (λ x puts shape m may. puts shape m (put_may shape m may)) (λ keeps. same_of d c s0 s2 keeps) (λ fails shape m may. fails shape m (put_may shape m may)) step
+
+pub reads_if_room : (r : Result Unit Fault) (d : Parts) (key : Key) (count : ℕ) (old new : BoardState) → OnOk r (needs_freeze d.log key ≡ false → new.reads ≡ old.reads) → OnOk r (ReadsNone d key count old new)
+reads_if_room (Ok x) d key count old new quiet = λ fits. quiet
+reads_if_room (Err e) d key count old new quiet = tt

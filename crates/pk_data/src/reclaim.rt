@@ -1,0 +1,98 @@
+//! A step of a reclaim.
+ghost use Rattle.std.specs.Prelude.{◌≡◌, length, IfOk, IfErr, OnErr};
+ghost use Rattle.pk_nand.specs.Calls.{IsReady};
+ghost use Rattle.pk_nand.specs.declared.types.Fault.TheVariants.{Reading};
+ghost use Rattle.pk_pool.specs.Blocks.{PoolOnFlash};
+ghost use Rattle.pk_jrn.specs.Epochs.{AreBlocks, EpochOnFlash};
+ghost use Rattle.pk_gc.specs.Stepping.{CanStep, Steps};
+ghost use Rattle.pk_gc.specs.Breaking.{Breaks};
+ghost use Rattle.pk_data.specs.State.{IsSmall};
+ghost use Rattle.pk_data.specs.Reclaiming.{IsFront, front_of as front_value, hands_of};
+
+use crate::data_space::Data;
+use crate::open_block::OpenBlock;
+use pk_buf::Buffer;
+use pk_gc::{OpenBlock as Front, ReclaimJob, Reclaimed};
+use pk_jrn::Epoch;
+use pk_nand::{Fault, Nand};
+use pk_pool::Pool;
+use pk_region::Region;
+
+// The open block, as a reclaim is handed it.
+fn front_of(open_block: Option<OpenBlock>) -> Front
+    ensures { result ≡ front_value open_block }
+{
+    match open_block {
+        None => Front {
+            block: None,
+            used: 0,
+        },
+        Some(open) => Front {
+            block: Some(open.block),
+            used: open.used,
+        },
+    }
+}
+
+// The open block that a reclaim leaves.
+fn open_of(front: Front) -> Option<OpenBlock>
+    requires { IsFront front }
+    ensures value { front_value result ≡ front }
+    ensures small { IsSmall result }
+{
+    match front.block {
+        None => None,
+        Some(block) => Some(OpenBlock {
+            block,
+            used: front.used,
+        }),
+    }
+}
+
+impl<A: Region> Data<A> {
+    /// A step of a reclaim, which is begun where none runs; at most one call of the board. `Reading` and `Stopped` where this
+    /// call fails: the values are as before where it was a read, and not to be used any more where the drive stopped. `buf` has
+    /// the bytes of a page, which are lost.
+    pub fn reclaim_step<B: Nand>(
+        &mut self,
+        board: &mut B,
+        job: &mut ReclaimJob<A>,
+        pool: &mut Pool<A>,
+        active: &mut Buffer<A>,
+        epoch: &mut Epoch,
+        buf: &mut [u8],
+    ) -> Result<Reclaimed, Fault>
+        requires can { CanStep job.old (hands_of self.old pool.old active.old epoch.old)
+            (B.state board.old).pages }
+        requires pool_shape { pool.old.shape ≡ job.old.shape }
+        requires epoch_shape { epoch.old.shape ≡ job.old.shape }
+        requires ready { IsReady (B.state board.old) job.old.shape }
+        requires pool_fits { PoolOnFlash pool.old (B.state board.old).pages }
+        requires epoch_fits { EpochOnFlash epoch.old (B.state board.old).pages }
+        requires blocks { AreBlocks epoch.old.shape epoch.old.blocks }
+        requires room { length buf.old ≡ job.old.shape.page_bytes }
+
+        // What it did.
+        ensures steps { IfOk result (λ r. Steps job.old (hands_of self.old pool.old active.old epoch.old)
+            (B.state board.old) job.new (hands_of self.new pool.new active.new epoch.new)
+            (B.state board.new) r) }
+
+        // Or its call failed.
+        ensures breaks { IfErr result (λ e. Breaks job.old
+            (hands_of self.old pool.old active.old epoch.old) (B.state board.old) (B.state board.new) e) }
+        ensures kept { OnErr result (job.new ≡ record job.old { page = job.new.page }) }
+        ensures kept_pool { OnErr result (pool.new ≡ pool.old) }
+        ensures kept_log { OnErr result ((active.new ≡ active.old) × (epoch.new ≡ epoch.old)) }
+        ensures kept_values { IfErr result (λ e. e ≡ Reading → self.new ≡ self.old) }
+
+        // Either way all may be used again.
+        ensures shape { job.new.shape ≡ job.old.shape }
+        ensures ready { IsReady (B.state board.new) job.old.shape }
+        ensures buffer { length buf.new ≡ length buf.old }
+    {
+        let mut front = front_of(self.open_block);
+        let answer = job.step(board, pool, &mut self.live, active, epoch, &mut front, buf);
+        self.open_block = open_of(front);
+        answer
+    }
+}

@@ -1,0 +1,38 @@
+-- A reclaim, as it stands to a flash: which blocks it holds, and what their pages and the values are.
+use Rattle.std.specs.Prelude.{◌≡◌, ℕ, List, [], ◌∷◌, true}
+use Rattle.pk_base.specs.Key.{Key}
+use Rattle.pk_base.specs.Shape.{Shape, data_blocks}
+use Rattle.pk_base.specs.Page.{Flash}
+use Rattle.pk_base.specs.Entry.{Place}
+use Rattle.pk_plan.specs.declared.owner.Owner.TheVariants.{Values as for_values}
+use Rattle.pk_pool.specs.Blocks.{Blocks, used_by}
+use Rattle.pk_live.specs.Values.{Values, IsClosed}
+use Rattle.pk_gc.specs.declared.course.Course.{Course}
+use Rattle.pk_gc.specs.declared.course.Phase.{Phase}
+use Rattle.pk_gc.specs.declared.course.Phase.TheVariants.{Idle, Copies, GivesBack}
+use Rattle.pk_gc.specs.State.{JobState}
+use Rattle.pk_gc.specs.Running.{IsRunning, IsSparse}
+use Rattle.pk_gc.specs.Stepping.{runs_in}
+
+-- the blocks for values that are neither open nor closed: the output of a copy, and behind the commit the victim until it is given back
+abbrev pub held_blocks : Phase → List ℕ
+held_blocks Idle = []
+held_blocks (Copies c) = c.output ∷ []
+held_blocks (GivesBack victim) = victim ∷ []
+
+-- The live values of a closed block are being copied: at most three quarters of a block.
+pub record IsCopying (shape : Shape) (c : Course) (job : JobState) (live : Values) (flash : Flash) (es : List (Key × Place)) : Type 0 where
+  pub runs : IsRunning shape c job.moves job.page flash es
+  pub sparse : IsSparse shape c live.heads
+  pub closed : IsClosed live c.victim
+
+abbrev pub ReclaimStands : Phase → Shape → JobState → Values → Flash → List (Key × Place) → Type 0
+ReclaimStands Idle shape job live flash es = Unit {0}
+ReclaimStands (Copies c) shape job live flash es = IsCopying shape c job live flash es
+ReclaimStands (GivesBack victim) shape job live flash es = Unit {0}
+
+-- A reclaim stands to a flash on which keys have these places. While it runs, all data blocks are in use.
+pub record ReclaimOnFlash (shape : Shape) (job : JobState) (live : Values) (pool : Blocks) (flash : Flash) (es : List (Key × Place)) : Type 0 where
+  pub shape_is : job.shape ≡ shape
+  pub stands : ReclaimStands job.phase shape job live flash es
+  pub full : runs_in job.phase ≡ true → used_by for_values pool.states ≡ data_blocks shape

@@ -1,0 +1,130 @@
+-- A step of which the one call failed.
+use Rattle.std.proofs.Common.{◌≡◌, ◌≢◌, ◌⊎◌, inl, inr, ℕ, ◌+◌, ◌*◌, ◌/◌, ◌<◌, ◌≤◌, refl, sym, ap, subst, ◌∙◌, arith, true, false, List, [], ◌∷◌, Some}
+use Rattle.std.proofs.Math.Nat.{mul-le-mul_right}
+use Rattle.pk_base.specs.Key.{Key}
+use Rattle.pk_base.specs.Shape.{Shape}
+use Rattle.pk_base.specs.Page.{Flash, page_at}
+use Rattle.pk_base.specs.Entry.{Place}
+use Rattle.pk_base.specs.Map.{Map}
+use Rattle.pk_base.proofs.ShapeLemmas.{block_pages_positive}
+use Rattle.pk_nand.specs.BoardState.{BoardState}
+use Rattle.pk_nand.specs.Calls.{IsReady}
+use Rattle.pk_nand.specs.declared.types.Fault.{Fault}
+use Rattle.pk_rootfmt.specs.Root.{Root}
+use Rattle.pk_pool.specs.declared.state.BlockState.TheVariants.{Free}
+use Rattle.pk_pool.specs.Blocks.{Blocks, IsShared}
+use Rattle.pk_pool.specs.Taking.{FailsToErase}
+use Rattle.pk_pool.proofs.Sharing.{behind_roots}
+use Rattle.pk_pool.proofs.States.{free_is_not_root}
+use Rattle.pk_model.specs.Found.{Found}
+use Rattle.pk_model.specs.Growth.{Goes}
+use Rattle.pk_model.specs.Crashes.{CrashFinds, background}
+use Rattle.pk_steps.specs.Under.{places}
+use Rattle.pk_gc.specs.declared.course.Course.{Course}
+use Rattle.pk_gc.specs.declared.course.Phase.TheVariants.{Idle, Copies}
+use Rattle.pk_gc.specs.declared.moves.Move.{Move}
+use Rattle.pk_gc.specs.State.{target}
+use Rattle.pk_gc.specs.Running.{IsRunning}
+use Rattle.pk_gc.specs.Breaking.{FailsToRead, FailsToCopy}
+use Rattle.pk_data.specs.State.{DataState}
+use Rattle.pk_data.proofs.Unchanged.{none_in_spare}
+use Rattle.pk_log.specs.State.{LogState}
+use Rattle.pk_reclaim.specs.Space.{Space, SpaceOnFlash, MayReclaim, space}
+use Rattle.pk_reclaim.proofs.Owners.{spare_aside}
+use Rattle.pk_reclaim.proofs.Quiet.{IsQuiet, erase_goes, program_goes}
+use Rattle.pk_reclaim.proofs.Boards.{SameRoots, erase_low, program_low}
+use Rattle.pk_reclaim.proofs.Still.{names_of}
+use Rattle.pk_reclaim.proofs.Ready.{job_in, space_in}
+use Rattle.pk_reclaim.proofs.Copies.{quiet, in_output}
+
+-- the bytes that were read matter no more than they are held
+pub other_page : (shape : Shape) (c : Course) (moves : List Move) (page other : List ℕ) (flash : Flash) (es : List (Key × Place)) → c.held ≡ false → IsRunning shape c moves page flash es → IsRunning shape c moves other flash es
+other_page shape c moves page other flash es free runs = record {
+  is_shape = runs.is_shape;
+  other = runs.other;
+  behind_roots = runs.behind_roots;
+  victim_exists = runs.victim_exists;
+  output_exists = runs.output_exists;
+  within = runs.within;
+  room = runs.room;
+  free = runs.free;
+  written = runs.written;
+  unwritten = runs.unwritten;
+  wholes = runs.wholes;
+  held_is = λ held. absurd (not_both (sym free ∙ held));
+  few = runs.few;
+  moves_are = runs.moves_are;
+  apart = runs.apart;
+  order = runs.order;
+  covers = runs.covers;
+}
+  where
+    not_both : false ≡ true → ⊥
+    not_both e = cc
+
+module _ (log : LogState) (values : DataState) (pool : Blocks) (moves : List Move) (page : List ℕ) (old new : BoardState) (top : ℕ × Root) (found : Found) (m : Map) (ready : IsReady old log.shape) where
+  abbrev shape : Shape
+  shape = log.shape
+
+  -- ---- the erase of the output
+
+  module _ (shared : IsShared pool.shape pool.states) (stands : SpaceOnFlash (space_in log values pool moves page Idle) old.pages top found m) (f : FailsToErase pool old new) where
+    behind : 2 ≤ f.block
+    behind = behind_roots pool.shape pool.states f.block Free (λ e. free_is_not_root e) f.lowest.here shared
+
+    erased : IsQuiet log pool old top found m f.block
+    erased = record {
+      has = ready.shape_is;
+      logs = stands.logs;
+      under = stands.under;
+      names = names_of (space_in log values pool moves page Idle) old.pages top found m stands;
+      behind = behind;
+      aside = spare_aside pool f.block (inl f.lowest.here);
+      unread = λ k here. none_in_spare shape values pool [] old.pages (places found []) f.block stands.placed (inl f.lowest.here) k here;
+    }
+
+    pub erase_breaks : Goes shape old new (CrashFinds shape background old.pages m)
+    erase_breaks = erase_goes erased new f.failed
+
+    pub erase_roots : SameRoots shape old new
+    erase_roots = erase_low shape old new f.block ready (block_pages_positive shape stands.logs.is_shape) behind f.failed
+
+  -- ---- the program of a copied page
+
+  module _ (c : Course) (stands : SpaceOnFlash (space_in log values pool moves page (Copies c)) old.pages top found m) (e : Fault) (f : FailsToCopy c (job_in log moves page (Copies c)) old new e) where
+    pub copy_breaks : Goes shape old new (CrashFinds shape background old.pages m)
+    copy_breaks =
+        program_goes (quiet log values pool c moves page old new top found m ready stands) (target shape c) page (in_output log values pool c moves page old new top found m ready stands f.held) new f.failed
+
+    high : 2 * shape.block_pages ≤ target shape c
+    high =
+        let low = stands.reclaim.stands.runs.behind_roots in
+        let more : 2 * shape.block_pages ≤ c.output * shape.block_pages = mul-le-mul_right shape.block_pages low in
+        omega (arith, more)
+
+    pub copy_roots : SameRoots shape old new
+    copy_roots = program_low shape old new (target shape c) page ready high f.failed
+
+  -- ---- a read
+
+  module _ (c : Course) (other : List ℕ) (may : MayReclaim (space_in log values pool moves page (Copies c)) old.pages top found m) (free : c.held ≡ false) (same : new.pages ≡ old.pages) where
+    pub read_again : MayReclaim (space_in log values pool moves other (Copies c)) new.pages top found m
+    read_again =
+        let s = may.stands in
+        let P : Flash → Type 0 = λ g. MayReclaim (space_in log values pool moves other (Copies c)) g top found m in
+        subst P (sym same) (record {
+          stands = record {
+            logs = s.logs;
+            none_pending = s.none_pending;
+            under = s.under;
+            placed = s.placed;
+            reclaim = record {
+              shape_is = refl;
+              stands = record { runs = other_page shape c moves page other old.pages (places found []) free s.reclaim.stands.runs; sparse = s.reclaim.stands.sparse; closed = s.reclaim.stands.closed };
+              full = s.reclaim.full;
+            };
+            journal = s.journal;
+            runs = s.runs;
+          };
+          turn = may.turn;
+        })

@@ -1,0 +1,195 @@
+-- What a step did, for each of its answers, by how far the reclaim had come.
+use Rattle.std.proofs.Common.{◌≡◌, ◌≢◌, ◌⊎◌, inl, inr, ℕ, ◌+◌, ◌-◌, ◌*◌, ◌<◌, ◌≤◌, refl, sym, ap, subst, ◌∙◌, arith, true, false, List, [], ◌∷◌, ◌++◌, length, Option, Some}
+use Rattle.std.specs.Prelude.{unwrap_or}
+use Rattle.pk_base.specs.Shape.{Shape, buffer, dense}
+use Rattle.pk_base.specs.Map.{Map}
+use Rattle.pk_work.specs.Rest.{Lowers}
+use Rattle.pk_plan.specs.declared.owner.Owner.TheVariants.{Values as for_values}
+use Rattle.pk_buf.specs.Table.{Table}
+use Rattle.pk_nand.specs.BoardState.{BoardState}
+use Rattle.pk_nand.specs.Calls.{IsReady}
+use Rattle.pk_rootfmt.specs.Root.{Root}
+use Rattle.pk_pool.specs.Blocks.{Blocks, used_by}
+use Rattle.pk_pool.specs.Unready.{unready}
+use Rattle.pk_model.specs.Found.{Found}
+use Rattle.pk_gc.specs.declared.course.Course.{Course}
+use Rattle.pk_gc.specs.declared.course.Phase.{Phase}
+use Rattle.pk_gc.specs.declared.course.Phase.TheVariants.{Idle, Copies, GivesBack}
+use Rattle.pk_gc.specs.declared.moves.Move.{Move}
+use Rattle.pk_gc.specs.declared.reclaimed.Reclaimed.{Reclaimed}
+use Rattle.pk_gc.specs.declared.reclaimed.Reclaimed.TheVariants.{Worked, NeedsFreeze, Ended}
+use Rattle.pk_gc.specs.State.{JobState, left_in}
+use Rattle.pk_gc.specs.Stepping.{Hands, CanStep, StepsIn, Tries, GoesOn, ProgramsHeld, ReadsNext, BeginsValue, runs_in}
+use Rattle.pk_gc.proofs.Lowering.{step_lowers}
+use Rattle.pk_data.specs.State.{DataState}
+use Rattle.pk_data.specs.Reclaiming.{hands_of}
+use Rattle.pk_log.specs.State.{LogState}
+use Rattle.pk_reclaim.specs.Space.{Space, MayReclaim, Falls, left_before, space}
+use Rattle.pk_reclaim.specs.Steps.{SpaceMoves, Moves, Works, Ends, WantsFreeze, Does, RoomIn, RoomBehind}
+use Rattle.pk_reclaim.proofs.Ready.{job_in, space_in, can_step_in}
+use Rattle.pk_reclaim.proofs.Begun.{starts_moves, dead_moves, dead_given, dead_room}
+use Rattle.pk_reclaim.proofs.Copies.{read_moves, begin_moves, program_moves}
+use Rattle.pk_reclaim.proofs.Committed.{committed_moves, committed_room}
+use Rattle.pk_reclaim.proofs.Given.{SameParts, same_parts, end_moves, end_given, end_room, given_moves, given_one, given_values}
+use Rattle.pk_reclaim.proofs.Room.{tight_known}
+
+-- a space that may reclaim, for some root and map
+pub record Somewhere (x : Space) (board : BoardState) : Type 0 where
+  pub top : ℕ × Root
+  pub found : Found
+  pub m : Map
+  pub may : MayReclaim x board.pages top found m
+
+worked_needs : Worked ≡ NeedsFreeze → ⊥
+worked_needs e = cc
+
+ended_needs : Ended ≡ NeedsFreeze → ⊥
+ended_needs e = cc
+
+module _ (log log' : LogState) (values values' : DataState) (pool pool' : Blocks) (moves : List Move) (page : List ℕ) (old new : BoardState) (job' : JobState)
+    (ready : IsReady old log.shape) (ready' : IsReady new log.shape) (log_is : log' ≡ record log { active = log'.active; epoch = log'.epoch }) (job_shape : job'.shape ≡ log.shape) where
+  abbrev pub before : Phase → Space
+  before phase = space_in log values pool moves page phase
+
+  abbrev pub after : Space
+  after = space log' values' pool' job'
+
+  abbrev pub hands : Hands
+  hands = hands_of values pool log.active log.epoch
+
+  abbrev pub hands' : Hands
+  hands' = hands_of values' pool' log'.active log'.epoch
+
+  can : (phase : Phase) → Somewhere (before phase) old → CanStep (job_in log moves page phase) hands old.pages
+  can phase s = can_step_in log values pool moves page old.pages s.top s.found s.m phase ready.flash s.may
+
+  -- less is left
+  falls : (phase : Phase) (r : Reclaimed) → Somewhere (before phase) old → StepsIn phase (job_in log moves page phase) hands old job' hands' new r → r ≢ NeedsFreeze → Falls (before phase) after
+  falls phase r s steps other =
+      let less = step_lowers (job_in log moves page phase) hands old job' hands' new r (can phase s) steps other in
+      let same : log'.shape ≡ job'.shape = ap (λ (l : LogState). l.shape) log_is ∙ sym job_shape in
+      subst (λ (x : Shape). Lowers (left_before (before phase)) (unready pool.states) (unwrap_or (left_in x values'.live.heads job'.phase) 0) (unready pool'.states)) (sym same) less
+
+  same_log : log'.active ≡ log.active → log'.epoch ≡ log.epoch → log' ≡ log
+  same_log active epoch = log_is ∙ (λ i. record log { active = active i; epoch = epoch i })
+
+  -- ---- none ran
+
+  idle_does : (r : Reclaimed) → Somewhere (before Idle) old → StepsIn Idle (job_in log moves page Idle) hands old job' hands' new r → Does (before Idle) old after new r
+  idle_does Worked s steps =
+      let same = same_log steps.1 steps.2 in
+      let phase = ap (λ (j : JobState). j.phase) steps.0.job_is in
+      record {
+        moves = λ top found m may. subst (λ (l : LogState). SpaceMoves (before Idle) old top found m (space l values' pool' job') new) (sym same)
+            (starts_moves log values values' pool pool' moves page old new top found m ready may job' steps.0);
+        falls = falls Idle Worked s steps worked_needs;
+        runs = ap runs_in phase;
+        room = subst (λ (p : Phase). RoomIn p after) (sym phase) tt;
+      }
+  idle_does NeedsFreeze s steps = absurd steps.0
+  idle_does Ended s steps =
+      let same = same_log steps.1 steps.2 in
+      record {
+        moves = λ top found m may. subst (λ (l : LogState). SpaceMoves (before Idle) old top found m (space l values' pool' job') new) (sym same)
+            (dead_moves log values values' pool pool' moves page old new top found m ready may job' steps.0);
+        falls = falls Idle Ended s steps ended_needs;
+        idle = ap (λ (j : JobState). j.phase) steps.0.kept;
+        given = dead_given log values values' pool pool' moves page old new s.top s.found s.m ready s.may job' steps.0;
+        room = subst (λ (l : LogState). RoomBehind Idle (before Idle) (space l values' pool' job')) (sym same)
+            (dead_room log values values' pool pool' moves page old new s.top s.found s.m ready s.may job' steps.0);
+      }
+
+  -- ---- values are copied
+
+  abbrev Copied : Course → Type 0
+  Copied c = ProgramsHeld c (job_in log moves page (Copies c)) old job' new
+      ⊎ (ReadsNext c (job_in log moves page (Copies c)) old job' new ⊎ BeginsValue c (job_in log moves page (Copies c)) hands old job' new)
+
+  module _ (c : Course) (s : Somewhere (before (Copies c)) old) where
+    copy_moves : Copied c → (top : ℕ × Root) (found : Found) (m : Map) → MayReclaim (before (Copies c)) old.pages top found m → SpaceMoves (before (Copies c)) old top found m (space log values pool job') new
+    copy_moves (inl p) top found m may = program_moves log values pool c moves page old new top found m ready may.stands job' p
+    copy_moves (inr (inl r)) top found m may = read_moves log values pool c moves page old new top found m ready may.stands job' r
+    copy_moves (inr (inr b)) top found m may = begin_moves log values pool c moves page old new top found m ready may.stands job' b
+
+    -- the values are copied still
+    copy_phase : Copied c → (then : Course) × (job'.phase ≡ Copies then)
+    copy_phase (inl p) = (_, ap (λ (j : JobState). j.phase) p.job_is)
+    copy_phase (inr (inl r)) = (_, ap (λ (j : JobState). j.phase) r.job_is)
+    copy_phase (inr (inr b)) = (_, ap (λ (j : JobState). j.phase) (next_job b))
+
+    goes_worked : (h : hands' ≡ hands) → Copied c → StepsIn (Copies c) (job_in log moves page (Copies c)) hands old job' hands' new Worked → Works (before (Copies c)) old after new
+    goes_worked h copied steps =
+        let parts = same_parts values values' pool pool' log.active log'.active log.epoch log'.epoch h in
+        let same = same_log parts.active parts.epoch in
+        let phase = (copy_phase copied).1 in
+        record {
+          moves = λ top found m may.
+              subst (λ (l : LogState). SpaceMoves (before (Copies c)) old top found m (space l values' pool' job') new) (sym same)
+              (subst (λ (d : DataState). SpaceMoves (before (Copies c)) old top found m (space log d pool' job') new) (sym parts.values)
+              (subst (λ (q : Blocks). SpaceMoves (before (Copies c)) old top found m (space log values q job') new) (sym parts.pool) (copy_moves copied top found m may)));
+          falls = falls (Copies c) Worked s steps worked_needs;
+          runs = ap runs_in phase;
+          room = subst (λ (p : Phase). RoomIn p after) (sym phase) tt;
+        }
+
+    moves_few : length moves ≤ dense log.shape
+    moves_few =
+        let few = s.may.stands.reclaim.stands.runs.few in
+        let sparse = s.may.stands.reclaim.stands.sparse in
+        omega (arith, few, sparse)
+
+    -- the end
+    ends_does : (r : Reclaimed) → Tries c (job_in log moves page (Copies c)) hands old job' hands' new r → Does (before (Copies c)) old after new r
+    ends_does Worked t =
+        let phase = ap (λ (j : JobState). j.phase) t.finishes.job_is in
+        record {
+          moves = λ top found m may. committed_moves log log' values values' pool pool' c moves page old new top found m ready ready' may.stands t.whole t.dead job' log_is t.finishes;
+          falls = falls (Copies c) Worked s (inr t) worked_needs;
+          runs = ap runs_in phase;
+          room = subst (λ (p : Phase). RoomIn p after) (sym phase)
+              (committed_room log log' values values' pool pool' c moves page old new s.top s.found s.m ready ready' s.may.stands t.whole t.dead job' log_is t.finishes);
+        }
+    ends_does NeedsFreeze t =
+        let refuses = t.finishes.2 in
+        let parts = same_parts values values' pool pool' log.active log'.active log.epoch log'.epoch t.finishes.1 in
+        record {
+          same = λ i. space (same_log parts.active parts.epoch i) (parts.values i) (parts.pool i) (t.finishes.0 i);
+          board = refuses.rests.same;
+          course = c;
+          copies = refl;
+          no_room = refuses.no_room;
+          tight = tight_known log.shape log.active log.epoch values.live.heads moves (ap (λ (x : Table). x.capacity) s.may.stands.logs.active_is) moves_few refuses.no_room;
+        }
+    ends_does Ended t =
+        record {
+          moves = λ top found m may. end_moves log log' values values' pool pool' c moves page old new top found m may.stands log_is t.whole t.dead job' t.finishes;
+          falls = falls (Copies c) Ended s (inr t) ended_needs;
+          idle = ap (λ (j : JobState). j.phase) t.finishes.job_is;
+          given = end_given log log' values values' pool pool' c moves page old new s.top s.found s.m s.may.stands log_is t.whole t.dead job' t.finishes;
+          room = end_room log log' values values' pool pool' c moves page old new s.top s.found s.m s.may.stands log_is t.whole t.dead job' t.finishes;
+        }
+
+    copies_does : (r : Reclaimed) → GoesOn c (job_in log moves page (Copies c)) hands old job' hands' new r → Does (before (Copies c)) old after new r
+    copies_does r (inl on) = subst (λ (x : Reclaimed). Does (before (Copies c)) old after new x) (sym on.0) (goes_worked on.1 on.2 (inl (refl, on.1, on.2)))
+    copies_does r (inr t) = ends_does r t
+
+  -- ---- a victim is given back
+
+  gives_does : (victim : ℕ) (r : Reclaimed) → Somewhere (before (GivesBack victim)) old → StepsIn (GivesBack victim) (job_in log moves page (GivesBack victim)) hands old job' hands' new r
+      → Does (before (GivesBack victim)) old after new r
+  gives_does victim r s g =
+      let steps = subst (λ (x : Reclaimed). StepsIn (GivesBack victim) (job_in log moves page (GivesBack victim)) hands old job' hands' new x) g.answer g in
+      subst (λ (x : Reclaimed). Does (before (GivesBack victim)) old after new x) (sym g.answer) (record {
+        moves = λ top found m may. given_moves log log' values values' pool pool' victim moves page old new top found m may.stands log_is job' r g;
+        falls = falls (GivesBack victim) Ended s steps ended_needs;
+        idle = ap (λ (j : JobState). j.phase) g.job_is;
+        given = given_one log log' values values' pool pool' victim moves page old new s.top s.found s.m s.may.stands log_is job' r g;
+        room = given_values log log' values values' pool pool' victim moves page old new s.top s.found s.m s.may.stands log_is job' r g;
+      })
+
+  -- ---- the whole
+
+  pub does_in : (phase : Phase) (r : Reclaimed) → Somewhere (before phase) old → StepsIn phase (job_in log moves page phase) hands old job' hands' new r → Does (before phase) old after new r
+  does_in Idle r s steps = idle_does r s steps
+  does_in (Copies c) r s steps = copies_does c s r steps
+  does_in (GivesBack victim) r s steps = gives_does victim r s steps

@@ -1,0 +1,50 @@
+-- A board on which no page differs: map, log and blocks stay as they are.
+use Rattle.std.proofs.Common.{◌≡◌, ℕ, ◌+◌, ◌*◌, ◌/◌, ◌<◌, refl, sym, ap, subst, ◌∙◌, List, [], ◌++◌, length, append-nil, Some}
+use Rattle.std.specs.Prelude.{slice_get}
+use Rattle.pk_base.specs.Page.{Flash, page_at}
+use Rattle.pk_base.specs.Map.{Map}
+use Rattle.pk_nand.specs.BoardState.{BoardState}
+use Rattle.pk_nand.proofs.Reaching.{Reached-start}
+use Rattle.pk_rootfmt.specs.Root.{Root}
+use Rattle.pk_pool.specs.Blocks.{Blocks}
+use Rattle.pk_model.specs.Found.{Found}
+use Rattle.pk_model.specs.Growth.{Reaches}
+use Rattle.pk_model.specs.Crashes.{CrashFinds, background}
+use Rattle.pk_steps.specs.Under.{IsUnder, places}
+use Rattle.pk_steps.proofs.Untouched.{under_reads}
+use Rattle.pk_log.specs.State.{LogState}
+use Rattle.pk_reclaim.specs.Space.{Space, SpaceOnFlash, space}
+use Rattle.pk_reclaim.specs.Steps.{SpaceMoves, KeepsOthers}
+use Rattle.pk_reclaim.proofs.Owners.{SameOwners, others_kept}
+use Rattle.pk_reclaim.proofs.Quiet.{NamesOwned}
+
+-- no page differs, nothing was given out, and no mark was made
+pub record IsStill (old new : BoardState) : Type 0 where
+  pub shape : new.shape ≡ old.shape
+  pub pages : new.pages ≡ old.pages
+  pub trail : new.trail ≡ old.trail
+  pub posted : new.posted ≡ old.posted
+
+pub still_same : (old new : BoardState) → new ≡ old → IsStill old new
+still_same old new same = record { shape = ap (λ (s : BoardState). s.shape) same; pages = ap (λ (s : BoardState). s.pages) same; trail = ap (λ (s : BoardState). s.trail) same; posted = ap (λ (s : BoardState). s.posted) same }
+
+-- no value moves, and no entry is written
+pub still_moves : (x x' : Space) (old new : BoardState) (top : ℕ × Root) (found : Found) (m : Map) → IsStill old new → SpaceOnFlash x old.pages top found m → SameOwners x.pool x'.pool
+    → SpaceOnFlash x' new.pages top found m → SpaceMoves x old top found m x' new
+still_moves x x' old new top found m still was owners stands = record {
+  moves = [];
+  newest = found.newest;
+  newest_is = sym (append-nil found.newest);
+  then_places = refl;
+  as_many = refl;
+  stands = stands;
+  others = others_kept x.log.shape top.1 x.pool old.pages x'.pool new.pages owners (λ k low. same k) (λ k owned. same k) (λ k owned other. same k);
+  cuts = ([], Reached-start old new (CrashFinds x.log.shape background old.pages m) still.shape still.pages still.trail still.posted (refl, under_reads x.log.shape old.pages [] top found m was.under), tt);
+}
+  where
+    same : (k : ℕ) → page_at new.pages k ≡ page_at old.pages k
+    same k = ap (λ (f : Flash). page_at f k) still.pages
+
+-- the blocks that the root names
+pub names_of : (x : Space) (flash : Flash) (top : ℕ × Root) (found : Found) (m : Map) → SpaceOnFlash x flash top found m → NamesOwned x.pool top.1
+names_of x flash top found m stands = record { journal = stands.journal; runs = stands.runs }

@@ -1,0 +1,128 @@
+-- What a step of a reclaim does to the space of a drive, and what it leaves of the flash.
+use Rattle.std.specs.Prelude.{◌≡◌, ℕ, ◌+◌, ◌*◌, ◌/◌, ◌<◌, List, [], ◌++◌, length, slice_get, true, Some}
+use Rattle.pk_base.specs.Key.{Key}
+use Rattle.pk_base.specs.Shape.{Shape}
+use Rattle.pk_base.specs.Page.{Flash, page_at}
+use Rattle.pk_base.specs.Entry.{Entry, Place}
+use Rattle.pk_base.specs.Map.{Map}
+use Rattle.pk_work.specs.Backlog.{is_tight}
+use Rattle.pk_nand.specs.BoardState.{BoardState}
+use Rattle.pk_nand.specs.Calls.{Rose}
+use Rattle.pk_nand.specs.Effects.{OnlyReading}
+use Rattle.pk_plan.specs.declared.owner.Owner.TheVariants.{Journal, Meta, Values}
+use Rattle.pk_pool.specs.declared.state.BlockState.TheVariants.{Owned}
+use Rattle.pk_pool.specs.Blocks.{Blocks, used_by}
+use Rattle.pk_rootfmt.specs.Root.{Root}
+use Rattle.pk_jrn.specs.Epochs.{left_of}
+use Rattle.pk_model.specs.Found.{Found}
+use Rattle.pk_model.specs.Laws.{AnyByRecursion}
+use Rattle.pk_model.specs.Growth.{Grows, Reaches, Goes}
+use Rattle.pk_model.specs.Crashes.{CrashFinds, background}
+use Rattle.pk_steps.specs.Under.{places}
+use Rattle.pk_moves.specs.Moves.{entries_of, moved}
+use Rattle.pk_gc.specs.declared.course.Course.{Course}
+use Rattle.pk_gc.specs.declared.course.Phase.{Phase}
+use Rattle.pk_gc.specs.declared.course.Phase.TheVariants.{Idle, Copies, GivesBack}
+use Rattle.pk_gc.specs.declared.reclaimed.Reclaimed.{Reclaimed}
+use Rattle.pk_gc.specs.declared.reclaimed.Reclaimed.TheVariants.{Worked, NeedsFreeze, Ended}
+use Rattle.pk_gc.specs.Stepping.{runs_in}
+use Rattle.pk_gc.specs.Committing.{HasRoom as MovesHaveRoom, entries_left}
+use Rattle.pk_reclaim.specs.Space.{Space, SpaceOnFlash, MayReclaim, Falls, HasRoom}
+
+-- these entries in the newest epoch
+abbrev pub with_newest : Found → List Entry → Found
+with_newest found newest = record found { newest = newest }
+
+-- What is not for values stays as it was: the blocks of the journal and of runs, all pages of runs and root blocks, and those of the journal
+-- but for the newest epoch.
+pub record KeepsOthers (shape : Shape) (root : Root) (pool : Blocks) (old : Flash) (pool' : Blocks) (new : Flash) : Type 0 where
+  pub shape_is : pool'.shape ≡ pool.shape
+  pub journal : (b : ℕ) → slice_get pool.states b ≡ Some (Owned Journal) → slice_get pool'.states b ≡ Some (Owned Journal)
+  pub journal_used : used_by Journal pool'.states ≡ used_by Journal pool.states
+  pub meta : (b : ℕ) → slice_get pool.states b ≡ Some (Owned Meta) → slice_get pool'.states b ≡ Some (Owned Meta)
+  pub meta_used : used_by Meta pool'.states ≡ used_by Meta pool.states
+  pub low : (k : ℕ) → k < 2 * shape.block_pages → page_at new k ≡ page_at old k
+  pub meta_pages : (k : ℕ) → slice_get pool.states (k / shape.block_pages) ≡ Some (Owned Meta) → page_at new k ≡ page_at old k
+  pub journal_pages : (k : ℕ) → slice_get pool.states (k / shape.block_pages) ≡ Some (Owned Journal)
+      → (AnyByRecursion (λ b. k / shape.block_pages ≡ b) root.newest → ⊥) → page_at new k ≡ page_at old k
+
+-- The map is the same, wherever the step is cut. Some values have moved, all in one page of the newest epoch; no other entry was written.
+pub record SpaceMoves (x : Space) (old : BoardState) (top : ℕ × Root) (found : Found) (m : Map) (x' : Space) (new : BoardState) : Type 0 where
+  pub moves : List (Key × Place)
+  pub newest : List Entry
+  pub newest_is : newest ≡ found.newest ++ entries_of moves
+  pub then_places : places (with_newest found newest) [] ≡ moved moves (places found [])
+  pub as_many : length (places (with_newest found newest) []) ≡ length (places found [])
+  pub stands : SpaceOnFlash x' new.pages top (with_newest found newest) m
+  pub others : KeepsOthers x.log.shape top.1 x.pool old.pages x'.pool new.pages
+  pub cuts : Reaches x.log.shape old new (CrashFinds x.log.shape background old.pages m)
+
+-- for whatever stands there
+abbrev pub Moves : Space → BoardState → Space → BoardState → Type 0
+Moves x old x' new = (top : ℕ × Root) (found : Found) (m : Map) → MayReclaim x old.pages top found m → SpaceMoves x old top found m x' new
+
+-- of the log only the entries of the active buffer and the written pages of the newest epoch may differ
+abbrev pub KeepsLog : Space → Space → Type 0
+KeepsLog x x' = x'.log ≡ record x.log {
+  active = record x.log.active { entries = x'.log.active.entries };
+  epoch = record x.log.epoch { used = x'.log.epoch.used };
+}
+
+-- ---- by its answer
+
+-- behind the commit of the moves there is room for every value
+abbrev pub RoomIn : Phase → Space → Type 0
+RoomIn Idle x = Unit {0}
+RoomIn (Copies c) x = Unit {0}
+RoomIn (GivesBack victim) x = HasRoom x
+
+-- A step was made of a reclaim that runs now.
+pub record Works (x : Space) (old : BoardState) (x' : Space) (new : BoardState) : Type 0 where
+  pub moves : Moves x old x' new
+  pub falls : Falls x x'
+  pub runs : runs_in x'.job.phase ≡ true
+  pub room : RoomIn x'.job.phase x'
+
+-- where the moves were committed before, values lie as they did; otherwise there is room for every value
+abbrev pub RoomBehind : Phase → Space → Space → Type 0
+RoomBehind Idle x x' = HasRoom x'
+RoomBehind (Copies c) x x' = HasRoom x'
+RoomBehind (GivesBack victim) x x' = x'.values ≡ x.values
+
+-- A block was given back, and no reclaim runs now.
+pub record Ends (x : Space) (old : BoardState) (x' : Space) (new : BoardState) : Type 0 where
+  pub moves : Moves x old x' new
+  pub falls : Falls x x'
+  pub idle : x'.job.phase ≡ Idle
+  pub given : used_by Values x'.pool.states + 1 ≡ used_by Values x.pool.states
+  pub room : RoomBehind x.job.phase x x'
+
+-- The moves of a reclaim find no room, in the active buffer or in the newest epoch, and nothing was done.
+pub record WantsFreeze (x : Space) (old : BoardState) (x' : Space) (new : BoardState) : Type 0 where
+  pub same : x' ≡ x
+  pub board : new ≡ old
+  pub course : Course
+  pub copies : x.job.phase ≡ Copies course
+  pub no_room : MovesHaveRoom x.log.active x.log.epoch (entries_left x.values.live.heads x.job.moves) → ⊥
+  pub tight : is_tight x.log.shape (length x.log.active.entries) (left_of x.log.epoch) ≡ true
+
+abbrev pub Does : Space → BoardState → Space → BoardState → Reclaimed → Type 0
+Does x old x' new Worked = Works x old x' new
+Does x old x' new NeedsFreeze = WantsFreeze x old x' new
+Does x old x' new Ended = Ends x old x' new
+
+-- ---- a call failed
+
+-- A read failed: no more differs than the bytes of a page that is to be read again, and the step can be made again.
+pub record Unread (x : Space) (old : BoardState) (x' : Space) (new : BoardState) : Type 0 where
+  pub rest : x' ≡ record x { job = record x.job { page = x'.job.page } }
+  pub again : (top : ℕ × Root) (found : Found) (m : Map) → MayReclaim x old.pages top found m → MayReclaim x' new.pages top found m
+  pub only : OnlyReading old new
+  pub read : Rose old.read_faults new.read_faults
+  pub flash : Rose old.flash_faults new.flash_faults
+
+-- a program or an erase failed: the map is the same, wherever it was cut
+abbrev pub Breaks : Space → BoardState → BoardState → Type 0
+Breaks x old new =
+    (top : ℕ × Root) (found : Found) (m : Map) → MayReclaim x old.pages top found m
+    → Goes x.log.shape old new (CrashFinds x.log.shape background old.pages m)

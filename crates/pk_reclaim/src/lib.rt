@@ -1,0 +1,11 @@
+//! The reclaims of a drive, which make room for values, over its journal, its values and its blocks, in steps of at most one call
+//! of the board.
+//!
+//! The map is the same, wherever a step is cut, also where the places of its values are new ones.
+#![tactic(auto)]
+
+mod laws;
+mod step;
+
+pub use laws::behind_freeze;
+pub use step::reclaim_step;

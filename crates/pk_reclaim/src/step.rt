@@ -1,0 +1,59 @@
+//! A step of a reclaim over the space of a drive.
+ghost use Rattle.std.specs.Prelude.{◌≡◌, ℕ, length, Err, IfOk, OnOk};
+ghost use Rattle.pk_base.specs.Map.{Map};
+ghost use Rattle.pk_nand.specs.Calls.{IsReady};
+ghost use Rattle.pk_nand.specs.Effects.{AtMostOneCall, NoFault, OnlyFlash, Stops};
+ghost use Rattle.pk_nand.specs.declared.types.Fault.TheVariants.{Reading, Stopped};
+ghost use Rattle.pk_rootfmt.specs.Root.{Root as RootValue};
+ghost use Rattle.pk_model.specs.Found.{Found};
+ghost use Rattle.pk_model.specs.Growth.{Grows};
+ghost use Rattle.pk_model.specs.Wear.{roots};
+ghost use Rattle.pk_reclaim.specs.Space.{MayReclaim, space};
+ghost use Rattle.pk_reclaim.specs.Steps.{Does, Unread, Breaks, KeepsLog};
+
+use pk_data::Data;
+use pk_gc::{ReclaimJob, Reclaimed};
+use pk_log::Log;
+use pk_nand::{Fault, Nand};
+use pk_pool::Pool;
+use pk_region::Region;
+
+/// One step of a reclaim, by at most one call of the board: it begins where none runs, a page of the victim is read, or programmed
+/// into the output, the moves are committed, or the victim is given back. `NeedsFreeze` where the moves find no room in the active
+/// buffer or the newest epoch: nothing was done, and after a freeze the step is to be made again. `Reading` where a read fails: all is
+/// as it was, and the step can be made again. `Stopped` where a program or an erase fails; nothing is to be used any more then. `buf`
+/// has the bytes of a page, which are lost.
+pub fn reclaim_step<B: Nand, A: Region>(
+    board: &mut B,
+    job: &mut ReclaimJob<A>,
+    values: &mut Data<A>,
+    log: &mut Log<A>,
+    pool: &mut Pool<A>,
+    buf: &mut [u8],
+) -> Result<Reclaimed, Fault>
+    // They are the space of the drive on this board.
+    requires ready { IsReady (B.state board.old) log.old.shape }
+    requires may { (top : ℕ × RootValue) × (found : Found) × (m : Map) × MayReclaim (space log.old values.old pool.old job.old) (B.state board.old).pages top found m }
+    requires room { length buf.old ≡ log.old.shape.page_bytes }
+
+    // A step was made, or wants a freeze before it.
+    ensures does { IfOk result (λ r. Does (space log.old values.old pool.old job.old) (B.state board.old) (space log.new values.new pool.new job.new) (B.state board.new) r) }
+
+    // Whatever came of it, the log is the same but for its newest epoch, and the flash has the same roots.
+    ensures same_log { KeepsLog (space log.old values.old pool.old job.old) (space log.new values.new pool.new job.new) }
+    ensures grows { Grows log.old.shape (B.state board.old).pages (B.state board.new).pages }
+    ensures same_roots { roots (B.state board.new) ≡ roots (B.state board.old) }
+
+    // A call failed.
+    ensures unread { result ≡ Err Reading → Unread (space log.old values.old pool.old job.old) (B.state board.old) (space log.new values.new pool.new job.new) (B.state board.new) }
+    ensures broken { result ≡ Err Stopped → Breaks (space log.old values.old pool.old job.old) (B.state board.old) (B.state board.new) × Stops (B.state board.old) (B.state board.new) }
+
+    // The board.
+    ensures sound { OnOk result (NoFault (B.state board.old) (B.state board.new)) }
+    ensures calls { AtMostOneCall (B.state board.old) (B.state board.new) }
+    ensures rest { OnlyFlash (B.state board.old) (B.state board.new) }
+    ensures ready { IsReady (B.state board.new) log.old.shape }
+    ensures buffer { length buf.new ≡ length buf.old }
+{
+    log.reclaim_step(board, job, values, pool, buf)
+}
