@@ -87,14 +87,20 @@ module _ (log : LogState) (values : DataState) (pool : Blocks) (c : Course) (mov
         let next = next_is_value shape c moves page values.live.heads old.pages es r.page copying.runs (are_held log values pool moves page old.pages top found m c stands ready.flash) copying.sparse r.whole r.inside.0 r.inside.1 r.head r.first in
         let key = next.1.0 in
         let place = next.1.1 in
-        let is = next.1.2.0 in
+        let is = next.1.2 in
         let c' = begun_at c (r.page - c.victim * shape.block_pages) (charge shape place.len) in
         let ms = moves ++ begun_move shape c r.page key place.len ∷ [] in
         let there = space_in log values pool ms job'.page (Copies c') in
-        let sparse = begin_sparse shape values.live.heads c r.page (charge shape place.len) r.whole (charge_some shape stands.placed.is_shape place.len) r.inside.0 is.inside next.1.2.1 copying.sparse in
+        let sparse = begin_sparse shape values.live.heads c r.page (charge shape place.len) r.whole (charge_some shape stands.placed.is_shape place.len) r.inside.0 is.inside next.1.3 copying.sparse in
         subst (λ (j : JobState). SpaceMoves before old top found m (space log values pool j) new) (sym (r.job_is es key place is))
         (still_moves before there old new top found m still stands (owners_same pool)
         (goes_on c' ms job'.page new.pages still.pages refl (record { runs = r.runs es key place copying.runs is; sparse = sparse; closed = copying.closed })))
+
+    -- the values are copied still
+    pub begin_phase : BeginsValue c (job_in log moves page (Copies c)) (hands log values pool moves page old.pages top found m) old job' new → (then : Course) × (job'.phase ≡ Copies then)
+    begin_phase r =
+        let next = next_is_value shape c moves page values.live.heads old.pages es r.page copying.runs (are_held log values pool moves page old.pages top found m c stands ready.flash) copying.sparse r.whole r.inside.0 r.inside.1 r.head r.first in
+        (_, ap (λ (j : JobState). j.phase) (r.job_is es next.1.0 next.1.1 next.1.2))
 
   -- ---- a page was programmed
 

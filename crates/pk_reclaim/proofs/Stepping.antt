@@ -28,7 +28,7 @@ use Rattle.pk_reclaim.specs.Space.{Space, MayReclaim, Falls, left_before, space}
 use Rattle.pk_reclaim.specs.Steps.{SpaceMoves, Moves, Works, Ends, WantsFreeze, Does, RoomIn, RoomBehind}
 use Rattle.pk_reclaim.proofs.Ready.{job_in, space_in, can_step_in}
 use Rattle.pk_reclaim.proofs.Begun.{starts_moves, dead_moves, dead_given, dead_room}
-use Rattle.pk_reclaim.proofs.Copies.{read_moves, begin_moves, program_moves}
+use Rattle.pk_reclaim.proofs.Copies.{read_moves, begin_moves, begin_phase, program_moves}
 use Rattle.pk_reclaim.proofs.Committed.{committed_moves, committed_room}
 use Rattle.pk_reclaim.proofs.Given.{SameParts, same_parts, end_moves, end_given, end_room, given_moves, given_one, given_values}
 use Rattle.pk_reclaim.proofs.Room.{tight_known}
@@ -115,7 +115,7 @@ module _ (log log' : LogState) (values values' : DataState) (pool pool' : Blocks
     copy_phase : Copied c → (then : Course) × (job'.phase ≡ Copies then)
     copy_phase (inl p) = (_, ap (λ (j : JobState). j.phase) p.job_is)
     copy_phase (inr (inl r)) = (_, ap (λ (j : JobState). j.phase) r.job_is)
-    copy_phase (inr (inr b)) = (_, ap (λ (j : JobState). j.phase) (next_job b))
+    copy_phase (inr (inr b)) = begin_phase log values pool c moves page old new s.top s.found s.m ready s.may.stands job' b
 
     goes_worked : (h : hands' ≡ hands) → Copied c → StepsIn (Copies c) (job_in log moves page (Copies c)) hands old job' hands' new Worked → Works (before (Copies c)) old after new
     goes_worked h copied steps =

@@ -55,5 +55,6 @@ pub fn reclaim_step<B: Nand, A: Region>(
     ensures ready { IsReady (B.state board.new) log.old.shape }
     ensures buffer { length buf.new ≡ length buf.old }
 {
+    pool.known();
     log.reclaim_step(board, job, values, pool, buf)
 }
