@@ -51,4 +51,5 @@ pub mod Advancing
 pub mod SameMaps
 pub mod Spacing
 pub mod SpaceSteps
-pub mod Storing
+pub mod Stored
+pub mod ReclaimWork

@@ -19,7 +19,7 @@ mod open;
 mod place;
 mod placing;
 mod quiet;
-mod reclaiming;
+mod reclaim;
 mod room;
 mod space;
 mod store;
