@@ -25,7 +25,7 @@ use Rattle.pk_data.specs.State.{DataState}
 use Rattle.pk_data.specs.Reclaiming.{hands_of}
 use Rattle.pk_log.specs.State.{LogState}
 use Rattle.pk_reclaim.specs.Space.{Space, MayReclaim, Falls, left_before, space}
-use Rattle.pk_reclaim.specs.Steps.{SpaceMoves, Moves, Works, Ends, WantsFreeze, Does, RoomIn, RoomBehind}
+use Rattle.pk_reclaim.specs.Steps.{SpaceMoves, Moves, Works, Ends, WantsFreeze, Does, LogIn, RoomIn, RoomBehind}
 use Rattle.pk_reclaim.proofs.Ready.{job_in, space_in, can_step_in}
 use Rattle.pk_reclaim.proofs.Begun.{starts_moves, dead_moves, dead_given, dead_room}
 use Rattle.pk_reclaim.proofs.Copies.{read_moves, begin_moves, begin_phase, program_moves}
@@ -84,6 +84,7 @@ module _ (log log' : LogState) (values values' : DataState) (pool pool' : Blocks
             (starts_moves log values values' pool pool' moves page old new top found m ready may job' steps.0);
         falls = falls Idle Worked s steps worked_needs;
         runs = ap runs_in phase;
+        log = subst (λ (p : Phase). LogIn p (before Idle) after) (sym phase) same;
         room = subst (λ (p : Phase). RoomIn p after) (sym phase) tt;
       }
   idle_does NeedsFreeze s steps = absurd steps.0
@@ -129,6 +130,7 @@ module _ (log log' : LogState) (values values' : DataState) (pool pool' : Blocks
               (subst (λ (q : Blocks). SpaceMoves (before (Copies c)) old top found m (space log values q job') new) (sym parts.pool) (copy_moves copied top found m may)));
           falls = falls (Copies c) Worked s steps worked_needs;
           runs = ap runs_in phase;
+          log = subst (λ (p : Phase). LogIn p (before (Copies c)) after) (sym phase) same;
           room = subst (λ (p : Phase). RoomIn p after) (sym phase) tt;
         }
 
@@ -146,6 +148,7 @@ module _ (log log' : LogState) (values values' : DataState) (pool pool' : Blocks
           moves = λ top found m may. committed_moves log log' values values' pool pool' c moves page old new top found m ready ready' may.stands t.whole t.dead job' log_is t.finishes;
           falls = falls (Copies c) Worked s (inr t) worked_needs;
           runs = ap runs_in phase;
+          log = subst (λ (p : Phase). LogIn p (before (Copies c)) after) (sym phase) tt;
           room = subst (λ (p : Phase). RoomIn p after) (sym phase)
               (committed_room log log' values values' pool pool' c moves page old new s.top s.found s.m ready ready' s.may.stands t.whole t.dead job' log_is t.finishes);
         }
@@ -184,7 +187,10 @@ module _ (log log' : LogState) (values values' : DataState) (pool pool' : Blocks
         falls = falls (GivesBack victim) Ended s steps ended_needs;
         idle = ap (λ (j : JobState). j.phase) g.job_is;
         given = given_one log log' values values' pool pool' victim moves page old new s.top s.found s.m s.may.stands log_is job' r g;
-        room = given_values log log' values values' pool pool' victim moves page old new s.top s.found s.m s.may.stands log_is job' r g;
+        room = (
+          same_log (ap (λ (h : Hands). h.active) g.hands) (ap (λ (h : Hands). h.epoch) g.hands),
+          given_values log log' values values' pool pool' victim moves page old new s.top s.found s.m s.may.stands log_is job' r g,
+        );
       })
 
   -- ---- the whole
