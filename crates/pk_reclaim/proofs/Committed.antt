@@ -1,11 +1,11 @@
 -- The moves of a reclaim are committed, or the program of their page failed.
-use Rattle.std.proofs.Common.{◌≡◌, ◌≢◌, ◌⊎◌, inl, inr, ℕ, zero, suc, ◌+◌, ◌-◌, ◌*◌, ◌/◌, ◌<◌, ◌≤◌, refl, sym, ap, subst, ◌∙◌, arith, Bool, true, false, cond, not, ◌&&◌, ◌==◌, List, [], ◌∷◌, ◌++◌, length, reverse, filter, append-nil, Some, eq-or-lt_of_le}
+use Rattle.std.proofs.Common.{◌≡◌, inl, inr, ℕ, zero, suc, ◌+◌, ◌-◌, ◌*◌, ◌/◌, ◌<◌, ◌≤◌, refl, sym, ap, subst, ◌∙◌, arith, Bool, true, false, cond, not, ◌&&◌, List, [], ◌∷◌, ◌++◌, length, reverse, filter, append-nil, Some, eq-or-lt_of_le}
 use Rattle.std.specs.Prelude.{slice_get, slice_set, flat_map}
 use Rattle.std.specs.List.{range_with_len}
 use Rattle.std.proofs.lemmas.Bool.{and_from, not_from_false}
 use Rattle.std.proofs.lemmas.Option.{slice_get_within}
 use Rattle.pk_base.specs.Key.{Key}
-use Rattle.pk_base.specs.Shape.{Shape, buffer, dense, data_blocks, epoch_pages}
+use Rattle.pk_base.specs.Shape.{Shape, dense, data_blocks, epoch_pages}
 use Rattle.pk_base.specs.Page.{Flash, page_at, page_in, whole as whole_page}
 use Rattle.pk_base.specs.Entry.{Entry, Place}
 use Rattle.pk_base.specs.Firsts.{firsts}
@@ -15,14 +15,12 @@ use Rattle.pk_plan.specs.declared.owner.Owner.TheVariants.{Journal, Meta, Values
 use Rattle.pk_nand.specs.BoardState.{BoardState}
 use Rattle.pk_nand.specs.Calls.{IsReady, after_program}
 use Rattle.pk_nand.proofs.Leaving.{page_at-slice_set}
-use Rattle.pk_jrnfmt.specs.Page.{journal_entries}
 use Rattle.pk_jrn.specs.Epochs.{JournalEpoch, EpochOnFlash, left_of, next_page}
 use Rattle.pk_jrn.specs.Appends.{next_bytes}
 use Rattle.pk_jrn.specs.Replays.{buffer_of}
 use Rattle.pk_jrn.proofs.Appending.{page_left}
-use Rattle.pk_rootfmt.specs.Root.{Root, named}
+use Rattle.pk_rootfmt.specs.Root.{Root}
 use Rattle.pk_root.proofs.Places.{InstallerOnFlash-by_same}
-use Rattle.pk_buf.specs.Table.{Table}
 use Rattle.pk_pool.specs.declared.state.BlockState.TheVariants.{Owned}
 use Rattle.pk_pool.specs.Blocks.{Blocks, used_by}
 use Rattle.pk_live.proofs.Ranges.{has}
@@ -35,20 +33,17 @@ use Rattle.pk_model.proofs.Commits.{Blocks as RootBlocks, valid_blocks, behind_r
 use Rattle.pk_model.proofs.SamePages.{any_front}
 use Rattle.pk_steps.specs.Under.{IsUnder, places}
 use Rattle.pk_steps.specs.Roots.{committed}
-use Rattle.pk_moves.specs.Moves.{entries_of, moved, CanMove}
+use Rattle.pk_moves.specs.Moves.{moved, CanMove}
 use Rattle.pk_moves.specs.Victims.{exchanged}
 use Rattle.pk_moves.proofs.Moving.{places_move}
 use Rattle.pk_gc.specs.declared.course.Course.{Course}
-use Rattle.pk_gc.specs.declared.course.Phase.{Phase}
 use Rattle.pk_gc.specs.declared.course.Phase.TheVariants.{Copies, GivesBack}
 use Rattle.pk_gc.specs.declared.moves.Move.{Move}
 use Rattle.pk_gc.specs.State.{JobState, source, placed_at, left_of as moves_left, entries_all}
 use Rattle.pk_gc.specs.Victims.{AreDead}
-use Rattle.pk_gc.specs.Copied.{IsCopied}
 use Rattle.pk_gc.specs.Cuts.{Journals}
 use Rattle.pk_gc.specs.Committing.{HasRoom as MovesHaveRoom, FailsToAdd, entries_left}
 use Rattle.pk_gc.specs.Ending.{CanGive}
-use Rattle.pk_gc.specs.Breaking.{FailsToCommit}
 use Rattle.pk_gc.specs.Stepping.{Hands, CommitsMoves}
 use Rattle.pk_gc.proofs.Finishing.{may_move}
 use Rattle.pk_gc.proofs.Buffering.{moves_buffered, moves_fit}
