@@ -1,5 +1,5 @@
 -- A step of which the one call failed.
-use Rattle.std.proofs.Common.{◌≡◌, ◌≢◌, ◌⊎◌, inl, inr, ℕ, ◌+◌, ◌*◌, ◌/◌, ◌<◌, ◌≤◌, refl, sym, ap, subst, ◌∙◌, arith, true, false, List, [], ◌∷◌, Some}
+use Rattle.std.proofs.Common.{◌≡◌, inl, ℕ, ◌*◌, ◌<◌, ◌≤◌, refl, sym, subst, ◌∙◌, arith, true, false, List, []}
 use Rattle.std.proofs.Math.Nat.{mul-le-mul_right}
 use Rattle.pk_base.specs.Key.{Key}
 use Rattle.pk_base.specs.Shape.{Shape, epoch_pages}
@@ -28,11 +28,11 @@ use Rattle.pk_gc.specs.declared.course.Phase.TheVariants.{Idle, Copies}
 use Rattle.pk_gc.specs.declared.moves.Move.{Move}
 use Rattle.pk_gc.specs.State.{target}
 use Rattle.pk_gc.specs.Running.{IsRunning}
-use Rattle.pk_gc.specs.Breaking.{FailsToRead, FailsToCopy}
+use Rattle.pk_gc.specs.Breaking.{FailsToCopy}
 use Rattle.pk_data.specs.State.{DataState}
 use Rattle.pk_data.proofs.Unchanged.{none_in_spare}
 use Rattle.pk_log.specs.State.{LogState}
-use Rattle.pk_reclaim.specs.Space.{Space, SpaceOnFlash, MayReclaim, space}
+use Rattle.pk_reclaim.specs.Space.{SpaceOnFlash, MayReclaim}
 use Rattle.pk_reclaim.proofs.Owners.{spare_aside}
 use Rattle.pk_reclaim.proofs.Quiet.{IsQuiet, erase_goes, program_goes}
 use Rattle.pk_reclaim.proofs.Boards.{SameRoots, erase_low, program_low}

@@ -1,11 +1,8 @@
 -- The moves of a reclaim are committed, or the program of their page failed.
-use Rattle.std.proofs.Common.{◌≡◌, ◌≢◌, ◌⊎◌, inl, inr, ℕ, zero, suc, ◌+◌, ◌-◌, ◌*◌, ◌/◌, ◌<◌, ◌≤◌, refl, sym, ap, subst, ◌∙◌, arith, Bool, true, false, cond, not, ◌&&◌, ◌==◌, List, [], ◌∷◌, ◌++◌, length, reverse, filter, append-nil, Some, eq-or-lt_of_le}
+use Rattle.std.proofs.Common.{◌≡◌, inl, ℕ, ◌+◌, ◌-◌, ◌*◌, ◌/◌, ◌<◌, ◌≤◌, refl, sym, ap, subst, ◌∙◌, arith, List, [], ◌∷◌, ◌++◌, reverse, append-nil, Some}
 use Rattle.std.specs.Prelude.{slice_get, slice_set, flat_map}
-use Rattle.std.specs.List.{range_with_len}
-use Rattle.std.proofs.lemmas.Bool.{and_from, not_from_false}
-use Rattle.std.proofs.lemmas.Option.{slice_get_within}
 use Rattle.pk_base.specs.Key.{Key}
-use Rattle.pk_base.specs.Shape.{Shape, buffer, dense, data_blocks, epoch_pages}
+use Rattle.pk_base.specs.Shape.{Shape, dense, data_blocks, epoch_pages}
 use Rattle.pk_base.specs.Page.{Flash, page_at, page_in, whole as whole_page}
 use Rattle.pk_base.specs.Entry.{Entry, Place}
 use Rattle.pk_base.specs.Firsts.{firsts}
@@ -15,17 +12,14 @@ use Rattle.pk_plan.specs.declared.owner.Owner.TheVariants.{Journal, Meta, Values
 use Rattle.pk_nand.specs.BoardState.{BoardState}
 use Rattle.pk_nand.specs.Calls.{IsReady, after_program}
 use Rattle.pk_nand.proofs.Leaving.{page_at-slice_set}
-use Rattle.pk_jrnfmt.specs.Page.{journal_entries}
 use Rattle.pk_jrn.specs.Epochs.{JournalEpoch, EpochOnFlash, left_of, next_page}
 use Rattle.pk_jrn.specs.Appends.{next_bytes}
 use Rattle.pk_jrn.specs.Replays.{buffer_of}
 use Rattle.pk_jrn.proofs.Appending.{page_left}
-use Rattle.pk_rootfmt.specs.Root.{Root, named}
+use Rattle.pk_rootfmt.specs.Root.{Root}
 use Rattle.pk_root.proofs.Places.{InstallerOnFlash-by_same}
-use Rattle.pk_buf.specs.Table.{Table}
 use Rattle.pk_pool.specs.declared.state.BlockState.TheVariants.{Owned}
 use Rattle.pk_pool.specs.Blocks.{Blocks, used_by}
-use Rattle.pk_live.proofs.Ranges.{has}
 use Rattle.pk_model.specs.Found.{Found}
 use Rattle.pk_model.specs.Laws.{AnyByRecursion}
 use Rattle.pk_model.specs.Values.{placed as placed_of}
@@ -35,30 +29,26 @@ use Rattle.pk_model.proofs.Commits.{Blocks as RootBlocks, valid_blocks, behind_r
 use Rattle.pk_model.proofs.SamePages.{any_front}
 use Rattle.pk_steps.specs.Under.{IsUnder, places}
 use Rattle.pk_steps.specs.Roots.{committed}
-use Rattle.pk_moves.specs.Moves.{entries_of, moved, CanMove}
+use Rattle.pk_moves.specs.Moves.{moved, CanMove}
 use Rattle.pk_moves.specs.Victims.{exchanged}
 use Rattle.pk_moves.proofs.Moving.{places_move}
 use Rattle.pk_gc.specs.declared.course.Course.{Course}
-use Rattle.pk_gc.specs.declared.course.Phase.{Phase}
 use Rattle.pk_gc.specs.declared.course.Phase.TheVariants.{Copies, GivesBack}
 use Rattle.pk_gc.specs.declared.moves.Move.{Move}
 use Rattle.pk_gc.specs.State.{JobState, source, placed_at, left_of as moves_left, entries_all}
 use Rattle.pk_gc.specs.Victims.{AreDead}
-use Rattle.pk_gc.specs.Copied.{IsCopied}
 use Rattle.pk_gc.specs.Cuts.{Journals}
 use Rattle.pk_gc.specs.Committing.{HasRoom as MovesHaveRoom, FailsToAdd, entries_left}
 use Rattle.pk_gc.specs.Ending.{CanGive}
-use Rattle.pk_gc.specs.Breaking.{FailsToCommit}
 use Rattle.pk_gc.specs.Stepping.{Hands, CommitsMoves}
 use Rattle.pk_gc.proofs.Finishing.{may_move}
 use Rattle.pk_gc.proofs.Buffering.{moves_buffered, moves_fit}
 use Rattle.pk_gc.proofs.Cutting.{commit_reaches}
 use Rattle.pk_data.specs.State.{DataState, fits_open}
 use Rattle.pk_data.specs.Placed.{ValuesOnFlash, HoldsValues, IsOutput}
-use Rattle.pk_data.specs.Laws.{value_blocks, is_for_values}
+use Rattle.pk_data.specs.Laws.{value_blocks}
 use Rattle.pk_data.specs.Reclaiming.{hands_of}
-use Rattle.pk_data.proofs.Outputs.{no_member}
-use Rattle.pk_data.proofs.Unchanged.{lie_in_few}
+use Rattle.pk_data.proofs.Unchanged.{lie_in_few, among_values}
 use Rattle.pk_data.proofs.Ends.{moves_placed}
 use Rattle.pk_log.specs.State.{LogState}
 use Rattle.pk_log.specs.Logs.{LogOnFlash}
@@ -71,23 +61,6 @@ use Rattle.pk_reclaim.proofs.Still.{names_of}
 use Rattle.pk_reclaim.proofs.Room.{fits_need}
 use Rattle.pk_reclaim.proofs.Given.{output_fits}
 use Rattle.pk_reclaim.proofs.Ready.{job_in, space_in, is_copied, can_give}
-
--- a number of the row that passes a test is among those that do
-filter_has : (f : ℕ → Bool) (k a n : ℕ) → a ≤ k → k < a + n → f k ≡ true → AnyByRecursion (λ b. k ≡ b) (filter f (range_with_len a n))
-filter_has f k a zero low high is = absurd (omega (arith, low, high))
-filter_has f k a (suc n) low high is =
-    elim (eq-or-lt_of_le low) [
-      | inl e ↦ (let here : f a ≡ true = ap f e ∙ is in rw here (inl (sym e)))
-      | inr above ↦ (
-          let there = filter_has f k (a + 1) n (omega (arith, above)) (omega (arith, high)) is in
-          elim (f a) as (λ b. AnyByRecursion (λ c. k ≡ c) (cond b (a ∷ filter f (range_with_len (a + 1) n)) (filter f (range_with_len (a + 1) n)))) [ true ↦ inr there | false ↦ there ])
-    ]
-
--- a block for values that no reclaim holds is among those
-among : (pool : Blocks) (outputs : List ℕ) (b : ℕ) → HoldsValues pool b → (IsOutput outputs b → ⊥) → AnyByRecursion (λ c. b ≡ c) (value_blocks pool outputs)
-among pool outputs b held no_output =
-    filter_has (λ c. is_for_values (slice_get pool.states c) && not (has c outputs)) b 0 (length pool.states) (omega arith) (omega (arith, slice_get_within pool.states b (Owned for_values) held))
-    (and_from (is_for_values (slice_get pool.states b)) (not (has b outputs)) (ap is_for_values held) (not_from_false (has b outputs) (no_member b outputs no_output)))
 
 module _ (log : LogState) (values : DataState) (pool : Blocks) (c : Course) (moves : List Move) (page : List ℕ) (old : BoardState) (top : ℕ × Root) (found : Found) (m : Map)
     (ready : IsReady old log.shape) (stands : SpaceOnFlash (space_in log values pool moves page (Copies c)) old.pages top found m)
@@ -134,7 +107,7 @@ module _ (log : LogState) (values : DataState) (pool : Blocks) (c : Course) (mov
       let few = lie_in_few shape values pool (c.output ∷ []) old.pages es stands.placed in
       may_move shape c moves page values.live.heads old.pages top.1 found blocks (is_copied log values pool moves page old.pages top found m c stands whole dead)
       (aside_unnamed pool top.1 c.output (names_of before old.pages top found m stands) (held_aside pool c.output (stands.placed.outputs_are.owned c.output (inl refl))))
-      (among pool (c.output ∷ []) c.victim victim_held.0 victim_held.1) few.1 few.0
+      (among_values pool (c.output ∷ []) c.victim victim_held.0 victim_held.1) few.1 few.0
       (moves_fit shape c job hands old.pages es found.newest give active_was room)
 
   journals : Journals shape log.epoch old.pages top

@@ -1,9 +1,8 @@
 -- A page of a value was read, or programmed into the output.
-use Rattle.std.proofs.Common.{◌≡◌, ◌≢◌, ◌⊎◌, inl, inr, ℕ, ◌+◌, ◌-◌, ◌*◌, ◌/◌, ◌<◌, ◌≤◌, refl, sym, ap, subst, ◌∙◌, arith, true, false, List, [], ◌∷◌, ◌++◌, length, append-nil, Some}
-use Rattle.std.specs.Prelude.{slice_index}
+use Rattle.std.proofs.Common.{◌≡◌, inl, ℕ, ◌-◌, ◌*◌, ◌/◌, refl, sym, ap, subst, arith, true, List, [], ◌∷◌, ◌++◌, append-nil}
 use Rattle.pk_base.specs.Key.{Key}
-use Rattle.pk_base.specs.Shape.{Shape, charge, dense}
-use Rattle.pk_base.specs.Page.{Flash, page_at}
+use Rattle.pk_base.specs.Shape.{Shape, charge}
+use Rattle.pk_base.specs.Page.{Flash}
 use Rattle.pk_base.specs.Entry.{Place}
 use Rattle.pk_base.specs.Map.{Map}
 use Rattle.pk_nand.specs.BoardState.{BoardState}
@@ -17,8 +16,8 @@ use Rattle.pk_steps.specs.Under.{places}
 use Rattle.pk_gc.specs.declared.course.Course.{Course}
 use Rattle.pk_gc.specs.declared.course.Phase.TheVariants.{Copies}
 use Rattle.pk_gc.specs.declared.moves.Move.{Move}
-use Rattle.pk_gc.specs.State.{JobState, source, target, read_next, programmed, begun_at}
-use Rattle.pk_gc.specs.Running.{IsRunning, IsNextValue, begun_move}
+use Rattle.pk_gc.specs.State.{JobState, target, read_next, programmed, begun_at}
+use Rattle.pk_gc.specs.Running.{IsRunning, begun_move}
 use Rattle.pk_gc.specs.Standing.{IsCopying}
 use Rattle.pk_gc.specs.Stepping.{ProgramsHeld, ReadsNext, BeginsValue}
 use Rattle.pk_gc.proofs.Copying.{program_runs, target_exists}

@@ -1,9 +1,7 @@
 -- What a step leaves of the log and of the board, whatever it did.
-use Rattle.std.proofs.Common.{◌≡◌, ◌≢◌, ◌⊎◌, inl, inr, ℕ, ◌+◌, ◌*◌, ◌<◌, ◌≤◌, refl, sym, ap, subst, ◌∙◌, arith, true, false, List, [], ◌∷◌, Option, Some, Result, Ok, Err}
-use Rattle.pk_base.specs.Shape.{Shape}
+use Rattle.std.proofs.Common.{◌≡◌, inl, inr, ℕ, ◌+◌, refl, sym, ap, subst, ◌∙◌, List}
 use Rattle.pk_base.specs.Entry.{Entry}
-use Rattle.pk_base.specs.Page.{Flash, page_at}
-use Rattle.pk_base.specs.Map.{Map}
+use Rattle.pk_base.specs.Page.{page_at}
 use Rattle.pk_buf.specs.Table.{Table}
 use Rattle.pk_nand.specs.declared.types.Fault.{Fault}
 use Rattle.pk_nand.specs.declared.types.Fault.TheVariants.{Reading, Stopped}
@@ -11,13 +9,9 @@ use Rattle.pk_nand.specs.BoardState.{BoardState}
 use Rattle.pk_nand.specs.Calls.{IsReady}
 use Rattle.pk_nand.specs.Effects.{Stops}
 use Rattle.pk_nand.proofs.Effects.{stops_erase, stops_program}
-use Rattle.pk_rootfmt.specs.Root.{Root}
 use Rattle.pk_pool.specs.Blocks.{Blocks, IsShared}
 use Rattle.pk_jrn.specs.Epochs.{JournalEpoch, next_page}
 use Rattle.pk_jrn.specs.Appends.{next_bytes}
-use Rattle.pk_model.specs.Found.{Found}
-use Rattle.pk_model.specs.Growth.{Goes}
-use Rattle.pk_model.specs.Crashes.{CrashFinds, background}
 use Rattle.pk_gc.specs.declared.course.Course.{Course}
 use Rattle.pk_gc.specs.declared.course.Phase.{Phase}
 use Rattle.pk_gc.specs.declared.course.Phase.TheVariants.{Idle, Copies, GivesBack}
@@ -26,12 +20,12 @@ use Rattle.pk_gc.specs.declared.reclaimed.Reclaimed.{Reclaimed}
 use Rattle.pk_gc.specs.declared.reclaimed.Reclaimed.TheVariants.{Worked, NeedsFreeze, Ended}
 use Rattle.pk_gc.specs.State.{JobState, target}
 use Rattle.pk_gc.specs.Committing.{entries_left}
-use Rattle.pk_gc.specs.Stepping.{Hands, StepsIn, GoesOn, Tries}
+use Rattle.pk_gc.specs.Stepping.{Hands, StepsIn, GoesOn}
 use Rattle.pk_gc.specs.Breaking.{BreaksIn, FailsToRead}
 use Rattle.pk_data.specs.State.{DataState}
 use Rattle.pk_data.specs.Reclaiming.{hands_of}
 use Rattle.pk_log.specs.State.{LogState}
-use Rattle.pk_reclaim.specs.Space.{Space, MayReclaim, space}
+use Rattle.pk_reclaim.specs.Space.{Space, space}
 use Rattle.pk_reclaim.specs.Steps.{KeepsLog, Unread, Breaks}
 use Rattle.pk_reclaim.proofs.Ready.{job_in, space_in}
 use Rattle.pk_reclaim.proofs.Boards.{Sound, Failed, SameRoots, sound_none, sound_read, sound_program, sound_erase, failed_read, failed_program, failed_erase, only_read, roots_low}

@@ -1,15 +1,14 @@
 -- What a step did, for each of its answers, by how far the reclaim had come.
-use Rattle.std.proofs.Common.{◌≡◌, ◌≢◌, ◌⊎◌, inl, inr, ℕ, ◌+◌, ◌-◌, ◌*◌, ◌<◌, ◌≤◌, refl, sym, ap, subst, ◌∙◌, arith, true, false, List, [], ◌∷◌, ◌++◌, length, Option, Some}
+use Rattle.std.proofs.Common.{◌≡◌, ◌≢◌, ◌⊎◌, inl, inr, ℕ, ◌≤◌, refl, sym, ap, subst, ◌∙◌, arith, List, length}
 use Rattle.std.specs.Prelude.{unwrap_or}
-use Rattle.pk_base.specs.Shape.{Shape, buffer, dense}
+use Rattle.pk_base.specs.Shape.{Shape, dense}
 use Rattle.pk_base.specs.Map.{Map}
 use Rattle.pk_work.specs.Rest.{Lowers}
-use Rattle.pk_plan.specs.declared.owner.Owner.TheVariants.{Values as for_values}
 use Rattle.pk_buf.specs.Table.{Table}
 use Rattle.pk_nand.specs.BoardState.{BoardState}
 use Rattle.pk_nand.specs.Calls.{IsReady}
 use Rattle.pk_rootfmt.specs.Root.{Root}
-use Rattle.pk_pool.specs.Blocks.{Blocks, used_by}
+use Rattle.pk_pool.specs.Blocks.{Blocks}
 use Rattle.pk_pool.specs.Unready.{unready}
 use Rattle.pk_model.specs.Found.{Found}
 use Rattle.pk_gc.specs.declared.course.Course.{Course}
@@ -25,12 +24,12 @@ use Rattle.pk_data.specs.State.{DataState}
 use Rattle.pk_data.specs.Reclaiming.{hands_of}
 use Rattle.pk_log.specs.State.{LogState}
 use Rattle.pk_reclaim.specs.Space.{Space, MayReclaim, Falls, left_before, space}
-use Rattle.pk_reclaim.specs.Steps.{SpaceMoves, Moves, Works, Ends, WantsFreeze, Does, LogIn, RoomIn, RoomBehind}
+use Rattle.pk_reclaim.specs.Steps.{SpaceMoves, Works, Does, LogIn, RoomIn, RoomBehind}
 use Rattle.pk_reclaim.proofs.Ready.{job_in, space_in, can_step_in}
 use Rattle.pk_reclaim.proofs.Begun.{starts_moves, dead_moves, dead_given, dead_room}
 use Rattle.pk_reclaim.proofs.Copies.{read_moves, begin_moves, begin_phase, program_moves}
 use Rattle.pk_reclaim.proofs.Committed.{committed_moves, committed_room}
-use Rattle.pk_reclaim.proofs.Given.{SameParts, same_parts, end_moves, end_given, end_room, given_moves, given_one, given_values}
+use Rattle.pk_reclaim.proofs.Given.{same_parts, end_moves, end_given, end_room, given_moves, given_one, given_values}
 use Rattle.pk_reclaim.proofs.Room.{tight_known}
 
 -- a space that may reclaim, for some root and map

@@ -1,21 +1,15 @@
 -- A step, whatever it answered, for the reclaim as it is.
-use Rattle.std.proofs.Common.{◌≡◌, ◌≢◌, ◌⊎◌, inl, inr, ℕ, ◌+◌, ◌*◌, refl, sym, ap, subst, ◌∙◌, List, [], Option, Some, Result, Ok, Err}
+use Rattle.std.proofs.Common.{◌≡◌, refl, sym, ap, subst, ◌∙◌, Some, Result, Ok, Err}
 use Rattle.std.specs.Prelude.{IfOk, IfErr, OnOk, OnErr}
 use Rattle.pk_base.specs.Shape.{Shape}
 use Rattle.pk_base.specs.Page.{page_at}
-use Rattle.pk_base.specs.Map.{Map}
 use Rattle.pk_nand.specs.declared.types.Fault.{Fault}
 use Rattle.pk_nand.specs.declared.types.Fault.TheVariants.{Reading, Stopped}
 use Rattle.pk_nand.specs.BoardState.{BoardState}
 use Rattle.pk_nand.specs.Calls.{IsReady}
 use Rattle.pk_nand.specs.Effects.{AtMostOneCall, NoFault, OnlyFlash, Stops}
-use Rattle.pk_rootfmt.specs.Root.{Root}
 use Rattle.pk_rootfmt.specs.Newest.{newest_root}
 use Rattle.pk_pool.specs.Blocks.{Blocks, IsShared}
-use Rattle.pk_model.specs.Found.{Found}
-use Rattle.pk_model.specs.Growth.{Grows}
-use Rattle.pk_model.specs.Wear.{roots}
-use Rattle.pk_gc.specs.declared.course.Phase.{Phase}
 use Rattle.pk_gc.specs.declared.reclaimed.Reclaimed.{Reclaimed}
 use Rattle.pk_gc.specs.declared.reclaimed.Reclaimed.TheVariants.{Worked, NeedsFreeze, Ended}
 use Rattle.pk_gc.specs.State.{JobState}
@@ -24,9 +18,9 @@ use Rattle.pk_gc.specs.Breaking.{Breaks as BreaksBelow}
 use Rattle.pk_data.specs.State.{DataState}
 use Rattle.pk_data.specs.Reclaiming.{hands_of}
 use Rattle.pk_log.specs.State.{LogState}
-use Rattle.pk_reclaim.specs.Space.{Space, MayReclaim, space}
-use Rattle.pk_reclaim.specs.Steps.{SpaceMoves, Moves, Does, Unread, Breaks, KeepsLog}
-use Rattle.pk_reclaim.proofs.Boards.{Sound, Failed, SameRoots, sound_none, roots_stay}
+use Rattle.pk_reclaim.specs.Space.{Space, space}
+use Rattle.pk_reclaim.specs.Steps.{Moves, Does, Unread, Breaks, KeepsLog}
+use Rattle.pk_reclaim.proofs.Boards.{SameRoots, roots_stay}
 use Rattle.pk_reclaim.proofs.Ready.{job_in, can_step_in}
 use Rattle.pk_reclaim.proofs.Stepping.{Somewhere, does_in}
 use Rattle.pk_reclaim.proofs.Sounding.{keeps_log, sound_in, failed_in, roots_in, broken_in, unread_in}

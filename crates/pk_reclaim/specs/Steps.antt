@@ -16,7 +16,7 @@ use Rattle.pk_rootfmt.specs.Root.{Root}
 use Rattle.pk_jrn.specs.Epochs.{left_of}
 use Rattle.pk_model.specs.Found.{Found}
 use Rattle.pk_model.specs.Laws.{AnyByRecursion}
-use Rattle.pk_model.specs.Growth.{Grows, Reaches, Goes}
+use Rattle.pk_model.specs.Growth.{Reaches, Goes}
 use Rattle.pk_model.specs.Crashes.{CrashFinds, background}
 use Rattle.pk_steps.specs.Under.{places}
 use Rattle.pk_moves.specs.Moves.{entries_of, moved}

@@ -11,7 +11,7 @@ returns-clause-does g c =
     let may = c.requires.may in
     let e = c.reclaim_step.ensures in
     let n = c.reclaim_step.new in
-    (whole c.args.log.now n.self c.args.values.now n.data c.args.pool.now n.pool c.args.job.now n.job (g.B.Nand.state c.args.board.now) (g.B.Nand.state n.board) c.reclaim_step.result (record {
+    (whole c.args.log.now n.self c.args.values.now n.values c.args.pool.now n.pool c.args.job.now n.job (g.B.Nand.state c.args.board.now) (g.B.Nand.state n.board) c.reclaim_step.result (record {
       ready = c.requires.ready;
       then_ready = e.ready;
       shared = c.known.ensures;
@@ -31,7 +31,7 @@ returns-clause-grows g c =
     let may = c.requires.may in
     let e = c.reclaim_step.ensures in
     let n = c.reclaim_step.new in
-    (whole c.args.log.now n.self c.args.values.now n.data c.args.pool.now n.pool c.args.job.now n.job (g.B.Nand.state c.args.board.now) (g.B.Nand.state n.board) c.reclaim_step.result (record {
+    (whole c.args.log.now n.self c.args.values.now n.values c.args.pool.now n.pool c.args.job.now n.job (g.B.Nand.state c.args.board.now) (g.B.Nand.state n.board) c.reclaim_step.result (record {
       ready = c.requires.ready;
       then_ready = e.ready;
       shared = c.known.ensures;
@@ -51,7 +51,7 @@ returns-clause-same_roots g c =
     let may = c.requires.may in
     let e = c.reclaim_step.ensures in
     let n = c.reclaim_step.new in
-    (whole c.args.log.now n.self c.args.values.now n.data c.args.pool.now n.pool c.args.job.now n.job (g.B.Nand.state c.args.board.now) (g.B.Nand.state n.board) c.reclaim_step.result (record {
+    (whole c.args.log.now n.self c.args.values.now n.values c.args.pool.now n.pool c.args.job.now n.job (g.B.Nand.state c.args.board.now) (g.B.Nand.state n.board) c.reclaim_step.result (record {
       ready = c.requires.ready;
       then_ready = e.ready;
       shared = c.known.ensures;
@@ -71,7 +71,7 @@ returns-clause-unread g c =
     let may = c.requires.may in
     let e = c.reclaim_step.ensures in
     let n = c.reclaim_step.new in
-    (whole c.args.log.now n.self c.args.values.now n.data c.args.pool.now n.pool c.args.job.now n.job (g.B.Nand.state c.args.board.now) (g.B.Nand.state n.board) c.reclaim_step.result (record {
+    (whole c.args.log.now n.self c.args.values.now n.values c.args.pool.now n.pool c.args.job.now n.job (g.B.Nand.state c.args.board.now) (g.B.Nand.state n.board) c.reclaim_step.result (record {
       ready = c.requires.ready;
       then_ready = e.ready;
       shared = c.known.ensures;
@@ -91,7 +91,7 @@ returns-clause-broken g c =
     let may = c.requires.may in
     let e = c.reclaim_step.ensures in
     let n = c.reclaim_step.new in
-    (whole c.args.log.now n.self c.args.values.now n.data c.args.pool.now n.pool c.args.job.now n.job (g.B.Nand.state c.args.board.now) (g.B.Nand.state n.board) c.reclaim_step.result (record {
+    (whole c.args.log.now n.self c.args.values.now n.values c.args.pool.now n.pool c.args.job.now n.job (g.B.Nand.state c.args.board.now) (g.B.Nand.state n.board) c.reclaim_step.result (record {
       ready = c.requires.ready;
       then_ready = e.ready;
       shared = c.known.ensures;
