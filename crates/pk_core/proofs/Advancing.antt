@@ -1,5 +1,5 @@
 -- A background step of the jobs, by the drive and its board.
-use Rattle.std.proofs.Common.{◌≡◌, ◌⊎◌, inl, inr, ℕ, ◌+◌, ◌<◌, ◌≤◌, refl, sym, ap, subst, ◌∙◌, arith, Bool, true, false, List, [], ◌∷◌, length, Option, Some}
+use Rattle.std.proofs.Common.{◌≡◌, ◌⊎◌, inl, inr, ℕ, ◌+◌, ◌-◌, ◌<◌, ◌≤◌, refl, sym, ap, subst, ◌∙◌, arith, Bool, true, false, List, [], ◌∷◌, length, Option, Some}
 use Rattle.std.specs.Prelude.{◌&&◌, ◌==◌, MatchBool, map, slice_get}
 use Rattle.std.proofs.lemmas.Bool.{eq-eqb, eqb-true}
 use Rattle.pk_base.specs.Shape.{Shape}
@@ -32,7 +32,7 @@ use Rattle.pk_schedule.specs.declared.phase.Phase.TheVariants.{Idle as NoMerge, 
 use Rattle.pk_schedule.specs.Index.{Index, IndexOnFlash, MergeStands, merging}
 use Rattle.pk_schedule.specs.Steps.{MayWork, MayFreeze, IndexMoves, Moves, Less, Unmoved, StandsStill, Breaks, FreezeMoves, Freezes, KeepsActive, backlog_of as backlog_of_index, has_no_merge, is_between}
 use Rattle.pk_gc.specs.Stepping.{runs_in}
-use Rattle.pk_core.specs.Parts.{Parts, frames_of, index_of, sight_of, backlog_of, is_reclaim_due, may_freeze}
+use Rattle.pk_core.specs.Parts.{Parts, frames_of, index_of, outputs_of, sight_of, backlog_of, is_reclaim_due, may_freeze}
 use Rattle.pk_core.specs.Agreeing.{DriveOnFlashWith, DriveOnFlash}
 use Rattle.pk_core.specs.Staying.{Stays}
 use Rattle.pk_core.specs.Ticking.{MayTick, Ticks, Advances}
@@ -153,7 +153,7 @@ module _ (d : Parts) (old new : BoardState) (m : MayTick d old) where
             ap (λ r. r.epoch) moved.stands.logs.root_is
             ∙ (sym moved.stands.logs.epoch_number ∙ (ap (λ l. l.epoch.number) keeps ∙ (with.index.logs.epoch_number ∙ sym (ap (λ r. r.epoch) with.index.logs.root_is)))));
       };
-      blocks = record { used = moved.values.as_many; open_same = refl };
+      blocks = record { used = ap (λ n. n - length (outputs_of d)) moved.values.as_many; open_same = refl };
     }
 
     pub merge_advances : has_no_merge (index_of d) ≡ false → Less (index_of d) old.pages x' → x'.schedule.freeze ≡ d.schedule.freeze → KeepsActive d.log x'.log → NoFault old new → AtMostOneCall old new → OnlyFlash old new → roots new ≤ roots old + 1 → Grows d.log.shape old.pages new.pages
@@ -163,10 +163,10 @@ module _ (d : Parts) (old new : BoardState) (m : MayTick d old) where
 
     -- a freeze that goes on leaves the epoch, and one that is over begins one
     stays_frozen : (done : Bool) → MatchBool done (Freezes (index_of d) x') (FreezeMoves (index_of d) x') → Stays d later
-    stays_frozen true f = record { fresh = record { stays = λ e. f.takes_more; begun = inr f.takes_more }; blocks = record { used = moved.values.as_many; open_same = refl } }
+    stays_frozen true f = record { fresh = record { stays = λ e. f.takes_more; begun = inr f.takes_more }; blocks = record { used = ap (λ n. n - length (outputs_of d)) moved.values.as_many; open_same = refl } }
     stays_frozen false f = record {
       fresh = record { stays = λ e. ap (λ (l : LogState). l.epoch.takes_more) f.log ∙ e; begun = inl (ap (λ (l : LogState). l.root.epoch) f.log) };
-      blocks = record { used = moved.values.as_many; open_same = refl };
+      blocks = record { used = ap (λ n. n - length (outputs_of d)) moved.values.as_many; open_same = refl };
     }
 
     pub freeze_advances : (done : Bool) → has_no_merge (index_of d) ≡ true → (length (taken_by d.schedule.freeze) == 0) ≡ false → MatchBool done (Freezes (index_of d) x') (FreezeMoves (index_of d) x')

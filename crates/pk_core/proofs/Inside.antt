@@ -1,5 +1,5 @@
 -- Steps of merges and of a freeze inside a command: each keeps the map.
-use Rattle.std.proofs.Common.{◌≡◌, inl, inr, ℕ, ◌+◌, ◌<◌, ◌≤◌, refl, sym, ap, subst, ◌∙◌, arith, Bool, true, false, List, [], Some, Result, Ok, Err}
+use Rattle.std.proofs.Common.{◌≡◌, inl, inr, ℕ, ◌+◌, ◌-◌, ◌<◌, ◌≤◌, refl, sym, ap, subst, ◌∙◌, arith, Bool, true, false, List, [], length, Some, Result, Ok, Err}
 use Rattle.std.specs.Prelude.{IfOk, IfErr, OnOk, OnErr, MatchBool}
 use Rattle.pk_base.specs.Shape.{Shape}
 use Rattle.pk_base.specs.Page.{Flash, page_at}
@@ -28,7 +28,7 @@ use Rattle.pk_schedule.specs.Steps.{MayWork, MayFreeze, IndexMoves, Moves, Unmov
 use Rattle.pk_log.specs.State.{LogState}
 use Rattle.pk_jrn.specs.Epochs.{JournalEpoch}
 use Rattle.pk_work.specs.Work.{merging}
-use Rattle.pk_core.specs.Parts.{Parts, frames_of, index_of}
+use Rattle.pk_core.specs.Parts.{Parts, frames_of, index_of, outputs_of}
 use Rattle.pk_core.specs.Agreeing.{DriveOnFlashWith}
 use Rattle.pk_core.specs.Moves.{StandsFor, Keeps, KeepsAll, BreaksAll, LeavesValues}
 use Rattle.pk_core.specs.Emptying.{Came, ReadsUpTo, OnRunning, MayEmpty, MergesOnce, FreezesOnce, merges_left}
@@ -194,14 +194,14 @@ module _ (d : Parts) (old : BoardState) (may : MayEmpty d old) (x : Index) (new 
               ∙ was.epoch_number
               ∙ sym (ap (λ (r : Root). r.epoch) was.root_is));
         };
-        blocks = record { used = is.values.as_many; open_same = refl };
+        blocks = record { used = ap (λ n. n - length (outputs_of d)) is.values.as_many; open_same = refl };
       }
 
   -- one that begins
   pub begun_stays : x.log.epoch.takes_more ≡ true → Moves (index_of d) old x new → Stays d its
   begun_stays more moves = record {
     fresh = record { stays = λ was. more; begun = inr more };
-    blocks = record { used = (moved moves).values.as_many; open_same = refl };
+    blocks = record { used = ap (λ n. n - length (outputs_of d)) (moved moves).values.as_many; open_same = refl };
   }
 
   -- the same index

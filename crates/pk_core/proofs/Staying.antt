@@ -1,5 +1,5 @@
 -- What of a drive stays in steps in a row.
-use Rattle.std.proofs.Common.{◌≡◌, ◌⊎◌, inl, inr, ℕ, ◌+◌, refl, sym, ap, subst, ◌∙◌, arith, List, length, Option, Some, None, Result, Ok, Err}
+use Rattle.std.proofs.Common.{◌≡◌, ◌⊎◌, inl, inr, ℕ, ◌+◌, ◌-◌, refl, sym, ap, subst, ◌∙◌, arith, List, length, Option, Some, None, Result, Ok, Err}
 use Rattle.std.specs.Prelude.{OnOk, MatchOption}
 use Rattle.pk_base.specs.Shape.{Shape, charge}
 use Rattle.pk_base.specs.Page.{Flash, page_at}
@@ -22,7 +22,8 @@ use Rattle.pk_data.specs.State.{DataState, fits_open, more_used, with_written}
 use Rattle.pk_data.specs.Placed.{HoldsValues, IsOpenIn}
 use Rattle.pk_data.specs.declared.open_block.OpenBlock.{OpenBlock}
 use Rattle.pk_drive.specs.Moving.{KeepsFresh, BlocksGrow}
-use Rattle.pk_core.specs.Parts.{Parts, sight_of, block_if_open}
+use Rattle.pk_data.proofs.Outputs.{used_freed}
+use Rattle.pk_core.specs.Parts.{Parts, sight_of, block_if_open, outputs_of}
 use Rattle.pk_core.specs.Agreeing.{DriveOnFlash}
 use Rattle.pk_core.specs.Moves.{StandsFor}
 use Rattle.pk_core.specs.Placing.{PlacesValue}
@@ -145,12 +146,15 @@ place_stays d key value old page space q new is stands = record {
   fresh = record { stays = λ e. e; begun = inl refl };
   blocks = elim is.reserved.taken [
     | inl next ↦ inl (record {
-      used = ap (λ (p : Blocks). used_by Values p.states) next.same_pool;
+      used = ap (λ (p : Blocks). used_by Values p.states - length (outputs_of d)) next.same_pool;
       open_same = counted ∙ ap (λ (s : DataState). block_if_open s.open_block) next.kept;
     })
     | inr opens ↦ inr (record {
       no_room = opens.no_room;
-      used = ap (λ (p : Blocks). used_by Values p.states) opens.taken ∙ used_adopted d.pool.shape d.pool.states opens.block Values opens.spare;
+      used =
+          (let one = used_adopted d.pool.shape d.pool.states opens.block Values opens.spare in
+          let held = used_freed (outputs_of d) d.pool.states stands.1.with.placed.outputs_are.different stands.1.with.placed.outputs_are.owned in
+          ap (λ (p : Blocks). used_by Values p.states - length (outputs_of d)) opens.taken ∙ omega (arith, one, held));
       other = λ e. not_the_open d.log.shape d.pool old.pages d.space.open_block opens.block stands.1.with.placed.open_is opens.spare (sym (counted ∙ ap (λ (s : DataState). block_if_open s.open_block) opens.opens) ∙ e);
     })
   ];

@@ -3,25 +3,23 @@ use Rattle.std.specs.Prelude.{◌≡◌, ◌≢◌, ◌⊎◌, ℕ, ◌+◌, ◌
 use Rattle.std.specs.FinMap.Entries.{find}
 use Rattle.pk_base.specs.Key.{Key, key_cmp}
 use Rattle.pk_base.specs.Entry.{Place}
-use Rattle.pk_plan.specs.declared.owner.Owner.TheVariants.{Values}
-use Rattle.pk_pool.specs.Blocks.{used_by}
 use Rattle.pk_data.specs.State.{fits_open}
-use Rattle.pk_core.specs.Parts.{Parts, block_if_open}
+use Rattle.pk_core.specs.Parts.{Parts, counts_of, block_if_open}
 
 -- An epoch that the drive began stays one that it began, and so is one that follows another.
 pub record StaysFresh (before after : Parts) : Type 0 where
   pub stays : before.log.epoch.takes_more ≡ true → after.log.epoch.takes_more ≡ true
   pub begun : (after.log.root.epoch ≡ before.log.root.epoch) ⊎ (after.log.epoch.takes_more ≡ true)
 
--- The values have as many blocks, and the same one takes the next of them.
+-- As many blocks are in use, and the same one takes the next value.
 pub record SameBlocks (before after : Parts) : Type 0 where
-  pub used : used_by Values after.pool.states ≡ used_by Values before.pool.states
+  pub used : (counts_of after).blocks ≡ (counts_of before).blocks
   pub open_same : block_if_open after.space.open_block ≡ block_if_open before.space.open_block
 
 -- The open block had no room for so many pages, and another one takes the next values.
 pub record OpensOne (before after : Parts) (count : ℕ) : Type 0 where
   pub no_room : fits_open before.log.shape before.space count ≡ false
-  pub used : used_by Values after.pool.states ≡ used_by Values before.pool.states + 1
+  pub used : (counts_of after).blocks ≡ (counts_of before).blocks + 1
   pub other : block_if_open after.space.open_block ≢ block_if_open before.space.open_block
 
 -- a step that places no value
