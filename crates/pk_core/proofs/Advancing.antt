@@ -1,6 +1,6 @@
 -- A background step of the jobs, by the drive and its board.
 use Rattle.std.proofs.Common.{◌≡◌, ◌⊎◌, inl, inr, ℕ, ◌+◌, ◌-◌, ◌<◌, ◌≤◌, refl, sym, ap, subst, ◌∙◌, arith, Bool, true, false, List, [], ◌∷◌, length, Option, Some}
-use Rattle.std.specs.Prelude.{◌&&◌, ◌==◌, MatchBool, map, slice_get}
+use Rattle.std.specs.Prelude.{◌&&◌, ◌||◌, ◌==◌, ◌↔◌, not, MatchBool, map, slice_get}
 use Rattle.std.proofs.lemmas.Bool.{eq-eqb, eqb-true}
 use Rattle.pk_base.specs.Shape.{Shape}
 use Rattle.pk_base.specs.Firsts.{firsts}
@@ -24,7 +24,8 @@ use Rattle.pk_model.specs.Wear.{roots}
 use Rattle.pk_model.specs.Crashes.{CrashFinds, background}
 use Rattle.pk_steps.proofs.Untouched.{under_reads}
 use Rattle.pk_drive.specs.Drive.{HoldsMap}
-use Rattle.pk_drive.specs.Tick.{TellsIdle, Waits, LowersWork}
+use Rattle.pk_drive.specs.Tick.{TellsIdle, LowersWork}
+use Rattle.pk_drive.specs.declared.types.Ticked.{Ticked}
 use Rattle.pk_drive.specs.declared.types.Ticked.TheVariants.{Worked, Idle, Fault}
 use Rattle.pk_log.specs.State.{LogState}
 use Rattle.pk_schedule.specs.declared.phase.Phase.{Phase}
@@ -35,11 +36,11 @@ use Rattle.pk_gc.specs.Stepping.{runs_in}
 use Rattle.pk_core.specs.Parts.{Parts, frames_of, index_of, outputs_of, sight_of, backlog_of, is_reclaim_due, may_freeze}
 use Rattle.pk_core.specs.Agreeing.{DriveOnFlashWith, DriveOnFlash}
 use Rattle.pk_core.specs.Staying.{Stays}
-use Rattle.pk_core.specs.Ticking.{MayTick, Ticks, Advances}
+use Rattle.pk_core.specs.Ticking.{MayTick, Ticks, Advances, WantsFreeze, WantsReclaim, wants_reclaim}
 use Rattle.pk_core.proofs.Unchanging.{own, for_its_map, agrees_ready}
-use Rattle.pk_core.proofs.Staying.{stays_same, step_stays}
-use Rattle.pk_core.proofs.Ticking.{ticks_nothing, ticks_failed, step_agrees, step_ticks, step_lowers, kept_drive, waits_for_reclaim, busy_freeze, busy_free, tells_step, tells_idle, tells_due, tells_running, worked_fine, idle_fine, stopped_fine, stopped_idle, stopped_worked, worked_idle}
-use Rattle.pk_core.proofs.Remaining.{merge_less, freeze_less}
+use Rattle.pk_core.proofs.Staying.{stays_same, stays_frees, step_stays}
+use Rattle.pk_core.proofs.Ticking.{ticks_nothing, ticks_failed, step_agrees, step_ticks, step_lowers, kept_drive, none_idle, busy_wanted, busy_free, worked_fine, idle_fine, stopped_fine, stopped_idle, stopped_worked, worked_idle}
+use Rattle.pk_core.proofs.Remaining.{merge_less, freeze_less, freeze_wanted}
 use Rattle.pk_core.proofs.Indexing.{with_index, may_work, moved_with, moved_agrees}
 
 -- ---- answers
@@ -64,6 +65,21 @@ merge_busy : (p : Phase) (x : Index) (flash : Flash) (root : Root) (found : Foun
 merge_busy NoMerge x flash root found stands busy none empty = true_false (sym (eq-eqb (length x.log.frozen.entries) 0 empty) ∙ busy)
 merge_busy (Running level) x flash root found stands busy none empty = level_some x.log.shape (length (firsts found.older)) (map length found.runs) level stands.into.due none
 merge_busy (Ready level) x flash root found stands busy none empty = level_some x.log.shape (length (firsts found.older)) (map length found.runs) level stands.into.due none
+
+neither : (x y : Bool) → (x || y) ≡ false → (x ≡ false) × (y ≡ false)
+neither true y e = absurd (true_false e)
+neither false y e = (refl, e)
+
+pub not_none : (b : Bool) → not b ≡ true → b ≡ false
+not_none true e = absurd (false_true e)
+not_none false e = refl
+
+pub wants_is : (d : Parts) → wants_reclaim d ≡ true → WantsReclaim d
+wants_is d e = either (runs_in d.reclaim.phase) (is_reclaim_due d) e
+  where
+    either : (x y : Bool) → (x || y) ≡ true → (x ≡ true) ⊎ (y ≡ true)
+    either true y e = inl refl
+    either false y e = inr e
 
 none_there : (bs : List ℕ) → length bs ≡ 0 → bs ≡ []
 none_there [] e = refl
@@ -137,7 +153,7 @@ module _ (d : Parts) (old new : BoardState) (m : MayTick d old) where
       stops = m.unstopped;
       none = moved.none_pending;
       agrees = λ _. moved_agrees d old new m.agrees.top m.agrees.found m.agrees.without m.agrees.all with m.none x' ready moved;
-      moves = λ _. stays;
+      moves = λ _. stays_frees d later stays;
       number = λ _. moved.numbers;
       lowers = λ _. lowers;
       idle = λ e. absurd (worked_idle e);
@@ -169,11 +185,11 @@ module _ (d : Parts) (old new : BoardState) (m : MayTick d old) where
       blocks = record { used = ap (λ (n : ℕ). n - length (outputs_of d)) moved.values.as_many; open_same = refl };
     }
 
-    pub freeze_advances : (done : Bool) → has_no_merge (index_of d) ≡ true → (length (taken_by d.schedule.freeze) == 0) ≡ false → MatchBool done (Freezes (index_of d) x') (FreezeMoves (index_of d) x')
+    pub freeze_advances : (done : Bool) → has_no_merge (index_of d) ≡ true → WantsFreeze d → MatchBool done (Freezes (index_of d) x') (FreezeMoves (index_of d) x')
         → IsShared d.pool.shape d.pool.states → Works old new → AtMostOneCall old new → roots new ≤ roots old + 1 → Grows d.log.shape old.pages new.pages → Advances d later old new Worked
-    freeze_advances done merged runs freezes shared works calls installs grows =
-        let less = freeze_less d x' done merged runs freezes moved.values.as_many moved.same_shape with.index.logs.is_shape moved.stands.logs.epoch_shape in
-        advances_moved (ticks_moved works.no_fault calls works.rest installs grows) (stays_frozen done freezes) less (busy_freeze d old m.agrees shared runs)
+    freeze_advances done merged wants freezes shared works calls installs grows =
+        let less = freeze_less d x' done merged (freeze_wanted d wants) freezes moved.values.as_many moved.same_shape with.index.logs.is_shape moved.stands.logs.epoch_shape in
+        advances_moved (ticks_moved works.no_fault calls works.rest installs grows) (stays_frozen done freezes) less (busy_wanted d old m.agrees shared wants)
 
   -- ---- one of which a call failed that stops the drive
 
@@ -297,7 +313,7 @@ module _ (d : Parts) (old new : BoardState) (m : MayTick d old) where
           stops = m.unstopped;
           none = ap (λ (e : Parts). e.log.pending) same_drive ∙ m.none;
           agrees = λ _. agrees_still;
-          moves = λ _. subst T (sym same_drive) (record { fresh = record { stays = λ e. e; begun = inl refl }; blocks = record { used = refl; open_same = refl } });
+          moves = λ _. stays_frees d (with_index d x') (subst T (sym same_drive) (record { fresh = record { stays = λ e. e; begun = inl refl }; blocks = record { used = refl; open_same = refl } }));
           number = λ _. (let e = ap (λ (e : Parts). e.log.root.number) same_drive in omega (arith, e));
           lowers = λ e. absurd (stopped_worked false e);
           idle = λ e. absurd (stopped_idle false e);
@@ -313,25 +329,25 @@ module _ (d : Parts) (old new : BoardState) (m : MayTick d old) where
     stops = ap (λ (e : Parts). e.stopped) rest ∙ m.unstopped;
     none = ap (λ (e : Parts). e.log.pending) rest ∙ m.none;
     agrees = λ _. step_agrees d d' old new m.agrees one rest shared ready owned fits;
-    moves = λ _. step_stays d d' old new (inl one) rest;
+    moves = λ _. stays_frees d d' (step_stays d d' old new (inl one) rest);
     number = λ _. (let e = ap (λ (e : Parts). e.log.root.number) rest in omega (arith, e));
     lowers = λ _. step_lowers d d' old new m.agrees one rest shared ready owned fits;
     idle = λ e. absurd (worked_idle e);
     busy = λ idle. absurd (busy_free d old m.agrees shared one.block one.lowest.here idle);
   }
 
-  pub idle_advances : (d' : Parts) → ErasesNone d.pool old d'.pool new → d' ≡ record d { pool = d'.pool } → has_no_merge (index_of d) ≡ true → (length (taken_by d.schedule.freeze) == 0) ≡ true → Advances d d' old new Idle
-  idle_advances d' none rest merged frozen =
+  pub idle_advances : (d' : Parts) → ErasesNone d.pool old d'.pool new → d' ≡ record d { pool = d'.pool } → has_no_merge (index_of d) ≡ true → (length (taken_by d.schedule.freeze) == 0) ≡ true → wants_reclaim d ≡ false → Advances d d' old new Idle
+  idle_advances d' none rest merged frozen reclaimed =
       let same = kept_drive d d' old new none rest in
       record {
         ticks = ticks_nothing d old new d' Idle same none.same m.none refl idle_fine;
         stops = ap (λ (e : Parts). e.stopped) same ∙ m.unstopped;
         none = ap (λ (e : Parts). e.log.pending) same ∙ m.none;
         agrees = λ _. subst (λ (b : BoardState). DriveOnFlash d' b.shape b.pages) (sym none.same) (subst (λ e. DriveOnFlash e old.shape old.pages) (sym same) m.agrees);
-        moves = λ _. stays_same d d' same;
+        moves = λ _. stays_frees d d' (stays_same d d' same);
         number = λ _. (let e = ap (λ (e : Parts). e.log.root.number) same in omega (arith, e));
         lowers = λ e. absurd (worked_idle (sym e));
-        idle = λ _. (record { no_merge = merged; no_freeze = none_there (taken_by d.schedule.freeze) (eqb-true (length (taken_by d.schedule.freeze)) 0 frozen); none_free = none.none_free }, same);
+        idle = λ _. (record { no_merge = merged; no_freeze = none_there (taken_by d.schedule.freeze) (eqb-true (length (taken_by d.schedule.freeze)) 0 frozen); no_reclaim = (neither (runs_in d.reclaim.phase) (is_reclaim_due d) reclaimed).0; none_due = (neither (runs_in d.reclaim.phase) (is_reclaim_due d) reclaimed).1; none_free = none.none_free }, same);
         busy = λ _. refl;
       }
 
@@ -350,32 +366,10 @@ module _ (d : Parts) (old new : BoardState) (m : MayTick d old) where
 
 -- ---- what the step answers
 
-module _ (d d' : Parts) (old new : BoardState) (m : MayTick d old) where
-  -- where nothing was left but a reclaim, it worked, and nothing was done
-  pub ticks_due : Advances d d' old new Idle → Ticks old new (sight_of d) (sight_of d') Worked
-  ticks_due made = ticks_nothing d old new d' Worked (made.idle refl).1 (made.ticks.idle_rests refl).0 m.none refl worked_fine
+module _ (d d' : Parts) (old new : BoardState) (m : MayTick d old) (answer : Ticked) (made : Advances d d' old new answer) where
+  pub lowers_advanced : LowersWork old (sight_of d) (sight_of d') answer
+  lowers_advanced e shape frames x st = made.lowers e
 
-  pub lowers_worked : Advances d d' old new Worked → LowersWork old new (sight_of d) (sight_of d') Worked
-  lowers_worked made = λ e shape frames x st. inl (made.lowers e)
-
-  module _ (shared : IsShared d.pool.shape d.pool.states) where
-    pub tells_worked : Advances d d' old new Worked → TellsIdle old (sight_of d) Worked
-    tells_worked made = tells_step d old m.agrees shared Worked worked_idle made.busy
-
-    pub tells_nothing : Advances d d' old new Idle → runs_in d'.reclaim.phase ≡ false → is_reclaim_due d' ≡ false → TellsIdle old (sight_of d) Idle
-    tells_nothing made rests none_due =
-        let idle = made.idle refl in
-        tells_idle d old m.agrees shared idle.0 (ap (λ (e : Parts). runs_in e.reclaim.phase) (sym idle.1) ∙ rests) (ap is_reclaim_due (sym idle.1) ∙ none_due)
-
-    pub tells_runs : Advances d d' old new Idle → runs_in d'.reclaim.phase ≡ true → TellsIdle old (sight_of d) Worked
-    tells_runs made runs = let idle = made.idle refl in tells_running d old m.agrees shared (ap (λ (e : Parts). runs_in e.reclaim.phase) (sym idle.1) ∙ runs)
-
-    pub tells_reclaim : Advances d d' old new Idle → is_reclaim_due d' ≡ true → TellsIdle old (sight_of d) Worked
-    tells_reclaim made due = let idle = made.idle refl in tells_due d old m.agrees shared (ap is_reclaim_due (sym idle.1) ∙ due)
-
-    pub lowers_not : Advances d d' old new Idle → runs_in d'.reclaim.phase ≡ false → is_reclaim_due d' ≡ true → LowersWork old new (sight_of d) (sight_of d') Worked
-    lowers_not made none_runs due = λ e.
-        let idle = made.idle refl in
-        let rests = made.ticks.idle_rests refl in
-        for_its_map d old m.agrees (λ s f x. ((sight_of d').work < (sight_of d).work) ⊎ Waits old new (sight_of d) (sight_of d') s)
-        (inr (record { waits = waits_for_reclaim d old m.agrees shared idle.0 (ap (λ (e : Parts). runs_in e.reclaim.phase) (sym idle.1) ∙ none_runs) (ap is_reclaim_due (sym idle.1) ∙ due); same_board = rests.0; same_drive = rests.1 }))
+  pub tells_advanced : IsShared d.pool.shape d.pool.states → TellsIdle old (sight_of d) answer
+  tells_advanced shared =
+      for_its_map d old m.agrees (λ s f x. (answer ≡ Idle) ↔ IsIdle s old.pages (sight_of d)) (λ e. none_idle d old m.agrees shared (made.idle e).0, made.busy)

@@ -55,3 +55,6 @@ pub numbers_last : (board : BoardState) (most : ℕ) → is_worn board ≡ false
 numbers_last board most unworn few =
     let least = leb-false 9223372036854775808 (roots board) unworn in
     omega (arith, least, few)
+
+pub room_last : (board : BoardState) (shape : Shape) → is_worn board ≡ false → room_calls shape + 4 ≤ 65535 → roots board + room_calls shape < 18446744073709551615
+room_last board shape unworn few = numbers_last board (room_calls shape) unworn (omega (arith, few))

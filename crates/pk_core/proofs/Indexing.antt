@@ -1,7 +1,6 @@
 -- A step of the jobs moves the index of a drive, and leaves its values where they are.
 use Rattle.std.proofs.Common.{◌≡◌, ℕ, ◌/◌, ◌<◌, sym, ap, subst, ◌∙◌, List, [], length}
-use Rattle.pk_base.specs.Entry.{Entry, Place}
-use Rattle.pk_base.specs.Key.{Key}
+use Rattle.pk_base.specs.Entry.{Entry}
 use Rattle.pk_base.specs.Page.{Flash}
 use Rattle.pk_base.specs.Map.{Map}
 use Rattle.pk_rootfmt.specs.Root.{Root}
@@ -33,26 +32,27 @@ module _ (d : Parts) (flash : Flash) (top : ℕ × Root) (found : Found) (withou
     number = number;
   }
 
+  -- with nothing pending the values lie where the flash has them, and the reclaim stands to these
+  pub committed_placed : ValuesOnFlash d.log.shape d.space d.pool (outputs_of d) flash (places found [])
+  committed_placed = subst (λ (es : List Entry). ValuesOnFlash d.log.shape d.space d.pool (outputs_of d) flash (places found es)) none a.placed
+
+  pub committed_reclaim : ReclaimOnFlash d.log.shape d.reclaim d.space.live d.pool flash (places found [])
+  committed_reclaim = subst (λ (es : List Entry). ReclaimOnFlash d.log.shape d.reclaim d.space.live d.pool flash (places found es)) none a.reclaim
+
 module _ (d : Parts) (old new : BoardState) (top : ℕ × Root) (found : Found) (without all : Map) (a : DriveOnFlashWith d d.log.shape old.pages top found without all) (none : d.log.pending ≡ [])
     (x' : Index) (ready : IsReady new d.log.shape) (moved : IndexMoves (index_of d) (frames_of d) old found all x' new) where
   pub frames_stay : length x'.arena.used ≡ frames_of d
   frames_stay = moved.stands.arena_is.size
 
-  -- with nothing pending
-  was_placed : ValuesOnFlash d.log.shape d.space d.pool (outputs_of d) old.pages (places found [])
-  was_placed = subst (λ (es : List Entry). ValuesOnFlash d.log.shape d.space d.pool (outputs_of d) old.pages (places found es)) none a.placed
-
   still_placed : ValuesOnFlash d.log.shape d.space x'.pool (outputs_of d) new.pages (places moved.then_found [])
   still_placed =
       let same_shape = moved.stands.pool_shape ∙ (moved.same_shape ∙ sym a.index.pool_shape) in
-      let now = ValuesOnFlash-kept d.log.shape d.space d.pool x'.pool (outputs_of d) old.pages new.pages (places found []) was_placed same_shape moved.values.size moved.values.as_many moved.values.owned moved.values.no_more (λ k held no_output. moved.values.pages k held) moved.stands.pool_fits in
+      let now = ValuesOnFlash-kept d.log.shape d.space d.pool x'.pool (outputs_of d) old.pages new.pages (places found []) (committed_placed d old.pages top found without all a none) same_shape moved.values.size moved.values.as_many moved.values.owned moved.values.no_more (λ k held no_output. moved.values.pages k held) moved.stands.pool_fits in
       subst (ValuesOnFlash d.log.shape d.space x'.pool (outputs_of d) new.pages) (sym moved.same_places) now
 
   still_reclaims : ReclaimOnFlash d.log.shape d.reclaim d.space.live x'.pool new.pages (places moved.then_found [])
   still_reclaims =
-      let R : List (Key × Place) → Type 0 = λ es. ReclaimOnFlash d.log.shape d.reclaim d.space.live d.pool old.pages es in
-      let was : R (places found []) = subst (λ (es : List Entry). R (places found es)) none a.reclaim in
-      let now = reclaim_elsewhere d.log.shape d.reclaim d.space d.pool x'.pool old.pages new.pages (places found []) was was_placed moved.values.as_many (λ k held not_open. moved.values.pages k held) in
+      let now = reclaim_elsewhere d.log.shape d.reclaim d.space d.pool x'.pool old.pages new.pages (places found []) (committed_reclaim d old.pages top found without all a none) (committed_placed d old.pages top found without all a none) moved.values.as_many (λ k held not_open. moved.values.pages k held) in
       subst (ReclaimOnFlash d.log.shape d.reclaim d.space.live x'.pool new.pages) (sym moved.same_places) now
 
   -- the drive agrees with the flash behind the step, for the same map

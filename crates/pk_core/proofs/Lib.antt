@@ -53,3 +53,4 @@ pub mod Spacing
 pub mod SpaceSteps
 pub mod Stored
 pub mod ReclaimWork
+pub mod ReclaimTicks

@@ -33,23 +33,20 @@ and_so : (x y : Bool) → y ≡ false → (x && y) ≡ false
 and_so true y e = e
 and_so false y e = refl
 
+both : (x : Bool) → (x && true) ≡ x
+both true = refl
+both false = refl
+
 -- where every value has room, none is
+not_due_at : (d : Parts) (b : Bool) → ((counts_of d).blocks == data_blocks d.log.shape - 1) ≡ b → HasSpace d → (b && not (fits_open d.log.shape d.space (most_pages d.log.shape))) ≡ false
+not_due_at d false e space = refl
+not_due_at d true e space =
+    let all = eqb-true (counts_of d).blocks (data_blocks d.log.shape - 1) e in
+    let full : nat_le (data_blocks d.log.shape - 1) (used_by Values d.pool.states) ≡ true = le-leb (data_blocks d.log.shape - 1) (used_by Values d.pool.states) (omega (arith, all)) in
+    sym (both (not (fits_open d.log.shape d.space (most_pages d.log.shape)))) ∙ (ap (λ x. not (fits_open d.log.shape d.space (most_pages d.log.shape)) && x) (sym full) ∙ space (most_pages d.log.shape) (omega arith))
+
 space_not_due : (d : Parts) → HasSpace d → is_reclaim_due d ≡ false
-space_not_due d space = by ((counts_of d).blocks == data_blocks d.log.shape - 1) refl
-  where
-    fits : Bool
-    fits = fits_open d.log.shape d.space (most_pages d.log.shape)
-
-    both : (x : Bool) → (x && true) ≡ x
-    both true = refl
-    both false = refl
-
-    by : (b : Bool) → ((counts_of d).blocks == data_blocks d.log.shape - 1) ≡ b → (b && not fits) ≡ false
-    by false e = refl
-    by true e =
-        let all = eqb-true (counts_of d).blocks (data_blocks d.log.shape - 1) e in
-        let full : nat_le (data_blocks d.log.shape - 1) (used_by Values d.pool.states) ≡ true = le-leb (data_blocks d.log.shape - 1) (used_by Values d.pool.states) (omega (arith, all)) in
-        sym (both (not fits)) ∙ (ap (λ x. not fits && x) (sym full) ∙ space (most_pages d.log.shape) (omega arith))
+space_not_due d space = not_due_at d ((counts_of d).blocks == data_blocks d.log.shape - 1) refl space
 
 -- behind one whose moves were committed before, one is due as it was
 due_same : (b c : Parts) (p : Phase) → (runs_in p ≡ true) → length (held_blocks b.reclaim.phase) ≡ 1 → c.reclaim.phase ≡ Idle → c.log ≡ b.log → c.space ≡ b.space

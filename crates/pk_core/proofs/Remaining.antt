@@ -1,7 +1,6 @@
 -- What a step of the jobs leaves of the background work.
 use Rattle.std.proofs.Common.{◌≡◌, ◌⊎◌, inl, inr, ℕ, ◌+◌, ◌-◌, ◌*◌, ◌<◌, ◌≤◌, refl, sym, ap, subst, ◌∙◌, arith, Bool, true, false, cond, length, Option, Some, None}
 use Rattle.std.specs.Prelude.{◌==◌, ◌&&◌, ◌||◌, if◌then◌else◌, nat_lt, is_none, MatchBool, map}
-use Rattle.std.proofs.lemmas.Bool.{eqb-true, cases_Bool}
 use Rattle.std.proofs.lemmas.Bool.Decides.{nat_tests}
 use Rattle.pk_base.specs.Shape.{Shape, IsShape, buffer, dense}
 use Rattle.pk_plan.specs.declared.owner.Owner.TheVariants.{Values as for_values}
@@ -22,6 +21,7 @@ use Rattle.pk_schedule.specs.declared.phase.Phase.TheVariants.{Idle, Running, Re
 use Rattle.pk_schedule.specs.Index.{Index, Schedule}
 use Rattle.pk_schedule.specs.Steps.{FreezeMoves, Freezes, KeepsActive, backlog_of as backlog_of_index, merge_left, freeze_rest_of, has_no_merge, is_between}
 use Rattle.pk_core.specs.Parts.{Parts, index_of, sight_of, backlog_of, is_reclaim_due, reclaim_left, has_moves, may_freeze}
+use Rattle.pk_core.specs.Ticking.{WantsFreeze}
 use Rattle.pk_core.proofs.Ticking.{no_merge_is, due_so}
 use Rattle.pk_core.proofs.Indexing.{with_index}
 
@@ -126,23 +126,6 @@ left_least job next = by (length (taken_by job) == 0)
     by true = let few = (install_few next).1 in omega (arith, few)
     by false = omega arith
 
--- one that has a block and goes on has one still
-still_taken : (job job' : FreezeJob) (next next' : Next) (u u' : ℕ) → (length (taken_by job) == 0) ≡ false → Lowers (freeze_left job next) u (freeze_left job' next') u' → (length (taken_by job') == 0) ≡ false
-still_taken job job' next next' u u' some lowers = elim (cases_Bool (length (taken_by job') == 0)) [
-  | inr none ↦ none
-  | inl all ↦ absurd (
-      let none : length (taken_by job') ≡ 0 = eqb-true (length (taken_by job')) 0 all in
-      let one : 0 < length (taken_by job) = positive (length (taken_by job)) some in
-      let before = (install_few next).1 in
-      let behind = (install_few next').0 in
-      let up = lowers.none_ready in
-      let less = lowers.less in
-      omega (arith, none, one, before, behind, up, less))
-]
-  where
-    positive : (n : ℕ) → (n == 0) ≡ false → 0 < n
-    positive n e = grind (arith, nat_tests)
-
 -- behind a freeze there is room for the moves of a reclaim
 not_tight : (most moves active left : ℕ) → active + moves ≤ most → 0 < left → (nat_lt most (active + moves) || left == 0) ≡ false
 not_tight most moves active left few some = grind (arith, nat_tests)
@@ -231,13 +214,20 @@ module _ (d : Parts) (x' : Index) (merged : has_no_merge (index_of d) ≡ true) 
       fresh_left true n used takes unused some = omega (arith, unused, some)
       fresh_left false n used takes unused some = absurd (false_true takes)
 
--- by what a step of a freeze that runs did
-pub freeze_less : (d : Parts) (x' : Index) (done : Bool) → has_no_merge (index_of d) ≡ true → (length (taken_by d.schedule.freeze) == 0) ≡ false → MatchBool done (Freezes (index_of d) x') (FreezeMoves (index_of d) x')
+-- a freeze that is wanted runs, or may be needed
+pub freeze_wanted : (d : Parts) → WantsFreeze d → freeze_rest_of d.schedule.freeze d.log.next ≡ None → may_freeze d ≡ true
+freeze_wanted d (inl some) none = absurd (some_none (freeze_left d.schedule.freeze d.log.next) (sym (freeze_some_left d.schedule.freeze d.log.next some) ∙ none))
+freeze_wanted d (inr (runs, may)) none = may
+
+not_zero : (n : ℕ) → 0 < n → (n == 0) ≡ false
+not_zero n some = grind (arith, nat_tests)
+
+-- by what a step of a freeze did
+pub freeze_less : (d : Parts) (x' : Index) (done : Bool) → has_no_merge (index_of d) ≡ true → (freeze_rest_of d.schedule.freeze d.log.next ≡ None → may_freeze d ≡ true) → MatchBool done (Freezes (index_of d) x') (FreezeMoves (index_of d) x')
     → used_by for_values x'.pool.states ≡ used_by for_values d.pool.states → x'.log.shape ≡ d.log.shape → IsShape d.log.shape → x'.log.epoch.shape ≡ x'.log.shape → (sight_of (with_index d x')).work < (sight_of d).work
-freeze_less d x' done merged runs f many shape is epoch =
-    let wanted : freeze_rest_of d.schedule.freeze d.log.next ≡ None → may_freeze d ≡ true = λ none. absurd (some_none (freeze_left d.schedule.freeze d.log.next) (sym (freeze_some_left d.schedule.freeze d.log.next runs) ∙ none)) in
-    subst (λ (s : Shape). work s (backlog_of (with_index d x')) < work d.log.shape (backlog_of d)) (sym shape) (by done wanted f)
+freeze_less d x' done merged wanted f many shape is epoch =
+    subst (λ (s : Shape). work s (backlog_of (with_index d x')) < work d.log.shape (backlog_of d)) (sym shape) (by done f)
   where
-    by : (done : Bool) → (freeze_rest_of d.schedule.freeze d.log.next ≡ None → may_freeze d ≡ true) → MatchBool done (Freezes (index_of d) x') (FreezeMoves (index_of d) x') → work d.log.shape (backlog_of (with_index d x')) < work d.log.shape (backlog_of d)
-    by true wanted over = freeze_over d x' merged wanted many shape is epoch over
-    by false wanted goes = freeze_goes d x' merged wanted many shape goes (still_taken d.schedule.freeze x'.schedule.freeze d.log.next x'.log.next (unready d.pool.states) (unready x'.pool.states) runs goes.lowers)
+    by : (done : Bool) → MatchBool done (Freezes (index_of d) x') (FreezeMoves (index_of d) x') → work d.log.shape (backlog_of (with_index d x')) < work d.log.shape (backlog_of d)
+    by true over = freeze_over d x' merged wanted many shape is epoch over
+    by false goes = freeze_goes d x' merged wanted many shape goes (not_zero (length (taken_by x'.schedule.freeze)) goes.some)

@@ -58,7 +58,7 @@ some_at (GivesBack victim) d count awaits = omega arith
 
 -- ---- what stays in a step
 
-leaves_stay : (b c : Parts) → LeavesIndex b c → StaysSame b c
+pub leaves_stay : (b c : Parts) → LeavesIndex b c → StaysSame b c
 leaves_stay b c leaves = record {
   frames = ap (λ (d : Parts). frames_of d) leaves;
   stopped = ap (λ (d : Parts). d.stopped) leaves;
@@ -66,7 +66,7 @@ leaves_stay b c leaves = record {
   fresh = record { stays = λ e. ap (λ (d : Parts). d.log.epoch.takes_more) leaves ∙ e; begun = inl (ap (λ (d : Parts). d.log.root.epoch) leaves) };
 }
 
-unread_stays : (b c : Parts) (s0 s1 : BoardState) → CannotRead b c s0 s1 → StaysSame b c
+pub unread_stays : (b c : Parts) (s0 s1 : BoardState) → CannotRead b c s0 s1 → StaysSame b c
 unread_stays b c s0 s1 unread = record {
   frames = ap (λ (d : Parts). frames_of d) unread.rest;
   stopped = ap (λ (d : Parts). d.stopped) unread.rest;

@@ -36,11 +36,11 @@ use Rattle.pk_core.specs.Parts.{Parts, sight_of, frames_of}
 use Rattle.pk_core.specs.Agreeing.{DriveOnFlash}
 use Rattle.pk_core.specs.Done.{Does}
 use Rattle.pk_core.specs.Quiet.{eleven}
-use Rattle.pk_core.specs.Staying.{Stays}
+use Rattle.pk_core.specs.Staying.{StaysOrFrees}
 use Rattle.pk_core.specs.Ticking.{MayTick, Ticks, HasNoStep, Advances}
 use Rattle.pk_core.specs.Stepping.{has_failed, Steps, outcome_of}
 use Rattle.pk_core.proofs.Unchanging.{for_its_map, same_early, unread_step}
-use Rattle.pk_core.proofs.Staying.{stays_same, stays_then}
+use Rattle.pk_core.proofs.Staying.{stays_same, stays_frees, frees_then}
 use Rattle.pk_core.proofs.Callings.{few_none, few_more, few_within}
 use Rattle.pk_core.proofs.Ticking.{yes_no}
 
@@ -53,7 +53,7 @@ pub record Ongoing (first : Parts) (old : BoardState) (d : Parts) (board : Board
   pub less : (sight_of d).work + made ≤ (sight_of first).work
   pub number : d.log.root.number ≤ first.log.root.number + made
   pub counted : board.read_faults ≤ last_count
-  pub stays : Stays first d
+  pub stays : StaysOrFrees first d
 
 -- ---- no step
 
@@ -258,7 +258,7 @@ ongoing_none d board may few = record {
   less = omega arith;
   number = omega arith;
   counted = may.counted;
-  stays = stays_same d d refl;
+  stays = stays_frees d d (stays_same d d refl);
 }
 
 module _ (first : Parts) (old : BoardState) (d : Parts) (board : BoardState) (made : ℕ) (o : Ongoing first old d board made) where
@@ -271,8 +271,8 @@ module _ (first : Parts) (old : BoardState) (d : Parts) (board : BoardState) (ma
     pub ongoing_last : (most : ℕ) → made < most → Steps old next (sight_of first) (sight_of e) answer most
     ongoing_last most less = steps_within old next (sight_of first) (sight_of e) answer (made + 1) most (omega (arith, less)) (steps_more old board (sight_of first) (sight_of d) made o.steps next (sight_of e) answer step.ticks)
 
-    pub ongoing_stays : stopped_by answer ≡ false → Stays first e
-    ongoing_stays runs = stays_then first d e o.stays (step.moves runs)
+    pub ongoing_stays : stopped_by answer ≡ false → StaysOrFrees first e
+    ongoing_stays runs = frees_then first d e o.stays (step.moves runs)
 
   -- it goes on behind a step that worked
   pub ongoing_more : (e : Parts) (next : BoardState) → Advances d e board next Worked → Ongoing first old e next (made + 1)
@@ -284,7 +284,7 @@ module _ (first : Parts) (old : BoardState) (d : Parts) (board : BoardState) (ma
     less = (let was = o.less in let now = step.lowers refl in omega (arith, was, now));
     number = (let was = o.number in let now = step.number refl in omega (arith, was, now));
     counted = (let was = o.counted in let same = (step.ticks.worked refl).1 in omega (arith, was, same));
-    stays = stays_then first d e o.stays (step.moves refl);
+    stays = frees_then first d e o.stays (step.moves refl);
   }
 
   -- where no step is left, nothing is left but a reclaim

@@ -7,7 +7,7 @@ use Rattle.pk_base.specs.Entry.{Entry, Place}
 use Rattle.pk_base.specs.Key.{Key, key_cmp}
 use Rattle.pk_base.specs.Page.{Flash}
 use Rattle.pk_base.specs.Map.{Map}
-use Rattle.pk_base.specs.Shape.{Shape, IsShape, data_blocks, charge, greatest, page_entries}
+use Rattle.pk_base.specs.Shape.{Shape, IsShape, data_blocks, charge, greatest, page_entries, most_pages}
 use Rattle.pk_plan.specs.declared.owner.Owner.TheVariants.{Values}
 use Rattle.pk_pool.specs.Blocks.{used_by}
 use Rattle.pk_nand.specs.declared.types.Fault.{Fault}
@@ -18,7 +18,7 @@ use Rattle.pk_nand.specs.Effects.{OnlyFlash}
 use Rattle.pk_model.specs.Found.{Found}
 use Rattle.pk_model.specs.Growth.{Reaches, Goes}
 use Rattle.pk_model.specs.Crashes.{CrashFinds, commit, change}
-use Rattle.pk_model.specs.Wear.{roots}
+use Rattle.pk_model.specs.Wear.{roots, is_worn}
 use Rattle.pk_work.specs.Rest.{whole_reclaim}
 use Rattle.pk_work.specs.Calls.{room_calls, space_calls}
 use Rattle.pk_steps.specs.Under.{places}
@@ -37,7 +37,8 @@ use Rattle.pk_core.specs.Quiet.{ReadsOnly, ReadsFailing, Looks}
 use Rattle.pk_core.specs.Changes.{MayPut, CanPut, Changes, PutsAll, FailsToPut, PutsOrReads, StaysBetween}
 use Rattle.pk_core.specs.Programming.{PutsQuietly, ReadsNone}
 use Rattle.pk_core.specs.Reclaiming.{CannotRead, is_tight_for}
-use Rattle.pk_core.specs.Spacing.{SameMapAll, MovesOrReads, StaysSame, where_so, needs, steps_for, has_moves, space_left, MaySpace, MayStore, StoresAll, FailsToStore, StoresOrReads, CanStore}
+use Rattle.pk_core.specs.Spacing.{SameMapAll, MovesOrReads, StaysSame, where_so, needs, steps_for, has_moves, space_left, MaySpace, MayStore, StoresAll, FailsToStore, StoresOrReads, CanStore, store_most}
+use Rattle.pk_core.proofs.Amounts.{store_few, numbers_last}
 use Rattle.pk_core.proofs.Changing.{kept_goes}
 use Rattle.pk_core.proofs.Emptied.{keeps_reads, passes_keeps}
 use Rattle.pk_core.proofs.Keeping.{board_has}
@@ -104,6 +105,9 @@ space_not_made e a b s0 s1 step = moves_failed e a b 0 (space_calls a.log.shape)
 pub stays_made : (r : Result Unit Fault) (a b c : Parts) → LeavesValues a b → Stays a b → OnRunning (StaysSame b c) r → OnRunning (StaysSame a c) r
 stays_made r a b c leaves stays second = running_says (StaysSame b c) (StaysSame a c) r (stays_both a b c (values_stay a b leaves stays)) second
 
+pub most_committed : (count : ℕ) (a b : Parts) → b.log.shape ≡ a.log.shape → count ≤ most_pages a.log.shape → count ≤ most_pages b.log.shape
+most_committed count a b same most = subst (λ (s : Shape). count ≤ most_pages s) (sym same) most
+
 -- ---- a look-up finds the former value
 
 reaches_behind : (shape : Shape) (old new : BoardState) (n : ℕ) (P : Flash → List ℕ → Type 0) → Reaches shape (record old { reads = n }) new P → Reaches shape old new P
@@ -168,6 +172,15 @@ found_stores r d e c s0 s1 s2 key value p same looks made second =
     let here = subst (λ (x : Parts). PutsOrReads x c (room_calls x.log.shape) s1 s2 key value p r) same second in
     let there = subst (λ (s : BoardState). PutsOrReads d c (room_calls d.log.shape) s s2 key value p r) made.board here in
     found_at d c s0 s2 s1.reads key value p looks made.up (omega (arith, within)) r (room_calls d.log.shape) there
+
+pub found_room : (d e : Parts) (size : ℕ) → e ≡ d → needs (charge d.log.shape size) d ≡ false → needs (charge e.log.shape size) e ≡ false
+found_room d e size same room = subst (λ (x : Parts). needs (charge x.log.shape size) x ≡ false) (sym same) room
+
+pub found_numbers : (d e : Parts) (s0 s1 : BoardState) → e ≡ d → ReadsOnly s0 s1 (4 - d.levels.pinned) → roots s0 + room_calls d.log.shape < 18446744073709551615 → roots s1 + room_calls e.log.shape < 18446744073709551615
+found_numbers d e s0 s1 same made few =
+    let roots_same : roots s1 ≡ roots s0 = ap (λ (s : BoardState). roots s) made.board in
+    let calls : room_calls e.log.shape ≡ room_calls d.log.shape = ap (λ (x : Parts). room_calls x.log.shape) same in
+    omega (arith, roots_same, calls, few)
 
 -- a read of the look-up failed
 unread_parts : (d e : Parts) (s0 s1 : BoardState) (most : ℕ) → e ≡ d → ReadsFailing s0 s1 most → CannotRead d e s0 s1
@@ -289,10 +302,10 @@ fresh_failed e a b same = running_says {T = Unit {0}} (StaysSame a b) (StaysFres
 
 -- ---- no more blocks are in use
 
-blocks_most : (d : Parts) (shape : Shape) (flash : Flash) (m : Map) → StandsFor d shape flash m → (counts_of d).blocks ≤ data_blocks shape - 1
+pub blocks_most : (d : Parts) (shape : Shape) (flash : Flash) (m : Map) → StandsFor d shape flash m → (counts_of d).blocks ≤ data_blocks shape - 1
 blocks_most d shape flash m stands = let few = stands.with.placed.few in omega (arith, few)
 
-blocks_at : (p : Phase) (used all : ℕ) → all - 1 ≤ used → (runs_in p ≡ true → used ≡ all) → all - 1 ≤ used - length (held_blocks p)
+pub blocks_at : (p : Phase) (used all : ℕ) → all - 1 ≤ used → (runs_in p ≡ true → used ≡ all) → all - 1 ≤ used - length (held_blocks p)
 blocks_at Idle used all least full = omega (arith, least)
 blocks_at (Copies c) used all least full = let same = full refl in omega (arith, same)
 blocks_at (GivesBack victim) used all least full = let same = full refl in omega (arith, same)
@@ -362,3 +375,27 @@ module _ (d : Parts) (s0 : BoardState) (key : Key) (value : List ℕ) (p : Optio
 pub reads_if_room : (r : Result Unit Fault) (d : Parts) (key : Key) (count : ℕ) (old new : BoardState) → OnOk r (needs_freeze d.log key ≡ false → new.reads ≡ old.reads) → OnOk r (ReadsNone d key count old new)
 reads_if_room (Ok x) d key count old new quiet = λ fits. quiet
 reads_if_room (Err e) d key count old new quiet = tt
+
+-- ---- the numbers of roots last
+
+room_most : (d : Parts) (board : BoardState) (key : Key) (value : List ℕ) → CanStore d board key value → is_worn board ≡ false → roots board + store_most d.log.shape < 18446744073709551615
+room_most d board key value can unworn =
+    let few = store_few d.log.shape can.may.1.stands.with.index.logs.is_shape in
+    numbers_last board (store_most d.log.shape) unworn (omega (arith, few))
+
+pub space_numbers : (d : Parts) (board : BoardState) (key : Key) (value : List ℕ) → CanStore d board key value → is_worn board ≡ false → roots board + space_calls d.log.shape < 18446744073709551615
+space_numbers d board key value can unworn = let few = room_most d board key value can unworn in omega (arith, few)
+
+pub store_numbers : (d : Parts) (board : BoardState) (key : Key) (value : List ℕ) → CanStore d board key value → is_worn board ≡ false → roots board + (space_calls d.log.shape + room_calls d.log.shape) < 18446744073709551615
+store_numbers d board key value can unworn = let few = room_most d board key value can unworn in omega (arith, few)
+
+pub put_numbers : (d : Parts) (board : BoardState) (key : Key) (value : List ℕ) (p : Option Place) → CanPut d board key value p → is_worn board ≡ false → roots board + room_calls d.log.shape < 18446744073709551615
+put_numbers d board key value p can unworn = let few = room_most d board key value (store_can d board key value p can) unworn in omega (arith, few)
+
+-- ---- by the size that a request tells
+
+pub reads_whole : (d : Parts) (key : Key) (old new : BoardState) (size size' : ℕ) → size ≡ size' → ReadsNone d key (charge d.log.shape size) old new → ReadsNone d key (charge d.log.shape size') old new
+reads_whole d key old new size size' same is = subst (λ n. ReadsNone d key (charge d.log.shape n) old new) same is
+
+pub room_looked : (d e : Parts) (size : ℕ) → e ≡ d → fits_open d.log.shape d.space (charge d.log.shape size) ≡ true → fits_open e.log.shape e.space (charge e.log.shape size) ≡ true
+room_looked d e size same room = subst (λ (x : Parts). fits_open x.log.shape x.space (charge x.log.shape size) ≡ true) (sym same) room

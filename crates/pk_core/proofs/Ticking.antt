@@ -47,7 +47,6 @@ use Rattle.pk_model.specs.Wear.{number_of, root_number, roots}
 use Rattle.pk_drive.specs.Drive.{HoldsMap}
 use Rattle.pk_nand.specs.Effects.{AtMostOneCall}
 use Rattle.pk_drive.specs.Seen.{stopped_by}
-use Rattle.pk_drive.specs.Tick.{TellsIdle, WaitsForReclaim}
 use Rattle.pk_model.specs.Crashes.{CrashFinds, background}
 use Rattle.pk_drive.specs.declared.types.Ticked.{Ticked}
 use Rattle.pk_drive.specs.declared.types.Ticked.TheVariants.{Worked, Idle, Fault}
@@ -56,7 +55,7 @@ use Rattle.pk_data.specs.Laws.{SameValues}
 use Rattle.pk_gc.specs.Stepping.{runs_in}
 use Rattle.pk_core.specs.Parts.{Parts, sight_of, counts_of, index_of, block_if_open, outputs_of, backlog_of, is_reclaim_due, reclaim_left, has_moves, may_freeze}
 use Rattle.pk_core.specs.Agreeing.{DriveOnFlashWith, DriveOnFlash}
-use Rattle.pk_core.specs.Ticking.{Ticks, HasNoStep}
+use Rattle.pk_core.specs.Ticking.{Ticks, HasNoStep, WantsReclaim, WantsFreeze}
 use Rattle.pk_core.proofs.Reclaiming.{reclaim_elsewhere, holds_none}
 use Rattle.pk_core.proofs.Unread.{KeepsOwners, SameRead, same_top, still_without, still_all, agrees_elsewhere}
 use Rattle.pk_core.proofs.Stills.{IsStill, SameStill, StillCut, read_still, still_end, went_end, still_erase, still_erase_failed}
@@ -415,31 +414,18 @@ module _ (d : Parts) (old : BoardState) (a : DriveOnFlash d old.shape old.pages)
   all_unready : HasNoStep d → runs_in d.reclaim.phase ≡ false → 2 + length (named a.top.1) + (counts_of d).blocks + count_by is_ready d.pool.states ≡ d.log.shape.blocks
   all_unready no_step rests = let all = none_unready no_step in let same = blocks_are rests in omega (arith, all, same)
 
-  -- nothing is left to do where no step is, and no reclaim runs or is due
-  none_idle : HasNoStep d → runs_in d.reclaim.phase ≡ false → is_reclaim_due d ≡ false → IsIdle d.log.shape old.pages (sight_of d)
-  none_idle no_step rests none_due =
+  -- nothing is left to do where no step is
+  pub none_idle : HasNoStep d → IsIdle d.log.shape old.pages (sight_of d)
+  none_idle no_step =
       let merged = no_merge_is (index_of d) no_step.no_merge in
       record {
         top = a.top;
         is_newest = with.committed.is_top;
         no_merge = between_merges d.schedule.phase merged.0;
         none_frozen = merged.1;
-        no_reclaim = rests;
-        all_erased = all_unready no_step rests;
-        has_room = due_is ∙ none_due;
-      }
-
-  -- and nothing but a reclaim, where one is due
-  pub waits_for_reclaim : HasNoStep d → runs_in d.reclaim.phase ≡ false → is_reclaim_due d ≡ true → WaitsForReclaim d.log.shape old.pages (sight_of d)
-  waits_for_reclaim no_step rests due =
-      let merged = no_merge_is (index_of d) no_step.no_merge in
-      record {
-        top = a.top;
-        is_newest = with.committed.is_top;
-        no_merge = between_merges d.schedule.phase merged.0;
-        none_frozen = merged.1;
-        all_erased = all_unready no_step rests;
-        is_due = due_is ∙ due;
+        no_reclaim = no_step.no_reclaim;
+        all_erased = all_unready no_step no_step.no_reclaim;
+        has_room = due_is ∙ no_step.none_due;
       }
 
   pub idle_rests : IsIdle d.log.shape old.pages (sight_of d) → is_reclaim_due d ≡ false
@@ -470,22 +456,14 @@ module _ (d : Parts) (old : BoardState) (a : DriveOnFlash d old.shape old.pages)
       let whole = all_erased_is idle in
       omega (arith, all, one, whole)
 
-  -- ---- what it tells
+  -- nor where a reclaim runs or is due, or a freeze is wanted
+  pub busy_reclaim : WantsReclaim d → IsIdle d.log.shape old.pages (sight_of d) → ⊥
+  busy_reclaim (inl runs) idle = yes_no (runs_in d.reclaim.phase) idle.no_reclaim runs
+  busy_reclaim (inr due) idle = yes_no (is_reclaim_due d) (idle_rests idle) due
 
-  -- an answer that tells of a step, or of one that failed
-  pub tells_step : (answer : Ticked) → (answer ≡ Idle → ⊥) → (IsIdle d.log.shape old.pages (sight_of d) → answer ≡ Idle) → TellsIdle old (sight_of d) answer
-  tells_step answer other busy = for_its_map d old a (λ s f m. (answer ≡ Idle) ↔ IsIdle s old.pages (sight_of d)) (λ e. absurd (other e), busy)
-
-  -- it is idle where no step is left, and no reclaim runs or is due
-  pub tells_idle : HasNoStep d → runs_in d.reclaim.phase ≡ false → is_reclaim_due d ≡ false → TellsIdle old (sight_of d) Idle
-  tells_idle no_step rests none_due = for_its_map d old a (λ s f m. (Idle ≡ Idle) ↔ IsIdle s old.pages (sight_of d)) (λ _. none_idle no_step rests none_due, λ _. refl)
-
-  -- and is not where one runs
-  pub tells_running : runs_in d.reclaim.phase ≡ true → TellsIdle old (sight_of d) Worked
-  tells_running runs = for_its_map d old a (λ s f m. (Worked ≡ Idle) ↔ IsIdle s old.pages (sight_of d)) (λ e. absurd (worked_idle e), λ idle. absurd (yes_no (runs_in d.reclaim.phase) idle.no_reclaim runs))
-
-  pub tells_due : is_reclaim_due d ≡ true → TellsIdle old (sight_of d) Worked
-  tells_due due = for_its_map d old a (λ s f m. (Worked ≡ Idle) ↔ IsIdle s old.pages (sight_of d)) (λ e. absurd (worked_idle e), λ idle. absurd (yes_no (is_reclaim_due d) (idle_rests idle) due))
+  pub busy_wanted : WantsFreeze d → IsIdle d.log.shape old.pages (sight_of d) → ⊥
+  busy_wanted (inl some) idle = busy_freeze some idle
+  busy_wanted (inr (runs, may)) idle = busy_reclaim (inl runs) idle
 
 -- ---- a call that erases a spare block, or finds none
 

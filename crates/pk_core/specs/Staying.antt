@@ -11,7 +11,7 @@ pub record StaysFresh (before after : Parts) : Type 0 where
   pub stays : before.log.epoch.takes_more ≡ true → after.log.epoch.takes_more ≡ true
   pub begun : (after.log.root.epoch ≡ before.log.root.epoch) ⊎ (after.log.epoch.takes_more ≡ true)
 
--- The values have as many blocks, and the same one takes the next of them.
+-- As many blocks are in use, and the same one takes the next value.
 pub record SameBlocks (before after : Parts) : Type 0 where
   pub used : (counts_of after).blocks ≡ (counts_of before).blocks
   pub open_same : block_if_open after.space.open_block ≡ block_if_open before.space.open_block

@@ -46,6 +46,6 @@ outcome_of Worked reads = record { status = SUCCESSFUL_COMPLETION; result = 0; d
 outcome_of Idle reads = record { status = SUCCESSFUL_COMPLETION; result = 0; data_len = 0; reads = reads; stopped = false }
 outcome_of (Fault stopped) reads = record { status = UNRECOVERED_ERROR; result = 0; data_len = 0; reads = reads; stopped = stopped }
 
--- so many steps less are left, or nothing is left but a reclaim
+-- so many steps less are left, or nothing is
 abbrev pub Lessens : Parts → Parts → ℕ → Type 0
 Lessens before after steps = ((sight_of after).work + steps ≤ (sight_of before).work) ⊎ HasNoStep after

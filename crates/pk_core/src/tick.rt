@@ -10,11 +10,12 @@ ghost use Rattle.pk_schedule.specs.Steps.{has_no_merge};
 ghost use Rattle.pk_core.specs.Parts as spec;
 ghost use Rattle.pk_core.specs.Parts.{index_of, sight_of};
 ghost use Rattle.pk_core.specs.Agreeing.{DriveOnFlash};
-ghost use Rattle.pk_core.specs.Ticking.{MayTick, Ticks, Advances};
-ghost use Rattle.pk_core.specs.Staying.{Stays};
+ghost use Rattle.pk_core.specs.Ticking.{MayTick, Ticks, Advances, WantsFreeze, WantsReclaim, wants_reclaim};
+ghost use Rattle.pk_core.specs.Staying.{StaysOrFrees};
 
 use crate::drive::Drive;
 use pk_drive::Ticked;
+use pk_gc::Reclaimed;
 use pk_nand::{Fault, Nand};
 use pk_region::Region;
 use pk_schedule::Stepped;
@@ -76,11 +77,11 @@ impl<A: Region> Drive<A> {
         }
     }
 
-    // One step of the freeze that runs.
+    // One step of the freeze that runs, or that a reclaim needs.
     fn freeze_step<B: Nand>(&mut self, board: &mut B) -> Ticked
         requires may { MayTick self.old (B.state board.old) }
         requires merged { has_no_merge (index_of self.old) ≡ true }
-        requires freezes { (length (taken_by self.old.schedule.freeze) == 0) ≡ false }
+        requires wanted { WantsFreeze self.old }
         ensures { Advances self.old self.new (B.state board.old) (B.state board.new) result }
     {
         self.pool.known();
@@ -100,32 +101,38 @@ impl<A: Region> Drive<A> {
         }
     }
 
+    // One step of the reclaim that runs or is due; where its moves find no room, one of the freeze that makes it.
+    fn reclaim_step<B: Nand>(&mut self, board: &mut B) -> Ticked
+        requires may { MayTick self.old (B.state board.old) }
+        requires merged { has_no_merge (index_of self.old) ≡ true }
+        requires wanted { WantsReclaim self.old }
+        ensures { Advances self.old self.new (B.state board.old) (B.state board.new) result }
+    {
+        self.pool.known();
+        match self.reclaim_once(board) {
+            Ok(Reclaimed::Worked) => Ticked::Worked,
+            Ok(Reclaimed::Ended) => Ticked::Worked,
+            Ok(Reclaimed::NeedsFreeze) => self.freeze_step(board),
+            Err(Fault::Reading) => Ticked::Fault { stopped: false },
+            Err(Fault::Stopped) => {
+                self.stopped = true;
+                Ticked::Fault { stopped: true }
+            }
+        }
+    }
+
     // The lowest free block that was not erased in this session is erased; idle where there is none.
     fn erase_step<B: Nand>(&mut self, board: &mut B) -> Ticked
         requires may { MayTick self.old (B.state board.old) }
         requires merged { has_no_merge (index_of self.old) ≡ true }
         requires frozen { (length (taken_by self.old.schedule.freeze) == 0) ≡ true }
+        requires reclaimed { wants_reclaim self.old ≡ false }
         ensures { Advances self.old self.new (B.state board.old) (B.state board.new) result }
     {
         match self.erase_spare(board) {
             Ok(true) => Ticked::Worked,
             Ok(false) => Ticked::Idle,
             Err(_) => Ticked::Fault { stopped: true },
-        }
-    }
-
-    /// The next background step of those that are built, all but reclaims: a merge's, a freeze's, or the erase of a free block. Idle
-    /// where there is none.
-    pub(crate) fn advance<B: Nand>(&mut self, board: &mut B) -> Ticked
-        requires may { MayTick self.old (B.state board.old) }
-        ensures { Advances self.old self.new (B.state board.old) (B.state board.new) result }
-    {
-        if !self.schedule.has_no_merge(&self.log) {
-            self.merge_step(board)
-        } else if self.schedule.freezes() {
-            self.freeze_step(board)
-        } else {
-            self.erase_step(board)
         }
     }
 
@@ -138,7 +145,30 @@ impl<A: Region> Drive<A> {
             && !self.space.fits_open(&shape, shape.most_pages())
     }
 
-    /// One background step. It is idle exactly where nothing is left to do; where nothing but a reclaim is left, nothing is done.
+    // A reclaim runs, or one is due.
+    fn wants_reclaim(&self) -> bool
+        ensures { result ≡ wants_reclaim self.now }
+    {
+        self.reclaim.runs() || self.is_reclaim_due()
+    }
+
+    /// The next background step: a merge's, a freeze's, a reclaim's, or the erase of a free block. Idle where there is none.
+    pub(crate) fn advance<B: Nand>(&mut self, board: &mut B) -> Ticked
+        requires may { MayTick self.old (B.state board.old) }
+        ensures { Advances self.old self.new (B.state board.old) (B.state board.new) result }
+    {
+        if !self.schedule.has_no_merge(&self.log) {
+            self.merge_step(board)
+        } else if self.schedule.freezes() {
+            self.freeze_step(board)
+        } else if self.wants_reclaim() {
+            self.reclaim_step(board)
+        } else {
+            self.erase_step(board)
+        }
+    }
+
+    /// One background step. It is idle exactly where nothing is left to do.
     pub(crate) fn step<B: Nand>(&mut self, board: &mut B) -> Ticked
         requires may { MayTick self.old (B.state board.old) }
 
@@ -147,28 +177,16 @@ impl<A: Region> Drive<A> {
         ensures none { self.new.log.pending ≡ [] }
         ensures agrees { stopped_by result ≡ false
             → DriveOnFlash self.new (B.state board.new).shape (B.state board.new).pages }
-        ensures moves { stopped_by result ≡ false → Stays self.old self.new }
+        ensures moves { stopped_by result ≡ false → StaysOrFrees self.old self.new }
 
         // The step.
         ensures ticks { Ticks (B.state board.old) (B.state board.new) (sight_of self.old)
             (sight_of self.new) result }
         ensures idle { TellsIdle (B.state board.old) (sight_of self.old) result }
-        ensures lowers { LowersWork (B.state board.old) (B.state board.new) (sight_of self.old)
-            (sight_of self.new) result }
+        ensures lowers { LowersWork (B.state board.old) (sight_of self.old) (sight_of self.new)
+            result }
     {
         self.pool.known();
-        match self.advance(board) {
-            Ticked::Worked => Ticked::Worked,
-            Ticked::Idle => {
-                if self.reclaim.runs() {
-                    Ticked::Worked
-                } else if self.is_reclaim_due() {
-                    Ticked::Worked
-                } else {
-                    Ticked::Idle
-                }
-            }
-            Ticked::Fault { stopped } => Ticked::Fault { stopped },
-        }
+        self.advance(board)
     }
 }

@@ -12,7 +12,7 @@ ghost use Rattle.pk_core.specs.Stepping.{Steps, Lessens, has_failed, outcome_of}
 ghost use Rattle.pk_nvme.specs.declared.status.TheConstants.{SUCCESSFUL_COMPLETION};
 ghost use Rattle.pk_nvme.specs.declared.opcode.TheConstants.{TICK};
 ghost use Rattle.pk_drive.specs.Calling.{FewCalls};
-ghost use Rattle.pk_core.specs.Staying.{Stays};
+ghost use Rattle.pk_core.specs.Staying.{StaysOrFrees};
 
 use crate::drive::Drive;
 use crate::quiet::reads_since;
@@ -40,7 +40,7 @@ fn answer_of(last: Ticked, reads: u32) -> Outcome
 }
 
 impl<A: Region> Drive<A> {
-    // Makes so many background steps, fewer where nothing is left but a reclaim, or a call fails. The last one answers.
+    // Makes so many background steps, fewer where nothing is left to do, or a call fails. The last one answers.
     fn work<B: Nand>(&mut self, board: &mut B, steps: u32) -> Ticked
         requires may { MayTick self.old (B.state board.old) }
         requires count { (B.state board.old).reads ≤ last_count }
@@ -51,7 +51,7 @@ impl<A: Region> Drive<A> {
         ensures none { self.new.log.pending ≡ [] }
         ensures agrees { stopped_by result ≡ false
             → DriveOnFlash self.new (B.state board.new).shape (B.state board.new).pages }
-        ensures moves { stopped_by result ≡ false → Stays self.old self.new }
+        ensures moves { stopped_by result ≡ false → StaysOrFrees self.old self.new }
 
         // The steps.
         ensures steps { Steps (B.state board.old) (B.state board.new) (sight_of self.old)
@@ -85,7 +85,7 @@ impl<A: Region> Drive<A> {
         ensures none { self.new.log.pending ≡ [] }
         ensures done { result.status ≡ SUCCESSFUL_COMPLETION
             → Lessens self.old self.new request.now.size }
-        ensures moves { result.stopped ≡ false → Stays self.old self.new }
+        ensures moves { result.stopped ≡ false → StaysOrFrees self.old self.new }
         ensures calls { FewCalls request.now.size (B.state board.old) (B.state board.new) }
     {
         let before = board.read_count();

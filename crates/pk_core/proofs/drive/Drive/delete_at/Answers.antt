@@ -6,7 +6,7 @@ use Rattle.pk_core.specs.Done.{Executes}
 use Rattle.pk_core.specs.Programming.{TakesQuietly, ReadsQuietly}
 use Rattle.pk_core.specs.Quiet.{Looks}
 use Rattle.pk_core.specs.Staying.{Stays}
-use Rattle.pk_core.proofs.Amounts.{room_few}
+use Rattle.pk_core.proofs.Amounts.{room_few, room_last}
 use Rattle.pk_core.proofs.Came.{came_running, came_served}
 use Rattle.pk_core.proofs.Executing.{executes_quiet}
 use Rattle.pk_core.proofs.Served.{can_take, delete_missing, delete_came, none_read}
@@ -18,6 +18,12 @@ take_out-answer-requires-clause-can g c =
     let r = c.requires in
     let looks = subst (λ p. Looks c.args.self.now (g.B.Nand.state c.args.board.now).pages c.args.key p) c.in-Some.is r.looks in
     can_take c.args.self.now (g.B.Nand.state c.args.board.now) c.args.request.now [] c.args.key r.servable r.opcode r.named c.known.ensures.key c.known.ensures.bytes c.in-Some.place looks
+
+pub take_out-answer-requires-clause-number : goal.take_out-answer-requires-clause-number
+take_out-answer-requires-clause-number g c =
+    let s = c.requires.servable in
+    let few = room_few c.args.self.now.log.shape s.agrees.with.index.logs.is_shape in
+    room_last (g.B.Nand.state c.args.board.now) c.args.self.now.log.shape s.unworn few
 
 pub reads_since-requires-in-Some-clause-few : goal.reads_since-requires-in-Some-clause-few
 reads_since-requires-in-Some-clause-few g c =

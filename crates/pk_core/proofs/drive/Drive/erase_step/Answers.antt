@@ -11,7 +11,7 @@ returns-in-Ok-true g c =
 pub returns-in-Ok-false : goal.returns-in-Ok-false
 returns-in-Ok-false g c =
     let none = none_erased c.args.self.now c.erase_spare.new.self (g.B.Nand.state c.args.board.now) (g.B.Nand.state c.erase_spare.new.board) c.in-Ok-false.field-0 c.in-Ok-false.ensures.erased c.in-Ok-false.field-0-test in
-    idle_advances c.args.self.now (g.B.Nand.state c.args.board.now) (g.B.Nand.state c.erase_spare.new.board) c.requires.may c.erase_spare.new.self none c.in-Ok-false.ensures.rest c.requires.merged c.requires.frozen
+    idle_advances c.args.self.now (g.B.Nand.state c.args.board.now) (g.B.Nand.state c.erase_spare.new.board) c.requires.may c.erase_spare.new.self none c.in-Ok-false.ensures.rest c.requires.merged c.requires.frozen c.requires.reclaimed
 
 pub returns-in-Err : goal.returns-in-Err
 returns-in-Err g c =

@@ -10,6 +10,7 @@ use Rattle.pk_core.specs.Staying.{IsNoted}
 use Rattle.pk_core.proofs.Statuses.{told_refused}
 use Rattle.pk_core.proofs.Programming.{quiet_store_behind}
 use Rattle.pk_core.proofs.Quieted.{reads_behind}
+use Rattle.pk_core.proofs.Stored.{room_looked}
 use Rattle.pk_core.proofs.drive.Drive.store.Goals as goal
 
 pub store_over-requires-clause-named : goal.store_over-requires-clause-named
@@ -62,7 +63,7 @@ returns-in-Ok-clause-quiet g c = λ zero none room.
     let e = c.store_over.ensures in
     let mid = g.B.Nand.state c.look.new.board in
     let new = g.B.Nand.state c.store_over.new.board in
-    let same = reads_behind c.args.self.now c.look.new.self mid new c.key-key.result _ c.look.ensures.same c.key-key.ensures (e.quiet zero) none in
+    let same = reads_behind c.args.self.now c.look.new.self mid new c.key-key.result _ c.look.ensures.same c.key-key.ensures (e.quiet zero (room_looked c.args.self.now c.look.new.self c.args.request.now.size c.look.ensures.same room)) none in
     quiet_store_behind c.args.self.now c.look.new.self (g.B.Nand.state c.args.board.now) mid new c.args.request.now.size c.key-key.result _ c.store_over.result.reads c.look.ensures.same c.in-Ok.ensures.reads c.key-key.ensures (e.programs zero)
     (omega (arith, e.told.0, same, c.read_count-before.ensures.value, c.in-Ok.ensures.reads.within)) none room
 

@@ -4,13 +4,14 @@ use Rattle.pk_base.specs.Shape.{charge, limit}
 use Rattle.pk_drive.specs.declared.types.Outcome.{Outcome}
 use Rattle.pk_core.specs.Parts.{Parts}
 use Rattle.pk_core.specs.Done.{Executes}
-use Rattle.pk_core.specs.Programming.{PutsQuietly, ReadsQuietly}
+use Rattle.pk_core.specs.Programming.{PutsQuietly, ReadsNone}
 use Rattle.pk_core.specs.Serving.{pages_at}
 use Rattle.pk_core.specs.Staying.{StaysOrOpens, IsNoted}
-use Rattle.pk_core.proofs.Amounts.{room_few}
+use Rattle.pk_core.proofs.Amounts.{store_few}
 use Rattle.pk_core.proofs.Came.{came_running, came_served}
 use Rattle.pk_core.proofs.Executing.{executes_quiet}
 use Rattle.pk_core.proofs.Programming.{programs_whole}
+use Rattle.pk_core.proofs.Stored.{reads_whole}
 use Rattle.pk_core.proofs.Served.{short_place, can_put, store_refused, store_came, none_read}
 use Rattle.pk_core.proofs.Staying.{opens_whole}
 use Rattle.pk_core.proofs.Statuses.{told_refused, store_refuses}
@@ -19,15 +20,15 @@ use Rattle.pk_core.proofs.drive.Drive.store_over.Goals as goal
 pub fault_of_store-requires-clause-old_short : goal.fault_of_store-requires-clause-old_short
 fault_of_store-requires-clause-old_short g c = let r = c.requires in short_place c.args.self.now (g.B.Nand.state c.args.board.now) r.servable.agrees c.args.key c.args.old c.known.ensures.key r.looks
 
-pub put-answer-requires-clause-can : goal.put-answer-requires-clause-can
-put-answer-requires-clause-can g c =
+pub put_with_space-answer-requires-clause-can : goal.put_with_space-answer-requires-clause-can
+put_with_space-answer-requires-clause-can g c =
     let r = c.requires in
     can_put c.args.self.now (g.B.Nand.state c.args.board.now) c.args.request.now c.args.value.now c.args.key c.args.old r.servable r.opcode r.whole r.named c.known.ensures.key c.known.ensures.bytes r.looks (sym c.fault_of_store.ensures ∙ c.in-None.is)
 
 pub reads_since-requires-in-None-clause-few : goal.reads_since-requires-in-None-clause-few
 reads_since-requires-in-None-clause-few g c =
-    let few = room_few c.args.self.now.log.shape c.requires.servable.agrees.with.index.logs.is_shape in
-    let step = c.put-answer.ensures.step.reads.few in
+    let few = store_few c.args.self.now.log.shape c.requires.servable.agrees.with.index.logs.is_shape in
+    let step = c.put_with_space-answer.ensures.step.reads.few in
     let found = c.requires.found.few in
     omega (arith, few, step, found)
 
@@ -48,33 +49,34 @@ returns-in-Some-clause-programs g c = λ zero.
 pub returns-in-None-clause-executes : goal.returns-in-None-clause-executes
 returns-in-None-clause-executes g c = λ into.
     let r = c.requires in
-    let e = c.put-answer.ensures in
+    let e = c.put_with_space-answer.ensures in
     let told = c.changed.ensures in
-    let after = g.B.Nand.state c.put-answer.new.board in
+    let after = g.B.Nand.state c.put_with_space-answer.new.board in
     subst (λ (d : Parts). Executes c.args.self.now d (g.B.Nand.state c.args.board.now) after (command_of c.args.request.now c.args.value.now) c.changed.result into (after.reads - (g.B.Nand.state c.args.board.now).reads)) (sym told.rest)
     (store_came c.args.self.now (g.B.Nand.state c.args.board.now) c.args.request.now c.args.value.now c.args.key c.args.old r.servable r.opcode r.whole r.named c.known.ensures.key c.known.ensures.bytes r.looks (sym c.fault_of_store.ensures ∙ c.in-None.is)
-    c.put-answer.result c.put-answer.new.self after _ into c.changed.result _ e.step (room_few c.args.self.now.log.shape r.servable.agrees.with.index.logs.is_shape) (record { up = e.step.reads.up; few = c.reads_since-in-None.ensures.count }) e.stays told.told)
+    c.put_with_space-answer.result c.put_with_space-answer.new.self after _ into c.changed.result _ e.step (store_few c.args.self.now.log.shape r.servable.agrees.with.index.logs.is_shape) (record { up = e.step.reads.up; few = c.reads_since-in-None.ensures.count }) e.stays told.told)
 
 pub returns-in-None-clause-opens : goal.returns-in-None-clause-opens
 returns-in-None-clause-opens g c = λ runs.
     let told = c.changed.ensures in
     let count = charge c.args.self.now.log.shape (length c.args.value.now) in
     opens_whole c.args.self.now c.changed.new.self (length c.args.value.now) c.args.request.now.size c.requires.whole
-    (subst (λ (d : Parts). StaysOrOpens c.args.self.now d count) (sym told.rest) (came_running (λ d. StaysOrOpens c.args.self.now d count) c.put-answer.result c.put-answer.new.self c.changed.result _ told.told c.put-answer.ensures.opens runs))
+    (subst (λ (d : Parts). StaysOrOpens c.args.self.now d count) (sym told.rest) (came_running (λ d. StaysOrOpens c.args.self.now d count) c.put_with_space-answer.result c.put_with_space-answer.new.self c.changed.result _ told.told c.put_with_space-answer.ensures.opens runs))
 
 pub returns-in-None-clause-noted : goal.returns-in-None-clause-noted
 returns-in-None-clause-noted g c = λ zero.
     let told = c.changed.ensures in
-    subst (λ (d : Parts). IsNoted d c.args.key) (sym told.rest) (came_served (λ d. IsNoted d c.args.key) c.put-answer.result c.put-answer.new.self c.changed.result _ told.told c.put-answer.ensures.noted zero)
+    subst (λ (d : Parts). IsNoted d c.args.key) (sym told.rest) (came_served (λ d. IsNoted d c.args.key) c.put_with_space-answer.result c.put_with_space-answer.new.self c.changed.result _ told.told c.put_with_space-answer.ensures.noted zero)
 
 pub returns-in-None-clause-programs : goal.returns-in-None-clause-programs
 returns-in-None-clause-programs g c = λ zero none room.
     let told = c.changed.ensures in
-    let after = g.B.Nand.state c.put-answer.new.board in
+    let after = g.B.Nand.state c.put_with_space-answer.new.board in
     programs_whole c.args.self.now _ _ (length c.args.value.now) c.args.request.now.size c.requires.whole
-    (came_served (λ d. PutsQuietly c.args.self.now c.args.key (charge c.args.self.now.log.shape (length c.args.value.now)) (g.B.Nand.state c.args.board.now) after) c.put-answer.result c.put-answer.new.self c.changed.result _ told.told c.put-answer.ensures.programs zero none) room
+    (came_served (λ d. PutsQuietly c.args.self.now c.args.key (charge c.args.self.now.log.shape (length c.args.value.now)) (g.B.Nand.state c.args.board.now) after) c.put_with_space-answer.result c.put_with_space-answer.new.self c.changed.result _ told.told c.put_with_space-answer.ensures.programs zero none) room
 
 pub returns-in-None-clause-quiet : goal.returns-in-None-clause-quiet
 returns-in-None-clause-quiet g c = λ zero.
-    let after = g.B.Nand.state c.put-answer.new.board in
-    came_served (λ d. ReadsQuietly c.args.self.now c.args.key (g.B.Nand.state c.args.board.now) after) c.put-answer.result c.put-answer.new.self c.changed.result _ c.changed.ensures.told c.put-answer.ensures.quiet zero
+    let after = g.B.Nand.state c.put_with_space-answer.new.board in
+    reads_whole c.args.self.now c.args.key (g.B.Nand.state c.args.board.now) after (length c.args.value.now) c.args.request.now.size c.requires.whole
+    (came_served (λ d. ReadsNone c.args.self.now c.args.key (charge c.args.self.now.log.shape (length c.args.value.now)) (g.B.Nand.state c.args.board.now) after) c.put_with_space-answer.result c.put_with_space-answer.new.self c.changed.result _ c.changed.ensures.told c.put_with_space-answer.ensures.quiet zero)

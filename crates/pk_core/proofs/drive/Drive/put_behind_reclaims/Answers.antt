@@ -1,0 +1,61 @@
+use Rattle.std.proofs.Common.{length, arith, ◌+◌}
+use Rattle.pk_base.specs.Shape.{charge}
+use Rattle.pk_work.specs.Calls.{room_calls, space_calls}
+use Rattle.pk_core.proofs.Amounts.{store_few, numbers_last}
+use Rattle.pk_core.proofs.Stored.{can_behind, room_behind, numbers_behind, stores_behind, stores_failed, stays_behind, stays_failed, fresh_behind, fresh_failed, opens_behind, space_numbers, store_numbers}
+use Rattle.pk_core.proofs.drive.Drive.put_behind_reclaims.Goals as goal
+
+pub make_space-requires-clause-may : goal.make_space-requires-clause-may
+make_space-requires-clause-may g c = record { ready = c.requires.can.ready; stands = (c.requires.can.may.0, c.requires.can.may.1.stands) }
+
+pub make_space-requires-clause-number : goal.make_space-requires-clause-number
+make_space-requires-clause-number g c = space_numbers c.args.self.now (g.B.Nand.state c.args.board.now) c.args.key c.args.value.now c.requires.can c.requires.unworn
+
+pub put_found-requires-clause-can : goal.put_found-requires-clause-can
+put_found-requires-clause-can g c =
+    let e = c.in-Ok.ensures in
+    can_behind c.args.self.now c.make_space.new.self (g.B.Nand.state c.args.board.now) (g.B.Nand.state c.make_space.new.board) _ c.args.key c.args.value.now c.requires.can e.stays e.none e.step
+
+pub put_found-requires-clause-room : goal.put_found-requires-clause-room
+put_found-requires-clause-room g c =
+    let e = c.in-Ok.ensures in
+    room_behind c.args.self.now c.make_space.new.self (g.B.Nand.state c.args.board.now) (g.B.Nand.state c.make_space.new.board) _ c.args.key c.args.value.now c.requires.can e.stays e.none e.step e.room
+
+pub put_found-requires-clause-number : goal.put_found-requires-clause-number
+put_found-requires-clause-number g c =
+    let e = c.in-Ok.ensures in
+    numbers_behind c.args.self.now c.make_space.new.self (g.B.Nand.state c.args.board.now) (g.B.Nand.state c.make_space.new.board) _ c.args.key c.args.value.now c.requires.can e.stays e.none e.step
+    (store_numbers c.args.self.now (g.B.Nand.state c.args.board.now) c.args.key c.args.value.now c.requires.can c.requires.unworn)
+
+pub returns-in-Ok-clause-step : goal.returns-in-Ok-clause-step
+returns-in-Ok-clause-step g c =
+    let e = c.in-Ok.ensures in
+    stores_behind c.args.self.now c.make_space.new.self (g.B.Nand.state c.args.board.now) (g.B.Nand.state c.make_space.new.board) _ c.args.key c.args.value.now c.requires.can e.stays e.none e.step
+    c.put_found.new.self (g.B.Nand.state c.put_found.new.board) c.put_found.result c.put_found.ensures.step
+
+pub returns-in-Ok-clause-stays : goal.returns-in-Ok-clause-stays
+returns-in-Ok-clause-stays g c = stays_behind c.put_found.result c.args.self.now c.make_space.new.self c.put_found.new.self c.in-Ok.ensures.stays c.put_found.ensures.stays
+
+pub returns-in-Ok-clause-opens : goal.returns-in-Ok-clause-opens
+returns-in-Ok-clause-opens g c =
+    let e = c.in-Ok.ensures in
+    let step = stores_behind c.args.self.now c.make_space.new.self (g.B.Nand.state c.args.board.now) (g.B.Nand.state c.make_space.new.board) (space_calls c.args.self.now.log.shape) c.args.key c.args.value.now c.requires.can e.stays e.none e.step
+    c.put_found.new.self (g.B.Nand.state c.put_found.new.board) c.put_found.result c.put_found.ensures.step in
+    opens_behind c.args.self.now (g.B.Nand.state c.args.board.now) c.args.key c.args.value.now (charge c.args.self.now.log.shape (length c.args.value.now)) c.requires.can c.requires.no_room c.put_found.result c.put_found.new.self (g.B.Nand.state c.put_found.new.board) _ step
+    (fresh_behind c.put_found.result c.args.self.now c.make_space.new.self c.put_found.new.self _ e.stays c.put_found.ensures.opens)
+
+pub returns-in-Err-clause-step : goal.returns-in-Err-clause-step
+returns-in-Err-clause-step g c =
+    stores_failed c.in-Err.fault c.args.self.now c.make_space.new.self (g.B.Nand.state c.args.board.now) (g.B.Nand.state c.make_space.new.board) (space_calls c.args.self.now.log.shape) _ c.args.key c.args.value.now c.requires.can (omega arith) c.in-Err.ensures.step
+
+pub returns-in-Err-clause-stays : goal.returns-in-Err-clause-stays
+returns-in-Err-clause-stays g c =
+    let e = c.in-Err.ensures in
+    stays_failed c.in-Err.fault c.args.self.now c.make_space.new.self (g.B.Nand.state c.args.board.now) c.args.key c.args.value.now c.requires.can e.stays e.none
+
+pub returns-in-Err-clause-opens : goal.returns-in-Err-clause-opens
+returns-in-Err-clause-opens g c =
+    let e = c.in-Err.ensures in
+    let step = stores_failed c.in-Err.fault c.args.self.now c.make_space.new.self (g.B.Nand.state c.args.board.now) (g.B.Nand.state c.make_space.new.board) (space_calls c.args.self.now.log.shape) (space_calls c.args.self.now.log.shape) c.args.key c.args.value.now c.requires.can (omega arith) e.step in
+    opens_behind c.args.self.now (g.B.Nand.state c.args.board.now) c.args.key c.args.value.now (charge c.args.self.now.log.shape (length c.args.value.now)) c.requires.can c.requires.no_room _ c.make_space.new.self (g.B.Nand.state c.make_space.new.board) _ step
+    (fresh_failed c.in-Err.fault c.args.self.now c.make_space.new.self e.stays)

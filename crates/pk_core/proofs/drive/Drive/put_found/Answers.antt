@@ -1,0 +1,38 @@
+use Rattle.std.proofs.Common.{refl, length, arith}
+use Rattle.pk_core.proofs.Staying.{stays_opens, stays_same}
+use Rattle.pk_core.proofs.Stored.{its_drive, found_can, found_stores, found_unread, found_room, found_numbers, between_same, between_from, opens_looked}
+use Rattle.pk_core.proofs.drive.Drive.put_found.Goals as goal
+
+pub look-requires-clause-agrees : goal.look-requires-clause-agrees
+look-requires-clause-agrees g c = its_drive c.args.self.now (g.B.Nand.state c.args.board.now) c.args.key c.args.value.now c.requires.can
+
+pub put-requires-clause-can : goal.put-requires-clause-can
+put-requires-clause-can g c =
+    found_can c.args.self.now (g.B.Nand.state c.args.board.now).pages c.args.key c.args.value.now c.in-Ok.old c.in-Ok.ensures.looks c.look.new.self (g.B.Nand.state c.args.board.now) (g.B.Nand.state c.look.new.board) c.look.ensures.same refl c.look.ensures.pages c.look.ensures.ready c.requires.can
+
+pub put-requires-clause-room : goal.put-requires-clause-room
+put-requires-clause-room g c = found_room c.args.self.now c.look.new.self (length c.args.value.now) c.look.ensures.same c.requires.room
+
+pub put-requires-clause-number : goal.put-requires-clause-number
+put-requires-clause-number g c = found_numbers c.args.self.now c.look.new.self (g.B.Nand.state c.args.board.now) (g.B.Nand.state c.look.new.board) c.look.ensures.same c.in-Ok.ensures.reads c.requires.number
+
+pub returns-in-Ok-clause-step : goal.returns-in-Ok-clause-step
+returns-in-Ok-clause-step g c =
+    found_stores c.put.result c.args.self.now c.look.new.self c.put.new.self (g.B.Nand.state c.args.board.now) (g.B.Nand.state c.look.new.board) (g.B.Nand.state c.put.new.board) c.args.key c.args.value.now c.in-Ok.old
+    c.look.ensures.same c.in-Ok.ensures.looks c.in-Ok.ensures.reads c.put.ensures.step
+
+pub returns-in-Ok-clause-stays : goal.returns-in-Ok-clause-stays
+returns-in-Ok-clause-stays g c = between_from c.put.result c.args.self.now c.look.new.self c.put.new.self c.look.ensures.same c.put.ensures.stays
+
+pub returns-in-Ok-clause-opens : goal.returns-in-Ok-clause-opens
+returns-in-Ok-clause-opens g c = opens_looked c.put.result c.args.self.now c.look.new.self c.put.new.self (length c.args.value.now) c.look.ensures.same c.put.ensures.opens
+
+pub returns-in-Err-clause-step : goal.returns-in-Err-clause-step
+returns-in-Err-clause-step g c =
+    found_unread c.args.self.now c.look.new.self (g.B.Nand.state c.args.board.now) (g.B.Nand.state c.look.new.board) _ c.args.key c.args.value.now c.look.ensures.same c.read_count.ensures.faults c.in-Err.ensures.failing c.look.ensures.ready
+
+pub returns-in-Err-clause-stays : goal.returns-in-Err-clause-stays
+returns-in-Err-clause-stays g c = between_same c.args.self.now c.look.new.self c.look.ensures.same c.requires.can.few
+
+pub returns-in-Err-clause-opens : goal.returns-in-Err-clause-opens
+returns-in-Err-clause-opens g c = stays_opens _ _ _ (stays_same _ _ c.look.ensures.same)
