@@ -1,31 +1,24 @@
 -- The end of a reclaim: its moves are committed, or none was left.
-use Rattle.std.proofs.Common.{◌≡◌, ◌≢◌, inl, inr, ℕ, ◌+◌, ◌/◌, Bool, true, false, cond, List, [], ◌∷◌, Option, Some, None, refl, sym, ap, subst, ◌∙◌, arith}
+use Rattle.std.proofs.Common.{◌≡◌, ℕ, ◌+◌, ◌/◌, false, List, [], ◌∷◌, Some, refl, sym, ap, subst, ◌∙◌}
 use Rattle.std.specs.Prelude.{slice_get, slice_set}
-use Rattle.pk_base.specs.Key.{Key}
-use Rattle.pk_base.specs.Shape.{Shape}
 use Rattle.pk_base.specs.Page.{Flash, page_at, whole}
-use Rattle.pk_base.specs.Entry.{Place}
 use Rattle.pk_plan.specs.declared.owner.Owner.TheVariants.{Journal, Values as for_values}
 use Rattle.pk_nand.specs.BoardState.{BoardState}
 use Rattle.pk_nand.proofs.Leaving.{page_at-slice_set}
 use Rattle.pk_pool.specs.declared.state.BlockState.TheVariants.{Free, Owned}
 use Rattle.pk_pool.specs.Blocks.{Blocks, PoolOnFlash, used_by, with_state}
-use Rattle.pk_live.specs.Values.{Values}
-use Rattle.pk_buf.specs.Table.{Table}
-use Rattle.pk_jrn.specs.Epochs.{JournalEpoch, next_page}
+use Rattle.pk_jrn.specs.Epochs.{next_page}
 use Rattle.pk_jrn.specs.Appends.{next_bytes}
 use Rattle.pk_moves.specs.Moves.{moved, entries_of}
 use Rattle.pk_gc.specs.declared.course.Course.{Course}
 use Rattle.pk_gc.specs.declared.moves.Move.{Move}
-use Rattle.pk_gc.specs.State.{JobState, placed_at, left_of, heads_all}
+use Rattle.pk_gc.specs.State.{placed_at, left_of, heads_all}
 use Rattle.pk_gc.specs.Committing.{entries_left}
 use Rattle.pk_gc.specs.Stepping.{Hands}
-use Rattle.pk_gc.specs.Ending.{CanGive}
 use Rattle.pk_gc.specs.Victims.{closed_with as closed_by_reclaim}
 use Rattle.pk_gc.proofs.Ending.{none_changes}
-use Rattle.pk_data.specs.declared.open_block.OpenBlock.{OpenBlock}
-use Rattle.pk_data.specs.State.{DataState, closed_with}
-use Rattle.pk_data.specs.Placed.{ValuesOnFlash, HoldsValues}
+use Rattle.pk_data.specs.State.{DataState}
+use Rattle.pk_data.specs.Placed.{ValuesOnFlash}
 use Rattle.pk_data.specs.Laws.{SameValues}
 use Rattle.pk_data.specs.Reclaiming.{front_of, hands_of}
 use Rattle.pk_data.specs.Reclaims.{MovesPlaced, EndPlaced}
@@ -77,9 +70,9 @@ none_left (m ∷ ms) none = cc
 pub end_placed : EndPlaced
 end_placed shape c job job' d d' p q active active' epoch epoch' old new es placed give ends = (
   subst (λ (f : Flash). ValuesOnFlash shape d' q [] f es) (ap (λ (b : BoardState). b.pages) (sym ends.board))
-  (subst (λ (v : DataState). ValuesOnFlash shape v q [] old.pages es) (sym data_is)
-  (subst (λ (x : Blocks). ValuesOnFlash shape (relocated c job.moves d) x [] old.pages es) (sym pool_is)
-  (ValuesOnFlash-given shape (relocated c job.moves d) p c.victim old.pages es there))),
+      (subst (λ (v : DataState). ValuesOnFlash shape v q [] old.pages es) (sym data_is)
+      (subst (λ (x : Blocks). ValuesOnFlash shape (relocated c job.moves d) x [] old.pages es) (sym pool_is)
+      (ValuesOnFlash-given shape (relocated c job.moves d) p c.victim old.pages es there))),
   ap (λ (x : Blocks). used_by for_values x.states + 1) pool_is ∙ one_less shape (relocated c job.moves d) p c.victim old.pages es there,
 )
   where

@@ -1,5 +1,5 @@
 -- The heads of values that lie apart: with a value less, with one more, and with one at another place.
-use Rattle.std.proofs.Common.{◌≡◌, ◌≢◌, ℕ, ◌+◌, ◌<◌, true, false, T, List, Some, None, refl, sym, ap, subst, ◌∙◌, arith, map, ◌==◌}
+use Rattle.std.proofs.Common.{◌≡◌, ◌≢◌, ℕ, ◌+◌, true, false, T, List, Some, None, refl, sym, ap, subst, ◌∙◌, arith, map, ◌==◌}
 use Rattle.std.specs.List.{range_with_len, AllByRecursion}
 use Rattle.std.specs.FinMap.Entries.{put, find, is_sorted}
 use Rattle.std.proofs.Math.ListN.{set}

@@ -1,16 +1,15 @@
 -- A block that a reclaim holds: it is taken, written, and given back. The open block is closed before.
-use Rattle.std.proofs.Common.{◌≡◌, ◌≢◌, inl, inr, ℕ, ◌+◌, ◌/◌, ◌<◌, ◌≤◌, Bool, true, false, List, [], ◌∷◌, length, Option, Some, None, refl, sym, ap, subst, ◌∙◌, arith, length-set}
+use Rattle.std.proofs.Common.{◌≡◌, ◌≢◌, inl, inr, ℕ, ◌+◌, ◌/◌, ◌≤◌, Bool, true, false, List, [], ◌∷◌, Option, Some, None, refl, sym, ap, subst, ◌∙◌, arith, length-set}
 use Rattle.std.specs.Prelude.{slice_get, slice_set, MatchOption}
 use Rattle.std.proofs.Math.ListN.{set}
 use Rattle.std.proofs.lemmas.Bool.{cases_eq}
-use Rattle.std.proofs.lemmas.Option.{slice_get-get_or, slice_get_within}
+use Rattle.std.proofs.lemmas.Option.{slice_get-get_or}
 use Rattle.pk_base.specs.Key.{Key}
 use Rattle.pk_base.specs.Shape.{Shape, IsShape}
-use Rattle.pk_base.specs.Page.{Flash, page_at, whole}
+use Rattle.pk_base.specs.Page.{Flash, whole}
 use Rattle.pk_base.specs.Entry.{Place}
 use Rattle.pk_plan.specs.declared.owner.Owner.TheVariants.{Values as for_values}
 use Rattle.pk_nand.specs.BoardState.{BoardState}
-use Rattle.pk_nand.specs.Calls.{IsErasedBlock}
 use Rattle.pk_nand.proofs.Leaving.{page_at-slice_set}
 use Rattle.pk_pool.specs.declared.state.BlockState.TheVariants.{Free, Owned}
 use Rattle.pk_pool.specs.Blocks.{Blocks, PoolOnFlash, IsOwned, IsSpare, used_by, with_state}
@@ -19,20 +18,19 @@ use Rattle.pk_pool.proofs.States.{get-set_other, get-set_same, set_is, free_is_n
 use Rattle.pk_pool.proofs.Sharing.{used_given, used_adopted}
 use Rattle.pk_pool.specs.Laws.{IsInBlock}
 use Rattle.pk_pool.proofs.Fitting.{PoolOnFlash-marked, PoolOnFlash-but_block, PoolOnFlash-programmed, owned_not_ready, in_block}
-use Rattle.pk_live.specs.Values.{Values, IsClosed}
-use Rattle.pk_steps.specs.Under.{IsValuePage}
+use Rattle.pk_live.specs.Values.{Values}
 use Rattle.pk_gc.specs.declared.open_block.OpenBlock.{OpenBlock as Front}
 use Rattle.pk_gc.specs.Stepping.{Hands}
-use Rattle.pk_gc.specs.Victims.{Chooses, none_open, closed_with as closed_by_reclaim}
+use Rattle.pk_gc.specs.Victims.{Chooses, closed_with as closed_by_reclaim}
 use Rattle.pk_data.specs.declared.open_block.OpenBlock.{OpenBlock}
-use Rattle.pk_data.specs.State.{DataState, closed_with, with_closed}
-use Rattle.pk_data.specs.Placed.{ValuesOnFlash, IsOpenIn, IsNotOpen, IsOutput, HoldsValues}
+use Rattle.pk_data.specs.State.{DataState, closed_with}
+use Rattle.pk_data.specs.Placed.{ValuesOnFlash, IsOpenIn, IsNotOpen, HoldsValues}
 use Rattle.pk_data.specs.Laws.{SameValues}
-use Rattle.pk_data.specs.Reclaiming.{front_of, hands_of}
+use Rattle.pk_data.specs.Reclaiming.{front_of}
 use Rattle.pk_data.specs.Reclaims.{OutputTaken, DeadGivenBack, CopyProgrammed, VictimGivenBack}
 use Rattle.pk_data.proofs.Unchanged.{some_pages, open_same, flash_elsewhere}
 use Rattle.pk_data.proofs.Filling.{another, kept, was, taken, same_values, reached_in}
-use Rattle.pk_data.proofs.Releasing.{released_as, held as held_closed}
+use Rattle.pk_data.proofs.Releasing.{released_as}
 
 abbrev state_of : Values → Option OpenBlock → DataState
 state_of live open_block = record { live = live; open_block = open_block }
@@ -233,7 +231,7 @@ module _ (shape : Shape) (d : DataState) (p : Blocks) (b : ℕ) (flash : Flash) 
 pub output_taken : OutputTaken
 output_taken shape job job' d d' p q old new es placed s = (
   subst (λ (r : Blocks). ValuesOnFlash shape d' r (s.output ∷ []) new.pages es) (sym s.taken)
-  (ValuesOnFlash-held shape p old.pages new.pages s.output s.spare d' es placed' s.place.0 fits same counted),
+      (ValuesOnFlash-held shape p old.pages new.pages s.output s.spare d' es placed' s.place.0 fits same counted),
   ap (λ (r : Blocks). used_by for_values r.states) s.taken ∙ counted,
 )
   where
@@ -258,7 +256,7 @@ output_taken shape job job' d d' p q old new es placed s = (
 pub dead_given_back : DeadGivenBack
 dead_given_back shape job job' d d' p q old new es placed g = (
   subst (λ (f : Flash). ValuesOnFlash shape d' q [] f es) (ap (λ (b : BoardState). b.pages) (sym g.same))
-  (released_as shape middle p q [] old.pages es g.victim d' g.chooses.0.least.closed g.empty (λ i. record { live = g.forgotten i; open_block = d'.open_block }) g.given placed'),
+      (released_as shape middle p q [] old.pages es g.victim d' g.chooses.0.least.closed g.empty (λ i. record { live = g.forgotten i; open_block = d'.open_block }) g.given placed'),
   ap (λ (r : Blocks). used_by for_values r.states + 1) g.given ∙ used_given p.states g.victim for_values (placed'.closed_owned g.victim g.chooses.0.least.closed).0,
 )
   where
@@ -273,7 +271,7 @@ victim_given_back shape victim job job' d d' p q active active' epoch epoch' old
     let same : d' ≡ d = λ i. record { live = (ap (λ (h : Hands). h.live) g.hands) i; open_block = same_front d'.open_block d.open_block (ap (λ (h : Hands). h.front) g.hands) i } in
     let pool_is : q ≡ with_state p victim Free = ap (λ (h : Hands). h.pool) g.hands in (
       subst (λ (f : Flash). ValuesOnFlash shape d' q [] f es) (ap (λ (b : BoardState). b.pages) (sym g.board))
-      (subst (λ (v : DataState). ValuesOnFlash shape v q [] old.pages es) (sym same)
-      (subst (λ (x : Blocks). ValuesOnFlash shape d x [] old.pages es) (sym pool_is) (ValuesOnFlash-given shape d p victim old.pages es placed))),
+          (subst (λ (v : DataState). ValuesOnFlash shape v q [] old.pages es) (sym same)
+          (subst (λ (x : Blocks). ValuesOnFlash shape d x [] old.pages es) (sym pool_is) (ValuesOnFlash-given shape d p victim old.pages es placed))),
       ap (λ (x : Blocks). used_by for_values x.states + 1) pool_is ∙ one_less shape d p victim old.pages es placed,
     )

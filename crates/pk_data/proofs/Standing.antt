@@ -1,11 +1,10 @@
 -- Placed values, after a key got a value at another place, or lost it.
-use Rattle.std.proofs.Common.{◌≡◌, ◌≢◌, inl, inr, ℕ, ◌+◌, ◌*◌, ◌/◌, ◌%◌, ◌<◌, ◌≤◌, true, false, T, List, length, get_or, sum, Option, Some, None, refl, sym, ap, subst, ◌∙◌, arith, ◌==◌}
+use Rattle.std.proofs.Common.{◌≡◌, ◌≢◌, inl, inr, ℕ, ◌+◌, ◌*◌, ◌/◌, ◌%◌, ◌<◌, ◌≤◌, T, List, length, get_or, sum, Option, Some, None, refl, sym, ap, subst, ◌∙◌, arith}
 use Rattle.std.specs.Prelude.{slice_get, MatchOption}
 use Rattle.std.specs.FinMap.Entries.{put, find, is_sorted}
 use Rattle.std.proofs.Math.ListN.{set}
 use Rattle.std.proofs.Math.Nat.{mul_comm}
 use Rattle.std.proofs.lemmas.Nat.{div-add-mod'}
-use Rattle.std.proofs.lemmas.Bool.{eq-eqb, ne_eqb}
 use Rattle.std.proofs.lemmas.Option.{slice_get-get_or}
 use Rattle.std.proofs.lemmas.List.FromFn.{length-map-range_with_len}
 use Rattle.pk_base.specs.Key.{Key, key_cmp}
@@ -20,7 +19,7 @@ use Rattle.pk_model.specs.Values.{all_pages}
 use Rattle.pk_model.specs.Laws.{IsPageOf}
 use Rattle.pk_steps.specs.Under.{IsValuePage}
 use Rattle.pk_live.specs.Lives.{head_of}
-use Rattle.pk_live.proofs.Standing.{map_set, heads_read, total_is}
+use Rattle.pk_live.proofs.Standing.{heads_read, total_is}
 use Rattle.pk_data.specs.declared.open_block.OpenBlock.{OpenBlock}
 use Rattle.pk_data.specs.declared.span.Span.{Span}
 use Rattle.pk_data.specs.State.{DataState, with_head, with_heads}

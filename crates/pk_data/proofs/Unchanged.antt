@@ -146,8 +146,14 @@ filter_has f k a (suc n) low high is =
 abbrev counts : Blocks → List ℕ → ℕ → Bool
 counts pool outputs b = is_for_values (slice_get pool.states b) && not (has b outputs)
 
+-- a block for values that no reclaim holds is among them
+pub among_values : (pool : Blocks) (outputs : List ℕ) (b : ℕ) → HoldsValues pool b → (IsOutput outputs b → ⊥) → AnyByRecursion (λ c. b ≡ c) (value_blocks pool outputs)
+among_values pool outputs b held no_output =
+    filter_has (counts pool outputs) b 0 (length pool.states) (omega arith) (omega (arith, slice_get_within pool.states b (Owned for_values) held))
+    (and_from (is_for_values (slice_get pool.states b)) (not (has b outputs)) (ap is_for_values held) (not_from_false (has b outputs) (no_member b outputs no_output)))
+
 pub lie_in_few : LieInFew
-lie_in_few shape d pool outputs flash es placed = (few, λ k is. among k (placed.owned k is) (placed.outputs_are.unread k is))
+lie_in_few shape d pool outputs flash es placed = (few, λ k is. among_values pool outputs (k / shape.block_pages) (placed.owned k is) (placed.outputs_are.unread k is))
   where
     few : length (value_blocks pool outputs) ≤ data_blocks shape - 1
     few =
@@ -159,12 +165,6 @@ lie_in_few shape d pool outputs flash es placed = (few, λ k is. among k (placed
         let less = used_freed outputs pool.states placed.outputs_are.different placed.outputs_are.owned in
         let most = placed.few in
         omega (arith, all, less, most)
-
-    among : (k : ℕ) → HoldsValues pool (k / shape.block_pages) → (IsOutput outputs (k / shape.block_pages) → ⊥) → AnyByRecursion (λ b. k / shape.block_pages ≡ b) (value_blocks pool outputs)
-    among k held no_output =
-        filter_has (counts pool outputs) (k / shape.block_pages) 0 (length pool.states) (omega arith) (omega (arith, slice_get_within pool.states (k / shape.block_pages) (Owned for_values) held))
-        (and_from (is_for_values (slice_get pool.states (k / shape.block_pages))) (not (has (k / shape.block_pages) outputs)) (ap is_for_values held)
-        (not_from_false (has (k / shape.block_pages) outputs) (no_member (k / shape.block_pages) outputs no_output)))
 
 pub none_in_spare : NoneInSpare
 none_in_spare shape d pool outputs flash es b placed spare k here is =

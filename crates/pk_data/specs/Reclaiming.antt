@@ -1,5 +1,5 @@
 -- The values, as a reclaim is handed them.
-use Rattle.std.specs.Prelude.{◌≡◌, ℕ, ◌≤◌, Option, Some, None, MatchOption}
+use Rattle.std.specs.Prelude.{◌≡◌, ◌≤◌, Option, Some, None, MatchOption}
 use Rattle.pk_pool.specs.Blocks.{Blocks}
 use Rattle.pk_buf.specs.Table.{Table}
 use Rattle.pk_jrn.specs.Epochs.{JournalEpoch}

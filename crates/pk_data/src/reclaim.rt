@@ -73,13 +73,14 @@ impl<A: Region> Data<A> {
         requires room { length buf.old ≡ job.old.shape.page_bytes }
 
         // What it did.
-        ensures steps { IfOk result (λ r. Steps job.old (hands_of self.old pool.old active.old epoch.old)
-            (B.state board.old) job.new (hands_of self.new pool.new active.new epoch.new)
-            (B.state board.new) r) }
+        ensures steps { IfOk result (λ r. Steps job.old
+            (hands_of self.old pool.old active.old epoch.old) (B.state board.old) job.new
+            (hands_of self.new pool.new active.new epoch.new) (B.state board.new) r) }
 
         // Or its call failed.
         ensures breaks { IfErr result (λ e. Breaks job.old
-            (hands_of self.old pool.old active.old epoch.old) (B.state board.old) (B.state board.new) e) }
+            (hands_of self.old pool.old active.old epoch.old) (B.state board.old)
+            (B.state board.new) e) }
         ensures kept { OnErr result (job.new ≡ record job.old { page = job.new.page }) }
         ensures kept_pool { OnErr result (pool.new ≡ pool.old) }
         ensures kept_log { OnErr result ((active.new ≡ active.old) × (epoch.new ≡ epoch.old)) }

@@ -25,14 +25,15 @@ impl<A: Region> Log<A> {
         &mut self,
         board: &mut B,
         job: &mut ReclaimJob<A>,
-        data: &mut Data<A>,
+        values: &mut Data<A>,
         pool: &mut Pool<A>,
         buf: &mut [u8],
     ) -> Result<Reclaimed, Fault>
         requires stands { (top : ℕ × RootValue) × (found : Found)
             × LogOnFlash self.old (B.state board.old).pages top found }
         requires can { CanStep job.old
-            (hands_of data.old pool.old self.old.active self.old.epoch) (B.state board.old).pages }
+            (hands_of values.old pool.old self.old.active self.old.epoch)
+            (B.state board.old).pages }
         requires job_shape { job.old.shape ≡ self.old.shape }
         requires pool_shape { pool.old.shape ≡ self.old.shape }
         requires ready { IsReady (B.state board.old) self.old.shape }
@@ -41,24 +42,26 @@ impl<A: Region> Log<A> {
 
         // What it did.
         ensures steps { IfOk result (λ r. Steps job.old
-            (hands_of data.old pool.old self.old.active self.old.epoch) (B.state board.old) job.new
-            (hands_of data.new pool.new self.new.active self.new.epoch) (B.state board.new) r) }
-        ensures rest { self.new ≡ record self.old { active = self.new.active; epoch = self.new.epoch } }
+            (hands_of values.old pool.old self.old.active self.old.epoch)
+            (B.state board.old) job.new
+            (hands_of values.new pool.new self.new.active self.new.epoch) (B.state board.new) r) }
+        ensures rest { self.new
+            ≡ record self.old { active = self.new.active; epoch = self.new.epoch } }
 
         // Or its call failed.
         ensures breaks { IfErr result (λ e. Breaks job.old
-            (hands_of data.old pool.old self.old.active self.old.epoch) (B.state board.old)
+            (hands_of values.old pool.old self.old.active self.old.epoch) (B.state board.old)
             (B.state board.new) e) }
         ensures kept { OnErr result (self.new ≡ self.old) }
         ensures kept_job { OnErr result (job.new ≡ record job.old { page = job.new.page }) }
         ensures kept_pool { OnErr result (pool.new ≡ pool.old) }
-        ensures kept_values { IfErr result (λ e. e ≡ Reading → data.new ≡ data.old) }
+        ensures kept_values { IfErr result (λ e. e ≡ Reading → values.new ≡ values.old) }
 
         // Either way all may be used again.
         ensures shape { job.new.shape ≡ job.old.shape }
         ensures ready { IsReady (B.state board.new) self.old.shape }
         ensures buffer { length buf.new ≡ length buf.old }
     {
-        data.reclaim_step(board, job, pool, &mut self.active, &mut self.epoch, buf)
+        values.reclaim_step(board, job, pool, &mut self.active, &mut self.epoch, buf)
     }
 }

@@ -1,6 +1,5 @@
 -- A reclaim begins: a victim was chosen, and a block taken for its copies; or a victim without live pages was given back.
-use Rattle.std.proofs.Common.{◌≡◌, ◌≢◌, ◌⊎◌, inl, inr, ℕ, ◌+◌, ◌-◌, ◌*◌, ◌/◌, ◌<◌, ◌≤◌, refl, sym, ap, subst, ◌∙◌, arith, true, false, List, [], ◌∷◌, ◌++◌, length, sum, take, drop, Option, Some, append-nil}
-use Rattle.std.specs.Prelude.{slice_get}
+use Rattle.std.proofs.Common.{◌≡◌, inl, inr, ℕ, ◌+◌, ◌-◌, ◌*◌, ◌<◌, ◌≤◌, refl, sym, ap, subst, ◌∙◌, arith, true, false, List, [], ◌∷◌, sum, take, drop, append-nil}
 use Rattle.std.proofs.lemmas.Option.{slice_get_within}
 use Rattle.pk_base.specs.Key.{Key}
 use Rattle.pk_base.specs.Shape.{Shape, data_blocks, dense}
@@ -11,7 +10,7 @@ use Rattle.pk_plan.specs.declared.owner.Owner.TheVariants.{Values as for_values}
 use Rattle.pk_nand.specs.BoardState.{BoardState}
 use Rattle.pk_nand.specs.Calls.{IsReady, IsErasedBlock}
 use Rattle.pk_rootfmt.specs.Root.{Root}
-use Rattle.pk_pool.specs.Blocks.{Blocks, IsSpare, used_by}
+use Rattle.pk_pool.specs.Blocks.{Blocks, used_by}
 use Rattle.pk_model.specs.Found.{Found}
 use Rattle.pk_model.specs.Growth.{Reaches}
 use Rattle.pk_steps.specs.Under.{places}
@@ -21,7 +20,6 @@ use Rattle.pk_gc.specs.declared.course.Phase.TheVariants.{Idle, Copies}
 use Rattle.pk_gc.specs.declared.moves.Move.{Move}
 use Rattle.pk_gc.specs.State.{JobState, started, live_from}
 use Rattle.pk_gc.specs.Running.{IsRunning, IsSparse}
-use Rattle.pk_gc.specs.Victims.{IsVictim}
 use Rattle.pk_gc.specs.Beginning.{Starts, GivesBack}
 use Rattle.pk_gc.proofs.Copying.{start_runs}
 use Rattle.pk_gc.proofs.Lowering.{live_of_block}

@@ -1,15 +1,14 @@
 -- What the one call of a step does to a board beside its pages.
-use Rattle.std.proofs.Common.{◌≡◌, ◌⊎◌, inl, inr, ℕ, ◌+◌, ◌*◌, ◌/◌, ◌<◌, ◌≤◌, refl, sym, ap, subst, ◌∙◌, arith, List, [], Option, Some, div-lt_iff_lt-mul}
+use Rattle.std.proofs.Common.{◌≡◌, inl, inr, ℕ, ◌*◌, ◌/◌, ◌<◌, ◌≤◌, refl, sym, ap, subst, ◌∙◌, arith, List, [], div-lt_iff_lt-mul}
 use Rattle.pk_base.specs.Shape.{Shape}
 use Rattle.pk_base.specs.Page.{Flash, page_at}
 use Rattle.pk_base.specs.Mark.{Mark, program, erase}
 use Rattle.pk_nand.specs.BoardState.{BoardState, shape_of, shape_or_none}
-use Rattle.pk_nand.specs.Calls.{IsReady, Rose, after_read, after_program, after_erase, LeftBy, ReadFailed, ProgramFailed, EraseFailed}
+use Rattle.pk_nand.specs.Calls.{IsReady, after_read, after_program, after_erase, LeftBy, ReadFailed, ProgramFailed, EraseFailed}
 use Rattle.pk_nand.specs.Cut.{Interrupted, Touches}
-use Rattle.pk_nand.specs.Effects.{AtMostOneCall, NoFault, OnlyFlash, OnlyReading, Stops, Works}
-use Rattle.pk_nand.proofs.Effects.{works_none, works_erase, works_program, stops_erase, stops_program}
+use Rattle.pk_nand.specs.Effects.{AtMostOneCall, NoFault, OnlyFlash, OnlyReading}
+use Rattle.pk_nand.proofs.Effects.{stops_erase, stops_program}
 use Rattle.pk_nand.proofs.Touching.{untouched}
-use Rattle.pk_rootfmt.specs.Root.{Root}
 use Rattle.pk_rootfmt.specs.Newest.{newest_root}
 use Rattle.pk_model.proofs.SamePages.{newest_root_same}
 use Rattle.pk_model.specs.Growth.{Grows}

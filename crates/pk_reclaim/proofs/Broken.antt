@@ -1,14 +1,14 @@
 -- A step of which the one call failed.
-use Rattle.std.proofs.Common.{◌≡◌, ◌≢◌, ◌⊎◌, inl, inr, ℕ, ◌+◌, ◌*◌, ◌/◌, ◌<◌, ◌≤◌, refl, sym, ap, subst, ◌∙◌, arith, true, false, List, [], ◌∷◌, Some}
+use Rattle.std.proofs.Common.{◌≡◌, inl, ℕ, ◌*◌, ◌<◌, ◌≤◌, refl, sym, subst, ◌∙◌, arith, true, false, List, []}
 use Rattle.std.proofs.Math.Nat.{mul-le-mul_right}
 use Rattle.pk_base.specs.Key.{Key}
-use Rattle.pk_base.specs.Shape.{Shape}
-use Rattle.pk_base.specs.Page.{Flash, page_at}
+use Rattle.pk_base.specs.Shape.{Shape, epoch_pages}
+use Rattle.pk_base.specs.Page.{Flash, page_at, page_in}
 use Rattle.pk_base.specs.Entry.{Place}
 use Rattle.pk_base.specs.Map.{Map}
 use Rattle.pk_base.proofs.ShapeLemmas.{block_pages_positive}
 use Rattle.pk_nand.specs.BoardState.{BoardState}
-use Rattle.pk_nand.specs.Calls.{IsReady}
+use Rattle.pk_nand.specs.Calls.{IsReady, ProgramFailed}
 use Rattle.pk_nand.specs.declared.types.Fault.{Fault}
 use Rattle.pk_rootfmt.specs.Root.{Root}
 use Rattle.pk_pool.specs.declared.state.BlockState.TheVariants.{Free}
@@ -16,20 +16,23 @@ use Rattle.pk_pool.specs.Blocks.{Blocks, IsShared}
 use Rattle.pk_pool.specs.Taking.{FailsToErase}
 use Rattle.pk_pool.proofs.Sharing.{behind_roots}
 use Rattle.pk_pool.proofs.States.{free_is_not_root}
+use Rattle.pk_jrn.specs.Epochs.{left_of, next_page}
+use Rattle.pk_jrn.proofs.Appending.{page_left}
 use Rattle.pk_model.specs.Found.{Found}
 use Rattle.pk_model.specs.Growth.{Goes}
 use Rattle.pk_model.specs.Crashes.{CrashFinds, background}
+use Rattle.pk_model.proofs.Commits.{valid_blocks, behind_roots as in_newest}
 use Rattle.pk_steps.specs.Under.{places}
 use Rattle.pk_gc.specs.declared.course.Course.{Course}
 use Rattle.pk_gc.specs.declared.course.Phase.TheVariants.{Idle, Copies}
 use Rattle.pk_gc.specs.declared.moves.Move.{Move}
 use Rattle.pk_gc.specs.State.{target}
 use Rattle.pk_gc.specs.Running.{IsRunning}
-use Rattle.pk_gc.specs.Breaking.{FailsToRead, FailsToCopy}
+use Rattle.pk_gc.specs.Breaking.{FailsToCopy}
 use Rattle.pk_data.specs.State.{DataState}
 use Rattle.pk_data.proofs.Unchanged.{none_in_spare}
 use Rattle.pk_log.specs.State.{LogState}
-use Rattle.pk_reclaim.specs.Space.{Space, SpaceOnFlash, MayReclaim, space}
+use Rattle.pk_reclaim.specs.Space.{SpaceOnFlash, MayReclaim}
 use Rattle.pk_reclaim.proofs.Owners.{spare_aside}
 use Rattle.pk_reclaim.proofs.Quiet.{IsQuiet, erase_goes, program_goes}
 use Rattle.pk_reclaim.proofs.Boards.{SameRoots, erase_low, program_low}
@@ -104,6 +107,20 @@ module _ (log : LogState) (values : DataState) (pool : Blocks) (moves : List Mov
 
     pub copy_roots : SameRoots shape old new
     copy_roots = program_low shape old new (target shape c) page ready high f.failed
+
+  -- ---- the program of the moves
+
+  module _ (c : Course) (stands : SpaceOnFlash (space_in log values pool moves page (Copies c)) old.pages top found m) (left : 0 < left_of log.epoch) where
+    next_high : 2 * shape.block_pages ≤ next_page log.epoch
+    next_high =
+        let logs = stands.logs in
+        let inside : log.epoch.used < epoch_pages shape = subst (λ (s : Shape). log.epoch.used < epoch_pages s) logs.epoch_shape (page_left log.epoch left) in
+        let same : page_in shape top.1.newest log.epoch.used ≡ next_page log.epoch = λ i. page_in (sym logs.epoch_shape i) (sym logs.epoch_blocks i) log.epoch.used in
+        subst (λ (k : ℕ). 2 * shape.block_pages ≤ k) same
+        (in_newest shape top.1 (valid_blocks shape (page_at old.pages) top logs.is_top) (block_pages_positive shape logs.is_shape) log.epoch.used inside)
+
+    pub commit_roots : (bytes : List ℕ) → ProgramFailed old new (next_page log.epoch) bytes → SameRoots shape old new
+    commit_roots bytes failed = program_low shape old new (next_page log.epoch) bytes ready next_high failed
 
   -- ---- a read
 

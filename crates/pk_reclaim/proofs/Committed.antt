@@ -1,12 +1,9 @@
 -- The moves of a reclaim are committed, or the program of their page failed.
-use Rattle.std.proofs.Common.{◌≡◌, ◌≢◌, ◌⊎◌, inl, inr, ℕ, zero, suc, ◌+◌, ◌-◌, ◌*◌, ◌/◌, ◌<◌, ◌≤◌, refl, sym, ap, subst, ◌∙◌, arith, Bool, true, false, cond, not, ◌&&◌, ◌==◌, List, [], ◌∷◌, ◌++◌, length, filter, append-nil, Some, eq-or-lt_of_le}
-use Rattle.std.specs.Prelude.{slice_get, slice_set}
-use Rattle.std.specs.List.{range_with_len}
-use Rattle.std.proofs.lemmas.Bool.{and_from, not_from_false}
-use Rattle.std.proofs.lemmas.Option.{slice_get_within}
+use Rattle.std.proofs.Common.{◌≡◌, inl, ℕ, ◌+◌, ◌-◌, ◌*◌, ◌/◌, ◌<◌, ◌≤◌, refl, sym, ap, subst, ◌∙◌, arith, List, [], ◌∷◌, ◌++◌, reverse, append-nil, Some}
+use Rattle.std.specs.Prelude.{slice_get, slice_set, flat_map}
 use Rattle.pk_base.specs.Key.{Key}
-use Rattle.pk_base.specs.Shape.{Shape, buffer, dense, data_blocks, epoch_pages}
-use Rattle.pk_base.specs.Page.{Flash, page_at, page_in, whole}
+use Rattle.pk_base.specs.Shape.{Shape, dense, data_blocks, epoch_pages}
+use Rattle.pk_base.specs.Page.{Flash, page_at, page_in, whole as whole_page}
 use Rattle.pk_base.specs.Entry.{Entry, Place}
 use Rattle.pk_base.specs.Firsts.{firsts}
 use Rattle.pk_base.specs.Map.{Map}
@@ -15,49 +12,43 @@ use Rattle.pk_plan.specs.declared.owner.Owner.TheVariants.{Journal, Meta, Values
 use Rattle.pk_nand.specs.BoardState.{BoardState}
 use Rattle.pk_nand.specs.Calls.{IsReady, after_program}
 use Rattle.pk_nand.proofs.Leaving.{page_at-slice_set}
-use Rattle.pk_jrnfmt.specs.Page.{journal_entries}
 use Rattle.pk_jrn.specs.Epochs.{JournalEpoch, EpochOnFlash, left_of, next_page}
 use Rattle.pk_jrn.specs.Appends.{next_bytes}
 use Rattle.pk_jrn.specs.Replays.{buffer_of}
 use Rattle.pk_jrn.proofs.Appending.{page_left}
-use Rattle.pk_rootfmt.specs.Root.{Root, named}
+use Rattle.pk_rootfmt.specs.Root.{Root}
 use Rattle.pk_root.proofs.Places.{InstallerOnFlash-by_same}
-use Rattle.pk_buf.specs.Table.{Table}
 use Rattle.pk_pool.specs.declared.state.BlockState.TheVariants.{Owned}
 use Rattle.pk_pool.specs.Blocks.{Blocks, used_by}
-use Rattle.pk_live.proofs.Ranges.{has}
 use Rattle.pk_model.specs.Found.{Found}
 use Rattle.pk_model.specs.Laws.{AnyByRecursion}
+use Rattle.pk_model.specs.Values.{placed as placed_of}
 use Rattle.pk_model.specs.Growth.{Reaches, Goes}
 use Rattle.pk_model.specs.Crashes.{CrashFinds, background}
 use Rattle.pk_model.proofs.Commits.{Blocks as RootBlocks, valid_blocks, behind_roots, among_newest}
 use Rattle.pk_model.proofs.SamePages.{any_front}
 use Rattle.pk_steps.specs.Under.{IsUnder, places}
 use Rattle.pk_steps.specs.Roots.{committed}
-use Rattle.pk_moves.specs.Moves.{entries_of, moved, CanMove}
+use Rattle.pk_moves.specs.Moves.{moved, CanMove}
 use Rattle.pk_moves.specs.Victims.{exchanged}
-use Rattle.pk_moves.proofs.Moving.{places_move, places_stay}
+use Rattle.pk_moves.proofs.Moving.{places_move}
 use Rattle.pk_gc.specs.declared.course.Course.{Course}
-use Rattle.pk_gc.specs.declared.course.Phase.{Phase}
 use Rattle.pk_gc.specs.declared.course.Phase.TheVariants.{Copies, GivesBack}
 use Rattle.pk_gc.specs.declared.moves.Move.{Move}
 use Rattle.pk_gc.specs.State.{JobState, source, placed_at, left_of as moves_left, entries_all}
 use Rattle.pk_gc.specs.Victims.{AreDead}
-use Rattle.pk_gc.specs.Copied.{IsCopied}
 use Rattle.pk_gc.specs.Cuts.{Journals}
 use Rattle.pk_gc.specs.Committing.{HasRoom as MovesHaveRoom, FailsToAdd, entries_left}
 use Rattle.pk_gc.specs.Ending.{CanGive}
-use Rattle.pk_gc.specs.Breaking.{FailsToCommit}
 use Rattle.pk_gc.specs.Stepping.{Hands, CommitsMoves}
 use Rattle.pk_gc.proofs.Finishing.{may_move}
 use Rattle.pk_gc.proofs.Buffering.{moves_buffered, moves_fit}
 use Rattle.pk_gc.proofs.Cutting.{commit_reaches}
 use Rattle.pk_data.specs.State.{DataState, fits_open}
 use Rattle.pk_data.specs.Placed.{ValuesOnFlash, HoldsValues, IsOutput}
-use Rattle.pk_data.specs.Laws.{value_blocks, is_for_values}
+use Rattle.pk_data.specs.Laws.{value_blocks}
 use Rattle.pk_data.specs.Reclaiming.{hands_of}
-use Rattle.pk_data.proofs.Outputs.{no_member}
-use Rattle.pk_data.proofs.Unchanged.{lie_in_few}
+use Rattle.pk_data.proofs.Unchanged.{lie_in_few, among_values}
 use Rattle.pk_data.proofs.Ends.{moves_placed}
 use Rattle.pk_log.specs.State.{LogState}
 use Rattle.pk_log.specs.Logs.{LogOnFlash}
@@ -70,23 +61,6 @@ use Rattle.pk_reclaim.proofs.Still.{names_of}
 use Rattle.pk_reclaim.proofs.Room.{fits_need}
 use Rattle.pk_reclaim.proofs.Given.{output_fits}
 use Rattle.pk_reclaim.proofs.Ready.{job_in, space_in, is_copied, can_give}
-
--- a number of the row that passes a test is among those that do
-filter_has : (f : ℕ → Bool) (k a n : ℕ) → a ≤ k → k < a + n → f k ≡ true → AnyByRecursion (λ b. k ≡ b) (filter f (range_with_len a n))
-filter_has f k a zero low high is = absurd (omega (arith, low, high))
-filter_has f k a (suc n) low high is =
-    elim (eq-or-lt_of_le low) [
-      | inl e ↦ (let here : f a ≡ true = ap f e ∙ is in rw here (inl (sym e)))
-      | inr above ↦ (
-          let there = filter_has f k (a + 1) n (omega (arith, above)) (omega (arith, high)) is in
-          elim (f a) as (λ b. AnyByRecursion (λ c. k ≡ c) (cond b (a ∷ filter f (range_with_len (a + 1) n)) (filter f (range_with_len (a + 1) n)))) [ true ↦ inr there | false ↦ there ])
-    ]
-
--- a block for values that no reclaim holds is among those
-among : (pool : Blocks) (outputs : List ℕ) (b : ℕ) → HoldsValues pool b → (IsOutput outputs b → ⊥) → AnyByRecursion (λ c. b ≡ c) (value_blocks pool outputs)
-among pool outputs b held no_output =
-    filter_has (λ c. is_for_values (slice_get pool.states c) && not (has c outputs)) b 0 (length pool.states) (omega arith) (omega (arith, slice_get_within pool.states b (Owned for_values) held))
-    (and_from (is_for_values (slice_get pool.states b)) (not (has b outputs)) (ap is_for_values held) (not_from_false (has b outputs) (no_member b outputs no_output)))
 
 module _ (log : LogState) (values : DataState) (pool : Blocks) (c : Course) (moves : List Move) (page : List ℕ) (old : BoardState) (top : ℕ × Root) (found : Found) (m : Map)
     (ready : IsReady old log.shape) (stands : SpaceOnFlash (space_in log values pool moves page (Copies c)) old.pages top found m)
@@ -133,7 +107,7 @@ module _ (log : LogState) (values : DataState) (pool : Blocks) (c : Course) (mov
       let few = lie_in_few shape values pool (c.output ∷ []) old.pages es stands.placed in
       may_move shape c moves page values.live.heads old.pages top.1 found blocks (is_copied log values pool moves page old.pages top found m c stands whole dead)
       (aside_unnamed pool top.1 c.output (names_of before old.pages top found m stands) (held_aside pool c.output (stands.placed.outputs_are.owned c.output (inl refl))))
-      (among pool (c.output ∷ []) c.victim victim_held.0 victim_held.1) few.1 few.0
+      (among_values pool (c.output ∷ []) c.victim victim_held.0 victim_held.1) few.1 few.0
       (moves_fit shape c job hands old.pages es found.newest give active_was room)
 
   journals : Journals shape log.epoch old.pages top
@@ -172,8 +146,8 @@ module _ (log : LogState) (values : DataState) (pool : Blocks) (c : Course) (mov
 
   -- ---- the commit failed
 
-  pub commit_breaks : (new : BoardState) → FailsToAdd left_entries log.active log.epoch old new → Goes shape old new (CrashFinds shape background old.pages m)
-  commit_breaks new f = (commit_reaches shape old top found m left_moves (exchanged c.victim c.output blocks) log.epoch bytes ready journals f.room.1 stands.under (can_move f.room) f.spells).2.1 new f.failed
+  breaks : (new : BoardState) → FailsToAdd left_entries log.active log.epoch old new → Goes shape old new (CrashFinds shape background old.pages m)
+  breaks new f = (commit_reaches shape old top found m left_moves (exchanged c.victim c.output blocks) log.epoch bytes ready journals f.room.1 stands.under (can_move f.room) f.spells).2 new f.failed
 
   -- ---- it was made
 
@@ -197,11 +171,11 @@ module _ (log : LogState) (values : DataState) (pool : Blocks) (c : Course) (mov
     pool_same : pool' ≡ pool
     pool_same = ap (λ (h : Hands). h.pool) commits.hands
 
-    pages_are : new.pages ≡ slice_set old.pages (next_page log.epoch) (whole bytes)
+    pages_are : new.pages ≡ slice_set old.pages (next_page log.epoch) (whole_page bytes)
     pages_are = ap (λ (b : BoardState). b.pages) commits.adds.board
 
     other_page : (k : ℕ) → (k ≡ next_page log.epoch → ⊥) → page_at new.pages k ≡ page_at old.pages k
-    other_page k other = ap (λ (f : Flash). page_at f k) pages_are ∙ page_at-slice_set old.pages (next_page log.epoch) k (whole bytes) other
+    other_page k other = ap (λ (f : Flash). page_at f k) pages_are ∙ page_at-slice_set old.pages (next_page log.epoch) k (whole_page bytes) other
 
     room : MovesHaveRoom log.active log.epoch left_entries
     room = commits.adds.room
@@ -213,13 +187,16 @@ module _ (log : LogState) (values : DataState) (pool : Blocks) (c : Course) (mov
         × Reaches shape old (after_program old (next_page log.epoch) bytes) (CrashFinds shape background old.pages m)
     reaches =
         let all = commit_reaches shape old top found m left_moves (exchanged c.victim c.output blocks) log.epoch bytes ready journals room.1 stands.under (can_move room) commits.adds.spells in
-        (all.0, all.1.0)
+        (all.0, all.1)
 
     under : IsUnder shape new.pages [] top then_found m
     under = subst (λ (f : Flash). IsUnder shape f [] top then_found m) (sym pages_are) reaches.0
 
     then_places : places then_found [] ≡ moved left_moves es
-    then_places = places_stay found left_entries ∙ places_move found [] left_moves
+    then_places = stay (append-nil (found.newest ++ left_entries)) ∙ places_move found [] left_moves
+      where
+        stay : (found.newest ++ left_entries) ++ [] ≡ found.newest ++ left_entries → places then_found [] ≡ places found left_entries
+        stay same i = placed_of (firsts (reverse (same i) ++ reverse found.older ++ flat_map (λ es. es) found.runs))
 
     logs : LogOnFlash then_log new.pages top then_found
     logs = record {
@@ -265,7 +242,7 @@ module _ (log : LogState) (values : DataState) (pool : Blocks) (c : Course) (mov
         (subst (λ (p : Blocks). P then_log p job') (sym pool_same)
         (subst (λ (j : JobState). P then_log pool j) (sym commits.job_is) is))
 
-    pub commit_moves : SpaceMoves before old top found m (space log' values' pool' job') new
+    commit_moves : SpaceMoves before old top found m (space log' values' pool' job') new
     commit_moves = as_made (λ l p j. SpaceMoves before old top found m (space l values' p j) new) (record {
       moves = left_moves;
       newest = found.newest ++ left_entries;
@@ -286,10 +263,24 @@ module _ (log : LogState) (values : DataState) (pool : Blocks) (c : Course) (mov
     used_few : c.used ≤ dense shape
     used_few = let sparse = stands.reclaim.stands.sparse in omega (arith, sparse)
 
-    pub commit_room : HasRoom (space log' values' pool' job')
+    commit_room : HasRoom (space log' values' pool' job')
     commit_room = as_made (λ l p j. HasRoom (space l values' p j)) (λ count most.
         fits_need (fits_open shape values' count) (data_blocks shape - 1) (used_by for_values pool.states)
         (output_fits shape values' c.output c.used count stands.placed.is_shape (ap (λ (h : Hands). h.front) commits.hands) used_few most))
 
-    pub commit_phase : job'.phase ≡ GivesBack c.victim
-    commit_phase = ap (λ (j : JobState). j.phase) commits.job_is
+-- ---- the same, for all that stands before and behind
+
+module _ (log log' : LogState) (values values' : DataState) (pool pool' : Blocks) (c : Course) (moves : List Move) (page : List ℕ) (old new : BoardState) (top : ℕ × Root) (found : Found) (m : Map)
+    (ready : IsReady old log.shape) (ready' : IsReady new log.shape) (stands : SpaceOnFlash (space_in log values pool moves page (Copies c)) old.pages top found m)
+    (whole : c.left ≡ 0) (dead : AreDead values.live.heads (source log.shape c) (c.victim * log.shape.block_pages + log.shape.block_pages)) (job' : JobState) where
+  abbrev IsCommit : Type 0
+  IsCommit = CommitsMoves c (job_in log moves page (Copies c)) (hands_of values pool log.active log.epoch) old job' (hands_of values' pool' log'.active log'.epoch) new
+
+  pub committed_moves : log' ≡ record log { active = log'.active; epoch = log'.epoch } → IsCommit → SpaceMoves (space_in log values pool moves page (Copies c)) old top found m (space log' values' pool' job') new
+  committed_moves log_is is = commit_moves log values pool c moves page old top found m ready stands whole dead log' values' pool' job' new ready' log_is is
+
+  pub committed_room : log' ≡ record log { active = log'.active; epoch = log'.epoch } → IsCommit → HasRoom (space log' values' pool' job')
+  committed_room log_is is = commit_room log values pool c moves page old top found m ready stands whole dead log' values' pool' job' new ready' log_is is
+
+  pub commit_breaks : FailsToAdd (entries_left values.live.heads moves) log.active log.epoch old new → Goes log.shape old new (CrashFinds log.shape background old.pages m)
+  commit_breaks is = breaks log values pool c moves page old top found m ready stands whole dead new is

@@ -1,9 +1,8 @@
 -- A page of a value was read, or programmed into the output.
-use Rattle.std.proofs.Common.{◌≡◌, ◌≢◌, ◌⊎◌, inl, inr, ℕ, ◌+◌, ◌-◌, ◌*◌, ◌/◌, ◌<◌, ◌≤◌, refl, sym, ap, subst, ◌∙◌, arith, true, false, List, [], ◌∷◌, ◌++◌, length, append-nil, Some}
-use Rattle.std.specs.Prelude.{slice_index}
+use Rattle.std.proofs.Common.{◌≡◌, inl, ℕ, ◌-◌, ◌*◌, ◌/◌, refl, sym, ap, subst, arith, true, List, [], ◌∷◌, ◌++◌, append-nil}
 use Rattle.pk_base.specs.Key.{Key}
-use Rattle.pk_base.specs.Shape.{Shape, charge, dense}
-use Rattle.pk_base.specs.Page.{Flash, page_at}
+use Rattle.pk_base.specs.Shape.{Shape, charge}
+use Rattle.pk_base.specs.Page.{Flash}
 use Rattle.pk_base.specs.Entry.{Place}
 use Rattle.pk_base.specs.Map.{Map}
 use Rattle.pk_nand.specs.BoardState.{BoardState}
@@ -17,8 +16,8 @@ use Rattle.pk_steps.specs.Under.{places}
 use Rattle.pk_gc.specs.declared.course.Course.{Course}
 use Rattle.pk_gc.specs.declared.course.Phase.TheVariants.{Copies}
 use Rattle.pk_gc.specs.declared.moves.Move.{Move}
-use Rattle.pk_gc.specs.State.{JobState, source, target, read_next, programmed, begun_at}
-use Rattle.pk_gc.specs.Running.{IsRunning, IsNextValue, begun_move}
+use Rattle.pk_gc.specs.State.{JobState, target, read_next, programmed, begun_at}
+use Rattle.pk_gc.specs.Running.{IsRunning, begun_move}
 use Rattle.pk_gc.specs.Standing.{IsCopying}
 use Rattle.pk_gc.specs.Stepping.{ProgramsHeld, ReadsNext, BeginsValue}
 use Rattle.pk_gc.proofs.Copying.{program_runs, target_exists}
@@ -87,14 +86,20 @@ module _ (log : LogState) (values : DataState) (pool : Blocks) (c : Course) (mov
         let next = next_is_value shape c moves page values.live.heads old.pages es r.page copying.runs (are_held log values pool moves page old.pages top found m c stands ready.flash) copying.sparse r.whole r.inside.0 r.inside.1 r.head r.first in
         let key = next.1.0 in
         let place = next.1.1 in
-        let is = next.1.2.0 in
+        let is = next.1.2 in
         let c' = begun_at c (r.page - c.victim * shape.block_pages) (charge shape place.len) in
         let ms = moves ++ begun_move shape c r.page key place.len ∷ [] in
         let there = space_in log values pool ms job'.page (Copies c') in
-        let sparse = begin_sparse shape values.live.heads c r.page (charge shape place.len) r.whole (charge_some shape stands.placed.is_shape place.len) r.inside.0 is.inside next.1.2.1 copying.sparse in
+        let sparse = begin_sparse shape values.live.heads c r.page (charge shape place.len) r.whole (charge_some shape stands.placed.is_shape place.len) r.inside.0 is.inside next.1.3 copying.sparse in
         subst (λ (j : JobState). SpaceMoves before old top found m (space log values pool j) new) (sym (r.job_is es key place is))
         (still_moves before there old new top found m still stands (owners_same pool)
         (goes_on c' ms job'.page new.pages still.pages refl (record { runs = r.runs es key place copying.runs is; sparse = sparse; closed = copying.closed })))
+
+    -- the values are copied still
+    pub begin_phase : BeginsValue c (job_in log moves page (Copies c)) (hands log values pool moves page old.pages top found m) old job' new → (then : Course) × (job'.phase ≡ Copies then)
+    begin_phase r =
+        let next = next_is_value shape c moves page values.live.heads old.pages es r.page copying.runs (are_held log values pool moves page old.pages top found m c stands ready.flash) copying.sparse r.whole r.inside.0 r.inside.1 r.head r.first in
+        (_, ap (λ (j : JobState). j.phase) (r.job_is es next.1.0 next.1.1 next.1.2))
 
   -- ---- a page was programmed
 

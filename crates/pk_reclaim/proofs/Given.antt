@@ -1,6 +1,5 @@
 -- A reclaim ended: no move was left, or its moves were committed before; the victim was given back.
-use Rattle.std.proofs.Common.{◌≡◌, ◌≢◌, ◌⊎◌, inl, inr, ℕ, ◌+◌, ◌-◌, ◌*◌, ◌/◌, ◌<◌, ◌≤◌, refl, sym, ap, subst, ◌∙◌, arith, true, false, List, [], ◌∷◌, ◌++◌, length, Option, Some}
-use Rattle.std.specs.Prelude.{nat_le}
+use Rattle.std.proofs.Common.{◌≡◌, inl, ℕ, ◌+◌, ◌-◌, ◌*◌, ◌≤◌, refl, sym, ap, subst, ◌∙◌, arith, true, false, List, [], Option, Some}
 use Rattle.std.proofs.lemmas.Bool.{le-leb}
 use Rattle.pk_base.specs.Key.{Key}
 use Rattle.pk_base.specs.Shape.{Shape, IsShape, data_blocks, dense, most_pages}
@@ -20,13 +19,12 @@ use Rattle.pk_gc.specs.declared.course.Course.{Course}
 use Rattle.pk_gc.specs.declared.course.Phase.TheVariants.{Idle, Copies, GivesBack}
 use Rattle.pk_gc.specs.declared.moves.Move.{Move}
 use Rattle.pk_gc.specs.declared.reclaimed.Reclaimed.{Reclaimed}
-use Rattle.pk_gc.specs.declared.open_block.OpenBlock.{OpenBlock as Front}
 use Rattle.pk_gc.specs.State.{JobState, source}
 use Rattle.pk_gc.specs.Victims.{AreDead}
-use Rattle.pk_gc.specs.Stepping.{Hands, EndsWithout, GivesVictim, given_back, handed_over}
+use Rattle.pk_gc.specs.Stepping.{Hands, EndsWithout, GivesVictim, given_back}
 use Rattle.pk_data.specs.declared.open_block.OpenBlock.{OpenBlock}
 use Rattle.pk_data.specs.State.{DataState, fits_open, has_left}
-use Rattle.pk_data.specs.Placed.{ValuesOnFlash, HoldsValues}
+use Rattle.pk_data.specs.Placed.{ValuesOnFlash}
 use Rattle.pk_data.specs.Reclaiming.{front_of, hands_of}
 use Rattle.pk_data.proofs.Holding.{same_front, victim_given_back}
 use Rattle.pk_data.proofs.Ends.{end_placed}
@@ -36,7 +34,7 @@ use Rattle.pk_reclaim.specs.Steps.{SpaceMoves}
 use Rattle.pk_reclaim.proofs.Owners.{SameOwners, owners_given, names_stay}
 use Rattle.pk_reclaim.proofs.Still.{still_same, still_moves, names_of}
 use Rattle.pk_reclaim.proofs.Room.{fits_need}
-use Rattle.pk_reclaim.proofs.Ready.{job_in, space_in, can_give, hands}
+use Rattle.pk_reclaim.proofs.Ready.{job_in, space_in, can_give}
 
 -- ---- the parts of hands
 

@@ -1,5 +1,5 @@
 -- What is known of the values of a map that a flash holds.
-use Rattle.std.proofs.Common.{◌≡◌, ℕ, ◌≤◌, refl, sym, ap, subst, ◌∙◌, arith, true, false, cond, T, List, [], ◌∷◌, ◌++◌, length, sum, Option, Some, None, Ok}
+use Rattle.std.proofs.Common.{◌≡◌, ℕ, ◌≤◌, refl, sym, ap, subst, ◌∙◌, true, false, cond, T, List, [], ◌∷◌, length, sum, Some, None, Ok}
 use Rattle.std.specs.Prelude.{slice_index}
 use Rattle.std.specs.List.{AllByRecursion, AllZip}
 use Rattle.std.specs.Ordering.{eq_by_cmp}
@@ -22,7 +22,6 @@ use Rattle.pk_model.proofs.Lookups.{firsts_sorted, same_key}
 use Rattle.pk_model.proofs.Merges.{placed_sorted}
 use Rattle.pk_model.proofs.ValueSets.{values_sound, fits_parts}
 use Rattle.pk_steps.specs.Under.{IsUnder, counting, places}
-use Rattle.pk_steps.specs.Lookups.{Counted}
 use Rattle.pk_steps.proofs.Untouched.{values_under}
 use Rattle.pk_steps.proofs.Counting.{counts}
 use Rattle.pk_live.specs.Lives.{head_of}

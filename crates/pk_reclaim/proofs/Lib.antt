@@ -5,3 +5,11 @@ pub mod Still
 pub mod Room
 pub mod Ready
 pub mod Begun
+pub mod Boards
+pub mod Copies
+pub mod Given
+pub mod Broken
+pub mod Committed
+pub mod Stepping
+pub mod Sounding
+pub mod Whole

@@ -1,5 +1,5 @@
 -- A block that is for nobody but values, and of which no value is read: what becomes of it leaves map and log.
-use Rattle.std.proofs.Common.{◌≡◌, ◌⊎◌, inl, inr, ℕ, ◌+◌, ◌*◌, ◌/◌, ◌<◌, ◌≤◌, refl, sym, ap, subst, ◌∙◌, arith, List, [], ◌++◌, Option, Some, Ok, div-lt_iff_lt-mul}
+use Rattle.std.proofs.Common.{◌≡◌, inl, inr, ℕ, ◌*◌, ◌/◌, ◌<◌, ◌≤◌, refl, sym, ap, subst, ◌∙◌, arith, List, [], ◌++◌, Some, div-lt_iff_lt-mul}
 use Rattle.std.specs.Prelude.{slice_get}
 use Rattle.std.specs.List.{concat}
 use Rattle.pk_base.specs.Shape.{Shape}
@@ -20,7 +20,7 @@ use Rattle.pk_model.specs.Laws.{AnyByRecursion}
 use Rattle.pk_model.specs.Growth.{Grows, Reaches, Goes}
 use Rattle.pk_model.specs.Crashes.{CrashFinds, background}
 use Rattle.pk_model.proofs.Running.{Reaches-none, Reaches-erase, Goes-erase, Reaches-program, Goes-program}
-use Rattle.pk_steps.specs.Under.{IsUnder, IsNamed, IsValuePage, places}
+use Rattle.pk_steps.specs.Under.{IsUnder, IsValuePage, places}
 use Rattle.pk_steps.proofs.Places.{in_append}
 use Rattle.pk_steps.proofs.Untouched.{under_reads, erases}
 use Rattle.pk_log.specs.State.{LogState}

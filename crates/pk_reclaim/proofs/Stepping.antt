@@ -1,15 +1,14 @@
 -- What a step did, for each of its answers, by how far the reclaim had come.
-use Rattle.std.proofs.Common.{◌≡◌, ◌≢◌, ◌⊎◌, inl, inr, ℕ, ◌+◌, ◌-◌, ◌*◌, ◌<◌, ◌≤◌, refl, sym, ap, subst, ◌∙◌, arith, true, false, List, [], ◌∷◌, ◌++◌, length, Option, Some}
+use Rattle.std.proofs.Common.{◌≡◌, ◌≢◌, ◌⊎◌, inl, inr, ℕ, ◌≤◌, refl, sym, ap, subst, ◌∙◌, arith, List, length}
 use Rattle.std.specs.Prelude.{unwrap_or}
-use Rattle.pk_base.specs.Shape.{Shape, buffer, dense}
+use Rattle.pk_base.specs.Shape.{Shape, dense}
 use Rattle.pk_base.specs.Map.{Map}
 use Rattle.pk_work.specs.Rest.{Lowers}
-use Rattle.pk_plan.specs.declared.owner.Owner.TheVariants.{Values as for_values}
 use Rattle.pk_buf.specs.Table.{Table}
 use Rattle.pk_nand.specs.BoardState.{BoardState}
 use Rattle.pk_nand.specs.Calls.{IsReady}
 use Rattle.pk_rootfmt.specs.Root.{Root}
-use Rattle.pk_pool.specs.Blocks.{Blocks, used_by}
+use Rattle.pk_pool.specs.Blocks.{Blocks}
 use Rattle.pk_pool.specs.Unready.{unready}
 use Rattle.pk_model.specs.Found.{Found}
 use Rattle.pk_gc.specs.declared.course.Course.{Course}
@@ -25,12 +24,12 @@ use Rattle.pk_data.specs.State.{DataState}
 use Rattle.pk_data.specs.Reclaiming.{hands_of}
 use Rattle.pk_log.specs.State.{LogState}
 use Rattle.pk_reclaim.specs.Space.{Space, MayReclaim, Falls, left_before, space}
-use Rattle.pk_reclaim.specs.Steps.{SpaceMoves, Moves, Works, Ends, WantsFreeze, Does, RoomIn, RoomBehind}
+use Rattle.pk_reclaim.specs.Steps.{SpaceMoves, Works, Does, LogIn, RoomIn, RoomBehind}
 use Rattle.pk_reclaim.proofs.Ready.{job_in, space_in, can_step_in}
 use Rattle.pk_reclaim.proofs.Begun.{starts_moves, dead_moves, dead_given, dead_room}
-use Rattle.pk_reclaim.proofs.Copies.{read_moves, begin_moves, program_moves}
+use Rattle.pk_reclaim.proofs.Copies.{read_moves, begin_moves, begin_phase, program_moves}
 use Rattle.pk_reclaim.proofs.Committed.{committed_moves, committed_room}
-use Rattle.pk_reclaim.proofs.Given.{SameParts, same_parts, end_moves, end_given, end_room, given_moves, given_one, given_values}
+use Rattle.pk_reclaim.proofs.Given.{same_parts, end_moves, end_given, end_room, given_moves, given_one, given_values}
 use Rattle.pk_reclaim.proofs.Room.{tight_known}
 
 -- a space that may reclaim, for some root and map
@@ -84,6 +83,7 @@ module _ (log log' : LogState) (values values' : DataState) (pool pool' : Blocks
             (starts_moves log values values' pool pool' moves page old new top found m ready may job' steps.0);
         falls = falls Idle Worked s steps worked_needs;
         runs = ap runs_in phase;
+        log = subst (λ (p : Phase). LogIn p (before Idle) after) (sym phase) same;
         room = subst (λ (p : Phase). RoomIn p after) (sym phase) tt;
       }
   idle_does NeedsFreeze s steps = absurd steps.0
@@ -115,7 +115,7 @@ module _ (log log' : LogState) (values values' : DataState) (pool pool' : Blocks
     copy_phase : Copied c → (then : Course) × (job'.phase ≡ Copies then)
     copy_phase (inl p) = (_, ap (λ (j : JobState). j.phase) p.job_is)
     copy_phase (inr (inl r)) = (_, ap (λ (j : JobState). j.phase) r.job_is)
-    copy_phase (inr (inr b)) = (_, ap (λ (j : JobState). j.phase) (next_job b))
+    copy_phase (inr (inr b)) = begin_phase log values pool c moves page old new s.top s.found s.m ready s.may.stands job' b
 
     goes_worked : (h : hands' ≡ hands) → Copied c → StepsIn (Copies c) (job_in log moves page (Copies c)) hands old job' hands' new Worked → Works (before (Copies c)) old after new
     goes_worked h copied steps =
@@ -129,6 +129,7 @@ module _ (log log' : LogState) (values values' : DataState) (pool pool' : Blocks
               (subst (λ (q : Blocks). SpaceMoves (before (Copies c)) old top found m (space log values q job') new) (sym parts.pool) (copy_moves copied top found m may)));
           falls = falls (Copies c) Worked s steps worked_needs;
           runs = ap runs_in phase;
+          log = subst (λ (p : Phase). LogIn p (before (Copies c)) after) (sym phase) same;
           room = subst (λ (p : Phase). RoomIn p after) (sym phase) tt;
         }
 
@@ -146,6 +147,7 @@ module _ (log log' : LogState) (values values' : DataState) (pool pool' : Blocks
           moves = λ top found m may. committed_moves log log' values values' pool pool' c moves page old new top found m ready ready' may.stands t.whole t.dead job' log_is t.finishes;
           falls = falls (Copies c) Worked s (inr t) worked_needs;
           runs = ap runs_in phase;
+          log = subst (λ (p : Phase). LogIn p (before (Copies c)) after) (sym phase) tt;
           room = subst (λ (p : Phase). RoomIn p after) (sym phase)
               (committed_room log log' values values' pool pool' c moves page old new s.top s.found s.m ready ready' s.may.stands t.whole t.dead job' log_is t.finishes);
         }
@@ -184,7 +186,10 @@ module _ (log log' : LogState) (values values' : DataState) (pool pool' : Blocks
         falls = falls (GivesBack victim) Ended s steps ended_needs;
         idle = ap (λ (j : JobState). j.phase) g.job_is;
         given = given_one log log' values values' pool pool' victim moves page old new s.top s.found s.m s.may.stands log_is job' r g;
-        room = given_values log log' values values' pool pool' victim moves page old new s.top s.found s.m s.may.stands log_is job' r g;
+        room = (
+          same_log (ap (λ (h : Hands). h.active) g.hands) (ap (λ (h : Hands). h.epoch) g.hands),
+          given_values log log' values values' pool pool' victim moves page old new s.top s.found s.m s.may.stands log_is job' r g,
+        );
       })
 
   -- ---- the whole

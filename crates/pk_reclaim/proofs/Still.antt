@@ -1,20 +1,15 @@
 -- A board on which no page differs: map, log and blocks stay as they are.
-use Rattle.std.proofs.Common.{◌≡◌, ℕ, ◌+◌, ◌*◌, ◌/◌, ◌<◌, refl, sym, ap, subst, ◌∙◌, List, [], ◌++◌, length, append-nil, Some}
-use Rattle.std.specs.Prelude.{slice_get}
+use Rattle.std.proofs.Common.{◌≡◌, ℕ, refl, sym, ap, [], append-nil}
 use Rattle.pk_base.specs.Page.{Flash, page_at}
 use Rattle.pk_base.specs.Map.{Map}
 use Rattle.pk_nand.specs.BoardState.{BoardState}
 use Rattle.pk_nand.proofs.Reaching.{Reached-start}
 use Rattle.pk_rootfmt.specs.Root.{Root}
-use Rattle.pk_pool.specs.Blocks.{Blocks}
 use Rattle.pk_model.specs.Found.{Found}
-use Rattle.pk_model.specs.Growth.{Reaches}
 use Rattle.pk_model.specs.Crashes.{CrashFinds, background}
-use Rattle.pk_steps.specs.Under.{IsUnder, places}
 use Rattle.pk_steps.proofs.Untouched.{under_reads}
-use Rattle.pk_log.specs.State.{LogState}
-use Rattle.pk_reclaim.specs.Space.{Space, SpaceOnFlash, space}
-use Rattle.pk_reclaim.specs.Steps.{SpaceMoves, KeepsOthers}
+use Rattle.pk_reclaim.specs.Space.{Space, SpaceOnFlash}
+use Rattle.pk_reclaim.specs.Steps.{SpaceMoves}
 use Rattle.pk_reclaim.proofs.Owners.{SameOwners, others_kept}
 use Rattle.pk_reclaim.proofs.Quiet.{NamesOwned}
 

@@ -1,5 +1,5 @@
 -- What others do between the steps of a reclaim: the statements.
-use Rattle.std.specs.Prelude.{◌≡◌, ℕ, [], length, true, false}
+use Rattle.std.specs.Prelude.{◌≡◌, [], length, true, false}
 use Rattle.pk_base.specs.Shape.{Shape, IsShape}
 use Rattle.pk_work.specs.Backlog.{is_tight}
 use Rattle.pk_buf.specs.Table.{Table}

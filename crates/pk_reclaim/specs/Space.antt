@@ -1,9 +1,8 @@
 -- The space of a drive: its journal, the places of its values, its blocks, and the reclaim that makes room for values.
-use Rattle.std.specs.Prelude.{◌≡◌, ◌⊎◌, ℕ, ◌-◌, ◌≤◌, [], List, ◌++◌, length, slice_get, true, false, Some, unwrap_or}
+use Rattle.std.specs.Prelude.{◌≡◌, ◌⊎◌, ℕ, ◌-◌, ◌≤◌, [], ◌++◌, slice_get, true, false, Some, unwrap_or}
 use Rattle.std.specs.List.{concat}
 use Rattle.pk_base.specs.Shape.{data_blocks, most_pages}
 use Rattle.pk_base.specs.Page.{Flash}
-use Rattle.pk_base.specs.Entry.{Entry}
 use Rattle.pk_base.specs.Map.{Map}
 use Rattle.pk_work.specs.Rest.{whole_reclaim, left_of, Lowers}
 use Rattle.pk_plan.specs.declared.owner.Owner.TheVariants.{Journal, Meta, Values}

@@ -16,7 +16,7 @@ use Rattle.pk_rootfmt.specs.Root.{Root}
 use Rattle.pk_jrn.specs.Epochs.{left_of}
 use Rattle.pk_model.specs.Found.{Found}
 use Rattle.pk_model.specs.Laws.{AnyByRecursion}
-use Rattle.pk_model.specs.Growth.{Grows, Reaches, Goes}
+use Rattle.pk_model.specs.Growth.{Reaches, Goes}
 use Rattle.pk_model.specs.Crashes.{CrashFinds, background}
 use Rattle.pk_steps.specs.Under.{places}
 use Rattle.pk_moves.specs.Moves.{entries_of, moved}
@@ -76,18 +76,25 @@ RoomIn Idle x = Unit {0}
 RoomIn (Copies c) x = Unit {0}
 RoomIn (GivesBack victim) x = HasRoom x
 
+-- while values are copied the log is the same
+abbrev pub LogIn : Phase → Space → Space → Type 0
+LogIn Idle x x' = Unit {0}
+LogIn (Copies c) x x' = x'.log ≡ x.log
+LogIn (GivesBack victim) x x' = Unit {0}
+
 -- A step was made of a reclaim that runs now.
 pub record Works (x : Space) (old : BoardState) (x' : Space) (new : BoardState) : Type 0 where
   pub moves : Moves x old x' new
   pub falls : Falls x x'
   pub runs : runs_in x'.job.phase ≡ true
+  pub log : LogIn x'.job.phase x x'
   pub room : RoomIn x'.job.phase x'
 
--- where the moves were committed before, values lie as they did; otherwise there is room for every value
+-- where the moves were committed before, the log is the same, and values lie as they did; otherwise there is room for every value
 abbrev pub RoomBehind : Phase → Space → Space → Type 0
 RoomBehind Idle x x' = HasRoom x'
 RoomBehind (Copies c) x x' = HasRoom x'
-RoomBehind (GivesBack victim) x x' = x'.values ≡ x.values
+RoomBehind (GivesBack victim) x x' = (x'.log ≡ x.log) × (x'.values ≡ x.values)
 
 -- A block was given back, and no reclaim runs now.
 pub record Ends (x : Space) (old : BoardState) (x' : Space) (new : BoardState) : Type 0 where

@@ -18,11 +18,11 @@ use pk_nand::{Fault, Nand};
 use pk_pool::Pool;
 use pk_region::Region;
 
-/// One step of a reclaim, by at most one call of the board: it begins where none runs, a page of the victim is read, or programmed
-/// into the output, the moves are committed, or the victim is given back. `NeedsFreeze` where the moves find no room in the active
-/// buffer or the newest epoch: nothing was done, and after a freeze the step is to be made again. `Reading` where a read fails: all is
-/// as it was, and the step can be made again. `Stopped` where a program or an erase fails; nothing is to be used any more then. `buf`
-/// has the bytes of a page, which are lost.
+/// One step of a reclaim, by at most one call of the board: it begins where none runs, a page of the victim is read, or
+/// programmed into the output, the moves are committed, or the victim is given back. `NeedsFreeze` where the moves find no room
+/// in the active buffer or the newest epoch: nothing was done, and after a freeze the step is to be made again. `Reading` where
+/// a read fails: all is as it was, and the step can be made again. `Stopped` where a program or an erase fails; nothing is to be
+/// used any more then. `buf` has the bytes of a page, which are lost.
 pub fn reclaim_step<B: Nand, A: Region>(
     board: &mut B,
     job: &mut ReclaimJob<A>,
@@ -33,20 +33,26 @@ pub fn reclaim_step<B: Nand, A: Region>(
 ) -> Result<Reclaimed, Fault>
     // They are the space of the drive on this board.
     requires ready { IsReady (B.state board.old) log.old.shape }
-    requires may { (top : ℕ × RootValue) × (found : Found) × (m : Map) × MayReclaim (space log.old values.old pool.old job.old) (B.state board.old).pages top found m }
+    requires may { (top : ℕ × RootValue) × (found : Found) × (m : Map)
+        × MayReclaim (space log.old values.old pool.old job.old) (B.state board.old).pages top
+        found m }
     requires room { length buf.old ≡ log.old.shape.page_bytes }
 
     // A step was made, or wants a freeze before it.
-    ensures does { IfOk result (λ r. Does (space log.old values.old pool.old job.old) (B.state board.old) (space log.new values.new pool.new job.new) (B.state board.new) r) }
+    ensures does { IfOk result (λ r. Does (space log.old values.old pool.old job.old)
+        (B.state board.old) (space log.new values.new pool.new job.new) (B.state board.new) r) }
 
-    // Whatever came of it, the log is the same but for its newest epoch, and the flash has the same roots.
-    ensures same_log { KeepsLog (space log.old values.old pool.old job.old) (space log.new values.new pool.new job.new) }
+    // Whatever came of it, of the log only the newest epoch differs, and the roots are the same.
+    ensures same_log { KeepsLog (space log.old values.old pool.old job.old)
+        (space log.new values.new pool.new job.new) }
     ensures grows { Grows log.old.shape (B.state board.old).pages (B.state board.new).pages }
     ensures same_roots { roots (B.state board.new) ≡ roots (B.state board.old) }
 
     // A call failed.
-    ensures unread { result ≡ Err Reading → Unread (space log.old values.old pool.old job.old) (B.state board.old) (space log.new values.new pool.new job.new) (B.state board.new) }
-    ensures broken { result ≡ Err Stopped → Breaks (space log.old values.old pool.old job.old) (B.state board.old) (B.state board.new) × Stops (B.state board.old) (B.state board.new) }
+    ensures unread { result ≡ Err Reading → Unread (space log.old values.old pool.old job.old)
+        (B.state board.old) (space log.new values.new pool.new job.new) (B.state board.new) }
+    ensures broken { result ≡ Err Stopped → Breaks (space log.old values.old pool.old job.old)
+        (B.state board.old) (B.state board.new) × Stops (B.state board.old) (B.state board.new) }
 
     // The board.
     ensures sound { OnOk result (NoFault (B.state board.old) (B.state board.new)) }
@@ -55,5 +61,6 @@ pub fn reclaim_step<B: Nand, A: Region>(
     ensures ready { IsReady (B.state board.new) log.old.shape }
     ensures buffer { length buf.new ≡ length buf.old }
 {
+    pool.known();
     log.reclaim_step(board, job, values, pool, buf)
 }
