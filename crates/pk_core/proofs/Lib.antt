@@ -7,6 +7,7 @@ pub mod Elsewhere
 pub mod Committing
 pub mod Freezing
 pub mod Reclaiming
+mod Reclaimed
 pub mod Rooming
 pub mod Amounts
 pub mod ReadSteps

@@ -10,6 +10,7 @@ ghost use Rattle.pk_core.specs.Reclaiming.{MayReclaim, DoesReclaim, CannotRead, 
 use crate::drive::Drive;
 use pk_gc::Reclaimed;
 use pk_nand::{Fault, Nand};
+use pk_reclaim::reclaim_step;
 use pk_region::Region;
 
 impl<A: Region> Drive<A> {
@@ -40,7 +41,13 @@ impl<A: Region> Drive<A> {
         ensures rest { OnlyFlash (B.state board.old) (B.state board.new) }
         ensures ready { IsReady (B.state board.new) self.old.log.shape }
     {
-        let _ = board.read_count();
-        Err(Fault::Reading)
+        reclaim_step(
+            board,
+            &mut self.reclaim,
+            &mut self.space,
+            &mut self.log,
+            &mut self.pool,
+            &mut self.page,
+        )
     }
 }

@@ -1,7 +1,7 @@
-use Rattle.std.proofs.Common.{length, arith, ◌+◌}
+use Rattle.std.proofs.Common.{length, arith, sym, ap, ◌∙◌}
 use Rattle.pk_base.specs.Shape.{charge}
-use Rattle.pk_work.specs.Calls.{room_calls, space_calls}
-use Rattle.pk_core.proofs.Amounts.{store_few, numbers_last}
+use Rattle.pk_work.specs.Calls.{space_calls}
+use Rattle.pk_core.specs.Spacing.{needs}
 use Rattle.pk_core.proofs.Stored.{can_behind, room_behind, numbers_behind, stores_behind, stores_failed, stays_behind, stays_failed, fresh_behind, fresh_failed, opens_behind, space_numbers, store_numbers}
 use Rattle.pk_core.proofs.drive.Drive.put_behind_reclaims.Goals as goal
 
@@ -19,7 +19,8 @@ put_found-requires-clause-can g c =
 pub put_found-requires-clause-room : goal.put_found-requires-clause-room
 put_found-requires-clause-room g c =
     let e = c.in-Ok.ensures in
-    room_behind c.args.self.now c.make_space.new.self (g.B.Nand.state c.args.board.now) (g.B.Nand.state c.make_space.new.board) _ c.args.key c.args.value.now c.requires.can e.stays e.none e.step e.room
+    room_behind c.args.self.now c.make_space.new.self (g.B.Nand.state c.args.board.now) (g.B.Nand.state c.make_space.new.board) _ c.args.key c.args.value.now c.requires.can e.stays e.none e.step
+    (ap (λ n. needs n c.make_space.new.self) (sym (c.charge.ensures.value ∙ ap (λ s. charge s (length c.args.value.now)) c.shape-shape.ensures)) ∙ e.room)
 
 pub put_found-requires-clause-number : goal.put_found-requires-clause-number
 put_found-requires-clause-number g c =

@@ -1,6 +1,7 @@
-use Rattle.std.proofs.Common.{length, arith, sym, ap, subst, ◌∙◌}
+use Rattle.std.proofs.Common.{length, arith}
+use Rattle.pk_work.specs.Calls.{room_calls}
 use Rattle.pk_base.specs.Shape.{charge}
-use Rattle.pk_core.proofs.Stored.{store_can, put_stores, put_numbers, no_quiet, no_reads, reads_if_room}
+use Rattle.pk_core.proofs.Stored.{store_can, put_stores, put_numbers, reads_if_room}
 use Rattle.pk_core.proofs.drive.Drive.put_with_space.Goals as goal
 
 pub put_behind_reclaims-requires-clause-can : goal.put_behind_reclaims-requires-clause-can
@@ -8,3 +9,11 @@ put_behind_reclaims-requires-clause-can g c = store_can c.args.self.now (g.B.Nan
 
 pub put-requires-clause-number : goal.put-requires-clause-number
 put-requires-clause-number g c = put_numbers c.args.self.now (g.B.Nand.state c.args.board.now) c.args.key c.args.value.now c.args.old c.requires.can c.requires.unworn
+
+pub returns-else-needs_reclaim-clause-step : goal.returns-else-needs_reclaim-clause-step
+returns-else-needs_reclaim-clause-step g c =
+    put_stores c.args.self.now (g.B.Nand.state c.args.board.now) c.args.key c.args.value.now c.args.old c.requires.can c.put.result c.put.new.self (g.B.Nand.state c.put.new.board) (room_calls c.args.self.now.log.shape) _ (omega arith) c.put.ensures.step
+
+pub returns-else-needs_reclaim-clause-quiet : goal.returns-else-needs_reclaim-clause-quiet
+returns-else-needs_reclaim-clause-quiet g c =
+    reads_if_room c.put.result c.args.self.now c.args.key (charge c.args.self.now.log.shape (length c.args.value.now)) (g.B.Nand.state c.args.board.now) (g.B.Nand.state c.put.new.board) c.put.ensures.quiet
