@@ -12,4 +12,4 @@ returns g c = λ shape flash frames is_flash was.
     (rw c.shape.ensures at c.known.ensures) is_flash was c.in_ok-log.ensures.value c.in_ok-log.ensures.stands c.new-5.ensures.value c.new-5.ensures.placed
     (idle.0, idle.1, subst (λ (s : Shape). IsIdle s c.in_ok-schedule.schedule.job) plan idle.2)
     (c.in_ok-schedule.ensures.pins ∙ (λ i. pinned (plan i) (c.frames.ensures.states i)))
-    c.in_ok-reclaim.ensures
+    (rw c.shape.ensures at c.in_ok-reclaim.ensures)
