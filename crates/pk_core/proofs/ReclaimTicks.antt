@@ -34,7 +34,7 @@ use Rattle.pk_core.specs.Staying.{StaysOrFrees}
 use Rattle.pk_core.specs.Reclaiming.{MayReclaim, Holds, Lessens, DoesReclaim, Waits, CannotRead, FailsAll, is_tight_for}
 use Rattle.pk_core.specs.Ticking.{MayTick, Ticks, Advances, WantsReclaim, WantsFreeze}
 use Rattle.pk_core.proofs.Unchanging.{own, for_its_map, agrees_ready}
-use Rattle.pk_core.proofs.Standing.{stands_here, agrees_so, reads_as}
+use Rattle.pk_core.proofs.Standing.{agrees_so, reads_as}
 use Rattle.pk_core.proofs.Staying.{stays_same, stays_frees}
 use Rattle.pk_core.proofs.SpaceSteps.{leaves_stay, unread_stays}
 use Rattle.pk_core.proofs.Stored.{blocks_most, blocks_at}
@@ -76,7 +76,9 @@ blocks_full d flash m stands (inr due) = let all = due_blocks d due in omega (ar
 
 module _ (d : Parts) (old : BoardState) (m : MayTick d old) (wants : WantsReclaim d) where
   its_stand : StandsFor d d.log.shape old.pages m.agrees.all
-  its_stand = (stands_here d old.shape old.pages m.agrees).1
+  its_stand =
+      subst (λ s. StandsFor d s old.pages m.agrees.all) (sym m.agrees.with.shape_is)
+      (record { top = m.agrees.top; found = m.agrees.found; without = m.agrees.without; with = m.agrees.with })
 
   pub may_reclaim : MayReclaim d old
   may_reclaim = record { may = record { ready = agrees_ready d old m.agrees; stands = (m.agrees.all, its_stand) }; none_pending = m.none; turn = turn_of d wants }
@@ -156,10 +158,10 @@ module _ (d : Parts) (old : BoardState) (m : MayTick d old) (wants : WantsReclai
             stands = λ _. for_its_map d old m.agrees (λ s f x. HoldsMap s f new (sight_of d') x)
                 (record { shape_is = ready.shape_is; frames_is = (unread_stays d d' old new unread).frames; map_is = reads_as d' d.log.shape new.pages m.agrees.all still });
             cuts = λ _. for_its_map d old m.agrees (λ s f x. Reaches s old new (CrashFinds s background old.pages x)) (
-                [],
-                Reached-start old new (CrashFinds d.log.shape background old.pages m.agrees.all) (ap (λ (b : BoardState). b.shape) unread.only) pages_same (ap (λ (b : BoardState). b.trail) unread.only) (ap (λ (b : BoardState). b.posted) unread.only)
-                    (refl, subst (λ (es : List Entry). reading d.log.shape old.pages es ≡ Ok m.agrees.all) m.none (reads_as d d.log.shape old.pages m.agrees.all its_stand)),
-                tt,
+              [],
+              Reached-start old new (CrashFinds d.log.shape background old.pages m.agrees.all) (ap (λ (b : BoardState). b.shape) unread.only) pages_same (ap (λ (b : BoardState). b.trail) unread.only) (ap (λ (b : BoardState). b.posted) unread.only)
+                  (refl, subst (λ (es : List Entry). reading d.log.shape old.pages es ≡ Ok m.agrees.all) m.none (reads_as d d.log.shape old.pages m.agrees.all its_stand)),
+              tt,
             );
             cuts_stopped = λ e. absurd (false_true e);
             idle_rests = λ e. absurd (stopped_idle false e);
