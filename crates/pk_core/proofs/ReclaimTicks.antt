@@ -34,7 +34,7 @@ use Rattle.pk_core.specs.Staying.{StaysOrFrees}
 use Rattle.pk_core.specs.Reclaiming.{MayReclaim, Holds, Lessens, DoesReclaim, Waits, CannotRead, FailsAll, is_tight_for}
 use Rattle.pk_core.specs.Ticking.{MayTick, Ticks, Advances, WantsReclaim, WantsFreeze}
 use Rattle.pk_core.proofs.Unchanging.{own, for_its_map, agrees_ready}
-use Rattle.pk_core.proofs.Standing.{stands_here, agrees_so, reads_as}
+use Rattle.pk_core.proofs.Standing.{agrees_so, reads_as}
 use Rattle.pk_core.proofs.Staying.{stays_same, stays_frees}
 use Rattle.pk_core.proofs.SpaceSteps.{leaves_stay, unread_stays}
 use Rattle.pk_core.proofs.Stored.{blocks_most, blocks_at}
@@ -76,7 +76,9 @@ blocks_full d flash m stands (inr due) = let all = due_blocks d due in omega (ar
 
 module _ (d : Parts) (old : BoardState) (m : MayTick d old) (wants : WantsReclaim d) where
   its_stand : StandsFor d d.log.shape old.pages m.agrees.all
-  its_stand = (stands_here d old.shape old.pages m.agrees).1
+  its_stand =
+      subst (λ s. StandsFor d s old.pages m.agrees.all) (sym m.agrees.with.shape_is)
+      (record { top = m.agrees.top; found = m.agrees.found; without = m.agrees.without; with = m.agrees.with })
 
   pub may_reclaim : MayReclaim d old
   may_reclaim = record { may = record { ready = agrees_ready d old m.agrees; stands = (m.agrees.all, its_stand) }; none_pending = m.none; turn = turn_of d wants }

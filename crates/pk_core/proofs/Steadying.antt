@@ -33,13 +33,14 @@ use Rattle.pk_live.proofs.Ranges.{has}
 use Rattle.pk_data.specs.Placed.{HoldsValues, IsOpenIn}
 use Rattle.pk_data.specs.Laws.{is_for_values}
 use Rattle.pk_data.proofs.Outputs.{no_member, freed, freed_is, used_freed}
-use Rattle.pk_work.specs.Rest.{whole_reclaim}
+use Rattle.pk_work.specs.Rest.{whole_merge, whole_reclaim}
+use Rattle.pk_schedule.specs.Steps.{backlog_of as backlog_of_index}
 use Rattle.pk_core.proofs.Reclaiming.{reclaim_within}
 use Rattle.pk_data.specs.declared.open_block.OpenBlock.{OpenBlock}
 use Rattle.pk_nand.specs.BoardState.{BoardState}
 use Rattle.pk_nand.specs.Effects.{OnlyFlash}
 use Rattle.pk_drive.specs.Steady.{Steadies, IsSteady, IsReadyBlock, HasReady, entries_of_runs, live_blocks, pages_of_runs}
-use Rattle.pk_work.specs.Backlog.{IsBacklog}
+use Rattle.pk_work.specs.Backlog.{IsBacklog, due_level}
 use Rattle.pk_work.specs.Work.{work}
 use Rattle.pk_work.proofs.Within.{work_most}
 use Rattle.pk_schedule.specs.declared.phase.Phase.{Phase}
@@ -88,6 +89,11 @@ is_true false t = absurd t
 for_values_told : (o : Option BlockState) → is_for_values o ≡ true → (s : BlockState) × (o ≡ Some s) × (is_owned_by Values s ≡ true)
 for_values_told None e = cc
 for_values_told (Some s) e = (s, refl, e)
+
+-- the level that is due is told by the index
+due_of : (shape : Shape) (d : Parts) → due_level shape (backlog_of d) ≡ due_level shape (backlog_of_index (index_of d))
+unfolding due_level
+due_of shape d = refl
 
 -- ---- four runs
 
@@ -175,7 +181,7 @@ module _ (d : Parts) (shape : Shape) (flash : Flash) (top : ℕ × Root) (found 
       record {
         frozen_most = index.frozen_most;
         runs_most = index.runs_most;
-        merge_most = index.merge_most;
+        merge_most = subst (λ l. IfSome (backlog_of d).merge (λ left. left ≤ whole_merge d.log.shape l)) (sym (due_of d.log.shape d)) index.merge_most;
         freeze_most = index.freeze_most;
         reclaim_most = subst (λ (s : Shape). IfSome (reclaim_left s d.space.live.heads (is_reclaim_due d) d.reclaim.phase) (λ left. left ≤ whole_reclaim s)) (sym a.shape_is) (reclaim_within d.reclaim.phase shape (is_reclaim_due d) d.reclaim d.space.live flash (places found d.log.pending) a.reclaim.stands);
         unready_most = index.unready_most;

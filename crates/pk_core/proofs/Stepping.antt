@@ -299,6 +299,15 @@ stopped_is o (Fault stopped) reads told = ap (λ x. x.stopped) told
 other_status : ◌≡◌ {A = ℕ} 0x88 0 → ⊥
 other_status e = cc
 
+-- no data comes
+pub none_come : (o : Outcome) (answer : Ticked) (reads : ℕ) → o ≡ outcome_of answer reads → o.data_len ≡ 0
+none_come o answer reads told = ap (λ (x : Outcome). x.data_len) told ∙ by answer
+  where
+    by : (t : Ticked) → (outcome_of t reads).data_len ≡ 0
+    by Worked = refl
+    by Idle = refl
+    by (Fault stopped) = refl
+
 pub not_failed : (o : Outcome) (answer : Ticked) (reads : ℕ) → o ≡ outcome_of answer reads → o.status ≡ 0 → has_failed answer ≡ false
 not_failed o Worked reads told e = refl
 not_failed o Idle reads told e = refl

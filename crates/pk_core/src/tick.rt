@@ -5,6 +5,7 @@ ghost use Rattle.pk_pool.specs.Blocks.{PoolOnFlash, IsShared, IsOwned};
 ghost use Rattle.pk_pool.specs.Taking.{ErasesOne, ErasesNone, FailsToErase};
 ghost use Rattle.pk_drive.specs.Tick.{TellsIdle, LowersWork};
 ghost use Rattle.pk_drive.specs.Seen.{stopped_by};
+ghost use Rattle.pk_drive.specs.declared.types.Ticked.TheVariants.{Fault as StopsDrive};
 ghost use Rattle.pk_compact.specs.FreezeSteps.{taken_by};
 ghost use Rattle.pk_schedule.specs.Steps.{has_no_merge};
 ghost use Rattle.pk_core.specs.Parts as spec;
@@ -101,6 +102,15 @@ impl<A: Region> Drive<A> {
         }
     }
 
+    // A call failed that stops the drive.
+    fn stop(&mut self) -> Ticked
+        ensures value { result ≡ StopsDrive true }
+        ensures stopped { self.new ≡ record self.old { stopped = true } }
+    {
+        self.stopped = true;
+        Ticked::Fault { stopped: true }
+    }
+
     // One step of the reclaim that runs or is due; where its moves find no room, one of the freeze that makes it.
     fn reclaim_step<B: Nand>(&mut self, board: &mut B) -> Ticked
         requires may { MayTick self.old (B.state board.old) }
@@ -114,10 +124,7 @@ impl<A: Region> Drive<A> {
             Ok(Reclaimed::Ended) => Ticked::Worked,
             Ok(Reclaimed::NeedsFreeze) => self.freeze_step(board),
             Err(Fault::Reading) => Ticked::Fault { stopped: false },
-            Err(Fault::Stopped) => {
-                self.stopped = true;
-                Ticked::Fault { stopped: true }
-            }
+            Err(Fault::Stopped) => self.stop(),
         }
     }
 

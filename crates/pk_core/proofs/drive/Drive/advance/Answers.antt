@@ -26,4 +26,4 @@ reclaim_step-requires-clause-merged g c =
     ap (λ (d : Parts). has_no_merge (index_of d)) (sym c.self.view_is) ∙ (sym (c.has_no_merge.ensures c.self.inside.levels c.self.inside.arena c.self.inside.pool) ∙ c.if-not-has_no_merge.false)
 
 pub reclaim_step-requires-clause-wanted : goal.reclaim_step-requires-clause-wanted
-reclaim_step-requires-clause-wanted g c = wants_is _ (sym c.wants_reclaim.ensures ∙ c.if-wants_reclaim.true)
+reclaim_step-requires-clause-wanted g c = wants_is c.args.self.now (sym c.wants_reclaim.ensures ∙ c.if-wants_reclaim.true)

@@ -1,4 +1,4 @@
-use Rattle.std.proofs.Common.{refl, subst, ap, ◌∙◌, Err}
+use Rattle.std.proofs.Common.{refl, true, subst, ap, ◌∙◌, Err}
 use Rattle.pk_pool.specs.Blocks.{IsShared}
 use Rattle.pk_core.specs.Parts.{Parts}
 use Rattle.pk_core.proofs.SpaceSteps.{waits_is}
@@ -43,4 +43,6 @@ pub returns-in-Err-Stopped : goal.returns-in-Err-Stopped
 returns-in-Err-Stopped g c =
     let e = c.reclaim_once.ensures in
     let broken = e.broken (c.in-Err-Stopped.is ∙ ap Err c.in-Err-Stopped.field-0-is) in
-    stops_so c.args.self.now (g.B.Nand.state c.args.board.now) c.requires.may c.requires.wanted (g.B.Nand.state c.reclaim_once.new.board) e.calls e.rest e.same_roots e.grows e.ready _ refl e.none broken.0 broken.1 (subst (λ (d : Parts). IsShared d.pool.shape d.pool.states) c.self.view_is c.known.ensures)
+    let later : Parts = record c.reclaim_once.new.self { stopped = true } in
+    rw (c.stop.ensures.stopped, c.stop.ensures.value)
+    (stops_so c.args.self.now (g.B.Nand.state c.args.board.now) c.requires.may c.requires.wanted (g.B.Nand.state c.reclaim_once.new.board) e.calls e.rest e.same_roots e.grows e.ready later refl e.none broken.0 broken.1 (subst (λ (d : Parts). IsShared d.pool.shape d.pool.states) c.self.view_is c.known.ensures))

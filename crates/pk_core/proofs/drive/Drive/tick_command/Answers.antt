@@ -1,5 +1,5 @@
 use Rattle.std.proofs.Common.{◌∙◌, sym, arith}
-use Rattle.pk_core.proofs.Stepping.{tick_does, tick_may, tick_numbers, stopped_is, not_failed}
+use Rattle.pk_core.proofs.Stepping.{tick_does, tick_may, tick_numbers, stopped_is, not_failed, none_come}
 use Rattle.pk_core.proofs.Executing.{none_between}
 use Rattle.pk_core.proofs.drive.Drive.tick_command.Goals as goal
 
@@ -16,6 +16,9 @@ returns-clause-executes g c = λ v into. record {
   does = tick_does (g.B.Nand.state c.args.board.now) (g.B.Nand.state c.work-last.new.board) c.args.self.now c.work-last.new.self c.args.request.now v c.requires.servable.agrees c.requires.servable.passed c.requires.opcode
       c.work-last.result c.answer_of.result into c.reads_since.result c.work-last.ensures.steps (omega (arith, c.reads_since.ensures.reads, c.read_count-before.ensures.value)) c.answer_of.ensures;
 }
+
+pub returns-clause-no_data : goal.returns-clause-no_data
+returns-clause-no_data g c = none_come c.answer_of.result c.work-last.result c.reads_since.result c.answer_of.ensures
 
 pub returns-clause-done : goal.returns-clause-done
 returns-clause-done g c = λ e. c.work-last.ensures.done (not_failed c.answer_of.result c.work-last.result c.reads_since.result c.answer_of.ensures e)
