@@ -1,11 +1,10 @@
 //! The trait of a drive over the board that it is handed.
-ghost use Rattle.std.specs.Prelude.{◌≡◌, ◌≢◌, ◌≤◌, ◌<◌, ◌+◌, ℕ, List, [], length, take, Bool, true, false, nat_le, OnOk, OnErr, IsOk, IsSome, Some, Option, Ok};
+ghost use Rattle.std.specs.Prelude.{◌≡◌, ◌≢◌, ◌≤◌, ◌<◌, ◌+◌, ℕ, List, [], length, take, true, false, nat_le, OnOk, OnErr, IsOk, IsSome, Some, Option, Ok};
 ghost use Rattle.pk_base.specs.Shape.{Shape, greatest, charge};
 ghost use Rattle.pk_base.specs.Page.{Flash};
 ghost use Rattle.pk_base.specs.Map.{Map, live};
 ghost use Rattle.pk_nvme.specs.Command.{key};
 ghost use Rattle.pk_nvme.specs.Seen.{command_of};
-ghost use Rattle.pk_nvme.specs.declared.request.Request.{Request};
 ghost use Rattle.pk_nand.specs.BoardState.{shape_of};
 ghost use Rattle.pk_nand.specs.Calls.{Rose};
 ghost use Rattle.pk_model.specs.Answer.{early};
@@ -40,9 +39,6 @@ pub trait Engine {
     /// The board has the shape and the pages with which opening, or the last call, ended.
     ghost agrees: { Self → Option Shape → Flash → Type 0 };
 
-    /// It can serve this request.
-    ghost built: { Self → Request → Bool };
-
     /// Executes one command. A Store's value is handed over where it is not too large, and no other bytes are.
     fn exec<B: Nand>(
         &mut self,
@@ -55,7 +51,6 @@ pub trait Engine {
         requires agrees { agrees self.old (B.state board.old).shape (B.state board.old).pages }
         requires runs { (sight self.old).stopped ≡ false }
         requires unworn { is_worn (B.state board.old) ≡ false }
-        requires is_built { built self.old request.now ≡ true }
         requires tick { request.now.opcode ≡ TICK → (sight self.old).pending ≡ [] }
 
         // What is handed over, and the buffer for data.
@@ -129,7 +124,8 @@ pub trait Engine {
         ensures stores { request.now.opcode ≡ STORE → result.status ≡ SUCCESSFUL_COMPLETION
             → Stores (B.state board.old) (B.state board.new) (sight self.old) (sight self.new)
             (command_of request.now value.now) }
-        ensures deletes { request.now.opcode ≡ DELETE → result.stopped ≡ false
+        ensures open_block { request.now.opcode ≢ STORE → request.now.opcode ≢ TICK
+            → result.stopped ≡ false
             → (sight self.new).open_block ≡ (sight self.old).open_block }
 
         // A Store or a Delete that waits for nothing.
@@ -160,10 +156,6 @@ pub trait Engine {
         ensures stops { OnErr result ((sight self.new).stopped ≡ true) }
         ensures agrees { OnOk result
             (agrees self.new (B.state board.new).shape (B.state board.new).pages) }
-        ensures built { OnOk result ((r : Request) → r.opcode ≢ STORE → r.opcode ≢ DELETE
-            → built self.old r ≡ true → built self.new r ≡ true) }
-        ensures unbuilt { OnOk result
-            ((r : Request) → built self.old r ≡ false → built self.new r ≡ false) }
         ensures rest { OnlyFlash (B.state board.old) (B.state board.new) }
 
         // The map, wherever it is cut.
@@ -226,8 +218,7 @@ pub trait Engine {
             → (B.state board.new ≡ B.state board.old) × (sight self.new ≡ sight self.old) }
         ensures unmade { result ≡ Ticked.Fault false → (sight self.new ≡ sight self.old)
             × OnlyReading (B.state board.old) (B.state board.new) }
-        ensures lowers { LowersWork (B.state board.old) (B.state board.new) (sight self.old)
-            (sight self.new) result }
+        ensures lowers { LowersWork (B.state board.old) (sight self.old) (sight self.new) result }
 
         // Counts of calls, of faults and of roots.
         ensures calls { AtMostOneCall (B.state board.old) (B.state board.new) }
@@ -251,10 +242,6 @@ pub trait Engine {
             (B.state board.old).pages (B.state board.new).pages (sight self.old) (sight self.new) }
         ensures blocks { stopped_by result ≡ false
             → (sight self.new).counts.blocks ≤ (sight self.old).counts.blocks };
-
-    /// Whether it can serve this request.
-    fn is_built(&self, request: &Request) -> bool
-        ensures { result ≡ built self.now request.now };
 
     /// How many entries are pending.
     fn pending(&self) -> u32

@@ -18,7 +18,7 @@ pub struct Outcome {
 /// What a background step came to.
 #[derive(Clone, Copy, Debug, PartialEq, Eq)]
 pub enum Ticked {
-    /// A step was made, or one is left that is not built.
+    /// A step was made.
     Worked,
     /// Nothing is left to do.
     Idle,

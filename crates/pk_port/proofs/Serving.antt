@@ -8,8 +8,6 @@ use Rattle.pk_base.specs.Page.{Flash}
 use Rattle.pk_base.specs.Entry.{Entry}
 use Rattle.pk_base.specs.Map.{Map}
 use Rattle.pk_base.specs.Refusal.{Refusal}
-use Rattle.pk_nvme.specs.declared.request.Request.{Request}
-use Rattle.pk_nvme.specs.Seen.{command_of}
 use Rattle.pk_nvme.specs.Command.{Command}
 use Rattle.pk_nvme.specs.Reply.{Reply}
 use Rattle.pk_nand.specs.BoardState.{BoardState, shape_of, shape_or_none}
@@ -78,13 +76,12 @@ module _ (agrees : Option Shape → Flash → Type 0) (shape : Shape) (old : Boa
         };
       }
 
-      pub serves_so : (serves serves' : Request → Bool) (r : Request) → command_of r c.value ≡ c → serves r ≡ true → d.stopped ≡ false → e.stopped ≡ false → is_worn old ≡ false → OnlyFlash old new
+      pub serves_so : d.stopped ≡ false → e.stopped ≡ false → is_worn old ≡ false → OnlyFlash old new
           → old.read_faults ≤ new.read_faults → (rep.status ≡ 0x88 → Rose old.read_faults new.read_faults) → (rep.status ≢ 0x88 → new.read_faults ≡ old.read_faults) → new.stop_faults ≡ old.stop_faults
           → new.reads ≡ reads_after old.reads reads → roots new ≤ roots old + most_installs c.opcode c.size
-          → Serves shape (mount old d serves) (mount new e serves') c (record { command = c; reply = rep; reads = reads })
-      serves_so serves serves' r is built going goes_on unworn rest up unread sound no_stop read few = record {
+          → Serves shape (mount old d) (mount new e) c (record { command = c; reply = rep; reads = reads })
+      serves_so going goes_on unworn rest up unread sound no_stop read few = record {
         runs = record { going = going; unworn = unworn };
-        built = (r, is, built);
         is = refl;
         map = ready.map;
         held = ready_holds;
@@ -96,7 +93,7 @@ module _ (agrees : Option Shape → Flash → Type 0) (shape : Shape) (old : Boa
         up = up;
         no_stop = no_stop;
         rest = rest;
-        new_is = λ k. record { board = new; stopped = (goes_on ∙ sym going) k; frames = done.stands.frames_is k; serves = serves' };
+        new_is = λ k. record { board = new; stopped = (goes_on ∙ sym going) k; frames = done.stands.frames_is k };
       }
 
       pub replies_so : rep.status < 256 → rep.result < 2 ^ 32 → (rep.status ≡ 0x88 → Rose old.read_faults new.read_faults) → (before behind : ℕ) → Replies (seen shape old before) (seen shape new behind) c rep
@@ -125,13 +122,12 @@ module _ (agrees : Option Shape → Flash → Type 0) (shape : Shape) (old : Boa
 
     -- ---- a command that stopped the drive
 
-    pub fails_so : SubmitStops old new d c → (serves serves' : Request → Bool) (r : Request) → command_of r c.value ≡ c → serves r ≡ true → d.stopped ≡ false → e.stopped ≡ true → is_worn old ≡ false → OnlyFlash old new
-        → old.read_faults ≤ new.read_faults → Rose old.stop_faults new.stop_faults → Fails shape (mount old d serves) (mount new e serves') c Stopped
-    fails_so stops serves serves' r is built going stopped unworn rest up stop = inl (
+    pub fails_so : SubmitStops old new d c → d.stopped ≡ false → e.stopped ≡ true → is_worn old ≡ false → OnlyFlash old new
+        → old.read_faults ≤ new.read_faults → Rose old.stop_faults new.stop_faults → Fails shape (mount old d) (mount new e) c Stopped
+    fails_so stops going stopped unworn rest up stop = inl (
       refl,
       record {
         runs = record { going = going; unworn = unworn };
-        built = (r, is, built);
         map = ready.map;
         held = ready_holds;
         went = stops shape d.counts.frames ready.map ready.stands ready.none;

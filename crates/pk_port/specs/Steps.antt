@@ -3,9 +3,7 @@ use Rattle.std.specs.Prelude.{◌≡◌, ◌⊎◌, ℕ, ◌≤◌, List, [], �
 use Rattle.std.specs.Result.{result_ok}
 use Rattle.pk_base.specs.Shape.{Shape, limit}
 use Rattle.pk_base.specs.Map.{Map}
-use Rattle.pk_nvme.specs.declared.request.Request.{Request}
 use Rattle.pk_nvme.specs.Command.{Command}
-use Rattle.pk_nvme.specs.Seen.{command_of}
 use Rattle.pk_nand.specs.BoardState.{BoardState}
 use Rattle.pk_nand.specs.Calls.{Rose}
 use Rattle.pk_nand.specs.Effects.{OnlyFlash}
@@ -21,18 +19,17 @@ use Rattle.pk_serve.specs.Port.{StepCut}
 use Rattle.pk_serve.specs.Serving.{StepWithin}
 use Rattle.pk_host.specs.Port.{PortState}
 use Rattle.pk_port.specs.declared.halt.Halt.{Halt}
-use Rattle.pk_port.specs.declared.halt.Halt.TheVariants.{Stopped, Worn, NotBuilt}
+use Rattle.pk_port.specs.declared.halt.Halt.TheVariants.{Stopped, Worn}
 
--- What is told of a drive on its board: the board, whether the drive is stopped, its frames, and the requests that it serves.
+-- What is told of a drive on its board: the board, whether the drive is stopped, and its frames.
 pub record Mounted : Type 0 where
   pub board : BoardState
   pub stopped : Bool
   pub frames : ℕ
-  pub serves : Request → Bool
 
 -- what is told of a drive that is seen so, on this board
-abbrev pub mount : BoardState → Sight → (Request → Bool) → Mounted
-mount board drive serves = record { board = board; stopped = drive.stopped; frames = drive.counts.frames; serves = serves }
+abbrev pub mount : BoardState → Sight → Mounted
+mount board drive = record { board = board; stopped = drive.stopped; frames = drive.counts.frames }
 
 -- What is told of a port: the drive on its board, the count of the port's faults, and why the last of them came.
 pub record Standing : Type 0 where
@@ -41,8 +38,8 @@ pub record Standing : Type 0 where
   pub halt : Option Halt
 
 -- what is told of a port over a drive that is seen so, on this board
-abbrev pub standing : BoardState → Sight → (Request → Bool) → ℕ → Option Halt → Standing
-standing board drive serves faults halt = record { on = mount board drive serves; faults = faults; halt = halt }
+abbrev pub standing : BoardState → Sight → ℕ → Option Halt → Standing
+standing board drive faults halt = record { on = mount board drive; faults = faults; halt = halt }
 
 -- what a host sees of a board of this shape, behind so many faults of the port
 abbrev pub seen : Shape → BoardState → ℕ → PortState
@@ -61,14 +58,9 @@ pub record Runs (on : Mounted) : Type 0 where
   pub going : on.stopped ≡ false
   pub unworn : is_worn on.board ≡ false
 
--- whether the drive serves the request of this command
-abbrev pub Builds : Mounted → Command → Bool → Type 0
-Builds on c built = (r : Request) × (command_of r c.value ≡ c) × (on.serves r ≡ built)
-
 -- A command was served, from the map that the flash held to the one that it holds now. Wherever it is cut off, the flash holds one of both.
 pub record Serves (shape : Shape) (old new : Mounted) (c : Command) (x : Exchange) : Type 0 where
   pub runs : Runs old
-  pub built : Builds old c true
   pub is : x.command ≡ c
   pub map : Map
   pub held : Holds shape old.board.pages map
@@ -80,12 +72,11 @@ pub record Serves (shape : Shape) (old new : Mounted) (c : Command) (x : Exchang
   pub up : old.board.read_faults ≤ new.board.read_faults
   pub no_stop : new.board.stop_faults ≡ old.board.stop_faults
   pub rest : OnlyFlash old.board new.board
-  pub new_is : new ≡ record old { board = new.board; serves = new.serves }
+  pub new_is : new ≡ record old { board = new.board }
 
 -- A command stopped the drive. Wherever it is cut off, the flash holds the map before it or the one after it.
 pub record Stops (shape : Shape) (old new : Mounted) (c : Command) : Type 0 where
   pub runs : Runs old
-  pub built : Builds old c true
   pub map : Map
   pub held : Holds shape old.board.pages map
   pub went : Goes shape old.board new.board (StepCut shape map c)
@@ -95,14 +86,13 @@ pub record Stops (shape : Shape) (old new : Mounted) (c : Command) : Type 0 wher
   pub rest : OnlyFlash old.board new.board
 
 -- why nothing is done
-abbrev pub HasCause : Mounted → Command → Halt → Type 0
-HasCause on c Stopped = on.stopped ≡ true
-HasCause on c Worn = is_worn on.board ≡ true
-HasCause on c NotBuilt = Builds on c false
+abbrev pub HasCause : Mounted → Halt → Type 0
+HasCause on Stopped = on.stopped ≡ true
+HasCause on Worn = is_worn on.board ≡ true
 
 -- a command was not answered: it stopped the drive, or nothing was done
 abbrev pub Fails : Shape → Mounted → Mounted → Command → Halt → Type 0
-Fails shape old new c halt = ((halt ≡ Stopped) × Stops shape old new c) ⊎ (HasCause old c halt × (new ≡ old))
+Fails shape old new c halt = ((halt ≡ Stopped) × Stops shape old new c) ⊎ (HasCause old halt × (new ≡ old))
 
 -- what a drive makes of a command, with its data in front of a buffer
 abbrev pub Makes : Shape → Mounted → Mounted → Command → Result Outcome Halt → List ℕ → Type 0

@@ -7,6 +7,4 @@ pub enum Halt {
     Stopped,
     /// No more roots are installed; nothing was done.
     Worn,
-    /// The drive cannot serve the command; nothing was done.
-    NotBuilt,
 }

@@ -52,9 +52,9 @@ pub fn serve<D: Engine, B: Nand>(
 
     // The drive on its board, and what it made of the command.
     ensures fits { Fits (D.agrees drive.new) shape.now (B.state board.new) (D.sight drive.new) }
-    ensures makes { Makes shape.now (mount (B.state board.old) (D.sight drive.old)
-        (D.built drive.old)) (mount (B.state board.new) (D.sight drive.new) (D.built drive.new))
-        (command_of request.now value.now) result into.new }
+    ensures makes { Makes shape.now (mount (B.state board.old) (D.sight drive.old))
+        (mount (B.state board.new) (D.sight drive.new)) (command_of request.now value.now) result
+        into.new }
 
     // The reply to a host.
     ensures replies { IfOk result (λ o. (before behind : ℕ)
@@ -69,9 +69,6 @@ pub fn serve<D: Engine, B: Nand>(
     }
     if drive.is_worn() {
         return Err(Halt::Worn);
-    }
-    if !drive.is_built(request) {
-        return Err(Halt::NotBuilt);
     }
     match submit(drive, board, request, handed(shape, request, value), into) {
         Ok(outcome) => {
@@ -100,9 +97,9 @@ pub fn serve_lent<D: Engine, B: Nand>(
 
     // The drive on its board, and what it made of the command.
     ensures fits { Fits (D.agrees drive.new) shape.now (B.state board.new) (D.sight drive.new) }
-    ensures makes { Makes shape.now (mount (B.state board.old) (D.sight drive.old)
-        (D.built drive.old)) (mount (B.state board.new) (D.sight drive.new) (D.built drive.new))
-        (command_of request.now value.now) result into.new }
+    ensures makes { Makes shape.now (mount (B.state board.old) (D.sight drive.old))
+        (mount (B.state board.new) (D.sight drive.new)) (command_of request.now value.now) result
+        into.new }
 
     // The reply to a host.
     ensures replies { IfOk result (λ o. (before behind : ℕ)

@@ -52,14 +52,13 @@ impl<'d, 'b, 't, 'm, D: Engine, B: Nand> Port for DrivePort<'d, 'b, 't, 'm, D, B
         × (q.tally.ghost_name ≡ p.tally.ghost_name)
         × (q.buffer.ghost_name ≡ p.buffer.ghost_name)
         × (q.shape ≡ p.shape)
-        × Chain p.shape (standing (B.state p.board.now) (D.sight p.drive.now) (D.built p.drive.now)
-        p.tally.now.faults p.tally.now.halt) cs (standing (B.state q.board.now)
-        (D.sight q.drive.now) (D.built q.drive.now) q.tally.now.faults q.tally.now.halt) };
+        × Chain p.shape (standing (B.state p.board.now) (D.sight p.drive.now) p.tally.now.faults
+        p.tally.now.halt) cs (standing (B.state q.board.now) (D.sight q.drive.now)
+        q.tally.now.faults q.tally.now.halt) };
 
-    ghost took_state = { λ p cs q h. told_by p.shape q.shape
-        (standing (B.state p.board.now) (D.sight p.drive.now) (D.built p.drive.now)
-        p.tally.now.faults p.tally.now.halt) cs (standing (B.state q.board.now)
-        (D.sight q.drive.now) (D.built q.drive.now) q.tally.now.faults q.tally.now.halt) h.4 h.5 };
+    ghost took_state = { λ p cs q h. told_by p.shape q.shape (standing (B.state p.board.now)
+        (D.sight p.drive.now) p.tally.now.faults p.tally.now.halt) cs (standing
+        (B.state q.board.now) (D.sight q.drive.now) q.tally.now.faults q.tally.now.halt) h.4 h.5 };
 
     ghost took_none = { λ p. (refl, refl, refl, refl, refl, refl) };
 
@@ -70,10 +69,10 @@ impl<'d, 'b, 't, 'm, D: Engine, B: Nand> Port for DrivePort<'d, 'b, 't, 'm, D, B
       k.3 ∙ h.3,
       k.4 ∙ h.4,
       joined_by p.shape q.shape (standing (B.state p.board.now) (D.sight p.drive.now)
-          (D.built p.drive.now) p.tally.now.faults p.tally.now.halt) cs (standing
-          (B.state q.board.now) (D.sight q.drive.now) (D.built q.drive.now) q.tally.now.faults
-          q.tally.now.halt) ds (standing (B.state r.board.now) (D.sight r.drive.now)
-          (D.built r.drive.now) r.tally.now.faults r.tally.now.halt) h.4 h.5 k.5,
+          p.tally.now.faults p.tally.now.halt) cs (standing (B.state q.board.now)
+          (D.sight q.drive.now) q.tally.now.faults q.tally.now.halt) ds (standing
+          (B.state r.board.now) (D.sight r.drive.now) r.tally.now.faults r.tally.now.halt) h.4 h.5
+          k.5,
     ) };
 
     fn submit(

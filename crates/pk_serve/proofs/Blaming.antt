@@ -7,7 +7,7 @@ use Rattle.pk_nand.specs.Effects.{OnlyFlash}
 use Rattle.pk_serve.specs.Ends.{HasCause, NoFaults, IsFault, Blames}
 use Rattle.pk_serve.specs.Input.{Entered, Valued, NoValue, TookFailed, NoEntry}
 use Rattle.pk_serve.specs.declared.end.End.{End}
-use Rattle.pk_serve.specs.declared.end.End.TheVariants.{Done, Truncated, Input, Output, Flash, Worn, NotBuilt}
+use Rattle.pk_serve.specs.declared.end.End.TheVariants.{Done, Truncated, Input, Output, Flash, Worn}
 use Rattle.pk_serve.proofs.Giving.{rose_from}
 
 pub quiet-then : (a b c : BoardState) → NoFaults a b → NoFaults b c → NoFaults a c
@@ -20,7 +20,6 @@ cause-then a b c Input q h = h
 cause-then a b c Output q h = rose_from q.output h
 cause-then a b c Flash q h = rose_from q.stop h
 cause-then a b c Worn q h = h
-cause-then a b c NotBuilt q h = h
 
 pub quiet-flash : (a b : BoardState) → OnlyFlash a b → b.stop_faults ≡ a.stop_faults → NoFaults a b
 quiet-flash a b rest same = record { output = ap (λ (s : BoardState). s.out_faults) rest; stop = same }
@@ -37,7 +36,6 @@ blames-cause a b Input h = absurd h
 blames-cause a b Output h = h
 blames-cause a b Flash h = h
 blames-cause a b Worn h = absurd h
-blames-cause a b NotBuilt h = absurd h
 
 pub blames-then : (a b c : BoardState) (end : End) → b.in_faults ≡ a.in_faults → NoFaults a b → Blames b c end → Blames a c end
 blames-then a b c Done i q h = (h.0 ∙ i, quiet-then a b c q h.1)
@@ -46,7 +44,6 @@ blames-then a b c Input i q h = (rose_from i h.0, quiet-then a b c q h.1)
 blames-then a b c Output i q h = rose_from q.output h
 blames-then a b c Flash i q h = rose_from q.stop h
 blames-then a b c Worn i q h = (h.0 ∙ i, quiet-then a b c q h.1)
-blames-then a b c NotBuilt i q h = (h.0 ∙ i, quiet-then a b c q h.1)
 
 rose_to : (a b c : ℕ) → c ≡ b → Rose a b → Rose a c
 rose_to a b c e h = let T : ℕ → Type 0 = λ n. Rose a n in subst T (sym e) h
@@ -59,7 +56,6 @@ blames-still a b c Input h i q = (rose_to _ _ _ i h.0, quiet-then a b c h.1 q)
 blames-still a b c Output h i q = rose_to _ _ _ q.output h
 blames-still a b c Flash h i q = rose_to _ _ _ q.stop h
 blames-still a b c Worn h i q = (i ∙ h.0, quiet-then a b c h.1 q)
-blames-still a b c NotBuilt h i q = (i ∙ h.0, quiet-then a b c h.1 q)
 
 -- an end that is no fault of the output or the flash, and what failed behind it
 unfailed : (a b : BoardState) (end : End) → (IsFault end → ⊥) → Blames a b end → NoFaults a b
@@ -69,7 +65,6 @@ unfailed a b Input n h = h.1
 unfailed a b Output n h = absurd (n tt)
 unfailed a b Flash n h = absurd (n tt)
 unfailed a b Worn n h = h.1
-unfailed a b NotBuilt n h = h.1
 
 pub blames-behind : (a b c : BoardState) (end fault : End) → (IsFault end → ⊥) → Blames a b end → HasCause b c fault → Blames a c fault
 blames-behind a b c end fault n h cause = blames-cause a c fault (cause-then a b c fault (unfailed a b end n h) cause)
@@ -86,14 +81,13 @@ module _ (a b : BoardState) where
     record { output = ap (λ (s : BoardState). s.out_faults) is; stop = ap (λ (s : BoardState). s.stop_faults) is },
   )
 
-  pub blames-entry : (no_more : Bool) (refused : List ℕ → Type 0) (end : End) → NoEntry a b no_more refused end → Blames a b end
-  blames-entry no_more refused Done h = (h.same, quiet-rest h.left.rest)
-  blames-entry no_more refused Truncated h = (h.0.same, quiet-rest h.0.left.rest)
-  blames-entry no_more refused Input h = (h.0.rose, quiet-rest h.0.left.rest)
-  blames-entry no_more refused Output h = absurd h
-  blames-entry no_more refused Flash h = absurd h
-  blames-entry no_more refused Worn h = quiet-input h.0.rest
-  blames-entry no_more refused NotBuilt h = quiet-input h.0.rest
+  pub blames-entry : (no_more : Bool) (end : End) → NoEntry a b no_more end → Blames a b end
+  blames-entry no_more Done h = (h.same, quiet-rest h.left.rest)
+  blames-entry no_more Truncated h = (h.0.same, quiet-rest h.0.left.rest)
+  blames-entry no_more Input h = (h.0.rose, quiet-rest h.0.left.rest)
+  blames-entry no_more Output h = absurd h
+  blames-entry no_more Flash h = absurd h
+  blames-entry no_more Worn h = quiet-input h.0.rest
 
   -- a value that was taken, or not to its end
   pub quiet-value : {shape : Shape} {opcode size : ℕ} {handed : List ℕ} → Valued a b shape opcode size handed → (b.in_faults ≡ a.in_faults) × NoFaults a b

@@ -1,10 +1,8 @@
--- The end of a run, and what it says of the whole.
-use Rattle.std.proofs.Common.{◌≡◌, ◌≢◌, ◌⊎◌, inl, inr, ℕ, ◌≤◌, ◌+◌, List, [], ◌∷◌, ◌++◌, length, refl, sym, ◌∙◌, ap, subst, arith, append-nil, append_assoc, Option, Some, None, Ok, Bool, false}
+-- The end of a run, and what it of the whole.
+use Rattle.std.proofs.Common.{◌≡◌, ◌≢◌, ◌⊎◌, inl, inr, ℕ, ◌≤◌, ◌+◌, List, [], ◌∷◌, ◌++◌, length, refl, sym, ◌∙◌, ap, subst, arith, append-nil, append_assoc, Option, Some, None, Ok}
 use Rattle.pk_base.specs.Shape.{Shape}
-use Rattle.pk_base.specs.Page.{Flash as Pages}
 use Rattle.pk_base.specs.Entry.{Entry}
 use Rattle.pk_nvme.specs.Command.{Command}
-use Rattle.pk_nvme.specs.declared.request.Request.{Request}
 use Rattle.pk_nand.specs.BoardState.{BoardState}
 use Rattle.pk_base.specs.Mark.{all_posted}
 use Rattle.pk_nand.specs.Calls.{Rose, longer, put_back, AtEnd}
@@ -14,78 +12,41 @@ use Rattle.pk_model.specs.Script.{script}
 use Rattle.pk_model.specs.Run.{Exchange, commands}
 use Rattle.std.proofs.lemmas.List.{length-map}
 use Rattle.pk_model.specs.Sight.{Sight}
-use Rattle.pk_drive.specs.Drive.{HoldsMap}
 use Rattle.pk_model.specs.Growth.{Goes}
 use Rattle.pk_model.specs.Wear.{is_worn, roots}
 use Rattle.pk_model.proofs.Growing.{Goes-reaches, weaken_went}
 use Rattle.pk_serve.specs.Ends.{IsFault}
-use Rattle.pk_serve.specs.Serving.{Serving, Answered, KeptAt, installs, Flushed, Breaks, saying}
+use Rattle.pk_serve.specs.Serving.{Serving, Answered, KeptAt, installs, Flushed, Breaks}
 use Rattle.pk_model.specs.Kept.{rise}
 use Rattle.pk_serve.specs.Input.{Spells, IsPart, behind}
-use Rattle.pk_serve.specs.Told.{HasServed, HasRefused, Told, ToldBy}
 use Rattle.pk_serve.specs.Loop.{Finished, Failed, Finish, Ends}
 use Rattle.pk_serve.specs.Run.{Served, ServedBy, KeepsScript, KeepsSome, Answers, ServedSome, Causes}
 use Rattle.pk_nand.specs.Calls.{put_back, AtEnd}
 use Rattle.pk_serve.specs.declared.end.End.{End}
-use Rattle.pk_serve.specs.declared.end.End.TheVariants.{Done, Truncated, Input, Output, Flash, Worn, NotBuilt}
+use Rattle.pk_serve.specs.declared.end.End.TheVariants.{Done, Truncated, Input, Output, Flash, Worn}
 use Rattle.pk_drive.specs.Meter.{meter}
 use Rattle.pk_serve.proofs.Counting.{metered-roots, metered-unworn, few_unworn}
 use Rattle.pk_serve.proofs.Serves.{kept-more}
 use Rattle.pk_serve.proofs.Commanding.{answered-more}
 use Rattle.pk_serve.proofs.Scripts.{IsPart-entry}
 
--- ---- what is refused is told in other words
-
-module _ (shape : Shape) (frames : ℕ) (start : Map) (a b : BoardState) (d : Sight) (held : List ℕ) (served refused now_refused : Map → Request → Type 0) where
-  finished_says : (part : List ℕ) → Finished shape frames start a b d held part (saying served refused) → Finished shape frames start a b d held part (saying served now_refused)
-  finished_says part f = record {
-    all = f.all;
-    m = f.m;
-    bytes = f.bytes;
-    accepted = f.accepted;
-    few = f.few;
-    serving = f.serving;
-    input = f.input;
-    spells = f.spells;
-  }
-
-  pub Finish-says : (end : End) → IsFault end ⊎ ((m : Map) (r : Request) → HoldsMap shape frames b d m → refused m r → now_refused m r)
-      → Finish shape frames start a b d held (saying served refused) end → Finish shape frames start a b d held (saying served now_refused) end
-  unfolding finished_says
-  Finish-says Done turns f = record { finished = finished_says [] f.finished; at_end = f.at_end; same = f.same }
-  Finish-says Truncated turns f = record { part = f.part; some = f.some; is_part = f.is_part; finished = finished_says f.part f.finished; goes_on = f.goes_on; at_end = f.at_end; same = f.same }
-  Finish-says Input turns f = record { part = f.part; is_part = f.is_part; finished = finished_says f.part f.finished; goes_on = f.goes_on; rose = f.rose }
-  Finish-says Worn turns f = record { part = f.part; some = f.some; finished = finished_says f.part f.finished; cause = f.cause; same = f.same }
-  Finish-says NotBuilt (inl fault) f = absurd fault
-  Finish-says NotBuilt (inr turns) f = record {
-    entry = f.entry;
-    size = f.size;
-    finished = finished_says f.entry f.finished;
-    is = (f.is.0, f.is.1, turns f.finished.m f.is.0 f.finished.serving.stands f.is.2);
-    goes_on = f.goes_on;
-    same = f.same;
-  }
-  Finish-says Output turns f = f
-  Finish-says Flash turns f = f
-
 -- ---- what is held is posted at the end
 
-module _ (shape : Shape) (frames : ℕ) (start : Map) (a b c : BoardState) (d e : Sight) (held : List ℕ) (says : Map → Request → Bool → Type 0) (input : c.input ≡ b.input) (in_faults : c.in_faults ≡ b.in_faults) where
-  closed : (part : List ℕ) → Flushed b c d e held → Finished shape frames start a b d held part says → Finished shape frames start a c e [] part says
+module _ (shape : Shape) (frames : ℕ) (start : Map) (a b c : BoardState) (d e : Sight) (held : List ℕ) (input : c.input ≡ b.input) (in_faults : c.in_faults ≡ b.in_faults) where
+  closed : (part : List ℕ) → Flushed b c d e held → Finished shape frames start a b d held part → Finished shape frames start a c e [] part
   closed part flushed f =
       let T : List ℕ → Type 0 = λ t. Serving shape frames start a b d t f.all f.m in
       record {
         all = f.all;
         m = f.m;
         bytes = f.bytes;
-        accepted = f.accepted;
         few = f.few;
         serving = flushed shape frames start a [] f.all f.m (subst T (sym (append-nil held)) f.serving);
         input = f.input ∙ ap (put_back (f.bytes ++ part)) (sym input);
         spells = f.spells;
       }
 
-  pub Finish-closed : (end : End) → Flushed b c d e held → is_worn c ≡ is_worn b → (IsFault end → ⊥) → Finish shape frames start a b d held says end → Finish shape frames start a c e [] says end
+  pub Finish-closed : (end : End) → Flushed b c d e held → is_worn c ≡ is_worn b → (IsFault end → ⊥) → Finish shape frames start a b d held end → Finish shape frames start a c e [] end
   unfolding closed
   Finish-closed Done flushed worn sound f = record { finished = closed [] flushed f.finished; at_end = subst AtEnd (sym input) f.at_end; same = in_faults ∙ f.same }
   Finish-closed Truncated flushed worn sound f = record { part = f.part; some = f.some; is_part = f.is_part; finished = closed f.part flushed f.finished; goes_on = (f.goes_on.0, worn ∙ f.goes_on.1); at_end = subst AtEnd (sym input) f.at_end; same = in_faults ∙ f.same }
@@ -97,11 +58,10 @@ module _ (shape : Shape) (frames : ℕ) (start : Map) (a b c : BoardState) (d e 
     cause = elim f.cause [ inl full ↦ inl full | inr is ↦ inr (worn ∙ is) ];
     same = in_faults ∙ f.same;
   }
-  Finish-closed NotBuilt flushed worn sound f = record { entry = f.entry; size = f.size; finished = closed f.entry flushed f.finished; is = f.is; goes_on = (f.goes_on.0, worn ∙ f.goes_on.1); same = in_faults ∙ f.same }
   Finish-closed Output flushed worn sound f = absurd (sound tt)
   Finish-closed Flash flushed worn sound f = absurd (sound tt)
 
-  broken : (part : List ℕ) (fault : End) → Breaks b c d held fault → Finished shape frames start a b d held part says → Failed shape frames start a c fault
+  broken : (part : List ℕ) (fault : End) → Breaks b c d held fault → Finished shape frames start a b d held part → Failed shape frames start a c fault
   broken part fault breaks f =
       let T : List ℕ → Type 0 = λ t. Serving shape frames start a b d t f.all f.m in
       let r = breaks shape frames start a [] f.all f.m (subst T (sym (append-nil held)) f.serving) in
@@ -115,34 +75,21 @@ module _ (shape : Shape) (frames : ℕ) (start : Map) (a b c : BoardState) (d e 
         cause = r.1;
       }
 
-  as_finish : (now_says : Map → Request → Bool → Type 0) (fault : End) → Failed shape frames start a c fault → Finish shape frames start a c e [] now_says fault
-  as_finish now_says Done f = absurd f.cause
-  as_finish now_says Truncated f = absurd f.cause
-  as_finish now_says Input f = absurd f.cause
-  as_finish now_says Worn f = absurd f.cause
-  as_finish now_says NotBuilt f = absurd f.cause
-  as_finish now_says Output f = f
-  as_finish now_says Flash f = f
+  as_finish : (fault : End) → Failed shape frames start a c fault → Finish shape frames start a c e [] fault
+  as_finish Done f = absurd f.cause
+  as_finish Truncated f = absurd f.cause
+  as_finish Input f = absurd f.cause
+  as_finish Worn f = absurd f.cause
+  as_finish Output f = f
+  as_finish Flash f = f
 
-  pub Finish-broken : (now_says : Map → Request → Bool → Type 0) (end fault : End) → Breaks b c d held fault → (IsFault end → ⊥) → Finish shape frames start a b d held says end → Finish shape frames start a c e [] now_says fault
-  Finish-broken now_says Done fault breaks sound f = as_finish now_says fault (broken [] fault breaks f.finished)
-  Finish-broken now_says Truncated fault breaks sound f = as_finish now_says fault (broken f.part fault breaks f.finished)
-  Finish-broken now_says Input fault breaks sound f = as_finish now_says fault (broken f.part fault breaks f.finished)
-  Finish-broken now_says Worn fault breaks sound f = as_finish now_says fault (broken f.part fault breaks f.finished)
-  Finish-broken now_says NotBuilt fault breaks sound f = as_finish now_says fault (broken f.entry fault breaks f.finished)
-  Finish-broken now_says Output fault breaks sound f = absurd (sound tt)
-  Finish-broken now_says Flash fault breaks sound f = absurd (sound tt)
-
--- a fault leaves nothing to be closed
-pub Finish-fault : (shape : Shape) (frames : ℕ) (start : Map) (a b : BoardState) (d : Sight) (held now_held : List ℕ) (says : Map → Request → Bool → Type 0) (end : End) → IsFault end
-    → Finish shape frames start a b d held says end → Finish shape frames start a b d now_held says end
-Finish-fault shape frames start a b d held now_held says Output is f = f
-Finish-fault shape frames start a b d held now_held says Flash is f = f
-Finish-fault shape frames start a b d held now_held says Done is f = absurd is
-Finish-fault shape frames start a b d held now_held says Truncated is f = absurd is
-Finish-fault shape frames start a b d held now_held says Input is f = absurd is
-Finish-fault shape frames start a b d held now_held says Worn is f = absurd is
-Finish-fault shape frames start a b d held now_held says NotBuilt is f = absurd is
+  pub Finish-broken : (end fault : End) → Breaks b c d held fault → (IsFault end → ⊥) → Finish shape frames start a b d held end → Finish shape frames start a c e [] fault
+  Finish-broken Done fault breaks sound f = as_finish fault (broken [] fault breaks f.finished)
+  Finish-broken Truncated fault breaks sound f = as_finish fault (broken f.part fault breaks f.finished)
+  Finish-broken Input fault breaks sound f = as_finish fault (broken f.part fault breaks f.finished)
+  Finish-broken Worn fault breaks sound f = as_finish fault (broken f.part fault breaks f.finished)
+  Finish-broken Output fault breaks sound f = absurd (sound tt)
+  Finish-broken Flash fault breaks sound f = absurd (sound tt)
 
 pub no_fault : (end : End) → (end ≡ Output → ⊥) → (end ≡ Flash → ⊥) → IsFault end → ⊥
 no_fault Output p q f = p refl
@@ -151,7 +98,6 @@ no_fault Done p q f = f
 no_fault Truncated p q f = f
 no_fault Input p q f = f
 no_fault Worn p q f = f
-no_fault NotBuilt p q f = f
 
 -- ---- what is said of the whole
 
@@ -178,13 +124,13 @@ script_of cs part rest s e same is = e ∙ (ap (λ r. behind cs (script r)) same
 pub script_whole : (bytes : List ℕ) (cs : List Command) → Spells bytes cs → script bytes ≡ (cs, [])
 script_whole bytes cs spells = ap script (sym (append-nil bytes)) ∙ script_of cs [] [] (script (bytes ++ [])) (spells []) refl script_none
 
-module _ (shape : Shape) (frames : ℕ) (start : Map) (a b : BoardState) (d : Sight) (says : Map → Request → Bool → Type 0) where
+module _ (shape : Shape) (frames : ℕ) (start : Map) (a b : BoardState) (d : Sight) where
   -- as many exchanges as commands
-  pub size_of : (part : List ℕ) (f : Finished shape frames start a b d [] part says) → length (commands f.all) ≡ length f.all
+  pub size_of : (part : List ℕ) (f : Finished shape frames start a b d [] part) → length (commands f.all) ≡ length f.all
   size_of part f = length-map f.all (λ (x : Exchange). x.command)
 
   -- what was served
-  served_of : (part : List ℕ) (f : Finished shape frames start a b d [] part says) → d.pending ≡ [] → Served shape frames start a b says (commands f.all)
+  served_of : (part : List ℕ) (f : Finished shape frames start a b d [] part) → d.pending ≡ [] → Served shape frames start a b (commands f.all)
   served_of part f none =
       let w = f.serving in
       let M : List Entry → Type 0 = λ p. reading shape b.pages p ≡ Ok f.m in
@@ -193,7 +139,6 @@ module _ (shape : Shape) (frames : ℕ) (start : Map) (a b : BoardState) (d : Si
         are = refl;
         left = f.m;
         ran = w.ran;
-        accepted = f.accepted;
         posted = w.run.posted ∙ ap (longer a.posted) (sym (append-nil (all_posted w.marks)) ∙ w.records_are);
         holds = subst M none w.stands.map_is;
         few_faults = w.few_faults;
@@ -204,13 +149,12 @@ module _ (shape : Shape) (frames : ℕ) (start : Map) (a b : BoardState) (d : Si
         unworn = λ some. few_unworn a (metered-unworn f.all (meter a) (meter b) (λ none. some (ap commands none)) w.metered);
       }
 
-  served_as : (cs ds : List Command) → cs ≡ ds → Served shape frames start a b says cs → Served shape frames start a b says ds
+  served_as : (cs ds : List Command) → cs ≡ ds → Served shape frames start a b cs → Served shape frames start a b ds
   served_as cs ds e h = record {
     served = h.served;
     are = h.are ∙ e;
     left = h.left;
     ran = h.ran;
-    accepted = h.accepted;
     posted = h.posted;
     holds = h.holds;
     few_faults = h.few_faults;
@@ -237,7 +181,7 @@ module _ (shape : Shape) (frames : ℕ) (start : Map) (a b : BoardState) (d : Si
         let T : List Command → Type 0 = λ l. Answered shape frames start a b l in
         subst T (sym s) (answered-more shape frames start a b cs (script (part ++ i.0)).0 answered)
 
-    pub served_by : (end : End) → IsFault end ⊎ (d.pending ≡ []) → Finish shape frames start a b d [] says end → ServedBy shape frames start a b input says end
+    pub served_by : (end : End) → IsFault end ⊎ (d.pending ≡ []) → Finish shape frames start a b d [] end → ServedBy shape frames start a b input end
     unfolding served_of served_as
     served_by Done (inl f) x = absurd f
     served_by Done (inr none) x =
@@ -279,22 +223,6 @@ module _ (shape : Shape) (frames : ℕ) (start : Map) (a b : BoardState) (d : Si
           elim x.cause [ inl full ↦ inl (ap (λ s. length s.0) e ∙ (size_of x.part f ∙ full)) | inr worn ↦ inr worn ],
           x.same,
         )
-    served_by NotBuilt (inl f) x = absurd f
-    served_by NotBuilt (inr none) x =
-        let f = x.finished in
-        let i = input_of (f.bytes ++ x.entry) f.input in
-        let e : script f.bytes ≡ (commands f.all, []) = script_whole f.bytes (commands f.all) f.spells in (
-          f.bytes,
-          x.entry,
-          i.0,
-          i.2,
-          x.size,
-          e ∙ (λ k. ((sym e k).0, [])),
-          served_as (commands f.all) (script f.bytes).0 (sym (ap (λ s. s.0) e)) (served_of x.entry f none),
-          x.is,
-          (omega (arith, x.goes_on.0, ap (λ s. length s.0) e, size_of x.entry f), x.goes_on.1),
-          x.same,
-        )
     served_by Output p x = (x.cause, answered_script x.cs x.bytes x.part x.spells x.input x.cutoff.answered)
     served_by Flash p x = (x.cause, answered_script x.cs x.bytes x.part x.spells x.input x.cutoff.answered)
 
@@ -321,7 +249,7 @@ module _ (shape : Shape) (frames : ℕ) (start : Map) (a b : BoardState) (d : Si
     pub input : a.input ≡ put_back (bytes ++ part) b.input
     pub went : Goes shape a b (KeptAt shape frames start cs (rise a.read_faults b.read_faults))
 
-  trail_finished : (part : List ℕ) → Finished shape frames start a b d [] part says → Trail
+  trail_finished : (part : List ℕ) → Finished shape frames start a b d [] part → Trail
   trail_finished part f = record {
     cs = commands f.all;
     bytes = f.bytes;
@@ -334,61 +262,49 @@ module _ (shape : Shape) (frames : ℕ) (start : Map) (a b : BoardState) (d : Si
   trail_failed : (end : End) → Failed shape frames start a b end → Trail
   trail_failed end f = record { cs = f.cs; bytes = f.bytes; part = f.part; spells = f.spells; input = f.input; went = f.cutoff.went }
 
-  pub trail_of : (end : End) → Finish shape frames start a b d [] says end → Trail
+  pub trail_of : (end : End) → Finish shape frames start a b d [] end → Trail
   trail_of Done x = trail_finished [] x.finished
   trail_of Truncated x = trail_finished x.part x.finished
   trail_of Input x = trail_finished x.part x.finished
   trail_of Worn x = trail_finished x.part x.finished
-  trail_of NotBuilt x = trail_finished x.entry x.finished
   trail_of Output x = trail_failed Output x
   trail_of Flash x = trail_failed Flash x
 
-module _ (a b : BoardState) (before after : Sight) (says : Shape → ℕ → Map → Request → Bool → Type 0) (end : End) (h : Ends a b before after [] says end) where
+module _ (a b : BoardState) (before after : Sight) (end : End) (h : Ends a b before after [] end) where
   pub keeps_script : KeepsScript a b before
   keeps_script shape frames start stands none input is =
-      let g = trail_of shape frames start a b after (says shape frames) end (h shape frames start stands none) in
-      went_script shape frames start a b after (says shape frames) input is g.cs g.bytes g.part g.spells g.input g.went
+      let g = trail_of shape frames start a b after end (h shape frames start stands none) in
+      went_script shape frames start a b after input is g.cs g.bytes g.part g.spells g.input g.went
 
   pub keeps_some : KeepsSome a b before
   keeps_some shape frames start stands none =
-      let g = trail_of shape frames start a b after (says shape frames) end (h shape frames start stands none) in (g.cs, g.went)
+      let g = trail_of shape frames start a b after end (h shape frames start stands none) in (g.cs, g.went)
 
-  pub answers_all : IsFault end ⊎ (after.pending ≡ []) → Answers a b before says end
-  answers_all closed shape frames start stands none input is = served_by shape frames start a b after (says shape frames) input is end closed (h shape frames start stands none)
+  pub answers_all : IsFault end ⊎ (after.pending ≡ []) → Answers a b before end
+  answers_all closed shape frames start stands none input is = served_by shape frames start a b after input is end closed (h shape frames start stands none)
 
 -- where it is no fault, nothing is pending
 pub none_left : (end : End) (None_pending Agrees : Type 0) → IsFault end ⊎ (None_pending × Agrees) → IsFault end ⊎ None_pending
 none_left end None_pending Agrees (inl fault) = inl fault
 none_left end None_pending Agrees (inr ok) = inr ok.0
 
--- the drive that refuses agrees with the board that was left, with nothing pending
-pub ends_told : (Drive : Type 0) (sight : Drive → Sight) (agrees : Drive → Option Shape → Pages → Type 0) (built : Drive → Request → Bool) (a b : BoardState) (before : Sight) (drive : Drive) (end : End)
-    → Ends a b before (sight drive) [] (ToldBy Drive sight agrees built drive) end → IsFault end ⊎ (((sight drive).pending ≡ []) × agrees drive b.shape b.pages)
-    → Ends a b before (sight drive) [] (Told Drive sight agrees built b) end
-ends_told Drive sight agrees built a b before drive end h closed shape frames start stands none =
-    Finish-says shape frames start a b (sight drive) [] (HasServed Drive sight agrees built shape frames) (λ m r. built drive r ≡ false) (HasRefused Drive sight agrees built b shape frames) end
-    (elim closed [ inl fault ↦ inl fault | inr ok ↦ inr (λ m r at unbuilt. (drive, (ok.1, at), ok.0, unbuilt)) ]) (h shape frames start stands none)
-
 -- what was served, whether the input is told or not
-served_some : (shape : Shape) (frames : ℕ) (start : Map) (a b : BoardState) (d : Sight) (says : Map → Request → Bool → Type 0) (end : End) → IsFault end ⊎ (d.pending ≡ []) → Finish shape frames start a b d [] says end
-    → ServedSome shape frames start a b says end
+served_some : (shape : Shape) (frames : ℕ) (start : Map) (a b : BoardState) (d : Sight) (end : End) → IsFault end ⊎ (d.pending ≡ []) → Finish shape frames start a b d [] end
+    → ServedSome shape frames start a b end
 unfolding served_of
-served_some shape frames start a b d says Done (inr none) x = (commands x.finished.all, served_of shape frames start a b d says [] x.finished none, x.same)
-served_some shape frames start a b d says Truncated (inr none) x =
-    (commands x.finished.all, (omega (arith, x.goes_on.0, size_of shape frames start a b d says x.part x.finished), x.goes_on.1), served_of shape frames start a b d says x.part x.finished none, x.same)
-served_some shape frames start a b d says Input (inr none) x = (commands x.finished.all, served_of shape frames start a b d says x.part x.finished none, x.rose)
-served_some shape frames start a b d says Worn (inr none) x =
-    let n = size_of shape frames start a b d says x.part x.finished in
-    (commands x.finished.all, served_of shape frames start a b d says x.part x.finished none, elim x.cause [ inl full ↦ inl (n ∙ full) | inr worn ↦ inr worn ], x.same)
-served_some shape frames start a b d says NotBuilt (inr none) x =
-    (commands x.finished.all, x.entry, x.size, served_of shape frames start a b d says x.entry x.finished none, x.is, (omega (arith, x.goes_on.0, size_of shape frames start a b d says x.entry x.finished), x.goes_on.1), x.same)
-served_some shape frames start a b d says Done (inl f) x = absurd f
-served_some shape frames start a b d says Truncated (inl f) x = absurd f
-served_some shape frames start a b d says Input (inl f) x = absurd f
-served_some shape frames start a b d says Worn (inl f) x = absurd f
-served_some shape frames start a b d says NotBuilt (inl f) x = absurd f
-served_some shape frames start a b d says Output closed x = (x.cs, x.cutoff.answered, x.cause)
-served_some shape frames start a b d says Flash closed x = (x.cs, x.cutoff.answered, x.cause)
+served_some shape frames start a b d Done (inr none) x = (commands x.finished.all, served_of shape frames start a b d [] x.finished none, x.same)
+served_some shape frames start a b d Truncated (inr none) x =
+    (commands x.finished.all, (omega (arith, x.goes_on.0, size_of shape frames start a b d x.part x.finished), x.goes_on.1), served_of shape frames start a b d x.part x.finished none, x.same)
+served_some shape frames start a b d Input (inr none) x = (commands x.finished.all, served_of shape frames start a b d x.part x.finished none, x.rose)
+served_some shape frames start a b d Worn (inr none) x =
+    let n = size_of shape frames start a b d x.part x.finished in
+    (commands x.finished.all, served_of shape frames start a b d x.part x.finished none, elim x.cause [ inl full ↦ inl (n ∙ full) | inr worn ↦ inr worn ], x.same)
+served_some shape frames start a b d Done (inl f) x = absurd f
+served_some shape frames start a b d Truncated (inl f) x = absurd f
+served_some shape frames start a b d Input (inl f) x = absurd f
+served_some shape frames start a b d Worn (inl f) x = absurd f
+served_some shape frames start a b d Output closed x = (x.cs, x.cutoff.answered, x.cause)
+served_some shape frames start a b d Flash closed x = (x.cs, x.cutoff.answered, x.cause)
 
-pub causes_all : (a b : BoardState) (before after : Sight) (says : Shape → ℕ → Map → Request → Bool → Type 0) (end : End) → Ends a b before after [] says end → IsFault end ⊎ (after.pending ≡ []) → Causes a b before says end
-causes_all a b before after says end h closed shape frames start stands none = served_some shape frames start a b after (says shape frames) end closed (h shape frames start stands none)
+pub causes_all : (a b : BoardState) (before after : Sight) (end : End) → Ends a b before after [] end → IsFault end ⊎ (after.pending ≡ []) → Causes a b before end
+causes_all a b before after end h closed shape frames start stands none = served_some shape frames start a b after end closed (h shape frames start stands none)

@@ -1,13 +1,11 @@
 -- Where nothing fails, the whole script is served.
-use Rattle.std.proofs.Common.{◌≡◌, ◌≢◌, ◌⊎◌, inl, inr, ℕ, zero, suc, ◌+◌, ◌-◌, ◌*◌, ◌≤◌, ◌<◌, List, [], ◌∷◌, ◌++◌, length, refl, sym, ◌∙◌, ap, subst, arith, length-append, Option, Some, None, Bool, true, false, ◌==◌, if◌then◌else◌, nat_le, Ok}
+use Rattle.std.proofs.Common.{◌≡◌, ◌≢◌, ◌⊎◌, inl, inr, ℕ, zero, suc, ◌+◌, ◌-◌, ◌*◌, ◌≤◌, ◌<◌, List, [], ◌∷◌, ◌++◌, length, refl, sym, ◌∙◌, ap, subst, arith, length-append, Some, None, Bool, true, false, ◌==◌, if◌then◌else◌, nat_le, Ok}
 use Rattle.std.proofs.lemmas.Bool.Decides.{nat_tests}
 use Rattle.std.specs.List.{FoldsTo}
 use Rattle.pk_base.specs.Shape.{Shape, limit}
-use Rattle.pk_base.specs.Page.{Flash as Pages}
 use Rattle.pk_base.specs.Map.{Map}
 use Rattle.pk_nvme.specs.Command.{Command}
 use Rattle.pk_nvme.specs.Reply.{Reply}
-use Rattle.pk_nvme.specs.declared.request.Request.{Request}
 use Rattle.pk_nand.specs.BoardState.{BoardState}
 use Rattle.pk_nand.specs.Calls.{Rose, last_count}
 use Rattle.pk_nvme.specs.Opcode.{op_of}
@@ -23,10 +21,9 @@ use Rattle.pk_drive.specs.Exec.{most_installs}
 use Rattle.pk_model.specs.Wear.{is_worn, roots}
 use Rattle.pk_serve.specs.Serving.{installs}
 use Rattle.pk_serve.specs.Run.{Served}
-use Rattle.pk_serve.specs.Told.{ToldBy}
 use Rattle.pk_serve.specs.Complete.{ticks, Complete, IsServable, Completes}
 use Rattle.pk_serve.specs.declared.end.End.{End}
-use Rattle.pk_serve.specs.declared.end.End.TheVariants.{Done, Truncated, Input, Output, Flash, Worn, NotBuilt}
+use Rattle.pk_serve.specs.declared.end.End.TheVariants.{Done, Truncated, Input, Output, Flash, Worn}
 use Rattle.pk_drive.specs.Meter.{meter}
 use Rattle.pk_serve.proofs.Counting.{faults-one, metered-roots}
 use Rattle.pk_serve.specs.Ends.{IsFault}
@@ -108,8 +105,8 @@ nothing_in bytes none = nothing_taken (length bytes) bytes none
 
 -- ---- the end
 
-module _ (shape : Shape) (frames : ℕ) (start : Map) (a b : BoardState) (d : Sight) (says : Map → Request → Bool → Type 0) (input : List ℕ) (is : a.input ≡ Some input) (ok : IsServable a b (script input).0 (script input).1) where
-  complete_of : Served shape frames start a b says (script input).0 → Complete shape frames start a b (script input).0
+module _ (shape : Shape) (frames : ℕ) (start : Map) (a b : BoardState) (d : Sight) (input : List ℕ) (is : a.input ≡ Some input) (ok : IsServable a b (script input).0 (script input).1) where
+  complete_of : Served shape frames start a b (script input).0 → Complete shape frames start a b (script input).0
   complete_of s =
       let none : faults s.served ≡ 0 = none_counted a.read_faults b.read_faults (faults s.served) ok.none_rose.reads s.few_faults in
       let r = answered shape frames s.served start s.left none s.ran in
@@ -129,30 +126,23 @@ module _ (shape : Shape) (frames : ℕ) (start : Map) (a b : BoardState) (d : Si
       by [] none whole n = absurd (some (front_none part left (sym (nothing_in (part ++ left) none) ∙ whole)))
       by (c ∷ more) is_more whole n = omega (arith, n, ap (λ l. length l) is_more)
 
-  pub completed : ((m : Map) (r : Request) → says m r false → ⊥) → (end : End) → IsFault end ⊎ (d.pending ≡ []) → Finish shape frames start a b d [] says end → (end ≡ Done) × Complete shape frames start a b (script input).0
-  completed all_built Done closed x = let s = served_by shape frames start a b d says input is Done closed x in (refl, complete_of s.1)
-  completed all_built Truncated closed x = let s = served_by shape frames start a b d says input is Truncated closed x in absurd (s.0 ok.whole)
-  completed all_built Input closed x = absurd (ok.none_rose.input x.rose)
-  completed all_built Output closed x = absurd (ok.none_rose.output x.cause)
-  completed all_built Flash closed x = absurd (ok.none_rose.stops x.cause)
-  completed all_built NotBuilt closed x = absurd (all_built x.finished.m x.is.0 x.is.2)
-  completed all_built Worn closed x =
+  pub completed : (end : End) → IsFault end ⊎ (d.pending ≡ []) → Finish shape frames start a b d [] end → (end ≡ Done) × Complete shape frames start a b (script input).0
+  completed Done closed x = let s = served_by shape frames start a b d input is Done closed x in (refl, complete_of s.1)
+  completed Truncated closed x = let s = served_by shape frames start a b d input is Truncated closed x in absurd (s.0 ok.whole)
+  completed Input closed x = absurd (ok.none_rose.input x.rose)
+  completed Output closed x = absurd (ok.none_rose.output x.cause)
+  completed Flash closed x = absurd (ok.none_rose.stops x.cause)
+  completed Worn closed x =
       let f = x.finished in
       let i = told b.input (f.bytes ++ x.part) input (sym is ∙ f.input) in
       let e : script input ≡ behind (commands f.all) (script (x.part ++ i.0)) = script_is f.bytes x.part i.0 input (commands f.all) f.spells i.2 in
       let more = one_more f.bytes x.part i.0 (commands f.all) x.some e in
-      let n : length (commands f.all) ≡ length f.all = size_of shape frames start a b d says x.part f in
+      let n : length (commands f.all) ≡ length f.all = size_of shape frames start a b d x.part f in
       let t : ticks (script input).0 ≡ ticks (commands f.all) + ticks (script (x.part ++ i.0)).0 = ap (λ s. ticks s.0) e ∙ ticks-append (commands f.all) (script (x.part ++ i.0)).0 in
       absurd (elim x.cause [
         | inl full ↦ omega (arith, full, n, more, ok.few)
         | inr worn ↦ unworn a b (commands f.all) (metered-roots f.all (meter a) (meter b) f.serving.metered) ok.far_from_worn (omega (arith, t, ok.few_ticks)) (omega (arith, more, ok.few)) worn
       ])
 
--- a drive that serves every request refuses none
-none_refused : (Drive : Type 0) (built : Drive → Request → Bool) → ((drive : Drive) (r : Request) → built drive r ≡ true) → (drive : Drive) (m : Map) (r : Request) → built drive r ≡ false → ⊥
-none_refused Drive built all_built drive m r h = let z : true ≡ false = sym (all_built drive r) ∙ h in cc
-
-pub completes : (Drive : Type 0) (sight : Drive → Sight) (agrees : Drive → Option Shape → Pages → Type 0) (built : Drive → Request → Bool) (a b : BoardState) (before : Sight) (drive : Drive) (end : End)
-    → Ends a b before (sight drive) [] (ToldBy Drive sight agrees built drive) end → IsFault end ⊎ ((sight drive).pending ≡ []) → Completes Drive built a b before end
-completes Drive sight agrees built a b before drive end h closed shape frames start stands none all_built input is ok =
-    completed shape frames start a b (sight drive) (ToldBy Drive sight agrees built drive shape frames) input is ok (none_refused Drive built all_built drive) end closed (h shape frames start stands none)
+pub completes : (a b : BoardState) (before after : Sight) (end : End) → Ends a b before after [] end → IsFault end ⊎ (after.pending ≡ []) → Completes a b before end
+completes a b before after end h closed shape frames start stands none input is ok = completed shape frames start a b after input is ok end closed (h shape frames start stands none)

@@ -1,6 +1,5 @@
 -- What was taken of a script, whatever the drive stands for.
 use Rattle.std.proofs.Common.{◌≡◌, ◌⊎◌, inl, inr, ℕ, ◌+◌, List, [], ◌∷◌, ◌++◌, length, refl, sym, ◌∙◌, ap, subst, arith, append-nil, append_assoc, length-append, true, Bool}
-use Rattle.pk_nvme.specs.Command.{Command}
 use Rattle.pk_nand.specs.BoardState.{BoardState}
 use Rattle.pk_model.specs.Script.{script}
 use Rattle.pk_model.specs.Sight.{Sight}
@@ -11,7 +10,7 @@ use Rattle.pk_nand.specs.Calls.{put_back, AtEnd}
 use Rattle.pk_serve.specs.Loop.{most_entries}
 use Rattle.pk_serve.specs.Script.{Consumed, Consumes, SaysOfScript}
 use Rattle.pk_serve.specs.declared.end.End.{End}
-use Rattle.pk_serve.specs.declared.end.End.TheVariants.{Done, Truncated, Input, Output, Flash, Worn, NotBuilt}
+use Rattle.pk_serve.specs.declared.end.End.TheVariants.{Done, Truncated, Input, Output, Flash, Worn}
 use Rattle.pk_serve.proofs.Scripts.{taken-append, put_back-nil, Spells-none, Spells-append}
 use Rattle.pk_serve.proofs.Closing.{told, script_is, script_of, script_none, script_whole, front_none}
 
@@ -25,14 +24,13 @@ consumes_failed a b Input f = absurd f
 consumes_failed a b Output f = tt
 consumes_failed a b Flash f = tt
 consumes_failed a b Worn f = absurd f
-consumes_failed a b NotBuilt f = absurd f
 
 module _ (a b c : BoardState) (taken : ℕ) (w : Consumed a b taken []) where
   plain : a.input ≡ put_back w.bytes b.input
   plain = w.input ∙ ap (λ t. put_back t b.input) (append-nil w.bytes)
 
-  pub consumed-next : (d e : Sight) (held now_held : List ℕ) (accepts : Command → Type 0) → Advances b c d e held now_held taken accepts → Consumed a c (taken + 1) []
-  consumed-next d e held now_held accepts n = record {
+  pub consumed-next : (d e : Sight) (held now_held : List ℕ) → Advances b c d e held now_held taken → Consumed a c (taken + 1) []
+  consumed-next d e held now_held n = record {
     cs = w.cs ++ n.c ∷ [];
     bytes = w.bytes ++ n.bytes;
     count = omega (arith, w.count, length-append w.cs (n.c ∷ []));
@@ -43,19 +41,18 @@ module _ (a b c : BoardState) (taken : ℕ) (w : Consumed a b taken []) where
   consumed-part : (part : List ℕ) → b.input ≡ put_back part c.input → Consumed a c taken part
   consumed-part part more = record { cs = w.cs; bytes = w.bytes; count = w.count; input = taken-append a.input b.input c.input w.bytes part plain more; spells = w.spells }
 
-  pub consumes-entry : (no_more : Bool) → (no_more ≡ true → (taken ≡ most_entries) ⊎ (is_worn b ≡ true)) → (refused : List ℕ → Type 0) (end : End) → NoEntry b c no_more refused end → Consumes a c end
-  consumes-entry no_more why refused Done n = (taken, consumed-part [] n.left.input, n.at_end)
-  consumes-entry no_more why refused Truncated k = let n = k.0 in (taken, n.part, n.some, n.left.is_part, consumed-part n.part n.left.input, n.at_end)
-  consumes-entry no_more why refused Input n = tt
-  consumes-entry no_more why refused Output n = tt
-  consumes-entry no_more why refused Flash n = tt
-  consumes-entry no_more why refused Worn k =
+  pub consumes-entry : (no_more : Bool) → (no_more ≡ true → (taken ≡ most_entries) ⊎ (is_worn b ≡ true)) → (end : End) → NoEntry b c no_more end → Consumes a c end
+  consumes-entry no_more why Done n = (taken, consumed-part [] n.left.input, n.at_end)
+  consumes-entry no_more why Truncated k = let n = k.0 in (taken, n.part, n.some, n.left.is_part, consumed-part n.part n.left.input, n.at_end)
+  consumes-entry no_more why Input n = tt
+  consumes-entry no_more why Output n = tt
+  consumes-entry no_more why Flash n = tt
+  consumes-entry no_more why Worn k =
       let n = k.0 in (taken, n.part, n.some, consumed-part n.part n.input, elim (why k.1) [ inl full ↦ inl full | inr worn ↦ inr (ap is_worn n.rest ∙ worn) ])
-  consumes-entry no_more why refused NotBuilt k = let n = k.0 in (taken, n.entry, n.size, consumed-part n.entry n.input)
 
-  pub consumes-quits : (d : Sight) (held : List ℕ) (refused : List ℕ → Type 0) (end : End) → Quits b c d held taken refused end → Consumes a c end
-  consumes-quits d held refused end (inl n) = consumes-entry (is_worn b) (λ worn. inr worn) refused end n
-  consumes-quits d held refused end (inr f) = consumes_failed a c end f.fault
+  pub consumes-quits : (d : Sight) (held : List ℕ) (end : End) → Quits b c d held taken end → Consumes a c end
+  consumes-quits d held end (inl n) = consumes-entry (is_worn b) (λ worn. inr worn) end n
+  consumes-quits d held end (inr f) = consumes_failed a c end f.fault
 
 -- the input and the roots are left
 module _ (a b c : BoardState) (same : c.input ≡ b.input) (worn : is_worn c ≡ is_worn b) where
@@ -69,7 +66,6 @@ module _ (a b c : BoardState) (same : c.input ≡ b.input) (worn : is_worn c ≡
   consumes-still Output h = tt
   consumes-still Flash h = tt
   consumes-still Worn (taken, part, some, w, cause) = (taken, part, some, consumed-still taken part w, elim cause [ inl full ↦ inl full | inr is ↦ inr (worn ∙ is) ])
-  consumes-still NotBuilt (taken, entry, size, w) = (taken, entry, size, consumed-still taken entry w)
 
 -- ---- an input that is told
 
@@ -96,7 +92,3 @@ says_of_script a b Worn (taken, part, some, w, cause) input is =
       ap (λ s. s.1) e,
       elim cause [ inl full ↦ inl (ap (λ s. length s.0) e ∙ (sym w.count ∙ full)) | inr worn ↦ inr worn ],
     )
-says_of_script a b NotBuilt (taken, entry, size, w) input is =
-    let i = told b.input (w.bytes ++ entry) input (sym is ∙ w.input) in
-    let e : script w.bytes ≡ (w.cs, []) = script_whole w.bytes w.cs w.spells in
-    (w.bytes, entry, i.0, i.2, size, ap (λ s. s.1) e)

@@ -1,5 +1,5 @@
 -- A command is taken, entry and value.
-use Rattle.std.proofs.Common.{◌≡◌, ◌≢◌, ℕ, List, [], ◌++◌, length, sym, ◌∙◌, ap, subst, arith, length-append, ◌==◌, if◌then◌else◌, Bool, false, Option, Some, nat_le, inl}
+use Rattle.std.proofs.Common.{◌≡◌, ◌≢◌, ℕ, List, [], ◌++◌, length, sym, ◌∙◌, ap, subst, arith, length-append, ◌==◌, if◌then◌else◌, Bool, Option, Some, nat_le, inl}
 use Rattle.pk_base.specs.Shape.{Shape}
 use Rattle.pk_nvme.specs.Command.{Command, command}
 use Rattle.pk_nvme.specs.Seen.{command_of as command_seen}
@@ -16,10 +16,9 @@ use Rattle.pk_drive.specs.Exec.{IsValue}
 use Rattle.pk_serve.specs.Serving.{Serving, Serves, Stops}
 use Rattle.pk_serve.specs.declared.end.End.{End}
 use Rattle.pk_serve.specs.Ends.{IsFault}
-use Rattle.pk_serve.specs.Input.{TookFailed, Entered, Valued, NoValue, Advances, Fails, BreaksOff, FailsAt, Rejects, NoEntry, NoneRefused, Quits}
+use Rattle.pk_serve.specs.Input.{TookFailed, Entered, Valued, NoValue, Advances, Fails, BreaksOff, FailsAt, NoEntry, Quits}
 use Rattle.pk_nand.specs.Calls.{put_back}
 use Rattle.pk_serve.proofs.Serves.{Serving-inputs}
-use Rattle.pk_serve.proofs.Looping.{NoneRefused-any}
 use Rattle.pk_serve.proofs.Scripts.{taken-append, Spells-one, IsPart-value}
 use Rattle.pk_serve.proofs.Entering.{input_too, failed_too, both_too}
 
@@ -47,14 +46,12 @@ module _ (a m n : BoardState) (entry : List ℕ) (entered : Entered a m entry) (
     taken_all : a.input ≡ put_back (entry ++ valued.value) b.input
     taken_all = taken-append a.input m.input n.input entry valued.value entered.input valued.input ∙ ap (put_back (entry ++ valued.value)) (sym same)
 
-    pub Advances-one : (after : Sight) (now_held : List ℕ) (accepts : Command → Type 0) → accepts (command_seen r valued.value)
-        → ((v : List ℕ) → IsValue shape r.opcode r.size handed v → Serves n b before after held now_held taken (command_seen r v)) → Advances a b before after held now_held taken accepts
-    Advances-one after now_held accepts is serves = record {
+    pub Advances-one : (after : Sight) (now_held : List ℕ) → ((v : List ℕ) → IsValue shape r.opcode r.size handed v → Serves n b before after held now_held taken (command_seen r v)) → Advances a b before after held now_held taken
+    Advances-one after now_held serves = record {
       bytes = entry ++ valued.value;
       c = command_seen r valued.value;
       input = taken_all;
       spells = Spells-one entry valued.value (command_seen r valued.value) size (valued.whole ∙ sym (value_size entry r parsed)) (parsed valued.value);
-      accepted = is;
       serves = serves_too a n b before (input_too a m n entered.rest valued.rest) after held now_held taken (command_seen r valued.value) (serves valued.value valued.is_value);
     }
 
@@ -95,9 +92,6 @@ module _ (a m n : BoardState) (entry : List ℕ) (entered : Entered a m entry) (
     rose = (let T : ℕ → Type 0 = λ k. Rose k n.in_faults in subst T (ap (λ s. s.in_faults) entered.rest) h.rose);
   }
 
-  pub Rejects-entry : (refused : List ℕ → Type 0) → refused entry → Rejects a m refused
-  Rejects-entry refused is = record { entry = entry; size = size; input = entered.input; rest = entered.rest; is = is }
-
 -- a drive that tells of its flash whether it is worn
 pub worn_is : (agrees : Option Shape → Flash → Type 0) (board : BoardState) (shape : Shape) (worn : Bool) → board.shape ≡ Some shape → agrees board.shape board.pages
     → ((s : Shape) (f : Flash) → agrees (Some s) f → worn ≡ nat_le 9223372036854775808 (root_number s f)) → worn ≡ is_worn board
@@ -106,7 +100,7 @@ worn_is agrees board shape worn has ok told =
     told shape board.pages (subst T has ok) ∙ ap (λ s. nat_le 9223372036854775808 (root_number (shape_or_none s) board.pages)) (sym has)
 
 -- no entry was taken
-pub Quits-entry : (a b : BoardState) (drive : Sight) (held : List ℕ) (taken : ℕ) (refused : List ℕ → Type 0) (end : End) (worn : Bool) → worn ≡ is_worn a → NoEntry a b worn NoneRefused end → Quits a b drive held taken refused end
-Quits-entry a b drive held taken refused end worn is n =
-    let T : Bool → Type 0 = λ r. NoEntry a b r NoneRefused end in
-    inl (NoneRefused-any a b (is_worn a) refused end (subst T is n))
+pub Quits-entry : (a b : BoardState) (drive : Sight) (held : List ℕ) (taken : ℕ) (end : End) (worn : Bool) → worn ≡ is_worn a → NoEntry a b worn end → Quits a b drive held taken end
+Quits-entry a b drive held taken end worn is n =
+    let T : Bool → Type 0 = λ r. NoEntry a b r end in
+    inl (subst T is n)

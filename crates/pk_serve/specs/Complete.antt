@@ -1,11 +1,10 @@
 -- When every command of a script is served.
-use Rattle.std.specs.Prelude.{◌≡◌, ◌<◌, ◌+◌, ℕ, List, [], ◌∷◌, length, Some, Bool, true, ◌==◌, if◌then◌else◌}
+use Rattle.std.specs.Prelude.{◌≡◌, ◌<◌, ◌+◌, ℕ, List, [], ◌∷◌, length, Some, ◌==◌, if◌then◌else◌}
 use Rattle.std.specs.List.{FoldsTo}
 use Rattle.pk_nvme.specs.declared.opcode.TheConstants.{TICK}
 use Rattle.pk_base.specs.Shape.{Shape, limit}
 use Rattle.pk_base.specs.Map.{Map}
 use Rattle.pk_nvme.specs.Command.{Command}
-use Rattle.pk_nvme.specs.declared.request.Request.{Request}
 use Rattle.pk_nand.specs.BoardState.{BoardState}
 use Rattle.pk_nand.specs.Calls.{Rose, longer}
 use Rattle.pk_model.specs.Answer.{Answer}
@@ -38,7 +37,7 @@ pub record Complete (shape : Shape) (frames : ℕ) (start : Map) (a b : BoardSta
   pub posted : b.posted ≡ longer a.posted (records 0 served)
   pub holds : Holds shape b.pages (map_after_all shape start cs)
 
--- a script that is whole, of fewer than 2^32 entries, on a drive that is far from worn and serves every request, where nothing fails
+-- a script that is whole, of fewer than 2^32 entries, on a drive that is far from worn, where nothing fails
 pub record IsServable (a b : BoardState) (cs : List Command) (rest : List ℕ) : Type 0 where
   pub whole : rest ≡ []
   pub few : length cs < 4294967296
@@ -46,8 +45,8 @@ pub record IsServable (a b : BoardState) (cs : List Command) (rest : List ℕ) :
   pub few_ticks : ticks cs < 2305843009213693952
   pub none_rose : NoneRose a b
 
-abbrev pub Completes : (Drive : Type 0) → (Drive → Request → Bool) → BoardState → BoardState → Sight → End → Type 0
-Completes Drive built a b before end =
+abbrev pub Completes : BoardState → BoardState → Sight → End → Type 0
+Completes a b before end =
     (shape : Shape) (frames : ℕ) (start : Map) → HoldsMap shape frames a before start → before.pending ≡ []
-    → ((drive : Drive) (r : Request) → built drive r ≡ true) → (input : List ℕ) → a.input ≡ Some input → IsServable a b (script input).0 (script input).1
+    → (input : List ℕ) → a.input ≡ Some input → IsServable a b (script input).0 (script input).1
     → (end ≡ Done) × Complete shape frames start a b (script input).0

@@ -3,7 +3,7 @@ use Rattle.std.specs.Prelude.{◌≡◌}
 use Rattle.pk_nand.specs.BoardState.{BoardState}
 use Rattle.pk_nand.specs.Calls.{Rose}
 use Rattle.pk_serve.specs.declared.end.End.{End}
-use Rattle.pk_serve.specs.declared.end.End.TheVariants.{Done, Truncated, Input, Output, Flash, Worn, NotBuilt}
+use Rattle.pk_serve.specs.declared.end.End.TheVariants.{Done, Truncated, Input, Output, Flash, Worn}
 
 -- no count of faults of the output, or of a program or an erase, has changed
 pub record NoFaults (a b : BoardState) : Type 0 where
@@ -18,7 +18,6 @@ HasCause a b Input = ⊥
 HasCause a b Output = Rose a.out_faults b.out_faults
 HasCause a b Flash = Rose a.stop_faults b.stop_faults
 HasCause a b Worn = ⊥
-HasCause a b NotBuilt = ⊥
 
 -- the output or the flash failed
 abbrev pub IsFault : End → Type 0
@@ -28,7 +27,6 @@ IsFault Input = ⊥
 IsFault Output = Unit {0}
 IsFault Flash = Unit {0}
 IsFault Worn = ⊥
-IsFault NotBuilt = ⊥
 
 -- What the counts of faults tell of an end, whatever the drive stands for: the input, the output, or a program or an erase failed where it
 -- says so, and none of them did where it does not.
@@ -39,4 +37,3 @@ Blames a b Input = Rose a.in_faults b.in_faults × NoFaults a b
 Blames a b Output = Rose a.out_faults b.out_faults
 Blames a b Flash = Rose a.stop_faults b.stop_faults
 Blames a b Worn = (b.in_faults ≡ a.in_faults) × NoFaults a b
-Blames a b NotBuilt = (b.in_faults ≡ a.in_faults) × NoFaults a b

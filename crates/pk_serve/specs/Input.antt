@@ -1,5 +1,5 @@
 -- What is taken of the input.
-use Rattle.std.specs.Prelude.{◌≡◌, ◌≢◌, ◌⊎◌, ℕ, ◌<◌, ◌≤◌, ◌+◌, ◌-◌, take, List, [], ◌∷◌, ◌++◌, length, Option, Some, None, IfSome, true, false, Bool, ◌==◌, if◌then◌else◌}
+use Rattle.std.specs.Prelude.{◌≡◌, ◌≢◌, ◌⊎◌, ℕ, ◌<◌, ◌≤◌, ◌+◌, ◌-◌, take, List, [], ◌∷◌, ◌++◌, length, true, false, Bool, ◌==◌, if◌then◌else◌}
 use Rattle.pk_nvme.specs.declared.opcode.TheConstants.{STORE}
 use Rattle.pk_nvme.specs.Command.{Command}
 use Rattle.pk_nand.specs.BoardState.{BoardState}
@@ -13,7 +13,7 @@ use Rattle.pk_serve.specs.Ends.{IsFault}
 use Rattle.pk_serve.specs.Part.{IsHanded}
 use Rattle.pk_serve.specs.Serving.{Serves, Stops}
 use Rattle.pk_serve.specs.declared.end.End.{End}
-use Rattle.pk_serve.specs.declared.end.End.TheVariants.{Done, Truncated, Input, Output, Flash, Worn, NotBuilt}
+use Rattle.pk_serve.specs.declared.end.End.TheVariants.{Done, Truncated, Input, Output, Flash, Worn}
 
 -- a script behind these commands
 abbrev pub behind : List Command → (List Command × List ℕ) → (List Command × List ℕ)
@@ -34,12 +34,11 @@ pub record Left (old new : BoardState) (part : List ℕ) : Type 0 where
   pub rest : new ≡ record old { input = new.input; in_faults = new.in_faults }
 
 -- a command was taken and served
-pub record Advances (old new : BoardState) (before after : Sight) (held now_held : List ℕ) (taken : ℕ) (accepts : Command → Type 0) : Type 0 where
+pub record Advances (old new : BoardState) (before after : Sight) (held now_held : List ℕ) (taken : ℕ) : Type 0 where
   pub bytes : List ℕ
   pub c : Command
   pub input : old.input ≡ put_back bytes new.input
   pub spells : Spells bytes (c ∷ [])
-  pub accepted : accepts c
   pub serves : Serves old new before after held now_held taken c
 
 -- a command was taken, and serving ended in it
@@ -78,27 +77,14 @@ pub record RefusesMore (old new : BoardState) : Type 0 where
   pub input : old.input ≡ put_back part new.input
   pub rest : new ≡ record old { input = new.input }
 
--- an entry was taken that is refused
-pub record Rejects (old new : BoardState) (refused : List ℕ → Type 0) : Type 0 where
-  pub entry : List ℕ
-  pub size : length entry ≡ 64
-  pub input : old.input ≡ put_back entry new.input
-  pub rest : new ≡ record old { input = new.input }
-  pub is : refused entry
-
 -- how no command was taken; none is where no more are
-abbrev pub NoEntry : BoardState → BoardState → Bool → (List ℕ → Type 0) → End → Type 0
-NoEntry old new no_more refused Done = Finds old new
-NoEntry old new no_more refused Truncated = BreaksOff old new × (no_more ≡ false)
-NoEntry old new no_more refused Input = (f : FailsAt old new) × (f.part ≢ [] → no_more ≡ false)
-NoEntry old new no_more refused Output = ⊥
-NoEntry old new no_more refused Flash = ⊥
-NoEntry old new no_more refused Worn = RefusesMore old new × (no_more ≡ true)
-NoEntry old new no_more refused NotBuilt = Rejects old new refused × (no_more ≡ false)
-
--- no entry is refused
-abbrev pub NoneRefused : List ℕ → Type 0
-NoneRefused entry = ⊥
+abbrev pub NoEntry : BoardState → BoardState → Bool → End → Type 0
+NoEntry old new no_more Done = Finds old new
+NoEntry old new no_more Truncated = BreaksOff old new × (no_more ≡ false)
+NoEntry old new no_more Input = (f : FailsAt old new) × (f.part ≢ [] → no_more ≡ false)
+NoEntry old new no_more Output = ⊥
+NoEntry old new no_more Flash = ⊥
+NoEntry old new no_more Worn = RefusesMore old new × (no_more ≡ true)
 
 -- an entry was taken
 pub record Entered (old new : BoardState) (entry : List ℕ) : Type 0 where
@@ -153,5 +139,5 @@ pub record NoValue (old new : BoardState) (opcode size : ℕ) : Type 0 where
   pub rest : new ≡ record old { input = new.input }
 
 -- how a command was not served
-abbrev pub Quits : BoardState → BoardState → Sight → List ℕ → ℕ → (List ℕ → Type 0) → End → Type 0
-Quits old new before held taken refused end = NoEntry old new (is_worn old) refused end ⊎ Fails old new before held taken end
+abbrev pub Quits : BoardState → BoardState → Sight → List ℕ → ℕ → End → Type 0
+Quits old new before held taken end = NoEntry old new (is_worn old) end ⊎ Fails old new before held taken end

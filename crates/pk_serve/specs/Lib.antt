@@ -2,7 +2,6 @@ pub mod Ends
 pub mod Part
 pub mod Serving
 pub mod Input
-pub mod Told
 pub mod Loop
 pub mod Run
 pub mod Script

@@ -1,9 +1,8 @@
 -- What a part of the serving loop asks of the drive, the board and the buffers, and what it leaves.
-use Rattle.std.specs.Prelude.{◌≡◌, ◌≢◌, ℕ, ◌<◌, ◌≤◌, List, [], length, Option, Some, Bool, true, false}
+use Rattle.std.specs.Prelude.{◌≡◌, ◌≢◌, ℕ, ◌<◌, ◌≤◌, List, [], length, Option, Some, false}
 use Rattle.pk_base.specs.Shape.{Shape, greatest}
 use Rattle.pk_base.specs.Page.{Flash as Pages}
-use Rattle.pk_nvme.specs.declared.opcode.TheConstants.{STORE, DELETE}
-use Rattle.pk_nvme.specs.declared.request.Request.{Request}
+use Rattle.pk_nvme.specs.declared.opcode.TheConstants.{STORE}
 use Rattle.pk_nand.specs.BoardState.{BoardState}
 use Rattle.pk_model.specs.Sight.{Sight}
 use Rattle.pk_model.specs.Wear.{is_worn, roots}
@@ -17,11 +16,10 @@ pub record IsRunning (agreeing : Option Shape → Pages → Type 0) (drive : Sig
   pub agrees : agreeing board.shape board.pages
   pub runs : drive.stopped ≡ false
 
--- it is not worn, and serves the request
-pub record CanServe (agreeing : Option Shape → Pages → Type 0) (drive : Sight) (board : BoardState) (built : Bool) : Type 0 where
+-- and is not worn
+pub record CanServe (agreeing : Option Shape → Pages → Type 0) (drive : Sight) (board : BoardState) : Type 0 where
   pub running : IsRunning agreeing drive board
   pub unworn : is_worn board ≡ false
-  pub is_built : built ≡ true
 
 -- of a value this is handed over: all of it where it is not too large, and nothing else
 pub record IsHanded (shape : Shape) (opcode size : ℕ) (handed : List ℕ) : Type 0 where
@@ -63,11 +61,6 @@ pub record TakesNone (old new : BoardState) : Type 0 where
 pub record InstallsNone (old new : BoardState) : Type 0 where
   pub takes : TakesNone old new
   pub installs : roots new ≡ roots old
-
--- A request that is no Store and no Delete is served if it was, and one that was not is not.
-pub record ServesSame (before after : Request → Bool) : Type 0 where
-  pub built : (r : Request) → r.opcode ≢ STORE → r.opcode ≢ DELETE → before r ≡ true → after r ≡ true
-  pub unbuilt : (r : Request) → before r ≡ false → after r ≡ false
 
 -- the room for records and the buffer of data keep their sizes
 pub record SameRoom (room now_room : ℕ) (into now_into : List ℕ) : Type 0 where

@@ -1,11 +1,10 @@
 -- What is said of a run as a whole.
-use Rattle.std.specs.Prelude.{◌≡◌, ◌≢◌, ◌⊎◌, ◌<◌, ◌≤◌, ◌+◌, ℕ, List, [], ◌++◌, length, Some, Bool, true, false}
+use Rattle.std.specs.Prelude.{◌≡◌, ◌≢◌, ◌⊎◌, ◌<◌, ◌≤◌, ◌+◌, ℕ, List, [], ◌++◌, length, Some, true, false}
 use Rattle.pk_base.specs.Shape.{Shape}
 use Rattle.pk_base.specs.Map.{Map}
 use Rattle.pk_nvme.specs.Command.{Command}
-use Rattle.pk_nvme.specs.declared.request.Request.{Request}
 use Rattle.pk_nand.specs.BoardState.{BoardState}
-use Rattle.pk_nand.specs.Calls.{Rose, longer, put_back, AtEnd}
+use Rattle.pk_nand.specs.Calls.{Rose, longer, AtEnd}
 use Rattle.pk_model.specs.Run.{Exchange, RunWithin, commands, records, faults}
 use Rattle.pk_model.specs.Reading.{Holds}
 use Rattle.pk_model.specs.Kept.{AtMost, rise}
@@ -16,9 +15,9 @@ use Rattle.pk_model.specs.Wear.{is_worn, roots}
 use Rattle.pk_model.specs.Growth.{Goes}
 use Rattle.pk_drive.specs.Meter.{meter, MeteredAll}
 use Rattle.pk_serve.specs.Ends.{NoFaults}
-use Rattle.pk_serve.specs.Serving.{Answered, KeptAt, installs, RunAccepted, Refused}
+use Rattle.pk_serve.specs.Serving.{Answered, KeptAt, installs}
 use Rattle.pk_serve.specs.declared.end.End.{End}
-use Rattle.pk_serve.specs.declared.end.End.TheVariants.{Done, Truncated, Input, Output, Flash, Worn, NotBuilt}
+use Rattle.pk_serve.specs.declared.end.End.TheVariants.{Done, Truncated, Input, Output, Flash, Worn}
 use Rattle.pk_serve.specs.Loop.{most_entries}
 
 -- The headline: every cut keeps what was served of the script, and from each state of the trail to the next the tree grows.
@@ -34,12 +33,11 @@ KeepsSome a b before =
     → (cs : List Command) × Goes shape a b (KeptAt shape frames start cs (rise a.read_faults b.read_faults))
 
 -- These, no more than a run takes, were served from a drive that was not worn, with exactly their records posted, and the flash holds the map after them.
-pub record Served (shape : Shape) (frames : ℕ) (start : Map) (a b : BoardState) (says : Map → Request → Bool → Type 0) (cs : List Command) : Type 0 where
+pub record Served (shape : Shape) (frames : ℕ) (start : Map) (a b : BoardState) (cs : List Command) : Type 0 where
   pub served : List Exchange
   pub are : commands served ≡ cs
   pub left : Map
   pub ran : RunWithin shape frames start served left
-  pub accepted : RunAccepted shape frames says start served left
   pub posted : b.posted ≡ longer a.posted (records 0 served)
   pub holds : Holds shape b.pages left
   pub few_faults : AtMost (rise a.read_faults b.read_faults) (faults served)
@@ -55,40 +53,35 @@ TakesMore board cs = (length cs < most_entries) × (is_worn board ≡ false)
 
 -- Which commands were served, by the end: all of the script; all of it, and more bytes; those whole in the bytes that were taken; those before
 -- another one that begins; those before an entry that is refused; those before the one in which a call failed, or a front of them.
-abbrev pub ServedBy : Shape → ℕ → Map → BoardState → BoardState → List ℕ → (Map → Request → Bool → Type 0) → End → Type 0
-ServedBy shape frames start a b input says Done =
-    (script input ≡ ((script input).0, [])) × Served shape frames start a b says (script input).0 × AtEnd b.input × (b.in_faults ≡ a.in_faults)
-ServedBy shape frames start a b input says Truncated =
-    ((script input).1 ≢ []) × TakesMore b (script input).0 × Served shape frames start a b says (script input).0 × AtEnd b.input × (b.in_faults ≡ a.in_faults)
-ServedBy shape frames start a b input says Input =
-    (taken : List ℕ) × (left : List ℕ) × (b.input ≡ Some left) × (input ≡ taken ++ left) × Served shape frames start a b says (script taken).0
+abbrev pub ServedBy : Shape → ℕ → Map → BoardState → BoardState → List ℕ → End → Type 0
+ServedBy shape frames start a b input Done =
+    (script input ≡ ((script input).0, [])) × Served shape frames start a b (script input).0 × AtEnd b.input × (b.in_faults ≡ a.in_faults)
+ServedBy shape frames start a b input Truncated =
+    ((script input).1 ≢ []) × TakesMore b (script input).0 × Served shape frames start a b (script input).0 × AtEnd b.input × (b.in_faults ≡ a.in_faults)
+ServedBy shape frames start a b input Input =
+    (taken : List ℕ) × (left : List ℕ) × (b.input ≡ Some left) × (input ≡ taken ++ left) × Served shape frames start a b (script taken).0
     × ((script taken).1 ≢ [] → TakesMore b (script taken).0) × Rose a.in_faults b.in_faults
-ServedBy shape frames start a b input says Worn =
-    (bytes : List ℕ) × (more : List ℕ) × (input ≡ bytes ++ more) × (more ≢ []) × (script bytes ≡ ((script bytes).0, [])) × Served shape frames start a b says (script bytes).0
+ServedBy shape frames start a b input Worn =
+    (bytes : List ℕ) × (more : List ℕ) × (input ≡ bytes ++ more) × (more ≢ []) × (script bytes ≡ ((script bytes).0, [])) × Served shape frames start a b (script bytes).0
     × ((length (script bytes).0 ≡ most_entries) ⊎ (is_worn b ≡ true)) × (b.in_faults ≡ a.in_faults)
-ServedBy shape frames start a b input says NotBuilt =
-    (bytes : List ℕ) × (entry : List ℕ) × (more : List ℕ) × (input ≡ bytes ++ entry ++ more) × (length entry ≡ 64) × (script bytes ≡ ((script bytes).0, []))
-    × (s : Served shape frames start a b says (script bytes).0) × Refused says s.left entry × TakesMore b (script bytes).0 × (b.in_faults ≡ a.in_faults)
-ServedBy shape frames start a b input says Output = Rose a.out_faults b.out_faults × Answered shape frames start a b (script input).0
-ServedBy shape frames start a b input says Flash = Rose a.stop_faults b.stop_faults × Answered shape frames start a b (script input).0
+ServedBy shape frames start a b input Output = Rose a.out_faults b.out_faults × Answered shape frames start a b (script input).0
+ServedBy shape frames start a b input Flash = Rose a.stop_faults b.stop_faults × Answered shape frames start a b (script input).0
 
-abbrev pub Answers : BoardState → BoardState → Sight → (Shape → ℕ → Map → Request → Bool → Type 0) → End → Type 0
-Answers a b before says end =
+abbrev pub Answers : BoardState → BoardState → Sight → End → Type 0
+Answers a b before end =
     (shape : Shape) (frames : ℕ) (start : Map) → HoldsMap shape frames a before start → before.pending ≡ []
-    → (input : List ℕ) → a.input ≡ Some input → ServedBy shape frames start a b input (says shape frames) end
+    → (input : List ℕ) → a.input ≡ Some input → ServedBy shape frames start a b input end
 
 -- The same where the input is not told: some commands were served, and each end has its cause.
-abbrev pub ServedSome : Shape → ℕ → Map → BoardState → BoardState → (Map → Request → Bool → Type 0) → End → Type 0
-ServedSome shape frames start a b says Done = (cs : List Command) × Served shape frames start a b says cs × (b.in_faults ≡ a.in_faults)
-ServedSome shape frames start a b says Truncated = (cs : List Command) × TakesMore b cs × Served shape frames start a b says cs × (b.in_faults ≡ a.in_faults)
-ServedSome shape frames start a b says Input = (cs : List Command) × Served shape frames start a b says cs × Rose a.in_faults b.in_faults
-ServedSome shape frames start a b says Worn =
-    (cs : List Command) × Served shape frames start a b says cs × ((length cs ≡ most_entries) ⊎ (is_worn b ≡ true)) × (b.in_faults ≡ a.in_faults)
-ServedSome shape frames start a b says NotBuilt =
-    (cs : List Command) × (entry : List ℕ) × (length entry ≡ 64) × (s : Served shape frames start a b says cs) × Refused says s.left entry × TakesMore b cs × (b.in_faults ≡ a.in_faults)
-ServedSome shape frames start a b says Output = (cs : List Command) × Answered shape frames start a b cs × Rose a.out_faults b.out_faults
-ServedSome shape frames start a b says Flash = (cs : List Command) × Answered shape frames start a b cs × Rose a.stop_faults b.stop_faults
+abbrev pub ServedSome : Shape → ℕ → Map → BoardState → BoardState → End → Type 0
+ServedSome shape frames start a b Done = (cs : List Command) × Served shape frames start a b cs × (b.in_faults ≡ a.in_faults)
+ServedSome shape frames start a b Truncated = (cs : List Command) × TakesMore b cs × Served shape frames start a b cs × (b.in_faults ≡ a.in_faults)
+ServedSome shape frames start a b Input = (cs : List Command) × Served shape frames start a b cs × Rose a.in_faults b.in_faults
+ServedSome shape frames start a b Worn =
+    (cs : List Command) × Served shape frames start a b cs × ((length cs ≡ most_entries) ⊎ (is_worn b ≡ true)) × (b.in_faults ≡ a.in_faults)
+ServedSome shape frames start a b Output = (cs : List Command) × Answered shape frames start a b cs × Rose a.out_faults b.out_faults
+ServedSome shape frames start a b Flash = (cs : List Command) × Answered shape frames start a b cs × Rose a.stop_faults b.stop_faults
 
-abbrev pub Causes : BoardState → BoardState → Sight → (Shape → ℕ → Map → Request → Bool → Type 0) → End → Type 0
-Causes a b before says end =
-    (shape : Shape) (frames : ℕ) (start : Map) → HoldsMap shape frames a before start → before.pending ≡ [] → ServedSome shape frames start a b (says shape frames) end
+abbrev pub Causes : BoardState → BoardState → Sight → End → Type 0
+Causes a b before end =
+    (shape : Shape) (frames : ℕ) (start : Map) → HoldsMap shape frames a before start → before.pending ≡ [] → ServedSome shape frames start a b end

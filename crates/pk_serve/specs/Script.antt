@@ -8,7 +8,7 @@ use Rattle.pk_serve.specs.Input.{Spells, IsPart}
 use Rattle.pk_nand.specs.Calls.{put_back, AtEnd}
 use Rattle.pk_serve.specs.Loop.{most_entries}
 use Rattle.pk_serve.specs.declared.end.End.{End}
-use Rattle.pk_serve.specs.declared.end.End.TheVariants.{Done, Truncated, Input, Output, Flash, Worn, NotBuilt}
+use Rattle.pk_serve.specs.declared.end.End.TheVariants.{Done, Truncated, Input, Output, Flash, Worn}
 
 -- So many commands were taken whole, and then this part of another one.
 pub record Consumed (a b : BoardState) (taken : ℕ) (part : List ℕ) : Type 0 where
@@ -26,10 +26,9 @@ Consumes a b Input = Unit {0}
 Consumes a b Output = Unit {0}
 Consumes a b Flash = Unit {0}
 Consumes a b Worn = (taken : ℕ) × (part : List ℕ) × (part ≢ []) × Consumed a b taken part × ((taken ≡ most_entries) ⊎ (is_worn b ≡ true))
-Consumes a b NotBuilt = (taken : ℕ) × (entry : List ℕ) × (length entry ≡ 64) × Consumed a b taken entry
 
 -- What it says of the script. Done: it is whole. Truncated: bytes stand behind its last command. Worn: more bytes stand behind as many commands
--- as are taken, or the drive is worn. Not built: an entry stands behind whole commands.
+-- as are taken, or the drive is worn.
 abbrev pub Says : BoardState → List ℕ → End → Type 0
 Says b input Done = ((script input).1 ≡ []) × AtEnd b.input
 Says b input Truncated = ((script input).1 ≢ []) × AtEnd b.input
@@ -38,8 +37,6 @@ Says b input Output = Unit {0}
 Says b input Flash = Unit {0}
 Says b input Worn =
     (bytes : List ℕ) × (more : List ℕ) × (input ≡ bytes ++ more) × (more ≢ []) × ((script bytes).1 ≡ []) × ((length (script bytes).0 ≡ most_entries) ⊎ (is_worn b ≡ true))
-Says b input NotBuilt =
-    (bytes : List ℕ) × (entry : List ℕ) × (more : List ℕ) × (input ≡ (bytes ++ entry) ++ more) × (length entry ≡ 64) × ((script bytes).1 ≡ [])
 
 abbrev pub SaysOfScript : BoardState → BoardState → End → Type 0
 SaysOfScript a b end = (input : List ℕ) → a.input ≡ Some input → Says b input end

@@ -1,16 +1,13 @@
 -- What stands after some commands were served.
-use Rattle.std.specs.Prelude.{◌≡◌, ◌≢◌, ◌⊎◌, ℕ, ◌+◌, ◌-◌, ◌≤◌, List, [], ◌∷◌, ◌++◌, length, Option, Some, None, Bool, true, false}
+use Rattle.std.specs.Prelude.{◌≡◌, ◌≢◌, ◌⊎◌, ℕ, ◌+◌, ◌≤◌, List, [], ◌∷◌, ◌++◌, length, Option, Some}
 use Rattle.pk_base.specs.Shape.{Shape}
 use Rattle.pk_base.specs.Page.{Flash}
 use Rattle.pk_base.specs.Mark.{Mark, all_posted}
 use Rattle.pk_base.specs.Map.{Map}
-use Rattle.pk_nvme.specs.Command.{Command, command}
-use Rattle.pk_nvme.specs.Seen.{command_of}
-use Rattle.pk_nvme.specs.declared.request.Request.{Request}
+use Rattle.pk_nvme.specs.Command.{Command}
 use Rattle.pk_nand.specs.BoardState.{BoardState}
 use Rattle.pk_nand.specs.Calls.{longer}
 use Rattle.pk_nand.specs.Crash.{ReachedBy}
-use Rattle.std.specs.List.{FoldsTo}
 use Rattle.pk_nvme.specs.Opcode.{op_of}
 use Rattle.pk_nvme.specs.declared.opcode.Opcode.TheVariants.{Retrieve}
 use Rattle.pk_model.specs.Bounds.{most_reads}
@@ -97,22 +94,6 @@ Keeps old new before after held now_held =
 -- one command, with the bound of a Retrieve's reads
 abbrev pub StepWithin : Shape → ℕ → Map → Exchange → Map → Type 0
 StepWithin shape frames m x m' = Step shape frames m x.command x.reply m' × (op_of x.command.opcode ≡ Some Retrieve → x.reads ≤ most_reads shape frames m x.command)
-
--- what is said of a request on a map: one thing where it was served, another where it was refused
-abbrev pub saying : (Map → Request → Type 0) → (Map → Request → Type 0) → Map → Request → Bool → Type 0
-saying served refused m r true = served m r
-saying served refused m r false = refused m r
-
--- a drive that stands for this map says of a command's request that it serves it, or of an entry's that it does not
-abbrev pub Accepted : (Map → Request → Bool → Type 0) → Map → Command → Type 0
-Accepted says m c = (r : Request) × (command_of r c.value ≡ c) × says m r true
-
-abbrev pub Refused : (Map → Request → Bool → Type 0) → Map → List ℕ → Type 0
-Refused says m entry = (r : Request) × ((value : List ℕ) → command_of r value ≡ command entry value) × says m r false
-
--- from map to map, each command accepted on the map before it
-abbrev pub RunAccepted : Shape → ℕ → (Map → Request → Bool → Type 0) → Map → List Exchange → Map → Type 0
-RunAccepted shape frames says = FoldsTo (λ m x m'. StepWithin shape frames m x m' × Accepted says m x.command)
 
 -- one more command was served
 pub record Next (shape : Shape) (frames : ℕ) (start : Map) (a b : BoardState) (drive : Sight) (unposted : List ℕ) (all : List Exchange) (before : Map) (c : Command) : Type 0 where

@@ -15,6 +15,4 @@ pub enum End {
     Flash,
     /// Another entry begins, and no more are taken.
     Worn,
-    /// An entry was taken that the drive cannot serve.
-    NotBuilt,
 }

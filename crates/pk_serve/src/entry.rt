@@ -1,7 +1,7 @@
 //! Entries and their values, taken from the input.
 ghost use Rattle.std.specs.Prelude.{◌≡◌, ◌≢◌, ◌≤◌, ◌<◌, ◌+◌, ◌-◌, ◌^◌, ℕ, List, [], length, take, true, false, OnOk, OnErr, IfOk, IfErr, IfSome, Some, None, Ok, MatchOption, ◌==◌, if◌then◌else◌};
 ghost use Rattle.pk_base.specs.Shape.{greatest};
-ghost use Rattle.pk_serve.specs.Input.{NoEntry, NoneRefused, Entered, Valued, NoValue, TookFailed};
+ghost use Rattle.pk_serve.specs.Input.{NoEntry, Entered, Valued, NoValue, TookFailed};
 
 use crate::End;
 use crate::input::{fill, skip};
@@ -26,7 +26,7 @@ pub fn take_entry<B: Board>(board: &mut B, entry: &mut [u8], no_more: bool) -> R
     ensures taken { OnOk result (no_more ≡ false) }
     ensures len { length entry.new ≡ 64 }
     ensures err { IfErr result
-        (λ end. NoEntry (B.state board.old) (B.state board.new) no_more NoneRefused end) }
+        (λ end. NoEntry (B.state board.old) (B.state board.new) no_more end) }
 {
     let first = match board.fetch(entry) {
         Ok(n) => n,

@@ -29,7 +29,6 @@ pub fn submit<D: Engine, B: Nand>(
     requires agrees { D.agrees drive.old (B.state board.old).shape (B.state board.old).pages }
     requires runs { (D.sight drive.old).stopped ≡ false }
     requires unworn { is_worn (B.state board.old) ≡ false }
-    requires is_built { D.built drive.old request.now ≡ true }
     requires none { (D.sight drive.old).pending ≡ [] }
 
     // What is handed over, and the buffer for data.

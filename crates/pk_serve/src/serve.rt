@@ -1,14 +1,10 @@
 //! The serving loop.
 ghost use Rattle.std.specs.Prelude.{◌≡◌, ◌<◌, ◌-◌, ◌^◌, ◌⊎◌, ℕ, List, [], true, false, OnOk, IfErr};
-ghost use Rattle.pk_nvme.specs.Command.{command};
-ghost use Rattle.pk_nvme.specs.Seen.{command_of};
-ghost use Rattle.pk_nvme.specs.declared.request.Request.{Request};
 ghost use Rattle.pk_queue.specs.Queue.{bytes_of};
 ghost use Rattle.pk_serve.specs.Ends.{IsFault, Blames};
 ghost use Rattle.pk_serve.specs.Part.{IsRunning, HasBuffers, KeepsRunning, SameSizes};
 ghost use Rattle.pk_serve.specs.Input.{Advances, Quits};
 ghost use Rattle.pk_serve.specs.Script.{Consumes};
-ghost use Rattle.pk_serve.specs.Told.{ToldBy};
 ghost use Rattle.pk_serve.specs.Loop.{Ends};
 
 use crate::End;
@@ -45,14 +41,12 @@ pub fn serve_next<D: Engine, B: Board>(
     // The command that was served.
     ensures advances { OnOk result (Advances (B.state board.old) (B.state board.new)
         (D.sight drive.old) (D.sight drive.new) (bytes_of held.old.heads) (bytes_of held.new.heads)
-        taken (λ c. (r : Request) × (command_of r c.value ≡ c) × (D.built drive.old r ≡ true))) }
+        taken) }
 
     // How none was.
     ensures blames { IfErr result (Blames (B.state board.old) (B.state board.new)) }
     ensures quits { IfErr result (λ end. Quits (B.state board.old) (B.state board.new)
-        (D.sight drive.old) (bytes_of held.old.heads) taken
-        (λ entry. (r : Request) × ((v : List ℕ) → command_of r v ≡ command entry v)
-        × (D.built drive.old r ≡ false)) end) }
+        (D.sight drive.old) (bytes_of held.old.heads) taken end) }
     ensures open { IfErr result (λ end. IsFault end ⊎ ((D.agrees drive.new (B.state board.new).shape
         (B.state board.new).pages) × (drive.new ≡ drive.old) × (held.new.heads ≡ held.old.heads))) }
 {
@@ -63,9 +57,6 @@ pub fn serve_next<D: Engine, B: Board>(
         Err(end) => return Err(end),
     }
     let request = Request::of(&entry);
-    if !drive.is_built(&request) {
-        return Err(End::NotBuilt);
-    }
     let handed = match take_value(board, &request, shape, value) {
         Ok(handed) => handed,
         Err(_) => return Err(End::Input),
@@ -102,8 +93,7 @@ pub fn serve_entries<D: Engine, B: Board>(
     // The commands that were served.
     ensures consumes { Consumes (B.state board.old) (B.state board.new) result }
     ensures ends { Ends (B.state board.old) (B.state board.new) (D.sight drive.old)
-        (D.sight drive.new) (bytes_of held.new.heads) (ToldBy D D.sight D.agrees D.built drive.new)
-        result }
+        (D.sight drive.new) (bytes_of held.new.heads) result }
 
     // The drive and the board behind them.
     ensures shape { (B.state board.new).shape ≡ (B.state board.old).shape }
@@ -141,7 +131,7 @@ pub fn serve_all<D: Engine, B: Board>(
     // The commands that were served.
     ensures consumes { Consumes (B.state board.old) (B.state board.new) result }
     ensures ends { Ends (B.state board.old) (B.state board.new) (D.sight drive.old)
-        (D.sight drive.new) [] (ToldBy D D.sight D.agrees D.built drive.new) result }
+        (D.sight drive.new) [] result }
 
     // The drive and the board behind them.
     ensures blames { Blames (B.state board.old) (B.state board.new) result }

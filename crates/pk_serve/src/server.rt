@@ -3,7 +3,6 @@ ghost use Rattle.std.specs.Prelude.{◌≡◌, ◌⊎◌, [], false, IfOk, Some}
 ghost use Rattle.pk_serve.specs.Ends.{IsFault, Blames};
 ghost use Rattle.pk_serve.specs.Complete.{Completes};
 ghost use Rattle.pk_serve.specs.Script.{SaysOfScript};
-ghost use Rattle.pk_serve.specs.Told.{Told};
 ghost use Rattle.pk_serve.specs.Run.{KeepsScript, KeepsSome, Answers, Causes};
 
 use crate::End;
@@ -66,16 +65,16 @@ impl Server {
         ensures blames { Blames (B.state board.old) (B.state board.new) result }
         ensures says { SaysOfScript (B.state board.old) (B.state board.new) result }
         ensures causes { Causes (B.state board.old) (B.state board.new) (D.sight drive.old)
-            (Told D D.sight D.agrees D.built (B.state board.new)) result }
-        ensures complete { Completes D D.built (B.state board.old) (B.state board.new)
-            (D.sight drive.old) result }
+            result }
+        ensures complete { Completes (B.state board.old) (B.state board.new) (D.sight drive.old)
+            result }
 
         // The commands that were kept, wherever it was cut, and those that were answered.
         ensures kept { KeepsScript (B.state board.old) (B.state board.new) (D.sight drive.old) }
         ensures kept_untold { KeepsSome (B.state board.old) (B.state board.new)
             (D.sight drive.old) }
         ensures served { Answers (B.state board.old) (B.state board.new) (D.sight drive.old)
-            (Told D D.sight D.agrees D.built (B.state board.new)) result }
+            result }
     {
         self.held.clear();
         serve_all(

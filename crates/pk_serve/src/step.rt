@@ -6,7 +6,7 @@ ghost use Rattle.pk_queue.specs.Queue.{bytes_of};
 ghost use Rattle.pk_drive.specs.Seen.{reply_of};
 ghost use Rattle.pk_drive.specs.Exec.{IsValue};
 ghost use Rattle.pk_serve.specs.Ends.{NoFaults};
-ghost use Rattle.pk_serve.specs.Part.{IsRunning, CanServe, IsHanded, HasRoom, KeepsRunning, Faulted, TakesNone, InstallsNone, ServesSame, SameRoom};
+ghost use Rattle.pk_serve.specs.Part.{IsRunning, CanServe, IsHanded, HasRoom, KeepsRunning, Faulted, TakesNone, InstallsNone, SameRoom};
 ghost use Rattle.pk_serve.specs.Serving.{Flushed, Breaks, Posts, PostBreaks, Keeps, Serves, Stops};
 ghost use Rattle.pk_nvme.specs.declared.opcode.TheConstants.{TICK};
 
@@ -76,7 +76,6 @@ pub fn flush<D: Engine, B: Board>(drive: &mut D, board: &mut B, held: &mut Queue
     ensures runs_on { OnOk result (KeepsRunning (D.agrees drive.new) (D.sight drive.new)
         (B.state board.old) (B.state board.new)) }
     ensures none { OnOk result ((D.sight drive.new).pending ≡ []) }
-    ensures requests { OnOk result (ServesSame (D.built drive.old) (D.built drive.new)) }
     ensures rest { InstallsNone (B.state board.old) (B.state board.new) }
 
     // The records.
@@ -119,8 +118,6 @@ pub fn prepare<D: Engine, B: Board>(
     ensures runs_on { OnOk result (KeepsRunning (D.agrees drive.new) (D.sight drive.new)
         (B.state board.old) (B.state board.new)) }
     ensures tick { OnOk result (request.now.opcode ≡ TICK → (D.sight drive.new).pending ≡ []) }
-    ensures built { OnOk result
-        (D.built drive.old request.now ≡ true → D.built drive.new request.now ≡ true) }
     ensures rest { InstallsNone (B.state board.old) (B.state board.new) }
 
     // The records.
@@ -227,8 +224,7 @@ pub fn serve_one<D: Engine, B: Board>(
     entry: &Numbered,
     value: &[u8],
 ) -> Result<(), End>
-    requires can_serve { CanServe (D.agrees drive.old) (D.sight drive.old) (B.state board.old)
-        (D.built drive.old entry.now.request) }
+    requires can_serve { CanServe (D.agrees drive.old) (D.sight drive.old) (B.state board.old) }
     requires count { entry.now.before < 2 ^ 32 - 1 }
     requires handed { IsHanded shape.now entry.now.request.opcode entry.now.request.size value.now }
     requires has_room { HasRoom (B.state board.old) shape.now into.old }

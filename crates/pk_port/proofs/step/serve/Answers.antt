@@ -1,4 +1,4 @@
-use Rattle.std.proofs.Common.{◌∙◌, sym, refl}
+use Rattle.std.proofs.Common.{◌∙◌, sym}
 use Rattle.pk_nvme.specs.Seen.{command_of}
 use Rattle.pk_port.proofs.Serving.{value_on, unworn_on, fits_again, serves_so, replies_so, data_so, fails_so, front_few}
 use Rattle.pk_port.proofs.step.serve.Goals as goal
@@ -17,8 +17,7 @@ returns-in-Ok-clause-makes g c =
     let ready = c.requires.fits.ready going in
     let value = value_on c.args.shape.now (g.B.Nand.state c.args.board.now) _ _ _ c.args.value.now c.requires.fits.shape_is c.handed.ensures.value in
     let unworn = unworn_on (g.D.Engine.agrees c.args.drive.now) c.args.shape.now (g.B.Nand.state c.args.board.now) c.is_worn.result c.requires.fits.shape_is ready.agreed (λ s f h. c.is_worn.ensures s f h going) c.if-is_worn.false in
-    serves_so _ c.args.shape.now _ _ ready _ _ (command_of c.args.request.now c.args.value.now) _ _ (e.submits c.args.value.now value) (g.D.Engine.built c.args.drive.now) (g.D.Engine.built c.submit.new.drive) c.args.request.now refl
-    (sym c.is_built.ensures ∙ c.if-not-is_built.false) going e.runs unworn e.rest e.up e.unread e.sound e.no_stop e.reads e.installs
+    serves_so _ c.args.shape.now _ _ ready _ _ (command_of c.args.request.now c.args.value.now) _ _ (e.submits c.args.value.now value) going e.runs unworn e.rest e.up e.unread e.sound e.no_stop e.reads e.installs
 
 pub returns-in-Ok-clause-replies : goal.returns-in-Ok-clause-replies
 returns-in-Ok-clause-replies g c =
@@ -41,5 +40,4 @@ returns-in-Err-clause-makes g c =
     let ready = c.requires.fits.ready going in
     let value = value_on c.args.shape.now (g.B.Nand.state c.args.board.now) _ _ _ c.args.value.now c.requires.fits.shape_is c.handed.ensures.value in
     let unworn = unworn_on (g.D.Engine.agrees c.args.drive.now) c.args.shape.now (g.B.Nand.state c.args.board.now) c.is_worn.result c.requires.fits.shape_is ready.agreed (λ s f h. c.is_worn.ensures s f h going) c.if-is_worn.false in
-    fails_so _ c.args.shape.now _ _ ready _ (g.D.Engine.sight c.submit.new.drive) (command_of c.args.request.now c.args.value.now) (e.stops c.args.value.now value) (g.D.Engine.built c.args.drive.now) (g.D.Engine.built c.submit.new.drive) c.args.request.now refl
-    (sym c.is_built.ensures ∙ c.if-not-is_built.false) going e.stopped unworn e.rest e.up e.stop
+    fails_so _ c.args.shape.now _ _ ready _ (g.D.Engine.sight c.submit.new.drive) (command_of c.args.request.now c.args.value.now) (e.stops c.args.value.now value) going e.stopped unworn e.rest e.up e.stop

@@ -1,6 +1,5 @@
-use Rattle.std.proofs.Common.{◌≡◌, inl, inr, ap, nat_le, false}
-use Rattle.pk_serve.specs.Told.{HasServed, ToldBy}
-use Rattle.pk_serve.proofs.Closing.{Finish-says, Finish-closed, Finish-broken, no_fault}
+use Rattle.std.proofs.Common.{inl, inr, ap, nat_le}
+use Rattle.pk_serve.proofs.Closing.{Finish-closed, Finish-broken, no_fault}
 use Rattle.pk_serve.proofs.Blaming.{blames-still, blames-behind}
 use Rattle.pk_serve.proofs.Consuming.{consumes_failed, consumes-still}
 use Rattle.pk_serve.proofs.serve.serve_all.Goals as goal
@@ -8,11 +7,9 @@ use Rattle.pk_serve.proofs.serve.serve_all.Goals as goal
 pub returns-in-Ok : goal.returns-in-Ok
 returns-in-Ok g c =
     let e = c.in-Ok.ensures in
-    let D = g.D.Engine in
     record {
-      ends = λ shape frames start stands none. Finish-closed shape frames start _ _ _ _ _ _ (ToldBy _ D.sight D.agrees D.built c.flush.new.drive shape frames) e.rest.takes.input e.rest.takes.in_faults _ e.serves (ap (λ n. nat_le 9223372036854775808 n) e.rest.installs) (no_fault _ c.in_default.not-Output c.in_default.not-Flash)
-          (Finish-says shape frames start _ _ _ _ (HasServed _ D.sight D.agrees D.built shape frames) (λ m r. D.built c.serve_entries-end.new.drive r ≡ false) (λ m r. D.built c.flush.new.drive r ≡ false) _ (inr (λ m r at unbuilt. e.requests.unbuilt r unbuilt))
-          (c.serve_entries-end.ensures.ends shape frames start stands none));
+      ends = λ shape frames start stands none. Finish-closed shape frames start _ _ _ _ _ _ e.rest.takes.input e.rest.takes.in_faults _ e.serves (ap (λ n. nat_le 9223372036854775808 n) e.rest.installs) (no_fault _ c.in_default.not-Output c.in_default.not-Flash)
+          (c.serve_entries-end.ensures.ends shape frames start stands none);
       consumes = consumes-still _ _ _ e.rest.takes.input (ap (λ n. nat_le 9223372036854775808 n) e.rest.installs) _ c.serve_entries-end.ensures.consumes;
       blames = blames-still _ _ _ _ c.serve_entries-end.ensures.blames e.rest.takes.in_faults e.runs_on.quiet;
       none = inr (e.none, e.runs_on.running.agrees);
@@ -22,7 +19,7 @@ pub returns-in-Err : goal.returns-in-Err
 returns-in-Err g c =
     let e = c.in-Err.ensures in
     record {
-      ends = λ shape frames start stands none. Finish-broken shape frames start _ _ _ _ _ _ _ e.rest.takes.input e.rest.takes.in_faults _ _ _ e.breaks (no_fault _ c.in_default.not-Output c.in_default.not-Flash)
+      ends = λ shape frames start stands none. Finish-broken shape frames start _ _ _ _ _ _ e.rest.takes.input e.rest.takes.in_faults _ _ e.breaks (no_fault _ c.in_default.not-Output c.in_default.not-Flash)
           (c.serve_entries-end.ensures.ends shape frames start stands none);
       consumes = consumes_failed _ _ _ e.fault.fault;
       blames = blames-behind _ _ _ _ _ (no_fault _ c.in_default.not-Output c.in_default.not-Flash) c.serve_entries-end.ensures.blames e.fault.cause;

@@ -1,8 +1,6 @@
 use Rattle.std.proofs.Common.{◌≡◌, inl, inr, refl, ◌∙◌, ap, arith, true, false}
 use Rattle.pk_queue.specs.Queue.{bytes_of}
-use Rattle.pk_serve.specs.Input.{NoneRefused}
-use Rattle.pk_serve.specs.Told.{HasServed, ToldBy}
-use Rattle.pk_serve.proofs.Looping.{saying_served, Looping-refusing, Looping-start, Looping-next, Finish-quits, none_taken, refused_on, accepted_on}
+use Rattle.pk_serve.proofs.Looping.{Looping-start, Looping-next, Finish-quits, none_taken}
 use Rattle.pk_serve.proofs.Blaming.{blames-then, blames-entry}
 use Rattle.pk_serve.proofs.Consuming.{consumed-none, consumed-next, consumes-entry, consumes-quits}
 use Rattle.pk_serve.proofs.Parting.{runs_on-then}
@@ -17,7 +15,7 @@ loop-taken-init g c = record {
   shape = refl;
   in_faults = refl;
   consumed = consumed-none _;
-  looping = λ shape frames start stands none. Looping-start shape frames start _ _ (bytes_of c.args.held.now.heads) (saying_served (HasServed _ g.D.Engine.sight g.D.Engine.agrees g.D.Engine.built shape frames)) (ap bytes_of c.requires.none) stands none;
+  looping = λ shape frames start stands none. Looping-start shape frames start _ _ (bytes_of c.args.held.now.heads) (ap bytes_of c.requires.none) stands none;
 }
 
 pub loop-taken-preserved : goal.loop-taken-preserved
@@ -27,44 +25,37 @@ loop-taken-preserved g c =
       runs_on = runs_on-then (g.D.Engine.agrees c.serve_next.new.drive) _ _ _ _ c.loop-taken.invariant.runs_on.quiet e.runs_on;
       shape = e.sizes.shape ∙ c.loop-taken.invariant.shape;
       in_faults = e.in_faults ∙ c.loop-taken.invariant.in_faults;
-      consumed = consumed-next _ _ _ c.loop-taken.taken c.loop-taken.invariant.consumed _ _ _ _ _ e.advances;
+      consumed = consumed-next _ _ _ c.loop-taken.taken c.loop-taken.invariant.consumed _ _ _ _ e.advances;
       looping = λ shape frames start stands none.
           let w = c.loop-taken.invariant.looping shape frames start stands none in
-          let T = saying_served (HasServed _ g.D.Engine.sight g.D.Engine.agrees g.D.Engine.built shape frames) in
-          Looping-next shape frames start _ _ _ _ _ _ _ c.loop-taken.taken T w (omega arith) _ (accepted_on _ g.D.Engine.sight g.D.Engine.agrees g.D.Engine.built shape frames w.m _ c.loop-taken.drive c.loop-taken.invariant.runs_on.running.agrees w.serving.stands) e.advances;
+          Looping-next shape frames start _ _ _ _ _ _ _ c.loop-taken.taken w (omega arith) e.advances;
     }
 
 pub returns-in-Err-clause-ends : goal.returns-in-Err-clause-ends
 returns-in-Err-clause-ends g c = λ shape frames start stands none.
     let e = c.in-Err.ensures in
     let D = g.D.Engine in
-    let S = HasServed _ D.sight D.agrees D.built shape frames in
-    let T = ToldBy _ D.sight D.agrees D.built c.serve_next.new.drive shape frames in
-    let w = Looping-refusing shape frames start _ _ _ _ c.loop-taken.taken S (λ m r. D.built c.serve_next.new.drive r ≡ false) (c.loop-taken.invariant.looping shape frames start stands none) in
-    Finish-quits shape frames start _ _ (g.B.Nand.state c.serve_next.new.board) _ (D.sight c.serve_next.new.drive) _ (bytes_of c.serve_next.new.held.heads) c.loop-taken.taken T w (omega arith) _ c.in-Err.end c.loop-taken.invariant.in_faults
-    (elim e.open [ inl f ↦ inl f | inr o ↦ inr (refused_on _ D.built c.loop-taken.drive c.serve_next.new.drive S w.m o.1, ap D.sight o.1, ap bytes_of o.2) ]) e.quits
+    let w = c.loop-taken.invariant.looping shape frames start stands none in
+    Finish-quits shape frames start _ _ (g.B.Nand.state c.serve_next.new.board) _ (D.sight c.serve_next.new.drive) _ (bytes_of c.serve_next.new.held.heads) c.loop-taken.taken w (omega arith) c.in-Err.end c.loop-taken.invariant.in_faults
+    (elim e.open [ inl f ↦ inl f | inr o ↦ inr (ap D.sight o.1, ap bytes_of o.2) ]) e.quits
 
 pub returns-in-Err-take_entry-clause-ends : goal.returns-in-Err-take_entry-clause-ends
 returns-in-Err-take_entry-clause-ends g c = λ shape frames start stands none.
     let full : c.loop-taken.taken ≡ 4294967295 = omega arith in
-    let D = g.D.Engine in
-    let S = HasServed _ D.sight D.agrees D.built shape frames in
-    let T = ToldBy _ D.sight D.agrees D.built c.loop-taken.drive shape frames in
-    let w = Looping-refusing shape frames start _ _ _ _ c.loop-taken.taken S (λ m r. D.built c.loop-taken.drive r ≡ false) (c.loop-taken.invariant.looping shape frames start stands none) in
-    none_taken shape frames start _ _ _ _ _ _ _ c.loop-taken.taken T w true (λ _. inl full) (λ h. absurd (true_false h)) NoneRefused
-    (λ entry h. absurd h) c.in-Err-take_entry.end c.loop-taken.invariant.in_faults refl refl c.in-Err-take_entry.ensures.err
+    let w = c.loop-taken.invariant.looping shape frames start stands none in
+    none_taken shape frames start _ _ _ _ _ _ _ c.loop-taken.taken w true (λ _. inl full) (λ h. absurd (true_false h)) c.in-Err-take_entry.end c.loop-taken.invariant.in_faults refl refl c.in-Err-take_entry.ensures.err
 
 pub returns-in-Err-clause-blames : goal.returns-in-Err-clause-blames
 returns-in-Err-clause-blames g c = blames-then _ _ _ c.in-Err.end c.loop-taken.invariant.in_faults c.loop-taken.invariant.runs_on.quiet c.in-Err.ensures.blames
 
 pub returns-in-Err-take_entry-clause-blames : goal.returns-in-Err-take_entry-clause-blames
 returns-in-Err-take_entry-clause-blames g c =
-    blames-then _ _ _ c.in-Err-take_entry.end c.loop-taken.invariant.in_faults c.loop-taken.invariant.runs_on.quiet (blames-entry _ _ true NoneRefused c.in-Err-take_entry.end c.in-Err-take_entry.ensures.err)
+    blames-then _ _ _ c.in-Err-take_entry.end c.loop-taken.invariant.in_faults c.loop-taken.invariant.runs_on.quiet (blames-entry _ _ true c.in-Err-take_entry.end c.in-Err-take_entry.ensures.err)
 
 pub returns-in-Err-clause-consumes : goal.returns-in-Err-clause-consumes
-returns-in-Err-clause-consumes g c = consumes-quits _ _ _ c.loop-taken.taken c.loop-taken.invariant.consumed _ _ _ c.in-Err.end c.in-Err.ensures.quits
+returns-in-Err-clause-consumes g c = consumes-quits _ _ _ c.loop-taken.taken c.loop-taken.invariant.consumed _ _ c.in-Err.end c.in-Err.ensures.quits
 
 pub returns-in-Err-take_entry-clause-consumes : goal.returns-in-Err-take_entry-clause-consumes
 returns-in-Err-take_entry-clause-consumes g c =
     let full : c.loop-taken.taken ≡ 4294967295 = omega arith in
-    consumes-entry _ _ _ c.loop-taken.taken c.loop-taken.invariant.consumed true (λ _. inl full) NoneRefused c.in-Err-take_entry.end c.in-Err-take_entry.ensures.err
+    consumes-entry _ _ _ c.loop-taken.taken c.loop-taken.invariant.consumed true (λ _. inl full) c.in-Err-take_entry.end c.in-Err-take_entry.ensures.err

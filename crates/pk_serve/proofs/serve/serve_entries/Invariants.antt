@@ -5,9 +5,7 @@ use Rattle.pk_queue.specs.Queue.{bytes_of}
 use Rattle.pk_drive.specs.Drive.{HoldsMap}
 use Rattle.pk_serve.specs.Part.{KeepsRunning}
 use Rattle.pk_serve.specs.Script.{Consumed}
-use Rattle.pk_serve.specs.Told.{HasServed}
 use Rattle.pk_serve.specs.Loop.{Looping}
-use Rattle.pk_serve.proofs.Looping.{saying_served}
 use Rattle.pk_serve.proofs.serve.serve_entries.Given as goal
 
 abbrev pub invariant-loop-taken : goal.invariant-loop-taken
@@ -20,5 +18,5 @@ invariant-loop-taken g l =
       in_faults : b.in_faults ≡ a.in_faults;
       consumed : Consumed a b l.taken [];
       looping : (shape : Shape) (frames : ℕ) (start : Map) → HoldsMap shape frames a (g.D.Engine.sight l.initial.drive) start → (g.D.Engine.sight l.initial.drive).pending ≡ []
-          → Looping shape frames start a b (g.D.Engine.sight l.drive) (bytes_of l.held.heads) l.taken (saying_served (HasServed _ g.D.Engine.sight g.D.Engine.agrees g.D.Engine.built shape frames));
+          → Looping shape frames start a b (g.D.Engine.sight l.drive) (bytes_of l.held.heads) l.taken;
     }

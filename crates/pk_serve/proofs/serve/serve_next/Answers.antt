@@ -1,4 +1,4 @@
-use Rattle.std.proofs.Common.{inl, inr, refl, rules, sym, ◌∙◌}
+use Rattle.std.proofs.Common.{inl, inr, sym, ◌∙◌}
 use Rattle.pk_queue.specs.Queue.{bytes_of}
 use Rattle.pk_serve.specs.declared.end.End.TheVariants.{Truncated, Input}
 use Rattle.pk_serve.proofs.Nexting.{Advances-one, Fails-one, BreaksOff-value, FailsAt-value, worn_is, Quits-entry}
@@ -9,7 +9,7 @@ use Rattle.pk_serve.proofs.serve.serve_next.Goals as goal
 pub returns-in-Ok-serve_one-clause-advances : goal.returns-in-Ok-serve_one-clause-advances
 returns-in-Ok-serve_one-clause-advances g c =
     let valued = rw c.in-Some.is at c.in-Ok-take_value.ensures.ok in
-    Advances-one _ _ _ _ c.in-Ok.ensures.ok c.in-Ok.ensures.len c.of-request.result c.of-request.ensures _ _ valued _ _ _ _ c.in-Ok-serve_one.ensures.rest.input _ _ _ (c.of-request.result, refl, search rules) c.in-Ok-serve_one.ensures.serves
+    Advances-one _ _ _ _ c.in-Ok.ensures.ok c.in-Ok.ensures.len c.of-request.result c.of-request.ensures _ _ valued _ _ _ _ c.in-Ok-serve_one.ensures.rest.input _ _ c.in-Ok-serve_one.ensures.serves
 
 pub returns-in-Err-serve_one-clause-quits : goal.returns-in-Err-serve_one-clause-quits
 returns-in-Err-serve_one-clause-quits g c =
@@ -30,7 +30,7 @@ returns-in-Err-take_value-clause-quits g c =
 pub returns-in-Err-clause-quits : goal.returns-in-Err-clause-quits
 returns-in-Err-clause-quits g c =
     let worn = worn_is (g.D.Engine.agrees c.args.drive.now) (g.B.Nand.state c.args.board.now) c.args.shape.now _ c.requires.buffers.room.shape_is c.requires.running.agrees (λ s f h. c.is_worn-worn.ensures s f h c.requires.running.runs) in
-    Quits-entry _ _ _ (bytes_of c.args.held.now.heads) c.args.taken _ c.in-Err.end _ worn c.in-Err.ensures.err
+    Quits-entry _ _ _ (bytes_of c.args.held.now.heads) c.args.taken c.in-Err.end _ worn c.in-Err.ensures.err
 
 pub returns-in-Ok-serve_one-clause-runs_on : goal.returns-in-Ok-serve_one-clause-runs_on
 returns-in-Ok-serve_one-clause-runs_on g c =
@@ -60,4 +60,4 @@ returns-in-Err-take_value-clause-blames g c =
     blames-then (g.B.Nand.state c.args.board.now) (g.B.Nand.state c.take_entry.new.board) (g.B.Nand.state c.take_value.new.board) Input entered.0 entered.1 (blames-value (g.B.Nand.state c.take_entry.new.board) (g.B.Nand.state c.take_value.new.board) c.in-Err-take_value.ensures.err)
 
 pub returns-in-Err-clause-blames : goal.returns-in-Err-clause-blames
-returns-in-Err-clause-blames g c = blames-entry (g.B.Nand.state c.args.board.now) (g.B.Nand.state c.take_entry.new.board) _ _ c.in-Err.end c.in-Err.ensures.err
+returns-in-Err-clause-blames g c = blames-entry (g.B.Nand.state c.args.board.now) (g.B.Nand.state c.take_entry.new.board) _ c.in-Err.end c.in-Err.ensures.err

@@ -1,4 +1,4 @@
-use Rattle.pk_serve.proofs.Closing.{keeps_script, keeps_some, answers_all, causes_all, none_left, ends_told}
+use Rattle.pk_serve.proofs.Closing.{keeps_script, keeps_some, answers_all, causes_all, none_left}
 use Rattle.pk_serve.proofs.Consuming.{says_of_script}
 use Rattle.pk_serve.proofs.Completing.{completes}
 use Rattle.pk_serve.proofs.server.Server.serve.Goals as goal
@@ -7,13 +7,12 @@ pub returns : goal.returns
 returns g c =
     let e = c.serve_all.ensures in
     let none = none_left _ _ _ e.none in
-    let told = ends_told _ g.D.Engine.sight g.D.Engine.agrees g.D.Engine.built _ _ _ _ _ e.ends e.none in
     record {
       blames = e.blames;
       says = says_of_script _ _ _ e.consumes;
-      kept = keeps_script _ _ _ _ _ _ e.ends;
-      kept_untold = keeps_some _ _ _ _ _ _ e.ends;
-      served = answers_all _ _ _ _ _ _ told none;
-      causes = causes_all _ _ _ _ _ _ told none;
-      complete = completes _ g.D.Engine.sight g.D.Engine.agrees g.D.Engine.built _ _ _ _ _ e.ends none;
+      kept = keeps_script _ _ _ _ _ e.ends;
+      kept_untold = keeps_some _ _ _ _ _ e.ends;
+      served = answers_all _ _ _ _ _ e.ends none;
+      causes = causes_all _ _ _ _ _ e.ends none;
+      complete = completes _ _ _ _ _ e.ends none;
     }
