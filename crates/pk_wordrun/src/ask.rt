@@ -23,17 +23,17 @@ pub fn ask<D: Engine, B: Nand>(
     question: &Question,
 ) -> Result<(), Halt>
     // The drive on its board, the question, and the buffer for data.
-    requires fits { Fits (D.agrees drive.old) shape (B.state board.old) (D.sight drive.old) }
+    requires fits { ∥ Fits (D.agrees drive.old) shape (B.state board.old) (D.sight drive.old) ∥₁ }
     requires shape { words.old.shape ≡ shape }
     requires short { IsShort (seen question.now) }
     requires room { 65536 ≤ length buffer.old }
     requires room_value { greatest shape ≤ length buffer.old }
 
     // The drive on its board, and what it made of the command.
-    ensures fits { Fits (D.agrees drive.new) shape (B.state board.new) (D.sight drive.new) }
-    ensures turns { Turns shape (mount (B.state board.old) (D.sight drive.old) (D.built drive.old))
-        (mount (B.state board.new) (D.sight drive.new) (D.built drive.new))
-        (command_of shape (seen question.now)) result }
+    ensures fits { ∥ Fits (D.agrees drive.new) shape (B.state board.new) (D.sight drive.new) ∥₁ }
+    ensures turns { Turns shape (mount (B.state board.old) (D.sight drive.old))
+        (mount (B.state board.new) (D.sight drive.new)) (command_of shape (seen question.now))
+        result }
 
     // The text.
     ensures said { OnOk result (Said (Answers (seen question.now))
@@ -43,15 +43,16 @@ pub fn ask<D: Engine, B: Nand>(
     ensures room { length buffer.new ≡ length buffer.old }
 {
     let mut tally = Tally::new();
-    let mut port = DrivePort {
-        drive,
-        board,
-        tally: &mut tally,
-        buffer,
-        shape,
+    let answered = {
+        let mut port = DrivePort {
+            drive,
+            board,
+            tally: &mut tally,
+            buffer,
+            shape,
+        };
+        words.answer(&mut port, question)
     };
-    let answered = words.answer(&mut port, question);
-    drop(port);
     match tally.halt {
         Some(halt) => Err(halt),
         None => match answered {

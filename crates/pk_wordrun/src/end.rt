@@ -15,8 +15,6 @@ pub enum WordEnd {
     Flash,
     /// No more roots are installed, and a command was to begin.
     Worn,
-    /// A command was to begin that the drive cannot serve.
-    NotBuilt,
 }
 
 /// How a word ends where a command was not answered.
@@ -26,6 +24,5 @@ pub fn end_of(halt: Halt) -> WordEnd
     match halt {
         Halt::Stopped => WordEnd::Flash,
         Halt::Worn => WordEnd::Worn,
-        Halt::NotBuilt => WordEnd::NotBuilt,
     }
 }
