@@ -1,2 +1,5 @@
 pub mod Ends
 pub mod Turns
+pub mod Summary
+pub mod Tasks
+pub mod Told

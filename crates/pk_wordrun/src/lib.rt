@@ -8,6 +8,7 @@ mod ask;
 mod end;
 mod say;
 mod speaker;
+mod tell;
 
 pub use end::WordEnd;
 pub use speaker::Speaker;
