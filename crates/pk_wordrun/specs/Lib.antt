@@ -3,3 +3,4 @@ pub mod Turns
 pub mod Summary
 pub mod Tasks
 pub mod Told
+pub mod Pieces

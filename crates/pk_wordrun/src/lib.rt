@@ -6,6 +6,8 @@
 
 mod ask;
 mod end;
+mod keys;
+mod list;
 mod say;
 mod speaker;
 mod tell;
