@@ -1,3 +1,4 @@
 mod Telling
 mod Posting
 mod Lists
+mod Counting

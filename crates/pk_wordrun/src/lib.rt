@@ -10,7 +10,9 @@ mod keys;
 mod list;
 mod say;
 mod speaker;
+mod summary;
 mod tell;
+mod workload;
 
 pub use end::WordEnd;
 pub use speaker::Speaker;
