@@ -1,6 +1,7 @@
 mod Within
 mod Sessions
 mod Telling
+mod Completing
 mod Images
 mod Runs
 mod Resting

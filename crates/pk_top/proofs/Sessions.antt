@@ -1,5 +1,5 @@
 -- A session from its load on: what is kept of it.
-use Rattle.std.proofs.Common.{◌≡◌, inl, inr, ℕ, List, [], Ok, refl, ap, subst}
+use Rattle.std.proofs.Common.{◌≡◌, inl, inr, ℕ, List, [], Ok, refl, ◌∙◌, ap, subst}
 use Rattle.pk_base.specs.Shape.{Shape}
 use Rattle.pk_base.specs.Page.{Flash}
 use Rattle.pk_base.specs.Map.{Map}
@@ -14,8 +14,8 @@ use Rattle.pk_model.specs.Sight.{Sight}
 use Rattle.pk_drive.specs.Drive.{HoldsMap}
 use Rattle.pk_model.specs.Growth.{Goes}
 use Rattle.pk_serve.specs.Ends.{Blames}
-use Rattle.pk_serve.specs.Told.{Told}
 use Rattle.pk_serve.specs.Run.{KeepsScript as KeepsScriptOf, KeepsSome as KeepsSomeOf, Answers, Causes}
+use Rattle.pk_serve.specs.Complete.{Completes}
 use Rattle.pk_serve.specs.Script.{SaysOfScript}
 use Rattle.pk_serve.specs.Serving.{KeptAt}
 use Rattle.pk_serve.specs.declared.end.End.{End}
@@ -23,10 +23,9 @@ use Rattle.pk_serve.proofs.Counting.{at_most-zero}
 use Rattle.pk_nand.specs.Effects.{OnlyReading}
 use Rattle.pk_scan.specs.Opening.{NotOpened}
 use Rattle.pk_scan.specs.declared.errors.OpenError.{OpenError}
-use Rattle.pk_core.specs.Parts.{Parts, sight_of, is_built}
-use Rattle.pk_core.specs.Agreeing.{DriveOnFlashBetween}
 use Rattle.pk_top.specs.Ends.{end_status, open_status}
-use Rattle.pk_top.specs.Serves.{KeptFrom, Serves, behind_opening}
+use Rattle.pk_top.specs.Serves.{KeptFrom, Serves, ServesAll, behind_opening}
+use Rattle.pk_top.proofs.Completing.{all_not, servable_behind, complete_before}
 
 -- ---- a drive that was not opened
 
@@ -57,6 +56,7 @@ pub Serves-not : (shape : Shape) (frames : ℕ) (loaded new : BoardState) (statu
 Serves-not shape frames loaded new status error tells reason only = record {
   kept = λ input told. goes-none shape frames loaded new (script input).0 only;
   kept_untold = ([], goes-none shape frames loaded new [] only);
+  complete = all_not shape frames loaded new status error tells reason;
   outcome = inl (record { error = error; tells = tells; reason = reason; only_reads = only });
 }
 
@@ -87,16 +87,24 @@ module _ (shape : Shape) (frames : ℕ) (loaded new : BoardState) (drive : Sight
     goes.2,
   )
 
+  all-opened : (status : ℕ) (end : End) → status ≡ end_status end → Completes (behind_opening shape frames loaded) new drive end → ServesAll shape frames loaded new status
+  all-opened status end tells complete m holds input told ok sound =
+      let held : Holds shape loaded.pages start = start-held in
+      let same : start ≡ m = cc in
+      let done = complete shape frames start stands none input told (servable_behind shape frames loaded new (script input).0 (script input).1 ok) in
+      inl (tells ∙ ap end_status done.0, complete_before shape frames loaded new (script input).0 start m same done.1)
+
   serves-to : (status : ℕ) (end : End) → status ≡ end_status end
       → Blames (behind_opening shape frames loaded) new end → SaysOfScript (behind_opening shape frames loaded) new end
       → KeepsScriptOf (behind_opening shape frames loaded) new drive → KeepsSomeOf (behind_opening shape frames loaded) new drive
-      → Answers (behind_opening shape frames loaded) new drive (Told Parts sight_of DriveOnFlashBetween is_built new) end → Causes (behind_opening shape frames loaded) new drive (Told Parts sight_of DriveOnFlashBetween is_built new) end
-      → Serves shape frames loaded new status
-  serves-to status end tells blames says kept kept_untold served causes =
+      → Answers (behind_opening shape frames loaded) new drive end → Causes (behind_opening shape frames loaded) new drive end
+      → Completes (behind_opening shape frames loaded) new drive end → Serves shape frames loaded new status
+  serves-to status end tells blames says kept kept_untold served causes complete =
       let some = kept_untold shape frames start stands none in
       record {
         kept = λ input told. goes-from (script input).0 (kept shape frames start stands none input told);
         kept_untold = (some.0, goes-from some.0 some.1);
+        complete = all-opened status end tells complete;
         outcome = inr (
           end,
           tells,
@@ -114,15 +122,16 @@ module _ (shape : Shape) (frames : ℕ) (loaded new : BoardState) (drive : Sight
 pub Serves-opened : (shape : Shape) (frames : ℕ) (loaded opened_board new : BoardState) (drive : Sight) (status : ℕ) (end : End)
     → opened_board ≡ behind_opening shape frames loaded → ((m : Map) × HoldsMap shape frames opened_board drive m) → drive.pending ≡ [] → status ≡ end_status end
     → Blames opened_board new end → SaysOfScript opened_board new end → KeepsScriptOf opened_board new drive → KeepsSomeOf opened_board new drive
-    → Answers opened_board new drive (Told Parts sight_of DriveOnFlashBetween is_built new) end → Causes opened_board new drive (Told Parts sight_of DriveOnFlashBetween is_built new) end
-    → Serves shape frames loaded new status
-Serves-opened shape frames loaded opened_board new drive status end is stands none tells blames says kept kept_untold served causes =
+    → Answers opened_board new drive end → Causes opened_board new drive end
+    → Completes opened_board new drive end → Serves shape frames loaded new status
+Serves-opened shape frames loaded opened_board new drive status end is stands none tells blames says kept kept_untold served causes complete =
     let T : BoardState → Type 0 = λ b. (m : Map) × HoldsMap shape frames b drive m in
     let B : BoardState → Type 0 = λ b. Blames b new end in
     let S : BoardState → Type 0 = λ b. SaysOfScript b new end in
     let K : BoardState → Type 0 = λ b. KeepsScriptOf b new drive in
     let U : BoardState → Type 0 = λ b. KeepsSomeOf b new drive in
-    let A : BoardState → Type 0 = λ b. Answers b new drive (Told Parts sight_of DriveOnFlashBetween is_built new) end in
-    let C : BoardState → Type 0 = λ b. Causes b new drive (Told Parts sight_of DriveOnFlashBetween is_built new) end in
+    let A : BoardState → Type 0 = λ b. Answers b new drive end in
+    let C : BoardState → Type 0 = λ b. Causes b new drive end in
+    let W : BoardState → Type 0 = λ b. Completes b new drive end in
     let at : T (behind_opening shape frames loaded) = subst T is stands in
-    serves-to shape frames loaded new drive at.0 at.1 none status end tells (subst B is blames) (subst S is says) (subst K is kept) (subst U is kept_untold) (subst A is served) (subst C is causes)
+    serves-to shape frames loaded new drive at.0 at.1 none status end tells (subst B is blames) (subst S is says) (subst K is kept) (subst U is kept_untold) (subst A is served) (subst C is causes) (subst W is complete)

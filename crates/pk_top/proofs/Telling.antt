@@ -10,7 +10,7 @@ use Rattle.pk_nand.specs.declared.types.LoadFault.TheVariants.{Fault, BadImage, 
 use Rattle.pk_model.specs.Reading.{Refuses}
 use Rattle.pk_serve.specs.Ends.{Blames}
 use Rattle.pk_serve.specs.declared.end.End.{End}
-use Rattle.pk_serve.specs.declared.end.End.TheVariants.{Done, Truncated, Input, Output, Flash, Worn, NotBuilt}
+use Rattle.pk_serve.specs.declared.end.End.TheVariants.{Done, Truncated, Input, Output, Flash, Worn}
 use Rattle.pk_nand.specs.Effects.{OnlyReading}
 use Rattle.pk_scan.specs.Opening.{NotOpened, OnlyReads}
 use Rattle.pk_scan.specs.declared.errors.OpenError.{OpenError}
@@ -22,7 +22,7 @@ use Rattle.pk_top.specs.Statuses.{GivesNothing, Untouched, FlashFailed, HasNoDri
 
 -- ---- one status each
 
-pub tells_good : (old new : BoardState) (status : ℕ) → (status ≡ 0) ⊎ ((status ≡ 3) ⊎ ((status ≡ 10) ⊎ (status ≡ 11))) → Tells old new status
+pub tells_good : (old new : BoardState) (status : ℕ) → (status ≡ 0) ⊎ ((status ≡ 3) ⊎ (status ≡ 10)) → Tells old new status
 tells_good old new status good = record {
   no_words = λ e. absurd (omega arith);
   input = λ e. absurd (omega arith);
@@ -117,7 +117,7 @@ load_untouched old new found l = record { gives = load_gives old new found l; tr
 refused_gives : (old new : BoardState) → LoadFailed old new → GivesNothing old new
 refused_gives old new l = record { input = ap (λ (s : BoardState). s.input) l.rest; posted = ap (λ (s : BoardState). s.posted) l.rest }
 
-refused_untouched : (old new : BoardState) → new.flash_faults ≡ old.flash_faults → LoadFailed old new → Untouched old new
+pub refused_untouched : (old new : BoardState) → new.flash_faults ≡ old.flash_faults → LoadFailed old new → Untouched old new
 refused_untouched old new sound l = record { gives = refused_gives old new l; trail = ap (λ (s : BoardState). s.trail) l.rest; sound = sound; held = l.held }
 
 -- a load that wants memory
@@ -178,8 +178,7 @@ module _ (shape : Shape) (old loaded new : BoardState) (found : Loaded old loade
   tells_end frames Input blames = let T : ℕ → Type 0 = λ n. Rose n new.in_faults in tells_input old new (subst T (ap (λ (s : BoardState). s.in_faults) found.rest) blames.0)
   tells_end frames Output blames = let T : ℕ → Type 0 = λ n. Rose n new.out_faults in tells_output old new (subst T (ap (λ (s : BoardState). s.out_faults) found.rest) blames)
   tells_end frames Flash blames = let T : ℕ → Type 0 = λ n. Rose n new.stop_faults in tells_flash old new 6 refl (inl (subst T (ap (λ (s : BoardState). s.stop_faults) found.rest) blames))
-  tells_end frames Worn blames = tells_good old new 10 (inr (inr (inl refl)))
-  tells_end frames NotBuilt blames = tells_good old new 11 (inr (inr (inr refl)))
+  tells_end frames Worn blames = tells_good old new 10 (inr (inr refl))
 
   tells_serves : (frames status : ℕ) → Serves shape frames loaded new status → Tells old new status
   tells_serves frames status s = elim s.outcome [
@@ -195,7 +194,6 @@ module _ (shape : Shape) (old loaded new : BoardState) (found : Loaded old loade
   end_memory Output e = omega arith
   end_memory Flash e = omega arith
   end_memory Worn e = omega arith
-  end_memory NotBuilt e = omega arith
 
   memory_serves : (frames status : ℕ) → Serves shape frames loaded new status → status ≡ 7 → Untouched old new
   memory_serves frames status s is = elim s.outcome [

@@ -5,25 +5,24 @@ use Rattle.pk_base.specs.Page.{Flash}
 use Rattle.pk_base.specs.Map.{Map}
 use Rattle.pk_nvme.specs.Command.{Command}
 use Rattle.pk_nand.specs.BoardState.{BoardState}
-use Rattle.pk_nand.specs.Calls.{Loaded}
+use Rattle.pk_nand.specs.Calls.{Loaded, Rose}
 use Rattle.pk_nand.specs.Erased.{after_reads}
 use Rattle.pk_model.specs.Kept.{Kept, rise}
 use Rattle.pk_model.specs.Reading.{Holds}
 use Rattle.pk_model.specs.Script.{script}
 use Rattle.pk_model.specs.Growth.{Goes}
 use Rattle.pk_serve.specs.Ends.{Blames}
-use Rattle.pk_serve.specs.Told.{Told}
 use Rattle.pk_serve.specs.Run.{ServedBy, ServedSome}
+use Rattle.pk_serve.specs.Complete.{IsServable, Complete}
 use Rattle.pk_serve.specs.Script.{Says}
 use Rattle.pk_serve.specs.declared.end.End.{End}
 use Rattle.pk_scan.specs.Reads.{opened}
 use Rattle.pk_scan.specs.Opening.{NotOpened}
 use Rattle.pk_nand.specs.Effects.{OnlyReading}
 use Rattle.pk_scan.specs.declared.errors.OpenError.{OpenError}
-use Rattle.pk_core.specs.Parts.{Parts, sight_of, is_built}
-use Rattle.pk_core.specs.Agreeing.{DriveOnFlashBetween}
 use Rattle.pk_top.specs.Ends.{end_status, open_status}
 use Rattle.pk_top.specs.Loads.{LoadRefused}
+use Rattle.pk_top.specs.Statuses.{Untouched}
 
 -- ---- the headline
 
@@ -60,13 +59,30 @@ pub record ServedTo (shape : Shape) (frames : ℕ) (loaded new : BoardState) (en
   pub holds : Holds shape loaded.pages start
   pub blames : Blames (behind_opening shape frames loaded) new end
   pub says : (input : List ℕ) → loaded.input ≡ Some input → Says new input end
-  pub served : (input : List ℕ) → loaded.input ≡ Some input → ServedBy shape frames start (behind_opening shape frames loaded) new input (Told Parts sight_of DriveOnFlashBetween is_built new shape frames) end
-  pub served_some : ServedSome shape frames start (behind_opening shape frames loaded) new (Told Parts sight_of DriveOnFlashBetween is_built new shape frames) end
+  pub served : (input : List ℕ) → loaded.input ≡ Some input → ServedBy shape frames start (behind_opening shape frames loaded) new input end
+  pub served_some : ServedSome shape frames start (behind_opening shape frames loaded) new end
+
+-- ---- completeness
+
+-- On a drive that is far from worn, where no call fails: a script that is whole was served, its records were posted, and the flash holds the map
+-- after it; or memory was missing, and nothing was done.
+abbrev pub ServesAll : Shape → ℕ → BoardState → BoardState → ℕ → Type 0
+ServesAll shape frames loaded new status =
+    (start : Map) → Holds shape loaded.pages start → (input : List ℕ) → loaded.input ≡ Some input
+    → IsServable loaded new (script input).0 (script input).1 → (Rose loaded.flash_faults new.flash_faults → ⊥)
+    → ((status ≡ 0) × Complete shape frames start loaded new (script input).0) ⊎ ((status ≡ 7) × Untouched loaded new)
+
+-- the same of a board that holds its pages from the start
+abbrev pub ServesWhole : ℕ → BoardState → BoardState → ℕ → Type 0
+ServesWhole frames old new status = (shape : Shape) → old.shape ≡ Some shape → ServesAll shape frames old new status
+
+-- ---- a run
 
 -- What was done on an image of this shape, from its load on.
 pub record Serves (shape : Shape) (frames : ℕ) (loaded new : BoardState) (status : ℕ) : Type 0 where
   pub kept : KeepsScript shape frames loaded new
   pub kept_untold : KeepsSome shape frames loaded new
+  pub complete : ServesAll shape frames loaded new status
   pub outcome : NotServed shape loaded new status ⊎ ((end : End) × (status ≡ end_status end) × ServedTo shape frames loaded new end)
 
 -- an image of this shape was found

@@ -6,7 +6,7 @@ ghost use Rattle.pk_top.specs.Statuses.{Tells, Untouched};
 ghost use Rattle.pk_top.specs.Resting.{Rests, RestsIn};
 ghost use Rattle.pk_top.specs.Texts.{seen};
 ghost use Rattle.pk_top.specs.TextRuns.{TextRun};
-ghost use Rattle.pk_top.specs.Serves.{ServeRun};
+ghost use Rattle.pk_top.specs.Serves.{ServeRun, ServesWhole};
 ghost use Rattle.pk_top.specs.Makes.{MakeRun, IsMade};
 ghost use Rattle.pk_text.specs.Assembled.{assembled};
 ghost use Rattle.pk_text.specs.Records.{shown};
@@ -49,6 +49,9 @@ pub fn run<B: Board>(alloc: Global, words: &[&str], board: &mut B) -> Status
     ensures serves { (frames : ℕ)
         → spec.word_of (map (λ w. w.now) words.now) ≡ Some (spec.serve frames)
         → ServeRun frames (B.state board.old) (B.state board.new) result.0 }
+    ensures serves_whole { (frames : ℕ)
+        → spec.word_of (map (λ w. w.now) words.now) ≡ Some (spec.serve frames)
+        → ServesWhole frames (B.state board.old) (B.state board.new) result.0 }
 
     // Those that touch no flash, and what any word leaves of it.
     ensures assembles { spec.word_of (map (λ w. w.now) words.now) ≡ Some spec.assemble

@@ -24,7 +24,6 @@ fn of_end(end: End) -> Status
         End::Output => Status::OUTPUT,
         End::Flash => Status::FLASH,
         End::Worn => Status::WORN,
-        End::NotBuilt => Status::NOT_BUILT,
     }
 }
 

@@ -1,8 +1,9 @@
-use Rattle.std.proofs.Common.{◌≡◌, Option, Some, map, option_map, subst, ◌∙◌}
+use Rattle.std.proofs.Common.{◌≡◌, Option, Some, map, option_map, subst, ◌∙◌, inl, refl}
 use Rattle.pk_top.specs.Words as spec
 use Rattle.pk_top.specs.Texts.{seen}
 use Rattle.pk_top.specs.declared.word.Word.{Word}
 use Rattle.pk_top.proofs.Images.{made_drive}
+use Rattle.pk_top.proofs.Completing.{whole_serve}
 use Rattle.pk_top.proofs.Within.{frames_within}
 use Rattle.pk_top.proofs.running.run.Goals as goal
 
@@ -19,3 +20,14 @@ returns-in-Ok-Some-clause-made g c =
     λ shape asked.
     let same : Some (seen c.in-Ok-Some.word) ≡ Some (spec.make shape) = subst T c.in-Ok-Some.field-0-is c.in-Ok-Some.ensures ∙ asked in
     made_drive shape (g.B.Nand.state c.args.board.now) (g.B.Nand.state c.obey.new.board) c.obey.result.0 (c.obey.ensures.makes shape (cc))
+
+pub returns-in-Ok-Some-clause-serves_whole : goal.returns-in-Ok-Some-clause-serves_whole
+returns-in-Ok-Some-clause-serves_whole g c =
+    let words = map (λ w. w.now) c.args.words.now in
+    let T : Option Word → Type 0 = λ o. option_map seen o ≡ spec.word_of words in
+    λ frames asked.
+    let same : Some (seen c.in-Ok-Some.word) ≡ Some (spec.serve frames) = subst T c.in-Ok-Some.field-0-is c.in-Ok-Some.ensures ∙ asked in
+    whole_serve frames (g.B.Nand.state c.args.board.now) (g.B.Nand.state c.obey.new.board) c.obey.result.0 (c.obey.ensures.serves frames (cc))
+
+pub returns-in-Err-clause-serves_whole : goal.returns-in-Err-clause-serves_whole
+returns-in-Err-clause-serves_whole g c = λ frames asked. whole_serve frames (g.B.Nand.state c.args.board.now) (g.B.Nand.state c.args.board.now) 7 (inl (refl, refl))
