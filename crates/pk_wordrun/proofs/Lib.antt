@@ -2,3 +2,4 @@ mod Telling
 mod Posting
 mod Lists
 mod Counting
+mod Opening

@@ -5,3 +5,4 @@ pub mod Sums
 pub mod Tasks
 pub mod Told
 pub mod Pieces
+pub mod Seen

@@ -11,8 +11,10 @@ mod list;
 mod say;
 mod speaker;
 mod summary;
+mod task;
 mod tell;
 mod workload;
 
 pub use end::WordEnd;
 pub use speaker::Speaker;
+pub use task::Task;
