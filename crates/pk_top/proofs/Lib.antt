@@ -2,7 +2,7 @@ mod Within
 mod Sessions
 mod Telling
 mod Completing
-mod Asking
+mod Asked
 mod Images
 mod Runs
 mod Resting

@@ -20,8 +20,6 @@ use Rattle.pk_scan.specs.Opening.{NotOpened}
 use Rattle.pk_scan.specs.declared.errors.OpenError.{OpenError}
 use Rattle.pk_words.specs.Lines.{key_lines}
 use Rattle.pk_words.specs.Says.{wanted_keys}
-use Rattle.pk_words.specs.Question.{command_of}
-use Rattle.pk_gen.specs.Workload.{workload}
 use Rattle.pk_wordrun.specs.Tasks.{Task, answer, list, generate, KeptTask}
 use Rattle.pk_wordrun.specs.Told.{Told, EndsBy}
 use Rattle.pk_wordrun.specs.declared.end.WordEnd.{WordEnd}
@@ -51,7 +49,14 @@ kept-none shape frames start cs before behind flash holds = record {
 pub silent : (task : Task) (before behind : ℕ) (shape : Shape) (frames : ℕ) (start : Map) (flash : Flash) → Holds shape flash start → KeptTask task before behind shape frames start flash []
 silent (answer q) before behind shape frames start flash holds = (kept-none shape frames start _ before behind flash holds, inl refl)
 silent (list from) before behind shape frames start flash holds = record { held = holds; text = key_lines (wanted_keys from start); says = (refl, inl refl); unposted = key_lines (wanted_keys from start); front = refl }
-silent (generate begin count) before behind shape frames start flash holds = (kept-none shape frames start (workload begin count) before behind flash holds, inl refl)
+silent (generate begin count) before behind shape frames start flash holds = (kept-none shape frames start _ before behind flash holds, inl refl)
+
+-- what a word keeps is a flash that holds a map
+pub task_holds : (task : Task) (before behind : ℕ) (shape : Shape) (frames : ℕ) (start : Map) (flash : Flash) (posted : List ℕ) → KeptTask task before behind shape frames start flash posted
+    → (m : Map) × Holds shape flash m
+task_holds (answer q) before behind shape frames start flash posted kept = (kept.0.map_left, kept.0.held)
+task_holds (list from) before behind shape frames start flash posted kept = (start, kept.held)
+task_holds (generate begin count) before behind shape frames start flash posted kept = (kept.0.map_left, kept.0.held)
 
 module _ (task : Task) (shape : Shape) (loaded new : BoardState) where
   abbrev KeptFrom : Flash → List ℕ → Type 0
@@ -106,6 +111,12 @@ module _ (task : Task) (shape : Shape) (loaded new : BoardState) where
       let at : T (behind_opening shape word_frames loaded) = subst T is stands in
       let F : ℕ → Type 0 = λ frames. Told task shape frames at.0 (behind_opening shape word_frames loaded) new end in
       told-by drive at.0 at.1 none status end tells (subst F at.1.frames_is (subst S is told at.0 (start-held drive at.0 at.1 none)))
+
+-- a drive of some frames is one of its own number of frames
+pub own_frames : (shape shape' : Shape) (frames : ℕ) (b : BoardState) (d : Sight) → shape' ≡ shape → (m : Map) × HoldsMap shape frames b d m → (m : Map) × HoldsMap shape' d.counts.frames b d m
+own_frames shape shape' frames b d same stands =
+    let T : Shape → Type 0 = λ s. (m : Map) × HoldsMap s d.counts.frames b d m in
+    subst T (sym same) (stands.0, record { shape_is = stands.1.shape_is; frames_is = refl; map_is = stands.1.map_is })
 
 -- ---- what the status tells
 
