@@ -2,6 +2,7 @@ mod Within
 mod Sessions
 mod Telling
 mod Completing
+mod Asked
 mod Images
 mod Runs
 mod Resting

@@ -239,3 +239,18 @@ fn every_cut_of_reclaims(rt: HostRuntime) -> Result<(), Fail> {
 fn every_call_fails(rt: HostRuntime) -> Result<(), Fail> {
     pk_sessions::reclaims::every_call_fails::<Pink>(rt.alloc())
 }
+
+#[test]
+fn words_that_ask(rt: HostRuntime) -> Result<(), Fail> {
+    pk_sessions::words::texts::<Pink>(rt.alloc())
+}
+
+#[test]
+fn words_that_fail(rt: HostRuntime) -> Result<(), Fail> {
+    pk_sessions::words::failures::<Pink>(rt.alloc())
+}
+
+#[test]
+fn words_on_a_torn_value(rt: HostRuntime) -> Result<(), Fail> {
+    pk_sessions::words::torn::<Pink>(rt.alloc())
+}

@@ -4,14 +4,20 @@ use Rattle.pk_top.specs.Texts.{seen}
 use Rattle.pk_top.specs.declared.word.Word.{Word}
 use Rattle.pk_top.proofs.Images.{made_drive}
 use Rattle.pk_top.proofs.Completing.{whole_serve}
-use Rattle.pk_top.proofs.Within.{frames_within}
+use Rattle.pk_top.proofs.Within.{frames_within, short_within}
 use Rattle.pk_top.proofs.running.run.Goals as goal
 
-pub obey-requires : goal.obey-requires
-obey-requires g c =
+pub obey-requires-clause-frames : goal.obey-requires-clause-frames
+obey-requires-clause-frames g c =
     let words = map (λ w. w.now) c.args.words.now in
     let T : Option Word → Type 0 = λ o. option_map seen o ≡ spec.word_of words in
     frames_within words (seen c.in-Ok-Some.word) (subst T c.in-Ok-Some.field-0-is c.in-Ok-Some.ensures)
+
+pub obey-requires-clause-short : goal.obey-requires-clause-short
+obey-requires-clause-short g c =
+    let words = map (λ w. w.now) c.args.words.now in
+    let T : Option Word → Type 0 = λ o. option_map seen o ≡ spec.word_of words in
+    short_within words (seen c.in-Ok-Some.word) (subst T c.in-Ok-Some.field-0-is c.in-Ok-Some.ensures)
 
 pub returns-in-Ok-Some-clause-made : goal.returns-in-Ok-Some-clause-made
 returns-in-Ok-Some-clause-made g c =

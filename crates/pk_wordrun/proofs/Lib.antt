@@ -1,0 +1,5 @@
+mod Telling
+mod Posting
+mod Lists
+mod Counting
+mod Opening

@@ -1,0 +1,13 @@
+//! What the words ask of a drive.
+
+use pk_base::Key;
+use pk_words::Question;
+
+/// What a word asks of a drive.
+#[derive(Drop)]
+pub enum Task {
+    /// The answer to a question.
+    Answer(Question),
+    /// The keys, from this one on or all.
+    List(Option<Key>),
+}
