@@ -158,10 +158,10 @@ module _ (d : Parts) (old : BoardState) (m : MayTick d old) (wants : WantsReclai
             stands = λ _. for_its_map d old m.agrees (λ s f x. HoldsMap s f new (sight_of d') x)
                 (record { shape_is = ready.shape_is; frames_is = (unread_stays d d' old new unread).frames; map_is = reads_as d' d.log.shape new.pages m.agrees.all still });
             cuts = λ _. for_its_map d old m.agrees (λ s f x. Reaches s old new (CrashFinds s background old.pages x)) (
-                [],
-                Reached-start old new (CrashFinds d.log.shape background old.pages m.agrees.all) (ap (λ (b : BoardState). b.shape) unread.only) pages_same (ap (λ (b : BoardState). b.trail) unread.only) (ap (λ (b : BoardState). b.posted) unread.only)
-                    (refl, subst (λ (es : List Entry). reading d.log.shape old.pages es ≡ Ok m.agrees.all) m.none (reads_as d d.log.shape old.pages m.agrees.all its_stand)),
-                tt,
+              [],
+              Reached-start old new (CrashFinds d.log.shape background old.pages m.agrees.all) (ap (λ (b : BoardState). b.shape) unread.only) pages_same (ap (λ (b : BoardState). b.trail) unread.only) (ap (λ (b : BoardState). b.posted) unread.only)
+                  (refl, subst (λ (es : List Entry). reading d.log.shape old.pages es ≡ Ok m.agrees.all) m.none (reads_as d d.log.shape old.pages m.agrees.all its_stand)),
+              tt,
             );
             cuts_stopped = λ e. absurd (false_true e);
             idle_rests = λ e. absurd (stopped_idle false e);

@@ -300,7 +300,6 @@ written_outside shape key page value (suc n) old k out =
     page_at-slice_set (written shape key page value n old).pages (page + n) k (whole (page_of shape key value n)) (λ e. out (omega (arith, e)) (omega (arith, e)))
     ∙ written_outside shape key page value n old k (λ low high. out low (omega (arith, high)))
 
-
 module _ (d : Parts) (key : Key) (value : List ℕ) (old : BoardState) (page : ℕ) (space : DataState) (q : Blocks) (new : BoardState)
     (is : PlacesValue d.log.shape key value d.space d.pool old page space q new) (ready : IsReady old d.log.shape) (ready_new : IsReady new d.log.shape)
     (room : needs_reclaim d.log.shape d.space d.pool (charge d.log.shape (length value)) ≡ false) where

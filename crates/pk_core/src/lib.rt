@@ -9,6 +9,7 @@ mod drive;
 mod emptying;
 mod engine;
 mod filled;
+mod jobs;
 mod list;
 mod lookup;
 mod making;

@@ -18,15 +18,13 @@ ghost use Rattle.pk_drive.specs.Steady.{IsSteady, live_blocks};
 ghost use Rattle.pk_model.specs.Tree.{Tree, IsTree};
 
 use crate::drive::Drive;
+use crate::jobs::no_jobs;
 use pk_base::Shape;
 use pk_data::Data;
-use pk_gc::ReclaimJob;
 use pk_log::Log;
 use pk_nand::Nand;
-use pk_plan::Plan;
 use pk_region::Region;
 use pk_scan::{Found, OpenError, scan};
-use pk_schedule::Schedule;
 use pk_walk::Walk;
 use std::alloc::AllocError;
 
@@ -49,15 +47,14 @@ impl<A: Region> Drive<A> {
         )?;
         let page = Vec::from_elem(alloc, 0u8, shape.page_bytes() as usize)?;
         let walk = Walk::new(alloc, shape)?;
-        let schedule = Schedule::new(alloc, Plan::of(shape), found.arena.frames())?;
-        let reclaim = ReclaimJob::new(alloc, shape)?;
+        let jobs = no_jobs(alloc, shape, found.arena.frames())?;
         Ok(Drive {
             log,
             levels: found.levels,
             arena: found.arena,
-            schedule,
+            schedule: jobs.schedule,
             space: Data::new(found.live),
-            reclaim,
+            reclaim: jobs.reclaim,
             pool: found.pool,
             keys: found.keys,
             stopped: false,
