@@ -1,5 +1,5 @@
 -- What refuses a command is no success.
-use Rattle.std.proofs.Common.{◌≡◌, ◌≢◌, ℕ, ◌/◌, ◌%◌, refl, sym, ap, ◌∙◌, arith, Bool, true, false, not, ◌&&◌, ◌||◌, ◌==◌, nat_le, Option, Some, None}
+use Rattle.std.proofs.Common.{◌≡◌, ◌≢◌, ℕ, ◌/◌, ◌%◌, refl, sym, ap, subst, ◌∙◌, arith, Bool, true, false, not, ◌&&◌, ◌||◌, ◌==◌, nat_le, Option, Some, None}
 use Rattle.pk_base.specs.Shape.{Shape, greatest}
 use Rattle.pk_nvme.specs.Command.{Command}
 use Rattle.pk_nvme.specs.declared.opcode.Opcode.{Opcode}
@@ -15,49 +15,58 @@ some_same x y e = cc
 none_some : (x : ℕ) → ◌≡◌ {A = Option ℕ} None (Some x) → ⊥
 none_some x e = cc
 
-refuses : (x status : ℕ) → x ≢ 0 → ◌≡◌ {A = Option ℕ} (Some x) (Some status) → status ≢ 0
-refuses x status ne is e = ne (some_same x status is ∙ e)
+-- a check that fails gives its status
+says : (P : ℕ → Type 0) (x status : ℕ) → P x → ◌≡◌ {A = Option ℕ} (Some x) (Some status) → P status
+says P x status here is = subst P (some_same x status is) here
 
 -- one of two checks fails, or what follows them
-two_checks : (a b : Bool) (x y status : ℕ) (last : Option ℕ) → x ≢ 0 → y ≢ 0 → (last ≡ Some status → status ≢ 0) → first_of (check a x) (first_of (check b y) last) ≡ Some status → status ≢ 0
-two_checks false b x y status last no_x no_y follows is = refuses x status no_x is
-two_checks true false x y status last no_x no_y follows is = refuses y status no_y is
-two_checks true true x y status last no_x no_y follows is = follows is
+two_checks : (P : ℕ → Type 0) (a b : Bool) (x y status : ℕ) (last : Option ℕ) → P x → P y → (last ≡ Some status → P status) → first_of (check a x) (first_of (check b y) last) ≡ Some status → P status
+two_checks P false b x y status last one other follows is = says P x status one is
+two_checks P true false x y status last one other follows is = says P y status other is
+two_checks P true true x y status last one other follows is = follows is
 
-one_check : (a : Bool) (x status : ℕ) → x ≢ 0 → check a x ≡ Some status → status ≢ 0
-one_check false x status ne is = refuses x status ne is
-one_check true x status ne is = absurd (none_some status is)
+one_check : (P : ℕ → Type 0) (a : Bool) (x status : ℕ) → P x → check a x ≡ Some status → P status
+one_check P false x status here is = says P x status here is
+one_check P true x status here is = absurd (none_some status is)
 
 -- ---- the checks of a Store on the map
 
 pub store_refuses : (options live most status : ℕ) (there : Bool) → store_check options there live most ≡ Some status → status ≢ 0
 store_refuses options live most status there is =
-    two_checks (not (options % 2 == 1) || there) (not (options / 2 % 2 == 1 && there)) 0x87 0x89 status (check (nat_le live most) 0x81) (λ e. omega (arith, e)) (λ e. omega (arith, e)) (one_check (nat_le live most) 0x81 status (λ e. omega (arith, e))) is
+    two_checks (λ x. x ≢ 0) (not (options % 2 == 1) || there) (not (options / 2 % 2 == 1 && there)) 0x87 0x89 status (check (nat_le live most) 0x81) (λ e. omega (arith, e)) (λ e. omega (arith, e))
+    (one_check (λ x. x ≢ 0) (nat_le live most) 0x81 status (λ e. omega (arith, e))) is
 
 -- ---- those that read the command alone
 
-size_refuses : (shape : Shape) (k : Opcode) (size status : ℕ) → size_fault shape k size ≡ Some status → status ≢ 0
-size_refuses shape Store size status is = one_check (nat_le size (greatest shape)) 0x85 status (λ e. omega (arith, e)) is
-size_refuses shape ListKeys size status is = one_check (nat_le 4 size) 0x02 status (λ e. omega (arith, e)) is
-size_refuses shape Flush size status is = absurd (none_some status is)
-size_refuses shape Retrieve size status is = absurd (none_some status is)
-size_refuses shape Delete size status is = absurd (none_some status is)
-size_refuses shape Exist size status is = absurd (none_some status is)
-size_refuses shape Tick size status is = absurd (none_some status is)
-size_refuses shape Report size status is = absurd (none_some status is)
+module _ (P : ℕ → Type 0) (opcode : P 0x01) (namespace : P 0x0B) (key : P 0x86) (value : P 0x85) (field : P 0x02) where
+  size_says : (shape : Shape) (k : Opcode) (size status : ℕ) → size_fault shape k size ≡ Some status → P status
+  size_says shape Store size status is = one_check P (nat_le size (greatest shape)) 0x85 status value is
+  size_says shape ListKeys size status is = one_check P (nat_le 4 size) 0x02 status field is
+  size_says shape Flush size status is = absurd (none_some status is)
+  size_says shape Retrieve size status is = absurd (none_some status is)
+  size_says shape Delete size status is = absurd (none_some status is)
+  size_says shape Exist size status is = absurd (none_some status is)
+  size_says shape Tick size status is = absurd (none_some status is)
+  size_says shape Report size status is = absurd (none_some status is)
 
-fault_refuses : (shape : Shape) (c : Command) (k : Option Opcode) (status : ℕ) → fault_of shape c k ≡ Some status → status ≢ 0
-fault_refuses shape c None status is = refuses 0x01 status (λ e. omega (arith, e)) is
-fault_refuses shape c (Some k) status is =
-    two_checks (is_namespace k c.namespace) (is_key_length k c.key_len) 0x0B 0x86 status (size_fault shape k c.size) (λ e. omega (arith, e)) (λ e. omega (arith, e)) (size_refuses shape k c.size status) is
+  fault_says : (shape : Shape) (c : Command) (k : Option Opcode) (status : ℕ) → fault_of shape c k ≡ Some status → P status
+  fault_says shape c None status is = says P 0x01 status opcode is
+  fault_says shape c (Some k) status is = two_checks P (is_namespace k c.namespace) (is_key_length k c.key_len) 0x0B 0x86 status (size_fault shape k c.size) namespace key (size_says shape k c.size status) is
 
 pub early_refuses : (shape : Shape) (c : Command) (status : ℕ) → early shape c ≡ Some status → status ≢ 0
-early_refuses shape c status is = fault_refuses shape c (op_of c.opcode) status is
+early_refuses shape c status is = fault_says (λ x. x ≢ 0) (λ e. omega (arith, e)) (λ e. omega (arith, e)) (λ e. omega (arith, e)) (λ e. omega (arith, e)) (λ e. omega (arith, e)) shape c (op_of c.opcode) status is
+
+-- nor does one of them tell of a read that failed
+pub early_sound : (shape : Shape) (c : Command) (status : ℕ) → early shape c ≡ Some status → status ≢ 0x88
+early_sound shape c status is = fault_says (λ x. x ≢ 0x88) (λ e. omega (arith, e)) (λ e. omega (arith, e)) (λ e. omega (arith, e)) (λ e. omega (arith, e)) (λ e. omega (arith, e)) shape c (op_of c.opcode) status is
 
 -- ---- an outcome of such a status
 
 pub told_refused : (o : Outcome) (status result data_len reads : ℕ) (stopped : Bool) → o ≡ record { status = status; result = result; data_len = data_len; reads = reads; stopped = stopped } → status ≢ 0 → o.status ≡ 0 → ⊥
 told_refused o status result data_len reads stopped told ne e = ne (sym (ap (λ (x : Outcome). x.status) told) ∙ e)
+
+pub told_sound : (o : Outcome) (status result data_len reads : ℕ) (stopped : Bool) → o ≡ record { status = status; result = result; data_len = data_len; reads = reads; stopped = stopped } → status ≢ 0x88 → o.status ≡ 0x88 → ⊥
+told_sound o status result data_len reads stopped told ne e = ne (sym (ap (λ (x : Outcome). x.status) told) ∙ e)
 
 -- a success does not stop the drive
 pub zero_runs : (o : Outcome) → (o.stopped ≡ true → o.status ≡ 0x88) → o.status ≡ 0 → o.stopped ≡ false

@@ -15,7 +15,7 @@ use Rattle.std.proofs.lemmas.Bool.{cases_eq}
 use Rattle.pk_base.specs.Shape.{charge}
 use Rattle.pk_core.proofs.Sights.{delete_no_store}
 use Rattle.pk_core.proofs.Staying.{stays_same, keeps_fresh, blocks_stay, blocks_grow}
-use Rattle.pk_core.proofs.Statuses.{told_refused, early_refuses, zero_runs}
+use Rattle.pk_core.proofs.Statuses.{told_refused, told_sound, early_refuses, early_sound, zero_runs}
 use Rattle.pk_core.proofs.Noted.{stores_all}
 use Rattle.pk_core.proofs.Quieting.{quietly_stores, quietly_deletes}
 use Rattle.std.proofs.Common.{arith}
@@ -121,3 +121,18 @@ returns-in-Some-clause-merge g c = λ _. merges_next c.args.self.now (g.B.Nand.s
 pub returns-in-None-clause-merge : goal.returns-in-None-clause-merge
 returns-in-None-clause-merge g c = λ runs.
     merges_next c.perform-outcome.new.self (g.B.Nand.state c.perform-outcome.new.board) (c.perform-outcome.ensures.executes.agrees runs) (subst (λ (d : Parts). IsShared d.pool.shape d.pool.states) c.self-in-None.view_is c.known-in-None.ensures)
+
+pub returns-in-Some-clause-report : goal.returns-in-Some-clause-report
+returns-in-Some-clause-report g c = λ _.
+    let is : early c.args.self.now.log.shape (command_of c.args.request.now c.args.value.now) ≡ Some c.in-Some.status = ap (λ (s : Shape). early s (command_of c.args.request.now c.args.value.now)) (sym c.shape.ensures) ∙ sym (c.early_fault.ensures c.args.value.now) ∙ c.in-Some.is in
+    (λ error. told_sound c.refusal.result c.in-Some.status 0 0 0 false c.refusal.ensures (early_sound c.args.self.now.log.shape (command_of c.args.request.now c.args.value.now) c.in-Some.status is) error, refl)
+
+pub returns-in-Some-clause-report_data : goal.returns-in-Some-clause-report_data
+returns-in-Some-clause-report_data g c = λ _ zero.
+    let is : early c.args.self.now.log.shape (command_of c.args.request.now c.args.value.now) ≡ Some c.in-Some.status = ap (λ (s : Shape). early s (command_of c.args.request.now c.args.value.now)) (sym c.shape.ensures) ∙ sym (c.early_fault.ensures c.args.value.now) ∙ c.in-Some.is in
+    absurd (told_refused c.refusal.result c.in-Some.status 0 0 0 false c.refusal.ensures (early_refuses c.args.self.now.log.shape (command_of c.args.request.now c.args.value.now) c.in-Some.status is) zero)
+
+pub returns-in-Some-clause-unread : goal.returns-in-Some-clause-unread
+returns-in-Some-clause-unread g c = λ error _.
+    let is : early c.args.self.now.log.shape (command_of c.args.request.now c.args.value.now) ≡ Some c.in-Some.status = ap (λ (s : Shape). early s (command_of c.args.request.now c.args.value.now)) (sym c.shape.ensures) ∙ sym (c.early_fault.ensures c.args.value.now) ∙ c.in-Some.is in
+    absurd (told_sound c.refusal.result c.in-Some.status 0 0 0 false c.refusal.ensures (early_sound c.args.self.now.log.shape (command_of c.args.request.now c.args.value.now) c.in-Some.status is) error)
