@@ -29,3 +29,6 @@ returns-clause-fresh g c = λ runs.
 
 pub returns-clause-blocks : goal.returns-clause-blocks
 returns-clause-blocks g c = λ runs. (c.step-answer.ensures.moves runs).no_more
+
+pub returns-clause-agrees : goal.returns-clause-agrees
+returns-clause-agrees g c = λ runs. between_none c.step-answer.new.self _ _ (c.step-answer.ensures.agrees runs) c.step-answer.ensures.none
