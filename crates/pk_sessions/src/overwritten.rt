@@ -50,12 +50,7 @@ pub fn push_store(into: &mut Vec<u8>, key: u32, value: &Value) -> Result<(), All
 }
 
 /// Adds the Stores with these numbers, of so many keys.
-pub fn push_stores(
-    into: &mut Vec<u8>,
-    keys: u32,
-    from: u32,
-    to: u32,
-) -> Result<(), AllocError> {
+pub fn push_stores(into: &mut Vec<u8>, keys: u32, from: u32, to: u32) -> Result<(), AllocError> {
     for command in from..to {
         push_store(into, key_of(command, keys), &value_of(command))?;
     }
@@ -134,7 +129,10 @@ pub fn firsts(alloc: Global, posted: &[u8], from: usize, keys: u32) -> Result<Ve
         let first = posted.get(record.data).copied().unwrap_or(0);
         push_value(&mut want, &Value { first, len: LEN })?;
         let data = posted.get(record.data..record.end()).unwrap_or(&[]);
-        holds(data == want.as_slice(), format_args!("the value of key {key}"))?;
+        holds(
+            data == want.as_slice(),
+            format_args!("the value of key {key}"),
+        )?;
         holds(
             1 <= record.reads && record.reads <= 5,
             format_args!("the reads of key {key}"),

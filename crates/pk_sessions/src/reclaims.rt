@@ -313,8 +313,16 @@ fn failing<P: Program>(
     flash.fail(alloc, call, left)?;
     let status = serve::<P>(alloc, &mut flash);
     let (held, next) = replayed(alloc, full, flash.posted(), full.keys, to)?;
-    let again = full.served::<P>(alloc, pages_left(alloc, &flash)?, third_script(alloc, full)?)?;
-    same(again.status, 0, format_args!("the status behind call {call}"))?;
+    let again = full.served::<P>(
+        alloc,
+        pages_left(alloc, &flash)?,
+        third_script(alloc, full)?,
+    )?;
+    same(
+        again.status,
+        0,
+        format_args!("the status behind call {call}"),
+    )?;
     let found = firsts(alloc, again.flash.posted(), 0, full.keys)?;
     holds(
         is_behind(full, held, &found, next, to),
@@ -349,7 +357,11 @@ pub fn every_call_fails<P: Program>(alloc: Global) -> Result<(), Fail> {
     let stored = SMALL.commands::<P>(alloc, SMALL.keys)?;
     let mut failed = 0u32;
     for call in 0..600u64 {
-        let left = if call % 2 == 0 { Left::Torn } else { Left::Done };
+        let left = if call % 2 == 0 {
+            Left::Torn
+        } else {
+            Left::Done
+        };
         if failing::<P>(alloc, &SMALL, &stored, 40, call, left)? {
             failed = failed.saturating_add(1);
         }
