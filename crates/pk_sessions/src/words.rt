@@ -12,6 +12,7 @@ use std::test::*;
 const NUMBERS: &[u8] = b"live 1\nlimit 492\nkeys 1\npinned 2\nframes 36\nleased 1\nactive 1\nfrozen 1\nrun1 1\nrun2 0\nrun3 0\nrun4 0\nepoch 1\nblocks 1\nready 0\nmerge 0\n";
 
 // Words, and the text that they are to post with status 0.
+#[derive(Clone, Copy, Debug)]
 struct Said {
     words: &'static str,
     text: &'static [u8],
