@@ -21,6 +21,7 @@ pub mod sessions;
 mod tried;
 mod ways;
 pub mod wear;
+pub mod words;
 
 pub use boards::{MAKE_WORKED, board, made, serve, worked};
 pub use tried::{Program, holds, same};

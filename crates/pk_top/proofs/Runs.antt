@@ -182,10 +182,10 @@ module _ (shape : Shape) (r : ProgramRun) (is : IsRun shape r) where
   left_resting word same rests m holds = (m, same m, ap (λ f. reading shape f []) ((sound_resting rests).0 r.left r.posted is.cut) ∙ holds)
 
   left_by : (word : Option Word) → word_of r.words ≡ word → Rests word r.old r.new → (m : Map) → Holds shape r.old.pages m → Left word m
-  left_by None of rests = left_resting None (λ m. refl) rests
-  left_by (Some (make other)) of rests = left_resting (Some (make other)) (λ m. refl) (rests some_shape)
-  left_by (Some assemble) of rests = left_resting (Some assemble) (λ m. refl) rests
-  left_by (Some show) of rests = left_resting (Some show) (λ m. refl) rests
+  left_by None of rests m holds = left_resting None (λ m. refl) rests m holds
+  left_by (Some (make other)) of rests m holds = left_resting (Some (make other)) (λ m. refl) (rests some_shape) m holds
+  left_by (Some assemble) of rests m holds = left_resting (Some assemble) (λ m. refl) rests m holds
+  left_by (Some show) of rests m holds = left_resting (Some show) (λ m. refl) rests m holds
   left_by (Some (serve frames)) of rests m holds =
       let kept = (sound_serving frames (is.serves frames of)).0 m holds r.left r.posted is.cut in
       (kept.map_left, (kept, refl), kept.held)

@@ -209,3 +209,18 @@ fn roots_fill_a_block(rt: HostRuntime) -> Result<(), Fail> {
 fn every_cut_of_merges(rt: HostRuntime) -> Result<(), Fail> {
     pk_sessions::merges::every_cut_of_merges::<Pink>(rt.alloc())
 }
+
+#[test]
+fn words_that_ask(rt: HostRuntime) -> Result<(), Fail> {
+    pk_sessions::words::texts::<Pink>(rt.alloc())
+}
+
+#[test]
+fn words_that_fail(rt: HostRuntime) -> Result<(), Fail> {
+    pk_sessions::words::failures::<Pink>(rt.alloc())
+}
+
+#[test]
+fn words_on_a_torn_value(rt: HostRuntime) -> Result<(), Fail> {
+    pk_sessions::words::torn::<Pink>(rt.alloc())
+}
