@@ -33,7 +33,7 @@ word_status Worn = 10
 abbrev pub KeepsTask : Task → Shape → BoardState → BoardState → Type 0
 KeepsTask task shape loaded new =
     Goes shape loaded new (λ flash posted. (start : Map) → Holds shape loaded.pages start
-        → KeptTask task loaded.read_faults new.read_faults shape word_frames start flash posted)
+    → KeptTask task loaded.read_faults new.read_faults shape word_frames start flash posted)
 
 -- The drive was opened, and the word came to this end.
 pub record AskedTo (task : Task) (shape : Shape) (loaded new : BoardState) (end : WordEnd) : Type 0 where

@@ -136,8 +136,14 @@ module _ (from : Option Key) (shape : Shape) (frames : ℕ) (start : Map) (a b :
       goes_on : (page : List Key) × (keys_left place start ≡ page ++ keys_left next start) × (text ≡ key_lines page) → IsSaying from shape start a (after_post asked text) next
       goes_on (page, split, spelled) =
           let begins : (out rest : List ℕ) → out ++ rest ≡ text → (f : Flash) → Holds shape f start → FrontOf shape start lines f (key_lines so_far.front ++ out) =
-              λ out rest e f h. (h, (rest ++ key_lines (keys_left next start), append_assoc (key_lines so_far.front) out (rest ++ key_lines (keys_left next start))
-                  ∙ (ap (λ t. key_lines so_far.front ++ t) (sym (append_assoc out rest (key_lines (keys_left next start))) ∙ ap (λ t. t ++ key_lines (keys_left next start)) (e ∙ spelled)) ∙ sym (pieces page (keys_left next start) split)))) in
+          λ out rest e f h. (
+            h,
+            (
+              rest ++ key_lines (keys_left next start),
+              append_assoc (key_lines so_far.front) out (rest ++ key_lines (keys_left next start))
+                  ∙ (ap (λ t. key_lines so_far.front ++ t) (sym (append_assoc out rest (key_lines (keys_left next start))) ∙ ap (λ t. t ++ key_lines (keys_left next start)) (e ∙ spelled)) ∙ sym (pieces page (keys_left next start) split)),
+            ),
+          ) in
           record {
             has = so_far.has;
             holds = so_far.holds;
@@ -225,8 +231,14 @@ module _ (from : Option Key) (shape : Shape) (frames : ℕ) (start : Map) (a b :
       → (out rest : List ℕ) → out ++ rest ≡ text → (f : Flash) → Holds shape f start → KeptTask (list from) x y shape frames start f (key_lines so_far.front ++ out)
   begins_lines next asked text is x y out rest e f h =
       let p = is.piece.lines start told in
-      all_lines x y f (key_lines so_far.front ++ out) (h, (rest ++ key_lines (keys_left next start), append_assoc (key_lines so_far.front) out (rest ++ key_lines (keys_left next start))
-          ∙ (ap (λ t. key_lines so_far.front ++ t) (sym (append_assoc out rest (key_lines (keys_left next start))) ∙ ap (λ t. t ++ key_lines (keys_left next start)) (e ∙ p.2)) ∙ sym (pieces p.0 (keys_left next start) p.1))))
+      all_lines x y f (key_lines so_far.front ++ out) (
+        h,
+        (
+          rest ++ key_lines (keys_left next start),
+          append_assoc (key_lines so_far.front) out (rest ++ key_lines (keys_left next start))
+              ∙ (ap (λ t. key_lines so_far.front ++ t) (sym (append_assoc out rest (key_lines (keys_left next start))) ∙ ap (λ t. t ++ key_lines (keys_left next start)) (e ∙ p.2)) ∙ sym (pieces p.0 (keys_left next start) p.1)),
+        ),
+      )
 
   ends_output : (c : BoardState) (asked : BoardState) (text : List ℕ) (next : Option Place) → PieceAsked shape b asked place next text → PostFailed asked c text → Told (list from) shape frames start a c Output
   ends_output c asked text (Some next) is failed = unposted asked text is.reads c failed (begins_lines next asked text is a.read_faults c.read_faults)
