@@ -1,5 +1,5 @@
 -- A workload, one command after another, and its summary.
-use Rattle.std.proofs.Common.{◌≡◌, inl, inr, ℕ, zero, suc, ◌+◌, ◌<◌, ◌≤◌, nat_le, List, [], ◌∷◌, ◌++◌, length, Option, Some, Result, Ok, Bool, true, false, refl, sym, ◌∙◌, ap, subst, arith, append-nil, append_assoc, length-append}
+use Rattle.std.proofs.Common.{◌≡◌, inl, inr, ℕ, zero, suc, ◌+◌, ◌*◌, ◌%◌, ◌<◌, ◌≤◌, ◌==◌, nat_le, nat_lt, if◌then◌else◌, List, [], ◌∷◌, ◌++◌, length, Option, Some, Result, Ok, Bool, true, false, refl, sym, ◌∙◌, ap, subst, arith, append-nil, append_assoc, length-append}
 use Rattle.std.specs.FinMap.{len}
 use Rattle.std.proofs.lemmas.List.{length-map}
 use Rattle.std.proofs.lemmas.Bool.Decides.{nat_tests}
@@ -10,19 +10,26 @@ use Rattle.pk_base.specs.Refusal.{Refusal}
 use Rattle.pk_base.specs.Map.{Map, live}
 use Rattle.pk_nvme.specs.Command.{Command}
 use Rattle.pk_nvme.specs.Seen.{command_of}
+use Rattle.pk_nvme.specs.declared.request.Request.{Request}
+use Rattle.pk_nvme.specs.declared.opcode.TheConstants.{STORE, RETRIEVE, LIST, DELETE, EXIST}
 use Rattle.pk_nand.specs.BoardState.{BoardState}
 use Rattle.pk_nand.specs.Calls.{Rose, longer, after_post, PostFailed}
-use Rattle.pk_gen.specs.Workload.{Generator, workload, generator, request_of, value_of}
+use Rattle.pk_gen.specs.Workload.{Generator, workload, generator, request_of, value_of, a_of, b_of, c_of, is_store, value_len, request, tick}
 use Rattle.pk_drive.specs.Drive.{CountsMap}
+use Rattle.pk_drive.specs.Exec.{most_installs}
+use Rattle.pk_drive.specs.Meter.{meter}
 use Rattle.pk_drive.specs.Seen.{counts_of}
 use Rattle.pk_drive.specs.declared.types.Counts.{Counts}
 use Rattle.pk_model.specs.Sight as model
 use Rattle.pk_model.specs.Sight.{Sight, map_of}
 use Rattle.pk_model.specs.Growth.{Goes}
 use Rattle.pk_model.specs.Kept.{rise}
+use Rattle.pk_model.specs.Wear.{roots}
 use Rattle.pk_model.specs.Reading.{reading, Holds}
 use Rattle.pk_model.specs.Run.{Exchange, commands}
 use Rattle.pk_model.proofs.Growing.{Goes-reaches, weaken_went}
+use Rattle.pk_serve.specs.Serving.{installs}
+use Rattle.pk_serve.proofs.Counting.{metered-roots}
 use Rattle.pk_port.specs.Asking.{Asked, KeptSilently}
 use Rattle.pk_port.specs.Ready.{Fits}
 use Rattle.pk_port.specs.Steps.{Mounted, Serves, Stops, Fails, HasCause}
@@ -37,7 +44,7 @@ use Rattle.pk_wordrun.specs.Tasks.{generate, SaysTask, KeptTask}
 use Rattle.pk_wordrun.specs.Told.{Told, NoFaults, KeepsInput}
 use Rattle.pk_wordrun.specs.declared.end.WordEnd.TheVariants.{Done, Output}
 use Rattle.pk_wordrun.specs.declared.summary.Summary.{Summary}
-use Rattle.pk_wordrun.proofs.Telling.{keeps-flash}
+use Rattle.pk_wordrun.proofs.Telling.{keeps-flash, done_unworn, output_unworn, flash_unworn}
 
 -- ---- the commands of a workload
 
@@ -48,6 +55,39 @@ command_at begin turn = command_of (request_of (generator begin turn)) (value_of
 workload-length : (begin count : ℕ) → length (workload begin count) ≡ count
 workload-length begin zero = refl
 workload-length begin (suc n) = let e = workload-length begin n in let more = length-append (workload begin n) (command_at begin n ∷ []) in omega (arith, e, more)
+
+-- ---- the roots that they install
+
+-- the command of a turn, by its draws
+abbrev picked : Bool → Bool → Bool → Bool → Bool → ℕ → ℕ → ℕ → Request
+picked s r d e t cid b c =
+    if s then request STORE cid b (value_len c)
+    else if r then request RETRIEVE cid b 4096
+    else if d then request DELETE cid b 0
+    else if e then request EXIST cid b 0
+    else if t then tick cid
+    else request LIST cid b 1024
+
+few_of : (s r d e t : Bool) (cid b c : ℕ) → most_installs (picked s r d e t cid b c).opcode (picked s r d e t cid b c).size ≤ 65535
+few_of true r d e t cid b c = omega arith
+few_of false true d e t cid b c = omega arith
+few_of false false true e t cid b c = omega arith
+few_of false false false true t cid b c = omega arith
+few_of false false false false true cid b c = omega arith
+few_of false false false false false cid b c = omega arith
+
+few_at : (begin turn : ℕ) → most_installs (command_at begin turn).opcode (command_at begin turn).size ≤ 65535
+few_at begin turn =
+    let g : Generator = generator begin turn in
+    few_of (is_store (a_of g)) (nat_lt (a_of g % 10) 7) (a_of g % 10 == 7) (a_of g % 10 == 8) (b_of g % 2 == 1) g.cid (b_of g) (c_of g)
+
+installs-push : (cs : List Command) (c : Command) → installs (cs ++ c ∷ []) ≡ installs cs + most_installs c.opcode c.size
+installs-push [] c = omega arith
+installs-push (d ∷ cs) c = let e = installs-push cs c in omega (arith, e)
+
+installs_few : (begin count : ℕ) → installs (workload begin count) ≤ 65535 * count
+installs_few begin zero = omega arith
+installs_few begin (suc n) = let e = installs_few begin n in let more = installs-push (workload begin n) (command_at begin n) in let few = few_at begin n in omega (arith, e, more, few)
 
 -- the first ones stand in front of more
 abbrev Front : ℕ → ℕ → ℕ → Type 0
@@ -102,6 +142,15 @@ module _ (begin turn : ℕ) (shape : Shape) (start : Map) (a : BoardState) (old 
   turns_are : length w.asked.answered.all ≡ turn
   turns_are = sym (length-map w.asked.answered.all (λ (x : Exchange). x.command)) ∙ (ap (λ (l : List Command). length l) w.asked.answered.are ∙ workload-length begin turn)
 
+  -- they installed few roots
+  roots_few : (count : ℕ) → turn < count → roots old.board ≤ roots a + 65535 * count
+  roots_few count small =
+      let up = metered-roots w.asked.answered.all (meter a) (meter old.board) w.asked.metered in
+      let T : List Command → Type 0 = λ l. roots old.board ≤ roots a + installs l in
+      let all = subst T w.asked.answered.are up in
+      let few = installs_few begin turn in
+      omega (arith, all, few, small)
+
   -- one more
   pub generated_next : turn < 4294967295 → (after : Summary)
       → (x : Exchange) × Serves shape old new (command_at begin turn) x × ((all : List Exchange) → length all < 4294967295 → Sums before all → Sums after (all ++ x ∷ []))
@@ -123,12 +172,13 @@ module _ (begin turn : ℕ) (shape : Shape) (start : Map) (a : BoardState) (old 
         let more = front begin (suc turn) count (omega (arith, small)) in
         let R : ℕ → Type 0 = λ n. Rose n new.board.stop_faults in
         let first = keeps-flash a old.board w.asked.rest in
-        let then = keeps-flash old.board new.board s.rest in
+        let behind = keeps-flash old.board new.board s.rest in
         record {
           kept = goes_all shape old.frames start (workload begin turn ++ command_at begin turn ∷ []) more.0 (workload begin count) more.1 (rise a.read_faults new.board.read_faults) a new.board
               (asked-stops shape start a (workload begin turn) old new (command_at begin turn) w.asked s);
           ends = subst R w.asked.no_stop s.stop;
-          input = record { input = then.input ∙ first.input; in_faults = then.in_faults ∙ first.in_faults };
+          used = λ e. absurd (flash_unworn e);
+          input = record { input = behind.input ∙ first.input; in_faults = behind.in_faults ∙ first.in_faults };
         }
 
     -- nothing was done
@@ -140,6 +190,7 @@ module _ (begin turn : ℕ) (shape : Shape) (start : Map) (a : BoardState) (old 
           kept = goes_all shape old.frames start (workload begin turn) more.0 (workload begin count) more.1 (rise a.read_faults old.board.read_faults) a old.board
               (Goes-reaches shape a old.board (KeptSilently shape old.frames start (workload begin turn) (rise a.read_faults old.board.read_faults)) w.asked.reached);
           ends = (cause, record { output = ap (λ (b : BoardState). b.out_faults) w.asked.rest; stop = w.asked.no_stop });
+          used = λ _. roots_few count small;
           input = keeps-flash a old.board w.asked.rest;
         }
 
@@ -206,6 +257,7 @@ module _ (begin count : ℕ) (shape : Shape) (frames : ℕ) (start : Map) (a b :
       holds = w.asked.held;
       sound = record { output = ap (λ (x : BoardState). x.out_faults) w.asked.rest; stop = w.asked.no_stop };
     };
+    used = λ e. absurd (done_unworn e);
     input = record { input = ap (λ (x : BoardState). x.input) w.asked.rest; in_faults = ap (λ (x : BoardState). x.in_faults) w.asked.rest };
   }
 
@@ -221,6 +273,7 @@ module _ (begin count : ℕ) (shape : Shape) (frames : ℕ) (start : Map) (a b :
       record {
         kept = subst G (sym same) (asked-post_failed Says shape frames start (workload begin count) a b w.asked text says_left last failed);
         ends = subst R (ap (λ (x : BoardState). x.out_faults) w.asked.rest) failed.faults;
+        used = λ e. absurd (output_unworn e);
         input = record {
           input = ap (λ (x : BoardState). x.input) failed.rest ∙ ap (λ (x : BoardState). x.input) w.asked.rest;
           in_faults = ap (λ (x : BoardState). x.in_faults) failed.rest ∙ ap (λ (x : BoardState). x.in_faults) w.asked.rest;
@@ -233,5 +286,6 @@ pub told_unfinished : (begin count : ℕ) (shape : Shape) (frames : ℕ) (start 
 told_unfinished begin count shape frames start a b halt u = record {
   kept = went-silent (SaysTask (generate begin count) a.read_faults b.read_faults shape frames start) shape frames start (workload begin count) (rise a.read_faults b.read_faults) a b u.kept;
   ends = u.ends;
+  used = u.used;
   input = u.input;
 }
