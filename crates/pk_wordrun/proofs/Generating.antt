@@ -30,7 +30,7 @@ use Rattle.pk_model.specs.Run.{Exchange, commands}
 use Rattle.pk_model.proofs.Growing.{Goes-reaches, weaken_went}
 use Rattle.pk_serve.specs.Serving.{installs}
 use Rattle.pk_serve.proofs.Counting.{metered-roots}
-use Rattle.pk_port.specs.Asking.{Asked, KeptSilently}
+use Rattle.pk_port.specs.Asking.{KeptSilently}
 use Rattle.pk_port.specs.Ready.{Fits}
 use Rattle.pk_port.specs.Steps.{Mounted, Serves, Stops, Fails, HasCause}
 use Rattle.pk_port.specs.declared.halt.Halt.{Halt}
@@ -38,10 +38,10 @@ use Rattle.pk_port.specs.declared.halt.Halt.TheVariants.{Stopped, Worn as UsedUp
 use Rattle.pk_port.proofs.Growing.{asked-none, asked-none-all, asked-next, asked-next-all, asked-stops, asked-posts, asked-post_failed, went-silent}
 use Rattle.pk_wordrun.specs.Ends.{end_of}
 use Rattle.pk_wordrun.specs.Generated.{Generated, Unfinished}
-use Rattle.pk_wordrun.specs.Summary.{SaysSummary, summary_lines}
+use Rattle.pk_wordrun.specs.Summary.{summary_lines}
 use Rattle.pk_wordrun.specs.Sums.{Sums}
 use Rattle.pk_wordrun.specs.Tasks.{generate, SaysTask, KeptTask}
-use Rattle.pk_wordrun.specs.Told.{Told, NoFaults, KeepsInput}
+use Rattle.pk_wordrun.specs.Told.{Told}
 use Rattle.pk_wordrun.specs.declared.end.WordEnd.TheVariants.{Done, Output}
 use Rattle.pk_wordrun.specs.declared.summary.Summary.{Summary}
 use Rattle.pk_wordrun.proofs.Telling.{keeps-flash, done_unworn, output_unworn, flash_unworn}

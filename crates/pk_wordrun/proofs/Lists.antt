@@ -1,5 +1,5 @@
 -- A list that goes out piece by piece.
-use Rattle.std.proofs.Common.{◌≡◌, ◌⊎◌, inl, inr, ℕ, ◌≤◌, List, [], ◌∷◌, ◌++◌, Option, Some, None, refl, sym, ◌∙◌, ap, subst, append-nil, append_assoc, arith, true}
+use Rattle.std.proofs.Common.{◌≡◌, inl, inr, ℕ, ◌≤◌, List, [], ◌∷◌, ◌++◌, Option, Some, None, refl, sym, ◌∙◌, ap, subst, append-nil, append_assoc, arith}
 use Rattle.std.proofs.lemmas.Grind.{flat_map-append}
 use Rattle.std.specs.Result.{result_ok}
 use Rattle.pk_base.specs.Key.{Key}
@@ -13,20 +13,18 @@ use Rattle.pk_nand.specs.Crash.{ReachedBy}
 use Rattle.pk_nand.specs.Effects.{OnlyReading}
 use Rattle.pk_nand.proofs.CutLemmas.{posted-append}
 use Rattle.pk_nand.proofs.Reaching.{Reached-start, Reached-then, Reached-post, Went-reached}
-use Rattle.pk_model.specs.Growth.{Reaches, Goes, GrowsAlong}
+use Rattle.pk_model.specs.Growth.{Reaches, Goes}
 use Rattle.pk_model.specs.Reading.{reading, Holds}
 use Rattle.pk_model.proofs.Growing.{weaken, Goes-reaches, Goes-then, grows_behind, Goes-post_failed, GrowsAlong-post}
 use Rattle.pk_model.specs.Wear.{root_number, roots}
-use Rattle.pk_port.specs.Steps.{seen}
 use Rattle.pk_wordrun.proofs.Telling.{done_unworn, output_unworn, flash_unworn}
-use Rattle.pk_words.specs.Lines.{key_line, key_lines, failed_line}
+use Rattle.pk_words.specs.Lines.{key_line, key_lines}
 use Rattle.pk_words.specs.Says.{wanted_keys}
-use Rattle.pk_words.specs.Listing.{keys_left, start_at, Piece}
+use Rattle.pk_words.specs.Listing.{keys_left, start_at}
 use Rattle.pk_words.specs.declared.listing.Place.{Place}
-use Rattle.pk_words.specs.declared.listing.Place.TheVariants.{First, From}
-use Rattle.pk_wordrun.specs.Pieces.{PieceAsked, PieceTold, PieceUnposted, PieceEnds}
-use Rattle.pk_wordrun.specs.Tasks.{Task, list, SaysTask, KeptTask, KeptList}
-use Rattle.pk_wordrun.specs.Told.{Told, NoFaults, KeepsInput}
+use Rattle.pk_wordrun.specs.Pieces.{PieceAsked, PieceTold, PieceEnds}
+use Rattle.pk_wordrun.specs.Tasks.{list, SaysTask, KeptTask}
+use Rattle.pk_wordrun.specs.Told.{Told}
 use Rattle.pk_wordrun.specs.declared.end.WordEnd.{WordEnd}
 use Rattle.pk_wordrun.specs.declared.end.WordEnd.TheVariants.{Done, Output, Flash as FlashFailed, Worn}
 

@@ -1,8 +1,7 @@
 -- A question that was answered, and what its answer makes of a board.
-use Rattle.std.proofs.Common.{◌≡◌, inl, inr, ℕ, List, [], ◌∷◌, ◌++◌, Option, Some, Result, Ok, refl, sym, ◌∙◌, ap, subst, true, false, arith}
+use Rattle.std.proofs.Common.{◌≡◌, inl, inr, ℕ, List, [], ◌∷◌, Option, Some, refl, sym, ◌∙◌, ap, subst, true, false, arith}
 use Rattle.std.specs.Result.{result_ok}
 use Rattle.pk_base.specs.Shape.{Shape, limit}
-use Rattle.pk_base.specs.Page.{Flash}
 use Rattle.pk_base.specs.Map.{Map}
 use Rattle.pk_nvme.specs.Command.{Command}
 use Rattle.pk_nand.specs.BoardState.{BoardState}
@@ -11,7 +10,7 @@ use Rattle.pk_nand.specs.Effects.{OnlyFlash}
 use Rattle.pk_nand.proofs.Reaching.{Reached-start, Went-reached}
 use Rattle.pk_model.specs.Growth.{Goes}
 use Rattle.pk_model.specs.Kept.{AtMost, rise}
-use Rattle.pk_model.specs.Reading.{reading, Holds}
+use Rattle.pk_model.specs.Reading.{Holds}
 use Rattle.pk_model.specs.Run.{Exchange}
 use Rattle.pk_model.proofs.Growing.{Goes-reaches}
 use Rattle.pk_serve.proofs.Counting.{at_most-zero}
@@ -23,8 +22,8 @@ use Rattle.pk_port.proofs.Growing.{asked-none, asked-next, asked-stops, asked-po
 use Rattle.pk_words.specs.Question.{Question, command_of, Answers}
 use Rattle.pk_words.specs.Said.{Said}
 use Rattle.pk_wordrun.specs.Ends.{end_of}
-use Rattle.pk_wordrun.specs.Tasks.{Task, answer, SaysTask, KeptTask}
-use Rattle.pk_wordrun.specs.Told.{Told, NoFaults, KeepsInput, EndsBy}
+use Rattle.pk_wordrun.specs.Tasks.{answer, SaysTask, KeptTask}
+use Rattle.pk_wordrun.specs.Told.{Told, KeepsInput}
 use Rattle.pk_wordrun.specs.declared.end.WordEnd.{WordEnd}
 use Rattle.pk_wordrun.specs.declared.end.WordEnd.TheVariants.{Done, Output, Flash as FlashFailed, Worn}
 

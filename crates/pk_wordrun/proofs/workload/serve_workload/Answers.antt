@@ -1,5 +1,5 @@
 use Rattle.std.proofs.Common.{◌≡◌, suc, ◌+◌, ℕ, refl, sym, ap, subst, ◌∙◌, arith}
-use Rattle.pk_gen.specs.Workload.{Generator, after, generator}
+use Rattle.pk_gen.specs.Workload.{after, generator}
 use Rattle.pk_port.specs.Steps.{Mounted, mount}
 use Rattle.pk_wordrun.specs.Generated.{Generated, Unfinished}
 use Rattle.pk_wordrun.proofs.Generating.{generated_none, generated_next, unfinished, counted_turn, failed_turn}

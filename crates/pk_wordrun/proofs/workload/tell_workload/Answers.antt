@@ -1,4 +1,4 @@
-use Rattle.std.proofs.Common.{List, ℕ, ap, sym, subst, ◌∙◌}
+use Rattle.std.proofs.Common.{List, ℕ, ap, subst, ◌∙◌}
 use Rattle.pk_nvme.specs.Bytes.{RoomyList}
 use Rattle.pk_nand.specs.Calls.{after_post, PostFailed}
 use Rattle.pk_wordrun.proofs.Generating.{counted, told_summary, told_unposted}
