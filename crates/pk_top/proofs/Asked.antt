@@ -100,7 +100,7 @@ module _ (task : Task) (shape : Shape) (loaded new : BoardState) where
         },
         told.kept.2,
       );
-      outcome = inr (end, tells, record { start = start; holds = start-held; ends = told.ends });
+      outcome = inr (end, tells, record { start = start; holds = start-held; ends = told.ends; used = told.used });
     }
 
   pub Asks-opened : (opened_board : BoardState) (drive : Sight) (status : ℕ) (end : WordEnd) → opened_board ≡ behind_opening shape word_frames loaded → ((m : Map) × HoldsMap shape word_frames opened_board drive m) → drive.pending ≡ []

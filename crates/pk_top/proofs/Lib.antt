@@ -3,6 +3,7 @@ mod Sessions
 mod Telling
 mod Completing
 mod Asked
+mod Answering
 mod Images
 mod Runs
 mod Resting

@@ -1,17 +1,16 @@
 -- A run of a word that asks the drive: a session of one word.
-use Rattle.std.specs.Prelude.{◌≡◌, ◌⊎◌, ℕ, ◌<◌, Some, None}
+use Rattle.std.specs.Prelude.{◌≡◌, ◌⊎◌, ℕ, ◌+◌, ◌<◌, ◌≤◌, List, Some, None}
 use Rattle.pk_base.specs.Shape.{Shape}
 use Rattle.pk_base.specs.Page.{Flash}
 use Rattle.pk_base.specs.Map.{Map}
-use Rattle.std.specs.Prelude.{List}
 use Rattle.pk_nand.specs.BoardState.{BoardState}
-use Rattle.pk_nand.specs.Calls.{Rose, Loaded, longer}
+use Rattle.pk_nand.specs.Calls.{Rose, Loaded}
 use Rattle.pk_model.specs.Growth.{Goes}
 use Rattle.pk_model.specs.Reading.{Holds}
 use Rattle.pk_model.specs.Wear.{roots}
 use Rattle.pk_serve.specs.Complete.{NoneRose}
 use Rattle.pk_wordrun.specs.Tasks.{Task, SaysTask, KeptTask}
-use Rattle.pk_wordrun.specs.Told.{EndsBy}
+use Rattle.pk_wordrun.specs.Told.{EndsBy, Finished, most_roots}
 use Rattle.pk_wordrun.specs.declared.end.WordEnd.{WordEnd}
 use Rattle.pk_wordrun.specs.declared.end.WordEnd.TheVariants.{Done, Output, Flash as FlashFailed, Worn}
 use Rattle.pk_top.specs.Loads.{LoadRefused}
@@ -34,13 +33,14 @@ word_status Worn = 10
 abbrev pub KeepsTask : Task → Shape → BoardState → BoardState → Type 0
 KeepsTask task shape loaded new =
     Goes shape loaded new (λ flash posted. (start : Map) → Holds shape loaded.pages start
-        → KeptTask task loaded.read_faults new.read_faults shape word_frames start flash posted)
+    → KeptTask task loaded.read_faults new.read_faults shape word_frames start flash posted)
 
 -- The drive was opened, and the word came to this end.
 pub record AskedTo (task : Task) (shape : Shape) (loaded new : BoardState) (end : WordEnd) : Type 0 where
   pub start : Map
   pub holds : Holds shape loaded.pages start
   pub ends : EndsBy task shape word_frames start (behind_opening shape word_frames loaded) new end
+  pub used : end ≡ Worn → roots new ≤ roots loaded + most_roots task
 
 -- What was done on an image of this shape, from its load on.
 pub record Asks (task : Task) (shape : Shape) (loaded new : BoardState) (status : ℕ) : Type 0 where
@@ -58,3 +58,16 @@ pub record AsksFound (task : Task) (old new : BoardState) (status : ℕ) : Type 
 abbrev pub AskRun : Task → BoardState → BoardState → ℕ → Type 0
 AskRun task old new status =
     ((status ≡ 7) × (new ≡ old)) ⊎ (LoadRefused old new status ⊎ (((status ≡ 8) × Loaded old new None) ⊎ AsksFound task old new status))
+
+-- ---- completeness
+
+-- On a drive that is far from worn, where no call fails: the word is done, and its text says that no read failed; or memory was missing, and nothing
+-- was done.
+abbrev pub AsksAll : Task → Shape → BoardState → BoardState → ℕ → Type 0
+AsksAll task shape loaded new status =
+    (start : Map) → Holds shape loaded.pages start → roots loaded < 4611686018427387904 → NoneRose loaded new → (Rose loaded.flash_faults new.flash_faults → ⊥)
+    → ((status ≡ 0) × Finished task shape word_frames start loaded new) ⊎ ((status ≡ 7) × Untouched loaded new)
+
+-- the same of a board that holds its pages from the start
+abbrev pub AsksWhole : Task → BoardState → BoardState → ℕ → Type 0
+AsksWhole task old new status = (shape : Shape) → old.shape ≡ Some shape → AsksAll task shape old new status

@@ -8,7 +8,7 @@ ghost use Rattle.pk_top.specs.Texts.{seen};
 ghost use Rattle.pk_top.specs.TextRuns.{TextRun};
 ghost use Rattle.pk_wordrun.specs.Seen.{IsShortTask};
 ghost use Rattle.pk_wordrun.specs.Tasks.{Task};
-ghost use Rattle.pk_top.specs.Asks.{AskRun};
+ghost use Rattle.pk_top.specs.Asks.{AskRun, AsksWhole};
 ghost use Rattle.pk_top.specs.Serves.{ServeRun, ServesWhole};
 ghost use Rattle.pk_top.specs.Makes.{MakeRun, IsMade};
 ghost use Rattle.pk_text.specs.Assembled.{assembled};
@@ -56,6 +56,9 @@ pub fn run<B: Board>(alloc: Global, words: &[&str], board: &mut B) -> Status
     ensures asks { (task : Task) → spec.is_later (spec.ask task) ≡ false
         → spec.word_of (map (λ w. w.now) words.now) ≡ Some (spec.ask task)
         → AskRun task (B.state board.old) (B.state board.new) result.0 }
+    ensures asks_whole { (task : Task) → spec.is_later (spec.ask task) ≡ false
+        → spec.word_of (map (λ w. w.now) words.now) ≡ Some (spec.ask task)
+        → AsksWhole task (B.state board.old) (B.state board.new) result.0 }
     ensures serves_whole { (frames : ℕ)
         → spec.word_of (map (λ w. w.now) words.now) ≡ Some (spec.serve frames)
         → ServesWhole frames (B.state board.old) (B.state board.new) result.0 }

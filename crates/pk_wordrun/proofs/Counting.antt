@@ -1,5 +1,5 @@
 -- The counters of a workload, one command after another.
-use Rattle.std.proofs.Common.{◌≡◌, ℕ, ◌+◌, ◌<◌, ◌≤◌, ◌==◌, max, if◌then◌else◌, List, [], ◌∷◌, ◌++◌, length, Bool, true, false, refl, sym, ◌∙◌, ap, subst, arith, length-append}
+use Rattle.std.proofs.Common.{◌≡◌, ℕ, ◌+◌, ◌<◌, ◌≤◌, ◌==◌, max, if◌then◌else◌, List, [], ◌∷◌, ◌++◌, length, Bool, true, false, refl, sym, ◌∙◌, ap, arith}
 use Rattle.pk_nvme.specs.declared.request.Request.{Request}
 use Rattle.pk_nvme.specs.declared.opcode.TheConstants.{RETRIEVE}
 use Rattle.pk_nvme.specs.declared.status.TheConstants.{SUCCESSFUL_COMPLETION, KEY_DOES_NOT_EXIST, INVALID_VALUE_SIZE, CAPACITY_EXCEEDED, UNRECOVERED_ERROR}

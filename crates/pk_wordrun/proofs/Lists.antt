@@ -1,5 +1,5 @@
 -- A list that goes out piece by piece.
-use Rattle.std.proofs.Common.{◌≡◌, ◌⊎◌, inl, inr, ℕ, ◌≤◌, List, [], ◌∷◌, ◌++◌, Option, Some, None, refl, sym, ◌∙◌, ap, subst, append-nil, append_assoc, arith, true}
+use Rattle.std.proofs.Common.{◌≡◌, inl, inr, ℕ, ◌≤◌, List, [], ◌∷◌, ◌++◌, Option, Some, None, refl, sym, ◌∙◌, ap, subst, append-nil, append_assoc, arith}
 use Rattle.std.proofs.lemmas.Grind.{flat_map-append}
 use Rattle.std.specs.Result.{result_ok}
 use Rattle.pk_base.specs.Key.{Key}
@@ -7,24 +7,24 @@ use Rattle.pk_base.specs.Shape.{Shape}
 use Rattle.pk_base.specs.Page.{Flash}
 use Rattle.pk_base.specs.Map.{Map}
 use Rattle.pk_base.specs.Mark.{Mark, all_posted, post}
-use Rattle.pk_nand.specs.BoardState.{BoardState}
+use Rattle.pk_nand.specs.BoardState.{BoardState, shape_or_none}
 use Rattle.pk_nand.specs.Calls.{Rose, longer, after_post, PostFailed}
 use Rattle.pk_nand.specs.Crash.{ReachedBy}
 use Rattle.pk_nand.specs.Effects.{OnlyReading}
 use Rattle.pk_nand.proofs.CutLemmas.{posted-append}
 use Rattle.pk_nand.proofs.Reaching.{Reached-start, Reached-then, Reached-post, Went-reached}
-use Rattle.pk_model.specs.Growth.{Reaches, Goes, GrowsAlong}
+use Rattle.pk_model.specs.Growth.{Reaches, Goes}
 use Rattle.pk_model.specs.Reading.{reading, Holds}
 use Rattle.pk_model.proofs.Growing.{weaken, Goes-reaches, Goes-then, grows_behind, Goes-post_failed, GrowsAlong-post}
-use Rattle.pk_port.specs.Steps.{seen}
-use Rattle.pk_words.specs.Lines.{key_line, key_lines, failed_line}
+use Rattle.pk_model.specs.Wear.{root_number, roots}
+use Rattle.pk_wordrun.proofs.Telling.{done_unworn, output_unworn, flash_unworn}
+use Rattle.pk_words.specs.Lines.{key_line, key_lines}
 use Rattle.pk_words.specs.Says.{wanted_keys}
-use Rattle.pk_words.specs.Listing.{keys_left, start_at, Piece}
+use Rattle.pk_words.specs.Listing.{keys_left, start_at}
 use Rattle.pk_words.specs.declared.listing.Place.{Place}
-use Rattle.pk_words.specs.declared.listing.Place.TheVariants.{First, From}
-use Rattle.pk_wordrun.specs.Pieces.{PieceAsked, PieceTold, PieceUnposted, PieceEnds}
-use Rattle.pk_wordrun.specs.Tasks.{Task, list, SaysTask, KeptTask, KeptList}
-use Rattle.pk_wordrun.specs.Told.{Told, NoFaults, KeepsInput}
+use Rattle.pk_wordrun.specs.Pieces.{PieceAsked, PieceTold, PieceEnds}
+use Rattle.pk_wordrun.specs.Tasks.{list, SaysTask, KeptTask}
+use Rattle.pk_wordrun.specs.Told.{Told}
 use Rattle.pk_wordrun.specs.declared.end.WordEnd.{WordEnd}
 use Rattle.pk_wordrun.specs.declared.end.WordEnd.TheVariants.{Done, Output, Flash as FlashFailed, Worn}
 
@@ -134,8 +134,14 @@ module _ (from : Option Key) (shape : Shape) (frames : ℕ) (start : Map) (a b :
       goes_on : (page : List Key) × (keys_left place start ≡ page ++ keys_left next start) × (text ≡ key_lines page) → IsSaying from shape start a (after_post asked text) next
       goes_on (page, split, spelled) =
           let begins : (out rest : List ℕ) → out ++ rest ≡ text → (f : Flash) → Holds shape f start → FrontOf shape start lines f (key_lines so_far.front ++ out) =
-              λ out rest e f h. (h, (rest ++ key_lines (keys_left next start), append_assoc (key_lines so_far.front) out (rest ++ key_lines (keys_left next start))
-                  ∙ (ap (λ t. key_lines so_far.front ++ t) (sym (append_assoc out rest (key_lines (keys_left next start))) ∙ ap (λ t. t ++ key_lines (keys_left next start)) (e ∙ spelled)) ∙ sym (pieces page (keys_left next start) split)))) in
+          λ out rest e f h. (
+            h,
+            (
+              rest ++ key_lines (keys_left next start),
+              append_assoc (key_lines so_far.front) out (rest ++ key_lines (keys_left next start))
+                  ∙ (ap (λ t. key_lines so_far.front ++ t) (sym (append_assoc out rest (key_lines (keys_left next start))) ∙ ap (λ t. t ++ key_lines (keys_left next start)) (e ∙ spelled)) ∙ sym (pieces page (keys_left next start) split)),
+            ),
+          ) in
           record {
             has = so_far.has;
             holds = so_far.holds;
@@ -195,6 +201,7 @@ module _ (from : Option Key) (shape : Shape) (frames : ℕ) (start : Map) (a b :
             holds = held_asked asked is.reads text (KeptTask (list from) a.read_faults asked.read_faults shape frames start) (all_lines a.read_faults asked.read_faults) (begins_ending text a.read_faults asked.read_faults says);
             sound = record { output = ap (λ (s : BoardState). s.out_faults) is.reads ∙ so_far.output; stop = ap (λ (s : BoardState). s.stop_faults) is.reads ∙ so_far.stop };
           };
+          used = λ e. absurd (done_unworn e);
           input = record { input = ap (λ (s : BoardState). s.input) is.reads ∙ so_far.input; in_faults = ap (λ (s : BoardState). s.in_faults) is.reads ∙ so_far.in_faults };
         }
 
@@ -210,6 +217,7 @@ module _ (from : Option Key) (shape : Shape) (frames : ℕ) (start : Map) (a b :
       record {
         kept = fails_more asked only text (KeptTask (list from) a.read_faults c.read_faults shape frames start) (all_lines a.read_faults c.read_faults) begins c failed;
         ends = subst R (ap (λ (s : BoardState). s.out_faults) only ∙ so_far.output) failed.faults;
+        used = λ e. absurd (output_unworn e);
         input = record {
           input = ap (λ (s : BoardState). s.input) failed.rest ∙ (ap (λ (s : BoardState). s.input) only ∙ so_far.input);
           in_faults = ap (λ (s : BoardState). s.in_faults) failed.rest ∙ (ap (λ (s : BoardState). s.in_faults) only ∙ so_far.in_faults);
@@ -221,8 +229,14 @@ module _ (from : Option Key) (shape : Shape) (frames : ℕ) (start : Map) (a b :
       → (out rest : List ℕ) → out ++ rest ≡ text → (f : Flash) → Holds shape f start → KeptTask (list from) x y shape frames start f (key_lines so_far.front ++ out)
   begins_lines next asked text is x y out rest e f h =
       let p = is.piece.lines start told in
-      all_lines x y f (key_lines so_far.front ++ out) (h, (rest ++ key_lines (keys_left next start), append_assoc (key_lines so_far.front) out (rest ++ key_lines (keys_left next start))
-          ∙ (ap (λ t. key_lines so_far.front ++ t) (sym (append_assoc out rest (key_lines (keys_left next start))) ∙ ap (λ t. t ++ key_lines (keys_left next start)) (e ∙ p.2)) ∙ sym (pieces p.0 (keys_left next start) p.1))))
+      all_lines x y f (key_lines so_far.front ++ out) (
+        h,
+        (
+          rest ++ key_lines (keys_left next start),
+          append_assoc (key_lines so_far.front) out (rest ++ key_lines (keys_left next start))
+              ∙ (ap (λ t. key_lines so_far.front ++ t) (sym (append_assoc out rest (key_lines (keys_left next start))) ∙ ap (λ t. t ++ key_lines (keys_left next start)) (e ∙ p.2)) ∙ sym (pieces p.0 (keys_left next start) p.1)),
+        ),
+      )
 
   ends_output : (c : BoardState) (asked : BoardState) (text : List ℕ) (next : Option Place) → PieceAsked shape b asked place next text → PostFailed asked c text → Told (list from) shape frames start a c Output
   ends_output c asked text (Some next) is failed = unposted asked text is.reads c failed (begins_lines next asked text is a.read_faults c.read_faults)
@@ -239,6 +253,9 @@ module _ (from : Option Key) (shape : Shape) (frames : ℕ) (start : Map) (a b :
     so_far.reached.2,
   )
 
+  same_roots : roots b ≡ roots a
+  same_roots = λ k. root_number (shape_or_none (so_far.reached.1.same_shape k)) (so_far.pages k)
+
   pub saying_ends : (c : BoardState) (end : WordEnd) → PieceEnds shape b c place end → Told (list from) shape frames start a c end
   saying_ends c Done never = absurd never
   saying_ends c Output u = ends_output c u.asked u.text u.next u.is u.failed
@@ -247,6 +264,7 @@ module _ (from : Option Key) (shape : Shape) (frames : ℕ) (start : Map) (a b :
       record {
         kept = stands_still c s.0;
         ends = subst R so_far.stop s.2;
+        used = λ e. absurd (flash_unworn e);
         input = record { input = ap (λ (s : BoardState). s.input) s.0 ∙ so_far.input; in_faults = ap (λ (s : BoardState). s.in_faults) s.0 ∙ so_far.in_faults };
       }
   saying_ends c Worn w =
@@ -254,5 +272,6 @@ module _ (from : Option Key) (shape : Shape) (frames : ℕ) (start : Map) (a b :
       subst T (sym w.0) (record {
         kept = stands_still b refl;
         ends = (w.1, record { output = so_far.output; stop = so_far.stop });
+        used = λ e. (let same = same_roots in omega (arith, same));
         input = record { input = so_far.input; in_faults = so_far.in_faults };
       })

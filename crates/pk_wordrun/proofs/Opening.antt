@@ -1,5 +1,5 @@
 -- A drive that was opened fits its board.
-use Rattle.std.proofs.Common.{◌≡◌, [], Option, Some, false, Result, Ok, refl, sym, ap, subst}
+use Rattle.std.proofs.Common.{◌≡◌, [], Option, Ok, subst}
 use Rattle.pk_base.specs.Shape.{Shape, IsShape}
 use Rattle.pk_base.specs.Entry.{Entry}
 use Rattle.pk_base.specs.Page.{Flash}
@@ -11,10 +11,10 @@ use Rattle.pk_model.specs.Laws.{MapHeld}
 use Rattle.pk_model.specs.Reading.{reading}
 use Rattle.pk_model.specs.Sight.{Sight}
 use Rattle.pk_drive.specs.Drive.{HoldsMap}
-use Rattle.pk_port.specs.Ready.{Ready, Fits}
+use Rattle.pk_port.specs.Ready.{Fits}
 
 module _ (agrees : Option Shape → Flash → Type 0) (shape : Shape) (b : BoardState) (d : Sight) where
-  fits-opened : IsShape shape → MapHeld → IsReady b shape → agrees b.shape b.pages → d.pending ≡ [] → (m : Map) × HoldsMap shape d.counts.frames b d m → Fits agrees shape b d
+  pub fits-opened : IsShape shape → MapHeld → IsReady b shape → agrees b.shape b.pages → d.pending ≡ [] → (m : Map) × HoldsMap shape d.counts.frames b d m → Fits agrees shape b d
   fits-opened is_shape law ready agreed none stands =
       let R : List Entry → Type 0 = λ p. reading shape b.pages p ≡ Ok stands.0 in
       let held = law shape b.pages [] stands.0 is_shape ready.flash tt (subst R none stands.1.map_is) in

@@ -1,12 +1,12 @@
 -- A drive fits its board behind a post as before it.
-use Rattle.std.proofs.Common.{◌≡◌, List, ℕ, Option, Some, sym, subst, ap, false}
+use Rattle.std.proofs.Common.{◌≡◌, List, ℕ, Option, sym, subst}
 use mathlib.Core.Logic.{∥∥₁_map}
 use Rattle.pk_base.specs.Shape.{Shape}
 use Rattle.pk_base.specs.Page.{Flash}
 use Rattle.pk_nand.specs.BoardState.{BoardState}
 use Rattle.pk_nand.specs.Calls.{after_post}
 use Rattle.pk_model.specs.Sight.{Sight}
-use Rattle.pk_port.specs.Ready.{Ready, Fits}
+use Rattle.pk_port.specs.Ready.{Fits}
 
 module _ (agrees : Option Shape → Flash → Type 0) (shape : Shape) (b : BoardState) (text : List ℕ) (d : Sight) where
   fits-post : Fits agrees shape b d → Fits agrees shape (after_post b text) d

@@ -1,8 +1,7 @@
 -- A question that was answered, and what its answer makes of a board.
-use Rattle.std.proofs.Common.{◌≡◌, inl, inr, ℕ, List, [], ◌∷◌, ◌++◌, Option, Some, Result, Ok, refl, sym, ◌∙◌, ap, subst, true, false}
+use Rattle.std.proofs.Common.{◌≡◌, inl, inr, ℕ, List, [], ◌∷◌, Option, Some, refl, sym, ◌∙◌, ap, subst, true, false, arith}
 use Rattle.std.specs.Result.{result_ok}
 use Rattle.pk_base.specs.Shape.{Shape, limit}
-use Rattle.pk_base.specs.Page.{Flash}
 use Rattle.pk_base.specs.Map.{Map}
 use Rattle.pk_nvme.specs.Command.{Command}
 use Rattle.pk_nand.specs.BoardState.{BoardState}
@@ -11,7 +10,7 @@ use Rattle.pk_nand.specs.Effects.{OnlyFlash}
 use Rattle.pk_nand.proofs.Reaching.{Reached-start, Went-reached}
 use Rattle.pk_model.specs.Growth.{Goes}
 use Rattle.pk_model.specs.Kept.{AtMost, rise}
-use Rattle.pk_model.specs.Reading.{reading, Holds}
+use Rattle.pk_model.specs.Reading.{Holds}
 use Rattle.pk_model.specs.Run.{Exchange}
 use Rattle.pk_model.proofs.Growing.{Goes-reaches}
 use Rattle.pk_serve.proofs.Counting.{at_most-zero}
@@ -23,12 +22,23 @@ use Rattle.pk_port.proofs.Growing.{asked-none, asked-next, asked-stops, asked-po
 use Rattle.pk_words.specs.Question.{Question, command_of, Answers}
 use Rattle.pk_words.specs.Said.{Said}
 use Rattle.pk_wordrun.specs.Ends.{end_of}
-use Rattle.pk_wordrun.specs.Tasks.{Task, answer, SaysTask, KeptTask}
-use Rattle.pk_wordrun.specs.Told.{Told, NoFaults, KeepsInput, EndsBy}
-use Rattle.pk_wordrun.specs.declared.end.WordEnd.TheVariants.{Done, Output}
+use Rattle.pk_wordrun.specs.Tasks.{answer, SaysTask, KeptTask}
+use Rattle.pk_wordrun.specs.Told.{Told, KeepsInput}
+use Rattle.pk_wordrun.specs.declared.end.WordEnd.{WordEnd}
+use Rattle.pk_wordrun.specs.declared.end.WordEnd.TheVariants.{Done, Output, Flash as FlashFailed, Worn}
 
 pub some_same : (x y : Map) → ◌≡◌ {A = Option Map} (Some x) (Some y) → x ≡ y
 some_same x y e = cc
+
+-- a word that ended otherwise is none of a worn drive
+pub done_unworn : ◌≡◌ {A = WordEnd} Done Worn → ⊥
+done_unworn e = cc
+
+pub output_unworn : ◌≡◌ {A = WordEnd} Output Worn → ⊥
+output_unworn e = cc
+
+pub flash_unworn : ◌≡◌ {A = WordEnd} FlashFailed Worn → ⊥
+flash_unworn e = cc
 
 -- ---- what stays of a board
 
@@ -94,6 +104,7 @@ module _ (q : Question) (shape : Shape) (start : Map) (old new : Mounted) (has :
             holds = w.held;
             sound = record { output = ap (λ (b : BoardState). b.out_faults) s.rest; stop = s.no_stop };
           };
+          used = λ e. absurd (done_unworn e);
           input = record { input = ap (λ (b : BoardState). b.input) s.rest; in_faults = ap (λ (b : BoardState). b.in_faults) s.rest };
         }
 
@@ -111,6 +122,7 @@ module _ (q : Question) (shape : Shape) (start : Map) (old new : Mounted) (has :
         record {
           kept = subst G (sym same) (asked-post_failed says_now shape old.frames start cs old.board new.board w text says last failed);
           ends = subst R (ap (λ (b : BoardState). b.out_faults) s.rest) failed.faults;
+          used = λ e. absurd (output_unworn e);
           input = record {
             input = ap (λ (b : BoardState). b.input) failed.rest ∙ ap (λ (b : BoardState). b.input) s.rest;
             in_faults = ap (λ (b : BoardState). b.in_faults) failed.rest ∙ ap (λ (b : BoardState). b.in_faults) s.rest;
@@ -123,6 +135,7 @@ module _ (q : Question) (shape : Shape) (start : Map) (old new : Mounted) (has :
     kept = went-silent says_now shape old.frames start cs (rise old.board.read_faults new.board.read_faults) old.board new.board
         (asked-stops shape start old.board [] old new (command_of shape q) (asked-none shape old.frames start old.board has holds) s);
     ends = s.stop;
+    used = λ e. absurd (flash_unworn e);
     input = keeps-flash old.board new.board s.rest;
   }
 
@@ -133,6 +146,7 @@ module _ (q : Question) (shape : Shape) (start : Map) (old new : Mounted) (has :
     kept = kept-none (Says old.board.read_faults old.board.read_faults) shape old.frames start cs (rise old.board.read_faults old.board.read_faults) old.board
         (λ k zero. subst (AtMost (rise old.board.read_faults old.board.read_faults)) (sym zero) (at_most-zero (rise old.board.read_faults old.board.read_faults))) holds;
     ends = (cause, record { output = refl; stop = refl });
+    used = λ e. omega arith;
     input = record { input = refl; in_faults = refl };
   }
 

@@ -26,11 +26,7 @@ pub enum Question {
 
 impl Words {
     /// Says the answer of a question, by its one command, over a drive of the shape of these words.
-    pub fn answer<P: Port>(
-        &mut self,
-        port: &mut P,
-        question: &Question,
-    ) -> Result<(), PortFault>
+    pub fn answer<P: Port>(&mut self, port: &mut P, question: &Question) -> Result<(), PortFault>
         requires { IsShort (seen question.now) }
         ensures said { OnOk result ((P.state port.old).shape ≡ self.old.shape
             → Said (Answers (seen question.now)) (P.state port.old) (P.state port.new)

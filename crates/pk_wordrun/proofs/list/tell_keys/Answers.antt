@@ -1,7 +1,6 @@
-use Rattle.std.proofs.Common.{Option, Some, None, sym, subst}
+use Rattle.std.proofs.Common.{Option, sym, subst}
 use Rattle.pk_words.specs.declared.listing.Place.{Place}
-use Rattle.pk_wordrun.specs.Pieces.{PieceTold, PieceEnds}
-use Rattle.pk_wordrun.specs.declared.end.WordEnd.{WordEnd}
+use Rattle.pk_wordrun.specs.Pieces.{PieceTold}
 use Rattle.pk_wordrun.proofs.Lists.{IsSaying, saying_none, saying_more, saying_done, saying_ends}
 use Rattle.pk_wordrun.proofs.list.tell_keys.Goals as goal
 

@@ -1,6 +1,5 @@
-use Rattle.std.proofs.Common.{◌≡◌, ◌≤◌, length, false}
+use Rattle.std.proofs.Common.{◌≡◌, false}
 use Rattle.pk_base.specs.Map.{Map}
-use Rattle.pk_base.specs.Shape.{greatest}
 use Rattle.pk_model.specs.Reading.{Holds}
 use Rattle.pk_port.specs.Ready.{Fits}
 use Rattle.pk_words.specs.Listing.{pieces_left}
