@@ -3,3 +3,4 @@ mod Posting
 mod Lists
 mod Counting
 mod Opening
+mod Generating

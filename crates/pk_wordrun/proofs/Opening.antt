@@ -14,7 +14,7 @@ use Rattle.pk_drive.specs.Drive.{HoldsMap}
 use Rattle.pk_port.specs.Ready.{Ready, Fits}
 
 module _ (agrees : Option Shape → Flash → Type 0) (shape : Shape) (b : BoardState) (d : Sight) where
-  fits-opened : IsShape shape → MapHeld → IsReady b shape → agrees b.shape b.pages → d.pending ≡ [] → (m : Map) × HoldsMap shape d.counts.frames b d m → Fits agrees shape b d
+  pub fits-opened : IsShape shape → MapHeld → IsReady b shape → agrees b.shape b.pages → d.pending ≡ [] → (m : Map) × HoldsMap shape d.counts.frames b d m → Fits agrees shape b d
   fits-opened is_shape law ready agreed none stands =
       let R : List Entry → Type 0 = λ p. reading shape b.pages p ≡ Ok stands.0 in
       let held = law shape b.pages [] stands.0 is_shape ready.flash tt (subst R none stands.1.map_is) in

@@ -6,3 +6,4 @@ pub mod Tasks
 pub mod Told
 pub mod Pieces
 pub mod Seen
+pub mod Generated

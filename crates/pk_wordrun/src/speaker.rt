@@ -11,13 +11,21 @@ use crate::end::WordEnd;
 use crate::list::tell_keys;
 use crate::task::Task;
 use crate::tell::tell;
+use crate::workload::tell_workload;
 use pk_base::Shape;
 use pk_drive::Engine;
 use pk_model::laws::held_map;
 use pk_nand::Board;
+use pk_nvme::Bytes;
 use pk_words::Words;
 use std::alloc::{AllocError, Global};
 use std::marker::Model;
+
+/// The most bytes of a generated value.
+const MOST_VALUE_BYTES: usize = 4000;
+
+/// The most bytes of a summary: nine lines of at most 20.
+const SUMMARY_BYTES: usize = 9 * 20;
 
 /// All memory of the words, for drives of one shape, which is what contracts see of it.
 #[derive(Drop)]
@@ -25,10 +33,14 @@ pub struct Speaker {
     pub(crate) shape: Shape,
     pub(crate) words: Words,
     pub(crate) buffer: Vec<u8>,
+    /// The value of a generated Store.
+    pub(crate) value: Bytes,
+    /// The summary of a workload.
+    pub(crate) text: Bytes,
 }
 
 impl Model for Speaker {
-    ghost use Rattle.std.specs.Prelude.{◌≡◌, ◌≤◌, length};
+    ghost use Rattle.std.specs.Prelude.{◌≡◌, ◌≤◌, ◌*◌, length};
     ghost use Rattle.pk_base.specs.Shape as spec;
 
     ghost Value = { spec.Shape };
@@ -37,7 +49,9 @@ impl Model for Speaker {
 
     ghost invariant = { λ s. (s.words.shape ≡ s.shape)
         × (65536 ≤ length s.buffer.items)
-        × (spec.greatest s.shape ≤ length s.buffer.items) };
+        × (spec.greatest s.shape ≤ length s.buffer.items)
+        × (4000 ≤ s.value.room)
+        × (9 * 20 ≤ s.text.room) };
 }
 
 impl Speaker {
@@ -50,6 +64,8 @@ impl Speaker {
             shape,
             words: Words::new(alloc, shape)?,
             buffer: Vec::from_elem(alloc, 0u8, greatest.max(65536))?,
+            value: Bytes::with_room(alloc, MOST_VALUE_BYTES)?,
+            text: Bytes::with_room(alloc, SUMMARY_BYTES)?,
         })
     }
 
@@ -73,11 +89,16 @@ impl Speaker {
             shape,
             mut words,
             mut buffer,
+            mut value,
+            mut text,
         } = self;
         let room = buffer.as_mut_slice();
         match task {
             Task::Answer(question) => tell(&mut words, drive, board, room, shape, &question),
             Task::List(from) => tell_keys(&mut words, drive, board, room, shape, from),
+            Task::Generate(start, count) => tell_workload(
+                drive, board, room, shape, &mut value, &mut text, start, count,
+            ),
         }
     }
 }

@@ -10,4 +10,6 @@ pub enum Task {
     Answer(Question),
     /// The keys, from this one on or all.
     List(Option<Key>),
+    /// The summary of a workload, from a start, of so many commands.
+    Generate(u32, u32),
 }
