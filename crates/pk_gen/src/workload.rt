@@ -7,7 +7,7 @@ ghost use Rattle.pk_gen.specs.Workload.{Generator, begin, request_of, value_of, 
 use crate::command::command;
 use crate::draw::{drawn, step};
 use crate::value::write_value;
-use pk_nvme::Bytes;
+use pk_nvme::{Bytes, Request};
 use std::marker::Model;
 
 /// The generator of a workload. Contracts see its state and the identifier of its next command.
@@ -39,10 +39,10 @@ impl Workload {
         }
     }
 
-    /// The entry of the next command; its value, which is empty where it is no Store, replaces what stood there.
-    pub fn next(&mut self, value: &mut Bytes) -> [u8; 64]
+    /// The next command; its value, which is empty where it is no Store, replaces what stood there.
+    pub fn next_request(&mut self, value: &mut Bytes) -> Request
         requires { 4000 ≤ value.old.room }
-        ensures entry { result ≡ entry_of (request_of self.old) }
+        ensures request { result ≡ request_of self.old }
         ensures value { value.new ≡ record value.old { items = value_of self.old } }
         ensures after { self.new ≡ after self.old }
     {
@@ -59,6 +59,16 @@ impl Workload {
             self.state = second;
             value.clear();
         }
-        command(cid, a, b, c).entry()
+        command(cid, a, b, c)
+    }
+
+    /// The entry of the next command; its value, which is empty where it is no Store, replaces what stood there.
+    pub fn next(&mut self, value: &mut Bytes) -> [u8; 64]
+        requires { 4000 ≤ value.old.room }
+        ensures entry { result ≡ entry_of (request_of self.old) }
+        ensures value { value.new ≡ record value.old { items = value_of self.old } }
+        ensures after { self.new ≡ after self.old }
+    {
+        self.next_request(value).entry()
     }
 }

@@ -77,6 +77,10 @@ asked-none shape frames start a has holds = record {
   rest = refl;
 }
 
+pub asked-none-all : (shape : Shape) (frames : ℕ) (start : Map) (a : BoardState) (has : a.shape ≡ Some shape) (holds : Holds shape a.pages start) → (asked-none shape frames start a has holds).answered.all ≡ []
+unfolding asked-none
+asked-none-all shape frames start a has holds = refl
+
 -- two parts of a run
 flash-then : (a b c : BoardState) → OnlyFlash a b → OnlyFlash b c → OnlyFlash a c
 flash-then a b c first second = second ∙ ap (λ (s : BoardState). record s {
@@ -186,6 +190,10 @@ module _ (shape : Shape) (start : Map) (a : BoardState) (cs : List Command) (old
         no_stop = s.no_stop ∙ w.no_stop;
         rest = flash-then a old.board new.board w.rest s.rest;
       }
+
+  pub asked-next-all : (x : Exchange) (s : Serves shape old new c x) → (asked-next x s).answered.all ≡ w.answered.all ++ x ∷ []
+  unfolding asked-next
+  asked-next-all x s = refl
 
   -- one more command stopped the drive
   pub asked-stops : Stops shape old new c → Goes shape a new.board (KeptSilently shape old.frames start (cs ++ c ∷ []) (rise a.read_faults new.board.read_faults))

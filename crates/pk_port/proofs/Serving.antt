@@ -12,7 +12,8 @@ use Rattle.pk_nvme.specs.Command.{Command}
 use Rattle.pk_nvme.specs.Reply.{Reply}
 use Rattle.pk_nand.specs.BoardState.{BoardState, shape_of, shape_or_none}
 use Rattle.pk_nand.specs.Calls.{Rose}
-use Rattle.pk_nand.specs.Effects.{OnlyFlash}
+use Rattle.pk_nand.specs.Effects.{OnlyFlash, OnlyReading}
+use Rattle.pk_drive.specs.Calling.{only_looks}
 use Rattle.pk_model.specs.Reading.{reading, Holds}
 use Rattle.pk_model.specs.Sight.{Sight}
 use Rattle.pk_model.specs.Wear.{root_number, roots, is_worn}
@@ -76,11 +77,11 @@ module _ (agrees : Option Shape → Flash → Type 0) (shape : Shape) (old : Boa
         };
       }
 
-      pub serves_so : d.stopped ≡ false → e.stopped ≡ false → is_worn old ≡ false → OnlyFlash old new
+      pub serves_so : d.stopped ≡ false → e.stopped ≡ false → is_worn old ≡ false → OnlyFlash old new → (only_looks c.opcode ≡ true → OnlyReading old new)
           → old.read_faults ≤ new.read_faults → (rep.status ≡ 0x88 → Rose old.read_faults new.read_faults) → (rep.status ≢ 0x88 → new.read_faults ≡ old.read_faults) → new.stop_faults ≡ old.stop_faults
           → new.reads ≡ reads_after old.reads reads → roots new ≤ roots old + most_installs c.opcode c.size
           → Serves shape (mount old d) (mount new e) c (record { command = c; reply = rep; reads = reads })
-      serves_so going goes_on unworn rest up unread sound no_stop read few = record {
+      serves_so going goes_on unworn rest looks up unread sound no_stop read few = record {
         runs = record { going = going; unworn = unworn };
         is = refl;
         map = ready.map;
@@ -92,6 +93,7 @@ module _ (agrees : Option Shape → Flash → Type 0) (shape : Shape) (old : Boa
         metered = record { reads = read; failed = unread; sound = sound; unworn = (let h : nat_le 9223372036854775808 (roots old) ≡ false = unworn in grind (arith, nat_tests)); installs = few };
         up = up;
         no_stop = no_stop;
+        looks = looks;
         rest = rest;
         new_is = λ k. record { board = new; stopped = (goes_on ∙ sym going) k; frames = done.stands.frames_is k };
       }
@@ -122,9 +124,9 @@ module _ (agrees : Option Shape → Flash → Type 0) (shape : Shape) (old : Boa
 
     -- ---- a command that stopped the drive
 
-    pub fails_so : SubmitStops old new d c → d.stopped ≡ false → e.stopped ≡ true → is_worn old ≡ false → OnlyFlash old new
+    pub fails_so : SubmitStops old new d c → d.stopped ≡ false → e.stopped ≡ true → is_worn old ≡ false → OnlyFlash old new → (only_looks c.opcode ≡ true → OnlyReading old new)
         → old.read_faults ≤ new.read_faults → Rose old.stop_faults new.stop_faults → Fails shape (mount old d) (mount new e) c Stopped
-    fails_so stops going stopped unworn rest up stop = inl (
+    fails_so stops going stopped unworn rest looks up stop = inl (
       refl,
       record {
         runs = record { going = going; unworn = unworn };
@@ -134,6 +136,7 @@ module _ (agrees : Option Shape → Flash → Type 0) (shape : Shape) (old : Boa
         stopped = stopped;
         stop = stop;
         up = up;
+        looks = looks;
         rest = rest;
       },
     )

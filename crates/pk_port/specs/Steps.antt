@@ -6,12 +6,13 @@ use Rattle.pk_base.specs.Map.{Map}
 use Rattle.pk_nvme.specs.Command.{Command}
 use Rattle.pk_nand.specs.BoardState.{BoardState}
 use Rattle.pk_nand.specs.Calls.{Rose}
-use Rattle.pk_nand.specs.Effects.{OnlyFlash}
+use Rattle.pk_nand.specs.Effects.{OnlyFlash, OnlyReading}
 use Rattle.pk_model.specs.Growth.{Reaches, Goes}
 use Rattle.pk_model.specs.Reading.{reading, Holds}
 use Rattle.pk_model.specs.Run.{Exchange}
 use Rattle.pk_model.specs.Wear.{is_worn}
 use Rattle.pk_model.specs.Sight.{Sight}
+use Rattle.pk_drive.specs.Calling.{only_looks}
 use Rattle.pk_drive.specs.Meter.{meter, Metered}
 use Rattle.pk_drive.specs.Seen.{reply_of}
 use Rattle.pk_drive.specs.declared.types.Outcome.{Outcome}
@@ -71,6 +72,7 @@ pub record Serves (shape : Shape) (old new : Mounted) (c : Command) (x : Exchang
   pub metered : Metered (meter old.board) x (meter new.board)
   pub up : old.board.read_faults ≤ new.board.read_faults
   pub no_stop : new.board.stop_faults ≡ old.board.stop_faults
+  pub looks : only_looks c.opcode ≡ true → OnlyReading old.board new.board
   pub rest : OnlyFlash old.board new.board
   pub new_is : new ≡ record old { board = new.board }
 
@@ -83,6 +85,7 @@ pub record Stops (shape : Shape) (old new : Mounted) (c : Command) : Type 0 wher
   pub stopped : new.stopped ≡ true
   pub stop : Rose old.board.stop_faults new.board.stop_faults
   pub up : old.board.read_faults ≤ new.board.read_faults
+  pub looks : only_looks c.opcode ≡ true → OnlyReading old.board new.board
   pub rest : OnlyFlash old.board new.board
 
 -- why nothing is done

@@ -12,4 +12,5 @@ mod tally;
 
 pub use halt::Halt;
 pub use port::DrivePort;
+pub use step::serve_lent;
 pub use tally::Tally;

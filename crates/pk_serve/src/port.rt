@@ -4,7 +4,8 @@ ghost use Rattle.pk_base.specs.Shape.{greatest};
 ghost use Rattle.pk_nvme.specs.Seen.{command_of};
 ghost use Rattle.pk_nand.specs.BoardState.{shape_of};
 ghost use Rattle.pk_nand.specs.Calls.{Rose};
-ghost use Rattle.pk_nand.specs.Effects.{OnlyFlash};
+ghost use Rattle.pk_nand.specs.Effects.{OnlyFlash, OnlyReading};
+ghost use Rattle.pk_drive.specs.Calling.{only_looks};
 ghost use Rattle.pk_drive.specs.Exec.{most_installs, IsValue};
 ghost use Rattle.pk_drive.specs.Meter.{reads_after};
 ghost use Rattle.pk_drive.specs.Seen.{reply_of};
@@ -49,6 +50,8 @@ pub fn submit<D: Engine, B: Nand>(
     ensures none { OnOk result ((D.sight drive.new).pending ≡ []) }
     ensures fits { IfOk result (λ o. o.data_len ≤ length into.new) }
     ensures rest { OnlyFlash (B.state board.old) (B.state board.new) }
+    ensures looks { only_looks request.now.opcode ≡ true
+        → OnlyReading (B.state board.old) (B.state board.new) }
 
     // The command, with the value of which these bytes were handed over.
     ensures submits { IfOk result (λ o. (v : List ℕ)

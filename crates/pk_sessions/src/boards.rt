@@ -60,7 +60,8 @@ pub fn long_board(
     board_in(alloc, shape, pages, input, LONG)
 }
 
-fn board_in(
+/// The same with this room.
+pub fn board_in(
     alloc: Global,
     shape: Shape,
     pages: Vec<PageState>,

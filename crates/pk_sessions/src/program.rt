@@ -33,7 +33,7 @@ const STORED: [u8; 24] = [
 ];
 
 // The words of a text, which single blanks divide.
-fn words_in<'a>(alloc: Global, text: &'a str) -> Result<Vec<&'a str>, AllocError> {
+pub(crate) fn words_in<'a>(alloc: Global, text: &'a str) -> Result<Vec<&'a str>, AllocError> {
     let mut words = Vec::new(alloc);
     for word in text.split(' ') {
         words.push(word)?;
@@ -65,20 +65,20 @@ pub fn words<P: Program>(alloc: Global) -> Result<(), Fail> {
         ("serve 36 36", 2),
         ("hello", 2),
         ("", 2),
-        ("put 61 616263", 11),
-        ("put 61 -", 11),
+        ("put 61 616263", 8),
+        ("put 61 -", 8),
         ("put 61 61626", 2),
         ("put 61", 2),
-        ("get 6A", 11),
+        ("get 6A", 8),
         ("get 6", 2),
-        ("get 6162636465666768696a6b6c6d6e6f70", 11),
+        ("get 6162636465666768696a6b6c6d6e6f70", 8),
         ("get 6162636465666768696a6b6c6d6e6f7071", 2),
-        ("del 61", 11),
-        ("has 61", 11),
-        ("list", 11),
-        ("list 61", 11),
+        ("del 61", 8),
+        ("has 61", 8),
+        ("list", 8),
+        ("list 61", 8),
         ("list -", 2),
-        ("stat", 11),
+        ("stat", 8),
         ("stat 1", 2),
         ("asm", 0),
         ("asm 1", 2),

@@ -21,14 +21,9 @@ const THIRD: [Ask; 7] = [
     Ask::Retrieve(0x66),
 ];
 
-// Whether values of the first session and the one of the second stand in a block each, which are all that values may have: a further Store
-// wants a reclaim, which is not built.
-fn fill_both_blocks(held: &Held, fifth: Option<Value>) -> bool {
-    fifth.is_some() && held.iter().any(|value| value.is_some())
-}
-
 // The records of the third session on these values, with this one under the fifth key. Where the second session began an epoch over
-// one with entries, the Store merges these before it freezes a second time.
+// one with entries, the Store merges these before it freezes a second time; where values stand in both blocks that they may have, it
+// reclaims one of them.
 fn third_records(alloc: Global, held: &Held, fifth: Option<Value>) -> Result<Vec<u8>, AllocError> {
     let all = [
         retrieved(held[0]),
@@ -39,12 +34,7 @@ fn third_records(alloc: Global, held: &Held, fifth: Option<Value>) -> Result<Vec
         Answer::Done,
         Answer::Found(F),
     ];
-    let count = if fill_both_blocks(held, fifth) {
-        5
-    } else {
-        all.len()
-    };
-    records(alloc, &all[..count])
+    records(alloc, &all)
 }
 
 // How many bytes the records of the four Retrieves have that begin the second session.
@@ -76,10 +66,9 @@ fn check_recut<P: Program>(
     let is_told = bytes_out(second, k) > bytes_before_store(alloc, held)?;
     let is_there = third.flash.posted() == with.as_slice();
     let is_missing = third.flash.posted() == without.as_slice();
-    let is_full = is_there && fill_both_blocks(held, Some(E));
     same(
         third.status,
-        if is_full { 11 } else { 0 },
+        0,
         format_args!("the status, {commands}, mark {k}, way {way}"),
     )?;
     holds(

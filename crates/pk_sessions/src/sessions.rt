@@ -79,15 +79,14 @@ pub fn three_stores<P: Program>(alloc: Global) -> Result<(), Fail> {
     Ok(())
 }
 
-/// Sixteen Stores of one key fill the two blocks that values may have; the next one wants a reclaim, which is not built. What was
-/// stored before it is there.
+/// Sixteen Stores of one key fill the two blocks that values may have, and the next one gives a block back, which has none that is live.
 pub fn full_blocks<P: Program>(alloc: Global) -> Result<(), Fail> {
     let pages = made::<P>(alloc, &MAKE_SMALL)?;
     let done = served::<P>(alloc, small()?, pages, &[Ask::Store(0x61, THREE); 17])?;
-    same(done.status, 11, "the status")?;
+    same(done.status, 0, "the status")?;
     same(
         done.flash.posted(),
-        records(alloc, &[Answer::Done; 16])?.as_slice(),
+        records(alloc, &[Answer::Done; 17])?.as_slice(),
         "the posted bytes",
     )?;
     let left = pages_left(alloc, &done.flash)?;

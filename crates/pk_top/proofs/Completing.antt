@@ -25,7 +25,7 @@ use Rattle.pk_top.proofs.Telling.{untouched_same, refused_untouched}
 -- ---- a drive that was not opened
 
 -- only reads were made, and none failed
-reads_leave : (loaded new : BoardState) → OnlyReads loaded new → Untouched loaded new
+pub reads_leave : (loaded new : BoardState) → OnlyReads loaded new → Untouched loaded new
 reads_leave loaded new (n, only) = record {
   gives = record { input = ap (λ (s : BoardState). s.input) only; posted = ap (λ (s : BoardState). s.posted) only };
   trail = ap (λ (s : BoardState). s.trail) only;
@@ -104,7 +104,7 @@ module _ (frames : ℕ) (old new : BoardState) (status : ℕ) where
       holds = c.holds;
     }
 
-    untouched_loaded : Untouched loaded new → Untouched old new
+    pub untouched_loaded : Untouched loaded new → Untouched old new
     untouched_loaded u =
         let there : IsSome loaded.shape = subst IsSome (sym same_shape) some in
         record {

@@ -2,6 +2,8 @@ mod Within
 mod Sessions
 mod Telling
 mod Completing
+mod Asked
+mod Answering
 mod Images
 mod Runs
 mod Resting

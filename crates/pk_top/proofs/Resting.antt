@@ -9,21 +9,15 @@ use Rattle.pk_text.specs.Written.{Written}
 use Rattle.pk_top.specs.Makes.{MakeRun}
 use Rattle.pk_top.specs.TextRuns.{TextRun}
 use Rattle.pk_top.specs.Resting.{RestsIn, Rests}
-use Rattle.pk_top.specs.Words.{Word, make, serve, put, get, delete, has, list, stat, assemble, show, generate}
+use Rattle.pk_top.specs.Words.{Word, make, serve, ask, assemble, show}
 
 -- nothing was done
 pub rests-same_word : (word : Word) (old new : BoardState) → new ≡ old → RestsIn word old new
 rests-same_word (make shape) old new same = λ some. Rests-same old new same
 rests-same_word (serve frames) old new same = tt
-rests-same_word (put key value) old new same = Rests-same old new same
-rests-same_word (get key) old new same = Rests-same old new same
-rests-same_word (delete key) old new same = Rests-same old new same
-rests-same_word (has key) old new same = Rests-same old new same
-rests-same_word (list from) old new same = Rests-same old new same
-rests-same_word stat old new same = Rests-same old new same
+rests-same_word (ask task) old new same = tt
 rests-same_word assemble old new same = Rests-same old new same
 rests-same_word show old new same = Rests-same old new same
-rests-same_word (generate start count) old new same = Rests-same old new same
 
 pub rests-same : (word : Option Word) (old new : BoardState) → new ≡ old → Rests word old new
 rests-same None old new same = Rests-same old new same

@@ -1,5 +1,5 @@
 -- Runs one after another are sessions of a history.
-use Rattle.std.proofs.Common.{◌≡◌, inl, inr, ℕ, List, [], ◌∷◌, ◌++◌, map, Option, Some, None, IsSome, refl, sym, ◌∙◌, ap, subst, append-nil}
+use Rattle.std.proofs.Common.{◌≡◌, inl, inr, ℕ, List, [], ◌∷◌, ◌++◌, Bool, true, false, Option, Some, None, IsSome, refl, sym, ◌∙◌, ap, subst, append-nil}
 use Rattle.std.specs.FinMap.{empty}
 use Rattle.std.proofs.lemmas.List.{append_cancel_left}
 use Rattle.pk_base.specs.Shape.{Shape}
@@ -10,16 +10,19 @@ use Rattle.pk_nand.specs.Calls.{longer}
 use Rattle.pk_nand.specs.Resting.{Standing, RestsFlash}
 use Rattle.pk_nand.proofs.Reaching.{Went-reached, longer-nil}
 use Rattle.pk_nand.specs.Cut.{Cut}
-use Rattle.pk_model.specs.History.{EachCut, IsSound, History}
 use Rattle.pk_model.specs.Kept.{Kept, rise}
-use Rattle.pk_model.specs.Reading.{Holds}
+use Rattle.pk_base.specs.Map.{Map}
+use Rattle.pk_nand.specs.Crash.{EveryCut}
+use Rattle.pk_model.specs.Reading.{reading, Holds}
 use Rattle.pk_model.specs.Script.{script}
-use Rattle.pk_model.proofs.Histories.{histories}
 use Rattle.pk_serve.proofs.Counting.{at_most-zero}
 use Rattle.pk_top.specs.Serves.{ServeRun, ServesFound}
-use Rattle.pk_top.specs.Sessions.{ProgramRun, IsRun, session_of, stopped_of, RunOn, KeptThroughRuns}
+use Rattle.pk_wordrun.specs.Tasks.{Task, KeptTask}
+use Rattle.pk_top.specs.Asks.{word_frames, AsksFound, AskRun}
+use Rattle.pk_top.proofs.Asked.{silent, task_holds}
+use Rattle.pk_top.specs.Sessions.{ProgramRun, IsRun, LeavesMap, KeptThrough, RunOn, KeptThroughRuns}
 use Rattle.pk_top.specs.Resting.{Rests}
-use Rattle.pk_top.specs.Words.{Word, make, serve, put, get, delete, has, list, stat, assemble, show, generate, word_of, frames_of, frames_if}
+use Rattle.pk_top.specs.Words.{Word, make, serve, ask, assemble, show, word_of, is_later}
 
 -- the marks that a trail tells are those that it grew by
 same_marks : (told : Option (List Mark)) (before xs ys : List Mark) → told ≡ Some before → longer told ys ≡ Some (before ++ xs) → xs ≡ ys
@@ -38,8 +41,19 @@ module _ (shape : Shape) (r : ProgramRun) (is : IsRun shape r) where
   Ended : Type 0
   Ended = Cut shape r.old.pages r.marks r.new.pages (all_posted r.marks)
 
+  -- what every cut keeps: of a run that serves, of one that asks, and of another
+  abbrev ServesCut : ℕ → Type 0
+  ServesCut frames =
+      (m : Map) → Holds shape r.old.pages m → EveryCut shape r.old.pages r.marks (λ flash posted. Kept shape frames m (script r.input).0 (rise r.old.read_faults r.new.read_faults) posted flash)
+
+  abbrev AsksCut : Task → Type 0
+  AsksCut task = (m : Map) → Holds shape r.old.pages m → EveryCut shape r.old.pages r.marks (KeptTask task r.old.read_faults r.new.read_faults shape word_frames m)
+
+  abbrev RestsCut : Type 0
+  RestsCut = EveryCut shape r.old.pages r.marks (Standing r.old.pages)
+
   -- nothing was made
-  sound_untouched : (frames : ℕ) → r.new.trail ≡ r.old.trail → r.new.pages ≡ r.old.pages → EachCut (Some frames) shape (session_of r) × Ended
+  sound_untouched : (frames : ℕ) → r.new.trail ≡ r.old.trail → r.new.pages ≡ r.old.pages → ServesCut frames × Ended
   unfolding Ended
   sound_untouched frames same pages =
       let none : r.marks ≡ [] = same_marks r.old.trail is.before r.marks [] is.trail (longer-nil r.old.trail ∙ (sym same ∙ is.more)) in
@@ -63,7 +77,7 @@ module _ (shape : Shape) (r : ProgramRun) (is : IsRun shape r) where
       )
 
   -- a drive was found
-  sound_found : (frames : ℕ) → ServesFound frames r.old r.new r.status → EachCut (Some frames) shape (session_of r) × Ended
+  sound_found : (frames : ℕ) → ServesFound frames r.old r.new r.status → ServesCut frames × Ended
   unfolding Ended
   sound_found frames found =
       let held = found.found.held some_shape in
@@ -93,14 +107,14 @@ module _ (shape : Shape) (r : ProgramRun) (is : IsRun shape r) where
             ),
       )
 
-  sound_serving : (frames : ℕ) → ServeRun frames r.old r.new r.status → EachCut (Some frames) shape (session_of r) × Ended
+  sound_serving : (frames : ℕ) → ServeRun frames r.old r.new r.status → ServesCut frames × Ended
   sound_serving frames (inl none) = sound_untouched frames (ap (λ (s : BoardState). s.trail) none.1) (ap (λ (s : BoardState). s.pages) none.1)
   sound_serving frames (inr (inl refused)) = sound_untouched frames (ap (λ (s : BoardState). s.trail) refused.failed.rest) (refused.failed.held some_shape).0
   sound_serving frames (inr (inr (inl missing))) = sound_untouched frames (ap (λ (s : BoardState). s.trail) missing.1.rest) (missing.1.held some_shape).0
   sound_serving frames (inr (inr (inr found))) = sound_found frames found
 
   -- the flash was left alone
-  sound_resting : RestsFlash r.old r.new → EachCut None shape (session_of r) × Ended
+  sound_resting : RestsFlash r.old r.new → RestsCut × Ended
   unfolding Ended
   sound_resting rests =
       let marks : r.marks ≡ rests.marks = same_marks r.old.trail is.before r.marks rests.marks is.trail (sym rests.reached.trail ∙ is.more) in
@@ -117,28 +131,79 @@ module _ (shape : Shape) (r : ProgramRun) (is : IsRun shape r) where
             ),
       )
 
-  sound_by : (word : Option Word) → ((frames : ℕ) → word ≡ Some (serve frames) → ServeRun frames r.old r.new r.status) → Rests word r.old r.new
-      → EachCut (frames_if word) shape (session_of r) × Ended
-  sound_by None serves rests = sound_resting rests
-  sound_by (Some (serve frames)) serves rests = sound_serving frames (serves frames refl)
-  sound_by (Some (make other)) serves rests = sound_resting (rests some_shape)
-  sound_by (Some (put key value)) serves rests = sound_resting rests
-  sound_by (Some (get key)) serves rests = sound_resting rests
-  sound_by (Some (delete key)) serves rests = sound_resting rests
-  sound_by (Some (has key)) serves rests = sound_resting rests
-  sound_by (Some (list from)) serves rests = sound_resting rests
-  sound_by (Some stat) serves rests = sound_resting rests
-  sound_by (Some assemble) serves rests = sound_resting rests
-  sound_by (Some show) serves rests = sound_resting rests
-  sound_by (Some (generate start count)) serves rests = sound_resting rests
+  -- ---- a word that asks
 
-  sound : IsSound frames_of shape (session_of r)
-  unfolding Ended
-  sound = let s = sound_by (word_of r.words) is.serves is.rests in record { cuts = s.0; ends = s.1 }
+  quiet_untouched : (task : Task) → r.new.trail ≡ r.old.trail → AsksCut task
+  quiet_untouched task same m holds cut posted stands =
+      let none : r.marks ≡ [] = same_marks r.old.trail is.before r.marks [] is.trail (longer-nil r.old.trail ∙ (sym same ∙ is.more)) in
+      let T : List Mark → Type 0 = λ marks. Cut shape r.old.pages marks cut posted in
+      let here : (cut ≡ r.old.pages) × (posted ≡ []) = subst T none stands in
+      let F : Flash → Type 0 = λ f. KeptTask task r.old.read_faults r.new.read_faults shape word_frames m f posted in
+      let P : List ℕ → Type 0 = λ q. KeptTask task r.old.read_faults r.new.read_faults shape word_frames m r.old.pages q in
+      subst F (sym here.0) (subst P (sym here.1) (silent task r.old.read_faults r.new.read_faults shape word_frames m r.old.pages holds))
 
-history : (shape : Shape) (start : Flash) (runs : List ProgramRun) (end : Flash) → RunOn shape start runs end → History frames_of shape start (map stopped_of runs) end
-history shape start [] end same = same
-history shape start (r ∷ runs) end run = (run.1, sound shape r run.0, run.0.cut, history shape r.left runs end run.2)
+  asks_found : (task : Task) → AsksFound task r.old r.new r.status → AsksCut task
+  asks_found task found m holds cut posted stands =
+      let held = found.found.held some_shape in
+      let told : Some found.shape ≡ Some shape = sym found.found.shape_is ∙ (held.1 ∙ is.shape_is) in
+      let same : found.shape ≡ shape = cc in
+      let trail : found.loaded.trail ≡ Some is.before = ap (λ (s : BoardState). s.trail) found.found.rest ∙ is.trail in
+      let goes = found.asks.kept in
+      let marks : r.marks ≡ goes.0 = same_marks found.loaded.trail is.before r.marks goes.0 trail (sym goes.1.trail ∙ is.more) in
+      let seen : shape_of found.loaded ≡ shape = ap (λ (o : Option Shape). shape_or_none o) found.found.shape_is ∙ same in
+      let F : Flash → Type 0 = λ f. Cut shape f r.marks cut posted in
+      let M : List Mark → Type 0 = λ ms. Cut shape found.loaded.pages ms cut posted in
+      let S : Shape → Type 0 = λ s. Cut s found.loaded.pages goes.0 cut posted in
+      let at : Cut (shape_of found.loaded) found.loaded.pages goes.0 cut posted = subst S (sym seen) (subst M marks (subst F (sym held.0) stands)) in
+      let H : Flash → Type 0 = λ f. Holds found.shape f m in
+      let G : Shape → Type 0 = λ s. Holds s r.old.pages m in
+      let kept = goes.1.cuts cut posted at m (subst H (sym held.0) (subst G (sym same) holds)) in
+      let K : Shape → Type 0 = λ s. KeptTask task r.old.read_faults r.new.read_faults s word_frames m cut posted in
+      let R : ℕ → Type 0 = λ n. KeptTask task n r.new.read_faults found.shape word_frames m cut posted in
+      subst K same (subst R (ap (λ (s : BoardState). s.read_faults) found.found.rest) kept)
+
+  asks_cut : (task : Task) → AskRun task r.old r.new r.status → AsksCut task
+  asks_cut task (inl none) = quiet_untouched task (ap (λ (s : BoardState). s.trail) none.1)
+  asks_cut task (inr (inl refused)) = quiet_untouched task (ap (λ (s : BoardState). s.trail) refused.failed.rest)
+  asks_cut task (inr (inr (inl missing))) = quiet_untouched task (ap (λ (s : BoardState). s.trail) missing.1.rest)
+  asks_cut task (inr (inr (inr found))) = asks_found task found
+
+  asks_by : (task : Task) → word_of r.words ≡ Some (ask task) → (b : Bool) → is_later (ask task) ≡ b → AsksCut task
+  asks_by task of false built = asks_cut task (is.asks task built of)
+  asks_by task of true later = quiet_untouched task (ap (λ (s : BoardState). s.trail) (is.later (ask task) of later))
+
+  -- ---- any word
+
+  -- the map that was left
+  abbrev Left : Option Word → Map → Type 0
+  Left word m = (next : Map) × LeavesMap word shape r m next × Holds shape r.left next
+
+  left_resting : (word : Option Word) → ((m : Map) → LeavesMap word shape r m m) → RestsFlash r.old r.new → (m : Map) → Holds shape r.old.pages m → Left word m
+  left_resting word same rests m holds = (m, same m, ap (λ f. reading shape f []) ((sound_resting rests).0 r.left r.posted is.cut) ∙ holds)
+
+  left_by : (word : Option Word) → word_of r.words ≡ word → Rests word r.old r.new → (m : Map) → Holds shape r.old.pages m → Left word m
+  left_by None of rests m holds = left_resting None (λ m. refl) rests m holds
+  left_by (Some (make other)) of rests m holds = left_resting (Some (make other)) (λ m. refl) (rests some_shape) m holds
+  left_by (Some assemble) of rests m holds = left_resting (Some assemble) (λ m. refl) rests m holds
+  left_by (Some show) of rests m holds = left_resting (Some show) (λ m. refl) rests m holds
+  left_by (Some (serve frames)) of rests m holds =
+      let kept = (sound_serving frames (is.serves frames of)).0 m holds r.left r.posted is.cut in
+      (kept.map_left, (kept, refl), kept.held)
+  left_by (Some (ask task)) of rests m holds =
+      let kept = asks_by task of (is_later (ask task)) refl m holds r.left r.posted is.cut in
+      let held = task_holds task r.old.read_faults r.new.read_faults shape word_frames m r.left r.posted kept in
+      (held.0, kept, held.1)
+
+  left : (m : Map) → Holds shape r.old.pages m → Left (word_of r.words) m
+  left = left_by (word_of r.words) refl is.rests
+
+kept_through : (shape : Shape) (start : Flash) (runs : List ProgramRun) (end : Flash) → RunOn shape start runs end → (m : Map) → Holds shape start m
+    → (m' : Map) × Holds shape end m' × KeptThrough shape m runs m'
+kept_through shape start [] end same m holds = (m, ap (λ f. reading shape f []) same ∙ holds, refl)
+kept_through shape start (r ∷ runs) end run m holds =
+    let one = left shape r run.0 m (ap (λ f. reading shape f []) run.1 ∙ holds) in
+    let rest = kept_through shape r.left runs end run.2 one.0 one.2 in
+    (rest.0, rest.1, (one.0, one.1, one.2, rest.2))
 
 pub kept_through_runs : KeptThroughRuns
-kept_through_runs shape made runs end is run = histories frames_of shape made.pages end (map stopped_of runs) empty is.holds (history shape made.pages runs end run)
+kept_through_runs shape made runs end is run = kept_through shape made.pages runs end run empty is.holds

@@ -44,7 +44,7 @@ tells_input old new rose = record {
   made = λ e. absurd (omega arith);
 }
 
-tells_output : (old new : BoardState) → Rose old.out_faults new.out_faults → Tells old new 5
+pub tells_output : (old new : BoardState) → Rose old.out_faults new.out_faults → Tells old new 5
 tells_output old new rose = record {
   no_words = λ e. absurd (omega arith);
   input = λ e. absurd (omega arith);
@@ -77,7 +77,7 @@ tells_memory old new status is sound gives = record {
   made = λ e. absurd (omega arith);
 }
 
-tells_no_drive : (old new : BoardState) (status : ℕ) → status ≡ 8 → HasNoDrive new → Untouched old new → Tells old new status
+pub tells_no_drive : (old new : BoardState) (status : ℕ) → status ≡ 8 → HasNoDrive new → Untouched old new → Tells old new status
 tells_no_drive old new status is none untouched = record {
   no_words = λ e. absurd (omega arith);
   input = λ e. absurd (omega arith);
@@ -121,7 +121,7 @@ pub refused_untouched : (old new : BoardState) → new.flash_faults ≡ old.flas
 refused_untouched old new sound l = record { gives = refused_gives old new l; trail = ap (λ (s : BoardState). s.trail) l.rest; sound = sound; held = l.held }
 
 -- a load that wants memory
-wants_sound : (old new : BoardState) (fault : LoadFault) → load_status fault ≡ 7 → HasReason old new fault → new.flash_faults ≡ old.flash_faults
+pub wants_sound : (old new : BoardState) (fault : LoadFault) → load_status fault ≡ 7 → HasReason old new fault → new.flash_faults ≡ old.flash_faults
 wants_sound old new Fault wants reason = absurd (omega arith)
 wants_sound old new (BadImage at) wants reason = absurd (omega arith)
 wants_sound old new Memory wants reason = reason
@@ -156,7 +156,7 @@ module _ (shape : Shape) (old loaded new : BoardState) (found : Loaded old loade
       let T : List Page → Type 0 = λ pages. Refuses shape pages refusal in
       inr (inr (shape, refusal, ap (λ (s : BoardState). s.shape) only ∙ found.shape_is, subst T (sym (ap (λ (s : BoardState). s.pages) only)) refuses))
 
-  tells_not : (status : ℕ) (error : OpenError) → status ≡ open_status error → NotOpened shape loaded new error → OnlyReading loaded new → Tells old new status
+  pub tells_not : (status : ℕ) (error : OpenError) → status ≡ open_status error → NotOpened shape loaded new error → OnlyReading loaded new → Tells old new status
   tells_not status NotFormatted is reason only = tells_no_drive old new status is (holds_none not_formatted only reason.0) (reads_untouched reason.1)
   tells_not status (Damaged page) is reason only = tells_no_drive old new status is (holds_none (damaged page) only reason.0) (reads_untouched reason.1)
   tells_not status ReadFault is reason only =
@@ -164,7 +164,7 @@ module _ (shape : Shape) (old loaded new : BoardState) (found : Loaded old loade
       tells_flash old new status is (inr (subst T (ap (λ (s : BoardState). s.flash_faults) found.rest) reason.0, reads_gives only))
   tells_not status NoMemory is reason only = tells_memory old new status is (reads_untouched reason).sound (reads_gives only)
 
-  wants_untouched : (error : OpenError) → open_status error ≡ 7 → NotOpened shape loaded new error → Untouched old new
+  pub wants_untouched : (error : OpenError) → open_status error ≡ 7 → NotOpened shape loaded new error → Untouched old new
   wants_untouched NotFormatted wants reason = absurd (omega arith)
   wants_untouched (Damaged page) wants reason = absurd (omega arith)
   wants_untouched ReadFault wants reason = absurd (omega arith)

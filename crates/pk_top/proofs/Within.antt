@@ -1,23 +1,20 @@
 -- The frames that words may ask for.
-use Rattle.std.proofs.Common.{◌≡◌, ◌≤◌, ℕ, List, [], ◌∷◌, Option, None, Some, option_map, option_and_then, Bool, true, false, if◌then◌else◌, nat_le, bytes_eq, codes, subst, sym, ap, ◌∙◌, refl, arith}
+use Rattle.std.proofs.Common.{◌≡◌, ◌≤◌, ℕ, List, [], ◌∷◌, Option, None, Some, option_map, option_and_then, Bool, true, false, if◌then◌else◌, nat_le, nat_lt, length, bytes_eq, codes, subst, sym, ap, ◌∙◌, refl, arith}
 use Rattle.std.proofs.lemmas.Bool.Decides.{nat_tests}
 use Rattle.pk_nvme.specs.Text.{number_of, bytes_of}
 use Rattle.pk_asm.specs.Words.{key_of}
-use Rattle.pk_top.specs.Words.{Word, make, serve, put, get, delete, has, list, stat, assemble, show, generate, make_if, make_of, serve_with, serve_of, put_of, only_key, list_of, alone, generate_of, plain_of, word_of}
+use Rattle.pk_words.specs.Question.{put, get, delete, has, stat}
+use Rattle.pk_wordrun.specs.Seen.{IsShortTask}
+use Rattle.pk_wordrun.specs.Tasks.{Task, list, generate}
+use Rattle.pk_top.specs.Words.{Word, make, serve, ask, question, assemble, show, make_if, make_of, serve_with, serve_of, put_with, put_of, only_key, list_of, alone, generate_of, plain_of, word_of}
 
 -- the frames of a word are not too many
 abbrev WordWithin : Word → Type 0
 WordWithin (make shape) = Unit {0}
 WordWithin (serve frames) = frames ≤ 16384
-WordWithin (put key value) = Unit {0}
-WordWithin (get key) = Unit {0}
-WordWithin (delete key) = Unit {0}
-WordWithin (has key) = Unit {0}
-WordWithin (list from) = Unit {0}
-WordWithin stat = Unit {0}
+WordWithin (ask task) = IsShortTask task
 WordWithin assemble = Unit {0}
 WordWithin show = Unit {0}
-WordWithin (generate start count) = Unit {0}
 
 abbrev Within : Option Word → Type 0
 Within None = Unit {0}
@@ -59,15 +56,22 @@ serve-within [] = tt
 serve-within (n ∷ []) = within_bind (number_of n) serve_with (λ frames. serve_if-within frames (nat_le frames 16384) refl)
 serve-within (n ∷ x ∷ more) = tt
 
+put_with-within : (key bytes : List ℕ) → Within (put_with key bytes)
+put_with-within key bytes = by (nat_lt (length bytes) 4294967296) refl
+  where
+    by : (b : Bool) → nat_lt (length bytes) 4294967296 ≡ b → Within (if b then Some (question (put key bytes)) else None)
+    by true few = grind (arith, nat_tests, few)
+    by false few = tt
+
 put-within : (operands : List (List ℕ)) → Within (put_of operands)
 put-within [] = tt
 put-within (k ∷ []) = tt
-put-within (k ∷ b ∷ []) = within_bind (key_of k) _ (λ key. within_bind (bytes_of b) _ (λ bytes. tt))
+put-within (k ∷ b ∷ []) = within_bind (key_of k) _ (λ key. within_bind (bytes_of b) _ (λ bytes. put_with-within key bytes))
 put-within (k ∷ b ∷ x ∷ more) = tt
 
 list-within : (operands : List (List ℕ)) → Within (list_of operands)
 list-within [] = tt
-list-within (k ∷ []) = within_map (λ key. list (Some key)) (key_of k) (λ key. tt)
+list-within (k ∷ []) = within_map (λ key. ask (list (Some key))) (key_of k) (λ key. tt)
 list-within (k ∷ x ∷ more) = tt
 
 alone-within : (word : Word) (operands : List (List ℕ)) → WordWithin word → Within (alone word operands)
@@ -85,11 +89,11 @@ unfolding plain_of
 plain-within name operands =
     within_if (bytes_eq name (codes "make")) _ _ (make-within operands)
     (within_if (bytes_eq name (codes "serve")) _ _ (serve-within operands)
-    (within_if (bytes_eq name (codes "get")) _ _ (within_map get (only_key operands) (λ key. tt))
-    (within_if (bytes_eq name (codes "del")) _ _ (within_map delete (only_key operands) (λ key. tt))
-    (within_if (bytes_eq name (codes "has")) _ _ (within_map has (only_key operands) (λ key. tt))
+    (within_if (bytes_eq name (codes "get")) _ _ (within_map (λ key. question (get key)) (only_key operands) (λ key. tt))
+    (within_if (bytes_eq name (codes "del")) _ _ (within_map (λ key. question (delete key)) (only_key operands) (λ key. tt))
+    (within_if (bytes_eq name (codes "has")) _ _ (within_map (λ key. question (has key)) (only_key operands) (λ key. tt))
     (within_if (bytes_eq name (codes "list")) _ _ (list-within operands)
-    (within_if (bytes_eq name (codes "stat")) _ _ (alone-within stat operands tt)
+    (within_if (bytes_eq name (codes "stat")) _ _ (alone-within (question stat) operands tt)
     (within_if (bytes_eq name (codes "asm")) _ _ (alone-within assemble operands tt)
     (within_if (bytes_eq name (codes "show")) _ _ (alone-within show operands tt)
     (within_if (bytes_eq name (codes "gen")) _ _ (generate-within operands) tt)))))))))
@@ -103,4 +107,10 @@ words-within (name ∷ operands) = within_if (bytes_eq name (codes "put")) (put_
 pub frames_within : (words : List (List ℕ)) (word : Word) → Some word ≡ word_of words → (frames : ℕ) → word ≡ serve frames → frames ≤ 16384
 frames_within words word is frames same =
     let e : word_of words ≡ Some (serve frames) = sym is ∙ ap (λ w. Some w) same in
+    subst Within e (words-within words)
+
+-- a value that words ask to store is not too long
+pub short_within : (words : List (List ℕ)) (word : Word) → Some word ≡ word_of words → (task : Task) → word ≡ ask task → IsShortTask task
+short_within words word is task same =
+    let e : word_of words ≡ Some (ask task) = sym is ∙ ap (λ w. Some w) same in
     subst Within e (words-within words)

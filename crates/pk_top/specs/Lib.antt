@@ -6,5 +6,6 @@ pub mod Ends
 pub mod TextRuns
 pub mod Resting
 pub mod Serves
+pub mod Asks
 pub mod Makes
 pub mod Sessions

@@ -2,21 +2,15 @@
 use Rattle.std.specs.Prelude.{Option, Some, None, IsSome}
 use Rattle.pk_nand.specs.BoardState.{BoardState}
 use Rattle.pk_nand.specs.Resting.{RestsFlash}
-use Rattle.pk_top.specs.Words.{Word, make, serve, put, get, delete, has, list, stat, assemble, show, generate}
+use Rattle.pk_top.specs.Words.{Word, make, serve, ask, assemble, show}
 
--- `make` does so on a board that has an image, and every other word but `serve` on each board.
+-- `make` does so on a board that has an image, and the words that serve or ask no drive do on each board.
 abbrev pub RestsIn : Word → BoardState → BoardState → Type 0
 RestsIn (make shape) old new = IsSome old.shape → RestsFlash old new
 RestsIn (serve frames) old new = Unit {0}
-RestsIn (put key value) old new = RestsFlash old new
-RestsIn (get key) old new = RestsFlash old new
-RestsIn (delete key) old new = RestsFlash old new
-RestsIn (has key) old new = RestsFlash old new
-RestsIn (list from) old new = RestsFlash old new
-RestsIn stat old new = RestsFlash old new
+RestsIn (ask task) old new = Unit {0}
 RestsIn assemble old new = RestsFlash old new
 RestsIn show old new = RestsFlash old new
-RestsIn (generate start count) old new = RestsFlash old new
 
 -- and so do words outside the table
 abbrev pub Rests : Option Word → BoardState → BoardState → Type 0

@@ -1,5 +1,5 @@
 -- Runs of the program one after another, each on what a cut of the one before left.
-use Rattle.std.specs.Prelude.{◌≡◌, ℕ, List, [], ◌∷◌, ◌++◌, map, Some}
+use Rattle.std.specs.Prelude.{◌≡◌, ℕ, List, [], ◌∷◌, ◌++◌, Option, Some, None, true, false}
 use Rattle.std.specs.FinMap.{empty}
 use Rattle.pk_base.specs.Shape.{Shape}
 use Rattle.pk_base.specs.Page.{Flash}
@@ -7,13 +7,15 @@ use Rattle.pk_base.specs.Mark.{Mark}
 use Rattle.pk_base.specs.Map.{Map}
 use Rattle.pk_nand.specs.BoardState.{BoardState}
 use Rattle.pk_nand.specs.Cut.{Cut}
-use Rattle.pk_model.specs.History.{Session, Stopped, KeptThrough}
-use Rattle.pk_model.specs.Kept.{rise}
+use Rattle.pk_model.specs.Kept.{Kept, rise}
 use Rattle.pk_model.specs.Reading.{Holds}
 use Rattle.pk_top.specs.Makes.{IsMade}
 use Rattle.pk_top.specs.Resting.{Rests}
 use Rattle.pk_top.specs.Serves.{ServeRun}
-use Rattle.pk_top.specs.Words.{serve, word_of, frames_of}
+use Rattle.pk_model.specs.Script.{script}
+use Rattle.pk_wordrun.specs.Tasks.{Task, KeptTask}
+use Rattle.pk_top.specs.Asks.{AskRun, word_frames}
+use Rattle.pk_top.specs.Words.{Word, make, serve, ask, assemble, show, word_of, is_later}
 
 -- A run of the program: its words, its input, the board before it and at its end, its status, the marks that it made, and the flash and the bytes
 -- given out where it was cut off.
@@ -30,6 +32,8 @@ pub record ProgramRun : Type 0 where
 -- It is what `run` promises of these words, on a board that holds its pages and tells its input and its trail; it was cut off at a cut of its marks.
 pub record IsRun (shape : Shape) (r : ProgramRun) : Type 0 where
   pub serves : (frames : ℕ) → word_of r.words ≡ Some (serve frames) → ServeRun frames r.old r.new r.status
+  pub asks : (task : Task) → is_later (ask task) ≡ false → word_of r.words ≡ Some (ask task) → AskRun task r.old r.new r.status
+  pub later : (word : Word) → word_of r.words ≡ Some word → is_later word ≡ true → r.new ≡ r.old
   pub rests : Rests (word_of r.words) r.old r.new
   pub shape_is : r.old.shape ≡ Some shape
   pub input : r.old.input ≡ Some r.input
@@ -38,20 +42,21 @@ pub record IsRun (shape : Shape) (r : ProgramRun) : Type 0 where
   pub more : r.new.trail ≡ Some (before ++ r.marks)
   pub cut : Cut shape r.old.pages r.marks r.left r.posted
 
--- the session that it is
-abbrev pub session_of : ProgramRun → Session
-session_of r = record {
-  words = r.words;
-  status = r.status;
-  input = r.input;
-  start = r.old.pages;
-  trail = r.marks;
-  read_faults = rise r.old.read_faults r.new.read_faults;
-  end = r.new.pages;
-}
+-- What a run that was cut off made of a map. One that serves: the map after commands of its script from the front on, with every one of which a
+-- byte was posted. One that asks: a map that the flash holds, and what its word keeps. Another one leaves the map.
+abbrev pub LeavesMap : Option Word → Shape → ProgramRun → Map → Map → Type 0
+LeavesMap (Some (serve frames)) shape r m m' =
+    (kept : Kept shape frames m (script r.input).0 (rise r.old.read_faults r.new.read_faults) r.posted r.left) × (m' ≡ kept.map_left)
+LeavesMap (Some (ask task)) shape r m m' = KeptTask task r.old.read_faults r.new.read_faults shape word_frames m r.left r.posted
+LeavesMap (Some (make other)) shape r m m' = m' ≡ m
+LeavesMap (Some assemble) shape r m m' = m' ≡ m
+LeavesMap (Some show) shape r m m' = m' ≡ m
+LeavesMap None shape r m m' = m' ≡ m
 
-abbrev pub stopped_of : ProgramRun → Stopped
-stopped_of r = record { session = session_of r; left = r.left; posted = r.posted }
+-- from map to map, each of which the flash held where the run was cut off
+abbrev pub KeptThrough : Shape → Map → List ProgramRun → Map → Type 0
+KeptThrough shape m [] m' = m' ≡ m
+KeptThrough shape m (r ∷ runs) m' = (next : Map) × LeavesMap (word_of r.words) shape r m next × Holds shape r.left next × KeptThrough shape next runs m'
 
 -- from flash to flash
 abbrev pub RunOn : Shape → Flash → List ProgramRun → Flash → Type 0
@@ -63,4 +68,4 @@ RunOn shape start (r ∷ runs) end = IsRun shape r × (r.old.pages ≡ start) ×
 abbrev pub KeptThroughRuns : Type 0
 KeptThroughRuns =
     (shape : Shape) (made : BoardState) (runs : List ProgramRun) (end : Flash) → IsMade shape made → RunOn shape made.pages runs end
-    → (m : Map) × Holds shape end m × KeptThrough frames_of shape empty (map stopped_of runs) m
+    → (m : Map) × Holds shape end m × KeptThrough shape empty runs m

@@ -4,6 +4,7 @@
 //! run of `serve` keeps at every cut is one too; `laws::sessions` says what that comes to over any number of runs.
 #![tactic(auto)]
 
+mod asking;
 pub mod laws;
 mod making;
 mod running;

@@ -1,16 +1,20 @@
 //! The run of the program.
-ghost use Rattle.std.specs.Prelude.{◌≡◌, ◌≢◌, ◌≤◌, ◌⊎◌, ℕ, None, Some, true, map};
+ghost use Rattle.std.specs.Prelude.{◌≡◌, ◌≢◌, ◌≤◌, ◌⊎◌, ℕ, None, Some, true, false, map};
 ghost use Rattle.pk_base.specs.Shape.{Shape as Form};
 ghost use Rattle.pk_top.specs.Words as spec;
 ghost use Rattle.pk_top.specs.Statuses.{Tells, Untouched};
 ghost use Rattle.pk_top.specs.Resting.{Rests, RestsIn};
 ghost use Rattle.pk_top.specs.Texts.{seen};
 ghost use Rattle.pk_top.specs.TextRuns.{TextRun};
+ghost use Rattle.pk_wordrun.specs.Seen.{IsShortTask};
+ghost use Rattle.pk_wordrun.specs.Tasks.{Task};
+ghost use Rattle.pk_top.specs.Asks.{AskRun, AsksWhole};
 ghost use Rattle.pk_top.specs.Serves.{ServeRun, ServesWhole};
 ghost use Rattle.pk_top.specs.Makes.{MakeRun, IsMade};
 ghost use Rattle.pk_text.specs.Assembled.{assembled};
 ghost use Rattle.pk_text.specs.Records.{shown};
 
+use crate::asking::ask;
 use crate::making::make;
 use crate::serving::serve;
 use crate::status::Status;
@@ -49,6 +53,12 @@ pub fn run<B: Board>(alloc: Global, words: &[&str], board: &mut B) -> Status
     ensures serves { (frames : ℕ)
         → spec.word_of (map (λ w. w.now) words.now) ≡ Some (spec.serve frames)
         → ServeRun frames (B.state board.old) (B.state board.new) result.0 }
+    ensures asks { (task : Task) → spec.is_later (spec.ask task) ≡ false
+        → spec.word_of (map (λ w. w.now) words.now) ≡ Some (spec.ask task)
+        → AskRun task (B.state board.old) (B.state board.new) result.0 }
+    ensures asks_whole { (task : Task) → spec.is_later (spec.ask task) ≡ false
+        → spec.word_of (map (λ w. w.now) words.now) ≡ Some (spec.ask task)
+        → AsksWhole task (B.state board.old) (B.state board.new) result.0 }
     ensures serves_whole { (frames : ℕ)
         → spec.word_of (map (λ w. w.now) words.now) ≡ Some (spec.serve frames)
         → ServesWhole frames (B.state board.old) (B.state board.new) result.0 }
@@ -69,7 +79,8 @@ pub fn run<B: Board>(alloc: Global, words: &[&str], board: &mut B) -> Status
 }
 
 fn obey<B: Board>(alloc: Global, word: Word, board: &mut B) -> Status
-    requires { (frames : ℕ) → seen word ≡ spec.serve frames → frames ≤ 16384 }
+    requires frames { (frames : ℕ) → seen word ≡ spec.serve frames → frames ≤ 16384 }
+    requires short { (task : Task) → seen word ≡ spec.ask task → IsShortTask task }
 
     // The status and its cause.
     ensures tells { Tells (B.state board.old) (B.state board.new) result.0 }
@@ -83,6 +94,9 @@ fn obey<B: Board>(alloc: Global, word: Word, board: &mut B) -> Status
         → MakeRun shape (B.state board.old) (B.state board.new) result.0 }
     ensures serves { (frames : ℕ) → seen word ≡ spec.serve frames
         → ServeRun frames (B.state board.old) (B.state board.new) result.0 }
+    ensures asks { (task : Task) → spec.is_later (spec.ask task) ≡ false
+        → seen word ≡ spec.ask task
+        → AskRun task (B.state board.old) (B.state board.new) result.0 }
 
     // Those that touch no flash, and what any word leaves of it.
     ensures assembles { seen word ≡ spec.assemble
@@ -94,8 +108,9 @@ fn obey<B: Board>(alloc: Global, word: Word, board: &mut B) -> Status
     match word {
         Word::Make(shape) => make(alloc, shape, board),
         Word::Serve(frames) => serve(alloc, frames, board),
+        Word::Ask(task) => ask(alloc, task, board),
         Word::Assemble => assemble(alloc, board),
         Word::Show => show(alloc, board),
-        _ => Status::NOT_BUILT,
+        Word::Generate(_, _) => Status::NOT_BUILT,
     }
 }

@@ -28,7 +28,7 @@ fn of_end(end: End) -> Status
 }
 
 /// The status where a drive was not opened.
-fn of_open_error(error: OpenError) -> Status
+pub fn of_open_error(error: OpenError) -> Status
     ensures { result.0 ≡ open_status error }
 {
     match error {

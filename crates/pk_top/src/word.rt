@@ -1,7 +1,7 @@
 //! What the words of the program ask for.
 
-use pk_base::{Key, Shape};
-use pk_nvme::Bytes;
+use pk_base::Shape;
+use pk_wordrun::Task;
 
 /// What the words ask for.
 #[derive(Drop)]
@@ -10,18 +10,8 @@ pub enum Word {
     Make(Shape),
     /// To serve the input with so many frames.
     Serve(u32),
-    /// To store a value.
-    Put(Key, Bytes),
-    /// To retrieve a value.
-    Get(Key),
-    /// To delete a key.
-    Delete(Key),
-    /// Whether a key is there.
-    Has(Key),
-    /// The keys, from this one on.
-    List(Option<Key>),
-    /// A report.
-    Stat,
+    /// To ask the drive.
+    Ask(Task),
     /// To turn lines into entries.
     Assemble,
     /// To turn records into lines.

@@ -2,11 +2,14 @@
 ghost use Rattle.std.specs.Prelude.{◌≡◌, IfOk, map, option_map, bytes_eq};
 ghost use Rattle.pk_top.specs.Words as spec;
 ghost use Rattle.pk_top.specs.Texts.{seen};
+ghost use Rattle.pk_words.specs.Question.{get, delete, has, seen as seen_question};
 
 use crate::word::Word;
 use pk_asm::{bytes_word, key, number};
 use pk_base::{Key, Shape};
 use pk_nvme::Bytes;
+use pk_wordrun::Task;
+use pk_words::Question;
 use std::alloc::{AllocError, Global};
 
 fn is(word: &[u8], text: &[u8]) -> bool
@@ -72,6 +75,17 @@ fn serve(operands: &[&str]) -> Option<Word>
     }
 }
 
+/// A Store of a value whose length is a field of an entry.
+fn put_with(key: Key, value: Bytes) -> Option<Word>
+    ensures { option_map seen result ≡ spec.put_with key value.items }
+{
+    if value.len() < 4_294_967_296 {
+        Some(question(Question::Put(key, value)))
+    } else {
+        None
+    }
+}
+
 fn put(alloc: Global, operands: &[&str]) -> Result<Option<Word>, AllocError>
     ensures { IfOk result (λ w. option_map seen w ≡ spec.put_of (map (λ w. w.now) operands.now)) }
 {
@@ -82,13 +96,20 @@ fn put(alloc: Global, operands: &[&str]) -> Result<Option<Word>, AllocError>
             };
             let mut value = Bytes::with_room(alloc, bytes.len() / 2 + 1)?;
             if bytes_word(bytes.as_bytes(), &mut value) {
-                Ok(Some(Word::Put(key, value)))
+                Ok(put_with(key, value))
             } else {
                 Ok(None)
             }
         }
         _ => Ok(None),
     }
+}
+
+/// A word of one command.
+fn question(question: Question) -> Word
+    ensures { seen result ≡ spec.question (seen_question question) }
+{
+    Word::Ask(Task::Answer(question))
 }
 
 /// The one key of a form.
@@ -103,31 +124,31 @@ fn only_key(operands: &[&str]) -> Option<Key>
 
 fn get(operands: &[&str]) -> Option<Word>
     ensures { option_map seen result
-        ≡ option_map spec.get (spec.only_key (map (λ w. w.now) operands.now)) }
+        ≡ option_map (λ key. spec.question (get key)) (spec.only_key (map (λ w. w.now) operands.now)) }
 {
-    Some(Word::Get(only_key(operands)?))
+    Some(question(Question::Get(only_key(operands)?)))
 }
 
 fn delete(operands: &[&str]) -> Option<Word>
     ensures { option_map seen result
-        ≡ option_map spec.delete (spec.only_key (map (λ w. w.now) operands.now)) }
+        ≡ option_map (λ key. spec.question (delete key)) (spec.only_key (map (λ w. w.now) operands.now)) }
 {
-    Some(Word::Delete(only_key(operands)?))
+    Some(question(Question::Delete(only_key(operands)?)))
 }
 
 fn has(operands: &[&str]) -> Option<Word>
     ensures { option_map seen result
-        ≡ option_map spec.has (spec.only_key (map (λ w. w.now) operands.now)) }
+        ≡ option_map (λ key. spec.question (has key)) (spec.only_key (map (λ w. w.now) operands.now)) }
 {
-    Some(Word::Has(only_key(operands)?))
+    Some(question(Question::Has(only_key(operands)?)))
 }
 
 fn list(operands: &[&str]) -> Option<Word>
     ensures { option_map seen result ≡ spec.list_of (map (λ w. w.now) operands.now) }
 {
     match operands {
-        [] => Some(Word::List(None)),
-        [word] => Some(Word::List(Some(key(word.as_bytes())?))),
+        [] => Some(Word::Ask(Task::List(None))),
+        [word] => Some(Word::Ask(Task::List(Some(key(word.as_bytes())?)))),
         _ => None,
     }
 }
@@ -173,7 +194,7 @@ fn plain(name: &[u8], operands: &[&str]) -> Option<Word>
     } else if is(name, b"list") {
         list(operands)
     } else if is(name, b"stat") {
-        alone(Word::Stat, operands)
+        alone(question(Question::Stat), operands)
     } else if is(name, b"asm") {
         alone(Word::Assemble, operands)
     } else if is(name, b"show") {

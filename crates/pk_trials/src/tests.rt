@@ -209,3 +209,48 @@ fn roots_fill_a_block(rt: HostRuntime) -> Result<(), Fail> {
 fn every_cut_of_merges(rt: HostRuntime) -> Result<(), Fail> {
     pk_sessions::merges::every_cut_of_merges::<Pink>(rt.alloc())
 }
+
+#[test]
+fn full_drive(rt: HostRuntime) -> Result<(), Fail> {
+    pk_sessions::space::full_drive::<Pink>(rt.alloc())
+}
+
+#[test]
+fn overwrites(rt: HostRuntime) -> Result<(), Fail> {
+    pk_sessions::space::overwrites::<Pink>(rt.alloc())
+}
+
+#[test]
+fn first_on_full(rt: HostRuntime) -> Result<(), Fail> {
+    pk_sessions::reclaims::first_on_full::<Pink>(rt.alloc())
+}
+
+#[test]
+fn first_on_small(rt: HostRuntime) -> Result<(), Fail> {
+    pk_sessions::reclaims::first_on_small::<Pink>(rt.alloc())
+}
+
+#[test]
+fn every_cut_of_reclaims(rt: HostRuntime) -> Result<(), Fail> {
+    pk_sessions::reclaims::every_cut_of_reclaims::<Pink>(rt.alloc())
+}
+
+#[test]
+fn every_call_fails(rt: HostRuntime) -> Result<(), Fail> {
+    pk_sessions::reclaims::every_call_fails::<Pink>(rt.alloc())
+}
+
+#[test]
+fn words_that_ask(rt: HostRuntime) -> Result<(), Fail> {
+    pk_sessions::words::texts::<Pink>(rt.alloc())
+}
+
+#[test]
+fn words_that_fail(rt: HostRuntime) -> Result<(), Fail> {
+    pk_sessions::words::failures::<Pink>(rt.alloc())
+}
+
+#[test]
+fn words_on_a_torn_value(rt: HostRuntime) -> Result<(), Fail> {
+    pk_sessions::words::torn::<Pink>(rt.alloc())
+}

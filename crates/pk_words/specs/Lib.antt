@@ -2,3 +2,4 @@ pub mod Lines
 pub mod Says
 pub mod Said
 pub mod Listing
+pub mod Question

@@ -5,10 +5,12 @@
 
 mod lines;
 mod listing;
+mod question;
 mod report;
 mod sizes;
 mod status;
 mod words;
 
 pub use listing::Place;
+pub use question::Question;
 pub use words::Words;

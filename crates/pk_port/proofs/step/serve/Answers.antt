@@ -17,7 +17,7 @@ returns-in-Ok-clause-makes g c =
     let ready = c.requires.fits.ready going in
     let value = value_on c.args.shape.now (g.B.Nand.state c.args.board.now) _ _ _ c.args.value.now c.requires.fits.shape_is c.handed.ensures.value in
     let unworn = unworn_on (g.D.Engine.agrees c.args.drive.now) c.args.shape.now (g.B.Nand.state c.args.board.now) c.is_worn.result c.requires.fits.shape_is ready.agreed (λ s f h. c.is_worn.ensures s f h going) c.if-is_worn.false in
-    serves_so _ c.args.shape.now _ _ ready _ _ (command_of c.args.request.now c.args.value.now) _ _ (e.submits c.args.value.now value) going e.runs unworn e.rest e.up e.unread e.sound e.no_stop e.reads e.installs
+    serves_so _ c.args.shape.now _ _ ready _ _ (command_of c.args.request.now c.args.value.now) _ _ (e.submits c.args.value.now value) going e.runs unworn e.rest e.looks e.up e.unread e.sound e.no_stop e.reads e.installs
 
 pub returns-in-Ok-clause-replies : goal.returns-in-Ok-clause-replies
 returns-in-Ok-clause-replies g c =
@@ -40,4 +40,4 @@ returns-in-Err-clause-makes g c =
     let ready = c.requires.fits.ready going in
     let value = value_on c.args.shape.now (g.B.Nand.state c.args.board.now) _ _ _ c.args.value.now c.requires.fits.shape_is c.handed.ensures.value in
     let unworn = unworn_on (g.D.Engine.agrees c.args.drive.now) c.args.shape.now (g.B.Nand.state c.args.board.now) c.is_worn.result c.requires.fits.shape_is ready.agreed (λ s f h. c.is_worn.ensures s f h going) c.if-is_worn.false in
-    fails_so _ c.args.shape.now _ _ ready _ (g.D.Engine.sight c.submit.new.drive) (command_of c.args.request.now c.args.value.now) (e.stops c.args.value.now value) going e.stopped unworn e.rest e.up e.stop
+    fails_so _ c.args.shape.now _ _ ready _ (g.D.Engine.sight c.submit.new.drive) (command_of c.args.request.now c.args.value.now) (e.stops c.args.value.now value) going e.stopped unworn e.rest e.looks e.up e.stop

@@ -4,14 +4,21 @@ use Rattle.pk_top.specs.Texts.{seen}
 use Rattle.pk_top.specs.declared.word.Word.{Word}
 use Rattle.pk_top.proofs.Images.{made_drive}
 use Rattle.pk_top.proofs.Completing.{whole_serve}
-use Rattle.pk_top.proofs.Within.{frames_within}
+use Rattle.pk_top.proofs.Answering.{whole_ask, few_roots}
+use Rattle.pk_top.proofs.Within.{frames_within, short_within}
 use Rattle.pk_top.proofs.running.run.Goals as goal
 
-pub obey-requires : goal.obey-requires
-obey-requires g c =
+pub obey-requires-clause-frames : goal.obey-requires-clause-frames
+obey-requires-clause-frames g c =
     let words = map (λ w. w.now) c.args.words.now in
     let T : Option Word → Type 0 = λ o. option_map seen o ≡ spec.word_of words in
     frames_within words (seen c.in-Ok-Some.word) (subst T c.in-Ok-Some.field-0-is c.in-Ok-Some.ensures)
+
+pub obey-requires-clause-short : goal.obey-requires-clause-short
+obey-requires-clause-short g c =
+    let words = map (λ w. w.now) c.args.words.now in
+    let T : Option Word → Type 0 = λ o. option_map seen o ≡ spec.word_of words in
+    short_within words (seen c.in-Ok-Some.word) (subst T c.in-Ok-Some.field-0-is c.in-Ok-Some.ensures)
 
 pub returns-in-Ok-Some-clause-made : goal.returns-in-Ok-Some-clause-made
 returns-in-Ok-Some-clause-made g c =
@@ -31,3 +38,14 @@ returns-in-Ok-Some-clause-serves_whole g c =
 
 pub returns-in-Err-clause-serves_whole : goal.returns-in-Err-clause-serves_whole
 returns-in-Err-clause-serves_whole g c = λ frames asked. whole_serve frames (g.B.Nand.state c.args.board.now) (g.B.Nand.state c.args.board.now) 7 (inl (refl, refl))
+
+pub returns-in-Ok-Some-clause-asks_whole : goal.returns-in-Ok-Some-clause-asks_whole
+returns-in-Ok-Some-clause-asks_whole g c =
+    let words = map (λ w. w.now) c.args.words.now in
+    let T : Option Word → Type 0 = λ o. option_map seen o ≡ spec.word_of words in
+    λ task built asked.
+    let same : Some (seen c.in-Ok-Some.word) ≡ Some (spec.ask task) = subst T c.in-Ok-Some.field-0-is c.in-Ok-Some.ensures ∙ asked in
+    whole_ask task (few_roots task built) (g.B.Nand.state c.args.board.now) (g.B.Nand.state c.obey.new.board) c.obey.result.0 (c.obey.ensures.asks task built (cc))
+
+pub returns-in-Err-clause-asks_whole : goal.returns-in-Err-clause-asks_whole
+returns-in-Err-clause-asks_whole g c = λ task built asked. whole_ask task (few_roots task built) (g.B.Nand.state c.args.board.now) (g.B.Nand.state c.args.board.now) 7 (inl (refl, refl))

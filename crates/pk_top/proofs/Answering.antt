@@ -1,0 +1,143 @@
+-- Where no call fails, a word is done.
+use Rattle.std.proofs.Common.{◌≡◌, ◌⊎◌, inl, inr, ℕ, ◌+◌, ◌<◌, ◌≤◌, List, Option, Some, None, IsSome, refl, sym, ◌∙◌, ap, subst, arith, true, false, nat_le}
+use Rattle.std.proofs.lemmas.Bool.Decides.{nat_tests}
+use Rattle.pk_base.specs.Shape.{Shape}
+use Rattle.pk_base.specs.Page.{Flash}
+use Rattle.pk_base.specs.Map.{Map}
+use Rattle.pk_nand.specs.BoardState.{BoardState, shape_or_none}
+use Rattle.pk_nand.specs.Calls.{Rose, Loaded, longer}
+use Rattle.pk_nand.specs.declared.types.LoadFault.{LoadFault}
+use Rattle.pk_nand.specs.declared.types.LoadFault.TheVariants.{Fault, BadImage, Memory}
+use Rattle.pk_model.specs.Reading.{Holds}
+use Rattle.pk_model.specs.Wear.{root_number, roots}
+use Rattle.pk_serve.specs.Complete.{NoneRose}
+use Rattle.pk_scan.specs.Opening.{NotOpened}
+use Rattle.pk_scan.specs.declared.errors.OpenError.{OpenError}
+use Rattle.pk_scan.specs.declared.errors.OpenError.TheVariants.{NotFormatted, Damaged, Fault as ReadFault, Memory as NoMemory}
+use Rattle.pk_wordrun.specs.Tasks.{Task, answer, list, generate, SaysTask}
+use Rattle.pk_top.specs.Words.{ask, is_later}
+use Rattle.pk_wordrun.specs.Told.{EndsBy, Finished, most_roots}
+use Rattle.pk_wordrun.specs.declared.end.WordEnd.{WordEnd}
+use Rattle.pk_wordrun.specs.declared.end.WordEnd.TheVariants.{Done, Output, Flash as FlashFailed, Worn}
+use Rattle.pk_top.specs.Asks.{word_frames, word_status, AskedTo, Asks, AsksAll, AsksWhole, AsksFound, AskRun}
+use Rattle.pk_top.specs.Ends.{open_status}
+use Rattle.pk_top.specs.Loads.{load_status, HasReason}
+use Rattle.pk_top.specs.Serves.{behind_opening}
+use Rattle.pk_top.specs.Statuses.{Untouched}
+use Rattle.pk_top.proofs.Completing.{reads_leave, untouched_loaded}
+use Rattle.pk_top.proofs.Telling.{untouched_same, refused_untouched}
+
+-- ---- from the load on
+
+-- the drive was not opened
+not_opened : (task : Task) (shape : Shape) (loaded new : BoardState) (status : ℕ) (error : OpenError) → status ≡ open_status error → NotOpened shape loaded new error → AsksAll task shape loaded new status
+not_opened task shape loaded new status NotFormatted is reason start holds far none sound = absurd (let never = reason.0 in cc)
+not_opened task shape loaded new status (Damaged page) is reason start holds far none sound = absurd (let never = reason.0 in cc)
+not_opened task shape loaded new status ReadFault is reason start holds far none sound = absurd (sound reason.0)
+not_opened task shape loaded new status NoMemory is reason start holds far none sound = inr (is, reads_leave loaded new reason)
+
+worn_never : (before behind more : ℕ) → nat_le 9223372036854775808 behind ≡ true → behind ≤ before + more → before < 4611686018427387904 → more < 4611686018427387904 → ⊥
+worn_never before behind more worn used far few = grind (arith, nat_tests, worn, used, far, few)
+
+module _ (task : Task) (few : most_roots task < 4611686018427387904) (shape : Shape) (loaded new : BoardState) where
+  finished : (start m : Map) → start ≡ m → Finished task shape word_frames start (behind_opening shape word_frames loaded) new → Finished task shape word_frames m loaded new
+  finished start m same f =
+      let T : Map → Type 0 = λ s. Finished task shape word_frames s loaded new in
+      subst T same (record { left = f.left; text = f.text; says = f.says; posted = f.posted; holds = f.holds; sound = record { output = f.sound.output; stop = f.sound.stop } })
+
+  by_end : (status : ℕ) (end : WordEnd) → status ≡ word_status end → AskedTo task shape loaded new end → AsksAll task shape loaded new status
+  by_end status Done is asked start holds far none sound =
+      let held : Holds shape loaded.pages asked.start = asked.holds in
+      let same : asked.start ≡ start = cc in
+      inl (is, finished asked.start start same asked.ends)
+  by_end status Output is asked start holds far none sound = absurd (none.output asked.ends)
+  by_end status FlashFailed is asked start holds far none sound = absurd (none.stops asked.ends)
+  by_end status Worn is asked start holds far none sound = absurd (worn_never (roots loaded) (roots new) (most_roots task) asked.ends.0 (asked.used refl) far few)
+
+  pub asks_all : (status : ℕ) → Asks task shape loaded new status → AsksAll task shape loaded new status
+  asks_all status asks = elim asks.outcome [
+    | inl n ↦ not_opened task shape loaded new status n.error n.tells n.reason
+    | inr e ↦ by_end status e.0 e.1 e.2
+  ]
+
+-- ---- a board that holds its pages from the start
+
+module _ (task : Task) (few : most_roots task < 4611686018427387904) (old new : BoardState) (status : ℕ) where
+  whole_refused : (fault : LoadFault) → status ≡ load_status fault → HasReason old new fault → (new.flash_faults ≡ old.flash_faults → Untouched old new) → AsksWhole task old new status
+  whole_refused Fault is reason leaves shape has start holds far none sound = absurd (sound reason)
+  whole_refused (BadImage at) is reason leaves shape has start holds far none sound = absurd (reason.2 (subst IsSome (sym has) refl))
+  whole_refused Memory is reason leaves shape has start holds far none sound = inr (is, leaves reason)
+
+  module _ (shape : Shape) (loaded : BoardState) (found : Loaded old loaded (Some shape)) (has : old.shape ≡ Some shape) where
+    some : IsSome old.shape
+    some = subst IsSome (sym has) refl
+
+    same_pages : loaded.pages ≡ old.pages
+    same_pages = (found.held some).0
+
+    same_shape : loaded.shape ≡ old.shape
+    same_shape = (found.held some).1
+
+    finished_loaded : (start : Map) → Finished task shape word_frames start loaded new → Finished task shape word_frames start old new
+    finished_loaded start f =
+        let R : ℕ → Type 0 = λ n. SaysTask task n new.read_faults shape word_frames start f.text f.left in
+        record {
+          left = f.left;
+          text = f.text;
+          says = subst R (ap (λ (s : BoardState). s.read_faults) found.rest) f.says;
+          posted = f.posted ∙ ap (λ (o : Option (List ℕ)). longer o f.text) (ap (λ (s : BoardState). s.posted) found.rest);
+          holds = f.holds;
+          sound = record { output = f.sound.output ∙ ap (λ (s : BoardState). s.out_faults) found.rest; stop = f.sound.stop ∙ ap (λ (s : BoardState). s.stop_faults) found.rest };
+        }
+
+    none_loaded : NoneRose old new → NoneRose loaded new
+    none_loaded none =
+        let R : ℕ → Type 0 = λ n. Rose n new.read_faults → ⊥ in
+        let S : ℕ → Type 0 = λ n. Rose n new.stop_faults → ⊥ in
+        let I : ℕ → Type 0 = λ n. Rose n new.in_faults → ⊥ in
+        let O : ℕ → Type 0 = λ n. Rose n new.out_faults → ⊥ in
+        record {
+          reads = subst R (sym (ap (λ (s : BoardState). s.read_faults) found.rest)) none.reads;
+          stops = subst S (sym (ap (λ (s : BoardState). s.stop_faults) found.rest)) none.stops;
+          input = subst I (sym (ap (λ (s : BoardState). s.in_faults) found.rest)) none.input;
+          output = subst O (sym (ap (λ (s : BoardState). s.out_faults) found.rest)) none.output;
+        }
+
+    whole_loaded : AsksAll task shape loaded new status → AsksAll task shape old new status
+    whole_loaded all start holds far none sound =
+        let H : Flash → Type 0 = λ f. Holds shape f start in
+        let F : ℕ → Type 0 = λ n. Rose n new.flash_faults → ⊥ in
+        let W : ℕ → Type 0 = λ n. n < 4611686018427387904 in
+        let same : roots old ≡ roots loaded = λ k. root_number (shape_or_none (sym same_shape k)) (sym same_pages k) in
+        elim (all start (subst H (sym same_pages) holds) (subst W same far) (none_loaded none) (subst F (sym (ap (λ (s : BoardState). s.flash_faults) found.rest)) sound)) [
+          | inl done ↦ inl (done.0, finished_loaded start done.1)
+          | inr nothing ↦ inr (nothing.0, untouched_loaded 0 old new status shape loaded found has nothing.1)
+        ]
+
+  whole_found : AsksFound task old new status → AsksWhole task old new status
+  whole_found found shape has =
+      let some : IsSome old.shape = subst IsSome (sym has) refl in
+      let told : Some found.shape ≡ Some shape = sym found.found.shape_is ∙ ((found.found.held some).1 ∙ has) in
+      let same : found.shape ≡ shape = cc in
+      let L : Shape → Type 0 = λ s. Loaded old found.loaded (Some s) in
+      let A : Shape → Type 0 = λ s. AsksAll task s found.loaded new status in
+      whole_loaded shape found.loaded (subst L same found.found) has (subst A same (asks_all task few found.shape found.loaded new status found.asks))
+
+  whole_none : (status ≡ 7) × (new ≡ old) → AsksWhole task old new status
+  whole_none none shape has start holds far quiet sound = inr (none.0, untouched_same old new none.1)
+
+  whole_missing : Loaded old new None → AsksWhole task old new status
+  whole_missing missing shape has start holds far none sound =
+      absurd (let there : None ≡ Some shape = sym missing.shape_is ∙ ((missing.held (subst IsSome (sym has) refl)).1 ∙ has) in cc)
+
+  pub whole_ask : AskRun task old new status → AsksWhole task old new status
+  whole_ask (inl none) = whole_none none
+  whole_ask (inr (inl refused)) = whole_refused refused.fault refused.tells refused.reason (λ same. refused_untouched old new same refused.failed)
+  whole_ask (inr (inr (inl missing))) = whole_missing missing.1
+  whole_ask (inr (inr (inr found))) = whole_found found
+
+-- no word of today uses up the roots
+pub few_roots : (task : Task) → is_later (ask task) ≡ false → most_roots task < 4611686018427387904
+few_roots (answer q) built = omega arith
+few_roots (list from) built = omega arith
+few_roots (generate begin count) built = absurd (let e : true ≡ false = built in cc)

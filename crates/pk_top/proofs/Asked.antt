@@ -1,0 +1,159 @@
+-- A run of a word that asks the drive, from the load on.
+use Rattle.std.proofs.Common.{◌≡◌, ◌⊎◌, inl, inr, ℕ, List, [], Option, Some, None, Result, Ok, refl, sym, ◌∙◌, ap, subst, arith}
+use Rattle.pk_base.specs.Entry.{Entry}
+use Rattle.pk_base.specs.Map.{Map}
+use Rattle.pk_base.specs.Page.{Flash}
+use Rattle.pk_base.specs.Refusal.{Refusal}
+use Rattle.pk_base.specs.Shape.{Shape}
+use Rattle.pk_nvme.specs.Command.{Command}
+use Rattle.pk_nand.specs.BoardState.{BoardState}
+use Rattle.pk_nand.specs.Calls.{Rose, Loaded}
+use Rattle.pk_nand.specs.Effects.{OnlyReading}
+use Rattle.pk_nand.proofs.Reaching.{Reached-start, Went-reached}
+use Rattle.pk_model.specs.Growth.{Goes}
+use Rattle.pk_model.specs.Kept.{Kept, rise}
+use Rattle.pk_model.specs.Reading.{reading, Holds}
+use Rattle.pk_model.specs.Sight.{Sight}
+use Rattle.pk_serve.proofs.Counting.{at_most-zero}
+use Rattle.pk_drive.specs.Drive.{HoldsMap}
+use Rattle.pk_scan.specs.Opening.{NotOpened}
+use Rattle.pk_scan.specs.declared.errors.OpenError.{OpenError}
+use Rattle.pk_words.specs.Lines.{key_lines}
+use Rattle.pk_words.specs.Says.{wanted_keys}
+use Rattle.pk_wordrun.specs.Tasks.{Task, answer, list, generate, KeptTask}
+use Rattle.pk_wordrun.specs.Told.{Told, EndsBy}
+use Rattle.pk_wordrun.specs.declared.end.WordEnd.{WordEnd}
+use Rattle.pk_wordrun.specs.declared.end.WordEnd.TheVariants.{Done, Output, Flash as FlashFailed, Worn}
+use Rattle.pk_top.specs.Asks.{word_frames, word_status, KeepsTask, AskedTo, Asks, AskRun}
+use Rattle.pk_top.specs.Ends.{open_status}
+use Rattle.pk_top.specs.Serves.{behind_opening}
+use Rattle.pk_top.specs.Statuses.{Tells, Untouched}
+use Rattle.pk_top.proofs.Telling.{tells_good, tells_output, tells_flash, tells_memory, tells_no_drive, tells_refused, tells_not, wants_untouched, wants_sound, gives_same, untouched_same, load_untouched, refused_untouched}
+
+-- ---- nothing was done
+
+kept-none : (shape : Shape) (frames : ℕ) (start : Map) (cs : List Command) (before behind : ℕ) (flash : Flash) → Holds shape flash start → Kept shape frames start cs (rise before behind) [] flash
+kept-none shape frames start cs before behind flash holds = record {
+  served = [];
+  unserved = cs;
+  from_front = refl;
+  map_left = start;
+  ran = refl;
+  held = holds;
+  unposted = [];
+  begins = refl;
+  few_faults = at_most-zero (rise before behind);
+}
+
+-- a flash that holds the map, before any byte was given out
+pub silent : (task : Task) (before behind : ℕ) (shape : Shape) (frames : ℕ) (start : Map) (flash : Flash) → Holds shape flash start → KeptTask task before behind shape frames start flash []
+silent (answer q) before behind shape frames start flash holds = (kept-none shape frames start _ before behind flash holds, inl refl)
+silent (list from) before behind shape frames start flash holds = record { held = holds; text = key_lines (wanted_keys from start); says = (refl, inl refl); unposted = key_lines (wanted_keys from start); front = refl }
+silent (generate begin count) before behind shape frames start flash holds = (kept-none shape frames start _ before behind flash holds, inl refl)
+
+-- what a word keeps is a flash that holds a map
+pub task_holds : (task : Task) (before behind : ℕ) (shape : Shape) (frames : ℕ) (start : Map) (flash : Flash) (posted : List ℕ) → KeptTask task before behind shape frames start flash posted
+    → (m : Map) × Holds shape flash m
+task_holds (answer q) before behind shape frames start flash posted kept = (kept.0.map_left, kept.0.held)
+task_holds (list from) before behind shape frames start flash posted kept = (start, kept.held)
+task_holds (generate begin count) before behind shape frames start flash posted kept = (kept.0.map_left, kept.0.held)
+
+module _ (task : Task) (shape : Shape) (loaded new : BoardState) where
+  abbrev KeptFrom : Flash → List ℕ → Type 0
+  KeptFrom flash posted = (start : Map) → Holds shape loaded.pages start → KeptTask task loaded.read_faults new.read_faults shape word_frames start flash posted
+
+  keeps-none : OnlyReading loaded new → KeepsTask task shape loaded new
+  keeps-none only = (
+    [],
+    Went-reached [] loaded new KeptFrom (Reached-start loaded new KeptFrom (ap (λ (s : BoardState). s.shape) only) (ap (λ (s : BoardState). s.pages) only) (ap (λ (s : BoardState). s.trail) only) (ap (λ (s : BoardState). s.posted) only)
+        (λ start holds. silent task loaded.read_faults new.read_faults shape word_frames start loaded.pages holds)),
+    tt,
+  )
+
+  -- the drive was not opened
+  pub Asks-not : (status : ℕ) (error : OpenError) → status ≡ open_status error → NotOpened shape loaded new error → OnlyReading loaded new → Asks task shape loaded new status
+  Asks-not status error tells reason only = record { kept = keeps-none only; outcome = inl (record { error = error; tells = tells; reason = reason; only_reads = only }) }
+
+  -- it was
+  module _ (drive : Sight) (start : Map) (stands : HoldsMap shape word_frames (behind_opening shape word_frames loaded) drive start) (none : drive.pending ≡ []) where
+    start-held : Holds shape loaded.pages start
+    start-held = let T : List Entry → Type 0 = λ p. reading shape loaded.pages p ≡ Ok start in subst T none stands.map_is
+
+    -- a flash holds one map
+    kept-from : (flash : Flash) (posted : List ℕ) → KeptTask task loaded.read_faults new.read_faults shape word_frames start flash posted → KeptFrom flash posted
+    kept-from flash posted kept m holds =
+        let held : Holds shape loaded.pages start = start-held in
+        let same : start ≡ m = cc in
+        let T : Map → Type 0 = λ s. KeptTask task loaded.read_faults new.read_faults shape word_frames s flash posted in
+        subst T same kept
+
+    told-by : (status : ℕ) (end : WordEnd) → status ≡ word_status end → Told task shape word_frames start (behind_opening shape word_frames loaded) new end → Asks task shape loaded new status
+    told-by status end tells told = record {
+      kept = (
+        told.kept.0,
+        record {
+          trail = told.kept.1.trail;
+          posted = told.kept.1.posted;
+          same_shape = told.kept.1.same_shape;
+          cuts = λ flash posted cut. kept-from flash posted (told.kept.1.cuts flash posted cut);
+          stands = told.kept.1.stands;
+        },
+        told.kept.2,
+      );
+      outcome = inr (end, tells, record { start = start; holds = start-held; ends = told.ends; used = told.used });
+    }
+
+  pub Asks-opened : (opened_board : BoardState) (drive : Sight) (status : ℕ) (end : WordEnd) → opened_board ≡ behind_opening shape word_frames loaded → ((m : Map) × HoldsMap shape word_frames opened_board drive m) → drive.pending ≡ []
+      → status ≡ word_status end → ((start : Map) → Holds shape opened_board.pages start → Told task shape drive.counts.frames start opened_board new end) → Asks task shape loaded new status
+  Asks-opened opened_board drive status end is stands none tells told =
+      let T : BoardState → Type 0 = λ b. (m : Map) × HoldsMap shape word_frames b drive m in
+      let S : BoardState → Type 0 = λ b. (start : Map) → Holds shape b.pages start → Told task shape drive.counts.frames start b new end in
+      let at : T (behind_opening shape word_frames loaded) = subst T is stands in
+      let F : ℕ → Type 0 = λ frames. Told task shape frames at.0 (behind_opening shape word_frames loaded) new end in
+      told-by drive at.0 at.1 none status end tells (subst F at.1.frames_is (subst S is told at.0 (start-held drive at.0 at.1 none)))
+
+-- a drive of some frames is one of its own number of frames
+pub own_frames : (shape shape' : Shape) (frames : ℕ) (b : BoardState) (d : Sight) → shape' ≡ shape → (m : Map) × HoldsMap shape frames b d m → (m : Map) × HoldsMap shape' d.counts.frames b d m
+own_frames shape shape' frames b d same stands =
+    let T : Shape → Type 0 = λ s. (m : Map) × HoldsMap s d.counts.frames b d m in
+    subst T (sym same) (stands.0, record { shape_is = stands.1.shape_is; frames_is = refl; map_is = stands.1.map_is })
+
+-- ---- what the status tells
+
+module _ (shape : Shape) (old loaded new : BoardState) (found : Loaded old loaded (Some shape)) where
+  tells_end : (task : Task) (start : Map) (end : WordEnd) → EndsBy task shape word_frames start (behind_opening shape word_frames loaded) new end → Tells old new (word_status end)
+  tells_end task start Done ends = tells_good old new 0 (inl refl)
+  tells_end task start Output ends = let T : ℕ → Type 0 = λ n. Rose n new.out_faults in tells_output old new (subst T (ap (λ (s : BoardState). s.out_faults) found.rest) ends)
+  tells_end task start FlashFailed ends = let T : ℕ → Type 0 = λ n. Rose n new.stop_faults in tells_flash old new 6 refl (inl (subst T (ap (λ (s : BoardState). s.stop_faults) found.rest) ends))
+  tells_end task start Worn ends = tells_good old new 10 (inr (inr refl))
+
+  tells_asks : (task : Task) (status : ℕ) → Asks task shape loaded new status → Tells old new status
+  tells_asks task status s = elim s.outcome [
+    | inl n ↦ tells_not shape old loaded new found status n.error n.tells n.reason n.only_reads
+    | inr e ↦ let T : ℕ → Type 0 = λ n. Tells old new n in subst T (sym e.1) (tells_end task e.2.start e.0 e.2.ends)
+  ]
+
+  -- want of memory is met before anything is done
+  word_memory : (end : WordEnd) → word_status end ≡ 7 → ⊥
+  word_memory Done e = omega arith
+  word_memory Output e = omega arith
+  word_memory FlashFailed e = omega arith
+  word_memory Worn e = omega arith
+
+  memory_asks : (task : Task) (status : ℕ) → Asks task shape loaded new status → status ≡ 7 → Untouched old new
+  memory_asks task status s is = elim s.outcome [
+    | inl n ↦ wants_untouched shape old loaded new found n.error (sym n.tells ∙ is) n.reason
+    | inr e ↦ absurd (word_memory e.0 (sym e.1 ∙ is))
+  ]
+
+pub tells_ask : (task : Task) (old new : BoardState) (status : ℕ) → AskRun task old new status → Tells old new status
+tells_ask task old new status (inl none) = tells_memory old new status none.0 (ap (λ (s : BoardState). s.flash_faults) none.1) (gives_same old new none.1)
+tells_ask task old new status (inr (inl refused)) = tells_refused old new status refused
+tells_ask task old new status (inr (inr (inl missing))) = tells_no_drive old new status missing.0 (inl missing.1.shape_is) (load_untouched old new None missing.1)
+tells_ask task old new status (inr (inr (inr found))) = tells_asks found.shape old found.loaded new found.found task status found.asks
+
+pub memory_ask : (task : Task) (old new : BoardState) (status : ℕ) → AskRun task old new status → status ≡ 7 → Untouched old new
+memory_ask task old new status (inl none) is = untouched_same old new none.1
+memory_ask task old new status (inr (inl refused)) is = refused_untouched old new (wants_sound old new refused.fault (sym refused.tells ∙ is) refused.reason) refused.failed
+memory_ask task old new status (inr (inr (inl missing))) is = load_untouched old new None missing.1
+memory_ask task old new status (inr (inr (inr found))) is = memory_asks found.shape old found.loaded new found.found task status found.asks is

@@ -1,0 +1,73 @@
+-- A run of a word that asks the drive: a session of one word.
+use Rattle.std.specs.Prelude.{◌≡◌, ◌⊎◌, ℕ, ◌+◌, ◌<◌, ◌≤◌, List, Some, None}
+use Rattle.pk_base.specs.Shape.{Shape}
+use Rattle.pk_base.specs.Page.{Flash}
+use Rattle.pk_base.specs.Map.{Map}
+use Rattle.pk_nand.specs.BoardState.{BoardState}
+use Rattle.pk_nand.specs.Calls.{Rose, Loaded}
+use Rattle.pk_model.specs.Growth.{Goes}
+use Rattle.pk_model.specs.Reading.{Holds}
+use Rattle.pk_model.specs.Wear.{roots}
+use Rattle.pk_serve.specs.Complete.{NoneRose}
+use Rattle.pk_wordrun.specs.Tasks.{Task, SaysTask, KeptTask}
+use Rattle.pk_wordrun.specs.Told.{EndsBy, Finished, most_roots}
+use Rattle.pk_wordrun.specs.declared.end.WordEnd.{WordEnd}
+use Rattle.pk_wordrun.specs.declared.end.WordEnd.TheVariants.{Done, Output, Flash as FlashFailed, Worn}
+use Rattle.pk_top.specs.Loads.{LoadRefused}
+use Rattle.pk_top.specs.Serves.{NotServed, behind_opening}
+use Rattle.pk_top.specs.Statuses.{Untouched}
+
+-- the frames with which a word opens the drive
+abbrev pub word_frames : ℕ
+word_frames = 36
+
+abbrev pub word_status : WordEnd → ℕ
+word_status Done = 0
+word_status Output = 5
+word_status FlashFailed = 6
+word_status Worn = 10
+
+-- The headline: whatever map the flash held at first, every cut holds the map after commands of the word from the front on; where a byte was given
+-- out, the map after all of them, and what was given out begins the text that is said of both maps. From each state of the trail to the next the
+-- tree grows.
+abbrev pub KeepsTask : Task → Shape → BoardState → BoardState → Type 0
+KeepsTask task shape loaded new =
+    Goes shape loaded new (λ flash posted. (start : Map) → Holds shape loaded.pages start
+    → KeptTask task loaded.read_faults new.read_faults shape word_frames start flash posted)
+
+-- The drive was opened, and the word came to this end.
+pub record AskedTo (task : Task) (shape : Shape) (loaded new : BoardState) (end : WordEnd) : Type 0 where
+  pub start : Map
+  pub holds : Holds shape loaded.pages start
+  pub ends : EndsBy task shape word_frames start (behind_opening shape word_frames loaded) new end
+  pub used : end ≡ Worn → roots new ≤ roots loaded + most_roots task
+
+-- What was done on an image of this shape, from its load on.
+pub record Asks (task : Task) (shape : Shape) (loaded new : BoardState) (status : ℕ) : Type 0 where
+  pub kept : KeepsTask task shape loaded new
+  pub outcome : NotServed shape loaded new status ⊎ ((end : WordEnd) × (status ≡ word_status end) × AskedTo task shape loaded new end)
+
+-- an image of this shape was found
+pub record AsksFound (task : Task) (old new : BoardState) (status : ℕ) : Type 0 where
+  pub shape : Shape
+  pub loaded : BoardState
+  pub found : Loaded old loaded (Some shape)
+  pub asks : Asks task shape loaded new status
+
+-- Memory for the words was missing and nothing was done; or the load was refused; or it found no image; or it found one.
+abbrev pub AskRun : Task → BoardState → BoardState → ℕ → Type 0
+AskRun task old new status =
+    ((status ≡ 7) × (new ≡ old)) ⊎ (LoadRefused old new status ⊎ (((status ≡ 8) × Loaded old new None) ⊎ AsksFound task old new status))
+
+-- ---- completeness
+
+-- On a drive that is far from worn, where no call fails: the word is done, and its text says that no read failed; or memory was missing, and nothing
+-- was done.
+abbrev pub AsksAll : Task → Shape → BoardState → BoardState → ℕ → Type 0
+AsksAll task shape loaded new status =
+    (start : Map) → Holds shape loaded.pages start → roots loaded < 4611686018427387904 → NoneRose loaded new → (Rose loaded.flash_faults new.flash_faults → ⊥)
+    → ((status ≡ 0) × Finished task shape word_frames start loaded new) ⊎ ((status ≡ 7) × Untouched loaded new)
+
+-- the same of a board that holds its pages from the start
+abbrev pub AsksWhole : Task → BoardState → BoardState → ℕ → Type 0
+AsksWhole task old new status = (shape : Shape) → old.shape ≡ Some shape → AsksAll task shape old new status

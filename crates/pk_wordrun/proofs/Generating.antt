@@ -1,0 +1,291 @@
+-- A workload, one command after another, and its summary.
+use Rattle.std.proofs.Common.{◌≡◌, inl, inr, ℕ, zero, suc, ◌+◌, ◌*◌, ◌%◌, ◌<◌, ◌≤◌, ◌==◌, nat_le, nat_lt, if◌then◌else◌, List, [], ◌∷◌, ◌++◌, length, Option, Some, Result, Ok, Bool, true, false, refl, sym, ◌∙◌, ap, subst, arith, append-nil, append_assoc, length-append}
+use Rattle.std.specs.FinMap.{len}
+use Rattle.std.proofs.lemmas.List.{length-map}
+use Rattle.std.proofs.lemmas.Bool.Decides.{nat_tests}
+use Rattle.pk_base.specs.Shape.{Shape}
+use Rattle.pk_base.specs.Page.{Flash as Pages}
+use Rattle.pk_base.specs.Entry.{Entry}
+use Rattle.pk_base.specs.Refusal.{Refusal}
+use Rattle.pk_base.specs.Map.{Map, live}
+use Rattle.pk_nvme.specs.Command.{Command}
+use Rattle.pk_nvme.specs.Seen.{command_of}
+use Rattle.pk_nvme.specs.declared.request.Request.{Request}
+use Rattle.pk_nvme.specs.declared.opcode.TheConstants.{STORE, RETRIEVE, LIST, DELETE, EXIST}
+use Rattle.pk_nand.specs.BoardState.{BoardState}
+use Rattle.pk_nand.specs.Calls.{Rose, longer, after_post, PostFailed}
+use Rattle.pk_gen.specs.Workload.{Generator, workload, generator, request_of, value_of, a_of, b_of, c_of, is_store, value_len, request, tick}
+use Rattle.pk_drive.specs.Drive.{CountsMap}
+use Rattle.pk_drive.specs.Exec.{most_installs}
+use Rattle.pk_drive.specs.Meter.{meter}
+use Rattle.pk_drive.specs.Seen.{counts_of}
+use Rattle.pk_drive.specs.declared.types.Counts.{Counts}
+use Rattle.pk_model.specs.Sight as model
+use Rattle.pk_model.specs.Sight.{Sight, map_of}
+use Rattle.pk_model.specs.Growth.{Goes}
+use Rattle.pk_model.specs.Kept.{rise}
+use Rattle.pk_model.specs.Wear.{roots}
+use Rattle.pk_model.specs.Reading.{reading, Holds}
+use Rattle.pk_model.specs.Run.{Exchange, commands}
+use Rattle.pk_model.proofs.Growing.{Goes-reaches, weaken_went}
+use Rattle.pk_serve.specs.Serving.{installs}
+use Rattle.pk_serve.proofs.Counting.{metered-roots}
+use Rattle.pk_port.specs.Asking.{KeptSilently}
+use Rattle.pk_port.specs.Ready.{Fits}
+use Rattle.pk_port.specs.Steps.{Mounted, Serves, Stops, Fails, HasCause}
+use Rattle.pk_port.specs.declared.halt.Halt.{Halt}
+use Rattle.pk_port.specs.declared.halt.Halt.TheVariants.{Stopped, Worn as UsedUp}
+use Rattle.pk_port.proofs.Growing.{asked-none, asked-none-all, asked-next, asked-next-all, asked-stops, asked-posts, asked-post_failed, went-silent}
+use Rattle.pk_wordrun.specs.Ends.{end_of}
+use Rattle.pk_wordrun.specs.Generated.{Generated, Unfinished}
+use Rattle.pk_wordrun.specs.Summary.{summary_lines}
+use Rattle.pk_wordrun.specs.Sums.{Sums}
+use Rattle.pk_wordrun.specs.Tasks.{generate, SaysTask, KeptTask}
+use Rattle.pk_wordrun.specs.Told.{Told}
+use Rattle.pk_wordrun.specs.declared.end.WordEnd.TheVariants.{Done, Output}
+use Rattle.pk_wordrun.specs.declared.summary.Summary.{Summary}
+use Rattle.pk_wordrun.proofs.Telling.{keeps-flash, done_unworn, output_unworn, flash_unworn}
+
+-- ---- the commands of a workload
+
+-- the command of a turn
+abbrev pub command_at : ℕ → ℕ → Command
+command_at begin turn = command_of (request_of (generator begin turn)) (value_of (generator begin turn))
+
+workload-length : (begin count : ℕ) → length (workload begin count) ≡ count
+workload-length begin zero = refl
+workload-length begin (suc n) = let e = workload-length begin n in let more = length-append (workload begin n) (command_at begin n ∷ []) in omega (arith, e, more)
+
+-- ---- the roots that they install
+
+-- the command of a turn, by its draws
+abbrev picked : Bool → Bool → Bool → Bool → Bool → ℕ → ℕ → ℕ → Request
+picked s r d e t cid b c =
+    if s then request STORE cid b (value_len c)
+    else if r then request RETRIEVE cid b 4096
+    else if d then request DELETE cid b 0
+    else if e then request EXIST cid b 0
+    else if t then tick cid
+    else request LIST cid b 1024
+
+few_of : (s r d e t : Bool) (cid b c : ℕ) → most_installs (picked s r d e t cid b c).opcode (picked s r d e t cid b c).size ≤ 65535
+few_of true r d e t cid b c = omega arith
+few_of false true d e t cid b c = omega arith
+few_of false false true e t cid b c = omega arith
+few_of false false false true t cid b c = omega arith
+few_of false false false false true cid b c = omega arith
+few_of false false false false false cid b c = omega arith
+
+few_at : (begin turn : ℕ) → most_installs (command_at begin turn).opcode (command_at begin turn).size ≤ 65535
+few_at begin turn =
+    let g : Generator = generator begin turn in
+    few_of (is_store (a_of g)) (nat_lt (a_of g % 10) 7) (a_of g % 10 == 7) (a_of g % 10 == 8) (b_of g % 2 == 1) g.cid (b_of g) (c_of g)
+
+installs-push : (cs : List Command) (c : Command) → installs (cs ++ c ∷ []) ≡ installs cs + most_installs c.opcode c.size
+installs-push [] c = omega arith
+installs-push (d ∷ cs) c = let e = installs-push cs c in omega (arith, e)
+
+installs_few : (begin count : ℕ) → installs (workload begin count) ≤ 65535 * count
+installs_few begin zero = omega arith
+installs_few begin (suc n) = let e = installs_few begin n in let more = installs-push (workload begin n) (command_at begin n) in let few = few_at begin n in omega (arith, e, more, few)
+
+-- the first ones stand in front of more
+abbrev Front : ℕ → ℕ → ℕ → Type 0
+Front begin turn count = (more : List Command) × (workload begin count ≡ workload begin turn ++ more)
+
+front : (begin turn count : ℕ) → turn ≤ count → Front begin turn count
+front begin turn zero few =
+    let is : turn ≡ zero = omega (arith, few) in
+    ([], subst (λ t. workload begin zero ≡ workload begin t ++ []) (sym is) refl)
+front begin turn (suc n) few = by (nat_le turn n) refl (λ small. front begin turn n small)
+  where
+    by : (b : Bool) → nat_le turn n ≡ b → (turn ≤ n → Front begin turn n) → Front begin turn (suc n)
+    by true e before =
+        let r = before (grind (arith, nat_tests, e)) in
+        (r.0 ++ command_at begin n ∷ [], ap (λ (l : List Command). l ++ command_at begin n ∷ []) r.1 ∙ append_assoc (workload begin turn) r.0 (command_at begin n ∷ []))
+    by false e before =
+        let is : turn ≡ suc n = grind (arith, nat_tests, e, few) in
+        ([], subst (λ t. workload begin (suc n) ≡ workload begin t ++ []) (sym is) (sym (append-nil (workload begin (suc n)))))
+
+-- what is kept of some commands is kept of all
+module _ (shape : Shape) (frames : ℕ) (start : Map) (cs more all : List Command) (is : all ≡ cs ++ more) (n : Option ℕ) where
+  silent_all : (f : Pages) (q : List ℕ) → KeptSilently shape frames start cs n f q → KeptSilently shape frames start all n f q
+  silent_all f q (none, k) = (
+    none,
+    record {
+      served = k.served;
+      unserved = k.unserved ++ more;
+      from_front = sym (append_assoc (commands k.served) k.unserved more) ∙ (ap (λ l. l ++ more) k.from_front ∙ sym is);
+      map_left = k.map_left;
+      ran = k.ran;
+      held = k.held;
+      unposted = k.unposted;
+      begins = k.begins;
+      few_faults = k.few_faults;
+    },
+  )
+
+  goes_all : (a b : BoardState) → Goes shape a b (KeptSilently shape frames start cs n) → Goes shape a b (KeptSilently shape frames start all n)
+  goes_all a b went = (went.0, weaken_went went.0 a b (KeptSilently shape frames start cs n) (KeptSilently shape frames start all n) silent_all went.1, went.2)
+
+-- ---- turns
+
+-- before the first
+pub generated_none : (begin : ℕ) (shape : Shape) (frames : ℕ) (start : Map) (a : BoardState) (s : Summary) → a.shape ≡ Some shape → Holds shape a.pages start → Sums s [] → Generated begin 0 shape frames start a a s
+generated_none begin shape frames start a s has holds sums = record {
+  asked = asked-none shape frames start a has holds;
+  sums = subst (Sums s) (sym (asked-none-all shape frames start a has holds)) sums;
+}
+
+module _ (begin turn : ℕ) (shape : Shape) (start : Map) (a : BoardState) (old new : Mounted) (before : Summary) (w : Generated begin turn shape old.frames start a old.board before) where
+  -- as many were answered
+  turns_are : length w.asked.answered.all ≡ turn
+  turns_are = sym (length-map w.asked.answered.all (λ (x : Exchange). x.command)) ∙ (ap (λ (l : List Command). length l) w.asked.answered.are ∙ workload-length begin turn)
+
+  -- they installed few roots
+  roots_few : (count : ℕ) → turn < count → roots old.board ≤ roots a + 65535 * count
+  roots_few count small =
+      let up = metered-roots w.asked.answered.all (meter a) (meter old.board) w.asked.metered in
+      let T : List Command → Type 0 = λ l. roots old.board ≤ roots a + installs l in
+      let all = subst T w.asked.answered.are up in
+      let few = installs_few begin turn in
+      omega (arith, all, few, small)
+
+  -- one more
+  pub generated_next : turn < 4294967295 → (after : Summary)
+      → (x : Exchange) × Serves shape old new (command_at begin turn) x × ((all : List Exchange) → length all < 4294967295 → Sums before all → Sums after (all ++ x ∷ []))
+      → Generated begin (turn + 1) shape old.frames start a new.board after
+  generated_next few after (x, s, counts) =
+      let next : suc turn ≡ turn + 1 = omega arith in
+      let T : ℕ → Type 0 = λ n. Generated begin n shape old.frames start a new.board after in
+      let size = turns_are in
+      let sums = counts w.asked.answered.all (omega (arith, size, few)) w.sums in
+      subst T next (record {
+        asked = asked-next shape start a (workload begin turn) old new (command_at begin turn) w.asked x s;
+        sums = subst (Sums after) (sym (asked-next-all shape start a (workload begin turn) old new (command_at begin turn) w.asked x s)) sums;
+      })
+
+  module _ (count : ℕ) (small : turn < count) where
+    -- it stopped the drive
+    unfinished_stopped : Stops shape old new (command_at begin turn) → Unfinished begin count shape old.frames start a new.board Stopped
+    unfinished_stopped s =
+        let more = front begin (suc turn) count (omega (arith, small)) in
+        let R : ℕ → Type 0 = λ n. Rose n new.board.stop_faults in
+        let first = keeps-flash a old.board w.asked.rest in
+        let behind = keeps-flash old.board new.board s.rest in
+        record {
+          kept = goes_all shape old.frames start (workload begin turn ++ command_at begin turn ∷ []) more.0 (workload begin count) more.1 (rise a.read_faults new.board.read_faults) a new.board
+              (asked-stops shape start a (workload begin turn) old new (command_at begin turn) w.asked s);
+          ends = subst R w.asked.no_stop s.stop;
+          used = λ e. absurd (flash_unworn e);
+          input = record { input = behind.input ∙ first.input; in_faults = behind.in_faults ∙ first.in_faults };
+        }
+
+    -- nothing was done
+    unfinished_nothing : (halt : Halt) → old.stopped ≡ false → HasCause old halt → Unfinished begin count shape old.frames start a old.board halt
+    unfinished_nothing Stopped going cause = absurd (let e : true ≡ false = sym cause ∙ going in cc)
+    unfinished_nothing UsedUp going cause =
+        let more = front begin turn count (omega (arith, small)) in
+        record {
+          kept = goes_all shape old.frames start (workload begin turn) more.0 (workload begin count) more.1 (rise a.read_faults old.board.read_faults) a old.board
+              (Goes-reaches shape a old.board (KeptSilently shape old.frames start (workload begin turn) (rise a.read_faults old.board.read_faults)) w.asked.reached);
+          ends = (cause, record { output = ap (λ (b : BoardState). b.out_faults) w.asked.rest; stop = w.asked.no_stop });
+          used = λ _. roots_few count small;
+          input = keeps-flash a old.board w.asked.rest;
+        }
+
+    pub unfinished : (halt : Halt) → old.stopped ≡ false → Fails shape old new (command_at begin turn) halt → Unfinished begin count shape old.frames start a new.board halt
+    unfinished halt going (inl s) = let T : Halt → Type 0 = λ h. Unfinished begin count shape old.frames start a new.board h in subst T (sym s.0) (unfinished_stopped s.1)
+    unfinished halt going (inr cause) = let T : Mounted → Type 0 = λ m. Unfinished begin count shape old.frames start a m.board halt in subst T (sym cause.1) (unfinished_nothing halt going cause.0)
+
+-- the command of a turn is that of the generator there
+pub counted_turn : (shape : Shape) (old new : Mounted) (begin turn : ℕ) (w : Generator) → w ≡ generator begin turn → (before after : Summary)
+    → (x : Exchange) × Serves shape old new (command_of (request_of w) (value_of w)) x × ((all : List Exchange) → length all < 4294967295 → Sums before all → Sums after (all ++ x ∷ []))
+    → (x : Exchange) × Serves shape old new (command_at begin turn) x × ((all : List Exchange) → length all < 4294967295 → Sums before all → Sums after (all ++ x ∷ []))
+counted_turn shape old new begin turn w is before after t =
+    let T : Generator → Type 0 = λ v. Serves shape old new (command_of (request_of v) (value_of v)) t.0 in
+    (t.0, subst T is t.1, t.2)
+
+pub failed_turn : (shape : Shape) (old new : Mounted) (begin turn : ℕ) (w : Generator) → w ≡ generator begin turn → (halt : Halt) → Fails shape old new (command_of (request_of w) (value_of w)) halt → Fails shape old new (command_at begin turn) halt
+failed_turn shape old new begin turn w is halt t = let T : Generator → Type 0 = λ v. Fails shape old new (command_of (request_of v) (value_of v)) halt in subst T is t
+
+-- ---- the summary
+
+ok_same : (x y : Map) → ◌≡◌ {A = Result Map Refusal} (Ok x) (Ok y) → x ≡ y
+ok_same x y e = cc
+
+-- the numbers that a drive counts are those of the map that the flash holds
+pub counted : (agrees : Option Shape → Pages → Type 0) (shape : Shape) (b : BoardState) (d : Sight) (counts : Counts) → Fits agrees shape b d → d.stopped ≡ false → counts_of counts ≡ d.counts
+    → ((s : Shape) (f : Pages) (m : Map) → agrees (Some s) f → d.stopped ≡ false → map_of s f d ≡ Ok m → CountsMap s d.counts.frames m d.counts)
+    → (m : Map) → Holds shape b.pages m → (counts.keys ≡ len m) × (counts.live ≡ live shape m)
+counted agrees shape b d counts fits going numbers told m held =
+    let r = fits.ready going in
+    let A : Option Shape → Type 0 = λ o. agrees o b.pages in
+    let R : List Entry → Type 0 = λ p. reading shape b.pages p ≡ Ok r.map in
+    let same : r.map ≡ m = ok_same r.map m (sym (subst R r.none r.stands.map_is) ∙ held) in
+    let is = told shape b.pages r.map (subst A fits.shape_is r.agreed) going r.stands.map_is in (
+      ap (λ (c : model.Counts). c.keys) numbers ∙ (is.keys_is ∙ ap len same),
+      ap (λ (c : model.Counts). c.live) numbers ∙ (is.live_is ∙ ap (live shape) same),
+    )
+
+module _ (begin count : ℕ) (shape : Shape) (frames : ℕ) (start : Map) (a b : BoardState) (s : Summary) (w : Generated begin count shape frames start a b s) (keys pages : ℕ)
+    (are : (keys ≡ len w.asked.left) × (pages ≡ live shape w.asked.left)) where
+  abbrev text : List ℕ
+  text = summary_lines w.asked.answered.all keys pages
+
+  abbrev Says : List ℕ → Map → Type 0
+  Says = SaysTask (generate begin count) a.read_faults b.read_faults shape frames start
+
+  says_left : Says text w.asked.left
+  says_left = record {
+    all = w.asked.answered.all;
+    are = w.asked.answered.are;
+    ran = w.asked.answered.ran;
+    few = w.asked.answered.few;
+    spelled = ap (λ k. summary_lines w.asked.answered.all k pages) are.0 ∙ ap (λ p. summary_lines w.asked.answered.all (len w.asked.left) p) are.1;
+  }
+
+  told_posted : Told (generate begin count) shape frames start a (after_post b text) Done
+  told_posted = record {
+    kept = Goes-reaches shape a (after_post b text) (KeptTask (generate begin count) a.read_faults b.read_faults shape frames start)
+        (asked-posts Says shape frames start (workload begin count) a b w.asked text says_left);
+    ends = record {
+      left = w.asked.left;
+      text = text;
+      says = says_left;
+      posted = ap (λ p. longer p text) (ap (λ (x : BoardState). x.posted) w.asked.rest);
+      holds = w.asked.held;
+      sound = record { output = ap (λ (x : BoardState). x.out_faults) w.asked.rest; stop = w.asked.no_stop };
+    };
+    used = λ e. absurd (done_unworn e);
+    input = record { input = ap (λ (x : BoardState). x.input) w.asked.rest; in_faults = ap (λ (x : BoardState). x.in_faults) w.asked.rest };
+  }
+
+  pub told_summary : (last : BoardState) → last ≡ after_post b text → Told (generate begin count) shape frames start a last Done
+  told_summary last is = let T : BoardState → Type 0 = λ x. Told (generate begin count) shape frames start a x Done in subst T (sym is) told_posted
+
+  -- the output failed
+  pub told_unposted : (last : BoardState) → PostFailed b last text → Told (generate begin count) shape frames start a last Output
+  told_unposted last failed =
+      let same : last.read_faults ≡ b.read_faults = ap (λ (x : BoardState). x.read_faults) failed.rest in
+      let G : ℕ → Type 0 = λ n. Goes shape a last (KeptTask (generate begin count) a.read_faults n shape frames start) in
+      let R : ℕ → Type 0 = λ n. Rose n last.out_faults in
+      record {
+        kept = subst G (sym same) (asked-post_failed Says shape frames start (workload begin count) a b w.asked text says_left last failed);
+        ends = subst R (ap (λ (x : BoardState). x.out_faults) w.asked.rest) failed.faults;
+        used = λ e. absurd (output_unworn e);
+        input = record {
+          input = ap (λ (x : BoardState). x.input) failed.rest ∙ ap (λ (x : BoardState). x.input) w.asked.rest;
+          in_faults = ap (λ (x : BoardState). x.in_faults) failed.rest ∙ ap (λ (x : BoardState). x.in_faults) w.asked.rest;
+        };
+      }
+
+-- a command was not answered
+pub told_unfinished : (begin count : ℕ) (shape : Shape) (frames : ℕ) (start : Map) (a b : BoardState) (halt : Halt) → Unfinished begin count shape frames start a b halt
+    → Told (generate begin count) shape frames start a b (end_of halt)
+told_unfinished begin count shape frames start a b halt u = record {
+  kept = went-silent (SaysTask (generate begin count) a.read_faults b.read_faults shape frames start) shape frames start (workload begin count) (rise a.read_faults b.read_faults) a b u.kept;
+  ends = u.ends;
+  used = u.used;
+  input = u.input;
+}

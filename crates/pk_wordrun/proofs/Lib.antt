@@ -1,0 +1,6 @@
+mod Telling
+mod Posting
+mod Lists
+mod Counting
+mod Opening
+mod Generating

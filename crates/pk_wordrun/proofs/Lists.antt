@@ -1,0 +1,277 @@
+-- A list that goes out piece by piece.
+use Rattle.std.proofs.Common.{◌≡◌, inl, inr, ℕ, ◌≤◌, List, [], ◌∷◌, ◌++◌, Option, Some, None, refl, sym, ◌∙◌, ap, subst, append-nil, append_assoc, arith}
+use Rattle.std.proofs.lemmas.Grind.{flat_map-append}
+use Rattle.std.specs.Result.{result_ok}
+use Rattle.pk_base.specs.Key.{Key}
+use Rattle.pk_base.specs.Shape.{Shape}
+use Rattle.pk_base.specs.Page.{Flash}
+use Rattle.pk_base.specs.Map.{Map}
+use Rattle.pk_base.specs.Mark.{Mark, all_posted, post}
+use Rattle.pk_nand.specs.BoardState.{BoardState, shape_or_none}
+use Rattle.pk_nand.specs.Calls.{Rose, longer, after_post, PostFailed}
+use Rattle.pk_nand.specs.Crash.{ReachedBy}
+use Rattle.pk_nand.specs.Effects.{OnlyReading}
+use Rattle.pk_nand.proofs.CutLemmas.{posted-append}
+use Rattle.pk_nand.proofs.Reaching.{Reached-start, Reached-then, Reached-post, Went-reached}
+use Rattle.pk_model.specs.Growth.{Reaches, Goes}
+use Rattle.pk_model.specs.Reading.{reading, Holds}
+use Rattle.pk_model.proofs.Growing.{weaken, Goes-reaches, Goes-then, grows_behind, Goes-post_failed, GrowsAlong-post}
+use Rattle.pk_model.specs.Wear.{root_number, roots}
+use Rattle.pk_wordrun.proofs.Telling.{done_unworn, output_unworn, flash_unworn}
+use Rattle.pk_words.specs.Lines.{key_line, key_lines}
+use Rattle.pk_words.specs.Says.{wanted_keys}
+use Rattle.pk_words.specs.Listing.{keys_left, start_at}
+use Rattle.pk_words.specs.declared.listing.Place.{Place}
+use Rattle.pk_wordrun.specs.Pieces.{PieceAsked, PieceTold, PieceEnds}
+use Rattle.pk_wordrun.specs.Tasks.{list, SaysTask, KeptTask}
+use Rattle.pk_wordrun.specs.Told.{Told}
+use Rattle.pk_wordrun.specs.declared.end.WordEnd.{WordEnd}
+use Rattle.pk_wordrun.specs.declared.end.WordEnd.TheVariants.{Done, Output, Flash as FlashFailed, Worn}
+
+-- the map stands, and what was given out begins these lines
+abbrev FrontOf : Shape → Map → List ℕ → Flash → List ℕ → Type 0
+FrontOf shape start lines flash posted = Holds shape flash start × ((rest : List ℕ) × (posted ++ rest ≡ lines))
+
+-- So far: nothing was done but reads, and the lines of the first keys went out; the others are left at this place.
+pub record IsSaying (from : Option Key) (shape : Shape) (start : Map) (a b : BoardState) (place : Place) : Type 0 where
+  pub has : a.shape ≡ Some shape
+  pub holds : Holds shape a.pages start
+  pub reached : Reaches shape a b (FrontOf shape start (key_lines (wanted_keys from start)))
+  pub front : List Key
+  pub said : all_posted reached.0 ≡ key_lines front
+  pub split : wanted_keys from start ≡ front ++ keys_left place start
+  pub pages : b.pages ≡ a.pages
+  pub up : a.read_faults ≤ b.read_faults
+  pub output : b.out_faults ≡ a.out_faults
+  pub stop : b.stop_faults ≡ a.stop_faults
+  pub input : b.input ≡ a.input
+  pub in_faults : b.in_faults ≡ a.in_faults
+
+wanted_at : (from : Option Key) (m : Map) → wanted_keys from m ≡ keys_left (start_at from) m
+wanted_at None m = refl
+wanted_at (Some key) m = refl
+
+pub saying_none : (from : Option Key) (shape : Shape) (start : Map) (a : BoardState) → a.shape ≡ Some shape → Holds shape a.pages start → IsSaying from shape start a a (start_at from)
+saying_none from shape start a has holds = record {
+  has = has;
+  holds = holds;
+  reached = ([], Reached-start a a (FrontOf shape start (key_lines (wanted_keys from start))) refl refl refl refl (holds, (key_lines (wanted_keys from start), refl)), tt);
+  front = [];
+  said = refl;
+  split = wanted_at from start;
+  pages = refl;
+  up = omega arith;
+  output = refl;
+  stop = refl;
+  input = refl;
+  in_faults = refl;
+}
+
+rose_later : (x y z : ℕ) → Rose y z → x ≤ y → Rose x z
+rose_later x y z rose up = omega (arith, rose, up)
+
+-- reads leave what was reached
+reads_on : (marks : List Mark) (a b c : BoardState) (P : Flash → List ℕ → Type 0) → OnlyReading b c → ReachedBy marks a b P → ReachedBy marks a c P
+reads_on marks a b c P only run = record {
+  trail = ap (λ (s : BoardState). s.trail) only ∙ run.trail;
+  posted = ap (λ (s : BoardState). s.posted) only ∙ run.posted;
+  same_shape = ap (λ (s : BoardState). s.shape) only ∙ run.same_shape;
+  cuts = run.cuts;
+  stands = ap (λ (s : BoardState). s.pages) only ∙ run.stands;
+}
+
+module _ (from : Option Key) (shape : Shape) (frames : ℕ) (start : Map) (a b : BoardState) (place : Place) (so_far : IsSaying from shape start a b place) where
+  abbrev lines : List ℕ
+  lines = key_lines (wanted_keys from start)
+
+  abbrev marks : List Mark
+  marks = so_far.reached.0
+
+  held : Holds shape b.pages start
+  held = ap (λ f. reading shape f []) so_far.pages ∙ so_far.holds
+
+  told : result_ok (reading shape b.pages []) ≡ Some start
+  told = ap result_ok held
+
+  -- one more text behind what went out: what every cut before it has, and every front of it
+  module _ (asked : BoardState) (only : OnlyReading b asked) (text : List ℕ) (P : Flash → List ℕ → Type 0)
+      (before : (f : Flash) (q : List ℕ) → FrontOf shape start lines f q → P f q)
+      (begins : (out rest : List ℕ) → out ++ rest ≡ text → (f : Flash) → Holds shape f start → P f (key_lines so_far.front ++ out)) where
+    held_asked : Holds shape asked.pages start
+    held_asked = ap (λ f. reading shape f []) (ap (λ (s : BoardState). s.pages) only) ∙ held
+
+    fronts : (out rest : List ℕ) → out ++ rest ≡ text → P asked.pages (all_posted marks ++ out)
+    fronts out rest e = let T : List ℕ → Type 0 = λ t. P asked.pages (t ++ out) in subst T (sym so_far.said) (begins out rest e asked.pages held_asked)
+
+    behind : ReachedBy marks a asked P
+    behind = weaken marks a asked (FrontOf shape start lines) P before (reads_on marks a b asked (FrontOf shape start lines) only so_far.reached.1)
+
+    more : ReachedBy (post text ∷ []) asked (after_post asked text) (λ f q. P f (all_posted marks ++ q))
+    more = Reached-post asked text (λ f q. P f (all_posted marks ++ q)) fronts
+
+    abbrev posts_more : Reaches shape a (after_post asked text) P
+    posts_more = (
+      marks ++ post text ∷ [],
+      Reached-then marks (post text ∷ []) a asked (after_post asked text) P behind more,
+      grows_behind shape marks a asked P so_far.has behind so_far.reached.2 (post text ∷ []) (GrowsAlong-post shape asked.pages text),
+    )
+
+    fails_more : (c : BoardState) → PostFailed asked c text → Goes shape a c P
+    fails_more c failed = Goes-then shape marks a asked P so_far.has behind so_far.reached.2 c (λ f q. P f (all_posted marks ++ q)) (λ f q h. h)
+        (Goes-post_failed shape asked text (λ f q. P f (all_posted marks ++ q)) fronts c failed)
+
+  -- ---- one more piece
+
+  -- the lines of the next keys, and those behind them
+  pieces : (page left : List Key) → keys_left place start ≡ page ++ left → lines ≡ key_lines so_far.front ++ (key_lines page ++ key_lines left)
+  pieces page left e =
+      ap key_lines (so_far.split ∙ ap (λ (ks : List Key). so_far.front ++ ks) e)
+      ∙ (flat_map-append key_line so_far.front (page ++ left) ∙ ap (λ t. key_lines so_far.front ++ t) (flat_map-append key_line page left))
+
+  pub saying_more : (asked : BoardState) (next : Place) (text : List ℕ) → PieceAsked shape b asked place (Some next) text → (c : BoardState) → c ≡ after_post asked text → IsSaying from shape start a c next
+  saying_more asked next text is c posted = let T : BoardState → Type 0 = λ x. IsSaying from shape start a x next in subst T (sym posted) (goes_on (is.piece.lines start told))
+    where
+      goes_on : (page : List Key) × (keys_left place start ≡ page ++ keys_left next start) × (text ≡ key_lines page) → IsSaying from shape start a (after_post asked text) next
+      goes_on (page, split, spelled) =
+          let begins : (out rest : List ℕ) → out ++ rest ≡ text → (f : Flash) → Holds shape f start → FrontOf shape start lines f (key_lines so_far.front ++ out) =
+          λ out rest e f h. (
+            h,
+            (
+              rest ++ key_lines (keys_left next start),
+              append_assoc (key_lines so_far.front) out (rest ++ key_lines (keys_left next start))
+                  ∙ (ap (λ t. key_lines so_far.front ++ t) (sym (append_assoc out rest (key_lines (keys_left next start))) ∙ ap (λ t. t ++ key_lines (keys_left next start)) (e ∙ spelled)) ∙ sym (pieces page (keys_left next start) split)),
+            ),
+          ) in
+          record {
+            has = so_far.has;
+            holds = so_far.holds;
+            reached = posts_more asked is.reads text (FrontOf shape start lines) (λ f q h. h) begins;
+            front = so_far.front ++ page;
+            said = posted-append marks (post text ∷ []) ∙ (ap (λ t. t ++ (text ++ [])) so_far.said
+                ∙ (ap (λ t. key_lines so_far.front ++ t) (append-nil text ∙ spelled) ∙ sym (flat_map-append key_line so_far.front page)));
+            split = so_far.split ∙ (ap (λ (ks : List Key). so_far.front ++ ks) split ∙ sym (append_assoc so_far.front page (keys_left next start)));
+            pages = ap (λ (s : BoardState). s.pages) is.reads ∙ so_far.pages;
+            up = (let first = so_far.up in let second = is.up in omega (arith, first, second));
+            output = ap (λ (s : BoardState). s.out_faults) is.reads ∙ so_far.output;
+            stop = ap (λ (s : BoardState). s.stop_faults) is.reads ∙ so_far.stop;
+            input = ap (λ (s : BoardState). s.input) is.reads ∙ so_far.input;
+            in_faults = ap (λ (s : BoardState). s.in_faults) is.reads ∙ so_far.in_faults;
+          }
+
+  -- ---- the end
+
+  -- every cut so far begins the lines of all keys
+  all_lines : (x y : ℕ) (f : Flash) (q : List ℕ) → FrontOf shape start lines f q → KeptTask (list from) x y shape frames start f q
+  all_lines x y f q (h, (rest, e)) = record { held = h; text = lines; says = (refl, inl refl); unposted = rest; front = e }
+
+  -- the whole text with this piece, whatever the piece is
+  abbrev Ending : List ℕ → ℕ → ℕ → Type 0
+  Ending text x y = SaysTask (list from) x y shape frames start (key_lines so_far.front ++ text) start
+
+  last_piece : (asked : BoardState) (text : List ℕ) → PieceAsked shape b asked place None text → (y : ℕ) → asked.read_faults ≤ y → Ending text a.read_faults y
+  last_piece asked text is y later = elim (is.piece start told) [
+    | inl none ↦ (refl, inl (ap (λ t. key_lines so_far.front ++ t) none.0 ∙ (append-nil (key_lines so_far.front) ∙ ap key_lines (sym (so_far.split ∙ (ap (λ (ks : List Key). so_far.front ++ ks) none.1 ∙ append-nil so_far.front))))))
+    | inr failed ↦ (
+      refl,
+      inr (so_far.front, keys_left place start, so_far.split, (let rose = failed.0 in let first = so_far.up in omega (arith, rose, first, later)), ap (λ t. key_lines so_far.front ++ t) failed.1),
+    )
+  ]
+
+  begins_ending : (text : List ℕ) (x y : ℕ) → Ending text x y → (out rest : List ℕ) → out ++ rest ≡ text → (f : Flash) → Holds shape f start → KeptTask (list from) x y shape frames start f (key_lines so_far.front ++ out)
+  begins_ending text x y says out rest e f h = record {
+    held = h;
+    text = key_lines so_far.front ++ text;
+    says = says;
+    unposted = rest;
+    front = append_assoc (key_lines so_far.front) out rest ∙ ap (λ t. key_lines so_far.front ++ t) e;
+  }
+
+  module _ (asked : BoardState) (text : List ℕ) (is : PieceAsked shape b asked place None text) where
+    ended : Told (list from) shape frames start a (after_post asked text) Done
+    ended =
+        let says = last_piece asked text is asked.read_faults (omega arith) in
+        let run = posts_more asked is.reads text (KeptTask (list from) a.read_faults asked.read_faults shape frames start) (all_lines a.read_faults asked.read_faults) (begins_ending text a.read_faults asked.read_faults says) in
+        record {
+          kept = Goes-reaches shape a (after_post asked text) (KeptTask (list from) a.read_faults asked.read_faults shape frames start) run;
+          ends = record {
+            left = start;
+            text = key_lines so_far.front ++ text;
+            says = says;
+            posted = run.1.posted ∙ ap (λ t. longer a.posted t) (posted-append marks (post text ∷ []) ∙ (ap (λ t. t ++ (text ++ [])) so_far.said ∙ ap (λ t. key_lines so_far.front ++ t) (append-nil text)));
+            holds = held_asked asked is.reads text (KeptTask (list from) a.read_faults asked.read_faults shape frames start) (all_lines a.read_faults asked.read_faults) (begins_ending text a.read_faults asked.read_faults says);
+            sound = record { output = ap (λ (s : BoardState). s.out_faults) is.reads ∙ so_far.output; stop = ap (λ (s : BoardState). s.stop_faults) is.reads ∙ so_far.stop };
+          };
+          used = λ e. absurd (done_unworn e);
+          input = record { input = ap (λ (s : BoardState). s.input) is.reads ∙ so_far.input; in_faults = ap (λ (s : BoardState). s.in_faults) is.reads ∙ so_far.in_faults };
+        }
+
+  pub saying_done : (c : BoardState) → PieceTold shape b c place None → Told (list from) shape frames start a c Done
+  saying_done c t = let T : BoardState → Type 0 = λ x. Told (list from) shape frames start a x Done in subst T (sym t.posted) (ended t.asked t.text t.is)
+
+  -- the output failed in this piece
+  unposted : (asked : BoardState) (text : List ℕ) → OnlyReading b asked → (c : BoardState) → PostFailed asked c text
+      → ((out rest : List ℕ) → out ++ rest ≡ text → (f : Flash) → Holds shape f start → KeptTask (list from) a.read_faults c.read_faults shape frames start f (key_lines so_far.front ++ out))
+      → Told (list from) shape frames start a c Output
+  unposted asked text only c failed begins =
+      let R : ℕ → Type 0 = λ n. Rose n c.out_faults in
+      record {
+        kept = fails_more asked only text (KeptTask (list from) a.read_faults c.read_faults shape frames start) (all_lines a.read_faults c.read_faults) begins c failed;
+        ends = subst R (ap (λ (s : BoardState). s.out_faults) only ∙ so_far.output) failed.faults;
+        used = λ e. absurd (output_unworn e);
+        input = record {
+          input = ap (λ (s : BoardState). s.input) failed.rest ∙ (ap (λ (s : BoardState). s.input) only ∙ so_far.input);
+          in_faults = ap (λ (s : BoardState). s.in_faults) failed.rest ∙ (ap (λ (s : BoardState). s.in_faults) only ∙ so_far.in_faults);
+        };
+      }
+
+  -- a front of the lines of the next keys
+  begins_lines : (next : Place) (asked : BoardState) (text : List ℕ) → PieceAsked shape b asked place (Some next) text → (x y : ℕ)
+      → (out rest : List ℕ) → out ++ rest ≡ text → (f : Flash) → Holds shape f start → KeptTask (list from) x y shape frames start f (key_lines so_far.front ++ out)
+  begins_lines next asked text is x y out rest e f h =
+      let p = is.piece.lines start told in
+      all_lines x y f (key_lines so_far.front ++ out) (
+        h,
+        (
+          rest ++ key_lines (keys_left next start),
+          append_assoc (key_lines so_far.front) out (rest ++ key_lines (keys_left next start))
+              ∙ (ap (λ t. key_lines so_far.front ++ t) (sym (append_assoc out rest (key_lines (keys_left next start))) ∙ ap (λ t. t ++ key_lines (keys_left next start)) (e ∙ p.2)) ∙ sym (pieces p.0 (keys_left next start) p.1)),
+        ),
+      )
+
+  ends_output : (c : BoardState) (asked : BoardState) (text : List ℕ) (next : Option Place) → PieceAsked shape b asked place next text → PostFailed asked c text → Told (list from) shape frames start a c Output
+  ends_output c asked text (Some next) is failed = unposted asked text is.reads c failed (begins_lines next asked text is a.read_faults c.read_faults)
+  ends_output c asked text None is failed =
+      let same : c.read_faults ≡ asked.read_faults = ap (λ (s : BoardState). s.read_faults) failed.rest in
+      unposted asked text is.reads c failed (begins_ending text a.read_faults c.read_faults (last_piece asked text is c.read_faults (omega (arith, same))))
+
+  -- nothing more was done but reads
+  stands_still : (c : BoardState) → OnlyReading b c → Goes shape a c (KeptTask (list from) a.read_faults c.read_faults shape frames start)
+  stands_still c only = (
+    marks,
+    Went-reached marks a c (KeptTask (list from) a.read_faults c.read_faults shape frames start)
+        (weaken marks a c (FrontOf shape start lines) (KeptTask (list from) a.read_faults c.read_faults shape frames start) (all_lines a.read_faults c.read_faults) (reads_on marks a b c (FrontOf shape start lines) only so_far.reached.1)),
+    so_far.reached.2,
+  )
+
+  same_roots : roots b ≡ roots a
+  same_roots = λ k. root_number (shape_or_none (so_far.reached.1.same_shape k)) (so_far.pages k)
+
+  pub saying_ends : (c : BoardState) (end : WordEnd) → PieceEnds shape b c place end → Told (list from) shape frames start a c end
+  saying_ends c Done never = absurd never
+  saying_ends c Output u = ends_output c u.asked u.text u.next u.is u.failed
+  saying_ends c FlashFailed s =
+      let R : ℕ → Type 0 = λ n. Rose n c.stop_faults in
+      record {
+        kept = stands_still c s.0;
+        ends = subst R so_far.stop s.2;
+        used = λ e. absurd (flash_unworn e);
+        input = record { input = ap (λ (s : BoardState). s.input) s.0 ∙ so_far.input; in_faults = ap (λ (s : BoardState). s.in_faults) s.0 ∙ so_far.in_faults };
+      }
+  saying_ends c Worn w =
+      let T : BoardState → Type 0 = λ x. Told (list from) shape frames start a x Worn in
+      subst T (sym w.0) (record {
+        kept = stands_still b refl;
+        ends = (w.1, record { output = so_far.output; stop = so_far.stop });
+        used = λ e. (let same = same_roots in omega (arith, same));
+        input = record { input = so_far.input; in_faults = so_far.in_faults };
+      })

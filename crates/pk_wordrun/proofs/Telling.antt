@@ -1,0 +1,157 @@
+-- A question that was answered, and what its answer makes of a board.
+use Rattle.std.proofs.Common.{◌≡◌, inl, inr, ℕ, List, [], ◌∷◌, Option, Some, refl, sym, ◌∙◌, ap, subst, true, false, arith}
+use Rattle.std.specs.Result.{result_ok}
+use Rattle.pk_base.specs.Shape.{Shape, limit}
+use Rattle.pk_base.specs.Map.{Map}
+use Rattle.pk_nvme.specs.Command.{Command}
+use Rattle.pk_nand.specs.BoardState.{BoardState}
+use Rattle.pk_nand.specs.Calls.{Rose, longer, after_post, PostFailed}
+use Rattle.pk_nand.specs.Effects.{OnlyFlash}
+use Rattle.pk_nand.proofs.Reaching.{Reached-start, Went-reached}
+use Rattle.pk_model.specs.Growth.{Goes}
+use Rattle.pk_model.specs.Kept.{AtMost, rise}
+use Rattle.pk_model.specs.Reading.{Holds}
+use Rattle.pk_model.specs.Run.{Exchange}
+use Rattle.pk_model.proofs.Growing.{Goes-reaches}
+use Rattle.pk_serve.proofs.Counting.{at_most-zero}
+use Rattle.pk_port.specs.Asking.{Asked, KeptWord}
+use Rattle.pk_port.specs.Steps.{Mounted, seen, Serves, Stops, Fails, HasCause}
+use Rattle.pk_port.specs.declared.halt.Halt.{Halt}
+use Rattle.pk_port.specs.declared.halt.Halt.TheVariants.{Stopped, Worn as UsedUp}
+use Rattle.pk_port.proofs.Growing.{asked-none, asked-next, asked-stops, asked-posts, asked-post_failed, went-silent}
+use Rattle.pk_words.specs.Question.{Question, command_of, Answers}
+use Rattle.pk_words.specs.Said.{Said}
+use Rattle.pk_wordrun.specs.Ends.{end_of}
+use Rattle.pk_wordrun.specs.Tasks.{answer, SaysTask, KeptTask}
+use Rattle.pk_wordrun.specs.Told.{Told, KeepsInput}
+use Rattle.pk_wordrun.specs.declared.end.WordEnd.{WordEnd}
+use Rattle.pk_wordrun.specs.declared.end.WordEnd.TheVariants.{Done, Output, Flash as FlashFailed, Worn}
+
+pub some_same : (x y : Map) → ◌≡◌ {A = Option Map} (Some x) (Some y) → x ≡ y
+some_same x y e = cc
+
+-- a word that ended otherwise is none of a worn drive
+pub done_unworn : ◌≡◌ {A = WordEnd} Done Worn → ⊥
+done_unworn e = cc
+
+pub output_unworn : ◌≡◌ {A = WordEnd} Output Worn → ⊥
+output_unworn e = cc
+
+pub flash_unworn : ◌≡◌ {A = WordEnd} FlashFailed Worn → ⊥
+flash_unworn e = cc
+
+-- ---- what stays of a board
+
+pub keeps-flash : (a b : BoardState) → OnlyFlash a b → KeepsInput a b
+keeps-flash a b only = record { input = ap (λ (s : BoardState). s.input) only; in_faults = ap (λ (s : BoardState). s.in_faults) only }
+
+-- no command was made
+pub kept-none : (Says : List ℕ → Map → Type 0) (shape : Shape) (frames : ℕ) (start : Map) (cs : List Command) (n : Option ℕ) (a : BoardState) → ((k : ℕ) → k ≡ 0 → AtMost n k)
+    → Holds shape a.pages start → Goes shape a a (KeptWord Says shape frames start cs n)
+kept-none Says shape frames start cs n a few holds = (
+  [],
+  Went-reached [] a a (KeptWord Says shape frames start cs n) (Reached-start a a (KeptWord Says shape frames start cs n) refl refl refl refl (
+    record {
+      served = [];
+      unserved = cs;
+      from_front = refl;
+      map_left = start;
+      ran = refl;
+      held = holds;
+      unposted = [];
+      begins = refl;
+      few_faults = few 0 refl;
+    },
+    inl refl,
+  )),
+  tt,
+)
+
+module _ (q : Question) (shape : Shape) (start : Map) (old new : Mounted) (has : old.board.shape ≡ Some shape) (holds : Holds shape old.board.pages start) where
+  abbrev Says : ℕ → ℕ → List ℕ → Map → Type 0
+  Says before behind = SaysTask (answer q) before behind shape old.frames start
+
+  abbrev says_now : List ℕ → Map → Type 0
+  says_now = Says old.board.read_faults new.board.read_faults
+
+  abbrev cs : List Command
+  cs = command_of shape q ∷ []
+
+  asked : (x : Exchange) → Serves shape old new (command_of shape q) x → Asked shape old.frames start old.board new.board cs
+  asked x s = asked-next shape start old.board [] old new (command_of shape q) (asked-none shape old.frames start old.board has holds) x s
+
+  says-left : (w : Asked shape old.frames start old.board new.board cs) (text : List ℕ) → Said (Answers q) (seen shape old.board 0) (seen shape new.board 0) text → says_now text w.left
+  says-left w text said =
+      let s = said start (ap result_ok holds) in
+      let same : s.left ≡ w.left = some_same s.left w.left (sym s.told ∙ ap result_ok w.held) in
+      let T : Map → Type 0 = λ m. Answers q (Rose old.board.read_faults new.board.read_faults) shape (limit shape) s.frames start text m in
+      (s.frames, subst T same s.says)
+
+  module _ (x : Exchange) (s : Serves shape old new (command_of shape q) x) (text : List ℕ) (said : Said (Answers q) (seen shape old.board 0) (seen shape new.board 0) text) where
+    -- the text went out
+    told-posted : Told (answer q) shape old.frames start old.board (after_post new.board text) Done
+    told-posted =
+        let w = asked x s in
+        let says = says-left w text said in
+        record {
+          kept = Goes-reaches shape old.board (after_post new.board text) (KeptTask (answer q) old.board.read_faults new.board.read_faults shape old.frames start)
+              (asked-posts says_now shape old.frames start cs old.board new.board w text says);
+          ends = record {
+            left = w.left;
+            text = text;
+            says = says;
+            posted = ap (λ p. longer p text) (ap (λ (b : BoardState). b.posted) s.rest);
+            holds = w.held;
+            sound = record { output = ap (λ (b : BoardState). b.out_faults) s.rest; stop = s.no_stop };
+          };
+          used = λ e. absurd (done_unworn e);
+          input = record { input = ap (λ (b : BoardState). b.input) s.rest; in_faults = ap (λ (b : BoardState). b.in_faults) s.rest };
+        }
+
+    pub told-done : (last : BoardState) → last ≡ after_post new.board text → Told (answer q) shape old.frames start old.board last Done
+    told-done last is = let T : BoardState → Type 0 = λ b. Told (answer q) shape old.frames start old.board b Done in subst T (sym is) told-posted
+
+    -- the output failed
+    pub told-output : (last : BoardState) → PostFailed new.board last text → Told (answer q) shape old.frames start old.board last Output
+    told-output last failed =
+        let w = asked x s in
+        let says = says-left w text said in
+        let same : last.read_faults ≡ new.board.read_faults = ap (λ (b : BoardState). b.read_faults) failed.rest in
+        let G : ℕ → Type 0 = λ n. Goes shape old.board last (KeptTask (answer q) old.board.read_faults n shape old.frames start) in
+        let R : ℕ → Type 0 = λ n. Rose n last.out_faults in
+        record {
+          kept = subst G (sym same) (asked-post_failed says_now shape old.frames start cs old.board new.board w text says last failed);
+          ends = subst R (ap (λ (b : BoardState). b.out_faults) s.rest) failed.faults;
+          used = λ e. absurd (output_unworn e);
+          input = record {
+            input = ap (λ (b : BoardState). b.input) failed.rest ∙ ap (λ (b : BoardState). b.input) s.rest;
+            in_faults = ap (λ (b : BoardState). b.in_faults) failed.rest ∙ ap (λ (b : BoardState). b.in_faults) s.rest;
+          };
+        }
+
+  -- the command stopped the drive
+  told-stopped : Stops shape old new (command_of shape q) → Told (answer q) shape old.frames start old.board new.board (end_of Stopped)
+  told-stopped s = record {
+    kept = went-silent says_now shape old.frames start cs (rise old.board.read_faults new.board.read_faults) old.board new.board
+        (asked-stops shape start old.board [] old new (command_of shape q) (asked-none shape old.frames start old.board has holds) s);
+    ends = s.stop;
+    used = λ e. absurd (flash_unworn e);
+    input = keeps-flash old.board new.board s.rest;
+  }
+
+  -- nothing was done
+  told-nothing : (halt : Halt) → old.stopped ≡ false → HasCause old halt → Told (answer q) shape old.frames start old.board old.board (end_of halt)
+  told-nothing Stopped going cause = absurd (let e : true ≡ false = sym cause ∙ going in cc)
+  told-nothing UsedUp going cause = record {
+    kept = kept-none (Says old.board.read_faults old.board.read_faults) shape old.frames start cs (rise old.board.read_faults old.board.read_faults) old.board
+        (λ k zero. subst (AtMost (rise old.board.read_faults old.board.read_faults)) (sym zero) (at_most-zero (rise old.board.read_faults old.board.read_faults))) holds;
+    ends = (cause, record { output = refl; stop = refl });
+    used = λ e. omega arith;
+    input = record { input = refl; in_faults = refl };
+  }
+
+  pub told-fails : (halt : Halt) → old.stopped ≡ false → Fails shape old new (command_of shape q) halt → Told (answer q) shape old.frames start old.board new.board (end_of halt)
+  told-fails halt going (inl s) = let T : Halt → Type 0 = λ h. Told (answer q) shape old.frames start old.board new.board (end_of h) in subst T (sym s.0) (told-stopped s.1)
+  told-fails halt going (inr cause) =
+      let T : Mounted → Type 0 = λ m. Told (answer q) shape old.frames start old.board m.board (end_of halt) in
+      subst T (sym cause.1) (told-nothing halt going cause.0)

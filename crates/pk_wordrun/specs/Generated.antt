@@ -1,0 +1,29 @@
+-- A workload on a drive, from a first state of a board to a later one.
+use Rattle.std.specs.Prelude.{◌≡◌, ℕ, ◌+◌, ◌*◌, ◌≤◌}
+use Rattle.pk_base.specs.Shape.{Shape}
+use Rattle.pk_base.specs.Map.{Map}
+use Rattle.pk_nand.specs.BoardState.{BoardState}
+use Rattle.pk_model.specs.Growth.{Goes}
+use Rattle.pk_model.specs.Kept.{rise}
+use Rattle.pk_model.specs.Wear.{roots}
+use Rattle.pk_gen.specs.Workload.{workload}
+use Rattle.pk_port.specs.Asking.{Asked, KeptSilently}
+use Rattle.pk_port.specs.declared.halt.Halt.{Halt}
+use Rattle.pk_wordrun.specs.Ends.{end_of}
+use Rattle.pk_wordrun.specs.Sums.{Sums}
+use Rattle.pk_wordrun.specs.Tasks.{generate}
+use Rattle.pk_wordrun.specs.Told.{EndsBy, KeepsInput}
+use Rattle.pk_wordrun.specs.declared.end.WordEnd.TheVariants.{Worn}
+use Rattle.pk_wordrun.specs.declared.summary.Summary.{Summary}
+
+-- So many commands of the workload were answered, and are counted.
+pub record Generated (begin count : ℕ) (shape : Shape) (frames : ℕ) (start : Map) (a b : BoardState) (s : Summary) : Type 0 where
+  pub asked : Asked shape frames start a b (workload begin count)
+  pub sums : Sums s asked.answered.all
+
+-- One of so many was not answered. Wherever it was cut off, the flash holds the map after commands from the front on.
+pub record Unfinished (begin count : ℕ) (shape : Shape) (frames : ℕ) (start : Map) (a b : BoardState) (halt : Halt) : Type 0 where
+  pub kept : Goes shape a b (KeptSilently shape frames start (workload begin count) (rise a.read_faults b.read_faults))
+  pub ends : EndsBy (generate begin count) shape frames start a b (end_of halt)
+  pub used : end_of halt ≡ Worn → roots b ≤ roots a + 65535 * count
+  pub input : KeepsInput a b

@@ -1,0 +1,47 @@
+-- The words that ask a drive: what each says of the map that it finds, and which map it leaves.
+use Rattle.std.specs.Prelude.{◌≡◌, ℕ, List, [], ◌∷◌, ◌++◌, Option}
+use Rattle.pk_base.specs.Key.{Key}
+use Rattle.pk_base.specs.Shape.{Shape, limit}
+use Rattle.pk_base.specs.Page.{Flash}
+use Rattle.pk_base.specs.Map.{Map}
+use Rattle.pk_nand.specs.Calls.{Rose}
+use Rattle.pk_model.specs.Kept.{rise}
+use Rattle.pk_model.specs.Reading.{Holds}
+use Rattle.pk_gen.specs.Workload.{workload}
+use Rattle.pk_port.specs.Asking.{KeptWord}
+use Rattle.pk_words.specs.Question.{Question, command_of, Answers}
+use Rattle.pk_words.specs.Says.{SaysKeys}
+use Rattle.pk_wordrun.specs.Summary.{SaysSummary}
+
+-- a question, a list of the keys from one on, or a workload from a start, of so many commands
+pub data Task : Type 0 where
+  answer : Question → Task
+  list : Option Key → Task
+  generate : ℕ → ℕ → Task
+
+-- what the answer to a question says on some drive; that a read failed is said only where the count of failed reads rose
+abbrev pub SaysAnswer : Question → ℕ → ℕ → Shape → Map → List ℕ → Map → Type 0
+SaysAnswer q before behind shape m text m' = (frames : ℕ) × Answers q (Rose before behind) shape (limit shape) frames m text m'
+
+-- What a word says, from map to map, on a drive with so many frames, where the count of failed reads went from one number to another.
+abbrev pub SaysTask : Task → ℕ → ℕ → Shape → ℕ → Map → List ℕ → Map → Type 0
+SaysTask (answer q) before behind shape frames m text m' = SaysAnswer q before behind shape m text m'
+SaysTask (list from) before behind shape frames m text m' = SaysKeys from (Rose before behind) shape (limit shape) frames m text m'
+SaysTask (generate begin count) before behind shape frames m text m' = SaysSummary begin count (rise before behind) shape frames m text m'
+
+-- The map stands, and what was given out begins a text of the list.
+pub record KeptList (from : Option Key) (before behind : ℕ) (shape : Shape) (frames : ℕ) (start : Map) (flash : Flash) (posted : List ℕ) : Type 0 where
+  pub held : Holds shape flash start
+  pub text : List ℕ
+  pub says : SaysTask (list from) before behind shape frames start text start
+  pub unposted : List ℕ
+  pub front : posted ++ unposted ≡ text
+
+-- What every cut of a word keeps: the map after commands of the word from the front on; and where a byte was given out, the map after all of
+-- them, and what was given out begins a text that is said of both maps. A list changes no map.
+abbrev pub KeptTask : Task → ℕ → ℕ → Shape → ℕ → Map → Flash → List ℕ → Type 0
+KeptTask (answer q) before behind shape frames start flash posted =
+    KeptWord (SaysTask (answer q) before behind shape frames start) shape frames start (command_of shape q ∷ []) (rise before behind) flash posted
+KeptTask (list from) before behind shape frames start flash posted = KeptList from before behind shape frames start flash posted
+KeptTask (generate begin count) before behind shape frames start flash posted =
+    KeptWord (SaysTask (generate begin count) before behind shape frames start) shape frames start (workload begin count) (rise before behind) flash posted

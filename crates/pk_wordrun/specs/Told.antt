@@ -1,0 +1,51 @@
+-- What a word did to a board, from the opened drive on.
+use Rattle.std.specs.Prelude.{◌≡◌, ℕ, ◌+◌, ◌*◌, ◌≤◌, List, true}
+use Rattle.pk_base.specs.Shape.{Shape}
+use Rattle.pk_base.specs.Map.{Map}
+use Rattle.pk_nand.specs.BoardState.{BoardState}
+use Rattle.pk_nand.specs.Calls.{Rose, longer}
+use Rattle.pk_model.specs.Growth.{Goes}
+use Rattle.pk_model.specs.Reading.{Holds}
+use Rattle.pk_model.specs.Wear.{is_worn, roots}
+use Rattle.pk_wordrun.specs.Tasks.{Task, answer, list, generate, SaysTask, KeptTask}
+use Rattle.pk_wordrun.specs.declared.end.WordEnd.{WordEnd}
+use Rattle.pk_wordrun.specs.declared.end.WordEnd.TheVariants.{Done, Output, Flash, Worn}
+
+-- no program and no erase failed, and no post
+pub record NoFaults (a b : BoardState) : Type 0 where
+  pub output : b.out_faults ≡ a.out_faults
+  pub stop : b.stop_faults ≡ a.stop_faults
+
+-- The word is done: its text went out, and the flash holds the map that it leaves.
+pub record Finished (task : Task) (shape : Shape) (frames : ℕ) (start : Map) (a b : BoardState) : Type 0 where
+  pub left : Map
+  pub text : List ℕ
+  pub says : SaysTask task a.read_faults b.read_faults shape frames start text left
+  pub posted : b.posted ≡ longer a.posted text
+  pub holds : Holds shape b.pages left
+  pub sound : NoFaults a b
+
+-- how it ended, and why
+abbrev pub EndsBy : Task → Shape → ℕ → Map → BoardState → BoardState → WordEnd → Type 0
+EndsBy task shape frames start a b Done = Finished task shape frames start a b
+EndsBy task shape frames start a b Output = Rose a.out_faults b.out_faults
+EndsBy task shape frames start a b Flash = Rose a.stop_faults b.stop_faults
+EndsBy task shape frames start a b Worn = (is_worn b ≡ true) × NoFaults a b
+
+-- the input was left alone
+pub record KeepsInput (a b : BoardState) : Type 0 where
+  pub input : b.input ≡ a.input
+  pub in_faults : b.in_faults ≡ a.in_faults
+
+-- most roots that the commands of a word install; a question that begins is the only one, and a list installs none
+abbrev pub most_roots : Task → ℕ
+most_roots (answer q) = 0
+most_roots (list from) = 0
+most_roots (generate begin count) = 65535 * count
+
+-- Wherever it was cut off it was kept, and it ended so.
+pub record Told (task : Task) (shape : Shape) (frames : ℕ) (start : Map) (a b : BoardState) (end : WordEnd) : Type 0 where
+  pub kept : Goes shape a b (KeptTask task a.read_faults b.read_faults shape frames start)
+  pub ends : EndsBy task shape frames start a b end
+  pub used : end ≡ Worn → roots b ≤ roots a + most_roots task
+  pub input : KeepsInput a b

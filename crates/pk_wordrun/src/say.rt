@@ -1,0 +1,15 @@
+//! A text goes out.
+ghost use Rattle.std.specs.Prelude.{◌≡◌, OnOk, OnErr};
+ghost use Rattle.pk_nand.specs.Calls.{after_post, PostFailed};
+
+use pk_nand::{Board, HostFault};
+
+/// Gives a text to the host; nothing is done where it is empty.
+pub fn say<B: Board>(board: &mut B, text: &[u8]) -> Result<(), HostFault>
+    ensures posts { OnOk result
+        (B.state board.new ≡ after_post (B.state board.old) text.now) }
+    ensures fails { OnErr result
+        (PostFailed (B.state board.old) (B.state board.new) text.now) }
+{
+    board.post(text)
+}

@@ -1,0 +1,104 @@
+//! What the words that ask a drive need.
+ghost use Rattle.std.specs.Prelude.{◌≡◌, [], false, IfOk};
+ghost use Rattle.pk_base.specs.Map.{Map};
+ghost use Rattle.pk_nand.specs.Calls.{IsReady};
+ghost use Rattle.pk_model.specs.Reading.{Holds};
+ghost use Rattle.pk_drive.specs.Drive.{HoldsMap};
+ghost use Rattle.pk_wordrun.specs.Seen.{seen, IsShortTask};
+ghost use Rattle.pk_wordrun.specs.Told.{Told};
+
+use crate::end::WordEnd;
+use crate::list::tell_keys;
+use crate::task::Task;
+use crate::tell::tell;
+use crate::workload::tell_workload;
+use pk_base::Shape;
+use pk_drive::Engine;
+use pk_model::laws::held_map;
+use pk_nand::Board;
+use pk_nvme::Bytes;
+use pk_words::Words;
+use std::alloc::{AllocError, Global};
+use std::marker::Model;
+
+/// The most bytes of a generated value.
+const MOST_VALUE_BYTES: usize = 4000;
+
+/// The most bytes of a summary: nine lines of at most 20.
+const SUMMARY_BYTES: usize = 9 * 20;
+
+/// All memory of the words, for drives of one shape, which is what contracts see of it.
+#[derive(Drop)]
+pub struct Speaker {
+    pub(crate) shape: Shape,
+    pub(crate) words: Words,
+    pub(crate) buffer: Vec<u8>,
+    /// The value of a generated Store.
+    pub(crate) value: Bytes,
+    /// The summary of a workload.
+    pub(crate) text: Bytes,
+}
+
+impl Model for Speaker {
+    ghost use Rattle.std.specs.Prelude.{◌≡◌, ◌≤◌, ◌*◌, length};
+    ghost use Rattle.pk_base.specs.Shape as spec;
+
+    ghost Value = { spec.Shape };
+
+    ghost view = { λ s. s.shape };
+
+    ghost invariant = { λ s. (s.words.shape ≡ s.shape)
+        × (65536 ≤ length s.buffer.items)
+        × (spec.greatest s.shape ≤ length s.buffer.items)
+        × (4000 ≤ s.value.room)
+        × (9 * 20 ≤ s.text.room) };
+}
+
+impl Speaker {
+    /// Takes all memory that the words need.
+    pub fn new(alloc: Global, shape: Shape) -> Result<Speaker, AllocError>
+        ensures { IfOk result (λ s. s ≡ shape) }
+    {
+        let greatest = shape.greatest() as usize;
+        Ok(Speaker {
+            shape,
+            words: Words::new(alloc, shape)?,
+            buffer: Vec::from_elem(alloc, 0u8, greatest.max(65536))?,
+            value: Bytes::with_room(alloc, MOST_VALUE_BYTES)?,
+            text: Bytes::with_room(alloc, SUMMARY_BYTES)?,
+        })
+    }
+
+    /// Does what a word asks of a drive that was opened, and gives its text to the host. No memory is taken.
+    pub fn run<D: Engine, B: Board>(self, drive: &mut D, board: &mut B, task: Task) -> WordEnd
+        requires agrees { D.agrees drive.old (B.state board.old).shape (B.state board.old).pages }
+        requires runs { (D.sight drive.old).stopped ≡ false }
+        requires none { (D.sight drive.old).pending ≡ [] }
+        requires ready { IsReady (B.state board.old) self }
+        requires stands { (m : Map) × HoldsMap self (D.sight drive.old).counts.frames
+            (B.state board.old) (D.sight drive.old) m }
+        requires short { IsShortTask (seen task) }
+
+        ensures { (start : Map) → Holds self (B.state board.old).pages start
+            → Told (seen task) self (D.sight drive.old).counts.frames start (B.state board.old)
+            (B.state board.new) result }
+    {
+        self.shape.known();
+        held_map();
+        let Speaker {
+            shape,
+            mut words,
+            mut buffer,
+            mut value,
+            mut text,
+        } = self;
+        let room = buffer.as_mut_slice();
+        match task {
+            Task::Answer(question) => tell(&mut words, drive, board, room, shape, &question),
+            Task::List(from) => tell_keys(&mut words, drive, board, room, shape, from),
+            Task::Generate(start, count) => tell_workload(
+                drive, board, room, shape, &mut value, &mut text, start, count,
+            ),
+        }
+    }
+}
