@@ -17,9 +17,21 @@ use std::test::*;
 
 const FLUSH: u8 = 0x00;
 
+// For first sessions.
 const ROOM: Room = Room {
     posted: 131_072,
     marks: 6_000,
+};
+
+// For later sessions, which retrieve each key: of a drive of 64 blocks, and of one of 33.
+const LATER: Room = Room {
+    posted: 65_536,
+    marks: 1_500,
+};
+
+const FEW: Room = Room {
+    posted: 16_384,
+    marks: 400,
 };
 
 // A drive that is full with so many keys of one page each, and how many commands are made before the first reclaim: as many as blocks
@@ -62,17 +74,23 @@ impl Full {
         alloc: Global,
         pages: Vec<PageState>,
         script: Vec<u8>,
+        room: Room,
     ) -> Result<Session, Fail> {
-        let mut flash = board_in(alloc, self.shape()?, pages, script, ROOM)?;
+        let mut flash = board_in(alloc, self.shape()?, pages, script, room)?;
         let status = serve::<P>(alloc, &mut flash);
         Ok(Session { status, flash })
+    }
+
+    // The room of a later session.
+    fn later(&self) -> Room {
+        if self.is_small { FEW } else { LATER }
     }
 
     // The session of the commands up to this one, on a made drive.
     fn commands<P: Program>(&self, alloc: Global, to: u32) -> Result<Flash, Fail> {
         let mut script = Vec::new(alloc);
         push_stores(&mut script, self.keys, 0, to)?;
-        let done = self.served::<P>(alloc, self.made::<P>(alloc)?, script)?;
+        let done = self.served::<P>(alloc, self.made::<P>(alloc)?, script, ROOM)?;
         same(done.status, 0, "the status of the first session")?;
         Ok(done.flash)
     }
@@ -134,7 +152,7 @@ fn second<P: Program>(
     left: &Left,
 ) -> Result<(Flash, Vec<u8>), Fail> {
     let pages = cut(alloc, first, k, left)?;
-    let done = full.served::<P>(alloc, pages, second_script(alloc, full)?)?;
+    let done = full.served::<P>(alloc, pages, second_script(alloc, full)?, full.later())?;
     same(done.status, 0, format_args!("the status, mark {k}"))?;
     let posted = done.flash.posted();
     let found = firsts(alloc, posted, 0, full.keys)?;
@@ -154,7 +172,7 @@ fn third<P: Program>(
     left: &Left,
 ) -> Result<(), Fail> {
     let pages = cut(alloc, second, k, left)?;
-    let done = full.served::<P>(alloc, pages, third_script(alloc, full)?)?;
+    let done = full.served::<P>(alloc, pages, third_script(alloc, full)?, full.later())?;
     same(done.status, 0, format_args!("the third status, mark {k}"))?;
     let found = firsts(alloc, done.flash.posted(), 0, full.keys)?;
     same(
@@ -309,15 +327,12 @@ fn failing<P: Program>(
     let mut script = Vec::new(alloc);
     push_stores(&mut script, full.keys, full.keys, to)?;
     let pages = pages_left(alloc, stored)?;
-    let mut flash = board_in(alloc, full.shape()?, pages, script, ROOM)?;
+    let mut flash = board_in(alloc, full.shape()?, pages, script, FEW)?;
     flash.fail(alloc, call, left)?;
     let status = serve::<P>(alloc, &mut flash);
     let (held, next) = replayed(alloc, full, flash.posted(), full.keys, to)?;
-    let again = full.served::<P>(
-        alloc,
-        pages_left(alloc, &flash)?,
-        third_script(alloc, full)?,
-    )?;
+    let behind = pages_left(alloc, &flash)?;
+    let again = full.served::<P>(alloc, behind, third_script(alloc, full)?, full.later())?;
     same(
         again.status,
         0,

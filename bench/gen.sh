@@ -1,0 +1,42 @@
+#!/bin/sh
+# Runs the generated workload on fresh images of shape (4096, 64, 512), twice, by the built program: both runs are to end with 0 and to post
+# the same summary, and the keys and live pages that `stat` tells are to be those of the summary. Where strace is installed, it prints the
+# programs and erases of the second run. It proves nothing and is no part of the gate.
+#
+#   bench/gen.sh [SEED [COUNT]]     gen 7 100000 where no number is named
+set -eu
+
+top=$(CDPATH='' cd -- "$(dirname -- "$0")/.." && pwd)
+folder=$(mktemp -d)
+trap 'rm -rf "$folder"' EXIT
+seed=${1:-7}
+count=${2:-100000}
+
+"$top/pink" "$folder/made.img" make 4096 64 512
+program=$top/crates/pink/out/pink
+
+run() { # the name of the run, and what is put before the program
+    name=$1
+    shift
+    cp "$folder/made.img" "$folder/$name.img"
+    "$@" "$program" "$folder/$name.img" gen "$seed" "$count" >"$folder/$name.txt"
+    "$program" "$folder/$name.img" stat >"$folder/$name.stat"
+}
+
+run first
+if command -v strace >/dev/null; then
+    run second strace -f -o "$folder/trace" -e trace=pwrite64
+    programs=$(grep -c ', 4096, [0-9]*) = 4096' "$folder/trace" || true)
+    erases=$(grep -c ', 64, [0-9]*) = 64' "$folder/trace" || true)
+    echo "programs $programs, erases $erases"
+else
+    run second
+fi
+cat "$folder/first.txt"
+cmp "$folder/first.txt" "$folder/second.txt"
+cmp "$folder/first.stat" "$folder/second.stat"
+for name in keys live; do
+    told=$(sed -n "s/^$name //p" "$folder/first.txt")
+    there=$(sed -n "s/^$name //p" "$folder/first.stat")
+    [ "$told" = "$there" ] || { echo "$name: $told in the summary, $there in the drive" >&2; exit 1; }
+done
