@@ -74,7 +74,6 @@ class DriveEnded(DriveError):
         8: "no drive",
         9: "already made",
         10: "worn",
-        11: "not built",
     }
 
     def __init__(self, status):

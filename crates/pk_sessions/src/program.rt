@@ -84,7 +84,7 @@ pub fn words<P: Program>(alloc: Global) -> Result<(), Fail> {
         ("asm 1", 2),
         ("show", 0),
         ("show -", 2),
-        ("gen 1 3", 11),
+        ("gen 1 3", 8),
         ("gen 1", 2),
     ] {
         same(

@@ -3,6 +3,7 @@
 use crate::boards::{MAKE_WORKED, Session, board, made, pages_left, worked};
 use crate::program::words_in;
 use crate::tried::{Program, same};
+use pk_base::Shape;
 use pk_flash::Left;
 use pk_nand::PageState;
 use std::alloc::Global;
@@ -174,5 +175,24 @@ pub fn torn<P: Program>(alloc: Global) -> Result<(), Fail> {
     same(P::run(alloc, &["get", "61"], &mut flash), 8, "the status")?;
     same(flash.posted(), b"".as_slice(), "the text")?;
     same(flash.marks(), 0, "marks")?;
+    Ok(())
+}
+
+/// What a workload of three commands posts on a new drive of 512 blocks of 64 pages of 4,096 bytes: an Exist and a Delete of missing
+/// keys, and a Store.
+const SUMMARY: &[u8] =
+    b"commands 3\nok 1\nmissing 2\nlarge 0\nfull 0\nfailed 0\nkeys 1\nlive 1\nmost 0\n";
+
+/// A workload has its summary.
+pub fn workload<P: Program>(alloc: Global) -> Result<(), Fail> {
+    let shape = Shape::new(4096, 64, 512).ok().ok_or("a shape")?;
+    let pages = made::<P>(alloc, &["make", "4096", "64", "512"])?;
+    let mut flash = board(alloc, shape, pages, Vec::new(alloc))?;
+    same(
+        P::run(alloc, &["gen", "1", "3"], &mut flash),
+        0,
+        "the status",
+    )?;
+    same(flash.posted(), SUMMARY, "the summary")?;
     Ok(())
 }

@@ -1,5 +1,5 @@
 -- Where no call fails, a word is done.
-use Rattle.std.proofs.Common.{◌≡◌, ◌⊎◌, inl, inr, ℕ, ◌+◌, ◌<◌, ◌≤◌, List, Option, Some, None, IsSome, refl, sym, ◌∙◌, ap, subst, arith, true, false, nat_le}
+use Rattle.std.proofs.Common.{◌≡◌, ◌⊎◌, inl, inr, ℕ, ◌+◌, ◌<◌, ◌≤◌, List, Option, Some, None, IsSome, refl, sym, ◌∙◌, ap, subst, arith, true, nat_le}
 use Rattle.std.proofs.lemmas.Bool.Decides.{nat_tests}
 use Rattle.pk_base.specs.Shape.{Shape}
 use Rattle.pk_base.specs.Page.{Flash}
@@ -15,7 +15,7 @@ use Rattle.pk_scan.specs.Opening.{NotOpened}
 use Rattle.pk_scan.specs.declared.errors.OpenError.{OpenError}
 use Rattle.pk_scan.specs.declared.errors.OpenError.TheVariants.{NotFormatted, Damaged, Fault as ReadFault, Memory as NoMemory}
 use Rattle.pk_wordrun.specs.Tasks.{Task, answer, list, generate, SaysTask}
-use Rattle.pk_top.specs.Words.{ask, is_later}
+use Rattle.pk_wordrun.specs.Seen.{IsShortTask}
 use Rattle.pk_wordrun.specs.Told.{EndsBy, Finished, most_roots}
 use Rattle.pk_wordrun.specs.declared.end.WordEnd.{WordEnd}
 use Rattle.pk_wordrun.specs.declared.end.WordEnd.TheVariants.{Done, Output, Flash as FlashFailed, Worn}
@@ -136,8 +136,8 @@ module _ (task : Task) (few : most_roots task < 4611686018427387904) (old new : 
   whole_ask (inr (inr (inl missing))) = whole_missing missing.1
   whole_ask (inr (inr (inr found))) = whole_found found
 
--- no word of today uses up the roots
-pub few_roots : (task : Task) → is_later (ask task) ≡ false → most_roots task < 4611686018427387904
-few_roots (answer q) built = omega arith
-few_roots (list from) built = omega arith
-few_roots (generate begin count) built = absurd (let e : true ≡ false = built in cc)
+-- no word uses up the roots
+pub few_roots : (task : Task) → IsShortTask task → most_roots task < 4611686018427387904
+few_roots (answer q) short = omega arith
+few_roots (list from) short = omega arith
+few_roots (generate begin count) short = omega (arith, short)

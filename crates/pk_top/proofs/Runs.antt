@@ -1,5 +1,5 @@
 -- Runs one after another are sessions of a history.
-use Rattle.std.proofs.Common.{◌≡◌, inl, inr, ℕ, List, [], ◌∷◌, ◌++◌, Bool, true, false, Option, Some, None, IsSome, refl, sym, ◌∙◌, ap, subst, append-nil}
+use Rattle.std.proofs.Common.{◌≡◌, inl, inr, ℕ, List, [], ◌∷◌, ◌++◌, Option, Some, None, IsSome, refl, sym, ◌∙◌, ap, subst, append-nil}
 use Rattle.std.specs.FinMap.{empty}
 use Rattle.std.proofs.lemmas.List.{append_cancel_left}
 use Rattle.pk_base.specs.Shape.{Shape}
@@ -22,7 +22,7 @@ use Rattle.pk_top.specs.Asks.{word_frames, AsksFound, AskRun}
 use Rattle.pk_top.proofs.Asked.{silent, task_holds}
 use Rattle.pk_top.specs.Sessions.{ProgramRun, IsRun, LeavesMap, KeptThrough, RunOn, KeptThroughRuns}
 use Rattle.pk_top.specs.Resting.{Rests}
-use Rattle.pk_top.specs.Words.{Word, make, serve, ask, assemble, show, word_of, is_later}
+use Rattle.pk_top.specs.Words.{Word, make, serve, ask, assemble, show, word_of}
 
 -- the marks that a trail tells are those that it grew by
 same_marks : (told : Option (List Mark)) (before xs ys : List Mark) → told ≡ Some before → longer told ys ≡ Some (before ++ xs) → xs ≡ ys
@@ -168,10 +168,6 @@ module _ (shape : Shape) (r : ProgramRun) (is : IsRun shape r) where
   asks_cut task (inr (inr (inl missing))) = quiet_untouched task (ap (λ (s : BoardState). s.trail) missing.1.rest)
   asks_cut task (inr (inr (inr found))) = asks_found task found
 
-  asks_by : (task : Task) → word_of r.words ≡ Some (ask task) → (b : Bool) → is_later (ask task) ≡ b → AsksCut task
-  asks_by task of false built = asks_cut task (is.asks task built of)
-  asks_by task of true later = quiet_untouched task (ap (λ (s : BoardState). s.trail) (is.later (ask task) of later))
-
   -- ---- any word
 
   -- the map that was left
@@ -190,7 +186,7 @@ module _ (shape : Shape) (r : ProgramRun) (is : IsRun shape r) where
       let kept = (sound_serving frames (is.serves frames of)).0 m holds r.left r.posted is.cut in
       (kept.map_left, (kept, refl), kept.held)
   left_by (Some (ask task)) of rests m holds =
-      let kept = asks_by task of (is_later (ask task)) refl m holds r.left r.posted is.cut in
+      let kept = asks_cut task (is.asks task of) m holds r.left r.posted is.cut in
       let held = task_holds task r.old.read_faults r.new.read_faults shape word_frames m r.left r.posted kept in
       (held.0, kept, held.1)
 

@@ -1,7 +1,8 @@
 -- The frames that words may ask for.
-use Rattle.std.proofs.Common.{◌≡◌, ◌≤◌, ℕ, List, [], ◌∷◌, Option, None, Some, option_map, option_and_then, Bool, true, false, if◌then◌else◌, nat_le, nat_lt, length, bytes_eq, codes, subst, sym, ap, ◌∙◌, refl, arith}
+use Rattle.std.proofs.Common.{◌≡◌, ◌≤◌, ◌<◌, ◌^◌, ◌&&◌, ℕ, List, [], ◌∷◌, Option, None, Some, option_map, option_and_then, Bool, true, false, if◌then◌else◌, nat_le, nat_lt, length, bytes_eq, codes, subst, sym, ap, ◌∙◌, refl, arith}
 use Rattle.std.proofs.lemmas.Bool.Decides.{nat_tests}
-use Rattle.pk_nvme.specs.Text.{number_of, bytes_of}
+use Rattle.pk_nvme.specs.Text.{number_of, is_number, bytes_of}
+use Rattle.std.specs.Str.Parse.{digits_value}
 use Rattle.pk_asm.specs.Words.{key_of}
 use Rattle.pk_words.specs.Question.{put, get, delete, has, stat}
 use Rattle.pk_wordrun.specs.Seen.{IsShortTask}
@@ -78,10 +79,22 @@ alone-within : (word : Word) (operands : List (List ℕ)) → WordWithin word �
 alone-within word [] h = h
 alone-within word (x ∷ more) h = tt
 
+and_right : (a b : Bool) → (a && b) ≡ true → b ≡ true
+and_right true b e = e
+and_right false b e = absurd (let never : false ≡ true = e in cc)
+
+-- a number that a text is, is below 2^32
+within_number : (text : List ℕ) (f : ℕ → Option Word) → ((n : ℕ) → n < 2 ^ 32 → Within (f n)) → Within (option_and_then f (number_of text))
+within_number text f all = by (is_number text && nat_lt (digits_value 10 text) (2 ^ 32)) refl
+  where
+    by : (b : Bool) → (is_number text && nat_lt (digits_value 10 text) (2 ^ 32)) ≡ b → Within (option_and_then f (if b then Some (digits_value 10 text) else None))
+    by true e = (let small = and_right (is_number text) (nat_lt (digits_value 10 text) (2 ^ 32)) e in all (digits_value 10 text) (grind (arith, nat_tests, small)))
+    by false e = tt
+
 generate-within : (operands : List (List ℕ)) → Within (generate_of operands)
 generate-within [] = tt
 generate-within (s ∷ []) = tt
-generate-within (s ∷ c ∷ []) = within_bind (number_of s) _ (λ start. within_bind (number_of c) _ (λ count. tt))
+generate-within (s ∷ c ∷ []) = within_bind (number_of s) _ (λ start. within_number c _ (λ count few. few))
 generate-within (s ∷ c ∷ x ∷ more) = tt
 
 plain-within : (name : List ℕ) (operands : List (List ℕ)) → Within (plain_of name operands)

@@ -1,5 +1,5 @@
 -- Runs of the program one after another, each on what a cut of the one before left.
-use Rattle.std.specs.Prelude.{◌≡◌, ℕ, List, [], ◌∷◌, ◌++◌, Option, Some, None, true, false}
+use Rattle.std.specs.Prelude.{◌≡◌, ℕ, List, [], ◌∷◌, ◌++◌, Option, Some, None}
 use Rattle.std.specs.FinMap.{empty}
 use Rattle.pk_base.specs.Shape.{Shape}
 use Rattle.pk_base.specs.Page.{Flash}
@@ -15,7 +15,7 @@ use Rattle.pk_top.specs.Serves.{ServeRun}
 use Rattle.pk_model.specs.Script.{script}
 use Rattle.pk_wordrun.specs.Tasks.{Task, KeptTask}
 use Rattle.pk_top.specs.Asks.{AskRun, word_frames}
-use Rattle.pk_top.specs.Words.{Word, make, serve, ask, assemble, show, word_of, is_later}
+use Rattle.pk_top.specs.Words.{Word, make, serve, ask, assemble, show, word_of}
 
 -- A run of the program: its words, its input, the board before it and at its end, its status, the marks that it made, and the flash and the bytes
 -- given out where it was cut off.
@@ -32,8 +32,7 @@ pub record ProgramRun : Type 0 where
 -- It is what `run` promises of these words, on a board that holds its pages and tells its input and its trail; it was cut off at a cut of its marks.
 pub record IsRun (shape : Shape) (r : ProgramRun) : Type 0 where
   pub serves : (frames : ℕ) → word_of r.words ≡ Some (serve frames) → ServeRun frames r.old r.new r.status
-  pub asks : (task : Task) → is_later (ask task) ≡ false → word_of r.words ≡ Some (ask task) → AskRun task r.old r.new r.status
-  pub later : (word : Word) → word_of r.words ≡ Some word → is_later word ≡ true → r.new ≡ r.old
+  pub asks : (task : Task) → word_of r.words ≡ Some (ask task) → AskRun task r.old r.new r.status
   pub rests : Rests (word_of r.words) r.old r.new
   pub shape_is : r.old.shape ≡ Some shape
   pub input : r.old.input ≡ Some r.input

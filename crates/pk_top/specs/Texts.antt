@@ -2,8 +2,7 @@
 use Rattle.pk_wordrun.specs.Seen.{seen as seen_task}
 use Rattle.pk_top.specs.Words as spec
 use Rattle.pk_top.specs.declared.word.Word.{Word}
-use Rattle.pk_top.specs.declared.word.Word.TheVariants.{Make, Serve, Ask, Assemble, Show, Generate}
-use Rattle.pk_wordrun.specs.Tasks.{generate}
+use Rattle.pk_top.specs.declared.word.Word.TheVariants.{Make, Serve, Ask, Assemble, Show}
 
 abbrev pub seen : Word → spec.Word
 seen (Make shape) = spec.make shape
@@ -11,4 +10,3 @@ seen (Serve frames) = spec.serve frames
 seen (Ask task) = spec.ask (seen_task task)
 seen Assemble = spec.assemble
 seen Show = spec.show
-seen (Generate start count) = spec.ask (generate start count)

@@ -101,19 +101,6 @@ unfoldable pub word_of : List (List ℕ) → Option Word
 word_of [] = None
 word_of (name ∷ operands) = if bytes_eq name (codes "put") then put_of operands else plain_of name operands
 
--- a workload is not built yet
-abbrev pub is_later_task : Task → Bool
-is_later_task (answer q) = false
-is_later_task (list from) = false
-is_later_task (generate begin count) = true
-
-abbrev pub is_later : Word → Bool
-is_later (make shape) = false
-is_later (serve frames) = false
-is_later (ask task) = is_later_task task
-is_later assemble = false
-is_later show = false
-
 -- with how many frames a word serves an input, where it serves one
 abbrev pub frames_in : Word → Option ℕ
 frames_in (make shape) = None

@@ -1,5 +1,5 @@
 //! The run of the program.
-ghost use Rattle.std.specs.Prelude.{◌≡◌, ◌≢◌, ◌≤◌, ◌⊎◌, ℕ, None, Some, true, false, map};
+ghost use Rattle.std.specs.Prelude.{◌≡◌, ◌≢◌, ◌≤◌, ◌⊎◌, ℕ, None, Some, map};
 ghost use Rattle.pk_base.specs.Shape.{Shape as Form};
 ghost use Rattle.pk_top.specs.Words as spec;
 ghost use Rattle.pk_top.specs.Statuses.{Tells, Untouched};
@@ -39,9 +39,6 @@ pub fn run<B: Board>(alloc: Global, words: &[&str], board: &mut B) -> Status
     ensures memory { ((shape : Form)
         → spec.word_of (map (λ w. w.now) words.now) ≢ Some (spec.make shape)) → result.0 ≡ 7
         → Untouched (B.state board.old) (B.state board.new) }
-    ensures later { (word : spec.Word) → spec.word_of (map (λ w. w.now) words.now) ≡ Some word
-        → spec.is_later word ≡ true
-        → (B.state board.new ≡ B.state board.old) × ((result.0 ≡ 11) ⊎ (result.0 ≡ 7)) }
 
     // The words that touch the flash.
     ensures makes { (shape : Form)
@@ -53,11 +50,9 @@ pub fn run<B: Board>(alloc: Global, words: &[&str], board: &mut B) -> Status
     ensures serves { (frames : ℕ)
         → spec.word_of (map (λ w. w.now) words.now) ≡ Some (spec.serve frames)
         → ServeRun frames (B.state board.old) (B.state board.new) result.0 }
-    ensures asks { (task : Task) → spec.is_later (spec.ask task) ≡ false
-        → spec.word_of (map (λ w. w.now) words.now) ≡ Some (spec.ask task)
+    ensures asks { (task : Task) → spec.word_of (map (λ w. w.now) words.now) ≡ Some (spec.ask task)
         → AskRun task (B.state board.old) (B.state board.new) result.0 }
-    ensures asks_whole { (task : Task) → spec.is_later (spec.ask task) ≡ false
-        → spec.word_of (map (λ w. w.now) words.now) ≡ Some (spec.ask task)
+    ensures asks_whole { (task : Task) → spec.word_of (map (λ w. w.now) words.now) ≡ Some (spec.ask task)
         → AsksWhole task (B.state board.old) (B.state board.new) result.0 }
     ensures serves_whole { (frames : ℕ)
         → spec.word_of (map (λ w. w.now) words.now) ≡ Some (spec.serve frames)
@@ -86,16 +81,13 @@ fn obey<B: Board>(alloc: Global, word: Word, board: &mut B) -> Status
     ensures tells { Tells (B.state board.old) (B.state board.new) result.0 }
     ensures memory { ((shape : Form) → seen word ≢ spec.make shape) → result.0 ≡ 7
         → Untouched (B.state board.old) (B.state board.new) }
-    ensures later { spec.is_later (seen word) ≡ true
-        → (B.state board.new ≡ B.state board.old) × (result.0 ≡ 11) }
 
     // The words that touch the flash.
     ensures makes { (shape : Form) → seen word ≡ spec.make shape
         → MakeRun shape (B.state board.old) (B.state board.new) result.0 }
     ensures serves { (frames : ℕ) → seen word ≡ spec.serve frames
         → ServeRun frames (B.state board.old) (B.state board.new) result.0 }
-    ensures asks { (task : Task) → spec.is_later (spec.ask task) ≡ false
-        → seen word ≡ spec.ask task
+    ensures asks { (task : Task) → seen word ≡ spec.ask task
         → AskRun task (B.state board.old) (B.state board.new) result.0 }
 
     // Those that touch no flash, and what any word leaves of it.
@@ -111,6 +103,5 @@ fn obey<B: Board>(alloc: Global, word: Word, board: &mut B) -> Status
         Word::Ask(task) => ask(alloc, task, board),
         Word::Assemble => assemble(alloc, board),
         Word::Show => show(alloc, board),
-        Word::Generate(_, _) => Status::NOT_BUILT,
     }
 }

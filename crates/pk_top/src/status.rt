@@ -26,8 +26,6 @@ impl Status {
     pub const MADE: Status = Status(9);
     /// Another entry begins, and no more are taken.
     pub const WORN: Status = Status(10);
-    /// The word is not built yet.
-    pub const NOT_BUILT: Status = Status(11);
     /// A line of a text script is outside the grammar.
     pub const BAD_LINE: Status = Status(12);
 }

@@ -16,6 +16,4 @@ pub enum Word {
     Assemble,
     /// To turn records into lines.
     Show,
-    /// To serve a workload from this start, of so many commands.
-    Generate(u32, u32),
 }

@@ -157,10 +157,10 @@ fn generate(operands: &[&str]) -> Option<Word>
     ensures { option_map seen result ≡ spec.generate_of (map (λ w. w.now) operands.now) }
 {
     match operands {
-        [start, count] => Some(Word::Generate(
+        [start, count] => Some(Word::Ask(Task::Generate(
             number(start.as_bytes())?,
             number(count.as_bytes())?,
-        )),
+        ))),
         _ => None,
     }
 }

@@ -254,3 +254,8 @@ fn words_that_fail(rt: HostRuntime) -> Result<(), Fail> {
 fn words_on_a_torn_value(rt: HostRuntime) -> Result<(), Fail> {
     pk_sessions::words::torn::<Pink>(rt.alloc())
 }
+
+#[test]
+fn workload(rt: HostRuntime) -> Result<(), Fail> {
+    pk_sessions::words::workload::<Pink>(rt.alloc())
+}

@@ -1,4 +1,4 @@
-use Rattle.std.proofs.Common.{◌≡◌, Option, Some, map, option_map, subst, ◌∙◌, inl, refl}
+use Rattle.std.proofs.Common.{◌≡◌, Option, Some, map, option_map, subst, ◌∙◌, inl, refl, sym}
 use Rattle.pk_top.specs.Words as spec
 use Rattle.pk_top.specs.Texts.{seen}
 use Rattle.pk_top.specs.declared.word.Word.{Word}
@@ -43,9 +43,13 @@ pub returns-in-Ok-Some-clause-asks_whole : goal.returns-in-Ok-Some-clause-asks_w
 returns-in-Ok-Some-clause-asks_whole g c =
     let words = map (λ w. w.now) c.args.words.now in
     let T : Option Word → Type 0 = λ o. option_map seen o ≡ spec.word_of words in
-    λ task built asked.
-    let same : Some (seen c.in-Ok-Some.word) ≡ Some (spec.ask task) = subst T c.in-Ok-Some.field-0-is c.in-Ok-Some.ensures ∙ asked in
-    whole_ask task (few_roots task built) (g.B.Nand.state c.args.board.now) (g.B.Nand.state c.obey.new.board) c.obey.result.0 (c.obey.ensures.asks task built (cc))
+    λ task asked.
+    let is : Some (seen c.in-Ok-Some.word) ≡ spec.word_of words = subst T c.in-Ok-Some.field-0-is c.in-Ok-Some.ensures in
+    let same : Some (seen c.in-Ok-Some.word) ≡ Some (spec.ask task) = is ∙ asked in
+    let word : seen c.in-Ok-Some.word ≡ spec.ask task = cc in
+    whole_ask task (few_roots task (short_within words (seen c.in-Ok-Some.word) is task word)) (g.B.Nand.state c.args.board.now) (g.B.Nand.state c.obey.new.board) c.obey.result.0 (c.obey.ensures.asks task word)
 
 pub returns-in-Err-clause-asks_whole : goal.returns-in-Err-clause-asks_whole
-returns-in-Err-clause-asks_whole g c = λ task built asked. whole_ask task (few_roots task built) (g.B.Nand.state c.args.board.now) (g.B.Nand.state c.args.board.now) 7 (inl (refl, refl))
+returns-in-Err-clause-asks_whole g c = λ task asked.
+    let words = map (λ w. w.now) c.args.words.now in
+    whole_ask task (few_roots task (short_within words (spec.ask task) (sym asked) task refl)) (g.B.Nand.state c.args.board.now) (g.B.Nand.state c.args.board.now) 7 (inl (refl, refl))
