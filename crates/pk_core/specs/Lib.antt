@@ -18,3 +18,4 @@ pub mod Listed
 pub mod Opening
 pub mod Reclaiming
 pub mod Spacing
+pub mod Costs

@@ -24,7 +24,7 @@ pub record Performs (before after : Parts) (old new : BoardState) (r : Request) 
   pub noted : r.opcode ≡ STORE → o.status ≡ SUCCESSFUL_COMPLETION → IsNoted after (key (command_of r value))
   pub quiet_store : r.opcode ≡ STORE → QuietStore before old new r value o
   pub quiet_delete : r.opcode ≡ DELETE → QuietDelete before old new r o
-  pub calls : r.opcode ≢ STORE → r.opcode ≢ DELETE → FewCalls (most_calls_of before.log.shape r.opcode r.size) old new
+  pub calls : FewCalls (most_calls_of before.log.shape r.opcode r.size) old new
   pub looks : only_looks r.opcode ≡ true → (after ≡ before) × OnlyReading old new
 
 -- A Report gives the numbers of the drive, and makes no call.

@@ -3,7 +3,9 @@ ghost use Rattle.std.specs.Prelude.{◌≡◌, ◌<◌, ◌+◌, length, false, 
 ghost use Rattle.pk_base.specs.Shape as spec;
 ghost use Rattle.pk_model.specs.Wear.{roots};
 ghost use Rattle.pk_log.specs.State.{needs_freeze as needs_freeze_for};
-ghost use Rattle.pk_work.specs.Calls.{room_calls};
+ghost use Rattle.pk_work.specs.Calls.{commit_calls, room_calls, room_roots};
+ghost use Rattle.pk_core.specs.Costs.{place_calls, put_calls};
+ghost use Rattle.pk_drive.specs.Calling.{FewCalls};
 ghost use Rattle.pk_core.specs.Changes.{CanPut, CanTake, StepPuts, StepTakes, PutsOrReads, TakesOrReads, StaysBetween};
 ghost use Rattle.pk_core.specs.Emptying.{OnRunning};
 ghost use Rattle.pk_core.specs.Parts.{sight_of};
@@ -40,6 +42,8 @@ impl<A: Region> Drive<A> {
         ensures programs { OnOk result (FillsQuietly self.old
             (spec.charge self.old.log.shape (length value.now)) (B.state board.old)
             (B.state board.new)) }
+        ensures calls { FewCalls (place_calls (spec.charge self.old.log.shape (length value.now))
+            + commit_calls) (B.state board.old) (B.state board.new) }
     {
         let shape = self.shape();
         // so that the number of bytes is known to fit
@@ -79,6 +83,10 @@ impl<A: Region> Drive<A> {
             (B.state board.new)) }
         ensures quiet { OnOk result (ReadsQuietly self.old key (B.state board.old)
             (B.state board.new)) }
+        ensures calls { FewCalls (put_calls self.old.log.shape
+            (spec.charge self.old.log.shape (length value.now))) (B.state board.old)
+            (B.state board.new) }
+        ensures installs { roots (B.state board.new) ≤ roots (B.state board.old) + room_roots }
     {
         match self.make_room(board, &key) {
             Ok(()) => self.put_with_room(board, key, value, old),
@@ -97,6 +105,7 @@ impl<A: Region> Drive<A> {
         ensures programs { OnOk result (Programs
             (commits_for self.old.log.shape (sight_of self.old)) (B.state board.old)
             (B.state board.new)) }
+        ensures calls { FewCalls commit_calls (B.state board.old) (B.state board.new) }
     {
         self.note_gone(key, old);
         self.commit_if_full(board)
@@ -123,6 +132,9 @@ impl<A: Region> Drive<A> {
             (TakesQuietly self.old key (B.state board.old) (B.state board.new)) }
         ensures quiet { OnOk result (ReadsQuietly self.old key (B.state board.old)
             (B.state board.new)) }
+        ensures calls { FewCalls (room_calls self.old.log.shape + commit_calls)
+            (B.state board.old) (B.state board.new) }
+        ensures installs { roots (B.state board.new) ≤ roots (B.state board.old) + room_roots }
     {
         match self.make_room(board, &key) {
             Ok(()) => self.take_with_room(board, key, old),

@@ -4,7 +4,9 @@ ghost use Rattle.pk_base.specs.Key.{Key as KeySpec};
 ghost use Rattle.pk_model.specs.Wear.{roots};
 ghost use Rattle.pk_log.specs.State.{needs_freeze as needs_freeze_for};
 ghost use Rattle.pk_work.specs.Rest.{whole_freeze};
-ghost use Rattle.pk_work.specs.Calls.{room_calls};
+ghost use Rattle.pk_work.specs.Work.{emptying};
+ghost use Rattle.pk_work.specs.Calls.{room_calls, room_roots};
+ghost use Rattle.pk_drive.specs.Calling.{FewCalls};
 ghost use Rattle.pk_schedule.specs.Steps.{has_no_merge};
 ghost use Rattle.pk_core.specs.Parts.{index_of};
 ghost use Rattle.pk_core.specs.Moves.{MayStep, StepKeeps, LeavesValues};
@@ -46,6 +48,8 @@ impl<A: Region> Drive<A> {
         ensures step { KeepsOrReads self.old self.new (merges_left self.old + 1)
             (B.state board.old) (B.state board.new) result }
         ensures done { OnOk result (has_no_merge (index_of self.new) ≡ true) }
+        ensures calls { FewCalls (merges_left self.old) (B.state board.old) (B.state board.new) }
+        ensures installs { roots (B.state board.new) ≤ roots (B.state board.old) + 4 }
 
         // What else stays.
         ensures none { OnRunning (self.new.log.pending ≡ []) result }
@@ -90,6 +94,8 @@ impl<A: Region> Drive<A> {
             (B.state board.new) result }
         ensures room { OnOk result ((key : KeySpec) → needs_freeze_for self.new.log key ≡ false) }
         ensures wide { OnOk result (is_tight_for self.new ≡ false) }
+        ensures calls { FewCalls whole_freeze (B.state board.old) (B.state board.new) }
+        ensures installs { roots (B.state board.new) ≤ roots (B.state board.old) + 1 }
 
         // What else stays.
         ensures none { OnOk result (self.new.log.pending ≡ []) }
@@ -118,6 +124,9 @@ impl<A: Region> Drive<A> {
             (B.state board.old) (B.state board.new) result }
         ensures room { OnOk result ((key : KeySpec) → needs_freeze_for self.new.log key ≡ false) }
         ensures wide { OnOk result (is_tight_for self.new ≡ false) }
+        ensures calls { FewCalls (emptying self.old.log.shape 4 + whole_freeze)
+            (B.state board.old) (B.state board.new) }
+        ensures installs { roots (B.state board.new) ≤ roots (B.state board.old) + room_roots }
 
         // What else stays.
         ensures none { OnRunning (self.new.log.pending ≡ []) result }

@@ -11,6 +11,8 @@ ghost use Rattle.pk_core.specs.Placing.{PlacesValue, FailsToPlace};
 ghost use Rattle.pk_core.specs.Staying.{StaysOrOpens};
 ghost use Rattle.pk_data.specs.State.{fits_open};
 ghost use Rattle.pk_core.specs.Programming.{Programs};
+ghost use Rattle.pk_core.specs.Costs.{place_calls};
+ghost use Rattle.pk_drive.specs.Calling.{FewCalls};
 
 use crate::drive::Drive;
 use pk_base::{Key, Shape};
@@ -89,6 +91,8 @@ impl<A: Region> Drive<A> {
             (spec.charge self.old.log.shape (length value.now)) ≡ true
             → Programs (spec.charge self.old.log.shape (length value.now)) (B.state board.old)
             (B.state board.new)) }
+        ensures calls { FewCalls (place_calls (spec.charge self.old.log.shape (length value.now)))
+            (B.state board.old) (B.state board.new) }
     {
         let shape = self.shape();
         let _ = key.bytes();

@@ -10,6 +10,10 @@ ghost use Rattle.pk_core.specs.Done.{Executes};
 ghost use Rattle.pk_core.specs.Quiet.{Looks};
 ghost use Rattle.pk_core.specs.Serving.{IsServable, IsReadSince, IsCounted, outcome_for, stopped_by, pages_at as pages_at_by};
 ghost use Rattle.pk_nvme.specs.declared.opcode.TheConstants.{STORE, DELETE};
+ghost use Rattle.pk_model.specs.Wear.{roots};
+ghost use Rattle.pk_work.specs.Calls.{commit_calls, room_calls, room_roots, store_roots};
+ghost use Rattle.pk_drive.specs.Calling.{FewCalls};
+ghost use Rattle.pk_core.specs.Costs.{space_and_put_calls};
 ghost use Rattle.pk_core.specs.Staying.{Stays, StaysOrOpens, IsNoted};
 ghost use Rattle.pk_core.specs.Programming.{PutsQuietly, TakesQuietly, ReadsQuietly, ReadsNone, QuietStore, QuietDelete};
 ghost use Rattle.pk_nvme.specs.declared.status.TheConstants.{SUCCESSFUL_COMPLETION};
@@ -138,6 +142,9 @@ impl<A: Region> Drive<A> {
         ensures quiet { result.status ≡ SUCCESSFUL_COMPLETION → ReadsNone self.old key
             (spec.charge self.old.log.shape request.now.size) (B.state board.old)
             (B.state board.new) }
+        ensures calls { FewCalls (space_and_put_calls self.old.log.shape
+            (spec.most_pages self.old.log.shape)) (B.state board.old) (B.state board.new) }
+        ensures installs { roots (B.state board.new) ≤ roots (B.state board.old) + store_roots }
     {
         known(&key);
         match self.fault_of_store(request, &old) {
@@ -174,6 +181,8 @@ impl<A: Region> Drive<A> {
             → IsNoted self.new (key_in (command_of request.now value.now)) }
         ensures quiet { QuietStore self.old (B.state board.old) (B.state board.new)
             request.now value.now result }
+        ensures calls { FewCalls (spec.most_calls self.old.log.shape) (B.state board.old) (B.state board.new) }
+        ensures installs { roots (B.state board.new) ≤ roots (B.state board.old) + store_roots }
     {
         let before = board.read_count();
         let key = request.key();
@@ -214,6 +223,9 @@ impl<A: Region> Drive<A> {
             → TakesQuietly self.old key (B.state board.old) (B.state board.new) }
         ensures quiet { result.status ≡ SUCCESSFUL_COMPLETION
             → ReadsQuietly self.old key (B.state board.old) (B.state board.new) }
+        ensures calls { FewCalls (room_calls self.old.log.shape + commit_calls)
+            (B.state board.old) (B.state board.new) }
+        ensures installs { roots (B.state board.new) ≤ roots (B.state board.old) + room_roots }
     {
         known(&key);
         match old {
@@ -236,6 +248,8 @@ impl<A: Region> Drive<A> {
         ensures moves { result.stopped ≡ false → Stays self.old self.new }
         ensures quiet { QuietDelete self.old (B.state board.old) (B.state board.new) request.now
             result }
+        ensures calls { FewCalls (spec.most_calls self.old.log.shape) (B.state board.old) (B.state board.new) }
+        ensures installs { roots (B.state board.new) ≤ roots (B.state board.old) + room_roots }
     {
         let before = board.read_count();
         let key = request.key();

@@ -15,7 +15,7 @@ pub record FewCalls (most : ℕ) (old new : BoardState) : Type 0 where
   pub programs : new.programs ≡ counted_by programs_made old.programs
   pub erases : new.erases ≡ counted_by erases_made old.erases
 
--- most calls of a command that stores and deletes nothing: of a Tick one for each step
+-- most calls of a command: of a Tick one for each step
 abbrev pub most_calls_of : Shape → ℕ → ℕ → ℕ
 most_calls_of shape opcode size = if opcode == TICK then size else most_calls shape
 

@@ -1,5 +1,5 @@
 -- What one command does, for every map that the drive may stand for.
-use Rattle.std.specs.Prelude.{◌≡◌, ◌≢◌, ◌⊎◌, ℕ, ◌≤◌, ◌<◌, List, [], ◌∷◌, flat_map, Some, ◌==◌, if◌then◌else◌}
+use Rattle.std.specs.Prelude.{◌≡◌, ◌≢◌, ◌⊎◌, ℕ, ◌+◌, ◌*◌, ◌≤◌, ◌<◌, List, [], ◌∷◌, flat_map, Some, ◌==◌, if◌then◌else◌}
 use Rattle.pk_nvme.specs.declared.opcode.TheConstants.{STORE, TICK}
 use Rattle.pk_base.specs.Shape.{Shape, greatest}
 use Rattle.pk_base.specs.Map.{Map}
@@ -26,9 +26,13 @@ abbrev pub ExecStands : BoardState → BoardState → Sight → Sight → Comman
 ExecStands old new before after c reply reads =
     (shape : Shape) (frames : ℕ) (m : Map) → HoldsMap shape frames old before m → Executed shape frames new after m c reply reads
 
--- most roots that a command installs: a Tick one for each step, another fewer than 2^16
+-- most roots of a Store: a reclaim and its entry may each need room, which takes four merges and a freeze, and each of these a root
+abbrev pub most_roots : ℕ
+most_roots = 2 * (4 + 1)
+
+-- most roots that a command installs: a Tick one for each step, another at most ten
 abbrev pub most_installs : ℕ → ℕ → ℕ
-most_installs opcode size = if opcode == TICK then size else 65535
+most_installs opcode size = if opcode == TICK then size else most_roots
 
 -- the bytes of a Report
 abbrev pub report_of : Counts → List ℕ

@@ -6,5 +6,6 @@ pub mod Commit
 pub mod Tick
 pub mod Seen
 pub mod Calling
+pub mod Settling
 pub mod Steady
 pub mod Moving

@@ -60,7 +60,7 @@ pub record IsSteady (shape : Shape) (flash : Flash) (drive : Sight) : Type 0 whe
   pub blocks_most : drive.counts.blocks ≤ data_blocks shape - 1
   -- entries that wait, and steps that are left
   pub few_pending : length drive.pending < page_entries shape
-  pub work_most : drive.work ≤ most_work shape
+  pub work_most : drive.work < most_work shape
 
 -- after a call that begins where the drive stands for a map
 abbrev pub Steadies : BoardState → BoardState → Sight → Sight → Type 0

@@ -21,6 +21,7 @@ ghost use Rattle.pk_drive.specs.Tick.{TellsIdle, LowersWork};
 ghost use Rattle.pk_drive.specs.Seen.{reply_of, stopped_by, counts_of};
 ghost use Rattle.pk_model.specs.Growth.{Grows};
 ghost use Rattle.pk_drive.specs.Calling.{FewCalls, most_calls_of, only_looks};
+ghost use Rattle.pk_drive.specs.Settling.{may_raise, Settles, Rests};
 ghost use Rattle.pk_drive.specs.Steady.{IsSteady, Steadies};
 ghost use Rattle.pk_drive.specs.Moving.{Commits, KeepsFresh, BlocksGrow, Stores, IsQuiet, HasOpenRoom, Quietly, commits_for};
 ghost use Rattle.pk_drive.specs.declared.types.Ticked.{Ticked};
@@ -107,10 +108,19 @@ pub trait Engine {
         ensures flash_up { (B.state board.old).flash_faults ≤ (B.state board.new).flash_faults }
         ensures installs { roots (B.state board.new)
             ≤ roots (B.state board.old) + most_installs request.now.opcode request.now.size }
-        ensures calls { request.now.opcode ≢ STORE → request.now.opcode ≢ DELETE
-            → FewCalls
+        ensures calls { FewCalls
             (most_calls_of (shape_of (B.state board.old)) request.now.opcode request.now.size)
             (B.state board.old) (B.state board.new) }
+
+        // What is left to do in the background: a Store or a Delete alone may raise it, a Tick lowers it.
+        ensures no_more { result.stopped ≡ false → may_raise request.now.opcode ≡ false
+            → (sight self.new).work ≤ (sight self.old).work }
+        ensures settles { request.now.opcode ≡ TICK → result.status ≡ SUCCESSFUL_COMPLETION
+            → Settles (B.state board.old) (B.state board.new) (sight self.old) (sight self.new)
+            request.now.size }
+        ensures rests { request.now.opcode ≡ TICK → result.status ≡ SUCCESSFUL_COMPLETION
+            → Rests (B.state board.old) (B.state board.new) (sight self.old) (sight self.new)
+            request.now.size }
 
         // What is seen of the drive: its numbers, the newest epoch, and the blocks for values.
         ensures steady { result.stopped ≡ false

@@ -1,0 +1,22 @@
+-- Most calls of the flash that the parts of a Store make.
+use Rattle.std.specs.Prelude.{ℕ, ◌+◌}
+use Rattle.pk_base.specs.Shape.{Shape}
+use Rattle.pk_work.specs.Rest.{whole_reclaim}
+use Rattle.pk_work.specs.Calls.{commit_calls, lookup_calls, room_calls}
+
+-- a block is taken, and so many pages of a value are programmed
+abbrev pub place_calls : ℕ → ℕ
+place_calls count = 1 + count
+
+module _ (shape : Shape) where
+  -- the pending entries are committed, and reclaims are run, with the room that their moves may need
+  abbrev pub reclaim_calls : ℕ
+  reclaim_calls = commit_calls + whole_reclaim shape + room_calls shape
+
+  -- room for an entry, its value of so many pages, and a commit where the journal page is full
+  abbrev pub put_calls : ℕ → ℕ
+  put_calls count = room_calls shape + place_calls count + commit_calls
+
+  -- reclaims before that, and a look-up behind them
+  abbrev pub space_and_put_calls : ℕ → ℕ
+  space_and_put_calls count = reclaim_calls + lookup_calls + put_calls count
