@@ -39,7 +39,7 @@ use Rattle.pk_core.specs.Quiet.{ReadsOnly}
 
 -- ---- counts
 
-counted_more : (m k n : ℕ) → counted_by m (counted_by k n) ≡ counted_by (k + m) n
+pub counted_more : (m k n : ℕ) → counted_by m (counted_by k n) ≡ counted_by (k + m) n
 counted_more zero k n = let same : k ≡ k + zero = omega arith in ap (λ (x : ℕ). counted_by x n) same
 counted_more (suc m) k n = let same : suc (k + m) ≡ k + suc m = omega arith in ap counted (counted_more m k n) ∙ ap (λ (x : ℕ). counted_by x n) same
 
