@@ -1,32 +1,39 @@
 -- Merges in a row, and the steps of a freeze, inside a command.
 use Rattle.std.proofs.Common.{◌≡◌, ℕ, ◌+◌, ◌-◌, ◌<◌, ◌≤◌, refl, sym, ap, subst, ◌∙◌, arith, Bool, true, false, ◌&&◌, ◌==◌, if◌then◌else◌, T, List, [], ◌∷◌, length, eqb→eq, Result, Ok, Err}
-use Rattle.std.specs.Prelude.{MatchBool}
+use Rattle.std.specs.Prelude.{MatchBool, Option, Some, None, IfSome, unwrap_or, nat_le, slice_index}
 use Rattle.pk_base.specs.Entry.{Entry}
 use Rattle.pk_base.specs.Key.{Key}
+use Rattle.pk_base.specs.Firsts.{firsts}
+use Rattle.pk_base.specs.Merge.{room, next_merge}
+use Rattle.pk_base.specs.Page.{Flash}
 use Rattle.pk_base.specs.Shape.{Shape, IsShape, buffer, epoch_pages}
 use Rattle.pk_base.proofs.ShapeLemmas.{block_pages_positive}
 use Rattle.pk_buf.specs.Table.{Table}
 use Rattle.pk_jrn.specs.Epochs.{left_of}
+use Rattle.pk_root.specs.declared.next.Next.{Next}
 use Rattle.pk_root.specs.Installing.{erases_next}
 use Rattle.pk_log.specs.State.{LogState, needs_freeze}
 use Rattle.pk_log.specs.Logs.{LogOnFlash}
 use Rattle.pk_rootfmt.specs.Root.{Root}
 use Rattle.pk_model.specs.Found.{Found}
-use Rattle.pk_work.specs.Backlog.{is_tight}
-use Rattle.pk_schedule.specs.Index.{Index}
+use Rattle.pk_work.specs.Backlog.{Backlog, is_tight, due_level}
+use Rattle.pk_schedule.specs.Index.{Index, IndexOnFlash, MergeStands}
 use Rattle.pk_nand.specs.declared.types.Fault.{Fault}
 use Rattle.pk_nand.specs.BoardState.{BoardState}
 use Rattle.pk_nand.specs.Calls.{IsReady}
 use Rattle.pk_model.specs.Wear.{roots}
 use Rattle.pk_model.proofs.Steps.{RootsUpTo-le, Step-broken}
-use Rattle.pk_compact.specs.FreezeSteps.{freeze_left}
+use Rattle.pk_compact.specs.FreezeSteps.{freeze_left, install_steps}
 use Rattle.pk_work.specs.Rest.{whole_freeze}
-use Rattle.pk_work.specs.Work.{emptying}
-use Rattle.pk_work.specs.Calls.{room_calls}
+use Rattle.pk_work.specs.Work.{emptying, merging_from}
+use Rattle.pk_work.specs.Calls.{room_calls, commit_calls}
 use Rattle.pk_work.proofs.Within.{merging_most}
+use Rattle.pk_schedule.specs.declared.phase.Phase.{Phase}
+use Rattle.pk_schedule.specs.declared.phase.Phase.TheVariants.{Idle as Between, Running, Ready}
 use Rattle.pk_schedule.specs.declared.phase.Stepped.{Stepped}
 use Rattle.pk_schedule.specs.declared.phase.Stepped.TheVariants.{Worked, Idle}
-use Rattle.pk_schedule.specs.Steps.{FreezeMoves, Freezes, backlog_of, has_no_merge, is_between}
+use Rattle.pk_schedule.specs.Steps.{FreezeMoves, Freezes, backlog_of, merge_left, has_no_merge, is_between}
+use Rattle.pk_drive.specs.Calling.{FewCalls}
 use Rattle.pk_core.specs.Parts.{Parts, frames_of, index_of}
 use Rattle.pk_base.specs.Map.{Map}
 use Rattle.pk_core.specs.Moves.{StandsFor, KeepsAll, BreaksAll, MayStep, StepKeeps, LeavesValues}
@@ -38,7 +45,8 @@ use Rattle.pk_core.proofs.Rooming.{stands_after}
 use Rattle.pk_core.proofs.Staying.{stays_same, stays_then}
 use Rattle.pk_core.proofs.Steps.{none_step, keeps_later, may_after, leaves_none, leaves_twice}
 use Rattle.pk_core.proofs.Freezing.{no_need, left_some, frozen_is_room}
-use Rattle.pk_schedule.proofs.Backlogs.{index_backlog}
+use Rattle.pk_schedule.proofs.Backlogs.{frozen_is, index_backlog}
+use Rattle.pk_core.proofs.Callings.{few_none, few_within, few_more, few_then}
 use Rattle.pk_core.proofs.ReadSteps.{Passes, passes_none, step_passes, reading_passes, reads_nothing, reading_failed, reading_then, reading_end}
 
 -- ---- steps in a row
@@ -77,6 +85,57 @@ may_behind a b n s0 s1 may same step = record {
   stands = stands_after a b s0 s1 may.stands same step.came.0;
 }
 
+-- ---- a merge that runs, or is due, has steps left
+
+due_first : (empty first second third : Bool) → empty ≡ false → 1 ≤ unwrap_or (if empty then None else if first then Some 1 else if second then Some 2 else if third then Some 3 else Some 4) 0
+due_first true first second third some = cc
+due_first false true second third some = omega arith
+due_first false false true third some = omega arith
+due_first false false false true some = omega arith
+due_first false false false false some = omega arith
+
+due_some : (shape : Shape) (b : Backlog) → (b.frozen == 0) ≡ false → 1 ≤ due_level shape b
+unfolding due_level
+due_some shape b some = due_first (b.frozen == 0) (nat_le (b.frozen + slice_index b.runs 0) (room shape 1)) (nat_le (slice_index b.runs 0 + slice_index b.runs 1) (room shape 2)) (nat_le (slice_index b.runs 1 + slice_index b.runs 2) (room shape 3)) some
+
+merging_some : (shape : Shape) (level : ℕ) (merge : Option ℕ) → 1 ≤ level → IfSome merge (λ left. 1 ≤ left) → 1 ≤ merging_from shape level merge
+merging_some shape zero merge least some = absurd (omega (arith, least))
+merging_some shape (suc level) None least some = omega arith
+merging_some shape (suc level) (Some left) least some = omega (arith, some)
+
+some_installs : (next : Next) → 1 ≤ install_steps next
+some_installs next = picked (erases_next next)
+  where
+    picked : (b : Bool) → 1 ≤ (if b then 2 else 1)
+    picked true = omega arith
+    picked false = omega arith
+
+begun_some : (phase : Phase) (x : Index) → IfSome (merge_left phase x) (λ left. 1 ≤ left)
+begun_some Between x = tt
+begun_some (Running level) x = omega arith
+begun_some (Ready level) x = some_installs x.log.next
+
+wants_some : (empty : Bool) (rest : Option ℕ) (level : ℕ) → (if empty then None else rest) ≡ Some level → empty ≡ false
+wants_some true rest level due = cc
+wants_some false rest level due = refl
+
+module _ (x : Index) (frames : ℕ) (flash : Flash) (top : ℕ × Root) (found : Found) (stands : IndexOnFlash x frames flash top found) where
+  -- it is the frozen buffer that is merged
+  due_frozen : (rest : Option ℕ) (level : ℕ) → (if length (firsts found.older) == 0 then None else rest) ≡ Some level → (length x.log.frozen.entries == 0) ≡ false
+  due_frozen rest level due = ap (λ (n : ℕ). n == 0) (frozen_is x frames flash top found stands) ∙ wants_some (length (firsts found.older) == 0) rest level due
+
+  merges_frozen : (phase : Phase) → MergeStands phase x flash top.1 found → (is_between phase && (length x.log.frozen.entries == 0)) ≡ false → (length x.log.frozen.entries == 0) ≡ false
+  merges_frozen Between merge busy = busy
+  merges_frozen (Running level) merge busy = due_frozen _ level merge.into.due
+  merges_frozen (Ready level) merge busy = due_frozen _ level merge.into.due
+
+  merging_busy : has_no_merge x ≡ false → 1 ≤ merging_from x.log.shape (due_level x.log.shape (backlog_of x)) (backlog_of x).merge
+  merging_busy busy =
+      merging_some x.log.shape (due_level x.log.shape (backlog_of x)) (backlog_of x).merge (due_some x.log.shape (backlog_of x) (merges_frozen x.schedule.phase stands.merge busy)) (begun_some x.schedule.phase x)
+
+pub merges_some : (d : Parts) (board : BoardState) → MayStep d board → has_no_merge (index_of d) ≡ false → 1 ≤ merges_left d
+merges_some d board may busy = let there = may.stands.1 in merging_busy (index_of d) (frames_of d) board.pages there.top there.found there.with.index busy
+
 -- ---- merges
 
 -- So many were made, they kept the map, and each lowered what is left.
@@ -85,6 +144,7 @@ pub record Emptying (a : Parts) (s0 : BoardState) (b : Parts) (s : BoardState) :
   pub step : KeepsOrReads {T = Unit {0}} a b made s0 s (Ok tt)
   pub may : MayStep b s
   pub none_pending : b.log.pending ≡ []
+  pub calls : FewCalls made s0 s
   pub left : made + merges_left b ≤ merges_left a
   pub leaves : LeavesValues a b
   pub stays : Stays a b
@@ -95,6 +155,7 @@ emptying_begin a s0 may none = record {
   step = reading_end tt (λ (x : Unit). KeepsAll a a s0 s0) (KeepsAll a a s0 s0) (BreaksAll a s0 s0) a.log.shape 0 s0 s0 (passes_none s0) may.ready (KeepsAll-none a a s0 s0 refl refl);
   may = may;
   none_pending = none;
+  calls = few_none s0;
   left = omega arith;
   leaves = leaves_none a;
   stays = stays_same a a refl;
@@ -120,6 +181,7 @@ module _ (a : Parts) (s0 : BoardState) (b : Parts) (s : BoardState) (ready : IsR
         step = reads_later (Ok tt) a b c on.made 1 (on.made + 1) s0 s s1 ready on.leaves.same_shape (omega arith) on.step.came.0 passes one;
         may = may_behind b c 1 s s1 on.may once.leaves.same_shape one;
         none_pending = once.none_pending;
+        calls = few_more on.made s0 s s1 on.calls once.calls;
         left = (let left = on.left in omega (arith, left, less));
         leaves = leaves_twice a b c on.leaves once.leaves;
         stays = stays_then a b c on.stays once.stays;
@@ -144,6 +206,19 @@ module _ (a : Parts) (s0 : BoardState) (b : Parts) (s : BoardState) (ready : IsR
       let T : Parts → BoardState → Type 0 = λ d t. KeepsOrReads {T = Unit {0}} a d (merges_left a + 1) s0 t (Ok tt) in
       subst (λ d. T d s1) (sym idle.1) (subst (λ t. T b t) (sym idle.2) emptying_end)
 
+  pub idle_calls : (c : Parts) (s1 : BoardState) (x : Stepped) → x ≡ Idle → MergesOnce b c s s1 (Ok x) → FewCalls (merges_left a) s0 s1
+  idle_calls c s1 x is once =
+      let idle = once.idle (ap (λ y. Ok y) is) in
+      let left = on.left in
+      subst (λ (t : BoardState). FewCalls (merges_left a) s0 t) (sym idle.2) (few_within on.made (merges_left a) s0 s (omega (arith, left)) on.calls)
+
+  -- the call that failed was one of a merge
+  pub failed_calls : (c : Parts) (s1 : BoardState) (e : Fault) → MergesOnce b c s s1 (Err e) → FewCalls (merges_left a) s0 s1
+  failed_calls c s1 e once =
+      let left = on.left in
+      let some = merges_some b s on.may once.busy in
+      few_within (on.made + 1) (merges_left a) s0 s1 (omega (arith, left, some)) (few_more on.made s0 s s1 on.calls once.calls)
+
   pub emptying_failed : (c : Parts) (s1 : BoardState) (e : Fault) → MergesOnce b c s s1 (Err e) → KeepsOrReads {T = Unit {0}} a c (merges_left a + 1) s0 s1 (Err e)
   emptying_failed c s1 e once =
       let left = on.left in
@@ -161,6 +236,7 @@ pub record Ongoing (a : Parts) (s0 : BoardState) (b : Parts) (s : BoardState) : 
   pub may : MayStep b s
   pub none_pending : b.log.pending ≡ []
   pub none_merges : has_no_merge (index_of b) ≡ true
+  pub calls : FewCalls made s0 s
   pub left : made + freeze_left_of b ≤ freeze_left_of a
   pub leaves : LeavesValues a b
   pub stays : Stays a b
@@ -172,6 +248,7 @@ ongoing_begin a s0 may none none_merges = record {
   may = may;
   none_pending = none;
   none_merges = none_merges;
+  calls = few_none s0;
   left = omega arith;
   leaves = leaves_none a;
   stays = stays_same a a refl;
@@ -231,10 +308,15 @@ module _ (a : Parts) (s0 : BoardState) (b : Parts) (s : BoardState) (ready : IsR
         may = may_after b c 1 s s1 tt on.may once.leaves.same_shape one;
         none_pending = once.none_pending;
         none_merges = still_none (index_of b) (index_of c) moves ∙ on.none_merges;
+        calls = few_more on.made s0 s s1 on.calls once.calls;
         left = (let left = on.left in let less = moves.lowers.less in let none = moves.lowers.none_ready in omega (arith, left, less, none));
         leaves = leaves_twice a b c on.leaves once.leaves;
         stays = stays_then a b c on.stays once.stays;
       }
+
+  -- whether it went on, ended or failed
+  pub ongoing_calls : (c : Parts) (s1 : BoardState) (r : Result Bool Fault) → FreezesOnce b c s s1 r → FewCalls whole_freeze s0 s1
+  ongoing_calls c s1 r once = few_within (on.made + 1) whole_freeze s0 s1 room_left (few_more on.made s0 s s1 on.calls once.calls)
 
   pub ongoing_end : (c : Parts) (s1 : BoardState) (x : Bool) → FreezesOnce b c s s1 (Ok x) → StepKeeps {T = Unit {0}} a c whole_freeze s0 s1 (Ok tt)
   ongoing_end c s1 x once = keeps_later (Ok tt) a b c on.made 1 whole_freeze s0 s s1 tt ready on.leaves.same_shape room_left on.step (ended_keeps x b c 1 s s1 once.step)
@@ -306,6 +388,14 @@ module _ (a b : Parts) (s0 s1 : BoardState) (may : MayStep a s0) where
       reads_later r a b c (merges_left a + 1) whole_freeze (room_calls a.log.shape) s0 s1 s2 may.ready same (omega (arith, left)) step.came.0 (passes_reads tt a b (merges_left a + 1) s0 s1 step)
       (keeps_reads r b c whole_freeze s1 s2 second)
 
+  pub room_calls_made : (s2 : BoardState) → FewCalls (merges_left a) s0 s1 → FewCalls whole_freeze s1 s2 → FewCalls (emptying a.log.shape 4 + whole_freeze) s0 s2
+  room_calls_made s2 first second =
+      let left = left_most a s0 may in
+      few_within (merges_left a + whole_freeze) (emptying a.log.shape 4 + whole_freeze) s0 s2 (omega (arith, left)) (few_then (merges_left a) whole_freeze s0 s1 s2 first second)
+
+  pub no_room_calls_made : FewCalls (merges_left a) s0 s1 → FewCalls (emptying a.log.shape 4 + whole_freeze) s0 s1
+  no_room_calls_made first = let left = left_most a s0 may in few_within (merges_left a) (emptying a.log.shape 4 + whole_freeze) s0 s1 (omega (arith, left)) first
+
   pub no_room_made : (e : Fault) → KeepsOrReads {T = Unit {0}} a b (merges_left a + 1) s0 s1 (Err e) → KeepsOrReads {T = Unit {0}} a b (room_calls a.log.shape) s0 s1 (Err e)
   no_room_made e step = let left = left_most a s0 may in reads_failed e a b (merges_left a + 1) (room_calls a.log.shape) s0 s1 (omega (arith, left)) step
 
@@ -319,6 +409,11 @@ pub room_committed : (r : Result Unit Fault) (a b c : Parts) (s0 s1 s2 : BoardSt
 room_committed r a b c s0 s1 s2 ready same first second =
     let calls : room_calls b.log.shape ≡ room_calls a.log.shape = ap (λ (s : Shape). room_calls s) same in
     reads_later r a b c 0 (room_calls b.log.shape) (room_calls a.log.shape) s0 s1 s2 ready same (omega (arith, calls)) first.ended (passes_keeps tt a b 0 s0 s1 first) second
+
+pub committed_calls : (a b : Parts) (s0 s1 s2 : BoardState) → b.log.shape ≡ a.log.shape → FewCalls commit_calls s0 s1 → FewCalls (emptying b.log.shape 4 + whole_freeze) s1 s2 → FewCalls (room_calls a.log.shape) s0 s2
+committed_calls a b s0 s1 s2 same first second =
+    let whole : emptying b.log.shape 4 ≡ emptying a.log.shape 4 = ap (λ (s : Shape). emptying s 4) same in
+    few_within (commit_calls + (emptying b.log.shape 4 + whole_freeze)) (room_calls a.log.shape) s0 s2 (omega (arith, whole)) (few_then commit_calls (emptying b.log.shape 4 + whole_freeze) s0 s1 s2 first second)
 
 -- the commit failed
 pub not_committed : (e : Fault) (a b : Parts) (s0 s1 : BoardState) → StepKeeps {T = Unit {0}} a b 0 s0 s1 (Err e) → KeepsOrReads {T = Unit {0}} a b (room_calls a.log.shape) s0 s1 (Err e)

@@ -37,6 +37,7 @@ use Rattle.pk_core.proofs.Standing.{same_found}
 use Rattle.pk_core.proofs.Keeping.{KeepsAll-none}
 use Rattle.pk_core.proofs.Staying.{stays_same}
 use Rattle.pk_core.proofs.Indexing.{with_index, may_work as may_work_with, moved_with}
+use Rattle.pk_core.proofs.Steps.{leaves_none}
 
 -- ---- what a step asks
 
@@ -143,6 +144,28 @@ one_call old new few (inr (inr (inr (same, p, e)))) = record { up = omega (arith
 
 -- ---- a step of the merges
 
+done_otherwise : ◌≡◌ {A = Result Stepped Fault} (Ok Idle) (Ok Worked) → ⊥
+done_otherwise e = cc
+
+-- none is left to make
+pub merges_none : (d : Parts) (old : BoardState) → MayEmpty d old → has_no_merge (index_of d) ≡ true → MergesOnce d d old old (Ok Idle)
+merges_none d old may none = record {
+  step = record {
+    came = (KeepsAll-none d d old old refl refl, (refl, refl, refl, refl));
+    rest = refl;
+    reads = record { up = omega arith; few = omega arith };
+    roots_few = omega arith;
+    ready = may.may.ready;
+  };
+  idle = λ is. (none, refl, refl);
+  calls = inl (refl, refl, refl);
+  busy = tt;
+  less = λ is. absurd (done_otherwise is);
+  none_pending = may.none_pending;
+  leaves = leaves_none d;
+  stays = stays_same d d refl;
+}
+
 -- what the schedule says of one
 pub record MergeStep (x : Index) (old : BoardState) (x' : Index) (new : BoardState) (r : Result Stepped Fault) : Type 0 where
   pub idle : r ≡ Ok Idle → (has_no_merge x ≡ true) × (x' ≡ x) × (new ≡ old)
@@ -245,8 +268,12 @@ module _ (d : Parts) (old : BoardState) (may : MayEmpty d old) (x : Index) (new 
   merge_stays (Err Reading) step = still_stays (step.unmoved refl).0
   merge_stays (Err Stopped) step = tt
 
-  pub merges_once : (r : Result Stepped Fault) → MergeStep (index_of d) old x new r → old.read_faults ≤ last_count → old.reads ≤ last_count → MergesOnce d its old new r
-  merges_once r step few few_reads = record {
+  merge_busy : (r : Result Stepped Fault) → has_no_merge (index_of d) ≡ false → OnErr r (has_no_merge (index_of d) ≡ false)
+  merge_busy (Ok s) busy = tt
+  merge_busy (Err e) busy = busy
+
+  pub merges_once : (r : Result Stepped Fault) → has_no_merge (index_of d) ≡ false → MergeStep (index_of d) old x new r → old.read_faults ≤ last_count → old.reads ≤ last_count → MergesOnce d its old new r
+  merges_once r busy step few few_reads = record {
     step = record {
       came = merge_came r step few;
       rest = step.rest;
@@ -255,6 +282,8 @@ module _ (d : Parts) (old : BoardState) (may : MayEmpty d old) (x : Index) (new 
       ready = step.ready;
     };
     idle = λ is. let idle = step.idle is in (idle.0, ap (with_index d) idle.1, idle.2);
+    calls = step.calls;
+    busy = merge_busy r busy;
     less = λ is.
         let less = (step.less is (frames_of d) some.1.top some.1.found some.0 (may_work d old may some.0 some.1)).merging in
         subst (λ (s : Shape). merging s (backlog_of x) < merges_left d) (sym (same_shape step.active)) less;
@@ -274,8 +303,8 @@ module _ (d : Parts) (old : BoardState) (may : MayEmpty d old) (x : Index) (new 
   freeze_stays false moves done = moved_stays (ap (λ (l : LogState). l.epoch) done.log) moves
 
   pub freezes_once : (r : Result Bool Fault) → OnOk r (Moves (index_of d) old x new) → IfOk r FreezeDone → (x.log.shape ≡ d.log.shape) × (x.log.pending ≡ d.log.pending) → IfErr r (λ fault. fault ≡ Stopped)
-      → OnErr r (Breaks (index_of d) old new × Stops old new) → OnOk r (Works old new) → roots new ≤ roots old + 1 → IsReady new d.log.shape → FreezesOnce d its old new r
-  freezes_once (Ok done) moves freezes same stopped broken works few ready = record {
+      → OnErr r (Breaks (index_of d) old new × Stops old new) → OnOk r (Works old new) → AtMostOneCall old new → roots new ≤ roots old + 1 → IsReady new d.log.shape → FreezesOnce d its old new r
+  freezes_once (Ok done) moves freezes same stopped broken works calls few ready = record {
     step = record {
       ended = moved_keeps d old may x new ready moves;
       broken = tt;
@@ -285,12 +314,13 @@ module _ (d : Parts) (old : BoardState) (may : MayEmpty d old) (x : Index) (new 
       roots_few = few;
       ready = ready;
     };
+    calls = calls;
     freezes = freezes;
     none_pending = same.1 ∙ may.none_pending;
     leaves = moved_leaves same.0 moves;
     stays = freeze_stays done moves freezes;
   }
-  freezes_once (Err fault) moves freezes same stopped broken works few ready = record {
+  freezes_once (Err fault) moves freezes same stopped broken works calls few ready = record {
     step = record {
       ended = tt;
       broken = broken_breaks d old may new broken.0;
@@ -300,6 +330,7 @@ module _ (d : Parts) (old : BoardState) (may : MayEmpty d old) (x : Index) (new 
       roots_few = few;
       ready = ready;
     };
+    calls = calls;
     freezes = tt;
     none_pending = same.1 ∙ may.none_pending;
     leaves = tt;

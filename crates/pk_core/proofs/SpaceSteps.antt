@@ -11,7 +11,8 @@ use Rattle.pk_nand.specs.BoardState.{BoardState}
 use Rattle.pk_nand.specs.Calls.{IsReady, last_count}
 use Rattle.pk_nand.specs.Effects.{AtMostOneCall, NoFault, OnlyFlash, Stops}
 use Rattle.pk_model.specs.Wear.{roots}
-use Rattle.pk_work.specs.Rest.{whole_reclaim}
+use Rattle.pk_work.specs.Rest.{whole_freeze, whole_reclaim}
+use Rattle.pk_work.specs.Work.{emptying}
 use Rattle.pk_work.specs.Calls.{room_calls, space_calls}
 use Rattle.pk_gc.specs.declared.course.Phase.{Phase}
 use Rattle.pk_gc.specs.declared.course.Phase.TheVariants.{Idle, Copies, GivesBack}
@@ -27,6 +28,8 @@ use Rattle.pk_core.specs.Emptying.{KeepsOrReads, OnRunning}
 use Rattle.pk_core.specs.Staying.{Stays}
 use Rattle.pk_core.specs.Reclaiming.{MayReclaim, Lessens, LeavesIndex, DoesReclaim, Waits, CannotRead, FailsAll, is_tight_for}
 use Rattle.pk_core.specs.Spacing.{MovesOrReads, StaysSame, where_so, needs, has_moves, steps_for, space_left, Awaits, MaySpace, SpacesOnce}
+use Rattle.pk_drive.specs.Calling.{FewCalls}
+use Rattle.pk_core.proofs.Callings.{few_none, few_one, few_within, few_then}
 use Rattle.pk_core.proofs.Inside.{one_call}
 use Rattle.pk_core.proofs.SameMaps.{same_held, same_unread, breaks_failed, moves_kept, moves_later, moves_failed, moves_within, moves_none, may_moved, passes_moved, stays_none, stays_both}
 use Rattle.pk_core.proofs.Spacing.{left_at, AwaitsAt, works_less, ends_less}
@@ -98,6 +101,7 @@ module _ (count : ℕ) (b : Parts) (s0 : BoardState) (may : MaySpace count b s0)
         roots_few = omega (arith, same_roots);
         ready = ready;
       };
+      calls = few_one s0 s1 calls;
       within = omega (arith, less);
       left = less;
       none_pending = none;
@@ -134,6 +138,7 @@ module _ (count : ℕ) (b : Parts) (s0 : BoardState) (may : MaySpace count b s0)
             roots_few = omega (arith, same_roots);
             ready = ready;
           };
+          calls = few_one s0 s1 calls;
           within = some_at b.reclaim.phase b count awaits;
           left = tt;
           none_pending = none;
@@ -151,6 +156,7 @@ module _ (count : ℕ) (b : Parts) (s0 : BoardState) (may : MaySpace count b s0)
             roots_few = omega (arith, same_roots);
             ready = ready;
           };
+          calls = few_one s0 s1 calls;
           within = some_at b.reclaim.phase b count awaits;
           left = tt;
           none_pending = tt;
@@ -191,29 +197,32 @@ module _ (count : ℕ) (b : Parts) (s0 : BoardState) (may : MaySpace count b s0)
         omega (arith, before, calls)
 
     frozen_once : (r : Result Unit Fault) → KeepsOrReads b d (room_calls b.log.shape) s0 s2 r → OnOk r (is_tight_for d ≡ false) → OnRunning (d.log.pending ≡ []) r → OnRunning (LeavesValues b d) r → OnRunning (Stays b d) r
-        → SpacesOnce count b d s0 s2 r
-    frozen_once (Ok x) step wide none leaves stays = record {
+        → FewCalls (room_calls b.log.shape) s0 s2 → SpacesOnce count b d s0 s2 r
+    frozen_once (Ok x) step wide none leaves stays calls = record {
       made = room_calls b.log.shape;
       some = omega arith;
       step = moves_kept (Ok x) b d (room_calls b.log.shape) s0 s2 step;
+      calls = calls;
       within = room_within;
       left = less_frozen leaves wide;
       none_pending = none;
       stays = values_stay b d leaves stays;
     }
-    frozen_once (Err Reading) step wide none leaves stays = record {
+    frozen_once (Err Reading) step wide none leaves stays calls = record {
       made = room_calls b.log.shape;
       some = omega arith;
       step = moves_kept (Err Reading) b d (room_calls b.log.shape) s0 s2 step;
+      calls = calls;
       within = room_within;
       left = tt;
       none_pending = none;
       stays = values_stay b d leaves stays;
     }
-    frozen_once (Err Stopped) step wide none leaves stays = record {
+    frozen_once (Err Stopped) step wide none leaves stays calls = record {
       made = room_calls b.log.shape;
       some = omega arith;
       step = moves_kept (Err Stopped) b d (room_calls b.log.shape) s0 s2 step;
+      calls = calls;
       within = room_within;
       left = tt;
       none_pending = tt;
@@ -221,11 +230,13 @@ module _ (count : ℕ) (b : Parts) (s0 : BoardState) (may : MaySpace count b s0)
     }
 
   pub space_frozen : (c d : Parts) (s1 s2 : BoardState) (r : Result Unit Fault) → Waits b c s0 s1 → KeepsOrReads c d (room_calls c.log.shape) s1 s2 r → OnOk r (is_tight_for d ≡ false) → OnRunning (d.log.pending ≡ []) r
-      → OnRunning (LeavesValues c d) r → OnRunning (Stays c d) r → SpacesOnce count b d s0 s2 r
-  space_frozen c d s1 s2 r waits step wide none leaves stays =
+      → OnRunning (LeavesValues c d) r → OnRunning (Stays c d) r → FewCalls (emptying c.log.shape 4 + whole_freeze) s1 s2 → SpacesOnce count b d s0 s2 r
+  space_frozen c d s1 s2 r waits step wide none leaves stays calls =
       let kept = subst (λ (s : BoardState). KeepsOrReads b d (room_calls b.log.shape) s s2 r) waits.board (subst (λ (x : Parts). KeepsOrReads x d (room_calls x.log.shape) s1 s2 r) waits.same step) in
       frozen_once waits.course waits.copies waits.tight d s2 r kept wide none
       (subst (λ (x : Parts). OnRunning (LeavesValues x d) r) waits.same leaves) (subst (λ (x : Parts). OnRunning (Stays x d) r) waits.same stays)
+      (few_within (emptying b.log.shape 4 + whole_freeze) (room_calls b.log.shape) s0 s2 (omega arith)
+      (subst (λ (s : BoardState). FewCalls (emptying b.log.shape 4 + whole_freeze) s s2) waits.board (subst (λ (x : Parts). FewCalls (emptying x.log.shape 4 + whole_freeze) s1 s2) waits.same calls)))
 
 -- where the moves wanted a freeze
 pub waits_is : (b c : Parts) (s0 s1 : BoardState) (x : Reclaimed) → x ≡ NeedsFreeze → DoesReclaim b c s0 s1 x → Waits b c s0 s1
@@ -239,6 +250,7 @@ pub record Spacing (count : ℕ) (a : Parts) (s0 : BoardState) (b : Parts) (s : 
   pub step : MovesOrReads {T = Unit {0}} a b made s0 s (Ok tt)
   pub may : MayStep b s
   pub none_pending : b.log.pending ≡ []
+  pub calls : FewCalls made s0 s
   pub left : made + space_left count b ≤ space_left count a
   pub stays : StaysSame a b
 
@@ -248,6 +260,7 @@ spacing_begin count a s0 may = record {
   step = moves_none a s0 may.may.ready;
   may = may.may;
   none_pending = may.none_pending;
+  calls = few_none s0;
   left = omega arith;
   stays = stays_none a;
 }
@@ -269,6 +282,7 @@ module _ (count : ℕ) (a : Parts) (s0 : BoardState) (b : Parts) (s : BoardState
     step = moves_later (Ok tt) a b c on.made once.made (on.made + once.made) s0 s s1 ready on.stays.same_shape (omega arith) on.step.came.0 (passes_moved a b on.made s0 s on.step) once.step;
     may = may_moved b c once.made s s1 on.may once.stays.same_shape once.step;
     none_pending = once.none_pending;
+    calls = few_then on.made once.made s0 s s1 on.calls once.calls;
     left = (let first = on.left in let second = once.left in omega (arith, first, second));
     stays = stays_both a b c on.stays once.stays;
   }
@@ -278,6 +292,15 @@ module _ (count : ℕ) (a : Parts) (s0 : BoardState) (b : Parts) (s : BoardState
 
   pub spacing_end : MovesOrReads {T = Unit {0}} a b (space_left count a) s0 s (Ok tt)
   spacing_end = let left = on.left in moves_within a b on.made (space_left count a) s0 s (omega (arith, left)) on.step
+
+  pub end_calls : FewCalls (space_left count a) s0 s
+  end_calls = let left = on.left in few_within on.made (space_left count a) s0 s (omega (arith, left)) on.calls
+
+  pub broken_calls : (e : Fault) (c : Parts) (s1 : BoardState) → SpacesOnce count b c s s1 (Err e) → FewCalls (space_left count a) s0 s1
+  broken_calls e c s1 once =
+      let left = on.left in
+      let within = once.within in
+      few_within (on.made + once.made) (space_left count a) s0 s1 (omega (arith, left, within)) (few_then on.made once.made s0 s s1 on.calls once.calls)
 
   spacing_broken : (e : Fault) (c : Parts) (s1 : BoardState) → SpacesOnce count b c s s1 (Err e) → MovesOrReads {T = Unit {0}} a c (space_left count a) s0 s1 (Err e)
   spacing_broken e c s1 once =

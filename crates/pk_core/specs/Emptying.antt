@@ -1,11 +1,11 @@
 -- Room for a further entry: merges to the end and a freeze, in steps of which one may fail by a read.
-use Rattle.std.specs.Prelude.{◌≡◌, ◌<◌, ◌≤◌, ◌+◌, ℕ, [], Bool, true, Result, Ok, Err, IfOk, OnOk, MatchBool}
+use Rattle.std.specs.Prelude.{◌≡◌, ◌<◌, ◌≤◌, ◌+◌, ℕ, [], Bool, true, false, Result, Ok, Err, IfOk, OnOk, OnErr, MatchBool}
 use Rattle.pk_base.specs.Shape.{Shape}
 use Rattle.pk_nand.specs.declared.types.Fault.{Fault}
 use Rattle.pk_nand.specs.declared.types.Fault.TheVariants.{Reading, Stopped}
 use Rattle.pk_nand.specs.BoardState.{BoardState}
 use Rattle.pk_nand.specs.Calls.{IsReady, Rose}
-use Rattle.pk_nand.specs.Effects.{OnlyFlash, NoFault}
+use Rattle.pk_nand.specs.Effects.{AtMostOneCall, OnlyFlash, NoFault}
 use Rattle.pk_model.specs.Wear.{roots}
 use Rattle.pk_work.specs.Work.{merging}
 use Rattle.pk_schedule.specs.declared.phase.Stepped.{Stepped}
@@ -76,6 +76,8 @@ pub record MayEmpty (d : Parts) (board : BoardState) : Type 0 where
 pub record MergesOnce (before after : Parts) (old new : BoardState) (result : Result Stepped Fault) : Type 0 where
   pub step : KeepsOrReads before after 1 old new result
   pub idle : result ≡ Ok Idle → (has_no_merge (index_of before) ≡ true) × (after ≡ before) × (new ≡ old)
+  pub calls : AtMostOneCall old new
+  pub busy : OnErr result (has_no_merge (index_of before) ≡ false)
   pub less : result ≡ Ok Worked → merges_left after < merges_left before
   pub none_pending : after.log.pending ≡ []
   pub leaves : OnRunning (LeavesValues before after) result
@@ -84,6 +86,7 @@ pub record MergesOnce (before after : Parts) (old new : BoardState) (result : Re
 -- A step of a freeze was made, or it is over.
 pub record FreezesOnce (before after : Parts) (old new : BoardState) (result : Result Bool Fault) : Type 0 where
   pub step : StepKeeps before after 1 old new result
+  pub calls : AtMostOneCall old new
   pub freezes : IfOk result (λ done. MatchBool done (Freezes (index_of before) (index_of after)) (FreezeMoves (index_of before) (index_of after)))
   pub none_pending : after.log.pending ≡ []
   pub leaves : OnOk result (LeavesValues before after)
