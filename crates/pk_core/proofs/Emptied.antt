@@ -23,14 +23,14 @@ use Rattle.pk_compact.specs.FreezeSteps.{freeze_left}
 use Rattle.pk_work.specs.Rest.{whole_freeze}
 use Rattle.pk_work.specs.Work.{emptying}
 use Rattle.pk_work.specs.Calls.{room_calls}
-use Rattle.pk_work.proofs.Within.{merging_most}
+use Rattle.pk_work.proofs.Within.{due_most, merging_most}
 use Rattle.pk_schedule.specs.declared.phase.Stepped.{Stepped}
 use Rattle.pk_schedule.specs.declared.phase.Stepped.TheVariants.{Worked, Idle}
 use Rattle.pk_schedule.specs.Steps.{FreezeMoves, Freezes, backlog_of, has_no_merge, is_between}
 use Rattle.pk_core.specs.Parts.{Parts, frames_of, index_of}
 use Rattle.pk_base.specs.Map.{Map}
 use Rattle.pk_core.specs.Moves.{StandsFor, KeepsAll, BreaksAll, MayStep, StepKeeps, LeavesValues}
-use Rattle.pk_core.specs.Emptying.{StepOrRead, KeepsOrReads, MergesOnce, FreezesOnce, merges_left, MayEmpty}
+use Rattle.pk_core.specs.Emptying.{StepOrRead, KeepsOrReads, MergesOnce, FreezesOnce, merges_left, merges_due, MayEmpty}
 use Rattle.pk_core.specs.Staying.{Stays}
 use Rattle.pk_core.specs.Reclaiming.{is_tight_for}
 use Rattle.pk_core.proofs.Keeping.{KeepsAll-none, KeepsAll-then, BreaksAll-then}
@@ -79,13 +79,14 @@ may_behind a b n s0 s1 may same step = record {
 
 -- ---- merges
 
--- So many were made, they kept the map, and each lowered what is left.
+-- So many were made, they kept the map, and each lowered what is left; each root lowered the level that is due.
 pub record Emptying (a : Parts) (s0 : BoardState) (b : Parts) (s : BoardState) : Type 0 where
   pub made : ℕ
   pub step : KeepsOrReads {T = Unit {0}} a b made s0 s (Ok tt)
   pub may : MayStep b s
   pub none_pending : b.log.pending ≡ []
   pub left : made + merges_left b ≤ merges_left a
+  pub due : roots s + merges_due b ≤ roots s0 + merges_due a
   pub leaves : LeavesValues a b
   pub stays : Stays a b
 
@@ -96,6 +97,7 @@ emptying_begin a s0 may none = record {
   may = may;
   none_pending = none;
   left = omega arith;
+  due = omega arith;
   leaves = leaves_none a;
   stays = stays_same a a refl;
 }
@@ -121,6 +123,7 @@ module _ (a : Parts) (s0 : BoardState) (b : Parts) (s : BoardState) (ready : IsR
         may = may_behind b c 1 s s1 on.may once.leaves.same_shape one;
         none_pending = once.none_pending;
         left = (let left = on.left in omega (arith, left, less));
+        due = (let before = on.due in let after = once.due in omega (arith, before, after));
         leaves = leaves_twice a b c on.leaves once.leaves;
         stays = stays_then a b c on.stays once.stays;
       }
@@ -149,12 +152,19 @@ module _ (a : Parts) (s0 : BoardState) (b : Parts) (s : BoardState) (ready : IsR
       let left = on.left in
       reads_later (Err e) a b c on.made 1 (merges_left a + 1) s0 s s1 ready on.leaves.same_shape (omega (arith, left)) on.step.came.0 passes (reads_failed e b c 1 1 s s1 (omega arith) once.step)
 
+  -- four merges install four roots
+  pub emptying_roots : (s1 : BoardState) → roots s1 ≤ roots s + merges_due b → roots s1 ≤ roots s0 + 4
+  emptying_roots s1 few =
+      let due = on.due in
+      let most = due_most a.log.shape (backlog_of (index_of a)) in
+      omega (arith, few, due, most)
+
 -- ---- a freeze
 
 abbrev pub freeze_left_of : Parts → ℕ
 freeze_left_of d = freeze_left d.schedule.freeze d.log.next
 
--- So many steps of it were made, they kept the map, and each lowered what is left.
+-- So many steps of it were made, they kept the map, and each lowered what is left; none installed a root.
 pub record Ongoing (a : Parts) (s0 : BoardState) (b : Parts) (s : BoardState) : Type 0 where
   pub made : ℕ
   pub step : StepKeeps {T = Unit {0}} a b made s0 s (Ok tt)
@@ -162,6 +172,7 @@ pub record Ongoing (a : Parts) (s0 : BoardState) (b : Parts) (s : BoardState) : 
   pub none_pending : b.log.pending ≡ []
   pub none_merges : has_no_merge (index_of b) ≡ true
   pub left : made + freeze_left_of b ≤ freeze_left_of a
+  pub no_root : roots s ≡ roots s0
   pub leaves : LeavesValues a b
   pub stays : Stays a b
 
@@ -173,6 +184,7 @@ ongoing_begin a s0 may none none_merges = record {
   none_pending = none;
   none_merges = none_merges;
   left = omega arith;
+  no_root = refl;
   leaves = leaves_none a;
   stays = stays_same a a refl;
 }
@@ -232,6 +244,7 @@ module _ (a : Parts) (s0 : BoardState) (b : Parts) (s : BoardState) (ready : IsR
         none_pending = once.none_pending;
         none_merges = still_none (index_of b) (index_of c) moves ∙ on.none_merges;
         left = (let left = on.left in let less = moves.lowers.less in let none = moves.lowers.none_ready in omega (arith, left, less, none));
+        no_root = once.no_root (ap (λ y. Ok y) is) ∙ on.no_root;
         leaves = leaves_twice a b c on.leaves once.leaves;
         stays = stays_then a b c on.stays once.stays;
       }
@@ -243,6 +256,13 @@ module _ (a : Parts) (s0 : BoardState) (b : Parts) (s : BoardState) (ready : IsR
   ongoing_failed c s1 e once =
       keeps_later (Err e) a b c on.made 1 whole_freeze s0 s s1 tt ready on.leaves.same_shape room_left on.step
       (Step-broken e (λ (x : Bool). KeepsAll b c s s1) (λ (x : Unit). KeepsAll b c s s1) (BreaksAll b s s1) (BreaksAll b s s1) b.log.shape 1 1 s s1 (omega arith) (λ broken. broken) once.step)
+
+  -- its last step installs one
+  pub ongoing_roots : {T : Type 0} (r : Result T Fault) (c : Parts) (s1 : BoardState) → StepKeeps b c 1 s s1 r → roots s1 ≤ roots s0 + 1
+  ongoing_roots r c s1 step =
+      let one = step.roots_few in
+      let none = on.no_root in
+      omega (arith, one, none)
 
   -- ---- behind it any key has room
 

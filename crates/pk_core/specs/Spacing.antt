@@ -10,7 +10,7 @@ use Rattle.pk_nand.specs.declared.types.Fault.{Fault}
 use Rattle.pk_nand.specs.BoardState.{BoardState}
 use Rattle.pk_nand.specs.Calls.{IsReady}
 use Rattle.pk_work.specs.Rest.{whole_reclaim}
-use Rattle.pk_work.specs.Calls.{room_calls, space_calls}
+use Rattle.pk_work.specs.Calls.{room_calls, room_roots, space_calls}
 use Rattle.pk_model.specs.Wear.{roots}
 use Rattle.pk_model.specs.Reading.{reading}
 use Rattle.pk_model.specs.Growth.{Reaches, Goes}
@@ -80,6 +80,10 @@ abbrev pub space_left : ℕ → Parts → ℕ
 space_left count d =
     steps_for d.reclaim.phase count d + where_so (has_moves d.reclaim.phase count d && is_tight_for d) (room_calls d.log.shape)
 
+-- and how many roots: those of the merges and the freeze
+abbrev pub space_roots : ℕ → Parts → ℕ
+space_roots count d = where_so (has_moves d.reclaim.phase count d && is_tight_for d) room_roots
+
 -- a reclaim runs, or is to run
 abbrev pub Awaits : ℕ → Parts → Type 0
 Awaits count d = (runs_in d.reclaim.phase ≡ true) ⊎ (needs count d ≡ true)
@@ -97,6 +101,8 @@ pub record SpacesOnce (count : ℕ) (before after : Parts) (old new : BoardState
   pub step : MovesOrReads before after made old new result
   pub within : made ≤ space_left count before
   pub left : OnOk result (made + space_left count after ≤ space_left count before)
+  pub installs : roots new ≤ roots old + space_roots count before
+  pub roots_left : OnOk result (roots new + space_roots count after ≤ roots old + space_roots count before)
   pub none_pending : OnRunning (after.log.pending ≡ []) result
   pub stays : OnRunning (StaysSame before after) result
 
