@@ -1,43 +1,37 @@
 -- Merges in a row, and the steps of a freeze, inside a command.
 use Rattle.std.proofs.Common.{◌≡◌, ℕ, ◌+◌, ◌-◌, ◌<◌, ◌≤◌, refl, sym, ap, subst, ◌∙◌, arith, Bool, true, false, ◌&&◌, ◌==◌, if◌then◌else◌, T, List, [], ◌∷◌, length, eqb→eq, Result, Ok, Err}
-use Rattle.std.specs.Prelude.{MatchBool, Option, Some, None, IfSome, unwrap_or, nat_le, slice_index}
+use Rattle.std.specs.Prelude.{MatchBool}
 use Rattle.pk_base.specs.Entry.{Entry}
 use Rattle.pk_base.specs.Key.{Key}
-use Rattle.pk_base.specs.Firsts.{firsts}
-use Rattle.pk_base.specs.Merge.{room, next_merge}
-use Rattle.pk_base.specs.Page.{Flash}
 use Rattle.pk_base.specs.Shape.{Shape, IsShape, buffer, epoch_pages}
 use Rattle.pk_base.proofs.ShapeLemmas.{block_pages_positive}
 use Rattle.pk_buf.specs.Table.{Table}
 use Rattle.pk_jrn.specs.Epochs.{left_of}
-use Rattle.pk_root.specs.declared.next.Next.{Next}
 use Rattle.pk_root.specs.Installing.{erases_next}
 use Rattle.pk_log.specs.State.{LogState, needs_freeze}
 use Rattle.pk_log.specs.Logs.{LogOnFlash}
 use Rattle.pk_rootfmt.specs.Root.{Root}
 use Rattle.pk_model.specs.Found.{Found}
-use Rattle.pk_work.specs.Backlog.{Backlog, is_tight, due_level}
-use Rattle.pk_schedule.specs.Index.{Index, IndexOnFlash, MergeStands}
+use Rattle.pk_work.specs.Backlog.{is_tight}
+use Rattle.pk_schedule.specs.Index.{Index}
 use Rattle.pk_nand.specs.declared.types.Fault.{Fault}
 use Rattle.pk_nand.specs.BoardState.{BoardState}
 use Rattle.pk_nand.specs.Calls.{IsReady}
 use Rattle.pk_model.specs.Wear.{roots}
 use Rattle.pk_model.proofs.Steps.{RootsUpTo-le, Step-broken}
-use Rattle.pk_compact.specs.FreezeSteps.{freeze_left, install_steps}
+use Rattle.pk_compact.specs.FreezeSteps.{freeze_left}
 use Rattle.pk_work.specs.Rest.{whole_freeze}
-use Rattle.pk_work.specs.Work.{emptying, merging_from}
+use Rattle.pk_work.specs.Work.{emptying}
 use Rattle.pk_work.specs.Calls.{room_calls, commit_calls}
-use Rattle.pk_work.proofs.Within.{merging_most}
-use Rattle.pk_schedule.specs.declared.phase.Phase.{Phase}
-use Rattle.pk_schedule.specs.declared.phase.Phase.TheVariants.{Idle as Between, Running, Ready}
+use Rattle.pk_work.proofs.Within.{due_most, merging_most}
 use Rattle.pk_schedule.specs.declared.phase.Stepped.{Stepped}
 use Rattle.pk_schedule.specs.declared.phase.Stepped.TheVariants.{Worked, Idle}
-use Rattle.pk_schedule.specs.Steps.{FreezeMoves, Freezes, backlog_of, merge_left, has_no_merge, is_between}
+use Rattle.pk_schedule.specs.Steps.{FreezeMoves, Freezes, backlog_of, has_no_merge, is_between}
 use Rattle.pk_drive.specs.Calling.{FewCalls}
 use Rattle.pk_core.specs.Parts.{Parts, frames_of, index_of}
 use Rattle.pk_base.specs.Map.{Map}
 use Rattle.pk_core.specs.Moves.{StandsFor, KeepsAll, BreaksAll, MayStep, StepKeeps, LeavesValues}
-use Rattle.pk_core.specs.Emptying.{StepOrRead, KeepsOrReads, MergesOnce, FreezesOnce, merges_left, MayEmpty}
+use Rattle.pk_core.specs.Emptying.{StepOrRead, KeepsOrReads, MergesOnce, FreezesOnce, merges_left, merges_due, MayEmpty}
 use Rattle.pk_core.specs.Staying.{Stays}
 use Rattle.pk_core.specs.Reclaiming.{is_tight_for}
 use Rattle.pk_core.proofs.Keeping.{KeepsAll-none, KeepsAll-then, BreaksAll-then}
@@ -45,7 +39,7 @@ use Rattle.pk_core.proofs.Rooming.{stands_after}
 use Rattle.pk_core.proofs.Staying.{stays_same, stays_then}
 use Rattle.pk_core.proofs.Steps.{none_step, keeps_later, may_after, leaves_none, leaves_twice}
 use Rattle.pk_core.proofs.Freezing.{no_need, left_some, frozen_is_room}
-use Rattle.pk_schedule.proofs.Backlogs.{frozen_is, index_backlog}
+use Rattle.pk_schedule.proofs.Backlogs.{index_backlog}
 use Rattle.pk_core.proofs.Callings.{few_none, few_within, few_more, few_then}
 use Rattle.pk_core.proofs.ReadSteps.{Passes, passes_none, step_passes, reading_passes, reads_nothing, reading_failed, reading_then, reading_end}
 
@@ -85,60 +79,9 @@ may_behind a b n s0 s1 may same step = record {
   stands = stands_after a b s0 s1 may.stands same step.came.0;
 }
 
--- ---- a merge that runs, or is due, has steps left
-
-due_first : (empty first second third : Bool) → empty ≡ false → 1 ≤ unwrap_or (if empty then None else if first then Some 1 else if second then Some 2 else if third then Some 3 else Some 4) 0
-due_first true first second third some = cc
-due_first false true second third some = omega arith
-due_first false false true third some = omega arith
-due_first false false false true some = omega arith
-due_first false false false false some = omega arith
-
-due_some : (shape : Shape) (b : Backlog) → (b.frozen == 0) ≡ false → 1 ≤ due_level shape b
-unfolding due_level
-due_some shape b some = due_first (b.frozen == 0) (nat_le (b.frozen + slice_index b.runs 0) (room shape 1)) (nat_le (slice_index b.runs 0 + slice_index b.runs 1) (room shape 2)) (nat_le (slice_index b.runs 1 + slice_index b.runs 2) (room shape 3)) some
-
-merging_some : (shape : Shape) (level : ℕ) (merge : Option ℕ) → 1 ≤ level → IfSome merge (λ left. 1 ≤ left) → 1 ≤ merging_from shape level merge
-merging_some shape zero merge least some = absurd (omega (arith, least))
-merging_some shape (suc level) None least some = omega arith
-merging_some shape (suc level) (Some left) least some = omega (arith, some)
-
-some_installs : (next : Next) → 1 ≤ install_steps next
-some_installs next = picked (erases_next next)
-  where
-    picked : (b : Bool) → 1 ≤ (if b then 2 else 1)
-    picked true = omega arith
-    picked false = omega arith
-
-begun_some : (phase : Phase) (x : Index) → IfSome (merge_left phase x) (λ left. 1 ≤ left)
-begun_some Between x = tt
-begun_some (Running level) x = omega arith
-begun_some (Ready level) x = some_installs x.log.next
-
-wants_some : (empty : Bool) (rest : Option ℕ) (level : ℕ) → (if empty then None else rest) ≡ Some level → empty ≡ false
-wants_some true rest level due = cc
-wants_some false rest level due = refl
-
-module _ (x : Index) (frames : ℕ) (flash : Flash) (top : ℕ × Root) (found : Found) (stands : IndexOnFlash x frames flash top found) where
-  -- it is the frozen buffer that is merged
-  due_frozen : (rest : Option ℕ) (level : ℕ) → (if length (firsts found.older) == 0 then None else rest) ≡ Some level → (length x.log.frozen.entries == 0) ≡ false
-  due_frozen rest level due = ap (λ (n : ℕ). n == 0) (frozen_is x frames flash top found stands) ∙ wants_some (length (firsts found.older) == 0) rest level due
-
-  merges_frozen : (phase : Phase) → MergeStands phase x flash top.1 found → (is_between phase && (length x.log.frozen.entries == 0)) ≡ false → (length x.log.frozen.entries == 0) ≡ false
-  merges_frozen Between merge busy = busy
-  merges_frozen (Running level) merge busy = due_frozen _ level merge.into.due
-  merges_frozen (Ready level) merge busy = due_frozen _ level merge.into.due
-
-  merging_busy : has_no_merge x ≡ false → 1 ≤ merging_from x.log.shape (due_level x.log.shape (backlog_of x)) (backlog_of x).merge
-  merging_busy busy =
-      merging_some x.log.shape (due_level x.log.shape (backlog_of x)) (backlog_of x).merge (due_some x.log.shape (backlog_of x) (merges_frozen x.schedule.phase stands.merge busy)) (begun_some x.schedule.phase x)
-
-pub merges_some : (d : Parts) (board : BoardState) → MayStep d board → has_no_merge (index_of d) ≡ false → 1 ≤ merges_left d
-merges_some d board may busy = let there = may.stands.1 in merging_busy (index_of d) (frames_of d) board.pages there.top there.found there.with.index busy
-
 -- ---- merges
 
--- So many were made, they kept the map, and each lowered what is left.
+-- So many were made, they kept the map, and each lowered what is left; each root lowered the level that is due.
 pub record Emptying (a : Parts) (s0 : BoardState) (b : Parts) (s : BoardState) : Type 0 where
   pub made : ℕ
   pub step : KeepsOrReads {T = Unit {0}} a b made s0 s (Ok tt)
@@ -146,6 +89,7 @@ pub record Emptying (a : Parts) (s0 : BoardState) (b : Parts) (s : BoardState) :
   pub none_pending : b.log.pending ≡ []
   pub calls : FewCalls made s0 s
   pub left : made + merges_left b ≤ merges_left a
+  pub due : roots s + merges_due b ≤ roots s0 + merges_due a
   pub leaves : LeavesValues a b
   pub stays : Stays a b
 
@@ -157,6 +101,7 @@ emptying_begin a s0 may none = record {
   none_pending = none;
   calls = few_none s0;
   left = omega arith;
+  due = omega arith;
   leaves = leaves_none a;
   stays = stays_same a a refl;
 }
@@ -183,6 +128,7 @@ module _ (a : Parts) (s0 : BoardState) (b : Parts) (s : BoardState) (ready : IsR
         none_pending = once.none_pending;
         calls = few_more on.made s0 s s1 on.calls once.calls;
         left = (let left = on.left in omega (arith, left, less));
+        due = (let before = on.due in let after = once.due in omega (arith, before, after));
         leaves = leaves_twice a b c on.leaves once.leaves;
         stays = stays_then a b c on.stays once.stays;
       }
@@ -216,7 +162,7 @@ module _ (a : Parts) (s0 : BoardState) (b : Parts) (s : BoardState) (ready : IsR
   pub failed_calls : (c : Parts) (s1 : BoardState) (e : Fault) → MergesOnce b c s s1 (Err e) → FewCalls (merges_left a) s0 s1
   failed_calls c s1 e once =
       let left = on.left in
-      let some = merges_some b s on.may once.busy in
+      let some = once.some in
       few_within (on.made + 1) (merges_left a) s0 s1 (omega (arith, left, some)) (few_more on.made s0 s s1 on.calls once.calls)
 
   pub emptying_failed : (c : Parts) (s1 : BoardState) (e : Fault) → MergesOnce b c s s1 (Err e) → KeepsOrReads {T = Unit {0}} a c (merges_left a + 1) s0 s1 (Err e)
@@ -224,12 +170,19 @@ module _ (a : Parts) (s0 : BoardState) (b : Parts) (s : BoardState) (ready : IsR
       let left = on.left in
       reads_later (Err e) a b c on.made 1 (merges_left a + 1) s0 s s1 ready on.leaves.same_shape (omega (arith, left)) on.step.came.0 passes (reads_failed e b c 1 1 s s1 (omega arith) once.step)
 
+  -- four merges install four roots
+  pub emptying_roots : (s1 : BoardState) → roots s1 ≤ roots s + merges_due b → roots s1 ≤ roots s0 + 4
+  emptying_roots s1 few =
+      let due = on.due in
+      let most = due_most a.log.shape (backlog_of (index_of a)) in
+      omega (arith, few, due, most)
+
 -- ---- a freeze
 
 abbrev pub freeze_left_of : Parts → ℕ
 freeze_left_of d = freeze_left d.schedule.freeze d.log.next
 
--- So many steps of it were made, they kept the map, and each lowered what is left.
+-- So many steps of it were made, they kept the map, and each lowered what is left; none installed a root.
 pub record Ongoing (a : Parts) (s0 : BoardState) (b : Parts) (s : BoardState) : Type 0 where
   pub made : ℕ
   pub step : StepKeeps {T = Unit {0}} a b made s0 s (Ok tt)
@@ -238,6 +191,7 @@ pub record Ongoing (a : Parts) (s0 : BoardState) (b : Parts) (s : BoardState) : 
   pub none_merges : has_no_merge (index_of b) ≡ true
   pub calls : FewCalls made s0 s
   pub left : made + freeze_left_of b ≤ freeze_left_of a
+  pub no_root : roots s ≡ roots s0
   pub leaves : LeavesValues a b
   pub stays : Stays a b
 
@@ -250,6 +204,7 @@ ongoing_begin a s0 may none none_merges = record {
   none_merges = none_merges;
   calls = few_none s0;
   left = omega arith;
+  no_root = refl;
   leaves = leaves_none a;
   stays = stays_same a a refl;
 }
@@ -310,6 +265,7 @@ module _ (a : Parts) (s0 : BoardState) (b : Parts) (s : BoardState) (ready : IsR
         none_merges = still_none (index_of b) (index_of c) moves ∙ on.none_merges;
         calls = few_more on.made s0 s s1 on.calls once.calls;
         left = (let left = on.left in let less = moves.lowers.less in let none = moves.lowers.none_ready in omega (arith, left, less, none));
+        no_root = once.no_root (ap (λ y. Ok y) is) ∙ on.no_root;
         leaves = leaves_twice a b c on.leaves once.leaves;
         stays = stays_then a b c on.stays once.stays;
       }
@@ -325,6 +281,13 @@ module _ (a : Parts) (s0 : BoardState) (b : Parts) (s : BoardState) (ready : IsR
   ongoing_failed c s1 e once =
       keeps_later (Err e) a b c on.made 1 whole_freeze s0 s s1 tt ready on.leaves.same_shape room_left on.step
       (Step-broken e (λ (x : Bool). KeepsAll b c s s1) (λ (x : Unit). KeepsAll b c s s1) (BreaksAll b s s1) (BreaksAll b s s1) b.log.shape 1 1 s s1 (omega arith) (λ broken. broken) once.step)
+
+  -- its last step installs one
+  pub ongoing_roots : {T : Type 0} (r : Result T Fault) (c : Parts) (s1 : BoardState) → StepKeeps b c 1 s s1 r → roots s1 ≤ roots s0 + 1
+  ongoing_roots r c s1 step =
+      let one = step.roots_few in
+      let none = on.no_root in
+      omega (arith, one, none)
 
   -- ---- behind it any key has room
 

@@ -20,7 +20,7 @@ use Rattle.pk_model.specs.Growth.{Reaches, Goes}
 use Rattle.pk_model.specs.Crashes.{CrashFinds, commit, change}
 use Rattle.pk_model.specs.Wear.{roots, is_worn}
 use Rattle.pk_work.specs.Rest.{whole_reclaim}
-use Rattle.pk_work.specs.Calls.{room_calls, space_calls}
+use Rattle.pk_work.specs.Calls.{commit_calls, room_calls, space_calls}
 use Rattle.pk_steps.specs.Under.{places}
 use Rattle.pk_gc.specs.declared.course.Phase.{Phase}
 use Rattle.pk_gc.specs.declared.course.Phase.TheVariants.{Idle, Copies, GivesBack}
@@ -28,6 +28,8 @@ use Rattle.pk_gc.specs.Standing.{held_blocks, ReclaimStands}
 use Rattle.pk_gc.specs.Stepping.{runs_in}
 use Rattle.pk_log.specs.State.{needs_freeze}
 use Rattle.pk_data.specs.State.{fits_open}
+use Rattle.pk_drive.specs.Calling.{FewCalls}
+use Rattle.pk_core.specs.Costs.{reclaim_calls}
 use Rattle.pk_core.specs.Parts.{Parts, counts_of, outputs_of, frames_of}
 use Rattle.pk_core.specs.Agreeing.{DriveOnFlash}
 use Rattle.pk_core.specs.Moves.{StandsFor, MayStep, KeepsAll, BreaksAll, StepKeeps, LeavesValues}
@@ -40,6 +42,7 @@ use Rattle.pk_core.specs.Reclaiming.{CannotRead, is_tight_for}
 use Rattle.pk_core.specs.Spacing.{SameMapAll, MovesOrReads, StaysSame, where_so, needs, steps_for, has_moves, space_left, MaySpace, MayStore, StoresAll, FailsToStore, StoresOrReads, CanStore, store_most}
 use Rattle.pk_core.proofs.Amounts.{store_few, numbers_last}
 use Rattle.pk_core.proofs.Changing.{kept_goes}
+use Rattle.pk_core.proofs.Callings.{few_within, few_then}
 use Rattle.pk_core.proofs.Emptied.{keeps_reads, passes_keeps}
 use Rattle.pk_core.proofs.Keeping.{board_has}
 use Rattle.pk_core.proofs.Putting.{later_reaches, later_goes}
@@ -61,10 +64,10 @@ where_few : (b : Bool) (n : ℕ) → where_so b n ≤ n
 where_few true n = omega arith
 where_few false n = omega arith
 
-steps_most : (p : Phase) (count : ℕ) (d : Parts) (flash : Flash) (es : List (Key × Place)) → ReclaimStands p d.log.shape d.reclaim d.space.live flash es → steps_for p count d ≤ whole_reclaim d.log.shape + 1
-steps_most Idle count d flash es stands = let few = where_few (needs count d) (whole_reclaim d.log.shape) in omega (arith, few)
+steps_most : (p : Phase) (count : ℕ) (d : Parts) (flash : Flash) (es : List (Key × Place)) → ReclaimStands p d.log.shape d.reclaim d.space.live flash es → steps_for p count d ≤ whole_reclaim d.log.shape
+steps_most Idle count d flash es stands = let few = where_few (needs count d) (whole_reclaim d.log.shape - 1) in omega (arith, few)
 steps_most (Copies c) count d flash es stands = let few = reclaim_within (Copies c) d.log.shape true d.reclaim d.space.live flash es stands in omega (arith, few)
-steps_most (GivesBack victim) count d flash es stands = let few = where_few (needs count d) (whole_reclaim d.log.shape) in omega (arith, few)
+steps_most (GivesBack victim) count d flash es stands = let few = where_few (needs count d) (whole_reclaim d.log.shape - 1) in omega (arith, few)
 
 space_within : (count : ℕ) (d : Parts) (board : BoardState) → MayStep d board → space_left count d ≤ whole_reclaim d.log.shape + room_calls d.log.shape
 space_within count d board may =

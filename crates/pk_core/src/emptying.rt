@@ -27,10 +27,6 @@ impl<A: Region> Drive<A> {
     {
         // so that the board's counts are known to be of 64 bits
         let _ = board.read_count();
-        // so that a call fails only where a merge runs, or is due
-        if self.schedule.has_no_merge(&self.log) {
-            return Ok(Stepped::Idle);
-        }
         self.schedule.step(
             board,
             &mut self.pool,

@@ -1,8 +1,6 @@
-use Rattle.std.proofs.Common.{arith, ap, sym, ◌∙◌}
+use Rattle.std.proofs.Common.{arith}
 use Rattle.pk_schedule.specs.Index.{index}
-use Rattle.pk_schedule.specs.Steps.{has_no_merge}
-use Rattle.pk_core.specs.Parts.{Parts, index_of}
-use Rattle.pk_core.proofs.Inside.{some_work, merges_none, merges_once}
+use Rattle.pk_core.proofs.Inside.{some_work, merges_once}
 use Rattle.pk_core.proofs.drive.Drive.merge_once.Goals as goal
 
 pub step-requires-clause-may : goal.step-requires-clause-may
@@ -10,23 +8,18 @@ step-requires-clause-may g c =
     let may = rw (← c.self.view_is) at c.requires in
     some_work _ (g.B.Nand.state c.args.board.now) may
 
-pub returns-then-has_no_merge : goal.returns-then-has_no_merge
-returns-then-has_no_merge g c =
-    merges_none c.args.self.now (g.B.Nand.state c.args.board.now) c.requires
-    (ap (λ (d : Parts). has_no_merge (index_of d)) (sym c.self.view_is) ∙ (sym (c.has_no_merge.ensures c.self.inside.levels c.self.inside.arena c.self.inside.pool) ∙ c.if-has_no_merge.true))
-
 pub returns : goal.returns
 returns g c =
     let e = c.step.ensures in
     let may = rw (← c.self.view_is) at c.requires in
     let x = index c.step.new.log c.step.new.levels c.step.new.arena c.step.new.pool c.step.new.self in
     rw (← c.self.view_is) (merges_once _ (g.B.Nand.state c.args.board.now) may x (g.B.Nand.state c.step.new.board) c.step.result
-    (sym (c.has_no_merge.ensures c.self.inside.levels c.self.inside.arena c.self.inside.pool) ∙ c.if-has_no_merge.false)
     (record {
       idle = e.idle;
       moves = e.moves;
       less = e.less;
       active = e.active;
+      running = e.running;
       unmoved = e.unmoved;
       again = e.again;
       unread = e.unread;
