@@ -124,7 +124,7 @@ few_taken shape d p old count d' q new (inl next) = few_same 1 old new next.same
 few_taken shape d p old count d' q new (inr opens) = few_chosen p old opens.block new opens.choice
 
 module _ (shape : Shape) (key : Key) (value : List ℕ) (d : DataState) (p : Blocks) (old : BoardState) (new : BoardState) where
-  count : ℕ
+  abbrev count : ℕ
   count = charge shape (length value)
 
   few_places : (page : ℕ) (d' : DataState) (q : Blocks) → PlacesValue shape key value d p old page d' q new → FewCalls (1 + count) old new

@@ -2,6 +2,7 @@ use Rattle.std.proofs.Common.{ap, sym, ◌∙◌, ◌≡◌, ◌≤◌, arith, r
 use Rattle.pk_base.specs.Entry.{Entry}
 use Rattle.pk_base.specs.Key.{Key}
 use Rattle.pk_log.specs.State.{needs_freeze}
+use Rattle.pk_work.specs.Calls.{room_calls}
 use Rattle.pk_core.specs.Moves.{LeavesValues}
 use Rattle.pk_core.specs.Staying.{Stays}
 use Rattle.pk_core.proofs.Results.{on_ok}
@@ -94,4 +95,4 @@ returns-in-Ok-clause-calls g c =
 pub returns-in-Err-clause-calls : goal.returns-in-Err-clause-calls
 returns-in-Err-clause-calls g c =
     let e = c.commit_pending.ensures in
-    few_within 1 _ (g.B.Nand.state c.args.board.now) (g.B.Nand.state c.commit_pending.new.board) (omega arith) (few_commit c.args.self.now.log.pending (g.B.Nand.state c.args.board.now) (g.B.Nand.state c.commit_pending.new.board) e.program e.idle)
+    few_within 1 (room_calls c.args.self.now.log.shape) (g.B.Nand.state c.args.board.now) (g.B.Nand.state c.commit_pending.new.board) (omega arith) (few_commit c.args.self.now.log.pending (g.B.Nand.state c.args.board.now) (g.B.Nand.state c.commit_pending.new.board) e.program e.idle)
