@@ -78,3 +78,9 @@ returns-in-Err-clause-leaves g c = running_stopped Unit _ c.in-Err.fault c.in-Er
 
 pub returns-in-Err-clause-moves : goal.returns-in-Err-clause-moves
 returns-in-Err-clause-moves g c = running_stopped Unit _ c.in-Err.fault c.in-Err.ensures.step.stopped
+
+pub returns-in-Ok-clause-installs : goal.returns-in-Ok-clause-installs
+returns-in-Ok-clause-installs g c = let same = c.in-Ok.ensures.step.roots_few in let few = c.empty_active.ensures.installs in omega (arith, same, few)
+
+pub returns-in-Err-clause-installs : goal.returns-in-Err-clause-installs
+returns-in-Err-clause-installs g c = let same = c.in-Err.ensures.step.roots_few in omega (arith, same)

@@ -1,3 +1,4 @@
+use Rattle.std.proofs.Common.{arith}
 use Rattle.pk_core.specs.Spacing.{StaysSame}
 use Rattle.pk_core.proofs.ReadSteps.{running_stopped}
 use Rattle.pk_core.proofs.Steps.{shape_committed, leaves_committed}
@@ -31,3 +32,9 @@ returns-in-Err-clause-none g c = running_stopped Unit _ c.in-Err.fault c.in-Err.
 
 pub returns-in-Err-clause-stays : goal.returns-in-Err-clause-stays
 returns-in-Err-clause-stays g c = running_stopped Unit _ c.in-Err.fault c.in-Err.ensures.step.stopped
+
+pub returns-in-Ok-clause-installs : goal.returns-in-Ok-clause-installs
+returns-in-Ok-clause-installs g c = let same = c.in-Ok.ensures.step.roots_few in let few = c.reclaim_for.ensures.installs in omega (arith, same, few)
+
+pub returns-in-Err-clause-installs : goal.returns-in-Err-clause-installs
+returns-in-Err-clause-installs g c = let same = c.in-Err.ensures.step.roots_few in omega (arith, same)
