@@ -285,7 +285,7 @@ module _ (a : Parts) (s0 : BoardState) (b : Parts) (s : BoardState) (ready : IsR
   -- its last step installs one
   pub ongoing_roots : {T : Type 0} (r : Result T Fault) (c : Parts) (s1 : BoardState) → StepKeeps b c 1 s s1 r → roots s1 ≤ roots s0 + 1
   ongoing_roots r c s1 step =
-      let one = step.roots_few in
+      let one : roots s1 ≤ roots s + 1 = step.roots_few in
       let none = on.no_root in
       omega (arith, one, none)
 

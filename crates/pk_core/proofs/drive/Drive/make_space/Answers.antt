@@ -1,7 +1,7 @@
+use Rattle.std.proofs.Common.{arith}
 use Rattle.pk_core.specs.Spacing.{StaysSame}
 use Rattle.pk_core.proofs.ReadSteps.{running_stopped}
 use Rattle.pk_core.proofs.Steps.{shape_committed, leaves_committed}
-use Rattle.std.proofs.Common.{arith}
 use Rattle.pk_core.proofs.Callings.{few_within, few_commit}
 use Rattle.pk_core.specs.Costs.{reclaim_calls}
 use Rattle.pk_core.proofs.Stored.{space_committed, space_made, space_calls_made, space_not_made, stays_made, most_committed}
@@ -48,3 +48,9 @@ returns-in-Err-clause-calls g c =
     let a = c.args.self.now in
     let e = c.commit_pending.ensures in
     few_within 1 (reclaim_calls a.log.shape) (g.B.Nand.state c.args.board.now) (g.B.Nand.state c.commit_pending.new.board) (omega arith) (few_commit a.log.pending (g.B.Nand.state c.args.board.now) (g.B.Nand.state c.commit_pending.new.board) e.program e.idle)
+
+pub returns-in-Ok-clause-installs : goal.returns-in-Ok-clause-installs
+returns-in-Ok-clause-installs g c = let same = c.in-Ok.ensures.step.roots_few in let few = c.reclaim_for.ensures.installs in omega (arith, same, few)
+
+pub returns-in-Err-clause-installs : goal.returns-in-Err-clause-installs
+returns-in-Err-clause-installs g c = let same = c.in-Err.ensures.step.roots_few in omega (arith, same)
