@@ -1,5 +1,5 @@
 -- How many calls of the flash are made by calls in a row.
-use Rattle.std.proofs.Common.{◌≡◌, inl, inr, ℕ, suc, ◌+◌, ◌-◌, ◌<◌, ◌≤◌, refl, sym, ap, subst, ◌∙◌, arith, false, List, [], ◌∷◌, length}
+use Rattle.std.proofs.Common.{◌≡◌, ◌≢◌, inl, inr, ℕ, suc, ◌+◌, ◌-◌, ◌<◌, ◌≤◌, refl, sym, ap, subst, ◌∙◌, arith, false, List, [], ◌∷◌, length}
 use Rattle.std.specs.Prelude.{slice_index_or, if◌then◌else◌, ◌==◌}
 use Rattle.pk_base.specs.Shape.{Shape, IsShape, cap, most_calls}
 use Rattle.pk_base.proofs.ShapeLemmas.{block_pages_positive}
@@ -9,13 +9,14 @@ use Rattle.pk_walk.specs.Walking.{Reads, ReadsFail, read_of, most_read}
 use Rattle.pk_nand.specs.BoardState.{BoardState}
 use Rattle.pk_nand.specs.Calls.{counted, last_count}
 use Rattle.pk_nand.specs.Erased.{counted_by}
-use Rattle.pk_nand.specs.Effects.{AtMostOneCall}
+use Rattle.pk_nand.specs.Effects.{AtMostOneCall, OneProgram}
 use Rattle.pk_drive.specs.Calling.{FewCalls, most_calls_of}
 use Rattle.pk_nand.specs.BoardState.{shape_or_none}
 use Rattle.pk_core.specs.Parts.{Parts}
 use Rattle.pk_core.specs.Agreeing.{DriveOnFlash}
 use Rattle.pk_core.specs.Quiet.{ReadsOnly, ReadsFailing}
 use Rattle.pk_core.proofs.Unchanging.{counted_by-min}
+use Rattle.pk_core.proofs.Programming.{counted_more}
 
 pub few_none : (old : BoardState) → FewCalls 0 old old
 few_none old = record { reads_made = 0; programs_made = 0; erases_made = 0; few = omega arith; reads = refl; programs = refl; erases = refl }
@@ -61,6 +62,37 @@ few_more n a b c f (inr (inr (inr erase))) = record {
   programs = erase.1 ∙ f.programs;
   erases = erase.2 ∙ ap counted f.erases;
 }
+
+-- ---- calls behind calls
+
+raised_then : (j k a b c : ℕ) → b ≡ counted_by j a → c ≡ counted_by k b → c ≡ counted_by (j + k) a
+raised_then j k a b c first second = second ∙ ap (counted_by k) first ∙ counted_more k j a
+
+pub few_then : (m n : ℕ) (a b c : BoardState) → FewCalls m a b → FewCalls n b c → FewCalls (m + n) a c
+few_then m n a b c f g = record {
+  reads_made = f.reads_made + g.reads_made;
+  programs_made = f.programs_made + g.programs_made;
+  erases_made = f.erases_made + g.erases_made;
+  few = (let first = f.few in let second = g.few in omega (arith, first, second));
+  reads = raised_then f.reads_made g.reads_made a.reads b.reads c.reads f.reads g.reads;
+  programs = raised_then f.programs_made g.programs_made a.programs b.programs c.programs f.programs g.programs;
+  erases = raised_then f.erases_made g.erases_made a.erases b.erases c.erases f.erases g.erases;
+}
+
+pub few_one : (a b : BoardState) → AtMostOneCall a b → FewCalls 1 a b
+few_one a b one = few_more 0 a a b (few_none a) one
+
+-- nothing was done
+pub few_same : (n : ℕ) (a b : BoardState) → b ≡ a → FewCalls n a b
+few_same n a b same = subst (λ (s : BoardState). FewCalls n a s) (sym same) (few_within 0 n a a (omega arith) (few_none a))
+
+few_program : (a b : BoardState) → OneProgram a b → FewCalls 1 a b
+few_program a b one = record { reads_made = 0; programs_made = 1; erases_made = 0; few = omega arith; reads = one.reads; programs = one.programs; erases = one.erases }
+
+-- a commit programs a page where entries are pending, and nothing is done where none is
+pub few_commit : {X P Q : Type 0} (es : List X) (a b : BoardState) → (es ≢ [] → OneProgram a b) → (es ≡ [] → P × Q × (b ≡ a)) → FewCalls 1 a b
+few_commit [] a b program idle = few_same 1 a b (idle refl).2
+few_commit (e ∷ es) a b program idle = few_program a b (program (λ none. cc))
 
 -- ---- reads alone
 

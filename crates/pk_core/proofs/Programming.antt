@@ -39,7 +39,7 @@ use Rattle.pk_core.specs.Quiet.{ReadsOnly}
 
 -- ---- counts
 
-counted_more : (m k n : ℕ) → counted_by m (counted_by k n) ≡ counted_by (k + m) n
+pub counted_more : (m k n : ℕ) → counted_by m (counted_by k n) ≡ counted_by (k + m) n
 counted_more zero k n = let same : k ≡ k + zero = omega arith in ap (λ (x : ℕ). counted_by x n) same
 counted_more (suc m) k n = let same : suc (k + m) ≡ k + suc m = omega arith in ap counted (counted_more m k n) ∙ ap (λ (x : ℕ). counted_by x n) same
 
@@ -54,7 +54,7 @@ programs_then a b c n m first second = record {
 
 -- ---- a value
 
-written_programs : (shape : Shape) (key : Key) (page : ℕ) (value : List ℕ) (k : ℕ) (board : BoardState) → Programs k board (written shape key page value k board)
+pub written_programs : (shape : Shape) (key : Key) (page : ℕ) (value : List ℕ) (k : ℕ) (board : BoardState) → Programs k board (written shape key page value k board)
 written_programs shape key page value zero board = record { programs = refl; erases = refl }
 written_programs shape key page value (suc k) board =
     let rest = written_programs shape key page value k board in

@@ -1,4 +1,4 @@
-use Rattle.std.proofs.Common.{ap, ◌≤◌, length, Err}
+use Rattle.std.proofs.Common.{ap, ◌≤◌, length, arith, Err}
 use Rattle.pk_base.specs.Shape.{charge}
 use Rattle.pk_core.specs.Parts.{Parts}
 use Rattle.pk_core.specs.Changes.{StaysBetween}
@@ -66,3 +66,6 @@ returns-in-Err-clause-opens g c =
     let b = c.make_room.new.self in
     let count = charge a.log.shape (length c.args.value.now) in
     running_failed Unit Unit (Stays a b) (StaysOrOpens a b count) c.in-Err.fault (stays_opens a b count) c.in-Err.ensures.moves
+
+pub returns-in-Ok-clause-installs : goal.returns-in-Ok-clause-installs
+returns-in-Ok-clause-installs g c = let few = c.in-Ok.ensures.installs in let same = c.put_with_room.ensures.step.roots_few in omega (arith, few, same)

@@ -60,3 +60,9 @@ returns-in-Err-clause-opens g c =
     let step = stores_failed c.in-Err.fault c.args.self.now c.make_space.new.self (g.B.Nand.state c.args.board.now) (g.B.Nand.state c.make_space.new.board) (space_calls c.args.self.now.log.shape) (space_calls c.args.self.now.log.shape) c.args.key c.args.value.now c.requires.can (omega arith) e.step in
     opens_behind c.args.self.now (g.B.Nand.state c.args.board.now) c.args.key c.args.value.now (charge c.args.self.now.log.shape (length c.args.value.now)) c.requires.can c.requires.no_room _ c.make_space.new.self (g.B.Nand.state c.make_space.new.board) _ step
     (fresh_failed c.in-Err.fault c.args.self.now c.make_space.new.self e.stays)
+
+pub returns-in-Ok-clause-installs : goal.returns-in-Ok-clause-installs
+returns-in-Ok-clause-installs g c = let first = c.in-Ok.ensures.installs in let second = c.put_found.ensures.installs in omega (arith, first, second)
+
+pub returns-in-Err-clause-installs : goal.returns-in-Err-clause-installs
+returns-in-Err-clause-installs g c = let few = c.in-Err.ensures.installs in omega (arith, few)

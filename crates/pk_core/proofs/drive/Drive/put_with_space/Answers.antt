@@ -17,3 +17,6 @@ returns-else-needs_reclaim-clause-step g c =
 pub returns-else-needs_reclaim-clause-quiet : goal.returns-else-needs_reclaim-clause-quiet
 returns-else-needs_reclaim-clause-quiet g c =
     reads_if_room c.put.result c.args.self.now c.args.key (charge c.args.self.now.log.shape (length c.args.value.now)) (g.B.Nand.state c.args.board.now) (g.B.Nand.state c.put.new.board) c.put.ensures.quiet
+
+pub returns-else-needs_reclaim-clause-installs : goal.returns-else-needs_reclaim-clause-installs
+returns-else-needs_reclaim-clause-installs g c = let few = c.put.ensures.installs in omega (arith, few)

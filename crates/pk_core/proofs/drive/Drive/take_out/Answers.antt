@@ -1,4 +1,4 @@
-use Rattle.std.proofs.Common.{◌≤◌, length, Err}
+use Rattle.std.proofs.Common.{◌≤◌, length, arith, Err}
 use Rattle.pk_core.specs.Changes.{StaysBetween}
 use Rattle.pk_core.specs.Moves.{LeavesValues}
 use Rattle.pk_core.specs.Staying.{Stays}
@@ -52,3 +52,6 @@ returns-in-Err-clause-stays g c =
     let a = c.args.self.now in
     let b = c.make_room.new.self in
     running_failed Unit Unit (LeavesValues a b × (length b.log.pending ≤ length a.log.pending)) (StaysBetween a b) c.in-Err.fault (λ is. stays_kept a b is.0 is.1 c.requires.can.few) (running_both {T = Unit {0}} (LeavesValues a b) (length b.log.pending ≤ length a.log.pending) (Err c.in-Err.fault) e.leaves e.pending)
+
+pub returns-in-Ok-clause-installs : goal.returns-in-Ok-clause-installs
+returns-in-Ok-clause-installs g c = let few = c.in-Ok.ensures.installs in let same = c.take_with_room.ensures.step.roots_few in omega (arith, few, same)
