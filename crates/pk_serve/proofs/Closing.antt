@@ -20,7 +20,8 @@ use Rattle.pk_serve.specs.Serving.{Serving, Answered, KeptAt, installs, Flushed,
 use Rattle.pk_model.specs.Kept.{rise}
 use Rattle.pk_serve.specs.Input.{Spells, IsPart, behind}
 use Rattle.pk_serve.specs.Loop.{Finished, Failed, Finish, Ends}
-use Rattle.pk_serve.specs.Run.{Served, ServedBy, KeepsScript, KeepsSome, Answers, ServedSome, Causes}
+use Rattle.pk_serve.specs.Calling.{calls_of, most_calls_of_all}
+use Rattle.pk_serve.specs.Run.{Served, ServedBy, KeepsScript, KeepsSome, Answers, ServedSome, Causes, CallsWithin}
 use Rattle.pk_nand.specs.Calls.{put_back, AtEnd}
 use Rattle.pk_serve.specs.declared.end.End.{End}
 use Rattle.pk_serve.specs.declared.end.End.TheVariants.{Done, Truncated, Input, Output, Flash, Worn}
@@ -28,6 +29,7 @@ use Rattle.pk_drive.specs.Meter.{meter}
 use Rattle.pk_serve.proofs.Counting.{metered-roots, metered-unworn, few_unworn}
 use Rattle.pk_serve.proofs.Serves.{kept-more}
 use Rattle.pk_serve.proofs.Commanding.{answered-more}
+use Rattle.pk_serve.proofs.Calling.{most_calls-append, most_calls-front}
 use Rattle.pk_serve.proofs.Scripts.{IsPart-entry}
 
 -- ---- what is held is posted at the end
@@ -144,6 +146,7 @@ module _ (shape : Shape) (frames : ℕ) (start : Map) (a b : BoardState) (d : Si
         few_faults = w.few_faults;
         metered = w.metered;
         few_roots = metered-roots f.all (meter a) (meter b) w.metered;
+        few_calls = (let so_far = w.few_calls in omega (arith, so_far));
         no_faults = w.no_faults;
         few = omega (arith, f.few, size_of part f);
         unworn = λ some. few_unworn a (metered-unworn f.all (meter a) (meter b) (λ none. some (ap commands none)) w.metered);
@@ -160,6 +163,7 @@ module _ (shape : Shape) (frames : ℕ) (start : Map) (a b : BoardState) (d : Si
     few_faults = h.few_faults;
     metered = h.metered;
     few_roots = (let T : List Command → Type 0 = λ l. roots b ≤ roots a + installs l in subst T e h.few_roots);
+    few_calls = (let T : List Command → Type 0 = λ l. calls_of b ≤ calls_of a + most_calls_of_all shape l in subst T e h.few_calls);
     no_faults = h.no_faults;
     few = omega (arith, ap (λ (l : List Command). length l) e, h.few);
     unworn = λ some. h.unworn (λ none. some (sym e ∙ none));
@@ -248,6 +252,7 @@ module _ (shape : Shape) (frames : ℕ) (start : Map) (a b : BoardState) (d : Si
     pub spells : Spells bytes cs
     pub input : a.input ≡ put_back (bytes ++ part) b.input
     pub went : Goes shape a b (KeptAt shape frames start cs (rise a.read_faults b.read_faults))
+    pub few_calls : calls_of b ≤ calls_of a + most_calls_of_all shape cs
 
   trail_finished : (part : List ℕ) → Finished shape frames start a b d [] part → Trail
   trail_finished part f = record {
@@ -257,10 +262,15 @@ module _ (shape : Shape) (frames : ℕ) (start : Map) (a b : BoardState) (d : Si
     spells = f.spells;
     input = f.input;
     went = Goes-reaches shape a b (KeptAt shape frames start (commands f.all) (rise a.read_faults b.read_faults)) (f.serving.marks, f.serving.run, f.serving.grows);
+    few_calls = (let so_far = f.serving.few_calls in omega (arith, so_far));
   }
 
   trail_failed : (end : End) → Failed shape frames start a b end → Trail
-  trail_failed end f = record { cs = f.cs; bytes = f.bytes; part = f.part; spells = f.spells; input = f.input; went = f.cutoff.went }
+  trail_failed end f =
+      let h = f.cutoff.answered in
+      let C : List Command → Type 0 = λ l. calls_of b ≤ calls_of a + most_calls_of_all shape l in
+      let within : calls_of b ≤ calls_of a + most_calls_of_all shape (commands h.served ++ h.unserved) = let so_far = h.few_calls in let less = most_calls-front shape (commands h.served) h.unserved in omega (arith, so_far, less) in
+      record { cs = f.cs; bytes = f.bytes; part = f.part; spells = f.spells; input = f.input; went = f.cutoff.went; few_calls = subst C h.from_front within }
 
   pub trail_of : (end : End) → Finish shape frames start a b d [] end → Trail
   trail_of Done x = trail_finished [] x.finished
@@ -279,6 +289,16 @@ module _ (a b : BoardState) (before after : Sight) (end : End) (h : Ends a b bef
   pub keeps_some : KeepsSome a b before
   keeps_some shape frames start stands none =
       let g = trail_of shape frames start a b after end (h shape frames start stands none) in (g.cs, g.went)
+
+  pub calls_within : CallsWithin a b before
+  calls_within shape frames start stands none input is =
+      let g = trail_of shape frames start a b after end (h shape frames start stands none) in
+      let i = input_of shape frames start a b after input is (g.bytes ++ g.part) g.input in
+      let s = ap (λ r. r.0) (script_is g.bytes g.part i.0 input g.cs g.spells i.2) in
+      let more = most_calls-append shape g.cs (script (g.part ++ i.0)).0 in
+      let whole = ap (most_calls_of_all shape) s in
+      let few = g.few_calls in
+      omega (arith, few, more, whole)
 
   pub answers_all : IsFault end ⊎ (after.pending ≡ []) → Answers a b before end
   answers_all closed shape frames start stands none input is = served_by shape frames start a b after input is end closed (h shape frames start stands none)

@@ -15,12 +15,15 @@ use Rattle.pk_model.specs.Crashes.{command}
 use Rattle.pk_drive.specs.Call.{CallReaches, CallGoes}
 use Rattle.pk_drive.specs.Exec.{ExecStands, most_installs}
 use Rattle.pk_model.proofs.Growing.{weaken_went}
+use Rattle.pk_drive.specs.Calling.{FewCalls, most_calls_of}
+use Rattle.pk_nand.specs.BoardState.{shape_of}
 use Rattle.pk_serve.specs.Serving.{Serving, Answered, Cutoff, Next, Breaks, Keeps, Serves, Stops, KeptAt}
 use Rattle.pk_model.specs.Kept.{rise}
 use Rattle.pk_serve.specs.declared.end.End.{End}
 use Rattle.pk_serve.specs.declared.end.End.TheVariants.{Flash as FlashFailed}
 use Rattle.pk_serve.proofs.Serves.{Serving-exec, Cutoff-exec, kept-more}
 use Rattle.pk_serve.proofs.Counting.{commands-push}
+use Rattle.pk_serve.proofs.Calling.{command_calls, most_calls-more}
 use Rattle.pk_serve.proofs.Giving.{rose_from}
 
 append-some : (xs ys : List Command) → xs ≢ [] → xs ++ ys ≢ []
@@ -39,6 +42,7 @@ answered-more shape frames start a c cs more h = record {
   metered = h.metered;
   behind = elim h.behind [ inl same ↦ inl same | inr more_read ↦ inr (more_read.0, more_read.1, append-some h.unserved more more_read.2) ];
   up = h.up;
+  few_calls = (let so_far = h.few_calls in let less = most_calls-more shape (commands h.served) h.unserved more in omega (arith, so_far, less));
   posted = h.posted;
   unposted = h.unposted;
   begins = h.begins;
@@ -68,21 +72,23 @@ stops_before b c d held taken end cmd h shape frames start a all m size w =
 
 module _ (b c f : BoardState) (d e : Sight) (held now_held : List ℕ) (taken : ℕ) (cmd : Command) (keeps : Keeps b c d e held now_held) where
   -- the command stops the drive
-  pub stops_in : CallGoes c f e (command cmd) → c.read_faults ≤ f.read_faults → (reads : ℕ) → f.reads ≡ reads_after c.reads reads → Rose c.stop_faults f.stop_faults → Stops b f d held taken FlashFailed cmd
-  stops_in went up reads read rose shape frames start a all m size w =
+  pub stops_in : CallGoes c f e (command cmd) → c.read_faults ≤ f.read_faults → (reads : ℕ) → f.reads ≡ reads_after c.reads reads → Rose c.stop_faults f.stop_faults
+      → FewCalls (most_calls_of (shape_of c) cmd.opcode cmd.size) c f → Stops b f d held taken FlashFailed cmd
+  stops_in went up reads read rose calls shape frames start a all m size w =
       let v = keeps shape frames start a all m w in
-      (Cutoff-exec shape frames start a c e now_held all m v f cmd (went shape frames m v.stands) up reads read, rose_from v.no_faults.stop rose)
+      (Cutoff-exec shape frames start a c e now_held all m v f cmd (went shape frames m v.stands) up reads read (command_calls shape c f cmd.opcode cmd.size v.stands.shape_is calls), rose_from v.no_faults.stop rose)
 
   module _ (g : Sight) (rep : Reply) (reads count : ℕ) (one : count ≡ taken + 1) (reaches : CallReaches c f e (command cmd)) (stands : ExecStands c f e g cmd rep reads) (rest : OnlyFlash c f)
       (up : c.read_faults ≤ f.read_faults) (unread : rep.status ≡ 0x88 → Rose c.read_faults f.read_faults) (sound : rep.status ≢ 0x88 → f.read_faults ≡ c.read_faults)
-      (no_stop : f.stop_faults ≡ c.stop_faults) (read : f.reads ≡ reads_after c.reads reads) (unworn : roots c < 9223372036854775808) (few_roots : roots f ≤ roots c + most_installs cmd.opcode cmd.size) where
+      (no_stop : f.stop_faults ≡ c.stop_faults) (read : f.reads ≡ reads_after c.reads reads) (unworn : roots c < 9223372036854775808) (few_roots : roots f ≤ roots c + most_installs cmd.opcode cmd.size)
+      (calls : FewCalls (most_calls_of (shape_of c) cmd.opcode cmd.size) c f) where
     executed : (shape : Shape) (frames : ℕ) (start : Map) (a : BoardState) (all : List Exchange) (m : Map) → taken ≡ length all → Serving shape frames start a b d held all m
         → Next shape frames start a f g (now_held ++ reply_record count cmd.cid rep reads) all m cmd
     executed shape frames start a all m size w =
         let v = keeps shape frames start a all m w in
         let T : ℕ → Type 0 = λ n. Next shape frames start a f g (now_held ++ reply_record n cmd.cid rep reads) all m cmd in
         let e' : suc taken ≡ count = omega arith in
-        subst T e' (Serving-exec shape frames start a c e now_held all m v f g cmd rep reads taken size (reaches shape frames m v.stands) (stands shape frames m v.stands) rest up unread sound no_stop read unworn few_roots)
+        subst T e' (Serving-exec shape frames start a c e now_held all m v f g cmd rep reads taken size (reaches shape frames m v.stands) (stands shape frames m v.stands) rest up unread sound no_stop read unworn few_roots (command_calls shape c f cmd.opcode cmd.size v.stands.shape_is calls))
 
     pub serves_all : (h : BoardState) (i : Sight) (last : List ℕ) → Keeps f h g i (now_held ++ reply_record count cmd.cid rep reads) last → Serves b h d i held last taken cmd
     serves_all h i last more shape frames start a all m size w =

@@ -1,5 +1,5 @@
 -- Commits, and the posts behind them.
-use Rattle.std.proofs.Common.{◌≡◌, ℕ, List, [], ◌++◌, refl, sym, subst, append_assoc, ap, ◌∙◌}
+use Rattle.std.proofs.Common.{◌≡◌, ℕ, List, [], ◌++◌, refl, sym, subst, append_assoc, ap, arith, ◌∙◌}
 use Rattle.pk_base.specs.Shape.{Shape}
 use Rattle.pk_base.specs.Map.{Map}
 use Rattle.pk_nand.specs.BoardState.{BoardState}
@@ -10,9 +10,12 @@ use Rattle.pk_nand.specs.Effects.{OnlyFlash}
 use Rattle.pk_model.specs.Wear.{roots}
 use Rattle.pk_model.specs.Crashes.{commit}
 use Rattle.pk_drive.specs.Call.{KeepsMap, CallReaches, CallGoes}
+use Rattle.pk_drive.specs.Commit.{CommitPrograms}
+use Rattle.pk_serve.specs.Calling.{owed}
 use Rattle.pk_serve.specs.Serving.{Serving, Flushed, Breaks, Posts, PostBreaks}
 use Rattle.pk_serve.specs.declared.end.End.{End}
 use Rattle.pk_serve.specs.declared.end.End.TheVariants.{Output, Flash}
+use Rattle.pk_serve.proofs.Calling.{commit_calls}
 use Rattle.pk_serve.proofs.Serves.{Serving-commit, Cutoff-commit, Serving-post, Cutoff-post}
 
 pub rose_from : {a b c : ℕ} → b ≡ a → Rose b c → Rose a c
@@ -49,19 +52,24 @@ breaks_second b c d xs ys more whole end is p q drive idle shape frames start a 
 
 -- ---- a commit
 
-pub commit-breaks : (b c : BoardState) (drive : Sight) (heads : List ℕ) → CallGoes b c drive commit → c.read_faults ≡ b.read_faults → c.reads ≡ b.reads → Rose b.stop_faults c.stop_faults → Breaks b c drive heads Flash
-commit-breaks b c drive heads went reading read rose shape frames start a behind all m w =
-    (Cutoff-commit shape frames start a b drive (heads ++ behind) all m w c (went shape frames m w.stands) reading read, rose_from w.no_faults.stop rose)
+pub commit-breaks : (b c : BoardState) (drive : Sight) (heads : List ℕ) → CallGoes b c drive commit → c.read_faults ≡ b.read_faults → c.reads ≡ b.reads → Rose b.stop_faults c.stop_faults
+    → (drive.pending ≡ [] → c ≡ b) → CommitPrograms b c drive → Breaks b c drive heads Flash
+commit-breaks b c drive heads went reading read rose idle programs shape frames start a behind all m w =
+    let calls = commit_calls b c drive.pending idle (programs shape frames m w.stands) in
+    (Cutoff-commit shape frames start a b drive (heads ++ behind) all m w c (went shape frames m w.stands) reading read calls, rose_from w.no_faults.stop rose)
 
 module _ (b c : BoardState) (drive after : Sight) (reaches : CallReaches b c drive commit) (stands : KeepsMap b c drive after)
-    (rest : OnlyFlash b c) (reading : c.read_faults ≡ b.read_faults) (no_stop : c.stop_faults ≡ b.stop_faults) (read : c.reads ≡ b.reads) (same : roots c ≡ roots b) where
+    (rest : OnlyFlash b c) (reading : c.read_faults ≡ b.read_faults) (no_stop : c.stop_faults ≡ b.stop_faults) (read : c.reads ≡ b.reads) (same : roots c ≡ roots b)
+    (idle : drive.pending ≡ [] → c ≡ b) (programs : CommitPrograms b c drive) (none : after.pending ≡ []) where
   committed : (shape : Shape) (frames : ℕ) (start : Map) (a : BoardState) (unposted : List ℕ) (all : List Exchange) (m : Map)
       → Serving shape frames start a b drive unposted all m → Serving shape frames start a c after unposted all m
   committed shape frames start a unposted all m w =
-      Serving-commit shape frames start a b drive unposted all m w c after (reaches shape frames m w.stands) (stands shape frames m w.stands) rest reading no_stop read same
+      let calls = commit_calls b c drive.pending idle (programs shape frames m w.stands) in
+      let nothing = ap owed none in
+      Serving-commit shape frames start a b drive unposted all m w c after (reaches shape frames m w.stands) (stands shape frames m w.stands) rest reading no_stop read same (omega (arith, calls, nothing))
 
-  pub flushes : (d : BoardState) (heads : List ℕ) → after.pending ≡ [] → Posts c d heads → Flushed b d drive after heads
-  flushes d heads none posts shape frames start a behind all m w = posts after none shape frames start a behind all m (committed shape frames start a (heads ++ behind) all m w)
+  pub flushes : (d : BoardState) (heads : List ℕ) → Posts c d heads → Flushed b d drive after heads
+  flushes d heads posts shape frames start a behind all m w = posts after none shape frames start a behind all m (committed shape frames start a (heads ++ behind) all m w)
 
-  pub flush-breaks : (d : BoardState) (heads : List ℕ) (end : End) → after.pending ≡ [] → PostBreaks c d heads end → Breaks b d drive heads end
-  flush-breaks d heads end none breaks shape frames start a behind all m w = breaks after none shape frames start a behind all m (committed shape frames start a (heads ++ behind) all m w)
+  pub flush-breaks : (d : BoardState) (heads : List ℕ) (end : End) → PostBreaks c d heads end → Breaks b d drive heads end
+  flush-breaks d heads end breaks shape frames start a behind all m w = breaks after none shape frames start a behind all m (committed shape frames start a (heads ++ behind) all m w)

@@ -1,5 +1,6 @@
 pub mod Counting
 pub mod Answering
+pub mod Calling
 pub mod Serves
 pub mod Giving
 pub mod Blaming

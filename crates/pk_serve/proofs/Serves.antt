@@ -1,5 +1,5 @@
 -- The steps of serving: what was kept is kept.
-use Rattle.std.proofs.Common.{◌≡◌, ◌≢◌, ◌⊎◌, inl, inr, ℕ, suc, ◌+◌, ◌≤◌, ◌<◌, List, [], ◌∷◌, ◌++◌, length, Option, Some, None, Ok, refl, sym, ◌∙◌, ap, subst, arith, append_assoc, append-nil, replicate}
+use Rattle.std.proofs.Common.{◌≡◌, ◌≢◌, ◌⊎◌, inl, inr, ℕ, suc, ◌+◌, ◌≤◌, ◌<◌, List, [], ◌∷◌, ◌++◌, length, take, Option, Some, None, Ok, refl, sym, ◌∙◌, ap, subst, arith, append_assoc, append-nil, replicate}
 use Rattle.std.proofs.lemmas.Fn.{FoldsTo-push}
 use Rattle.pk_base.specs.Shape.{Shape, limit}
 use Rattle.pk_base.specs.Page.{Flash}
@@ -26,7 +26,10 @@ use Rattle.pk_drive.specs.Meter.{Meter, Metered, MeteredAll, meter, reads_after}
 use Rattle.pk_drive.specs.Exec.{Executed, most_installs}
 use Rattle.pk_model.specs.Crashes.{CrashFinds, commit, command}
 use Rattle.pk_model.proofs.Growing.{weaken, at_end, grows_behind, Goes-then, GrowsAlong-post, Goes-post_failed}
+use Rattle.pk_drive.specs.Calling.{most_calls_of}
+use Rattle.pk_serve.specs.Calling.{calls_of, owed, most_calls_of_all}
 use Rattle.pk_serve.specs.Serving.{KeptAt, Serving, Answered, Cutoff, Next, StepWithin}
+use Rattle.pk_serve.proofs.Calling.{owed_one, most_calls-append}
 use Rattle.pk_serve.proofs.Counting.{at_most-zero, at_most-more, at_most-one, commands-push, records-push, faults-push, faults-one}
 use Rattle.pk_serve.proofs.Answering.{reply_other, answers}
 
@@ -163,8 +166,8 @@ module _ (shape : Shape) (frames : ℕ) (start : Map) (a b : BoardState) (drive 
 
   -- what was answered, where these bytes were posted behind
   answered_by : (c : BoardState) (more : List Command) (out rest : List ℕ) → out ++ rest ≡ unposted → c.posted ≡ longer b.posted out → b.read_faults ≤ c.read_faults → ReadBehind b c more
-      → Answered shape frames start a c (commands all ++ more)
-  answered_by c more out rest front is up read = record {
+      → calls_of c ≤ calls_of a + most_calls_of_all shape (commands all ++ take 1 more) → Answered shape frames start a c (commands all ++ more)
+  answered_by c more out rest front is up read few_calls = record {
     served = all;
     unserved = more;
     from_front = refl;
@@ -174,6 +177,7 @@ module _ (shape : Shape) (frames : ℕ) (start : Map) (a b : BoardState) (drive 
     metered = w.metered;
     behind = read;
     up = up;
+    few_calls = few_calls;
     posted = all_posted w.marks ++ out;
     unposted = rest;
     begins = append_assoc (all_posted w.marks) out rest ∙ (ap (λ t. all_posted w.marks ++ t) front ∙ w.records_are);
@@ -182,27 +186,35 @@ module _ (shape : Shape) (frames : ℕ) (start : Map) (a b : BoardState) (drive 
 
   extend_went : (more : List Command) (c : BoardState) (P : Flash → List ℕ → Type 0) → b.read_faults ≤ c.read_faults
       → ((f : Flash) (q : List ℕ) → P f q → KeptAt shape frames start (commands all ++ more) (rise a.read_faults c.read_faults) f (all_posted w.marks ++ q))
-      → ((f : Flash) (q : List ℕ) → P f q → (rest : List ℕ) × (q ++ rest ≡ unposted)) → ReadBehind b c more
+      → ((f : Flash) (q : List ℕ) → P f q → (rest : List ℕ) × (q ++ rest ≡ unposted)) → ReadBehind b c more → calls_of c ≤ calls_of a + most_calls_of_all shape (commands all ++ take 1 more)
       → Goes shape b c P → Cutoff shape frames start a c (commands all ++ more)
-  extend_went more c P up kept fronts read went =
+  extend_went more c P up kept fronts read few_calls went =
       let out = all_posted went.0 in
       let front = fronts c.pages out (went.1.cuts c.pages out went.1.stands) in
       record {
         went = Goes-then shape w.marks a b (KeptAt shape frames start (commands all ++ more) (rise a.read_faults c.read_faults)) w.shape_is (before more c.read_faults up) w.grows c P kept went;
-        answered = answered_by c more out front.0 front.1 went.1.posted up read;
+        answered = answered_by c more out front.0 front.1 went.1.posted up read few_calls;
       }
+
+  -- the calls of one more command, and the commit that is owed behind it
+  calls_next : (c : BoardState) (cmd : Command) (owed_behind : ℕ) → owed_behind ≤ 1 → calls_of c ≤ calls_of b + most_calls_of shape cmd.opcode cmd.size → calls_of c + owed_behind ≤ calls_of a + most_calls_of_all shape (commands all ++ cmd ∷ [])
+  calls_next c cmd owed_behind one few =
+      let so_far = w.few_calls in
+      let whole = most_calls-append shape (commands all) (cmd ∷ []) in
+      omega (arith, one, few, so_far, whole)
 
   -- a command was served
   pub Serving-exec : (c : BoardState) (e : Sight) (cmd : Command) (rep : Reply) (reads taken : ℕ) → taken ≡ length all
       → Reaches shape b c (CrashFinds shape (command cmd) b.pages m) → Executed shape frames c e m cmd rep reads → OnlyFlash b c
       → b.read_faults ≤ c.read_faults → (rep.status ≡ 0x88 → Rose b.read_faults c.read_faults) → (rep.status ≢ 0x88 → c.read_faults ≡ b.read_faults)
       → c.stop_faults ≡ b.stop_faults → c.reads ≡ reads_after b.reads reads → roots b < 9223372036854775808 → roots c ≤ roots b + most_installs cmd.opcode cmd.size
-      → Next shape frames start a c e (unposted ++ reply_record (suc taken) cmd.cid rep reads) all m cmd
-  Serving-exec c e cmd rep reads taken size reached done rest up unread sound no_stop read unworn few_roots =
+      → calls_of c ≤ calls_of b + most_calls_of shape cmd.opcode cmd.size → Next shape frames start a c e (unposted ++ reply_record (suc taken) cmd.cid rep reads) all m cmd
+  Serving-exec c e cmd rep reads taken size reached done rest up unread sound no_stop read unworn few_roots few_calls =
       let x : Exchange = record { command = cmd; reply = rep; reads = reads } in
       let silent : all_posted reached.0 ≡ [] = (at_end reached.0 b c (CrashFinds shape (command cmd) b.pages m) reached.1).0 in
       let more = extend (cmd ∷ []) c (CrashFinds shape (command cmd) b.pages m) up (exec_cut cmd c.read_faults up) reached.0 reached.1 in
       let R : List Command → Type 0 = λ l. ReachedBy (w.marks ++ reached.0) a c (KeptAt shape frames start l (rise a.read_faults c.read_faults)) in
+      let C : List Command → Type 0 = λ l. calls_of c + owed e.pending ≤ calls_of a + most_calls_of_all shape l in
       record {
         x = x;
         is = refl;
@@ -226,6 +238,7 @@ module _ (shape : Shape) (frames : ℕ) (start : Map) (a b : BoardState) (drive 
           ];
           rose = omega (arith, w.rose, up);
           metered = FoldsTo-push Metered (meter a) all (meter b) x (meter c) w.metered (record { reads = read; failed = unread; sound = sound; unworn = unworn; installs = few_roots });
+          few_calls = subst C (sym (commands-push all x)) (calls_next c cmd (owed e.pending) (owed_one e.pending) few_calls);
           no_faults = record {
             output = ap (λ s. s.out_faults) rest ∙ w.no_faults.output;
             stop = no_stop ∙ w.no_faults.stop;
@@ -234,8 +247,11 @@ module _ (shape : Shape) (frames : ℕ) (start : Map) (a b : BoardState) (drive 
       }
 
   -- a command stopped the drive
-  pub Cutoff-exec : (c : BoardState) (cmd : Command) → Goes shape b c (CrashFinds shape (command cmd) b.pages m) → b.read_faults ≤ c.read_faults → (reads : ℕ) → c.reads ≡ reads_after b.reads reads → Cutoff shape frames start a c (commands all ++ cmd ∷ [])
-  Cutoff-exec c cmd went up reads read = extend_went (cmd ∷ []) c (CrashFinds shape (command cmd) b.pages m) up (exec_cut cmd c.read_faults up) (λ f q cut. (unposted, ap (λ t. t ++ unposted) cut.0)) (inr (reads, read, λ e. cc)) went
+  pub Cutoff-exec : (c : BoardState) (cmd : Command) → Goes shape b c (CrashFinds shape (command cmd) b.pages m) → b.read_faults ≤ c.read_faults → (reads : ℕ) → c.reads ≡ reads_after b.reads reads
+      → calls_of c ≤ calls_of b + most_calls_of shape cmd.opcode cmd.size → Cutoff shape frames start a c (commands all ++ cmd ∷ [])
+  Cutoff-exec c cmd went up reads read few_calls =
+      let next = calls_next c cmd 0 (omega arith) few_calls in
+      extend_went (cmd ∷ []) c (CrashFinds shape (command cmd) b.pages m) up (exec_cut cmd c.read_faults up) (λ f q cut. (unposted, ap (λ t. t ++ unposted) cut.0)) (inr (reads, read, λ e. cc)) (omega (arith, next)) went
 
   -- ---- a commit
 
@@ -249,10 +265,18 @@ module _ (shape : Shape) (frames : ℕ) (start : Map) (a b : BoardState) (drive 
             (kept-more shape frames start (commands all) [] (rise a.read_faults b.read_faults) (rise a.read_faults later) (λ k h. at_most-more a.read_faults b.read_faults later k up h) f (all_posted w.marks ++ []) (kept_all f held [] unposted refl))
       ])
 
+  -- the calls of a run that ends here, beside a commit that was owed
+  calls_here : (c : BoardState) → calls_of c ≤ calls_of b + owed drive.pending → calls_of c ≤ calls_of a + most_calls_of_all shape (commands all ++ [])
+  calls_here c few =
+      let so_far = w.few_calls in
+      let whole = most_calls-append shape (commands all) [] in
+      omega (arith, few, so_far, whole)
+
   -- what was pending is on the flash
   pub Serving-commit : (c : BoardState) (e : Sight) → Reaches shape b c (CrashFinds shape commit b.pages m) → HoldsMap shape frames c e m → OnlyFlash b c
-      → c.read_faults ≡ b.read_faults → c.stop_faults ≡ b.stop_faults → c.reads ≡ b.reads → roots c ≡ roots b → Serving shape frames start a c e unposted all m
-  Serving-commit c e reached stands rest same_reads no_stop read same_roots =
+      → c.read_faults ≡ b.read_faults → c.stop_faults ≡ b.stop_faults → c.reads ≡ b.reads → roots c ≡ roots b → calls_of c + owed e.pending ≤ calls_of b + owed drive.pending
+      → Serving shape frames start a c e unposted all m
+  Serving-commit c e reached stands rest same_reads no_stop read same_roots few_calls =
       let up : b.read_faults ≤ c.read_faults = omega (arith, same_reads) in
       let silent : all_posted reached.0 ≡ [] = (at_end reached.0 b c (CrashFinds shape commit b.pages m) reached.1).0 in
       let more = extend [] c (CrashFinds shape commit b.pages m) up (commit_cut c.read_faults up) reached.0 reached.1 in
@@ -270,17 +294,19 @@ module _ (shape : Shape) (frames : ℕ) (start : Map) (a b : BoardState) (drive 
         few_faults = at_most-more a.read_faults b.read_faults c.read_faults (faults all) up w.few_faults;
         rose = omega (arith, w.rose, up);
         metered = subst M same w.metered;
+        few_calls = (let so_far = w.few_calls in omega (arith, so_far, few_calls));
         no_faults = record {
           output = ap (λ s. s.out_faults) rest ∙ w.no_faults.output;
           stop = no_stop ∙ w.no_faults.stop;
         };
       }
 
-  pub Cutoff-commit : (c : BoardState) → Goes shape b c (CrashFinds shape commit b.pages m) → c.read_faults ≡ b.read_faults → c.reads ≡ b.reads → Cutoff shape frames start a c (commands all)
-  Cutoff-commit c went same_reads read =
+  pub Cutoff-commit : (c : BoardState) → Goes shape b c (CrashFinds shape commit b.pages m) → c.read_faults ≡ b.read_faults → c.reads ≡ b.reads → calls_of c ≤ calls_of b + owed drive.pending
+      → Cutoff shape frames start a c (commands all)
+  Cutoff-commit c went same_reads read few_calls =
       let up : b.read_faults ≤ c.read_faults = omega (arith, same_reads) in
       let R : List Command → Type 0 = λ l. Cutoff shape frames start a c l in
-      subst R (append-nil (commands all)) (extend_went [] c (CrashFinds shape commit b.pages m) up (commit_cut c.read_faults up) (λ f q cut. (unposted, ap (λ t. t ++ unposted) cut.0)) (inl read) went)
+      subst R (append-nil (commands all)) (extend_went [] c (CrashFinds shape commit b.pages m) up (commit_cut c.read_faults up) (λ f q cut. (unposted, ap (λ t. t ++ unposted) cut.0)) (inl read) (calls_here c few_calls) went)
 
   -- ---- a post of a front of what is not posted, where nothing is pending
 
@@ -310,6 +336,7 @@ module _ (shape : Shape) (frames : ℕ) (start : Map) (a b : BoardState) (drive 
         few_faults = w.few_faults;
         rose = w.rose;
         metered = w.metered;
+        few_calls = w.few_calls;
         no_faults = record { output = w.no_faults.output; stop = w.no_faults.stop };
       }
 
@@ -321,7 +348,7 @@ module _ (shape : Shape) (frames : ℕ) (start : Map) (a b : BoardState) (drive 
       let up : b.read_faults ≤ c.read_faults = omega (arith, same) in
       let R : List Command → Type 0 = λ l. Cutoff shape frames start a c l in
       let N : ℕ → Type 0 = λ n. (f : Flash) (q : List ℕ) → P f q → KeptAt shape frames start (commands all ++ []) (rise a.read_faults n) f (all_posted w.marks ++ q) in
-      subst R (append-nil (commands all)) (extend_went [] c P up (subst N (sym same) (λ f q h. h.0)) (λ f q h. h.1) (inl (ap (λ s. s.reads) failed.rest))
+      subst R (append-nil (commands all)) (extend_went [] c P up (subst N (sym same) (λ f q h. h.0)) (λ f q h. h.1) (inl (ap (λ s. s.reads) failed.rest)) (calls_here c (let none = ap calls_of failed.rest in omega (arith, none)))
       (Goes-post_failed shape b bytes P (λ out rest is. (post_cut (held_now none) bytes behind front out rest is, (rest ++ behind, sym (append_assoc out rest behind) ∙ (ap (λ t. t ++ behind) is ∙ front)))) c failed))
 
   -- ---- calls that leave the flash and the host's bytes
@@ -339,6 +366,7 @@ module _ (shape : Shape) (frames : ℕ) (start : Map) (a b : BoardState) (drive 
     few_faults = w.few_faults;
     rose = w.rose;
     metered = w.metered;
+    few_calls = w.few_calls;
     no_faults = record { output = w.no_faults.output; stop = w.no_faults.stop };
   }
 
@@ -368,5 +396,6 @@ Serving-start shape frames start a drive stands none =
       few_faults = at_most-zero (rise a.read_faults a.read_faults);
       rose = omega arith;
       metered = refl;
+      few_calls = (let nothing = ap owed none in omega (arith, nothing));
       no_faults = record { output = refl; stop = refl };
     }

@@ -1,5 +1,6 @@
 pub mod Ends
 pub mod Part
+pub mod Calling
 pub mod Serving
 pub mod Input
 pub mod Loop

@@ -16,6 +16,7 @@ use Rattle.pk_model.specs.Growth.{Goes}
 use Rattle.pk_drive.specs.Meter.{meter, MeteredAll}
 use Rattle.pk_serve.specs.Ends.{NoFaults}
 use Rattle.pk_serve.specs.Serving.{Answered, KeptAt, installs}
+use Rattle.pk_serve.specs.Calling.{calls_of, most_calls_of_all}
 use Rattle.pk_serve.specs.declared.end.End.{End}
 use Rattle.pk_serve.specs.declared.end.End.TheVariants.{Done, Truncated, Input, Output, Flash, Worn}
 use Rattle.pk_serve.specs.Loop.{most_entries}
@@ -32,6 +33,12 @@ KeepsSome a b before =
     (shape : Shape) (frames : ℕ) (start : Map) → HoldsMap shape frames a before start → before.pending ≡ []
     → (cs : List Command) × Goes shape a b (KeptAt shape frames start cs (rise a.read_faults b.read_faults))
 
+-- Whether it fails or not, no more calls of the flash are made than the commands of the script may make.
+abbrev pub CallsWithin : BoardState → BoardState → Sight → Type 0
+CallsWithin a b before =
+    (shape : Shape) (frames : ℕ) (start : Map) → HoldsMap shape frames a before start → before.pending ≡ []
+    → (input : List ℕ) → a.input ≡ Some input → calls_of b ≤ calls_of a + most_calls_of_all shape (script input).0
+
 -- These, no more than a run takes, were served from a drive that was not worn, with exactly their records posted, and the flash holds the map after them.
 pub record Served (shape : Shape) (frames : ℕ) (start : Map) (a b : BoardState) (cs : List Command) : Type 0 where
   pub served : List Exchange
@@ -43,6 +50,7 @@ pub record Served (shape : Shape) (frames : ℕ) (start : Map) (a b : BoardState
   pub few_faults : AtMost (rise a.read_faults b.read_faults) (faults served)
   pub metered : MeteredAll (meter a) served (meter b)
   pub few_roots : roots b ≤ roots a + installs cs
+  pub few_calls : calls_of b ≤ calls_of a + most_calls_of_all shape cs
   pub no_faults : NoFaults a b
   pub few : length cs ≤ most_entries
   pub unworn : cs ≢ [] → is_worn a ≡ false

@@ -1,5 +1,5 @@
 -- What stands after some commands were served.
-use Rattle.std.specs.Prelude.{◌≡◌, ◌≢◌, ◌⊎◌, ℕ, ◌+◌, ◌≤◌, List, [], ◌∷◌, ◌++◌, length, Option, Some}
+use Rattle.std.specs.Prelude.{◌≡◌, ◌≢◌, ◌⊎◌, ℕ, ◌+◌, ◌≤◌, List, [], ◌∷◌, ◌++◌, length, take, Option, Some}
 use Rattle.pk_base.specs.Shape.{Shape}
 use Rattle.pk_base.specs.Page.{Flash}
 use Rattle.pk_base.specs.Mark.{Mark, all_posted}
@@ -19,6 +19,7 @@ use Rattle.pk_model.specs.Growth.{GrowsAlong, Goes}
 use Rattle.pk_drive.specs.Meter.{Meter, meter, MeteredAll, reads_after}
 use Rattle.pk_drive.specs.Exec.{most_installs}
 use Rattle.pk_serve.specs.Ends.{NoFaults, HasCause}
+use Rattle.pk_serve.specs.Calling.{calls_of, owed, most_calls_of_all}
 use Rattle.pk_serve.specs.declared.end.End.{End}
 
 -- most roots that these commands install
@@ -42,10 +43,11 @@ pub record Serving (shape : Shape) (frames : ℕ) (start : Map) (a b : BoardStat
   pub few_faults : AtMost (rise a.read_faults b.read_faults) (faults all)
   pub rose : a.read_faults ≤ b.read_faults
   pub metered : MeteredAll (meter a) all (meter b)
+  pub few_calls : calls_of b + owed drive.pending ≤ calls_of a + most_calls_of_all shape (commands all)
   pub no_faults : NoFaults a b
 
 -- A front of these commands was answered, each with its number of reads, and what was posted is a front of their records. Behind them nothing was
--- read, but by the command in which the run ended.
+-- read, but by the command in which the run ended; that one, at most, made calls beside those that were answered.
 pub record Answered (shape : Shape) (frames : ℕ) (start : Map) (a b : BoardState) (cs : List Command) : Type 0 where
   pub served : List Exchange
   pub unserved : List Command
@@ -56,6 +58,7 @@ pub record Answered (shape : Shape) (frames : ℕ) (start : Map) (a b : BoardSta
   pub metered : MeteredAll (meter a) served last
   pub behind : (b.reads ≡ last.reads) ⊎ ((more : ℕ) × (b.reads ≡ reads_after last.reads more) × (unserved ≢ []))
   pub up : last.read_faults ≤ b.read_faults
+  pub few_calls : calls_of b ≤ calls_of a + most_calls_of_all shape (commands served ++ take 1 unserved)
   pub posted : List ℕ
   pub unposted : List ℕ
   pub begins : posted ++ unposted ≡ records 0 served

@@ -3,7 +3,7 @@ ghost use Rattle.std.specs.Prelude.{◌≡◌, ◌⊎◌, [], false, IfOk, Some}
 ghost use Rattle.pk_serve.specs.Ends.{IsFault, Blames};
 ghost use Rattle.pk_serve.specs.Complete.{Completes};
 ghost use Rattle.pk_serve.specs.Script.{SaysOfScript};
-ghost use Rattle.pk_serve.specs.Run.{KeepsScript, KeepsSome, Answers, Causes};
+ghost use Rattle.pk_serve.specs.Run.{KeepsScript, KeepsSome, Answers, Causes, CallsWithin};
 
 use crate::End;
 use crate::serve::serve_all;
@@ -75,6 +75,7 @@ impl Server {
             (D.sight drive.old) }
         ensures served { Answers (B.state board.old) (B.state board.new) (D.sight drive.old)
             result }
+        ensures calls { CallsWithin (B.state board.old) (B.state board.new) (D.sight drive.old) }
     {
         self.held.clear();
         serve_all(

@@ -1,4 +1,4 @@
-use Rattle.pk_serve.proofs.Closing.{keeps_script, keeps_some, answers_all, causes_all, none_left}
+use Rattle.pk_serve.proofs.Closing.{keeps_script, keeps_some, answers_all, calls_within, causes_all, none_left}
 use Rattle.pk_serve.proofs.Consuming.{says_of_script}
 use Rattle.pk_serve.proofs.Completing.{completes}
 use Rattle.pk_serve.proofs.server.Server.serve.Goals as goal
@@ -13,6 +13,7 @@ returns g c =
       kept = keeps_script _ _ _ _ _ e.ends;
       kept_untold = keeps_some _ _ _ _ _ e.ends;
       served = answers_all _ _ _ _ _ e.ends none;
+      calls = calls_within _ _ _ _ _ e.ends;
       causes = causes_all _ _ _ _ _ e.ends none;
       complete = completes _ _ _ _ _ e.ends none;
     }

@@ -1,0 +1,21 @@
+-- How many calls of the flash serving makes.
+use Rattle.std.specs.Prelude.{ℕ, ◌+◌, List, [], ◌∷◌}
+use Rattle.pk_base.specs.Shape.{Shape}
+use Rattle.pk_base.specs.Entry.{Entry}
+use Rattle.pk_nvme.specs.Command.{Command}
+use Rattle.pk_nand.specs.BoardState.{BoardState}
+use Rattle.pk_drive.specs.Calling.{most_calls_of}
+
+-- the calls of the flash that a board has counted, failed ones included
+abbrev pub calls_of : BoardState → ℕ
+calls_of board = board.reads + board.programs + board.erases
+
+-- the commit that is owed where entries are pending
+abbrev pub owed : List Entry → ℕ
+owed [] = 0
+owed (entry ∷ more) = 1
+
+-- most calls for these commands: for each its own, and a commit
+abbrev pub most_calls_of_all : Shape → List Command → ℕ
+most_calls_of_all shape [] = 0
+most_calls_of_all shape (c ∷ cs) = most_calls_of shape c.opcode c.size + 1 + most_calls_of_all shape cs
