@@ -55,3 +55,4 @@ pub mod SpaceSteps
 pub mod Stored
 pub mod ReclaimWork
 pub mod ReclaimTicks
+pub mod StoreCalls

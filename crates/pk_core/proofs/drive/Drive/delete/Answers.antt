@@ -9,6 +9,9 @@ use Rattle.pk_core.proofs.Staying.{stays_same, stays_from}
 use Rattle.pk_core.proofs.Statuses.{told_refused}
 use Rattle.pk_core.proofs.Programming.{quiet_delete_behind}
 use Rattle.pk_core.proofs.Quieted.{reads_behind}
+use Rattle.pk_core.proofs.Callings.{few_reads, few_failed}
+use Rattle.pk_core.specs.Parts.{Parts}
+use Rattle.pk_core.proofs.StoreCalls.{few_delete}
 use Rattle.pk_core.proofs.drive.Drive.delete.Goals as goal
 
 pub delete_at-requires-clause-looks : goal.delete_at-requires-clause-looks
@@ -58,3 +61,10 @@ returns-in-Ok-clause-quiet g c = λ zero none.
 
 pub returns-in-Err-clause-quiet : goal.returns-in-Err-clause-quiet
 returns-in-Err-clause-quiet g c = λ zero. absurd (told_refused c.refusal.result 0x88 0 0 c.reads_since.result false c.refusal.ensures (λ e. omega (arith, e)) zero)
+
+pub returns-in-Ok-clause-calls : goal.returns-in-Ok-clause-calls
+returns-in-Ok-clause-calls g c =
+    few_delete _ _ _ _ _ (ap (λ (d : Parts). d.log.shape) c.look.ensures.same) c.requires.servable.agrees.with.index.logs.is_shape (few_reads _ _ _ _ (omega arith) c.in-Ok.ensures.reads) c.delete_at.ensures.calls
+
+pub returns-in-Err-clause-calls : goal.returns-in-Err-clause-calls
+returns-in-Err-clause-calls g c = few_failed c.args.self.now (g.B.Nand.state c.args.board.now) (g.B.Nand.state c.look.new.board) c.requires.servable.agrees _ (omega arith) c.in-Err.ensures.failing

@@ -11,6 +11,7 @@ use Rattle.pk_core.proofs.Came.{came_running, came_served}
 use Rattle.pk_core.proofs.Executing.{executes_quiet}
 use Rattle.pk_core.proofs.Served.{can_take, delete_missing, delete_came, none_read}
 use Rattle.pk_core.proofs.Statuses.{told_refused}
+use Rattle.pk_core.proofs.Callings.{few_same}
 use Rattle.pk_core.proofs.drive.Drive.delete_at.Goals as goal
 
 pub take_out-answer-requires-clause-can : goal.take_out-answer-requires-clause-can
@@ -69,3 +70,6 @@ pub returns-in-Some-clause-quiet : goal.returns-in-Some-clause-quiet
 returns-in-Some-clause-quiet g c = λ zero.
     let after = g.B.Nand.state c.take_out-answer.new.board in
     came_served (λ d. ReadsQuietly c.args.self.now c.args.key (g.B.Nand.state c.args.board.now) after) c.take_out-answer.result c.take_out-answer.new.self c.changed.result _ c.changed.ensures.told c.take_out-answer.ensures.quiet zero
+
+pub returns-in-None-clause-calls : goal.returns-in-None-clause-calls
+returns-in-None-clause-calls g c = few_same _ _ _ refl

@@ -1,6 +1,9 @@
-use Rattle.std.proofs.Common.{refl, length, arith}
+use Rattle.std.proofs.Common.{refl, length, arith, ap}
 use Rattle.pk_core.proofs.Staying.{stays_opens, stays_same}
 use Rattle.pk_core.proofs.Stored.{its_drive, found_can, found_stores, found_unread, found_room, found_numbers, between_same, between_from, opens_looked}
+use Rattle.pk_core.specs.Parts.{Parts}
+use Rattle.pk_core.proofs.Callings.{few_reads, few_breaks}
+use Rattle.pk_core.proofs.StoreCalls.{few_found}
 use Rattle.pk_core.proofs.drive.Drive.put_found.Goals as goal
 
 pub look-requires-clause-agrees : goal.look-requires-clause-agrees
@@ -36,3 +39,10 @@ returns-in-Err-clause-stays g c = between_same c.args.self.now c.look.new.self c
 
 pub returns-in-Err-clause-opens : goal.returns-in-Err-clause-opens
 returns-in-Err-clause-opens g c = stays_opens _ _ _ (stays_same _ _ c.look.ensures.same)
+
+pub returns-in-Ok-clause-calls : goal.returns-in-Ok-clause-calls
+returns-in-Ok-clause-calls g c =
+    few_found _ _ _ _ _ (ap (λ (d : Parts). d.log.shape) c.look.ensures.same) (length c.args.value.now) (few_reads _ _ _ _ (omega arith) c.in-Ok.ensures.reads) c.put.ensures.calls
+
+pub returns-in-Err-clause-calls : goal.returns-in-Err-clause-calls
+returns-in-Err-clause-calls g c = few_breaks _ _ _ _ (omega arith) c.in-Err.ensures.failing

@@ -11,6 +11,9 @@ use Rattle.pk_core.proofs.Statuses.{told_refused}
 use Rattle.pk_core.proofs.Programming.{quiet_store_behind}
 use Rattle.pk_core.proofs.Quieted.{reads_behind}
 use Rattle.pk_core.proofs.Stored.{room_looked}
+use Rattle.pk_core.proofs.Callings.{few_reads, few_failed}
+use Rattle.pk_core.specs.Parts.{Parts}
+use Rattle.pk_core.proofs.StoreCalls.{few_store}
 use Rattle.pk_core.proofs.drive.Drive.store.Goals as goal
 
 pub store_over-requires-clause-named : goal.store_over-requires-clause-named
@@ -69,3 +72,10 @@ returns-in-Ok-clause-quiet g c = λ zero none room.
 
 pub returns-in-Err-clause-quiet : goal.returns-in-Err-clause-quiet
 returns-in-Err-clause-quiet g c = λ zero. absurd (told_refused c.refusal.result 0x88 0 0 c.reads_since.result false c.refusal.ensures (λ e. omega (arith, e)) zero)
+
+pub returns-in-Ok-clause-calls : goal.returns-in-Ok-clause-calls
+returns-in-Ok-clause-calls g c =
+    few_store _ _ _ _ _ (ap (λ (d : Parts). d.log.shape) c.look.ensures.same) c.requires.servable.agrees.with.index.logs.is_shape (few_reads _ _ _ _ (omega arith) c.in-Ok.ensures.reads) c.store_over.ensures.calls
+
+pub returns-in-Err-clause-calls : goal.returns-in-Err-clause-calls
+returns-in-Err-clause-calls g c = few_failed c.args.self.now (g.B.Nand.state c.args.board.now) (g.B.Nand.state c.look.new.board) c.requires.servable.agrees _ (omega arith) c.in-Err.ensures.failing

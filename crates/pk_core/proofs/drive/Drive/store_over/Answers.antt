@@ -15,6 +15,8 @@ use Rattle.pk_core.proofs.Stored.{reads_whole}
 use Rattle.pk_core.proofs.Served.{short_place, can_put, store_refused, store_came, none_read}
 use Rattle.pk_core.proofs.Staying.{opens_whole}
 use Rattle.pk_core.proofs.Statuses.{told_refused, store_refuses}
+use Rattle.pk_core.proofs.Callings.{few_same}
+use Rattle.pk_core.proofs.StoreCalls.{few_stored}
 use Rattle.pk_core.proofs.drive.Drive.store_over.Goals as goal
 
 pub fault_of_store-requires-clause-old_short : goal.fault_of_store-requires-clause-old_short
@@ -80,3 +82,12 @@ returns-in-None-clause-quiet g c = λ zero.
     let after = g.B.Nand.state c.put_with_space-answer.new.board in
     reads_whole c.args.self.now c.args.key (g.B.Nand.state c.args.board.now) after (length c.args.value.now) c.args.request.now.size c.requires.whole
     (came_served (λ d. ReadsNone c.args.self.now c.args.key (charge c.args.self.now.log.shape (length c.args.value.now)) (g.B.Nand.state c.args.board.now) after) c.put_with_space-answer.result c.put_with_space-answer.new.self c.changed.result _ c.changed.ensures.told c.put_with_space-answer.ensures.quiet zero)
+
+pub returns-in-Some-clause-calls : goal.returns-in-Some-clause-calls
+returns-in-Some-clause-calls g c = few_same _ _ _ refl
+
+pub returns-in-None-clause-calls : goal.returns-in-None-clause-calls
+returns-in-None-clause-calls g c =
+    let r = c.requires in
+    let can = can_put c.args.self.now (g.B.Nand.state c.args.board.now) c.args.request.now c.args.value.now c.args.key c.args.old r.servable r.opcode r.whole r.named c.known.ensures.key c.known.ensures.bytes r.looks (sym c.fault_of_store.ensures ∙ c.in-None.is) in
+    few_stored c.args.self.now.log.shape (length c.args.value.now) _ _ r.servable.agrees.with.index.logs.is_shape can.short c.put_with_space-answer.ensures.calls
