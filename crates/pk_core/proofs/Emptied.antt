@@ -22,15 +22,16 @@ use Rattle.pk_model.proofs.Steps.{RootsUpTo-le, Step-broken}
 use Rattle.pk_compact.specs.FreezeSteps.{freeze_left}
 use Rattle.pk_work.specs.Rest.{whole_freeze}
 use Rattle.pk_work.specs.Work.{emptying}
-use Rattle.pk_work.specs.Calls.{room_calls}
-use Rattle.pk_work.proofs.Within.{merging_most}
+use Rattle.pk_work.specs.Calls.{room_calls, commit_calls}
+use Rattle.pk_work.proofs.Within.{due_most, merging_most}
 use Rattle.pk_schedule.specs.declared.phase.Stepped.{Stepped}
 use Rattle.pk_schedule.specs.declared.phase.Stepped.TheVariants.{Worked, Idle}
 use Rattle.pk_schedule.specs.Steps.{FreezeMoves, Freezes, backlog_of, has_no_merge, is_between}
+use Rattle.pk_drive.specs.Calling.{FewCalls}
 use Rattle.pk_core.specs.Parts.{Parts, frames_of, index_of}
 use Rattle.pk_base.specs.Map.{Map}
 use Rattle.pk_core.specs.Moves.{StandsFor, KeepsAll, BreaksAll, MayStep, StepKeeps, LeavesValues}
-use Rattle.pk_core.specs.Emptying.{StepOrRead, KeepsOrReads, MergesOnce, FreezesOnce, merges_left, MayEmpty}
+use Rattle.pk_core.specs.Emptying.{StepOrRead, KeepsOrReads, MergesOnce, FreezesOnce, merges_left, merges_due, MayEmpty}
 use Rattle.pk_core.specs.Staying.{Stays}
 use Rattle.pk_core.specs.Reclaiming.{is_tight_for}
 use Rattle.pk_core.proofs.Keeping.{KeepsAll-none, KeepsAll-then, BreaksAll-then}
@@ -39,6 +40,7 @@ use Rattle.pk_core.proofs.Staying.{stays_same, stays_then}
 use Rattle.pk_core.proofs.Steps.{none_step, keeps_later, may_after, leaves_none, leaves_twice}
 use Rattle.pk_core.proofs.Freezing.{no_need, left_some, frozen_is_room}
 use Rattle.pk_schedule.proofs.Backlogs.{index_backlog}
+use Rattle.pk_core.proofs.Callings.{few_none, few_within, few_more, few_then}
 use Rattle.pk_core.proofs.ReadSteps.{Passes, passes_none, step_passes, reading_passes, reads_nothing, reading_failed, reading_then, reading_end}
 
 -- ---- steps in a row
@@ -79,13 +81,15 @@ may_behind a b n s0 s1 may same step = record {
 
 -- ---- merges
 
--- So many were made, they kept the map, and each lowered what is left.
+-- So many were made, they kept the map, and each lowered what is left; each root lowered the level that is due.
 pub record Emptying (a : Parts) (s0 : BoardState) (b : Parts) (s : BoardState) : Type 0 where
   pub made : ℕ
   pub step : KeepsOrReads {T = Unit {0}} a b made s0 s (Ok tt)
   pub may : MayStep b s
   pub none_pending : b.log.pending ≡ []
+  pub calls : FewCalls made s0 s
   pub left : made + merges_left b ≤ merges_left a
+  pub due : roots s + merges_due b ≤ roots s0 + merges_due a
   pub leaves : LeavesValues a b
   pub stays : Stays a b
 
@@ -95,7 +99,9 @@ emptying_begin a s0 may none = record {
   step = reading_end tt (λ (x : Unit). KeepsAll a a s0 s0) (KeepsAll a a s0 s0) (BreaksAll a s0 s0) a.log.shape 0 s0 s0 (passes_none s0) may.ready (KeepsAll-none a a s0 s0 refl refl);
   may = may;
   none_pending = none;
+  calls = few_none s0;
   left = omega arith;
+  due = omega arith;
   leaves = leaves_none a;
   stays = stays_same a a refl;
 }
@@ -120,7 +126,9 @@ module _ (a : Parts) (s0 : BoardState) (b : Parts) (s : BoardState) (ready : IsR
         step = reads_later (Ok tt) a b c on.made 1 (on.made + 1) s0 s s1 ready on.leaves.same_shape (omega arith) on.step.came.0 passes one;
         may = may_behind b c 1 s s1 on.may once.leaves.same_shape one;
         none_pending = once.none_pending;
+        calls = few_more on.made s0 s s1 on.calls once.calls;
         left = (let left = on.left in omega (arith, left, less));
+        due = (let before = on.due in let after = once.due in omega (arith, before, after));
         leaves = leaves_twice a b c on.leaves once.leaves;
         stays = stays_then a b c on.stays once.stays;
       }
@@ -144,24 +152,46 @@ module _ (a : Parts) (s0 : BoardState) (b : Parts) (s : BoardState) (ready : IsR
       let T : Parts → BoardState → Type 0 = λ d t. KeepsOrReads {T = Unit {0}} a d (merges_left a + 1) s0 t (Ok tt) in
       subst (λ d. T d s1) (sym idle.1) (subst (λ t. T b t) (sym idle.2) emptying_end)
 
+  pub idle_calls : (c : Parts) (s1 : BoardState) (x : Stepped) → x ≡ Idle → MergesOnce b c s s1 (Ok x) → FewCalls (merges_left a) s0 s1
+  idle_calls c s1 x is once =
+      let idle = once.idle (ap (λ y. Ok y) is) in
+      let left = on.left in
+      subst (λ (t : BoardState). FewCalls (merges_left a) s0 t) (sym idle.2) (few_within on.made (merges_left a) s0 s (omega (arith, left)) on.calls)
+
+  -- the call that failed was one of a merge
+  pub failed_calls : (c : Parts) (s1 : BoardState) (e : Fault) → MergesOnce b c s s1 (Err e) → FewCalls (merges_left a) s0 s1
+  failed_calls c s1 e once =
+      let left = on.left in
+      let some = once.some in
+      few_within (on.made + 1) (merges_left a) s0 s1 (omega (arith, left, some)) (few_more on.made s0 s s1 on.calls once.calls)
+
   pub emptying_failed : (c : Parts) (s1 : BoardState) (e : Fault) → MergesOnce b c s s1 (Err e) → KeepsOrReads {T = Unit {0}} a c (merges_left a + 1) s0 s1 (Err e)
   emptying_failed c s1 e once =
       let left = on.left in
       reads_later (Err e) a b c on.made 1 (merges_left a + 1) s0 s s1 ready on.leaves.same_shape (omega (arith, left)) on.step.came.0 passes (reads_failed e b c 1 1 s s1 (omega arith) once.step)
+
+  -- four merges install four roots
+  pub emptying_roots : (s1 : BoardState) → roots s1 ≤ roots s + merges_due b → roots s1 ≤ roots s0 + 4
+  emptying_roots s1 few =
+      let due = on.due in
+      let most = due_most a.log.shape (backlog_of (index_of a)) in
+      omega (arith, few, due, most)
 
 -- ---- a freeze
 
 abbrev pub freeze_left_of : Parts → ℕ
 freeze_left_of d = freeze_left d.schedule.freeze d.log.next
 
--- So many steps of it were made, they kept the map, and each lowered what is left.
+-- So many steps of it were made, they kept the map, and each lowered what is left; none installed a root.
 pub record Ongoing (a : Parts) (s0 : BoardState) (b : Parts) (s : BoardState) : Type 0 where
   pub made : ℕ
   pub step : StepKeeps {T = Unit {0}} a b made s0 s (Ok tt)
   pub may : MayStep b s
   pub none_pending : b.log.pending ≡ []
   pub none_merges : has_no_merge (index_of b) ≡ true
+  pub calls : FewCalls made s0 s
   pub left : made + freeze_left_of b ≤ freeze_left_of a
+  pub no_root : roots s ≡ roots s0
   pub leaves : LeavesValues a b
   pub stays : Stays a b
 
@@ -172,7 +202,9 @@ ongoing_begin a s0 may none none_merges = record {
   may = may;
   none_pending = none;
   none_merges = none_merges;
+  calls = few_none s0;
   left = omega arith;
+  no_root = refl;
   leaves = leaves_none a;
   stays = stays_same a a refl;
 }
@@ -231,10 +263,16 @@ module _ (a : Parts) (s0 : BoardState) (b : Parts) (s : BoardState) (ready : IsR
         may = may_after b c 1 s s1 tt on.may once.leaves.same_shape one;
         none_pending = once.none_pending;
         none_merges = still_none (index_of b) (index_of c) moves ∙ on.none_merges;
+        calls = few_more on.made s0 s s1 on.calls once.calls;
         left = (let left = on.left in let less = moves.lowers.less in let none = moves.lowers.none_ready in omega (arith, left, less, none));
+        no_root = once.no_root (ap (λ y. Ok y) is) ∙ on.no_root;
         leaves = leaves_twice a b c on.leaves once.leaves;
         stays = stays_then a b c on.stays once.stays;
       }
+
+  -- whether it went on, ended or failed
+  pub ongoing_calls : (c : Parts) (s1 : BoardState) (r : Result Bool Fault) → FreezesOnce b c s s1 r → FewCalls whole_freeze s0 s1
+  ongoing_calls c s1 r once = few_within (on.made + 1) whole_freeze s0 s1 room_left (few_more on.made s0 s s1 on.calls once.calls)
 
   pub ongoing_end : (c : Parts) (s1 : BoardState) (x : Bool) → FreezesOnce b c s s1 (Ok x) → StepKeeps {T = Unit {0}} a c whole_freeze s0 s1 (Ok tt)
   ongoing_end c s1 x once = keeps_later (Ok tt) a b c on.made 1 whole_freeze s0 s s1 tt ready on.leaves.same_shape room_left on.step (ended_keeps x b c 1 s s1 once.step)
@@ -243,6 +281,13 @@ module _ (a : Parts) (s0 : BoardState) (b : Parts) (s : BoardState) (ready : IsR
   ongoing_failed c s1 e once =
       keeps_later (Err e) a b c on.made 1 whole_freeze s0 s s1 tt ready on.leaves.same_shape room_left on.step
       (Step-broken e (λ (x : Bool). KeepsAll b c s s1) (λ (x : Unit). KeepsAll b c s s1) (BreaksAll b s s1) (BreaksAll b s s1) b.log.shape 1 1 s s1 (omega arith) (λ broken. broken) once.step)
+
+  -- its last step installs one
+  pub ongoing_roots : {T : Type 0} (r : Result T Fault) (c : Parts) (s1 : BoardState) → StepKeeps b c 1 s s1 r → roots s1 ≤ roots s0 + 1
+  ongoing_roots r c s1 step =
+      let one : roots s1 ≤ roots s + 1 = step.roots_few in
+      let none = on.no_root in
+      omega (arith, one, none)
 
   -- ---- behind it any key has room
 
@@ -306,6 +351,14 @@ module _ (a b : Parts) (s0 s1 : BoardState) (may : MayStep a s0) where
       reads_later r a b c (merges_left a + 1) whole_freeze (room_calls a.log.shape) s0 s1 s2 may.ready same (omega (arith, left)) step.came.0 (passes_reads tt a b (merges_left a + 1) s0 s1 step)
       (keeps_reads r b c whole_freeze s1 s2 second)
 
+  pub room_calls_made : (s2 : BoardState) → FewCalls (merges_left a) s0 s1 → FewCalls whole_freeze s1 s2 → FewCalls (emptying a.log.shape 4 + whole_freeze) s0 s2
+  room_calls_made s2 first second =
+      let left = left_most a s0 may in
+      few_within (merges_left a + whole_freeze) (emptying a.log.shape 4 + whole_freeze) s0 s2 (omega (arith, left)) (few_then (merges_left a) whole_freeze s0 s1 s2 first second)
+
+  pub no_room_calls_made : FewCalls (merges_left a) s0 s1 → FewCalls (emptying a.log.shape 4 + whole_freeze) s0 s1
+  no_room_calls_made first = let left = left_most a s0 may in few_within (merges_left a) (emptying a.log.shape 4 + whole_freeze) s0 s1 (omega (arith, left)) first
+
   pub no_room_made : (e : Fault) → KeepsOrReads {T = Unit {0}} a b (merges_left a + 1) s0 s1 (Err e) → KeepsOrReads {T = Unit {0}} a b (room_calls a.log.shape) s0 s1 (Err e)
   no_room_made e step = let left = left_most a s0 may in reads_failed e a b (merges_left a + 1) (room_calls a.log.shape) s0 s1 (omega (arith, left)) step
 
@@ -319,6 +372,11 @@ pub room_committed : (r : Result Unit Fault) (a b c : Parts) (s0 s1 s2 : BoardSt
 room_committed r a b c s0 s1 s2 ready same first second =
     let calls : room_calls b.log.shape ≡ room_calls a.log.shape = ap (λ (s : Shape). room_calls s) same in
     reads_later r a b c 0 (room_calls b.log.shape) (room_calls a.log.shape) s0 s1 s2 ready same (omega (arith, calls)) first.ended (passes_keeps tt a b 0 s0 s1 first) second
+
+pub committed_calls : (a b : Parts) (s0 s1 s2 : BoardState) → b.log.shape ≡ a.log.shape → FewCalls commit_calls s0 s1 → FewCalls (emptying b.log.shape 4 + whole_freeze) s1 s2 → FewCalls (room_calls a.log.shape) s0 s2
+committed_calls a b s0 s1 s2 same first second =
+    let whole : emptying b.log.shape 4 ≡ emptying a.log.shape 4 = ap (λ (s : Shape). emptying s 4) same in
+    few_within (commit_calls + (emptying b.log.shape 4 + whole_freeze)) (room_calls a.log.shape) s0 s2 (omega (arith, whole)) (few_then commit_calls (emptying b.log.shape 4 + whole_freeze) s0 s1 s2 first second)
 
 -- the commit failed
 pub not_committed : (e : Fault) (a b : Parts) (s0 s1 : BoardState) → StepKeeps {T = Unit {0}} a b 0 s0 s1 (Err e) → KeepsOrReads {T = Unit {0}} a b (room_calls a.log.shape) s0 s1 (Err e)

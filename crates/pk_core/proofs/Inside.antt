@@ -1,6 +1,6 @@
 -- Steps of merges and of a freeze inside a command: each keeps the map.
-use Rattle.std.proofs.Common.{◌≡◌, inl, inr, ℕ, ◌+◌, ◌-◌, ◌<◌, ◌≤◌, refl, sym, ap, subst, ◌∙◌, arith, Bool, true, false, List, [], length, Some, Result, Ok, Err}
-use Rattle.std.specs.Prelude.{IfOk, IfErr, OnOk, OnErr, MatchBool}
+use Rattle.std.proofs.Common.{◌≡◌, inl, inr, ℕ, zero, suc, ◌+◌, ◌-◌, ◌<◌, ◌≤◌, refl, sym, ap, subst, ◌∙◌, arith, Bool, true, false, if◌then◌else◌, List, [], length, Option, Some, None, Result, Ok, Err}
+use Rattle.std.specs.Prelude.{IfOk, IfErr, IfSome, OnOk, OnErr, MatchBool}
 use Rattle.pk_base.specs.Shape.{Shape}
 use Rattle.pk_base.specs.Page.{Flash, page_at}
 use Rattle.pk_base.specs.Map.{Map}
@@ -21,17 +21,24 @@ use Rattle.pk_model.specs.Wear.{root_number, roots}
 use Rattle.pk_model.proofs.Growing.{weaken, weaken_went}
 use Rattle.pk_steps.specs.Under.{places}
 use Rattle.pk_steps.proofs.Untouched.{under_reads}
+use Rattle.pk_root.specs.declared.next.Next.{Next}
+use Rattle.pk_root.specs.Installing.{erases_next}
+use Rattle.pk_compact.specs.FreezeSteps.{install_steps}
+use Rattle.pk_schedule.specs.declared.phase.Phase.{Phase}
+use Rattle.pk_schedule.specs.declared.phase.Phase.TheVariants.{Idle as Between, Running, Ready}
 use Rattle.pk_schedule.specs.declared.phase.Stepped.{Stepped}
 use Rattle.pk_schedule.specs.declared.phase.Stepped.TheVariants.{Worked, Idle}
 use Rattle.pk_schedule.specs.Index.{Index, IndexOnFlash}
-use Rattle.pk_schedule.specs.Steps.{MayWork, MayFreeze, IndexMoves, Moves, Unmoved, StandsStill, Breaks, KeepsActive, FreezeMoves, Freezes, Less, backlog_of, has_no_merge}
+use Rattle.pk_schedule.specs.Steps.{MayWork, MayFreeze, IndexMoves, Moves, Unmoved, StandsStill, Breaks, KeepsActive, FreezeMoves, Freezes, Less, LessIsLeft, backlog_of, merge_left, has_no_merge, is_between}
 use Rattle.pk_log.specs.State.{LogState}
 use Rattle.pk_jrn.specs.Epochs.{JournalEpoch}
-use Rattle.pk_work.specs.Work.{merging}
+use Rattle.pk_work.specs.Backlog.{due_level}
+use Rattle.pk_work.specs.Work.{merging, merging_from}
+use Rattle.pk_schedule.proofs.Backlogs.{some_due}
 use Rattle.pk_core.specs.Parts.{Parts, frames_of, index_of, outputs_of}
 use Rattle.pk_core.specs.Agreeing.{DriveOnFlashWith}
 use Rattle.pk_core.specs.Moves.{StandsFor, Keeps, KeepsAll, BreaksAll, LeavesValues}
-use Rattle.pk_core.specs.Emptying.{Came, ReadsUpTo, OnRunning, MayEmpty, MergesOnce, FreezesOnce, merges_left}
+use Rattle.pk_core.specs.Emptying.{Came, ReadsUpTo, OnRunning, MayEmpty, MergesOnce, FreezesOnce, merges_left, merges_due}
 use Rattle.pk_core.specs.Staying.{Stays}
 use Rattle.pk_core.proofs.Standing.{same_found}
 use Rattle.pk_core.proofs.Keeping.{KeepsAll-none}
@@ -44,6 +51,13 @@ number_top : (shape : Shape) (flash : Flash) (top : ℕ × Root) → newest_root
 unfolding root_number
 number_top shape flash top is = rw is refl
 
+-- so many roots were installed as the index has in its own
+number_is : (x : Index) (frames : ℕ) (board : BoardState) (top : ℕ × Root) (found : Found) → IsReady board x.log.shape → IndexOnFlash x frames board.pages top found → roots board ≡ x.log.root.number
+number_is x frames board top found ready stands =
+    ap (λ (s : Shape). root_number s board.pages) (shape_is board x.log.shape ready)
+    ∙ number_top x.log.shape board.pages top stands.logs.is_top
+    ∙ sym (ap (λ (r : Root). r.number) stands.logs.root_is)
+
 module _ (d : Parts) (old : BoardState) (may : MayEmpty d old) where
   -- the map of the drive on its own shape
   abbrev pub Here : Map → Type 0
@@ -52,9 +66,8 @@ module _ (d : Parts) (old : BoardState) (may : MayEmpty d old) where
   pub may_work : (m : Map) (there : Here m) → MayWork (index_of d) (frames_of d) old.pages there.top there.found m
   may_work m there = may_work_with d old.pages there.top there.found there.without m there.with may.none_pending (
       let few = may.number in
-      let of_board : roots old ≡ there.top.1.number = ap (λ (s : Shape). root_number s old.pages) (shape_is old d.log.shape may.may.ready) ∙ number_top d.log.shape old.pages there.top there.with.index.logs.is_top in
-      let of_log : d.log.root.number ≡ there.top.1.number = ap (λ (r : Root). r.number) there.with.index.logs.root_is in
-      omega (arith, few, of_board, of_log))
+      let of_log : roots old ≡ d.log.root.number = number_is (index_of d) (frames_of d) old there.top there.found may.may.ready there.with.index in
+      omega (arith, few, of_log))
 
   -- for some map
   pub some_work : (frames : ℕ) × (top : ℕ × Root) × (found : Found) × (m : Map) × MayWork (index_of d) frames old.pages top found m
@@ -143,12 +156,31 @@ one_call old new few (inr (inr (inr (same, p, e)))) = record { up = omega (arith
 
 -- ---- a step of the merges
 
+installs_some : (next : Next) → 1 ≤ install_steps next
+installs_some next = picked (erases_next next)
+  where
+    picked : (b : Bool) → 1 ≤ (if b then 2 else 1)
+    picked true = omega arith
+    picked false = omega arith
+
+-- a merge that runs has steps left
+running_some : (phase : Phase) (x : Index) → IfSome (merge_left phase x) (λ left. 1 ≤ left)
+running_some Between x = tt
+running_some (Running level) x = omega arith
+running_some (Ready level) x = installs_some x.log.next
+
+merging_some : (shape : Shape) (level : ℕ) (merge : Option ℕ) → 1 ≤ level → IfSome merge (λ left. 1 ≤ left) → 1 ≤ merging_from shape level merge
+merging_some shape zero merge due some = absurd (omega (arith, due))
+merging_some shape (suc level) None due some = omega arith
+merging_some shape (suc level) (Some left) due some = omega (arith, some)
+
 -- what the schedule says of one
 pub record MergeStep (x : Index) (old : BoardState) (x' : Index) (new : BoardState) (r : Result Stepped Fault) : Type 0 where
   pub idle : r ≡ Ok Idle → (has_no_merge x ≡ true) × (x' ≡ x) × (new ≡ old)
   pub moves : r ≡ Ok Worked → Moves x old x' new
   pub less : r ≡ Ok Worked → Less x old.pages x'
   pub active : KeepsActive x.log x'.log
+  pub running : OnErr r (is_between x.schedule.phase ≡ false)
   pub unmoved : r ≡ Err Reading → Unmoved x x' × OnlyReading old new
   pub again : r ≡ Err Reading → StandsStill x old x' new
   pub unread : r ≡ Err Reading → Rose old.read_faults new.read_faults × Rose old.flash_faults new.flash_faults
@@ -245,6 +277,62 @@ module _ (d : Parts) (old : BoardState) (may : MayEmpty d old) (x : Index) (new 
   merge_stays (Err Reading) step = still_stays (step.unmoved refl).0
   merge_stays (Err Stopped) step = tt
 
+  -- ---- what was left where a call failed
+
+  merge_some : (r : Result Stepped Fault) → MergeStep (index_of d) old x new r → OnErr r (1 ≤ merges_left d)
+  merge_some (Ok s) step = tt
+  merge_some (Err e) step =
+      let due : 1 ≤ merges_due d = some_due (index_of d) (frames_of d) old.pages some.1.top some.1.found some.1.with.index step.running in
+      merging_some d.log.shape (merges_due d) (merge_left d.schedule.phase (index_of d)) due (running_some d.schedule.phase (index_of d))
+
+  -- ---- the roots
+
+  was_number : roots old ≡ d.log.root.number
+  was_number = number_is (index_of d) (frames_of d) old some.1.top some.1.found may.may.ready some.1.with.index
+
+  its_number : IsReady new d.log.shape → x.log.shape ≡ d.log.shape → Moves (index_of d) old x new → roots new ≡ x.log.root.number
+  its_number ready same moves =
+      let is = moved moves in
+      number_is x (frames_of d) new is.then_top is.then_found (subst (λ (s : Shape). IsReady new s) (sym same) ready) is.stands
+
+  its_less : Less (index_of d) old.pages x → LessIsLeft (index_of d) x
+  its_less less = less (frames_of d) some.1.top some.1.found some.0 (may_work d old may some.0 some.1)
+
+  -- what is due of an index on this shape
+  abbrev due_of : Index → ℕ
+  due_of y = due_level d.log.shape (backlog_of y)
+
+  worked_due : MergeStep (index_of d) old x new (Ok Worked) → roots new + due_of x ≤ roots old + merges_due d
+  worked_due step =
+      let same = same_shape step.active in
+      let was = was_number in
+      let is = its_number step.ready same (step.moves refl) in
+      let less = (its_less (step.less refl)).roots in
+      omega (arith, was, is, less)
+
+  idle_due : MergeStep (index_of d) old x new (Ok Idle) → roots new + due_of x ≤ roots old + merges_due d
+  idle_due step =
+      let idle = step.idle refl in
+      let board : roots new ≡ roots old = ap roots idle.2 in
+      let due : due_of x ≡ merges_due d = ap due_of idle.1 in
+      omega (arith, board, due)
+
+  on_shape : x.log.shape ≡ d.log.shape → roots new + due_of x ≤ roots old + merges_due d → roots new + merges_due its ≤ roots old + merges_due d
+  on_shape same few = subst (λ (s : Shape). roots new + due_level s (backlog_of x) ≤ roots old + merges_due d) (sym same) few
+
+  merge_due : (r : Result Stepped Fault) → MergeStep (index_of d) old x new r → OnOk r (roots new + merges_due its ≤ roots old + merges_due d)
+  merge_due (Ok Idle) step = on_shape (same_shape step.active) (idle_due step)
+  merge_due (Ok Worked) step = on_shape (same_shape step.active) (worked_due step)
+  merge_due (Err e) step = tt
+
+  merge_installs : (r : Result Stepped Fault) → MergeStep (index_of d) old x new r → roots new ≤ roots old + merges_due d
+  merge_installs (Ok Idle) step = let few = idle_due step in omega (arith, few)
+  merge_installs (Ok Worked) step = let few = worked_due step in omega (arith, few)
+  merge_installs (Err e) step =
+      let one = step.installs in
+      let due : 1 ≤ merges_due d = some_due (index_of d) (frames_of d) old.pages some.1.top some.1.found some.1.with.index step.running in
+      omega (arith, one, due)
+
   pub merges_once : (r : Result Stepped Fault) → MergeStep (index_of d) old x new r → old.read_faults ≤ last_count → old.reads ≤ last_count → MergesOnce d its old new r
   merges_once r step few few_reads = record {
     step = record {
@@ -255,9 +343,13 @@ module _ (d : Parts) (old : BoardState) (may : MayEmpty d old) (x : Index) (new 
       ready = step.ready;
     };
     idle = λ is. let idle = step.idle is in (idle.0, ap (with_index d) idle.1, idle.2);
+    calls = step.calls;
+    some = merge_some r step;
     less = λ is.
-        let less = (step.less is (frames_of d) some.1.top some.1.found some.0 (may_work d old may some.0 some.1)).merging in
+        let less = (its_less (step.less is)).merging in
         subst (λ (s : Shape). merging s (backlog_of x) < merges_left d) (sym (same_shape step.active)) less;
+    installs = merge_installs r step;
+    due = merge_due r step;
     none_pending = ap (λ (l : LogState). l.pending) step.active ∙ may.none_pending;
     leaves = merge_leaves r step;
     stays = merge_stays r step;
@@ -273,9 +365,14 @@ module _ (d : Parts) (old : BoardState) (may : MayEmpty d old) (x : Index) (new 
   freeze_stays true moves done = begun_stays done.takes_more moves
   freeze_stays false moves done = moved_stays (ap (λ (l : LogState). l.epoch) done.log) moves
 
+  -- a step behind which it goes on installs no root
+  freeze_root : (done : Bool) → IsReady new d.log.shape → x.log.shape ≡ d.log.shape → Moves (index_of d) old x new → FreezeDone done → ◌≡◌ {A = Result Bool Fault} (Ok done) (Ok false) → roots new ≡ roots old
+  freeze_root true ready same moves done is = absurd (let z : ⊥ = cc in z)
+  freeze_root false ready same moves done is = its_number ready same moves ∙ ap (λ (l : LogState). l.root.number) done.log ∙ sym was_number
+
   pub freezes_once : (r : Result Bool Fault) → OnOk r (Moves (index_of d) old x new) → IfOk r FreezeDone → (x.log.shape ≡ d.log.shape) × (x.log.pending ≡ d.log.pending) → IfErr r (λ fault. fault ≡ Stopped)
-      → OnErr r (Breaks (index_of d) old new × Stops old new) → OnOk r (Works old new) → roots new ≤ roots old + 1 → IsReady new d.log.shape → FreezesOnce d its old new r
-  freezes_once (Ok done) moves freezes same stopped broken works few ready = record {
+      → OnErr r (Breaks (index_of d) old new × Stops old new) → OnOk r (Works old new) → AtMostOneCall old new → roots new ≤ roots old + 1 → IsReady new d.log.shape → FreezesOnce d its old new r
+  freezes_once (Ok done) moves freezes same stopped broken works calls few ready = record {
     step = record {
       ended = moved_keeps d old may x new ready moves;
       broken = tt;
@@ -285,12 +382,14 @@ module _ (d : Parts) (old : BoardState) (may : MayEmpty d old) (x : Index) (new 
       roots_few = few;
       ready = ready;
     };
+    calls = calls;
     freezes = freezes;
+    no_root = freeze_root done ready same.0 moves freezes;
     none_pending = same.1 ∙ may.none_pending;
     leaves = moved_leaves same.0 moves;
     stays = freeze_stays done moves freezes;
   }
-  freezes_once (Err fault) moves freezes same stopped broken works few ready = record {
+  freezes_once (Err fault) moves freezes same stopped broken works calls few ready = record {
     step = record {
       ended = tt;
       broken = broken_breaks d old may new broken.0;
@@ -300,7 +399,9 @@ module _ (d : Parts) (old : BoardState) (may : MayEmpty d old) (x : Index) (new 
       roots_few = few;
       ready = ready;
     };
+    calls = calls;
     freezes = tt;
+    no_root = λ is. absurd (let z : ⊥ = cc in z);
     none_pending = same.1 ∙ may.none_pending;
     leaves = tt;
     stays = tt;

@@ -54,7 +54,7 @@ programs_then a b c n m first second = record {
 
 -- ---- a value
 
-written_programs : (shape : Shape) (key : Key) (page : ℕ) (value : List ℕ) (k : ℕ) (board : BoardState) → Programs k board (written shape key page value k board)
+pub written_programs : (shape : Shape) (key : Key) (page : ℕ) (value : List ℕ) (k : ℕ) (board : BoardState) → Programs k board (written shape key page value k board)
 written_programs shape key page value zero board = record { programs = refl; erases = refl }
 written_programs shape key page value (suc k) board =
     let rest = written_programs shape key page value k board in

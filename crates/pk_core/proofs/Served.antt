@@ -29,7 +29,7 @@ use Rattle.pk_data.specs.State.{needs_reclaim}
 use Rattle.pk_nand.specs.Effects.{NoFault, OnlyFlash}
 use Rattle.pk_drive.specs.Drive.{HoldsMap}
 use Rattle.pk_model.specs.Growth.{Reaches, Goes}
-use Rattle.pk_drive.specs.Exec.{Executed, most_installs}
+use Rattle.pk_drive.specs.Exec.{Executed, most_installs, most_roots}
 use Rattle.pk_model.specs.Crashes.{CrashFinds, commit, change, command}
 use Rattle.pk_drive.specs.Seen.{reply_of as shown}
 use Rattle.pk_model.specs.Wear.{roots}
@@ -74,7 +74,7 @@ no_yes e = cc
 ok_sound : ◌≡◌ {A = ℕ} 0 0x88 → ⊥
 ok_sound e = cc
 
-module _ (d : Parts) (old new : BoardState) (a : DriveOnFlash d old.shape old.pages) (c : Command) (after : Map) (count : IsCounted old new) (few_roots : roots new ≤ roots old + 65535) (one : most_installs c.opcode c.size ≡ 65535)
+module _ (d : Parts) (old new : BoardState) (a : DriveOnFlash d old.shape old.pages) (c : Command) (after : Map) (count : IsCounted old new) (few_roots : roots new ≤ roots old + most_roots) (one : most_installs c.opcode c.size ≡ most_roots)
     (rest : OnlyFlash old new) (other : op_of c.opcode ≡ Some Retrieve → ⊥) (leaves : map_after d.log.shape (limit d.log.shape) a.all c ≡ after) where
   told : old.shape ≡ Some d.log.shape
   told = a.told_is ∙ ap (λ s. Some s) (sym a.with.shape_is)
@@ -321,36 +321,33 @@ module _ (d : Parts) (old : BoardState) (r : Request) (value : List ℕ) (k : Ke
     leaves_put : map_after d.log.shape (limit d.log.shape) all c ≡ insert all k value
     leaves_put = store_leaves d.log.shape (frames_of d) all c passes (ap op_of op) late_none ∙ ap (λ q. insert all q value) (sym named)
 
-    one_root : most_installs r.opcode r.size ≡ 65535
+    one_root : most_installs r.opcode r.size ≡ most_roots
     one_root = ap (λ x. most_installs x r.size) op
 
     -- what putting it came to
-    pub store_came : (answer : Result Unit Fault) (e : Parts) (new : BoardState) (most : ℕ) (into : List ℕ) (outcome : Outcome) (reads : ℕ) → StoresOrReads d e most old new k value answer → most + 4 ≤ 65535 → IsCounted old new → OnRunning (StaysBetween d e) answer
+    pub store_came : (answer : Result Unit Fault) (e : Parts) (new : BoardState) (most : ℕ) (into : List ℕ) (outcome : Outcome) (reads : ℕ) → StoresOrReads d e most old new k value answer → roots new ≤ roots old + most_roots → IsCounted old new → OnRunning (StaysBetween d e) answer
         → outcome ≡ outcome_for answer reads → Executes d (stopped_by e answer) old new c outcome into (new.reads - old.reads)
     unfolding its_drive
     store_came (Ok u) e new most into outcome reads step few count stays told_is =
-        let few_roots = step.roots_few in
         let puts : Changes e d.log.shape all (insert all k value) old new = step.came.0 d.log.shape all may_store in
         let stepped : Step d.log.shape (frames_of d) all c (success 0 []) (insert all k value) =
         subst (λ q. Step d.log.shape (frames_of d) all c (success 0 []) (insert all q value)) (sym named) (store_step d.log.shape (frames_of d) all c passes (ap op_of op) late_none) in
-        let done = does_change d old new s.agrees c (insert all k value) count (omega (arith, few, few_roots)) one_root step.rest (store_other r.opcode op) leaves_put e (success 0 []) puts stays.frames step.came.1 ok_sound stepped in
+        let done = does_change d old new s.agrees c (insert all k value) count few one_root step.rest (store_other r.opcode op) leaves_put e (success 0 []) puts stays.frames step.came.1 ok_sound stepped in
         subst (λ (x : Outcome). Executes d e old new c x into (new.reads - old.reads)) (sym told_is) (record {
           stops = stays.stopped ∙ s.runs;
           agrees = λ _. (agrees_behind d old new s.agrees e (insert all k value) step.rest puts.stands, few_same d e stays.same_shape stays.few);
           does = done;
         })
     store_came (Err Reading) e new most into outcome reads step few count stays told_is =
-        let few_roots = step.roots_few in
         let kept : SameMap e d.log.shape all old new = step.came.0 d.log.shape all (its_drive d old s.agrees k o is_key looks) in
-        let done = does_keep d old new s.agrees c (insert all k value) count (omega (arith, few, few_roots)) one_root step.rest (store_other r.opcode op) leaves_put e kept stays.frames step.came.1 passes in
+        let done = does_keep d old new s.agrees c (insert all k value) count few one_root step.rest (store_other r.opcode op) leaves_put e kept stays.frames step.came.1 passes in
         subst (λ (x : Outcome). Executes d e old new c x into (new.reads - old.reads)) (sym told_is) (record {
           stops = stays.stopped ∙ s.runs;
           agrees = λ _. (agrees_behind d old new s.agrees e all step.rest kept.stands, few_same d e stays.same_shape stays.few);
           does = done;
         })
     store_came (Err Stopped) e new most into outcome reads step few count stays told_is =
-        let few_roots = step.roots_few in
-        let done = does_stop d old new s.agrees c (insert all k value) count (omega (arith, few, few_roots)) one_root step.rest (store_other r.opcode op) leaves_put (sight_of (record e { stopped = true })) (step.came.0 d.log.shape all may_store) step.came.1 in
+        let done = does_stop d old new s.agrees c (insert all k value) count few one_root step.rest (store_other r.opcode op) leaves_put (sight_of (record e { stopped = true })) (step.came.0 d.log.shape all may_store) step.came.1 in
         subst (λ (x : Outcome). Executes d (record e { stopped = true }) old new c x into (new.reads - old.reads)) (sym told_is) (record { stops = refl; agrees = λ is. absurd (no_yes is); does = done })
 
 -- ---- a Delete
@@ -401,36 +398,33 @@ module _ (d : Parts) (old : BoardState) (r : Request) (v : List ℕ) (k : Key) (
     leaves_gone : map_after d.log.shape (limit d.log.shape) its_map dc ≡ remove its_map k
     leaves_gone = delete_leaves d.log.shape (frames_of d) its_map dc delete_passed (ap op_of op) gone_late ∙ ap (λ q. remove its_map q) (sym named)
 
-    gone_root : most_installs r.opcode r.size ≡ 65535
+    gone_root : most_installs r.opcode r.size ≡ most_roots
     gone_root = ap (λ x. most_installs x r.size) op
 
     -- what taking it out came to
-    pub delete_came : (answer : Result Unit Fault) (e : Parts) (new : BoardState) (most : ℕ) (into : List ℕ) (outcome : Outcome) (reads : ℕ) → TakesOrReads d e most old new k p answer → most + 4 ≤ 65535 → IsCounted old new → OnRunning (StaysBetween d e) answer
+    pub delete_came : (answer : Result Unit Fault) (e : Parts) (new : BoardState) (most : ℕ) (into : List ℕ) (outcome : Outcome) (reads : ℕ) → TakesOrReads d e most old new k p answer → roots new ≤ roots old + most_roots → IsCounted old new → OnRunning (StaysBetween d e) answer
         → outcome ≡ outcome_for answer reads → Executes d (stopped_by e answer) old new dc outcome into (new.reads - old.reads)
     unfolding its_drive
     delete_came (Ok u) e new most into outcome reads step few count stays told_is =
-        let few_roots = step.roots_few in
         let takes : Changes e d.log.shape its_map (remove its_map k) old new = step.came.0 d.log.shape its_map may_take in
         let stepped : Step d.log.shape (frames_of d) its_map dc (success 0 []) (remove its_map k) =
         subst (λ q. Step d.log.shape (frames_of d) its_map dc (success 0 []) (remove its_map q)) (sym named) (delete_step d.log.shape (frames_of d) its_map dc delete_passed (ap op_of op) gone_late) in
-        let done = does_change d old new s.agrees dc (remove its_map k) count (omega (arith, few, few_roots)) gone_root step.rest (delete_other r.opcode op) leaves_gone e (success 0 []) takes stays.frames step.came.1 ok_sound stepped in
+        let done = does_change d old new s.agrees dc (remove its_map k) count few gone_root step.rest (delete_other r.opcode op) leaves_gone e (success 0 []) takes stays.frames step.came.1 ok_sound stepped in
         subst (λ (x : Outcome). Executes d e old new dc x into (new.reads - old.reads)) (sym told_is) (record {
           stops = stays.stopped ∙ s.runs;
           agrees = λ _. (agrees_behind d old new s.agrees e (remove its_map k) step.rest takes.stands, few_same d e stays.same_shape stays.few);
           does = done;
         })
     delete_came (Err Reading) e new most into outcome reads step few count stays told_is =
-        let few_roots = step.roots_few in
         let kept : SameMap e d.log.shape its_map old new = same_kept d e d.log.shape its_map old new (step.came.0 d.log.shape its_map (its_drive d old s.agrees k (Some p) is_key looks)) in
-        let done = does_keep d old new s.agrees dc (remove its_map k) count (omega (arith, few, few_roots)) gone_root step.rest (delete_other r.opcode op) leaves_gone e kept stays.frames step.came.1 delete_passed in
+        let done = does_keep d old new s.agrees dc (remove its_map k) count few gone_root step.rest (delete_other r.opcode op) leaves_gone e kept stays.frames step.came.1 delete_passed in
         subst (λ (x : Outcome). Executes d e old new dc x into (new.reads - old.reads)) (sym told_is) (record {
           stops = stays.stopped ∙ s.runs;
           agrees = λ _. (agrees_behind d old new s.agrees e its_map step.rest kept.stands, few_same d e stays.same_shape stays.few);
           does = done;
         })
     delete_came (Err Stopped) e new most into outcome reads step few count stays told_is =
-        let few_roots = step.roots_few in
-        let done = does_stop d old new s.agrees dc (remove its_map k) count (omega (arith, few, few_roots)) gone_root step.rest (delete_other r.opcode op) leaves_gone (sight_of (record e { stopped = true })) (step.came.0 d.log.shape its_map may_take) step.came.1 in
+        let done = does_stop d old new s.agrees dc (remove its_map k) count few gone_root step.rest (delete_other r.opcode op) leaves_gone (sight_of (record e { stopped = true })) (step.came.0 d.log.shape its_map may_take) step.came.1 in
         subst (λ (x : Outcome). Executes d (record e { stopped = true }) old new dc x into (new.reads - old.reads)) (sym told_is) (record { stops = refl; agrees = λ is. absurd (no_yes is); does = done })
 
 -- ---- behind the reads of a look-up

@@ -11,8 +11,9 @@ use Rattle.pk_nand.specs.BoardState.{BoardState}
 use Rattle.pk_nand.specs.Calls.{IsReady, last_count}
 use Rattle.pk_nand.specs.Effects.{AtMostOneCall, NoFault, OnlyFlash, Stops}
 use Rattle.pk_model.specs.Wear.{roots}
-use Rattle.pk_work.specs.Rest.{whole_reclaim}
-use Rattle.pk_work.specs.Calls.{room_calls, space_calls}
+use Rattle.pk_work.specs.Rest.{whole_freeze, whole_reclaim}
+use Rattle.pk_work.specs.Work.{emptying}
+use Rattle.pk_work.specs.Calls.{room_calls, room_roots, space_calls}
 use Rattle.pk_gc.specs.declared.course.Phase.{Phase}
 use Rattle.pk_gc.specs.declared.course.Phase.TheVariants.{Idle, Copies, GivesBack}
 use Rattle.pk_gc.specs.declared.course.Course.{Course}
@@ -26,10 +27,12 @@ use Rattle.pk_core.specs.Moves.{StandsFor, MayStep, StepKeeps, LeavesValues}
 use Rattle.pk_core.specs.Emptying.{KeepsOrReads, OnRunning}
 use Rattle.pk_core.specs.Staying.{Stays}
 use Rattle.pk_core.specs.Reclaiming.{MayReclaim, Lessens, LeavesIndex, DoesReclaim, Waits, CannotRead, FailsAll, is_tight_for}
-use Rattle.pk_core.specs.Spacing.{MovesOrReads, StaysSame, where_so, needs, has_moves, steps_for, space_left, Awaits, MaySpace, SpacesOnce}
+use Rattle.pk_core.specs.Spacing.{MovesOrReads, StaysSame, where_so, needs, has_moves, steps_for, space_left, space_roots, Awaits, MaySpace, SpacesOnce}
+use Rattle.pk_drive.specs.Calling.{FewCalls}
+use Rattle.pk_core.proofs.Callings.{few_none, few_one, few_within, few_then}
 use Rattle.pk_core.proofs.Inside.{one_call}
 use Rattle.pk_core.proofs.SameMaps.{same_held, same_unread, breaks_failed, moves_kept, moves_later, moves_failed, moves_within, moves_none, may_moved, passes_moved, stays_none, stays_both}
-use Rattle.pk_core.proofs.Spacing.{left_at, AwaitsAt, works_less, ends_less}
+use Rattle.pk_core.proofs.Spacing.{left_at, roots_at, AwaitsAt, works_less, works_roots, ends_less, ends_roots}
 
 true_false : true ≡ false → ⊥
 true_false e = cc
@@ -52,7 +55,7 @@ turn_at (GivesBack victim) d count (inr wanted) few = inl refl
 
 some_at : (p : Phase) (d : Parts) (count : ℕ) → AwaitsAt p count d → 1 ≤ left_at p count d
 some_at Idle d count (inl runs) = absurd (true_false (sym runs))
-some_at Idle d count (inr wanted) = let steps : where_so (needs count d) (whole_reclaim d.log.shape) ≡ whole_reclaim d.log.shape = ap (λ x. where_so x (whole_reclaim d.log.shape)) wanted in omega (arith, steps)
+some_at Idle d count (inr wanted) = let steps : where_so (needs count d) (whole_reclaim d.log.shape - 1) ≡ whole_reclaim d.log.shape - 1 = ap (λ x. where_so x (whole_reclaim d.log.shape - 1)) wanted in omega (arith, steps)
 some_at (Copies c) d count awaits = omega arith
 some_at (GivesBack victim) d count awaits = omega arith
 
@@ -87,8 +90,8 @@ module _ (count : ℕ) (b : Parts) (s0 : BoardState) (may : MaySpace count b s0)
   may_reclaim = record { may = may.may; none_pending = may.none_pending; turn = turn_at b.reclaim.phase b count awaits it.with.placed.few }
 
   module _ (c : Parts) (s1 : BoardState) (none : c.log.pending ≡ []) (same_roots : roots s1 ≡ roots s0) (calls : AtMostOneCall s0 s1) (rest : OnlyFlash s0 s1) (ready : IsReady s1 b.log.shape) (reads : s0.reads ≤ last_count) where
-    stepped : NoFault s0 s1 → Lessens b c s0 s1 → 1 + space_left count c ≤ space_left count b → SpacesOnce count b c s0 s1 (Ok tt)
-    stepped sound made less = record {
+    stepped : NoFault s0 s1 → Lessens b c s0 s1 → 1 + space_left count c ≤ space_left count b → space_roots count c ≤ space_roots count b → SpacesOnce count b c s0 s1 (Ok tt)
+    stepped sound made less roots_less = record {
       made = 1;
       some = omega arith;
       step = record {
@@ -98,20 +101,26 @@ module _ (count : ℕ) (b : Parts) (s0 : BoardState) (may : MaySpace count b s0)
         roots_few = omega (arith, same_roots);
         ready = ready;
       };
+      calls = few_one s0 s1 calls;
       within = omega (arith, less);
       left = less;
+      installs = omega (arith, same_roots);
+      roots_left = omega (arith, same_roots, roots_less);
       none_pending = none;
       stays = leaves_stay b c made.leaves;
     }
 
     worked : NoFault s0 s1 → DoesReclaim b c s0 s1 Worked → SpacesOnce count b c s0 s1 (Ok tt)
     worked sound made =
-        stepped sound made.0 (works_less count b c (ap (λ (d : Parts). d.log.shape) made.0.leaves) most b.reclaim.phase c.reclaim.phase awaits made.0.falls made.1)
+        let same = ap (λ (d : Parts). d.log.shape) made.0.leaves in
+        stepped sound made.0 (works_less count b c same most b.reclaim.phase c.reclaim.phase awaits made.0.falls made.1) (works_roots count b c same most b.reclaim.phase c.reclaim.phase awaits made.0.falls made.1)
 
     ended : NoFault s0 s1 → DoesReclaim b c s0 s1 Ended → SpacesOnce count b c s0 s1 (Ok tt)
     ended sound made =
-        let less = ends_less count b c (ap (λ (d : Parts). d.log.shape) made.0.leaves) most b.reclaim.phase awaits it.with.reclaim.full made.1.given made.1.from in
-        stepped sound made.0 (subst (λ (p : Phase). 1 + left_at p count c ≤ space_left count b) (sym made.1.idle) less)
+        let same = ap (λ (d : Parts). d.log.shape) made.0.leaves in
+        let less = ends_less count b c same most b.reclaim.phase awaits it.with.reclaim.full made.1.given made.1.from in
+        let roots_less = ends_roots count b c same most b.reclaim.phase awaits it.with.reclaim.full made.1.given made.1.from in
+        stepped sound made.0 (subst (λ (p : Phase). 1 + left_at p count c ≤ space_left count b) (sym made.1.idle) less) (subst (λ (p : Phase). roots_at p count c ≤ space_roots count b) (sym made.1.idle) roots_less)
 
     pub space_worked : (x : Reclaimed) → x ≡ Worked → NoFault s0 s1 → DoesReclaim b c s0 s1 x → SpacesOnce count b c s0 s1 (Ok tt)
     space_worked x is sound made = worked sound (subst (λ y. DoesReclaim b c s0 s1 y) is made)
@@ -134,8 +143,11 @@ module _ (count : ℕ) (b : Parts) (s0 : BoardState) (may : MaySpace count b s0)
             roots_few = omega (arith, same_roots);
             ready = ready;
           };
+          calls = few_one s0 s1 calls;
           within = some_at b.reclaim.phase b count awaits;
           left = tt;
+          installs = omega (arith, same_roots);
+          roots_left = tt;
           none_pending = none;
           stays = unread_stays b c s0 s1 is;
         }
@@ -151,8 +163,11 @@ module _ (count : ℕ) (b : Parts) (s0 : BoardState) (may : MaySpace count b s0)
             roots_few = omega (arith, same_roots);
             ready = ready;
           };
+          calls = few_one s0 s1 calls;
           within = some_at b.reclaim.phase b count awaits;
           left = tt;
+          installs = omega (arith, same_roots);
+          roots_left = tt;
           none_pending = tt;
           stays = tt;
         }
@@ -190,42 +205,67 @@ module _ (count : ℕ) (b : Parts) (s0 : BoardState) (may : MaySpace count b s0)
         let calls = calls_left course tight in
         omega (arith, before, calls)
 
-    frozen_once : (r : Result Unit Fault) → KeepsOrReads b d (room_calls b.log.shape) s0 s2 r → OnOk r (is_tight_for d ≡ false) → OnRunning (d.log.pending ≡ []) r → OnRunning (LeavesValues b d) r → OnRunning (Stays b d) r
-        → SpacesOnce count b d s0 s2 r
-    frozen_once (Ok x) step wide none leaves stays = record {
+    -- the roots of that room are those that were left
+    roots_before : space_roots count b ≡ room_roots
+    roots_before = ap (λ p. roots_at p count b) copies ∙ ap (λ x. where_so x room_roots) tight
+
+    roots_within : roots s2 ≤ roots s0 + room_roots → roots s2 ≤ roots s0 + space_roots count b
+    roots_within few = let all = roots_before in omega (arith, few, all)
+
+    roots_frozen : LeavesValues b d → is_tight_for d ≡ false → roots s2 ≤ roots s0 + room_roots → roots s2 + space_roots count d ≤ roots s0 + space_roots count b
+    roots_frozen leaves wide few =
+        let there : d.reclaim.phase ≡ Copies course = ap (λ (x : Parts). x.reclaim.phase) leaves.rest ∙ copies in
+        let none : space_roots count d ≡ 0 = ap (λ p. roots_at p count d) there ∙ ap (λ x. where_so x room_roots) wide in
+        let all = roots_before in
+        omega (arith, few, none, all)
+
+    frozen_once : (r : Result Unit Fault) → KeepsOrReads b d (room_calls b.log.shape) s0 s2 r → roots s2 ≤ roots s0 + room_roots → OnOk r (is_tight_for d ≡ false) → OnRunning (d.log.pending ≡ []) r → OnRunning (LeavesValues b d) r → OnRunning (Stays b d) r
+        → FewCalls (room_calls b.log.shape) s0 s2 → SpacesOnce count b d s0 s2 r
+    frozen_once (Ok x) step few wide none leaves stays calls = record {
       made = room_calls b.log.shape;
       some = omega arith;
       step = moves_kept (Ok x) b d (room_calls b.log.shape) s0 s2 step;
+      calls = calls;
       within = room_within;
       left = less_frozen leaves wide;
+      installs = roots_within few;
+      roots_left = roots_frozen leaves wide few;
       none_pending = none;
       stays = values_stay b d leaves stays;
     }
-    frozen_once (Err Reading) step wide none leaves stays = record {
+    frozen_once (Err Reading) step few wide none leaves stays calls = record {
       made = room_calls b.log.shape;
       some = omega arith;
       step = moves_kept (Err Reading) b d (room_calls b.log.shape) s0 s2 step;
+      calls = calls;
       within = room_within;
       left = tt;
+      installs = roots_within few;
+      roots_left = tt;
       none_pending = none;
       stays = values_stay b d leaves stays;
     }
-    frozen_once (Err Stopped) step wide none leaves stays = record {
+    frozen_once (Err Stopped) step few wide none leaves stays calls = record {
       made = room_calls b.log.shape;
       some = omega arith;
       step = moves_kept (Err Stopped) b d (room_calls b.log.shape) s0 s2 step;
+      calls = calls;
       within = room_within;
       left = tt;
+      installs = roots_within few;
+      roots_left = tt;
       none_pending = tt;
       stays = tt;
     }
 
-  pub space_frozen : (c d : Parts) (s1 s2 : BoardState) (r : Result Unit Fault) → Waits b c s0 s1 → KeepsOrReads c d (room_calls c.log.shape) s1 s2 r → OnOk r (is_tight_for d ≡ false) → OnRunning (d.log.pending ≡ []) r
-      → OnRunning (LeavesValues c d) r → OnRunning (Stays c d) r → SpacesOnce count b d s0 s2 r
-  space_frozen c d s1 s2 r waits step wide none leaves stays =
+  pub space_frozen : (c d : Parts) (s1 s2 : BoardState) (r : Result Unit Fault) → Waits b c s0 s1 → KeepsOrReads c d (room_calls c.log.shape) s1 s2 r → roots s2 ≤ roots s1 + room_roots → OnOk r (is_tight_for d ≡ false) → OnRunning (d.log.pending ≡ []) r
+      → OnRunning (LeavesValues c d) r → OnRunning (Stays c d) r → FewCalls (emptying c.log.shape 4 + whole_freeze) s1 s2 → SpacesOnce count b d s0 s2 r
+  space_frozen c d s1 s2 r waits step few wide none leaves stays calls =
       let kept = subst (λ (s : BoardState). KeepsOrReads b d (room_calls b.log.shape) s s2 r) waits.board (subst (λ (x : Parts). KeepsOrReads x d (room_calls x.log.shape) s1 s2 r) waits.same step) in
-      frozen_once waits.course waits.copies waits.tight d s2 r kept wide none
+      frozen_once waits.course waits.copies waits.tight d s2 r kept (subst (λ (s : BoardState). roots s2 ≤ roots s + room_roots) waits.board few) wide none
       (subst (λ (x : Parts). OnRunning (LeavesValues x d) r) waits.same leaves) (subst (λ (x : Parts). OnRunning (Stays x d) r) waits.same stays)
+      (few_within (emptying b.log.shape 4 + whole_freeze) (room_calls b.log.shape) s0 s2 (omega arith)
+      (subst (λ (s : BoardState). FewCalls (emptying b.log.shape 4 + whole_freeze) s s2) waits.board (subst (λ (x : Parts). FewCalls (emptying x.log.shape 4 + whole_freeze) s1 s2) waits.same calls)))
 
 -- where the moves wanted a freeze
 pub waits_is : (b c : Parts) (s0 s1 : BoardState) (x : Reclaimed) → x ≡ NeedsFreeze → DoesReclaim b c s0 s1 x → Waits b c s0 s1
@@ -233,13 +273,19 @@ waits_is b c s0 s1 x is made = subst (λ y. DoesReclaim b c s0 s1 y) is made
 
 -- ---- several steps
 
--- So many calls were made, the map is kept, and less is left.
+where_most : (b : Bool) (n : ℕ) → where_so b n ≤ n
+where_most true n = omega arith
+where_most false n = omega arith
+
+-- So many calls were made, the map is kept, and less is left, of roots too.
 pub record Spacing (count : ℕ) (a : Parts) (s0 : BoardState) (b : Parts) (s : BoardState) : Type 0 where
   pub made : ℕ
   pub step : MovesOrReads {T = Unit {0}} a b made s0 s (Ok tt)
   pub may : MayStep b s
   pub none_pending : b.log.pending ≡ []
+  pub calls : FewCalls made s0 s
   pub left : made + space_left count b ≤ space_left count a
+  pub roots_left : roots s + space_roots count b ≤ roots s0 + space_roots count a
   pub stays : StaysSame a b
 
 pub spacing_begin : (count : ℕ) (a : Parts) (s0 : BoardState) → MaySpace count a s0 → Spacing count a s0 a s0
@@ -248,7 +294,9 @@ spacing_begin count a s0 may = record {
   step = moves_none a s0 may.may.ready;
   may = may.may;
   none_pending = may.none_pending;
+  calls = few_none s0;
   left = omega arith;
+  roots_left = omega arith;
   stays = stays_none a;
 }
 
@@ -269,15 +317,33 @@ module _ (count : ℕ) (a : Parts) (s0 : BoardState) (b : Parts) (s : BoardState
     step = moves_later (Ok tt) a b c on.made once.made (on.made + once.made) s0 s s1 ready on.stays.same_shape (omega arith) on.step.came.0 (passes_moved a b on.made s0 s on.step) once.step;
     may = may_moved b c once.made s s1 on.may once.stays.same_shape once.step;
     none_pending = once.none_pending;
+    calls = few_then on.made once.made s0 s s1 on.calls once.calls;
     left = (let first = on.left in let second = once.left in omega (arith, first, second));
+    roots_left = (let first = on.roots_left in let second = once.roots_left in omega (arith, first, second));
     stays = stays_both a b c on.stays once.stays;
   }
 
   pub less_spacing : (c : Parts) (s1 : BoardState) → SpacesOnce count b c s s1 (Ok tt) → space_left count c < space_left count b
   less_spacing c s1 once = let some = once.some in let left = once.left in omega (arith, some, left)
 
+  -- the roots of one room at most
+  pub spacing_roots : (s1 : BoardState) → roots s1 ≤ roots s + space_roots count b → roots s1 ≤ roots s0 + room_roots
+  spacing_roots s1 few =
+      let left = on.roots_left in
+      let most = where_most (has_moves a.reclaim.phase count a && is_tight_for a) room_roots in
+      omega (arith, few, left, most)
+
   pub spacing_end : MovesOrReads {T = Unit {0}} a b (space_left count a) s0 s (Ok tt)
   spacing_end = let left = on.left in moves_within a b on.made (space_left count a) s0 s (omega (arith, left)) on.step
+
+  pub end_calls : FewCalls (space_left count a) s0 s
+  end_calls = let left = on.left in few_within on.made (space_left count a) s0 s (omega (arith, left)) on.calls
+
+  pub broken_calls : (e : Fault) (c : Parts) (s1 : BoardState) → SpacesOnce count b c s s1 (Err e) → FewCalls (space_left count a) s0 s1
+  broken_calls e c s1 once =
+      let left = on.left in
+      let within = once.within in
+      few_within (on.made + once.made) (space_left count a) s0 s1 (omega (arith, left, within)) (few_then on.made once.made s0 s s1 on.calls once.calls)
 
   spacing_broken : (e : Fault) (c : Parts) (s1 : BoardState) → SpacesOnce count b c s s1 (Err e) → MovesOrReads {T = Unit {0}} a c (space_left count a) s0 s1 (Err e)
   spacing_broken e c s1 once =

@@ -7,7 +7,7 @@ use Rattle.pk_plan.specs.declared.owner.Owner.TheVariants.{Values}
 use Rattle.pk_pool.specs.Blocks.{used_by}
 use Rattle.pk_pool.specs.Unready.{unready}
 use Rattle.pk_work.specs.Rest.{whole_reclaim, left_of, Lowers}
-use Rattle.pk_work.specs.Calls.{room_calls}
+use Rattle.pk_work.specs.Calls.{room_calls, room_roots}
 use Rattle.std.specs.Prelude.{unwrap_or}
 use Rattle.pk_gc.specs.declared.course.Phase.{Phase}
 use Rattle.pk_gc.specs.declared.course.Phase.TheVariants.{Idle, Copies, GivesBack}
@@ -25,6 +25,10 @@ no_yes e = cc
 -- what is left where the reclaim has come so far
 abbrev pub left_at : Phase → ℕ → Parts → ℕ
 left_at p count d = steps_for p count d + where_so (has_moves p count d && is_tight_for d) (room_calls d.log.shape)
+
+-- and how many roots
+abbrev pub roots_at : Phase → ℕ → Parts → ℕ
+roots_at p count d = where_so (has_moves p count d && is_tight_for d) room_roots
 
 -- from so far to so far less is left
 abbrev pub FallsTo : Phase → Parts → Phase → Parts → Type 0
@@ -57,7 +61,7 @@ module _ (count : ℕ) (b c : Parts) (same_shape : c.log.shape ≡ b.log.shape) 
       let less = falls.less in
       let ready = falls.none_ready in
       let tight : where_so (is_tight_for c) (room_calls c.log.shape) ≡ where_so (is_tight_for b) (room_calls b.log.shape) = λ i. where_so (tight_same b c on i) (room_calls (same_shape i)) in
-      let steps : where_so (needs count b) (whole_reclaim b.log.shape) ≡ whole_reclaim b.log.shape = ap (λ x. where_so x (whole_reclaim b.log.shape)) wanted in
+      let steps : where_so (needs count b) (whole_reclaim b.log.shape - 1) ≡ whole_reclaim b.log.shape - 1 = ap (λ x. where_so x (whole_reclaim b.log.shape - 1)) wanted in
       let moves : where_so (needs count b && is_tight_for b) (room_calls b.log.shape) ≡ where_so (is_tight_for b) (room_calls b.log.shape) = ap (λ x. where_so (x && is_tight_for b) (room_calls b.log.shape)) wanted in
       omega (arith, less, ready, tight, steps, moves)
   works_less (Copies e) (Copies d) awaits falls on =
@@ -71,18 +75,37 @@ module _ (count : ℕ) (b c : Parts) (same_shape : c.log.shape ≡ b.log.shape) 
       absurd (omega (arith, less, ready))
   works_less Idle (GivesBack other) (inl runs) falls on = absurd (no_yes runs)
   works_less Idle (GivesBack other) (inr wanted) falls on =
-      let steps : where_so (needs count b) (whole_reclaim b.log.shape) ≡ whole_reclaim b.log.shape = ap (λ x. where_so x (whole_reclaim b.log.shape)) wanted in
-      let none : where_so (needs count c) (whole_reclaim c.log.shape) ≡ 0 = ap (λ x. where_so x (whole_reclaim c.log.shape)) (has_room on) in
+      let steps : where_so (needs count b) (whole_reclaim b.log.shape - 1) ≡ whole_reclaim b.log.shape - 1 = ap (λ x. where_so x (whole_reclaim b.log.shape - 1)) wanted in
+      let none : where_so (needs count c) (whole_reclaim c.log.shape - 1) ≡ 0 = ap (λ x. where_so x (whole_reclaim c.log.shape - 1)) (has_room on) in
       let moves : where_so (needs count c && is_tight_for c) (room_calls c.log.shape) ≡ 0 = ap (λ x. where_so (x && is_tight_for c) (room_calls c.log.shape)) (has_room on) in
       omega (arith, steps, none, moves)
   works_less (Copies e) (GivesBack other) awaits falls on =
-      let none : where_so (needs count c) (whole_reclaim c.log.shape) ≡ 0 = ap (λ x. where_so x (whole_reclaim c.log.shape)) (has_room on) in
+      let none : where_so (needs count c) (whole_reclaim c.log.shape - 1) ≡ 0 = ap (λ x. where_so x (whole_reclaim c.log.shape - 1)) (has_room on) in
       let moves : where_so (needs count c && is_tight_for c) (room_calls c.log.shape) ≡ 0 = ap (λ x. where_so (x && is_tight_for c) (room_calls c.log.shape)) (has_room on) in
       omega (arith, none, moves)
   works_less (GivesBack victim) (GivesBack other) awaits falls on =
       let less = falls.less in
       let ready = falls.none_ready in
       absurd (omega (arith, less, ready))
+
+  -- no more roots
+  pub works_roots : (p q : Phase) → AwaitsAt p count b → FallsTo p b q c → RunsOn q b c → roots_at q count c ≤ roots_at p count b
+  works_roots p Idle awaits falls on = absurd on
+  works_roots Idle (Copies d) (inl runs) falls on = absurd (no_yes runs)
+  works_roots Idle (Copies d) (inr wanted) falls on =
+      let tight : where_so (is_tight_for c) room_roots ≡ where_so (is_tight_for b) room_roots = ap (λ t. where_so t room_roots) (tight_same b c on) in
+      let moves : where_so (needs count b && is_tight_for b) room_roots ≡ where_so (is_tight_for b) room_roots = ap (λ x. where_so (x && is_tight_for b) room_roots) wanted in
+      omega (arith, tight, moves)
+  works_roots (Copies e) (Copies d) awaits falls on =
+      let tight : where_so (is_tight_for c) room_roots ≡ where_so (is_tight_for b) room_roots = ap (λ t. where_so t room_roots) (tight_same b c on) in
+      omega (arith, tight)
+  works_roots (GivesBack victim) (Copies d) awaits falls on =
+      let less = falls.less in
+      let ready = falls.none_ready in
+      absurd (omega (arith, less, ready))
+  works_roots p (GivesBack other) awaits falls on =
+      let none : where_so (needs count c && is_tight_for c) room_roots ≡ 0 = ap (λ x. where_so (x && is_tight_for c) room_roots) (has_room on) in
+      omega (arith, none)
 
   -- ---- one that ends it
 
@@ -93,23 +116,42 @@ module _ (count : ℕ) (b c : Parts) (same_shape : c.log.shape ≡ b.log.shape) 
       both true = refl
       both false = refl
 
+  -- a value needs a reclaim as before, where a block is given back
+  needs_same : (victim : ℕ) → (runs_in (GivesBack victim) ≡ true → used_by Values b.pool.states ≡ data_blocks b.log.shape) → used_by Values c.pool.states + 1 ≡ used_by Values b.pool.states → EndsFrom (GivesBack victim) b c → needs count c ≡ needs count b
+  needs_same victim full given from =
+      let all = full refl in
+      let before : needs count b ≡ not (fits_open b.log.shape b.space count) = full_needs (used_by Values b.pool.states) (fits_open b.log.shape b.space count) (omega (arith, all)) in
+      let after : needs_reclaim b.log.shape b.space c.pool count ≡ not (fits_open b.log.shape b.space count) = full_needs (used_by Values c.pool.states) (fits_open b.log.shape b.space count) (omega (arith, all, given)) in
+      (λ i. needs_reclaim (same_shape i) (from.1 i) c.pool count) ∙ (after ∙ sym before)
+
   pub ends_less : (p : Phase) → AwaitsAt p count b → (runs_in p ≡ true → used_by Values b.pool.states ≡ data_blocks b.log.shape) → used_by Values c.pool.states + 1 ≡ used_by Values b.pool.states
       → EndsFrom p b c → 1 + left_at Idle count c ≤ left_at p count b
   ends_less Idle (inl runs) full given from = absurd (no_yes runs)
   ends_less Idle (inr wanted) full given from =
-      let steps : where_so (needs count b) (whole_reclaim b.log.shape) ≡ whole_reclaim b.log.shape = ap (λ x. where_so x (whole_reclaim b.log.shape)) wanted in
-      let none : where_so (needs count c) (whole_reclaim c.log.shape) ≡ 0 = ap (λ x. where_so x (whole_reclaim c.log.shape)) (has_room from) in
+      let steps : where_so (needs count b) (whole_reclaim b.log.shape - 1) ≡ whole_reclaim b.log.shape - 1 = ap (λ x. where_so x (whole_reclaim b.log.shape - 1)) wanted in
+      let none : where_so (needs count c) (whole_reclaim c.log.shape - 1) ≡ 0 = ap (λ x. where_so x (whole_reclaim c.log.shape - 1)) (has_room from) in
       let moves : where_so (needs count c && is_tight_for c) (room_calls c.log.shape) ≡ 0 = ap (λ x. where_so (x && is_tight_for c) (room_calls c.log.shape)) (has_room from) in
       omega (arith, steps, none, moves)
   ends_less (Copies e) awaits full given from =
-      let none : where_so (needs count c) (whole_reclaim c.log.shape) ≡ 0 = ap (λ x. where_so x (whole_reclaim c.log.shape)) (has_room from) in
+      let none : where_so (needs count c) (whole_reclaim c.log.shape - 1) ≡ 0 = ap (λ x. where_so x (whole_reclaim c.log.shape - 1)) (has_room from) in
       let moves : where_so (needs count c && is_tight_for c) (room_calls c.log.shape) ≡ 0 = ap (λ x. where_so (x && is_tight_for c) (room_calls c.log.shape)) (has_room from) in
       omega (arith, none, moves)
   ends_less (GivesBack victim) awaits full given from =
-      let all = full refl in
-      let before : needs count b ≡ not (fits_open b.log.shape b.space count) = full_needs (used_by Values b.pool.states) (fits_open b.log.shape b.space count) (omega (arith, all)) in
-      let after : needs_reclaim b.log.shape b.space c.pool count ≡ not (fits_open b.log.shape b.space count) = full_needs (used_by Values c.pool.states) (fits_open b.log.shape b.space count) (omega (arith, all, given)) in
-      let same : needs count c ≡ needs count b = (λ i. needs_reclaim (same_shape i) (from.1 i) c.pool count) ∙ (after ∙ sym before) in
-      let steps : where_so (needs count c) (whole_reclaim c.log.shape) ≡ where_so (needs count b) (whole_reclaim b.log.shape) = λ i. where_so (same i) (whole_reclaim (same_shape i)) in
+      let same = needs_same victim full given from in
+      let steps : where_so (needs count c) (whole_reclaim c.log.shape - 1) ≡ where_so (needs count b) (whole_reclaim b.log.shape - 1) = λ i. where_so (same i) (whole_reclaim (same_shape i) - 1) in
       let moves : where_so (needs count c && is_tight_for c) (room_calls c.log.shape) ≡ where_so (needs count b && is_tight_for b) (room_calls b.log.shape) = λ i. where_so (same i && tight_same b c from.0 i) (room_calls (same_shape i)) in
       omega (arith, steps, moves)
+
+  -- no more roots
+  pub ends_roots : (p : Phase) → AwaitsAt p count b → (runs_in p ≡ true → used_by Values b.pool.states ≡ data_blocks b.log.shape) → used_by Values c.pool.states + 1 ≡ used_by Values b.pool.states
+      → EndsFrom p b c → roots_at Idle count c ≤ roots_at p count b
+  ends_roots Idle awaits full given from =
+      let none : where_so (needs count c && is_tight_for c) room_roots ≡ 0 = ap (λ x. where_so (x && is_tight_for c) room_roots) (has_room from) in
+      omega (arith, none)
+  ends_roots (Copies e) awaits full given from =
+      let none : where_so (needs count c && is_tight_for c) room_roots ≡ 0 = ap (λ x. where_so (x && is_tight_for c) room_roots) (has_room from) in
+      omega (arith, none)
+  ends_roots (GivesBack victim) awaits full given from =
+      let same = needs_same victim full given from in
+      let moves : where_so (needs count c && is_tight_for c) room_roots ≡ where_so (needs count b && is_tight_for b) room_roots = λ i. where_so (same i && tight_same b c from.0 i) room_roots in
+      omega (arith, moves)

@@ -20,7 +20,7 @@ use Rattle.pk_model.specs.Growth.{Reaches, Goes}
 use Rattle.pk_model.specs.Crashes.{CrashFinds, commit, change}
 use Rattle.pk_model.specs.Wear.{roots, is_worn}
 use Rattle.pk_work.specs.Rest.{whole_reclaim}
-use Rattle.pk_work.specs.Calls.{room_calls, space_calls}
+use Rattle.pk_work.specs.Calls.{commit_calls, room_calls, space_calls}
 use Rattle.pk_steps.specs.Under.{places}
 use Rattle.pk_gc.specs.declared.course.Phase.{Phase}
 use Rattle.pk_gc.specs.declared.course.Phase.TheVariants.{Idle, Copies, GivesBack}
@@ -28,6 +28,8 @@ use Rattle.pk_gc.specs.Standing.{held_blocks, ReclaimStands}
 use Rattle.pk_gc.specs.Stepping.{runs_in}
 use Rattle.pk_log.specs.State.{needs_freeze}
 use Rattle.pk_data.specs.State.{fits_open}
+use Rattle.pk_drive.specs.Calling.{FewCalls}
+use Rattle.pk_core.specs.Costs.{reclaim_calls}
 use Rattle.pk_core.specs.Parts.{Parts, counts_of, outputs_of, frames_of}
 use Rattle.pk_core.specs.Agreeing.{DriveOnFlash}
 use Rattle.pk_core.specs.Moves.{StandsFor, MayStep, KeepsAll, BreaksAll, StepKeeps, LeavesValues}
@@ -40,6 +42,7 @@ use Rattle.pk_core.specs.Reclaiming.{CannotRead, is_tight_for}
 use Rattle.pk_core.specs.Spacing.{SameMapAll, MovesOrReads, StaysSame, where_so, needs, steps_for, has_moves, space_left, MaySpace, MayStore, StoresAll, FailsToStore, StoresOrReads, CanStore, store_most}
 use Rattle.pk_core.proofs.Amounts.{store_few, numbers_last}
 use Rattle.pk_core.proofs.Changing.{kept_goes}
+use Rattle.pk_core.proofs.Callings.{few_within, few_then}
 use Rattle.pk_core.proofs.Emptied.{keeps_reads, passes_keeps}
 use Rattle.pk_core.proofs.Keeping.{board_has}
 use Rattle.pk_core.proofs.Putting.{later_reaches, later_goes}
@@ -61,17 +64,20 @@ where_few : (b : Bool) (n : ℕ) → where_so b n ≤ n
 where_few true n = omega arith
 where_few false n = omega arith
 
-steps_most : (p : Phase) (count : ℕ) (d : Parts) (flash : Flash) (es : List (Key × Place)) → ReclaimStands p d.log.shape d.reclaim d.space.live flash es → steps_for p count d ≤ whole_reclaim d.log.shape + 1
-steps_most Idle count d flash es stands = let few = where_few (needs count d) (whole_reclaim d.log.shape) in omega (arith, few)
+steps_most : (p : Phase) (count : ℕ) (d : Parts) (flash : Flash) (es : List (Key × Place)) → ReclaimStands p d.log.shape d.reclaim d.space.live flash es → steps_for p count d ≤ whole_reclaim d.log.shape
+steps_most Idle count d flash es stands = let few = where_few (needs count d) (whole_reclaim d.log.shape - 1) in omega (arith, few)
 steps_most (Copies c) count d flash es stands = let few = reclaim_within (Copies c) d.log.shape true d.reclaim d.space.live flash es stands in omega (arith, few)
-steps_most (GivesBack victim) count d flash es stands = let few = where_few (needs count d) (whole_reclaim d.log.shape) in omega (arith, few)
+steps_most (GivesBack victim) count d flash es stands = let few = where_few (needs count d) (whole_reclaim d.log.shape - 1) in omega (arith, few)
 
-space_most : (count : ℕ) (d : Parts) (board : BoardState) → MayStep d board → space_left count d + 1 ≤ space_calls d.log.shape
-space_most count d board may =
+space_within : (count : ℕ) (d : Parts) (board : BoardState) → MayStep d board → space_left count d ≤ whole_reclaim d.log.shape + room_calls d.log.shape
+space_within count d board may =
     let there = may.stands.1 in
     let steps = steps_most d.reclaim.phase count d board.pages (places there.found d.log.pending) there.with.reclaim.stands in
     let room = where_few (has_moves d.reclaim.phase count d && is_tight_for d) (room_calls d.log.shape) in
     omega (arith, steps, room)
+
+space_most : (count : ℕ) (d : Parts) (board : BoardState) → MayStep d board → space_left count d + 1 ≤ space_calls d.log.shape
+space_most count d board may = let within = space_within count d board may in omega (arith, within)
 
 -- ---- behind a commit
 
@@ -98,6 +104,13 @@ module _ (count : ℕ) (a b : Parts) (s0 s1 : BoardState) (may : MayStep a s0) (
       let most = space_most count b s1 may_committed in
       let calls = calls_same in
       moves_later r a b c 0 (space_left count b) (space_calls a.log.shape) s0 s1 s2 may.ready same (omega (arith, most, calls)) (same_of a b s0 s1 step.ended) (passes_keeps tt a b 0 s0 s1 step) second
+
+  -- a commit, and these
+  pub space_calls_made : (s2 : BoardState) → FewCalls commit_calls s0 s1 → FewCalls (space_left count b) s1 s2 → FewCalls (reclaim_calls a.log.shape) s0 s2
+  space_calls_made s2 first second =
+      let most = space_within count b s1 may_committed in
+      let calls : reclaim_calls b.log.shape ≡ reclaim_calls a.log.shape = ap (λ (s : Shape). reclaim_calls s) same in
+      few_within (commit_calls + space_left count b) (reclaim_calls a.log.shape) s0 s2 (omega (arith, most, calls)) (few_then commit_calls (space_left count b) s0 s1 s2 first second)
 
 pub space_not_made : (e : Fault) (a b : Parts) (s0 s1 : BoardState) → StepKeeps {T = Unit {0}} a b 0 s0 s1 (Err e) → MovesOrReads {T = Unit {0}} a b (space_calls a.log.shape) s0 s1 (Err e)
 space_not_made e a b s0 s1 step = moves_failed e a b 0 (space_calls a.log.shape) s0 s1 (omega arith) (moves_kept (Err e) a b 0 s0 s1 (keeps_reads (Err e) a b 0 s0 s1 step))

@@ -1,12 +1,13 @@
 -- Room for a further entry: merges to the end and a freeze, in steps of which one may fail by a read.
-use Rattle.std.specs.Prelude.{◌≡◌, ◌<◌, ◌≤◌, ◌+◌, ℕ, [], Bool, true, Result, Ok, Err, IfOk, OnOk, MatchBool}
+use Rattle.std.specs.Prelude.{◌≡◌, ◌<◌, ◌≤◌, ◌+◌, ℕ, [], Bool, true, false, Result, Ok, Err, IfOk, OnOk, OnErr, MatchBool}
 use Rattle.pk_base.specs.Shape.{Shape}
 use Rattle.pk_nand.specs.declared.types.Fault.{Fault}
 use Rattle.pk_nand.specs.declared.types.Fault.TheVariants.{Reading, Stopped}
 use Rattle.pk_nand.specs.BoardState.{BoardState}
 use Rattle.pk_nand.specs.Calls.{IsReady, Rose}
-use Rattle.pk_nand.specs.Effects.{OnlyFlash, NoFault}
+use Rattle.pk_nand.specs.Effects.{AtMostOneCall, OnlyFlash, NoFault}
 use Rattle.pk_model.specs.Wear.{roots}
+use Rattle.pk_work.specs.Backlog.{due_level}
 use Rattle.pk_work.specs.Work.{merging}
 use Rattle.pk_schedule.specs.declared.phase.Stepped.{Stepped}
 use Rattle.pk_schedule.specs.declared.phase.Stepped.TheVariants.{Worked, Idle}
@@ -66,6 +67,10 @@ OnRunning P (Err Stopped) = Unit {0}
 abbrev pub merges_left : Parts → ℕ
 merges_left d = merging d.log.shape (backlog_of (index_of d))
 
+-- how many merges are left at most until then, each of which installs a root: the level of the one that is due
+abbrev pub merges_due : Parts → ℕ
+merges_due d = due_level d.log.shape (backlog_of (index_of d))
+
 -- What such a step asks: the drive stands for a map with nothing pending, and the numbers of roots last for it.
 pub record MayEmpty (d : Parts) (board : BoardState) : Type 0 where
   pub may : MayStep d board
@@ -76,15 +81,21 @@ pub record MayEmpty (d : Parts) (board : BoardState) : Type 0 where
 pub record MergesOnce (before after : Parts) (old new : BoardState) (result : Result Stepped Fault) : Type 0 where
   pub step : KeepsOrReads before after 1 old new result
   pub idle : result ≡ Ok Idle → (has_no_merge (index_of before) ≡ true) × (after ≡ before) × (new ≡ old)
+  pub calls : AtMostOneCall old new
+  pub some : OnErr result (1 ≤ merges_left before)
   pub less : result ≡ Ok Worked → merges_left after < merges_left before
+  pub installs : roots new ≤ roots old + merges_due before
+  pub due : OnOk result (roots new + merges_due after ≤ roots old + merges_due before)
   pub none_pending : after.log.pending ≡ []
   pub leaves : OnRunning (LeavesValues before after) result
   pub stays : OnRunning (Stays before after) result
 
--- A step of a freeze was made, or it is over.
+-- A step of a freeze was made, or it is over; no other step of it installs a root.
 pub record FreezesOnce (before after : Parts) (old new : BoardState) (result : Result Bool Fault) : Type 0 where
   pub step : StepKeeps before after 1 old new result
+  pub calls : AtMostOneCall old new
   pub freezes : IfOk result (λ done. MatchBool done (Freezes (index_of before) (index_of after)) (FreezeMoves (index_of before) (index_of after)))
+  pub no_root : result ≡ Ok false → roots new ≡ roots old
   pub none_pending : after.log.pending ≡ []
   pub leaves : OnOk result (LeavesValues before after)
   pub stays : OnOk result (Stays before after)

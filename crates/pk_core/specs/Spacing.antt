@@ -1,5 +1,5 @@
 -- Space for a value: steps of reclaims until it has room, of which one may fail by a read.
-use Rattle.std.specs.Prelude.{◌≡◌, ◌⊎◌, ℕ, ◌+◌, ◌≤◌, ◌<◌, List, [], length, Bool, true, false, ◌&&◌, Result, Ok, OnOk}
+use Rattle.std.specs.Prelude.{◌≡◌, ◌⊎◌, ℕ, ◌+◌, ◌-◌, ◌≤◌, ◌<◌, List, [], length, Bool, true, false, ◌&&◌, Result, Ok, OnOk}
 use Rattle.std.specs.FinMap.{insert}
 use Rattle.pk_base.specs.Fields.{AreBytes}
 use Rattle.pk_base.specs.Key.{Key}
@@ -10,7 +10,7 @@ use Rattle.pk_nand.specs.declared.types.Fault.{Fault}
 use Rattle.pk_nand.specs.BoardState.{BoardState}
 use Rattle.pk_nand.specs.Calls.{IsReady}
 use Rattle.pk_work.specs.Rest.{whole_reclaim}
-use Rattle.pk_work.specs.Calls.{room_calls, space_calls}
+use Rattle.pk_work.specs.Calls.{room_calls, room_roots, space_calls}
 use Rattle.pk_model.specs.Wear.{roots}
 use Rattle.pk_model.specs.Reading.{reading}
 use Rattle.pk_model.specs.Growth.{Reaches, Goes}
@@ -20,6 +20,7 @@ use Rattle.pk_gc.specs.declared.course.Phase.TheVariants.{Idle, Copies, GivesBac
 use Rattle.pk_gc.specs.State.{steps_left}
 use Rattle.pk_gc.specs.Stepping.{runs_in}
 use Rattle.pk_data.specs.State.{needs_reclaim}
+use Rattle.pk_drive.specs.Calling.{FewCalls}
 use Rattle.pk_core.specs.Parts.{Parts, frames_of}
 use Rattle.pk_core.specs.Moves.{StandsFor, MayStep, BreaksAll}
 use Rattle.pk_core.specs.Changes.{Changes}
@@ -63,11 +64,11 @@ where_so false n = 0
 abbrev pub needs : ℕ → Parts → Bool
 needs count d = needs_reclaim d.log.shape d.space d.pool count
 
--- how many steps of reclaims are left at most until none runs and such a value has room
+-- how many steps of reclaims are left at most until none runs and such a value has room; one that is to begin takes fewer than the whole
 abbrev pub steps_for : Phase → ℕ → Parts → ℕ
-steps_for Idle count d = where_so (needs count d) (whole_reclaim d.log.shape)
+steps_for Idle count d = where_so (needs count d) (whole_reclaim d.log.shape - 1)
 steps_for (Copies c) count d = steps_left d.log.shape d.space.live.heads c
-steps_for (GivesBack victim) count d = 1 + where_so (needs count d) (whole_reclaim d.log.shape)
+steps_for (GivesBack victim) count d = 1 + where_so (needs count d) (whole_reclaim d.log.shape - 1)
 
 -- moves are to be committed before that
 abbrev pub has_moves : Phase → ℕ → Parts → Bool
@@ -79,6 +80,10 @@ has_moves (GivesBack victim) count d = needs count d
 abbrev pub space_left : ℕ → Parts → ℕ
 space_left count d =
     steps_for d.reclaim.phase count d + where_so (has_moves d.reclaim.phase count d && is_tight_for d) (room_calls d.log.shape)
+
+-- and how many roots: those of the merges and the freeze
+abbrev pub space_roots : ℕ → Parts → ℕ
+space_roots count d = where_so (has_moves d.reclaim.phase count d && is_tight_for d) room_roots
 
 -- a reclaim runs, or is to run
 abbrev pub Awaits : ℕ → Parts → Type 0
@@ -95,8 +100,11 @@ pub record SpacesOnce (count : ℕ) (before after : Parts) (old new : BoardState
   pub made : ℕ
   pub some : 1 ≤ made
   pub step : MovesOrReads before after made old new result
+  pub calls : FewCalls made old new
   pub within : made ≤ space_left count before
   pub left : OnOk result (made + space_left count after ≤ space_left count before)
+  pub installs : roots new ≤ roots old + space_roots count before
+  pub roots_left : OnOk result (roots new + space_roots count after ≤ roots old + space_roots count before)
   pub none_pending : OnRunning (after.log.pending ≡ []) result
   pub stays : OnRunning (StaysSame before after) result
 

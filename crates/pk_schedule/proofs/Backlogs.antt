@@ -34,7 +34,7 @@ use Rattle.pk_compact.specs.FreezeSteps.{taken_by, install_steps, freeze_left}
 use Rattle.pk_schedule.specs.declared.phase.Phase.{Phase}
 use Rattle.pk_schedule.specs.declared.phase.Phase.TheVariants.{Idle, Running, Ready}
 use Rattle.pk_schedule.specs.Index.{Index, IndexOnFlash, MergeStands, MergesInto, output, source_at}
-use Rattle.pk_schedule.specs.Steps.{backlog_of, merge_left, freeze_rest_of}
+use Rattle.pk_schedule.specs.Steps.{backlog_of, is_between, merge_left, freeze_rest_of}
 
 -- ---- the runs
 
@@ -190,6 +190,25 @@ module _ (x : Index) (frames : ℕ) (flash : Flash) (top : ℕ × Root) (found :
       (sym (due_is level m.into)) (steps_most level m.into)
   merge_most (Ready level) m =
       subst (λ (l : ℕ). install_steps x.log.next ≤ whole_merge x.log.shape l) (sym (due_is level m.into)) (let two = installs_most x.log.next in omega (arith, two))
+
+  -- a merge that runs is due
+  level_due : (level : ℕ) → MergesInto x top.1 found level → 1 ≤ due_level x.log.shape (backlog_of x)
+  level_due level m =
+      let is = due_is level m in
+      elim (next_is_level x.log.shape (length (firsts found.older)) (map length found.runs) level m.due) [
+        | inl e ↦ omega (arith, is, e)
+        | inr (inl e) ↦ omega (arith, is, e)
+        | inr (inr (inl e)) ↦ omega (arith, is, e)
+        | inr (inr (inr e)) ↦ omega (arith, is, e)
+      ]
+
+  phase_due : (phase : Phase) → MergeStands phase x flash top.1 found → is_between phase ≡ false → 1 ≤ due_level x.log.shape (backlog_of x)
+  phase_due Idle m runs = absurd (let z : ⊥ = cc in z)
+  phase_due (Running level) m runs = level_due level m.into
+  phase_due (Ready level) m runs = level_due level m.into
+
+  pub some_due : is_between x.schedule.phase ≡ false → 1 ≤ due_level x.log.shape (backlog_of x)
+  some_due runs = phase_due x.schedule.phase stands.merge runs
 
   -- no job has more left than the whole of it, and no list is longer than it may be
   pub index_backlog : length x.pool.states ≡ x.log.shape.blocks → IsBacklog x.log.shape (backlog_of x)

@@ -362,7 +362,7 @@ module _ (x : Index) (frames : ℕ) (old : BoardState) (top : ℕ × Root) (foun
     }
 
     pub begin_less : LessIsLeft x begun_index
-    begin_less = let l = merge_moves x.log.shape (backlog_of x) (backlog_of begun_index) begin_lowers in record { work = l.0; merging = l.1 }
+    begin_less = let l = merge_moves x.log.shape (backlog_of x) (backlog_of begun_index) begin_lowers in record { work = l.0; merging = l.1; roots = ap (λ n. x.log.root.number + n) l.2 }
 
   -- ---- by the contract of the job
 

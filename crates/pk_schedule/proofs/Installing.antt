@@ -7,6 +7,7 @@ use Rattle.pk_base.specs.Page.{Flash}
 use Rattle.pk_base.specs.Map.{Map}
 use Rattle.pk_buf.specs.Table.{Table}
 use Rattle.pk_work.specs.Rest.{Lowers, left_of, whole_merge}
+use Rattle.pk_work.specs.Backlog.{due_level}
 use Rattle.pk_work.specs.Steps.{EndsMerge}
 use Rattle.pk_work.proofs.Lowering.{ends}
 use Rattle.pk_plan.specs.declared.owner.Owner.{Owner}
@@ -236,4 +237,6 @@ module _ (x : Index) (frames : ℕ) (old : BoardState) (top : ℕ × Root) (foun
               (one_left x.log.next (unready x.pool.states) (unready pool'.states) programs r.same_unready);
         } in
         let less = ends shape (backlog_of x) (backlog_of then_index) (index_backlog x frames old.pages top found may.stands (shared.size ∙ ap (λ (s : Shape). s.blocks) may.stands.pool_shape)) step in
-        record { work = less.0; merging = less.1 }
+        let one_less : due_level shape (backlog_of then_index) + 1 ≡ due_level shape (backlog_of x) = less.2 in
+        let same : x.log.root.number ≡ root.number = ap (λ (r : Root). r.number) may.stands.logs.root_is in
+        record { work = less.0; merging = less.1; roots = omega (arith, one_less, same) }

@@ -1,5 +1,5 @@
 -- The erase before the root of a merge, over an index.
-use Rattle.std.proofs.Common.{◌≡◌, inl, ℕ, ◌/◌, ◌<◌, true, false, List, [], length, map, Some, None, refl, sym, ap, subst, ◌∙◌, arith, mul-le-mul_right}
+use Rattle.std.proofs.Common.{◌≡◌, inl, ℕ, ◌+◌, ◌/◌, ◌<◌, true, false, List, [], length, map, Some, None, refl, sym, ap, subst, ◌∙◌, arith, mul-le-mul_right}
 use Rattle.std.specs.Prelude.{slice_get}
 use Rattle.std.specs.List.{AllByRecursion}
 use Rattle.pk_base.specs.Shape.{Shape}
@@ -175,4 +175,4 @@ module _ (x : Index) (frames : ℕ) (old : BoardState) (top : ℕ × Root) (foun
           lowers = subst (λ o. Lowers (left_of (whole_merge shape level) o) (unready x.pool.states) (install_steps next') (unready x.pool.states)) (sym merge_is) (one_fewer next' x.log.next (unready x.pool.states) p.programs_next erases);
         } in
         let less = moves shape (backlog_of x) (backlog_of then_index) step in
-        record { work = less.0; merging = less.1 }
+        record { work = less.0; merging = less.1; roots = ap (λ n. x.log.root.number + n) less.2 }

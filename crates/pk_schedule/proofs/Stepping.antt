@@ -226,7 +226,7 @@ module _ (x : Index) (frames : ℕ) (old : BoardState) (top : ℕ × Root) (foun
                   (goes_lowers _ _ _ _ (install_steps x.log.next) falls);
             } in
             let l = merge_moves x.log.shape (backlog_of x) (backlog_of (behind (Running level))) moved in
-            record { work = l.0; merging = l.1 }
+            record { work = l.0; merging = l.1; roots = ap (λ n. x.log.root.number + n) l.2 }
 
         pub less_at : LessIsLeft x (behind x.schedule.phase)
         less_at = subst (λ (p : Phase). LessIsLeft x (behind p)) (sym was) less_running
@@ -242,7 +242,7 @@ module _ (x : Index) (frames : ℕ) (old : BoardState) (top : ℕ × Root) (foun
                   (ends_lowers _ _ _ _ (install_steps x.log.next) falls);
             } in
             let l = merge_moves x.log.shape (backlog_of x) (backlog_of (behind (Ready level))) moved in
-            record { work = l.0; merging = l.1 }
+            record { work = l.0; merging = l.1; roots = ap (λ n. x.log.root.number + n) l.2 }
 
     -- ---- a step whose program or erase failed
 

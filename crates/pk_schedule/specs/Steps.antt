@@ -3,7 +3,7 @@ use Rattle.std.specs.Prelude.{◌≡◌, ℕ, ◌+◌, ◌/◌, ◌<◌, ◌≤�
 use Rattle.pk_base.specs.Shape.{Shape}
 use Rattle.pk_base.specs.Page.{Flash, page_at}
 use Rattle.pk_base.specs.Map.{Map}
-use Rattle.pk_work.specs.Backlog.{Backlog}
+use Rattle.pk_work.specs.Backlog.{Backlog, due_level}
 use Rattle.pk_work.specs.Rest.{Lowers}
 use Rattle.pk_work.specs.Work.{work, merging as merging_left}
 use Rattle.pk_nand.specs.BoardState.{BoardState}
@@ -121,10 +121,13 @@ pub record Unmoved (x : Index) (x' : Index) : Type 0 where
 
 -- ---- a step of the merges
 
--- It lowers what is left of the background work, and what is left to empty the frozen buffer.
+-- It lowers what is left of the background work, and what is left to empty the frozen buffer. Where it installs a root, the level that is
+-- due is one less.
 pub record LessIsLeft (x x' : Index) : Type 0 where
   pub work : work x.log.shape (backlog_of x') < work x.log.shape (backlog_of x)
   pub merging : merging_left x.log.shape (backlog_of x') < merging_left x.log.shape (backlog_of x)
+  pub roots : x'.log.root.number + due_level x.log.shape (backlog_of x')
+      ≡ x.log.root.number + due_level x.log.shape (backlog_of x)
 
 -- for every flash on which the index may stand
 abbrev pub Less : Index → Flash → Index → Type 0

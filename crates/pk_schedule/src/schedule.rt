@@ -14,7 +14,7 @@ ghost use Rattle.pk_compact.specs.FreezeSteps.{taken_by};
 ghost use Rattle.pk_compact.specs.declared.freezing.FreezeJob.TheVariants.{Idle as NoFreeze};
 ghost use Rattle.pk_schedule.specs.declared.phase.Phase.TheVariants.{Idle as NoMerge};
 ghost use Rattle.pk_schedule.specs.Index.{index, merging as merging_of};
-ghost use Rattle.pk_schedule.specs.Steps.{MayWork, MayFreeze, Moves, Less, Unmoved, StandsStill, KeepsActive, Breaks, FreezeMoves, Freezes, has_no_merge};
+ghost use Rattle.pk_schedule.specs.Steps.{MayWork, MayFreeze, Moves, Less, Unmoved, StandsStill, KeepsActive, Breaks, FreezeMoves, Freezes, has_no_merge, is_between};
 
 use crate::phase::{Phase, Stepped};
 use pk_compact::FreezeJob;
@@ -132,7 +132,8 @@ impl<A: Region> Schedule<A> {
         ensures active { KeepsActive log.old log.new }
         ensures grows { Grows log.old.shape (B.state board.old).pages (B.state board.new).pages }
 
-        // A call failed.
+        // A call failed, so that a merge ran.
+        ensures running { OnErr result (is_between self.old.phase ≡ false) }
         ensures unmoved { result ≡ Err Reading → Unmoved (index log.old levels.old arena.old
             pool.old self.old) (index log.new levels.new arena.new pool.new self.new)
             × OnlyReading (B.state board.old) (B.state board.new) }

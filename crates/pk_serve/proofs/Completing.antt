@@ -17,7 +17,7 @@ use Rattle.pk_model.specs.Reading.{reading}
 use Rattle.pk_model.specs.Script.{script, commands_in, begins_whole}
 use Rattle.pk_model.specs.Kept.{AtMost, rise}
 use Rattle.pk_model.specs.Sight.{Sight}
-use Rattle.pk_drive.specs.Exec.{most_installs}
+use Rattle.pk_drive.specs.Exec.{most_installs, most_roots}
 use Rattle.pk_model.specs.Wear.{is_worn, roots}
 use Rattle.pk_serve.specs.Serving.{installs}
 use Rattle.pk_serve.specs.Run.{Served}
@@ -66,14 +66,14 @@ none_counted before now k none h = by (nat_le last_count now) refl h
 
 -- ---- roots
 
-installs_few : (cs : List Command) → installs cs ≤ ticks cs + 65535 * length cs
+installs_few : (cs : List Command) → installs cs ≤ ticks cs + most_roots * length cs
 installs_few [] = omega arith
 installs_few (c ∷ cs) =
     let rest = installs_few cs in
-    let one : most_installs c.opcode c.size ≤ (if c.opcode == 0xC0 then c.size else 0) + 65535 = by (c.opcode == 0xC0) in
+    let one : most_installs c.opcode c.size ≤ (if c.opcode == 0xC0 then c.size else 0) + most_roots = by (c.opcode == 0xC0) in
     omega (arith, rest, one)
   where
-    by : (b : Bool) → (if b then c.size else 65535) ≤ (if b then c.size else 0) + 65535
+    by : (b : Bool) → (if b then c.size else most_roots) ≤ (if b then c.size else 0) + most_roots
     by true = omega arith
     by false = omega arith
 

@@ -68,7 +68,7 @@ picked s r d e t cid b c =
     else if t then tick cid
     else request LIST cid b 1024
 
-few_of : (s r d e t : Bool) (cid b c : ℕ) → most_installs (picked s r d e t cid b c).opcode (picked s r d e t cid b c).size ≤ 65535
+few_of : (s r d e t : Bool) (cid b c : ℕ) → most_installs (picked s r d e t cid b c).opcode (picked s r d e t cid b c).size ≤ turn_roots
 few_of true r d e t cid b c = omega arith
 few_of false true d e t cid b c = omega arith
 few_of false false true e t cid b c = omega arith
@@ -76,7 +76,7 @@ few_of false false false true t cid b c = omega arith
 few_of false false false false true cid b c = omega arith
 few_of false false false false false cid b c = omega arith
 
-few_at : (begin turn : ℕ) → most_installs (command_at begin turn).opcode (command_at begin turn).size ≤ 65535
+few_at : (begin turn : ℕ) → most_installs (command_at begin turn).opcode (command_at begin turn).size ≤ turn_roots
 few_at begin turn =
     let g : Generator = generator begin turn in
     few_of (is_store (a_of g)) (nat_lt (a_of g % 10) 7) (a_of g % 10 == 7) (a_of g % 10 == 8) (b_of g % 2 == 1) g.cid (b_of g) (c_of g)
@@ -85,7 +85,7 @@ installs-push : (cs : List Command) (c : Command) → installs (cs ++ c ∷ []) 
 installs-push [] c = omega arith
 installs-push (d ∷ cs) c = let e = installs-push cs c in omega (arith, e)
 
-installs_few : (begin count : ℕ) → installs (workload begin count) ≤ 65535 * count
+installs_few : (begin count : ℕ) → installs (workload begin count) ≤ turn_roots * count
 installs_few begin zero = omega arith
 installs_few begin (suc n) = let e = installs_few begin n in let more = installs-push (workload begin n) (command_at begin n) in let few = few_at begin n in omega (arith, e, more, few)
 
@@ -143,7 +143,7 @@ module _ (begin turn : ℕ) (shape : Shape) (start : Map) (a : BoardState) (old 
   turns_are = sym (length-map w.asked.answered.all (λ (x : Exchange). x.command)) ∙ (ap (λ (l : List Command). length l) w.asked.answered.are ∙ workload-length begin turn)
 
   -- they installed few roots
-  roots_few : (count : ℕ) → turn < count → roots old.board ≤ roots a + 65535 * count
+  roots_few : (count : ℕ) → turn < count → roots old.board ≤ roots a + turn_roots * count
   roots_few count small =
       let up = metered-roots w.asked.answered.all (meter a) (meter old.board) w.asked.metered in
       let T : List Command → Type 0 = λ l. roots old.board ≤ roots a + installs l in

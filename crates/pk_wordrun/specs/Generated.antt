@@ -12,7 +12,7 @@ use Rattle.pk_port.specs.declared.halt.Halt.{Halt}
 use Rattle.pk_wordrun.specs.Ends.{end_of}
 use Rattle.pk_wordrun.specs.Sums.{Sums}
 use Rattle.pk_wordrun.specs.Tasks.{generate}
-use Rattle.pk_wordrun.specs.Told.{EndsBy, KeepsInput}
+use Rattle.pk_wordrun.specs.Told.{EndsBy, KeepsInput, turn_roots}
 use Rattle.pk_wordrun.specs.declared.end.WordEnd.TheVariants.{Worn}
 use Rattle.pk_wordrun.specs.declared.summary.Summary.{Summary}
 
@@ -25,5 +25,5 @@ pub record Generated (begin count : ℕ) (shape : Shape) (frames : ℕ) (start :
 pub record Unfinished (begin count : ℕ) (shape : Shape) (frames : ℕ) (start : Map) (a b : BoardState) (halt : Halt) : Type 0 where
   pub kept : Goes shape a b (KeptSilently shape frames start (workload begin count) (rise a.read_faults b.read_faults))
   pub ends : EndsBy (generate begin count) shape frames start a b (end_of halt)
-  pub used : end_of halt ≡ Worn → roots b ≤ roots a + 65535 * count
+  pub used : end_of halt ≡ Worn → roots b ≤ roots a + turn_roots * count
   pub input : KeepsInput a b

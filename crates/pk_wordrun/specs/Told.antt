@@ -37,11 +37,15 @@ pub record KeepsInput (a b : BoardState) : Type 0 where
   pub input : b.input ≡ a.input
   pub in_faults : b.in_faults ≡ a.in_faults
 
+-- most roots that a command of the workload installs: a Tick one for each of its 16 steps, another fewer
+abbrev pub turn_roots : ℕ
+turn_roots = 16
+
 -- most roots that the commands of a word install; a question that begins is the only one, and a list installs none
 abbrev pub most_roots : Task → ℕ
 most_roots (answer q) = 0
 most_roots (list from) = 0
-most_roots (generate begin count) = 65535 * count
+most_roots (generate begin count) = turn_roots * count
 
 -- Wherever it was cut off it was kept, and it ended so.
 pub record Told (task : Task) (shape : Shape) (frames : ℕ) (start : Map) (a b : BoardState) (end : WordEnd) : Type 0 where

@@ -54,7 +54,7 @@ returns-in-Some-clause-executes g c = λ v into.
     let looks = subst (λ p. Looks c.args.self.now (g.B.Nand.state c.args.board.now).pages c.args.key p) c.in-Some.is r.looks in
     subst (λ (d : Parts). Executes c.args.self.now d (g.B.Nand.state c.args.board.now) after (command_of c.args.request.now v) c.changed.result into (after.reads - (g.B.Nand.state c.args.board.now).reads)) (sym told.rest)
     (delete_came c.args.self.now (g.B.Nand.state c.args.board.now) c.args.request.now v c.args.key r.servable r.opcode r.named c.known.ensures.key c.known.ensures.bytes c.in-Some.place looks
-    c.take_out-answer.result c.take_out-answer.new.self after _ into c.changed.result _ e.step (room_few c.args.self.now.log.shape r.servable.agrees.with.index.logs.is_shape) (record { up = e.step.reads.up; few = c.reads_since-in-Some.ensures.count }) e.stays told.told)
+    c.take_out-answer.result c.take_out-answer.new.self after _ into c.changed.result _ e.step (let few = e.installs in omega (arith, few)) (record { up = e.step.reads.up; few = c.reads_since-in-Some.ensures.count }) e.stays told.told)
 
 pub returns-in-Some-clause-moves : goal.returns-in-Some-clause-moves
 returns-in-Some-clause-moves g c = λ runs.

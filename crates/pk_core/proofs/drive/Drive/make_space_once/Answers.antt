@@ -36,7 +36,7 @@ returns-in-Ok-NeedsFreeze g c =
     let r = c.requires in
     let e = c.empty_active.ensures in
     space_frozen c.args.count c.args.self.now (g.B.Nand.state c.args.board.now) r.may r.some r.awaits c.reclaim_once.new.self c.empty_active.new.self (g.B.Nand.state c.reclaim_once.new.board) (g.B.Nand.state c.empty_active.new.board) c.empty_active.result
-    (waits_is c.args.self.now c.reclaim_once.new.self (g.B.Nand.state c.args.board.now) (g.B.Nand.state c.reclaim_once.new.board) c.in-Ok-NeedsFreeze.field-0 c.in-Ok-NeedsFreeze.field-0-is c.in-Ok-NeedsFreeze.ensures.does) e.step e.wide e.none e.leaves e.moves
+    (waits_is c.args.self.now c.reclaim_once.new.self (g.B.Nand.state c.args.board.now) (g.B.Nand.state c.reclaim_once.new.board) c.in-Ok-NeedsFreeze.field-0 c.in-Ok-NeedsFreeze.field-0-is c.in-Ok-NeedsFreeze.ensures.does) e.step e.installs e.wide e.none e.leaves e.moves e.calls
 
 pub returns-in-Err : goal.returns-in-Err
 returns-in-Err g c =

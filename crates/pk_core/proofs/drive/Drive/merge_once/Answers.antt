@@ -19,6 +19,7 @@ returns g c =
       moves = e.moves;
       less = e.less;
       active = e.active;
+      running = e.running;
       unmoved = e.unmoved;
       again = e.again;
       unread = e.unread;

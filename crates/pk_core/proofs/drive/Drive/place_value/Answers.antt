@@ -2,6 +2,7 @@ use Rattle.pk_core.proofs.Writing.{place_step}
 use Rattle.pk_core.proofs.Results.{on_ok}
 use Rattle.pk_core.proofs.Staying.{place_stays}
 use Rattle.pk_core.proofs.Programming.{place_programs}
+use Rattle.pk_core.proofs.Filling.{few_placed}
 use Rattle.pk_core.proofs.drive.Drive.place_value.Goals as goal
 
 pub returns-clause-step : goal.returns-clause-step
@@ -20,3 +21,8 @@ pub returns-clause-programs : goal.returns-clause-programs
 returns-clause-programs g c =
     let w = rw (c.shape-shape.ensures, ← c.self.view_is) at c.write_next.ensures in
     rw (← c.self.view_is) (on_ok _ _ c.write_next.result (λ page is. place_programs _ c.args.key.now c.args.value.now _ _ (g.B.Nand.state c.args.board.now) page c.write_next.new.space c.write_next.new.pool (g.B.Nand.state c.write_next.new.board) is) w.places)
+
+pub returns-clause-calls : goal.returns-clause-calls
+returns-clause-calls g c =
+    let w = rw (c.shape-shape.ensures, ← c.self.view_is) at c.write_next.ensures in
+    rw (← c.self.view_is) (few_placed _ c.args.key.now c.args.value.now _ _ (g.B.Nand.state c.args.board.now) (g.B.Nand.state c.write_next.new.board) c.write_next.result c.write_next.new.space c.write_next.new.pool w.places w.fails)

@@ -74,3 +74,6 @@ returns-in-Ok-clause-calls g c = few_put _ _ _ _ _ c.in-Ok.ensures.leaves.same_s
 
 pub returns-in-Err-clause-calls : goal.returns-in-Err-clause-calls
 returns-in-Err-clause-calls g c = few_within _ _ _ _ (omega arith) c.make_room.ensures.calls
+
+pub returns-in-Ok-clause-installs : goal.returns-in-Ok-clause-installs
+returns-in-Ok-clause-installs g c = let few = c.in-Ok.ensures.installs in let same = c.put_with_room.ensures.step.roots_few in omega (arith, few, same)

@@ -68,3 +68,9 @@ returns-in-Ok-clause-calls g c = few_behind _ _ _ _ _ c.in-Ok.ensures.stays.same
 
 pub returns-in-Err-clause-calls : goal.returns-in-Err-clause-calls
 returns-in-Err-clause-calls g c = few_within _ _ _ _ (omega arith) c.make_space.ensures.calls
+
+pub returns-in-Ok-clause-installs : goal.returns-in-Ok-clause-installs
+returns-in-Ok-clause-installs g c = let first = c.in-Ok.ensures.installs in let second = c.put_found.ensures.installs in omega (arith, first, second)
+
+pub returns-in-Err-clause-installs : goal.returns-in-Err-clause-installs
+returns-in-Err-clause-installs g c = let few = c.in-Err.ensures.installs in omega (arith, few)

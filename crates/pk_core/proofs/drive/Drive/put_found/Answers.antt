@@ -1,4 +1,6 @@
 use Rattle.std.proofs.Common.{refl, length, arith, ap}
+use Rattle.pk_nand.specs.BoardState.{BoardState}
+use Rattle.pk_model.specs.Wear.{roots}
 use Rattle.pk_core.proofs.Staying.{stays_opens, stays_same}
 use Rattle.pk_core.proofs.Stored.{its_drive, found_can, found_stores, found_unread, found_room, found_numbers, between_same, between_from, opens_looked}
 use Rattle.pk_core.specs.Parts.{Parts}
@@ -46,3 +48,9 @@ returns-in-Ok-clause-calls g c =
 
 pub returns-in-Err-clause-calls : goal.returns-in-Err-clause-calls
 returns-in-Err-clause-calls g c = few_breaks _ _ _ _ (omega arith) c.in-Err.ensures.failing
+
+pub returns-in-Ok-clause-installs : goal.returns-in-Ok-clause-installs
+returns-in-Ok-clause-installs g c = let same = ap (λ (s : BoardState). roots s) c.in-Ok.ensures.reads.board in let few = c.put.ensures.installs in omega (arith, same, few)
+
+pub returns-in-Err-clause-installs : goal.returns-in-Err-clause-installs
+returns-in-Err-clause-installs g c = let same = ap (λ (s : BoardState). roots s) c.in-Err.ensures.failing.board in omega (arith, same)

@@ -21,3 +21,6 @@ returns-else-needs_reclaim-clause-quiet g c =
 
 pub returns-else-needs_reclaim-clause-calls : goal.returns-else-needs_reclaim-clause-calls
 returns-else-needs_reclaim-clause-calls g c = few_within _ _ _ _ (omega arith) c.put.ensures.calls
+
+pub returns-else-needs_reclaim-clause-installs : goal.returns-else-needs_reclaim-clause-installs
+returns-else-needs_reclaim-clause-installs g c = let few = c.put.ensures.installs in omega (arith, few)

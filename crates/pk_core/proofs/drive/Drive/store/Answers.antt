@@ -1,5 +1,7 @@
 use Rattle.std.proofs.Common.{ap, ◌≤◌, arith, subst, false}
+use Rattle.pk_nand.specs.BoardState.{BoardState}
 use Rattle.pk_nand.specs.Calls.{last_count}
+use Rattle.pk_model.specs.Wear.{roots}
 use Rattle.pk_core.proofs.Unchanging.{unread_look}
 use Rattle.pk_core.proofs.Served.{looks_behind, does_behind, store_is_other}
 use Rattle.pk_nvme.specs.Seen.{command_of}
@@ -79,3 +81,9 @@ returns-in-Ok-clause-calls g c =
 
 pub returns-in-Err-clause-calls : goal.returns-in-Err-clause-calls
 returns-in-Err-clause-calls g c = few_failed c.args.self.now (g.B.Nand.state c.args.board.now) (g.B.Nand.state c.look.new.board) c.requires.servable.agrees _ (omega arith) c.in-Err.ensures.failing
+
+pub returns-in-Ok-clause-installs : goal.returns-in-Ok-clause-installs
+returns-in-Ok-clause-installs g c = let same = ap (λ (s : BoardState). roots s) c.in-Ok.ensures.reads.board in let few = c.store_over.ensures.installs in omega (arith, same, few)
+
+pub returns-in-Err-clause-installs : goal.returns-in-Err-clause-installs
+returns-in-Err-clause-installs g c = let same = ap (λ (s : BoardState). roots s) c.in-Err.ensures.failing.board in omega (arith, same)

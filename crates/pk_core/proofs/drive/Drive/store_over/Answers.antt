@@ -56,7 +56,7 @@ returns-in-None-clause-executes g c = λ into.
     let after = g.B.Nand.state c.put_with_space-answer.new.board in
     subst (λ (d : Parts). Executes c.args.self.now d (g.B.Nand.state c.args.board.now) after (command_of c.args.request.now c.args.value.now) c.changed.result into (after.reads - (g.B.Nand.state c.args.board.now).reads)) (sym told.rest)
     (store_came c.args.self.now (g.B.Nand.state c.args.board.now) c.args.request.now c.args.value.now c.args.key c.args.old r.servable r.opcode r.whole r.named c.known.ensures.key c.known.ensures.bytes r.looks (sym c.fault_of_store.ensures ∙ c.in-None.is)
-    c.put_with_space-answer.result c.put_with_space-answer.new.self after _ into c.changed.result _ e.step (store_few c.args.self.now.log.shape r.servable.agrees.with.index.logs.is_shape) (record { up = e.step.reads.up; few = c.reads_since-in-None.ensures.count }) e.stays told.told)
+    c.put_with_space-answer.result c.put_with_space-answer.new.self after _ into c.changed.result _ e.step e.installs (record { up = e.step.reads.up; few = c.reads_since-in-None.ensures.count }) e.stays told.told)
 
 pub returns-in-None-clause-opens : goal.returns-in-None-clause-opens
 returns-in-None-clause-opens g c = λ runs.

@@ -59,3 +59,6 @@ returns-in-Ok-clause-calls g c = few_then _ _ _ _ _ c.make_room.ensures.calls c.
 
 pub returns-in-Err-clause-calls : goal.returns-in-Err-clause-calls
 returns-in-Err-clause-calls g c = few_within _ _ _ _ (omega arith) c.make_room.ensures.calls
+
+pub returns-in-Ok-clause-installs : goal.returns-in-Ok-clause-installs
+returns-in-Ok-clause-installs g c = let few = c.in-Ok.ensures.installs in let same = c.take_with_room.ensures.step.roots_few in omega (arith, few, same)
