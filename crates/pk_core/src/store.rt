@@ -171,7 +171,8 @@ impl<A: Region> Drive<A> {
             → IsNoted self.new (key_in (command_of request.now value.now)) }
         ensures quiet { QuietStore self.old (B.state board.old) (B.state board.new)
             request.now value.now result }
-        ensures calls { FewCalls (spec.most_calls self.old.log.shape) (B.state board.old) (B.state board.new) }
+        ensures calls { FewCalls (spec.most_calls self.old.log.shape) (B.state board.old)
+            (B.state board.new) }
         ensures installs { roots (B.state board.new) ≤ roots (B.state board.old) + store_roots }
     {
         let before = board.read_count();
@@ -232,7 +233,8 @@ impl<A: Region> Drive<A> {
         ensures moves { result.stopped ≡ false → Stays self.old self.new }
         ensures quiet { QuietDelete self.old (B.state board.old) (B.state board.new) request.now
             result }
-        ensures calls { FewCalls (spec.most_calls self.old.log.shape) (B.state board.old) (B.state board.new) }
+        ensures calls { FewCalls (spec.most_calls self.old.log.shape) (B.state board.old)
+            (B.state board.new) }
         ensures installs { roots (B.state board.new) ≤ roots (B.state board.old) + room_roots }
     {
         let before = board.read_count();
