@@ -56,3 +56,4 @@ pub mod Stored
 pub mod ReclaimWork
 pub mod ReclaimTicks
 pub mod StoreCalls
+pub mod LookedUp
