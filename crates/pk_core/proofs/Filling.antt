@@ -6,16 +6,16 @@ use Rattle.pk_base.specs.Shape.{Shape, charge}
 use Rattle.pk_base.specs.Page.{Flash, page_at, erased, whole}
 use Rattle.pk_segfmt.specs.Stored.{page_of, IsStored}
 use Rattle.pk_nand.specs.BoardState.{BoardState}
-use Rattle.pk_nand.specs.Calls.{EraseFailed, ProgramFailed}
+use Rattle.pk_nand.specs.Calls.{ProgramFailed}
 use Rattle.pk_nand.specs.declared.types.Fault.{Fault}
 use Rattle.pk_nand.specs.Crash.{Reached, SameOutside}
 use Rattle.pk_model.proofs.Growing.{at_end}
 use Rattle.pk_pool.specs.Blocks.{Blocks}
 use Rattle.pk_pool.specs.Taking.{TakesReady, ErasesFree, FailsToErase}
-use Rattle.pk_seg.specs.Stored.{written, WriteFailed}
+use Rattle.pk_seg.specs.Stored.{written}
 use Rattle.pk_data.specs.State.{DataState, with_written, next_page}
 use Rattle.pk_data.specs.Placed.{StayPlaced}
-use Rattle.pk_data.specs.Reserving.{TakesNext, OpensBlock, TakesNextOrOpens, WritesNext}
+use Rattle.pk_data.specs.Reserving.{TakesNextOrOpens, WritesNext}
 use Rattle.pk_data.specs.Entries.{IsInOpen}
 use Rattle.pk_drive.specs.Calling.{FewCalls}
 use Rattle.pk_core.specs.Costs.{place_calls}
