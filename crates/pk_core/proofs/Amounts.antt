@@ -29,7 +29,7 @@ deepest_few shape is =
     let blocks = is.blocks_most in
     omega (arith, few, blocks)
 
--- making room reads and installs fewer than 2^16 times, with a look-up before it
+-- making room takes fewer than 2^16 calls, with a look-up before it
 pub room_few : (shape : Shape) → IsShape shape → room_calls shape + 4 ≤ 65535
 room_few shape is =
     let merges = emptying_most shape is in

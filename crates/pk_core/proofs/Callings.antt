@@ -99,7 +99,7 @@ few_commit (e ∷ es) a b program idle = few_program a b (program (λ none. cc))
 reads_are : (before now : ℕ) → before ≤ now → now ≤ last_count → now ≡ counted_by (now - before) before
 reads_are before now up few = let e = counted_by-min (now - before) before (omega (arith, up, few)) in omega (arith, e, up, few)
 
-few_reads : (old new : BoardState) (most n : ℕ) → most ≤ n → ReadsOnly old new most → FewCalls n old new
+pub few_reads : (old new : BoardState) (most n : ℕ) → most ≤ n → ReadsOnly old new most → FewCalls n old new
 few_reads old new most n less made = record {
   reads_made = new.reads - old.reads;
   programs_made = 0;
@@ -110,7 +110,7 @@ few_reads old new most n less made = record {
   erases = ap (λ (b : BoardState). b.erases) made.board;
 }
 
-few_breaks : (old new : BoardState) (most n : ℕ) → most ≤ n → ReadsFailing old new most → FewCalls n old new
+pub few_breaks : (old new : BoardState) (most n : ℕ) → most ≤ n → ReadsFailing old new most → FewCalls n old new
 few_breaks old new most n less made = record {
   reads_made = new.reads - old.reads;
   programs_made = 0;

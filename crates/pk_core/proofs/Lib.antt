@@ -55,3 +55,5 @@ pub mod SpaceSteps
 pub mod Stored
 pub mod ReclaimWork
 pub mod ReclaimTicks
+pub mod StoreCalls
+pub mod LookedUp

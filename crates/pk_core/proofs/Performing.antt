@@ -26,12 +26,12 @@ module _ (d e : Parts) (old new : BoardState) (r : Request) (v : List ℕ) (o : 
     noted = λ is. absurd (store_changes r is only);
     quiet_store = λ is. absurd (store_changes r is only);
     quiet_delete = λ is. absurd (delete_changes r is only);
-    calls = λ _ _. calls;
+    calls = calls;
     looks = λ _. (same, reading);
   }
 
-  pub performs_store : r.opcode ≡ 0x01 → (o.stopped ≡ false → StaysOrOpens d e (charge d.log.shape r.size)) → (o.status ≡ 0 → IsNoted e (key (command_of r v))) → QuietStore d old new r v o → Performs d e old new r v o
-  performs_store is opens noted quiet = record {
+  pub performs_store : r.opcode ≡ 0x01 → (o.stopped ≡ false → StaysOrOpens d e (charge d.log.shape r.size)) → (o.status ≡ 0 → IsNoted e (key (command_of r v))) → QuietStore d old new r v o → FewCalls (most_calls_of d.log.shape r.opcode r.size) old new → Performs d e old new r v o
+  performs_store is opens noted quiet calls = record {
     fresh = λ runs. (opens runs).fresh;
     opens = λ _. opens;
     no_more = λ other. absurd (other is);
@@ -39,12 +39,12 @@ module _ (d e : Parts) (old new : BoardState) (r : Request) (v : List ℕ) (o : 
     noted = λ _. noted;
     quiet_store = λ _. quiet;
     quiet_delete = λ delete. absurd (delete_no_store r delete is);
-    calls = λ other. absurd (other is);
+    calls = calls;
     looks = λ only. absurd (store_changes r is only);
   }
 
-  pub performs_delete : r.opcode ≡ 0x10 → (o.stopped ≡ false → Stays d e) → QuietDelete d old new r o → Performs d e old new r v o
-  performs_delete is moves quiet = record {
+  pub performs_delete : r.opcode ≡ 0x10 → (o.stopped ≡ false → Stays d e) → QuietDelete d old new r o → FewCalls (most_calls_of d.log.shape r.opcode r.size) old new → Performs d e old new r v o
+  performs_delete is moves quiet calls = record {
     fresh = λ runs. (moves runs).fresh;
     opens = λ store. absurd (delete_no_store r is store);
     no_more = λ _ runs. (stays_frees d e (moves runs)).no_more;
@@ -52,7 +52,7 @@ module _ (d e : Parts) (old new : BoardState) (r : Request) (v : List ℕ) (o : 
     noted = λ store. absurd (delete_no_store r is store);
     quiet_store = λ store. absurd (delete_no_store r is store);
     quiet_delete = λ _. quiet;
-    calls = λ _ other. absurd (other is);
+    calls = calls;
     looks = λ only. absurd (delete_changes r is only);
   }
 
@@ -65,6 +65,6 @@ module _ (d e : Parts) (old new : BoardState) (r : Request) (v : List ℕ) (o : 
     noted = λ store. absurd (omega (arith, is, store));
     quiet_store = λ store. absurd (omega (arith, is, store));
     quiet_delete = λ delete. absurd (omega (arith, is, delete));
-    calls = λ _ _. few_for_tick d.log.shape r.opcode r.size is old new calls;
+    calls = few_for_tick d.log.shape r.opcode r.size is old new calls;
     looks = λ only. absurd (tick_changes r is only);
   }

@@ -251,11 +251,6 @@ take_idle (Ok x) a b s0 s1 s2 k idle made = λ none.
 
 -- ---- behind the reads of a look-up
 
-pub programs_whole : (d : Parts) (old new : BoardState) (size size' : ℕ) → size ≡ size'
-    → (fits_open d.log.shape d.space (charge d.log.shape size) ≡ true → Programs (charge d.log.shape size + commits_for d.log.shape (sight_of d)) old new)
-    → fits_open d.log.shape d.space (charge d.log.shape size') ≡ true → Programs (charge d.log.shape size' + commits_for d.log.shape (sight_of d)) old new
-programs_whole d old new size size' same made = subst (λ n. fits_open d.log.shape d.space (charge d.log.shape n) ≡ true → Programs (charge d.log.shape n + commits_for d.log.shape (sight_of d)) old new) same made
-
 behind_reads : (old mid new : BoardState) (most n : ℕ) → ReadsOnly old mid most → Programs n mid new → Programs n old new
 behind_reads old mid new most n made p = record { programs = p.programs ∙ ap (λ (b : BoardState). counted_by n b.programs) made.board; erases = p.erases ∙ ap (λ (b : BoardState). b.erases) made.board }
 

@@ -231,9 +231,6 @@ stays_from d d' e same s = subst (λ x. Stays x e) same s
 pub opens_from : (d d' e : Parts) (size : ℕ) → d' ≡ d → StaysOrOpens d' e (charge d'.log.shape size) → StaysOrOpens d e (charge d.log.shape size)
 opens_from d d' e size same s = subst (λ (x : Parts). StaysOrOpens x e (charge x.log.shape size)) same s
 
-pub opens_whole : (d e : Parts) (size size' : ℕ) → size ≡ size' → StaysOrOpens d e (charge d.log.shape size) → StaysOrOpens d e (charge d.log.shape size')
-opens_whole d e size size' same s = subst (λ n. StaysOrOpens d e (charge d.log.shape n)) same s
-
 pub opens_put : {X E : Type 0} (r : Result X E) (a b c : Parts) (size : ℕ) → Stays a b → b.log.shape ≡ a.log.shape → b.space ≡ a.space → OnOk r (StaysOrOpens b c (charge b.log.shape size)) → OnOk r (StaysOrOpens a c (charge a.log.shape size))
 opens_put r a b c size first shapes spaces second = opens_behind_ok r a b c (charge a.log.shape size) first shapes spaces (subst (λ s. OnOk r (StaysOrOpens b c (charge s size))) shapes second)
 

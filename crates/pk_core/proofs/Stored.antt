@@ -407,8 +407,5 @@ put_numbers d board key value p can unworn = let few = room_most d board key val
 
 -- ---- by the size that a request tells
 
-pub reads_whole : (d : Parts) (key : Key) (old new : BoardState) (size size' : ℕ) → size ≡ size' → ReadsNone d key (charge d.log.shape size) old new → ReadsNone d key (charge d.log.shape size') old new
-reads_whole d key old new size size' same is = subst (λ n. ReadsNone d key (charge d.log.shape n) old new) same is
-
 pub room_looked : (d e : Parts) (size : ℕ) → e ≡ d → fits_open d.log.shape d.space (charge d.log.shape size) ≡ true → fits_open e.log.shape e.space (charge e.log.shape size) ≡ true
 room_looked d e size same room = subst (λ (x : Parts). fits_open x.log.shape x.space (charge x.log.shape size) ≡ true) (sym same) room

@@ -19,3 +19,4 @@ pub mod Opening
 pub mod Reclaiming
 pub mod Spacing
 pub mod Costs
+pub mod LookedUp

@@ -7,15 +7,15 @@ ghost use Rattle.pk_nvme.specs.Command.{key as key_in};
 ghost use Rattle.pk_nvme.specs.Seen.{command_of};
 ghost use Rattle.pk_model.specs.Answer.{store_fault as store_fault_of};
 ghost use Rattle.pk_core.specs.Done.{Executes};
-ghost use Rattle.pk_core.specs.Quiet.{Looks};
-ghost use Rattle.pk_core.specs.Serving.{IsServable, IsReadSince, IsCounted, outcome_for, stopped_by, pages_at as pages_at_by};
+ghost use Rattle.pk_core.specs.Serving.{IsServable, IsCounted, outcome_for, stopped_by, pages_at as pages_at_by};
 ghost use Rattle.pk_nvme.specs.declared.opcode.TheConstants.{STORE, DELETE};
 ghost use Rattle.pk_model.specs.Wear.{roots};
 ghost use Rattle.pk_work.specs.Calls.{commit_calls, room_calls, room_roots, store_roots};
 ghost use Rattle.pk_drive.specs.Calling.{FewCalls};
 ghost use Rattle.pk_core.specs.Costs.{space_and_put_calls};
 ghost use Rattle.pk_core.specs.Staying.{Stays, StaysOrOpens, IsNoted};
-ghost use Rattle.pk_core.specs.Programming.{PutsQuietly, TakesQuietly, ReadsQuietly, ReadsNone, QuietStore, QuietDelete};
+ghost use Rattle.pk_core.specs.Programming.{QuietStore, QuietDelete};
+ghost use Rattle.pk_core.specs.LookedUp.{IsLookedUp, StoresOver, DeletesAt};
 ghost use Rattle.pk_nvme.specs.declared.status.TheConstants.{SUCCESSFUL_COMPLETION};
 
 use crate::drive::Drive;
@@ -116,12 +116,9 @@ impl<A: Region> Drive<A> {
         before: u64,
     ) -> Outcome
         // The command is one that it serves, and its key has its value at this place.
-        requires servable { IsServable self.old (B.state board.old) request.now }
+        requires looked_up { IsLookedUp self.old (B.state board.old) request.now key old before }
         requires opcode { request.now.opcode ≡ STORE }
         requires whole { length value.now ≡ request.now.size }
-        requires named { key ≡ key_in (command_of request.now []) }
-        requires looks { Looks self.old (B.state board.old).pages key old }
-        requires found { IsReadSince before (B.state board.old) }
 
         // The command.
         ensures executes { (into : List ℕ)
@@ -132,16 +129,9 @@ impl<A: Region> Drive<A> {
             × (result.data_len ≡ 0) }
         ensures reads { IsCounted (B.state board.old) (B.state board.new) }
 
-        // The blocks for values, and the calls of a Store that waits for nothing.
-        ensures opens { result.stopped ≡ false → StaysOrOpens self.old self.new
-            (spec.charge self.old.log.shape request.now.size) }
-        ensures noted { result.status ≡ SUCCESSFUL_COMPLETION → IsNoted self.new key }
-        ensures programs { result.status ≡ SUCCESSFUL_COMPLETION → PutsQuietly self.old key
-            (spec.charge self.old.log.shape request.now.size) (B.state board.old)
-            (B.state board.new) }
-        ensures quiet { result.status ≡ SUCCESSFUL_COMPLETION → ReadsNone self.old key
-            (spec.charge self.old.log.shape request.now.size) (B.state board.old)
-            (B.state board.new) }
+        // The blocks for values, and the calls.
+        ensures stores { StoresOver self.old self.new (B.state board.old) (B.state board.new) key
+            (spec.charge self.old.log.shape request.now.size) result }
         ensures calls { FewCalls (space_and_put_calls self.old.log.shape
             (spec.most_pages self.old.log.shape)) (B.state board.old) (B.state board.new) }
         ensures installs { roots (B.state board.new) ≤ roots (B.state board.old) + store_roots }
@@ -181,7 +171,8 @@ impl<A: Region> Drive<A> {
             → IsNoted self.new (key_in (command_of request.now value.now)) }
         ensures quiet { QuietStore self.old (B.state board.old) (B.state board.new)
             request.now value.now result }
-        ensures calls { FewCalls (spec.most_calls self.old.log.shape) (B.state board.old) (B.state board.new) }
+        ensures calls { FewCalls (spec.most_calls self.old.log.shape) (B.state board.old)
+            (B.state board.new) }
         ensures installs { roots (B.state board.new) ≤ roots (B.state board.old) + store_roots }
     {
         let before = board.read_count();
@@ -202,11 +193,8 @@ impl<A: Region> Drive<A> {
         before: u64,
     ) -> Outcome
         // The command is one that it serves, and its key has its value at this place.
-        requires servable { IsServable self.old (B.state board.old) request.now }
+        requires looked_up { IsLookedUp self.old (B.state board.old) request.now key old before }
         requires opcode { request.now.opcode ≡ DELETE }
-        requires named { key ≡ key_in (command_of request.now []) }
-        requires looks { Looks self.old (B.state board.old).pages key old }
-        requires found { IsReadSince before (B.state board.old) }
 
         // The command.
         ensures executes { (v into : List ℕ)
@@ -217,12 +205,9 @@ impl<A: Region> Drive<A> {
             × (result.data_len ≡ 0) }
         ensures reads { IsCounted (B.state board.old) (B.state board.new) }
 
-        // The blocks for values, and the calls of a Delete that waits for nothing.
-        ensures moves { result.stopped ≡ false → Stays self.old self.new }
-        ensures programs { result.status ≡ SUCCESSFUL_COMPLETION
-            → TakesQuietly self.old key (B.state board.old) (B.state board.new) }
-        ensures quiet { result.status ≡ SUCCESSFUL_COMPLETION
-            → ReadsQuietly self.old key (B.state board.old) (B.state board.new) }
+        // The blocks for values, and the calls.
+        ensures deletes { DeletesAt self.old self.new (B.state board.old) (B.state board.new) key
+            result }
         ensures calls { FewCalls (room_calls self.old.log.shape + commit_calls)
             (B.state board.old) (B.state board.new) }
         ensures installs { roots (B.state board.new) ≤ roots (B.state board.old) + room_roots }
@@ -248,7 +233,8 @@ impl<A: Region> Drive<A> {
         ensures moves { result.stopped ≡ false → Stays self.old self.new }
         ensures quiet { QuietDelete self.old (B.state board.old) (B.state board.new) request.now
             result }
-        ensures calls { FewCalls (spec.most_calls self.old.log.shape) (B.state board.old) (B.state board.new) }
+        ensures calls { FewCalls (spec.most_calls self.old.log.shape) (B.state board.old)
+            (B.state board.new) }
         ensures installs { roots (B.state board.new) ≤ roots (B.state board.old) + room_roots }
     {
         let before = board.read_count();

@@ -2,8 +2,9 @@ use Rattle.std.proofs.Common.{ap, ◌≤◌, arith, false}
 use Rattle.pk_nand.specs.BoardState.{BoardState}
 use Rattle.pk_nand.specs.Calls.{last_count}
 use Rattle.pk_model.specs.Wear.{roots}
+use Rattle.pk_core.proofs.LookedUp.{looked_up}
 use Rattle.pk_core.proofs.Unchanging.{unread_look}
-use Rattle.pk_core.proofs.Served.{looks_behind, does_behind, delete_is_other}
+use Rattle.pk_core.proofs.Served.{does_behind, delete_is_other}
 use Rattle.pk_nvme.specs.Seen.{command_of}
 use Rattle.pk_drive.specs.declared.types.Outcome.{Outcome}
 use Rattle.pk_core.proofs.Executing.{executes_quiet}
@@ -11,17 +12,15 @@ use Rattle.pk_core.proofs.Staying.{stays_same, stays_from}
 use Rattle.pk_core.proofs.Statuses.{told_refused}
 use Rattle.pk_core.proofs.Programming.{quiet_delete_behind}
 use Rattle.pk_core.proofs.Quieted.{reads_behind}
+use Rattle.pk_core.proofs.Callings.{few_reads, few_failed}
+use Rattle.pk_core.specs.Parts.{Parts}
+use Rattle.pk_core.proofs.StoreCalls.{few_delete}
 use Rattle.pk_core.proofs.drive.Drive.delete.Goals as goal
 
-pub delete_at-requires-clause-looks : goal.delete_at-requires-clause-looks
-delete_at-requires-clause-looks g c =
-    looks_behind c.args.self.now c.look.new.self (g.B.Nand.state c.args.board.now).pages (g.B.Nand.state c.look.new.board).pages c.key-key.result c.in-Ok.old c.look.ensures.same c.look.ensures.pages c.in-Ok.ensures.looks
-
-pub delete_at-requires-clause-found : goal.delete_at-requires-clause-found
-delete_at-requires-clause-found g c =
-    let made = c.in-Ok.ensures.reads in
-    let is = c.read_count-before.ensures.value in
-    record { up = (let up = made.up in omega (arith, is, up)); few = (let within = made.within in omega (arith, is, within)) }
+pub delete_at-requires-clause-looked_up : goal.delete_at-requires-clause-looked_up
+delete_at-requires-clause-looked_up g c =
+    looked_up c.args.self.now c.look.new.self (g.B.Nand.state c.args.board.now) (g.B.Nand.state c.look.new.board) c.args.request.now c.key-key.result c.in-Ok.old c.read_count-before.result
+    c.requires.servable c.key-key.ensures c.read_count-before.ensures.value c.look.ensures.same c.in-Ok.ensures.looks c.in-Ok.ensures.reads
 
 pub returns-in-Ok-clause-executes : goal.returns-in-Ok-clause-executes
 returns-in-Ok-clause-executes g c = λ v into.
@@ -44,7 +43,7 @@ returns-in-Err-clause-executes g c = λ v into.
     c.refusal.result c.reads_since.result c.refusal.ensures c.read_count-before.ensures.faults c.in-Err.ensures.failing (omega (arith, c.reads_since.ensures.reads, c.read_count-before.ensures.value)))
 
 pub returns-in-Ok-clause-moves : goal.returns-in-Ok-clause-moves
-returns-in-Ok-clause-moves g c = λ runs. stays_from c.args.self.now c.look.new.self c.delete_at.new.self c.look.ensures.same (c.delete_at.ensures.moves runs)
+returns-in-Ok-clause-moves g c = λ runs. stays_from c.args.self.now c.look.new.self c.delete_at.new.self c.look.ensures.same (c.delete_at.ensures.deletes.moves runs)
 
 pub returns-in-Err-clause-moves : goal.returns-in-Err-clause-moves
 returns-in-Err-clause-moves g c = λ _. stays_same _ _ c.look.ensures.same
@@ -54,12 +53,19 @@ returns-in-Ok-clause-quiet g c = λ zero none.
     let e = c.delete_at.ensures in
     let mid = g.B.Nand.state c.look.new.board in
     let new = g.B.Nand.state c.delete_at.new.board in
-    let same = reads_behind c.args.self.now c.look.new.self mid new c.key-key.result _ c.look.ensures.same c.key-key.ensures (e.quiet zero) none in
-    quiet_delete_behind c.args.self.now c.look.new.self (g.B.Nand.state c.args.board.now) mid new c.key-key.result _ c.delete_at.result.reads c.look.ensures.same c.in-Ok.ensures.reads c.key-key.ensures (e.programs zero)
+    let same = reads_behind c.args.self.now c.look.new.self mid new c.key-key.result _ c.look.ensures.same c.key-key.ensures (e.deletes.quiet zero) none in
+    quiet_delete_behind c.args.self.now c.look.new.self (g.B.Nand.state c.args.board.now) mid new c.key-key.result _ c.delete_at.result.reads c.look.ensures.same c.in-Ok.ensures.reads c.key-key.ensures (e.deletes.programs zero)
     (omega (arith, e.told.0, same, c.read_count-before.ensures.value, c.in-Ok.ensures.reads.within)) none
 
 pub returns-in-Err-clause-quiet : goal.returns-in-Err-clause-quiet
 returns-in-Err-clause-quiet g c = λ zero. absurd (told_refused c.refusal.result 0x88 0 0 c.reads_since.result false c.refusal.ensures (λ e. omega (arith, e)) zero)
+
+pub returns-in-Ok-clause-calls : goal.returns-in-Ok-clause-calls
+returns-in-Ok-clause-calls g c =
+    few_delete _ _ _ _ _ (ap (λ (d : Parts). d.log.shape) c.look.ensures.same) c.requires.servable.agrees.with.index.logs.is_shape (few_reads _ _ _ _ (omega arith) c.in-Ok.ensures.reads) c.delete_at.ensures.calls
+
+pub returns-in-Err-clause-calls : goal.returns-in-Err-clause-calls
+returns-in-Err-clause-calls g c = few_failed c.args.self.now (g.B.Nand.state c.args.board.now) (g.B.Nand.state c.look.new.board) c.requires.servable.agrees _ (omega arith) c.in-Err.ensures.failing
 
 pub returns-in-Ok-clause-installs : goal.returns-in-Ok-clause-installs
 returns-in-Ok-clause-installs g c = let same = ap (λ (s : BoardState). roots s) c.in-Ok.ensures.reads.board in let few = c.delete_at.ensures.installs in omega (arith, same, few)

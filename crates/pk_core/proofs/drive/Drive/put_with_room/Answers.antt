@@ -12,6 +12,7 @@ use Rattle.pk_core.proofs.Steps.{later, stays_committed}
 use Rattle.pk_core.proofs.Staying.{opens_then, opens_then_ok}
 use Rattle.pk_core.proofs.Noted.{noted_after_ok}
 use Rattle.pk_core.proofs.Programming.{put_programs}
+use Rattle.pk_core.proofs.Callings.{few_within, few_then}
 use Rattle.pk_core.proofs.drive.Drive.put_with_room.Goals as goal
 
 pub place_value-requires-clause-may : goal.place_value-requires-clause-may
@@ -87,3 +88,9 @@ returns-in-Ok-clause-programs g c =
     let e = c.in-Ok.ensures in
     put_programs c.commit_if_full.result c.args.self.now c.place_value.new.self c.note_put.new.self c.commit_if_full.new.self (g.B.Nand.state c.args.board.now) (g.B.Nand.state c.place_value.new.board) (g.B.Nand.state c.commit_if_full.new.board) (length c.args.value.now)
     c.requires.can.few e.programs (ap (λ (d : Parts). d.log) c.place_value.ensures.rest) c.note_put.ensures.more (ap (λ (d : Parts). d.log.shape) c.note_put.ensures.rest) c.commit_if_full.ensures.idle c.commit_if_full.ensures.full
+
+pub returns-in-Ok-clause-calls : goal.returns-in-Ok-clause-calls
+returns-in-Ok-clause-calls g c = few_then _ _ _ _ _ c.place_value.ensures.calls c.commit_if_full.ensures.calls
+
+pub returns-in-Err-clause-calls : goal.returns-in-Err-clause-calls
+returns-in-Err-clause-calls g c = few_within _ _ _ _ (omega arith) c.place_value.ensures.calls

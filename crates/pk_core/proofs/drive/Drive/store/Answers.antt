@@ -2,8 +2,9 @@ use Rattle.std.proofs.Common.{ap, ◌≤◌, arith, subst, false}
 use Rattle.pk_nand.specs.BoardState.{BoardState}
 use Rattle.pk_nand.specs.Calls.{last_count}
 use Rattle.pk_model.specs.Wear.{roots}
+use Rattle.pk_core.proofs.LookedUp.{looked_up}
 use Rattle.pk_core.proofs.Unchanging.{unread_look}
-use Rattle.pk_core.proofs.Served.{looks_behind, does_behind, store_is_other}
+use Rattle.pk_core.proofs.Served.{does_behind, store_is_other}
 use Rattle.pk_nvme.specs.Seen.{command_of}
 use Rattle.pk_drive.specs.declared.types.Outcome.{Outcome}
 use Rattle.pk_core.proofs.Executing.{executes_quiet}
@@ -13,20 +14,15 @@ use Rattle.pk_core.proofs.Statuses.{told_refused}
 use Rattle.pk_core.proofs.Programming.{quiet_store_behind}
 use Rattle.pk_core.proofs.Quieted.{reads_behind}
 use Rattle.pk_core.proofs.Stored.{room_looked}
+use Rattle.pk_core.proofs.Callings.{few_reads, few_failed}
+use Rattle.pk_core.specs.Parts.{Parts}
+use Rattle.pk_core.proofs.StoreCalls.{few_store}
 use Rattle.pk_core.proofs.drive.Drive.store.Goals as goal
 
-pub store_over-requires-clause-named : goal.store_over-requires-clause-named
-store_over-requires-clause-named g c = c.key-key.ensures
-
-pub store_over-requires-clause-looks : goal.store_over-requires-clause-looks
-store_over-requires-clause-looks g c =
-    looks_behind c.args.self.now c.look.new.self (g.B.Nand.state c.args.board.now).pages (g.B.Nand.state c.look.new.board).pages c.key-key.result c.in-Ok.old c.look.ensures.same c.look.ensures.pages c.in-Ok.ensures.looks
-
-pub store_over-requires-clause-found : goal.store_over-requires-clause-found
-store_over-requires-clause-found g c =
-    let made = c.in-Ok.ensures.reads in
-    let is = c.read_count-before.ensures.value in
-    record { up = (let up = made.up in omega (arith, is, up)); few = (let within = made.within in omega (arith, is, within)) }
+pub store_over-requires-clause-looked_up : goal.store_over-requires-clause-looked_up
+store_over-requires-clause-looked_up g c =
+    looked_up c.args.self.now c.look.new.self (g.B.Nand.state c.args.board.now) (g.B.Nand.state c.look.new.board) c.args.request.now c.key-key.result c.in-Ok.old c.read_count-before.result
+    c.requires.servable c.key-key.ensures c.read_count-before.ensures.value c.look.ensures.same c.in-Ok.ensures.looks c.in-Ok.ensures.reads
 
 pub returns-in-Ok-clause-executes : goal.returns-in-Ok-clause-executes
 returns-in-Ok-clause-executes g c = λ into.
@@ -49,13 +45,13 @@ returns-in-Err-clause-executes g c = λ into.
     c.refusal.result c.reads_since.result c.refusal.ensures c.read_count-before.ensures.faults c.in-Err.ensures.failing (omega (arith, c.reads_since.ensures.reads, c.read_count-before.ensures.value)))
 
 pub returns-in-Ok-clause-opens : goal.returns-in-Ok-clause-opens
-returns-in-Ok-clause-opens g c = λ runs. opens_from c.args.self.now c.look.new.self c.store_over.new.self c.args.request.now.size c.look.ensures.same (c.store_over.ensures.opens runs)
+returns-in-Ok-clause-opens g c = λ runs. opens_from c.args.self.now c.look.new.self c.store_over.new.self c.args.request.now.size c.look.ensures.same (c.store_over.ensures.stores.opens runs)
 
 pub returns-in-Err-clause-opens : goal.returns-in-Err-clause-opens
 returns-in-Err-clause-opens g c = λ _. stays_opens _ _ _ (stays_same _ _ c.look.ensures.same)
 
 pub returns-in-Ok-clause-noted : goal.returns-in-Ok-clause-noted
-returns-in-Ok-clause-noted g c = λ zero. subst (λ k. IsNoted c.store_over.new.self k) c.key-key.ensures (c.store_over.ensures.noted zero)
+returns-in-Ok-clause-noted g c = λ zero. subst (λ k. IsNoted c.store_over.new.self k) c.key-key.ensures (c.store_over.ensures.stores.noted zero)
 
 pub returns-in-Err-clause-noted : goal.returns-in-Err-clause-noted
 returns-in-Err-clause-noted g c = λ zero. absurd (told_refused c.refusal.result 0x88 0 0 c.reads_since.result false c.refusal.ensures (λ e. omega (arith, e)) zero)
@@ -65,12 +61,19 @@ returns-in-Ok-clause-quiet g c = λ zero none room.
     let e = c.store_over.ensures in
     let mid = g.B.Nand.state c.look.new.board in
     let new = g.B.Nand.state c.store_over.new.board in
-    let same = reads_behind c.args.self.now c.look.new.self mid new c.key-key.result _ c.look.ensures.same c.key-key.ensures (e.quiet zero (room_looked c.args.self.now c.look.new.self c.args.request.now.size c.look.ensures.same room)) none in
-    quiet_store_behind c.args.self.now c.look.new.self (g.B.Nand.state c.args.board.now) mid new c.args.request.now.size c.key-key.result _ c.store_over.result.reads c.look.ensures.same c.in-Ok.ensures.reads c.key-key.ensures (e.programs zero)
+    let same = reads_behind c.args.self.now c.look.new.self mid new c.key-key.result _ c.look.ensures.same c.key-key.ensures (e.stores.quiet zero (room_looked c.args.self.now c.look.new.self c.args.request.now.size c.look.ensures.same room)) none in
+    quiet_store_behind c.args.self.now c.look.new.self (g.B.Nand.state c.args.board.now) mid new c.args.request.now.size c.key-key.result _ c.store_over.result.reads c.look.ensures.same c.in-Ok.ensures.reads c.key-key.ensures (e.stores.programs zero)
     (omega (arith, e.told.0, same, c.read_count-before.ensures.value, c.in-Ok.ensures.reads.within)) none room
 
 pub returns-in-Err-clause-quiet : goal.returns-in-Err-clause-quiet
 returns-in-Err-clause-quiet g c = λ zero. absurd (told_refused c.refusal.result 0x88 0 0 c.reads_since.result false c.refusal.ensures (λ e. omega (arith, e)) zero)
+
+pub returns-in-Ok-clause-calls : goal.returns-in-Ok-clause-calls
+returns-in-Ok-clause-calls g c =
+    few_store _ _ _ _ _ (ap (λ (d : Parts). d.log.shape) c.look.ensures.same) c.requires.servable.agrees.with.index.logs.is_shape (few_reads _ _ _ _ (omega arith) c.in-Ok.ensures.reads) c.store_over.ensures.calls
+
+pub returns-in-Err-clause-calls : goal.returns-in-Err-clause-calls
+returns-in-Err-clause-calls g c = few_failed c.args.self.now (g.B.Nand.state c.args.board.now) (g.B.Nand.state c.look.new.board) c.requires.servable.agrees _ (omega arith) c.in-Err.ensures.failing
 
 pub returns-in-Ok-clause-installs : goal.returns-in-Ok-clause-installs
 returns-in-Ok-clause-installs g c = let same = ap (λ (s : BoardState). roots s) c.in-Ok.ensures.reads.board in let few = c.store_over.ensures.installs in omega (arith, same, few)

@@ -1,4 +1,4 @@
-use Rattle.std.proofs.Common.{◌≤◌, length, arith, Err}
+use Rattle.std.proofs.Common.{◌≤◌, length, Err, arith}
 use Rattle.pk_core.specs.Changes.{StaysBetween}
 use Rattle.pk_core.specs.Moves.{LeavesValues}
 use Rattle.pk_core.specs.Staying.{Stays}
@@ -7,6 +7,7 @@ use Rattle.pk_core.proofs.ReadSteps.{running_ok, running_failed, running_both}
 use Rattle.pk_core.proofs.Staying.{stays_then as stays_twice}
 use Rattle.pk_core.proofs.Quieted.{put_reads_none}
 use Rattle.pk_core.proofs.Programming.{take_idle}
+use Rattle.pk_core.proofs.Callings.{few_within, few_then}
 use Rattle.pk_core.proofs.drive.Drive.take_out.Goals as goal
 
 pub make_room-requires-clause-may : goal.make_room-requires-clause-may
@@ -52,6 +53,12 @@ returns-in-Err-clause-stays g c =
     let a = c.args.self.now in
     let b = c.make_room.new.self in
     running_failed Unit Unit (LeavesValues a b × (length b.log.pending ≤ length a.log.pending)) (StaysBetween a b) c.in-Err.fault (λ is. stays_kept a b is.0 is.1 c.requires.can.few) (running_both {T = Unit {0}} (LeavesValues a b) (length b.log.pending ≤ length a.log.pending) (Err c.in-Err.fault) e.leaves e.pending)
+
+pub returns-in-Ok-clause-calls : goal.returns-in-Ok-clause-calls
+returns-in-Ok-clause-calls g c = few_then _ _ _ _ _ c.make_room.ensures.calls c.take_with_room.ensures.calls
+
+pub returns-in-Err-clause-calls : goal.returns-in-Err-clause-calls
+returns-in-Err-clause-calls g c = few_within _ _ _ _ (omega arith) c.make_room.ensures.calls
 
 pub returns-in-Ok-clause-installs : goal.returns-in-Ok-clause-installs
 returns-in-Ok-clause-installs g c = let few = c.in-Ok.ensures.installs in let same = c.take_with_room.ensures.step.roots_few in omega (arith, few, same)

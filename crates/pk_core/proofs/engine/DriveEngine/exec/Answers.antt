@@ -103,11 +103,11 @@ returns-in-None-clause-quiet_delete g c = λ is zero quiet.
     quietly_deletes c.args.self.now (g.B.Nand.state c.args.board.now) (g.B.Nand.state c.perform-outcome.new.board) c.requires.agrees.0 c.args.request.now c.args.value.now c.perform-outcome.result (c.perform-outcome.ensures.performs.quiet_delete is) zero quiet
 
 pub returns-in-Some-clause-calls : goal.returns-in-Some-clause-calls
-returns-in-Some-clause-calls g c = λ _ _. few_within 0 _ _ _ (omega arith) (few_none _)
+returns-in-Some-clause-calls g c = few_within 0 _ _ _ (omega arith) (few_none _)
 
 pub returns-in-None-clause-calls : goal.returns-in-None-clause-calls
-returns-in-None-clause-calls g c = λ no_store no_delete.
-    few_told c.args.self.now (g.B.Nand.state c.args.board.now) (g.B.Nand.state c.perform-outcome.new.board) c.requires.agrees.0 c.args.request.now.opcode c.args.request.now.size (c.perform-outcome.ensures.performs.calls no_store no_delete)
+returns-in-None-clause-calls g c =
+    few_told c.args.self.now (g.B.Nand.state c.args.board.now) (g.B.Nand.state c.perform-outcome.new.board) c.requires.agrees.0 c.args.request.now.opcode c.args.request.now.size c.perform-outcome.ensures.performs.calls
 
 pub returns-in-None-clause-report : goal.returns-in-None-clause-report
 returns-in-None-clause-report g c = λ is. let r = c.perform-outcome.ensures.report is in (r.fine, r.rests)

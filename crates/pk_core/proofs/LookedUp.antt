@@ -1,0 +1,73 @@
+-- A Store or a Delete behind the look-up of its key.
+use Rattle.std.proofs.Common.{◌≡◌, ◌≢◌, ℕ, ◌-◌, refl, sym, ap, subst, arith, [], Option, Result}
+use Rattle.std.specs.Prelude.{OnOk}
+use Rattle.pk_base.specs.Entry.{Place}
+use Rattle.pk_base.specs.Key.{Key}
+use Rattle.pk_base.specs.Shape.{charge}
+use Rattle.pk_nvme.specs.Command.{key}
+use Rattle.pk_nvme.specs.Seen.{command_of}
+use Rattle.pk_nvme.specs.declared.request.Request.{Request}
+use Rattle.pk_nand.specs.declared.types.Fault.{Fault}
+use Rattle.pk_nand.specs.BoardState.{BoardState}
+use Rattle.pk_drive.specs.declared.types.Outcome.{Outcome}
+use Rattle.pk_core.specs.Parts.{Parts}
+use Rattle.pk_core.specs.Emptying.{OnRunning}
+use Rattle.pk_core.specs.Quiet.{ReadsOnly, Looks}
+use Rattle.pk_core.specs.Serving.{IsServable, outcome_for, stopped_by}
+use Rattle.pk_core.specs.Staying.{Stays, StaysOrOpens, IsNoted}
+use Rattle.pk_core.specs.Programming.{PutsQuietly, TakesQuietly, ReadsQuietly, ReadsNone}
+use Rattle.pk_core.specs.LookedUp.{IsLookedUp, StoresOver, DeletesAt}
+use Rattle.pk_core.proofs.Came.{came_running, came_served}
+use Rattle.pk_core.proofs.Served.{looks_behind}
+use Rattle.pk_core.proofs.Staying.{stays_opens, stays_same}
+
+-- the look-up left the drive as it was
+pub looked_up : (d e : Parts) (old mid : BoardState) (r : Request) (k : Key) (p : Option Place) (before : ℕ) → IsServable d old r → k ≡ key (command_of r []) → before ≡ old.reads
+    → e ≡ d → Looks d old.pages k p → ReadsOnly old mid (4 - d.levels.pinned) → IsLookedUp e mid r k p before
+looked_up d e old mid r k p before s named is same looks made =
+    let n : ℕ = mid.reads in
+    let here : IsServable d (record old { reads = n }) r = record { agrees = s.agrees; runs = s.runs; unworn = s.unworn; passed = s.passed; few = s.few; counted = made.few } in
+    let there : IsServable d mid r = subst (λ (b : BoardState). IsServable d b r) (sym made.board) here in
+    record {
+      servable = subst (λ (x : Parts). IsServable x mid r) (sym same) there;
+      named = named;
+      looks = looks_behind d e old.pages mid.pages k p same (ap (λ (b : BoardState). b.pages) made.board) looks;
+      since = record { up = (let up = made.up in omega (arith, is, up)); few = (let within = made.within in omega (arith, is, within)) };
+    }
+
+-- one that is refused
+module _ (d : Parts) (board : BoardState) (k : Key) (o : Outcome) (refused : o.status ≢ 0) where
+  pub stores_none : (count : ℕ) → StoresOver d d board board k count o
+  stores_none count = record {
+    opens = λ _. stays_opens d d count (stays_same d d refl);
+    noted = λ zero. absurd (refused zero);
+    programs = λ zero. absurd (refused zero);
+    quiet = λ zero. absurd (refused zero);
+  }
+
+  pub deletes_none : DeletesAt d d board board k o
+  deletes_none = record {
+    moves = λ _. stays_same d d refl;
+    programs = λ zero. absurd (refused zero);
+    quiet = λ zero. absurd (refused zero);
+  }
+
+-- one that came to this
+module _ (d e f : Parts) (old new : BoardState) (k : Key) (r : Result Unit Fault) (o : Outcome) (reads : ℕ) (told : o ≡ outcome_for r reads) (rest : f ≡ stopped_by e r) where
+  pub stores_came : (len size : ℕ) → len ≡ size → OnRunning (StaysOrOpens d e (charge d.log.shape len)) r → OnOk r (IsNoted e k) → OnOk r (PutsQuietly d k (charge d.log.shape len) old new)
+      → OnOk r (ReadsNone d k (charge d.log.shape len) old new) → StoresOver d f old new k (charge d.log.shape size) o
+  stores_came len size whole opens noted programs quiet =
+      let count = charge d.log.shape len in
+      subst (λ (n : ℕ). StoresOver d f old new k (charge d.log.shape n) o) whole (record {
+        opens = λ runs. subst (λ (x : Parts). StaysOrOpens d x count) (sym rest) (came_running (λ x. StaysOrOpens d x count) r e o reads told opens runs);
+        noted = λ zero. subst (λ (x : Parts). IsNoted x k) (sym rest) (came_served (λ x. IsNoted x k) r e o reads told noted zero);
+        programs = λ zero. came_served (λ x. PutsQuietly d k count old new) r e o reads told programs zero;
+        quiet = λ zero. came_served (λ x. ReadsNone d k count old new) r e o reads told quiet zero;
+      })
+
+  pub deletes_came : OnRunning (Stays d e) r → OnOk r (TakesQuietly d k old new) → OnOk r (ReadsQuietly d k old new) → DeletesAt d f old new k o
+  deletes_came moves programs quiet = record {
+    moves = λ runs. subst (λ (x : Parts). Stays d x) (sym rest) (came_running (λ x. Stays d x) r e o reads told moves runs);
+    programs = λ zero. came_served (λ x. TakesQuietly d k old new) r e o reads told programs zero;
+    quiet = λ zero. came_served (λ x. ReadsQuietly d k old new) r e o reads told quiet zero;
+  }

@@ -1,0 +1,35 @@
+-- A Store or a Delete behind the look-up of its key.
+use Rattle.std.specs.Prelude.{◌≡◌, ℕ, [], Option, false}
+use Rattle.pk_base.specs.Entry.{Place}
+use Rattle.pk_base.specs.Key.{Key}
+use Rattle.pk_nvme.specs.Command.{key}
+use Rattle.pk_nvme.specs.Seen.{command_of}
+use Rattle.pk_nvme.specs.declared.status.TheConstants.{SUCCESSFUL_COMPLETION}
+use Rattle.pk_nvme.specs.declared.request.Request.{Request}
+use Rattle.pk_nand.specs.BoardState.{BoardState}
+use Rattle.pk_drive.specs.declared.types.Outcome.{Outcome}
+use Rattle.pk_core.specs.Parts.{Parts}
+use Rattle.pk_core.specs.Quiet.{Looks}
+use Rattle.pk_core.specs.Serving.{IsServable, IsReadSince}
+use Rattle.pk_core.specs.Staying.{Stays, StaysOrOpens, IsNoted}
+use Rattle.pk_core.specs.Programming.{PutsQuietly, TakesQuietly, ReadsQuietly, ReadsNone}
+
+-- The drive serves the request, and its key has its value at this place, as was found since the board had this count of reads.
+pub record IsLookedUp (d : Parts) (board : BoardState) (r : Request) (k : Key) (p : Option Place) (before : ℕ) : Type 0 where
+  pub servable : IsServable d board r
+  pub named : k ≡ key (command_of r [])
+  pub looks : Looks d board.pages k p
+  pub since : IsReadSince before board
+
+-- What a Store of so many pages leaves of the blocks for values, and its calls where it waits for nothing.
+pub record StoresOver (before after : Parts) (old new : BoardState) (k : Key) (count : ℕ) (o : Outcome) : Type 0 where
+  pub opens : o.stopped ≡ false → StaysOrOpens before after count
+  pub noted : o.status ≡ SUCCESSFUL_COMPLETION → IsNoted after k
+  pub programs : o.status ≡ SUCCESSFUL_COMPLETION → PutsQuietly before k count old new
+  pub quiet : o.status ≡ SUCCESSFUL_COMPLETION → ReadsNone before k count old new
+
+-- the same of a Delete
+pub record DeletesAt (before after : Parts) (old new : BoardState) (k : Key) (o : Outcome) : Type 0 where
+  pub moves : o.stopped ≡ false → Stays before after
+  pub programs : o.status ≡ SUCCESSFUL_COMPLETION → TakesQuietly before k old new
+  pub quiet : o.status ≡ SUCCESSFUL_COMPLETION → ReadsQuietly before k old new
