@@ -1,15 +1,13 @@
-//! Freezes and merges: by commands from a made drive on, and on flashes made by hand whose next merges are into each level in turn.
+//! Freezes and merges by commands from a made drive on; and merges into each level, on flashes made by hand, cut off at every mark.
 
 use crate::boards::{
     MAKE_WORKED, Session, cut, long_board, made, pages_left, serve, serve_with, worked,
 };
 use crate::cuts::bytes_out;
-use crate::pages::{
-    erased, gone_page, journal_page_of, root_page_of, there_page, write, write_value_of,
-};
+use crate::layered::{FLASHES, Layered, Lists, key_of, roots_behind, ways};
+use crate::report::{LIST, REPORT, TICK, number_at, numbers, push_command};
 use crate::script::{Value, entry, push_head, push_value};
 use crate::tried::{Program, holds, same};
-use pk_base::{Shape, get_u32};
 use pk_flash::{Flash, Left};
 use pk_nand::{Mark, PageState};
 use std::alloc::{AllocError, Global};
@@ -19,12 +17,6 @@ const STORE: u8 = 0x01;
 
 const RETRIEVE: u8 = 0x02;
 
-const LIST: u8 = 0x06;
-
-const TICK: u8 = 0xc0;
-
-const REPORT: u8 = 0xc2;
-
 // ---- from a made drive on
 
 // A value of one page.
@@ -32,10 +24,6 @@ const ABC: Value = Value {
     first: 0x61,
     len: 3,
 };
-
-fn key_of(number: u16) -> [u8; 2] {
-    number.to_be_bytes()
-}
 
 // Stores of so many keys of two bytes, of one page each.
 fn stores(alloc: Global, count: u16) -> Result<Vec<u8>, AllocError> {
@@ -47,10 +35,6 @@ fn stores(alloc: Global, count: u16) -> Result<Vec<u8>, AllocError> {
     Ok(script)
 }
 
-fn push_command(into: &mut Vec<u8>, opcode: u8, size: u32) -> Result<(), AllocError> {
-    into.extend_from_slice(&entry(1, opcode, [0, 0], 0, size))
-}
-
 fn push_retrieve(into: &mut Vec<u8>, key: u16) -> Result<(), AllocError> {
     into.extend_from_slice(&entry(2, RETRIEVE, key_of(key), 2, 10))
 }
@@ -59,25 +43,6 @@ fn push_retrieve(into: &mut Vec<u8>, key: u16) -> Result<(), AllocError> {
 const REPORT_BYTES: usize = 24 + 64;
 
 const FOUND_BYTES: usize = 24 + 3;
-
-// The number of four bytes that begins here.
-fn number_at(posted: &[u8], at: usize) -> Result<u32, Fail> {
-    if at.saturating_add(4) > posted.len() {
-        return Err(Fail::from("a record"));
-    }
-    Ok(get_u32(posted, at))
-}
-
-// The sixteen numbers of the Report whose record ends so many bytes before the end.
-fn numbers(posted: &[u8], behind: usize) -> Result<[u32; 16], Fail> {
-    let end = posted.len().checked_sub(behind).ok_or("a record")?;
-    let start = end.checked_sub(64).ok_or("a Report")?;
-    let mut numbers = [0u32; 16];
-    for i in 0..16usize {
-        numbers[i] = number_at(posted, start.saturating_add(4 * i))?;
-    }
-    Ok(numbers)
-}
 
 // How many pages the command read whose record, of so many bytes, ends so many before the end.
 fn reads_of(posted: &[u8], len: usize, behind: usize) -> Result<u32, Fail> {
@@ -206,171 +171,16 @@ pub fn roots_fill_a_block<P: Program>(alloc: Global) -> Result<(), Fail> {
     Ok(())
 }
 
-// ---- from flashes made by hand
+// ---- on flashes made by hand
 
-/// A flash of pages of 512 bytes with few blocks: so many pages in a block, and so many blocks.
-#[derive(Clone, Copy)]
-struct Few {
-    block_pages: u16,
-    blocks: u16,
-}
-
-const SHAPES: [Few; 2] = [
-    Few {
-        block_pages: 8,
-        blocks: 33,
-    },
-    Few {
-        block_pages: 16,
-        blocks: 22,
-    },
-];
-
-// The entries of the older epoch and of runs 1 to 4. The next merges are into levels 4, 3, 2 and 1: 20 and 50 are more than 60, 50 and 200
-// more than 240, 200 and 800 more than 960.
-const FROZEN: u16 = 20;
-
-const RUNS: [u16; 4] = [50, 200, 800, 10];
-
-// The entries of a page.
-const PAGE: u16 = 15;
-
-// The keys of run 4 are the numbers from 2000 on, and those of the other lists those from 1000 on and below 2000, so none covers another.
-const FIRST_GONE: u16 = 1000;
-
-const FIRST_THERE: u16 = 2000;
-
-fn value_of(key: u16) -> Value {
-    Value {
-        first: (key % 256) as u8,
-        len: 5,
-    }
-}
-
-fn page_in(few: &Few, block: u16, i: u16) -> u32 {
-    let first = u32::from(block).saturating_mul(u32::from(few.block_pages));
-    first.saturating_add(u32::from(i))
-}
-
-fn blocks_for(few: &Few, entries: u16) -> u16 {
-    if few.block_pages == 0 {
-        return 0;
-    }
-    entries.div_ceil(PAGE).div_ceil(few.block_pages)
-}
-
-// Writes a run of deleted keys from this block on.
-fn write_gone(
+/// Serves this script on these pages.
+pub fn served<P: Program>(
     alloc: Global,
-    pages: &mut Vec<PageState>,
-    few: &Few,
-    level: u8,
-    block: u16,
-    entries: u16,
-) -> Result<(), Fail> {
-    for index in 0..entries.div_ceil(PAGE) {
-        let from = index.saturating_mul(PAGE);
-        let count = PAGE.min(entries.saturating_sub(from));
-        let page = gone_page(
-            level,
-            u32::from(index),
-            FIRST_GONE.saturating_add(from),
-            count,
-        );
-        write(alloc, pages, page_in(few, block, index), &page)?;
-    }
-    Ok(())
-}
-
-// Writes run 4 and the values of its keys, which fill pages of this block.
-fn write_there(
-    alloc: Global,
-    pages: &mut Vec<PageState>,
-    few: &Few,
-    block: u16,
-    values: u16,
-) -> Result<(), Fail> {
-    let mut places = [(0u16, 0u32, 0u32); 10];
-    for i in 0..RUNS[3] {
-        let key = FIRST_THERE.saturating_add(i);
-        let at = page_in(few, values, i);
-        let value = value_of(key);
-        write_value_of(alloc, pages, at, &key.to_be_bytes(), &value)?;
-        places[usize::from(i)] = (key, at, value.len);
-    }
-    let page = there_page(4, 0, &places);
-    write(alloc, pages, page_in(few, block, 0), &page)
-}
-
-// The flash: the root in page 0, epoch 3 in blocks 2 and 3 without entries, epoch 2 in blocks 4 and 5, the runs behind them, and the values
-// in the last blocks.
-fn four_merges(alloc: Global, few: &Few) -> Result<Vec<PageState>, Fail> {
-    let count = u32::from(few.block_pages).saturating_mul(u32::from(few.blocks));
-    let mut pages = erased(alloc, count)?;
-    let mut blocks = [
-        2u16, 3, 4, 5, 0, 0, 0, 0, 0, 0, 0, 0, 0, 0, 0, 0, 0, 0, 0, 0,
-    ];
-    let mut named = 4usize;
-    let mut next = 6u16;
-    for level in 1..=4u8 {
-        let entries = RUNS[usize::from(level) - 1];
-        if level < 4 {
-            write_gone(alloc, &mut pages, few, level, next, entries)?;
-        } else {
-            write_there(alloc, &mut pages, few, next, few.blocks.saturating_sub(2))?;
-        }
-        for _ in 0..blocks_for(few, entries) {
-            if named < blocks.len() {
-                blocks[named] = next;
-                named += 1;
-            }
-            next = next.saturating_add(1);
-        }
-    }
-    for index in 0..2u16 {
-        let from = index.saturating_mul(FROZEN / 2);
-        let page = journal_page_of(
-            2,
-            u32::from(index),
-            FIRST_GONE.saturating_add(from),
-            FROZEN / 2,
-        );
-        write(alloc, &mut pages, page_in(few, 4, index), &page)?;
-    }
-    let runs = [
-        u32::from(RUNS[0]),
-        u32::from(RUNS[1]),
-        u32::from(RUNS[2]),
-        u32::from(RUNS[3]),
-    ];
-    let root = root_page_of(
-        (few.block_pages, few.blocks),
-        7,
-        3,
-        2,
-        runs,
-        &blocks[..named.min(20)],
-    );
-    write(alloc, &mut pages, 0, &root)?;
-    Ok(pages)
-}
-
-fn shape_of(few: &Few) -> Result<Shape, Fail> {
-    Ok(
-        Shape::new(512, u32::from(few.block_pages), u32::from(few.blocks))
-            .ok()
-            .ok_or("a shape")?,
-    )
-}
-
-// Serves this script on these pages.
-fn served<P: Program>(
-    alloc: Global,
-    few: &Few,
+    layered: &Layered,
     pages: Vec<PageState>,
     script: Vec<u8>,
 ) -> Result<Session, Fail> {
-    let mut flash = long_board(alloc, shape_of(few)?, pages, script)?;
+    let mut flash = long_board(alloc, layered.shape()?, pages, script)?;
     let status = serve::<P>(alloc, &mut flash);
     Ok(Session { status, flash })
 }
@@ -383,94 +193,101 @@ fn looks(alloc: Global) -> Result<Vec<u8>, AllocError> {
     Ok(script)
 }
 
-// The data of a List of the keys of run 4.
-fn keys_listed(alloc: Global) -> Result<Vec<u8>, AllocError> {
-    let mut data = Vec::new(alloc);
-    data.extend_from_slice(&u32::from(RUNS[3]).to_le_bytes())?;
-    for i in 0..RUNS[3] {
-        let key = key_of(FIRST_THERE.saturating_add(i));
-        data.extend_from_slice(&[2, 0, key[0], key[1]])?;
-    }
-    Ok(data)
+// The numbers of entries in a Report.
+fn entries_of(report: &[u32; 16]) -> [u32; 6] {
+    [
+        report[6], report[7], report[8], report[9], report[10], report[11],
+    ]
 }
 
-// The keys are those of run 4 on these pages, however far the merges came.
-fn check_keys<P: Program>(
+// The same of lists.
+fn entries_in(lists: &Lists) -> [u32; 6] {
+    [
+        u32::from(lists.active),
+        u32::from(lists.frozen),
+        u32::from(lists.runs[0]),
+        u32::from(lists.runs[1]),
+        u32::from(lists.runs[2]),
+        u32::from(lists.runs[3]),
+    ]
+}
+
+/// On these pages the keys are those of the flash that was made, and the one that was stored; and the lists have so many entries.
+pub fn check_lists<P: Program>(
     alloc: Global,
-    few: &Few,
+    layered: &Layered,
     pages: Vec<PageState>,
-    what: &str,
+    lists: &Lists,
+    stored: Option<u16>,
     k: usize,
-) -> Result<[u32; 16], Fail> {
-    let done = served::<P>(alloc, few, pages, looks(alloc)?)?;
-    same(done.status, 0, format_args!("the status, {what}, mark {k}"))?;
-    let want = keys_listed(alloc)?;
+) -> Result<(), Fail> {
+    let done = served::<P>(alloc, layered, pages, looks(alloc)?)?;
+    same(done.status, 0, format_args!("the status, mark {k}"))?;
+    let want = layered.keys_listed(alloc, stored)?;
     let posted = done.flash.posted();
     same(
-        posted.get(24..24 + want.len()),
+        posted.get(24..want.len().saturating_add(24)),
         Some(want.as_slice()),
-        format_args!("the keys, {what}, mark {k}"),
+        format_args!("the keys, mark {k}"),
     )?;
-    numbers(posted, 0)
+    same(
+        entries_of(&numbers(posted, 0)?),
+        entries_in(lists),
+        format_args!("the entries, mark {k}"),
+    )
 }
 
-// The session that makes all merges: its lists are empty but for run 4 and the last merge's.
-fn all_merges<P: Program>(alloc: Global, few: &Few) -> Result<Flash, Fail> {
+// The session that makes all merges: the lists are empty but for run 4 and the outputs of the last three.
+fn all_merges<P: Program>(alloc: Global, layered: &Layered) -> Result<Flash, Fail> {
     let mut script = Vec::new(alloc);
     push_command(&mut script, TICK, 5000)?;
     push_command(&mut script, REPORT, 0)?;
-    let done = served::<P>(alloc, few, four_merges(alloc, few)?, script)?;
+    let done = served::<P>(alloc, layered, layered.pages(alloc)?, script)?;
     same(done.status, 0, "the status")?;
     let found = numbers(done.flash.posted(), 0)?;
     same(
-        [
-            found[7], found[8], found[9], found[10], found[11], found[15],
-        ],
-        [0, 20, 50, 200, 10, 0],
-        "the numbers",
+        entries_of(&found),
+        entries_in(&layered.lists.behind(4)),
+        "the entries",
     )?;
+    same(found[15], 0, "a merge")?;
     Ok(done.flash)
 }
 
-// In some ways this mark is interrupted: a program is not begun, torn or done; an erase leaves all as it was, all Torn, all Erased, or each
-// page by turns.
-fn ways(alloc: Global, flash: &Flash, k: usize, block_pages: u16) -> Result<Vec<Left>, AllocError> {
-    let mut ways = Vec::new(alloc);
-    ways.push(Left::Untouched)?;
-    if k >= flash.marks() {
-        return Ok(ways);
-    }
-    if let Mark::Post { .. } = flash.mark(k) {
-        return Ok(ways);
-    }
-    ways.push(Left::Torn)?;
-    ways.push(Left::Done)?;
-    if let Mark::Erase { .. } = flash.mark(k) {
-        let mut each = Vec::new(alloc);
-        for i in 0..block_pages {
-            each.push((i % 3) as u8)?;
-        }
-        ways.push(Left::Each(each))?;
-    }
-    Ok(ways)
+// This mark of the session that makes all merges is interrupted, and leaves this: the keys are the same, and each merge is made whose root
+// is there.
+fn check_cut<P: Program>(
+    alloc: Global,
+    layered: &Layered,
+    flash: &Flash,
+    k: usize,
+    left: &Left,
+) -> Result<(), Fail> {
+    let roots = roots_behind(flash, &layered.sizes, k, left);
+    let lists = layered.lists.behind(roots);
+    let pages = cut(alloc, flash, k, left)?;
+    check_lists::<P>(alloc, layered, pages, &lists, None, k)
 }
 
-// Each mark of the session that makes all merges, of which one is into each level, is interrupted in some ways.
-fn check_cuts<P: Program>(alloc: Global, few: &Few) -> Result<(), Fail> {
-    let flash = all_merges::<P>(alloc, few)?;
+// Each mark of that session is interrupted in some ways; and how many cuts these are.
+fn check_cuts<P: Program>(alloc: Global, layered: &Layered) -> Result<u32, Fail> {
+    let flash = all_merges::<P>(alloc, layered)?;
+    let mut cuts = 0u32;
     for k in 0..flash.marks().saturating_add(1) {
-        for left in &ways(alloc, &flash, k, few.block_pages)? {
-            let pages = cut(alloc, &flash, k, left)?;
-            let _ = check_keys::<P>(alloc, few, pages, "a cut", k)?;
+        for left in &ways(alloc, &flash, k, layered.sizes.block_pages)? {
+            check_cut::<P>(alloc, layered, &flash, k, left)?;
+            cuts = cuts.saturating_add(1);
         }
     }
-    Ok(())
+    Ok(cuts)
 }
 
-/// Merges into levels 4, 3, 2 and 1 in one session, which is cut off at every mark: the keys are the same behind each cut.
+/// Merges into levels 4, 3, 2 and 1 in one session, which is cut off at every mark: the keys are the same behind each cut, and the lists are
+/// those of the newest root.
 pub fn every_cut_of_merges<P: Program>(alloc: Global) -> Result<(), Fail> {
-    for few in &SHAPES {
-        check_cuts::<P>(alloc, few)?;
+    let mut cuts = 0u32;
+    for layered in &FLASHES {
+        cuts = cuts.saturating_add(check_cuts::<P>(alloc, layered)?);
     }
-    Ok(())
+    holds(cuts >= 500, format_args!("{cuts} cuts"))
 }

@@ -64,59 +64,45 @@ pub fn meta_page(level: u8, index: u32, notes: &[Note]) -> [u8; 512] {
     page
 }
 
-// Writes an entry of a key of two bytes at this place among those of a page: its value begins at this page and has so many bytes, or it
-// was deleted.
-fn put_wide(page: &mut [u8], i: usize, key: u16, place: Option<(u32, u32)>) {
-    if i >= 15 || page.len() < 512 {
+/// How large a flash is: the bytes of a page, the pages of a block, and the blocks.
+#[derive(Clone, Copy)]
+pub struct Sizes {
+    pub page_bytes: u16,
+    pub block_pages: u16,
+    pub blocks: u16,
+}
+
+/// What a root tells: its number, the newest epoch, how many epochs have blocks, one or two, the entries of the runs, and the blocks
+/// of the epochs and of the runs.
+#[derive(Clone, Copy)]
+pub struct Top<'a> {
+    pub number: u64,
+    pub epoch: u64,
+    pub epochs: u16,
+    pub runs: [u32; 4],
+    pub blocks: &'a [u16],
+}
+
+/// Writes a root of a flash of these sizes into a page.
+pub fn put_root(page: &mut [u8], sizes: &Sizes, top: &Top) {
+    if page.len() < 512 {
         return;
     }
-    let at = 32 + 32 * i;
-    let bytes = key.to_be_bytes();
-    put_u8(page, at, 2);
-    put_u8(page, at + 4, bytes[0]);
-    put_u8(page, at + 5, bytes[1]);
-    match place {
-        Some((first, len)) => {
-            put_u8(page, at + 1, 1);
-            put_u32(page, at + 20, first);
-            put_u32(page, at + 24, len);
-        }
-        None => put_u8(page, at + 1, 2),
+    put_text(page, 0, b"PINKROOT");
+    put_u16(page, 8, 1);
+    put_u16(page, 10, sizes.block_pages);
+    put_u32(page, 12, u32::from(sizes.page_bytes));
+    put_u16(page, 16, sizes.blocks);
+    put_u16(page, 18, top.epochs.saturating_mul(2));
+    put_u64(page, 24, top.number);
+    put_u64(page, 32, top.epoch);
+    put_u32(page, 40, top.runs[0]);
+    put_u32(page, 44, top.runs[1]);
+    put_u32(page, 48, top.runs[2]);
+    put_u32(page, 52, top.runs[3]);
+    for i in 0..top.blocks.len().min(20) {
+        put_u16(page, 64 + 2 * i, top.blocks[i]);
     }
-}
-
-// Writes entries of deleted keys of two bytes, so many from this one on.
-fn put_gone(page: &mut [u8], first: u16, count: u16) {
-    for i in 0..count {
-        put_wide(page, usize::from(i), first.saturating_add(i), None);
-    }
-}
-
-/// The page of a run with this index, with so many deleted keys of two bytes from this one on.
-pub fn gone_page(level: u8, index: u32, first: u16, count: u16) -> [u8; 512] {
-    let mut page = meta_page(level, index, &[]);
-    put_u16(&mut page, 10, count);
-    put_gone(&mut page, first, count);
-    page
-}
-
-/// The same of an epoch.
-pub fn journal_page_of(epoch: u64, index: u32, first: u16, count: u16) -> [u8; 512] {
-    let mut page = journal_page(epoch, index, &[]);
-    put_u16(&mut page, 20, count);
-    put_gone(&mut page, first, count);
-    page
-}
-
-/// The page of a run with this index, with keys of two bytes whose values begin at these pages and have so many bytes.
-pub fn there_page(level: u8, index: u32, places: &[(u16, u32, u32)]) -> [u8; 512] {
-    let mut page = meta_page(level, index, &[]);
-    put_u16(&mut page, 10, places.len().min(15) as u16);
-    for i in 0..places.len() {
-        let (key, first, len) = places[i];
-        put_wide(&mut page, i, key, Some((first, len)));
-    }
-    page
 }
 
 /// The root of a flash of 64 blocks of 16 pages with this number, this newest epoch, these entries of its runs, and these blocks: of the
@@ -128,46 +114,29 @@ pub fn root_page(
     runs: [u32; 4],
     blocks: &[u16],
 ) -> [u8; 512] {
-    root_page_of((16, 64), number, epoch, epochs, runs, blocks)
-}
-
-/// The same for a flash of so many pages in a block, and so many blocks.
-pub fn root_page_of(
-    shape: (u16, u16),
-    number: u64,
-    epoch: u64,
-    epochs: u16,
-    runs: [u32; 4],
-    blocks: &[u16],
-) -> [u8; 512] {
     let mut page = [0u8; 512];
-    put_text(&mut page, 0, b"PINKROOT");
-    put_u16(&mut page, 8, 1);
-    put_u16(&mut page, 10, shape.0);
-    put_u32(&mut page, 12, 512);
-    put_u16(&mut page, 16, shape.1);
-    put_u16(&mut page, 18, epochs.saturating_mul(2));
-    put_u64(&mut page, 24, number);
-    put_u64(&mut page, 32, epoch);
-    put_u32(&mut page, 40, runs[0]);
-    put_u32(&mut page, 44, runs[1]);
-    put_u32(&mut page, 48, runs[2]);
-    put_u32(&mut page, 52, runs[3]);
-    for i in 0..blocks.len().min(20) {
-        put_u16(&mut page, 64 + 2 * i, blocks[i]);
-    }
+    let sizes = Sizes {
+        page_bytes: 512,
+        block_pages: 16,
+        blocks: 64,
+    };
+    let top = Top {
+        number,
+        epoch,
+        epochs,
+        runs,
+        blocks,
+    };
+    put_root(&mut page, &sizes, &top);
     page
 }
 
-// The head of a value, the value, and zeros up to whole pages. A key has at most two bytes.
-fn value_bytes(alloc: Global, key: &[u8], value: &Value) -> Result<Vec<u8>, AllocError> {
+// The head of a value, the value, and zeros up to whole pages.
+fn value_bytes(alloc: Global, key: u8, value: &Value) -> Result<Vec<u8>, AllocError> {
     let mut head = [0u8; 32];
-    let len = key.len().min(2);
-    put_u8(&mut head, 0, len as u8);
+    put_u8(&mut head, 0, 1);
     put_u8(&mut head, 1, 0x44);
-    for i in 0..len {
-        put_u8(&mut head, 4 + i, key[i]);
-    }
+    put_u8(&mut head, 4, key);
     put_u32(&mut head, 20, value.len);
     put_text(&mut head, 24, b"PINKDATA");
     let mut bytes = head.to_vec(alloc)?;
@@ -202,17 +171,6 @@ pub fn write_value(
     pages: &mut Vec<PageState>,
     first: u32,
     key: u8,
-    value: &Value,
-) -> Result<(), Fail> {
-    write_value_of(alloc, pages, first, &[key], value)
-}
-
-/// The same for a key of one or two bytes.
-pub fn write_value_of(
-    alloc: Global,
-    pages: &mut Vec<PageState>,
-    first: u32,
-    key: &[u8],
     value: &Value,
 ) -> Result<(), Fail> {
     let bytes = value_bytes(alloc, key, value)?;
