@@ -11,6 +11,7 @@ pub mod damage;
 pub mod ends;
 pub mod erases;
 pub mod faults;
+pub mod listing;
 pub mod merges;
 mod overwritten;
 mod pages;
