@@ -1,4 +1,4 @@
-//! Tests of the parts of an engine, and of the drive: logs, values, a format and an opening.
+//! Tests of the parts of an engine, and of the drive: logs, values, a format, an opening, and how much work it makes at most.
 #![tactic(auto)]
 
 #[cfg(test)]
@@ -7,3 +7,5 @@ mod data;
 mod drive;
 #[cfg(test)]
 mod log;
+#[cfg(test)]
+mod work;

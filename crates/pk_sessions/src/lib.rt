@@ -13,6 +13,7 @@ pub mod erases;
 pub mod faults;
 pub mod freezes;
 mod layered;
+pub mod listing;
 pub mod merges;
 mod overwritten;
 mod pages;

@@ -4,11 +4,14 @@ use crate::boards::{
     MAKE_SMALL, MAKE_WORKED, board, cut, last_program, made, pages_left, serve, served, small,
     worked,
 };
-use crate::script::{Answer, Ask, Value, entry, push_answer, push_head, records, script};
+use crate::script::{
+    Answer, Ask, Value, entry, push_answer, push_head, push_value, records, script,
+};
 use crate::tried::{Program, holds, same};
-use pk_base::get_u32;
+use pk_base::{Shape, get_u32};
 use pk_flash::{Flash, Left};
 use pk_nand::PageState;
+use pk_nvme::Request;
 use std::alloc::{AllocError, Global};
 use std::test::*;
 
@@ -262,4 +265,40 @@ pub fn full_epoch<P: Program>(alloc: Global) -> Result<(), Fail> {
         ("epoch", 12, 1),
     ];
     check_report::<P>(alloc, many_commits(alloc)?, &numbers)
+}
+
+// The entry of a command on the key of a user.
+fn of_user(cid: u16, opcode: u8, size: u32) -> [u8; 64] {
+    let mut key = [0u8; 16];
+    key.copy_from_slice(b"user:00000000042");
+    Request {
+        opcode,
+        cid,
+        namespace: 1,
+        key_len: 16,
+        key,
+        size,
+        options: 0,
+    }
+    .entry()
+}
+
+/// A value of 1,000 bytes under a key of sixteen, on pages of 4,096 bytes: it is read whole, by one read.
+pub fn one_large_page<P: Program>(alloc: Global) -> Result<(), Fail> {
+    let value = Value {
+        first: 7,
+        len: 1000,
+    };
+    let shape = Shape::new(4096, 64, 512).ok().ok_or("a shape")?;
+    let mut script = of_user(1, 0x01, value.len).to_vec(alloc)?;
+    push_value(&mut script, &value)?;
+    script.extend_from_slice(&of_user(2, 0x02, 4096))?;
+    let pages = made::<P>(alloc, &["make", "4096", "64", "512"])?;
+    let mut flash = board(alloc, shape, pages, script)?;
+    same(serve::<P>(alloc, &mut flash), 0, "the status")?;
+    let mut want = Vec::new(alloc);
+    push_head(&mut want, 1, 0, 0, 0, 0)?;
+    push_head(&mut want, 2, 0, value.len, 1, value.len)?;
+    push_value(&mut want, &value)?;
+    same(flash.posted(), want.as_slice(), "the posted bytes")
 }

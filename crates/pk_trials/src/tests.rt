@@ -91,6 +91,11 @@ fn no_commands(rt: HostRuntime) -> Result<(), Fail> {
 }
 
 #[test]
+fn one_large_page(rt: HostRuntime) -> Result<(), Fail> {
+    pk_sessions::sessions::one_large_page::<Pink>(rt.alloc())
+}
+
+#[test]
 fn full_epoch(rt: HostRuntime) -> Result<(), Fail> {
     pk_sessions::sessions::full_epoch::<Pink>(rt.alloc())
 }
@@ -248,6 +253,11 @@ fn words_that_ask(rt: HostRuntime) -> Result<(), Fail> {
 #[test]
 fn words_that_fail(rt: HostRuntime) -> Result<(), Fail> {
     pk_sessions::words::failures::<Pink>(rt.alloc())
+}
+
+#[test]
+fn list_that_fails(rt: HostRuntime) -> Result<(), Fail> {
+    pk_sessions::listing::second_fails::<Pink>(rt.alloc())
 }
 
 #[test]
