@@ -14,7 +14,7 @@ python3 - "$top" "$folder" <<'PY'
 import os, select, signal, struct, subprocess, sys, time
 
 top, folder = sys.argv[1:]
-program, launcher = top + '/crates/pink/out/pink', top + '/pink'
+program, launcher = os.environ.get('PINK', top + '/crates/pink/out/pink'), top + '/pink'
 image, script = folder + '/drive.img', folder + '/script'
 STORE, RETRIEVE, RECORD = 1, 2, 24
 
@@ -99,6 +99,61 @@ serve.stdin.write(asks[1])
 serve.stdin.close()
 status = serve.wait(timeout=60)
 expect('a reader that leaves between two records: status 5', status == 5)
+
+print('streams and images that are something else')
+fresh()
+status, told = shell(f'serve 36 <"{folder}"')
+expect('serve < a folder: status 4, the image is as it was', status == 4 and content() == content(folder + '/first.img'))
+fresh()
+run = subprocess.run(['sh', '-c', f'(cat "{script}"; head -c 40 "{script}") | "{launcher}" "{image}" serve 36'], stdout=subprocess.PIPE, stderr=subprocess.PIPE, timeout=60)
+expect('an input that ends inside an entry: status 3, a record of each command before it', run.returncode == 3 and len(run.stdout) == len(commands) * RECORD and held() == maps[-1])
+fresh()
+run = subprocess.run(['sh', '-c', f'"{launcher}" "{image}" serve 36 <"{script}" 1<"{script}"'], stdout=subprocess.PIPE, stderr=subprocess.PIPE, timeout=60)
+expect('an output that was opened for reading: status 5, the image holds a front of the script', run.returncode == 5 and held() in maps)
+for what, path, statuses in [('a folder', folder, (6, 6)), ('in no folder', folder + '/none/drive.img', (8, 6)), ('the null device', '/dev/null', (8, 6))]:
+    told = []
+    for words in [['serve', '36'], ['make', '512', '16', '64']]:
+        run = subprocess.run([program, path] + words, stdin=subprocess.DEVNULL, stdout=subprocess.PIPE, timeout=60)
+        told.append((run.returncode, run.stdout))
+    print('   ', what, told)
+    expect(f'an image that is {what}: serve ends with {statuses[0]}, make with {statuses[1]}', told == [(statuses[0], b''), (statuses[1], b'')])
+for size in [1, 31, 32, 1000, os.path.getsize(folder + '/first.img') - 1]:
+    fresh()
+    os.truncate(image, size)
+    before = content()
+    told = [shell(words)[0] for words in [f'serve 36 <"{script}"', 'make 512 16 64', 'put 61 61']]
+    expect(f'an image of {size} bytes: serve, make and put end with 8, nothing changed', told == [8, 8, 8] and content() == before)
+
+print('an image that may not be written')
+fresh()
+os.chmod(image, 0o444)
+os.chmod(folder, 0o755)
+other = {'user': 65534, 'group': 65534, 'extra_groups': []} if os.geteuid() == 0 else {}
+before = content()
+for words in [['serve', '36'], ['get', '61'], ['put', '61', '61'], ['make', '512', '16', '64']]:
+    try:
+        with open(script, 'rb') as file:
+            run = subprocess.run([program, image] + words, stdin=file, stdout=subprocess.PIPE, timeout=60, **other)
+    except PermissionError:
+        print('  not tried: another user may not run the program where it stands')
+        break
+    expect(f'{words[0]}: status 6, nothing posted, nothing changed', run.returncode == 6 and run.stdout == b'' and content() == before)
+os.chmod(image, 0o644)
+
+print('an input and an output that are slow')
+fresh()
+serve = subprocess.Popen([program, image, 'serve', '36'], stdin=subprocess.PIPE, stdout=subprocess.PIPE)
+text = b''.join(commands[:4])
+out = b''
+for at in range(0, len(text), 7):
+    serve.stdin.write(text[at:at + 7])
+    serve.stdin.flush()
+    time.sleep(0.001)
+serve.stdin.close()
+while (piece := serve.stdout.read(1)):
+    out += piece
+    time.sleep(0.0005)
+expect('seven bytes a time in, one byte a time out: all records, status 0', serve.wait(timeout=60) == 0 and len(out) == 4 * RECORD and held() == maps[4])
 
 print('records leave before the input waits')
 fresh()

@@ -1,67 +1,104 @@
 #!/bin/sh
-# Kills the program at random moments of a serve, opens the image that it leaves, and compares what every key holds with the
-# commands of which a record had come out: each of them must be there. It proves nothing and is no part of the gate.
+# Kills the program at random moments of a serve, again and again on the same image, and compares what every key holds behind each
+# kill with the commands of which a record had come out: each of them must be there, and no part of a command. The commands are Stores,
+# Deletes, Flushes and Ticks on two drives, of which the small one reclaims a block with every few Stores. It proves nothing and is no
+# part of the gate.
 #
-#   bench/kill.sh [TIMES]        100 times where no number is named
+#   bench/kill.sh [TIMES]        300 times where no number is named
 set -eu
 
 top=$(CDPATH='' cd -- "$(dirname -- "$0")/.." && pwd)
 folder=$(mktemp -d)
 trap 'rm -rf "$folder"' EXIT
 
-"$top/pink" "$folder/drive.img" make 512 16 64
-python3 - "$top/crates/pink/out/pink" "$folder/drive.img" "${1:-100}" <<'PY'
-import os, random, struct, subprocess, sys, time
+"$top/pink" "$folder/small.img" make 512 8 33
+"$top/pink" "$folder/worked.img" make 512 16 64
+python3 - "${PINK:-$top/crates/pink/out/pink}" "$folder" "${1:-300}" <<'PY'
+import random, struct, subprocess, sys, time
 
-program, image, times = sys.argv[1], sys.argv[2], int(sys.argv[3])
-STORE, RETRIEVE, FLUSH, RECORD = 1, 2, 0, 24
+program, folder, times = sys.argv[1], sys.argv[2], int(sys.argv[3])
+FLUSH, STORE, RETRIEVE, DELETE, TICK, RECORD = 0x00, 0x01, 0x02, 0x10, 0xC0, 24
 
-def entry(opcode, cid, key, size):
+def entry(opcode, key=b'', size=0):
     body = bytearray(64)
     body[0] = opcode
-    struct.pack_into('<HI', body, 2, cid, 1)
+    struct.pack_into('<HI', body, 2, 1, 1)
     padded = key + bytes(16 - len(key))
     body[8:16], body[56:64] = padded[:8], padded[8:]
     struct.pack_into('<I', body, 40, size)
     body[44] = len(key)
     return bytes(body)
 
-keys = [b'key%02d' % i for i in range(30)]
-commands = []                                   # (key, value) of a Store, or none of a Flush
-for i in range(90):
-    commands.append((keys[i * 7 % 30], bytes([i]) * (200 + i)))
-    if i % 3 == 0:
-        commands.append(None)
-script = b''.join(entry(FLUSH, i, b'', 0) if c is None else entry(STORE, i, c[0], len(c[1])) + c[1] for i, c in enumerate(commands))
-asks = b''.join(entry(RETRIEVE, i, key, 2016) for i, key in enumerate(keys))
+class Drive:
+    def __init__(self, name, keys, longest, pages):
+        self.image = f'{folder}/{name}.img'
+        self.keys = [b'key%02d' % i for i in range(keys)]
+        self.longest, self.pages = longest, pages       # of a value, and of all blocks for values
+        self.map, self.stored, self.commands, self.inside, self.most = {}, 0, 0, 0, 0.0
 
-maps = [{}]                                     # behind so many commands
-for command in commands:
-    maps.append(maps[-1] if command is None else {**maps[-1], command[0]: command[1]})
+    def command(self):                                  # its bytes, and what it makes of a map
+        draw = random.random()
+        key = random.choice(self.keys)
+        if draw < 0.7:
+            value = random.randbytes(random.randrange(self.longest + 1))
+            return entry(STORE, key, len(value)) + value, lambda held: {**held, key: value}, (32 + len(value) + 511) // 512
+        if draw < 0.8:
+            return entry(DELETE, key), lambda held: {k: v for k, v in held.items() if k != key}, 0
+        if draw < 0.9:
+            return entry(TICK, size=random.choice([1, 3, 10, 100])), lambda held: held, 0
+        return entry(FLUSH), lambda held: held, 0
 
-def held(records):
-    found, at = {}, 0
-    for key in keys:
-        size = struct.unpack_from('<I', records, at + 20)[0]
-        if struct.unpack_from('<I', records, at + 12)[0] >> 17 == 0:
-            found[key] = records[at + RECORD:at + RECORD + size]
-        at += RECORD + size
-    return found
+    def serve(self, script, seconds):                   # how many bytes of records came out, and whether it was killed
+        with open(folder + '/script', 'wb') as file:
+            file.write(script)
+        with open(folder + '/script', 'rb') as entries, open(folder + '/records', 'wb') as records:
+            began = time.monotonic()
+            run = subprocess.Popen([program, self.image, 'serve', '36'], stdin=entries, stdout=records)
+            try:
+                status = run.wait(timeout=seconds)
+            except subprocess.TimeoutExpired:
+                run.kill()
+                status = run.wait()
+            spent = time.monotonic() - began
+        if status not in (0, -9):
+            sys.exit(f'status {status}')
+        with open(folder + '/records', 'rb') as records:
+            return records.read(), status == -9, spent
+
+    def held(self):
+        records, _, _ = self.serve(b''.join(entry(RETRIEVE, key, 2016) for key in self.keys), 60)
+        found, at = {}, 0
+        for key in self.keys:
+            size = struct.unpack_from('<I', records, at + 20)[0]
+            if struct.unpack_from('<I', records, at + 12)[0] >> 17 == 0:
+                found[key] = records[at + RECORD:at + RECORD + size]
+            at += RECORD + size
+        return found
+
+    def trial(self, number):
+        made = [self.command() for _ in range(random.randrange(1, 600))]
+        maps = [self.map]                               # behind so many commands
+        for _, makes, _ in made:
+            maps.append(makes(maps[-1]))
+        records, was_killed, spent = self.serve(b''.join(bytes for bytes, _, _ in made), random.random() * max(0.01, 1.2 * self.most))
+        if not was_killed:
+            self.most = max(self.most, spent)
+        told = -(-len(records) // RECORD)
+        found = self.held()
+        if found not in maps[told:]:
+            sys.exit(f'kill {number}: behind {told} of {len(made)} records {self.image} holds another map')
+        kept = len(maps) - 1 - maps[::-1].index(found)
+        self.map = found
+        self.commands += kept
+        self.stored += sum(pages for _, _, pages in made[:kept])
+        self.inside += was_killed and 0 < kept < len(made)
 
 random.seed(times)
-for trial in range(times):
-    os.remove(image)
-    subprocess.run([program, image, 'make', '512', '16', '64'], check=True)
-    serve = subprocess.Popen([program, image, 'serve', '36'], stdin=subprocess.PIPE, stdout=subprocess.PIPE)
-    serve.stdin.write(script[:random.randrange(len(script))])
-    serve.stdin.flush()
-    time.sleep(random.random() * 0.004)
-    serve.kill()
-    out = len(serve.stdout.read())
-    serve.wait()
-    opened = subprocess.run([program, image, 'serve', '36'], input=asks, stdout=subprocess.PIPE, check=True)
-    told = -(-out // RECORD)
-    if held(opened.stdout) not in maps[told:]:
-        sys.exit(f'trial {trial}: behind {told} records the image holds another map')
-print(f'{times} times the image held every command whose record had come out')
+drives = [Drive('small', 10, 480, 2 * 8), Drive('worked', 60, 2016, 42 * 16)]
+for number in range(times):
+    drives[number % 2].trial(number)
+for drive in drives:
+    print(f'{drive.image.split("/")[-1]}: {drive.commands} commands were kept, {drive.inside} kills were between two of them; '
+          f'their values took {drive.stored} pages of a drive that has {drive.pages} for values')
+print(f'{times} kills: behind each the image held every command whose record had come out')
 PY

@@ -68,6 +68,21 @@ awk '
     esac
 done
 
+# In WRONG-BODIES each name of the second column is a crate, an edit of it, or a test.
+sed -n 's/^| .* | \(`.*\|the test.*\) |$/\1/p' docs/WRONG-BODIES.md | while IFS= read -r refusals; do
+    crate=
+    for name in $(echo "$refusals" | grep -o '`[^`]*`' | tr -d '`'); do
+        case $name in
+            pk_*) crate=$name ;;
+            *)
+                [ -f "crates/$crate/must-fail/$name.edit" ] \
+                    || grep -rqw "fn $name" crates/pk_trials/src crates/pk_heap_tests/src \
+                    || fault "docs/WRONG-BODIES.md: neither a wrong body nor a test $name"
+                ;;
+        esac
+    done
+done
+
 for crate in $(sed -n 's/^\(pk_[a-z_]*\):.*/\1/p' crates.txt); do
     case $crate in
         *_tests) ;;

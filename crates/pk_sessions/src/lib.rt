@@ -5,7 +5,7 @@
 //! parameter, so that the trials stand on none of its parts; `pk_trials` has the tests that run them.
 #![tactic(auto)]
 
-mod boards;
+pub mod boards;
 pub mod cuts;
 pub mod damage;
 pub mod ends;
@@ -15,14 +15,14 @@ pub mod freezes;
 mod layered;
 pub mod listing;
 pub mod merges;
-mod overwritten;
-mod pages;
+pub mod overwritten;
+pub mod pages;
 pub mod program;
 pub mod reclaims;
 pub mod recut;
 mod report;
 pub mod runs;
-mod script;
+pub mod script;
 pub mod sessions;
 pub mod space;
 mod tried;

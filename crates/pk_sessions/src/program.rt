@@ -7,8 +7,8 @@ use pk_nvme::Request;
 use std::alloc::{AllocError, Global};
 use std::test::*;
 
-// A Store of `abc` under the key `a`, and a Retrieve of it with a buffer of 3 bytes.
-const SCRIPT: [u8; 131] = [
+/// A Store of `abc` under the key `a`, and a Retrieve of it with a buffer of 3 bytes.
+pub const SCRIPT: [u8; 131] = [
     1, 0, 1, 0, 1, 0, 0, 0, 0x61, 0, 0, 0, 0, 0, 0, 0, 0, 0, 0, 0, 0, 0, 0, 0, 0, 0, 0, 0, 0, 0, 0,
     0, 0, 0, 0, 0, 0, 0, 0, 0, 3, 0, 0, 0, 1, 0, 0, 0, 0, 0, 0, 0, 0, 0, 0, 0, 0, 0, 0, 0, 0, 0, 0,
     0, 0x61, 0x62, 0x63, 2, 0, 2, 0, 1, 0, 0, 0, 0x61, 0, 0, 0, 0, 0, 0, 0, 0, 0, 0, 0, 0, 0, 0, 0,
@@ -16,8 +16,8 @@ const SCRIPT: [u8; 131] = [
     0, 0, 0, 0, 0, 0, 0, 0,
 ];
 
-// Their records.
-const RECORDS: [u8; 51] = [
+/// Their records.
+pub const RECORDS: [u8; 51] = [
     0, 0, 0, 0, 0, 0, 0, 0, 1, 0, 1, 0, 1, 0, 1, 0, 0, 0, 0, 0, 0, 0, 0, 0, 3, 0, 0, 0, 0, 0, 0, 0,
     2, 0, 1, 0, 2, 0, 1, 0, 1, 0, 0, 0, 3, 0, 0, 0, 0x61, 0x62, 0x63,
 ];

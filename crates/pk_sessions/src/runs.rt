@@ -28,8 +28,8 @@ fn value_of(key: u8) -> Value {
     Value { first: key, len }
 }
 
-// The first page of the value of a key, from block 20 on.
-fn place(key: u8) -> u32 {
+/// The first page of the value of a key, from block 20 on.
+pub fn place(key: u8) -> u32 {
     320 + 2 * u32::from(key)
 }
 
@@ -146,8 +146,8 @@ fn with_runs(alloc: Global) -> Result<Vec<PageState>, Fail> {
     Ok(pages)
 }
 
-// The flash whose lists are all six.
-fn with_two_epochs(alloc: Global) -> Result<Vec<PageState>, Fail> {
+/// The flash whose lists are all six.
+pub fn with_two_epochs(alloc: Global) -> Result<Vec<PageState>, Fail> {
     let mut pages = with_runs(alloc)?;
     write_two_epochs(alloc, &mut pages)?;
     Ok(pages)

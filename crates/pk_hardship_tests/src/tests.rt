@@ -1,0 +1,89 @@
+//! The trials of hard cases, one test for each.
+
+use pk_core::{Drive, OpenError};
+use pk_drive::Engine;
+use pk_flash::Flash;
+use pk_hardships::deep::SHAPES;
+use pk_hardships::{Opened, Opens};
+use pk_sessions::Program;
+use pk_top::run;
+use std::alloc::Global;
+use std::test::*;
+
+/// The program whose parts this repository proves.
+pub struct Pink;
+
+impl Program for Pink {
+    fn run(alloc: Global, words: &[&str], flash: &mut Flash) -> u8 {
+        run(alloc, words, flash).0
+    }
+}
+
+impl Opens for Pink {
+    fn opened(alloc: Global, flash: &mut Flash) -> Opened {
+        let Some(shape) = flash.shape() else {
+            return Opened::Failed;
+        };
+        match Drive::open(alloc, flash, shape, 36) {
+            Ok(drive) => Opened::Keys(drive.counts().keys),
+            Err(OpenError::NotFormatted) => Opened::NotFormatted,
+            Err(OpenError::Damaged { page }) => Opened::Damaged(page),
+            Err(_) => Opened::Failed,
+        }
+    }
+}
+
+#[test]
+fn calls_of_the_worked_session(rt: HostRuntime) -> Result<(), Fail> {
+    pk_hardships::calls::calls_of_the_worked_session::<Pink>(rt.alloc())
+}
+
+#[test]
+fn reads_of_the_worked_opening(rt: HostRuntime) -> Result<(), Fail> {
+    pk_hardships::calls::reads_of_the_worked_opening::<Pink>(rt.alloc())
+}
+
+#[test]
+fn journal_bytes(rt: HostRuntime) -> Result<(), Fail> {
+    pk_hardships::spoiled::journal_bytes::<Pink>(rt.alloc())
+}
+
+#[test]
+fn journal_bytes_by_all(rt: HostRuntime) -> Result<(), Fail> {
+    pk_hardships::spoiled::journal_bytes_by_all::<Pink>(rt.alloc())
+}
+
+#[test]
+fn every_byte(rt: HostRuntime) -> Result<(), Fail> {
+    pk_hardships::spoiled::every_byte::<Pink>(rt.alloc())
+}
+
+#[test]
+fn every_page(rt: HostRuntime) -> Result<(), Fail> {
+    pk_hardships::spoiled::every_page::<Pink>(rt.alloc())
+}
+
+#[test]
+fn exchanged(rt: HostRuntime) -> Result<(), Fail> {
+    pk_hardships::spoiled::exchanged::<Pink>(rt.alloc())
+}
+
+#[test]
+fn others(rt: HostRuntime) -> Result<(), Fail> {
+    pk_hardships::spoiled::others::<Pink>(rt.alloc())
+}
+
+#[test]
+fn three_deep(rt: HostRuntime) -> Result<(), Fail> {
+    pk_hardships::deep::three_deep::<Pink>(rt.alloc(), &SHAPES[0])
+}
+
+#[test]
+fn three_deep_of_wide_pages(rt: HostRuntime) -> Result<(), Fail> {
+    pk_hardships::deep::three_deep::<Pink>(rt.alloc(), &SHAPES[1])
+}
+
+#[test]
+fn three_deep_of_long_blocks(rt: HostRuntime) -> Result<(), Fail> {
+    pk_hardships::deep::three_deep::<Pink>(rt.alloc(), &SHAPES[2])
+}

@@ -1,0 +1,101 @@
+//! A drive of 65,536 pages with 24,000 keys: their index with all keys has 576,000 bytes, and the pages of its runs more.
+
+use pk_base::Shape;
+use pk_flash::Room;
+use pk_nvme::Request;
+use pk_sessions::boards::{board_in, made, serve_with};
+use pk_sessions::overwritten::{Record, all_with, record_at, value_of};
+use pk_sessions::script::push_value;
+use pk_sessions::{Program, holds, same};
+use std::alloc::{AllocError, Global};
+use std::test::*;
+
+const MAKE: [&str; 4] = ["make", "4096", "64", "1024"];
+
+const STORE: u8 = 0x01;
+
+const RETRIEVE: u8 = 0x02;
+
+const KEYS: u32 = 24_000;
+
+// So many keys stand in runs, and the others in the buffers or in runs.
+const IN_RUNS: u32 = 23_400;
+
+const ROOM: Room = Room {
+    posted: 4_000_000,
+    marks: 80_000,
+};
+
+// The text `key:`, and the number in twelve decimal digits.
+fn key_of(number: u32) -> [u8; 16] {
+    let mut key = *b"key:000000000000";
+    let mut rest = number;
+    for i in 0..12usize {
+        key[15 - i] = b'0' + (rest % 10) as u8;
+        rest = rest / 10;
+    }
+    key
+}
+
+fn push_command(into: &mut Vec<u8>, opcode: u8, key: u32) -> Result<(), AllocError> {
+    let request = Request {
+        opcode,
+        cid: 1,
+        namespace: 1,
+        key_len: 16,
+        key: key_of(key),
+        size: 100,
+        options: 0,
+    };
+    into.extend_from_slice(&request.entry())
+}
+
+// A Store of each key, and then a Retrieve of each.
+fn commands(alloc: Global) -> Result<Vec<u8>, AllocError> {
+    let mut script = Vec::new(alloc);
+    for key in 0..KEYS {
+        push_command(&mut script, STORE, key)?;
+        push_value(&mut script, &value_of(key))?;
+    }
+    push_retrieves(&mut script)?;
+    Ok(script)
+}
+
+fn push_retrieves(into: &mut Vec<u8>) -> Result<(), AllocError> {
+    for key in 0..KEYS {
+        push_command(into, RETRIEVE, key)?;
+    }
+    Ok(())
+}
+
+// The record has the value of this key, and tells the pages of its look-up and the one of the value.
+fn check_record(alloc: Global, posted: &[u8], record: &Record, key: u32) -> Result<(), Fail> {
+    same(record.status, 0, format_args!("the status of key {key}"))?;
+    let mut want = Vec::new(alloc);
+    push_value(&mut want, &value_of(key))?;
+    holds(
+        posted.get(record.data..record.end()) == Some(want.as_slice()),
+        format_args!("the value of key {key}"),
+    )?;
+    let least = if key < IN_RUNS { 2 } else { 1 };
+    holds(
+        least <= record.reads && record.reads <= 5,
+        format_args!("{} pages were read of key {key}", record.reads),
+    )
+}
+
+/// The drive takes 24,000 Stores, and gives each value back. Without frames each key of a run costs a page of every run down to its own.
+pub fn many_keys<P: Program>(alloc: Global) -> Result<(), Fail> {
+    let shape = Shape::new(4096, 64, 1024).ok().ok_or("a shape")?;
+    let pages = made::<P>(alloc, &MAKE)?;
+    let mut flash = board_in(alloc, shape, pages, commands(alloc)?, ROOM)?;
+    same(serve_with::<P>(alloc, &mut flash, "0"), 0, "the status")?;
+    let posted = flash.posted();
+    let mut at = all_with(posted, 0, KEYS, 0)?;
+    for key in 0..KEYS {
+        let record = record_at(posted, at).ok_or("a record")?;
+        check_record(alloc, posted, &record, key)?;
+        at = record.end();
+    }
+    same(at, posted.len(), "the bytes posted")
+}

@@ -1,0 +1,284 @@
+//! Pages read plainly, as docs/FORMATS.md has them: what the trials of damage compare the program with. Nothing of the program is used.
+
+use pk_base::Shape;
+use pk_nand::PageState;
+use std::alloc::{AllocError, Global};
+
+/// An entry: a key, and where its value begins and how many bytes it has, unless the key was deleted. Behind the key's bytes are zeros.
+#[derive(Clone, Copy, Debug, PartialEq, Eq)]
+pub struct Item {
+    pub key: [u8; 16],
+    pub key_len: u8,
+    pub place: Option<(u32, u32)>,
+}
+
+/// A root: the numbers of its fields, and its blocks in their order.
+#[derive(Drop)]
+pub struct Top {
+    pub number: u64,
+    pub epoch: u64,
+    pub has_older: bool,
+    pub counts: [u32; 4],
+    pub blocks: Vec<u32>,
+}
+
+/// The bytes of a page that is Whole.
+pub fn whole(pages: &[PageState], page: u32) -> Option<&[u8]> {
+    match pages.get(page as usize) {
+        Some(PageState::Whole(bytes)) => Some(bytes.bytes()),
+        _ => None,
+    }
+}
+
+fn byte(page: &[u8], at: usize) -> u8 {
+    page.get(at).copied().unwrap_or(0)
+}
+
+// The number of so many bytes that begins here, the least byte first.
+fn number(page: &[u8], at: usize, size: usize) -> u64 {
+    let mut sum = 0u64;
+    for i in 0..size {
+        let place = at.saturating_add(size.saturating_sub(i + 1));
+        sum = sum
+            .wrapping_mul(256)
+            .wrapping_add(u64::from(byte(page, place)));
+    }
+    sum
+}
+
+fn small(page: &[u8], at: usize, size: usize) -> u32 {
+    (number(page, at, size.min(4)) % (1 << 32)) as u32
+}
+
+fn zeros(page: &[u8], from: usize, to: usize) -> bool {
+    for i in from..to {
+        if byte(page, i) != 0 {
+            return false;
+        }
+    }
+    true
+}
+
+fn is_text(page: &[u8], at: usize, text: &[u8]) -> bool {
+    page.get(at..at.saturating_add(text.len())) == Some(text)
+}
+
+fn key_at(page: &[u8], at: usize) -> [u8; 16] {
+    let mut key = [0u8; 16];
+    for i in 0..16usize {
+        key[i] = byte(page, at.saturating_add(i));
+    }
+    key
+}
+
+// Whether a value of so many bytes may begin at this page.
+fn may_be(shape: &Shape, first: u32, len: u32) -> bool {
+    let count = shape.block_pages();
+    count > 0
+        && len <= shape.greatest()
+        && first < shape.page_count()
+        && first / count >= 2
+        && u64::from(first % count) + pages_of(shape, len) <= u64::from(count)
+}
+
+/// How many pages a value of so many bytes has.
+pub fn pages_of(shape: &Shape, len: u32) -> u64 {
+    (u64::from(len) + 32).div_ceil(u64::from(shape.page_bytes().max(1)))
+}
+
+// The entry that begins here, if there is one.
+fn item_at(shape: &Shape, page: &[u8], at: usize) -> Option<Item> {
+    let key_len = byte(page, at);
+    let kind = byte(page, at.saturating_add(1));
+    let first = small(page, at.saturating_add(20), 4);
+    let len = small(page, at.saturating_add(24), 4);
+    let padding = at.saturating_add(4).saturating_add(usize::from(key_len));
+    let is_sound = 1 <= key_len
+        && key_len <= 16
+        && zeros(page, at.saturating_add(2), at.saturating_add(4))
+        && zeros(page, padding, at.saturating_add(20))
+        && zeros(page, at.saturating_add(28), at.saturating_add(32));
+    if !is_sound {
+        return None;
+    }
+    let place = match kind {
+        1 if may_be(shape, first, len) => Some((first, len)),
+        2 if first == 0 && len == 0 => None,
+        _ => return None,
+    };
+    let key = key_at(page, at.saturating_add(4));
+    Some(Item {
+        key,
+        key_len,
+        place,
+    })
+}
+
+// Adds the entries of a page that has so many, from 1 to those of a full one, and zeros behind them: whether these are entries.
+fn push_items(
+    shape: &Shape,
+    page: &[u8],
+    count: u32,
+    into: &mut Vec<Item>,
+) -> Result<bool, AllocError> {
+    if count == 0 || count > shape.entries() {
+        return Ok(false);
+    }
+    for i in 0..count as usize {
+        match item_at(shape, page, i.saturating_mul(32).saturating_add(32)) {
+            Some(item) => into.push(item)?,
+            None => return Ok(false),
+        }
+    }
+    let end = (count as usize).saturating_mul(32).saturating_add(32);
+    Ok(zeros(page, end, shape.page_bytes() as usize))
+}
+
+/// Adds the entries of a page of an epoch, if it is the one with this index.
+pub fn push_commit(
+    shape: &Shape,
+    page: &[u8],
+    epoch: u64,
+    index: u32,
+    into: &mut Vec<Item>,
+) -> Result<bool, AllocError> {
+    let is_one = is_text(page, 0, b"PINKJRNL")
+        && number(page, 8, 8) == epoch
+        && small(page, 16, 4) == index
+        && zeros(page, 22, 32);
+    if !is_one {
+        return Ok(false);
+    }
+    push_items(shape, page, small(page, 20, 2), into)
+}
+
+/// Adds the entries of a page of a run, if it is the one with this index and has so many.
+pub fn push_meta(
+    shape: &Shape,
+    page: &[u8],
+    level: u8,
+    index: u32,
+    count: u32,
+    into: &mut Vec<Item>,
+) -> Result<bool, AllocError> {
+    let is_one = is_text(page, 0, b"PINKMETA")
+        && byte(page, 8) == level
+        && byte(page, 9) == 0
+        && small(page, 10, 2) == count
+        && small(page, 12, 4) == index
+        && zeros(page, 16, 32);
+    if !is_one {
+        return Ok(false);
+    }
+    push_items(shape, page, count, into)
+}
+
+/// Whether this page begins the value of an entry of so many bytes.
+pub fn is_head(page: &[u8], item: &Item, len: u32) -> bool {
+    byte(page, 0) == item.key_len
+        && byte(page, 1) == 0x44
+        && zeros(page, 2, 4)
+        && key_at(page, 4) == item.key
+        && small(page, 20, 4) == len
+        && is_text(page, 24, b"PINKDATA")
+}
+
+/// Whether the bytes of a page from this one on are zeros.
+pub fn is_empty_from(page: &[u8], from: usize) -> bool {
+    zeros(page, from, page.len())
+}
+
+// How many blocks a run of so many entries has.
+fn blocks_of(shape: &Shape, entries: u32) -> u32 {
+    let pages = entries.div_ceil(shape.entries().max(1));
+    pages.div_ceil(shape.block_pages().max(1))
+}
+
+// How many blocks a root with these numbers names.
+fn named_by(shape: &Shape, journal: u32, counts: &[u32; 4]) -> u32 {
+    let mut sum = journal;
+    for count in counts {
+        sum = sum.saturating_add(blocks_of(shape, *count));
+    }
+    sum
+}
+
+fn are_within(shape: &Shape, counts: &[u32; 4]) -> bool {
+    let mut level = 0u8;
+    for count in counts {
+        level = level.saturating_add(1);
+        if level > 4 || *count > shape.cap(level).saturating_mul(shape.entries()) {
+            return false;
+        }
+    }
+    true
+}
+
+// The numbers of the blocks of a root, if all are there, and no two are the same.
+fn blocks_at(
+    alloc: Global,
+    shape: &Shape,
+    page: &[u8],
+    count: u32,
+) -> Result<Option<Vec<u32>>, AllocError> {
+    let mut blocks = Vec::new(alloc);
+    for i in 0..count as usize {
+        let block = small(page, i.saturating_mul(2).saturating_add(64), 2);
+        if block < 2 || block >= shape.blocks() || blocks.contains(&block) {
+            return Ok(None);
+        }
+        blocks.push(block)?;
+    }
+    Ok(Some(blocks))
+}
+
+fn counts_at(page: &[u8]) -> [u32; 4] {
+    [
+        small(page, 40, 4),
+        small(page, 44, 4),
+        small(page, 48, 4),
+        small(page, 52, 4),
+    ]
+}
+
+// Whether the fields of a root in front of its blocks are those of one on a flash of this shape.
+fn is_top(shape: &Shape, page: &[u8]) -> bool {
+    let journal = small(page, 18, 2);
+    let root = number(page, 24, 8);
+    let epoch = number(page, 32, 8);
+    is_text(page, 0, b"PINKROOT")
+        && small(page, 8, 2) == 1
+        && small(page, 10, 2) == shape.block_pages()
+        && small(page, 12, 4) == shape.page_bytes()
+        && small(page, 16, 2) == shape.blocks()
+        && (journal == 2 || journal == 4)
+        && zeros(page, 20, 24)
+        && (if journal == 4 { 2 } else { 1 }) <= epoch
+        && epoch <= root
+        && zeros(page, 56, 64)
+}
+
+/// The root that a page is, if it is one.
+pub fn top_of(alloc: Global, shape: &Shape, page: &[u8]) -> Result<Option<Top>, AllocError> {
+    let counts = counts_at(page);
+    if !is_top(shape, page) || !are_within(shape, &counts) {
+        return Ok(None);
+    }
+    let journal = small(page, 18, 2);
+    let count = named_by(shape, journal, &counts);
+    let end = (count as usize).saturating_mul(2).saturating_add(64);
+    if end > page.len() || !is_empty_from(page, end) {
+        return Ok(None);
+    }
+    let blocks = match blocks_at(alloc, shape, page, count)? {
+        Some(blocks) => blocks,
+        None => return Ok(None),
+    };
+    Ok(Some(Top {
+        number: number(page, 24, 8),
+        epoch: number(page, 32, 8),
+        has_older: journal == 4,
+        counts,
+        blocks,
+    }))
+}

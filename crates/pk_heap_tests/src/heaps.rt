@@ -1,0 +1,97 @@
+//! Programs whose drives have a heap of so many bytes.
+
+use linked_list_allocator::LocalHeap;
+use pk_base::Shape;
+use pk_core::{Drive, OpenError};
+use pk_flash::Flash;
+use pk_serve::{End, Server};
+use pk_sessions::Program;
+use pk_top::run;
+use std::alloc::Global;
+
+/// The status of a run that found no memory.
+pub const NO_MEMORY: u8 = 7;
+
+fn of_end(end: End) -> u8 {
+    match end {
+        End::Done => 0,
+        End::Truncated => 3,
+        End::Input => 4,
+        End::Output => 5,
+        End::Flash => 6,
+        End::Worn => 10,
+    }
+}
+
+fn of_open_error(error: OpenError) -> u8 {
+    match error {
+        OpenError::NotFormatted | OpenError::Damaged { .. } => 8,
+        OpenError::Fault => 6,
+        OpenError::Memory => NO_MEMORY,
+    }
+}
+
+// Opens the drive over a heap of so many bytes, in which it stands itself, and serves the input. What serving needs beside the drive
+// is taken elsewhere.
+fn serve_in(alloc: Global, shape: Shape, frames: u32, bytes: usize, flash: &mut Flash) -> u8 {
+    let Ok(mut server) = Server::new(alloc, shape) else {
+        return NO_MEMORY;
+    };
+    let Ok(heap) = LocalHeap::new(alloc, bytes) else {
+        return NO_MEMORY;
+    };
+    let drive = match Drive::open(&heap, flash, shape, frames) {
+        Ok(drive) => drive,
+        Err(error) => return of_open_error(error),
+    };
+    match Box::new(&heap, drive) {
+        Ok(mut drive) => of_end(server.serve(&mut *drive, flash)),
+        Err(_) => NO_MEMORY,
+    }
+}
+
+// Serves with 36 frames or none, in a heap of so many bytes; other words are the program's own.
+fn run_in(alloc: Global, words: &[&str], bytes: usize, flash: &mut Flash) -> u8 {
+    let shape = match flash.shape() {
+        Some(shape) => shape,
+        None => return run(alloc, words, flash).0,
+    };
+    match words {
+        [_, frames] => {
+            let frames = if frames.as_bytes() == b"36".as_slice() {
+                36
+            } else {
+                0
+            };
+            serve_in(alloc, shape, frames, bytes, flash)
+        }
+        _ => run(alloc, words, flash).0,
+    }
+}
+
+/// Drives in 131,072 bytes.
+pub struct Small;
+
+impl Program for Small {
+    fn run(alloc: Global, words: &[&str], flash: &mut Flash) -> u8 {
+        run_in(alloc, words, 131_072, flash)
+    }
+}
+
+/// Drives in 16,384 bytes.
+pub struct TooSmall;
+
+impl Program for TooSmall {
+    fn run(alloc: Global, words: &[&str], flash: &mut Flash) -> u8 {
+        run_in(alloc, words, 16_384, flash)
+    }
+}
+
+/// Drives in 294,912 bytes.
+pub struct Large;
+
+impl Program for Large {
+    fn run(alloc: Global, words: &[&str], flash: &mut Flash) -> u8 {
+        run_in(alloc, words, 294_912, flash)
+    }
+}
