@@ -41,7 +41,7 @@ use Rattle.pk_wordrun.specs.Generated.{Generated, Unfinished}
 use Rattle.pk_wordrun.specs.Summary.{summary_lines}
 use Rattle.pk_wordrun.specs.Sums.{Sums}
 use Rattle.pk_wordrun.specs.Tasks.{generate, SaysTask, KeptTask}
-use Rattle.pk_wordrun.specs.Told.{Told}
+use Rattle.pk_wordrun.specs.Told.{Told, turn_roots}
 use Rattle.pk_wordrun.specs.declared.end.WordEnd.TheVariants.{Done, Output}
 use Rattle.pk_wordrun.specs.declared.summary.Summary.{Summary}
 use Rattle.pk_wordrun.proofs.Telling.{keeps-flash, done_unworn, output_unworn, flash_unworn}
