@@ -1,11 +1,20 @@
 #!/bin/sh
-# Runs the trials of whole sessions that take longer than the gate gives a test: the first reclaim of a full drive of 64 blocks, cut off at
-# every mark, and behind each cut a session that is cut off at every mark as well. It works on a copy of the sources. It proves nothing
-# and is no part of the gate.
+# Runs a trial of whole sessions that goes on for longer than the gate gives a test: the first reclaim of a full drive of 64 blocks, cut
+# off at every mark, in three ways each and four of an erase; and of the cuts of the session behind each, of every mark in the same ways,
+# one of every EVERY, where the next cut goes on. It prints how many cuts there were of the first session and of those behind it. It works
+# on a copy of the sources, which `rt try` compiles with checks. It proves nothing and is no part of the gate.
 #
-#   bench/long.sh [SECONDS]       at most so long, 7,200 seconds where no number is named
+#   bench/long.sh [EVERY [SECONDS]]       every 8th cut and at most 7,200 seconds where no number is named; 1 makes all cuts
 set -eu
 
+every=${1:-8}
+seconds=${2:-7200}
+case $every$seconds in
+*[!0-9]*)
+    echo "long: EVERY and SECONDS are numbers" >&2
+    exit 2
+    ;;
+esac
 top=$(CDPATH='' cd -- "$(dirname -- "$0")/.." && pwd)
 folder=$(mktemp -d)
 trap 'rm -rf "$folder"' EXIT
@@ -20,15 +29,15 @@ for crate in "$top"/crates/*/; do
     done
 done
 cat > "$folder/crates/pk_trials/src/lib.rt" <<'RT'
-//! The trials that take long.
+//! The trial that takes long.
 #![tactic(auto)]
 
 #[cfg(test)]
 mod tests;
 RT
-rm -f "$folder/crates/pk_trials/src/machine.rt"
-cat > "$folder/crates/pk_trials/src/tests.rt" <<'RT'
-//! One test for each long trial.
+rm -f "$folder/crates/pk_trials/src/machine.rt" "$folder/crates/pk_trials/src/image.rt"
+cat > "$folder/crates/pk_trials/src/tests.rt" <<RT
+//! The test of the long trial.
 
 use pk_flash::Flash;
 use pk_sessions::Program;
@@ -47,8 +56,10 @@ impl Program for Pink {
 
 #[test]
 fn first_on_full_twice(rt: HostRuntime) -> Result<(), Fail> {
-    pk_sessions::reclaims::first_on_full_twice::<Pink>(rt.alloc())
+    let cuts = pk_sessions::reclaims::first_on_full_twice::<Pink>(rt.alloc(), $every)?;
+    println!(rt; "{} cuts, and {} behind them", cuts.first, cuts.second)?;
+    Ok(())
 }
 RT
 cd "$folder/crates/pk_trials"
-rt try --test --seconds "${1:-7200}"
+rt try --test --seconds "$seconds"

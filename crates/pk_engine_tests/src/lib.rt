@@ -1,4 +1,4 @@
-//! Tests of the parts of an engine, and of the drive: logs, values, a format, an opening, and how much work it makes at most.
+//! Tests of the parts of an engine, and of the drive: logs, values, a format and an opening.
 #![tactic(auto)]
 
 #[cfg(test)]
@@ -7,5 +7,3 @@ mod data;
 mod drive;
 #[cfg(test)]
 mod log;
-#[cfg(test)]
-mod work;

@@ -6,6 +6,7 @@
 #![tactic(auto)]
 
 pub mod boards;
+pub mod bounds;
 pub mod cuts;
 pub mod damage;
 pub mod ends;

@@ -1,7 +1,7 @@
-//! A list of more keys than one command tells: the word `list` asks twice, and the second time a read fails.
+//! A list of more keys than one command tells: the word `list` asks again, and a later read fails.
 
 use crate::boards::{Session, board_in, made, pages_left, serve};
-use crate::tried::{Program, same};
+use crate::tried::{Program, holds, same};
 use pk_base::Shape;
 use pk_flash::{Flash, Left, Room};
 use pk_nand::PageState;
@@ -89,27 +89,56 @@ fn listed<P: Program>(
     Ok(Session { status, flash })
 }
 
-/// A list tells its keys in two posts. Where the last read fails, which the second command makes, the keys of the first one are told, and
-/// that the second one failed.
-pub fn second_fails<P: Program>(alloc: Global) -> Result<(), Fail> {
+// The lines of the first keys, so many, and that a command failed behind them.
+fn lines_and_failure(alloc: Global, count: u32) -> Result<Vec<u8>, AllocError> {
+    let mut lines = lines(alloc, count)?;
+    lines.extend_from_slice(b"refused 88\n")?;
+    Ok(lines)
+}
+
+/// A list asks three times: for the first keys, for the others, and whether one is behind them. It tells what it finds each time. Where a
+/// read of the second command fails, the keys of the first one are told, and that a command failed; and so with all keys and the third
+/// one. Where a post fails, nothing is told any more.
+pub fn later_commands_fail<P: Program>(alloc: Global) -> Result<(), Fail> {
     let filled = filled::<P>(alloc)?;
     let whole = listed::<P>(alloc, pages_left(alloc, &filled)?, None)?;
     same(whole.status, 0, "the status of a whole list")?;
+    let all = lines(alloc, KEYS)?;
     same(
         whole.flash.posted(),
-        lines(alloc, KEYS)?.as_slice(),
+        all.as_slice(),
         "the lines of a whole list",
     )?;
-    same(whole.flash.marks(), 2, "posts")?;
-    // the last call is the second post, and the one before it is a read
-    let read = whole.flash.read_count();
-    let failed = listed::<P>(alloc, pages_left(alloc, &filled)?, Some(read))?;
-    same(failed.status, 0, "the status of a list that fails")?;
-    let mut want = lines(alloc, TOLD)?;
-    want.extend_from_slice(b"refused 88\n")?;
-    same(
-        failed.flash.posted(),
-        want.as_slice(),
-        "the lines of a list that fails",
+    same(whole.flash.marks(), 3, "posts")?;
+    let calls = whole.flash.read_count().saturating_add(3);
+    let first = lines(alloc, TOLD)?;
+    let second_failed = lines_and_failure(alloc, TOLD)?;
+    let third_failed = lines_and_failure(alloc, KEYS)?;
+    let mut seen = [0u32; 4];
+    for back in 1..13u64 {
+        let call = calls.saturating_sub(back);
+        let done = listed::<P>(alloc, pages_left(alloc, &filled)?, Some(call))?;
+        let posted = done.flash.posted();
+        let ends = [
+            (0u8, second_failed.as_slice()),
+            (0, third_failed.as_slice()),
+            (5, first.as_slice()),
+            (5, all.as_slice()),
+        ];
+        let mut is_one = false;
+        for (i, (status, text)) in ends.iter().enumerate() {
+            if done.status == *status && posted == *text {
+                seen[i] = seen[i].saturating_add(1);
+                is_one = true;
+            }
+        }
+        holds(
+            is_one,
+            format_args!("status {} where call {call} fails", done.status),
+        )?;
+    }
+    holds(
+        seen[0] > 0 && seen[1] > 0 && seen[2] == 1 && seen[3] == 1,
+        format_args!("{seen:?}"),
     )
 }

@@ -96,6 +96,21 @@ impl Full {
     }
 }
 
+/// How many cuts of a first session were tried, and how many of the sessions behind them.
+#[derive(Clone, Copy, Debug)]
+pub struct Cuts {
+    pub first: u32,
+    pub second: u32,
+}
+
+// A failure where these are fewer cuts.
+fn enough(cuts: &Cuts, first: u32, second: u32) -> Result<(), Fail> {
+    holds(
+        cuts.first >= first && cuts.second >= second,
+        format_args!("{} cuts, and {} behind them", cuts.first, cuts.second),
+    )
+}
+
 // A session that retrieves each key, and then overwrites the first one.
 fn second_script(alloc: Global, full: &Full) -> Result<Vec<u8>, AllocError> {
     let mut script = Vec::new(alloc);
@@ -190,43 +205,55 @@ fn third<P: Program>(
     )
 }
 
-// Cuts the first session off at each mark from this one on behind which all keys were told, in some ways each, and the second one at every
-// mark where `deep` is set.
+// Cuts the first session off at each mark from this one on behind which all keys were told, in some ways each. Of the cuts of the second
+// session behind each one of every so many is made, none where `every` is 0; which ones goes on from cut to cut.
 fn check<P: Program>(
     alloc: Global,
     full: &Full,
     first: &Flash,
     most: u32,
     from: usize,
-    deep: bool,
-) -> Result<u32, Fail> {
-    let mut cuts = 0u32;
+    every: u32,
+) -> Result<Cuts, Fail> {
+    let mut cuts = Cuts {
+        first: 0,
+        second: 0,
+    };
     for k in from..first.marks().saturating_add(1) {
         if told(first, k) < full.keys {
             continue;
         }
         for left in &ways(alloc, first, k)? {
             let (second, held) = second::<P>(alloc, full, first, most, k, left)?;
-            cuts = cuts.saturating_add(1);
-            if deep {
-                cuts = cuts.saturating_add(check_second::<P>(alloc, full, &second, &held)?);
-            }
+            let behind = check_second::<P>(alloc, full, &second, &held, cuts.first, every)?;
+            cuts.first = cuts.first.saturating_add(1);
+            cuts.second = cuts.second.saturating_add(behind);
         }
     }
     Ok(cuts)
 }
 
+// Of all cuts of the second session one of every so many.
 fn check_second<P: Program>(
     alloc: Global,
     full: &Full,
     second: &Flash,
     held: &[u8],
+    turn: u32,
+    every: u32,
 ) -> Result<u32, Fail> {
     let mut cuts = 0u32;
+    if every == 0 {
+        return Ok(cuts);
+    }
+    let mut at = turn;
     for k in 0..second.marks().saturating_add(1) {
         for left in &ways(alloc, second, k)? {
-            third::<P>(alloc, full, second, held, k, left)?;
-            cuts = cuts.saturating_add(1);
+            at = at.wrapping_add(1);
+            if at % every == 0 {
+                third::<P>(alloc, full, second, held, k, left)?;
+                cuts = cuts.saturating_add(1);
+            }
         }
     }
     Ok(cuts)
@@ -244,24 +271,23 @@ fn first_reclaim<P: Program>(alloc: Global, full: &Full) -> Result<(Flash, usize
 pub fn first_on_full<P: Program>(alloc: Global) -> Result<(), Fail> {
     let (flash, from) = first_reclaim::<P>(alloc, &WORKED)?;
     let most = WORKED.before.saturating_add(1);
-    let cuts = check::<P>(alloc, &WORKED, &flash, most, from, false)?;
-    holds(cuts >= 30, format_args!("{cuts} cuts"))
+    let cuts = check::<P>(alloc, &WORKED, &flash, most, from, 0)?;
+    enough(&cuts, 30, 0)
 }
 
-/// The same, and the session behind each cut is cut off at every mark as well. This takes minutes.
-pub fn first_on_full_twice<P: Program>(alloc: Global) -> Result<(), Fail> {
+/// The same, and of the cuts of the session behind each one, of every mark in some ways, one of every so many. This takes minutes.
+pub fn first_on_full_twice<P: Program>(alloc: Global, every: u32) -> Result<Cuts, Fail> {
     let (flash, from) = first_reclaim::<P>(alloc, &WORKED)?;
     let most = WORKED.before.saturating_add(1);
-    let cuts = check::<P>(alloc, &WORKED, &flash, most, from, true)?;
-    holds(cuts >= 300, format_args!("{cuts} cuts"))
+    check::<P>(alloc, &WORKED, &flash, most, from, every)
 }
 
 /// The first reclaim of a full drive of 33 blocks, cut off at every mark, and so the session behind each cut.
 pub fn first_on_small<P: Program>(alloc: Global) -> Result<(), Fail> {
     let (flash, from) = first_reclaim::<P>(alloc, &SMALL)?;
     let most = SMALL.before.saturating_add(1);
-    let cuts = check::<P>(alloc, &SMALL, &flash, most, from, true)?;
-    holds(cuts >= 100, format_args!("{cuts} cuts"))
+    let cuts = check::<P>(alloc, &SMALL, &flash, most, from, 1)?;
+    enough(&cuts, 10, 100)
 }
 
 /// A full drive of 33 blocks takes overwrites, of which nearly each makes a reclaim, and some a freeze inside it: it is cut off at every
@@ -269,8 +295,8 @@ pub fn first_on_small<P: Program>(alloc: Global) -> Result<(), Fail> {
 pub fn every_cut_of_reclaims<P: Program>(alloc: Global) -> Result<(), Fail> {
     let most = 60u32;
     let flash = SMALL.commands::<P>(alloc, most)?;
-    let cuts = check::<P>(alloc, &SMALL, &flash, most, 0, false)?;
-    holds(cuts >= 300, format_args!("{cuts} cuts"))
+    let cuts = check::<P>(alloc, &SMALL, &flash, most, 0, 0)?;
+    enough(&cuts, 300, 0)
 }
 
 // ---- calls that fail

@@ -257,7 +257,7 @@ fn words_that_fail(rt: HostRuntime) -> Result<(), Fail> {
 
 #[test]
 fn list_that_fails(rt: HostRuntime) -> Result<(), Fail> {
-    pk_sessions::listing::second_fails::<Pink>(rt.alloc())
+    pk_sessions::listing::later_commands_fail::<Pink>(rt.alloc())
 }
 
 #[test]
