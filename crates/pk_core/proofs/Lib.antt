@@ -45,6 +45,7 @@ pub mod Quieting
 pub mod Sights
 pub mod Staying
 pub mod Steadying
+pub mod Settling
 pub mod Due
 pub mod Indexing
 pub mod Remaining

@@ -1,5 +1,5 @@
 -- What a command leaves of epochs and blocks, by its opcode.
-use Rattle.std.proofs.Common.{◌≡◌, ℕ, arith, List, true, false}
+use Rattle.std.proofs.Common.{◌≡◌, ℕ, ◌≤◌, ap, arith, List, true, false}
 use Rattle.pk_base.specs.Shape.{charge}
 use Rattle.pk_nvme.specs.Command.{key}
 use Rattle.pk_nvme.specs.Seen.{command_of}
@@ -8,12 +8,13 @@ use Rattle.pk_nand.specs.BoardState.{BoardState}
 use Rattle.pk_nand.specs.Effects.{OnlyReading}
 use Rattle.pk_drive.specs.Calling.{FewCalls, most_calls_of, only_looks}
 use Rattle.pk_drive.specs.declared.types.Outcome.{Outcome}
-use Rattle.pk_core.specs.Parts.{Parts}
+use Rattle.pk_core.specs.Parts.{Parts, sight_of}
 use Rattle.pk_core.specs.Staying.{Stays, StaysOrOpens, StaysOrFrees, IsNoted}
 use Rattle.pk_core.specs.Programming.{QuietStore, QuietDelete}
 use Rattle.pk_core.specs.Performing.{Performs}
+use Rattle.pk_core.specs.Stepping.{Lessens}
 use Rattle.pk_core.proofs.Staying.{stays_same, stays_frees}
-use Rattle.pk_core.proofs.Sights.{store_changes, delete_changes, tick_changes, delete_no_store}
+use Rattle.pk_core.proofs.Sights.{store_changes, delete_changes, tick_changes, delete_no_store, store_raises, delete_raises}
 use Rattle.pk_core.proofs.Callings.{few_for_tick}
 
 module _ (d e : Parts) (old new : BoardState) (r : Request) (v : List ℕ) (o : Outcome) where
@@ -28,6 +29,8 @@ module _ (d e : Parts) (old new : BoardState) (r : Request) (v : List ℕ) (o : 
     quiet_delete = λ is. absurd (delete_changes r is only);
     calls = calls;
     looks = λ _. (same, reading);
+    no_more_work = λ _ _. (let is = ap (λ (x : Parts). (sight_of x).work) same in omega (arith, is));
+    lessens = λ tick. absurd (tick_changes r tick only);
   }
 
   pub performs_store : r.opcode ≡ 0x01 → (o.stopped ≡ false → StaysOrOpens d e (charge d.log.shape r.size)) → (o.status ≡ 0 → IsNoted e (key (command_of r v))) → QuietStore d old new r v o → FewCalls (most_calls_of d.log.shape r.opcode r.size) old new → Performs d e old new r v o
@@ -41,6 +44,8 @@ module _ (d e : Parts) (old new : BoardState) (r : Request) (v : List ℕ) (o : 
     quiet_delete = λ delete. absurd (delete_no_store r delete is);
     calls = calls;
     looks = λ only. absurd (store_changes r is only);
+    no_more_work = λ none. absurd (store_raises r is none);
+    lessens = λ tick. absurd (omega (arith, is, tick));
   }
 
   pub performs_delete : r.opcode ≡ 0x10 → (o.stopped ≡ false → Stays d e) → QuietDelete d old new r o → FewCalls (most_calls_of d.log.shape r.opcode r.size) old new → Performs d e old new r v o
@@ -54,10 +59,13 @@ module _ (d e : Parts) (old new : BoardState) (r : Request) (v : List ℕ) (o : 
     quiet_delete = λ _. quiet;
     calls = calls;
     looks = λ only. absurd (delete_changes r is only);
+    no_more_work = λ none. absurd (delete_raises r is none);
+    lessens = λ tick. absurd (omega (arith, is, tick));
   }
 
-  pub performs_tick : r.opcode ≡ 0xC0 → (o.stopped ≡ false → StaysOrFrees d e) → FewCalls r.size old new → Performs d e old new r v o
-  performs_tick is moves calls = record {
+  pub performs_tick : r.opcode ≡ 0xC0 → (o.stopped ≡ false → StaysOrFrees d e) → FewCalls r.size old new → (o.stopped ≡ false → (sight_of e).work ≤ (sight_of d).work) → (o.status ≡ 0 → Lessens d e r.size)
+      → Performs d e old new r v o
+  performs_tick is moves calls no_more lessens = record {
     fresh = λ runs. (moves runs).fresh;
     opens = λ store. absurd (omega (arith, is, store));
     no_more = λ _ runs. (moves runs).no_more;
@@ -67,4 +75,6 @@ module _ (d e : Parts) (old new : BoardState) (r : Request) (v : List ℕ) (o : 
     quiet_delete = λ delete. absurd (omega (arith, is, delete));
     calls = few_for_tick d.log.shape r.opcode r.size is old new calls;
     looks = λ only. absurd (tick_changes r is only);
+    no_more_work = λ _. no_more;
+    lessens = λ _. lessens;
   }

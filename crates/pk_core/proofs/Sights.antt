@@ -10,6 +10,7 @@ use Rattle.pk_log.specs.State.{LogState}
 use Rattle.pk_log.specs.Commits.{CommitsNone, CommitsAll}
 use Rattle.pk_nvme.specs.declared.request.Request.{Request}
 use Rattle.pk_drive.specs.Calling.{only_looks}
+use Rattle.pk_drive.specs.Settling.{may_raise}
 use Rattle.pk_drive.specs.Moving.{Commits}
 use Rattle.pk_core.specs.Parts.{Parts, sight_of}
 use Rattle.pk_core.specs.Quiet.{ReadsOnly, ReadsFailing}
@@ -61,6 +62,13 @@ delete_changes r is only = no_look r.opcode 0x10 is refl only
 
 pub tick_changes : (r : Request) → r.opcode ≡ 0xC0 → only_looks r.opcode ≡ true → ⊥
 tick_changes r is only = no_look r.opcode 0xC0 is refl only
+
+-- a Store and a Delete may raise the work
+pub store_raises : (r : Request) → r.opcode ≡ 0x01 → may_raise r.opcode ≡ false → ⊥
+store_raises r is none = let clash : true ≡ false = sym (ap may_raise is) ∙ none in cc
+
+pub delete_raises : (r : Request) → r.opcode ≡ 0x10 → may_raise r.opcode ≡ false → ⊥
+delete_raises r is none = let clash : true ≡ false = sym (ap may_raise is) ∙ none in cc
 
 pub delete_no_store : (r : Request) → r.opcode ≡ 0x10 → r.opcode ≡ 0x01 → ⊥
 delete_no_store r is e = omega (arith, is, e)

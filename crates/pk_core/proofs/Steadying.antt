@@ -114,6 +114,28 @@ merge_due Idle x flash root found m some = absurd (some refl)
 merge_due (Running level) x flash root found m some = m.into.due
 merge_due (ReadyToInstall level) x flash root found m some = m.into.due
 
+-- ---- the work
+
+module _ (d : Parts) (shape : Shape) (flash : Flash) (top : ℕ × Root) (found : Found) (without all : Map) (a : DriveOnFlashWith d shape flash top found without all) where
+  within : IsBacklog d.log.shape (backlog_of d)
+  within =
+      let index = index_backlog (index_of d) (frames_of d) flash top found a.index (a.placed.size ∙ ap (λ s. s.blocks) (sym a.shape_is)) in
+      record {
+        frozen_most = index.frozen_most;
+        runs_most = index.runs_most;
+        merge_most = subst (λ l. IfSome (backlog_of d).merge (λ left. left ≤ whole_merge d.log.shape l)) (sym (due_of d.log.shape d)) index.merge_most;
+        freeze_most = index.freeze_most;
+        reclaim_most = subst (λ (s : Shape). IfSome (reclaim_left s d.space.live.heads (is_reclaim_due d) d.reclaim.phase) (λ left. left ≤ whole_reclaim s)) (sym a.shape_is) (reclaim_within d.reclaim.phase shape (is_reclaim_due d) d.reclaim d.space.live flash (places found d.log.pending) a.reclaim.stands);
+        unready_most = index.unready_most;
+      }
+
+  work_is : work d.log.shape (backlog_of d) < most_work shape
+  unfolding most_work
+  work_is =
+      subst (λ s. work d.log.shape (backlog_of d) < most_work s) a.shape_is (work_most d.log.shape (backlog_of d) a.index.logs.is_shape within)
+
+-- ---- the blocks, the lists and the runs
+
 module _ (d : Parts) (shape : Shape) (flash : Flash) (top : ℕ × Root) (found : Found) (without all : Map) (a : DriveOnFlashWith d shape flash top found without all) (shared : IsShared d.pool.shape d.pool.states) where
   ready_block : (b : ℕ) → slice_get d.pool.states b ≡ Some Ready → IsReadyBlock shape flash top.1 (block_if_open d.space.open_block) b
   ready_block b ready = record {
@@ -173,26 +195,7 @@ module _ (d : Parts) (shape : Shape) (flash : Flash) (top : ℕ × Root) (found 
   frozen_is : length d.log.frozen.entries ≡ length (firsts found.older)
   frozen_is = ap (λ (t : Table). length t.entries) a.index.logs.frozen_is ∙ firsts-reverse found.older
 
-  -- ---- work and runs
-
-  within : IsBacklog d.log.shape (backlog_of d)
-  within =
-      let index = index_backlog (index_of d) (frames_of d) flash top found a.index (a.placed.size ∙ ap (λ s. s.blocks) (sym a.shape_is)) in
-      record {
-        frozen_most = index.frozen_most;
-        runs_most = index.runs_most;
-        merge_most = subst (λ l. IfSome (backlog_of d).merge (λ left. left ≤ whole_merge d.log.shape l)) (sym (due_of d.log.shape d)) index.merge_most;
-        freeze_most = index.freeze_most;
-        reclaim_most = subst (λ (s : Shape). IfSome (reclaim_left s d.space.live.heads (is_reclaim_due d) d.reclaim.phase) (λ left. left ≤ whole_reclaim s)) (sym a.shape_is) (reclaim_within d.reclaim.phase shape (is_reclaim_due d) d.reclaim d.space.live flash (places found d.log.pending) a.reclaim.stands);
-        unready_most = index.unready_most;
-      }
-
-  work_is : work d.log.shape (backlog_of d) ≤ most_work shape
-  unfolding most_work
-  work_is =
-      let most = work_most d.log.shape (backlog_of d) a.index.logs.is_shape within in
-      let least : work d.log.shape (backlog_of d) ≤ most_work d.log.shape = omega (arith, most) in
-      subst (λ s. work d.log.shape (backlog_of d) ≤ most_work s) a.shape_is least
+  -- ---- the runs
 
   four_are : entries_of_runs (counts_of d) ≡ map (λ (r : Kept). r.count) d.levels.runs
   four_are = counts_of_four d.levels.runs d.levels.shape (four (index_of d) (frames_of d) flash top found a.index)
@@ -225,13 +228,18 @@ module _ (d : Parts) (shape : Shape) (flash : Flash) (top : ℕ × Root) (found 
     blocks_least = live_within;
     blocks_most = (let few = a.placed.few in omega (arith, few));
     few_pending = few;
-    work_most = work_is;
+    work_most = work_is d shape flash top found without all a;
   }
 
 -- ---- between two commands
 
 told_same : (a b : Shape) → ◌≡◌ {A = Option Shape} (Some a) (Some b) → a ≡ b
 told_same a b e = cc
+
+-- a bounded work is left, whatever is pending
+pub few_left : (d : Parts) (told : Option Shape) (shape : Shape) (flash : Flash) → DriveOnFlash d told flash → told ≡ Some shape → (sight_of d).work < most_work shape
+few_left d told shape flash a told_is =
+    subst (λ s. (sight_of d).work < most_work s) (told_same a.shape shape (sym a.told_is ∙ told_is)) (work_is d a.shape flash a.top a.found a.without a.all a.with)
 
 pub between_steady : (d : Parts) (told : Option Shape) (shape : Shape) (flash : Flash) → DriveOnFlashBetween d told flash → told ≡ Some shape → IsShared d.pool.shape d.pool.states → IsSteady shape flash (sight_of d)
 between_steady d told shape flash is told_is shared =

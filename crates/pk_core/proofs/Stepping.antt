@@ -154,6 +154,13 @@ module _ (s0 s1 : BoardState) (e0 e1 : Sight) (n : ℕ) (first : Steps s0 s1 e0 
         installs = (let a = first.installs in let b = ticks.installs in omega (arith, a, b));
       }
 
+-- one that did not stop the drive leaves no more to do
+no_more_step : (d e : Parts) (a b : BoardState) (answer : Ticked) → Advances d e a b answer → stopped_by answer ≡ false → (sight_of e).work ≤ (sight_of d).work
+no_more_step d e a b Worked step runs = let less = step.lowers refl in omega (arith, less)
+no_more_step d e a b Idle step runs = let same = ap (λ (s : Sight). s.work) (step.ticks.idle_rests refl).1 in omega (arith, same)
+no_more_step d e a b (Fault true) step runs = absurd (yes_no true runs refl)
+no_more_step d e a b (Fault false) step runs = let same = ap (λ (s : Sight). s.work) (step.ticks.unmade refl).0 in omega (arith, same)
+
 -- so many steps are within more
 pub steps_within : (old new : BoardState) (s t : Sight) (answer : Ticked) (n k : ℕ) → n ≤ k → Steps old new s t answer n → Steps old new s t answer k
 steps_within old new s t answer n k less w = record {
@@ -273,6 +280,9 @@ module _ (first : Parts) (old : BoardState) (d : Parts) (board : BoardState) (ma
 
     pub ongoing_stays : stopped_by answer ≡ false → StaysOrFrees first e
     ongoing_stays runs = frees_then first d e o.stays (step.moves runs)
+
+    pub ongoing_no_more : stopped_by answer ≡ false → (sight_of e).work ≤ (sight_of first).work
+    ongoing_no_more runs = let was = o.less in let now = no_more_step d e board next answer step runs in omega (arith, was, now)
 
   -- it goes on behind a step that worked
   pub ongoing_more : (e : Parts) (next : BoardState) → Advances d e board next Worked → Ongoing first old e next (made + 1)

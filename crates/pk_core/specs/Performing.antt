@@ -1,4 +1,4 @@
--- What a command leaves of epochs and blocks, which pages it programs, and how many calls of the flash it makes.
+-- What a command leaves of epochs, blocks and background work, which pages it programs, and how many calls of the flash it makes.
 use Rattle.std.specs.Prelude.{◌≡◌, ◌≢◌, ◌≤◌, ℕ, List, take, true, false}
 use Rattle.pk_nvme.specs.declared.opcode.TheConstants.{STORE, DELETE, TICK}
 use Rattle.pk_nvme.specs.declared.status.TheConstants.{SUCCESSFUL_COMPLETION, UNRECOVERED_ERROR}
@@ -10,12 +10,15 @@ use Rattle.pk_nand.specs.BoardState.{BoardState}
 use Rattle.pk_nand.specs.Effects.{OnlyReading}
 use Rattle.pk_drive.specs.Exec.{report_of}
 use Rattle.pk_drive.specs.Calling.{FewCalls, most_calls_of, only_looks}
+use Rattle.pk_drive.specs.Settling.{may_raise}
 use Rattle.pk_drive.specs.declared.types.Outcome.{Outcome}
-use Rattle.pk_core.specs.Parts.{Parts, counts_of}
+use Rattle.pk_core.specs.Parts.{Parts, counts_of, sight_of}
 use Rattle.pk_core.specs.Staying.{StaysFresh, Stays, StaysOrOpens, IsNoted}
 use Rattle.pk_core.specs.Programming.{QuietStore, QuietDelete}
+use Rattle.pk_core.specs.Stepping.{Lessens}
 
 -- A command came to this outcome. A Store alone may take a block more, beside it a Tick another open block; what only looks changes nothing.
+-- A Store or a Delete alone may raise the background work, and a Tick lowers it.
 pub record Performs (before after : Parts) (old new : BoardState) (r : Request) (value : List ℕ) (o : Outcome) : Type 0 where
   pub fresh : o.stopped ≡ false → StaysFresh before after
   pub opens : r.opcode ≡ STORE → o.stopped ≡ false → StaysOrOpens before after (charge before.log.shape r.size)
@@ -26,6 +29,8 @@ pub record Performs (before after : Parts) (old new : BoardState) (r : Request) 
   pub quiet_delete : r.opcode ≡ DELETE → QuietDelete before old new r o
   pub calls : FewCalls (most_calls_of before.log.shape r.opcode r.size) old new
   pub looks : only_looks r.opcode ≡ true → (after ≡ before) × OnlyReading old new
+  pub no_more_work : may_raise r.opcode ≡ false → o.stopped ≡ false → (sight_of after).work ≤ (sight_of before).work
+  pub lessens : r.opcode ≡ TICK → o.status ≡ SUCCESSFUL_COMPLETION → Lessens before after r.size
 
 -- A Report gives the numbers of the drive, and makes no call.
 pub record Reports (d : Parts) (old new : BoardState) (o : Outcome) (into : List ℕ) : Type 0 where

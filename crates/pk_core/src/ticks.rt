@@ -57,6 +57,8 @@ impl<A: Region> Drive<A> {
         ensures steps { Steps (B.state board.old) (B.state board.new) (sight_of self.old)
             (sight_of self.new) result steps }
         ensures done { has_failed result ≡ false → Lessens self.old self.new steps }
+        ensures no_more { stopped_by result ≡ false
+            → (sight_of self.new).work ≤ (sight_of self.old).work }
     {
         for made in 0..steps {
             match self.advance(board) {
@@ -85,6 +87,8 @@ impl<A: Region> Drive<A> {
         ensures none { self.new.log.pending ≡ [] }
         ensures done { result.status ≡ SUCCESSFUL_COMPLETION
             → Lessens self.old self.new request.now.size }
+        ensures no_more { result.stopped ≡ false
+            → (sight_of self.new).work ≤ (sight_of self.old).work }
         ensures moves { result.stopped ≡ false → StaysOrFrees self.old self.new }
         ensures calls { FewCalls request.now.size (B.state board.old) (B.state board.new) }
     {

@@ -70,4 +70,4 @@ returns-in-16-clause-performs g c =
 
 pub returns-in-192-clause-performs : goal.returns-in-192-clause-performs
 returns-in-192-clause-performs g c =
-    performs_tick c.args.self.now c.tick_command.new.self (g.B.Nand.state c.args.board.now) (g.B.Nand.state c.tick_command.new.board) c.args.request.now c.args.value.now c.tick_command.result c.in-192.is c.tick_command.ensures.moves c.tick_command.ensures.calls
+    performs_tick c.args.self.now c.tick_command.new.self (g.B.Nand.state c.args.board.now) (g.B.Nand.state c.tick_command.new.board) c.args.request.now c.args.value.now c.tick_command.result c.in-192.is c.tick_command.ensures.moves c.tick_command.ensures.calls c.tick_command.ensures.no_more c.tick_command.ensures.done

@@ -23,6 +23,9 @@ returns-clause-no_data g c = none_come c.answer_of.result c.work-last.result c.r
 pub returns-clause-done : goal.returns-clause-done
 returns-clause-done g c = λ e. c.work-last.ensures.done (not_failed c.answer_of.result c.work-last.result c.reads_since.result c.answer_of.ensures e)
 
+pub returns-clause-no_more : goal.returns-clause-no_more
+returns-clause-no_more g c = λ e. c.work-last.ensures.no_more (sym (stopped_is c.answer_of.result c.work-last.result c.reads_since.result c.answer_of.ensures) ∙ e)
+
 pub returns-clause-moves : goal.returns-clause-moves
 returns-clause-moves g c = λ e. c.work-last.ensures.moves (sym (stopped_is c.answer_of.result c.work-last.result c.reads_since.result c.answer_of.ensures) ∙ e)
 

@@ -1,5 +1,5 @@
 use Rattle.std.proofs.Common.{inr, arith}
-use Rattle.pk_core.proofs.Stepping.{ongoing_none, ongoing_may, ongoing_more, ongoing_last, ongoing_done, ongoing_stays, steps_within}
+use Rattle.pk_core.proofs.Stepping.{ongoing_none, ongoing_may, ongoing_more, ongoing_last, ongoing_done, ongoing_stays, ongoing_no_more, steps_within}
 use Rattle.pk_core.specs.Parts.{sight_of}
 use Rattle.pk_drive.specs.declared.types.Ticked.TheVariants.{Worked, Idle, Fault}
 use Rattle.pk_core.proofs.drive.Drive.work.Goals as goal
@@ -20,6 +20,17 @@ returns-in-Idle-clause-steps g c =
 pub returns-in-Idle-clause-done : goal.returns-in-Idle-clause-done
 returns-in-Idle-clause-done g c = λ _.
     inr (ongoing_done c.args.self.now (g.B.Nand.state c.args.board.now) c.loop-made.self (g.B.Nand.state c.loop-made.board) c.loop-made.made c.loop-made.invariant c.advance.new.self (g.B.Nand.state c.advance.new.board) c.in-Idle.ensures)
+
+pub returns-in-Idle-clause-no_more : goal.returns-in-Idle-clause-no_more
+returns-in-Idle-clause-no_more g c =
+    ongoing_no_more c.args.self.now (g.B.Nand.state c.args.board.now) c.loop-made.self (g.B.Nand.state c.loop-made.board) c.loop-made.made c.loop-made.invariant c.advance.new.self (g.B.Nand.state c.advance.new.board) Idle c.in-Idle.ensures
+
+pub returns-in-Fault-clause-no_more : goal.returns-in-Fault-clause-no_more
+returns-in-Fault-clause-no_more g c =
+    ongoing_no_more c.args.self.now (g.B.Nand.state c.args.board.now) c.loop-made.self (g.B.Nand.state c.loop-made.board) c.loop-made.made c.loop-made.invariant c.advance.new.self (g.B.Nand.state c.advance.new.board) (Fault c.in-Fault.stopped) c.in-Fault.ensures
+
+pub returns-clause-no_more : goal.returns-clause-no_more
+returns-clause-no_more g c = λ _. let less = c.loop-made.invariant.less in omega (arith, less)
 
 pub returns-in-Fault-clause-moves : goal.returns-in-Fault-clause-moves
 returns-in-Fault-clause-moves g c =

@@ -21,6 +21,7 @@ use Rattle.pk_core.proofs.Quieting.{quietly_stores, quietly_deletes}
 use Rattle.std.proofs.Common.{arith}
 use Rattle.pk_core.proofs.Due.{merges_next}
 use Rattle.pk_core.proofs.Callings.{few_within, few_none, few_told}
+use Rattle.pk_core.proofs.Settling.{settles_there, rests_there}
 use Rattle.pk_core.proofs.engine.DriveEngine.exec.Goals as goal
 
 pub returns-in-Some-clause-stands : goal.returns-in-Some-clause-stands
@@ -101,6 +102,33 @@ returns-in-None-clause-quiet_store g c = λ is zero quiet room.
 pub returns-in-None-clause-quiet_delete : goal.returns-in-None-clause-quiet_delete
 returns-in-None-clause-quiet_delete g c = λ is zero quiet.
     quietly_deletes c.args.self.now (g.B.Nand.state c.args.board.now) (g.B.Nand.state c.perform-outcome.new.board) c.requires.agrees.0 c.args.request.now c.args.value.now c.perform-outcome.result (c.perform-outcome.ensures.performs.quiet_delete is) zero quiet
+
+pub returns-in-None-clause-no_more : goal.returns-in-None-clause-no_more
+returns-in-None-clause-no_more g c = λ runs none. c.perform-outcome.ensures.performs.no_more_work none runs
+
+pub returns-in-Some-clause-settles : goal.returns-in-Some-clause-settles
+returns-in-Some-clause-settles g c = λ _ zero.
+    let is : early c.args.self.now.log.shape (command_of c.args.request.now c.args.value.now) ≡ Some c.in-Some.status = ap (λ (s : Shape). early s (command_of c.args.request.now c.args.value.now)) (sym c.shape.ensures) ∙ sym (c.early_fault.ensures c.args.value.now) ∙ c.in-Some.is in
+    absurd (told_refused c.refusal.result c.in-Some.status 0 0 0 false c.refusal.ensures (early_refuses c.args.self.now.log.shape (command_of c.args.request.now c.args.value.now) c.in-Some.status is) zero)
+
+pub returns-in-None-clause-settles : goal.returns-in-None-clause-settles
+returns-in-None-clause-settles g c = λ is zero.
+    let e = c.perform-outcome.ensures in
+    let runs = zero_runs c.perform-outcome.result e.executes.does.stop_status zero in
+    settles_there c.args.self.now c.perform-outcome.new.self (g.B.Nand.state c.args.board.now) (g.B.Nand.state c.perform-outcome.new.board) c.args.request.now.size (e.executes.agrees runs).0
+    (subst (λ (d : Parts). IsShared d.pool.shape d.pool.states) c.self-in-None.view_is c.known-in-None.ensures) e.executes.does.rest (e.performs.lessens is zero)
+
+pub returns-in-Some-clause-rests : goal.returns-in-Some-clause-rests
+returns-in-Some-clause-rests g c = λ _ zero.
+    let is : early c.args.self.now.log.shape (command_of c.args.request.now c.args.value.now) ≡ Some c.in-Some.status = ap (λ (s : Shape). early s (command_of c.args.request.now c.args.value.now)) (sym c.shape.ensures) ∙ sym (c.early_fault.ensures c.args.value.now) ∙ c.in-Some.is in
+    absurd (told_refused c.refusal.result c.in-Some.status 0 0 0 false c.refusal.ensures (early_refuses c.args.self.now.log.shape (command_of c.args.request.now c.args.value.now) c.in-Some.status is) zero)
+
+pub returns-in-None-clause-rests : goal.returns-in-None-clause-rests
+returns-in-None-clause-rests g c = λ is zero.
+    let e = c.perform-outcome.ensures in
+    let runs = zero_runs c.perform-outcome.result e.executes.does.stop_status zero in
+    rests_there c.args.self.now c.perform-outcome.new.self (g.B.Nand.state c.args.board.now) (g.B.Nand.state c.perform-outcome.new.board) c.args.request.now.size (e.executes.agrees runs).0
+    (subst (λ (d : Parts). IsShared d.pool.shape d.pool.states) c.self-in-None.view_is c.known-in-None.ensures) e.executes.does.rest (e.performs.lessens is zero) c.requires.agrees.0
 
 pub returns-in-Some-clause-calls : goal.returns-in-Some-clause-calls
 returns-in-Some-clause-calls g c = few_within 0 _ _ _ (omega arith) (few_none _)

@@ -1,0 +1,34 @@
+-- The background work settles, command by command.
+use Rattle.std.proofs.Common.{◌≡◌, inl, inr, ℕ, sym, ap, subst, ◌∙◌, arith, Option, Some}
+use Rattle.pk_base.specs.Shape.{Shape}
+use Rattle.pk_nand.specs.BoardState.{BoardState}
+use Rattle.pk_nand.specs.Effects.{OnlyFlash}
+use Rattle.pk_pool.specs.Blocks.{IsShared}
+use Rattle.pk_model.specs.Sight.{IsIdle}
+use Rattle.pk_drive.specs.Settling.{Settles, Rests}
+use Rattle.pk_core.specs.Parts.{Parts, sight_of}
+use Rattle.pk_core.specs.Agreeing.{DriveOnFlash}
+use Rattle.pk_core.specs.Ticking.{HasNoStep}
+use Rattle.pk_core.specs.Stepping.{Lessens}
+use Rattle.pk_core.proofs.Ticking.{none_idle}
+use Rattle.pk_core.proofs.Steadying.{few_left}
+
+some_same : (x y : Shape) → ◌≡◌ {A = Option Shape} (Some x) (Some y) → x ≡ y
+some_same x y e = cc
+
+module _ (d e : Parts) (old new : BoardState) (steps : ℕ) (a : DriveOnFlash e new.shape new.pages) (shared : IsShared e.pool.shape e.pool.states) (rest : OnlyFlash old new) (lessens : Lessens d e steps) where
+  -- a drive with no step left is idle
+  idle_there : (shape : Shape) → old.shape ≡ Some shape → HasNoStep e → IsIdle shape new.pages (sight_of e)
+  idle_there shape has none =
+      let told : new.shape ≡ Some shape = ap (λ (b : BoardState). b.shape) rest ∙ has in
+      let same : e.log.shape ≡ shape = a.with.shape_is ∙ some_same a.shape shape (sym a.told_is ∙ told) in
+      subst (λ s. IsIdle s new.pages (sight_of e)) same (none_idle e new a shared none)
+
+  pub settles_there : Settles old new (sight_of d) (sight_of e) steps
+  settles_there shape frames m stands = elim lessens [ inl less ↦ inl less | inr none ↦ inr (idle_there shape stands.shape_is none) ]
+
+  -- as many steps as may ever be left leave none
+  pub rests_there : DriveOnFlash d old.shape old.pages → Rests old new (sight_of d) (sight_of e) steps
+  rests_there agrees shape frames m stands most =
+      let few = few_left d old.shape shape old.pages agrees stands.shape_is in
+      elim lessens [ inl less ↦ absurd (omega (arith, few, less, most)) | inr none ↦ idle_there shape stands.shape_is none ]
