@@ -44,6 +44,7 @@ use Rattle.pk_wordrun.specs.Tasks.{generate, SaysTask, KeptTask}
 use Rattle.pk_wordrun.specs.Told.{Told, turn_roots}
 use Rattle.pk_wordrun.specs.declared.end.WordEnd.TheVariants.{Done, Output}
 use Rattle.pk_wordrun.specs.declared.summary.Summary.{Summary}
+use Rattle.pk_wordrun.proofs.Resting.{never_both}
 use Rattle.pk_wordrun.proofs.Telling.{keeps-flash, done_unworn, output_unworn, flash_unworn}
 
 -- ---- the commands of a workload
@@ -249,6 +250,7 @@ module _ (begin count : ℕ) (shape : Shape) (frames : ℕ) (start : Map) (a b :
   told_posted = record {
     kept = Goes-reaches shape a (after_post b text) (KeptTask (generate begin count) a.read_faults b.read_faults shape frames start)
         (asked-posts Says shape frames start (workload begin count) a b w.asked text says_left);
+    rests = λ e. never_both e;
     ends = record {
       left = w.asked.left;
       text = text;
@@ -272,6 +274,7 @@ module _ (begin count : ℕ) (shape : Shape) (frames : ℕ) (start : Map) (a b :
       let R : ℕ → Type 0 = λ n. Rose n last.out_faults in
       record {
         kept = subst G (sym same) (asked-post_failed Says shape frames start (workload begin count) a b w.asked text says_left last failed);
+        rests = λ e. never_both e;
         ends = subst R (ap (λ (x : BoardState). x.out_faults) w.asked.rest) failed.faults;
         used = λ e. absurd (output_unworn e);
         input = record {
@@ -285,6 +288,7 @@ pub told_unfinished : (begin count : ℕ) (shape : Shape) (frames : ℕ) (start 
     → Told (generate begin count) shape frames start a b (end_of halt)
 told_unfinished begin count shape frames start a b halt u = record {
   kept = went-silent (SaysTask (generate begin count) a.read_faults b.read_faults shape frames start) shape frames start (workload begin count) (rise a.read_faults b.read_faults) a b u.kept;
+  rests = λ e. never_both e;
   ends = u.ends;
   used = u.used;
   input = u.input;

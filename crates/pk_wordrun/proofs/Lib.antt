@@ -1,3 +1,4 @@
+mod Resting
 mod Telling
 mod Posting
 mod Lists

@@ -17,6 +17,9 @@ use Rattle.pk_model.specs.Growth.{Reaches, Goes}
 use Rattle.pk_model.specs.Reading.{reading, Holds}
 use Rattle.pk_model.proofs.Growing.{weaken, Goes-reaches, Goes-then, grows_behind, Goes-post_failed, GrowsAlong-post}
 use Rattle.pk_model.specs.Wear.{root_number, roots}
+use Rattle.pk_nand.specs.Resting.{RestsFlash}
+use Rattle.pk_nand.proofs.Resting.{Rests-same, Rests-then}
+use Rattle.pk_wordrun.proofs.Resting.{rests-reading, rests-posted, rests-unposted}
 use Rattle.pk_wordrun.proofs.Telling.{done_unworn, output_unworn, flash_unworn}
 use Rattle.pk_words.specs.Lines.{key_line, key_lines}
 use Rattle.pk_words.specs.Says.{wanted_keys}
@@ -41,6 +44,7 @@ pub record IsSaying (from : Option Key) (shape : Shape) (start : Map) (a b : Boa
   pub said : all_posted reached.0 ≡ key_lines front
   pub split : wanted_keys from start ≡ front ++ keys_left place start
   pub pages : b.pages ≡ a.pages
+  pub rests : RestsFlash a b
   pub up : a.read_faults ≤ b.read_faults
   pub output : b.out_faults ≡ a.out_faults
   pub stop : b.stop_faults ≡ a.stop_faults
@@ -60,6 +64,7 @@ saying_none from shape start a has holds = record {
   said = refl;
   split = wanted_at from start;
   pages = refl;
+  rests = Rests-same a a refl;
   up = omega arith;
   output = refl;
   stop = refl;
@@ -92,6 +97,10 @@ module _ (from : Option Key) (shape : Shape) (frames : ℕ) (start : Map) (a b :
 
   told : result_ok (reading shape b.pages []) ≡ Some start
   told = ap result_ok held
+
+  -- the flash rests on
+  rests_on : (c : BoardState) → RestsFlash b c → RestsFlash a c
+  rests_on c more = Rests-then a b c so_far.pages so_far.rests more
 
   -- one more text behind what went out: what every cut before it has, and every front of it
   module _ (asked : BoardState) (only : OnlyReading b asked) (text : List ℕ) (P : Flash → List ℕ → Type 0)
@@ -151,6 +160,7 @@ module _ (from : Option Key) (shape : Shape) (frames : ℕ) (start : Map) (a b :
                 ∙ (ap (λ t. key_lines so_far.front ++ t) (append-nil text ∙ spelled) ∙ sym (flat_map-append key_line so_far.front page)));
             split = so_far.split ∙ (ap (λ (ks : List Key). so_far.front ++ ks) split ∙ sym (append_assoc so_far.front page (keys_left next start)));
             pages = ap (λ (s : BoardState). s.pages) is.reads ∙ so_far.pages;
+            rests = rests_on (after_post asked text) (rests-posted b asked (after_post asked text) text is.reads refl);
             up = (let first = so_far.up in let second = is.up in omega (arith, first, second));
             output = ap (λ (s : BoardState). s.out_faults) is.reads ∙ so_far.output;
             stop = ap (λ (s : BoardState). s.stop_faults) is.reads ∙ so_far.stop;
@@ -193,6 +203,7 @@ module _ (from : Option Key) (shape : Shape) (frames : ℕ) (start : Map) (a b :
         let run = posts_more asked is.reads text (KeptTask (list from) a.read_faults asked.read_faults shape frames start) (all_lines a.read_faults asked.read_faults) (begins_ending text a.read_faults asked.read_faults says) in
         record {
           kept = Goes-reaches shape a (after_post asked text) (KeptTask (list from) a.read_faults asked.read_faults shape frames start) run;
+          rests = λ _. rests_on (after_post asked text) (rests-posted b asked (after_post asked text) text is.reads refl);
           ends = record {
             left = start;
             text = key_lines so_far.front ++ text;
@@ -216,6 +227,7 @@ module _ (from : Option Key) (shape : Shape) (frames : ℕ) (start : Map) (a b :
       let R : ℕ → Type 0 = λ n. Rose n c.out_faults in
       record {
         kept = fails_more asked only text (KeptTask (list from) a.read_faults c.read_faults shape frames start) (all_lines a.read_faults c.read_faults) begins c failed;
+        rests = λ _. rests_on c (rests-unposted b asked c text only failed);
         ends = subst R (ap (λ (s : BoardState). s.out_faults) only ∙ so_far.output) failed.faults;
         used = λ e. absurd (output_unworn e);
         input = record {
@@ -263,6 +275,7 @@ module _ (from : Option Key) (shape : Shape) (frames : ℕ) (start : Map) (a b :
       let R : ℕ → Type 0 = λ n. Rose n c.stop_faults in
       record {
         kept = stands_still c s.0;
+        rests = λ _. rests_on c (rests-reading b c s.0);
         ends = subst R so_far.stop s.2;
         used = λ e. absurd (flash_unworn e);
         input = record { input = ap (λ (s : BoardState). s.input) s.0 ∙ so_far.input; in_faults = ap (λ (s : BoardState). s.in_faults) s.0 ∙ so_far.in_faults };
@@ -271,6 +284,7 @@ module _ (from : Option Key) (shape : Shape) (frames : ℕ) (start : Map) (a b :
       let T : BoardState → Type 0 = λ x. Told (list from) shape frames start a x Worn in
       subst T (sym w.0) (record {
         kept = stands_still b refl;
+        rests = λ _. so_far.rests;
         ends = (w.1, record { output = so_far.output; stop = so_far.stop });
         used = λ e. (let same = same_roots in omega (arith, same));
         input = record { input = so_far.input; in_faults = so_far.in_faults };

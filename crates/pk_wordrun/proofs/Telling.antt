@@ -26,6 +26,8 @@ use Rattle.pk_wordrun.specs.Tasks.{answer, SaysTask, KeptTask}
 use Rattle.pk_wordrun.specs.Told.{Told, KeepsInput}
 use Rattle.pk_wordrun.specs.declared.end.WordEnd.{WordEnd}
 use Rattle.pk_wordrun.specs.declared.end.WordEnd.TheVariants.{Done, Output, Flash as FlashFailed, Worn}
+use Rattle.pk_nand.proofs.Resting.{Rests-same}
+use Rattle.pk_wordrun.proofs.Resting.{asked_looks, rests-reading, rests-posted, rests-unposted}
 
 pub some_same : (x y : Map) → ◌≡◌ {A = Option Map} (Some x) (Some y) → x ≡ y
 some_same x y e = cc
@@ -96,6 +98,7 @@ module _ (q : Question) (shape : Shape) (start : Map) (old new : Mounted) (has :
         record {
           kept = Goes-reaches shape old.board (after_post new.board text) (KeptTask (answer q) old.board.read_faults new.board.read_faults shape old.frames start)
               (asked-posts says_now shape old.frames start cs old.board new.board w text says);
+          rests = λ only. rests-posted old.board new.board (after_post new.board text) text (s.looks (asked_looks shape q only)) refl;
           ends = record {
             left = w.left;
             text = text;
@@ -121,6 +124,7 @@ module _ (q : Question) (shape : Shape) (start : Map) (old new : Mounted) (has :
         let R : ℕ → Type 0 = λ n. Rose n last.out_faults in
         record {
           kept = subst G (sym same) (asked-post_failed says_now shape old.frames start cs old.board new.board w text says last failed);
+          rests = λ only. rests-unposted old.board new.board last text (s.looks (asked_looks shape q only)) failed;
           ends = subst R (ap (λ (b : BoardState). b.out_faults) s.rest) failed.faults;
           used = λ e. absurd (output_unworn e);
           input = record {
@@ -134,6 +138,7 @@ module _ (q : Question) (shape : Shape) (start : Map) (old new : Mounted) (has :
   told-stopped s = record {
     kept = went-silent says_now shape old.frames start cs (rise old.board.read_faults new.board.read_faults) old.board new.board
         (asked-stops shape start old.board [] old new (command_of shape q) (asked-none shape old.frames start old.board has holds) s);
+    rests = λ only. rests-reading old.board new.board (s.looks (asked_looks shape q only));
     ends = s.stop;
     used = λ e. absurd (flash_unworn e);
     input = keeps-flash old.board new.board s.rest;
@@ -145,6 +150,7 @@ module _ (q : Question) (shape : Shape) (start : Map) (old new : Mounted) (has :
   told-nothing UsedUp going cause = record {
     kept = kept-none (Says old.board.read_faults old.board.read_faults) shape old.frames start cs (rise old.board.read_faults old.board.read_faults) old.board
         (λ k zero. subst (AtMost (rise old.board.read_faults old.board.read_faults)) (sym zero) (at_most-zero (rise old.board.read_faults old.board.read_faults))) holds;
+    rests = λ only. Rests-same old.board old.board refl;
     ends = (cause, record { output = refl; stop = refl });
     used = λ e. omega arith;
     input = record { input = refl; in_faults = refl };

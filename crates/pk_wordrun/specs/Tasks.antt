@@ -1,5 +1,5 @@
 -- The words that ask a drive: what each says of the map that it finds, and which map it leaves.
-use Rattle.std.specs.Prelude.{◌≡◌, ℕ, List, [], ◌∷◌, ◌++◌, Option}
+use Rattle.std.specs.Prelude.{◌≡◌, ℕ, List, [], ◌∷◌, ◌++◌, Option, Bool, true, false}
 use Rattle.pk_base.specs.Key.{Key}
 use Rattle.pk_base.specs.Shape.{Shape, limit}
 use Rattle.pk_base.specs.Page.{Flash}
@@ -9,7 +9,7 @@ use Rattle.pk_model.specs.Kept.{rise}
 use Rattle.pk_model.specs.Reading.{Holds}
 use Rattle.pk_gen.specs.Workload.{workload}
 use Rattle.pk_port.specs.Asking.{KeptWord}
-use Rattle.pk_words.specs.Question.{Question, command_of, Answers}
+use Rattle.pk_words.specs.Question.{Question, put, get, delete, has, stat, command_of, Answers}
 use Rattle.pk_words.specs.Says.{SaysKeys}
 use Rattle.pk_wordrun.specs.Summary.{SaysSummary}
 
@@ -18,6 +18,20 @@ pub data Task : Type 0 where
   answer : Question → Task
   list : Option Key → Task
   generate : ℕ → ℕ → Task
+
+-- the questions that only ask
+abbrev pub only_asked : Question → Bool
+only_asked (put key value) = false
+only_asked (get key) = true
+only_asked (delete key) = false
+only_asked (has key) = true
+only_asked stat = true
+
+-- the words that only ask
+abbrev pub only_asks : Task → Bool
+only_asks (answer q) = only_asked q
+only_asks (list from) = true
+only_asks (generate begin count) = false
 
 -- what the answer to a question says on some drive; that a read failed is said only where the count of failed reads rose
 abbrev pub SaysAnswer : Question → ℕ → ℕ → Shape → Map → List ℕ → Map → Type 0

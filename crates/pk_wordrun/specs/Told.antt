@@ -4,10 +4,11 @@ use Rattle.pk_base.specs.Shape.{Shape}
 use Rattle.pk_base.specs.Map.{Map}
 use Rattle.pk_nand.specs.BoardState.{BoardState}
 use Rattle.pk_nand.specs.Calls.{Rose, longer}
+use Rattle.pk_nand.specs.Resting.{RestsFlash}
 use Rattle.pk_model.specs.Growth.{Goes}
 use Rattle.pk_model.specs.Reading.{Holds}
 use Rattle.pk_model.specs.Wear.{is_worn, roots}
-use Rattle.pk_wordrun.specs.Tasks.{Task, answer, list, generate, SaysTask, KeptTask}
+use Rattle.pk_wordrun.specs.Tasks.{Task, answer, list, generate, only_asks, SaysTask, KeptTask}
 use Rattle.pk_wordrun.specs.declared.end.WordEnd.{WordEnd}
 use Rattle.pk_wordrun.specs.declared.end.WordEnd.TheVariants.{Done, Output, Flash, Worn}
 
@@ -47,9 +48,10 @@ most_roots (answer q) = 0
 most_roots (list from) = 0
 most_roots (generate begin count) = turn_roots * count
 
--- Wherever it was cut off it was kept, and it ended so.
+-- Wherever it was cut off it was kept, and it ended so. A word that only asks leaves each page of the flash.
 pub record Told (task : Task) (shape : Shape) (frames : ℕ) (start : Map) (a b : BoardState) (end : WordEnd) : Type 0 where
   pub kept : Goes shape a b (KeptTask task a.read_faults b.read_faults shape frames start)
+  pub rests : only_asks task ≡ true → RestsFlash a b
   pub ends : EndsBy task shape frames start a b end
   pub used : end ≡ Worn → roots b ≤ roots a + most_roots task
   pub input : KeepsInput a b
