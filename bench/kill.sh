@@ -34,7 +34,8 @@ class Drive:
         self.image = f'{folder}/{name}.img'
         self.keys = [b'key%02d' % i for i in range(keys)]
         self.longest, self.pages = longest, pages       # of a value, and of all blocks for values
-        self.map, self.stored, self.commands, self.inside, self.most = {}, 0, 0, 0, 0.0
+        self.map, self.stored, self.commands, self.kills, self.inside = {}, 0, 0, 0, 0
+        self.most = None                                # how long a session takes that is not killed
 
     def command(self):                                  # its bytes, and what it makes of a map
         draw = random.random()
@@ -80,9 +81,10 @@ class Drive:
         maps = [self.map]                               # behind so many commands
         for _, makes, _ in made:
             maps.append(makes(maps[-1]))
-        records, was_killed, spent = self.serve(b''.join(bytes for bytes, _, _ in made), random.random() * max(0.01, 1.2 * self.most))
+        seconds = 60 if self.most is None else random.random() * 1.3 * self.most
+        records, was_killed, spent = self.serve(b''.join(bytes for bytes, _, _ in made), seconds)
         if not was_killed:
-            self.most = max(self.most, spent)
+            self.most = spent if self.most is None else (self.most + spent) / 2
         told = -(-len(records) // RECORD)
         found = self.held()
         if found not in maps[told:]:
@@ -91,6 +93,7 @@ class Drive:
         self.map = found
         self.commands += kept
         self.stored += sum(pages for _, _, pages in made[:kept])
+        self.kills += was_killed
         self.inside += was_killed and 0 < kept < len(made)
 
 random.seed(times)
@@ -98,7 +101,7 @@ drives = [Drive('small', 10, 480, 2 * 8), Drive('worked', 60, 2016, 42 * 16)]
 for number in range(times):
     drives[number % 2].trial(number)
 for drive in drives:
-    print(f'{drive.image.split("/")[-1]}: {drive.commands} commands were kept, {drive.inside} kills were between two of them; '
-          f'their values took {drive.stored} pages of a drive that has {drive.pages} for values')
-print(f'{times} kills: behind each the image held every command whose record had come out')
+    print(f'{drive.image.split("/")[-1]}: {drive.kills} kills, {drive.inside} of them between the first and the last command; {drive.commands} '
+          f'commands were kept, and their values took {drive.stored} pages, on a drive that has {drive.pages} for values')
+print(f'{times} sessions: behind each the image held every command whose record had come out')
 PY

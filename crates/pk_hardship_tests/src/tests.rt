@@ -87,3 +87,18 @@ fn three_deep_of_wide_pages(rt: HostRuntime) -> Result<(), Fail> {
 fn three_deep_of_long_blocks(rt: HostRuntime) -> Result<(), Fail> {
     pk_hardships::deep::three_deep::<Pink>(rt.alloc(), &SHAPES[2])
 }
+
+#[test]
+fn each_call_of_a_reclaim(rt: HostRuntime) -> Result<(), Fail> {
+    pk_hardships::failing::each_call::<Pink>(rt.alloc(), &SHAPES[0])
+}
+
+#[test]
+fn each_call_with_wide_pages(rt: HostRuntime) -> Result<(), Fail> {
+    pk_hardships::failing::each_call::<Pink>(rt.alloc(), &SHAPES[1])
+}
+
+#[test]
+fn each_call_with_long_blocks(rt: HostRuntime) -> Result<(), Fail> {
+    pk_hardships::failing::each_call::<Pink>(rt.alloc(), &SHAPES[2])
+}

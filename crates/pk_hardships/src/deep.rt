@@ -26,10 +26,10 @@ const ROOM: Room = Room {
 /// Stores fill the two blocks that values may have.
 #[derive(Clone, Copy)]
 pub struct Few {
-    words: [&'static str; 4],
-    numbers: [u32; 3],
-    keys: u32,
-    stores: u32,
+    pub words: [&'static str; 4],
+    pub numbers: [u32; 3],
+    pub keys: u32,
+    pub stores: u32,
 }
 
 /// The three smallest shapes.
@@ -54,28 +54,30 @@ pub const SHAPES: [Few; 3] = [
     },
 ];
 
-/// What a session is to find: these first bytes of the values of all keys, or the same but for one key, of which this is known to be.
+/// What a session is to find: these first bytes of the values of all keys, or the same but for one key, which has this one, and surely
+/// where that was told.
 #[derive(Drop)]
-struct Before {
-    held: Vec<u8>,
-    key: u32,
-    first: u8,
-    is_told: bool,
+pub struct Before {
+    pub held: Vec<u8>,
+    pub key: u32,
+    pub first: u8,
+    pub is_told: bool,
 }
 
 /// A session behind its end: what it found, and its board.
 #[derive(Drop)]
-struct Behind {
-    found: Vec<u8>,
-    flash: Flash,
+pub struct Behind {
+    pub found: Vec<u8>,
+    pub flash: Flash,
 }
 
-// The value that the session with this number stores, under the key with this number.
-fn stored(number: u32) -> u8 {
+/// The first byte of what the session with this number stores, under the key with this number.
+pub fn stored(number: u32) -> u8 {
     value_of(OTHER.saturating_add(number)).first
 }
 
-fn served<P: Program>(
+/// A board of this shape with these pages and this input.
+pub fn few_board(
     alloc: Global,
     few: &Few,
     pages: Vec<PageState>,
@@ -85,7 +87,16 @@ fn served<P: Program>(
     let shape = Shape::new(page_bytes, block_pages, blocks)
         .ok()
         .ok_or("a shape")?;
-    let mut flash = board_in(alloc, shape, pages, script, ROOM)?;
+    board_in(alloc, shape, pages, script, ROOM)
+}
+
+fn served<P: Program>(
+    alloc: Global,
+    few: &Few,
+    pages: Vec<PageState>,
+    script: Vec<u8>,
+) -> Result<Flash, Fail> {
+    let mut flash = few_board(alloc, few, pages, script)?;
     same(serve::<P>(alloc, &mut flash), 0, "the status")?;
     Ok(flash)
 }
@@ -107,19 +118,24 @@ fn is_found(before: &Before, found: &[u8]) -> bool {
     true
 }
 
-// The session with this number on these pages: it retrieves each key, and overwrites the one with this number.
-fn session<P: Program>(
+/// The script of the session with this number: it retrieves each key, and overwrites the one with this number.
+pub fn commands(alloc: Global, few: &Few, number: u32) -> Result<Vec<u8>, AllocError> {
+    let mut script = Vec::new(alloc);
+    push_retrieves(&mut script, few.keys)?;
+    push_store(&mut script, number, &value_of(OTHER.saturating_add(number)))?;
+    push_plain(&mut script, FLUSH, 0)?;
+    Ok(script)
+}
+
+/// That session on these pages.
+pub fn session<P: Program>(
     alloc: Global,
     few: &Few,
     pages: Vec<PageState>,
     before: &Before,
     number: u32,
 ) -> Result<Behind, Fail> {
-    let mut script = Vec::new(alloc);
-    push_retrieves(&mut script, few.keys)?;
-    push_store(&mut script, number, &value_of(OTHER.saturating_add(number)))?;
-    push_plain(&mut script, FLUSH, 0)?;
-    let flash = served::<P>(alloc, few, pages, script)?;
+    let flash = served::<P>(alloc, few, pages, commands(alloc, few, number)?)?;
     let found = firsts(alloc, flash.posted(), 0, few.keys)?;
     holds(
         is_found(before, &found),
@@ -223,8 +239,8 @@ fn check_second<P: Program>(
     Ok(cuts)
 }
 
-// The pages of the full drive, and what it holds.
-fn full<P: Program>(alloc: Global, few: &Few) -> Result<(Vec<PageState>, Before), Fail> {
+/// The board of the full drive, and what it holds.
+pub fn full<P: Program>(alloc: Global, few: &Few) -> Result<(Flash, Before), Fail> {
     let mut script = Vec::new(alloc);
     push_stores(&mut script, few.keys, 0, few.stores)?;
     let flash = served::<P>(alloc, few, made::<P>(alloc, &few.words)?, script)?;
@@ -234,13 +250,13 @@ fn full<P: Program>(alloc: Global, few: &Few) -> Result<(Vec<PageState>, Before)
         first: 0,
         is_told: false,
     };
-    Ok((pages_left(alloc, &flash)?, before))
+    Ok((flash, before))
 }
 
 // Cuts three sessions off, one behind the other: each at every mark, the first two in one way by turns or in all, and the third in all.
 fn check<P: Program>(alloc: Global, few: &Few, all: bool) -> Result<u32, Fail> {
-    let (pages, before) = full::<P>(alloc, few)?;
-    let first = session::<P>(alloc, few, pages, &before, 1)?;
+    let (drive, before) = full::<P>(alloc, few)?;
+    let first = session::<P>(alloc, few, pages_left(alloc, &drive)?, &before, 1)?;
     // a root, the copies, the page of their moves, the value and the page of its entry
     holds(
         first.flash.program_count() >= 6,

@@ -6,6 +6,7 @@
 
 pub mod calls;
 pub mod deep;
+pub mod failing;
 pub mod large;
 mod opened;
 mod plain;
