@@ -1,15 +1,9 @@
 #!/bin/sh
-<<<<<<< HEAD
-# Runs a trial of whole sessions that goes on for longer than the gate gives a test: the first reclaim of a full drive of 64 blocks, cut
-# off at every mark, in three ways each and four of an erase; and of the cuts of the session behind each, of every mark in the same ways,
-# one of every EVERY, where the next cut goes on. It prints how many cuts there were of the first session and of those behind it. It works
-# on a copy of the sources, which `rt try` compiles with checks. It proves nothing and is no part of the gate.
-=======
 # Runs trials of whole sessions that take longer than the gate gives a test: the first reclaim of a full drive of 64 blocks, cut off at
-# every mark, and behind each cut a session that is cut off at every mark as well; and on the three smallest shapes three sessions one
-# behind the other, each of which begins with a reclaim and a freeze inside it and is cut off at every mark in all ways. It works on a
-# copy of the sources. It proves nothing and is no part of the gate.
->>>>>>> 3bae77b9645f874fdef8621b9d463066f71f73fe
+# every mark, in three ways each and four of an erase, and of the cuts of the session behind each one of every EVERY, where the next cut
+# goes on; and on the three smallest shapes three sessions one behind the other, each of which begins with a reclaim and a freeze inside
+# it and is cut off at every mark in all ways. It prints how many cuts there were of the first session and of those behind it. It works
+# on a copy of the sources, which `rt try` compiles with checks. It proves nothing and is no part of the gate.
 #
 #   bench/long.sh [EVERY [SECONDS]]       every 8th cut and at most 7,200 seconds where no number is named; 1 makes all cuts
 set -eu
@@ -35,21 +29,8 @@ for crate in "$top"/crates/*/; do
         [ ! -d "$crate$part" ] || cp -r "$crate$part" "$folder/crates/$name/"
     done
 done
-<<<<<<< HEAD
-cat > "$folder/crates/pk_trials/src/lib.rt" <<'RT'
-//! The trial that takes long.
-#![tactic(auto)]
-
-#[cfg(test)]
-mod tests;
-RT
-rm -f "$folder/crates/pk_trials/src/machine.rt" "$folder/crates/pk_trials/src/image.rt"
-cat > "$folder/crates/pk_trials/src/tests.rt" <<RT
-//! The test of the long trial.
-=======
-cat > "$folder/crates/pk_hardship_tests/src/tests.rt" <<'RT'
+cat > "$folder/crates/pk_hardship_tests/src/tests.rt" <<RT
 //! One test for each long trial.
->>>>>>> 3bae77b9645f874fdef8621b9d463066f71f73fe
 
 use pk_flash::Flash;
 use pk_hardships::deep::SHAPES;
@@ -82,10 +63,5 @@ fn three_deep_in_all_ways(rt: HostRuntime) -> Result<(), Fail> {
     Ok(())
 }
 RT
-<<<<<<< HEAD
-cd "$folder/crates/pk_trials"
-rt try --test --seconds "$seconds"
-=======
 cd "$folder/crates/pk_hardship_tests"
-rt try --test --seconds "${1:-7200}"
->>>>>>> 3bae77b9645f874fdef8621b9d463066f71f73fe
+rt try --test --seconds "$seconds"
