@@ -102,3 +102,8 @@ fn each_call_with_wide_pages(rt: HostRuntime) -> Result<(), Fail> {
 fn each_call_with_long_blocks(rt: HostRuntime) -> Result<(), Fail> {
     pk_hardships::failing::each_call::<Pink>(rt.alloc(), &SHAPES[2])
 }
+
+#[test]
+fn list_that_fails(rt: HostRuntime) -> Result<(), Fail> {
+    pk_hardships::listing::later_commands_fail::<Pink>(rt.alloc())
+}

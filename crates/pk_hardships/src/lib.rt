@@ -4,10 +4,12 @@
 //! As in `pk_sessions` the program is a parameter. What a damaged flash holds is read plainly, by no part of the program.
 #![tactic(auto)]
 
+pub mod bounds;
 pub mod calls;
 pub mod deep;
 pub mod failing;
 pub mod large;
+pub mod listing;
 mod opened;
 mod plain;
 mod reading;

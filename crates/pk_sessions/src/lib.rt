@@ -6,7 +6,6 @@
 #![tactic(auto)]
 
 pub mod boards;
-pub mod bounds;
 pub mod cuts;
 pub mod damage;
 pub mod ends;
@@ -14,7 +13,6 @@ pub mod erases;
 pub mod faults;
 pub mod freezes;
 mod layered;
-pub mod listing;
 pub mod merges;
 pub mod overwritten;
 pub mod pages;

@@ -256,11 +256,6 @@ fn words_that_fail(rt: HostRuntime) -> Result<(), Fail> {
 }
 
 #[test]
-fn list_that_fails(rt: HostRuntime) -> Result<(), Fail> {
-    pk_sessions::listing::later_commands_fail::<Pink>(rt.alloc())
-}
-
-#[test]
 fn words_on_a_torn_value(rt: HostRuntime) -> Result<(), Fail> {
     pk_sessions::words::torn::<Pink>(rt.alloc())
 }

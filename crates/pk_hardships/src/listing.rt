@@ -1,11 +1,11 @@
 //! A list of more keys than one command tells: the word `list` asks again, and a later read fails.
 
-use crate::boards::{Session, board_in, made, pages_left, serve};
-use crate::tried::{Program, holds, same};
 use pk_base::Shape;
 use pk_flash::{Flash, Left, Room};
 use pk_nand::PageState;
 use pk_nvme::Request;
+use pk_sessions::boards::{Session, board_in, made, pages_left, serve};
+use pk_sessions::{Program, holds, same};
 use std::alloc::{AllocError, Global};
 use std::test::*;
 
@@ -96,9 +96,9 @@ fn lines_and_failure(alloc: Global, count: u32) -> Result<Vec<u8>, AllocError> {
     Ok(lines)
 }
 
-/// A list asks three times: for the first keys, for the others, and whether one is behind them. It tells what it finds each time. Where a
-/// read of the second command fails, the keys of the first one are told, and that a command failed; and so with all keys and the third
-/// one. Where a post fails, nothing is told any more.
+/// A list asks three times: for the first keys, for the others, and whether one is behind them; and it tells what it finds each time. Each
+/// of its last calls fails in turn. Behind a read of the second command that fails the keys of the first one are told, and that a command
+/// failed; and behind a post that fails nothing is told any more.
 pub fn later_commands_fail<P: Program>(alloc: Global) -> Result<(), Fail> {
     let filled = filled::<P>(alloc)?;
     let whole = listed::<P>(alloc, pages_left(alloc, &filled)?, None)?;
@@ -112,16 +112,20 @@ pub fn later_commands_fail<P: Program>(alloc: Global) -> Result<(), Fail> {
     same(whole.flash.marks(), 3, "posts")?;
     let calls = whole.flash.read_count().saturating_add(3);
     let first = lines(alloc, TOLD)?;
+    let first_failed = lines_and_failure(alloc, 0)?;
     let second_failed = lines_and_failure(alloc, TOLD)?;
     let third_failed = lines_and_failure(alloc, KEYS)?;
-    let mut seen = [0u32; 4];
+    // how often each end is seen: reads that fail in each command, and the three posts
+    let mut seen = [0u32; 6];
     for back in 1..13u64 {
         let call = calls.saturating_sub(back);
         let done = listed::<P>(alloc, pages_left(alloc, &filled)?, Some(call))?;
         let posted = done.flash.posted();
         let ends = [
-            (0u8, second_failed.as_slice()),
+            (0u8, first_failed.as_slice()),
+            (0, second_failed.as_slice()),
             (0, third_failed.as_slice()),
+            (5, b"".as_slice()),
             (5, first.as_slice()),
             (5, all.as_slice()),
         ];
@@ -138,7 +142,8 @@ pub fn later_commands_fail<P: Program>(alloc: Global) -> Result<(), Fail> {
         )?;
     }
     holds(
-        seen[0] > 0 && seen[1] > 0 && seen[2] == 1 && seen[3] == 1,
-        format_args!("{seen:?}"),
-    )
+        seen[0] > 0 && seen[1] > 0,
+        format_args!("{} and {} reads", seen[0], seen[1]),
+    )?;
+    same([seen[3], seen[4], seen[5]], [1, 1, 1], "posts that fail")
 }

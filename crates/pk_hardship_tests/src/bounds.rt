@@ -22,7 +22,7 @@ fn most_work(rt: HostRuntime) -> Result<(), Fail> {
         let shape = Shape::new(page_bytes, block_pages, blocks)
             .ok()
             .ok_or("a shape")?;
-        let most = pk_sessions::bounds::most_work::<Pink>(rt.alloc(), &make, shape)?;
+        let most = pk_hardships::bounds::most_work::<Pink>(rt.alloc(), &make, shape)?;
         println!(rt;
             "{page_bytes} {block_pages} {blocks}: greatest {} of {calls}, steps {} of {steps}",
             most.calls, most.steps

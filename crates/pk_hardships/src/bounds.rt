@@ -3,14 +3,14 @@
 //! A command's record tells its reads, and the board's trail has its programs and erases before the post of that record. With the one
 //! program of its commit they are counted together: a Flush follows each command, so that its record is not held.
 
-use crate::boards::{board_in, made, pages_left, serve_with};
-use crate::overwritten::record_at;
-use crate::script::entry;
-use crate::tried::{Program, holds, same};
 use pk_base::Shape;
 use pk_flash::{Flash, Room};
 use pk_nand::{Mark, PageState};
 use pk_nvme::Request;
+use pk_sessions::boards::{board_in, made, pages_left, serve_with};
+use pk_sessions::overwritten::record_at;
+use pk_sessions::script::entry;
+use pk_sessions::{Program, holds, same};
 use std::alloc::{AllocError, Global};
 use std::test::*;
 
@@ -18,9 +18,9 @@ use std::test::*;
 // session.
 const MANY: u32 = 2_600;
 
-const FEW: u32 = 40;
+const FEW: u32 = 16;
 
-const SESSIONS: u32 = 40;
+const SESSIONS: u32 = 100;
 
 // Background steps behind the commands of a session, one command each.
 const STEPS: u32 = 600;
@@ -190,7 +190,7 @@ fn bounds(shape: &Shape) -> Most {
 
 /// What is seen of a drive of this shape, which these words make, without frames, under three workloads. No command makes more calls than
 /// the bound, to a tenth of which a merge into each run, a freeze and a reclaim in one command come; and no more steps lead to rest than
-/// the bound of them, to a fortieth of which the steps come.
+/// the bound of them, and at least as many as there are blocks.
 pub fn most_work<P: Program>(alloc: Global, make: &[&str], shape: Shape) -> Result<Most, Fail> {
     let mut most = bounds(&shape);
     let mut pages = made::<P>(alloc, make)?;
@@ -211,7 +211,7 @@ pub fn most_work<P: Program>(alloc: Global, make: &[&str], shape: Shape) -> Resu
         format_args!("{} calls of {}", most.calls, most.calls_bound),
     )?;
     holds(
-        most.steps <= most.steps_bound && most.steps >= most.steps_bound / 40,
+        most.steps <= most.steps_bound && most.steps >= shape.blocks(),
         format_args!("{} steps of {}", most.steps, most.steps_bound),
     )?;
     holds(most.full > 0, "a full drive")?;
