@@ -78,7 +78,7 @@ fn may_be(shape: &Shape, first: u32, len: u32) -> bool {
         && len <= shape.greatest()
         && first < shape.page_count()
         && first / count >= 2
-        && u64::from(first % count) + pages_of(shape, len) <= u64::from(count)
+        && pages_of(shape, len).saturating_add(u64::from(first % count)) <= u64::from(count)
 }
 
 /// How many pages a value of so many bytes has.
