@@ -216,6 +216,16 @@ fn every_cut_of_merges(rt: HostRuntime) -> Result<(), Fail> {
 }
 
 #[test]
+fn freezes(rt: HostRuntime) -> Result<(), Fail> {
+    pk_sessions::freezes::every_cut::<Pink>(rt.alloc())
+}
+
+#[test]
+fn freezes_behind_merges(rt: HostRuntime) -> Result<(), Fail> {
+    pk_sessions::freezes::every_cut_behind_merges::<Pink>(rt.alloc())
+}
+
+#[test]
 fn full_drive(rt: HostRuntime) -> Result<(), Fail> {
     pk_sessions::space::full_drive::<Pink>(rt.alloc())
 }
