@@ -9,7 +9,9 @@ use Rattle.pk_nvme.specs.Command.{Command}
 use Rattle.pk_nand.specs.BoardState.{BoardState}
 use Rattle.pk_nand.specs.Calls.{Rose, Loaded}
 use Rattle.pk_nand.specs.Effects.{OnlyReading}
+use Rattle.pk_nand.specs.Resting.{RestsFlash}
 use Rattle.pk_nand.proofs.Reaching.{Reached-start, Went-reached}
+use Rattle.pk_nand.proofs.Resting.{Rests-start}
 use Rattle.pk_model.specs.Growth.{Goes}
 use Rattle.pk_model.specs.Kept.{Kept, rise}
 use Rattle.pk_model.specs.Reading.{reading, Holds}
@@ -70,9 +72,19 @@ module _ (task : Task) (shape : Shape) (loaded new : BoardState) where
     tt,
   )
 
+  rests-reading : OnlyReading loaded new → RestsFlash loaded new
+  rests-reading only = Rests-start loaded new (ap (λ (s : BoardState). s.shape) only) (ap (λ (s : BoardState). s.pages) only) (ap (λ (s : BoardState). s.trail) only) (ap (λ (s : BoardState). s.posted) only)
+
+  -- the reads of opening leave the flash
+  rests-opened : RestsFlash (behind_opening shape word_frames loaded) new → RestsFlash loaded new
+  rests-opened r = record {
+    marks = r.marks;
+    reached = record { trail = r.reached.trail; posted = r.reached.posted; same_shape = r.reached.same_shape; cuts = r.reached.cuts; stands = r.reached.stands };
+  }
+
   -- the drive was not opened
   pub Asks-not : (status : ℕ) (error : OpenError) → status ≡ open_status error → NotOpened shape loaded new error → OnlyReading loaded new → Asks task shape loaded new status
-  Asks-not status error tells reason only = record { kept = keeps-none only; outcome = inl (record { error = error; tells = tells; reason = reason; only_reads = only }) }
+  Asks-not status error tells reason only = record { kept = keeps-none only; rests = λ _. rests-reading only; outcome = inl (record { error = error; tells = tells; reason = reason; only_reads = only }) }
 
   -- it was
   module _ (drive : Sight) (start : Map) (stands : HoldsMap shape word_frames (behind_opening shape word_frames loaded) drive start) (none : drive.pending ≡ []) where
@@ -100,6 +112,7 @@ module _ (task : Task) (shape : Shape) (loaded new : BoardState) where
         },
         told.kept.2,
       );
+      rests = λ only. rests-opened (told.rests only);
       outcome = inr (end, tells, record { start = start; holds = start-held; ends = told.ends; used = told.used });
     }
 

@@ -1,11 +1,13 @@
 -- Which runs leave the flash alone.
-use Rattle.std.proofs.Common.{◌≡◌, inl, inr, ℕ, List, Option, Some, None, IsSome, sym, ◌∙◌, ap}
+use Rattle.std.proofs.Common.{◌≡◌, inl, inr, ℕ, List, Option, Some, None, IsSome, sym, ◌∙◌, ap, true}
 use Rattle.pk_base.specs.Shape.{Shape}
 use Rattle.pk_nand.specs.BoardState.{BoardState}
 use Rattle.pk_nand.specs.Calls.{Loaded, LoadFailed}
 use Rattle.pk_nand.specs.Resting.{RestsFlash}
-use Rattle.pk_nand.proofs.Resting.{Rests-same, Rests-start}
+use Rattle.pk_nand.proofs.Resting.{Rests-same, Rests-start, Rests-then}
 use Rattle.pk_text.specs.Written.{Written}
+use Rattle.pk_wordrun.specs.Tasks.{Task, only_asks}
+use Rattle.pk_top.specs.Asks.{AskRun}
 use Rattle.pk_top.specs.Makes.{MakeRun}
 use Rattle.pk_top.specs.TextRuns.{TextRun}
 use Rattle.pk_top.specs.Resting.{RestsIn, Rests}
@@ -15,7 +17,7 @@ use Rattle.pk_top.specs.Words.{Word, make, serve, ask, assemble, show}
 pub rests-same_word : (word : Word) (old new : BoardState) → new ≡ old → RestsIn word old new
 rests-same_word (make shape) old new same = λ some. Rests-same old new same
 rests-same_word (serve frames) old new same = tt
-rests-same_word (ask task) old new same = tt
+rests-same_word (ask task) old new same = λ only some. Rests-same old new same
 rests-same_word assemble old new same = Rests-same old new same
 rests-same_word show old new same = Rests-same old new same
 
@@ -38,6 +40,14 @@ pub rests-refused : (old new : BoardState) → IsSome old.shape → LoadFailed o
 rests-refused old new some l =
     let held = l.held some in
     Rests-start old new held.1 held.0 (ap (λ s. s.trail) l.rest) (ap (λ s. s.posted) l.rest)
+
+-- a word only asked
+pub rests-ask : (task : Task) (old new : BoardState) (status : ℕ) → AskRun task old new status → only_asks task ≡ true → IsSome old.shape → RestsFlash old new
+rests-ask task old new status (inl none) only some = Rests-same old new none.1
+rests-ask task old new status (inr (inl refused)) only some = rests-refused old new some refused.failed
+rests-ask task old new status (inr (inr (inl missing))) only some = rests-loaded old new None some missing.1
+rests-ask task old new status (inr (inr (inr run))) only some =
+    Rests-then old run.loaded new (run.found.held some).0 (rests-loaded old run.loaded (Some run.shape) some run.found) (run.asks.rests only)
 
 -- an image is there
 pub rests-make : (shape : Shape) (old new : BoardState) (status : ℕ) → MakeRun shape old new status → IsSome old.shape → RestsFlash old new

@@ -1,15 +1,16 @@
 -- A run of a word that asks the drive: a session of one word.
-use Rattle.std.specs.Prelude.{◌≡◌, ◌⊎◌, ℕ, ◌+◌, ◌<◌, ◌≤◌, List, Some, None}
+use Rattle.std.specs.Prelude.{◌≡◌, ◌⊎◌, ℕ, ◌+◌, ◌<◌, ◌≤◌, List, Some, None, true}
 use Rattle.pk_base.specs.Shape.{Shape}
 use Rattle.pk_base.specs.Page.{Flash}
 use Rattle.pk_base.specs.Map.{Map}
 use Rattle.pk_nand.specs.BoardState.{BoardState}
 use Rattle.pk_nand.specs.Calls.{Rose, Loaded}
+use Rattle.pk_nand.specs.Resting.{RestsFlash}
 use Rattle.pk_model.specs.Growth.{Goes}
 use Rattle.pk_model.specs.Reading.{Holds}
 use Rattle.pk_model.specs.Wear.{roots}
 use Rattle.pk_serve.specs.Complete.{NoneRose}
-use Rattle.pk_wordrun.specs.Tasks.{Task, SaysTask, KeptTask}
+use Rattle.pk_wordrun.specs.Tasks.{Task, only_asks, SaysTask, KeptTask}
 use Rattle.pk_wordrun.specs.Told.{EndsBy, Finished, most_roots}
 use Rattle.pk_wordrun.specs.declared.end.WordEnd.{WordEnd}
 use Rattle.pk_wordrun.specs.declared.end.WordEnd.TheVariants.{Done, Output, Flash as FlashFailed, Worn}
@@ -42,9 +43,10 @@ pub record AskedTo (task : Task) (shape : Shape) (loaded new : BoardState) (end 
   pub ends : EndsBy task shape word_frames start (behind_opening shape word_frames loaded) new end
   pub used : end ≡ Worn → roots new ≤ roots loaded + most_roots task
 
--- What was done on an image of this shape, from its load on.
+-- What was done on an image of this shape, from its load on. A word that only asks leaves each page.
 pub record Asks (task : Task) (shape : Shape) (loaded new : BoardState) (status : ℕ) : Type 0 where
   pub kept : KeepsTask task shape loaded new
+  pub rests : only_asks task ≡ true → RestsFlash loaded new
   pub outcome : NotServed shape loaded new status ⊎ ((end : WordEnd) × (status ≡ word_status end) × AskedTo task shape loaded new end)
 
 -- an image of this shape was found
