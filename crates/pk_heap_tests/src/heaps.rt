@@ -1,7 +1,7 @@
 //! Programs whose drives have a heap of so many bytes.
+ghost use Rattle.std.specs.Prelude.{◌≤◌};
 
 use linked_list_allocator::LocalHeap;
-use pk_base::Shape;
 use pk_core::{Drive, OpenError};
 use pk_flash::Flash;
 use pk_serve::{End, Server};
@@ -11,6 +11,9 @@ use std::alloc::Global;
 
 /// The status of a run that found no memory.
 pub const NO_MEMORY: u8 = 7;
+
+// The status of a run that found no drive.
+const NO_DRIVE: u8 = 8;
 
 fn of_end(end: End) -> u8 {
     match end {
@@ -25,7 +28,7 @@ fn of_end(end: End) -> u8 {
 
 fn of_open_error(error: OpenError) -> u8 {
     match error {
-        OpenError::NotFormatted | OpenError::Damaged { .. } => 8,
+        OpenError::NotFormatted | OpenError::Damaged { .. } => NO_DRIVE,
         OpenError::Fault => 6,
         OpenError::Memory => NO_MEMORY,
     }
@@ -33,7 +36,12 @@ fn of_open_error(error: OpenError) -> u8 {
 
 // Opens the drive over a heap of so many bytes, in which it stands itself, and serves the input. What serving needs beside the drive
 // is taken elsewhere.
-fn serve_in(alloc: Global, shape: Shape, frames: u32, bytes: usize, flash: &mut Flash) -> u8 {
+fn serve_in(alloc: Global, frames: u32, bytes: usize, flash: &mut Flash) -> u8
+    requires { frames ≤ 16384 }
+{
+    let Some(shape) = flash.shape() else {
+        return NO_DRIVE;
+    };
     let Ok(mut server) = Server::new(alloc, shape) else {
         return NO_MEMORY;
     };
@@ -52,10 +60,9 @@ fn serve_in(alloc: Global, shape: Shape, frames: u32, bytes: usize, flash: &mut 
 
 // Serves with 36 frames or none, in a heap of so many bytes; other words are the program's own.
 fn run_in(alloc: Global, words: &[&str], bytes: usize, flash: &mut Flash) -> u8 {
-    let shape = match flash.shape() {
-        Some(shape) => shape,
-        None => return run(alloc, words, flash).0,
-    };
+    if flash.shape().is_none() {
+        return run(alloc, words, flash).0;
+    }
     match words {
         [_, frames] => {
             let frames = if frames.as_bytes() == b"36".as_slice() {
@@ -63,7 +70,7 @@ fn run_in(alloc: Global, words: &[&str], bytes: usize, flash: &mut Flash) -> u8 
             } else {
                 0
             };
-            serve_in(alloc, shape, frames, bytes, flash)
+            serve_in(alloc, frames, bytes, flash)
         }
         _ => run(alloc, words, flash).0,
     }
