@@ -118,7 +118,15 @@ fn value_at(
     value.to_vec(alloc)
 }
 
-// The session on these pages has these keys and values, and nothing else.
+// The root in the first page has a number with which a drive is worn out.
+fn is_worn(pages: &[PageState]) -> bool {
+    match whole(pages, 0) {
+        Some(page) => page.get(31).copied().unwrap_or(0) >= 128,
+        None => false,
+    }
+}
+
+// The session on these pages has these keys and values, and nothing else; or the drive is worn out, and serves no command.
 fn check_map<O: Opens>(
     alloc: Global,
     shape: Shape,
@@ -129,12 +137,16 @@ fn check_map<O: Opens>(
 ) -> Result<(), Fail> {
     let script = asks(alloc, items)?;
     let mut flash = board_in(alloc, shape, copies(alloc, pages)?, script, ROOM)?;
-    same(
-        serve::<O>(alloc, &mut flash),
-        0,
-        format_args!("the status, {what} {number}"),
-    )?;
+    let status = serve::<O>(alloc, &mut flash);
     let posted = flash.posted();
+    if is_worn(pages) {
+        return same(
+            (status, posted.len()),
+            (10, 0),
+            format_args!("a worn drive, {what} {number}"),
+        );
+    }
+    same(status, 0, format_args!("the status, {what} {number}"))?;
     let list = record_at(posted, 0).ok_or("a record")?;
     same(
         posted.get(list.data..list.end()),
