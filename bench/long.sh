@@ -29,6 +29,14 @@ for crate in "$top"/crates/*/; do
         [ ! -d "$crate$part" ] || cp -r "$crate$part" "$folder/crates/$name/"
     done
 done
+rm -f "$folder/crates/pk_hardship_tests/src/bounds.rt"
+cat > "$folder/crates/pk_hardship_tests/src/lib.rt" <<'RT'
+//! The trials that take long.
+#![tactic(auto)]
+
+#[cfg(test)]
+mod tests;
+RT
 cat > "$folder/crates/pk_hardship_tests/src/tests.rt" <<RT
 //! One test for each long trial.
 
