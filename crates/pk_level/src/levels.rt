@@ -40,9 +40,17 @@ impl<A: Allocator> Model for Levels<A> {
 
     ghost Value = { spec.Levels };
 
-    ghost view = { λ l. record { shape = l.plan; pinned = l.pinned; runs = l.first ∷ l.second ∷ l.third ∷ l.fourth ∷ [] } };
+    ghost view = { λ l. record {
+      shape = l.plan;
+      pinned = l.pinned;
+      runs = l.first ∷ l.second ∷ l.third ∷ l.fourth ∷ [];
+    } };
 
-    ghost invariant = { λ l. IsLevels (record { shape = l.plan; pinned = l.pinned; runs = l.first ∷ l.second ∷ l.third ∷ l.fourth ∷ [] }) };
+    ghost invariant = { λ l. IsLevels (record {
+      shape = l.plan;
+      pinned = l.pinned;
+      runs = l.first ∷ l.second ∷ l.third ∷ l.fourth ∷ [];
+    }) };
 }
 
 impl<A: Allocator + Clone> Levels<A> {
@@ -121,7 +129,8 @@ impl<A: Allocator> Levels<A> {
 
     /// The level into which the next merge goes, for so many frozen keys. None exactly where no key is frozen.
     pub fn next_merge(&self, frozen: u32) -> Option<u8>
-        ensures target { result ≡ next_merge self.now.shape frozen (map (λ r. r.count) self.now.runs) }
+        ensures target { result
+            ≡ next_merge self.now.shape frozen (map (λ r. r.count) self.now.runs) }
         ensures none { IsNone result ↔ (frozen ≡ 0) }
         ensures level { IfSome result (λ t. 1 ≤ t × t ≤ 4) }
     {

@@ -34,7 +34,8 @@ impl<A: Allocator> Model for Live<A> {
       closed = a.closed.items;
     } };
 
-    ghost invariant = { λ a. IsCounted a.block_pages a.total a.heads.items a.counts.items a.closed.items };
+    ghost invariant = { λ a. IsCounted a.block_pages a.total a.heads.items a.counts.items
+        a.closed.items };
 }
 
 impl<A: Allocator + Clone> Live<A> {

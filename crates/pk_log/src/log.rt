@@ -45,9 +45,18 @@ impl<A: Region> Model for Log<A> {
 
     ghost Value = { LogState };
 
-    ghost view = { λ l. record { shape = l.root.shape; root = l.root.root; next = l.installer; epoch = l.epoch; active = l.active; frozen = l.frozen; pending = seen_all l.pending.items } };
+    ghost view = { λ l. record {
+      shape = l.root.shape;
+      root = l.root.root;
+      next = l.installer;
+      epoch = l.epoch;
+      active = l.active;
+      frozen = l.frozen;
+      pending = seen_all l.pending.items;
+    } };
 
-    ghost invariant = { λ l. (length l.pending.items ≤ page_entries l.root.shape) × (page_entries l.root.shape ≤ vec_capacity l.pending) };
+    ghost invariant = { λ l. (length l.pending.items ≤ page_entries l.root.shape)
+        × (page_entries l.root.shape ≤ vec_capacity l.pending) };
 }
 
 // Whether the buffer is full and has no entry of the key.

@@ -50,9 +50,11 @@ pub fn run<B: Board>(alloc: Global, words: &[&str], board: &mut B) -> Status
     ensures serves { (frames : ℕ)
         → spec.word_of (map (λ w. w.now) words.now) ≡ Some (spec.serve frames)
         → ServeRun frames (B.state board.old) (B.state board.new) result.0 }
-    ensures asks { (task : Task) → spec.word_of (map (λ w. w.now) words.now) ≡ Some (spec.ask task)
+    ensures asks { (task : Task)
+        → spec.word_of (map (λ w. w.now) words.now) ≡ Some (spec.ask task)
         → AskRun task (B.state board.old) (B.state board.new) result.0 }
-    ensures asks_whole { (task : Task) → spec.word_of (map (λ w. w.now) words.now) ≡ Some (spec.ask task)
+    ensures asks_whole { (task : Task)
+        → spec.word_of (map (λ w. w.now) words.now) ≡ Some (spec.ask task)
         → AsksWhole task (B.state board.old) (B.state board.new) result.0 }
     ensures serves_whole { (frames : ℕ)
         → spec.word_of (map (λ w. w.now) words.now) ≡ Some (spec.serve frames)

@@ -124,21 +124,24 @@ fn only_key(operands: &[&str]) -> Option<Key>
 
 fn get(operands: &[&str]) -> Option<Word>
     ensures { option_map seen result
-        ≡ option_map (λ key. spec.question (get key)) (spec.only_key (map (λ w. w.now) operands.now)) }
+        ≡ option_map (λ key. spec.question (get key))
+        (spec.only_key (map (λ w. w.now) operands.now)) }
 {
     Some(question(Question::Get(only_key(operands)?)))
 }
 
 fn delete(operands: &[&str]) -> Option<Word>
     ensures { option_map seen result
-        ≡ option_map (λ key. spec.question (delete key)) (spec.only_key (map (λ w. w.now) operands.now)) }
+        ≡ option_map (λ key. spec.question (delete key))
+        (spec.only_key (map (λ w. w.now) operands.now)) }
 {
     Some(question(Question::Delete(only_key(operands)?)))
 }
 
 fn has(operands: &[&str]) -> Option<Word>
     ensures { option_map seen result
-        ≡ option_map (λ key. spec.question (has key)) (spec.only_key (map (λ w. w.now) operands.now)) }
+        ≡ option_map (λ key. spec.question (has key))
+        (spec.only_key (map (λ w. w.now) operands.now)) }
 {
     Some(question(Question::Has(only_key(operands)?)))
 }
