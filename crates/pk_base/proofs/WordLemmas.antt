@@ -1,4 +1,4 @@
--- Equally long strings of bytes stand to each other as the numbers that they spell, the highest byte first.
+-- Equally long strings of bytes stand to each other as the big-endian numbers that they spell.
 use Rattle.std.proofs.Common.{◌≡◌, ℕ, zero, suc, ◌+◌, ◌*◌, ◌^◌, ◌<◌, ◌≤◌, List, [], ◌∷◌, length, get_or, refl, arith}
 use Rattle.std.proofs.Math.Nat.{add-mul, mul-le-mul_right}
 use Rattle.std.proofs.lemmas.Cmp.{ranked}
@@ -18,8 +18,10 @@ lower p x y u v h fits =
     omega arith
 
 -- a digit in front decides, unless both are the same
-digit_first : (p x y u v : ℕ) (o r : Ordering) → u < p → v < p → MatchOrdering o (x < y) (x ≡ y) (y < x) → MatchOrdering r (u < v) (u ≡ v) (v < u)
-    → MatchOrdering (ordering_then o r) (x * p + u < y * p + v) (x * p + u ≡ y * p + v) (y * p + v < x * p + u)
+digit_first : (p x y u v : ℕ) (o r : Ordering) → u < p → v < p
+    → MatchOrdering o (x < y) (x ≡ y) (y < x) → MatchOrdering r (u < v) (u ≡ v) (v < u)
+    → MatchOrdering (ordering_then o r) (x * p + u < y * p + v) (x * p + u ≡ y * p + v)
+    (y * p + v < x * p + u)
 digit_first p x y u v Less r low high digits rest = lower p x y u v digits low
 digit_first p x y u v Equal Less low high digits rest = rw digits (omega arith)
 digit_first p x y u v Equal Equal low high digits rest = rw digits (omega arith)
@@ -27,7 +29,8 @@ digit_first p x y u v Equal Greater low high digits rest = rw digits (omega arit
 digit_first p x y u v Greater r low high digits rest = lower p y x v u digits high
 
 -- strings of n bytes stand to each other as their numbers
-pub number_order : (n : ℕ) (xs ys : List ℕ) → length xs ≡ n → length ys ≡ n → ((i : ℕ) → get_or xs i 0 < 256) → ((i : ℕ) → get_or ys i 0 < 256)
+pub number_order : (n : ℕ) (xs ys : List ℕ) → length xs ≡ n → length ys ≡ n
+    → ((i : ℕ) → get_or xs i 0 < 256) → ((i : ℕ) → get_or ys i 0 < 256)
     → slice_cmp nat_cmp xs ys ≡ nat_cmp (big_number n xs) (big_number n ys)
 number_order zero [] [] xn yn xfit yfit = refl
 number_order zero [] (y ∷ ys) xn yn xfit yfit = absurd (omega (arith, yn))
@@ -37,8 +40,15 @@ number_order (suc n) (x ∷ xs) [] xn yn xfit yfit = absurd (omega (arith, yn))
 number_order (suc n) (x ∷ xs) (y ∷ ys) xn yn xfit yfit =
     let xrest : ℕ = big_number n xs in
     let yrest : ℕ = big_number n ys in
-    let same = number_order n xs ys (omega (arith, xn)) (omega (arith, yn)) (λ i. xfit (suc i)) (λ i. yfit (suc i)) in
-    let low = big_from-lt 0 n xs (λ i. xfit (suc i)) in
-    let high = big_from-lt 0 n ys (λ i. yfit (suc i)) in
-    let both = digit_first (256 ^ n) x y xrest yrest (nat_cmp x y) (nat_cmp xrest yrest) low high (ranked x y (nat_cmp x y) refl) (ranked xrest yrest (nat_cmp xrest yrest) refl) in
-    rw (big_from-cons 0 n x xs, big_from-cons 0 n y ys, same) (nat_cmp_is (x * 256 ^ n + xrest) (y * 256 ^ n + yrest) (ordering_then (nat_cmp x y) (nat_cmp xrest yrest)) both)
+    let xsmall = λ (i : ℕ). xfit (suc i) in
+    let ysmall = λ (i : ℕ). yfit (suc i) in
+    let same = number_order n xs ys (omega (arith, xn)) (omega (arith, yn)) xsmall ysmall in
+    let low = big_from-lt 0 n xs xsmall in
+    let high = big_from-lt 0 n ys ysmall in
+    let first = ranked x y (nat_cmp x y) refl in
+    let rest = ranked xrest yrest (nat_cmp xrest yrest) refl in
+    let o : Ordering = nat_cmp x y in
+    let r : Ordering = nat_cmp xrest yrest in
+    let both = digit_first (256 ^ n) x y xrest yrest o r low high first rest in
+    rw (big_from-cons 0 n x xs, big_from-cons 0 n y ys, same)
+    (nat_cmp_is (x * 256 ^ n + xrest) (y * 256 ^ n + yrest) (ordering_then o r) both)

@@ -1,17 +1,20 @@
 -- Boards that are read.
-use Rattle.std.proofs.Common.{◌≡◌, ◌<◌, ◌≤◌, ◌+◌, ◌-◌, ◌*◌, ℕ, zero, suc, List, [], ◌∷◌, ◌++◌, length, take, drop, refl, sym, ◌∙◌, ap, subst, arith}
+use Rattle.std.proofs.Common.{◌≡◌, ◌<◌, ◌≤◌, ◌+◌, ◌-◌, ◌*◌, ℕ, zero, suc, List, [], ◌∷◌, ◌++◌, length, length-drop, take, drop, refl, sym, ◌∙◌, ap, subst, arith}
 use Rattle.std.specs.Prelude.{min}
-use Rattle.std.proofs.lemmas.List.{take_all}
+use Rattle.std.proofs.Math.Nat.{add-mul, mul-le-mul_right}
+use Rattle.std.proofs.lemmas.List.{take_all, length-take-le}
+use Rattle.std.proofs.lemmas.Slice.{take-put_mid}
+use borrow.Rule.Slice.PartMut.{put_mid}
 use Rattle.pk_base.specs.Key.{Key}
 use Rattle.pk_base.specs.Shape.{Shape, IsShape, fetched}
-use Rattle.pk_base.specs.Page.{Page, Flash, page_at, whole, torn}
+use Rattle.pk_base.specs.Page.{Flash, page_at, whole, torn}
 use Rattle.pk_nand.specs.BoardState.{BoardState}
-use Rattle.pk_nand.specs.Calls.{Rose, IsReady, filled, after_read, ReadFailed}
+use Rattle.pk_nand.specs.Calls.{IsReady, after_read, ReadFailed}
 use Rattle.pk_segfmt.specs.Value.{value_bytes}
 use Rattle.pk_segfmt.specs.Stored.{page_of}
 use Rattle.pk_nand.specs.Erased.{after_reads}
 use Rattle.pk_seg.specs.Counts.{ReadsFailed}
-use Rattle.pk_seg.specs.Stored.{IsFront}
+use Rattle.pk_seg.specs.Stored.{IsFront, BringsPiece}
 use Rattle.pk_base.proofs.ShapeLemmas.{fetched_needed, fetched_room}
 use Rattle.pk_seg.proofs.Fronts.{front_next, value_front, fetched_within}
 
@@ -29,6 +32,33 @@ IsReady-read_failed old new shape at failed ready = record {
   shape_is = ap (λ s. s.shape) failed.rest ∙ ready.shape_is;
   flash = rw (ap (λ s. s.pages) failed.rest) ready.flash;
 }
+
+-- a page behind the first that is read at once to its place, all of it within the front
+pub straight_piece : (shape : Shape) (i at size : ℕ) (old buf bytes : List ℕ) → IsShape shape
+    → size ≡ shape.page_bytes → 0 < i → at ≡ i * size - 32 → at + size ≤ length old
+    → length buf ≡ size → buf ≡ bytes
+    → BringsPiece shape i bytes old (put_mid at (at + size - at) old buf)
+straight_piece shape i at size old buf bytes is_shape sized some place room full is =
+    let p : ℕ = shape.page_bytes in
+    let least : 512 ≤ p = is_shape.page_least in
+    let more : 1 * p ≤ i * p = mul-le-mul_right p some in
+    let next : (i + 1) * p ≡ i * p + 1 * p = add-mul i 1 p in
+    let here : at ≡ i * p - 32 = place ∙ ap (λ (k : ℕ). i * k - 32) sized in
+    let all : min (length old) ((i + 1) * p - 32) ≡ at + size =
+    omega (arith, here, sized, least, more, next, room) in
+    let none : 32 - i * p ≡ 0 = omega (arith, least, more) in
+    let fits : length bytes ≤ length old - at = omega (arith, room, full, ap length is) in
+    let end : at + size ≡ at + length buf = omega (arith, full) in
+    let put : take (at + size) (put_mid at (at + size - at) old buf) ≡ take at old ++ buf =
+    take-put_mid at (at + size - at) old buf (at + size) end (omega (arith, room)) in
+    rw (all, sym here, none, take_all (length old - at) bytes fits, sym is) put
+
+-- the place of a piece has its length
+pub length-part : (at size : ℕ) (xs : List ℕ) → at + size ≤ length xs
+    → length (take (at + size - at) (drop at xs)) ≡ size
+length-part at size xs room =
+    let within : at + size - at ≤ length (drop at xs) = omega (arith, room, length-drop at xs) in
+    length-take-le (at + size - at) (drop at xs) within ∙ omega arith
 
 -- i of the pages were read, and the front of the value that they hold is filled in
 pub record Filling (old now : BoardState) (shape : Shape) (page n i : ℕ) (into : List ℕ) : Type 0 where
@@ -55,11 +85,13 @@ abbrev Copied : List ℕ → List ℕ → ℕ → List ℕ → ℕ → ℕ → T
 Copied old new n page p i = take (min n ((i + 1) * p - 32)) new ≡ take (i * p - 32) old ++ take (n - (i * p - 32)) (drop (32 - i * p) page)
 
 -- one page more
-pub Filling-next : (old now : BoardState) (shape : Shape) (page n i : ℕ) (into new buf buf' : List ℕ) → IsShape shape → i < fetched shape n → Filling old now shape page n i into
-    → buf' ≡ filled (page_at now.pages (page + i)) buf → length buf' ≡ shape.page_bytes → length new ≡ length into
-    → take (min (length into) ((i + 1) * length buf' - 32)) new ≡ take (i * length buf' - 32) into ++ take (length into - (i * length buf' - 32)) (drop (32 - i * length buf') buf')
+pub Filling-next : (old now : BoardState) (shape : Shape) (page n i : ℕ) (into new : List ℕ)
+    → IsShape shape → i < fetched shape n → Filling old now shape page n i into
+    → length new ≡ length into
+    → ((bytes : List ℕ) → page_at now.pages (page + i) ≡ whole bytes
+    → BringsPiece shape i bytes into new)
     → Filling old (after_read now) shape page n (i + 1) new
-Filling-next old now shape page n i into new buf buf' is_shape less f read full same_len copied = record {
+Filling-next old now shape page n i into new is_shape less f same_len brings = record {
   board = let Q : ℕ → Type 0 = λ k. after_read now ≡ after_reads k old in let e : suc i ≡ i + 1 = omega arith in subst Q e (ap after_read f.board);
   len = same_len ∙ f.len;
   front = λ key value is.
@@ -67,15 +99,18 @@ Filling-next old now shape page n i into new buf buf' is_shape less f read full 
       let least : 512 ≤ p = is_shape.page_least in
       let here : page_at old.pages (page + i) ≡ whole (page_of shape key value i) = is.stored i (fetched_within shape i n (length value) is_shape less is.long) in
       let pages : now.pages ≡ old.pages = ap (λ (b : BoardState). b.pages) f.board in
-      let page_now : buf' ≡ page_of shape key value i = read ∙ ap (λ (q : Page). filled q buf) (ap (λ (g : Flash). page_at g (page + i)) pages ∙ here) in
       let needed : i * p < 32 + n = fetched_needed shape i n is_shape less in
       let within : i * p - 32 ≤ n = omega (arith, needed) in
       let clipped : min n (i * p - 32) ≡ i * p - 32 = omega (arith, within) in
       let before : take (i * p - 32) into ≡ take (i * p - 32) (drop 32 (value_bytes shape key value)) =
       subst (λ (k : ℕ). take k into ≡ take k (drop 32 (value_bytes shape key value))) clipped (f.front key value is) in
-      let one : Copied into new n buf' (length buf') i = subst (λ (m : ℕ). Copied into new m buf' (length buf') i) f.len copied in
-      let two : Copied into new n buf' p i = subst (λ (m : ℕ). Copied into new n buf' m i) full one in
-      let three : Copied into new n (take p (drop (i * p) (value_bytes shape key value))) p i = subst (λ (q : List ℕ). Copied into new n q p i) (page_now ∙ page_is shape key value i) two in
+      let bytes : List ℕ = page_of shape key value i in
+      let one : Copied into new (length into) bytes p i =
+      brings bytes (ap (λ (g : Flash). page_at g (page + i)) pages ∙ here) in
+      let two : Copied into new n bytes p i =
+      subst (λ (m : ℕ). Copied into new m bytes p i) f.len one in
+      let three : Copied into new n (take p (drop (i * p) (value_bytes shape key value))) p i =
+      subst (λ (q : List ℕ). Copied into new n q p i) (page_is shape key value i) two in
       front_next n p i (value_bytes shape key value) into new (omega (arith, least)) within before three;
 }
 

@@ -1,9 +1,9 @@
 -- Values on a board, and the board while one is written.
-use Rattle.std.specs.Prelude.{◌≡◌, ℕ, zero, suc, ◌+◌, ◌<◌, ◌≤◌, List, length, take}
+use Rattle.std.specs.Prelude.{◌≡◌, ℕ, zero, suc, ◌+◌, ◌-◌, ◌*◌, ◌<◌, ◌≤◌, List, ◌++◌, length, take, drop, min}
 use Rattle.pk_base.specs.Key.{Key}
 use Rattle.pk_base.specs.Shape.{Shape, charge}
 use Rattle.pk_base.specs.Page.{Flash, page_at, whole}
-use Rattle.pk_nand.specs.BoardState.{BoardState, shape_of}
+use Rattle.pk_nand.specs.BoardState.{BoardState}
 use Rattle.pk_nand.specs.Calls.{Rose, after_program, ProgramFailed}
 use Rattle.pk_segfmt.specs.Head.{IsHead}
 use Rattle.pk_segfmt.specs.Value.{head_bytes}
@@ -14,6 +14,13 @@ pub record IsFront (shape : Shape) (flash : Flash) (page n : ℕ) (key : Key) (v
   pub is_head : IsHead shape key (length value)
   pub long : n ≤ length value
   pub stored : IsStored shape (page_at flash) key page value
+
+-- page i of a value, of these bytes, brings its piece of the value's front behind the pieces before
+abbrev pub BringsPiece : Shape → ℕ → List ℕ → List ℕ → List ℕ → Type 0
+BringsPiece shape i bytes old new =
+    let at : ℕ = i * shape.page_bytes - 32 in
+    take (min (length old) ((i + 1) * shape.page_bytes - 32)) new
+    ≡ take at old ++ take (length old - at) (drop (32 - i * shape.page_bytes) bytes)
 
 -- the page is a whole one and begins with this head
 pub record HasHead (shape : Shape) (flash : Flash) (page : ℕ) (key : Key) (len : ℕ) : Type 0 where

@@ -1,14 +1,14 @@
 //! Values.
-ghost use Rattle.std.specs.Prelude.{◌≡◌, ◌+◌, ◌-◌, ◌*◌, ◌%◌, ◌<◌, ◌≤◌, ◌++◌, List, ℕ, length, min, take, drop, IfOk, IfErr, OnOk, OnErr};
+ghost use Rattle.std.specs.Prelude.{◌≡◌, ◌+◌, ◌-◌, ◌*◌, ◌%◌, ◌^◌, ◌<◌, ◌≤◌, ◌++◌, List, ℕ, length, min, take, drop, IfOk, IfErr, OnOk, OnErr};
 ghost use Rattle.pk_base.specs.Shape as spec;
-ghost use Rattle.pk_base.specs.Page.{page_at};
+ghost use Rattle.pk_base.specs.Page.{page_at, whole};
 ghost use Rattle.pk_nand.specs.Calls.{IsReady, InOrder, after_read, ReadFailed};
 ghost use Rattle.pk_nand.specs.Crash.{Reached, Went, SameOutside};
 ghost use Rattle.pk_nand.specs.declared.types.Fault.TheVariants.{Reading, Stopped};
 ghost use Rattle.pk_segfmt.specs.Stored.{IsStored};
 ghost use Rattle.pk_nand.specs.Erased.{after_reads};
 ghost use Rattle.pk_seg.specs.Counts.{ReadsFailed};
-ghost use Rattle.pk_seg.specs.Stored.{IsFront, HasHead, written, WriteFailed};
+ghost use Rattle.pk_seg.specs.Stored.{IsFront, HasHead, BringsPiece, written, WriteFailed};
 
 use crate::pages::write_page;
 use pk_base::{Key, Shape};
@@ -90,6 +90,55 @@ fn copy_page(into: &mut [u8], i: u32, page: &[u8])
     into[done..done + count].copy_from_slice(&part[..count]);
 }
 
+// Reads page i of a value to its place in the value's front: at once where all of it belongs there,
+// and else by way of `buf`.
+fn read_part<B: Nand>(
+    board: &mut B,
+    shape: &Shape,
+    page: u32,
+    i: u32,
+    into: &mut [u8],
+    buf: &mut [u8],
+) -> Result<(), Fault>
+    requires ready { IsReady (B.state board.old) shape.now }
+    requires number { page + i < 2 ^ 32 }
+    requires exists { page + i < length (B.state board.old).pages }
+    requires within { i * shape.now.page_bytes - 32 ≤ length into.old }
+    requires room { length buf.old ≡ shape.now.page_bytes }
+
+    // The piece that the page brings, by one read.
+    ensures piece { OnOk result ((bytes : List ℕ)
+        → page_at (B.state board.old).pages (page + i) ≡ whole bytes
+        → BringsPiece shape.now i bytes into.old into.new) }
+    ensures ok { OnOk result (B.state board.new ≡ after_read (B.state board.old)) }
+
+    // Or it failed.
+    ensures reading { IfErr result (λ e. e ≡ Reading) }
+    ensures err { OnErr result (ReadFailed (B.state board.old) (B.state board.new) (page + i)) }
+
+    // Either way the buffers may be used again.
+    ensures len { length into.new ≡ length into.old }
+    ensures buffer { length buf.new ≡ length buf.old }
+{
+    shape.known();
+    let size = buf.len();
+    let at = (i as usize * size).saturating_sub(32);
+    if i > 0 && at + size <= into.len() {
+        match board.read(page + i, &mut into[at..at + size]) {
+            Ok(_) => Ok(()),
+            Err(_) => Err(Fault::Reading),
+        }
+    } else {
+        match board.read(page + i, buf) {
+            Ok(_) => {
+                copy_page(into, i, buf);
+                Ok(())
+            }
+            Err(_) => Err(Fault::Reading),
+        }
+    }
+}
+
 /// Fills `into` with the front of the value from this page on, by as many reads as it has pages. `Reading` where one fails.
 /// `buf` has the bytes of a page, which are lost.
 pub fn read_value<B: Nand>(
@@ -125,9 +174,9 @@ pub fn read_value<B: Nand>(
     let _ = shape.greatest();
     let _ = shape.page_count();
     for i in 0..shape.fetched(into.len() as u32) {
-        match board.read(page + i, buf) {
-            Ok(_) => copy_page(into, i, buf),
-            Err(_) => return Err(Fault::Reading),
+        match read_part(board, shape, page, i, into, buf) {
+            Ok(()) => {}
+            Err(fault) => return Err(fault),
         }
     }
     Ok(())

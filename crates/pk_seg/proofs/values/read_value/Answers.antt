@@ -1,19 +1,19 @@
-use Rattle.std.proofs.Common.{◌≡◌, ◌+◌, ◌∙◌, List, ℕ, length, arith, ap, sym, subst}
+use Rattle.std.proofs.Common.{◌≡◌, ◌∙◌, length, arith, ap}
 use Rattle.pk_base.specs.Shape.{fetched}
 use Rattle.pk_nand.specs.BoardState.{BoardState}
-use Rattle.pk_seg.proofs.Readings.{Filling, Filling-exists, Filling-next, Filling-end}
+use Rattle.pk_seg.proofs.Readings.{Filling-exists, Filling-next, Filling-end}
 use Rattle.pk_seg.proofs.values.read_value.Goals as goal
 
-pub overflow_add-page : goal.overflow_add-page
-overflow_add-page g c =
+pub read_part-requires-clause-number : goal.read_part-requires-clause-number
+read_part-requires-clause-number g c =
     let less = rw c.fetched-i-end.ensures.value at c.loop-i-test.true in
     let v = c.requires.value in
     let exists = Filling-exists (g.B.Nand.state c.args.board.now) c.args.shape.now c.args.page (length c.args.into.now) c.loop-i.i v.0 v.1 c.known.ensures v.2 less in
     let size = c.requires.ready.flash.size in
     omega (arith, exists, size, c.page_count.ensures.value, c.page_count.type_inv)
 
-pub read-requires-clause-exists : goal.read-requires-clause-exists
-read-requires-clause-exists g c =
+pub read_part-requires-clause-exists : goal.read_part-requires-clause-exists
+read_part-requires-clause-exists g c =
     let less = rw c.fetched-i-end.ensures.value at c.loop-i-test.true in
     let v = c.requires.value in
     rw (ap (λ (b : BoardState). b.pages) c.loop-i.invariant.filling.board)
@@ -21,12 +21,13 @@ read-requires-clause-exists g c =
 
 pub loop-i-preserved : goal.loop-i-preserved
 loop-i-preserved g c = record {
-  buffer = c.read.auto.into ∙ c.loop-i.invariant.buffer;
+  buffer = c.read_part.auto.buf ∙ c.loop-i.invariant.buffer;
   filling =
       let less = rw c.fetched-i-end.ensures.value at c.loop-i-test.true in
       rw c.in-Ok.ensures.ok
-      (Filling-next _ _ c.args.shape.now c.args.page (length c.args.into.now) c.loop-i.i c.loop-i.into c.copy_page.new.into c.loop-i.buf c.read.new.into c.known.ensures less c.loop-i.invariant.filling
-      c.in-Ok.ensures.bytes (c.read.auto.into ∙ c.loop-i.invariant.buffer) c.copy_page.ensures.len c.copy_page.ensures.front);
+      (Filling-next _ _ c.args.shape.now c.args.page (length c.args.into.now) c.loop-i.i
+      c.loop-i.into c.read_part.new.into c.known.ensures less c.loop-i.invariant.filling
+      c.read_part.auto.into c.in-Ok.ensures.piece);
 }
 
 pub returns-clause-front : goal.returns-clause-front
