@@ -6,7 +6,7 @@
 
 mod slot;
 
-ghost use Rattle.std.specs.Prelude.{◌≡◌, ◌+◌, ◌<◌, ◌≤◌, ◌⊎◌, length, T, Some, None, IsSome, IfOk, IfErr, MatchOption, MatchResult, true, false, slice_get, []};
+ghost use Rattle.std.specs.Prelude.{◌≡◌, ◌+◌, ◌<◌, ◌≤◌, ◌⊎◌, length, T, Some, None, IsSome, IfOk, IfErr, MatchOption, MatchResult, true, false, slice_get, option_map, []};
 ghost use Rattle.std.specs.FinMap.Entries.{find, put, is_sorted};
 ghost use Rattle.pk_base.specs.Key.{key_cmp};
 ghost use Rattle.pk_base.specs.Entry.{key_of};
@@ -126,6 +126,14 @@ impl<A: Region> Buffer<A> {
         ensures { slice_get self.now.entries i ≡ Some (entry result) }
     {
         self.slots.as_slice()[i as usize].entry.copy()
+    }
+
+    /// The key of the entry at this place.
+    pub fn key(&self, i: u32) -> &Key
+        requires { i < length self.now.entries }
+        ensures { option_map key_of (slice_get self.now.entries i) ≡ Some result.now }
+    {
+        self.slots.as_slice()[i as usize].entry.key()
     }
 
     /// The place of the first key that is not below this one.

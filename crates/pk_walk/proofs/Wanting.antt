@@ -1,5 +1,5 @@
 -- What a sorted list has of the wanted keys: its first, what is behind it, and where it begins.
-use Rattle.std.proofs.Common.{◌≡◌, ℕ, zero, suc, ◌+◌, ◌≤◌, refl, sym, ap, subst, ◌∙◌, arith, Bool, true, false, cond, not, T, if◌then◌else◌, List, [], ◌∷◌, length, drop, slice_get, Option, Some, None}
+use Rattle.std.proofs.Common.{◌≡◌, ℕ, zero, suc, ◌+◌, ◌≤◌, refl, sym, ap, subst, ◌∙◌, arith, Bool, true, false, cond, not, T, if◌then◌else◌, List, [], ◌∷◌, length, drop, slice_get, option_map, Option, Some, None}
 use Rattle.std.specs.declared.cmp.Ordering.{Ordering}
 use Rattle.std.specs.declared.cmp.Ordering.TheVariants.{Less, Equal, Greater}
 use Rattle.std.specs.Ordering.{is_lt, is_gt, is_eq}
@@ -271,3 +271,57 @@ above_past key es at is past =
     past_end [] n h = refl
     past_end (x ∷ es) zero h = absurd (omega arith)
     past_end (x ∷ es) (suc n) h = past_end es n (omega arith)
+
+-- ---- the place of a key in a buffer, as it is found from a hint
+
+pub entry_with : (o : Option Entry) (k : Key) → option_map key_of o ≡ Some k → (e : Entry) × (o ≡ Some e) × (key_of e ≡ k)
+entry_with None k is = absurd (no_key k is)
+  where
+    no_key : (k : Key) → ◌≡◌ {A = Option Key} None (Some k) → ⊥
+    no_key k e = cc
+entry_with (Some e) k is = (e, refl, same_key (key_of e) k is)
+  where
+    same_key : (a b : Key) → ◌≡◌ {A = Option Key} (Some a) (Some b) → a ≡ b
+    same_key a b e = cc
+
+above_wants : (key : Key) → WantsFrom (is_wanted (Above key)) key
+above_wants key k low = rw low refl
+
+next_of : (key : Key) (es : List Entry) (n : ℕ) (e : Entry) → T (is_sorted key_cmp es) → slice_get es n ≡ Some e → key_cmp e.0 key ≡ Equal → slice_get es (suc n) ≡ first_of (wanted (is_wanted (Above key)) es)
+next_of key [] n e up got same = absurd (no_entry e got)
+next_of key (x ∷ es) zero e up got same =
+    let equal : key_cmp x.0 key ≡ Equal = ap (λ (y : Entry). key_cmp y.0 key) (same_entry x e got) ∙ same in
+    let first = first_is_wanted (is_wanted (Above key)) es (λ f is.
+    let high : key_cmp key f.0 ≡ Less = subst (λ (k : Key). key_cmp k f.0 ≡ Less) (key_antisymm x.0 key equal) (above_at x.0 es 0 f (left_part _ _ up) is) in
+    rw (turned key f.0 Less high) refl) in
+    first ∙ sym (ap (λ (o : Ordering). first_of (if is_gt o then x ∷ wanted (is_wanted (Above key)) es else wanted (is_wanted (Above key)) es)) equal)
+next_of key (x ∷ es) (suc n) e up got same =
+    let low : key_cmp x.0 key ≡ Less = subst (λ (k : Key). key_cmp x.0 k ≡ Less) (key_antisymm e.0 key same) (above_at x.0 es n e (left_part _ _ up) got) in
+    next_of key es n e (right_part _ _ up) got same ∙ sym (ap (λ (o : Ordering). first_of (if is_gt o then x ∷ wanted (is_wanted (Above key)) es else wanted (is_wanted (Above key)) es)) low)
+
+-- behind the key itself stands the first above it
+pub above_next : (key : Key) (es : List Entry) (n : ℕ) (k : Key) → T (is_sorted key_cmp es) → option_map key_of (slice_get es n) ≡ Some k → key_cmp k key ≡ Equal → slice_get es (n + 1) ≡ first_of (wanted (is_wanted (Above key)) es)
+above_next key es n k up got same =
+    let e = entry_with (slice_get es n) k got in
+    let on : n + 1 ≡ suc n = omega arith in
+    ap (slice_get es) on ∙ next_of key es n e.0 up e.1 (ap (λ (q : Key). key_cmp q key) e.2 ∙ same)
+
+-- behind a key that is not above another stand all that are
+pub above_behind : (key : Key) (es : List Entry) (n : ℕ) (k : Key) → T (is_sorted key_cmp es) → option_map key_of (slice_get es n) ≡ Some k → is_gt (key_cmp k key) ≡ false
+    → wanted (is_wanted (Above key)) es ≡ wanted (is_wanted (Above key)) (drop (suc n) es)
+above_behind key es n k up got not_one =
+    let e = entry_with (slice_get es n) k got in
+    let own = ap (λ (q : Key). is_gt (key_cmp q key)) e.2 ∙ not_one in
+    passed_by (is_wanted (Above key)) es n e.0 e.1 own (begun_at (is_wanted (Above key)) key es n e.0 (above_wants key) up e.1 (λ high. let r = ap is_gt (sym high) ∙ own in cc))
+
+-- from a place on that is wanted it is the first
+pub above_there : (key : Key) (es : List Entry) (n : ℕ) (k : Key) → option_map key_of (slice_get es n) ≡ Some k → is_gt (key_cmp k key) ≡ true → slice_get es n ≡ first_of (wanted (is_wanted (Above key)) (drop n es))
+above_there key es n k got one =
+    let e = entry_with (slice_get es n) k got in
+    let own = ap (λ (q : Key). is_gt (key_cmp q key)) e.2 ∙ one in
+    e.1 ∙ sym (ap first_of (ap (wanted (is_wanted (Above key))) (dropped es n e.0 e.1) ∙ ap (λ (b : Bool). if b then e.0 ∷ wanted (is_wanted (Above key)) (drop (suc n) es) else wanted (is_wanted (Above key)) (drop (suc n) es)) own))
+
+-- from the end on there is none
+pub above_end : (key : Key) (es : List Entry) → slice_get es (length es) ≡ first_of (wanted (is_wanted (Above key)) (drop (length es) es))
+above_end key [] = refl
+above_end key (x ∷ es) = above_end key es

@@ -1,5 +1,5 @@
 //! The first wanted entry of a write buffer, and the lesser of two entries.
-ghost use Rattle.std.specs.Prelude.{◌≡◌, slice_get, option_map};
+ghost use Rattle.std.specs.Prelude.{◌≡◌, ◌≤◌, ◌<◌, suc, length, drop, map, slice_get, Some, true, option_map};
 ghost use Rattle.std.specs.Ordering.{is_eq, is_gt};
 ghost use Rattle.pk_base.specs.Key.{key_cmp};
 ghost use Rattle.pk_base.specs.Entry.{key_of};
@@ -11,16 +11,49 @@ use crate::position::Position;
 use pk_base::{Entry, Key, compare};
 use pk_buf::Buffer;
 use pk_region::Region;
+use std::cmp::Ordering;
 
-/// The first entry of the buffer whose key is wanted.
-pub fn first_in<A: Region>(buffer: &Buffer<A>, position: &Position) -> Option<Entry>
+/// The places in the two write buffers where a walk found their last entries. Nothing is known of them: a place is looked at
+/// before it is taken.
+#[derive(Clone, Copy, Debug)]
+pub struct Places {
+    pub active: u32,
+    pub frozen: u32,
+}
+
+impl Places {
+    /// The first places.
+    pub fn new() -> Places {
+        Places {
+            active: 0,
+            frozen: 0,
+        }
+    }
+}
+
+/// The first entry of the buffer whose key is wanted. It is looked for first where the last one was found, and its place is kept:
+/// a walk mostly stays there, or goes on by one.
+pub fn first_in<A: Region>(
+    buffer: &Buffer<A>,
+    position: &Position,
+    place: &mut u32,
+) -> Option<Entry>
     ensures { option_map seen result
         ≡ first_of (wanted (is_wanted position.now) buffer.now.entries) }
 {
+    *place = place_in(buffer, position, *place);
+    entry_at(buffer, *place)
+}
+
+/// The place of the first entry of the buffer whose key is wanted.
+fn place_in<A: Region>(buffer: &Buffer<A>, position: &Position, hint: u32) -> u32
+    ensures { slice_get buffer.now.entries result
+        ≡ first_of (wanted (is_wanted position.now) buffer.now.entries) }
+{
     match position {
-        Position::First => entry_at(buffer, 0),
-        Position::From(key) => entry_at(buffer, buffer.from(key)),
-        Position::Above(key) => entry_at(buffer, place_above(buffer, key)),
+        Position::First => 0,
+        Position::From(key) => buffer.from(key),
+        Position::Above(key) => place_above(buffer, key, hint),
     }
 }
 
@@ -35,8 +68,44 @@ fn entry_at<A: Region>(buffer: &Buffer<A>, i: u32) -> Option<Entry>
     }
 }
 
-/// The place of the first key above this one.
-fn place_above<A: Region>(buffer: &Buffer<A>, key: &Key) -> u32
+/// The place of the first key above this one, by two comparisons at most where it is the hint or, behind the key itself, the next.
+fn place_above<A: Region>(buffer: &Buffer<A>, key: &Key, hint: u32) -> u32
+    ensures { slice_get buffer.now.entries result
+        ≡ first_of (wanted (is_wanted (Above key.now)) buffer.now.entries) }
+{
+    if hint < buffer.len() {
+        match compare(buffer.key(hint), key) {
+            Ordering::Less => search_above(buffer, key),
+            Ordering::Equal => hint + 1,
+            Ordering::Greater => lowest_above(buffer, key, hint),
+        }
+    } else {
+        lowest_above(buffer, key, buffer.len())
+    }
+}
+
+/// The place of the first key above this one, where the key at the hint is one, or the hint is behind the last.
+fn lowest_above<A: Region>(buffer: &Buffer<A>, key: &Key, hint: u32) -> u32
+    requires within { hint ≤ length buffer.now.entries }
+    requires first { slice_get buffer.now.entries hint
+        ≡ first_of (wanted (is_wanted (Above key.now)) (drop hint buffer.now.entries)) }
+    ensures { slice_get buffer.now.entries result
+        ≡ first_of (wanted (is_wanted (Above key.now)) buffer.now.entries) }
+{
+    let _ = buffer.len();
+    if hint == 0 {
+        hint
+    } else {
+        if compare(buffer.key(hint - 1), key).is_gt() {
+            search_above(buffer, key)
+        } else {
+            hint
+        }
+    }
+}
+
+/// The place of the first key above this one, by halving.
+fn search_above<A: Region>(buffer: &Buffer<A>, key: &Key) -> u32
     ensures { slice_get buffer.now.entries result
         ≡ first_of (wanted (is_wanted (Above key.now)) buffer.now.entries) }
 {

@@ -15,7 +15,7 @@ ghost use Rattle.pk_walk.specs.Steps.{Comes, FindsInEach, GoOn, WalksOn, first_l
 ghost use Rattle.pk_walk.specs.Visible.{is_wanted, visible, wanted};
 ghost use Rattle.pk_walk.specs.Walking.{FollowEach, Gives, IsLeft, IsWalk, Reads, ReadsAll, ReadsFail, SkipsNone, AreOfShape, begun, first_position, most_read, pages_read};
 
-use crate::buffers::{first_in, least};
+use crate::buffers::{Places, first_in, least};
 use crate::cursors::Cursors;
 use crate::position::Position;
 use pk_base::{Entry, Key, Shape};
@@ -34,6 +34,7 @@ pub struct Walk<A: Region> {
     shape: Shape,
     position: Position,
     cursors: Cursors<A>,
+    places: Places,
 }
 
 impl<A: Region> Model for Walk<A> {
@@ -69,6 +70,7 @@ impl<A: Region> Walk<A> {
             shape,
             position: Position::First,
             cursors,
+            places: Places::new(),
         })
     }
 
@@ -136,6 +138,7 @@ impl<A: Region> Walk<A> {
     {
         match least_of_all(
             &mut self.cursors,
+            &mut self.places,
             &self.position,
             board,
             arena,
@@ -238,6 +241,7 @@ fn has_place(entry: &Entry) -> bool
 // The wanted entry of all lists whose key is lowest, the first of its key.
 fn least_of_all<A: Region, B: Nand>(
     cursors: &mut Cursors<A>,
+    places: &mut Places,
     position: &Position,
     board: &mut B,
     arena: &PinArena<A>,
@@ -273,8 +277,9 @@ fn least_of_all<A: Region, B: Nand>(
     match cursors.seek(board, arena, levels, position) {
         Ok(deep) => {
             cursors.known();
-            let upper = first_in(frozen, position);
-            Ok(least(first_in(active, position), least(upper, deep)))
+            let upper = first_in(frozen, position, &mut places.frozen);
+            let top = first_in(active, position, &mut places.active);
+            Ok(least(top, least(upper, deep)))
         }
         Err(fault) => {
             cursors.known();

@@ -1,9 +1,5 @@
-use Rattle.std.proofs.Common.{◌∙◌, ap, slice_get}
-use Rattle.pk_walk.proofs.Wanting.{first_of_all, first_from}
+use Rattle.std.proofs.Common.{◌∙◌}
 use Rattle.pk_walk.proofs.buffers.first_in.Goals as goal
 
-pub returns-in-First : goal.returns-in-First
-returns-in-First g c = rw c.in-First.is (c.entry_at.ensures ∙ first_of_all c.args.buffer.now.entries)
-
-pub returns-in-From : goal.returns-in-From
-returns-in-From g c = rw c.in-From.is (c.entry_at-in-From.ensures ∙ ap (slice_get c.args.buffer.now.entries) c.from.ensures.place ∙ first_from c.in-From.key c.args.buffer.now.entries)
+pub returns : goal.returns
+returns g c = c.entry_at.ensures ∙ c.place_in.ensures

@@ -1,12 +1,18 @@
-use Rattle.std.proofs.Common.{sym, ◌∙◌, arith}
-use Rattle.pk_walk.proofs.Wanting.{above_here, above_not_here, above_past}
+use Rattle.std.proofs.Common.{◌≡◌, ℕ, ap, sym, subst, ◌∙◌, drop, slice_get}
+use Rattle.std.specs.Ordering.{is_gt}
+use Rattle.pk_walk.specs.declared.position.Position.TheVariants.{Above}
+use Rattle.pk_walk.specs.Visible.{is_wanted, wanted, first_of}
+use Rattle.pk_walk.proofs.Wanting.{above_there, above_end, above_next}
 use Rattle.pk_walk.proofs.buffers.place_above.Goals as goal
 
-pub returns-then-has_key : goal.returns-then-has_key
-returns-then-has_key g c = above_here c.args.key.now c.args.buffer.now.entries c.from-at.result _ c.len-end.ensures.rising c.from-at.ensures.place c.at.ensures (sym c.has_key.ensures ∙ c.if-has_key.true)
+pub lowest_above-requires-clause-first : goal.lowest_above-requires-clause-first
+lowest_above-requires-clause-first g c =
+    above_there c.args.key.now c.args.buffer.now.entries c.args.hint c.key.result.now c.key.ensures (ap is_gt (sym c.compare.ensures ∙ c.in-Greater.is))
 
-pub returns-else-has_key : goal.returns-else-has_key
-returns-else-has_key g c = above_not_here c.args.key.now c.args.buffer.now.entries c.from-at.result _ c.from-at.ensures.place c.at.ensures (sym c.has_key.ensures ∙ c.if-has_key.false)
+pub lowest_above-requires-else-hint-len-clause-first : goal.lowest_above-requires-else-hint-len-clause-first
+lowest_above-requires-else-hint-len-clause-first g c =
+    let es = c.args.buffer.now.entries in
+    subst (λ (n : ℕ). slice_get es n ≡ first_of (wanted (is_wanted (Above c.args.key.now)) (drop n es))) (sym c.len-else-hint-len.ensures.len) (above_end c.args.key.now es)
 
-pub returns-else-at-end : goal.returns-else-at-end
-returns-else-at-end g c = above_past c.args.key.now c.args.buffer.now.entries c.from-at.result c.from-at.ensures.place (let n = c.len-end.ensures.len in let h = c.if-at-end.false in omega (arith, n, h))
+pub returns-in-Equal : goal.returns-in-Equal
+returns-in-Equal g c = above_next c.args.key.now c.args.buffer.now.entries c.args.hint c.key.result.now c.len.ensures.rising c.key.ensures (sym c.compare.ensures ∙ c.in-Equal.is)
