@@ -1,28 +1,28 @@
 //! The job.
-ghost use Rattle.std.specs.Prelude.{◌≡◌, ◌⊎◌, ◌≤◌, ◌<◌, MatchOption, slice_set, ◌+◌, ◌-◌, ◌*◌, ◌++◌, ◌∷◌, length, ℕ, List, [], Some, None, true, false, IfOk, IfErr, OnOk, OnErr};
-ghost use Rattle.pk_base.specs.Key.{Key as KeySpec};
+ghost use Rattle.std.specs.Prelude.{◌≡◌, ◌⊎◌, ◌≤◌, ◌<◌, ◌+◌, ◌-◌, ◌*◌, ◌++◌, ◌∷◌, [], ℕ};
+ghost use Rattle.std.specs.Prelude.{Some, true, false, MatchOption, IfOk, IfErr, OnOk, OnErr};
+ghost use Rattle.std.specs.Prelude.{length, slice_set};
 ghost use Rattle.pk_base.specs.Shape as spec;
-ghost use Rattle.pk_base.specs.Entry.{Place};
-ghost use Rattle.pk_nand.specs.Calls.{IsReady, after_read, after_program, ReadFailed, ProgramFailed};
-ghost use Rattle.pk_nand.specs.declared.types.Fault.TheVariants.{Reading, Stopped};
-ghost use Rattle.pk_gc.specs.declared.reclaimed.Reclaimed.TheVariants.{Worked, Ended};
-ghost use Rattle.pk_gc.specs.State.{JobState, source, target, read_next, programmed, begun_at, started};
-ghost use Rattle.pk_pool.specs.Blocks.{PoolOnFlash};
-ghost use Rattle.pk_pool.specs.Taking.{FailsToErase};
-ghost use Rattle.pk_gc.specs.Victims.{IsFull, Chooses};
-ghost use Rattle.pk_gc.specs.Beginning.{Begins};
 ghost use Rattle.pk_base.specs.Page.{Flash};
+ghost use Rattle.pk_nand.specs.Calls.{IsReady, after_read};
+ghost use Rattle.pk_nand.specs.declared.types.Fault.TheVariants.{Stopped};
 ghost use Rattle.pk_live.specs.Values.{IsClosed, count_of};
-ghost use Rattle.pk_pool.specs.Blocks.{IsOwned, with_state};
 ghost use Rattle.pk_pool.specs.declared.state.BlockState.TheVariants.{Free};
-ghost use Rattle.pk_jrn.specs.Epochs.{AreBlocks, EpochOnFlash};
+ghost use Rattle.pk_pool.specs.Blocks.{PoolOnFlash, IsOwned, with_state};
+ghost use Rattle.pk_pool.specs.Taking.{FailsToErase};
+ghost use Rattle.pk_jrn.specs.Epochs.{AreBlocks, EpochOnFlash, JournalEpoch};
 ghost use Rattle.pk_gc.specs.declared.course.Course.{Course as CourseSpec};
 ghost use Rattle.pk_gc.specs.declared.course.Phase.TheVariants.{Idle, Copies, GivesBack};
-ghost use Rattle.pk_gc.specs.Victims.{closed_with};
-ghost use Rattle.pk_gc.specs.Stepping.{CanEnd, Finishes, CanStep, Steps, runs_in};
-ghost use Rattle.pk_gc.specs.Breaking.{Breaks};
-ghost use Rattle.pk_gc.specs.Committing.{Commits, FailsToAdd, entries_left};
-ghost use Rattle.pk_gc.specs.Running.{IsRunning, IsNextValue, begun_move};
+ghost use Rattle.pk_gc.specs.declared.reclaimed.Reclaimed.TheVariants.{Worked};
+ghost use Rattle.pk_gc.specs.State.{source, read_next, programmed, begun_at, started};
+ghost use Rattle.pk_gc.specs.Running.{begun_move};
+ghost use Rattle.pk_gc.specs.Victims.{Chooses, closed_with};
+ghost use Rattle.pk_gc.specs.Beginning.{Begins};
+ghost use Rattle.pk_gc.specs.Committing.{Commits, entries_left};
+ghost use Rattle.pk_gc.specs.Stepping.{CanStep, Steps, ProgramsHeld, runs_in};
+ghost use Rattle.pk_gc.specs.Breaking.{Breaks, FailsToCopy};
+ghost use Rattle.pk_gc.specs.Asking.{MayStart, MayCopy, MayBegin, ReadsFirst, CannotRead};
+ghost use Rattle.pk_gc.specs.Asking.{IsEpoch, CannotAdd, CanFinish, Finished, RunsOn, hands_of};
 
 use crate::course::{Course, Phase};
 use crate::moves::{Move, apply, fill_left, new_keys};
@@ -42,7 +42,8 @@ use pk_segfmt::{Head, head};
 use std::alloc::AllocError;
 use std::marker::Model;
 
-/// A reclaim: how far it has come, the values that it copied, and the page between a read and a program.
+/// A reclaim: how far it has come, the values that it copied, and the page between a read and a
+/// program.
 #[derive(Drop)]
 pub struct ReclaimJob<A: Region> {
     shape: Shape,
@@ -59,9 +60,16 @@ impl<A: Region> Model for ReclaimJob<A> {
 
     ghost Value = { JobState };
 
-    ghost view = { λ j. record { shape = j.shape; phase = j.phase; moves = j.moves.items; page = j.page.items } };
+    ghost view = { λ j. record {
+      shape = j.shape;
+      phase = j.phase;
+      moves = j.moves.items;
+      page = j.page.items;
+    } };
 
-    ghost invariant = { λ j. (length j.moves.items ≤ dense j.shape) × (dense j.shape ≤ vec_capacity j.moves) × (dense j.shape ≤ vec_capacity j.entries) × (length j.page.items ≡ j.shape.page_bytes) };
+    ghost invariant = { λ j. (length j.moves.items ≤ dense j.shape)
+        × (dense j.shape ≤ vec_capacity j.moves) × (dense j.shape ≤ vec_capacity j.entries)
+        × (length j.page.items ≡ j.shape.page_bytes) };
 }
 
 impl<A: Region> ReclaimJob<A> {
@@ -101,8 +109,8 @@ impl<A: Region> ReclaimJob<A> {
         self.phase
     }
 
-    /// A step of a reclaim, which is begun where none runs; at most one call of the board. `Reading` and `Stopped` where this
-    /// call fails.
+    /// A step of a reclaim, which is begun where none runs; at most one call of the board.
+    /// `Reading` and `Stopped` where this call fails.
     pub fn step<B: Nand>(
         &mut self,
         board: &mut B,
@@ -113,7 +121,8 @@ impl<A: Region> ReclaimJob<A> {
         front: &mut OpenBlock,
         buf: &mut [u8],
     ) -> Result<Reclaimed, Fault>
-        requires can { CanStep self.old (record { live = live.old; front = front.old; pool = pool.old; active = active.old; epoch = epoch.old }) (B.state board.old).pages }
+        requires can { CanStep self.old
+            (hands_of live.old front.old pool.old active.old epoch.old) (B.state board.old).pages }
         requires pool_shape { pool.old.shape ≡ self.old.shape }
         requires epoch_shape { epoch.old.shape ≡ self.old.shape }
         requires ready { IsReady (B.state board.old) self.old.shape }
@@ -121,18 +130,34 @@ impl<A: Region> ReclaimJob<A> {
         requires epoch_fits { EpochOnFlash epoch.old (B.state board.old).pages }
         requires blocks { AreBlocks epoch.old.shape epoch.old.blocks }
         requires room { length buf.old ≡ self.old.shape.page_bytes }
-        ensures steps { IfOk result (λ r. Steps self.old (record { live = live.old; front = front.old; pool = pool.old; active = active.old; epoch = epoch.old }) (B.state board.old) self.new (record { live = live.new; front = front.new; pool = pool.new; active = active.new; epoch = epoch.new }) (B.state board.new) r) }
+
+        // What it did.
+        ensures steps { IfOk result (λ r. Steps self.old
+            (hands_of live.old front.old pool.old active.old epoch.old) (B.state board.old) self.new
+            (hands_of live.new front.new pool.new active.new epoch.new) (B.state board.new) r) }
+
+        // Or its call failed.
+        ensures breaks { IfErr result (λ e. Breaks self.old
+            (hands_of live.old front.old pool.old active.old epoch.old) (B.state board.old)
+            (B.state board.new) e) }
         ensures kept { OnErr result (self.new ≡ record self.old { page = self.new.page }) }
-        ensures kept_parts { OnErr result ((live.new.heads ≡ live.old.heads) × (pool.new ≡ pool.old) × (active.new ≡ active.old) × (epoch.new ≡ epoch.old)) }
-        ensures kept_values { OnErr result ((front.new ≡ front.old) × (live.new ≡ live.old) ⊎ (self.old.phase ≡ Idle) × (victim : ℕ) × Chooses self.old.shape live.old front.old live.new front.new victim) }
-        ensures breaks { IfErr result (λ e. Breaks self.old (record { live = live.old; front = front.old; pool = pool.old; active = active.old; epoch = epoch.old }) (B.state board.old) (B.state board.new) e) }
+        ensures kept_parts { OnErr result ((live.new.heads ≡ live.old.heads)
+            × (pool.new ≡ pool.old) × (active.new ≡ active.old) × (epoch.new ≡ epoch.old)) }
+        ensures kept_values { OnErr result ((front.new ≡ front.old) × (live.new ≡ live.old)
+            ⊎ (self.old.phase ≡ Idle) × (victim : ℕ)
+            × Chooses self.old.shape live.old front.old live.new front.new victim) }
+
+        // Either way all may be used again.
         ensures shape { self.new.shape ≡ self.old.shape }
         ensures ready { IsReady (B.state board.new) self.old.shape }
         ensures buffer { length buf.new ≡ length buf.old }
     {
         match self.phase {
             Phase::Idle => return self.begin(board, pool, live, front),
-            Phase::GivesBack(victim) => return self.give_back(pool, victim),
+            Phase::GivesBack(victim) => {
+                self.give_back(pool, victim);
+                return Ok(Reclaimed::Ended);
+            }
             Phase::Copies(course) => {
                 if course.held {
                     return self.program(board, course);
@@ -143,15 +168,19 @@ impl<A: Region> ReclaimJob<A> {
                 let first = course.victim * self.shape.block_pages();
                 match next_head(live, first + course.seen, first + self.shape.block_pages()) {
                     Some(page) => return self.begin_value(board, course, page),
-                    None => {
-                        return self.finish(board, pool, live, active, epoch, front, course, buf);
-                    }
+                    None => match self.commit(board, live, active, epoch, buf) {
+                        Ok(committed) => {
+                            return Ok(self.finish(committed, course, pool, live, active, front));
+                        }
+                        Err(fault) => return Err(fault),
+                    },
                 }
             }
         }
     }
 
-    // Chooses the victim. One without live pages is given back at once, else a block is taken for the copies.
+    // Chooses the victim. One without live pages is given back at once, else a block is taken for
+    // the copies.
     fn begin<B: Nand>(
         &mut self,
         board: &mut B,
@@ -159,17 +188,21 @@ impl<A: Region> ReclaimJob<A> {
         live: &mut Live<A>,
         front: &mut OpenBlock,
     ) -> Result<Reclaimed, Fault>
-        requires none { self.old.phase ≡ Idle }
-        requires shape { pool.old.shape ≡ self.old.shape }
-        requires full { IsFull self.old.shape live.old front.old pool.old }
+        requires may { MayStart self.old live.old front.old pool.old (B.state board.old).pages }
         requires ready { IsReady (B.state board.old) self.old.shape }
-        requires fits { PoolOnFlash pool.old (B.state board.old).pages }
-        ensures begins { IfOk result (λ r. Begins self.old live.old front.old pool.old (B.state board.old) self.new live.new front.new pool.new (B.state board.new) r) }
-        ensures kept { OnErr result (self.new ≡ self.old) }
-        ensures kept_pool { OnErr result (pool.new ≡ pool.old) }
-        ensures chose { OnErr result ((victim : ℕ) × Chooses self.old.shape live.old front.old live.new front.new victim) }
-        ensures stopped { IfErr result (λ e. e ≡ Stopped) }
-        ensures err { OnErr result (FailsToErase pool.old (B.state board.old) (B.state board.new)) }
+
+        // It began.
+        ensures begins { IfOk result (λ r. Begins self.old live.old front.old pool.old
+            (B.state board.old) self.new live.new front.new pool.new (B.state board.new) r) }
+
+        // Or the erase failed.
+        ensures kept { OnErr result ((self.new ≡ self.old) × (pool.new ≡ pool.old)) }
+        ensures chose { OnErr result ((victim : ℕ)
+            × Chooses self.old.shape live.old front.old live.new front.new victim) }
+        ensures failed { IfErr result (λ e. (e ≡ Stopped)
+            × FailsToErase pool.old (B.state board.old) (B.state board.new)) }
+
+        // Either way the board may be used again.
         ensures ready { IsReady (B.state board.new) self.old.shape }
         ensures fits { PoolOnFlash pool.new (B.state board.new).pages }
     {
@@ -191,7 +224,8 @@ impl<A: Region> ReclaimJob<A> {
 
     // A reclaim runs from now on.
     fn start(&mut self, victim: u32, output: u32)
-        ensures { self.new ≡ record self.old { phase = Copies (started victim output); moves = [] } }
+        ensures { self.new
+            ≡ record self.old { phase = Copies (started victim output); moves = [] } }
     {
         self.moves.clear();
         self.phase = Phase::Copies(Course {
@@ -211,7 +245,12 @@ impl<A: Region> ReclaimJob<A> {
         requires output { course.output < self.old.shape.blocks }
         requires used { course.used ≤ self.old.shape.block_pages }
         requires victim { course.victim * self.old.shape.block_pages ≤ page }
-        ensures { self.new ≡ record self.old { phase = Copies (begun_at course (page - course.victim * self.old.shape.block_pages) (spec.charge self.old.shape found.len)); moves = self.old.moves ++ begun_move self.old.shape course page found.key found.len ∷ [] } }
+        ensures { self.new ≡ record self.old {
+          phase = Copies (begun_at course (page - course.victim * self.old.shape.block_pages)
+              (spec.charge self.old.shape found.len));
+          moves = self.old.moves
+              ++ begun_move self.old.shape course page found.key found.len ∷ [];
+        } }
     {
         self.shape.known();
         let pages = self.shape.block_pages();
@@ -238,19 +277,19 @@ impl<A: Region> ReclaimJob<A> {
         course: Course,
         page: u32,
     ) -> Result<Reclaimed, Fault>
-        requires course { self.old.phase ≡ Copies course }
-        requires whole { course.left ≡ 0 }
-        requires room { length self.old.moves < spec.dense self.old.shape }
+        requires may { MayBegin course self.old (B.state board.old).pages page }
         requires ready { IsReady (B.state board.old) self.old.shape }
-        requires runs { (es : List (KeySpec × Place)) × (key : KeySpec) × (place : Place) × IsRunning self.old.shape course self.old.moves self.old.page (B.state board.old).pages es × IsNextValue self.old.shape course (B.state board.old).pages es page key place }
+
+        // It was read.
         ensures worked { IfOk result (λ r. r ≡ Worked) }
-        ensures shape { self.new.shape ≡ self.old.shape }
-        ensures board { OnOk result (B.state board.new ≡ after_read (B.state board.old)) }
-        ensures job { OnOk result ((es : List (KeySpec × Place)) (key : KeySpec) (place : Place) → IsNextValue self.old.shape course (B.state board.old).pages es page key place → self.new ≡ record self.old { phase = Copies (begun_at course (page - course.victim * self.old.shape.block_pages) (spec.charge self.old.shape place.len)); moves = self.old.moves ++ begun_move self.old.shape course page key place.len ∷ []; page = self.new.page }) }
-        ensures runs { OnOk result ((es : List (KeySpec × Place)) (key : KeySpec) (place : Place) → IsRunning self.old.shape course self.old.moves self.old.page (B.state board.old).pages es → IsNextValue self.old.shape course (B.state board.old).pages es page key place → IsRunning self.old.shape (begun_at course (page - course.victim * self.old.shape.block_pages) (spec.charge self.old.shape place.len)) (self.old.moves ++ begun_move self.old.shape course page key place.len ∷ []) self.new.page (B.state board.new).pages es) }
+        ensures reads { OnOk result (ReadsFirst course self.old page (B.state board.old) self.new
+            (B.state board.new)) }
+
+        // Or this failed.
+        ensures unread { IfErr result (λ e.
+            CannotRead page (B.state board.old) (B.state board.new) e) }
         ensures kept { OnErr result (self.new ≡ record self.old { page = self.new.page }) }
-        ensures reading { IfErr result (λ e. e ≡ Reading) }
-        ensures err { OnErr result (ReadFailed (B.state board.old) (B.state board.new) page) }
+        ensures shape { self.new.shape ≡ self.old.shape }
     {
         self.shape.known();
         match read_page(board, page, &mut self.page) {
@@ -267,17 +306,22 @@ impl<A: Region> ReclaimJob<A> {
 
     // Reads the next page of the value that is copied.
     fn read<B: Nand>(&mut self, board: &mut B, course: Course) -> Result<Reclaimed, Fault>
-        requires course { self.old.phase ≡ Copies course }
+        requires may { MayCopy course self.old (B.state board.old).pages }
         requires some { 0 < course.left }
         requires ready { IsReady (B.state board.old) self.old.shape }
-        requires runs { (es : List (KeySpec × Place)) × IsRunning self.old.shape course self.old.moves self.old.page (B.state board.old).pages es }
+
+        // It was read.
         ensures worked { IfOk result (λ r. r ≡ Worked) }
-        ensures job { OnOk result (self.new ≡ record self.old { phase = Copies (read_next course); page = self.new.page }) }
+        ensures job { OnOk result (self.new
+            ≡ record self.old { phase = Copies (read_next course); page = self.new.page }) }
         ensures board { OnOk result (B.state board.new ≡ after_read (B.state board.old)) }
-        ensures runs { OnOk result ((es : List (KeySpec × Place)) → IsRunning self.old.shape course self.old.moves self.old.page (B.state board.old).pages es → IsRunning self.old.shape (read_next course) self.old.moves self.new.page (B.state board.new).pages es) }
+        ensures runs { OnOk result (RunsOn course self.old (B.state board.old).pages
+            (read_next course) self.new.page (B.state board.new).pages) }
+
+        // Or this failed.
+        ensures unread { IfErr result (λ e.
+            CannotRead (source self.old.shape course) (B.state board.old) (B.state board.new) e) }
         ensures kept { OnErr result (self.new ≡ record self.old { page = self.new.page }) }
-        ensures reading { IfErr result (λ e. e ≡ Reading) }
-        ensures err { OnErr result (ReadFailed (B.state board.old) (B.state board.new) (source self.old.shape course)) }
     {
         self.shape.known();
         let page = course.victim * self.shape.block_pages() + course.seen;
@@ -295,17 +339,21 @@ impl<A: Region> ReclaimJob<A> {
 
     // Programs the page that was read to the output.
     fn program<B: Nand>(&mut self, board: &mut B, course: Course) -> Result<Reclaimed, Fault>
-        requires course { self.old.phase ≡ Copies course }
+        requires may { MayCopy course self.old (B.state board.old).pages }
         requires held { course.held ≡ true }
         requires ready { IsReady (B.state board.old) self.old.shape }
-        requires runs { (es : List (KeySpec × Place)) × IsRunning self.old.shape course self.old.moves self.old.page (B.state board.old).pages es }
+
+        // It was programmed.
         ensures worked { IfOk result (λ r. r ≡ Worked) }
-        ensures job { OnOk result (self.new ≡ record self.old { phase = Copies (programmed course) }) }
-        ensures board { OnOk result (B.state board.new ≡ after_program (B.state board.old) (target self.old.shape course) self.old.page) }
-        ensures runs { OnOk result ((es : List (KeySpec × Place)) → IsRunning self.old.shape course self.old.moves self.old.page (B.state board.old).pages es → IsRunning self.old.shape (programmed course) self.old.moves self.old.page (B.state board.new).pages es) }
+        ensures programs { OnOk result (ProgramsHeld course self.old (B.state board.old) self.new
+            (B.state board.new)) }
+        ensures runs { OnOk result (RunsOn course self.old (B.state board.old).pages
+            (programmed course) self.old.page (B.state board.new).pages) }
+
+        // Or this failed.
+        ensures breaks { IfErr result (λ e. FailsToCopy course self.old (B.state board.old)
+            (B.state board.new) e) }
         ensures kept { OnErr result (self.new ≡ self.old) }
-        ensures stopped { IfErr result (λ e. e ≡ Stopped) }
-        ensures err { OnErr result (ProgramFailed (B.state board.old) (B.state board.new) (target self.old.shape course) self.old.page) }
         ensures ready { IsReady (B.state board.new) self.old.shape }
     {
         self.shape.known();
@@ -334,17 +382,19 @@ impl<A: Region> ReclaimJob<A> {
         epoch: &mut Epoch,
         buf: &mut [u8],
     ) -> Result<Committed, Fault>
-        requires runs { (c : CourseSpec) × (es : List (KeySpec × Place)) × IsRunning self.old.shape c self.old.moves self.old.page (B.state board.old).pages es }
-        requires epoch { epoch.old.shape ≡ self.old.shape }
+        requires copies { (c : CourseSpec) × MayCopy c self.old (B.state board.old).pages }
+        requires epoch { IsEpoch self.old.shape epoch.old (B.state board.old).pages }
         requires ready { IsReady (B.state board.old) self.old.shape }
-        requires fits { EpochOnFlash epoch.old (B.state board.old).pages }
-        requires blocks { AreBlocks epoch.old.shape epoch.old.blocks }
         requires room { length buf.old ≡ self.old.shape.page_bytes }
+
+        // What became of them.
+        ensures commits { IfOk result (λ r. Commits (entries_left live.now.heads self.old.moves)
+            active.now epoch.old (B.state board.old) epoch.new (B.state board.new) r) }
+        ensures failed { IfErr result (λ e. CannotAdd (entries_left live.now.heads self.old.moves)
+            active.now epoch.old (B.state board.old) epoch.new (B.state board.new) e) }
+
+        // Either way all may be used again.
         ensures kept { self.new ≡ self.old }
-        ensures commits { IfOk result (λ r. Commits (entries_left live.now.heads self.old.moves) active.now epoch.old (B.state board.old) epoch.new (B.state board.new) r) }
-        ensures kept_epoch { OnErr result (epoch.new ≡ epoch.old) }
-        ensures stopped { IfErr result (λ e. e ≡ Stopped) }
-        ensures err { OnErr result (FailsToAdd (entries_left live.now.heads self.old.moves) active.now epoch.old (B.state board.old) (B.state board.new)) }
         ensures ready { IsReady (B.state board.new) self.old.shape }
         ensures buffer { length buf.new ≡ length buf.old }
     {
@@ -368,7 +418,10 @@ impl<A: Region> ReclaimJob<A> {
         requires empty { count_of live.old course.victim ≡ 0 }
         requires front { MatchOption front.old.block (Unit {0}) (λ b. b < length live.old.closed) }
         ensures job { self.new ≡ record self.old { phase = GivesBack course.victim } }
-        ensures live { live.new ≡ record live.old { closed = closed_with front.old.block (slice_set live.old.closed course.victim false) } }
+        ensures live { live.new ≡ record live.old {
+          closed
+              = closed_with front.old.block (slice_set live.old.closed course.victim false);
+        } }
         ensures front { front.new ≡ record { block = Some course.output; used = course.used } }
     {
         live.forget(course.victim);
@@ -379,58 +432,45 @@ impl<A: Region> ReclaimJob<A> {
     }
 
     // Gives the victim back, and ends the reclaim.
-    fn give_back(&mut self, pool: &mut Pool<A>, victim: u32) -> Result<Reclaimed, Fault>
+    fn give_back(&mut self, pool: &mut Pool<A>, victim: u32)
         requires owned { IsOwned pool.old victim }
-        ensures ended { IfOk result (λ r. r ≡ Ended) }
-        ensures never { OnErr result ⊥ }
         ensures job { self.new ≡ record self.old { phase = Idle } }
         ensures given { pool.new ≡ with_state pool.old victim Free }
         ensures fits { (flash : Flash) → PoolOnFlash pool.old flash → PoolOnFlash pool.new flash }
     {
         pool.give(victim);
         self.phase = Phase::Idle;
-        Ok(Reclaimed::Ended)
     }
 
-    // Commits the moves that are left. Where none is, the victim is given back at once.
-    fn finish<B: Nand>(
+    // The moves that were left are made, and the output takes the next values. Where none was
+    // left, the victim is given back at once.
+    fn finish(
         &mut self,
-        board: &mut B,
+        committed: Committed,
+        course: Course,
         pool: &mut Pool<A>,
         live: &mut Live<A>,
         active: &mut Buffer<A>,
-        epoch: &mut Epoch,
         front: &mut OpenBlock,
-        course: Course,
-        buf: &mut [u8],
-    ) -> Result<Reclaimed, Fault>
-        requires runs { (es : List (KeySpec × Place)) × IsRunning self.old.shape course self.old.moves self.old.page (B.state board.old).pages es }
-        requires can { CanEnd course self.old (record { live = live.old; front = front.old; pool = pool.old; active = active.old; epoch = epoch.old }) }
-        requires epoch { epoch.old.shape ≡ self.old.shape }
-        requires ready { IsReady (B.state board.old) self.old.shape }
-        requires fits { EpochOnFlash epoch.old (B.state board.old).pages }
-        requires blocks { AreBlocks epoch.old.shape epoch.old.blocks }
-        requires room { length buf.old ≡ self.old.shape.page_bytes }
-        ensures finishes { IfOk result (λ r. Finishes course self.old (record { live = live.old; front = front.old; pool = pool.old; active = active.old; epoch = epoch.old }) (B.state board.old) self.new (record { live = live.new; front = front.new; pool = pool.new; active = active.new; epoch = epoch.new }) (B.state board.new) r) }
-        ensures kept { OnErr result (self.new ≡ self.old) }
-        ensures kept_hands { OnErr result ((live.new ≡ live.old) × (front.new ≡ front.old) × (pool.new ≡ pool.old) × (active.new ≡ active.old) × (epoch.new ≡ epoch.old)) }
-        ensures stopped { IfErr result (λ e. e ≡ Stopped) }
-        ensures err { OnErr result (FailsToAdd (entries_left live.old.heads self.old.moves) active.old epoch.old (B.state board.old) (B.state board.new)) }
-        ensures ready { IsReady (B.state board.new) self.old.shape }
-        ensures buffer { length buf.new ≡ length buf.old }
+    ) -> Reclaimed
+        requires can { CanFinish committed course self.old live.old front.old pool.old active.old }
+        ensures finished { (epoch : JournalEpoch) → Finished committed course self.old
+            (hands_of live.old front.old pool.old active.old epoch) self.new
+            (hands_of live.new front.new pool.new active.new epoch) result }
+        ensures shape { self.new.shape ≡ self.old.shape }
     {
-        match self.commit(board, live, active, epoch, buf) {
-            Ok(Committed::NeedsFreeze) => return Ok(Reclaimed::NeedsFreeze),
-            Ok(Committed::None) => {
+        match committed {
+            Committed::NeedsFreeze => Reclaimed::NeedsFreeze,
+            Committed::None => {
                 self.hand_over(live, front, course);
-                return self.give_back(pool, course.victim);
+                self.give_back(pool, course.victim);
+                Reclaimed::Ended
             }
-            Ok(Committed::All) => {
+            Committed::All => {
                 apply(&self.moves, live, active);
                 self.hand_over(live, front, course);
-                return Ok(Reclaimed::Worked);
+                Reclaimed::Worked
             }
-            Err(fault) => return Err(fault),
         }
     }
 }

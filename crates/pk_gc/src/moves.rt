@@ -1,8 +1,9 @@
 //! The values that a reclaim copied.
 ghost use Rattle.std.specs.Prelude.{◌≡◌, ◌+◌, ◌<◌, ◌≤◌, ◌++◌, ◌∷◌, [], length, vec_capacity, count_by};
 ghost use Rattle.pk_base.specs.Seen.{entry as seen, entries as seen_all};
-ghost use Rattle.pk_moves.specs.Moves.{entries_of};
-ghost use Rattle.pk_gc.specs.State.{entry_of, placed_at, left_of, heads_behind, entries_behind, heads_all, entries_all, CanGo, CanGoAll, is_new};
+ghost use Rattle.pk_gc.specs.State.{entry_of, is_new, heads_behind, entries_behind};
+ghost use Rattle.pk_gc.specs.State.{heads_all, entries_all, CanGo, CanGoAll};
+ghost use Rattle.pk_gc.specs.Committing.{entries_left};
 
 use pk_base::{Entry, Key};
 use pk_buf::Buffer;
@@ -37,7 +38,8 @@ impl Move {
 // Adds the entry of a move whose old place is still live.
 fn add_left<A: Allocator>(one: &Move, live: &Live<A>, into: &mut Vec<Entry, A>)
     requires { length into.old.items < vec_capacity into.old }
-    ensures left { seen_all into.new.items ≡ seen_all into.old.items ++ entries_of (placed_at (left_of live.now.heads (one.now ∷ []))) }
+    ensures left { seen_all into.new.items
+        ≡ seen_all into.old.items ++ entries_left live.now.heads (one.now ∷ []) }
     ensures few { length into.new.items ≤ length into.old.items + 1 }
     ensures room { vec_capacity into.new ≡ vec_capacity into.old }
 {
@@ -49,7 +51,7 @@ fn add_left<A: Allocator>(one: &Move, live: &Live<A>, into: &mut Vec<Entry, A>)
 /// Fills `into` with the entries of those moves whose old place is still live.
 pub(crate) fn fill_left<A: Allocator>(moves: &[Move], live: &Live<A>, into: &mut Vec<Entry, A>)
     requires { length moves.now ≤ vec_capacity into.old }
-    ensures left { seen_all into.new.items ≡ entries_of (placed_at (left_of live.now.heads moves.now)) }
+    ensures left { seen_all into.new.items ≡ entries_left live.now.heads moves.now }
     ensures few { length into.new.items ≤ length moves.now }
     ensures room { vec_capacity into.new ≡ vec_capacity into.old }
 {
@@ -82,9 +84,12 @@ pub(crate) fn new_keys<A: Region>(entries: &[Entry], active: &Buffer<A>) -> u32
 
 // Moves a value whose old place is still live.
 fn apply_one<A: Region>(m: &Move, live: &mut Live<A>, active: &mut Buffer<A>)
-    requires { CanGo live.old.block_pages active.old.capacity live.old.heads active.old.entries m.now }
+    requires { CanGo live.old.block_pages active.old.capacity live.old.heads
+        active.old.entries m.now }
     ensures live { live.new ≡ record live.old { heads = heads_behind live.old.heads m.now } }
-    ensures active { active.new ≡ record active.old { entries = entries_behind live.old.heads active.old.entries m.now } }
+    ensures active { active.new ≡ record active.old {
+      entries = entries_behind live.old.heads active.old.entries m.now;
+    } }
 {
     if live.is_head(m.from) {
         live.clear(m.from, m.count);
@@ -95,9 +100,12 @@ fn apply_one<A: Region>(m: &Move, live: &mut Live<A>, active: &mut Buffer<A>)
 
 /// Moves the values whose old place is still live, in the live map and in the active buffer.
 pub(crate) fn apply<A: Region>(moves: &[Move], live: &mut Live<A>, active: &mut Buffer<A>)
-    requires { CanGoAll live.old.block_pages active.old.capacity live.old.heads active.old.entries moves.now }
+    requires { CanGoAll live.old.block_pages active.old.capacity live.old.heads
+        active.old.entries moves.now }
     ensures live { live.new ≡ record live.old { heads = heads_all live.old.heads moves.now } }
-    ensures active { active.new ≡ record active.old { entries = entries_all live.old.heads active.old.entries moves.now } }
+    ensures active { active.new ≡ record active.old {
+      entries = entries_all live.old.heads active.old.entries moves.now;
+    } }
 {
     for m in moves {
         apply_one(m, live, active);

@@ -7,6 +7,6 @@ use Rattle.pk_gc.proofs.job.ReclaimJob.begin.Goals as goal
 
 pub take-requires-clause-below : goal.take-requires-clause-below
 take-requires-clause-below g c =
-    let full = c.requires.full in
+    let full = c.requires.may.full in
     let used = used_by for_values c.args.pool.now.states in
-    subst (λ (s : Shape). used < data_blocks s) (sym c.requires.shape) (below_quota c.args.self.now.shape used full.is_shape full.full)
+    subst (λ (s : Shape). used < data_blocks s) (sym c.requires.may.shape_is) (below_quota c.args.self.now.shape used full.is_shape full.full)

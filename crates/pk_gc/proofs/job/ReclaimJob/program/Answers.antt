@@ -9,12 +9,12 @@ use Rattle.pk_gc.proofs.job.ReclaimJob.program.Goals as goal
 
 pub write_page-requires-clause-order : goal.write_page-requires-clause-order
 write_page-requires-clause-order g c =
-    let runs = c.requires.runs in
+    let may = c.requires.may in
     let held = c.requires.held in
     let job = c.args.self.now in
     let pages : c.block_pages.result ≡ job.shape.block_pages = c.block_pages.ensures.value ∙ ap (λ (s : JobState). s.shape.block_pages) c.self.view_is in
     let at : c.args.course.output * c.block_pages.result + c.args.course.used ≡ target job.shape c.args.course = ap (λ (n : ℕ). c.args.course.output * n + c.args.course.used) pages in
-    let here = in_order job.shape c.args.course job.moves job.page (g.B.Nand.state c.args.board.now).pages runs.0 runs.1 held in
+    let here = in_order job.shape c.args.course job.moves job.page (g.B.Nand.state c.args.board.now).pages may.es may.runs held in
     rw (shape_is (g.B.Nand.state c.args.board.now) job.shape c.requires.ready) (subst (λ (k : ℕ). InOrder job.shape (g.B.Nand.state c.args.board.now).pages k) (sym at) here)
 
 pub returns-in-Ok-clause-runs : goal.returns-in-Ok-clause-runs

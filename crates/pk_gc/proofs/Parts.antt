@@ -1,0 +1,93 @@
+-- A step of a reclaim, put together from its parts.
+use Rattle.std.proofs.Common.{◌≡◌, ℕ, ◌+◌, ◌*◌, ◌<◌, ◌≤◌, List, sym, ap, subst, ◌∙◌}
+use Rattle.std.specs.Prelude.{slice_index}
+use Rattle.pk_base.specs.Shape.{Shape}
+use Rattle.pk_nand.specs.BoardState.{BoardState}
+use Rattle.pk_jrn.specs.Epochs.{JournalEpoch}
+use Rattle.pk_gc.specs.declared.course.Course.{Course}
+use Rattle.pk_gc.specs.declared.reclaimed.Reclaimed.{Reclaimed}
+use Rattle.pk_gc.specs.declared.reclaimed.Committed.{Committed}
+use Rattle.pk_gc.specs.declared.reclaimed.Committed.TheVariants.{None, NeedsFreeze, All}
+use Rattle.pk_gc.specs.State.{JobState, source}
+use Rattle.pk_gc.specs.Victims.{AreDead}
+use Rattle.pk_gc.specs.Committing.{Commits, Adds, Refuses, entries_left}
+use Rattle.pk_gc.specs.Stepping.{Hands, Finishes, moved_in, handed_over, given_back}
+use Rattle.pk_gc.specs.Asking.{Finished}
+
+-- ---- the search for the next head
+
+-- the first page of a block, of n pages, and its end
+module _ (shape : Shape) (c : Course) (n m : ℕ)
+    (n_is : n ≡ shape.block_pages) (m_is : m ≡ shape.block_pages) where
+  start_is : c.victim * n + c.seen ≡ source shape c
+  start_is = λ i. c.victim * n_is i + c.seen
+
+  end_is : c.victim * n + m ≡ c.victim * shape.block_pages + shape.block_pages
+  end_is = λ i. c.victim * n_is i + m_is i
+
+  -- no head is left
+  pub dead_to_end : (heads : List ℕ) → AreDead heads (c.victim * n + c.seen) (c.victim * n + m)
+      → AreDead heads (source shape c) (c.victim * shape.block_pages + shape.block_pages)
+  dead_to_end heads dead =
+      subst (λ (x : ℕ). AreDead heads (source shape c) x) end_is
+      (subst (λ (x : ℕ). AreDead heads x (c.victim * n + m)) start_is dead)
+
+  -- a head in the rest of the victim that no other one precedes
+  pub record IsFirstHead (heads : List ℕ) (page : ℕ) : Type 0 where
+    pub behind : source shape c ≤ page
+    pub inside : page < c.victim * shape.block_pages + shape.block_pages
+    pub head : 0 < slice_index heads page
+    pub first : AreDead heads (source shape c) page
+
+  pub first_head : (heads : List ℕ) (page : ℕ)
+      → (c.victim * n + c.seen ≤ page) × (page < c.victim * n + m)
+      × (0 < slice_index heads page) × AreDead heads (c.victim * n + c.seen) page
+      → IsFirstHead heads page
+  first_head heads page found = record {
+    behind = subst (λ (x : ℕ). x ≤ page) start_is found.0;
+    inside = subst (λ (x : ℕ). page < x) end_is found.1;
+    head = found.2;
+    first = subst (λ (x : ℕ). AreDead heads x page) start_is found.3;
+  }
+
+-- ---- the end
+
+module _ (c : Course) (job : JobState) (h : Hands) (old : BoardState) (epoch : JournalEpoch)
+    (new : BoardState) (job' : JobState) (h' : Hands) (r : Reclaimed) where
+  -- what became of the moves that are left
+  abbrev CommitsIn : Committed → Type 0
+  CommitsIn committed =
+      Commits (entries_left h.live.heads job.moves) h.active h.epoch old epoch new committed
+
+  -- the end was tried, with this answer
+  abbrev FinishesIn : Reclaimed → Type 0
+  FinishesIn x = Finishes c job h old job' h' new x
+
+  -- commit and end together finish the reclaim
+  pub finishes : (committed : Committed) → CommitsIn committed
+      → Finished committed c job (record h { epoch = epoch }) job' h' r → FinishesIn r
+  finishes None commits done =
+      let kept : record h { epoch = epoch } ≡ h = λ i. record h { epoch = commits.1.kept i } in
+      subst FinishesIn (sym done.0) (record {
+        job_is = done.1;
+        none = commits.0;
+        hands = done.2 ∙ ap (λ (x : Hands). given_back c.victim (handed_over c x)) kept;
+        board = commits.1.same;
+      })
+  finishes NeedsFreeze commits done =
+      let es = entries_left h.live.heads job.moves in
+      let epoch_is : h'.epoch ≡ epoch = ap (λ (x : Hands). x.epoch) done.2 in
+      let refuses : Refuses es h.active h.epoch old h'.epoch new =
+      subst (λ (e : JournalEpoch). Refuses es h.active h.epoch old e new) (sym epoch_is) commits in
+      let hands : h' ≡ h = done.2 ∙ (λ i. record h { epoch = commits.rests.kept i }) in
+      subst FinishesIn (sym done.0) (done.1, hands, refuses)
+  finishes All commits done =
+      let es = entries_left h.live.heads job.moves in
+      let epoch_is : h'.epoch ≡ epoch = ap (λ (x : Hands). x.epoch) done.2 in
+      let adds : Adds es h.active h.epoch old h'.epoch new =
+      subst (λ (e : JournalEpoch). Adds es h.active h.epoch old e new) (sym epoch_is) commits in
+      subst FinishesIn (sym done.0) (record {
+        job_is = done.1;
+        adds = adds;
+        hands = done.2 ∙ (λ i. record (handed_over c (moved_in job h)) { epoch = sym epoch_is i });
+      })

@@ -1,0 +1,129 @@
+-- What each part of a step asks, and what it answers.
+use Rattle.std.specs.Prelude.{◌≡◌, ℕ, ◌-◌, ◌*◌, ◌<◌, List, [], ◌∷◌, ◌++◌}
+use Rattle.std.specs.Prelude.{length, MatchOption}
+use Rattle.pk_base.specs.Key.{Key}
+use Rattle.pk_base.specs.Shape.{Shape, charge, dense}
+use Rattle.pk_base.specs.Page.{Flash}
+use Rattle.pk_base.specs.Entry.{Entry, Place}
+use Rattle.pk_nand.specs.BoardState.{BoardState}
+use Rattle.pk_nand.specs.Calls.{after_read, ReadFailed}
+use Rattle.pk_nand.specs.declared.types.Fault.{Fault}
+use Rattle.pk_nand.specs.declared.types.Fault.TheVariants.{Reading, Stopped}
+use Rattle.pk_live.specs.Values.{Values, IsClosed, block_sum}
+use Rattle.pk_buf.specs.Table.{Table}
+use Rattle.pk_jrn.specs.Epochs.{JournalEpoch, AreBlocks, EpochOnFlash}
+use Rattle.pk_pool.specs.Blocks.{Blocks, IsOwned, PoolOnFlash}
+use Rattle.pk_gc.specs.declared.course.Course.{Course}
+use Rattle.pk_gc.specs.declared.course.Phase.TheVariants.{Idle, Copies, GivesBack}
+use Rattle.pk_gc.specs.declared.moves.Move.{Move}
+use Rattle.pk_gc.specs.declared.open_block.OpenBlock.{OpenBlock}
+use Rattle.pk_gc.specs.declared.reclaimed.Reclaimed.{Reclaimed}
+use Rattle.pk_gc.specs.declared.reclaimed.Reclaimed.TheVariants.{Worked, NeedsFreeze, Ended}
+use Rattle.pk_gc.specs.declared.reclaimed.Committed.{Committed}
+use Rattle.pk_gc.specs.declared.reclaimed.Committed.TheVariants.{None as NoneLeft}
+use Rattle.pk_gc.specs.declared.reclaimed.Committed.TheVariants.{NeedsFreeze as NoRoom, All}
+use Rattle.pk_gc.specs.State.{JobState, CanGoAll, heads_all, begun_at}
+use Rattle.pk_gc.specs.Running.{IsRunning, IsNextValue, begun_move}
+use Rattle.pk_gc.specs.Victims.{IsFull}
+use Rattle.pk_gc.specs.Committing.{FailsToAdd}
+use Rattle.pk_gc.specs.Stepping.{Hands, moved_in, handed_over, given_back}
+
+-- the parts that a step is handed
+abbrev pub hands_of : Values → OpenBlock → Blocks → Table → JournalEpoch → Hands
+hands_of live front pool active epoch =
+    record { live = live; front = front; pool = pool; active = active; epoch = epoch }
+
+-- No reclaim runs, and one may begin.
+pub record MayStart (job : JobState) (live : Values) (front : OpenBlock) (pool : Blocks)
+    (flash : Flash) : Type 0 where
+  pub none : job.phase ≡ Idle
+  pub shape_is : pool.shape ≡ job.shape
+  pub full : IsFull job.shape live front pool
+  pub fits : PoolOnFlash pool flash
+
+-- The values of a victim are being copied.
+pub record MayCopy (c : Course) (job : JobState) (flash : Flash) : Type 0 where
+  pub phase_is : job.phase ≡ Copies c
+  pub es : List (Key × Place)
+  pub runs : IsRunning job.shape c job.moves job.page flash es
+
+-- a copy that runs does so with this course and page, too, behind what was done to the flash
+abbrev pub RunsOn : Course → JobState → Flash → Course → List ℕ → Flash → Type 0
+RunsOn c job flash c' page' flash' =
+    (es : List (Key × Place)) → IsRunning job.shape c job.moves job.page flash es
+    → IsRunning job.shape c' job.moves page' flash' es
+
+-- The next value begins at this page, and there is room for its move.
+pub record MayBegin (c : Course) (job : JobState) (flash : Flash) (page : ℕ) : Type 0 where
+  pub phase_is : job.phase ≡ Copies c
+  pub whole : c.left ≡ 0
+  pub room : length job.moves < dense job.shape
+  pub es : List (Key × Place)
+  pub key : Key
+  pub place : Place
+  pub runs : IsRunning job.shape c job.moves job.page flash es
+  pub next : IsNextValue job.shape c flash es page key place
+
+-- the copy where the value that begins at this page, of this length, is noted
+abbrev pub begun_course : Course → Shape → ℕ → ℕ → Course
+begun_course c shape page len =
+    begun_at c (page - c.victim * shape.block_pages) (charge shape len)
+
+abbrev pub begun_moves : Course → JobState → ℕ → Key → ℕ → List Move
+begun_moves c job page key len = job.moves ++ begun_move job.shape c page key len ∷ []
+
+-- The first page of the value that begins at this page was read, and the value is noted.
+pub record ReadsFirst (c : Course) (job : JobState) (page : ℕ) (old : BoardState)
+    (job' : JobState) (new : BoardState) : Type 0 where
+  pub job_is : (es : List (Key × Place)) (key : Key) (place : Place)
+      → IsNextValue job.shape c old.pages es page key place
+      → job' ≡ record job {
+        phase = Copies (begun_course c job.shape page place.len);
+        moves = begun_moves c job page key place.len;
+        page = job'.page;
+      }
+  pub board : new ≡ after_read old
+  pub runs : (es : List (Key × Place)) (key : Key) (place : Place)
+      → IsRunning job.shape c job.moves job.page old.pages es
+      → IsNextValue job.shape c old.pages es page key place
+      → IsRunning job.shape (begun_course c job.shape page place.len)
+      (begun_moves c job page key place.len) job'.page new.pages es
+
+-- The read of this page failed.
+pub record CannotRead (page : ℕ) (old new : BoardState) (e : Fault) : Type 0 where
+  pub fault : e ≡ Reading
+  pub failed : ReadFailed old new page
+
+-- an epoch of this shape stands on the flash
+pub record IsEpoch (shape : Shape) (e : JournalEpoch) (flash : Flash) : Type 0 where
+  pub shape_is : e.shape ≡ shape
+  pub fits : EpochOnFlash e flash
+  pub blocks : AreBlocks e.shape e.blocks
+
+-- The program of the page of these entries failed, and the epoch stays.
+pub record CannotAdd (es : List Entry) (active : Table) (epoch : JournalEpoch) (old : BoardState)
+    (epoch' : JournalEpoch) (new : BoardState) (e : Fault) : Type 0 where
+  pub fault : e ≡ Stopped
+  pub kept : epoch' ≡ epoch
+  pub adds : FailsToAdd es active epoch old new
+
+-- The output may take the victim's place, by what became of the moves.
+pub record CanFinish (committed : Committed) (c : Course) (job : JobState) (live : Values)
+    (front : OpenBlock) (pool : Blocks) (active : Table) : Type 0 where
+  pub goes : committed ≡ All
+      → CanGoAll live.block_pages active.capacity live.heads active.entries job.moves
+  pub none : committed ≡ NoneLeft → heads_all live.heads job.moves ≡ live.heads
+  pub closed : IsClosed live c.victim
+  pub empty : block_sum (heads_all live.heads job.moves) live.block_pages c.victim ≡ 0
+  pub owned : IsOwned pool c.victim
+  pub open_exists : MatchOption front.block (Unit {0}) (λ b. b < length live.closed)
+
+-- what the end made of job and parts, by what became of the moves
+abbrev pub Finished : Committed → Course → JobState → Hands → JobState → Hands → Reclaimed → Type 0
+Finished NoneLeft c job h job' h' r =
+    (r ≡ Ended) × (job' ≡ record job { phase = Idle })
+    × (h' ≡ given_back c.victim (handed_over c h))
+Finished NoRoom c job h job' h' r = (r ≡ NeedsFreeze) × (job' ≡ job) × (h' ≡ h)
+Finished All c job h job' h' r =
+    (r ≡ Worked) × (job' ≡ record job { phase = GivesBack c.victim })
+    × (h' ≡ handed_over c (moved_in job h))
