@@ -1,5 +1,5 @@
 -- What a load of a page asks of a merge, and what it leaves of it.
-use Rattle.std.proofs.Common.{◌≡◌, ◌<◌, inl, inr, true, false, sym, ap, subst, List}
+use Rattle.std.proofs.Common.{◌≡◌, ◌<◌, true, false, sym, ap, subst, List}
 use Rattle.pk_base.specs.Shape.{Shape}
 use Rattle.pk_base.specs.Entry.{Entry}
 use Rattle.pk_nand.specs.BoardState.{BoardState}
@@ -8,10 +8,10 @@ use Rattle.pk_pin.specs.Frames.{Frames}
 use Rattle.pk_run.specs.Kept.{Kept}
 use Rattle.pk_merge.specs.declared.source.Source.{Source}
 use Rattle.pk_merge.specs.declared.source.Source.TheVariants.{Frozen, Run}
-use Rattle.pk_merge.specs.Cursors.{Cursor, Follows, MayLoad, Loads, FailsToLoad}
-use Rattle.pk_merge.specs.Sources.{count_of, Has, FollowsIn, IsOf, wants_page_in, MayLoadIn, LoadsIn, FailsToLoadIn}
+use Rattle.pk_merge.specs.Cursors.{Cursor, Loads}
+use Rattle.pk_merge.specs.Sources.{count_of, Has, FollowsIn, IsOf, wants_page_in, MayLoadIn, LoadsIn}
 use Rattle.pk_merge.specs.Merging.{Merger}
-use Rattle.pk_merge.specs.Steps.{LoadsSource, LoadsTarget, FailsToRead}
+use Rattle.pk_merge.specs.Steps.{LoadsSource, LoadsTarget}
 
 -- the page at a cursor in the source may be loaded, where it wants one
 pub may_load_in : {X : Type 0} (source : Source X) (c : Cursor) (shape : Shape) (board : BoardState)
@@ -50,37 +50,3 @@ loads_of target m old c new l = record {
   merger = ap (λ (x : Cursor). record m { target = x }) l.cursor;
   follows = l.follows;
 }
-
--- where the read fails, so does the step
-source_fails : {X : Type 0} (source : Source X) (target : Kept) (m : Merger) (old : BoardState)
-    (c : Cursor) (new : BoardState) → FailsToLoadIn source m.source old c new
-    → Follows old.pages target m.target → FailsToRead source target m old (record m { source = c }) new
-source_fails (Frozen b) target m old c new f at = absurd f
-source_fails (Run r) target m old c new f at = record {
-  read = inl f.read;
-  merger = ap (λ (x : Cursor). record m { source = x }) f.cursor;
-  follows_source = f.follows;
-  follows_target = at;
-  same = f.same;
-}
-
-module _ {X : Type 0} (source : Source X) (target : Kept) (m : Merger) (old : BoardState)
-    (m' : Merger) (new : BoardState) where
-  pub fails_in : m' ≡ record m { source = m'.source }
-      → FailsToLoadIn source m.source old m'.source new → Follows old.pages target m.target
-      → FailsToRead source target m old m' new
-  fails_in kept f at =
-      subst (λ (x : Merger). FailsToRead source target m old x new) (sym kept)
-      (source_fails source target m old m'.source new f at)
-
-  pub fails_of : m' ≡ record m { target = m'.target }
-      → FailsToLoad target m.target old m'.target new → FollowsIn source old.pages m.source
-      → FailsToRead source target m old m' new
-  fails_of kept f at =
-      subst (λ (x : Merger). FailsToRead source target m old x new) (sym kept) (record {
-        read = inr f.read;
-        merger = ap (λ (x : Cursor). record m { target = x }) f.cursor;
-        follows_source = at;
-        follows_target = f.follows;
-        same = f.same;
-      })
