@@ -1,5 +1,6 @@
 pub mod Overs
 pub mod Following
+pub mod Loading
 pub mod Telling
 pub mod Places
 pub mod Programming

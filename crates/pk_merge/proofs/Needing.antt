@@ -1,11 +1,11 @@
 -- What a merge with a next page needs: room in its level, blocks and frames.
-use Rattle.std.proofs.Common.{◌≡◌, inl, inr, ℕ, ◌+◌, ◌*◌, ◌<◌, ◌≤◌, sym, ap, subst, ◌∙◌, arith, Bool, true, false, T, not, ◌||◌, ◌==◌, is_some, List, [], ◌∷◌, ◌++◌, length, length-append, append_assoc, lt_of_mul-lt-mul_right}
+use Rattle.std.proofs.Common.{◌≡◌, ◌≢◌, inl, inr, ℕ, ◌+◌, ◌*◌, ◌<◌, ◌≤◌, sym, ap, subst, ◌∙◌, arith, Bool, true, false, T, not, ◌||◌, ◌==◌, is_some, List, [], ◌∷◌, ◌++◌, length, length-append, append_assoc, lt_of_mul-lt-mul_right}
 use Rattle.std.proofs.lemmas.Grind.{div_ceil_times}
 use Rattle.std.specs.Int.{div_ceil}
 use Rattle.std.specs.List.{list_all, AllByRecursion}
 use Rattle.std.specs.FinMap.Entries.{is_sorted, below_all}
 use Rattle.pk_base.specs.Key.{Key, key_cmp}
-use Rattle.pk_base.specs.Shape.{IsShape, page_entries, run_pages, run_blocks}
+use Rattle.pk_base.specs.Shape.{Shape, IsShape, page_entries, run_pages, run_blocks}
 use Rattle.pk_base.specs.Entry.{Entry}
 use Rattle.pk_base.specs.EntryBytes.{IsEntry}
 use Rattle.pk_base.specs.Page.{Flash}
@@ -18,6 +18,7 @@ use Rattle.pk_run.specs.Kept.{Kept, IsKept, most_pages, most_blocks}
 use Rattle.pk_work.proofs.Paging.{few_pages, few_blocks}
 use Rattle.pk_merge.specs.declared.source.Source.{Source}
 use Rattle.pk_merge.specs.Merging.{Merger, left}
+use Rattle.pk_merge.specs.Outputs.{MayProgram}
 use Rattle.pk_merge.specs.Running.{merged, CanStand, Merging, HasBlocks, HasFrames}
 use Rattle.pk_merge.proofs.Following.{entries_some}
 use Rattle.pk_merge.proofs.Overs.{left_part, right_part, both, output_sorted, output_deepest, output_all, all_left, all_right}
@@ -160,3 +161,22 @@ module _ {X : Type 0} (source : Source X) (target out : Kept) (m : Merger) (flas
 
   pub frame_to_come : (pins : Bool) → HasFrames source target pins out arena (length all) → pins ≡ true → 0 < free_frames arena
   frame_to_come pins f is_pinned = let page = page_to_come in let free = f.free is_pinned in omega (arith, page, free)
+
+  -- it may be programmed
+  pub may_program : (pins : Bool) → HasFrames source target pins out arena (length all)
+      → m.shape ≡ out.shape → arena.page_bytes ≡ out.shape.page_bytes
+      → length m.gathered ≤ page_entries m.shape
+      → length out.firsts ≢ length out.blocks * out.shape.block_pages
+      → MayProgram pins out m.gathered flash arena
+  may_program pins f of_merger of_frames most ne = record {
+    entries = g.entries;
+    stands = g.stands;
+    output = g.output;
+    place = let within = g.stands.within in omega (arith, within, ne);
+    room = level_has_room;
+    full = full_before;
+    content = next_content (subst (λ (s : Shape). length m.gathered ≤ page_entries s) of_merger most);
+    pinned = f.pinned;
+    free = frame_to_come pins f;
+    frames = of_frames;
+  }

@@ -3,18 +3,20 @@ use Rattle.std.specs.Prelude.{◌≡◌, ◌⊎◌, ℕ, ◌+◌, ◌*◌, ◌<�
 use Rattle.std.specs.List.{list_all}
 use Rattle.std.specs.FinMap.Entries.{is_sorted}
 use Rattle.pk_base.specs.Key.{Key, key_cmp}
+use Rattle.pk_base.specs.Shape.{page_entries}
 use Rattle.pk_base.specs.Entry.{Entry}
 use Rattle.pk_base.specs.Page.{Flash, page_at, erased}
-use Rattle.pk_meta.specs.Page.{meta_bytes}
+use Rattle.pk_meta.specs.Page.{IsContent, meta_bytes}
 use Rattle.pk_nand.specs.BoardState.{BoardState}
 use Rattle.pk_nand.specs.Calls.{IsErasedBlock, ProgramFailed, after_program}
 use Rattle.pk_nand.specs.Crash.{Reached, Went, SameOutside}
-use Rattle.pk_pin.specs.Frames.{Frames, IsLeased, frame_of, leased, filled}
+use Rattle.pk_pin.specs.Frames.{Frames, IsLeased, free_frames, frame_of, leased, filled}
 use Rattle.pk_plan.specs.declared.owner.Owner.TheVariants.{Meta}
 use Rattle.pk_pool.specs.declared.state.BlockState.TheVariants.{Owned}
 use Rattle.pk_pool.specs.Blocks.{Blocks, IsSpare, used_by, with_state}
 use Rattle.pk_pool.specs.Taking.{TakesReady, ErasesFree, ReachesIn}
-use Rattle.pk_run.specs.Kept.{Kept, RunOnFlash, page_of, with_page}
+use Rattle.pk_run.specs.Kept.{Kept, RunOnFlash, most_pages, page_of, with_page}
+use Rattle.pk_level.specs.Arenas.{IsPinnedIf}
 
 -- all of these blocks are the pool's, owned for meta pages
 abbrev pub AreMeta : Blocks → List ℕ → Type 0
@@ -62,6 +64,22 @@ OthersStand r old before new after = (other : Kept) (es : List Entry) → AreApa
 -- wherever the program of its next page is cut, no other page differs
 abbrev pub SameButNext : Kept → Flash → Flash → Type 0
 SameButNext r old new = SameOutside (page_of r (length r.firsts)) 1 old new
+
+-- The next page may be programmed with these entries, and kept in a frame where one is wanted.
+pub record MayProgram (pins : Bool) (r : Kept) (more : List Entry) (flash : Flash)
+    (arena : Frames) : Type 0 where
+  pub entries : List Entry
+  pub stands : RunOnFlash r flash arena entries
+  pub output : IsOutput r flash
+  -- the page has a place in the blocks, and its entries are all there
+  pub place : length r.firsts < length r.blocks * r.shape.block_pages
+  pub room : length r.firsts < most_pages r
+  pub full : r.count ≡ length r.firsts * page_entries r.shape
+  pub content : IsContent r.shape r.level (length r.firsts) more
+  -- a frame is free where one is wanted
+  pub pinned : IsPinnedIf pins r
+  pub free : pins ≡ true → 0 < free_frames arena
+  pub frames : arena.page_bytes ≡ r.shape.page_bytes
 
 -- The next page has these entries now, and so has a frame where one is wanted.
 pub record ProgramsPage (pins : Bool) (r : Kept) (more : List Entry) (old : BoardState) (before : Frames) (r' : Kept) (new : BoardState) (after : Frames) : Type 0 where

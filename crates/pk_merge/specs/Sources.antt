@@ -9,7 +9,7 @@ use Rattle.pk_nand.specs.Calls.{ReadFailed}
 use Rattle.pk_run.specs.Kept.{RunOnFlash, page_of, after_look}
 use Rattle.pk_merge.specs.declared.source.Source.{Source}
 use Rattle.pk_merge.specs.declared.source.Source.TheVariants.{Frozen, Run}
-use Rattle.pk_merge.specs.Cursors.{Cursor, Follows, own_page, wants_page}
+use Rattle.pk_merge.specs.Cursors.{Cursor, Follows, own_page, wants_page, MayLoad, Loads, FailsToLoad}
 
 -- how many entries it has
 abbrev pub count_of : {X : Type 0} → Source X → ℕ
@@ -55,3 +55,20 @@ after_look_at (Run r) board = after_look r.now.leases board
 abbrev pub LookFails : {X : Type 0} → Source X → Cursor → BoardState → BoardState → Type 0
 LookFails (Frozen b) c old new = ⊥
 LookFails (Run r) c old new = ReadFailed old new (page_of r.now (own_page c))
+
+-- ---- loads of the page of a cursor's place, which is one of a run
+
+-- it may be loaded
+abbrev pub MayLoadIn : {X : Type 0} → Source X → Cursor → BoardState → Frames → Type 0
+MayLoadIn (Frozen b) c board arena = ⊥
+MayLoadIn (Run r) c board arena = MayLoad r.now c board arena
+
+-- it was
+abbrev pub LoadsIn : {X : Type 0} → Source X → Cursor → BoardState → Cursor → BoardState → Type 0
+LoadsIn (Frozen b) c old c' new = ⊥
+LoadsIn (Run r) c old c' new = Loads r.now c old c' new
+
+-- its read failed
+abbrev pub FailsToLoadIn : {X : Type 0} → Source X → Cursor → BoardState → Cursor → BoardState → Type 0
+FailsToLoadIn (Frozen b) c old c' new = ⊥
+FailsToLoadIn (Run r) c old c' new = FailsToLoad r.now c old c' new

@@ -1,14 +1,14 @@
 //! A place among the entries of a run, which goes forward.
-ghost use Rattle.std.specs.Prelude.{◌≡◌, suc, ◌<◌, ◌^◌, List, true, false, slice_get, Some, IfOk, IfErr, OnOk, OnErr};
+ghost use Rattle.std.specs.Prelude.{◌≡◌, suc, ◌<◌, ◌^◌, List, false, slice_get, Some, IfOk, IfErr, OnOk, OnErr};
 ghost use Rattle.pk_base.specs.Shape.{IsShape};
 ghost use Rattle.pk_base.specs.Entry.{Entry as EntrySpec};
 ghost use Rattle.pk_base.specs.Page.{Flash};
 ghost use Rattle.pk_base.specs.Seen.{entry as seen};
-ghost use Rattle.pk_nand.specs.Calls.{IsReady, ReadFailed};
+ghost use Rattle.pk_nand.specs.Calls.{IsReady};
 ghost use Rattle.pk_nand.specs.declared.types.Fault.TheVariants.{Reading};
 ghost use Rattle.pk_pin.specs.Frames.{Frames};
-ghost use Rattle.pk_run.specs.Kept.{RunOnFlash, page_of, after_look};
-ghost use Rattle.pk_merge.specs.Cursors.{Follows, at_start, passed, own_page, wants_page};
+ghost use Rattle.pk_run.specs.Kept.{RunOnFlash};
+ghost use Rattle.pk_merge.specs.Cursors.{Follows, at_start, passed, wants_page, MayLoad, Loads, FailsToLoad};
 
 use pk_base::{Entry, Shape};
 use pk_meta::entry;
@@ -96,35 +96,19 @@ impl<A: Allocator> Cursor<A> {
         self.loaded <= self.place / self.shape.entries()
     }
 
-    /// Loads the page of the place, by at most one read.
+    /// Loads the page of the place, by at most one read. `Reading` where it fails; else nothing fails.
     pub fn load<B: Nand>(
         &mut self,
         board: &mut B,
         arena: &PinArena<A>,
         run: &Run<A>,
     ) -> Result<(), Fault>
-        requires ready { IsReady (B.state board.old) run.now.shape }
-        requires stands { (es : List EntrySpec)
-            × RunOnFlash run.now (B.state board.old).pages arena.now es }
-        requires follows { Follows (B.state board.old).pages run.now self.old }
-        requires exists { self.old.place < run.now.count }
-        requires wants { wants_page self.old ≡ true }
-
-        // The page is loaded.
-        ensures loaded { OnOk result (self.new
-            ≡ record self.old { loaded = suc (own_page self.old); bytes = self.new.bytes }) }
-        ensures follows { Follows (B.state board.old).pages run.now self.new }
-        ensures ok { OnOk result
-            (B.state board.new ≡ after_look run.now.leases (B.state board.old)) }
-
-        // Or its read failed.
-        ensures kept { OnErr result (self.new ≡ record self.old { bytes = self.new.bytes }) }
+        requires { MayLoad run.now self.old (B.state board.old) arena.now }
+        ensures loads { OnOk result
+            (Loads run.now self.old (B.state board.old) self.new (B.state board.new)) }
         ensures reading { IfErr result (λ fault. fault ≡ Reading) }
-        ensures err { OnErr result (ReadFailed (B.state board.old) (B.state board.new)
-            (page_of run.now (own_page self.old))) }
-
-        // Either way the flash is as it was.
-        ensures same { (B.state board.new).pages ≡ (B.state board.old).pages }
+        ensures fails { OnErr result
+            (FailsToLoad run.now self.old (B.state board.old) self.new (B.state board.new)) }
         ensures ready { IsReady (B.state board.new) run.now.shape }
     {
         run.known();

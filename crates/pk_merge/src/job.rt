@@ -20,7 +20,7 @@ ghost use Rattle.pk_merge.specs.Elsewhere.{StepReaches, StepWent, LeavesRuns, Le
 ghost use Rattle.pk_merge.specs.Jobs.{pins, output_of, begun, IsIdle, JobRuns, RunsOn, Completes, LowersRest, freed, given_all, given_to, held_at, taken_from, ended, AreOwned, AreLeased, LeavesOthers, LeavesBlocks};
 
 use crate::merger::Merger;
-use crate::source::Source;
+use crate::source::{Inputs, Source};
 use crate::spares::Spares;
 use pk_nand::{Fault, Nand};
 use pk_pin::PinArena;
@@ -190,12 +190,15 @@ impl<A: Region> MergeJob<A> {
             → Stops (B.state board.old) (B.state board.new) }
         ensures ready { IsReady (B.state board.new) self.old.merger.shape }
     {
-        let pins = self.target <= self.pinned;
+        let inputs = Inputs {
+            source: &source,
+            target,
+            pins: self.target <= self.pinned,
+        };
         match &mut self.output {
             Some(out) => {
                 out.known();
-                self.merger
-                    .step(out, pins, board, pool, arena, &source, target)
+                self.merger.step(out, board, pool, arena, &inputs)
             }
             None => unreachable!(),
         }

@@ -1,22 +1,19 @@
 //! A merge that runs: where it stands in its source and its target, and the entries of its next page.
-ghost use Rattle.std.specs.Prelude.{◌≡◌, ◌*◌, ◌<◌, ◌≤◌, ◌^◌, suc, List, [], ◌≢◌, true, false, length, IfOk, IfErr, OnOk, OnErr, IsTrue, ◌↔◌};
+ghost use Rattle.std.specs.Prelude.{◌≡◌, ◌<◌, ◌≤◌, ◌^◌, suc, List, [], ◌≢◌, true, false, length, IfOk, IfErr, OnOk, OnErr, IsTrue, ◌↔◌};
 ghost use Rattle.pk_base.specs.Shape as shapes;
 ghost use Rattle.pk_base.specs.Shape.{IsShape, page_entries};
 ghost use Rattle.pk_base.specs.Entry.{Entry as EntrySpec, key_of};
 ghost use Rattle.pk_base.specs.Key.{key_cmp};
 ghost use Rattle.pk_base.specs.Page.{Flash};
 ghost use Rattle.pk_base.specs.Seen.{entry as seen};
-ghost use Rattle.pk_meta.specs.Page.{IsContent};
-ghost use Rattle.pk_nand.specs.Calls.{IsReady, ReadFailed};
+ghost use Rattle.pk_nand.specs.Calls.{IsReady};
 ghost use Rattle.pk_nand.specs.declared.types.Fault.TheVariants.{Reading, Stopped};
-ghost use Rattle.pk_pin.specs.Frames.{Frames, free_frames};
-ghost use Rattle.pk_run.specs.Kept.{RunOnFlash, most_pages, page_of};
-ghost use Rattle.pk_level.specs.Arenas.{IsPinnedIf};
-ghost use Rattle.pk_merge.specs.Cursors.{Follows, own_page, wants_page};
-ghost use Rattle.pk_merge.specs.Sources.{count_of, Has, FollowsIn, IsOf, LookFails, wants_page_in};
+ghost use Rattle.pk_pin.specs.Frames.{Frames};
+ghost use Rattle.pk_merge.specs.Cursors.{MayLoad, FailsToLoad};
+ghost use Rattle.pk_merge.specs.Sources.{MayLoadIn, FailsToLoadIn};
 ghost use Rattle.pk_merge.specs.Merging as spec;
 ghost use Rattle.pk_merge.specs.Merging.{restarted, takes_source, takes_target, takes_both, taken, StandsIn, GoesOn, Tells, IsAtEnd, IsDone, HasNextPage};
-ghost use Rattle.pk_merge.specs.Outputs.{IsOutput, ProgramsPage, FailsToProgram};
+ghost use Rattle.pk_merge.specs.Outputs.{MayProgram, ProgramsPage, FailsToProgram};
 ghost use Rattle.pk_merge.specs.Running.{Running, IsMergerOf};
 ghost use Rattle.pk_merge.specs.Steps.{Acts, Steps, Fails, LoadsSource, LoadsTarget};
 
@@ -24,7 +21,7 @@ use crate::cursor::Cursor;
 use crate::gathered::Gathered;
 use crate::next::Next;
 use crate::output::{program_page, take_block, wants_block};
-use crate::source::Source;
+use crate::source::{Inputs, Source};
 use pk_base::{Entry, Shape, compare};
 use pk_nand::{Fault, Nand};
 use pk_pin::PinArena;
@@ -245,26 +242,24 @@ impl<A: Region> Merger<A> {
         &mut self,
         next: Next,
         out: &mut Run<A>,
-        pins: bool,
         board: &mut B,
         pool: &mut Pool<A>,
         arena: &mut PinArena<A>,
-        source: &Source<A>,
-        target: &Run<A>,
+        inputs: &Inputs<A>,
     ) -> Result<(), Fault>
         requires ready { IsReady (B.state board.old) out.old.shape }
         requires running { (es : List EntrySpec) × (fs : List EntrySpec)
-            × Running source.now target.now pins out.old self.old pool.old
-            (B.state board.old).pages arena.old es fs }
-        requires tells { Tells source.now target.now out.old self.old next }
+            × Running inputs.now.source.now inputs.now.target.now inputs.now.pins out.old self.old
+            pool.old (B.state board.old).pages arena.old es fs }
+        requires tells { Tells inputs.now.source.now inputs.now.target.now out.old self.old next }
         requires bound { length self.old.gathered ≤ page_entries self.old.shape }
 
         // What was done, or the call that failed.
-        ensures acts { OnOk result (Acts source.now target.now pins out.old self.old pool.old
-            (B.state board.old) arena.old next out.new self.new pool.new
+        ensures acts { OnOk result (Acts inputs.now.source.now inputs.now.target.now inputs.now.pins
+            out.old self.old pool.old (B.state board.old) arena.old next out.new self.new pool.new
             (B.state board.new) arena.new) }
-        ensures fails { IfErr result (λ fault. Fails source.now target.now out.old self.old
-            pool.old (B.state board.old) fault self.new (B.state board.new)) }
+        ensures fails { IfErr result (λ fault. Fails inputs.now.source.now inputs.now.target.now
+            out.old self.old pool.old (B.state board.old) fault self.new (B.state board.new)) }
         ensures kept { OnErr result
             ((out.new ≡ out.old) × (pool.new ≡ pool.old) × (arena.new ≡ arena.old)) }
 
@@ -273,11 +268,11 @@ impl<A: Region> Merger<A> {
     {
         out.known();
         match next {
-            Next::LoadSource => match self.load_source(board, arena, source) {
+            Next::LoadSource => match self.load_source(board, arena, inputs.source) {
                 Ok(()) => Ok(()),
                 Err(fault) => Err(fault),
             },
-            Next::LoadTarget => match self.load_target(board, arena, target) {
+            Next::LoadTarget => match self.load_target(board, arena, inputs.target) {
                 Ok(()) => Ok(()),
                 Err(fault) => Err(fault),
             },
@@ -285,7 +280,7 @@ impl<A: Region> Merger<A> {
                 Ok(()) => Ok(()),
                 Err(fault) => Err(fault),
             },
-            Next::Program => match self.program(out, pins, board, arena) {
+            Next::Program => match self.program(out, inputs.pins, board, arena) {
                 Ok(()) => Ok(()),
                 Err(fault) => Err(fault),
             },
@@ -294,81 +289,46 @@ impl<A: Region> Merger<A> {
         }
     }
 
-    // Loads the page at the source's cursor.
+    // Loads the page at the source's cursor. `Reading` where its read fails; else nothing fails.
     fn load_source<B: Nand>(
         &mut self,
         board: &mut B,
         arena: &PinArena<A>,
         source: &Source<A>,
     ) -> Result<(), Fault>
-        requires ready { (shape : shapes.Shape) × IsOf shape source.now
-            × IsReady (B.state board.old) shape }
-        requires has { (es : List EntrySpec)
-            × Has source.now (B.state board.old).pages arena.now es }
-        requires follows { FollowsIn source.now (B.state board.old).pages self.old.source }
-        requires exists { self.old.source.place < count_of source.now }
-        requires wants { wants_page_in source.now self.old.source ≡ true }
-
-        // The page is loaded.
+        requires { MayLoadIn source.now self.old.source (B.state board.old) arena.now }
         ensures loads { OnOk result (LoadsSource source.now self.old (B.state board.old) self.new
             (B.state board.new)) }
-
-        // Or its read failed.
-        ensures kept { OnErr result (self.new ≡ record self.old
-            { source = record self.old.source { bytes = self.new.source.bytes } }) }
-        ensures follows { FollowsIn source.now (B.state board.old).pages self.new.source }
         ensures reading { IfErr result (λ fault. fault ≡ Reading) }
-        ensures err { OnErr result (LookFails source.now self.old.source (B.state board.old)
-            (B.state board.new)) }
-
-        // Either way the flash is as it was.
-        ensures same { (B.state board.new).pages ≡ (B.state board.old).pages }
+        ensures fails { OnErr result (FailsToLoadIn source.now self.old.source (B.state board.old)
+            self.new.source (B.state board.new)) }
+        ensures kept { self.new ≡ record self.old { source = self.new.source } }
         ensures ready { (shape : shapes.Shape) → IsReady (B.state board.old) shape
             → IsReady (B.state board.new) shape }
     {
-        match source.load(&mut self.source, board, arena) {
-            Ok(()) => Ok(()),
-            Err(fault) => Err(fault),
-        }
+        source.load(&mut self.source, board, arena)
     }
 
-    // Loads the page at the target's cursor.
+    // Loads the page at the target's cursor. `Reading` where its read fails; else nothing fails.
     fn load_target<B: Nand>(
         &mut self,
         board: &mut B,
         arena: &PinArena<A>,
         target: &Run<A>,
     ) -> Result<(), Fault>
-        requires ready { IsReady (B.state board.old) target.now.shape }
-        requires stands { (es : List EntrySpec)
-            × RunOnFlash target.now (B.state board.old).pages arena.now es }
-        requires follows { Follows (B.state board.old).pages target.now self.old.target }
-        requires exists { self.old.target.place < target.now.count }
-        requires wants { wants_page self.old.target ≡ true }
-
-        // The page is loaded.
+        requires { MayLoad target.now self.old.target (B.state board.old) arena.now }
         ensures loads { OnOk result (LoadsTarget target.now self.old (B.state board.old) self.new
             (B.state board.new)) }
-
-        // Or its read failed.
-        ensures kept { OnErr result (self.new ≡ record self.old
-            { target = record self.old.target { bytes = self.new.target.bytes } }) }
-        ensures follows { Follows (B.state board.old).pages target.now self.new.target }
         ensures reading { IfErr result (λ fault. fault ≡ Reading) }
-        ensures err { OnErr result (ReadFailed (B.state board.old) (B.state board.new)
-            (page_of target.now (own_page self.old.target))) }
-
-        // Either way the flash is as it was.
-        ensures same { (B.state board.new).pages ≡ (B.state board.old).pages }
+        ensures fails { OnErr result (FailsToLoad target.now self.old.target (B.state board.old)
+            self.new.target (B.state board.new)) }
+        ensures kept { self.new ≡ record self.old { target = self.new.target } }
         ensures ready { IsReady (B.state board.new) target.now.shape }
     {
-        match self.target.load(board, arena, target) {
-            Ok(()) => Ok(()),
-            Err(fault) => Err(fault),
-        }
+        self.target.load(board, arena, target)
     }
 
-    // Programs the next page of the output.
+    // Programs the next page of the output. `Stopped` where the program fails, and all is as before.
     fn program<B: Nand>(
         &mut self,
         out: &mut Run<A>,
@@ -377,22 +337,8 @@ impl<A: Region> Merger<A> {
         arena: &mut PinArena<A>,
     ) -> Result<(), Fault>
         requires ready { IsReady (B.state board.old) out.old.shape }
-        requires stands { (es : List EntrySpec)
-            × RunOnFlash out.old (B.state board.old).pages arena.old es }
-        requires output { IsOutput out.old (B.state board.old).pages }
-
-        // The page has a place in the blocks, and its entries are all there.
-        requires place { length out.old.firsts
-            < length out.old.blocks * out.old.shape.block_pages }
-        requires room { length out.old.firsts < most_pages out.old }
-        requires full { out.old.count ≡ length out.old.firsts * page_entries out.old.shape }
-        requires content { IsContent out.old.shape out.old.level (length out.old.firsts)
-            self.old.gathered }
-
-        // A frame is free where one is wanted.
-        requires pinned { IsPinnedIf pins out.old }
-        requires free { pins ≡ true → 0 < free_frames arena.old }
-        requires frames { arena.old.page_bytes ≡ out.old.shape.page_bytes }
+        requires may { MayProgram pins out.old self.old.gathered (B.state board.old).pages
+            arena.old }
         requires shape { self.old.shape ≡ out.old.shape }
 
         // The page stands.
@@ -404,8 +350,8 @@ impl<A: Region> Merger<A> {
         ensures stopped { IfErr result (λ e. e ≡ Stopped) }
         ensures failed { OnErr result (FailsToProgram out.old self.old.gathered
             (B.state board.old) (B.state board.new)) }
-        ensures kept { OnErr result ((out.new ≡ out.old) × (arena.new ≡ arena.old)) }
-        ensures same { OnErr result (self.new ≡ self.old) }
+        ensures kept { OnErr result
+            ((out.new ≡ out.old) × (self.new ≡ self.old) × (arena.new ≡ arena.old)) }
 
         // Either way the board may be called as before.
         ensures ready { IsReady (B.state board.new) out.old.shape }
@@ -432,28 +378,26 @@ impl<A: Region> Merger<A> {
     pub fn step<B: Nand>(
         &mut self,
         out: &mut Run<A>,
-        pins: bool,
         board: &mut B,
         pool: &mut Pool<A>,
         arena: &mut PinArena<A>,
-        source: &Source<A>,
-        target: &Run<A>,
+        inputs: &Inputs<A>,
     ) -> Result<bool, Fault>
         requires ready { IsReady (B.state board.old) out.old.shape }
         requires running { (es : List EntrySpec) × (fs : List EntrySpec)
-            × Running source.now target.now pins out.old self.old pool.old
-            (B.state board.old).pages arena.old es fs }
+            × Running inputs.now.source.now inputs.now.target.now inputs.now.pins out.old self.old
+            pool.old (B.state board.old).pages arena.old es fs }
 
         // What the step did, and whether it was the last one.
-        ensures steps { OnOk result (Steps source.now target.now pins out.old self.old pool.old
-            (B.state board.old) arena.old out.new self.new pool.new
-            (B.state board.new) arena.new) }
+        ensures steps { OnOk result (Steps inputs.now.source.now inputs.now.target.now
+            inputs.now.pins out.old self.old pool.old (B.state board.old) arena.old out.new self.new
+            pool.new (B.state board.new) arena.new) }
         ensures done { IfOk result (λ done. IsTrue done
-            ↔ IsDone source.now target.now self.new) }
+            ↔ IsDone inputs.now.source.now inputs.now.target.now self.new) }
 
         // Or the call that failed.
-        ensures fails { IfErr result (λ fault. Fails source.now target.now out.old self.old
-            pool.old (B.state board.old) fault self.new (B.state board.new)) }
+        ensures fails { IfErr result (λ fault. Fails inputs.now.source.now inputs.now.target.now
+            out.old self.old pool.old (B.state board.old) fault self.new (B.state board.new)) }
         ensures kept { OnErr result
             ((out.new ≡ out.old) × (pool.new ≡ pool.old) × (arena.new ≡ arena.old)) }
 
@@ -461,11 +405,11 @@ impl<A: Region> Merger<A> {
         ensures ready { IsReady (B.state board.new) out.old.shape }
     {
         out.known();
-        let next = self.next(out, source, target);
-        match self.act(next, out, pins, board, pool, arena, source, target) {
+        let next = self.next(out, inputs.source, inputs.target);
+        match self.act(next, out, board, pool, arena, inputs) {
             Ok(()) => {
-                self.gather(out.level(), source, target);
-                Ok(self.is_done(source, target))
+                self.gather(out.level(), inputs.source, inputs.target);
+                Ok(self.is_done(inputs.source, inputs.target))
             }
             Err(fault) => Err(fault),
         }

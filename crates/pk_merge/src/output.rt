@@ -1,9 +1,6 @@
 //! The output's blocks and pages.
-ghost use Rattle.std.specs.Prelude.{◌≡◌, ◌*◌, ◌<◌, ◌==◌, List, true, length, IfErr, OnOk, OnErr};
-ghost use Rattle.pk_base.specs.Shape.{page_entries};
-ghost use Rattle.pk_base.specs.Entry.{Entry as EntrySpec};
+ghost use Rattle.std.specs.Prelude.{◌≡◌, ◌*◌, ◌<◌, ◌==◌, true, length, IfErr, OnOk, OnErr};
 ghost use Rattle.pk_base.specs.Seen.{entries as seen_all};
-ghost use Rattle.pk_meta.specs.Page.{IsContent};
 ghost use Rattle.pk_nand.specs.Calls.{IsReady};
 ghost use Rattle.pk_nand.specs.declared.types.Fault.TheVariants.{Stopped};
 ghost use Rattle.pk_pin.specs.Frames.{free_frames};
@@ -11,9 +8,8 @@ ghost use Rattle.pk_plan.specs.declared.owner.Owner.TheVariants.{Meta};
 ghost use Rattle.pk_plan.specs.Quotas.{quota_of};
 ghost use Rattle.pk_pool.specs.Blocks.{PoolOnFlash, used_by};
 ghost use Rattle.pk_pool.specs.Taking.{FailsToErase};
-ghost use Rattle.pk_run.specs.Kept.{RunOnFlash, most_pages, most_blocks};
-ghost use Rattle.pk_level.specs.Arenas.{IsPinnedIf};
-ghost use Rattle.pk_merge.specs.Outputs.{IsOutput, TakesBlock, ProgramsPage, FailsToProgram, KeepsPage};
+ghost use Rattle.pk_run.specs.Kept.{most_blocks};
+ghost use Rattle.pk_merge.specs.Outputs.{TakesBlock, MayProgram, ProgramsPage, FailsToProgram, KeepsPage};
 
 use pk_base::Entry;
 use pk_meta::encode;
@@ -99,21 +95,8 @@ pub fn program_page<B: Nand, A: Allocator>(
     buf: &mut [u8],
 ) -> Result<(), Fault>
     requires ready { IsReady (B.state board.old) out.old.shape }
-    requires stands { (es : List EntrySpec)
-        × RunOnFlash out.old (B.state board.old).pages arena.old es }
-    requires output { IsOutput out.old (B.state board.old).pages }
-
-    // The page has a place in the blocks, and its entries are all there.
-    requires place { length out.old.firsts < length out.old.blocks * out.old.shape.block_pages }
-    requires room { length out.old.firsts < most_pages out.old }
-    requires full { out.old.count ≡ length out.old.firsts * page_entries out.old.shape }
-    requires content { IsContent out.old.shape out.old.level (length out.old.firsts)
-        (seen_all entries.now) }
-
-    // A frame is free where one is wanted.
-    requires pinned { IsPinnedIf pins out.old }
-    requires free { pins ≡ true → 0 < free_frames arena.old }
-    requires frames { arena.old.page_bytes ≡ out.old.shape.page_bytes }
+    requires may { MayProgram pins out.old (seen_all entries.now) (B.state board.old).pages
+        arena.old }
     requires sized { length buf.old ≡ out.old.shape.page_bytes }
 
     // The page stands.

@@ -1,5 +1,5 @@
 //! What is merged into a run.
-ghost use Rattle.std.specs.Prelude.{◌≡◌, ◌<◌, suc, List, true, false, slice_get, Some, IfErr, OnOk, OnErr};
+ghost use Rattle.std.specs.Prelude.{◌≡◌, ◌<◌, List, false, slice_get, Some, IfErr, OnOk, OnErr};
 ghost use Rattle.pk_base.specs.Entry.{Entry as EntrySpec};
 ghost use Rattle.pk_base.specs.Page.{Flash};
 ghost use Rattle.pk_base.specs.Shape as spec;
@@ -7,8 +7,7 @@ ghost use Rattle.pk_base.specs.Seen.{entry as seen};
 ghost use Rattle.pk_nand.specs.Calls.{IsReady};
 ghost use Rattle.pk_nand.specs.declared.types.Fault.TheVariants.{Reading};
 ghost use Rattle.pk_pin.specs.Frames.{Frames};
-ghost use Rattle.pk_merge.specs.Cursors.{own_page};
-ghost use Rattle.pk_merge.specs.Sources.{count_of, Has, FollowsIn, IsOf, wants_page_in, after_look_at, LookFails};
+ghost use Rattle.pk_merge.specs.Sources.{count_of, Has, FollowsIn, wants_page_in, MayLoadIn, LoadsIn, FailsToLoadIn};
 
 use crate::cursor::Cursor;
 use pk_base::Entry;
@@ -23,6 +22,14 @@ use pk_run::Run;
 pub enum Source<'a, A: Region> {
     Frozen(&'a Buffer<A>),
     Run(&'a Run<A>),
+}
+
+/// What a merge reads, and whether the pages of its output are kept in frames.
+#[derive(Drop)]
+pub struct Inputs<'a, A: Region> {
+    pub source: &'a Source<'a, A>,
+    pub target: &'a Run<A>,
+    pub pins: bool,
 }
 
 impl<'a, A: Region> Source<'a, A> {
@@ -53,27 +60,12 @@ impl<'a, A: Region> Source<'a, A> {
         board: &mut B,
         arena: &PinArena<A>,
     ) -> Result<(), Fault>
-        requires ready { (shape : spec.Shape) × IsOf shape self.now
-            × IsReady (B.state board.old) shape }
-        requires has { (es : List EntrySpec) × Has self.now (B.state board.old).pages arena.now es }
-        requires follows { FollowsIn self.now (B.state board.old).pages cursor.old }
-        requires exists { cursor.old.place < count_of self.now }
-        requires wants { wants_page_in self.now cursor.old ≡ true }
-
-        // The page is loaded.
-        ensures loaded { OnOk result (cursor.new ≡ record cursor.old
-            { loaded = suc (own_page cursor.old); bytes = cursor.new.bytes }) }
-        ensures follows { FollowsIn self.now (B.state board.old).pages cursor.new }
-        ensures ok { OnOk result (B.state board.new ≡ after_look_at self.now (B.state board.old)) }
-
-        // Or its read failed.
-        ensures kept { OnErr result (cursor.new ≡ record cursor.old { bytes = cursor.new.bytes }) }
+        requires { MayLoadIn self.now cursor.old (B.state board.old) arena.now }
+        ensures loads { OnOk result
+            (LoadsIn self.now cursor.old (B.state board.old) cursor.new (B.state board.new)) }
         ensures reading { IfErr result (λ fault. fault ≡ Reading) }
-        ensures err { OnErr result
-            (LookFails self.now cursor.old (B.state board.old) (B.state board.new)) }
-
-        // Either way the flash is as it was.
-        ensures same { (B.state board.new).pages ≡ (B.state board.old).pages }
+        ensures fails { OnErr result
+            (FailsToLoadIn self.now cursor.old (B.state board.old) cursor.new (B.state board.new)) }
         ensures ready { (shape : spec.Shape) → IsReady (B.state board.old) shape
             → IsReady (B.state board.new) shape }
     {

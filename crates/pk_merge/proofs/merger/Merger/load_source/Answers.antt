@@ -1,0 +1,6 @@
+use Rattle.pk_merge.proofs.Loading.{loads_in}
+use Rattle.pk_merge.proofs.Results.{on_ok}
+use Rattle.pk_merge.proofs.merger.Merger.load_source.Goals as goal
+
+pub returns-clause-loads : goal.returns-clause-loads
+returns-clause-loads g c = on_ok c.load.result _ _ c.load.ensures.loads (λ l. rw (← c.self.view_is) (loads_in c.args.source.now _ _ _ _ l))
