@@ -115,10 +115,6 @@ fn read_part<B: Nand>(
     // Or it failed.
     ensures reading { IfErr result (λ e. e ≡ Reading) }
     ensures err { OnErr result (ReadFailed (B.state board.old) (B.state board.new) (page + i)) }
-
-    // Either way the buffers may be used again.
-    ensures len { length into.new ≡ length into.old }
-    ensures buffer { length buf.new ≡ length buf.old }
 {
     shape.known();
     let size = buf.len();
