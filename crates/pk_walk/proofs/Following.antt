@@ -1,6 +1,6 @@
 -- A cursor in a run: the page of its place, the entry at it, and what its moves leave.
-use Rattle.std.proofs.Common.{◌≡◌, ℕ, zero, suc, ◌+◌, ◌-◌, ◌*◌, ◌/◌, ◌%◌, ◌<◌, ◌≤◌, min, refl, sym, ap, subst, ◌∙◌, arith, Bool, false, T, List, [], ◌∷◌, length, take, drop, slice_get, Some, div-lt_iff_lt-mul}
-use Rattle.std.proofs.lemmas.Nat.{div-add-mod', le-div}
+use Rattle.std.proofs.Common.{◌≡◌, ℕ, zero, suc, ◌+◌, ◌-◌, ◌*◌, ◌/◌, ◌%◌, ◌<◌, ◌≤◌, min, refl, sym, ap, subst, ◌∙◌, arith, Bool, T, List, [], ◌∷◌, length, take, drop, slice_get, Some, div-lt_iff_lt-mul}
+use Rattle.std.proofs.lemmas.Nat.{div-add-mod'}
 use Rattle.std.proofs.lemmas.List.{length-take, length-drop}
 use Rattle.std.proofs.lemmas.Grind.{div_ceil_times}
 use Rattle.std.proofs.Math.Nat.{mod-lt, div-le_of_le-mul, lt_of_mul-lt-mul_right}
@@ -22,16 +22,12 @@ use Rattle.pk_walk.specs.declared.position.Position.TheVariants.{Above}
 use Rattle.pk_walk.specs.Visible.{is_wanted, wanted, WantsFrom}
 use Rattle.pk_walk.specs.Walking.{Cursor, Follows, HasPassed, Reads, ReadsAll, at_start, read_of}
 use Rattle.pk_walk.specs.Steps.{MayLoad, StaysAt}
-use Rattle.pk_walk.proofs.Wanting.{begun_at, passed_by, narrowed_behind, above_is_narrower}
+use Rattle.pk_walk.proofs.Wanting.{begun_at, narrowed_behind, above_is_narrower}
 
 -- ---- numbers
 
 pub entries_some : (shape : Shape) → IsShape shape → 0 < page_entries shape
 entries_some shape is = let page : 512 ≤ shape.page_bytes = is.page_least in omega arith
-
--- the page of a later place is not an earlier one
-later_page : (place size : ℕ) → 0 < size → place / size ≤ suc place / size
-later_page place size some = le-div (place / size) (suc place) size some (let e = div-add-mod' place size in omega (arith, e))
 
 -- the page of a place in the run exists
 pub page_exists : (r : Kept) (place : ℕ) → IsShape r.shape → IsKept r → place < r.count → place / page_entries r.shape < length r.firsts
@@ -39,14 +35,14 @@ page_exists r place is kept h = (div-lt_iff_lt-mul (entries_some r.shape is)).1 
 
 -- ---- the entry at a place
 
-get_taken : (es : List Entry) (n i : ℕ) (e : Entry) → slice_get (take n es) i ≡ Some e → slice_get es i ≡ Some e
+pub get_taken : (es : List Entry) (n i : ℕ) (e : Entry) → slice_get (take n es) i ≡ Some e → slice_get es i ≡ Some e
 get_taken [] zero i e got = cc
 get_taken [] (suc n) i e got = cc
 get_taken (x ∷ es) zero i e got = cc
 get_taken (x ∷ es) (suc n) zero e got = got
 get_taken (x ∷ es) (suc n) (suc i) e got = get_taken es n i e got
 
-get_dropped : (es : List Entry) (n i : ℕ) → slice_get (drop n es) i ≡ slice_get es (n + i)
+pub get_dropped : (es : List Entry) (n i : ℕ) → slice_get (drop n es) i ≡ slice_get es (n + i)
 get_dropped es zero i = ap (slice_get es) (let e : i ≡ 0 + i = omega arith in e)
 get_dropped [] (suc n) i = refl
 get_dropped (x ∷ es) (suc n) i = get_dropped es n i ∙ ap (slice_get (x ∷ es)) (let e : suc (n + i) ≡ suc n + i = omega arith in e)
@@ -73,11 +69,6 @@ module _ (r : Kept) (flash : Flash) (arena : Frames) (es : List Entry) (is : IsS
       let count : number_at 2 10 bytes ≡ min size (length es - place / size * size) = own.count_is ∙ long ∙ ap (min size) left in
       rw count (omega (arith, low, at, inside, s.many))
 
-  -- the entry at the place in its page is the one at the place in the run
-  pub entry_there : (e : Entry) → slice_get piece (place % size) ≡ Some e → slice_get es place ≡ Some e
-  entry_there e got =
-      ap (slice_get es) (sym (div-add-mod' place size)) ∙ sym (get_dropped es (place / size * size) (place % size)) ∙ get_taken (drop (place / size * size) es) size (place % size) e got
-
 -- ---- moves of a cursor
 
 module _ (flash : Flash) (r : Kept) (es : List Entry) (position : Position) (c : Cursor) (is : IsShape r.shape) (f : Follows flash r es position c) where
@@ -95,20 +86,6 @@ module _ (flash : Flash) (r : Kept) (es : List Entry) (position : Position) (c :
   -- it is put to where the walk begins
   pub Follows-begun : (place : ℕ) → c.loaded ≡ 0 → wanted (is_wanted position) es ≡ wanted (is_wanted position) (drop place es) → Follows flash r es position (record c { place = place })
   Follows-begun place none left = record { pages = f.pages; behind = omega (arith, none); holds = λ e. absurd (omega (arith, none, e)); left = left }
-
-  -- it goes behind an entry that is not wanted
-  pub Follows-passed : (e : Entry) → slice_get es c.place ≡ Some e → is_wanted position e.0 ≡ false → Follows flash r es position (record c { place = suc c.place })
-  Follows-passed e got not_one =
-      let later = later_page c.place (page_entries r.shape) (entries_some r.shape is) in
-      let behind = f.behind in
-      record {
-        pages = f.pages;
-        behind = omega (arith, behind, later);
-        holds = λ loaded.
-            let same : page (suc c.place) ≡ page c.place = omega (arith, loaded, later, behind) in
-            subst (λ (p : ℕ). page_at flash (page_of r p) ≡ whole c.bytes) (sym same) (f.holds (omega (arith, loaded, same)));
-        left = passed_by (is_wanted position) es c.place e got not_one f.left;
-      }
 
 -- what the load of its page asks
 pub may_load : (flash : Flash) (r : Kept) (es : List Entry) (position : Position) (c : Cursor) (p : ℕ) → IsShape r.shape → IsKept r → c.place < r.count → Follows flash r es position c

@@ -1,23 +1,25 @@
 -- A search in a run for the first wanted entry: what holds at each step of it, and what it finds.
-use Rattle.std.proofs.Common.{◌≡◌, ℕ, suc, ◌+◌, ◌*◌, ◌/◌, ◌<◌, ◌≤◌, refl, sym, ap, subst, ◌∙◌, arith, true, false, List, length, slice_get, Some, None, Result, Ok}
+use Rattle.std.proofs.Common.{◌≡◌, ℕ, suc, ◌+◌, ◌/◌, ◌%◌, ◌<◌, ◌≤◌, refl, sym, ap, subst, ◌∙◌, arith, Bool, true, List, length, slice_get, Some, None, Result, Ok}
 use Rattle.pk_base.specs.Shape.{IsShape, page_entries}
-use Rattle.pk_base.specs.Entry.{Entry, key_of}
+use Rattle.pk_base.specs.Entry.{Entry}
 use Rattle.pk_base.specs.Seen.{entry as seen}
 use Rattle.pk_base.specs.declared.entry.Entry.{Entry as RustEntry}
 use Rattle.pk_base.specs.Refusal.{Refusal}
-use Rattle.pk_base.specs.Page.{Flash}
+use Rattle.pk_base.specs.Page.{Flash, page_at, whole}
+use Rattle.pk_meta.specs.Page.{IsMetaPage}
 use Rattle.pk_nand.specs.BoardState.{BoardState}
 use Rattle.pk_nand.specs.Calls.{ReadFailed}
 use Rattle.pk_nand.specs.Erased.{after_reads}
 use Rattle.pk_pin.specs.Frames.{Frames}
-use Rattle.pk_run.specs.Kept.{Kept, RunOnFlash, page_of}
+use Rattle.pk_run.specs.Kept.{Kept, IsKept, RunOnFlash, page_of}
 use Rattle.pk_level.proofs.Looking.{reads_more}
 use Rattle.pk_walk.specs.declared.position.Position.{Position}
 use Rattle.pk_walk.specs.Visible.{is_wanted, wanted, first_of}
 use Rattle.pk_walk.specs.Walking.{Cursor, Follows, HasPassed, Reads, ReadsAll, ReadsFail, SkipsNoPage, read_of}
-use Rattle.pk_walk.specs.Steps.{FailsToShow, FindsIn, GoesOn, Shows, StaysAt}
+use Rattle.pk_walk.specs.Steps.{FailsToShow, FindsIn, GoesOn, Looks, Moves, StaysAt}
 use Rattle.pk_walk.proofs.Wanting.{first_here, none_here}
-use Rattle.pk_walk.proofs.Following.{Follows-passed, HasPassed-kept, all_come}
+use Rattle.pk_walk.proofs.Following.{HasPassed-kept, all_come}
+use Rattle.pk_walk.proofs.Moving.{AtPage, entry_here, found_at, found_wanted, moved_follows, moved_within}
 
 -- ---- reads
 
@@ -101,18 +103,30 @@ module _ (r : Kept) (arena : Frames) (position : Position) (old : BoardState) (f
     Seeking-end es s past = none_here (is_wanted position) es c.place (omega (arith, s.many, past)) (follows_any es s).left
 
     -- a page was looked at, and the cursor has its bytes
-    pub Seeking-looked : (next : BoardState) (d : Cursor) (e : RustEntry) → StaysAt now.pages r c d → Shows r arena now next c d e → Seeking r arena position old next first d
-    Seeking-looked next d e stays shows = record {
+    pub Seeking-looked : (next : BoardState) (d : Cursor) → StaysAt now.pages r c d → Looks r now next c d → Seeking r arena position old next first d
+    Seeking-looked next d stays looks = record {
       es = at.es;
       stands = at.stands;
       follows = subst (λ (flash : Flash). Follows flash r at.es position d) (Reads-pages _ _ old now at.reads) (stays.follows at.es position follows_now);
       shape = ap (λ (x : Cursor). x.shape) stays.place ∙ at.shape;
-      reads = Reads-more _ _ _ old now next at.reads shows.reads;
+      reads = Reads-more _ _ _ old now next at.reads looks.reads;
       all = λ none before.
           let far = at.all none before in
-          let here = shows.here in
-          (omega (arith, here), ReadsAll-more _ _ _ old now next far.1 (shows.all far.0));
+          let here = looks.here in
+          (omega (arith, here), ReadsAll-more _ _ _ old now next far.1 (looks.all far.0));
     }
+
+    -- it is the page of its place
+    pub looked_page : (next : BoardState) (d : Cursor) → first.shape ≡ r.shape → c.place < r.count → StaysAt now.pages r c d → Looks r now next c d → AtPage r old.pages d
+    looked_page next d same inside stays looks =
+        let place : c.place ≡ d.place = sym (ap (λ (x : Cursor). x.place) stays.place) in
+        record {
+          shape = ap (λ (x : Cursor). x.shape) stays.place ∙ at.shape ∙ same;
+          inside = omega (arith, place, inside);
+          page = subst (λ (n : ℕ). page_at old.pages (page_of r (n / page_entries r.shape)) ≡ whole d.bytes) place
+              (subst (λ (flash : Flash). page_at flash (page_of r (c.place / page_entries r.shape)) ≡ whole d.bytes) (Reads-pages _ _ old now at.reads) looks.page);
+          loaded = subst (λ (n : ℕ). d.loaded ≡ suc (n / page_entries r.shape)) place looks.loaded;
+        }
 
     -- the cursor goes on from where it has come
     pub Seeking-goes_on : GoesOn old.pages arena r position first c
@@ -141,24 +155,6 @@ module _ (r : Kept) (arena : Frames) (position : Position) (old : BoardState) (f
     pub Seeking-ended : IsShape r.shape → first.shape ≡ r.shape → r.count ≤ c.place → SkipsNoPage position → HasPassed first → c.loaded ≡ length r.firsts
     Seeking-ended is same past none before = all_come r old.pages arena at.es position c is (at.shape ∙ same) at.stands at.follows past (at.all none before).0
 
-    -- the entry at the place is the first that is wanted
-    pub Seeking-found : (e : RustEntry) → ((es : List Entry) → RunOnFlash r now.pages arena es → slice_get es c.place ≡ Some (seen e)) → is_wanted position (key_of (seen e)) ≡ true
-        → (es : List Entry) → RunOnFlash r old.pages arena es → Some (seen e) ≡ first_of (wanted (is_wanted position) es)
-    Seeking-found e head one es s =
-        let own = one_list r old.pages arena at.es es at.stands s in
-        subst (λ (xs : List Entry). Some (seen e) ≡ first_of (wanted (is_wanted position) xs)) own (first_here (is_wanted position) at.es c.place (seen e) (head at.es stands_now) one at.follows.left)
-
-    pub Seeking-finds : (next : BoardState) (d : Cursor) (e : RustEntry) → StaysAt now.pages r c d → Shows r arena now next c d e → is_wanted position (key_of (seen e)) ≡ true
-        → FindsIn r arena position old next first d (Some e)
-    Seeking-finds next d e stays shows one =
-        let looked = Seeking-looked next d e stays shows in
-        record {
-          found = Seeking-found e shows.head one;
-          reads = looked.reads;
-          all = λ none before. (looked.all none before).1;
-          ended = λ is none before. absurd (no_answer e is);
-        }
-
     -- no entry is left
     pub Seeking-none : IsShape r.shape → first.shape ≡ r.shape → r.count ≤ c.place → FindsIn r arena position old now first c None
     Seeking-none is same past = record {
@@ -168,19 +164,34 @@ module _ (r : Kept) (arena : Frames) (position : Position) (old : BoardState) (f
       ended = λ e none before. Seeking-ended is same past none before;
     }
 
-    -- the entry at the place is not wanted, and is passed
-    pub Seeking-passed : (e : RustEntry) (d : Cursor) → IsShape r.shape → ((es : List Entry) → RunOnFlash r old.pages arena es → slice_get es c.place ≡ Some (seen e)) → is_wanted position (key_of (seen e)) ≡ false
-        → d ≡ record c { place = suc c.place } → c.place < c.loaded * page_entries c.shape → Seeking r arena position old now first d
-    Seeking-passed e d is head not_one same here = subst (Seeking r arena position old now first) (sym same) (record {
-      es = at.es;
-      stands = at.stands;
-      follows = Follows-passed old.pages r at.es position c is at.follows (seen e) (head at.es at.stands) not_one;
-      shape = at.shape;
-      reads = at.reads;
-      all = λ none before. (omega (arith, here), (at.all none before).1);
-    })
+    -- the cursor has the page of its place, and goes on in it
+    module _ (is : IsShape r.shape) (kept : IsKept r) (here : AtPage r old.pages c) (d : Cursor) (found : Bool) (m : Moves position c d found) where
+      same_loaded : c.loaded ≡ d.loaded
+      same_loaded = sym (ap (λ (x : Cursor). x.loaded) m.cursor)
 
-    -- behind the look the entry is still at the place
-    pub head_looked : (next : BoardState) (d : Cursor) (e : RustEntry) → StaysAt now.pages r c d → Shows r arena now next c d e → (es : List Entry) → RunOnFlash r old.pages arena es → slice_get es d.place ≡ Some (seen e)
-    head_looked next d e stays shows es s =
-        ap (λ (x : Cursor). slice_get es x.place) stays.place ∙ shows.head es (subst (λ (flash : Flash). RunOnFlash r flash arena es) (sym (Reads-pages _ _ old now at.reads)) s)
+      pub Seeking-moved : Seeking r arena position old now first d
+      Seeking-moved = record {
+        es = at.es;
+        stands = at.stands;
+        follows = moved_follows r old.pages arena at.es is kept at.stands c here position d found m at.follows;
+        shape = ap (λ (x : Cursor). x.shape) m.cursor ∙ at.shape;
+        reads = subst (λ (n : ℕ). Reads (read_of r.leases first.loaded) (read_of r.leases n) old now) same_loaded at.reads;
+        all = λ none before. (
+          moved_within r old.pages arena at.es is kept at.stands c here position d found m,
+          subst (λ (n : ℕ). ReadsAll (read_of r.leases first.loaded) (read_of r.leases n) old now) same_loaded (at.all none before).1,
+        );
+      }
+
+      -- to the first wanted entry
+      pub Seeking-finds : (there : found ≡ true) (e : RustEntry)
+          → ((level index : ℕ) (entries : List Entry) → IsMetaPage d.shape d.bytes level index entries → slice_get entries (d.place % page_entries d.shape) ≡ Some (seen e))
+          → FindsIn r arena position old now first d (Some e)
+      Seeking-finds there e shows = record {
+        found = λ es s.
+            let left = (moved_follows r old.pages arena es is kept s c here position d found m (follows_any es s)).left in
+            let got = entry_here r old.pages arena es is kept s d (found_at r old.pages arena es is kept s c here position d found m there) (seen e) shows in
+            first_here (is_wanted position) es d.place (seen e) got (found_wanted r old.pages arena es is kept s c here position d found m there (seen e) got) left;
+        reads = Seeking-moved.reads;
+        all = λ none before. (Seeking-moved.all none before).1;
+        ended = λ is none before. absurd (no_answer e is);
+      }

@@ -1,8 +1,11 @@
 -- What a step of a walk does: what it finds, where it leaves the cursors, and what it reads. Pages of a run that has frames are read from no flash.
-use Rattle.std.specs.Prelude.{◌≡◌, ℕ, suc, ◌*◌, ◌/◌, ◌<◌, ◌≤◌, List, ◌∷◌, length, slice_get, option_map, Option, Some, None}
+use Rattle.std.specs.Prelude.{◌≡◌, ℕ, suc, ◌+◌, ◌-◌, ◌*◌, ◌/◌, ◌%◌, ◌<◌, ◌≤◌, Bool, true, false, nat_lt, List, ◌∷◌, length, option_map, Option, None}
 use Rattle.std.specs.List.{AllByRecursion}
 use Rattle.pk_base.specs.Shape.{Shape, page_entries}
 use Rattle.pk_base.specs.Entry.{Entry}
+use Rattle.pk_base.specs.declared.sizes.TheConstants.{HEAD_BYTES, ENTRY_BYTES}
+use Rattle.pk_base.specs.EntryBytes.{cell_at, cell_key}
+use Rattle.pk_base.specs.Fields.{number_at}
 use Rattle.pk_base.specs.Page.{Flash, page_at, whole}
 use Rattle.pk_base.specs.Seen.{entry as seen}
 use Rattle.pk_base.specs.declared.entry.Entry.{Entry as RustEntry}
@@ -42,9 +45,10 @@ pub record StaysAt (flash : Flash) (r : Kept) (c d : Cursor) : Type 0 where
   pub place : d ≡ record c { loaded = d.loaded; bytes = d.bytes }
   pub follows : (es : List Entry) (position : Position) → Follows flash r es position c → Follows flash r es position d
 
--- This is the entry at the cursor's place, whose page it has come past; the page was read at most once, and exactly once where none was skipped.
-pub record Shows (r : Kept) (arena : Frames) (old new : BoardState) (c d : Cursor) (e : RustEntry) : Type 0 where
-  pub head : (es : List Entry) → RunOnFlash r old.pages arena es → slice_get es c.place ≡ Some (seen e)
+-- The cursor has the page of its place; it was read at most once, and exactly once where none was skipped.
+pub record Looks (r : Kept) (old new : BoardState) (c d : Cursor) : Type 0 where
+  pub page : page_at old.pages (page_of r (c.place / page_entries r.shape)) ≡ whole d.bytes
+  pub loaded : d.loaded ≡ suc (c.place / page_entries r.shape)
   pub here : d.place < d.loaded * page_entries d.shape
   pub reads : Reads (read_of r.leases c.loaded) (read_of r.leases d.loaded) old new
   pub all : HasPassed c → ReadsAll (read_of r.leases c.loaded) (read_of r.leases d.loaded) old new
@@ -53,6 +57,20 @@ pub record Shows (r : Kept) (arena : Frames) (old new : BoardState) (c d : Curso
 pub record FailsToShow (r : Kept) (old new : BoardState) (c d : Cursor) : Type 0 where
   pub kept : d.loaded ≡ c.loaded
   pub failed : ReadFailed old new (page_of r (c.place / page_entries r.shape))
+
+-- From a place on in a page the first wanted entry stands at this place; or none is wanted, and this is the end.
+pub record IsFirstWanted (position : Position) (page : List ℕ) (from place : ℕ) : Type 0 where
+  pub forth : from ≤ place
+  pub most : place ≤ number_at 2 10 page
+  pub before : (k : ℕ) → from ≤ k → k < place → is_wanted position (cell_key (cell_at (HEAD_BYTES + ENTRY_BYTES * k) page)) ≡ false
+  pub at : place < number_at 2 10 page → is_wanted position (cell_key (cell_at (HEAD_BYTES + ENTRY_BYTES * place) page)) ≡ true
+
+-- The cursor went on in its page to the first wanted entry from its place on, or, where none was found, behind the last.
+pub record Moves (position : Position) (c d : Cursor) (found : Bool) : Type 0 where
+  pub to : ℕ
+  pub first : IsFirstWanted position c.bytes (c.place % page_entries c.shape) to
+  pub cursor : d ≡ record c { place = c.place - c.place % page_entries c.shape + to }
+  pub tells : found ≡ nat_lt to (number_at 2 10 c.bytes)
 
 -- ---- the first wanted entry of a run
 

@@ -13,8 +13,8 @@ use pk_buf::Buffer;
 use pk_region::Region;
 use std::cmp::Ordering;
 
-/// The places in the two write buffers where a walk found their last entries. Nothing is known of them: a place is looked at
-/// before it is taken.
+/// The places in the two write buffers where a walk found their last entries. Nothing is known of
+/// them: a place is looked at before it is taken.
 #[derive(Clone, Copy, Debug)]
 pub struct Places {
     pub active: u32,
@@ -31,8 +31,8 @@ impl Places {
     }
 }
 
-/// The first entry of the buffer whose key is wanted. It is looked for first where the last one was found, and its place is kept:
-/// a walk mostly stays there, or goes on by one.
+/// The first entry of the buffer whose key is wanted. It is looked for first where the last one was
+/// found, and its place is kept: a walk mostly stays there, or goes on by one.
 pub fn first_in<A: Region>(
     buffer: &Buffer<A>,
     position: &Position,
@@ -68,7 +68,8 @@ fn entry_at<A: Region>(buffer: &Buffer<A>, i: u32) -> Option<Entry>
     }
 }
 
-/// The place of the first key above this one, by two comparisons at most where it is the hint or, behind the key itself, the next.
+/// The place of the first key above this one, by two comparisons at most where it is the hint, or
+/// the next one behind the key itself.
 fn place_above<A: Region>(buffer: &Buffer<A>, key: &Key, hint: u32) -> u32
     ensures { slice_get buffer.now.entries result
         ≡ first_of (wanted (is_wanted (Above key.now)) buffer.now.entries) }
@@ -84,7 +85,8 @@ fn place_above<A: Region>(buffer: &Buffer<A>, key: &Key, hint: u32) -> u32
     }
 }
 
-/// The place of the first key above this one, where the key at the hint is one, or the hint is behind the last.
+/// The place of the first key above this one, where the key at the hint is one, or the hint is
+/// behind the last.
 fn lowest_above<A: Region>(buffer: &Buffer<A>, key: &Key, hint: u32) -> u32
     requires within { hint ≤ length buffer.now.entries }
     requires first { slice_get buffer.now.entries hint

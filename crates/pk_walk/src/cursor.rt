@@ -1,18 +1,23 @@
 //! A place among the entries of a run, which goes forward.
-ghost use Rattle.std.specs.Prelude.{◌≡◌, ◌<◌, suc, List, length, IfOk, IfErr, OnOk, OnErr};
+ghost use Rattle.std.specs.Prelude.{◌≡◌, ◌<◌, ◌+◌, ◌-◌, ◌%◌, ℕ, List, length, slice_get, Some, IfOk, IfErr, OnOk, OnErr};
+ghost use Rattle.pk_base.specs.Fields.{number_at};
+ghost use Rattle.pk_base.specs.Seen.{entry as seen};
+ghost use Rattle.pk_base.specs.Shape.{page_entries};
 ghost use Rattle.pk_base.specs.Entry.{Entry as EntrySpec};
 ghost use Rattle.pk_base.specs.Page.{Flash, page_at, whole};
+ghost use Rattle.pk_meta.specs.Page.{Decodes, IsMetaPage};
 ghost use Rattle.pk_nand.specs.Calls.{IsReady};
 ghost use Rattle.pk_nand.specs.declared.types.Fault.TheVariants.{Reading};
 ghost use Rattle.pk_pin.specs.Frames.{Frames};
 ghost use Rattle.pk_run.specs.Kept.{RunOnFlash, page_of};
 ghost use Rattle.pk_walk.specs.declared.position.Position.{Position as PositionSpec};
-ghost use Rattle.pk_walk.specs.Steps.{FailsToLoad, FailsToShow, Loads, MayLoad, Shows, StaysAt};
+ghost use Rattle.pk_walk.specs.Steps.{FailsToLoad, FailsToShow, Loads, Looks, MayLoad, Moves, StaysAt};
 ghost use Rattle.pk_walk.specs.Walking.{Follows, HasPassed, SkipsNoPage, at_start};
 
 use crate::begin::begins_at;
+use crate::page::first_wanted;
 use crate::position::Position;
-use pk_base::{Entry, Shape};
+use pk_base::{Entry, Shape, get_u16};
 use pk_meta::entry;
 use pk_nand::{Fault, Nand};
 use pk_pin::PinArena;
@@ -89,14 +94,6 @@ impl<A: Allocator> Cursor<A> {
         }
     }
 
-    /// Goes behind the entry at the place, whose key is not wanted.
-    pub fn pass(&mut self)
-        requires { suc self.old.place < 4294967296 }
-        ensures { self.new ≡ record self.old { place = suc self.old.place } }
-    {
-        self.place += 1;
-    }
-
     // Has the bytes of page `p`, the one of the place, by one read at most.
     fn load<B: Nand>(
         &mut self,
@@ -140,13 +137,14 @@ impl<A: Allocator> Cursor<A> {
         }
     }
 
-    /// The entry at the place, by one read at most. `Reading` where the read fails; else nothing fails.
-    pub fn head<B: Nand>(
+    /// Has the page of the place, by one read at most. `Reading` where the read fails; else nothing
+    /// fails.
+    pub fn look<B: Nand>(
         &mut self,
         board: &mut B,
         arena: &PinArena<A>,
         run: &Run<A>,
-    ) -> Result<Entry, Fault>
+    ) -> Result<(), Fault>
         requires ready { IsReady (B.state board.old) run.now.shape }
         requires shape { self.old.shape ≡ run.now.shape }
         requires follows { (es : List EntrySpec) × (position : PositionSpec)
@@ -154,9 +152,9 @@ impl<A: Allocator> Cursor<A> {
             × Follows (B.state board.old).pages run.now es position self.old }
         requires exists { self.old.place < run.now.count }
 
-        // The entry at the place.
-        ensures shows { IfOk result (λ e. Shows run.now arena.now (B.state board.old)
-            (B.state board.new) self.old self.new e) }
+        // The page of the place.
+        ensures looks { OnOk result (Looks run.now (B.state board.old) (B.state board.new)
+            self.old self.new) }
 
         // The cursor stays at its place in any case, and only a read fails.
         ensures stays { StaysAt (B.state board.old).pages run.now self.old self.new }
@@ -172,9 +170,37 @@ impl<A: Allocator> Cursor<A> {
         let size = self.shape.entries();
         let p = self.place / size;
         match self.load(board, arena, run, p) {
-            Ok(()) => {}
-            Err(fault) => return Err(fault),
+            Ok(()) => Ok(()),
+            Err(fault) => Err(fault),
         }
-        Ok(entry(&self.shape, &self.page, self.place % size))
+    }
+
+    /// Goes to the first wanted entry from the place on in its page; false where there is none, and
+    /// it is behind the page then.
+    pub fn skip(&mut self, position: &Position) -> bool
+        requires decodes { Decodes self.old.shape self.old.bytes }
+        requires within { self.old.place % page_entries self.old.shape
+            < number_at 2 10 self.old.bytes }
+        requires fits { self.old.place - self.old.place % page_entries self.old.shape
+            + number_at 2 10 self.old.bytes < 4294967296 }
+        ensures { Moves position.now self.old self.new result }
+    {
+        let before = self.place % self.shape.entries();
+        let to = first_wanted(&self.shape, &self.page, position, before);
+        self.place = self.place - before + to;
+        to < get_u16(&self.page, 10) as u32
+    }
+
+    /// The entry at the place.
+    pub fn entry(&self) -> Entry
+        requires decodes { Decodes self.now.shape self.now.bytes }
+        requires within { self.now.place % page_entries self.now.shape
+            < number_at 2 10 self.now.bytes }
+        ensures { (level index : ℕ) (entries : List EntrySpec)
+            → IsMetaPage self.now.shape self.now.bytes level index entries
+            → slice_get entries (self.now.place % page_entries self.now.shape)
+            ≡ Some (seen result) }
+    {
+        entry(&self.shape, &self.page, self.place % self.shape.entries())
     }
 }

@@ -1,8 +1,9 @@
 //! The place in the order of keys to which a walk has come.
-ghost use Rattle.std.specs.Prelude.{◌≡◌};
+ghost use Rattle.std.specs.Prelude.{◌≡◌, ◌≤◌, ◌+◌, length, slice_index};
+ghost use Rattle.pk_base.specs.EntryBytes.{cell_key};
 ghost use Rattle.pk_walk.specs.Visible.{is_wanted};
 
-use pk_base::{Key, compare};
+use pk_base::{Key, compare_cell};
 
 /// All keys are wanted, or those that are not below a key, or those above it.
 #[derive(Drop)]
@@ -13,14 +14,15 @@ pub enum Position {
 }
 
 impl Position {
-    /// Whether the key is one of those from this position on.
-    pub fn wants(&self, key: &Key) -> bool
-        ensures { result ≡ is_wanted self.now key.now }
+    /// Whether the key in the bytes of an entry is one of those from this position on.
+    pub fn wants(&self, cell: &[u8]) -> bool
+        requires { 4 + slice_index cell.now 0 ≤ length cell.now }
+        ensures { result ≡ is_wanted self.now (cell_key cell.now) }
     {
         match self {
             Position::First => true,
-            Position::From(from) => !compare(key, from).is_lt(),
-            Position::Above(from) => compare(key, from).is_gt(),
+            Position::From(from) => !compare_cell(cell, from).is_lt(),
+            Position::Above(from) => compare_cell(cell, from).is_gt(),
         }
     }
 }

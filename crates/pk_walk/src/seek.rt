@@ -48,14 +48,12 @@ pub fn seek<A: Allocator, B: Nand>(
     run.known();
     cursor.begin(run, position);
     while cursor.place() < run.entries() {
-        match cursor.head(board, arena, run) {
-            Ok(entry) => {
-                if position.wants(entry.key()) {
-                    return Ok(Some(entry));
-                }
-                cursor.pass();
-            }
+        match cursor.look(board, arena, run) {
+            Ok(()) => {}
             Err(fault) => return Err(fault),
+        }
+        if cursor.skip(position) {
+            return Ok(Some(cursor.entry()));
         }
     }
     Ok(None)

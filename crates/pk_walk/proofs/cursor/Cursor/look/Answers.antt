@@ -1,12 +1,11 @@
-use Rattle.std.proofs.Common.{◌≡◌, ℕ, ◌/◌, suc, ap, sym, subst, ◌∙◌, List}
-use Rattle.pk_base.specs.Shape.{Shape, page_entries}
-use Rattle.pk_base.specs.Page.{page_at, whole}
-use Rattle.pk_meta.specs.Page.{Decodes}
+use Rattle.std.proofs.Common.{◌≡◌, ℕ, ◌/◌, suc, ap, sym, subst, ◌∙◌}
+use Rattle.pk_base.specs.Shape.{page_entries}
+use Rattle.pk_base.specs.Page.{page_at}
 use Rattle.pk_nand.specs.Calls.{ReadFailed}
 use Rattle.pk_run.specs.Kept.{page_of}
 use Rattle.pk_walk.specs.Walking.{Cursor, Reads, read_of}
-use Rattle.pk_walk.proofs.Following.{page_exists, may_load, holds, entry_within, entry_there, head_here, head_all, stays_loaded, stays_failed}
-use Rattle.pk_walk.proofs.cursor.Cursor.head.Goals as goal
+use Rattle.pk_walk.proofs.Following.{page_exists, may_load, head_here, head_all, stays_loaded, stays_failed}
+use Rattle.pk_walk.proofs.cursor.Cursor.look.Goals as goal
 
 pub load-requires-clause-may : goal.load-requires-clause-may
 load-requires-clause-may g c =
@@ -14,47 +13,21 @@ load-requires-clause-may g c =
     let page : c.self.inside.place / c.entries-size.result ≡ c.args.self.now.place / page_entries c.args.run.now.shape = λ i. ap (λ (x : Cursor). x.place) c.self.view_is i / size i in
     may_load (g.B.Nand.state c.args.board.now).pages c.args.run.now c.requires.follows.0 c.requires.follows.1 c.args.self.now (c.self.inside.place / c.entries-size.result) c.known.ensures.shape c.known.ensures.kept c.requires.exists c.requires.follows.3 page
 
-pub entry-requires-clause-decodes : goal.entry-requires-clause-decodes
-entry-requires-clause-decodes g c =
+pub returns-in-Ok-clause-looks : goal.returns-in-Ok-clause-looks
+returns-in-Ok-clause-looks g c =
     let size : c.entries-size.result ≡ page_entries c.args.run.now.shape = c.entries-size.ensures.value ∙ ap page_entries (ap (λ (x : Cursor). x.shape) c.self.view_is ∙ c.requires.shape) in
     let page : c.self.inside.place / c.entries-size.result ≡ c.args.self.now.place / page_entries c.args.run.now.shape = λ i. ap (λ (x : Cursor). x.place) c.self.view_is i / size i in
-    let bytes = c.deref.ensures.value ∙ ap (λ (x : Cursor). x.bytes) c.self-2.view_is in
-    let here = ap (λ (p : ℕ). page_at (g.B.Nand.state c.args.board.now).pages (page_of c.args.run.now p)) (sym page) ∙ c.in-Ok.ensures.page ∙ ap (λ (xs : List ℕ). whole xs) (sym bytes) in
-    let shape = ap (λ (x : Cursor). x.shape) (c.self-2.view_is ∙ c.in-Ok.ensures.loads.cursor) ∙ c.requires.shape in
-    subst (λ (s : Shape). Decodes s c.deref.result.now) (sym shape)
-    (c.args.run.now.level, c.args.self.now.place / page_entries c.args.run.now.shape, _, holds c.args.run.now _ c.args.arena.now c.requires.follows.0 c.known.ensures.shape c.known.ensures.kept c.args.self.now.place c.requires.exists c.requires.follows.2 c.deref.result.now here)
-
-pub entry-requires-clause-within : goal.entry-requires-clause-within
-entry-requires-clause-within g c =
-    let size : c.entries-size.result ≡ page_entries c.args.run.now.shape = c.entries-size.ensures.value ∙ ap page_entries (ap (λ (x : Cursor). x.shape) c.self.view_is ∙ c.requires.shape) in
-    let page : c.self.inside.place / c.entries-size.result ≡ c.args.self.now.place / page_entries c.args.run.now.shape = λ i. ap (λ (x : Cursor). x.place) c.self.view_is i / size i in
-    let bytes = c.deref.ensures.value ∙ ap (λ (x : Cursor). x.bytes) c.self-2.view_is in
-    let here = ap (λ (p : ℕ). page_at (g.B.Nand.state c.args.board.now).pages (page_of c.args.run.now p)) (sym page) ∙ c.in-Ok.ensures.page ∙ ap (λ (xs : List ℕ). whole xs) (sym bytes) in
-    let place = ap (λ (x : Cursor). x.place) (c.self-2.view_is ∙ c.in-Ok.ensures.loads.cursor) in
-    rw (place, size)
-    (entry_within c.args.run.now _ c.args.arena.now c.requires.follows.0 c.known.ensures.shape c.known.ensures.kept c.args.self.now.place c.requires.exists c.requires.follows.2 c.deref.result.now here)
-
-pub returns-clause-shows : goal.returns-clause-shows
-returns-clause-shows g c =
-    let size : c.entries-size.result ≡ page_entries c.args.run.now.shape = c.entries-size.ensures.value ∙ ap page_entries (ap (λ (x : Cursor). x.shape) c.self.view_is ∙ c.requires.shape) in
-    let page : c.self.inside.place / c.entries-size.result ≡ c.args.self.now.place / page_entries c.args.run.now.shape = λ i. ap (λ (x : Cursor). x.place) c.self.view_is i / size i in
-    let bytes = c.deref.ensures.value ∙ ap (λ (x : Cursor). x.bytes) c.self-2.view_is in
-    let here = ap (λ (p : ℕ). page_at (g.B.Nand.state c.args.board.now).pages (page_of c.args.run.now p)) (sym page) ∙ c.in-Ok.ensures.page ∙ ap (λ (xs : List ℕ). whole xs) (sym bytes) in
-    let place = ap (λ (x : Cursor). x.place) (c.self-2.view_is ∙ c.in-Ok.ensures.loads.cursor) in
-    let shape = ap (λ (x : Cursor). x.shape) (c.self-2.view_is ∙ c.in-Ok.ensures.loads.cursor) ∙ c.requires.shape in
     let moved = c.in-Ok.ensures.loads.cursor ∙ ap (λ (p : ℕ). record c.args.self.now { loaded = suc p; bytes = c.load.new.self.bytes }) page in
-    let got = rw (place, size, shape) at c.entry.ensures in
     record {
-      head = λ es s.
-          let held = holds c.args.run.now (g.B.Nand.state c.args.board.now).pages c.args.arena.now es c.known.ensures.shape c.known.ensures.kept c.args.self.now.place c.requires.exists s c.deref.result.now here in
-          entry_there c.args.run.now (g.B.Nand.state c.args.board.now).pages c.args.arena.now es c.known.ensures.shape c.known.ensures.kept c.args.self.now.place c.requires.exists _ (got _ _ _ held);
+      page = ap (λ (p : ℕ). page_at (g.B.Nand.state c.args.board.now).pages (page_of c.args.run.now p)) (sym page) ∙ c.in-Ok.ensures.page;
+      loaded = ap (λ (x : Cursor). x.loaded) moved;
       here = head_here c.args.run.now c.args.self.now c.load.new.self c.known.ensures.shape c.requires.shape moved;
       reads = subst (λ (n : ℕ). Reads (read_of c.args.run.now.leases c.args.self.now.loaded) (read_of c.args.run.now.leases n) (g.B.Nand.state c.args.board.now) (g.B.Nand.state c.load.new.board)) (sym (ap (λ (x : Cursor). x.loaded) c.in-Ok.ensures.loads.cursor)) c.in-Ok.ensures.loads.reads;
       all = head_all c.args.run.now c.args.self.now c.load.new.self (c.self.inside.place / c.entries-size.result) (g.B.Nand.state c.args.board.now) (g.B.Nand.state c.load.new.board) c.requires.shape page (ap (λ (x : Cursor). x.loaded) c.in-Ok.ensures.loads.cursor) c.in-Ok.ensures.loads.all;
     }
 
-pub returns-clause-stays : goal.returns-clause-stays
-returns-clause-stays g c =
+pub returns-in-Ok-clause-stays : goal.returns-in-Ok-clause-stays
+returns-in-Ok-clause-stays g c =
     let size : c.entries-size.result ≡ page_entries c.args.run.now.shape = c.entries-size.ensures.value ∙ ap page_entries (ap (λ (x : Cursor). x.shape) c.self.view_is ∙ c.requires.shape) in
     let page : c.self.inside.place / c.entries-size.result ≡ c.args.self.now.place / page_entries c.args.run.now.shape = λ i. ap (λ (x : Cursor). x.place) c.self.view_is i / size i in
     let here = ap (λ (p : ℕ). page_at (g.B.Nand.state c.args.board.now).pages (page_of c.args.run.now p)) (sym page) ∙ c.in-Ok.ensures.page in

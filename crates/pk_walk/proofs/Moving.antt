@@ -1,0 +1,217 @@
+-- A cursor that has the page of its place: what the page says of the run, and where the cursor goes in it.
+use Rattle.std.proofs.Common.{◌≡◌, ℕ, zero, suc, ◌+◌, ◌-◌, ◌*◌, ◌/◌, ◌%◌, ◌<◌, ◌≤◌, min, refl, sym, ap, subst, ◌∙◌, arith, Bool, true, false, List, [], ◌∷◌, length, take, drop, slice_get, Option, Some, div-lt_iff_lt-mul}
+use Rattle.std.specs.Prelude.{nat_lt}
+use Rattle.std.proofs.lemmas.Nat.{div-add-mod', le-div}
+use Rattle.std.proofs.lemmas.Bool.{ltb-true, ltb-false}
+use Rattle.std.proofs.lemmas.List.{length-take, length-drop}
+use Rattle.pk_base.specs.Key.{Key}
+use Rattle.pk_base.specs.Shape.{Shape, IsShape, page_entries}
+use Rattle.pk_base.specs.Entry.{Entry, key_of}
+use Rattle.pk_base.specs.EntryBytes.{entry_at, cell_at}
+use Rattle.pk_base.specs.Fields.{number_at}
+use Rattle.pk_base.specs.Page.{Flash, page_at, whole}
+use Rattle.pk_base.proofs.EntryLemmas.{key_of_at}
+use Rattle.pk_meta.specs.Page.{Decodes, IsMetaPage}
+use Rattle.pk_meta.proofs.PageLemmas.{meta_again}
+use Rattle.pk_meta.proofs.FindLemmas.{cell_entry, place_key}
+use Rattle.pk_pin.specs.Frames.{Frames}
+use Rattle.pk_run.specs.Kept.{Kept, IsKept, RunOnFlash, page_of}
+use Rattle.pk_walk.specs.declared.position.Position.{Position}
+use Rattle.pk_walk.specs.Visible.{is_wanted, wanted}
+use Rattle.pk_walk.specs.Walking.{Cursor, Follows}
+use Rattle.pk_walk.specs.Steps.{IsFirstWanted, Moves}
+use Rattle.pk_walk.proofs.Wanting.{passed_by}
+use Rattle.pk_walk.proofs.Following.{entries_some, entry_within, get_taken, get_dropped, holds}
+
+-- ---- entries that are passed
+
+inside_is : (es : List Entry) (n : ℕ) → n < length es → (e : Entry) × (slice_get es n ≡ Some e)
+inside_is [] n h = absurd (omega (arith, h))
+inside_is (x ∷ es) zero h = (x, refl)
+inside_is (x ∷ es) (suc n) h = inside_is es n (omega (arith, h))
+
+-- places whose keys are not wanted are passed
+pub passed_many : (w : Key → Bool) (es : List Entry) (n m : ℕ) → n + m ≤ length es → ((k : ℕ) (e : Entry) → k < m → slice_get es (n + k) ≡ Some e → w e.0 ≡ false)
+    → wanted w es ≡ wanted w (drop n es) → wanted w es ≡ wanted w (drop (n + m) es)
+passed_many w es n zero room none left = let e : n + 0 ≡ n = omega arith in left ∙ ap (λ (k : ℕ). wanted w (drop k es)) (sym e)
+passed_many w es n (suc m) room none left =
+    let before = passed_many w es n m (omega (arith, room)) (λ k e less got. none k e (omega (arith, less)) got) left in
+    let here = inside_is es (n + m) (omega (arith, room)) in
+    let on : suc (n + m) ≡ n + suc m = omega arith in
+    passed_by w es (n + m) here.0 here.1 (none m here.0 (omega arith) here.1) before ∙ ap (λ (k : ℕ). wanted w (drop k es)) on
+
+-- ---- the page of the place
+
+-- the cursor has the page of its place, and there is an entry at it
+pub record AtPage (r : Kept) (flash : Flash) (c : Cursor) : Type 0 where
+  pub shape : c.shape ≡ r.shape
+  pub inside : c.place < r.count
+  pub page : page_at flash (page_of r (c.place / page_entries r.shape)) ≡ whole c.bytes
+  pub loaded : c.loaded ≡ suc (c.place / page_entries r.shape)
+
+same_some : (x e : Entry) → ◌≡◌ {A = Option Entry} (Some x) (Some e) → x ≡ e
+same_some x e p = cc
+
+module _ (r : Kept) (flash : Flash) (arena : Frames) (es : List Entry) (is : IsShape r.shape) (kept : IsKept r) (s : RunOnFlash r flash arena es) (c : Cursor) (at : AtPage r flash c) where
+  abbrev size : ℕ
+  size = page_entries r.shape
+
+  -- the entries before the page, and those before the place in it
+  abbrev start : ℕ
+  start = c.place / size * size
+
+  abbrev piece : List Entry
+  piece = take size (drop start es)
+
+  held : IsMetaPage r.shape c.bytes r.level (c.place / size) piece
+  held = holds r flash arena es is kept c.place at.inside s c.bytes at.page
+
+  count_is : number_at 2 10 c.bytes ≡ min size (length es - start)
+  count_is = (meta_again r.shape c.bytes r.level (c.place / size) piece is held).count_is ∙ length-take size (drop start es) ∙ ap (min size) (length-drop start es)
+
+  place_is : start + c.place % size ≡ c.place
+  place_is = div-add-mod' c.place size
+
+  -- the entries of the page are entries of the run
+  pub run_has : (k : ℕ) (e : Entry) → slice_get piece k ≡ Some e → slice_get es (start + k) ≡ Some e
+  run_has k e got = sym (get_dropped es start k) ∙ get_taken (drop start es) size k e got
+
+  pub at_decodes : Decodes c.shape c.bytes
+  at_decodes = subst (λ (g : Shape). Decodes g c.bytes) (sym at.shape) (r.level, c.place / size, piece, held)
+
+  pub at_within : c.place % page_entries c.shape < number_at 2 10 c.bytes
+  at_within = subst (λ (g : Shape). c.place % page_entries g < number_at 2 10 c.bytes) (sym at.shape) (entry_within r flash arena es is kept c.place at.inside s c.bytes at.page)
+
+  fits : start + number_at 2 10 c.bytes ≤ r.count
+  fits = let count = count_is in let place = place_is in let inside = at.inside in let many = s.many in omega (arith, count, place, inside, many)
+
+  pub at_fits : c.place - c.place % page_entries c.shape + number_at 2 10 c.bytes ≤ r.count
+  at_fits =
+      subst (λ (g : Shape). c.place - c.place % page_entries g + number_at 2 10 c.bytes ≤ r.count) (sym at.shape)
+      (let place = place_is in let room = fits in omega (arith, place, room))
+
+  -- the key at a place in the page is that of the run's entry
+  pub key_there : (k : ℕ) (e : Entry) → k < number_at 2 10 c.bytes → slice_get es (start + k) ≡ Some e → key_of e ≡ place_key c.bytes k
+  key_there k e less got =
+      let cell = cell_entry r.shape c.bytes is r.level (c.place / size) piece held k less in
+      let same : entry_at (cell_at (32 + 32 * k) c.bytes) ≡ e = same_some _ e (sym (run_has k (entry_at (cell_at (32 + 32 * k) c.bytes)) cell) ∙ got) in
+      ap key_of (sym same) ∙ key_of_at (cell_at (32 + 32 * k) c.bytes)
+
+  -- an entry at the place in the page is the run's at the place
+  pub entry_here : (e : Entry) → ((level index : ℕ) (entries : List Entry) → IsMetaPage c.shape c.bytes level index entries → slice_get entries (c.place % page_entries c.shape) ≡ Some e)
+      → slice_get es c.place ≡ Some e
+  entry_here e shows =
+      let got = subst (λ (g : Shape). (level index : ℕ) (entries : List Entry) → IsMetaPage g c.bytes level index entries → slice_get entries (c.place % page_entries g) ≡ Some e) at.shape shows in
+      ap (slice_get es) (sym place_is) ∙ run_has (c.place % size) e (got r.level (c.place / size) piece held)
+
+  -- ---- a move in the page
+
+  module _ (position : Position) (d : Cursor) (found : Bool) (m : Moves position c d found) where
+    -- as the run has it
+    first : IsFirstWanted position c.bytes (c.place % size) m.to
+    first = subst (λ (g : Shape). IsFirstWanted position c.bytes (c.place % page_entries g) m.to) at.shape m.first
+
+    moved_to : d.place ≡ start + m.to
+    moved_to =
+        let own : d.place ≡ c.place - c.place % page_entries c.shape + m.to = ap (λ (x : Cursor). x.place) m.cursor in
+        let in_run = subst (λ (g : Shape). d.place ≡ c.place - c.place % page_entries g + m.to) at.shape own in
+        let place = place_is in
+        omega (arith, in_run, place)
+
+    none_between : (k : ℕ) (e : Entry) → k < m.to - c.place % size → slice_get es (c.place + k) ≡ Some e → is_wanted position e.0 ≡ false
+    none_between k e less got =
+        let most = first.most in
+        let place = place_is in
+        let same : c.place + k ≡ start + (c.place % size + k) = omega (arith, place) in
+        ap (is_wanted position) (key_there (c.place % size + k) e (omega (arith, less, most)) (ap (slice_get es) (sym same) ∙ got))
+        ∙ first.before (c.place % size + k) (omega arith) (omega (arith, less))
+
+    -- none that is wanted was passed
+    pub moved_left : wanted (is_wanted position) es ≡ wanted (is_wanted position) (drop c.place es) → wanted (is_wanted position) es ≡ wanted (is_wanted position) (drop d.place es)
+    moved_left left =
+        let most = first.most in
+        let forth = first.forth in
+        let place = place_is in
+        let room = fits in
+        let many = s.many in
+        let to = moved_to in
+        let same : c.place + (m.to - c.place % size) ≡ d.place = omega (arith, place, forth, to) in
+        passed_many (is_wanted position) es c.place (m.to - c.place % size) (omega (arith, place, forth, most, room, many)) none_between left ∙ ap (λ (n : ℕ). wanted (is_wanted position) (drop n es)) same
+
+    pub moved_forth : c.place ≤ d.place
+    moved_forth = let forth = first.forth in let place = place_is in let to = moved_to in omega (arith, place, forth, to)
+
+    -- it goes behind the page at most
+    pub moved_within : d.place ≤ d.loaded * page_entries d.shape
+    moved_within =
+        let most = first.most in
+        let count = count_is in
+        let to = moved_to in
+        let within : d.place ≤ suc (c.place / size) * size = omega (arith, most, count, to) in
+        let shape : d.shape ≡ r.shape = ap (λ (x : Cursor). x.shape) m.cursor ∙ at.shape in
+        let loaded : d.loaded ≡ suc (c.place / size) = ap (λ (x : Cursor). x.loaded) m.cursor ∙ at.loaded in
+        subst (λ (n : ℕ). d.place ≤ n * page_entries d.shape) (sym loaded) (subst (λ (g : Shape). d.place ≤ suc (c.place / size) * page_entries g) (sym shape) within)
+
+    later : c.place / size ≤ d.place / size
+    later = le-div (c.place / size) d.place size (entries_some r.shape is) (let place = place_is in let forth = moved_forth in omega (arith, place, forth))
+
+    same_loaded : d.loaded ≡ c.loaded
+    same_loaded = ap (λ (x : Cursor). x.loaded) m.cursor
+
+    -- the cursor follows the run wherever it did
+    pub moved_follows : Follows flash r es position c → Follows flash r es position d
+    moved_follows f = record {
+      pages = subst (λ (n : ℕ). n ≤ length r.firsts) (sym same_loaded) f.pages;
+      behind = (let behind = f.behind in let after = later in let loaded = same_loaded in omega (arith, behind, after, loaded));
+      holds = λ loaded.
+          let here = at.loaded in
+          let own = same_loaded in
+          let same : c.place / size ≡ d.place / size = omega (arith, loaded, here, own) in
+          ap (λ (p : ℕ). page_at flash (page_of r p)) (sym same) ∙ at.page ∙ ap (λ (x : Cursor). whole x.bytes) (sym m.cursor);
+      left = moved_left f.left;
+    }
+
+    -- where a wanted entry was found it has the page of its place still
+    module _ (there : found ≡ true) where
+      within : m.to < number_at 2 10 c.bytes
+      within = ltb-true m.to (number_at 2 10 c.bytes) (sym m.tells ∙ there)
+
+      pub found_at : AtPage r flash d
+      found_at =
+          let less = within in
+          let room = fits in
+          let to = moved_to in
+          let count = count_is in
+          let up = later in
+          let below : d.place / size < suc (c.place / size) = (div-lt_iff_lt-mul (entries_some r.shape is)).1 (omega (arith, less, count, to)) in
+          let same : c.place / size ≡ d.place / size = omega (arith, up, below) in
+          record {
+            shape = ap (λ (x : Cursor). x.shape) m.cursor ∙ at.shape;
+            inside = omega (arith, to, less, room);
+            page = ap (λ (p : ℕ). page_at flash (page_of r p)) (sym same) ∙ at.page ∙ ap (λ (x : Cursor). whole x.bytes) (sym m.cursor);
+            loaded = ap (λ (x : Cursor). x.loaded) m.cursor ∙ at.loaded ∙ ap (λ (n : ℕ). suc n) same;
+          }
+
+      -- and the entry there is wanted
+      pub found_wanted : (e : Entry) → slice_get es d.place ≡ Some e → is_wanted position e.0 ≡ true
+      found_wanted e got = ap (is_wanted position) (key_there m.to e within (ap (slice_get es) (sym moved_to) ∙ got)) ∙ first.at within
+
+    -- else it went on
+    pub none_forth : found ≡ false → c.place < d.place
+    none_forth none =
+        let least = ltb-false m.to (number_at 2 10 c.bytes) (sym m.tells ∙ none) in
+        let own = entry_within r flash arena es is kept c.place at.inside s c.bytes at.page in
+        let to = moved_to in
+        let place = place_is in
+        omega (arith, least, own, to, place)
+
+-- ---- as the cursor goes there
+
+pub moves_to : (position : Position) (b : Cursor) (n to count : ℕ) (xs ys : List ℕ) → n ≡ page_entries b.shape → xs ≡ b.bytes → ys ≡ b.bytes → IsFirstWanted position xs (b.place % n) to → count ≡ number_at 2 10 ys
+    → Moves position b (record b { place = b.place - b.place % n + to }) (nat_lt to count)
+moves_to position b n to count xs ys size own same first is = record {
+  to = to;
+  first = subst (λ (zs : List ℕ). IsFirstWanted position zs (b.place % page_entries b.shape) to) own (subst (λ (m : ℕ). IsFirstWanted position xs (b.place % m) to) size first);
+  cursor = ap (λ (m : ℕ). record b { place = b.place - b.place % m + to }) size;
+  tells = ap (λ (m : ℕ). nat_lt to m) (is ∙ ap (number_at 2 10) same);
+}

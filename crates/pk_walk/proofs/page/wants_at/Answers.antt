@@ -1,0 +1,15 @@
+use Rattle.std.proofs.Common.{◌≡◌, arith, ap, ◌∙◌, None}
+use Rattle.pk_base.specs.EntryBytes.{entry_fault}
+use Rattle.pk_base.proofs.EntryLemmas.{entry_size}
+use Rattle.pk_meta.proofs.FindLemmas.{cell_room, cell_good}
+use Rattle.pk_walk.proofs.page.wants_at.Goals as goal
+
+pub cell_of-cell-requires : goal.cell_of-cell-requires
+cell_of-cell-requires c = omega (arith, cell_room c.args.shape.now c.args.page.now c.known.ensures c.requires.decodes)
+
+pub wants-requires : goal.wants-requires
+wants-requires c =
+    let good : entry_fault c.args.shape.now c.cell_of-cell.result.now ≡ None =
+    ap (entry_fault c.args.shape.now) c.cell_of-cell.ensures.value ∙ cell_good c.args.shape.now c.args.page.now c.known.ensures c.requires.decodes c.args.i c.requires.within in
+    let h = entry_size c.args.shape.now c.cell_of-cell.result.now good in
+    omega (arith, c.cell_of-cell.ensures.len)
