@@ -1,15 +1,10 @@
 //! Failing calls, cuts and rooms of the board in memory.
 
 use pk_base::Shape;
-use pk_flash::{Flash, Left, Room, is_flash};
-use pk_nand::{Board, HostFault, Mark, Nand, NandFault, PageRead, PageState};
+use pk_flash::{Flash, Left, Room};
+use pk_nand::{Board, HostFault, Nand, NandFault, PageState};
 use std::alloc::{AllocError, Global};
 use std::test::*;
-
-const ROOM: Room = Room {
-    posted: 10,
-    marks: 6,
-};
 
 // Each way in which a call can fail, by a number.
 fn left(alloc: Global, way: u8) -> Result<Left, AllocError> {
@@ -62,7 +57,7 @@ fn program(flash: &mut Flash, page: u32) -> Result<(), NandFault> {
         None => Err(NandFault),
         Some(shape) => {
             if page < shape.page_count() && shape.page_bytes() == 512 {
-                flash.program(page, &[(page % 256) as u8; 512])
+                flash.program(page, &[7; 512])
             } else {
                 Err(NandFault)
             }
@@ -83,77 +78,93 @@ fn erase(flash: &mut Flash, block: u32) -> Result<(), NandFault> {
     }
 }
 
-fn read(flash: &mut Flash, page: u32, into: &mut [u8; 512]) -> Result<PageRead, NandFault> {
-    match flash.shape() {
-        None => Err(NandFault),
-        Some(shape) => {
-            if page < shape.page_count() && shape.page_bytes() == 512 {
-                flash.read(page, into)
-            } else {
-                Err(NandFault)
-            }
+// A board of Erased pages of which the call with this number fails and leaves this.
+fn planned(alloc: Global, call: u64, left: Left) -> Result<Flash, Fail> {
+    let shape = Shape::new(512, 8, 33).ok().ok_or("a shape")?;
+    let room = Room {
+        posted: 10,
+        marks: 6,
+    };
+    let mut flash = Flash::new(alloc, Some(shape), Vec::new(alloc), room)?;
+    flash.fail(alloc, call, left)?;
+    Ok(flash)
+}
+
+// Programs pages 0 and 1, erases their block, and posts two texts: what each of the calls answers.
+fn five_calls(flash: &mut Flash) -> [bool; 5] {
+    [
+        program(flash, 0).is_ok(),
+        program(flash, 1).is_ok(),
+        erase(flash, 0).is_ok(),
+        flash.post(b"foo").is_ok(),
+        flash.post(b"ok").is_ok(),
+    ]
+}
+
+// The board behind these calls, of which the one with this number alone fails.
+fn failed(alloc: Global, call: u8, way: u8) -> Result<Flash, Fail> {
+    let mut flash = planned(alloc, u64::from(call), left(alloc, way)?)?;
+    let done = five_calls(&mut flash);
+    for (i, done) in done.iter().enumerate() {
+        if *done == (i == usize::from(call)) {
+            return Err("one call that fails")?;
         }
+    }
+    Ok(flash)
+}
+
+// The first pages behind a program of page 0 that fails.
+fn failed_program(alloc: Global, way: u8) -> Result<[u8; 8], Fail> {
+    let mut flash = planned(alloc, 0, left(alloc, way)?)?;
+    match program(&mut flash, 0) {
+        Ok(()) => Err("a call that fails")?,
+        Err(NandFault) => Ok(block(&flash)),
     }
 }
 
-// A failing call leaves what was planned; what does not fit it counts as untouched. The numbers of calls have the failed ones.
+// The first pages behind five calls of which the erase fails.
+fn failed_erase(alloc: Global, way: u8) -> Result<[u8; 8], Fail> {
+    let flash = failed(alloc, 2, way)?;
+    Ok(block(&flash))
+}
+
+// Whether these are the bytes that went out behind five calls of which the first post fails.
+fn failed_post(alloc: Global, way: u8, wanted: &[u8]) -> Result<bool, Fail> {
+    let flash = failed(alloc, 3, way)?;
+    Ok(flash.posted() == wanted)
+}
+
+// A program, an erase or a post that fails leaves what was planned; what does not fit it counts as untouched.
 #[test]
 fn failures(rt: HostRuntime) -> Result<(), Fail> {
     let alloc = rt.alloc();
-    let shape = Shape::new(512, 8, 33).ok().ok_or("a shape")?;
-    for (way, after_program, after_erase, posted) in [
+    for (way, programmed, erased, posted) in [
         (0, *b"eeeeeeee", *b"wweeeeee", b"ok".as_slice()),
-        (1, *b"teeeeeee", *b"tttttttt", b"ok".as_slice()),
-        (2, *b"weeeeeee", *b"eeeeeeee", b"ok".as_slice()),
-        (3, *b"eeeeeeee", *b"wetteeee", b"ok".as_slice()),
-        (4, *b"eeeeeeee", *b"wweeeeee", b"fook".as_slice()),
+        (1, *b"teeeeeee", *b"tttttttt", b"ok"),
+        (2, *b"weeeeeee", *b"eeeeeeee", b"ok"),
+        (3, *b"eeeeeeee", *b"wetteeee", b"ok"),
+        (4, *b"eeeeeeee", *b"wweeeeee", b"fook"),
     ] {
-        let mut flash = Flash::new(alloc, Some(shape), b"input".to_vec(alloc)?, ROOM)?;
-        flash.fail(alloc, 0, left(alloc, way)?)?;
-        assert_eq!(rt; program(&mut flash, 0), Err(NandFault));
-        assert_eq!(rt; block(&flash), after_program, "way {way}");
-        assert_eq!(rt; flash.program_count(), 1);
-        assert_eq!(rt; program(&mut flash, 8), Ok(()));
-
-        let mut flash = Flash::new(alloc, Some(shape), b"input".to_vec(alloc)?, ROOM)?;
-        // of two plans for a call the last holds
-        flash.fail(alloc, 2, Left::Untouched)?;
-        flash.fail(alloc, 2, left(alloc, way)?)?;
-        flash.fail(alloc, 3, left(alloc, way)?)?;
-        flash.fail(alloc, 5, left(alloc, way)?)?;
-        flash.fail(alloc, 7, left(alloc, way)?)?;
-        assert_eq!(rt; program(&mut flash, 0), Ok(()));
-        assert_eq!(rt; program(&mut flash, 1), Ok(()));
-        assert_eq!(rt; erase(&mut flash, 0), Err(NandFault));
-        assert_eq!(rt; block(&flash), after_erase, "way {way}");
-        assert_eq!(rt; flash.erase_count(), 1);
-        let mut page = [9u8; 512];
-        assert_eq!(rt; read(&mut flash, 16, &mut page), Err(NandFault));
-        assert_eq!(rt; read(&mut flash, 16, &mut page), Ok(PageRead::Erased));
-        assert_eq!(rt; page[0], 9);
-        assert_eq!(rt; flash.read_count(), 2);
-        let mut bytes = [0u8; 3];
-        assert_eq!(rt; flash.fetch(&mut bytes), Err(HostFault));
-        assert_eq!(rt; flash.fetch(&mut bytes), Ok(3));
-        assert_eq!(rt; bytes, *b"inp");
-        assert_eq!(rt; flash.post(b"foo"), Err(HostFault));
-        assert_eq!(rt; flash.post(b"ok"), Ok(()));
-        assert_eq!(rt; flash.posted(), posted, "way {way}");
+        assert_eq!(rt; failed_program(alloc, way)?, programmed, "way {way}");
+        assert_eq!(rt; failed_erase(alloc, way)?, erased, "way {way}");
+        assert!(rt; failed_post(alloc, way, posted)?, "way {way}");
     }
     Ok(())
 }
 
-// What stands where the trail is cut off at each mark, with each outcome; and a board that begins with such pages.
+// The first pages behind five calls, where their trail is cut off at this mark, which is interrupted in this way.
+fn front_of_cut(alloc: Global, k: usize, way: u8) -> Result<[u8; 8], Fail> {
+    let flash = failed(alloc, 100, 0)?;
+    if flash.marks() < k || flash.shape().is_none() {
+        return Err("a mark")?;
+    }
+    Ok(front(&flash.cut(alloc, k, &left(alloc, way)?)?))
+}
+
+// What stands where the trail is cut off at each mark, with each outcome.
 #[test]
 fn cuts(rt: HostRuntime) -> Result<(), Fail> {
     let alloc = rt.alloc();
-    let shape = Shape::new(512, 8, 33).ok().ok_or("a shape")?;
-    let mut flash = Flash::new(alloc, Some(shape), b"".to_vec(alloc)?, ROOM)?;
-    assert_eq!(rt; program(&mut flash, 0), Ok(()));
-    assert_eq!(rt; program(&mut flash, 1), Ok(()));
-    assert_eq!(rt; erase(&mut flash, 0), Ok(()));
-    assert_eq!(rt; flash.post(b"foo"), Ok(()));
-    assert_eq!(rt; flash.marks(), 4);
     for (k, way, want) in [
         (0, 0, *b"eeeeeeee"),
         (0, 1, *b"teeeeeee"),
@@ -169,60 +180,59 @@ fn cuts(rt: HostRuntime) -> Result<(), Fail> {
         (2, 3, *b"wetteeee"),
         (2, 4, *b"wweeeeee"),
         (3, 1, *b"eeeeeeee"),
-        (4, 1, *b"eeeeeeee"),
+        (5, 1, *b"eeeeeeee"),
     ] {
-        if k <= flash.marks() && flash.shape().is_some() {
-            let pages = flash.cut(alloc, k, &left(alloc, way)?)?;
-            assert_eq!(rt; front(&pages), want, "{k} marks, way {way}");
-            if is_flash(&shape, &pages) {
-                let mut next = Flash::with_pages(alloc, shape, pages, b"".to_vec(alloc)?, ROOM)?;
-                assert_eq!(rt; block(&next), want);
-                assert_eq!(rt; program(&mut next, 8), Ok(()));
-                if next.shape().is_some() {
-                    assert_eq!(rt; front(&next.cut(alloc, 0, &Left::Untouched)?), want);
-                }
-                assert_eq!(rt; next.marks(), 1);
-            }
-        }
-    }
-    if 2 < flash.marks() {
-        assert!(rt; matches!(flash.mark(1), Mark::Program { page: 1, .. }));
-        assert!(rt; matches!(flash.mark(2), Mark::Erase { block: 0 }));
+        assert_eq!(rt; front_of_cut(alloc, k, way)?, want, "{k} marks, way {way}");
     }
     Ok(())
 }
 
-// A board without an image gets one; a call that would pass the room fails with nothing done.
-#[test]
-fn rooms(rt: HostRuntime) -> Result<(), Fail> {
-    let alloc = rt.alloc();
+// A board without an image gets one, and has room for three marks and ten posted bytes.
+fn with_few_marks(alloc: Global) -> Result<Flash, Fail> {
     let shape = Shape::new(512, 8, 33).ok().ok_or("a shape")?;
     let room = Room {
         posted: 10,
         marks: 3,
     };
     let mut flash = Flash::new(alloc, None, b"input".to_vec(alloc)?, room)?;
-    assert!(rt; matches!(flash.load(alloc), Ok(None)));
-    if flash.shape().is_none() {
-        assert_eq!(rt; flash.make(alloc, shape), Ok(()));
+    if flash.shape().is_none() && flash.make(alloc, shape).is_err() {
+        return Err("an image")?;
     }
-    assert!(rt; matches!(flash.load(alloc), Ok(Some(_))));
-    assert_eq!(rt; flash.post(b"abc"), Ok(()));
-    assert_eq!(rt; flash.post(b"12345678"), Err(HostFault));
-    assert_eq!(rt; flash.post(b"hi"), Ok(()));
-    assert_eq!(rt; flash.posted(), b"abchi".as_slice());
+    Ok(flash)
+}
+
+// What three fetches answer.
+fn fetched(flash: &mut Flash) -> [Result<usize, HostFault>; 3] {
     let mut bytes = [0u8; 3];
-    assert_eq!(rt; flash.fetch(&mut bytes), Ok(3));
-    assert_eq!(rt; flash.fetch(&mut bytes), Ok(2));
-    assert_eq!(rt; flash.fetch(&mut bytes), Ok(0));
-    assert_eq!(rt; program(&mut flash, 0), Ok(()));
-    assert_eq!(rt; flash.marks(), 3);
-    assert_eq!(rt; program(&mut flash, 1), Err(NandFault));
-    assert_eq!(rt; erase(&mut flash, 0), Err(NandFault));
-    assert_eq!(rt; flash.post(b"j"), Err(HostFault));
-    assert_eq!(rt; block(&flash), *b"weeeeeee");
-    let mut page = [9u8; 512];
-    assert_eq!(rt; read(&mut flash, 0, &mut page), Ok(PageRead::Whole));
-    assert_eq!(rt; page[511], 0);
+    [
+        flash.fetch(&mut bytes),
+        flash.fetch(&mut bytes),
+        flash.fetch(&mut bytes),
+    ]
+}
+
+// Whether three posts are done, of which the second has no room.
+fn posted(flash: &mut Flash) -> [bool; 3] {
+    [
+        flash.post(b"abc").is_ok(),
+        flash.post(b"12345678").is_ok(),
+        flash.post(b"hi").is_ok(),
+    ]
+}
+
+// A call that would pass the room fails with nothing done.
+#[test]
+fn rooms(rt: HostRuntime) -> Result<(), Fail> {
+    let mut flash = with_few_marks(rt.alloc())?;
+    let fetched = fetched(&mut flash);
+    let posted = posted(&mut flash);
+    let done = five_calls(&mut flash);
+    assert!(rt; flash.posted() == b"abchi".as_slice());
+    let first = block(&flash);
+    drop(flash);
+    assert_eq!(rt; first, *b"weeeeeee");
+    assert_eq!(rt; fetched, [Ok(3), Ok(2), Ok(0)]);
+    assert_eq!(rt; posted, [true, false, true]);
+    assert_eq!(rt; done, [true, false, false, false, false]);
     Ok(())
 }

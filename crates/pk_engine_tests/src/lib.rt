@@ -1,9 +1,5 @@
-//! Tests of the parts of an engine, and of the drive: logs, values, a format and an opening.
+//! Tests of the parts of an engine: logs.
 #![tactic(auto)]
 
-#[cfg(test)]
-mod data;
-#[cfg(test)]
-mod drive;
 #[cfg(test)]
 mod log;

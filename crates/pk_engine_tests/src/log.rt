@@ -56,18 +56,3 @@ fn fills(rt: HostRuntime) -> Result<(), Fail> {
     assert_eq!(rt; heap.used(), used);
     Ok(())
 }
-
-// An epoch that was found at opening takes no entry before a freeze.
-#[test]
-fn found_takes_none(rt: HostRuntime) -> Result<(), Fail> {
-    let shape = Shape::new(512, 16, 64).ok().ok_or("a shape")?;
-    let heap = LocalHeap::new(rt.alloc(), 16384)?;
-    let root = Root::new(&heap, shape)?;
-    let active = Buffer::new(&heap, shape)?;
-    let frozen = Buffer::new(&heap, shape)?;
-    let epoch = Epoch::found(shape, 1, [2, 3], 0);
-    let log = Log::new(&heap, root, 0, epoch, active, frozen)?;
-    assert!(rt; log.needs_freeze(&Key::of(b"a")));
-    assert_eq!(rt; log.left(), 0);
-    Ok(())
-}

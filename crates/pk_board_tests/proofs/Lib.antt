@@ -1,2 +1,0 @@
-pub mod FirstBlocks
-pub mod StoredHead
