@@ -143,8 +143,7 @@ impl<A: Region> Walk<A> {
             board,
             arena,
             levels,
-            active,
-            frozen,
+            &Buffers { active, frozen },
         ) {
             Ok(Some(entry)) => {
                 self.position = Position::Above(entry.key().copy());
@@ -238,6 +237,13 @@ fn has_place(entry: &Entry) -> bool
     }
 }
 
+/// The two write buffers.
+#[derive(Drop)]
+struct Buffers<'a, A: Region> {
+    active: &'a Buffer<A>,
+    frozen: &'a Buffer<A>,
+}
+
 // The wanted entry of all lists whose key is lowest, the first of its key.
 fn least_of_all<A: Region, B: Nand>(
     cursors: &mut Cursors<A>,
@@ -246,8 +252,7 @@ fn least_of_all<A: Region, B: Nand>(
     board: &mut B,
     arena: &PinArena<A>,
     levels: &Levels<A>,
-    active: &Buffer<A>,
-    frozen: &Buffer<A>,
+    buffers: &Buffers<A>,
 ) -> Result<Option<Entry>, Fault>
     requires ready { IsReady (B.state board.old) levels.now.shape }
     requires shape { AreOfShape levels.now.shape cursors.old }
@@ -257,8 +262,8 @@ fn least_of_all<A: Region, B: Nand>(
 
     // The first entry that is left.
     ensures finds { IfOk result (λ found. FindsInEach (first_left position.now
-        active.now.entries frozen.now.entries) levels.now.runs arena.now position.now
-        (B.state board.old) (B.state board.new) cursors.old cursors.new found) }
+        buffers.now.active.now.entries buffers.now.frozen.now.entries) levels.now.runs arena.now
+        position.now (B.state board.old) (B.state board.new) cursors.old cursors.new found) }
 
     // The cursors go on in any case, and only a read fails.
     ensures go_on { GoOn (B.state board.old).pages arena.now levels.now.shape
@@ -272,13 +277,13 @@ fn least_of_all<A: Region, B: Nand>(
     ensures ready { IsReady (B.state board.new) levels.now.shape }
     ensures four { length cursors.new ≡ 4 }
 {
-    let _ = active.len();
-    let _ = frozen.len();
+    let _ = buffers.active.len();
+    let _ = buffers.frozen.len();
     match cursors.seek(board, arena, levels, position) {
         Ok(deep) => {
             cursors.known();
-            let upper = first_in(frozen, position, &mut places.frozen);
-            let top = first_in(active, position, &mut places.active);
+            let upper = first_in(buffers.frozen, position, &mut places.frozen);
+            let top = first_in(buffers.active, position, &mut places.active);
             Ok(least(top, least(upper, deep)))
         }
         Err(fault) => {
