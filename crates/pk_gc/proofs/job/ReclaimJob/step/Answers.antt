@@ -1,4 +1,5 @@
-use Rattle.std.proofs.Common.{◌≡◌, inl, inr, refl, sym, ap, subst, ◌∙◌, arith, Result, Ok, Err, IfOk, OnOk}
+use Rattle.std.proofs.Common.{◌≡◌, inl, inr, refl, sym, ap, subst, ◌∙◌, arith}
+use Rattle.std.proofs.Common.{Result, Ok, Err, IfOk, OnOk}
 use Rattle.pk_gc.specs.declared.course.Phase.{Phase}
 use Rattle.pk_gc.specs.declared.course.Phase.TheVariants.{Copies}
 use Rattle.pk_gc.specs.State.{JobState}
@@ -11,15 +12,22 @@ pub begin_value-requires-clause-may : goal.begin_value-requires-clause-may
 begin_value-requires-clause-may g c =
     let job = c.args.self.now in
     let flash = (g.B.Nand.state c.args.board.now).pages in
-    let hands = hands_of c.args.live.now c.args.front.now c.args.pool.now c.args.active.now c.args.epoch.now in
+    let hands =
+    hands_of c.args.live.now c.args.front.now c.args.pool.now c.args.active.now c.args.epoch.now in
     let course = c.in-Copies.course in
-    let is : job.phase ≡ Copies course = sym (ap (λ (s : JobState). s.phase) c.self.view_is) ∙ c.in-Copies.is in
-    let on : CanGoOn course job hands flash = subst (λ (p : Phase). CanStepIn p job hands flash) is c.requires.can in
+    let is : job.phase ≡ Copies course =
+    sym (ap (λ (s : JobState). s.phase) c.self.view_is) ∙ c.in-Copies.is in
+    let on : CanGoOn course job hands flash =
+    subst (λ (p : Phase). CanStepIn p job hands flash) is c.requires.can in
     let whole : course.left ≡ 0 = omega (arith, c.if-course-gt0.false) in
-    let pages : c.block_pages.result ≡ job.shape.block_pages = c.block_pages.ensures.value ∙ ap (λ (s : JobState). s.shape.block_pages) c.self.view_is in
-    let pages_too : c.block_pages-in-Copies.result ≡ job.shape.block_pages = c.block_pages-in-Copies.ensures.value ∙ ap (λ (s : JobState). s.shape.block_pages) c.self.view_is in
+    let pages : c.block_pages.result ≡ job.shape.block_pages =
+    c.block_pages.ensures.value ∙ ap (λ (s : JobState). s.shape.block_pages) c.self.view_is in
+    let pages_too : c.block_pages-in-Copies.result ≡ job.shape.block_pages =
+    c.block_pages-in-Copies.ensures.value
+    ∙ ap (λ (s : JobState). s.shape.block_pages) c.self.view_is in
     let page = c.in-Some.page in
-    let found = first_head job.shape course _ _ pages pages_too hands.live.heads page c.in-Some.ensures in
+    let found =
+    first_head job.shape course _ _ pages pages_too hands.live.heads page c.in-Some.ensures in
     let next = on.next whole page found.behind found.inside found.head found.first in
     record {
       phase_is = is;
@@ -33,7 +41,8 @@ begin_value-requires-clause-may g c =
     }
 
 -- what holds of a call that was Ok, of its answer and by itself
-if_ok_both : {X E A : Type 0} {P Q : X → Type 0} (r : Result X E) → ((x : X) → P x → A → Q x) → IfOk r P → OnOk r A → IfOk r Q
+if_ok_both : {X E A : Type 0} {P Q : X → Type 0} (r : Result X E)
+    → ((x : X) → P x → A → Q x) → IfOk r P → OnOk r A → IfOk r Q
 if_ok_both (Ok x) f is a = f x is a
 if_ok_both (Err e) f is a = is
 
@@ -41,14 +50,20 @@ pub returns-in-Some-clause-steps : goal.returns-in-Some-clause-steps
 returns-in-Some-clause-steps g c =
     let job = c.args.self.now in
     let old = g.B.Nand.state c.args.board.now in
-    let hands = hands_of c.args.live.now c.args.front.now c.args.pool.now c.args.active.now c.args.epoch.now in
+    let hands =
+    hands_of c.args.live.now c.args.front.now c.args.pool.now c.args.active.now c.args.epoch.now in
     let course = c.in-Copies.course in
-    let is : job.phase ≡ Copies course = sym (ap (λ (s : JobState). s.phase) c.self.view_is) ∙ c.in-Copies.is in
+    let is : job.phase ≡ Copies course =
+    sym (ap (λ (s : JobState). s.phase) c.self.view_is) ∙ c.in-Copies.is in
     let whole : course.left ≡ 0 = omega (arith, c.if-course-gt0.false) in
-    let pages : c.block_pages.result ≡ job.shape.block_pages = c.block_pages.ensures.value ∙ ap (λ (s : JobState). s.shape.block_pages) c.self.view_is in
-    let pages_too : c.block_pages-in-Copies.result ≡ job.shape.block_pages = c.block_pages-in-Copies.ensures.value ∙ ap (λ (s : JobState). s.shape.block_pages) c.self.view_is in
+    let pages : c.block_pages.result ≡ job.shape.block_pages =
+    c.block_pages.ensures.value ∙ ap (λ (s : JobState). s.shape.block_pages) c.self.view_is in
+    let pages_too : c.block_pages-in-Copies.result ≡ job.shape.block_pages =
+    c.block_pages-in-Copies.ensures.value
+    ∙ ap (λ (s : JobState). s.shape.block_pages) c.self.view_is in
     let page = c.in-Some.page in
-    let found = first_head job.shape course _ _ pages pages_too hands.live.heads page c.in-Some.ensures in
+    let found =
+    first_head job.shape course _ _ pages pages_too hands.live.heads page c.in-Some.ensures in
     let job' = c.begin_value.new.self in
     let new = g.B.Nand.state c.begin_value.new.board in
     if_ok_both c.begin_value.result (λ r worked reads.
@@ -63,29 +78,40 @@ returns-in-Some-clause-steps g c =
       board = reads.board;
       runs = reads.runs;
     } in
-    subst (λ (p : Phase). StepsIn p job hands old job' hands new r) (sym is) (inl (worked, refl, inr (inr begins)))) c.begin_value.ensures.worked c.begin_value.ensures.reads
+    subst (λ (p : Phase). StepsIn p job hands old job' hands new r) (sym is)
+    (inl (worked, refl, inr (inr begins)))) c.begin_value.ensures.worked c.begin_value.ensures.reads
 
 pub returns-in-Ok-clause-steps : goal.returns-in-Ok-clause-steps
 returns-in-Ok-clause-steps g c =
     let job = c.args.self.now in
     let old = g.B.Nand.state c.args.board.now in
-    let hands = hands_of c.args.live.now c.args.front.now c.args.pool.now c.args.active.now c.args.epoch.now in
+    let hands =
+    hands_of c.args.live.now c.args.front.now c.args.pool.now c.args.active.now c.args.epoch.now in
     let course = c.in-Copies.course in
-    let is : job.phase ≡ Copies course = sym (ap (λ (s : JobState). s.phase) c.self.view_is) ∙ c.in-Copies.is in
+    let is : job.phase ≡ Copies course =
+    sym (ap (λ (s : JobState). s.phase) c.self.view_is) ∙ c.in-Copies.is in
     let whole : course.left ≡ 0 = omega (arith, c.if-course-gt0.false) in
-    let pages : c.block_pages.result ≡ job.shape.block_pages = c.block_pages.ensures.value ∙ ap (λ (s : JobState). s.shape.block_pages) c.self.view_is in
-    let pages_too : c.block_pages-in-Copies.result ≡ job.shape.block_pages = c.block_pages-in-Copies.ensures.value ∙ ap (λ (s : JobState). s.shape.block_pages) c.self.view_is in
-    let dead = dead_to_end job.shape course _ _ pages pages_too hands.live.heads c.in-None.ensures in
+    let pages : c.block_pages.result ≡ job.shape.block_pages =
+    c.block_pages.ensures.value ∙ ap (λ (s : JobState). s.shape.block_pages) c.self.view_is in
+    let pages_too : c.block_pages-in-Copies.result ≡ job.shape.block_pages =
+    c.block_pages-in-Copies.ensures.value
+    ∙ ap (λ (s : JobState). s.shape.block_pages) c.self.view_is in
+    let dead =
+    dead_to_end job.shape course _ _ pages pages_too hands.live.heads c.in-None.ensures in
     let epoch = c.commit.new.epoch in
     let new = g.B.Nand.state c.commit.new.board in
     let job' = c.finish.new.self in
-    let hands' = hands_of c.finish.new.live c.finish.new.front c.finish.new.pool c.finish.new.active epoch in
+    let hands' =
+    hands_of c.finish.new.live c.finish.new.front c.finish.new.pool c.finish.new.active epoch in
     let r = c.finish.result in
-    let done = subst (λ (j : JobState). Finished c.in-Ok.committed course j (record hands { epoch = epoch }) job' hands' r) c.commit.ensures.kept (c.finish.ensures.finished epoch) in
+    let done =
+    subst (λ (j : JobState). Finished c.in-Ok.committed course j (record hands { epoch = epoch }) job' hands' r)
+    c.commit.ensures.kept (c.finish.ensures.finished epoch) in
     let tries : Tries course job hands old job' hands' new r = record {
       free = c.if-course.false;
       whole = whole;
       dead = dead;
-      finishes = finishes course job hands old epoch new job' hands' r c.in-Ok.committed c.in-Ok.ensures.commits done;
+      finishes = finishes course job hands old epoch new job' hands' r
+          c.in-Ok.committed c.in-Ok.ensures.commits done;
     } in
     subst (λ (p : Phase). StepsIn p job hands old job' hands' new r) (sym is) (inr tries)
