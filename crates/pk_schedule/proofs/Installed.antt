@@ -1,25 +1,24 @@
 -- A step of the install of a merge, for whatever stands on the flash.
-use Rattle.std.proofs.Common.{◌≡◌, ℕ, ◌≤◌, false, true, List, [], ◌∷◌, refl, sym, ap, subst, ◌∙◌, Option, Result, Ok, Err}
-use Rattle.std.specs.Prelude.{OnOk, OnErr}
+use Rattle.std.proofs.Common.{◌≡◌, ℕ, ◌≤◌, false, true, List, [], ◌∷◌, refl, sym, ap, subst, ◌∙◌, arith, Option, Result, Ok, Err}
 use Rattle.pk_base.specs.Map.{Map}
 use Rattle.pk_nand.specs.declared.types.Fault.{Fault}
 use Rattle.pk_nand.specs.BoardState.{BoardState}
-use Rattle.pk_nand.specs.Effects.{OnlyFlash, Stops}
 use Rattle.pk_rootfmt.specs.Root.{Root}
 use Rattle.pk_rootfmt.specs.Held.{older_of, blocks_or_none}
 use Rattle.pk_root.specs.Installing.{erases_next}
 use Rattle.pk_pin.specs.Frames.{Frames}
 use Rattle.pk_model.specs.Found.{Found}
-use Rattle.pk_model.specs.Steps.{Step}
+use Rattle.pk_model.specs.Steps.{Step, RootsUpTo}
 use Rattle.pk_pool.specs.Blocks.{Blocks, IsShared}
 use Rattle.pk_level.specs.Levels.{Levels, IsLevels}
 use Rattle.pk_run.specs.Kept.{Kept}
 use Rattle.pk_log.specs.State.{LogState}
 use Rattle.pk_log.specs.MergeSteps.{MayPrepare, LogPrepared, LogPrepares, LogPrepareBreaks, MayMerge, LogMerges, LogMergeBreaks}
+use Rattle.pk_schedule.specs.declared.phase.Phase.{Phase}
 use Rattle.pk_schedule.specs.declared.phase.Phase.TheVariants.{Idle, Ready}
 use Rattle.pk_schedule.specs.Exchanges.{CanEndFirst, EndsFirst, CanEndDeep, EndsDeep}
-use Rattle.pk_schedule.specs.Index.{Index, Schedule, output}
-use Rattle.pk_schedule.specs.Steps.{MayWork, IndexMoves, Moves, Less, LessIsLeft, Breaks}
+use Rattle.pk_schedule.specs.Index.{Index, Schedule, merging, output}
+use Rattle.pk_schedule.specs.Steps.{MayWork, IndexMoves, LessIsLeft, StepsOn, Breaks}
 use Rattle.pk_schedule.proofs.Installing.{installed_moves, installed_less}
 use Rattle.pk_schedule.proofs.Preparing.{prepared_moves, prepared_less}
 use Rattle.pk_schedule.proofs.Replaced.{replaced_one, replaced_deep}
@@ -28,6 +27,10 @@ use Rattle.pk_schedule.proofs.Waiting as wait
 same_older : (blocks : List ℕ) → blocks_or_none (older_of blocks) ≡ blocks
 same_older [] = refl
 same_older (b ∷ bs) = refl
+
+-- the level of a merge whose output stands
+pub ready_at : (n : ℕ) (p : Phase) → n ≡ merging p → (level : ℕ) × (p ≡ Ready level) → p ≡ Ready n
+ready_at n p told (level, is) = is ∙ ap (λ (l : ℕ). Ready l) (sym (told ∙ ap merging is))
 
 -- for which the index may be the one of the flash
 abbrev pub Stands : Index → BoardState → Type 0
@@ -75,7 +78,16 @@ module _ (x : Index) (level : ℕ) (is : x.schedule.phase ≡ Ready level) (shar
   abbrev Made : Index → BoardState → Type 0
   Made x' new = (frames : ℕ) (top : ℕ × Root) (found : Found) (m : Map) → MayWork x frames old.pages top found m → IndexMoves x frames old found m x' new × LessIsLeft x x'
 
+  pub steps_on : (x' : Index) (new : BoardState) → Made x' new → StepsOn x old x' new
+  steps_on x' new made = record {
+    moves = λ frames top found m may. (made frames top found m may).0;
+    less = λ frames top found m may. (made frames top found m may).1;
+  }
+
   module _ (new : BoardState) (log' : LogState) where
+    one_root : RootsUpTo 0 old new → RootsUpTo 1 old new
+    one_root same = omega (arith, same)
+
     prepared : erases_next x.log.next ≡ true → LogPrepares x.log old log' new → Made (record x { log = log' }) new
     prepared erases prepares frames top found m may =
         let p = prepares top found m (wait.may_prepare x frames old top found m may level is shared known) in
@@ -84,15 +96,27 @@ module _ (x : Index) (level : ℕ) (is : x.schedule.phase ≡ Ready level) (shar
         let q : Q (record x.log { next = log'.next }) = subst Q p.same_log p in
         subst P (sym p.same_log) (prepared_moves x frames old top found m may level is shared known new log'.next erases q, prepared_less x frames old top found m may level is shared known new log'.next erases q)
 
-    pub made_prepared : erases_next x.log.next ≡ true → (r : Result Unit Fault) → Step (λ u. LogPrepares x.log old log' new) (LogPrepareBreaks x.log old new) x.log.shape 0 old new r
-        → OnOk r (Moves x old (record x { log = log' }) new) × OnOk r (Less x old.pages (record x { log = log' })) × OnErr r (Breaks x old new × Stops old new) × OnlyFlash old new
-    made_prepared erases (Ok u) step = (
-      λ frames top found m may. (prepared erases step.ended frames top found m may).0,
-      λ frames top found m may. (prepared erases step.ended frames top found m may).1,
-      tt,
-      step.works.rest,
-    )
-    made_prepared erases (Err fault) step = (tt, tt, (λ frames top found m may. step.broken top found m (wait.may_prepare x frames old top found m may level is shared known), step.stops), step.stops.rest)
+    pub made_prepared : erases_next x.log.next ≡ true → (r : Result Unit Fault)
+        → Step (λ u. LogPrepares x.log old log' new) (LogPrepareBreaks x.log old new) x.log.shape 0 old new r
+        → Step (λ u. StepsOn x old (record x { log = log' }) new) (Breaks x old new) x.log.shape 1 old new r
+    made_prepared erases (Ok u) step = record {
+      ended = steps_on (record x { log = log' }) new (prepared erases step.ended);
+      broken = tt;
+      works = step.works;
+      stops = tt;
+      stopped = tt;
+      roots_few = one_root step.roots_few;
+      ready = step.ready;
+    }
+    made_prepared erases (Err fault) step = record {
+      ended = tt;
+      broken = λ frames top found m may. step.broken top found m (wait.may_prepare x frames old top found m may level is shared known);
+      works = tt;
+      stops = step.stops;
+      stopped = step.stopped;
+      roots_few = one_root step.roots_few;
+      ready = step.ready;
+    }
 
     module _ (programs : erases_next x.log.next ≡ false) (merges : LogMerges x.log old level (output x.schedule).count (output x.schedule).blocks log' new)
         (levels' : Levels) (arena' : Frames) (pool' : Blocks) (schedule' : Schedule) (rest : schedule' ≡ record x.schedule { job = schedule'.job; phase = Idle }) where

@@ -7,6 +7,8 @@ use Rattle.pk_work.specs.Backlog.{Backlog, due_level}
 use Rattle.pk_work.specs.Rest.{Lowers}
 use Rattle.pk_work.specs.Work.{work, merging as merging_left}
 use Rattle.pk_nand.specs.BoardState.{BoardState}
+use Rattle.pk_nand.specs.Calls.{IsReady, Rose}
+use Rattle.pk_nand.specs.Effects.{AtMostOneCall, OnlyFlash, OnlyReading}
 use Rattle.pk_plan.specs.declared.owner.Owner.TheVariants.{Values}
 use Rattle.pk_rootfmt.specs.Root.{Root}
 use Rattle.pk_pool.specs.declared.state.BlockState.TheVariants.{Owned}
@@ -17,6 +19,7 @@ use Rattle.pk_run.specs.Kept.{most_pages, most_blocks}
 use Rattle.pk_level.specs.Levels.{run_of}
 use Rattle.pk_model.specs.Found.{Found}
 use Rattle.pk_model.specs.Growth.{Grows, Reaches, Goes}
+use Rattle.pk_model.specs.Wear.{roots}
 use Rattle.pk_model.specs.Crashes.{CrashFinds, background}
 use Rattle.pk_steps.specs.Under.{IsUnder, IsValuePage, places}
 use Rattle.pk_merge.specs.Remaining.{steps_left}
@@ -143,6 +146,27 @@ abbrev pub Breaks : Index → BoardState → BoardState → Type 0
 Breaks x old new =
     (frames : ℕ) (top : ℕ × Root) (found : Found) (m : Map) → MayWork x frames old.pages top found m
     → Goes x.log.shape old new (CrashFinds x.log.shape background old.pages m)
+
+-- A step of the merges was made.
+pub record StepsOn (x : Index) (old : BoardState) (x' : Index) (new : BoardState) : Type 0 where
+  pub moves : Moves x old x' new
+  pub less : Less x old.pages x'
+
+-- A read of it failed: nothing but reads was done, and the step can be made again.
+pub record FailsByRead (x : Index) (old : BoardState) (x' : Index) (new : BoardState) : Type 0 where
+  pub unmoved : Unmoved x x'
+  pub again : StandsStill x old x' new
+  pub read : Rose old.read_faults new.read_faults
+  pub flash : Rose old.flash_faults new.flash_faults
+  pub only : OnlyReading old new
+
+-- Whatever came of it, it made at most one call of the flash, whose pages have grown, and installed at most one root.
+pub record CallsOnce (shape : Shape) (old new : BoardState) : Type 0 where
+  pub calls : AtMostOneCall old new
+  pub rest : OnlyFlash old new
+  pub grows : Grows shape old.pages new.pages
+  pub installs : roots new ≤ roots old + 1
+  pub ready : IsReady new shape
 
 -- ---- a step of a freeze
 

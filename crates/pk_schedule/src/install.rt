@@ -1,16 +1,15 @@
 //! The install of a merge.
-ghost use Rattle.std.specs.Prelude.{◌≡◌, ◌≤◌, ◌+◌, ℕ, length, IfErr, OnOk, OnErr};
+ghost use Rattle.std.specs.Prelude.{◌≡◌, ℕ, length};
 ghost use Rattle.pk_base.specs.Map.{Map};
 ghost use Rattle.pk_nand.specs.Calls.{IsReady};
-ghost use Rattle.pk_nand.specs.Effects.{AtMostOneCall, OnlyFlash, Stops, Works};
-ghost use Rattle.pk_nand.specs.declared.types.Fault.TheVariants.{Stopped};
+ghost use Rattle.pk_nand.specs.Effects.{AtMostOneCall};
 ghost use Rattle.pk_rootfmt.specs.Root.{Root as RootValue};
 ghost use Rattle.pk_model.specs.Found.{Found};
 ghost use Rattle.pk_model.specs.Growth.{Grows};
-ghost use Rattle.pk_model.specs.Wear.{roots};
+ghost use Rattle.pk_model.specs.Steps.{Step};
 ghost use Rattle.pk_schedule.specs.declared.phase.Phase.TheVariants.{Ready};
 ghost use Rattle.pk_schedule.specs.Index.{index};
-ghost use Rattle.pk_schedule.specs.Steps.{MayWork, Moves, Less, KeepsActive, Breaks};
+ghost use Rattle.pk_schedule.specs.Steps.{MayWork, StepsOn, KeepsActive, Breaks};
 
 use crate::schedule::Schedule;
 use pk_level::Levels;
@@ -21,9 +20,9 @@ use pk_pool::Pool;
 use pk_region::Region;
 
 impl<A: Region> Schedule<A> {
-    // One step of the install of the merge into this level, whose output stands: the erase before its root, where one is next, or the
-    // program of the root. Behind that the runs are exchanged, and what the former ones and the source had is given back. `Stopped`
-    // where the call fails.
+    // One step of the install of the merge whose output stands: the erase before its root, where one
+    // is next, or the program of the root. Behind that the runs are exchanged, and what the former
+    // ones and the source had is given back. `Stopped` where the call fails.
     pub(crate) fn install<B: Nand>(
         &mut self,
         board: &mut B,
@@ -31,38 +30,28 @@ impl<A: Region> Schedule<A> {
         arena: &mut PinArena<A>,
         levels: &mut Levels<A>,
         log: &mut Log<A>,
-        level: u8,
         buf: &mut [u8],
     ) -> Result<(), Fault>
         requires ready { IsReady (B.state board.old) log.old.shape }
         requires may { (frames : ℕ) × (top : ℕ × RootValue) × (found : Found) × (m : Map)
             × MayWork (index log.old levels.old arena.old pool.old self.old) frames
             (B.state board.old).pages top found m }
-        requires phase { self.old.phase ≡ Ready level }
+        requires phase { (level : ℕ) × (self.old.phase ≡ Ready level) }
         requires room { length buf.old ≡ log.old.shape.page_bytes }
 
-        // The install is a step further, or over.
-        ensures moves { OnOk result (Moves (index log.old levels.old arena.old pool.old self.old)
-            (B.state board.old) (index log.new levels.new arena.new pool.new self.new)
-            (B.state board.new)) }
-        ensures less { OnOk result (Less (index log.old levels.old arena.old pool.old self.old)
-            (B.state board.old).pages (index log.new levels.new arena.new pool.new self.new)) }
-        ensures same_freeze { self.new.freeze ≡ self.old.freeze }
-        ensures active { KeepsActive log.old log.new }
+        // The install is a step further, or over; or its call failed.
+        ensures step { Step
+            (λ u. StepsOn (index log.old levels.old arena.old pool.old self.old) (B.state board.old)
+            (index log.new levels.new arena.new pool.new self.new) (B.state board.new))
+            (Breaks (index log.old levels.old arena.old pool.old self.old) (B.state board.old)
+            (B.state board.new))
+            log.old.shape 1 (B.state board.old) (B.state board.new) result }
+        ensures calls { AtMostOneCall (B.state board.old) (B.state board.new) }
         ensures grows { Grows log.old.shape (B.state board.old).pages (B.state board.new).pages }
 
-        // Or the call failed.
-        ensures stopped { IfErr result (λ fault. fault ≡ Stopped) }
-        ensures broken { OnErr result (Breaks (index log.old levels.old arena.old pool.old self.old)
-            (B.state board.old) (B.state board.new) × Stops (B.state board.old)
-            (B.state board.new)) }
-
-        // The board.
-        ensures sound { OnOk result (Works (B.state board.old) (B.state board.new)) }
-        ensures calls { AtMostOneCall (B.state board.old) (B.state board.new) }
-        ensures rest { OnlyFlash (B.state board.old) (B.state board.new) }
-        ensures installs { roots (B.state board.new) ≤ roots (B.state board.old) + 1 }
-        ensures ready { IsReady (B.state board.new) log.old.shape }
+        // The rest is as it was.
+        ensures active { KeepsActive log.old log.new }
+        ensures same_freeze { self.new.freeze ≡ self.old.freeze }
         ensures buffer { length buf.new ≡ length buf.old }
     {
         pool.known();
@@ -70,6 +59,7 @@ impl<A: Region> Schedule<A> {
         if log.erases_next() {
             return log.prepare_root(board);
         }
+        let level = self.merging();
         let older = log.root().older();
         let output = self.job.output();
         let count = output.entries();

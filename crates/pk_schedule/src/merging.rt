@@ -1,20 +1,18 @@
 //! A merge begins, and goes on by the steps of its job.
-ghost use Rattle.std.specs.Prelude.{◌≡◌, ◌≤◌, ◌+◌, ℕ, length, Ok, Err, OnOk};
+ghost use Rattle.std.specs.Prelude.{◌≡◌, ◌≤◌, ℕ, length, Err, OnOk};
 ghost use Rattle.pk_base.specs.Map.{Map};
 ghost use Rattle.pk_base.specs.Page.{Flash};
 ghost use Rattle.pk_nand.specs.BoardState.{BoardState};
-ghost use Rattle.pk_nand.specs.Calls.{IsReady, Rose};
-ghost use Rattle.pk_nand.specs.Effects.{AtMostOneCall, NoFault, OnlyFlash, OnlyReading, Stops};
+ghost use Rattle.pk_nand.specs.Calls.{IsReady};
+ghost use Rattle.pk_nand.specs.Effects.{NoFault, Stops};
 ghost use Rattle.pk_nand.specs.declared.types.Fault.TheVariants.{Reading, Stopped};
 ghost use Rattle.pk_pin.specs.Frames.{Frames};
 ghost use Rattle.pk_pool.specs.Blocks.{Blocks};
 ghost use Rattle.pk_rootfmt.specs.Root.{Root as RootValue};
 ghost use Rattle.pk_model.specs.Found.{Found};
-ghost use Rattle.pk_model.specs.Growth.{Grows};
-ghost use Rattle.pk_model.specs.Wear.{roots};
 ghost use Rattle.pk_schedule.specs.declared.phase.Phase.TheVariants.{Idle as NoMerge, Running};
 ghost use Rattle.pk_schedule.specs.Index.{Schedule as ScheduleSpec, index, source_at};
-ghost use Rattle.pk_schedule.specs.Steps.{MayWork, Moves, Less, Unmoved, StandsStill, Breaks};
+ghost use Rattle.pk_schedule.specs.Steps.{MayWork, Moves, Less, StepsOn, FailsByRead, CallsOnce, Breaks};
 ghost use Rattle.pk_schedule.specs.Sources.{ShowsSame};
 
 use crate::phase::{Phase, Stepped};
@@ -89,34 +87,22 @@ impl<A: Region> Schedule<A> {
             (B.state board.old).pages top found m }
 
         // The step was made.
-        ensures moves { OnOk result (Moves (index log.now levels.now arena.old pool.old self.old)
+        ensures steps { OnOk result (StepsOn (index log.now levels.now arena.old pool.old self.old)
             (B.state board.old) (index log.now levels.now arena.new pool.new self.new)
             (B.state board.new)) }
-        ensures less { OnOk result (Less (index log.now levels.now arena.old pool.old self.old)
-            (B.state board.old).pages (index log.now levels.now arena.new pool.new self.new)) }
-        ensures same_freeze { self.new.freeze ≡ self.old.freeze }
+        ensures sound { OnOk result (NoFault (B.state board.old) (B.state board.new)) }
 
         // A call failed.
-        ensures unmoved { result ≡ Err Reading → Unmoved (index log.now levels.now arena.old
-            pool.old self.old) (index log.now levels.now arena.new pool.new self.new)
-            × OnlyReading (B.state board.old) (B.state board.new) }
-        ensures again { result ≡ Err Reading → StandsStill (index log.now levels.now arena.old
+        ensures unread { result ≡ Err Reading → FailsByRead (index log.now levels.now arena.old
             pool.old self.old) (B.state board.old) (index log.now levels.now arena.new pool.new
             self.new) (B.state board.new) }
-        ensures unread { result ≡ Err Reading → Rose (B.state board.old).read_faults
-            (B.state board.new).read_faults × Rose (B.state board.old).flash_faults
-            (B.state board.new).flash_faults }
         ensures broken { result ≡ Err Stopped → Breaks (index log.now levels.now arena.old pool.old
             self.old) (B.state board.old) (B.state board.new)
             × Stops (B.state board.old) (B.state board.new) }
 
-        // The board.
-        ensures sound { OnOk result (NoFault (B.state board.old) (B.state board.new)) }
-        ensures calls { AtMostOneCall (B.state board.old) (B.state board.new) }
-        ensures rest { OnlyFlash (B.state board.old) (B.state board.new) }
-        ensures grows { Grows log.now.shape (B.state board.old).pages (B.state board.new).pages }
-        ensures installs { roots (B.state board.new) ≤ roots (B.state board.old) + 1 }
-        ensures ready { IsReady (B.state board.new) log.now.shape }
+        // Either way it was one call, and the freeze is where it was.
+        ensures calls { CallsOnce log.now.shape (B.state board.old) (B.state board.new) }
+        ensures same_freeze { self.new.freeze ≡ self.old.freeze }
     {
         pool.known();
         let source = source_of(log, levels, level);

@@ -166,12 +166,10 @@ impl<A: Region> Schedule<A> {
                     Err(fault) => Err(fault),
                 }
             }
-            Phase::Ready { level } => {
-                match self.install(board, pool, arena, levels, log, level, buf) {
-                    Ok(()) => Ok(Stepped::Worked),
-                    Err(fault) => Err(fault),
-                }
-            }
+            Phase::Ready { .. } => match self.install(board, pool, arena, levels, log, buf) {
+                Ok(()) => Ok(Stepped::Worked),
+                Err(fault) => Err(fault),
+            },
         }
     }
 
