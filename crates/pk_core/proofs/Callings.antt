@@ -1,4 +1,4 @@
--- How many calls of the flash are made by calls in a row.
+-- How many calls of the flash are made by calls in a row, and how many roots are installed.
 use Rattle.std.proofs.Common.{◌≡◌, ◌≢◌, inl, inr, ℕ, suc, ◌+◌, ◌-◌, ◌<◌, ◌≤◌, refl, sym, ap, subst, ◌∙◌, arith, false, List, [], ◌∷◌, length}
 use Rattle.std.specs.Prelude.{slice_index_or, if◌then◌else◌, ◌==◌}
 use Rattle.pk_base.specs.Shape.{Shape, IsShape, cap, most_calls}
@@ -10,8 +10,10 @@ use Rattle.pk_nand.specs.BoardState.{BoardState}
 use Rattle.pk_nand.specs.Calls.{counted, last_count}
 use Rattle.pk_nand.specs.Erased.{counted_by}
 use Rattle.pk_nand.specs.Effects.{AtMostOneCall, OneProgram}
+use Rattle.pk_model.specs.Wear.{roots}
 use Rattle.pk_drive.specs.Calling.{FewCalls, most_calls_of}
 use Rattle.pk_nand.specs.BoardState.{shape_or_none}
+use Rattle.pk_core.specs.Costs.{Spends}
 use Rattle.pk_core.specs.Parts.{Parts}
 use Rattle.pk_core.specs.Agreeing.{DriveOnFlash}
 use Rattle.pk_core.specs.Quiet.{ReadsOnly, ReadsFailing}
@@ -137,6 +139,36 @@ few_looked d old new a most less made = let least = looks_few d.log.shape (its_s
 
 pub few_failed : (d : Parts) (old new : BoardState) → DriveOnFlash d old.shape old.pages → (most : ℕ) → most ≤ 68 → ReadsFailing old new most → FewCalls (most_calls d.log.shape) old new
 few_failed d old new a most less made = let least = looks_few d.log.shape (its_shape d old a) in few_breaks old new most (most_calls d.log.shape) (omega (arith, least, less)) made
+
+-- ---- calls and roots
+
+-- nothing was done
+pub spends_same : (n k : ℕ) (a b : BoardState) → b ≡ a → Spends n k a b
+spends_same n k a b same = record { calls = few_same n a b same; installs = (let still = ap (λ (s : BoardState). roots s) same in omega (arith, still)) }
+
+-- no root was installed
+pub spends_still : (n k : ℕ) (a b : BoardState) → FewCalls n a b → roots b ≡ roots a → Spends n k a b
+spends_still n k a b calls still = record { calls = calls; installs = omega (arith, still) }
+
+pub spends_within : (m n p q : ℕ) (a b : BoardState) → m ≤ n → p ≤ q → Spends m p a b → Spends n q a b
+spends_within m n p q a b less fewer s = record { calls = few_within m n a b less s.calls; installs = (let most = s.installs in omega (arith, most, fewer)) }
+
+-- one behind the other
+pub spends_then : (m n most p q all : ℕ) (a b c : BoardState) → m + n ≤ most → p + q ≤ all → Spends m p a b → Spends n q b c → Spends most all a c
+spends_then m n most p q all a b c less fewer first second = record {
+  calls = few_within (m + n) most a c less (few_then m n a b c first.calls second.calls);
+  installs = (let one = first.installs in let two = second.installs in omega (arith, one, two, fewer));
+}
+
+pub spends_reads : (old new : BoardState) (most n k : ℕ) → most ≤ n → ReadsOnly old new most → Spends n k old new
+spends_reads old new most n k less made = spends_still n k old new (few_reads old new most n less made) (ap (λ (b : BoardState). roots b) made.board)
+
+pub spends_breaks : (old new : BoardState) (most n k : ℕ) → most ≤ n → ReadsFailing old new most → Spends n k old new
+spends_breaks old new most n k less made = spends_still n k old new (few_breaks old new most n less made) (ap (λ (b : BoardState). roots b) made.board)
+
+-- a look-up failed
+pub spends_failed : (d : Parts) (old new : BoardState) → DriveOnFlash d old.shape old.pages → (most k : ℕ) → most ≤ 68 → ReadsFailing old new most → Spends (most_calls d.log.shape) k old new
+spends_failed d old new a most k less made = spends_still (most_calls d.log.shape) k old new (few_failed d old new a most less made) (ap (λ (b : BoardState). roots b) made.board)
 
 -- ---- a List
 

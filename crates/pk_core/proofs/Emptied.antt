@@ -10,8 +10,6 @@ use Rattle.pk_jrn.specs.Epochs.{left_of}
 use Rattle.pk_root.specs.Installing.{erases_next}
 use Rattle.pk_log.specs.State.{LogState, needs_freeze}
 use Rattle.pk_log.specs.Logs.{LogOnFlash}
-use Rattle.pk_rootfmt.specs.Root.{Root}
-use Rattle.pk_model.specs.Found.{Found}
 use Rattle.pk_work.specs.Backlog.{is_tight}
 use Rattle.pk_schedule.specs.Index.{Index}
 use Rattle.pk_nand.specs.declared.types.Fault.{Fault}
@@ -22,25 +20,25 @@ use Rattle.pk_model.proofs.Steps.{RootsUpTo-le, Step-broken}
 use Rattle.pk_compact.specs.FreezeSteps.{freeze_left}
 use Rattle.pk_work.specs.Rest.{whole_freeze}
 use Rattle.pk_work.specs.Work.{emptying}
-use Rattle.pk_work.specs.Calls.{room_calls, commit_calls}
+use Rattle.pk_work.specs.Calls.{room_calls, room_roots, commit_calls}
 use Rattle.pk_work.proofs.Within.{due_most, merging_most}
 use Rattle.pk_schedule.specs.declared.phase.Stepped.{Stepped}
 use Rattle.pk_schedule.specs.declared.phase.Stepped.TheVariants.{Worked, Idle}
 use Rattle.pk_schedule.specs.Steps.{FreezeMoves, Freezes, backlog_of, has_no_merge, is_between}
 use Rattle.pk_drive.specs.Calling.{FewCalls}
+use Rattle.pk_core.specs.Costs.{Spends}
 use Rattle.pk_core.specs.Parts.{Parts, frames_of, index_of}
 use Rattle.pk_base.specs.Map.{Map}
 use Rattle.pk_core.specs.Moves.{StandsFor, KeepsAll, BreaksAll, MayStep, StepKeeps, LeavesValues}
-use Rattle.pk_core.specs.Emptying.{StepOrRead, KeepsOrReads, MergesOnce, FreezesOnce, merges_left, merges_due, MayEmpty}
+use Rattle.pk_core.specs.Emptying.{StepOrRead, KeepsOrReads, MergesOnce, FreezesOnce, HasRoom, merges_left, merges_due, MayEmpty}
 use Rattle.pk_core.specs.Staying.{Stays}
-use Rattle.pk_core.specs.Reclaiming.{is_tight_for}
 use Rattle.pk_core.proofs.Keeping.{KeepsAll-none, KeepsAll-then, BreaksAll-then}
 use Rattle.pk_core.proofs.Rooming.{stands_after}
 use Rattle.pk_core.proofs.Staying.{stays_same, stays_then}
 use Rattle.pk_core.proofs.Steps.{none_step, keeps_later, may_after, leaves_none, leaves_twice}
 use Rattle.pk_core.proofs.Freezing.{no_need, left_some, frozen_is_room}
 use Rattle.pk_schedule.proofs.Backlogs.{index_backlog}
-use Rattle.pk_core.proofs.Callings.{few_none, few_within, few_more, few_then}
+use Rattle.pk_core.proofs.Callings.{few_none, few_within, few_more, spends_within, spends_then}
 use Rattle.pk_core.proofs.ReadSteps.{Passes, passes_none, step_passes, reading_passes, reads_nothing, reading_failed, reading_then, reading_end}
 
 -- ---- steps in a row
@@ -152,30 +150,36 @@ module _ (a : Parts) (s0 : BoardState) (b : Parts) (s : BoardState) (ready : IsR
       let T : Parts → BoardState → Type 0 = λ d t. KeepsOrReads {T = Unit {0}} a d (merges_left a + 1) s0 t (Ok tt) in
       subst (λ d. T d s1) (sym idle.1) (subst (λ t. T b t) (sym idle.2) emptying_end)
 
-  pub idle_calls : (c : Parts) (s1 : BoardState) (x : Stepped) → x ≡ Idle → MergesOnce b c s s1 (Ok x) → FewCalls (merges_left a) s0 s1
-  idle_calls c s1 x is once =
-      let idle = once.idle (ap (λ y. Ok y) is) in
-      let left = on.left in
-      subst (λ (t : BoardState). FewCalls (merges_left a) s0 t) (sym idle.2) (few_within on.made (merges_left a) s0 s (omega (arith, left)) on.calls)
-
-  -- the call that failed was one of a merge
-  pub failed_calls : (c : Parts) (s1 : BoardState) (e : Fault) → MergesOnce b c s s1 (Err e) → FewCalls (merges_left a) s0 s1
-  failed_calls c s1 e once =
-      let left = on.left in
-      let some = once.some in
-      few_within (on.made + 1) (merges_left a) s0 s1 (omega (arith, left, some)) (few_more on.made s0 s s1 on.calls once.calls)
-
   pub emptying_failed : (c : Parts) (s1 : BoardState) (e : Fault) → MergesOnce b c s s1 (Err e) → KeepsOrReads {T = Unit {0}} a c (merges_left a + 1) s0 s1 (Err e)
   emptying_failed c s1 e once =
       let left = on.left in
       reads_later (Err e) a b c on.made 1 (merges_left a + 1) s0 s s1 ready on.leaves.same_shape (omega (arith, left)) on.step.came.0 passes (reads_failed e b c 1 1 s s1 (omega arith) once.step)
 
   -- four merges install four roots
-  pub emptying_roots : (s1 : BoardState) → roots s1 ≤ roots s + merges_due b → roots s1 ≤ roots s0 + 4
+  emptying_roots : (s1 : BoardState) → roots s1 ≤ roots s + merges_due b → roots s1 ≤ roots s0 + 4
   emptying_roots s1 few =
       let due = on.due in
       let most = due_most a.log.shape (backlog_of (index_of a)) in
       omega (arith, few, due, most)
+
+  pub idle_spends : (c : Parts) (s1 : BoardState) (x : Stepped) → x ≡ Idle → MergesOnce b c s s1 (Ok x) → Spends (merges_left a) 4 s0 s1
+  idle_spends c s1 x is once =
+      let idle = once.idle (ap (λ y. Ok y) is) in
+      let left = on.left in
+      record {
+        calls = subst (λ (t : BoardState). FewCalls (merges_left a) s0 t) (sym idle.2) (few_within on.made (merges_left a) s0 s (omega (arith, left)) on.calls);
+        installs = emptying_roots s1 once.installs;
+      }
+
+  -- the call that failed was one of a merge
+  pub failed_spends : (c : Parts) (s1 : BoardState) (e : Fault) → MergesOnce b c s s1 (Err e) → Spends (merges_left a) 4 s0 s1
+  failed_spends c s1 e once =
+      let left = on.left in
+      let some = once.some in
+      record {
+        calls = few_within (on.made + 1) (merges_left a) s0 s1 (omega (arith, left, some)) (few_more on.made s0 s s1 on.calls once.calls);
+        installs = emptying_roots s1 once.installs;
+      }
 
 -- ---- a freeze
 
@@ -270,9 +274,15 @@ module _ (a : Parts) (s0 : BoardState) (b : Parts) (s : BoardState) (ready : IsR
         stays = stays_then a b c on.stays once.stays;
       }
 
-  -- whether it went on, ended or failed
-  pub ongoing_calls : (c : Parts) (s1 : BoardState) (r : Result Bool Fault) → FreezesOnce b c s s1 r → FewCalls whole_freeze s0 s1
-  ongoing_calls c s1 r once = few_within (on.made + 1) whole_freeze s0 s1 room_left (few_more on.made s0 s s1 on.calls once.calls)
+  -- whether it went on, ended or failed; its last step installs a root
+  pub ongoing_spends : (c : Parts) (s1 : BoardState) (r : Result Bool Fault) → FreezesOnce b c s s1 r → Spends whole_freeze 1 s0 s1
+  ongoing_spends c s1 r once =
+      let one : roots s1 ≤ roots s + 1 = once.step.roots_few in
+      let none = on.no_root in
+      record {
+        calls = few_within (on.made + 1) whole_freeze s0 s1 room_left (few_more on.made s0 s s1 on.calls once.calls);
+        installs = omega (arith, one, none);
+      }
 
   pub ongoing_end : (c : Parts) (s1 : BoardState) (x : Bool) → FreezesOnce b c s s1 (Ok x) → StepKeeps {T = Unit {0}} a c whole_freeze s0 s1 (Ok tt)
   ongoing_end c s1 x once = keeps_later (Ok tt) a b c on.made 1 whole_freeze s0 s s1 tt ready on.leaves.same_shape room_left on.step (ended_keeps x b c 1 s s1 once.step)
@@ -281,13 +291,6 @@ module _ (a : Parts) (s0 : BoardState) (b : Parts) (s : BoardState) (ready : IsR
   ongoing_failed c s1 e once =
       keeps_later (Err e) a b c on.made 1 whole_freeze s0 s s1 tt ready on.leaves.same_shape room_left on.step
       (Step-broken e (λ (x : Bool). KeepsAll b c s s1) (λ (x : Unit). KeepsAll b c s s1) (BreaksAll b s s1) (BreaksAll b s s1) b.log.shape 1 1 s s1 (omega arith) (λ broken. broken) once.step)
-
-  -- its last step installs one
-  pub ongoing_roots : {T : Type 0} (r : Result T Fault) (c : Parts) (s1 : BoardState) → StepKeeps b c 1 s s1 r → roots s1 ≤ roots s0 + 1
-  ongoing_roots r c s1 step =
-      let one : roots s1 ≤ roots s + 1 = step.roots_few in
-      let none = on.no_root in
-      omega (arith, one, none)
 
   -- ---- behind it any key has room
 
@@ -308,8 +311,8 @@ module _ (a : Parts) (s0 : BoardState) (b : Parts) (s : BoardState) (ready : IsR
     all_left : left_of c.log.epoch ≡ epoch_pages c.log.shape
     all_left = (λ i. if freezes.takes_more i then epoch_pages (logs.epoch_shape i) - freezes.unused i else 0) ∙ minus_none (epoch_pages c.log.shape)
 
-    pub room_behind : (key : Key) → needs_freeze c.log key ≡ false
-    room_behind key =
+    any_room : (key : Key) → needs_freeze c.log key ≡ false
+    any_room key =
         let was = on.may.stands.1.with.index.logs in
         let capacity : c.log.active.capacity ≡ buffer b.log.shape = ap (λ (t : Table). t.capacity) freezes.active ∙ ap (λ (t : Table). t.capacity) was.frozen_is in
         let some = left_some b.log.shape was.is_shape in
@@ -317,8 +320,8 @@ module _ (a : Parts) (s0 : BoardState) (b : Parts) (s : BoardState) (ready : IsR
         let positive = block_pages_positive c.log.shape logs.is_shape in
         no_need c.log key none_active (omega (arith, capacity, some)) (omega (arith, left, positive))
 
-    pub wide_behind : is_tight_for c ≡ false
-    wide_behind = (λ i. is_tight c.log.shape (length (none_active i)) (all_left i)) ∙ frozen_is_room c.log.shape logs.is_shape
+    pub room_behind : HasRoom c
+    room_behind = record { any = any_room; wide = (λ i. is_tight c.log.shape (length (none_active i)) (all_left i)) ∙ frozen_is_room c.log.shape logs.is_shape }
 
 -- ---- both
 
@@ -351,13 +354,13 @@ module _ (a b : Parts) (s0 s1 : BoardState) (may : MayStep a s0) where
       reads_later r a b c (merges_left a + 1) whole_freeze (room_calls a.log.shape) s0 s1 s2 may.ready same (omega (arith, left)) step.came.0 (passes_reads tt a b (merges_left a + 1) s0 s1 step)
       (keeps_reads r b c whole_freeze s1 s2 second)
 
-  pub room_calls_made : (s2 : BoardState) → FewCalls (merges_left a) s0 s1 → FewCalls whole_freeze s1 s2 → FewCalls (emptying a.log.shape 4 + whole_freeze) s0 s2
-  room_calls_made s2 first second =
+  pub room_spends : (s2 : BoardState) → Spends (merges_left a) 4 s0 s1 → Spends whole_freeze 1 s1 s2 → Spends (emptying a.log.shape 4 + whole_freeze) room_roots s0 s2
+  room_spends s2 first second =
       let left = left_most a s0 may in
-      few_within (merges_left a + whole_freeze) (emptying a.log.shape 4 + whole_freeze) s0 s2 (omega (arith, left)) (few_then (merges_left a) whole_freeze s0 s1 s2 first second)
+      spends_then (merges_left a) whole_freeze (emptying a.log.shape 4 + whole_freeze) 4 1 room_roots s0 s1 s2 (omega (arith, left)) (omega arith) first second
 
-  pub no_room_calls_made : FewCalls (merges_left a) s0 s1 → FewCalls (emptying a.log.shape 4 + whole_freeze) s0 s1
-  no_room_calls_made first = let left = left_most a s0 may in few_within (merges_left a) (emptying a.log.shape 4 + whole_freeze) s0 s1 (omega (arith, left)) first
+  pub no_room_spends : Spends (merges_left a) 4 s0 s1 → Spends (emptying a.log.shape 4 + whole_freeze) room_roots s0 s1
+  no_room_spends first = let left = left_most a s0 may in spends_within (merges_left a) (emptying a.log.shape 4 + whole_freeze) 4 room_roots s0 s1 (omega (arith, left)) (omega arith) first
 
   pub no_room_made : (e : Fault) → KeepsOrReads {T = Unit {0}} a b (merges_left a + 1) s0 s1 (Err e) → KeepsOrReads {T = Unit {0}} a b (room_calls a.log.shape) s0 s1 (Err e)
   no_room_made e step = let left = left_most a s0 may in reads_failed e a b (merges_left a + 1) (room_calls a.log.shape) s0 s1 (omega (arith, left)) step
@@ -373,10 +376,10 @@ room_committed r a b c s0 s1 s2 ready same first second =
     let calls : room_calls b.log.shape ≡ room_calls a.log.shape = ap (λ (s : Shape). room_calls s) same in
     reads_later r a b c 0 (room_calls b.log.shape) (room_calls a.log.shape) s0 s1 s2 ready same (omega (arith, calls)) first.ended (passes_keeps tt a b 0 s0 s1 first) second
 
-pub committed_calls : (a b : Parts) (s0 s1 s2 : BoardState) → b.log.shape ≡ a.log.shape → FewCalls commit_calls s0 s1 → FewCalls (emptying b.log.shape 4 + whole_freeze) s1 s2 → FewCalls (room_calls a.log.shape) s0 s2
-committed_calls a b s0 s1 s2 same first second =
+pub committed_spends : (a b : Parts) (s0 s1 s2 : BoardState) → b.log.shape ≡ a.log.shape → Spends commit_calls 0 s0 s1 → Spends (emptying b.log.shape 4 + whole_freeze) room_roots s1 s2 → Spends (room_calls a.log.shape) room_roots s0 s2
+committed_spends a b s0 s1 s2 same first second =
     let whole : emptying b.log.shape 4 ≡ emptying a.log.shape 4 = ap (λ (s : Shape). emptying s 4) same in
-    few_within (commit_calls + (emptying b.log.shape 4 + whole_freeze)) (room_calls a.log.shape) s0 s2 (omega (arith, whole)) (few_then commit_calls (emptying b.log.shape 4 + whole_freeze) s0 s1 s2 first second)
+    spends_then commit_calls (emptying b.log.shape 4 + whole_freeze) (room_calls a.log.shape) 0 room_roots room_roots s0 s1 s2 (omega (arith, whole)) (omega arith) first second
 
 -- the commit failed
 pub not_committed : (e : Fault) (a b : Parts) (s0 s1 : BoardState) → StepKeeps {T = Unit {0}} a b 0 s0 s1 (Err e) → KeepsOrReads {T = Unit {0}} a b (room_calls a.log.shape) s0 s1 (Err e)

@@ -1,25 +1,31 @@
--- A Store or a Delete behind the look-up of its key.
-use Rattle.std.proofs.Common.{◌≡◌, ◌≢◌, ℕ, ◌-◌, refl, sym, ap, subst, arith, [], Option, Result}
+-- A command behind the look-up of its key.
+use Rattle.std.proofs.Common.{◌≡◌, ◌≢◌, ℕ, ◌-◌, ◌≤◌, refl, sym, ap, subst, arith, false, List, [], Option, Some, Result}
 use Rattle.std.specs.Prelude.{OnOk}
 use Rattle.pk_base.specs.Entry.{Place}
 use Rattle.pk_base.specs.Key.{Key}
 use Rattle.pk_base.specs.Shape.{charge}
-use Rattle.pk_nvme.specs.Command.{key}
+use Rattle.pk_nvme.specs.Command.{Command, key}
+use Rattle.pk_nvme.specs.Opcode.{op_of}
+use Rattle.pk_nvme.specs.declared.opcode.Opcode.TheVariants.{Retrieve}
 use Rattle.pk_nvme.specs.Seen.{command_of}
 use Rattle.pk_nvme.specs.declared.request.Request.{Request}
 use Rattle.pk_nand.specs.declared.types.Fault.{Fault}
 use Rattle.pk_nand.specs.BoardState.{BoardState}
+use Rattle.pk_nand.specs.Calls.{last_count}
 use Rattle.pk_drive.specs.declared.types.Outcome.{Outcome}
 use Rattle.pk_core.specs.Parts.{Parts}
 use Rattle.pk_core.specs.Emptying.{OnRunning}
-use Rattle.pk_core.specs.Quiet.{ReadsOnly, Looks}
-use Rattle.pk_core.specs.Serving.{IsServable, outcome_for, stopped_by}
+use Rattle.pk_core.specs.Done.{Executes}
+use Rattle.pk_core.specs.Quiet.{ReadsOnly, ReadsFailing, Looks}
+use Rattle.pk_core.specs.Serving.{IsServable, IsCounted, outcome_for, stopped_by}
 use Rattle.pk_core.specs.Staying.{Stays, StaysOrOpens, IsNoted}
 use Rattle.pk_core.specs.Programming.{PutsQuietly, TakesQuietly, ReadsQuietly, ReadsNone}
 use Rattle.pk_core.specs.LookedUp.{IsLookedUp, StoresOver, DeletesAt}
 use Rattle.pk_core.proofs.Came.{came_running, came_served}
-use Rattle.pk_core.proofs.Served.{looks_behind}
+use Rattle.pk_core.proofs.Executing.{executes_quiet}
+use Rattle.pk_core.proofs.Served.{looks_behind, does_behind}
 use Rattle.pk_core.proofs.Staying.{stays_opens, stays_same}
+use Rattle.pk_core.proofs.Unchanging.{unread_look}
 
 -- the look-up left the drive as it was
 pub looked_up : (d e : Parts) (old mid : BoardState) (r : Request) (k : Key) (p : Option Place) (before : ℕ) → IsServable d old r → k ≡ key (command_of r []) → before ≡ old.reads
@@ -71,3 +77,21 @@ module _ (d e f : Parts) (old new : BoardState) (k : Key) (r : Result Unit Fault
     programs = λ zero. came_served (λ x. TakesQuietly d k old new) r e o reads told programs zero;
     quiet = λ zero. came_served (λ x. ReadsQuietly d k old new) r e o reads told quiet zero;
   }
+
+-- ---- the whole command
+
+-- behind a look-up it comes to what it comes to from there
+pub executes_behind : (d e f : Parts) (old mid new : BoardState) (most : ℕ) (c : Command) (into : List ℕ) (o : Outcome) → e ≡ d → ReadsOnly old mid most → (op_of c.opcode ≡ Some Retrieve → ⊥) → IsCounted mid new
+    → o.reads ≡ new.reads - old.reads → Executes e f mid new c o into (new.reads - mid.reads) → Executes d f old new c o into o.reads
+executes_behind d e f old mid new most c into o same made other count told did = record {
+  stops = did.stops;
+  agrees = did.agrees;
+  does = does_behind d e f old mid new most c into o same made other count told did.does;
+}
+
+-- a read of the look-up failed
+pub executes_unread : (d e : Parts) (old new : BoardState) (r : Request) (v into : List ℕ) (o : Outcome) (reads : ℕ) → IsServable d old r → e ≡ d → o ≡ record { status = 0x88; result = 0; data_len = 0; reads = reads; stopped = false }
+    → old.read_faults ≤ last_count → ReadsFailing old new (4 - d.levels.pinned) → reads ≡ new.reads - old.reads → Executes d e old new (command_of r v) o into o.reads
+executes_unread d e old new r v into o reads s same told faults made is =
+    executes_quiet d e old new r (command_of r v) o into o.reads s same (ap (λ (b : BoardState). b.pages) made.board) (ap (λ (x : Outcome). x.stopped) told)
+    (unread_look d e old new r v into s.agrees same s.passed s.counted made.few o reads told faults made is)

@@ -1,8 +1,8 @@
 -- A step of a reclaim lowers the work that is left.
-use Rattle.std.proofs.Common.{◌≡◌, ◌⊎◌, inl, inr, ℕ, ◌+◌, ◌-◌, ◌≤◌, ◌<◌, Bool, true, false, List, length, refl, sym, ap, subst, ◌∙◌, arith, nat_le}
-use Rattle.std.specs.Prelude.{◌&&◌, ◌==◌, not, map}
+use Rattle.std.proofs.Common.{◌≡◌, ◌⊎◌, inl, inr, ℕ, ◌+◌, ◌-◌, ◌<◌, Bool, true, false, List, length, refl, sym, ap, subst, ◌∙◌, arith, nat_le}
+use Rattle.std.specs.Prelude.{◌&&◌, ◌==◌, not}
 use Rattle.std.proofs.lemmas.Bool.{le-leb, eqb-true}
-use Rattle.pk_base.specs.Shape.{Shape, data_blocks, most_pages}
+use Rattle.pk_base.specs.Shape.{data_blocks, most_pages}
 use Rattle.pk_base.specs.Entry.{Entry}
 use Rattle.pk_plan.specs.declared.owner.Owner.TheVariants.{Values}
 use Rattle.pk_pool.specs.Blocks.{Blocks, used_by}
@@ -15,13 +15,15 @@ use Rattle.pk_gc.specs.declared.course.Phase.TheVariants.{Idle, Copies, GivesBac
 use Rattle.pk_gc.specs.Standing.{held_blocks}
 use Rattle.pk_gc.specs.Stepping.{runs_in}
 use Rattle.pk_log.specs.State.{LogState}
-use Rattle.pk_data.specs.State.{DataState, fits_open}
+use Rattle.pk_data.specs.State.{fits_open}
 use Rattle.pk_schedule.specs.declared.phase.Phase.{Phase as MergePhase}
 use Rattle.pk_schedule.specs.declared.phase.Phase.TheVariants.{Idle as NoMerge, Running, Ready}
 use Rattle.pk_schedule.specs.Index.{Index}
 use Rattle.pk_schedule.specs.Steps.{merge_left}
 use Rattle.pk_core.specs.Parts.{Parts, index_of, sight_of, counts_of, backlog_of, is_reclaim_due, reclaim_left, has_moves, may_freeze}
-use Rattle.pk_core.specs.Reclaiming.{LeavesIndex, RunsOn, EndsFrom, HasSpace, is_tight_for}
+use Rattle.pk_reclaim.specs.Space.{HasRoom as HasSpace}
+use Rattle.pk_reclaim.specs.Steps.{RoomBehind}
+use Rattle.pk_core.specs.Reclaiming.{LeavesIndex, RunsOn, is_tight_for, space_of}
 use Rattle.pk_core.proofs.Spacing.{FallsTo}
 
 false_true : false ≡ true → ⊥
@@ -38,14 +40,14 @@ both true = refl
 both false = refl
 
 -- where every value has room, none is
-not_due_at : (d : Parts) (b : Bool) → ((counts_of d).blocks == data_blocks d.log.shape - 1) ≡ b → HasSpace d → (b && not (fits_open d.log.shape d.space (most_pages d.log.shape))) ≡ false
+not_due_at : (d : Parts) (b : Bool) → ((counts_of d).blocks == data_blocks d.log.shape - 1) ≡ b → HasSpace (space_of d) → (b && not (fits_open d.log.shape d.space (most_pages d.log.shape))) ≡ false
 not_due_at d false e space = refl
 not_due_at d true e space =
     let all = eqb-true (counts_of d).blocks (data_blocks d.log.shape - 1) e in
     let full : nat_le (data_blocks d.log.shape - 1) (used_by Values d.pool.states) ≡ true = le-leb (data_blocks d.log.shape - 1) (used_by Values d.pool.states) (omega (arith, all)) in
     sym (both (not (fits_open d.log.shape d.space (most_pages d.log.shape)))) ∙ (ap (λ x. not (fits_open d.log.shape d.space (most_pages d.log.shape)) && x) (sym full) ∙ space (most_pages d.log.shape) (omega arith))
 
-space_not_due : (d : Parts) → HasSpace d → is_reclaim_due d ≡ false
+space_not_due : (d : Parts) → HasSpace (space_of d) → is_reclaim_due d ≡ false
 space_not_due d space = not_due_at d ((counts_of d).blocks == data_blocks d.log.shape - 1) refl space
 
 -- behind one whose moves were committed before, one is due as it was
@@ -76,7 +78,7 @@ module _ (b c : Parts) (due due' : Bool) where
   abbrev Wants : Phase → Type 0
   Wants p = (runs_in p ≡ true) ⊎ (due ≡ true)
 
-  works_lower : (p q : Phase) → Wants p → FallsTo p b q c → RunsOn q b c → (HasSpace c → due' ≡ false) → Less p due b q due' c
+  works_lower : (p q : Phase) → Wants p → FallsTo p b q c → RunsOn q b c → (HasSpace (space_of c) → due' ≡ false) → Less p due b q due' c
   works_lower p Idle wants falls on none = absurd on
   works_lower Idle (Copies d) (inl runs) falls on none = absurd (false_true runs)
   works_lower Idle (Copies d) (inr is) falls on none = subst (λ x. Less Idle x b (Copies d) due' c) (sym is) (record { none_ready = falls.none_ready; less = falls.less })
@@ -88,7 +90,7 @@ module _ (b c : Parts) (due due' : Bool) where
   works_lower (Copies e) (GivesBack other) wants falls on none = subst (λ y. Less (Copies e) due b (GivesBack other) y c) (sym (none on)) (record { none_ready = falls.none_ready; less = falls.less })
   works_lower (GivesBack victim) (GivesBack other) wants falls on none = let less = falls.less in let ready = falls.none_ready in absurd (omega (arith, less, ready))
 
-  works_may : (p q : Phase) → Wants p → FallsTo p b q c → RunsOn q b c → (HasSpace c → due' ≡ false) → may_at q due' c ≡ true → may_at p due b ≡ true
+  works_may : (p q : Phase) → Wants p → FallsTo p b q c → RunsOn q b c → (HasSpace (space_of c) → due' ≡ false) → may_at q due' c ≡ true → may_at p due b ≡ true
   works_may p Idle wants falls on none may = absurd on
   works_may Idle (Copies d) (inl runs) falls on none may = absurd (false_true runs)
   works_may Idle (Copies d) (inr is) falls on none may = ap (λ x. x && is_tight_for b) is ∙ (sym (tight_same b c on) ∙ may)
@@ -96,7 +98,7 @@ module _ (b c : Parts) (due due' : Bool) where
   works_may (GivesBack victim) (Copies d) wants falls on none may = let less = falls.less in let ready = falls.none_ready in absurd (omega (arith, less, ready))
   works_may p (GivesBack other) wants falls on none may = absurd (false_true (sym (ap (λ x. x && is_tight_for c) (none on)) ∙ may))
 
-  ends_lower : (p : Phase) → Wants p → FallsTo p b Idle c → EndsFrom p b c → (HasSpace c → due' ≡ false) → ((runs_in p ≡ true) → c.log ≡ b.log → c.space ≡ b.space → due' ≡ due) → Less p due b Idle due' c
+  ends_lower : (p : Phase) → Wants p → FallsTo p b Idle c → RoomBehind p (space_of b) (space_of c) → (HasSpace (space_of c) → due' ≡ false) → ((runs_in p ≡ true) → c.log ≡ b.log → c.space ≡ b.space → due' ≡ due) → Less p due b Idle due' c
   ends_lower Idle (inl runs) falls from none same = absurd (false_true runs)
   ends_lower Idle (inr is) falls from none same =
       subst (λ x. Less Idle x b Idle due' c) (sym is) (subst (λ y. Less Idle true b Idle y c) (sym (none from)) (record { none_ready = falls.none_ready; less = falls.less }))
@@ -113,7 +115,7 @@ module _ (b c : Parts) (due due' : Bool) where
           record { none_ready = ready; less = omega (arith, less, ready, whole) }
       by false shapes = record { none_ready = falls.none_ready; less = falls.less }
 
-  ends_may : (p : Phase) → EndsFrom p b c → (HasSpace c → due' ≡ false) → ((runs_in p ≡ true) → c.log ≡ b.log → c.space ≡ b.space → due' ≡ due) → may_at Idle due' c ≡ true → may_at p due b ≡ true
+  ends_may : (p : Phase) → RoomBehind p (space_of b) (space_of c) → (HasSpace (space_of c) → due' ≡ false) → ((runs_in p ≡ true) → c.log ≡ b.log → c.space ≡ b.space → due' ≡ due) → may_at Idle due' c ≡ true → may_at p due b ≡ true
   ends_may Idle from none same may = absurd (false_true (sym (ap (λ x. x && is_tight_for c) (none from)) ∙ may))
   ends_may (Copies e) from none same may = absurd (false_true (sym (ap (λ x. x && is_tight_for c) (none from)) ∙ may))
   ends_may (GivesBack victim) from none same may = (λ i. sym (same refl from.0 from.1) i && sym (tight_same b c from.0) i) ∙ may
@@ -166,7 +168,7 @@ module _ (b c : Parts) (leaves : LeavesIndex b c) where
   held_one (GivesBack victim) runs = refl
 
   pub ended_less : (runs_in b.reclaim.phase ≡ true) ⊎ (is_reclaim_due b ≡ true) → FallsTo b.reclaim.phase b c.reclaim.phase c → c.reclaim.phase ≡ Idle → used_by Values c.pool.states + 1 ≡ used_by Values b.pool.states
-      → EndsFrom b.reclaim.phase b c → (sight_of c).work < (sight_of b).work
+      → RoomBehind b.reclaim.phase (space_of b) (space_of c) → (sight_of c).work < (sight_of b).work
   ended_less wants falls idle given from =
       let falls' : FallsTo b.reclaim.phase b Idle c = subst (λ q. FallsTo b.reclaim.phase b q c) idle falls in
       let same : (runs_in b.reclaim.phase ≡ true) → c.log ≡ b.log → c.space ≡ b.space → is_reclaim_due c ≡ is_reclaim_due b =

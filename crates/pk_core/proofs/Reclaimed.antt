@@ -1,6 +1,6 @@
 -- A step of a reclaim, told of the drive.
-use Rattle.std.proofs.Common.{◌≡◌, inl, inr, ℕ, ◌/◌, [], List, length, sym, ◌∙◌, ap, subst, true, false, Some, Result, Ok, Err}
-use Rattle.std.specs.Prelude.{slice_get, IfOk, ◌++◌, ◌∷◌}
+use Rattle.std.proofs.Common.{◌≡◌, inl, inr, ℕ, ◌/◌, [], List, length, refl, sym, ◌∙◌, ap, subst, true, false, Some, Result, Ok, Err}
+use Rattle.std.specs.Prelude.{slice_get, IfOk, IfErr, ◌++◌, ◌∷◌}
 use Rattle.std.specs.List.{concat, AllByRecursion}
 use Rattle.pk_base.specs.Shape.{Shape}
 use Rattle.pk_base.specs.Page.{Flash, IsFlash}
@@ -12,6 +12,8 @@ use Rattle.pk_pool.specs.declared.state.BlockState.TheVariants.{Owned}
 use Rattle.pk_pool.specs.Blocks.{Blocks, PoolOnFlash}
 use Rattle.pk_nand.specs.BoardState.{BoardState}
 use Rattle.pk_nand.specs.declared.types.Fault.{Fault}
+use Rattle.pk_nand.specs.declared.types.Fault.TheVariants.{Reading, Stopped}
+use Rattle.pk_nand.specs.Effects.{Stops}
 use Rattle.pk_nand.specs.Calls.{IsReady}
 use Rattle.pk_model.specs.Found.{Found}
 use Rattle.pk_model.specs.Laws.{AnyByRecursion}
@@ -33,19 +35,15 @@ use Rattle.pk_log.specs.Logs.{LogOnFlash}
 use Rattle.pk_schedule.specs.Index.{Index, IndexOnFlash}
 use Rattle.pk_schedule.proofs.Keeping.{KeepsTaken, index_then}
 use Rattle.pk_reclaim.specs.Space as spaces
-use Rattle.pk_reclaim.specs.Space.{Space, SpaceOnFlash, space}
+use Rattle.pk_reclaim.specs.Space.{Space, SpaceOnFlash}
 use Rattle.pk_reclaim.specs.Steps as steps
 use Rattle.pk_reclaim.specs.Steps.{SpaceMoves, KeepsLog, KeepsOthers, with_newest}
 use Rattle.pk_core.specs.Parts.{Parts, frames_of, index_of, outputs_of}
 use Rattle.pk_core.specs.Agreeing.{DriveOnFlashWith}
 use Rattle.pk_core.specs.Moves.{StandsFor}
-use Rattle.pk_core.specs.Reclaiming.{MayReclaim, HoldsAll, FailsAll, LeavesIndex, Lessens, RunsOn, EndsFrom, DoesReclaim, CannotRead}
+use Rattle.pk_core.specs.Reclaiming.{MayReclaim, HoldsAll, FailsAll, LeavesIndex, Lessens, RunsOn, DoesReclaim, CannotRead, FailsReclaim, space_of}
 
 -- ---- the space of a drive
-
--- its log, its values, its blocks and its reclaim
-abbrev pub space_of : Parts → Space
-space_of d = space d.log d.space d.pool d.reclaim
 
 -- the drive with another space
 abbrev pub over_space : Parts → Space → Parts
@@ -189,14 +187,9 @@ module _ (d : Parts) (x' : Space) (old new : BoardState) (may : MayReclaim d old
   runs_on (Copies c) runs room same = same
   runs_on (GivesBack victim) runs room same = room
 
-  ends_from : (p : Phase) → steps.RoomBehind p (space_of d) x' → EndsFrom p d (over_space d x')
-  ends_from Idle room = room
-  ends_from (Copies c) room = room
-  ends_from (GivesBack victim) room = room
-
   pub does_reclaim : (r : Reclaimed) → steps.Does (space_of d) old x' new r → DoesReclaim d (over_space d x') old new r
   does_reclaim Worked w = (lessens w.moves w.falls, runs_on x'.job.phase w.runs w.room w.log)
-  does_reclaim Ended e = (lessens e.moves e.falls, record { idle = e.idle; given = e.given; from = ends_from d.reclaim.phase e.room })
+  does_reclaim Ended e = (lessens e.moves e.falls, record { idle = e.idle; given = e.given; from = e.room })
   does_reclaim NeedsFreeze w = record {
     same = ap (over_space d) w.same;
     board = w.board;
@@ -250,3 +243,11 @@ cannot_read d x' old new may u =
       read = u.read;
       flash = u.flash;
     }
+
+-- ---- by the fault
+
+pub fails_if : (d : Parts) (x' : Space) (old new : BoardState) → MayReclaim d old → (result : Result Reclaimed Fault) → (result ≡ Err Reading → steps.Unread (space_of d) old x' new)
+    → (result ≡ Err Stopped → steps.Breaks (space_of d) old new × Stops old new) → IfErr result (λ e. FailsReclaim d (over_space d x') old new e)
+fails_if d x' old new may (Ok r) unread broken = tt
+fails_if d x' old new may (Err Reading) unread broken = cannot_read d x' old new may (unread refl)
+fails_if d x' old new may (Err Stopped) unread broken = let is = broken refl in (fails_all d old new may is.0, is.1)

@@ -1,7 +1,6 @@
 -- Steps of reclaims inside a Store, until a value has room.
 use Rattle.std.proofs.Common.{◌≡◌, ◌⊎◌, inl, inr, ℕ, ◌+◌, ◌-◌, ◌≤◌, ◌<◌, Bool, true, false, [], length, refl, sym, ap, subst, ◌∙◌, arith, nat_le, leb→le, T, Result, Ok, Err}
-use Rattle.std.specs.Prelude.{◌&&◌, ◌||◌, not, OnOk}
-use Rattle.pk_base.specs.Map.{Map}
+use Rattle.std.specs.Prelude.{◌&&◌, ◌||◌, OnOk}
 use Rattle.pk_base.specs.Shape.{Shape, data_blocks, most_pages}
 use Rattle.pk_plan.specs.declared.owner.Owner.TheVariants.{Values}
 use Rattle.pk_pool.specs.Blocks.{used_by}
@@ -9,11 +8,11 @@ use Rattle.pk_nand.specs.declared.types.Fault.{Fault}
 use Rattle.pk_nand.specs.declared.types.Fault.TheVariants.{Reading, Stopped}
 use Rattle.pk_nand.specs.BoardState.{BoardState}
 use Rattle.pk_nand.specs.Calls.{IsReady, last_count}
-use Rattle.pk_nand.specs.Effects.{AtMostOneCall, NoFault, OnlyFlash, Stops}
+use Rattle.pk_nand.specs.Effects.{AtMostOneCall, NoFault, OnlyFlash}
 use Rattle.pk_model.specs.Wear.{roots}
 use Rattle.pk_work.specs.Rest.{whole_freeze, whole_reclaim}
 use Rattle.pk_work.specs.Work.{emptying}
-use Rattle.pk_work.specs.Calls.{room_calls, room_roots, space_calls}
+use Rattle.pk_work.specs.Calls.{room_calls, room_roots}
 use Rattle.pk_gc.specs.declared.course.Phase.{Phase}
 use Rattle.pk_gc.specs.declared.course.Phase.TheVariants.{Idle, Copies, GivesBack}
 use Rattle.pk_gc.specs.declared.course.Course.{Course}
@@ -22,16 +21,17 @@ use Rattle.pk_gc.specs.declared.reclaimed.Reclaimed.TheVariants.{Worked, NeedsFr
 use Rattle.pk_gc.specs.State.{steps_left}
 use Rattle.pk_gc.specs.Standing.{held_blocks}
 use Rattle.pk_gc.specs.Stepping.{runs_in}
-use Rattle.pk_core.specs.Parts.{Parts, frames_of, outputs_of}
-use Rattle.pk_core.specs.Moves.{StandsFor, MayStep, StepKeeps, LeavesValues}
-use Rattle.pk_core.specs.Emptying.{KeepsOrReads, OnRunning}
+use Rattle.pk_core.specs.Costs.{Spends}
+use Rattle.pk_core.specs.Parts.{Parts, frames_of}
+use Rattle.pk_core.specs.Moves.{StandsFor, MayStep, LeavesValues}
+use Rattle.pk_core.specs.Emptying.{KeepsOrReads, OnRunning, HasRoom}
 use Rattle.pk_core.specs.Staying.{Stays}
-use Rattle.pk_core.specs.Reclaiming.{MayReclaim, Lessens, LeavesIndex, DoesReclaim, Waits, CannotRead, FailsAll, is_tight_for}
-use Rattle.pk_core.specs.Spacing.{MovesOrReads, StaysSame, where_so, needs, has_moves, steps_for, space_left, space_roots, Awaits, MaySpace, SpacesOnce}
+use Rattle.pk_core.specs.Reclaiming.{MayReclaim, Lessens, LeavesIndex, DoesReclaim, Waits, CannotRead, FailsReclaim, is_tight_for}
+use Rattle.pk_core.specs.Spacing.{MovesOrReads, StaysSame, where_so, needs, has_moves, space_left, space_roots, Awaits, MaySpace, SpacesOnce}
 use Rattle.pk_drive.specs.Calling.{FewCalls}
-use Rattle.pk_core.proofs.Callings.{few_none, few_one, few_within, few_then}
+use Rattle.pk_core.proofs.Callings.{few_none, few_one, few_within, few_then, spends_still, spends_within}
 use Rattle.pk_core.proofs.Inside.{one_call}
-use Rattle.pk_core.proofs.SameMaps.{same_held, same_unread, breaks_failed, moves_kept, moves_later, moves_failed, moves_within, moves_none, may_moved, passes_moved, stays_none, stays_both}
+use Rattle.pk_core.proofs.SameMaps.{same_held, same_unread, breaks_failed, moves_kept, moves_later, moves_within, moves_none, may_moved, passes_moved, stays_none, stays_both}
 use Rattle.pk_core.proofs.Spacing.{left_at, roots_at, AwaitsAt, works_less, works_roots, ends_less, ends_roots}
 
 true_false : true ≡ false → ⊥
@@ -90,6 +90,9 @@ module _ (count : ℕ) (b : Parts) (s0 : BoardState) (may : MaySpace count b s0)
   may_reclaim = record { may = may.may; none_pending = may.none_pending; turn = turn_at b.reclaim.phase b count awaits it.with.placed.few }
 
   module _ (c : Parts) (s1 : BoardState) (none : c.log.pending ≡ []) (same_roots : roots s1 ≡ roots s0) (calls : AtMostOneCall s0 s1) (rest : OnlyFlash s0 s1) (ready : IsReady s1 b.log.shape) (reads : s0.reads ≤ last_count) where
+    one_spent : Spends 1 (space_roots count b) s0 s1
+    one_spent = spends_still 1 (space_roots count b) s0 s1 (few_one s0 s1 calls) same_roots
+
     stepped : NoFault s0 s1 → Lessens b c s0 s1 → 1 + space_left count c ≤ space_left count b → space_roots count c ≤ space_roots count b → SpacesOnce count b c s0 s1 (Ok tt)
     stepped sound made less roots_less = record {
       made = 1;
@@ -101,10 +104,9 @@ module _ (count : ℕ) (b : Parts) (s0 : BoardState) (may : MaySpace count b s0)
         roots_few = omega (arith, same_roots);
         ready = ready;
       };
-      calls = few_one s0 s1 calls;
+      spends = one_spent;
       within = omega (arith, less);
       left = less;
-      installs = omega (arith, same_roots);
       roots_left = omega (arith, same_roots, roots_less);
       none_pending = none;
       stays = leaves_stay b c made.leaves;
@@ -128,10 +130,8 @@ module _ (count : ℕ) (b : Parts) (s0 : BoardState) (may : MaySpace count b s0)
     pub space_ended : (x : Reclaimed) → x ≡ Ended → NoFault s0 s1 → DoesReclaim b c s0 s1 x → SpacesOnce count b c s0 s1 (Ok tt)
     space_ended x is sound made = ended sound (subst (λ y. DoesReclaim b c s0 s1 y) is made)
 
-    pub space_failed : (e : Fault) → s0.read_faults ≤ last_count → (◌≡◌ {A = Result Reclaimed Fault} (Err e) (Err Reading) → CannotRead b c s0 s1)
-        → (◌≡◌ {A = Result Reclaimed Fault} (Err e) (Err Stopped) → FailsAll b s0 s1 × Stops s0 s1) → SpacesOnce count b c s0 s1 (Err e)
-    space_failed Reading few unread broken =
-        let is = unread refl in
+    pub space_failed : (e : Fault) → s0.read_faults ≤ last_count → FailsReclaim b c s0 s1 e → SpacesOnce count b c s0 s1 (Err e)
+    space_failed Reading few is =
         let rose = is.read in
         record {
           made = 1;
@@ -143,34 +143,30 @@ module _ (count : ℕ) (b : Parts) (s0 : BoardState) (may : MaySpace count b s0)
             roots_few = omega (arith, same_roots);
             ready = ready;
           };
-          calls = few_one s0 s1 calls;
+          spends = one_spent;
           within = some_at b.reclaim.phase b count awaits;
           left = tt;
-          installs = omega (arith, same_roots);
           roots_left = tt;
           none_pending = none;
           stays = unread_stays b c s0 s1 is;
         }
-    space_failed Stopped few unread broken =
-        let is = broken refl in
-        record {
-          made = 1;
-          some = omega arith;
-          step = record {
-            came = (breaks_failed b s0 s1 is.0, record { flash = is.1.flash; stop = is.1.stop; read = is.1.read });
-            rest = rest;
-            reads = one_call s0 s1 reads calls;
-            roots_few = omega (arith, same_roots);
-            ready = ready;
-          };
-          calls = few_one s0 s1 calls;
-          within = some_at b.reclaim.phase b count awaits;
-          left = tt;
-          installs = omega (arith, same_roots);
-          roots_left = tt;
-          none_pending = tt;
-          stays = tt;
-        }
+    space_failed Stopped few is = record {
+      made = 1;
+      some = omega arith;
+      step = record {
+        came = (breaks_failed b s0 s1 is.0, record { flash = is.1.flash; stop = is.1.stop; read = is.1.read });
+        rest = rest;
+        reads = one_call s0 s1 reads calls;
+        roots_few = omega (arith, same_roots);
+        ready = ready;
+      };
+      spends = one_spent;
+      within = some_at b.reclaim.phase b count awaits;
+      left = tt;
+      roots_left = tt;
+      none_pending = tt;
+      stays = tt;
+    }
 
   -- ---- the moves find no room
 
@@ -209,8 +205,8 @@ module _ (count : ℕ) (b : Parts) (s0 : BoardState) (may : MaySpace count b s0)
     roots_before : space_roots count b ≡ room_roots
     roots_before = ap (λ p. roots_at p count b) copies ∙ ap (λ x. where_so x room_roots) tight
 
-    roots_within : roots s2 ≤ roots s0 + room_roots → roots s2 ≤ roots s0 + space_roots count b
-    roots_within few = let all = roots_before in omega (arith, few, all)
+    room_spent : Spends (room_calls b.log.shape) room_roots s0 s2 → Spends (room_calls b.log.shape) (space_roots count b) s0 s2
+    room_spent spends = subst (λ (n : ℕ). Spends (room_calls b.log.shape) n s0 s2) (sym roots_before) spends
 
     roots_frozen : LeavesValues b d → is_tight_for d ≡ false → roots s2 ≤ roots s0 + room_roots → roots s2 + space_roots count d ≤ roots s0 + space_roots count b
     roots_frozen leaves wide few =
@@ -219,53 +215,50 @@ module _ (count : ℕ) (b : Parts) (s0 : BoardState) (may : MaySpace count b s0)
         let all = roots_before in
         omega (arith, few, none, all)
 
-    frozen_once : (r : Result Unit Fault) → KeepsOrReads b d (room_calls b.log.shape) s0 s2 r → roots s2 ≤ roots s0 + room_roots → OnOk r (is_tight_for d ≡ false) → OnRunning (d.log.pending ≡ []) r → OnRunning (LeavesValues b d) r → OnRunning (Stays b d) r
-        → FewCalls (room_calls b.log.shape) s0 s2 → SpacesOnce count b d s0 s2 r
-    frozen_once (Ok x) step few wide none leaves stays calls = record {
+    frozen_once : (r : Result Unit Fault) → KeepsOrReads b d (room_calls b.log.shape) s0 s2 r → Spends (room_calls b.log.shape) room_roots s0 s2 → OnOk r (HasRoom d) → OnRunning (d.log.pending ≡ []) r → OnRunning (LeavesValues b d) r → OnRunning (Stays b d) r
+        → SpacesOnce count b d s0 s2 r
+    frozen_once (Ok x) step spends room none leaves stays = record {
       made = room_calls b.log.shape;
       some = omega arith;
       step = moves_kept (Ok x) b d (room_calls b.log.shape) s0 s2 step;
-      calls = calls;
+      spends = room_spent spends;
       within = room_within;
-      left = less_frozen leaves wide;
-      installs = roots_within few;
-      roots_left = roots_frozen leaves wide few;
+      left = less_frozen leaves room.wide;
+      roots_left = roots_frozen leaves room.wide spends.installs;
       none_pending = none;
       stays = values_stay b d leaves stays;
     }
-    frozen_once (Err Reading) step few wide none leaves stays calls = record {
+    frozen_once (Err Reading) step spends room none leaves stays = record {
       made = room_calls b.log.shape;
       some = omega arith;
       step = moves_kept (Err Reading) b d (room_calls b.log.shape) s0 s2 step;
-      calls = calls;
+      spends = room_spent spends;
       within = room_within;
       left = tt;
-      installs = roots_within few;
       roots_left = tt;
       none_pending = none;
       stays = values_stay b d leaves stays;
     }
-    frozen_once (Err Stopped) step few wide none leaves stays calls = record {
+    frozen_once (Err Stopped) step spends room none leaves stays = record {
       made = room_calls b.log.shape;
       some = omega arith;
       step = moves_kept (Err Stopped) b d (room_calls b.log.shape) s0 s2 step;
-      calls = calls;
+      spends = room_spent spends;
       within = room_within;
       left = tt;
-      installs = roots_within few;
       roots_left = tt;
       none_pending = tt;
       stays = tt;
     }
 
-  pub space_frozen : (c d : Parts) (s1 s2 : BoardState) (r : Result Unit Fault) → Waits b c s0 s1 → KeepsOrReads c d (room_calls c.log.shape) s1 s2 r → roots s2 ≤ roots s1 + room_roots → OnOk r (is_tight_for d ≡ false) → OnRunning (d.log.pending ≡ []) r
-      → OnRunning (LeavesValues c d) r → OnRunning (Stays c d) r → FewCalls (emptying c.log.shape 4 + whole_freeze) s1 s2 → SpacesOnce count b d s0 s2 r
-  space_frozen c d s1 s2 r waits step few wide none leaves stays calls =
+  pub space_frozen : (c d : Parts) (s1 s2 : BoardState) (r : Result Unit Fault) → Waits b c s0 s1 → KeepsOrReads c d (room_calls c.log.shape) s1 s2 r → Spends (emptying c.log.shape 4 + whole_freeze) room_roots s1 s2 → OnOk r (HasRoom d)
+      → OnRunning (d.log.pending ≡ []) r → OnRunning (LeavesValues c d) r → OnRunning (Stays c d) r → SpacesOnce count b d s0 s2 r
+  space_frozen c d s1 s2 r waits step spends room none leaves stays =
       let kept = subst (λ (s : BoardState). KeepsOrReads b d (room_calls b.log.shape) s s2 r) waits.board (subst (λ (x : Parts). KeepsOrReads x d (room_calls x.log.shape) s1 s2 r) waits.same step) in
-      frozen_once waits.course waits.copies waits.tight d s2 r kept (subst (λ (s : BoardState). roots s2 ≤ roots s + room_roots) waits.board few) wide none
+      let spent =
+      subst (λ (s : BoardState). Spends (emptying b.log.shape 4 + whole_freeze) room_roots s s2) waits.board (subst (λ (x : Parts). Spends (emptying x.log.shape 4 + whole_freeze) room_roots s1 s2) waits.same spends) in
+      frozen_once waits.course waits.copies waits.tight d s2 r kept (spends_within (emptying b.log.shape 4 + whole_freeze) (room_calls b.log.shape) room_roots room_roots s0 s2 (omega arith) (omega arith) spent) room none
       (subst (λ (x : Parts). OnRunning (LeavesValues x d) r) waits.same leaves) (subst (λ (x : Parts). OnRunning (Stays x d) r) waits.same stays)
-      (few_within (emptying b.log.shape 4 + whole_freeze) (room_calls b.log.shape) s0 s2 (omega arith)
-      (subst (λ (s : BoardState). FewCalls (emptying b.log.shape 4 + whole_freeze) s s2) waits.board (subst (λ (x : Parts). FewCalls (emptying x.log.shape 4 + whole_freeze) s1 s2) waits.same calls)))
 
 -- where the moves wanted a freeze
 pub waits_is : (b c : Parts) (s0 s1 : BoardState) (x : Reclaimed) → x ≡ NeedsFreeze → DoesReclaim b c s0 s1 x → Waits b c s0 s1
@@ -317,7 +310,7 @@ module _ (count : ℕ) (a : Parts) (s0 : BoardState) (b : Parts) (s : BoardState
     step = moves_later (Ok tt) a b c on.made once.made (on.made + once.made) s0 s s1 ready on.stays.same_shape (omega arith) on.step.came.0 (passes_moved a b on.made s0 s on.step) once.step;
     may = may_moved b c once.made s s1 on.may once.stays.same_shape once.step;
     none_pending = once.none_pending;
-    calls = few_then on.made once.made s0 s s1 on.calls once.calls;
+    calls = few_then on.made once.made s0 s s1 on.calls once.spends.calls;
     left = (let first = on.left in let second = once.left in omega (arith, first, second));
     roots_left = (let first = on.roots_left in let second = once.roots_left in omega (arith, first, second));
     stays = stays_both a b c on.stays once.stays;
@@ -327,7 +320,7 @@ module _ (count : ℕ) (a : Parts) (s0 : BoardState) (b : Parts) (s : BoardState
   less_spacing c s1 once = let some = once.some in let left = once.left in omega (arith, some, left)
 
   -- the roots of one room at most
-  pub spacing_roots : (s1 : BoardState) → roots s1 ≤ roots s + space_roots count b → roots s1 ≤ roots s0 + room_roots
+  spacing_roots : (s1 : BoardState) → roots s1 ≤ roots s + space_roots count b → roots s1 ≤ roots s0 + room_roots
   spacing_roots s1 few =
       let left = on.roots_left in
       let most = where_most (has_moves a.reclaim.phase count a && is_tight_for a) room_roots in
@@ -336,14 +329,19 @@ module _ (count : ℕ) (a : Parts) (s0 : BoardState) (b : Parts) (s : BoardState
   pub spacing_end : MovesOrReads {T = Unit {0}} a b (space_left count a) s0 s (Ok tt)
   spacing_end = let left = on.left in moves_within a b on.made (space_left count a) s0 s (omega (arith, left)) on.step
 
-  pub end_calls : FewCalls (space_left count a) s0 s
-  end_calls = let left = on.left in few_within on.made (space_left count a) s0 s (omega (arith, left)) on.calls
+  pub end_spends : Spends (space_left count a) room_roots s0 s
+  end_spends =
+      let left = on.left in
+      record { calls = few_within on.made (space_left count a) s0 s (omega (arith, left)) on.calls; installs = spacing_roots s (omega arith) }
 
-  pub broken_calls : (e : Fault) (c : Parts) (s1 : BoardState) → SpacesOnce count b c s s1 (Err e) → FewCalls (space_left count a) s0 s1
-  broken_calls e c s1 once =
+  pub broken_spends : (e : Fault) (c : Parts) (s1 : BoardState) → SpacesOnce count b c s s1 (Err e) → Spends (space_left count a) room_roots s0 s1
+  broken_spends e c s1 once =
       let left = on.left in
       let within = once.within in
-      few_within (on.made + once.made) (space_left count a) s0 s1 (omega (arith, left, within)) (few_then on.made once.made s0 s s1 on.calls once.calls)
+      record {
+        calls = few_within (on.made + once.made) (space_left count a) s0 s1 (omega (arith, left, within)) (few_then on.made once.made s0 s s1 on.calls once.spends.calls);
+        installs = spacing_roots s1 once.spends.installs;
+      }
 
   spacing_broken : (e : Fault) (c : Parts) (s1 : BoardState) → SpacesOnce count b c s s1 (Err e) → MovesOrReads {T = Unit {0}} a c (space_left count a) s0 s1 (Err e)
   spacing_broken e c s1 once =

@@ -1,5 +1,5 @@
 -- What is left of the reclaims inside a Store, and how a step of them lowers it.
-use Rattle.std.proofs.Common.{◌≡◌, ◌⊎◌, inl, inr, ℕ, ◌+◌, ◌-◌, ◌≤◌, ◌<◌, Bool, true, false, [], length, refl, sym, ap, subst, ◌∙◌, arith, nat_le}
+use Rattle.std.proofs.Common.{◌≡◌, ◌⊎◌, inl, inr, ℕ, ◌+◌, ◌-◌, ◌≤◌, Bool, true, false, refl, sym, ap, subst, ◌∙◌, arith, nat_le}
 use Rattle.std.specs.Prelude.{◌&&◌, not}
 use Rattle.std.proofs.lemmas.Bool.{le-leb}
 use Rattle.pk_base.specs.Shape.{Shape, data_blocks, most_pages}
@@ -14,9 +14,11 @@ use Rattle.pk_gc.specs.declared.course.Phase.TheVariants.{Idle, Copies, GivesBac
 use Rattle.pk_gc.specs.State.{left_in}
 use Rattle.pk_gc.specs.Stepping.{runs_in}
 use Rattle.pk_log.specs.State.{LogState}
-use Rattle.pk_data.specs.State.{DataState, fits_open, needs_reclaim}
+use Rattle.pk_data.specs.State.{fits_open, needs_reclaim}
 use Rattle.pk_core.specs.Parts.{Parts}
-use Rattle.pk_core.specs.Reclaiming.{RunsOn, EndsFrom, HasSpace, is_tight_for}
+use Rattle.pk_reclaim.specs.Space.{HasRoom as HasSpace}
+use Rattle.pk_reclaim.specs.Steps.{RoomBehind}
+use Rattle.pk_core.specs.Reclaiming.{RunsOn, is_tight_for, space_of}
 use Rattle.pk_core.specs.Spacing.{where_so, needs, steps_for, has_moves}
 
 no_yes : false ≡ true → ⊥
@@ -49,7 +51,7 @@ calls_same : (b c : Parts) → c.log.shape ≡ b.log.shape → room_calls c.log.
 calls_same b c same = ap room_calls same
 
 module _ (count : ℕ) (b c : Parts) (same_shape : c.log.shape ≡ b.log.shape) (most : count ≤ most_pages b.log.shape) where
-  has_room : HasSpace c → needs count c ≡ false
+  has_room : HasSpace (space_of c) → needs count c ≡ false
   has_room space = space count (subst (λ (s : Shape). count ≤ most_pages s) (sym same_shape) most)
 
   -- ---- a step of a reclaim that runs on
@@ -117,7 +119,7 @@ module _ (count : ℕ) (b c : Parts) (same_shape : c.log.shape ≡ b.log.shape) 
       both false = refl
 
   -- a value needs a reclaim as before, where a block is given back
-  needs_same : (victim : ℕ) → (runs_in (GivesBack victim) ≡ true → used_by Values b.pool.states ≡ data_blocks b.log.shape) → used_by Values c.pool.states + 1 ≡ used_by Values b.pool.states → EndsFrom (GivesBack victim) b c → needs count c ≡ needs count b
+  needs_same : (victim : ℕ) → (runs_in (GivesBack victim) ≡ true → used_by Values b.pool.states ≡ data_blocks b.log.shape) → used_by Values c.pool.states + 1 ≡ used_by Values b.pool.states → RoomBehind (GivesBack victim) (space_of b) (space_of c) → needs count c ≡ needs count b
   needs_same victim full given from =
       let all = full refl in
       let before : needs count b ≡ not (fits_open b.log.shape b.space count) = full_needs (used_by Values b.pool.states) (fits_open b.log.shape b.space count) (omega (arith, all)) in
@@ -125,7 +127,7 @@ module _ (count : ℕ) (b c : Parts) (same_shape : c.log.shape ≡ b.log.shape) 
       (λ i. needs_reclaim (same_shape i) (from.1 i) c.pool count) ∙ (after ∙ sym before)
 
   pub ends_less : (p : Phase) → AwaitsAt p count b → (runs_in p ≡ true → used_by Values b.pool.states ≡ data_blocks b.log.shape) → used_by Values c.pool.states + 1 ≡ used_by Values b.pool.states
-      → EndsFrom p b c → 1 + left_at Idle count c ≤ left_at p count b
+      → RoomBehind p (space_of b) (space_of c) → 1 + left_at Idle count c ≤ left_at p count b
   ends_less Idle (inl runs) full given from = absurd (no_yes runs)
   ends_less Idle (inr wanted) full given from =
       let steps : where_so (needs count b) (whole_reclaim b.log.shape - 1) ≡ whole_reclaim b.log.shape - 1 = ap (λ x. where_so x (whole_reclaim b.log.shape - 1)) wanted in
@@ -144,7 +146,7 @@ module _ (count : ℕ) (b c : Parts) (same_shape : c.log.shape ≡ b.log.shape) 
 
   -- no more roots
   pub ends_roots : (p : Phase) → AwaitsAt p count b → (runs_in p ≡ true → used_by Values b.pool.states ≡ data_blocks b.log.shape) → used_by Values c.pool.states + 1 ≡ used_by Values b.pool.states
-      → EndsFrom p b c → roots_at Idle count c ≤ roots_at p count b
+      → RoomBehind p (space_of b) (space_of c) → roots_at Idle count c ≤ roots_at p count b
   ends_roots Idle awaits full given from =
       let none : where_so (needs count c && is_tight_for c) room_roots ≡ 0 = ap (λ x. where_so (x && is_tight_for c) room_roots) (has_room from) in
       omega (arith, none)

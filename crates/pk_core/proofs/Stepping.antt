@@ -41,7 +41,7 @@ use Rattle.pk_core.specs.Ticking.{MayTick, Ticks, HasNoStep, Advances}
 use Rattle.pk_core.specs.Stepping.{has_failed, Steps, outcome_of}
 use Rattle.pk_core.proofs.Unchanging.{for_its_map, same_early, unread_step}
 use Rattle.pk_core.proofs.Staying.{stays_same, stays_frees, frees_then}
-use Rattle.pk_core.proofs.Callings.{few_none, few_more, few_within}
+use Rattle.pk_core.proofs.Callings.{few_more, spends_same, spends_within}
 use Rattle.pk_core.proofs.Ticking.{yes_no}
 
 -- the drive agrees with its board after so many steps, of which none failed
@@ -66,7 +66,7 @@ steps_none old s few none = record {
   cuts = λ _ shape frames m st. ([], Reached-start old old (CrashFinds shape background old.pages m) refl refl refl refl (refl, subst (λ p. reading shape old.pages p ≡ Ok m) none st.map_is), tt);
   cuts_stopped = λ e. absurd (yes_no false refl e);
   rest = refl;
-  calls = few_none old;
+  spends = spends_same 0 0 old old refl;
   few = few;
   more_reads = omega arith;
   within = omega arith;
@@ -76,7 +76,6 @@ steps_none old s few none = record {
   sound = λ _. (refl, refl, refl, refl);
   stop = λ e. absurd (yes_no false refl e);
   no_stop = λ _. refl;
-  installs = omega arith;
 }
 
 -- ---- one more step
@@ -141,7 +140,7 @@ module _ (s0 s1 : BoardState) (e0 e1 : Sight) (n : ℕ) (first : Steps s0 s1 e0 
             let run = first.cuts refl shape frames m st in
             Goes-then shape run.0 s0 s1 (CrashFinds shape background s0.pages m) st.shape_is run.1 run.2 s2 (CrashFinds shape background s0.pages m) (seen shape frames m st) (ticks.cuts_stopped stops shape frames m (first.stands refl shape frames m st));
         rest = only_then s0 s1 s2 first.rest ticks.rest;
-        calls = few_more n s0 s1 s2 first.calls ticks.calls;
+        spends = record { calls = few_more n s0 s1 s2 first.spends.calls ticks.calls; installs = (let a = first.spends.installs in let b = ticks.installs in omega (arith, a, b)) };
         few = reads.few;
         more_reads = (let a = first.more_reads in let b = reads.more in omega (arith, a, b));
         within = (let a = first.within in let b = reads.within in omega (arith, a, b));
@@ -151,7 +150,6 @@ module _ (s0 s1 : BoardState) (e0 e1 : Sight) (n : ℕ) (first : Steps s0 s1 e0 
         sound = λ e. let next = sound_step s1 s2 e1 e2 answer ticks e in (next.0 ∙ calm.0, next.1 ∙ calm.1, next.2 ∙ calm.2, next.3 ∙ calm.3);
         stop = λ e. subst (λ k. Rose k s2.stop_faults) calm.2 (ticks.stop e);
         no_stop = λ e. ticks.no_stop e ∙ calm.2;
-        installs = (let a = first.installs in let b = ticks.installs in omega (arith, a, b));
       }
 
 -- one that did not stop the drive leaves no more to do
@@ -168,7 +166,7 @@ steps_within old new s t answer n k less w = record {
   cuts = w.cuts;
   cuts_stopped = w.cuts_stopped;
   rest = w.rest;
-  calls = few_within n k old new less w.calls;
+  spends = spends_within n k n k old new less less w.spends;
   few = w.few;
   more_reads = w.more_reads;
   within = (let a = w.within in omega (arith, a, less));
@@ -178,7 +176,6 @@ steps_within old new s t answer n k less w = record {
   sound = w.sound;
   stop = w.stop;
   no_stop = w.no_stop;
-  installs = (let a = w.installs in omega (arith, a, less));
 }
 
 -- ---- the answer of the command
@@ -230,7 +227,7 @@ module _ (old new : BoardState) (d d' : Parts) (r : Request) (v : List ℕ) (a :
         stop = w.stop;
         stop_status = status;
         no_stop = w.no_stop;
-        installs = subst (λ (x : ℕ). roots new ≤ roots old + most_installs x r.size) (sym op) w.installs;
+        installs = subst (λ (x : ℕ). roots new ≤ roots old + most_installs x r.size) (sym op) w.spends.installs;
       }
 
   by_answer : (answer : Ticked) (into : List ℕ) (reads : ℕ) → Steps old new (sight_of d) (sight_of d') answer r.size → reads ≡ new.reads - old.reads

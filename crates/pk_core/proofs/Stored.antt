@@ -1,5 +1,5 @@
 -- A key gets a value, wherever that has room.
-use Rattle.std.proofs.Common.{◌≡◌, ◌⊎◌, inl, inr, ℕ, ◌+◌, ◌-◌, ◌≤◌, ◌<◌, Bool, true, false, List, [], length, refl, sym, ap, subst, ◌∙◌, arith, nat_le, Option, Some, Result, Ok, Err}
+use Rattle.std.proofs.Common.{◌≡◌, inr, ℕ, ◌+◌, ◌-◌, ◌≤◌, ◌<◌, Bool, true, false, List, [], length, refl, sym, ap, subst, ◌∙◌, arith, nat_le, Option, Result, Ok, Err}
 use Rattle.std.specs.Prelude.{◌&&◌, not, OnOk}
 use Rattle.std.specs.FinMap.{insert}
 use Rattle.std.specs.FinMap.Entries.{find}
@@ -20,7 +20,7 @@ use Rattle.pk_model.specs.Growth.{Reaches, Goes}
 use Rattle.pk_model.specs.Crashes.{CrashFinds, commit, change}
 use Rattle.pk_model.specs.Wear.{roots, is_worn}
 use Rattle.pk_work.specs.Rest.{whole_reclaim}
-use Rattle.pk_work.specs.Calls.{commit_calls, room_calls, space_calls}
+use Rattle.pk_work.specs.Calls.{commit_calls, room_calls, room_roots, space_calls}
 use Rattle.pk_steps.specs.Under.{places}
 use Rattle.pk_gc.specs.declared.course.Phase.{Phase}
 use Rattle.pk_gc.specs.declared.course.Phase.TheVariants.{Idle, Copies, GivesBack}
@@ -28,21 +28,20 @@ use Rattle.pk_gc.specs.Standing.{held_blocks, ReclaimStands}
 use Rattle.pk_gc.specs.Stepping.{runs_in}
 use Rattle.pk_log.specs.State.{needs_freeze}
 use Rattle.pk_data.specs.State.{fits_open}
-use Rattle.pk_drive.specs.Calling.{FewCalls}
-use Rattle.pk_core.specs.Costs.{reclaim_calls}
-use Rattle.pk_core.specs.Parts.{Parts, counts_of, outputs_of, frames_of}
+use Rattle.pk_core.specs.Costs.{Spends, reclaim_calls}
+use Rattle.pk_core.specs.Parts.{Parts, counts_of}
 use Rattle.pk_core.specs.Agreeing.{DriveOnFlash}
 use Rattle.pk_core.specs.Moves.{StandsFor, MayStep, KeepsAll, BreaksAll, StepKeeps, LeavesValues}
 use Rattle.pk_core.specs.Emptying.{StepOrRead, OnRunning}
-use Rattle.pk_core.specs.Staying.{Stays, StaysFresh, StaysOrOpens, IsNoted}
+use Rattle.pk_core.specs.Staying.{Stays, StaysFresh, StaysOrOpens}
 use Rattle.pk_core.specs.Quiet.{ReadsOnly, ReadsFailing, Looks}
-use Rattle.pk_core.specs.Changes.{MayPut, CanPut, Changes, PutsAll, FailsToPut, PutsOrReads, StaysBetween}
+use Rattle.pk_core.specs.Changes.{MayPut, CanPut, PutsAll, FailsToPut, PutsOrReads, StaysBetween}
 use Rattle.pk_core.specs.Programming.{PutsQuietly, ReadsNone}
 use Rattle.pk_core.specs.Reclaiming.{CannotRead, is_tight_for}
 use Rattle.pk_core.specs.Spacing.{SameMapAll, MovesOrReads, StaysSame, where_so, needs, steps_for, has_moves, space_left, MaySpace, MayStore, StoresAll, FailsToStore, StoresOrReads, CanStore, store_most}
 use Rattle.pk_core.proofs.Amounts.{store_few, numbers_last}
 use Rattle.pk_core.proofs.Changing.{kept_goes}
-use Rattle.pk_core.proofs.Callings.{few_within, few_then}
+use Rattle.pk_core.proofs.Callings.{spends_then}
 use Rattle.pk_core.proofs.Emptied.{keeps_reads, passes_keeps}
 use Rattle.pk_core.proofs.Keeping.{board_has}
 use Rattle.pk_core.proofs.Putting.{later_reaches, later_goes}
@@ -52,7 +51,7 @@ use Rattle.pk_core.proofs.Rooming.{entries_some}
 use Rattle.pk_core.proofs.SameMaps.{same_of, same_unread, moves_later, moves_kept, moves_failed, passes_moved, SameMapAll-then, stays_both}
 use Rattle.pk_core.proofs.SpaceSteps.{wanted_full, values_stay}
 use Rattle.pk_core.proofs.Standing.{found_once, agrees_so}
-use Rattle.pk_core.proofs.Staying.{fresh_then, stays_opens, stays_same}
+use Rattle.pk_core.proofs.Staying.{fresh_then}
 use Rattle.pk_core.proofs.Steps.{may_after}
 
 true_false : true ≡ false → ⊥
@@ -106,11 +105,11 @@ module _ (count : ℕ) (a b : Parts) (s0 s1 : BoardState) (may : MayStep a s0) (
       moves_later r a b c 0 (space_left count b) (space_calls a.log.shape) s0 s1 s2 may.ready same (omega (arith, most, calls)) (same_of a b s0 s1 step.ended) (passes_keeps tt a b 0 s0 s1 step) second
 
   -- a commit, and these
-  pub space_calls_made : (s2 : BoardState) → FewCalls commit_calls s0 s1 → FewCalls (space_left count b) s1 s2 → FewCalls (reclaim_calls a.log.shape) s0 s2
-  space_calls_made s2 first second =
+  pub space_spends : (s2 : BoardState) → Spends commit_calls 0 s0 s1 → Spends (space_left count b) room_roots s1 s2 → Spends (reclaim_calls a.log.shape) room_roots s0 s2
+  space_spends s2 first second =
       let most = space_within count b s1 may_committed in
       let calls : reclaim_calls b.log.shape ≡ reclaim_calls a.log.shape = ap (λ (s : Shape). reclaim_calls s) same in
-      few_within (commit_calls + space_left count b) (reclaim_calls a.log.shape) s0 s2 (omega (arith, most, calls)) (few_then commit_calls (space_left count b) s0 s1 s2 first second)
+      spends_then commit_calls (space_left count b) (reclaim_calls a.log.shape) 0 room_roots room_roots s0 s1 s2 (omega (arith, most, calls)) (omega arith) first second
 
 pub space_not_made : (e : Fault) (a b : Parts) (s0 s1 : BoardState) → StepKeeps {T = Unit {0}} a b 0 s0 s1 (Err e) → MovesOrReads {T = Unit {0}} a b (space_calls a.log.shape) s0 s1 (Err e)
 space_not_made e a b s0 s1 step = moves_failed e a b 0 (space_calls a.log.shape) s0 s1 (omega arith) (moves_kept (Err e) a b 0 s0 s1 (keeps_reads (Err e) a b 0 s0 s1 step))

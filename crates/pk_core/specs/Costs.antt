@@ -1,8 +1,16 @@
--- Most calls of the flash that the parts of a Store make.
-use Rattle.std.specs.Prelude.{ℕ, ◌+◌}
+-- Most calls of the flash that the parts of a Store make, and most roots that they install.
+use Rattle.std.specs.Prelude.{ℕ, ◌+◌, ◌≤◌}
 use Rattle.pk_base.specs.Shape.{Shape}
 use Rattle.pk_work.specs.Rest.{whole_reclaim}
 use Rattle.pk_work.specs.Calls.{commit_calls, lookup_calls, room_calls}
+use Rattle.pk_nand.specs.BoardState.{BoardState}
+use Rattle.pk_model.specs.Wear.{roots}
+use Rattle.pk_drive.specs.Calling.{FewCalls}
+
+-- At most so many calls of the flash were made, failed ones included, and at most so many roots installed.
+pub record Spends (most_calls most_roots : ℕ) (old new : BoardState) : Type 0 where
+  pub calls : FewCalls most_calls old new
+  pub installs : roots new ≤ roots old + most_roots
 
 -- a block is taken, and so many pages of a value are programmed
 abbrev pub place_calls : ℕ → ℕ

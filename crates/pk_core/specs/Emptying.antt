@@ -1,5 +1,6 @@
 -- Room for a further entry: merges to the end and a freeze, in steps of which one may fail by a read.
 use Rattle.std.specs.Prelude.{◌≡◌, ◌<◌, ◌≤◌, ◌+◌, ℕ, [], Bool, true, false, Result, Ok, Err, IfOk, OnOk, OnErr, MatchBool}
+use Rattle.pk_base.specs.Key.{Key}
 use Rattle.pk_base.specs.Shape.{Shape}
 use Rattle.pk_nand.specs.declared.types.Fault.{Fault}
 use Rattle.pk_nand.specs.declared.types.Fault.TheVariants.{Reading, Stopped}
@@ -7,6 +8,7 @@ use Rattle.pk_nand.specs.BoardState.{BoardState}
 use Rattle.pk_nand.specs.Calls.{IsReady, Rose}
 use Rattle.pk_nand.specs.Effects.{AtMostOneCall, OnlyFlash, NoFault}
 use Rattle.pk_model.specs.Wear.{roots}
+use Rattle.pk_log.specs.State.{needs_freeze}
 use Rattle.pk_work.specs.Backlog.{due_level}
 use Rattle.pk_work.specs.Work.{merging}
 use Rattle.pk_schedule.specs.declared.phase.Stepped.{Stepped}
@@ -14,6 +16,7 @@ use Rattle.pk_schedule.specs.declared.phase.Stepped.TheVariants.{Worked, Idle}
 use Rattle.pk_schedule.specs.Steps.{backlog_of, has_no_merge, FreezeMoves, Freezes}
 use Rattle.pk_core.specs.Parts.{Parts, index_of}
 use Rattle.pk_core.specs.Moves.{KeepsAll, BreaksAll, MayStep, StepKeeps, LeavesValues}
+use Rattle.pk_core.specs.Reclaiming.{is_tight_for}
 use Rattle.pk_core.specs.Staying.{Stays}
 
 -- ---- what a step leaves that may read
@@ -99,3 +102,8 @@ pub record FreezesOnce (before after : Parts) (old new : BoardState) (result : R
   pub none_pending : after.log.pending ≡ []
   pub leaves : OnOk result (LeavesValues before after)
   pub stays : OnOk result (Stays before after)
+
+-- Any key has room for a further entry, and so have the moves of a reclaim.
+pub record HasRoom (d : Parts) : Type 0 where
+  pub any : (key : Key) → needs_freeze d.log key ≡ false
+  pub wide : is_tight_for d ≡ false

@@ -1,16 +1,16 @@
 -- A step of a reclaim: it keeps the map, but not where the values stand.
-use Rattle.std.specs.Prelude.{◌≡◌, ◌⊎◌, ℕ, ◌+◌, ◌-◌, ◌≤◌, [], length, Bool, true, false, unwrap_or}
-use Rattle.pk_base.specs.Shape.{Shape, data_blocks, most_pages}
+use Rattle.std.specs.Prelude.{◌≡◌, ◌+◌, [], length, Bool, true}
+use Rattle.pk_base.specs.Shape.{Shape}
 use Rattle.pk_base.specs.Map.{Map}
 use Rattle.pk_plan.specs.declared.owner.Owner.TheVariants.{Values}
 use Rattle.pk_pool.specs.Blocks.{used_by}
-use Rattle.pk_pool.specs.Unready.{unready}
 use Rattle.pk_jrn.specs.Epochs.{left_of as pages_left}
+use Rattle.pk_nand.specs.declared.types.Fault.{Fault}
+use Rattle.pk_nand.specs.declared.types.Fault.TheVariants.{Reading, Stopped}
 use Rattle.pk_nand.specs.BoardState.{BoardState}
 use Rattle.pk_nand.specs.Calls.{Rose}
 use Rattle.pk_nand.specs.Effects.{OnlyReading, Stops}
 use Rattle.pk_work.specs.Backlog.{is_tight}
-use Rattle.pk_work.specs.Rest.{whole_reclaim, left_of, Lowers}
 use Rattle.pk_model.specs.Growth.{Reaches, Goes}
 use Rattle.pk_model.specs.Crashes.{CrashFinds, background}
 use Rattle.pk_gc.specs.declared.course.Course.{Course}
@@ -18,17 +18,20 @@ use Rattle.pk_gc.specs.declared.course.Phase.{Phase}
 use Rattle.pk_gc.specs.declared.course.Phase.TheVariants.{Idle, Copies, GivesBack}
 use Rattle.pk_gc.specs.declared.reclaimed.Reclaimed.{Reclaimed}
 use Rattle.pk_gc.specs.declared.reclaimed.Reclaimed.TheVariants.{Worked, NeedsFreeze, Ended}
-use Rattle.pk_gc.specs.State.{left_in}
-use Rattle.pk_gc.specs.Stepping.{runs_in}
-use Rattle.pk_data.specs.State.{needs_reclaim}
+use Rattle.pk_reclaim.specs.Space.{Space, space, IsTurn, Falls, HasRoom as HasSpace}
+use Rattle.pk_reclaim.specs.Steps.{RoomBehind}
 use Rattle.pk_core.specs.Parts.{Parts}
 use Rattle.pk_core.specs.Moves.{StandsFor, MayStep}
+
+-- its log, its values, its blocks and its reclaim
+abbrev pub space_of : Parts → Space
+space_of d = space d.log d.space d.pool d.reclaim
 
 -- What a step of a reclaim asks: nothing is pending, and a reclaim runs, or may begin.
 pub record MayReclaim (d : Parts) (board : BoardState) : Type 0 where
   pub may : MayStep d board
   pub none_pending : d.log.pending ≡ []
-  pub turn : (runs_in d.reclaim.phase ≡ true) ⊎ (used_by Values d.pool.states ≡ data_blocks d.log.shape - 1)
+  pub turn : IsTurn (space_of d)
 
 -- ---- the map
 
@@ -58,20 +61,9 @@ LeavesIndex before after =
       pool = after.pool;
     }
 
--- the steps that are left before one, and behind it; of one that has not begun almost a whole reclaim
-abbrev pub left_before : Parts → ℕ
-left_before d = left_of (whole_reclaim d.log.shape - 2) (left_in d.log.shape d.space.live.heads d.reclaim.phase)
-
-abbrev pub left_behind : Parts → ℕ
-left_behind d = unwrap_or (left_in d.log.shape d.space.live.heads d.reclaim.phase) 0
-
 -- the active buffer or the newest epoch may have no room for the moves of a reclaim
 abbrev pub is_tight_for : Parts → Bool
 is_tight_for d = is_tight d.log.shape (length d.log.active.entries) (pages_left d.log.epoch)
-
--- no value wants a reclaim before it
-abbrev pub HasSpace : Parts → Type 0
-HasSpace d = (count : ℕ) → count ≤ most_pages d.log.shape → needs_reclaim d.log.shape d.space d.pool count ≡ false
 
 -- ---- by its answer
 
@@ -79,25 +71,19 @@ HasSpace d = (count : ℕ) → count ≤ most_pages d.log.shape → needs_reclai
 pub record Lessens (before after : Parts) (old new : BoardState) : Type 0 where
   pub holds : HoldsAll before after old new
   pub leaves : LeavesIndex before after
-  pub falls : Lowers (left_before before) (unready before.pool.states) (left_behind after) (unready after.pool.states)
+  pub falls : Falls (space_of before) (space_of after)
 
 -- The log is the same while values are copied; behind the commit of their moves every value has room.
 abbrev pub RunsOn : Phase → Parts → Parts → Type 0
 RunsOn Idle before after = ⊥
 RunsOn (Copies c) before after = after.log ≡ before.log
-RunsOn (GivesBack victim) before after = HasSpace after
-
--- Where the moves were committed before, log and values are the same; otherwise every value has room.
-abbrev pub EndsFrom : Phase → Parts → Parts → Type 0
-EndsFrom Idle before after = HasSpace after
-EndsFrom (Copies c) before after = HasSpace after
-EndsFrom (GivesBack victim) before after = (after.log ≡ before.log) × (after.space ≡ before.space)
+RunsOn (GivesBack victim) before after = HasSpace (space_of after)
 
 -- A block was given back, and no reclaim runs.
 pub record Ends (before after : Parts) : Type 0 where
   pub idle : after.reclaim.phase ≡ Idle
   pub given : used_by Values after.pool.states + 1 ≡ used_by Values before.pool.states
-  pub from : EndsFrom before.reclaim.phase before after
+  pub from : RoomBehind before.reclaim.phase (space_of before) (space_of after)
 
 -- The moves found no room, and nothing was done.
 pub record Waits (before after : Parts) (old new : BoardState) : Type 0 where
@@ -119,3 +105,8 @@ pub record CannotRead (before after : Parts) (old new : BoardState) : Type 0 whe
   pub only : OnlyReading old new
   pub read : Rose old.read_faults new.read_faults
   pub flash : Rose old.flash_faults new.flash_faults
+
+-- a call failed: a read, or one that stops the drive
+abbrev pub FailsReclaim : Parts → Parts → BoardState → BoardState → Fault → Type 0
+FailsReclaim before after old new Reading = CannotRead before after old new
+FailsReclaim before after old new Stopped = FailsAll before old new × Stops old new

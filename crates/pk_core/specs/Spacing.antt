@@ -20,7 +20,7 @@ use Rattle.pk_gc.specs.declared.course.Phase.TheVariants.{Idle, Copies, GivesBac
 use Rattle.pk_gc.specs.State.{steps_left}
 use Rattle.pk_gc.specs.Stepping.{runs_in}
 use Rattle.pk_data.specs.State.{needs_reclaim}
-use Rattle.pk_drive.specs.Calling.{FewCalls}
+use Rattle.pk_core.specs.Costs.{Spends}
 use Rattle.pk_core.specs.Parts.{Parts, frames_of}
 use Rattle.pk_core.specs.Moves.{StandsFor, MayStep, BreaksAll}
 use Rattle.pk_core.specs.Changes.{Changes}
@@ -100,10 +100,9 @@ pub record SpacesOnce (count : ℕ) (before after : Parts) (old new : BoardState
   pub made : ℕ
   pub some : 1 ≤ made
   pub step : MovesOrReads before after made old new result
-  pub calls : FewCalls made old new
+  pub spends : Spends made (space_roots count before) old new
   pub within : made ≤ space_left count before
   pub left : OnOk result (made + space_left count after ≤ space_left count before)
-  pub installs : roots new ≤ roots old + space_roots count before
   pub roots_left : OnOk result (roots new + space_roots count after ≤ roots old + space_roots count before)
   pub none_pending : OnRunning (after.log.pending ≡ []) result
   pub stays : OnRunning (StaysSame before after) result

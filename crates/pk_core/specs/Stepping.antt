@@ -4,15 +4,14 @@ use Rattle.pk_nvme.specs.declared.status.TheConstants.{SUCCESSFUL_COMPLETION, UN
 use Rattle.pk_nand.specs.BoardState.{BoardState}
 use Rattle.pk_nand.specs.Calls.{Rose, last_count}
 use Rattle.pk_model.specs.Sight.{Sight}
-use Rattle.pk_model.specs.Wear.{roots}
 use Rattle.pk_nand.specs.Effects.{OnlyFlash, NoFault}
-use Rattle.pk_drive.specs.Calling.{FewCalls}
 use Rattle.pk_model.specs.Crashes.{background}
 use Rattle.pk_drive.specs.Call.{KeepsMap, CallReaches, CallGoes}
 use Rattle.pk_drive.specs.Seen.{stopped_by}
 use Rattle.pk_drive.specs.declared.types.Ticked.{Ticked}
 use Rattle.pk_drive.specs.declared.types.Ticked.TheVariants.{Worked, Idle, Fault}
 use Rattle.pk_drive.specs.declared.types.Outcome.{Outcome}
+use Rattle.pk_core.specs.Costs.{Spends}
 use Rattle.pk_core.specs.Parts.{Parts, sight_of}
 use Rattle.pk_core.specs.Ticking.{HasNoStep}
 
@@ -28,7 +27,7 @@ pub record Steps (old new : BoardState) (before after : Sight) (answer : Ticked)
   pub cuts : stopped_by answer ≡ false → CallReaches old new before background
   pub cuts_stopped : stopped_by answer ≡ true → CallGoes old new before background
   pub rest : OnlyFlash old new
-  pub calls : FewCalls most old new
+  pub spends : Spends most most old new
   pub few : new.reads ≤ last_count
   pub more_reads : old.reads ≤ new.reads
   pub within : new.reads ≤ old.reads + most
@@ -38,7 +37,6 @@ pub record Steps (old new : BoardState) (before after : Sight) (answer : Ticked)
   pub sound : has_failed answer ≡ false → NoFault old new
   pub stop : stopped_by answer ≡ true → Rose old.stop_faults new.stop_faults
   pub no_stop : stopped_by answer ≡ false → new.stop_faults ≡ old.stop_faults
-  pub installs : roots new ≤ roots old + most
 
 -- a success without data, or the status of a call that failed, behind so many reads
 abbrev pub outcome_of : Ticked → ℕ → Outcome

@@ -1,10 +1,10 @@
 //! Changes of the map: a key gets a value, or loses its own.
-ghost use Rattle.std.specs.Prelude.{◌≡◌, ◌≤◌, ◌<◌, ◌+◌, length, false, OnOk};
+ghost use Rattle.std.specs.Prelude.{◌≡◌, ◌<◌, ◌+◌, length, false, OnOk};
 ghost use Rattle.pk_base.specs.Shape as spec;
 ghost use Rattle.pk_model.specs.Wear.{roots};
 ghost use Rattle.pk_log.specs.State.{needs_freeze as needs_freeze_for};
 ghost use Rattle.pk_work.specs.Calls.{commit_calls, room_calls, room_roots};
-ghost use Rattle.pk_core.specs.Costs.{place_calls, put_calls};
+ghost use Rattle.pk_core.specs.Costs.{Spends, place_calls, put_calls};
 ghost use Rattle.pk_drive.specs.Calling.{FewCalls};
 ghost use Rattle.pk_core.specs.Changes.{CanPut, CanTake, StepPuts, StepTakes, PutsOrReads, TakesOrReads, StaysBetween};
 ghost use Rattle.pk_core.specs.Emptying.{OnRunning};
@@ -83,10 +83,9 @@ impl<A: Region> Drive<A> {
             (B.state board.new)) }
         ensures quiet { OnOk result (ReadsQuietly self.old key (B.state board.old)
             (B.state board.new)) }
-        ensures calls { FewCalls (put_calls self.old.log.shape
-            (spec.charge self.old.log.shape (length value.now))) (B.state board.old)
+        ensures spends { Spends (put_calls self.old.log.shape
+            (spec.charge self.old.log.shape (length value.now))) room_roots (B.state board.old)
             (B.state board.new) }
-        ensures installs { roots (B.state board.new) ≤ roots (B.state board.old) + room_roots }
     {
         match self.make_room(board, &key) {
             Ok(()) => self.put_with_room(board, key, value, old),
@@ -132,9 +131,8 @@ impl<A: Region> Drive<A> {
             (TakesQuietly self.old key (B.state board.old) (B.state board.new)) }
         ensures quiet { OnOk result (ReadsQuietly self.old key (B.state board.old)
             (B.state board.new)) }
-        ensures calls { FewCalls (room_calls self.old.log.shape + commit_calls)
+        ensures spends { Spends (room_calls self.old.log.shape + commit_calls) room_roots
             (B.state board.old) (B.state board.new) }
-        ensures installs { roots (B.state board.new) ≤ roots (B.state board.old) + room_roots }
     {
         match self.make_room(board, &key) {
             Ok(()) => self.take_with_room(board, key, old),

@@ -1,17 +1,14 @@
 //! Merges to the end and a whole freeze, inside a command that needs the room.
-ghost use Rattle.std.specs.Prelude.{◌≡◌, ◌≤◌, ◌<◌, ◌+◌, [], false, true, Ok, IfOk, OnOk, MatchBool};
-ghost use Rattle.pk_base.specs.Key.{Key as KeySpec};
+ghost use Rattle.std.specs.Prelude.{◌≡◌, ◌<◌, ◌+◌, [], true, OnOk};
 ghost use Rattle.pk_model.specs.Wear.{roots};
-ghost use Rattle.pk_log.specs.State.{needs_freeze as needs_freeze_for};
 ghost use Rattle.pk_work.specs.Rest.{whole_freeze};
 ghost use Rattle.pk_work.specs.Work.{emptying};
 ghost use Rattle.pk_work.specs.Calls.{room_calls, room_roots};
-ghost use Rattle.pk_drive.specs.Calling.{FewCalls};
 ghost use Rattle.pk_schedule.specs.Steps.{has_no_merge};
+ghost use Rattle.pk_core.specs.Costs.{Spends};
 ghost use Rattle.pk_core.specs.Parts.{index_of};
 ghost use Rattle.pk_core.specs.Moves.{MayStep, StepKeeps, LeavesValues};
-ghost use Rattle.pk_core.specs.Emptying.{MayEmpty, MergesOnce, FreezesOnce, KeepsOrReads, OnRunning, merges_left};
-ghost use Rattle.pk_core.specs.Reclaiming.{is_tight_for};
+ghost use Rattle.pk_core.specs.Emptying.{MayEmpty, MergesOnce, FreezesOnce, KeepsOrReads, OnRunning, HasRoom, merges_left};
 ghost use Rattle.pk_core.specs.Staying.{Stays};
 
 use crate::drive::Drive;
@@ -48,8 +45,7 @@ impl<A: Region> Drive<A> {
         ensures step { KeepsOrReads self.old self.new (merges_left self.old + 1)
             (B.state board.old) (B.state board.new) result }
         ensures done { OnOk result (has_no_merge (index_of self.new) ≡ true) }
-        ensures calls { FewCalls (merges_left self.old) (B.state board.old) (B.state board.new) }
-        ensures installs { roots (B.state board.new) ≤ roots (B.state board.old) + 4 }
+        ensures spends { Spends (merges_left self.old) 4 (B.state board.old) (B.state board.new) }
 
         // What else stays.
         ensures none { OnRunning (self.new.log.pending ≡ []) result }
@@ -89,13 +85,11 @@ impl<A: Region> Drive<A> {
         requires none_merges { has_no_merge (index_of self.old) ≡ true }
         requires number { roots (B.state board.old) + whole_freeze < 18446744073709551615 }
 
-        // The map, and any key has room.
+        // The map, and any key has room, and so have the moves of a reclaim.
         ensures step { StepKeeps self.old self.new whole_freeze (B.state board.old)
             (B.state board.new) result }
-        ensures room { OnOk result ((key : KeySpec) → needs_freeze_for self.new.log key ≡ false) }
-        ensures wide { OnOk result (is_tight_for self.new ≡ false) }
-        ensures calls { FewCalls whole_freeze (B.state board.old) (B.state board.new) }
-        ensures installs { roots (B.state board.new) ≤ roots (B.state board.old) + 1 }
+        ensures room { OnOk result (HasRoom self.new) }
+        ensures spends { Spends whole_freeze 1 (B.state board.old) (B.state board.new) }
 
         // What else stays.
         ensures none { OnOk result (self.new.log.pending ≡ []) }
@@ -122,11 +116,9 @@ impl<A: Region> Drive<A> {
         // The map, and any key has room, and so have the moves of a reclaim.
         ensures step { KeepsOrReads self.old self.new (room_calls self.old.log.shape)
             (B.state board.old) (B.state board.new) result }
-        ensures room { OnOk result ((key : KeySpec) → needs_freeze_for self.new.log key ≡ false) }
-        ensures wide { OnOk result (is_tight_for self.new ≡ false) }
-        ensures calls { FewCalls (emptying self.old.log.shape 4 + whole_freeze)
+        ensures room { OnOk result (HasRoom self.new) }
+        ensures spends { Spends (emptying self.old.log.shape 4 + whole_freeze) room_roots
             (B.state board.old) (B.state board.new) }
-        ensures installs { roots (B.state board.new) ≤ roots (B.state board.old) + room_roots }
 
         // What else stays.
         ensures none { OnRunning (self.new.log.pending ≡ []) result }

@@ -1,11 +1,10 @@
 //! A step of a reclaim.
-ghost use Rattle.std.specs.Prelude.{◌≡◌, ◌≤◌, [], Err, IfOk, OnOk};
+ghost use Rattle.std.specs.Prelude.{◌≡◌, [], IfOk, IfErr, OnOk};
 ghost use Rattle.pk_nand.specs.Calls.{IsReady};
-ghost use Rattle.pk_nand.specs.Effects.{AtMostOneCall, NoFault, OnlyFlash, Stops};
-ghost use Rattle.pk_nand.specs.declared.types.Fault.TheVariants.{Reading, Stopped};
+ghost use Rattle.pk_nand.specs.Effects.{AtMostOneCall, NoFault, OnlyFlash};
 ghost use Rattle.pk_model.specs.Growth.{Grows};
 ghost use Rattle.pk_model.specs.Wear.{roots};
-ghost use Rattle.pk_core.specs.Reclaiming.{MayReclaim, DoesReclaim, CannotRead, FailsAll};
+ghost use Rattle.pk_core.specs.Reclaiming.{MayReclaim, DoesReclaim, FailsReclaim};
 
 use crate::drive::Drive;
 use pk_gc::Reclaimed;
@@ -24,10 +23,8 @@ impl<A: Region> Drive<A> {
             (B.state board.new) r) }
 
         // A call failed.
-        ensures unread { result ≡ Err Reading → CannotRead self.old self.new (B.state board.old)
-            (B.state board.new) }
-        ensures broken { result ≡ Err Stopped → FailsAll self.old (B.state board.old)
-            (B.state board.new) × Stops (B.state board.old) (B.state board.new) }
+        ensures fails { IfErr result (λ e. FailsReclaim self.old self.new (B.state board.old)
+            (B.state board.new) e) }
 
         // Whatever came of it, nothing is pending, and the flash has the same roots.
         ensures none { self.new.log.pending ≡ [] }

@@ -5,6 +5,7 @@ ghost use Rattle.pk_model.specs.Wear.{roots};
 ghost use Rattle.pk_log.specs.State.{needs_freeze as needs_freeze_for};
 ghost use Rattle.pk_work.specs.Calls.{commit_calls, room_calls, room_roots};
 ghost use Rattle.pk_drive.specs.Calling.{FewCalls};
+ghost use Rattle.pk_core.specs.Costs.{Spends};
 ghost use Rattle.pk_core.specs.Moves.{MayStep, StepKeeps, OnlyCommits, LeavesValues};
 ghost use Rattle.pk_core.specs.Emptying.{KeepsOrReads, OnRunning};
 ghost use Rattle.pk_core.specs.Staying.{Stays};
@@ -27,9 +28,8 @@ impl<A: Region> Drive<A> {
         ensures step { KeepsOrReads self.old self.new (room_calls self.old.log.shape)
             (B.state board.old) (B.state board.new) result }
         ensures room { OnOk result (needs_freeze_for self.new.log key.now ≡ false) }
-        ensures calls { FewCalls (room_calls self.old.log.shape) (B.state board.old)
+        ensures spends { Spends (room_calls self.old.log.shape) room_roots (B.state board.old)
             (B.state board.new) }
-        ensures installs { roots (B.state board.new) ≤ roots (B.state board.old) + room_roots }
 
         // What else stays; all of it where nothing is to be done.
         ensures pending { OnRunning (length self.new.log.pending ≤ length self.old.log.pending)

@@ -1,10 +1,9 @@
 //! Space for a value: reclaims to their end, inside a Store that needs it.
-ghost use Rattle.std.specs.Prelude.{◌≡◌, ◌≤◌, ◌<◌, ◌+◌, ◌||◌, [], true, false, OnOk};
+ghost use Rattle.std.specs.Prelude.{◌≡◌, ◌≤◌, ◌<◌, ◌+◌, ◌||◌, [], false, OnOk};
 ghost use Rattle.pk_base.specs.Shape as spec;
 ghost use Rattle.pk_model.specs.Wear.{roots};
 ghost use Rattle.pk_work.specs.Calls.{space_calls, room_roots};
-ghost use Rattle.pk_drive.specs.Calling.{FewCalls};
-ghost use Rattle.pk_core.specs.Costs.{reclaim_calls};
+ghost use Rattle.pk_core.specs.Costs.{Spends, reclaim_calls};
 ghost use Rattle.pk_gc.specs.Stepping.{runs_in};
 ghost use Rattle.pk_core.specs.Moves.{MayStep};
 ghost use Rattle.pk_core.specs.Emptying.{OnRunning};
@@ -51,8 +50,8 @@ impl<A: Region> Drive<A> {
         ensures step { MovesOrReads self.old self.new (space_left count self.old)
             (B.state board.old) (B.state board.new) result }
         ensures room { OnOk result (needs count self.new ≡ false) }
-        ensures calls { FewCalls (space_left count self.old) (B.state board.old) (B.state board.new) }
-        ensures installs { roots (B.state board.new) ≤ roots (B.state board.old) + room_roots }
+        ensures spends { Spends (space_left count self.old) room_roots (B.state board.old)
+            (B.state board.new) }
 
         // What else stays.
         ensures none { OnRunning (self.new.log.pending ≡ []) result }
@@ -81,9 +80,8 @@ impl<A: Region> Drive<A> {
         ensures step { MovesOrReads self.old self.new (space_calls self.old.log.shape)
             (B.state board.old) (B.state board.new) result }
         ensures room { OnOk result (needs count self.new ≡ false) }
-        ensures calls { FewCalls (reclaim_calls self.old.log.shape) (B.state board.old)
+        ensures spends { Spends (reclaim_calls self.old.log.shape) room_roots (B.state board.old)
             (B.state board.new) }
-        ensures installs { roots (B.state board.new) ≤ roots (B.state board.old) + room_roots }
 
         // What else stays.
         ensures none { OnRunning (self.new.log.pending ≡ []) result }

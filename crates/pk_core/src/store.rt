@@ -9,10 +9,8 @@ ghost use Rattle.pk_model.specs.Answer.{store_fault as store_fault_of};
 ghost use Rattle.pk_core.specs.Done.{Executes};
 ghost use Rattle.pk_core.specs.Serving.{IsServable, IsCounted, outcome_for, stopped_by, pages_at as pages_at_by};
 ghost use Rattle.pk_nvme.specs.declared.opcode.TheConstants.{STORE, DELETE};
-ghost use Rattle.pk_model.specs.Wear.{roots};
 ghost use Rattle.pk_work.specs.Calls.{commit_calls, room_calls, room_roots, store_roots};
-ghost use Rattle.pk_drive.specs.Calling.{FewCalls};
-ghost use Rattle.pk_core.specs.Costs.{space_and_put_calls};
+ghost use Rattle.pk_core.specs.Costs.{Spends, space_and_put_calls};
 ghost use Rattle.pk_core.specs.Staying.{Stays, StaysOrOpens, IsNoted};
 ghost use Rattle.pk_core.specs.Programming.{QuietStore, QuietDelete};
 ghost use Rattle.pk_core.specs.LookedUp.{IsLookedUp, StoresOver, DeletesAt};
@@ -132,9 +130,9 @@ impl<A: Region> Drive<A> {
         // The blocks for values, and the calls.
         ensures stores { StoresOver self.old self.new (B.state board.old) (B.state board.new) key
             (spec.charge self.old.log.shape request.now.size) result }
-        ensures calls { FewCalls (space_and_put_calls self.old.log.shape
-            (spec.most_pages self.old.log.shape)) (B.state board.old) (B.state board.new) }
-        ensures installs { roots (B.state board.new) ≤ roots (B.state board.old) + store_roots }
+        ensures spends { Spends (space_and_put_calls self.old.log.shape
+            (spec.most_pages self.old.log.shape)) store_roots (B.state board.old)
+            (B.state board.new) }
     {
         known(&key);
         match self.fault_of_store(request, &old) {
@@ -171,9 +169,8 @@ impl<A: Region> Drive<A> {
             → IsNoted self.new (key_in (command_of request.now value.now)) }
         ensures quiet { QuietStore self.old (B.state board.old) (B.state board.new)
             request.now value.now result }
-        ensures calls { FewCalls (spec.most_calls self.old.log.shape) (B.state board.old)
+        ensures spends { Spends (spec.most_calls self.old.log.shape) store_roots (B.state board.old)
             (B.state board.new) }
-        ensures installs { roots (B.state board.new) ≤ roots (B.state board.old) + store_roots }
     {
         let before = board.read_count();
         let key = request.key();
@@ -208,9 +205,8 @@ impl<A: Region> Drive<A> {
         // The blocks for values, and the calls.
         ensures deletes { DeletesAt self.old self.new (B.state board.old) (B.state board.new) key
             result }
-        ensures calls { FewCalls (room_calls self.old.log.shape + commit_calls)
+        ensures spends { Spends (room_calls self.old.log.shape + commit_calls) room_roots
             (B.state board.old) (B.state board.new) }
-        ensures installs { roots (B.state board.new) ≤ roots (B.state board.old) + room_roots }
     {
         known(&key);
         match old {
@@ -233,9 +229,8 @@ impl<A: Region> Drive<A> {
         ensures moves { result.stopped ≡ false → Stays self.old self.new }
         ensures quiet { QuietDelete self.old (B.state board.old) (B.state board.new) request.now
             result }
-        ensures calls { FewCalls (spec.most_calls self.old.log.shape) (B.state board.old)
+        ensures spends { Spends (spec.most_calls self.old.log.shape) room_roots (B.state board.old)
             (B.state board.new) }
-        ensures installs { roots (B.state board.new) ≤ roots (B.state board.old) + room_roots }
     {
         let before = board.read_count();
         let key = request.key();

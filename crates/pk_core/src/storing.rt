@@ -4,8 +4,7 @@ ghost use Rattle.pk_base.specs.Shape as spec;
 ghost use Rattle.pk_nand.specs.Calls.{last_count};
 ghost use Rattle.pk_model.specs.Wear.{roots, is_worn};
 ghost use Rattle.pk_work.specs.Calls.{lookup_calls, room_calls, room_roots, store_roots};
-ghost use Rattle.pk_core.specs.Costs.{put_calls, space_and_put_calls};
-ghost use Rattle.pk_drive.specs.Calling.{FewCalls};
+ghost use Rattle.pk_core.specs.Costs.{Spends, put_calls, space_and_put_calls};
 ghost use Rattle.pk_core.specs.Changes.{CanPut, StaysBetween};
 ghost use Rattle.pk_core.specs.Emptying.{OnRunning};
 ghost use Rattle.pk_core.specs.Staying.{StaysOrOpens, IsNoted};
@@ -33,10 +32,9 @@ impl<A: Region> Drive<A> {
         ensures opens { OnRunning (StaysOrOpens self.old self.new
             (spec.charge self.old.log.shape (length value.now))) result }
         ensures noted { OnOk result (IsNoted self.new key) }
-        ensures calls { FewCalls (lookup_calls + put_calls self.old.log.shape
-            (spec.charge self.old.log.shape (length value.now))) (B.state board.old)
+        ensures spends { Spends (lookup_calls + put_calls self.old.log.shape
+            (spec.charge self.old.log.shape (length value.now))) room_roots (B.state board.old)
             (B.state board.new) }
-        ensures installs { roots (B.state board.new) ≤ roots (B.state board.old) + room_roots }
     {
         let _ = board.read_count();
         let _ = key.bytes();
@@ -65,10 +63,9 @@ impl<A: Region> Drive<A> {
         ensures opens { OnRunning (StaysOrOpens self.old self.new
             (spec.charge self.old.log.shape (length value.now))) result }
         ensures noted { OnOk result (IsNoted self.new key) }
-        ensures calls { FewCalls (space_and_put_calls self.old.log.shape
-            (spec.charge self.old.log.shape (length value.now))) (B.state board.old)
+        ensures spends { Spends (space_and_put_calls self.old.log.shape
+            (spec.charge self.old.log.shape (length value.now))) store_roots (B.state board.old)
             (B.state board.new) }
-        ensures installs { roots (B.state board.new) ≤ roots (B.state board.old) + store_roots }
     {
         let shape = self.shape();
         // so that the number of bytes is known to fit
@@ -102,10 +99,9 @@ impl<A: Region> Drive<A> {
         ensures opens { OnRunning (StaysOrOpens self.old self.new
             (spec.charge self.old.log.shape (length value.now))) result }
         ensures noted { OnOk result (IsNoted self.new key) }
-        ensures calls { FewCalls (space_and_put_calls self.old.log.shape
-            (spec.charge self.old.log.shape (length value.now))) (B.state board.old)
+        ensures spends { Spends (space_and_put_calls self.old.log.shape
+            (spec.charge self.old.log.shape (length value.now))) store_roots (B.state board.old)
             (B.state board.new) }
-        ensures installs { roots (B.state board.new) ≤ roots (B.state board.old) + store_roots }
         ensures programs { OnOk result (PutsQuietly self.old key
             (spec.charge self.old.log.shape (length value.now)) (B.state board.old)
             (B.state board.new)) }

@@ -1,20 +1,13 @@
-use Rattle.std.proofs.Common.{ap, ◌≤◌, arith, false}
-use Rattle.pk_nand.specs.BoardState.{BoardState}
-use Rattle.pk_nand.specs.Calls.{last_count}
-use Rattle.pk_model.specs.Wear.{roots}
-use Rattle.pk_core.proofs.LookedUp.{looked_up}
-use Rattle.pk_core.proofs.Unchanging.{unread_look}
-use Rattle.pk_core.proofs.Served.{does_behind, delete_is_other}
-use Rattle.pk_nvme.specs.Seen.{command_of}
-use Rattle.pk_drive.specs.declared.types.Outcome.{Outcome}
-use Rattle.pk_core.proofs.Executing.{executes_quiet}
+use Rattle.std.proofs.Common.{ap, arith, false}
+use Rattle.pk_core.proofs.LookedUp.{looked_up, executes_behind, executes_unread}
+use Rattle.pk_core.proofs.Served.{delete_is_other}
 use Rattle.pk_core.proofs.Staying.{stays_same, stays_from}
 use Rattle.pk_core.proofs.Statuses.{told_refused}
 use Rattle.pk_core.proofs.Programming.{quiet_delete_behind}
 use Rattle.pk_core.proofs.Quieted.{reads_behind}
-use Rattle.pk_core.proofs.Callings.{few_reads, few_failed}
+use Rattle.pk_core.proofs.Callings.{spends_reads, spends_failed}
 use Rattle.pk_core.specs.Parts.{Parts}
-use Rattle.pk_core.proofs.StoreCalls.{few_delete}
+use Rattle.pk_core.proofs.StoreCalls.{spends_delete}
 use Rattle.pk_core.proofs.drive.Drive.delete.Goals as goal
 
 pub delete_at-requires-clause-looked_up : goal.delete_at-requires-clause-looked_up
@@ -25,22 +18,13 @@ delete_at-requires-clause-looked_up g c =
 pub returns-in-Ok-clause-executes : goal.returns-in-Ok-clause-executes
 returns-in-Ok-clause-executes g c = λ v into.
     let e = c.delete_at.ensures in
-    let did = e.executes v into in
-    record {
-      stops = did.stops;
-      agrees = did.agrees;
-      does = does_behind c.args.self.now c.look.new.self c.delete_at.new.self (g.B.Nand.state c.args.board.now) (g.B.Nand.state c.look.new.board) (g.B.Nand.state c.delete_at.new.board) _ _ into
-          c.delete_at.result c.look.ensures.same c.in-Ok.ensures.reads (delete_is_other c.args.request.now c.requires.opcode) e.reads
-          (omega (arith, e.told.0, c.read_count-before.ensures.value)) (did.does);
-    }
+    executes_behind c.args.self.now c.look.new.self c.delete_at.new.self (g.B.Nand.state c.args.board.now) (g.B.Nand.state c.look.new.board) (g.B.Nand.state c.delete_at.new.board) _ _ into c.delete_at.result c.look.ensures.same c.in-Ok.ensures.reads
+    (delete_is_other c.args.request.now c.requires.opcode) e.reads (omega (arith, e.told.0, c.read_count-before.ensures.value)) (e.executes v into)
 
 pub returns-in-Err-clause-executes : goal.returns-in-Err-clause-executes
 returns-in-Err-clause-executes g c = λ v into.
-    let old = g.B.Nand.state c.args.board.now in
-    let few : old.reads ≤ last_count = omega (arith, c.read_count-before.ensures.value, c.read_count-before.type_inv) in
-    executes_quiet c.args.self.now c.look.new.self (g.B.Nand.state c.args.board.now) (g.B.Nand.state c.look.new.board) c.args.request.now (command_of c.args.request.now v) c.refusal.result into _ c.requires.servable c.look.ensures.same c.look.ensures.pages (ap (λ (o : Outcome). o.stopped) c.refusal.ensures)
-    (unread_look c.args.self.now c.look.new.self old (g.B.Nand.state c.look.new.board) c.args.request.now v into c.requires.servable.agrees c.look.ensures.same c.requires.servable.passed few c.reads_since.ensures.count
-    c.refusal.result c.reads_since.result c.refusal.ensures c.read_count-before.ensures.faults c.in-Err.ensures.failing (omega (arith, c.reads_since.ensures.reads, c.read_count-before.ensures.value)))
+    executes_unread c.args.self.now c.look.new.self (g.B.Nand.state c.args.board.now) (g.B.Nand.state c.look.new.board) c.args.request.now v into c.refusal.result c.reads_since.result c.requires.servable c.look.ensures.same c.refusal.ensures
+    c.read_count-before.ensures.faults c.in-Err.ensures.failing (omega (arith, c.reads_since.ensures.reads, c.read_count-before.ensures.value))
 
 pub returns-in-Ok-clause-moves : goal.returns-in-Ok-clause-moves
 returns-in-Ok-clause-moves g c = λ runs. stays_from c.args.self.now c.look.new.self c.delete_at.new.self c.look.ensures.same (c.delete_at.ensures.deletes.moves runs)
@@ -60,15 +44,9 @@ returns-in-Ok-clause-quiet g c = λ zero none.
 pub returns-in-Err-clause-quiet : goal.returns-in-Err-clause-quiet
 returns-in-Err-clause-quiet g c = λ zero. absurd (told_refused c.refusal.result 0x88 0 0 c.reads_since.result false c.refusal.ensures (λ e. omega (arith, e)) zero)
 
-pub returns-in-Ok-clause-calls : goal.returns-in-Ok-clause-calls
-returns-in-Ok-clause-calls g c =
-    few_delete _ _ _ _ _ (ap (λ (d : Parts). d.log.shape) c.look.ensures.same) c.requires.servable.agrees.with.index.logs.is_shape (few_reads _ _ _ _ (omega arith) c.in-Ok.ensures.reads) c.delete_at.ensures.calls
+pub returns-in-Ok-clause-spends : goal.returns-in-Ok-clause-spends
+returns-in-Ok-clause-spends g c =
+    spends_delete _ _ _ _ _ (ap (λ (d : Parts). d.log.shape) c.look.ensures.same) c.requires.servable.agrees.with.index.logs.is_shape (spends_reads _ _ _ _ 0 (omega arith) c.in-Ok.ensures.reads) c.delete_at.ensures.spends
 
-pub returns-in-Err-clause-calls : goal.returns-in-Err-clause-calls
-returns-in-Err-clause-calls g c = few_failed c.args.self.now (g.B.Nand.state c.args.board.now) (g.B.Nand.state c.look.new.board) c.requires.servable.agrees _ (omega arith) c.in-Err.ensures.failing
-
-pub returns-in-Ok-clause-installs : goal.returns-in-Ok-clause-installs
-returns-in-Ok-clause-installs g c = let same = ap (λ (s : BoardState). roots s) c.in-Ok.ensures.reads.board in let few = c.delete_at.ensures.installs in omega (arith, same, few)
-
-pub returns-in-Err-clause-installs : goal.returns-in-Err-clause-installs
-returns-in-Err-clause-installs g c = let same = ap (λ (s : BoardState). roots s) c.in-Err.ensures.failing.board in omega (arith, same)
+pub returns-in-Err-clause-spends : goal.returns-in-Err-clause-spends
+returns-in-Err-clause-spends g c = spends_failed c.args.self.now (g.B.Nand.state c.args.board.now) (g.B.Nand.state c.look.new.board) c.requires.servable.agrees _ _ (omega arith) c.in-Err.ensures.failing

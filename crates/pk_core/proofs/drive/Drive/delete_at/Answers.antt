@@ -9,7 +9,7 @@ use Rattle.pk_core.proofs.Amounts.{room_few, room_last}
 use Rattle.pk_core.proofs.Executing.{executes_quiet}
 use Rattle.pk_core.proofs.Served.{can_take, delete_missing, delete_came, none_read}
 use Rattle.pk_core.proofs.Statuses.{told_refused}
-use Rattle.pk_core.proofs.Callings.{few_same}
+use Rattle.pk_core.proofs.Callings.{spends_same}
 use Rattle.pk_core.proofs.drive.Drive.delete_at.Goals as goal
 
 pub take_out-answer-requires-clause-can : goal.take_out-answer-requires-clause-can
@@ -52,7 +52,7 @@ returns-in-Some-clause-executes g c = λ v into.
     let looks = subst (λ p. Looks c.args.self.now (g.B.Nand.state c.args.board.now).pages c.args.key p) c.in-Some.is r.looks in
     subst (λ (d : Parts). Executes c.args.self.now d (g.B.Nand.state c.args.board.now) after (command_of c.args.request.now v) c.changed.result into (after.reads - (g.B.Nand.state c.args.board.now).reads)) (sym told.rest)
     (delete_came c.args.self.now (g.B.Nand.state c.args.board.now) c.args.request.now v c.args.key r.servable c.requires.opcode r.named c.known.ensures.key c.known.ensures.bytes c.in-Some.place looks
-    c.take_out-answer.result c.take_out-answer.new.self after _ into c.changed.result _ e.step (let few = e.installs in omega (arith, few)) (record { up = e.step.reads.up; few = c.reads_since-in-Some.ensures.count }) e.stays told.told)
+    c.take_out-answer.result c.take_out-answer.new.self after _ into c.changed.result _ e.step (let few = e.spends.installs in omega (arith, few)) (record { up = e.step.reads.up; few = c.reads_since-in-Some.ensures.count }) e.stays told.told)
 
 pub returns-in-Some-clause-deletes : goal.returns-in-Some-clause-deletes
 returns-in-Some-clause-deletes g c =
@@ -62,5 +62,5 @@ returns-in-Some-clause-deletes g c =
     let new = g.B.Nand.state c.take_out-answer.new.board in
     deletes_came c.args.self.now c.take_out-answer.new.self c.changed.new.self old new c.args.key c.take_out-answer.result c.changed.result _ told.told told.rest e.moves e.programs e.quiet
 
-pub returns-in-None-clause-calls : goal.returns-in-None-clause-calls
-returns-in-None-clause-calls g c = few_same _ _ _ refl
+pub returns-in-None-clause-spends : goal.returns-in-None-clause-spends
+returns-in-None-clause-spends g c = spends_same _ _ _ _ refl

@@ -1,5 +1,4 @@
-use Rattle.std.proofs.Common.{arith}
-use Rattle.pk_core.proofs.Emptied.{may_behind, merges_last, freeze_lasts, room_made, no_room_made, room_calls_made, no_room_calls_made}
+use Rattle.pk_core.proofs.Emptied.{may_behind, merges_last, freeze_lasts, room_made, no_room_made, room_spends, no_room_spends}
 use Rattle.pk_core.proofs.drive.Drive.empty_active.Goals as goal
 
 pub empty_frozen-requires-clause-number : goal.empty_frozen-requires-clause-number
@@ -19,15 +18,8 @@ returns-in-Ok-clause-step g c =
 pub returns-in-Err-clause-step : goal.returns-in-Err-clause-step
 returns-in-Err-clause-step g c = no_room_made c.args.self.now c.empty_frozen.new.self (g.B.Nand.state c.args.board.now) (g.B.Nand.state c.empty_frozen.new.board) c.requires.may c.in-Err.fault c.in-Err.ensures.step
 
-pub returns-in-Ok-clause-calls : goal.returns-in-Ok-clause-calls
-returns-in-Ok-clause-calls g c =
-    room_calls_made c.args.self.now c.empty_frozen.new.self (g.B.Nand.state c.args.board.now) (g.B.Nand.state c.empty_frozen.new.board) c.requires.may (g.B.Nand.state c.freeze_log.new.board) c.in-Ok.ensures.calls c.freeze_log.ensures.calls
+pub returns-in-Ok-clause-spends : goal.returns-in-Ok-clause-spends
+returns-in-Ok-clause-spends g c = room_spends c.args.self.now c.empty_frozen.new.self (g.B.Nand.state c.args.board.now) (g.B.Nand.state c.empty_frozen.new.board) c.requires.may (g.B.Nand.state c.freeze_log.new.board) c.in-Ok.ensures.spends c.freeze_log.ensures.spends
 
-pub returns-in-Err-clause-calls : goal.returns-in-Err-clause-calls
-returns-in-Err-clause-calls g c = no_room_calls_made c.args.self.now c.empty_frozen.new.self (g.B.Nand.state c.args.board.now) (g.B.Nand.state c.empty_frozen.new.board) c.requires.may c.in-Err.ensures.calls
-
-pub returns-in-Ok-clause-installs : goal.returns-in-Ok-clause-installs
-returns-in-Ok-clause-installs g c = let first = c.in-Ok.ensures.installs in let second = c.freeze_log.ensures.installs in omega (arith, first, second)
-
-pub returns-in-Err-clause-installs : goal.returns-in-Err-clause-installs
-returns-in-Err-clause-installs g c = let few = c.in-Err.ensures.installs in omega (arith, few)
+pub returns-in-Err-clause-spends : goal.returns-in-Err-clause-spends
+returns-in-Err-clause-spends g c = no_room_spends c.args.self.now c.empty_frozen.new.self (g.B.Nand.state c.args.board.now) (g.B.Nand.state c.empty_frozen.new.board) c.requires.may c.in-Err.ensures.spends

@@ -1,4 +1,4 @@
-use Rattle.pk_core.proofs.Emptied.{emptying_begin, may_empty, emptying_more, emptying_idle, emptying_failed, emptying_roots, idle_calls, failed_calls}
+use Rattle.pk_core.proofs.Emptied.{emptying_begin, may_empty, emptying_more, emptying_idle, emptying_failed, idle_spends, failed_spends}
 use Rattle.pk_core.proofs.drive.Drive.empty_frozen.Goals as goal
 
 pub merges-init : goal.merges-init
@@ -16,14 +16,8 @@ returns-in-Ok-Idle-clause-step g c = emptying_idle c.args.self.now (g.B.Nand.sta
 pub returns-in-Err-clause-step : goal.returns-in-Err-clause-step
 returns-in-Err-clause-step g c = emptying_failed c.args.self.now (g.B.Nand.state c.args.board.now) c.merges.self (g.B.Nand.state c.merges.board) c.requires.may.ready c.merges.invariant c.merge_once.new.self (g.B.Nand.state c.merge_once.new.board) c.in-Err.fault c.in-Err.ensures
 
-pub returns-in-Ok-Idle-clause-calls : goal.returns-in-Ok-Idle-clause-calls
-returns-in-Ok-Idle-clause-calls g c = idle_calls c.args.self.now (g.B.Nand.state c.args.board.now) c.merges.self (g.B.Nand.state c.merges.board) c.requires.may.ready c.merges.invariant c.merge_once.new.self (g.B.Nand.state c.merge_once.new.board) c.in-Ok-Idle.field-0 c.in-Ok-Idle.field-0-is c.in-Ok-Idle.ensures
+pub returns-in-Ok-Idle-clause-spends : goal.returns-in-Ok-Idle-clause-spends
+returns-in-Ok-Idle-clause-spends g c = idle_spends c.args.self.now (g.B.Nand.state c.args.board.now) c.merges.self (g.B.Nand.state c.merges.board) c.requires.may.ready c.merges.invariant c.merge_once.new.self (g.B.Nand.state c.merge_once.new.board) c.in-Ok-Idle.field-0 c.in-Ok-Idle.field-0-is c.in-Ok-Idle.ensures
 
-pub returns-in-Err-clause-calls : goal.returns-in-Err-clause-calls
-returns-in-Err-clause-calls g c = failed_calls c.args.self.now (g.B.Nand.state c.args.board.now) c.merges.self (g.B.Nand.state c.merges.board) c.requires.may.ready c.merges.invariant c.merge_once.new.self (g.B.Nand.state c.merge_once.new.board) c.in-Err.fault c.in-Err.ensures
-
-pub returns-in-Ok-Idle-clause-installs : goal.returns-in-Ok-Idle-clause-installs
-returns-in-Ok-Idle-clause-installs g c = emptying_roots c.args.self.now (g.B.Nand.state c.args.board.now) c.merges.self (g.B.Nand.state c.merges.board) c.requires.may.ready c.merges.invariant (g.B.Nand.state c.merge_once.new.board) c.in-Ok-Idle.ensures.installs
-
-pub returns-in-Err-clause-installs : goal.returns-in-Err-clause-installs
-returns-in-Err-clause-installs g c = emptying_roots c.args.self.now (g.B.Nand.state c.args.board.now) c.merges.self (g.B.Nand.state c.merges.board) c.requires.may.ready c.merges.invariant (g.B.Nand.state c.merge_once.new.board) c.in-Err.ensures.installs
+pub returns-in-Err-clause-spends : goal.returns-in-Err-clause-spends
+returns-in-Err-clause-spends g c = failed_spends c.args.self.now (g.B.Nand.state c.args.board.now) c.merges.self (g.B.Nand.state c.merges.board) c.requires.may.ready c.merges.invariant c.merge_once.new.self (g.B.Nand.state c.merge_once.new.board) c.in-Err.fault c.in-Err.ensures

@@ -1,4 +1,4 @@
-use Rattle.pk_core.proofs.Emptied.{ongoing_begin, may_freeze, ongoing_more, ongoing_end, ongoing_failed, ongoing_roots, ongoing_calls, room_behind, wide_behind}
+use Rattle.pk_core.proofs.Emptied.{ongoing_begin, may_freeze, ongoing_more, ongoing_end, ongoing_failed, ongoing_spends, room_behind}
 use Rattle.pk_core.proofs.Staying.{stays_then}
 use Rattle.pk_core.proofs.drive.Drive.freeze_log.Goals as goal
 
@@ -14,9 +14,6 @@ returns-in-Ok-true-clause-step g c = ongoing_end c.args.self.now (g.B.Nand.state
 pub returns-in-Ok-true-clause-room : goal.returns-in-Ok-true-clause-room
 returns-in-Ok-true-clause-room g c = room_behind c.args.self.now (g.B.Nand.state c.args.board.now) c.freezes.self (g.B.Nand.state c.freezes.board) c.requires.may.ready c.freezes.invariant c.freeze_once.new.self (g.B.Nand.state c.freeze_once.new.board) c.in-Ok-true.field-0 c.in-Ok-true.field-0-test c.in-Ok-true.ensures
 
-pub returns-in-Ok-true-clause-wide : goal.returns-in-Ok-true-clause-wide
-returns-in-Ok-true-clause-wide g c = wide_behind c.args.self.now (g.B.Nand.state c.args.board.now) c.freezes.self (g.B.Nand.state c.freezes.board) c.requires.may.ready c.freezes.invariant c.freeze_once.new.self (g.B.Nand.state c.freeze_once.new.board) c.in-Ok-true.field-0 c.in-Ok-true.field-0-test c.in-Ok-true.ensures
-
 pub returns-in-Ok-true-clause-moves : goal.returns-in-Ok-true-clause-moves
 returns-in-Ok-true-clause-moves g c = stays_then _ _ _ c.freezes.invariant.stays c.in-Ok-true.ensures.stays
 
@@ -26,14 +23,8 @@ freezes-preserved g c = ongoing_more c.args.self.now (g.B.Nand.state c.args.boar
 pub returns-in-Err-clause-step : goal.returns-in-Err-clause-step
 returns-in-Err-clause-step g c = ongoing_failed c.args.self.now (g.B.Nand.state c.args.board.now) c.freezes.self (g.B.Nand.state c.freezes.board) c.requires.may.ready c.freezes.invariant c.freeze_once.new.self (g.B.Nand.state c.freeze_once.new.board) c.in-Err.fault c.in-Err.ensures
 
-pub returns-in-Ok-true-clause-calls : goal.returns-in-Ok-true-clause-calls
-returns-in-Ok-true-clause-calls g c = ongoing_calls c.args.self.now (g.B.Nand.state c.args.board.now) c.freezes.self (g.B.Nand.state c.freezes.board) c.requires.may.ready c.freezes.invariant c.freeze_once.new.self (g.B.Nand.state c.freeze_once.new.board) _ c.in-Ok-true.ensures
+pub returns-in-Ok-true-clause-spends : goal.returns-in-Ok-true-clause-spends
+returns-in-Ok-true-clause-spends g c = ongoing_spends c.args.self.now (g.B.Nand.state c.args.board.now) c.freezes.self (g.B.Nand.state c.freezes.board) c.requires.may.ready c.freezes.invariant c.freeze_once.new.self (g.B.Nand.state c.freeze_once.new.board) _ c.in-Ok-true.ensures
 
-pub returns-in-Err-clause-calls : goal.returns-in-Err-clause-calls
-returns-in-Err-clause-calls g c = ongoing_calls c.args.self.now (g.B.Nand.state c.args.board.now) c.freezes.self (g.B.Nand.state c.freezes.board) c.requires.may.ready c.freezes.invariant c.freeze_once.new.self (g.B.Nand.state c.freeze_once.new.board) _ c.in-Err.ensures
-
-pub returns-in-Ok-true-clause-installs : goal.returns-in-Ok-true-clause-installs
-returns-in-Ok-true-clause-installs g c = ongoing_roots c.args.self.now (g.B.Nand.state c.args.board.now) c.freezes.self (g.B.Nand.state c.freezes.board) c.requires.may.ready c.freezes.invariant _ c.freeze_once.new.self (g.B.Nand.state c.freeze_once.new.board) c.in-Ok-true.ensures.step
-
-pub returns-in-Err-clause-installs : goal.returns-in-Err-clause-installs
-returns-in-Err-clause-installs g c = ongoing_roots c.args.self.now (g.B.Nand.state c.args.board.now) c.freezes.self (g.B.Nand.state c.freezes.board) c.requires.may.ready c.freezes.invariant _ c.freeze_once.new.self (g.B.Nand.state c.freeze_once.new.board) c.in-Err.ensures.step
+pub returns-in-Err-clause-spends : goal.returns-in-Err-clause-spends
+returns-in-Err-clause-spends g c = ongoing_spends c.args.self.now (g.B.Nand.state c.args.board.now) c.freezes.self (g.B.Nand.state c.freezes.board) c.requires.may.ready c.freezes.invariant c.freeze_once.new.self (g.B.Nand.state c.freeze_once.new.board) _ c.in-Err.ensures

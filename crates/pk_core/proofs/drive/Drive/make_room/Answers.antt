@@ -1,15 +1,15 @@
 use Rattle.std.proofs.Common.{ap, sym, ◌∙◌, ◌≡◌, ◌≤◌, arith, refl, false, length, List, []}
 use Rattle.pk_base.specs.Entry.{Entry}
-use Rattle.pk_base.specs.Key.{Key}
 use Rattle.pk_log.specs.State.{needs_freeze}
-use Rattle.pk_work.specs.Calls.{room_calls}
+use Rattle.pk_work.specs.Calls.{commit_calls, room_calls, room_roots}
+use Rattle.pk_core.specs.Emptying.{HasRoom}
 use Rattle.pk_core.specs.Moves.{LeavesValues}
 use Rattle.pk_core.specs.Staying.{Stays}
 use Rattle.pk_core.proofs.Results.{on_ok}
 use Rattle.pk_core.proofs.Steps.{leaves_none, leaves_twice, leaves_committed, shape_committed, may_after}
 use Rattle.pk_core.proofs.ReadSteps.{running_says, running_stopped}
-use Rattle.pk_core.proofs.Emptied.{none_reads, room_committed, committed_calls, not_committed}
-use Rattle.pk_core.proofs.Callings.{few_same, few_within, few_commit}
+use Rattle.pk_core.proofs.Emptied.{none_reads, room_committed, committed_spends, not_committed}
+use Rattle.pk_core.proofs.Callings.{few_within, few_commit, spends_same, spends_still}
 use Rattle.pk_core.proofs.Rooming.{still_numbers}
 use Rattle.pk_core.proofs.Staying.{stays_same, stays_then}
 use Rattle.pk_core.proofs.Programming.{not_wanted_ok}
@@ -45,7 +45,7 @@ returns-in-Ok-clause-step g c =
 pub returns-in-Ok-clause-room : goal.returns-in-Ok-clause-room
 returns-in-Ok-clause-room g c =
     let log = c.empty_active.new.self.log in
-    on_ok (λ (u : Unit). (key : Key) → needs_freeze log key ≡ false) (needs_freeze log c.args.key.now ≡ false) c.empty_active.result (λ u room. room c.args.key.now) c.empty_active.ensures.room
+    on_ok (λ (u : Unit). HasRoom c.empty_active.new.self) (needs_freeze log c.args.key.now ≡ false) c.empty_active.result (λ u room. room.any c.args.key.now) c.empty_active.ensures.room
 
 pub returns-in-Ok-clause-pending : goal.returns-in-Ok-clause-pending
 returns-in-Ok-clause-pending g c =
@@ -81,24 +81,23 @@ returns-in-Err-clause-leaves g c = running_stopped Unit _ c.in-Err.fault c.in-Er
 pub returns-in-Err-clause-moves : goal.returns-in-Err-clause-moves
 returns-in-Err-clause-moves g c = running_stopped Unit _ c.in-Err.fault c.in-Err.ensures.step.stopped
 
-pub returns-then-not-needs_freeze-clause-calls : goal.returns-then-not-needs_freeze-clause-calls
-returns-then-not-needs_freeze-clause-calls g c = few_same _ (g.B.Nand.state c.args.board.now) _ refl
+pub returns-then-not-needs_freeze-clause-spends : goal.returns-then-not-needs_freeze-clause-spends
+returns-then-not-needs_freeze-clause-spends g c = spends_same _ _ (g.B.Nand.state c.args.board.now) _ refl
 
-pub returns-in-Ok-clause-calls : goal.returns-in-Ok-clause-calls
-returns-in-Ok-clause-calls g c =
+pub returns-in-Ok-clause-spends : goal.returns-in-Ok-clause-spends
+returns-in-Ok-clause-spends g c =
     let a = c.args.self.now in
     let b = c.commit_pending.new.self in
+    let s0 = g.B.Nand.state c.args.board.now in
+    let s1 = g.B.Nand.state c.commit_pending.new.board in
     let e = c.commit_pending.ensures in
-    committed_calls a b (g.B.Nand.state c.args.board.now) (g.B.Nand.state c.commit_pending.new.board) (g.B.Nand.state c.empty_active.new.board) (shape_committed a b c.in-Ok.ensures.rest)
-    (few_commit a.log.pending (g.B.Nand.state c.args.board.now) (g.B.Nand.state c.commit_pending.new.board) e.program e.idle) c.empty_active.ensures.calls
+    committed_spends a b s0 s1 (g.B.Nand.state c.empty_active.new.board) (shape_committed a b c.in-Ok.ensures.rest)
+    (spends_still commit_calls 0 s0 s1 (few_commit a.log.pending s0 s1 e.program e.idle) e.step.roots_few) c.empty_active.ensures.spends
 
-pub returns-in-Err-clause-calls : goal.returns-in-Err-clause-calls
-returns-in-Err-clause-calls g c =
+pub returns-in-Err-clause-spends : goal.returns-in-Err-clause-spends
+returns-in-Err-clause-spends g c =
+    let s0 = g.B.Nand.state c.args.board.now in
+    let s1 = g.B.Nand.state c.commit_pending.new.board in
     let e = c.commit_pending.ensures in
-    few_within 1 (room_calls c.args.self.now.log.shape) (g.B.Nand.state c.args.board.now) (g.B.Nand.state c.commit_pending.new.board) (omega arith) (few_commit c.args.self.now.log.pending (g.B.Nand.state c.args.board.now) (g.B.Nand.state c.commit_pending.new.board) e.program e.idle)
-
-pub returns-in-Ok-clause-installs : goal.returns-in-Ok-clause-installs
-returns-in-Ok-clause-installs g c = let same = c.in-Ok.ensures.step.roots_few in let few = c.empty_active.ensures.installs in omega (arith, same, few)
-
-pub returns-in-Err-clause-installs : goal.returns-in-Err-clause-installs
-returns-in-Err-clause-installs g c = let same = c.in-Err.ensures.step.roots_few in omega (arith, same)
+    let most = room_calls c.args.self.now.log.shape in
+    spends_still most room_roots s0 s1 (few_within 1 most s0 s1 (omega arith) (few_commit c.args.self.now.log.pending s0 s1 e.program e.idle)) e.step.roots_few

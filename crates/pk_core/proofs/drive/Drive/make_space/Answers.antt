@@ -1,10 +1,10 @@
 use Rattle.std.proofs.Common.{arith}
-use Rattle.pk_core.specs.Spacing.{StaysSame}
+use Rattle.pk_work.specs.Calls.{commit_calls, room_roots}
 use Rattle.pk_core.proofs.ReadSteps.{running_stopped}
 use Rattle.pk_core.proofs.Steps.{shape_committed, leaves_committed}
-use Rattle.pk_core.proofs.Callings.{few_within, few_commit}
+use Rattle.pk_core.proofs.Callings.{few_within, few_commit, spends_still}
 use Rattle.pk_core.specs.Costs.{reclaim_calls}
-use Rattle.pk_core.proofs.Stored.{space_committed, space_made, space_calls_made, space_not_made, stays_made, most_committed}
+use Rattle.pk_core.proofs.Stored.{space_committed, space_made, space_spends, space_not_made, stays_made, most_committed}
 use Rattle.pk_core.proofs.drive.Drive.make_space.Goals as goal
 
 pub reclaim_for-requires-clause-may : goal.reclaim_for-requires-clause-may
@@ -35,22 +35,21 @@ returns-in-Err-clause-none g c = running_stopped Unit _ c.in-Err.fault c.in-Err.
 pub returns-in-Err-clause-stays : goal.returns-in-Err-clause-stays
 returns-in-Err-clause-stays g c = running_stopped Unit _ c.in-Err.fault c.in-Err.ensures.step.stopped
 
-pub returns-in-Ok-clause-calls : goal.returns-in-Ok-clause-calls
-returns-in-Ok-clause-calls g c =
+pub returns-in-Ok-clause-spends : goal.returns-in-Ok-clause-spends
+returns-in-Ok-clause-spends g c =
     let a = c.args.self.now in
     let b = c.commit_pending.new.self in
+    let s0 = g.B.Nand.state c.args.board.now in
+    let s1 = g.B.Nand.state c.commit_pending.new.board in
     let e = c.commit_pending.ensures in
-    space_calls_made c.args.count a b (g.B.Nand.state c.args.board.now) (g.B.Nand.state c.commit_pending.new.board) c.requires.may (shape_committed a b c.in-Ok.ensures.rest) c.in-Ok.ensures.step (g.B.Nand.state c.reclaim_for.new.board)
-    (few_commit a.log.pending (g.B.Nand.state c.args.board.now) (g.B.Nand.state c.commit_pending.new.board) e.program e.idle) c.reclaim_for.ensures.calls
+    space_spends c.args.count a b s0 s1 c.requires.may (shape_committed a b c.in-Ok.ensures.rest) c.in-Ok.ensures.step (g.B.Nand.state c.reclaim_for.new.board)
+    (spends_still commit_calls 0 s0 s1 (few_commit a.log.pending s0 s1 e.program e.idle) e.step.roots_few) c.reclaim_for.ensures.spends
 
-pub returns-in-Err-clause-calls : goal.returns-in-Err-clause-calls
-returns-in-Err-clause-calls g c =
+pub returns-in-Err-clause-spends : goal.returns-in-Err-clause-spends
+returns-in-Err-clause-spends g c =
     let a = c.args.self.now in
+    let s0 = g.B.Nand.state c.args.board.now in
+    let s1 = g.B.Nand.state c.commit_pending.new.board in
     let e = c.commit_pending.ensures in
-    few_within 1 (reclaim_calls a.log.shape) (g.B.Nand.state c.args.board.now) (g.B.Nand.state c.commit_pending.new.board) (omega arith) (few_commit a.log.pending (g.B.Nand.state c.args.board.now) (g.B.Nand.state c.commit_pending.new.board) e.program e.idle)
-
-pub returns-in-Ok-clause-installs : goal.returns-in-Ok-clause-installs
-returns-in-Ok-clause-installs g c = let same = c.in-Ok.ensures.step.roots_few in let few = c.reclaim_for.ensures.installs in omega (arith, same, few)
-
-pub returns-in-Err-clause-installs : goal.returns-in-Err-clause-installs
-returns-in-Err-clause-installs g c = let same = c.in-Err.ensures.step.roots_few in omega (arith, same)
+    let most = reclaim_calls a.log.shape in
+    spends_still most room_roots s0 s1 (few_within 1 most s0 s1 (omega arith) (few_commit a.log.pending s0 s1 e.program e.idle)) e.step.roots_few

@@ -36,7 +36,7 @@ returns-in-Ok-NeedsFreeze g c =
     let r = c.requires in
     let e = c.empty_active.ensures in
     space_frozen c.args.count c.args.self.now (g.B.Nand.state c.args.board.now) r.may r.some r.awaits c.reclaim_once.new.self c.empty_active.new.self (g.B.Nand.state c.reclaim_once.new.board) (g.B.Nand.state c.empty_active.new.board) c.empty_active.result
-    (waits_is c.args.self.now c.reclaim_once.new.self (g.B.Nand.state c.args.board.now) (g.B.Nand.state c.reclaim_once.new.board) c.in-Ok-NeedsFreeze.field-0 c.in-Ok-NeedsFreeze.field-0-is c.in-Ok-NeedsFreeze.ensures.does) e.step e.installs e.wide e.none e.leaves e.moves e.calls
+    (waits_is c.args.self.now c.reclaim_once.new.self (g.B.Nand.state c.args.board.now) (g.B.Nand.state c.reclaim_once.new.board) c.in-Ok-NeedsFreeze.field-0 c.in-Ok-NeedsFreeze.field-0-is c.in-Ok-NeedsFreeze.ensures.does) e.step e.spends e.room e.none e.leaves e.moves
 
 pub returns-in-Err : goal.returns-in-Err
 returns-in-Err g c =
@@ -44,4 +44,4 @@ returns-in-Err g c =
     let e = c.reclaim_once.ensures in
     let is = c.in-Err.ensures in
     space_failed c.args.count c.args.self.now (g.B.Nand.state c.args.board.now) r.may r.some r.awaits c.reclaim_once.new.self (g.B.Nand.state c.reclaim_once.new.board) e.none e.same_roots e.calls e.rest e.ready
-    (omega (arith, c.read_count.ensures.value, c.read_count.type_inv)) c.in-Err.fault c.read_count.ensures.faults is.unread is.broken
+    (omega (arith, c.read_count.ensures.value, c.read_count.type_inv)) c.in-Err.fault c.read_count.ensures.faults is.fails

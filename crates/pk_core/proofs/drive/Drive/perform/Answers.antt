@@ -61,12 +61,12 @@ returns-in-20-clause-performs g c =
 pub returns-in-1-clause-performs : goal.returns-in-1-clause-performs
 returns-in-1-clause-performs g c =
     performs_store c.args.self.now c.store.new.self (g.B.Nand.state c.args.board.now) (g.B.Nand.state c.store.new.board) c.args.request.now c.args.value.now c.store.result c.in-1.is c.store.ensures.opens c.store.ensures.noted c.store.ensures.quiet
-    (few_for_looks c.args.self.now.log.shape c.args.request.now.opcode 0x01 c.args.request.now.size refl _ _ c.in-1.is c.store.ensures.calls)
+    (few_for_looks c.args.self.now.log.shape c.args.request.now.opcode 0x01 c.args.request.now.size refl _ _ c.in-1.is c.store.ensures.spends.calls)
 
 pub returns-in-16-clause-performs : goal.returns-in-16-clause-performs
 returns-in-16-clause-performs g c =
     performs_delete c.args.self.now c.delete.new.self (g.B.Nand.state c.args.board.now) (g.B.Nand.state c.delete.new.board) c.args.request.now c.args.value.now c.delete.result c.in-16.is c.delete.ensures.moves c.delete.ensures.quiet
-    (few_for_looks c.args.self.now.log.shape c.args.request.now.opcode 0x10 c.args.request.now.size refl _ _ c.in-16.is c.delete.ensures.calls)
+    (few_for_looks c.args.self.now.log.shape c.args.request.now.opcode 0x10 c.args.request.now.size refl _ _ c.in-16.is c.delete.ensures.spends.calls)
 
 pub returns-in-192-clause-performs : goal.returns-in-192-clause-performs
 returns-in-192-clause-performs g c =

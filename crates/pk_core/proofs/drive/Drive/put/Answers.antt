@@ -9,8 +9,8 @@ use Rattle.pk_core.proofs.ReadSteps.{running_ok, running_failed, running_both}
 use Rattle.pk_core.proofs.Staying.{stays_opens, opens_put}
 use Rattle.pk_core.proofs.Quieted.{put_reads_none}
 use Rattle.pk_core.proofs.Programming.{put_idle}
-use Rattle.pk_core.proofs.Callings.{few_within}
-use Rattle.pk_core.proofs.StoreCalls.{few_put}
+use Rattle.pk_core.proofs.Callings.{spends_still, spends_within}
+use Rattle.pk_core.proofs.StoreCalls.{spends_put}
 use Rattle.pk_core.proofs.drive.Drive.put.Goals as goal
 
 pub make_room-requires-clause-may : goal.make_room-requires-clause-may
@@ -69,11 +69,10 @@ returns-in-Err-clause-opens g c =
     let count = charge a.log.shape (length c.args.value.now) in
     running_failed Unit Unit (Stays a b) (StaysOrOpens a b count) c.in-Err.fault (stays_opens a b count) c.in-Err.ensures.moves
 
-pub returns-in-Ok-clause-calls : goal.returns-in-Ok-clause-calls
-returns-in-Ok-clause-calls g c = few_put _ _ _ _ _ c.in-Ok.ensures.leaves.same_shape (length c.args.value.now) c.make_room.ensures.calls c.put_with_room.ensures.calls
+pub returns-in-Ok-clause-spends : goal.returns-in-Ok-clause-spends
+returns-in-Ok-clause-spends g c =
+    let e = c.put_with_room.ensures in
+    spends_put _ _ _ _ _ c.in-Ok.ensures.leaves.same_shape (length c.args.value.now) c.make_room.ensures.spends (spends_still _ 0 _ _ e.calls e.step.roots_few)
 
-pub returns-in-Err-clause-calls : goal.returns-in-Err-clause-calls
-returns-in-Err-clause-calls g c = few_within _ _ _ _ (omega arith) c.make_room.ensures.calls
-
-pub returns-in-Ok-clause-installs : goal.returns-in-Ok-clause-installs
-returns-in-Ok-clause-installs g c = let few = c.in-Ok.ensures.installs in let same = c.put_with_room.ensures.step.roots_few in omega (arith, few, same)
+pub returns-in-Err-clause-spends : goal.returns-in-Err-clause-spends
+returns-in-Err-clause-spends g c = spends_within _ _ _ _ _ _ (omega arith) (omega arith) c.make_room.ensures.spends

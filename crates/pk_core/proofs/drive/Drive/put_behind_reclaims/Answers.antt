@@ -3,8 +3,8 @@ use Rattle.pk_base.specs.Shape.{charge}
 use Rattle.pk_work.specs.Calls.{space_calls}
 use Rattle.pk_core.specs.Spacing.{needs}
 use Rattle.pk_core.proofs.Stored.{can_behind, room_behind, numbers_behind, stores_behind, stores_failed, stays_behind, stays_failed, fresh_behind, fresh_failed, opens_behind, space_numbers, store_numbers}
-use Rattle.pk_core.proofs.Callings.{few_within}
-use Rattle.pk_core.proofs.StoreCalls.{few_behind}
+use Rattle.pk_core.proofs.Callings.{spends_within}
+use Rattle.pk_core.proofs.StoreCalls.{spends_behind}
 use Rattle.pk_core.proofs.drive.Drive.put_behind_reclaims.Goals as goal
 
 pub make_space-requires-clause-may : goal.make_space-requires-clause-may
@@ -63,14 +63,8 @@ returns-in-Err-clause-opens g c =
     opens_behind c.args.self.now (g.B.Nand.state c.args.board.now) c.args.key c.args.value.now (charge c.args.self.now.log.shape (length c.args.value.now)) c.requires.can c.requires.no_room _ c.make_space.new.self (g.B.Nand.state c.make_space.new.board) _ step
     (fresh_failed c.in-Err.fault c.args.self.now c.make_space.new.self e.stays)
 
-pub returns-in-Ok-clause-calls : goal.returns-in-Ok-clause-calls
-returns-in-Ok-clause-calls g c = few_behind _ _ _ _ _ c.in-Ok.ensures.stays.same_shape (length c.args.value.now) c.make_space.ensures.calls c.put_found.ensures.calls
+pub returns-in-Ok-clause-spends : goal.returns-in-Ok-clause-spends
+returns-in-Ok-clause-spends g c = spends_behind _ _ _ _ _ c.in-Ok.ensures.stays.same_shape (length c.args.value.now) c.make_space.ensures.spends c.put_found.ensures.spends
 
-pub returns-in-Err-clause-calls : goal.returns-in-Err-clause-calls
-returns-in-Err-clause-calls g c = few_within _ _ _ _ (omega arith) c.make_space.ensures.calls
-
-pub returns-in-Ok-clause-installs : goal.returns-in-Ok-clause-installs
-returns-in-Ok-clause-installs g c = let first = c.in-Ok.ensures.installs in let second = c.put_found.ensures.installs in omega (arith, first, second)
-
-pub returns-in-Err-clause-installs : goal.returns-in-Err-clause-installs
-returns-in-Err-clause-installs g c = let few = c.in-Err.ensures.installs in omega (arith, few)
+pub returns-in-Err-clause-spends : goal.returns-in-Err-clause-spends
+returns-in-Err-clause-spends g c = spends_within _ _ _ _ _ _ (omega arith) (omega arith) c.make_space.ensures.spends

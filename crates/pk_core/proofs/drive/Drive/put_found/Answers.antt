@@ -1,11 +1,9 @@
 use Rattle.std.proofs.Common.{refl, length, arith, ap}
-use Rattle.pk_nand.specs.BoardState.{BoardState}
-use Rattle.pk_model.specs.Wear.{roots}
 use Rattle.pk_core.proofs.Staying.{stays_opens, stays_same}
 use Rattle.pk_core.proofs.Stored.{its_drive, found_can, found_stores, found_unread, found_room, found_numbers, between_same, between_from, opens_looked}
 use Rattle.pk_core.specs.Parts.{Parts}
-use Rattle.pk_core.proofs.Callings.{few_reads, few_breaks}
-use Rattle.pk_core.proofs.StoreCalls.{few_found}
+use Rattle.pk_core.proofs.Callings.{spends_reads, spends_breaks}
+use Rattle.pk_core.proofs.StoreCalls.{spends_found}
 use Rattle.pk_core.proofs.drive.Drive.put_found.Goals as goal
 
 pub look-requires-clause-agrees : goal.look-requires-clause-agrees
@@ -42,15 +40,9 @@ returns-in-Err-clause-stays g c = between_same c.args.self.now c.look.new.self c
 pub returns-in-Err-clause-opens : goal.returns-in-Err-clause-opens
 returns-in-Err-clause-opens g c = stays_opens _ _ _ (stays_same _ _ c.look.ensures.same)
 
-pub returns-in-Ok-clause-calls : goal.returns-in-Ok-clause-calls
-returns-in-Ok-clause-calls g c =
-    few_found _ _ _ _ _ (ap (λ (d : Parts). d.log.shape) c.look.ensures.same) (length c.args.value.now) (few_reads _ _ _ _ (omega arith) c.in-Ok.ensures.reads) c.put.ensures.calls
+pub returns-in-Ok-clause-spends : goal.returns-in-Ok-clause-spends
+returns-in-Ok-clause-spends g c =
+    spends_found _ _ _ _ _ (ap (λ (d : Parts). d.log.shape) c.look.ensures.same) (length c.args.value.now) (spends_reads _ _ _ _ 0 (omega arith) c.in-Ok.ensures.reads) c.put.ensures.spends
 
-pub returns-in-Err-clause-calls : goal.returns-in-Err-clause-calls
-returns-in-Err-clause-calls g c = few_breaks _ _ _ _ (omega arith) c.in-Err.ensures.failing
-
-pub returns-in-Ok-clause-installs : goal.returns-in-Ok-clause-installs
-returns-in-Ok-clause-installs g c = let same = ap (λ (s : BoardState). roots s) c.in-Ok.ensures.reads.board in let few = c.put.ensures.installs in omega (arith, same, few)
-
-pub returns-in-Err-clause-installs : goal.returns-in-Err-clause-installs
-returns-in-Err-clause-installs g c = let same = ap (λ (s : BoardState). roots s) c.in-Err.ensures.failing.board in omega (arith, same)
+pub returns-in-Err-clause-spends : goal.returns-in-Err-clause-spends
+returns-in-Err-clause-spends g c = spends_breaks _ _ _ _ _ (omega arith) c.in-Err.ensures.failing

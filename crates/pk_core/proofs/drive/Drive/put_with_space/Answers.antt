@@ -2,7 +2,7 @@ use Rattle.std.proofs.Common.{length, arith}
 use Rattle.pk_work.specs.Calls.{room_calls}
 use Rattle.pk_base.specs.Shape.{charge}
 use Rattle.pk_core.proofs.Stored.{store_can, put_stores, put_numbers, reads_if_room}
-use Rattle.pk_core.proofs.Callings.{few_within}
+use Rattle.pk_core.proofs.Callings.{spends_within}
 use Rattle.pk_core.proofs.drive.Drive.put_with_space.Goals as goal
 
 pub put_behind_reclaims-requires-clause-can : goal.put_behind_reclaims-requires-clause-can
@@ -19,8 +19,5 @@ pub returns-else-needs_reclaim-clause-quiet : goal.returns-else-needs_reclaim-cl
 returns-else-needs_reclaim-clause-quiet g c =
     reads_if_room c.put.result c.args.self.now c.args.key (charge c.args.self.now.log.shape (length c.args.value.now)) (g.B.Nand.state c.args.board.now) (g.B.Nand.state c.put.new.board) c.put.ensures.quiet
 
-pub returns-else-needs_reclaim-clause-calls : goal.returns-else-needs_reclaim-clause-calls
-returns-else-needs_reclaim-clause-calls g c = few_within _ _ _ _ (omega arith) c.put.ensures.calls
-
-pub returns-else-needs_reclaim-clause-installs : goal.returns-else-needs_reclaim-clause-installs
-returns-else-needs_reclaim-clause-installs g c = let few = c.put.ensures.installs in omega (arith, few)
+pub returns-else-needs_reclaim-clause-spends : goal.returns-else-needs_reclaim-clause-spends
+returns-else-needs_reclaim-clause-spends g c = spends_within _ _ _ _ _ _ (omega arith) (omega arith) c.put.ensures.spends

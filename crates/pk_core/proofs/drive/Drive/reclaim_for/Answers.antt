@@ -1,5 +1,5 @@
-use Rattle.std.proofs.Common.{sym, ◌∙◌, arith}
-use Rattle.pk_core.proofs.SpaceSteps.{spacing_begin, may_space, most_still, spacing_more, less_spacing, spacing_roots, spacing_end, spacing_failed, end_calls, broken_calls, failed_none, failed_stays, awaits_is, room_is}
+use Rattle.std.proofs.Common.{sym, ◌∙◌}
+use Rattle.pk_core.proofs.SpaceSteps.{spacing_begin, may_space, most_still, spacing_more, less_spacing, spacing_end, spacing_failed, end_spends, broken_spends, failed_none, failed_stays, awaits_is, room_is}
 use Rattle.pk_core.proofs.drive.Drive.reclaim_for.Goals as goal
 
 pub reclaims-init : goal.reclaims-init
@@ -38,14 +38,8 @@ returns-in-Err-clause-none g c = failed_none c.args.count c.args.self.now (g.B.N
 pub returns-in-Err-clause-stays : goal.returns-in-Err-clause-stays
 returns-in-Err-clause-stays g c = failed_stays c.args.count c.args.self.now (g.B.Nand.state c.args.board.now) c.reclaims.self (g.B.Nand.state c.reclaims.board) c.requires.may.may.ready c.reclaims.invariant c.in-Err.fault c.make_space_once.new.self (g.B.Nand.state c.make_space_once.new.board) c.in-Err.ensures
 
-pub returns-then-not-awaits_space-clause-calls : goal.returns-then-not-awaits_space-clause-calls
-returns-then-not-awaits_space-clause-calls g c = end_calls c.args.count c.args.self.now (g.B.Nand.state c.args.board.now) c.reclaims.self (g.B.Nand.state c.reclaims.board) c.requires.may.may.ready c.reclaims.invariant
+pub returns-then-not-awaits_space-clause-spends : goal.returns-then-not-awaits_space-clause-spends
+returns-then-not-awaits_space-clause-spends g c = end_spends c.args.count c.args.self.now (g.B.Nand.state c.args.board.now) c.reclaims.self (g.B.Nand.state c.reclaims.board) c.requires.may.may.ready c.reclaims.invariant
 
-pub returns-in-Err-clause-calls : goal.returns-in-Err-clause-calls
-returns-in-Err-clause-calls g c = broken_calls c.args.count c.args.self.now (g.B.Nand.state c.args.board.now) c.reclaims.self (g.B.Nand.state c.reclaims.board) c.requires.may.may.ready c.reclaims.invariant c.in-Err.fault c.make_space_once.new.self (g.B.Nand.state c.make_space_once.new.board) c.in-Err.ensures
-
-pub returns-then-not-awaits_space-clause-installs : goal.returns-then-not-awaits_space-clause-installs
-returns-then-not-awaits_space-clause-installs g c = spacing_roots c.args.count c.args.self.now (g.B.Nand.state c.args.board.now) c.reclaims.self (g.B.Nand.state c.reclaims.board) c.requires.may.may.ready c.reclaims.invariant (g.B.Nand.state c.reclaims.board) (omega arith)
-
-pub returns-in-Err-clause-installs : goal.returns-in-Err-clause-installs
-returns-in-Err-clause-installs g c = spacing_roots c.args.count c.args.self.now (g.B.Nand.state c.args.board.now) c.reclaims.self (g.B.Nand.state c.reclaims.board) c.requires.may.may.ready c.reclaims.invariant (g.B.Nand.state c.make_space_once.new.board) c.in-Err.ensures.installs
+pub returns-in-Err-clause-spends : goal.returns-in-Err-clause-spends
+returns-in-Err-clause-spends g c = broken_spends c.args.count c.args.self.now (g.B.Nand.state c.args.board.now) c.reclaims.self (g.B.Nand.state c.reclaims.board) c.requires.may.may.ready c.reclaims.invariant c.in-Err.fault c.make_space_once.new.self (g.B.Nand.state c.make_space_once.new.board) c.in-Err.ensures

@@ -1,5 +1,5 @@
 use Rattle.pk_reclaim.specs.Space.{space}
-use Rattle.pk_core.proofs.Reclaimed.{may_reclaim, does_if, cannot_read, fails_all}
+use Rattle.pk_core.proofs.Reclaimed.{may_reclaim, does_if, fails_if}
 use Rattle.pk_core.proofs.drive.Drive.reclaim_once.Goals as goal
 
 pub reclaim_step-requires-clause-may : goal.reclaim_step-requires-clause-may
@@ -14,16 +14,9 @@ returns-clause-does g c =
     let x = space c.reclaim_step.new.log c.reclaim_step.new.values c.reclaim_step.new.pool c.reclaim_step.new.job in
     rw (← c.self.view_is) (does_if _ x (g.B.Nand.state c.args.board.now) (g.B.Nand.state c.reclaim_step.new.board) r.may e.same_log e.ready c.reclaim_step.result e.does)
 
-pub returns-clause-unread : goal.returns-clause-unread
-returns-clause-unread g c = λ is.
+pub returns-clause-fails : goal.returns-clause-fails
+returns-clause-fails g c =
     let e = c.reclaim_step.ensures in
     let r = rw (← c.self.view_is) at c.requires in
     let x = space c.reclaim_step.new.log c.reclaim_step.new.values c.reclaim_step.new.pool c.reclaim_step.new.job in
-    rw (← c.self.view_is) (cannot_read _ x (g.B.Nand.state c.args.board.now) (g.B.Nand.state c.reclaim_step.new.board) r.may (e.unread is))
-
-pub returns-clause-broken : goal.returns-clause-broken
-returns-clause-broken g c = λ is.
-    let e = c.reclaim_step.ensures in
-    let r = rw (← c.self.view_is) at c.requires in
-    let broken = e.broken is in
-    rw (← c.self.view_is) (fails_all _ (g.B.Nand.state c.args.board.now) (g.B.Nand.state c.reclaim_step.new.board) r.may broken.0, broken.1)
+    rw (← c.self.view_is) (fails_if _ x (g.B.Nand.state c.args.board.now) (g.B.Nand.state c.reclaim_step.new.board) r.may c.reclaim_step.result e.unread e.broken)

@@ -1,6 +1,7 @@
-use Rattle.std.proofs.Common.{refl, true, subst, ap, ◌∙◌, Err}
+use Rattle.std.proofs.Common.{refl, true, subst}
 use Rattle.pk_pool.specs.Blocks.{IsShared}
 use Rattle.pk_core.specs.Parts.{Parts}
+use Rattle.pk_core.specs.Reclaiming.{FailsReclaim}
 use Rattle.pk_core.proofs.SpaceSteps.{waits_is}
 use Rattle.pk_core.proofs.ReclaimTicks.{may_reclaim, goes_on, ends_so, unread_so, stops_so, waits_may, waits_merged, waits_wanted, waits_advances}
 use Rattle.pk_core.proofs.drive.Drive.reclaim_step.Goals as goal
@@ -37,12 +38,17 @@ returns-in-Ok-NeedsFreeze g c =
 pub returns-in-Err-Reading : goal.returns-in-Err-Reading
 returns-in-Err-Reading g c =
     let e = c.reclaim_once.ensures in
-    unread_so c.args.self.now (g.B.Nand.state c.args.board.now) c.requires.may c.requires.wanted (g.B.Nand.state c.reclaim_once.new.board) e.calls e.rest e.same_roots e.grows e.ready c.reclaim_once.new.self (e.unread (c.in-Err-Reading.is ∙ ap Err c.in-Err-Reading.field-0-is)) (subst (λ (d : Parts). IsShared d.pool.shape d.pool.states) c.self.view_is c.known.ensures)
+    let old = g.B.Nand.state c.args.board.now in
+    let new = g.B.Nand.state c.reclaim_once.new.board in
+    let unread = subst (λ x. FailsReclaim c.args.self.now c.reclaim_once.new.self old new x) c.in-Err-Reading.field-0-is c.in-Err-Reading.ensures.fails in
+    unread_so c.args.self.now old c.requires.may c.requires.wanted new e.calls e.rest e.same_roots e.grows e.ready c.reclaim_once.new.self unread (subst (λ (d : Parts). IsShared d.pool.shape d.pool.states) c.self.view_is c.known.ensures)
 
 pub returns-in-Err-Stopped : goal.returns-in-Err-Stopped
 returns-in-Err-Stopped g c =
     let e = c.reclaim_once.ensures in
-    let broken = e.broken (c.in-Err-Stopped.is ∙ ap Err c.in-Err-Stopped.field-0-is) in
+    let old = g.B.Nand.state c.args.board.now in
+    let new = g.B.Nand.state c.reclaim_once.new.board in
+    let broken = subst (λ x. FailsReclaim c.args.self.now c.reclaim_once.new.self old new x) c.in-Err-Stopped.field-0-is c.in-Err-Stopped.ensures.fails in
     let later : Parts = record c.reclaim_once.new.self { stopped = true } in
     rw (c.stop.ensures.stopped, c.stop.ensures.value)
-    (stops_so c.args.self.now (g.B.Nand.state c.args.board.now) c.requires.may c.requires.wanted (g.B.Nand.state c.reclaim_once.new.board) e.calls e.rest e.same_roots e.grows e.ready later refl e.none broken.0 broken.1 (subst (λ (d : Parts). IsShared d.pool.shape d.pool.states) c.self.view_is c.known.ensures))
+    (stops_so c.args.self.now old c.requires.may c.requires.wanted new e.calls e.rest e.same_roots e.grows e.ready later refl e.none broken.0 broken.1 (subst (λ (d : Parts). IsShared d.pool.shape d.pool.states) c.self.view_is c.known.ensures))

@@ -1,10 +1,11 @@
 use Rattle.std.proofs.Common.{◌≤◌, ◌∙◌, length, ap, arith, subst, ◌-◌}
 use Rattle.pk_nand.specs.Calls.{last_count}
 use Rattle.pk_core.specs.Quiet.{Looks}
-use Rattle.pk_core.proofs.Unchanging.{retrieve_found, retrieve_none, unread_look, unread_value, front_of, front_moved, room_of, value_reads, value_breaks, few_of}
+use Rattle.pk_core.proofs.Unchanging.{retrieve_found, retrieve_none, unread_value, front_of, front_moved, room_of, value_reads, value_breaks, few_of}
 use Rattle.pk_nvme.specs.Seen.{command_of}
 use Rattle.pk_drive.specs.declared.types.Outcome.{Outcome}
 use Rattle.pk_core.proofs.Executing.{executes_quiet}
+use Rattle.pk_core.proofs.LookedUp.{executes_unread}
 use Rattle.pk_core.proofs.Sights.{only_reads, only_failing}
 use Rattle.pk_core.proofs.Callings.{few_looked, few_failed, four_less}
 use Rattle.pk_core.proofs.drive.Drive.retrieve.Goals as goal
@@ -93,11 +94,8 @@ returns-in-Ok-None-clause-executes g c = λ v.
 
 pub returns-in-Err-clause-executes : goal.returns-in-Err-clause-executes
 returns-in-Err-clause-executes g c = λ v.
-    let old = g.B.Nand.state c.args.board.now in
-    let few : old.reads ≤ last_count = omega (arith, c.read_count-before.ensures.value, c.read_count-before.type_inv) in
-    executes_quiet c.args.self.now c.look.new.self (g.B.Nand.state c.args.board.now) (g.B.Nand.state c.look.new.board) c.args.request.now (command_of c.args.request.now v) c.refusal-in-Err.result c.args.into.now _ c.requires.servable c.look.ensures.same c.look.ensures.pages (ap (λ (o : Outcome). o.stopped) c.refusal-in-Err.ensures)
-    (unread_look c.args.self.now c.look.new.self old (g.B.Nand.state c.look.new.board) c.args.request.now v c.args.into.now c.requires.servable.agrees c.look.ensures.same c.requires.servable.passed few c.reads_since-in-Err.ensures.count
-    c.refusal-in-Err.result c.reads_since-in-Err.result c.refusal-in-Err.ensures c.read_count-before.ensures.faults c.in-Err.ensures.failing (omega (arith, c.reads_since-in-Err.ensures.reads, c.read_count-before.ensures.value)))
+    executes_unread c.args.self.now c.look.new.self (g.B.Nand.state c.args.board.now) (g.B.Nand.state c.look.new.board) c.args.request.now v c.args.into.now c.refusal-in-Err.result c.reads_since-in-Err.result c.requires.servable c.look.ensures.same
+    c.refusal-in-Err.ensures c.read_count-before.ensures.faults c.in-Err.ensures.failing (omega (arith, c.reads_since-in-Err.ensures.reads, c.read_count-before.ensures.value))
 
 pub returns-in-Ok-clause-only : goal.returns-in-Ok-clause-only
 returns-in-Ok-clause-only g c = record {

@@ -1,22 +1,15 @@
-use Rattle.std.proofs.Common.{ap, ◌≤◌, arith, subst, false}
-use Rattle.pk_nand.specs.BoardState.{BoardState}
-use Rattle.pk_nand.specs.Calls.{last_count}
-use Rattle.pk_model.specs.Wear.{roots}
-use Rattle.pk_core.proofs.LookedUp.{looked_up}
-use Rattle.pk_core.proofs.Unchanging.{unread_look}
-use Rattle.pk_core.proofs.Served.{does_behind, store_is_other}
-use Rattle.pk_nvme.specs.Seen.{command_of}
-use Rattle.pk_drive.specs.declared.types.Outcome.{Outcome}
-use Rattle.pk_core.proofs.Executing.{executes_quiet}
+use Rattle.std.proofs.Common.{ap, arith, subst, false}
+use Rattle.pk_core.proofs.LookedUp.{looked_up, executes_behind, executes_unread}
+use Rattle.pk_core.proofs.Served.{store_is_other}
 use Rattle.pk_core.proofs.Staying.{stays_same, stays_opens, opens_from}
 use Rattle.pk_core.specs.Staying.{IsNoted}
 use Rattle.pk_core.proofs.Statuses.{told_refused}
 use Rattle.pk_core.proofs.Programming.{quiet_store_behind}
 use Rattle.pk_core.proofs.Quieted.{reads_behind}
 use Rattle.pk_core.proofs.Stored.{room_looked}
-use Rattle.pk_core.proofs.Callings.{few_reads, few_failed}
+use Rattle.pk_core.proofs.Callings.{spends_reads, spends_failed}
 use Rattle.pk_core.specs.Parts.{Parts}
-use Rattle.pk_core.proofs.StoreCalls.{few_store}
+use Rattle.pk_core.proofs.StoreCalls.{spends_store}
 use Rattle.pk_core.proofs.drive.Drive.store.Goals as goal
 
 pub store_over-requires-clause-looked_up : goal.store_over-requires-clause-looked_up
@@ -27,22 +20,13 @@ store_over-requires-clause-looked_up g c =
 pub returns-in-Ok-clause-executes : goal.returns-in-Ok-clause-executes
 returns-in-Ok-clause-executes g c = λ into.
     let e = c.store_over.ensures in
-    let did = e.executes into in
-    record {
-      stops = did.stops;
-      agrees = did.agrees;
-      does = does_behind c.args.self.now c.look.new.self c.store_over.new.self (g.B.Nand.state c.args.board.now) (g.B.Nand.state c.look.new.board) (g.B.Nand.state c.store_over.new.board) _ _ into
-          c.store_over.result c.look.ensures.same c.in-Ok.ensures.reads (store_is_other c.args.request.now c.requires.opcode) e.reads
-          (omega (arith, e.told.0, c.read_count-before.ensures.value)) (did.does);
-    }
+    executes_behind c.args.self.now c.look.new.self c.store_over.new.self (g.B.Nand.state c.args.board.now) (g.B.Nand.state c.look.new.board) (g.B.Nand.state c.store_over.new.board) _ _ into c.store_over.result c.look.ensures.same c.in-Ok.ensures.reads
+    (store_is_other c.args.request.now c.requires.opcode) e.reads (omega (arith, e.told.0, c.read_count-before.ensures.value)) (e.executes into)
 
 pub returns-in-Err-clause-executes : goal.returns-in-Err-clause-executes
 returns-in-Err-clause-executes g c = λ into.
-    let old = g.B.Nand.state c.args.board.now in
-    let few : old.reads ≤ last_count = omega (arith, c.read_count-before.ensures.value, c.read_count-before.type_inv) in
-    executes_quiet c.args.self.now c.look.new.self (g.B.Nand.state c.args.board.now) (g.B.Nand.state c.look.new.board) c.args.request.now (command_of c.args.request.now c.args.value.now) c.refusal.result into _ c.requires.servable c.look.ensures.same c.look.ensures.pages (ap (λ (o : Outcome). o.stopped) c.refusal.ensures)
-    (unread_look c.args.self.now c.look.new.self old (g.B.Nand.state c.look.new.board) c.args.request.now c.args.value.now into c.requires.servable.agrees c.look.ensures.same c.requires.servable.passed few c.reads_since.ensures.count
-    c.refusal.result c.reads_since.result c.refusal.ensures c.read_count-before.ensures.faults c.in-Err.ensures.failing (omega (arith, c.reads_since.ensures.reads, c.read_count-before.ensures.value)))
+    executes_unread c.args.self.now c.look.new.self (g.B.Nand.state c.args.board.now) (g.B.Nand.state c.look.new.board) c.args.request.now c.args.value.now into c.refusal.result c.reads_since.result c.requires.servable c.look.ensures.same c.refusal.ensures
+    c.read_count-before.ensures.faults c.in-Err.ensures.failing (omega (arith, c.reads_since.ensures.reads, c.read_count-before.ensures.value))
 
 pub returns-in-Ok-clause-opens : goal.returns-in-Ok-clause-opens
 returns-in-Ok-clause-opens g c = λ runs. opens_from c.args.self.now c.look.new.self c.store_over.new.self c.args.request.now.size c.look.ensures.same (c.store_over.ensures.stores.opens runs)
@@ -68,15 +52,9 @@ returns-in-Ok-clause-quiet g c = λ zero none room.
 pub returns-in-Err-clause-quiet : goal.returns-in-Err-clause-quiet
 returns-in-Err-clause-quiet g c = λ zero. absurd (told_refused c.refusal.result 0x88 0 0 c.reads_since.result false c.refusal.ensures (λ e. omega (arith, e)) zero)
 
-pub returns-in-Ok-clause-calls : goal.returns-in-Ok-clause-calls
-returns-in-Ok-clause-calls g c =
-    few_store _ _ _ _ _ (ap (λ (d : Parts). d.log.shape) c.look.ensures.same) c.requires.servable.agrees.with.index.logs.is_shape (few_reads _ _ _ _ (omega arith) c.in-Ok.ensures.reads) c.store_over.ensures.calls
+pub returns-in-Ok-clause-spends : goal.returns-in-Ok-clause-spends
+returns-in-Ok-clause-spends g c =
+    spends_store _ _ _ _ _ (ap (λ (d : Parts). d.log.shape) c.look.ensures.same) c.requires.servable.agrees.with.index.logs.is_shape (spends_reads _ _ _ _ 0 (omega arith) c.in-Ok.ensures.reads) c.store_over.ensures.spends
 
-pub returns-in-Err-clause-calls : goal.returns-in-Err-clause-calls
-returns-in-Err-clause-calls g c = few_failed c.args.self.now (g.B.Nand.state c.args.board.now) (g.B.Nand.state c.look.new.board) c.requires.servable.agrees _ (omega arith) c.in-Err.ensures.failing
-
-pub returns-in-Ok-clause-installs : goal.returns-in-Ok-clause-installs
-returns-in-Ok-clause-installs g c = let same = ap (λ (s : BoardState). roots s) c.in-Ok.ensures.reads.board in let few = c.store_over.ensures.installs in omega (arith, same, few)
-
-pub returns-in-Err-clause-installs : goal.returns-in-Err-clause-installs
-returns-in-Err-clause-installs g c = let same = ap (λ (s : BoardState). roots s) c.in-Err.ensures.failing.board in omega (arith, same)
+pub returns-in-Err-clause-spends : goal.returns-in-Err-clause-spends
+returns-in-Err-clause-spends g c = spends_failed c.args.self.now (g.B.Nand.state c.args.board.now) (g.B.Nand.state c.look.new.board) c.requires.servable.agrees _ _ (omega arith) c.in-Err.ensures.failing

@@ -10,8 +10,8 @@ use Rattle.pk_core.proofs.Amounts.{store_few}
 use Rattle.pk_core.proofs.Executing.{executes_quiet}
 use Rattle.pk_core.proofs.Served.{short_place, can_put, store_refused, store_came, none_read}
 use Rattle.pk_core.proofs.Statuses.{told_refused, store_refuses}
-use Rattle.pk_core.proofs.Callings.{few_same}
-use Rattle.pk_core.proofs.StoreCalls.{few_stored}
+use Rattle.pk_core.proofs.Callings.{spends_same}
+use Rattle.pk_core.proofs.StoreCalls.{spends_stored}
 use Rattle.pk_core.proofs.drive.Drive.store_over.Goals as goal
 
 pub fault_of_store-requires-clause-old_short : goal.fault_of_store-requires-clause-old_short
@@ -52,7 +52,7 @@ returns-in-None-clause-executes g c = λ into.
     let after = g.B.Nand.state c.put_with_space-answer.new.board in
     subst (λ (d : Parts). Executes c.args.self.now d (g.B.Nand.state c.args.board.now) after (command_of c.args.request.now c.args.value.now) c.changed.result into (after.reads - (g.B.Nand.state c.args.board.now).reads)) (sym told.rest)
     (store_came c.args.self.now (g.B.Nand.state c.args.board.now) c.args.request.now c.args.value.now c.args.key c.args.old r.servable c.requires.opcode c.requires.whole r.named c.known.ensures.key c.known.ensures.bytes r.looks (sym c.fault_of_store.ensures ∙ c.in-None.is)
-    c.put_with_space-answer.result c.put_with_space-answer.new.self after _ into c.changed.result _ e.step e.installs (record { up = e.step.reads.up; few = c.reads_since-in-None.ensures.count }) e.stays told.told)
+    c.put_with_space-answer.result c.put_with_space-answer.new.self after _ into c.changed.result _ e.step e.spends.installs (record { up = e.step.reads.up; few = c.reads_since-in-None.ensures.count }) e.stays told.told)
 
 pub returns-in-None-clause-stores : goal.returns-in-None-clause-stores
 returns-in-None-clause-stores g c =
@@ -62,11 +62,11 @@ returns-in-None-clause-stores g c =
     let new = g.B.Nand.state c.put_with_space-answer.new.board in
     stores_came c.args.self.now c.put_with_space-answer.new.self c.changed.new.self old new c.args.key c.put_with_space-answer.result c.changed.result _ told.told told.rest (length c.args.value.now) c.args.request.now.size c.requires.whole e.opens e.noted e.programs e.quiet
 
-pub returns-in-Some-clause-calls : goal.returns-in-Some-clause-calls
-returns-in-Some-clause-calls g c = few_same _ _ _ refl
+pub returns-in-Some-clause-spends : goal.returns-in-Some-clause-spends
+returns-in-Some-clause-spends g c = spends_same _ _ _ _ refl
 
-pub returns-in-None-clause-calls : goal.returns-in-None-clause-calls
-returns-in-None-clause-calls g c =
+pub returns-in-None-clause-spends : goal.returns-in-None-clause-spends
+returns-in-None-clause-spends g c =
     let r = c.requires.looked_up in
     let can = can_put c.args.self.now (g.B.Nand.state c.args.board.now) c.args.request.now c.args.value.now c.args.key c.args.old r.servable c.requires.opcode c.requires.whole r.named c.known.ensures.key c.known.ensures.bytes r.looks (sym c.fault_of_store.ensures ∙ c.in-None.is) in
-    few_stored c.args.self.now.log.shape (length c.args.value.now) _ _ r.servable.agrees.with.index.logs.is_shape can.short c.put_with_space-answer.ensures.calls
+    spends_stored c.args.self.now.log.shape (length c.args.value.now) _ _ r.servable.agrees.with.index.logs.is_shape can.short c.put_with_space-answer.ensures.spends

@@ -7,7 +7,7 @@ use Rattle.pk_core.proofs.ReadSteps.{running_ok, running_failed, running_both}
 use Rattle.pk_core.proofs.Staying.{stays_then as stays_twice}
 use Rattle.pk_core.proofs.Quieted.{put_reads_none}
 use Rattle.pk_core.proofs.Programming.{take_idle}
-use Rattle.pk_core.proofs.Callings.{few_within, few_then}
+use Rattle.pk_core.proofs.Callings.{spends_still, spends_within, spends_then}
 use Rattle.pk_core.proofs.drive.Drive.take_out.Goals as goal
 
 pub make_room-requires-clause-may : goal.make_room-requires-clause-may
@@ -54,11 +54,10 @@ returns-in-Err-clause-stays g c =
     let b = c.make_room.new.self in
     running_failed Unit Unit (LeavesValues a b × (length b.log.pending ≤ length a.log.pending)) (StaysBetween a b) c.in-Err.fault (λ is. stays_kept a b is.0 is.1 c.requires.can.few) (running_both {T = Unit {0}} (LeavesValues a b) (length b.log.pending ≤ length a.log.pending) (Err c.in-Err.fault) e.leaves e.pending)
 
-pub returns-in-Ok-clause-calls : goal.returns-in-Ok-clause-calls
-returns-in-Ok-clause-calls g c = few_then _ _ _ _ _ c.make_room.ensures.calls c.take_with_room.ensures.calls
+pub returns-in-Ok-clause-spends : goal.returns-in-Ok-clause-spends
+returns-in-Ok-clause-spends g c =
+    let e = c.take_with_room.ensures in
+    spends_then _ _ _ _ 0 _ _ _ _ (omega arith) (omega arith) c.make_room.ensures.spends (spends_still _ 0 _ _ e.calls e.step.roots_few)
 
-pub returns-in-Err-clause-calls : goal.returns-in-Err-clause-calls
-returns-in-Err-clause-calls g c = few_within _ _ _ _ (omega arith) c.make_room.ensures.calls
-
-pub returns-in-Ok-clause-installs : goal.returns-in-Ok-clause-installs
-returns-in-Ok-clause-installs g c = let few = c.in-Ok.ensures.installs in let same = c.take_with_room.ensures.step.roots_few in omega (arith, few, same)
+pub returns-in-Err-clause-spends : goal.returns-in-Err-clause-spends
+returns-in-Err-clause-spends g c = spends_within _ _ _ _ _ _ (omega arith) (omega arith) c.make_room.ensures.spends

@@ -30,4 +30,4 @@ pub returns-clause-moves : goal.returns-clause-moves
 returns-clause-moves g c = λ e. c.work-last.ensures.moves (sym (stopped_is c.answer_of.result c.work-last.result c.reads_since.result c.answer_of.ensures) ∙ e)
 
 pub returns-clause-calls : goal.returns-clause-calls
-returns-clause-calls g c = c.work-last.ensures.steps.calls
+returns-clause-calls g c = c.work-last.ensures.steps.spends.calls
