@@ -1,24 +1,28 @@
 #!/bin/sh
-# Runs trials of whole sessions that take longer than the gate gives a test: the first reclaim of a full drive of 64 blocks, cut off at
-# every mark, in three ways each and four of an erase, and of the cuts of the session behind each one of every EVERY, where the next cut
-# goes on; and on the three smallest shapes three sessions one behind the other, each of which begins with a reclaim and a freeze inside
-# it and is cut off at every mark in all ways. It prints how many cuts there were of the first session and of those behind it. It works
-# on a copy of the sources, which `rt try` compiles with checks. It proves nothing and is no part of the gate.
+# Runs trials of whole sessions that take longer than the gate gives a test, and prints how many cuts each made and how long it took:
+# the first reclaim of a full drive of 64 blocks, cut off at every mark, and so the session behind each cut; and on the three smallest
+# shapes three sessions one behind the other, the first of which begins with a freeze, with merges into each of the four levels and a
+# freeze, or with a reclaim and a freeze inside it. Each mark is interrupted in three ways, an erase in four; of the marks of the later
+# sessions one of every EVERY is cut, where the next cut goes on. It is no part of the gate.
 #
-#   bench/long.sh [EVERY [SECONDS]]       every 8th cut and at most 7,200 seconds where no number is named; 1 makes all cuts
+# It works on a copy of the sources, in which these are the tests of a crate. They are proved, over the libraries in out/, which ./pink and
+# `rt check` leave (what is missing there is proved first), and run as they are built, at full speed.
+#
+#   bench/long.sh [EVERY [WORD]]     all cuts where EVERY is 1, which is what it is without a number; with a WORD only trials that have it
 set -eu
 
-every=${1:-8}
-seconds=${2:-7200}
-case $every$seconds in
-*[!0-9]*)
-    echo "long: EVERY and SECONDS are numbers" >&2
+every=${1:-1}
+word=${2:-}
+case $every/$word in
+0* | *[!0-9]*/* | */*[!a-z_0-9]*)
+    echo "long: EVERY is a number above 0, and WORD a part of a trial's name" >&2
     exit 2
     ;;
 esac
 top=$(CDPATH='' cd -- "$(dirname -- "$0")/.." && pwd)
 folder=$(mktemp -d)
 trap 'rm -rf "$folder"' EXIT
+trap 'exit 1' HUP INT TERM
 
 mkdir "$folder/crates"
 cp "$top/crates.txt" "$top/HANDLES" "$folder/"
@@ -28,21 +32,42 @@ for crate in "$top"/crates/*/; do
     for part in src specs proofs; do
         [ ! -d "$crate$part" ] || cp -r "$crate$part" "$folder/crates/$name/"
     done
+    [ -d "${crate}out/rlib" ] || continue
+    mkdir "$folder/crates/$name/out"
+    cp -rl "${crate}out/rlib" "$folder/crates/$name/out/" 2>/dev/null || cp -rf "${crate}out/rlib" "$folder/crates/$name/out/"
 done
-rm -f "$folder/crates/pk_hardship_tests/src/bounds.rt"
-cat > "$folder/crates/pk_hardship_tests/src/lib.rt" <<'RT'
+tests=$folder/crates/pk_hardship_tests
+rm "$tests"/src/*
+cat > "$tests/src/lib.rt" <<'RT'
 //! The trials that take long.
 #![tactic(auto)]
 
 #[cfg(test)]
 mod tests;
 RT
-cat > "$folder/crates/pk_hardship_tests/src/tests.rt" <<RT
+
+# A trial of a shape: its name, the call, and what it prints.
+trial() { # name, call
+    cat <<RT
+
+#[test]
+fn $1(rt: HostRuntime) -> Result<(), Fail> {
+    let cuts = $2?;
+    println!(rt; "$1: {cuts} cuts")?;
+    Ok(())
+}
+RT
+}
+
+{
+    cat <<'RT'
 //! One test for each long trial.
 
 use pk_flash::Flash;
-use pk_hardships::deep::SHAPES;
+use pk_hardships::deep::{SHAPES, three_deep_in_all_ways};
+use pk_hardships::merged::{FREEZES, MERGES, freeze_in_all_ways, merges_in_all_ways};
 use pk_sessions::Program;
+use pk_sessions::reclaims::first_on_full_twice;
 use pk_top::run;
 use std::alloc::Global;
 use std::test::*;
@@ -57,19 +82,27 @@ impl Program for Pink {
 }
 
 #[test]
-fn first_on_full_twice(rt: HostRuntime) -> Result<(), Fail> {
-    let cuts = pk_sessions::reclaims::first_on_full_twice::<Pink>(rt.alloc(), $every)?;
-    println!(rt; "{} cuts, and {} behind them", cuts.first, cuts.second)?;
-    Ok(())
-}
-
-#[test]
-fn three_deep_in_all_ways(rt: HostRuntime) -> Result<(), Fail> {
-    for few in &SHAPES {
-        pk_hardships::deep::three_deep_in_all_ways::<Pink>(rt.alloc(), few)?;
-    }
+fn first_on_full(rt: HostRuntime) -> Result<(), Fail> {
+    let cuts = first_on_full_twice::<Pink>(rt.alloc(), EVERY)?;
+    println!(rt; "first_on_full: {} cuts, and {} behind them", cuts.first, cuts.second)?;
     Ok(())
 }
 RT
-cd "$folder/crates/pk_hardship_tests"
-rt try --test --seconds "$seconds"
+    for shape in 0 1 2; do
+        trial "freeze_$shape" "freeze_in_all_ways::<Pink>(rt.alloc(), &FREEZES[$shape], EVERY)"
+        trial "merges_$shape" "merges_in_all_ways::<Pink>(rt.alloc(), &MERGES[$shape], EVERY)"
+        trial "reclaim_$shape" "three_deep_in_all_ways::<Pink>(rt.alloc(), &SHAPES[$shape], EVERY)"
+    done
+} | sed "s/EVERY/$every/" > "$tests/src/tests.rt"
+
+cd "$tests"
+# no trial has this name, so that they are only proved and built
+rt test -- "no trial" >log 2>&1 || {
+    cat log >&2
+    exit 1
+}
+./out/pk_hardship_tests_tests --list | sed -n "s/^tests::\\(.*$word.*\\): test\$/\\1/p" | while read -r name; do
+    start=$(date +%s)
+    ./out/pk_hardship_tests_tests "tests::$name"
+    echo "$name: $(($(date +%s) - start)) seconds"
+done

@@ -4,6 +4,7 @@ use pk_core::{Drive, OpenError};
 use pk_drive::Engine;
 use pk_flash::Flash;
 use pk_hardships::deep::SHAPES;
+use pk_hardships::merged::MERGES;
 use pk_hardships::{Opened, Opens};
 use pk_sessions::Program;
 use pk_top::run;
@@ -86,6 +87,26 @@ fn three_deep_of_wide_pages(rt: HostRuntime) -> Result<(), Fail> {
 #[test]
 fn three_deep_of_long_blocks(rt: HostRuntime) -> Result<(), Fail> {
     pk_hardships::deep::three_deep::<Pink>(rt.alloc(), &SHAPES[2])
+}
+
+#[test]
+fn freezes(rt: HostRuntime) -> Result<(), Fail> {
+    pk_hardships::merged::freezes::<Pink>(rt.alloc())
+}
+
+#[test]
+fn merges(rt: HostRuntime) -> Result<(), Fail> {
+    pk_hardships::merged::merges::<Pink>(rt.alloc(), &MERGES[0])
+}
+
+#[test]
+fn merges_of_wide_pages(rt: HostRuntime) -> Result<(), Fail> {
+    pk_hardships::merged::merges::<Pink>(rt.alloc(), &MERGES[1])
+}
+
+#[test]
+fn merges_of_long_blocks(rt: HostRuntime) -> Result<(), Fail> {
+    pk_hardships::merged::merges::<Pink>(rt.alloc(), &MERGES[2])
 }
 
 #[test]

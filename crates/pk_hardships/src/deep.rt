@@ -1,7 +1,8 @@
-//! Full drives of the smallest shapes whose every session begins with a reclaim and a freeze inside it, cut off three sessions deep.
+//! Drives of the smallest shapes cut off three sessions deep, where each session begins with a freeze.
 //!
-//! An epoch that was found at opening takes no entries, so the moves of a reclaim that comes first want a freeze. Each session retrieves
-//! all keys and overwrites one of them.
+//! An epoch that was found at opening takes no entries, so the first entry of a session wants a freeze. Each session retrieves all keys
+//! and overwrites one of them: on a full drive it begins with a reclaim, whose moves want the freeze; `merged` has drives that freeze
+//! alone, or behind a merge into each level.
 
 use pk_base::Shape;
 use pk_flash::{Flash, Left, Room};
@@ -11,48 +12,94 @@ use pk_sessions::cuts::bytes_out;
 use pk_sessions::overwritten::{
     OTHER, firsts, firsts_behind, push_plain, push_retrieves, push_store, push_stores, value_of,
 };
+use pk_sessions::script::entry;
 use pk_sessions::{Program, holds, same};
 use std::alloc::{AllocError, Global};
 use std::test::*;
 
 const FLUSH: u8 = 0x00;
 
+const DELETE: u8 = 0x10;
+
 const ROOM: Room = Room {
     posted: 8_192,
     marks: 180,
 };
 
-/// A drive of few blocks: the words that make it, the numbers among them, the keys of one page each that it has room for, and how many
-/// Stores fill the two blocks that values may have.
+/// A drive of few blocks: the words that make it, the numbers among them, how many keys of one page each it has, with how many Stores of
+/// them it begins, and how many other keys are stored and deleted behind these.
 #[derive(Clone, Copy)]
 pub struct Few {
     pub words: [&'static str; 4],
     pub numbers: [u32; 3],
     pub keys: u32,
     pub stores: u32,
+    pub gone: u32,
 }
 
-/// The three smallest shapes.
+/// The three smallest shapes, with as many keys as there is room for, and so many Stores as fill the two blocks that values may have.
 pub const SHAPES: [Few; 3] = [
     Few {
         words: ["make", "512", "8", "33"],
         numbers: [512, 8, 33],
         keys: 12,
         stores: 16,
+        gone: 0,
     },
     Few {
         words: ["make", "1024", "8", "32"],
         numbers: [1024, 8, 32],
         keys: 12,
         stores: 16,
+        gone: 0,
     },
     Few {
         words: ["make", "512", "16", "22"],
         numbers: [512, 16, 22],
         keys: 24,
         stores: 32,
+        gone: 0,
     },
 ];
+
+impl Few {
+    fn shape(&self) -> Result<Shape, Fail> {
+        let [page_bytes, block_pages, blocks] = self.numbers;
+        Ok(
+            Shape::new(page_bytes, block_pages, blocks)
+                .ok()
+                .ok_or("a shape")?,
+        )
+    }
+}
+
+/// Which cuts are made of three sessions, one behind the other: of the marks of the second and of the third one of every so many, which go
+/// on from cut to cut, and of each session in all ways, or in one by turns.
+#[derive(Clone, Copy)]
+pub struct Part {
+    pub every: usize,
+    pub all_of_first: bool,
+    pub all_of_second: bool,
+    pub all_of_third: bool,
+}
+
+/// All ways, of one of every so many marks.
+pub fn in_all_ways(every: usize) -> Part {
+    Part {
+        every,
+        all_of_first: true,
+        all_of_second: true,
+        all_of_third: true,
+    }
+}
+
+// All marks, and of the third session all ways.
+const LAST: Part = Part {
+    every: 1,
+    all_of_first: false,
+    all_of_second: false,
+    all_of_third: true,
+};
 
 /// What a session is to find: these first bytes of the values of all keys, or the same but for one key, which has this one, and surely
 /// where that was told.
@@ -83,11 +130,7 @@ pub fn few_board(
     pages: Vec<PageState>,
     script: Vec<u8>,
 ) -> Result<Flash, Fail> {
-    let [page_bytes, block_pages, blocks] = few.numbers;
-    let shape = Shape::new(page_bytes, block_pages, blocks)
-        .ok()
-        .ok_or("a shape")?;
-    board_in(alloc, shape, pages, script, ROOM)
+    board_in(alloc, few.shape()?, pages, script, ROOM)
 }
 
 fn served<P: Program>(
@@ -182,11 +225,17 @@ fn ways(alloc: Global, flash: &Flash, k: usize) -> Result<Vec<Left>, AllocError>
     Ok(ways)
 }
 
-// The same, or one of them by turns.
-fn some_ways(alloc: Global, flash: &Flash, k: usize, all: bool) -> Result<Vec<Left>, AllocError> {
+// The same, or one of them by turns, which go on with this number.
+fn some_ways(
+    alloc: Global,
+    flash: &Flash,
+    k: usize,
+    turn: usize,
+    all: bool,
+) -> Result<Vec<Left>, AllocError> {
     let mut ways = ways(alloc, flash, k)?;
     if !all && !ways.is_empty() {
-        let one = ways.swap_remove(k % ways.len());
+        let one = ways.swap_remove(k.wrapping_add(turn) % ways.len());
         ways.clear();
         ways.push(one)?;
     }
@@ -200,18 +249,28 @@ fn pages_at(alloc: Global, flash: &Flash, k: usize, left: &Left) -> Result<Vec<P
     Ok(flash.cut(alloc, k, left)?)
 }
 
-// Cuts the third session off at each mark, in all ways, and looks at what is left. How many cuts.
+// Whether this mark is one of those that are cut.
+fn is_one(k: usize, turn: usize, every: usize) -> bool {
+    every > 0 && k.wrapping_add(turn) % every == 0
+}
+
+// Cuts the third session off, and looks at what is left. How many cuts.
 fn check_third<P: Program>(
     alloc: Global,
     few: &Few,
     pages: Vec<PageState>,
     before: &Before,
+    part: &Part,
+    turn: usize,
 ) -> Result<u32, Fail> {
     let third = session::<P>(alloc, few, pages, before, 3)?;
     let mut cuts = 0u32;
     for k in 0..third.flash.marks().saturating_add(1) {
+        if !is_one(k, turn, part.every) {
+            continue;
+        }
         let known = cut_at(alloc, few, &third, 3, k)?;
-        for left in &ways(alloc, &third.flash, k)? {
+        for left in &some_ways(alloc, &third.flash, k, turn, part.all_of_third)? {
             let pages = pages_at(alloc, &third.flash, k, left)?;
             let _ = session::<P>(alloc, few, pages, &known, 4)?;
             cuts = cuts.saturating_add(1);
@@ -220,30 +279,64 @@ fn check_third<P: Program>(
     Ok(cuts)
 }
 
+// The same of the second session, and of the third one behind each cut.
 fn check_second<P: Program>(
     alloc: Global,
     few: &Few,
     pages: Vec<PageState>,
     before: &Before,
-    all: bool,
+    part: &Part,
+    turn: usize,
 ) -> Result<u32, Fail> {
     let second = session::<P>(alloc, few, pages, before, 2)?;
+    let mut next = turn;
     let mut cuts = 0u32;
     for k in 0..second.flash.marks().saturating_add(1) {
+        if !is_one(k, turn, part.every) {
+            continue;
+        }
         let known = cut_at(alloc, few, &second, 2, k)?;
-        for left in &some_ways(alloc, &second.flash, k, all)? {
+        for left in &some_ways(alloc, &second.flash, k, turn, part.all_of_second)? {
             let pages = pages_at(alloc, &second.flash, k, left)?;
-            cuts = cuts.saturating_add(check_third::<P>(alloc, few, pages, &known)?);
+            let behind = check_third::<P>(alloc, few, pages, &known, part, next)?;
+            cuts = cuts.saturating_add(behind);
+            next = next.wrapping_add(1);
         }
     }
     Ok(cuts)
 }
 
-/// The board of the full drive, and what it holds.
+// The number of the first key that is deleted.
+const FIRST_GONE: u32 = 1_000;
+
+// Adds Stores of so many keys, each with its Delete.
+fn push_gone(into: &mut Vec<u8>, count: u32) -> Result<(), AllocError> {
+    for i in 0..count {
+        let key = FIRST_GONE.saturating_add(i);
+        push_store(into, key, &value_of(i))?;
+        let [_, _, high, low] = key.to_be_bytes();
+        into.extend_from_slice(&entry(4, DELETE, [high, low], 2, 0))?;
+    }
+    Ok(())
+}
+
+// The room of the session that makes a drive.
+fn making(few: &Few) -> Room {
+    let gone = few.gone as usize;
+    Room {
+        posted: ROOM.posted.saturating_add(gone.saturating_mul(48)),
+        marks: ROOM.marks.saturating_add(gone.saturating_mul(6)),
+    }
+}
+
+/// The board of the drive, and what it holds.
 pub fn full<P: Program>(alloc: Global, few: &Few) -> Result<(Flash, Before), Fail> {
     let mut script = Vec::new(alloc);
     push_stores(&mut script, few.keys, 0, few.stores)?;
-    let flash = served::<P>(alloc, few, made::<P>(alloc, &few.words)?, script)?;
+    push_gone(&mut script, few.gone)?;
+    let pages = made::<P>(alloc, &few.words)?;
+    let mut flash = board_in(alloc, few.shape()?, pages, script, making(few))?;
+    same(serve::<P>(alloc, &mut flash), 0, "the status")?;
     let before = Before {
         held: firsts_behind(alloc, few.keys, few.stores)?,
         key: few.keys,
@@ -253,34 +346,53 @@ pub fn full<P: Program>(alloc: Global, few: &Few) -> Result<(Flash, Before), Fai
     Ok((flash, before))
 }
 
-// Cuts three sessions off, one behind the other: each at every mark, the first two in one way by turns or in all, and the third in all.
-fn check<P: Program>(alloc: Global, few: &Few, all: bool) -> Result<u32, Fail> {
+/// The first session on the drive.
+pub fn first<P: Program>(alloc: Global, few: &Few) -> Result<Behind, Fail> {
     let (drive, before) = full::<P>(alloc, few)?;
-    let first = session::<P>(alloc, few, pages_left(alloc, &drive)?, &before, 1)?;
-    // a root, the copies, the page of their moves, the value and the page of its entry
-    holds(
-        first.flash.program_count() >= 6,
-        format_args!("{} programs", first.flash.program_count()),
-    )?;
+    session::<P>(alloc, few, pages_left(alloc, &drive)?, &before, 1)
+}
+
+/// Cuts three sessions off, one behind the other, of which this is the first: it at every mark. How many cuts of the third one.
+pub fn check<P: Program>(
+    alloc: Global,
+    few: &Few,
+    first: &Behind,
+    part: &Part,
+) -> Result<u32, Fail> {
+    let mut turn = 0usize;
     let mut cuts = 0u32;
     for k in 0..first.flash.marks().saturating_add(1) {
-        let known = cut_at(alloc, few, &first, 1, k)?;
-        for left in &some_ways(alloc, &first.flash, k, all)? {
+        let known = cut_at(alloc, few, first, 1, k)?;
+        for left in &some_ways(alloc, &first.flash, k, 0, part.all_of_first)? {
             let pages = pages_at(alloc, &first.flash, k, left)?;
-            cuts = cuts.saturating_add(check_second::<P>(alloc, few, pages, &known, all)?);
+            cuts = cuts.saturating_add(check_second::<P>(alloc, few, pages, &known, part, turn)?);
+            turn = turn.wrapping_add(1);
         }
     }
     Ok(cuts)
 }
 
-/// The first two sessions are cut off in one way by turns.
-pub fn three_deep<P: Program>(alloc: Global, few: &Few) -> Result<(), Fail> {
-    let cuts = check::<P>(alloc, few, false)?;
-    holds(cuts >= 10_000, format_args!("{cuts} cuts"))
+// From a full drive on, whose first session programs a root, the copies, the page of their moves, the value and the page of its entry.
+fn check_full<P: Program>(alloc: Global, few: &Few, part: &Part) -> Result<u32, Fail> {
+    let first = first::<P>(alloc, few)?;
+    holds(
+        first.flash.program_count() >= 6,
+        format_args!("{} programs", first.flash.program_count()),
+    )?;
+    check::<P>(alloc, few, &first, part)
 }
 
-/// All sessions are cut off in all ways. This takes long.
-pub fn three_deep_in_all_ways<P: Program>(alloc: Global, few: &Few) -> Result<(), Fail> {
-    let cuts = check::<P>(alloc, few, true)?;
-    holds(cuts >= 100_000, format_args!("{cuts} cuts"))
+/// The first two sessions are cut off in one way by turns.
+pub fn three_deep<P: Program>(alloc: Global, few: &Few) -> Result<(), Fail> {
+    let cuts = check_full::<P>(alloc, few, &LAST)?;
+    holds(cuts >= 5_000, format_args!("{cuts} cuts"))
+}
+
+/// All sessions are cut off in all ways, the later two at one of every so many marks. This takes long.
+pub fn three_deep_in_all_ways<P: Program>(
+    alloc: Global,
+    few: &Few,
+    every: usize,
+) -> Result<u32, Fail> {
+    check_full::<P>(alloc, few, &in_all_ways(every))
 }

@@ -10,6 +10,7 @@ pub mod deep;
 pub mod failing;
 pub mod large;
 pub mod listing;
+pub mod merged;
 mod opened;
 mod plain;
 mod reading;

@@ -1,0 +1,125 @@
+//! Drives of the smallest shapes whose next session freezes, alone or behind a merge into each of the four levels, cut off three sessions
+//! deep.
+//!
+//! Where there are merges, so many keys were stored and deleted that the frozen buffer is more than run 1 has room for, run 1 more than
+//! run 2 has, and run 2 more than run 3. The merge into run 4 leaves the deleted keys out, so that the session has few marks.
+
+use crate::deep::{Few, Part, check, first, in_all_ways};
+use pk_flash::Flash;
+use pk_nand::Mark;
+use pk_sessions::{Program, holds, same};
+use std::alloc::Global;
+use std::test::*;
+
+/// Drives of few keys, with nothing frozen.
+pub const FREEZES: [Few; 3] = [
+    Few {
+        words: ["make", "512", "8", "33"],
+        numbers: [512, 8, 33],
+        keys: 5,
+        stores: 5,
+        gone: 0,
+    },
+    Few {
+        words: ["make", "1024", "8", "32"],
+        numbers: [1024, 8, 32],
+        keys: 5,
+        stores: 5,
+        gone: 0,
+    },
+    Few {
+        words: ["make", "512", "16", "22"],
+        numbers: [512, 16, 22],
+        keys: 5,
+        stores: 5,
+        gone: 0,
+    },
+];
+
+/// Drives whose next merges are into levels 4, 3, 2 and 1.
+pub const MERGES: [Few; 3] = [
+    Few {
+        words: ["make", "512", "8", "33"],
+        numbers: [512, 8, 33],
+        keys: 5,
+        stores: 5,
+        gone: 1_082,
+    },
+    Few {
+        words: ["make", "1024", "8", "32"],
+        numbers: [1024, 8, 32],
+        keys: 5,
+        stores: 5,
+        gone: 2_545,
+    },
+    Few {
+        words: ["make", "512", "16", "22"],
+        numbers: [512, 16, 22],
+        keys: 5,
+        stores: 5,
+        gone: 1_082,
+    },
+];
+
+// All ways of the first session, and of one of every so many marks of the later ones one way by turns.
+fn first_in_all_ways(every: usize) -> Part {
+    Part {
+        every,
+        all_of_first: true,
+        all_of_second: false,
+        all_of_third: false,
+    }
+}
+
+// How many roots are programmed in a session: one for each merge, and one for a freeze.
+fn roots(flash: &Flash, few: &Few) -> u32 {
+    let [_, block_pages, _] = few.numbers;
+    let end = block_pages.saturating_mul(2);
+    let mut roots = 0u32;
+    for i in 0..flash.marks() {
+        if let Mark::Program { page, .. } = flash.mark(i) {
+            if *page < end {
+                roots = roots.saturating_add(1);
+            }
+        }
+    }
+    roots
+}
+
+// From this drive on, whose first session is to program so many roots.
+fn check_roots<P: Program>(
+    alloc: Global,
+    few: &Few,
+    wanted: u32,
+    part: &Part,
+) -> Result<u32, Fail> {
+    let first = first::<P>(alloc, few)?;
+    same(roots(&first.flash, few), wanted, "roots")?;
+    check::<P>(alloc, few, &first, part)
+}
+
+/// A freeze on each shape, cut off at every mark in all ways, and the sessions behind it at every mark in one way by turns.
+pub fn freezes<P: Program>(alloc: Global) -> Result<(), Fail> {
+    for few in &FREEZES {
+        let cuts = check_roots::<P>(alloc, few, 1, &first_in_all_ways(1))?;
+        holds(cuts >= 1_000, format_args!("{cuts} cuts"))?;
+    }
+    Ok(())
+}
+
+/// Merges into levels 4, 3, 2 and 1 and the freeze behind them, cut off at every mark in all ways, and the sessions behind it at one of
+/// every five.
+pub fn merges<P: Program>(alloc: Global, few: &Few) -> Result<(), Fail> {
+    let cuts = check_roots::<P>(alloc, few, 5, &first_in_all_ways(5))?;
+    holds(cuts >= 500, format_args!("{cuts} cuts"))
+}
+
+/// A freeze in all ways of all three sessions, the later two at one of every so many marks. This takes long where that is each.
+pub fn freeze_in_all_ways<P: Program>(alloc: Global, few: &Few, every: usize) -> Result<u32, Fail> {
+    check_roots::<P>(alloc, few, 1, &in_all_ways(every))
+}
+
+/// So are merges into levels 4, 3, 2 and 1 and the freeze behind them.
+pub fn merges_in_all_ways<P: Program>(alloc: Global, few: &Few, every: usize) -> Result<u32, Fail> {
+    check_roots::<P>(alloc, few, 5, &in_all_ways(every))
+}
