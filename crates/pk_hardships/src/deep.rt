@@ -6,13 +6,14 @@
 
 use pk_base::Shape;
 use pk_flash::{Flash, Left, Room};
-use pk_nand::{Mark, PageState};
+use pk_nand::PageState;
 use pk_sessions::boards::{board_in, made, pages_left, serve};
 use pk_sessions::cuts::bytes_out;
 use pk_sessions::overwritten::{
     OTHER, firsts, firsts_behind, push_plain, push_retrieves, push_store, push_stores, value_of,
 };
 use pk_sessions::script::entry;
+use pk_sessions::ways::few_ways;
 use pk_sessions::{Program, holds, same};
 use std::alloc::{AllocError, Global};
 use std::test::*;
@@ -204,28 +205,7 @@ fn cut_at(
     })
 }
 
-// The ways in which this mark is interrupted: a program is not begun, torn or done; an erase leaves all as it was, all Torn, all Erased,
-// or each page by turns; behind the last mark there is one.
-fn ways(alloc: Global, flash: &Flash, k: usize) -> Result<Vec<Left>, AllocError> {
-    let mut ways = Vec::new(alloc);
-    if k >= flash.marks() {
-        ways.push(Left::Untouched)?;
-        return Ok(ways);
-    }
-    if let Mark::Post { .. } = flash.mark(k) {
-        return Ok(ways);
-    }
-    ways.push(Left::Untouched)?;
-    ways.push(Left::Torn)?;
-    ways.push(Left::Done)?;
-    if let Mark::Erase { .. } = flash.mark(k) {
-        let each = [0u8, 1, 2, 0, 1, 2, 0, 1, 2, 0, 1, 2, 0, 1, 2, 0];
-        ways.push(Left::Each(each.to_vec(alloc)?))?;
-    }
-    Ok(ways)
-}
-
-// The same, or one of them by turns, which go on with this number.
+// Some ways in which this mark is interrupted, or one of them by turns, which go on with this number.
 fn some_ways(
     alloc: Global,
     flash: &Flash,
@@ -233,7 +213,7 @@ fn some_ways(
     turn: usize,
     all: bool,
 ) -> Result<Vec<Left>, AllocError> {
-    let mut ways = ways(alloc, flash, k)?;
+    let mut ways = few_ways(alloc, flash, k)?;
     if !all && !ways.is_empty() {
         let one = ways.swap_remove(k.wrapping_add(turn) % ways.len());
         ways.clear();

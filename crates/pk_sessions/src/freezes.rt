@@ -79,7 +79,7 @@ fn check_cuts<P: Program>(alloc: Global, layered: &Layered) -> Result<u32, Fail>
     let entry_page = last_program(&flash).ok_or("a program")?;
     let mut cuts = 0u32;
     for k in 0..flash.marks().saturating_add(1) {
-        for left in &ways(alloc, &flash, k, layered.sizes.block_pages)? {
+        for left in &ways(alloc, &flash, k)? {
             let want = wanted_behind(layered, &flash, entry_page, k, left);
             let pages = cut(alloc, &flash, k, left)?;
             check_lists::<P>(alloc, layered, pages, &want.lists, want.stored, k)?;

@@ -3,6 +3,7 @@
 
 use crate::pages::{Sizes, Top, erased, put_root, write};
 use crate::script::Value;
+use crate::ways::few_ways;
 use pk_base::{Shape, put_text, put_u8, put_u16, put_u32, put_u64};
 use pk_flash::{Flash, Left};
 use pk_nand::{Mark, PageState};
@@ -444,30 +445,11 @@ impl Lists {
 
 // ---- cuts
 
-/// Some ways in which this mark is interrupted: a program is not begun, torn or done; an erase leaves all as it was, all Torn, all Erased, or
-/// each page by turns. Behind the last mark, and at a post, there is one way.
-pub fn ways(
-    alloc: Global,
-    flash: &Flash,
-    k: usize,
-    block_pages: u16,
-) -> Result<Vec<Left>, AllocError> {
-    let mut ways = Vec::new(alloc);
-    ways.push(Left::Untouched)?;
-    if k >= flash.marks() {
-        return Ok(ways);
-    }
-    if let Mark::Post { .. } = flash.mark(k) {
-        return Ok(ways);
-    }
-    ways.push(Left::Torn)?;
-    ways.push(Left::Done)?;
-    if let Mark::Erase { .. } = flash.mark(k) {
-        let mut each = Vec::new(alloc);
-        for i in 0..block_pages {
-            each.push((i % 3) as u8)?;
-        }
-        ways.push(Left::Each(each))?;
+/// Some ways in which this mark is interrupted, and one at a post.
+pub fn ways(alloc: Global, flash: &Flash, k: usize) -> Result<Vec<Left>, AllocError> {
+    let mut ways = few_ways(alloc, flash, k)?;
+    if ways.is_empty() {
+        ways.push(Left::Untouched)?;
     }
     Ok(ways)
 }

@@ -25,7 +25,7 @@ pub mod script;
 pub mod sessions;
 pub mod space;
 mod tried;
-mod ways;
+pub mod ways;
 pub mod wear;
 pub mod words;
 

@@ -274,7 +274,7 @@ fn check_cuts<P: Program>(alloc: Global, layered: &Layered) -> Result<u32, Fail>
     let flash = all_merges::<P>(alloc, layered)?;
     let mut cuts = 0u32;
     for k in 0..flash.marks().saturating_add(1) {
-        for left in &ways(alloc, &flash, k, layered.sizes.block_pages)? {
+        for left in &ways(alloc, &flash, k)? {
             check_cut::<P>(alloc, layered, &flash, k, left)?;
             cuts = cuts.saturating_add(1);
         }

@@ -159,7 +159,9 @@ pub fn texts<P: Program>(alloc: Global) -> Result<(), Fail> {
     same(P::run(alloc, &["show"], &mut records), 0, "the status")?;
     same(
         records.posted(),
-        b"cid=1 status=00 result=0 reads=0 data=-\ncid=2 status=00 result=3 reads=1 data=616263\n".as_slice(),
+        b"cid=1 status=00 result=0 reads=0 data=-\n\
+        cid=2 status=00 result=3 reads=1 data=616263\n"
+            .as_slice(),
         "the posted bytes",
     )?;
     let mut bad = blank(alloc, None, b"flush\nstroe\n".to_vec(alloc)?)?;

@@ -9,9 +9,10 @@ use crate::overwritten::{
     push_stores, record_at, value_of,
 };
 use crate::tried::{Program, holds, same};
+use crate::ways::few_ways;
 use pk_base::Shape;
 use pk_flash::{Flash, Left, Room};
-use pk_nand::{Mark, PageState};
+use pk_nand::PageState;
 use std::alloc::{AllocError, Global};
 use std::test::*;
 
@@ -127,30 +128,6 @@ fn third_script(alloc: Global, full: &Full) -> Result<Vec<u8>, AllocError> {
     Ok(script)
 }
 
-// In some ways this mark is interrupted: a program is not begun, torn or done; an erase leaves all as it was, all Torn, all Erased, or
-// each page by turns. A post leaves the pages as they are before the next mark.
-fn ways(alloc: Global, flash: &Flash, k: usize) -> Result<Vec<Left>, AllocError> {
-    let mut ways = Vec::new(alloc);
-    if k >= flash.marks() {
-        ways.push(Left::Untouched)?;
-        return Ok(ways);
-    }
-    if let Mark::Post { .. } = flash.mark(k) {
-        return Ok(ways);
-    }
-    ways.push(Left::Untouched)?;
-    ways.push(Left::Torn)?;
-    ways.push(Left::Done)?;
-    if let Mark::Erase { .. } = flash.mark(k) {
-        let mut each = Vec::new(alloc);
-        for i in 0..16u8 {
-            each.push(i % 3)?;
-        }
-        ways.push(Left::Each(each))?;
-    }
-    Ok(ways)
-}
-
 // How many commands were told, at least a byte of the record of each, where this mark is interrupted.
 fn told(flash: &Flash, k: usize) -> u32 {
     (bytes_out(flash, k) / 24).min(100_000) as u32
@@ -223,7 +200,7 @@ fn check<P: Program>(
         if told(first, k) < full.keys {
             continue;
         }
-        for left in &ways(alloc, first, k)? {
+        for left in &few_ways(alloc, first, k)? {
             let (second, held) = second::<P>(alloc, full, first, most, k, left)?;
             let behind = check_second::<P>(alloc, full, &second, &held, cuts.first, every)?;
             cuts.first = cuts.first.saturating_add(1);
@@ -248,7 +225,7 @@ fn check_second<P: Program>(
     }
     let mut at = turn;
     for k in 0..second.marks().saturating_add(1) {
-        for left in &ways(alloc, second, k)? {
+        for left in &few_ways(alloc, second, k)? {
             at = at.wrapping_add(1);
             if at % every == 0 {
                 third::<P>(alloc, full, second, held, k, left)?;

@@ -95,6 +95,27 @@ impl Ways {
     }
 }
 
+/// Some ways in which this mark is interrupted: a program is not begun, torn or done; an erase leaves all as it was, all Torn, all Erased,
+/// or each page by turns. Behind the last mark there is one way; at a post, which leaves the pages as they are, there is none.
+pub fn few_ways(alloc: Global, flash: &Flash, k: usize) -> Result<Vec<Left>, AllocError> {
+    let mut ways = Vec::new(alloc);
+    if k >= flash.marks() {
+        ways.push(Left::Untouched)?;
+        return Ok(ways);
+    }
+    if let Mark::Post { .. } = flash.mark(k) {
+        return Ok(ways);
+    }
+    ways.push(Left::Untouched)?;
+    ways.push(Left::Torn)?;
+    ways.push(Left::Done)?;
+    if let Mark::Erase { .. } = flash.mark(k) {
+        let each = [0u8, 1, 2, 0, 1, 2, 0, 1, 2, 0, 1, 2, 0, 1, 2, 0];
+        ways.push(Left::Each(each.to_vec(alloc)?))?;
+    }
+    Ok(ways)
+}
+
 /// In how many ways the erases among the marks may be interrupted, together.
 pub fn ways_of_erases(alloc: Global, flash: &Flash) -> Result<u32, Fail> {
     let mut count = 0u32;

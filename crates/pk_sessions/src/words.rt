@@ -11,7 +11,8 @@ use std::test::*;
 
 /// What `stat` says behind a Store of three bytes, one of no byte, and a Delete of the other key, each in a session of its own.
 const NUMBERS: &[u8] =
-    b"live 1\nlimit 492\nkeys 1\npinned 2\nframes 36\nleased 1\nactive 1\nfrozen 1\nrun1 1\nrun2 0\nrun3 0\nrun4 0\nepoch 1\nblocks 1\nready 0\nmerge 0\n";
+    b"live 1\nlimit 492\nkeys 1\npinned 2\nframes 36\nleased 1\nactive 1\nfrozen 1\n\
+    run1 1\nrun2 0\nrun3 0\nrun4 0\nepoch 1\nblocks 1\nready 0\nmerge 0\n";
 
 // Words, and the text that they are to post with status 0.
 #[derive(Clone, Copy, Debug)]

@@ -12,17 +12,30 @@ const ROOM: Room = Room {
 };
 
 // A Store of CID 1 with key 61 and the value 616263.
-const STORE: [u8; 67] =
-    *b"\x01\0\x01\0\x01\0\0\0\x61\0\0\0\0\0\0\0\0\0\0\0\0\0\0\0\0\0\0\0\0\0\0\0\0\0\0\0\0\0\0\0\x03\0\0\0\x01\0\0\0\0\0\0\0\0\0\0\0\0\0\0\0\0\0\0\0abc";
+const STORE: [u8; 67] = *b"\
+    \x01\0\x01\0\x01\0\0\0\x61\0\0\0\0\0\0\0\
+    \0\0\0\0\0\0\0\0\0\0\0\0\0\0\0\0\
+    \0\0\0\0\0\0\0\0\x03\0\0\0\x01\0\0\0\
+    \0\0\0\0\0\0\0\0\0\0\0\0\0\0\0\0\
+    abc";
 // A Retrieve of CID 2 of the same key with a buffer of 3 bytes.
-const RETRIEVE: [u8; 64] =
-    *b"\x02\0\x02\0\x01\0\0\0\x61\0\0\0\0\0\0\0\0\0\0\0\0\0\0\0\0\0\0\0\0\0\0\0\0\0\0\0\0\0\0\0\x03\0\0\0\x01\0\0\0\0\0\0\0\0\0\0\0\0\0\0\0\0\0\0\0";
+const RETRIEVE: [u8; 64] = *b"\
+    \x02\0\x02\0\x01\0\0\0\x61\0\0\0\0\0\0\0\
+    \0\0\0\0\0\0\0\0\0\0\0\0\0\0\0\0\
+    \0\0\0\0\0\0\0\0\x03\0\0\0\x01\0\0\0\
+    \0\0\0\0\0\0\0\0\0\0\0\0\0\0\0\0";
 // A Flush of CID 1.
-const FLUSH: [u8; 64] =
-    *b"\0\0\x01\0\x01\0\0\0\0\0\0\0\0\0\0\0\0\0\0\0\0\0\0\0\0\0\0\0\0\0\0\0\0\0\0\0\0\0\0\0\0\0\0\0\0\0\0\0\0\0\0\0\0\0\0\0\0\0\0\0\0\0\0\0";
+const FLUSH: [u8; 64] = *b"\
+    \0\0\x01\0\x01\0\0\0\0\0\0\0\0\0\0\0\
+    \0\0\0\0\0\0\0\0\0\0\0\0\0\0\0\0\
+    \0\0\0\0\0\0\0\0\0\0\0\0\0\0\0\0\
+    \0\0\0\0\0\0\0\0\0\0\0\0\0\0\0\0";
 // The records of the Store and the Retrieve.
-const RECORDS: &[u8] =
-    b"\0\0\0\0\0\0\0\0\x01\0\x01\0\x01\0\x01\0\0\0\0\0\0\0\0\0\x03\0\0\0\0\0\0\0\x02\0\x01\0\x02\0\x01\0\x01\0\0\0\x03\0\0\0abc";
+const RECORDS: &[u8] = b"\
+    \0\0\0\0\0\0\0\0\x01\0\x01\0\x01\0\x01\0\
+    \0\0\0\0\0\0\0\0\x03\0\0\0\0\0\0\0\
+    \x02\0\x01\0\x02\0\x01\0\x01\0\0\0\x03\0\0\0\
+    abc";
 
 fn board(alloc: Global, input: &[u8]) -> Result<Flash, AllocError> {
     Flash::new(alloc, None, input.to_vec(alloc)?, ROOM)
@@ -102,12 +115,16 @@ fn records(rt: HostRuntime) -> Result<(), Fail> {
         (
             51,
             TextEnd::Done,
-            b"cid=1 status=00 result=0 reads=0 data=-\ncid=2 status=00 result=3 reads=1 data=616263\n".as_slice(),
+            b"cid=1 status=00 result=0 reads=0 data=-\n\
+              cid=2 status=00 result=3 reads=1 data=616263\n"
+                .as_slice(),
         ),
         (
             50,
             TextEnd::Truncated,
-            b"cid=1 status=00 result=0 reads=0 data=-\ncid=2 status=00 result=3 reads=1 data=6162".as_slice(),
+            b"cid=1 status=00 result=0 reads=0 data=-\n\
+              cid=2 status=00 result=3 reads=1 data=6162"
+                .as_slice(),
         ),
         (
             34,
