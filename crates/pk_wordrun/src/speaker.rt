@@ -11,7 +11,7 @@ use crate::end::WordEnd;
 use crate::list::tell_keys;
 use crate::task::Task;
 use crate::tell::tell;
-use crate::workload::tell_workload;
+use crate::workload::{Series, tell_workload};
 use pk_base::Shape;
 use pk_drive::Engine;
 use pk_model::laws::held_map;
@@ -96,9 +96,10 @@ impl Speaker {
         match task {
             Task::Answer(question) => tell(&mut words, drive, board, room, shape, &question),
             Task::List(from) => tell_keys(&mut words, drive, board, room, shape, from),
-            Task::Generate(start, count) => tell_workload(
-                drive, board, room, shape, &mut value, &mut text, start, count,
-            ),
+            Task::Generate(start, count) => {
+                let series = Series { start, count };
+                tell_workload(drive, board, room, shape, &mut value, &mut text, series)
+            }
         }
     }
 }

@@ -26,6 +26,15 @@ use pk_nand::{Board, Nand};
 use pk_nvme::{Bytes, Request};
 use pk_port::{Halt, serve_lent};
 
+/// Commands of a generated workload: so many of those from a start.
+#[derive(Clone, Copy, Debug)]
+pub struct Series {
+    /// What the generator starts from.
+    pub start: u32,
+    /// How many commands.
+    pub count: u32,
+}
+
 /// Serves one request with a whole value.
 fn serve_request<D: Engine, B: Nand>(
     drive: &mut D,
@@ -141,8 +150,7 @@ pub fn tell_workload<D: Engine, B: Board>(
     shape: Shape,
     value: &mut Bytes,
     text: &mut Bytes,
-    start: u32,
-    count: u32,
+    series: Series,
 ) -> WordEnd
     // The drive on its board, and the buffers.
     requires fits { Fits (D.agrees drive.old) shape (B.state board.old) (D.sight drive.old) }
@@ -153,9 +161,10 @@ pub fn tell_workload<D: Engine, B: Board>(
     requires room_value { greatest shape ≤ length buffer.old }
 
     ensures { (m : Map) → Holds shape (B.state board.old).pages m
-        → Told (generate start count) shape (D.sight drive.old).counts.frames m
+        → Told (generate series.start series.count) shape (D.sight drive.old).counts.frames m
         (B.state board.old) (B.state board.new) result }
 {
+    let Series { start, count } = series;
     match serve_workload(drive, board, &shape, value, buffer, start, count) {
         Ok(summary) => {
             let counts = drive.counts();

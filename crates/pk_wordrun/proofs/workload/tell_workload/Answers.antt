@@ -12,7 +12,7 @@ returns-in-Ok-say g c = λ m holds.
     let k = c.counts-counts.ensures in
     let are = counted (g.D.Engine.agrees c.serve_workload.new.drive) c.args.shape b (g.D.Engine.sight c.serve_workload.new.drive) c.counts-counts.result c.in-Ok.ensures.fits c.in-Ok.ensures.runs k.numbers k.map w.asked.left w.asked.held in
     let text = c.bytes.ensures ∙ ap (λ (t : RoomyList). t.items) (c.say.ensures w.asked.answered.all w.sums) in
-    told_summary c.args.start c.args.count c.args.shape (g.D.Engine.sight c.args.drive.now).counts.frames m a b c.in-Ok.summary w c.counts-counts.result.keys c.counts-counts.result.live are (g.B.Nand.state c.say-in-Ok.new.board)
+    told_summary c.args.series.start c.args.series.count c.args.shape (g.D.Engine.sight c.args.drive.now).counts.frames m a b c.in-Ok.summary w c.counts-counts.result.keys c.counts-counts.result.live are (g.B.Nand.state c.say-in-Ok.new.board)
     (c.in-Ok-say.ensures.posts ∙ ap (λ (t : List ℕ). after_post b t) text)
 
 pub returns-in-Err-say : goal.returns-in-Err-say
@@ -24,5 +24,5 @@ returns-in-Err-say g c = λ m holds.
     let are = counted (g.D.Engine.agrees c.serve_workload.new.drive) c.args.shape b (g.D.Engine.sight c.serve_workload.new.drive) c.counts-counts.result c.in-Ok.ensures.fits c.in-Ok.ensures.runs k.numbers k.map w.asked.left w.asked.held in
     let text = c.bytes.ensures ∙ ap (λ (t : RoomyList). t.items) (c.say.ensures w.asked.answered.all w.sums) in
     let T : List ℕ → Type 0 = λ t. PostFailed b (g.B.Nand.state c.say-in-Ok.new.board) t in
-    told_unposted c.args.start c.args.count c.args.shape (g.D.Engine.sight c.args.drive.now).counts.frames m a b c.in-Ok.summary w c.counts-counts.result.keys c.counts-counts.result.live are (g.B.Nand.state c.say-in-Ok.new.board)
+    told_unposted c.args.series.start c.args.series.count c.args.shape (g.D.Engine.sight c.args.drive.now).counts.frames m a b c.in-Ok.summary w c.counts-counts.result.keys c.counts-counts.result.live are (g.B.Nand.state c.say-in-Ok.new.board)
     (subst T text c.in-Err-say.ensures.fails)
