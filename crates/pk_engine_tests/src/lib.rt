@@ -1,5 +1,8 @@
-//! Tests of the parts of an engine: logs.
+//! Tests of the memory of an engine's parts: each is made in heaps of every size, up to the first
+//! that has enough.
 #![tactic(auto)]
 
 #[cfg(test)]
-mod log;
+mod parts;
+#[cfg(test)]
+mod tests;
