@@ -15,6 +15,9 @@ pub const NO_MEMORY: u8 = 7;
 // The status of a run that found no drive.
 const NO_DRIVE: u8 = 8;
 
+// The status of a run in which a call behind the opening kept memory.
+const MORE_MEMORY: u8 = 70;
+
 fn of_end(end: End) -> u8 {
     match end {
         End::Done => 0,
@@ -34,8 +37,8 @@ fn of_open_error(error: OpenError) -> u8 {
     }
 }
 
-// Opens the drive over a heap of so many bytes, in which it stands itself, and serves the input. What serving needs beside the drive
-// is taken elsewhere.
+// Opens the drive over a heap of so many bytes, in which it stands itself, and serves the input, by
+// which no more of the heap may be in use. What serving needs beside the drive is taken elsewhere.
 fn serve_in(alloc: Global, frames: u32, bytes: usize, flash: &mut Flash) -> u8
     requires { frames ≤ 16384 }
 {
@@ -53,7 +56,15 @@ fn serve_in(alloc: Global, frames: u32, bytes: usize, flash: &mut Flash) -> u8
         Err(error) => return of_open_error(error),
     };
     match Box::new(&heap, drive) {
-        Ok(mut drive) => of_end(server.serve(&mut *drive, flash)),
+        Ok(mut drive) => {
+            let used = heap.used();
+            let status = of_end(server.serve(&mut *drive, flash));
+            if heap.used() == used {
+                status
+            } else {
+                MORE_MEMORY
+            }
+        }
         Err(_) => NO_MEMORY,
     }
 }
