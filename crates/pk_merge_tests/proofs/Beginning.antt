@@ -1,5 +1,5 @@
--- A merge of two runs of one page: it can be begun, and its output stands.
-use Rattle.std.proofs.Common.{◌≡◌, ℕ, zero, suc, ◌+◌, ◌*◌, ◌<◌, ◌≤◌, sym, subst, ◌∙◌, arith, Bool, true, false, cond, List, [], ◌∷◌, ◌++◌, length, slice_get, filter, ◌==◌, is_some, if◌then◌else◌, Option, Some, length-append, suc-mul, lt_of_mul-lt-mul_right}
+-- A merge of two runs of one page can be begun, and its output needs one page and one block.
+use Rattle.std.proofs.Common.{◌≡◌, ℕ, zero, suc, ◌+◌, ◌*◌, ◌<◌, ◌≤◌, sym, subst, arith, Bool, true, false, cond, List, [], ◌∷◌, ◌++◌, length, slice_get, filter, ◌==◌, is_some, if◌then◌else◌, Option, Some, length-append, suc-mul, lt_of_mul-lt-mul_right}
 use Rattle.std.proofs.lemmas.Grind.{div_ceil_times}
 use Rattle.std.specs.Int.{div_ceil}
 use Rattle.std.specs.Borrow.{Bor}
@@ -15,12 +15,10 @@ use Rattle.pk_plan.specs.declared.owner.Owner.TheVariants.{Meta}
 use Rattle.pk_pool.specs.declared.state.BlockState.TheVariants.{Owned}
 use Rattle.pk_pool.specs.Blocks.{Blocks, PoolOnFlash}
 use Rattle.pk_run.specs.Kept.{Kept}
-use Rattle.pk_merge.specs.declared.source.Source.{Source}
 use Rattle.pk_merge.specs.declared.source.Source.TheVariants.{Run}
-use Rattle.pk_merge.specs.Jobs.{Job, JobRuns}
 use Rattle.pk_merge.specs.Outputs.{AreMeta}
 use Rattle.pk_merge.specs.Running.{merged, CanBegin}
-use Rattle.pk_merge_tests.specs.Opened.{IsOpened, HasRoom, HasOutput}
+use Rattle.pk_merge_tests.specs.Opened.{IsOpened, HasRoom}
 
 -- ---- no more entries than both lists have
 
@@ -109,17 +107,3 @@ module _ {X : Type 0} (shape : Shape) (is : IsShape shape) (pool : Blocks) (flas
   -- for a job of this shape
   pub begins_for : (own : Shape) → own ≡ shape → CanBegin {X = X} (Run source) target pins own level pool flash arena s.entries t.entries
   begins_for own same = subst (λ (of : Shape). CanBegin {X = X} (Run source) target pins of level pool flash arena s.entries t.entries) (sym same) can_begin
-
--- ---- while it runs
-
-module _ {X : Type 0} (source : Source X) (target : Kept) (j : Job) (pool : Blocks) (flash : Flash) (arena : Frames) (es fs : List Entry) where
-  pub merger_shape : JobRuns source target j pool flash arena es fs → j.merger.shape ≡ target.shape
-  merger_shape r = r.running.shapes.of_merger ∙ sym r.running.shapes.of_target
-
-  pub has_output : JobRuns source target j pool flash arena es fs → HasOutput target.shape j flash arena
-  has_output r = record {
-    is_there = r.output;
-    entries = r.running.merging.entries;
-    stands = r.running.merging.stands;
-    same_shape = sym r.running.shapes.of_target;
-  }
