@@ -3,62 +3,80 @@
 use pk_base::{BadEntry, Entry, Shape, ShapeError};
 use std::test::*;
 
+// The numbers of a shape of 64 blocks of 16 pages of 512 bytes.
+fn is_small(shape: &Shape) -> bool {
+    (shape.entries(), shape.most_pages(), shape.greatest()) == (15, 4, 2016)
+        && (shape.buffer(), shape.cap(4), shape.limit()) == (30, 76, 492)
+        && (shape.meta_blocks(), shape.data_blocks()) == (16, 42)
+}
+
+// The numbers of a shape of 512 blocks of 64 pages of 4,096 bytes.
+fn is_large(shape: &Shape) -> bool {
+    (shape.entries(), shape.greatest()) == (127, 65504)
+        && (shape.cap(4), shape.limit()) == (218, 23712)
+        && (shape.meta_blocks(), shape.data_blocks()) == (11, 495)
+}
+
 // The numbers of two shapes.
 #[test]
 fn numbers(rt: HostRuntime) -> Result<(), Fail> {
     let small = Shape::new(512, 16, 64).ok().ok_or("a shape")?;
-    assert_eq!(rt; small.entries(), 15);
-    assert_eq!(rt; small.most_pages(), 4);
-    assert_eq!(rt; small.greatest(), 2016);
-    assert_eq!(rt; small.buffer(), 30);
-    assert_eq!(rt; small.cap(4), 76);
-    assert_eq!(rt; small.meta_blocks(), 16);
-    assert_eq!(rt; small.data_blocks(), 42);
-    assert_eq!(rt; small.limit(), 492);
     let large = Shape::new(4096, 64, 512).ok().ok_or("a shape")?;
-    assert_eq!(rt; large.entries(), 127);
-    assert_eq!(rt; large.greatest(), 65504);
-    assert_eq!(rt; large.cap(4), 218);
-    assert_eq!(rt; large.meta_blocks(), 11);
-    assert_eq!(rt; large.data_blocks(), 495);
-    assert_eq!(rt; large.limit(), 23712);
+    assert!(rt; is_small(&small) && is_large(&large));
     Ok(())
+}
+
+fn refused(page_bytes: u32, block_pages: u32, blocks: u32) -> Option<ShapeError> {
+    Shape::new(page_bytes, block_pages, blocks).err()
 }
 
 #[test]
 fn refusals(rt: HostRuntime) {
-    assert_eq!(rt; Shape::new(500, 16, 64).err(), Some(ShapeError::BadPage));
-    assert_eq!(rt; Shape::new(512, 32, 64).err(), Some(ShapeError::BadBlock));
-    assert_eq!(rt; Shape::new(512, 16, 4096).err(), Some(ShapeError::TooLarge));
-    assert_eq!(rt; Shape::new(512, 16, 16).err(), Some(ShapeError::TooSmall));
+    for (page_bytes, block_pages, blocks, error) in [
+        (500, 16, 64, ShapeError::BadPage),
+        (512, 32, 64, ShapeError::BadBlock),
+        (512, 16, 4096, ShapeError::TooLarge),
+        (512, 16, 16, ShapeError::TooSmall),
+    ] {
+        assert!(rt; refused(page_bytes, block_pages, blocks) == Some(error));
+    }
 }
 
-// The first wrong field of an entry's bytes, each changed at one place.
+// An entry of 32 bytes.
+const ENTRY: [u8; 32] = [
+    1, 1, 0, 0, 0x61, 0, 0, 0, 0, 0, 0, 0, 0, 0, 0, 0, 0, 0, 0, 0, 64, 0, 0, 0, 3, 0, 0, 0, 0, 0,
+    0, 0,
+];
+
+// The first wrong field of the entry with another byte at this place.
+fn refused_at(shape: &Shape, place: usize, byte: u8) -> Option<u32> {
+    let mut wrong = ENTRY;
+    if place < 32 {
+        wrong[place] = byte;
+    }
+    match Entry::read(shape, &wrong) {
+        Ok(_) => None,
+        Err(BadEntry { at }) => Some(at),
+    }
+}
+
+// The first wrong field of an entry's bytes, each changed at one place; the first is no change.
 #[test]
 fn wrong_fields(rt: HostRuntime) -> Result<(), Fail> {
     let shape = Shape::new(512, 16, 64).ok().ok_or("a shape")?;
-    let entry = [
-        1, 1, 0, 0, 0x61, 0, 0, 0, 0, 0, 0, 0, 0, 0, 0, 0, 0, 0, 0, 0, 64, 0, 0, 0, 3, 0, 0, 0, 0,
-        0, 0, 0,
-    ];
-    assert!(rt; Entry::read(&shape, &entry).is_ok());
-    let changes: [(usize, u8, u32); 9] = [
-        (0, 17, 0),
-        (1, 3, 1),
-        (2, 1, 2),
-        (3, 1, 3),
-        (19, 1, 4),
-        (22, 1, 20),
-        (20, 31, 20),
-        (26, 1, 24),
-        (31, 1, 28),
-    ];
-    for (place, byte, at) in changes {
-        let mut wrong = entry;
-        if place < 32 {
-            wrong[place] = byte;
-        }
-        assert_eq!(rt; Entry::read(&shape, &wrong).err(), Some(BadEntry { at }));
+    for (place, byte, at) in [
+        (0usize, 1u8, None),
+        (0, 17, Some(0u32)),
+        (1, 3, Some(1)),
+        (2, 1, Some(2)),
+        (3, 1, Some(3)),
+        (19, 1, Some(4)),
+        (22, 1, Some(20)),
+        (20, 31, Some(20)),
+        (26, 1, Some(24)),
+        (31, 1, Some(28)),
+    ] {
+        assert!(rt; refused_at(&shape, place, byte) == at);
     }
     Ok(())
 }

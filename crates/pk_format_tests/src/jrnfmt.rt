@@ -17,32 +17,40 @@ fn written_out() -> [u8; 512] {
     page
 }
 
-// The place that a page is refused at.
-fn refused_at(shape: &Shape, page: &[u8]) -> Option<u32> {
-    if page.len() != shape.page_bytes() as usize {
+// The place that a page is refused at which has another byte at this place.
+fn refused_at(shape: &Shape, place: usize, byte: u8) -> Option<u32> {
+    let mut page = written_out();
+    if place < 512 {
+        page[place] = byte;
+    }
+    if shape.page_bytes() != 512 {
         return None;
     }
-    match decode(shape, page) {
+    match decode(shape, &page) {
         Ok(_) => None,
         Err(bad) => Some(bad.at),
     }
+}
+
+// What stands before the entries of the page.
+fn head_of(shape: &Shape) -> Option<JrnHead> {
+    if shape.page_bytes() != 512 {
+        return None;
+    }
+    decode(shape, &written_out()).ok()
 }
 
 // The page is decoded, and each field in turn is wrong.
 #[test]
 fn a_page(rt: HostRuntime) -> Result<(), Fail> {
     let shape = Shape::new(512, 16, 64).ok().ok_or("a shape")?;
-    let page = written_out();
-    if shape.page_bytes() != 512 {
-        return Ok(());
-    }
-    assert_eq!(rt;
-        decode(&shape, &page),
-        Ok(JrnHead {
-            epoch: 258,
-            index: 17,
-            count: 2
-        })
+    assert!(rt;
+        head_of(&shape)
+            == Some(JrnHead {
+                epoch: 258,
+                index: 17,
+                count: 2
+            })
     );
     for (place, byte, at) in [
         (0usize, b'p', Some(0u32)),
@@ -72,11 +80,7 @@ fn a_page(rt: HostRuntime) -> Result<(), Fail> {
         (96, 1, Some(96)),
         (511, 1, Some(96)),
     ] {
-        let mut other = page;
-        if place < 512 {
-            other[place] = byte;
-        }
-        assert_eq!(rt; refused_at(&shape, &other), at);
+        assert!(rt; refused_at(&shape, place, byte) == at);
     }
     Ok(())
 }

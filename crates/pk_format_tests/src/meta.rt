@@ -17,32 +17,40 @@ fn written_out() -> [u8; 512] {
     page
 }
 
-// The place that a page is refused at.
-fn refused_at(shape: &Shape, page: &[u8]) -> Option<u32> {
-    if page.len() != shape.page_bytes() as usize {
+// The place that a page is refused at which has another byte at this place.
+fn refused_at(shape: &Shape, place: usize, byte: u8) -> Option<u32> {
+    let mut page = written_out();
+    if place < 512 {
+        page[place] = byte;
+    }
+    if shape.page_bytes() != 512 {
         return None;
     }
-    match decode(shape, page) {
+    match decode(shape, &page) {
         Ok(_) => None,
         Err(bad) => Some(bad.at),
     }
+}
+
+// What stands before the entries of the page.
+fn head_of(shape: &Shape) -> Option<MetaHead> {
+    if shape.page_bytes() != 512 {
+        return None;
+    }
+    decode(shape, &written_out()).ok()
 }
 
 // The page is decoded, its keys are found, and each field in turn is wrong.
 #[test]
 fn a_page(rt: HostRuntime) -> Result<(), Fail> {
     let shape = Shape::new(512, 16, 64).ok().ok_or("a shape")?;
-    let page = written_out();
-    if shape.page_bytes() != 512 {
-        return Ok(());
-    }
-    assert_eq!(rt;
-        decode(&shape, &page),
-        Ok(MetaHead {
-            level: 2,
-            index: 258,
-            count: 2
-        })
+    assert!(rt;
+        head_of(&shape)
+            == Some(MetaHead {
+                level: 2,
+                index: 258,
+                count: 2
+            })
     );
     for (place, byte, at) in [
         (0usize, b'p', Some(0u32)),
@@ -73,11 +81,7 @@ fn a_page(rt: HostRuntime) -> Result<(), Fail> {
         (96, 1, Some(96)),
         (511, 1, Some(96)),
     ] {
-        let mut other = page;
-        if place < 512 {
-            other[place] = byte;
-        }
-        assert_eq!(rt; refused_at(&shape, &other), at);
+        assert!(rt; refused_at(&shape, place, byte) == at);
     }
     Ok(())
 }
@@ -102,10 +106,14 @@ fn len_of(shape: &Shape, page: &[u8], key: &[u8]) -> Option<u32> {
 fn keys(rt: HostRuntime) -> Result<(), Fail> {
     let shape = Shape::new(512, 16, 64).ok().ok_or("a shape")?;
     let page = written_out();
-    assert_eq!(rt; len_of(&shape, &page, b"a"), Some(3));
-    assert_eq!(rt; len_of(&shape, &page, b"ab"), Some(0));
-    assert_eq!(rt; len_of(&shape, &page, b"A"), None);
-    assert_eq!(rt; len_of(&shape, &page, b"aa"), None);
-    assert_eq!(rt; len_of(&shape, &page, b"b"), None);
+    for (key, len) in [
+        (b"a".as_slice(), Some(3)),
+        (b"ab".as_slice(), Some(0)),
+        (b"A".as_slice(), None),
+        (b"aa".as_slice(), None),
+        (b"b".as_slice(), None),
+    ] {
+        assert!(rt; len_of(&shape, &page, key) == len);
+    }
     Ok(())
 }

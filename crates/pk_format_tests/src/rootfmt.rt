@@ -53,74 +53,100 @@ fn wrong_byte<A: Allocator + Clone>(
     }
 }
 
+/// The numbers and blocks of the first root.
+fn is_first<A: Allocator>(root: &Root<A>) -> bool {
+    (root.number(), root.epoch(), root.newest()) == (1, 1, [2, 3])
+        && root.older().is_none()
+        && root.entries(4) == 0
+        && root.blocks(1).is_empty()
+}
+
+/// The first page is written as it is to be.
+fn writes_first(shape: &Shape) -> bool {
+    if shape.page_bytes() != 512 {
+        return false;
+    }
+    let mut page = [0xffu8; 512];
+    first(shape, &mut page);
+    page == first_page()
+}
+
+/// A root without numbers becomes the first one.
+fn reads_first<A: Allocator + Clone>(alloc: A, shape: Shape) -> Result<bool, AllocError> {
+    let mut root = Root::new(alloc, shape)?;
+    if shape.page_bytes() != 512 || (root.number(), root.newest()) != (0, [0, 0]) {
+        return Ok(false);
+    }
+    Ok(root.decode(&first_page()).is_ok() && is_first(&root))
+}
+
 #[test]
 fn first_root(rt: HostRuntime) -> Result<(), Fail> {
     let shape = Shape::new(512, 16, 64).ok().ok_or("a shape")?;
+    assert!(rt; writes_first(&shape) && reads_first(rt.alloc(), shape)?);
+    Ok(())
+}
+
+/// The numbers and blocks of the later root.
+fn is_later<A: Allocator>(root: &Root<A>) -> bool {
+    (root.number(), root.epoch(), root.newest()) == (7, 3, [5, 6])
+        && root.older() == Some([2, 3])
+        && (root.entries(1), root.entries(2)) == (20, 0)
+        && root.blocks(1) == [9u16].as_slice()
+}
+
+/// The later root is read, written, and kept where no root is read.
+fn later_goes_both_ways<A: Allocator + Clone>(alloc: A, shape: Shape) -> Result<bool, AllocError> {
+    let mut root = Root::new(alloc, shape)?;
     if shape.page_bytes() != 512 {
-        return Ok(());
+        return Ok(false);
+    }
+    match root.decode(&later_page()) {
+        Ok(()) => {}
+        Err(_) => return Ok(false),
     }
     let mut page = [0xffu8; 512];
-    first(&shape, &mut page);
-    assert!(rt; page[..] == first_page()[..]);
-    let mut root = Root::new(rt.alloc(), shape)?;
-    assert_eq!(rt; root.number(), 0);
-    assert_eq!(rt; root.newest(), [0, 0]);
-    assert!(rt; root.decode(&page).is_ok());
-    assert_eq!(rt; root.number(), 1);
-    assert_eq!(rt; root.epoch(), 1);
-    assert_eq!(rt; root.newest(), [2, 3]);
-    assert!(rt; root.older().is_none());
-    assert_eq!(rt; root.entries(4), 0);
-    assert_eq!(rt; root.blocks(1).len(), 0);
-    Ok(())
+    root.encode(&mut page);
+    let is_refused = root.decode(&[0u8; 512]) == Err(BadRoot { at: 0 });
+    Ok(page == later_page() && is_refused && is_later(&root))
 }
 
 #[test]
 fn later_root(rt: HostRuntime) -> Result<(), Fail> {
     let shape = Shape::new(512, 16, 64).ok().ok_or("a shape")?;
-    if shape.page_bytes() != 512 {
-        return Ok(());
-    }
-    let mut root = Root::new(rt.alloc(), shape)?;
-    match root.decode(&later_page()) {
-        Ok(()) => {}
-        Err(bad) => return Err(bad.into()),
-    }
-    let mut page = [0xffu8; 512];
-    root.encode(&mut page);
-    assert!(rt; page[..] == later_page()[..]);
-    assert!(rt; root.decode(&[0u8; 512]) == Err(BadRoot { at: 0 }));
-    assert_eq!(rt; root.number(), 7);
-    assert_eq!(rt; root.epoch(), 3);
-    assert_eq!(rt; root.newest(), [5, 6]);
-    assert_eq!(rt; root.older(), Some([2, 3]));
-    assert_eq!(rt; root.entries(1), 20);
-    assert_eq!(rt; root.entries(2), 0);
-    assert!(rt; root.blocks(1) == [9u16].as_slice());
+    assert!(rt; later_goes_both_ways(rt.alloc(), shape)?);
     Ok(())
 }
 
-#[test]
-fn parts_set(rt: HostRuntime) -> Result<(), Fail> {
-    let shape = Shape::new(512, 16, 64).ok().ok_or("a shape")?;
+/// The numbers and blocks of a root whose parts were set.
+fn is_set<A: Allocator>(root: &Root<A>) -> bool {
+    (root.number(), root.epoch(), root.newest()) == (9, 4, [7, 8])
+        && root.older() == Some([5, 6])
+        && root.entries(3) == 300
+        && root.blocks(1) == [9u16].as_slice()
+        && root.blocks(3) == [10u16, 11].as_slice()
+}
+
+/// The parts of a root are set, and then the older epoch is taken away.
+fn sets_parts<A: Allocator + Clone>(alloc: A, shape: Shape) -> Result<bool, AllocError> {
     let most = shape.meta_blocks();
-    let mut root = Root::new(rt.alloc(), shape)?;
+    let mut root = Root::new(alloc, shape)?;
     if most < 4 {
-        return Ok(());
+        return Ok(false);
     }
     root.set_number(9);
     root.set_epochs(4, [7, 8], Some([5, 6]));
     root.set_run(3, 300, &[10, 11]);
     root.set_run(1, 20, &[9]);
-    assert_eq!(rt; root.number(), 9);
-    assert_eq!(rt; root.epoch(), 4);
-    assert_eq!(rt; root.newest(), [7, 8]);
-    assert_eq!(rt; root.older(), Some([5, 6]));
-    assert_eq!(rt; root.entries(3), 300);
-    assert!(rt; root.blocks(1) == [9u16].as_slice());
-    assert!(rt; root.blocks(3) == [10u16, 11].as_slice());
+    let is_set = is_set(&root);
     root.set_epochs(5, [7, 8], None);
-    assert!(rt; root.older().is_none());
+    Ok(is_set && root.older().is_none())
+}
+
+#[test]
+fn parts_set(rt: HostRuntime) -> Result<(), Fail> {
+    let shape = Shape::new(512, 16, 64).ok().ok_or("a shape")?;
+    assert!(rt; sets_parts(rt.alloc(), shape)?);
     Ok(())
 }
 
@@ -156,7 +182,7 @@ fn wrong_first_pages(rt: HostRuntime) -> Result<(), Fail> {
         (511, 1, 68),
     ] {
         let page = changed(first_page(), place, byte);
-        assert_eq!(rt; wrong_byte(rt.alloc(), &shape, &page)?, Some(at));
+        assert!(rt; wrong_byte(rt.alloc(), &shape, &page)? == Some(at));
     }
     Ok(())
 }
@@ -178,7 +204,7 @@ fn wrong_later_pages(rt: HostRuntime) -> Result<(), Fail> {
         (75, 1, 74),
     ] {
         let page = changed(later_page(), place, byte);
-        assert_eq!(rt; wrong_byte(rt.alloc(), &shape, &page)?, Some(at));
+        assert!(rt; wrong_byte(rt.alloc(), &shape, &page)? == Some(at));
     }
     Ok(())
 }

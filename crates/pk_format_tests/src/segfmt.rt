@@ -4,55 +4,80 @@ use pk_base::{Key, Shape};
 use pk_segfmt::{BadHead, head, page};
 use std::test::*;
 
+// The page of this number of a value, where its shape has one.
+fn written(shape: &Shape, key: &[u8], value: &[u8], number: u32) -> Option<[u8; 512]> {
+    let key = Key::new(key)?;
+    if shape.page_bytes() != 512 || value.len() > shape.greatest() as usize {
+        return None;
+    }
+    if number >= shape.charge(value.len() as u32) {
+        return None;
+    }
+    let mut into = [0xffu8; 512];
+    page(shape, &key, value, number, &mut into);
+    Some(into)
+}
+
+// The page has these bytes, one part behind the other, and zeros behind them.
+fn is_made_of(page: &[u8; 512], parts: &[&[u8]]) -> bool {
+    let mut rest = page.as_slice();
+    for part in parts {
+        match rest.strip_prefix(*part) {
+            Some(behind) => rest = behind,
+            None => return false,
+        }
+    }
+    rest.iter().all(|byte| *byte == 0)
+}
+
+// The page of this number of a value is written, of these parts.
+fn has_parts(shape: &Shape, key: &[u8], value: &[u8], number: u32, parts: &[&[u8]]) -> bool {
+    match written(shape, key, value, number) {
+        Some(page) => is_made_of(&page, parts),
+        None => false,
+    }
+}
+
 // The first page of the value "hi" of the key "ab": its head, the value, and zeros.
+const SMALL: &[&[u8]] = &[
+    b"\x02\x44\0\0\x61\x62",
+    b"\0\0\0\0\0\0\0\0\0\0\0\0\0\0",
+    b"\x02\0\0\0",
+    b"\x50\x49\x4e\x4b\x44\x41\x54\x41",
+    b"hi",
+];
+
 #[test]
 fn small_value(rt: HostRuntime) -> Result<(), Fail> {
     let shape = Shape::new(512, 16, 64).ok().ok_or("a shape")?;
-    let key = Key::new(b"ab").ok_or("a key")?;
-    if shape.page_bytes() != 512 || shape.greatest() < 2 || shape.charge(2) < 1 {
-        return Ok(());
-    }
-    let mut written = [0xffu8; 512];
-    page(&shape, &key, b"hi", 0, &mut written);
-    assert_eq!(rt; &written[..6], &[2u8, 0x44, 0, 0, 0x61, 0x62][..]);
-    assert_eq!(rt; &written[6..20], &[0u8; 14][..]);
-    assert_eq!(rt; &written[20..24], &[2u8, 0, 0, 0][..]);
-    assert_eq!(rt;
-        &written[24..32],
-        &[0x50u8, 0x49, 0x4e, 0x4b, 0x44, 0x41, 0x54, 0x41][..]
-    );
-    assert_eq!(rt; &written[32..34], &b"hi"[..]);
-    assert_eq!(rt; &written[34..], &[0u8; 478][..]);
+    assert!(rt; has_parts(&shape, b"ab", b"hi", 0, SMALL));
     Ok(())
 }
 
 // The value's last ten bytes stand in front of its second page.
+const FIRST: &[&[u8]] = &[
+    b"\x10\x44\0\0",
+    b"abcdefghijklmnop",
+    b"\xea\x01\0\0",
+    b"PINKDATA",
+    &[0x2e; 480],
+];
+
+const SECOND: &[&[u8]] = &[b"0123456789"];
+
 #[test]
 fn two_pages(rt: HostRuntime) -> Result<(), Fail> {
     let shape = Shape::new(512, 16, 64).ok().ok_or("a shape")?;
-    let key = Key::new(b"abcdefghijklmnop").ok_or("a key")?;
     let mut value = [0x2eu8; 490];
     value[480..].copy_from_slice(b"0123456789");
-    if shape.page_bytes() != 512 || shape.greatest() < 490 || shape.charge(490) < 2 {
-        return Ok(());
+    for (number, parts) in [(0, FIRST), (1, SECOND)] {
+        assert!(rt; has_parts(&shape, b"abcdefghijklmnop", &value, number, parts));
     }
-    let mut written = [0xffu8; 512];
-    page(&shape, &key, &value, 0, &mut written);
-    assert_eq!(rt; &written[..4], &[16u8, 0x44, 0, 0][..]);
-    assert_eq!(rt; &written[4..20], &b"abcdefghijklmnop"[..]);
-    assert_eq!(rt; &written[20..24], &[0xeau8, 1, 0, 0][..]);
-    assert_eq!(rt; &written[24..32], &b"PINKDATA"[..]);
-    assert_eq!(rt; &written[32..], &[0x2eu8; 480][..]);
-    page(&shape, &key, &value, 1, &mut written);
-    assert_eq!(rt; &written[..10], &b"0123456789"[..]);
-    assert_eq!(rt; &written[10..], &[0u8; 502][..]);
     Ok(())
 }
 
-// A head by its bytes, and heads that differ from it in one byte.
-#[test]
-fn wrong_bytes(rt: HostRuntime) -> Result<(), Fail> {
-    let shape = Shape::new(512, 16, 64).ok().ok_or("a shape")?;
+// A head by its bytes.
+fn written_out() -> [u8; 512] {
     let mut page = [0u8; 512];
     page[0] = 2;
     page[1] = 0x44;
@@ -61,12 +86,40 @@ fn wrong_bytes(rt: HostRuntime) -> Result<(), Fail> {
     page[20] = 0xe0;
     page[21] = 7;
     page[24..32].copy_from_slice(b"PINKDATA");
+    page
+}
+
+// The key "ab" and the length 2,016 are read.
+fn is_head(shape: &Shape) -> bool {
     if shape.page_bytes() != 512 {
-        return Ok(());
+        return false;
     }
-    let found = head(&shape, &page).ok().ok_or("a head")?;
-    assert_eq!(rt; found.key.bytes(), &b"ab"[..]);
-    assert_eq!(rt; found.len, 2016);
+    match head(shape, &written_out()) {
+        Ok(found) => found.key.bytes() == b"ab".as_slice() && found.len == 2016,
+        Err(_) => false,
+    }
+}
+
+// The place that a head is refused at which has another byte at this place.
+fn refused_at(shape: &Shape, place: usize, byte: u8) -> Option<u32> {
+    let mut page = written_out();
+    if place < 512 {
+        page[place] = byte;
+    }
+    if shape.page_bytes() != 512 {
+        return None;
+    }
+    match head(shape, &page) {
+        Ok(_) => None,
+        Err(BadHead { at }) => Some(at),
+    }
+}
+
+// The head is read, and heads that differ from it in one byte are refused.
+#[test]
+fn wrong_bytes(rt: HostRuntime) -> Result<(), Fail> {
+    let shape = Shape::new(512, 16, 64).ok().ok_or("a shape")?;
+    assert!(rt; is_head(&shape));
     for (place, byte, at) in [
         (0usize, 0u8, 0u32),
         (0, 17, 0),
@@ -81,13 +134,7 @@ fn wrong_bytes(rt: HostRuntime) -> Result<(), Fail> {
         (24, 0, 24),
         (31, 0, 24),
     ] {
-        if place >= 512 {
-            return Ok(());
-        }
-        let was = page[place];
-        page[place] = byte;
-        assert_eq!(rt; head(&shape, &page).err(), Some(BadHead { at }));
-        page[place] = was;
+        assert!(rt; refused_at(&shape, place, byte) == Some(at));
     }
     Ok(())
 }

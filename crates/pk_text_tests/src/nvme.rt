@@ -2,9 +2,17 @@
 ghost use Rattle.std.specs.Prelude.{◌+◌, ◌*◌, ◌≤◌, length};
 
 use pk_nvme::{Bytes, Request, completion, laws, record_head};
+use std::alloc::{AllocError, Global};
 use std::test::*;
 
 const STORE: [u8; 12] = [1, 0, 1, 0, 1, 0, 0, 0, 0x61, 0, 0, 0];
+
+// These are the fields of a Store of three bytes under the key 61.
+fn is_store(request: &Request) -> bool {
+    (request.opcode, request.cid, request.namespace) == (1, 1, 1)
+        && (request.key_len, request.key[0], request.key[15]) == (1, 0x61, 0)
+        && (request.size, request.options, request.value_bytes()) == (3, 0, 3)
+}
 
 // A Store of three bytes under the key 61, as bytes.
 #[test]
@@ -14,16 +22,15 @@ fn store_entry(rt: HostRuntime) {
     entry[40] = 3;
     entry[44] = 1;
     let request = Request::of(&entry);
-    assert_eq!(rt; (request.opcode, request.cid, request.namespace), (1, 1, 1));
-    assert_eq!(rt;
-        (request.key_len, request.key[0], request.key[15]),
-        (1, 0x61, 0)
-    );
-    assert_eq!(rt;
-        (request.size, request.options, request.value_bytes()),
-        (3, 0, 3)
-    );
-    assert_eq!(rt; request.entry(), entry);
+    assert!(rt; is_store(&request) && request.entry() == entry);
+}
+
+// The bytes of an entry of a Retrieve whose key stands in the dwords 2, 3, 14 and 15.
+fn is_split(entry: &[u8; 64]) -> bool {
+    &entry[0..8] == [2, 0, 1, 2, 7, 8, 9, 10].as_slice()
+        && &entry[8..16] == b"hello, w".as_slice()
+        && &entry[56..64] == b"orld!\0\0\0".as_slice()
+        && &entry[40..48] == [0x10, 0x20, 0x30, 0x40, 13, 0, 0, 0].as_slice()
 }
 
 // Bytes 0 to 15 of a key stand in the dwords 2, 3, 14 and 15; a Retrieve brings no value.
@@ -39,36 +46,27 @@ fn key_of_13_bytes(rt: HostRuntime) {
         options: 0,
     };
     let entry = request.entry();
-    assert_eq!(rt; &entry[0..8], [2, 0, 1, 2, 7, 8, 9, 10].as_slice());
-    assert_eq!(rt; &entry[8..16], b"hello, w".as_slice());
-    assert_eq!(rt; &entry[56..64], b"orld!\0\0\0".as_slice());
-    assert_eq!(rt;
-        &entry[40..48],
-        [0x10, 0x20, 0x30, 0x40, 13, 0, 0, 0].as_slice()
-    );
-    assert_eq!(rt; request.value_bytes(), 0);
-    assert_eq!(rt; laws::read_back(&request).entry(), entry);
+    let back = laws::read_back(&request).entry();
+    assert!(rt; is_split(&entry) && request.value_bytes() == 0 && back == entry);
 }
+
+// The record of a Store.
+const STORED: [u8; 24] = [
+    0, 0, 0, 0, 0, 0, 0, 0, 1, 0, 1, 0, 1, 0, 1, 0, 0, 0, 0, 0, 0, 0, 0, 0,
+];
+// The record of a Retrieve of three bytes that read one page.
+const READ: [u8; 24] = [
+    3, 0, 0, 0, 0, 0, 0, 0, 2, 0, 1, 0, 2, 0, 1, 0, 1, 0, 0, 0, 3, 0, 0, 0,
+];
 
 // The records of a Store, and of a Retrieve of three bytes that read one page.
 #[test]
 fn records(rt: HostRuntime) {
     let stored = record_head(&completion(1, 1, 0, 0), 0, 0);
     let read = record_head(&completion(2, 2, 0, 3), 1, 3);
-    assert_eq!(rt;
-        stored,
-        [
-            0, 0, 0, 0, 0, 0, 0, 0, 1, 0, 1, 0, 1, 0, 1, 0, 0, 0, 0, 0, 0, 0, 0, 0
-        ]
-    );
-    assert_eq!(rt;
-        read,
-        [
-            3, 0, 0, 0, 0, 0, 0, 0, 2, 0, 1, 0, 2, 0, 1, 0, 1, 0, 0, 0, 3, 0, 0, 0
-        ]
-    );
     let refused = completion(0x0403, 65_537, 0x87, 0);
-    assert_eq!(rt; &refused[8..16], [1, 0, 1, 0, 3, 4, 0x0f, 1].as_slice());
+    assert!(rt; stored == STORED && read == READ);
+    assert!(rt; &refused[8..16] == [1, 0, 1, 0, 3, 4, 0x0f, 1].as_slice());
 }
 
 // A number, a blank and the digits of some bytes.
@@ -80,21 +78,44 @@ fn spell(text: &mut Bytes, number: u32, bytes: &[u8])
     text.push_hex(bytes);
 }
 
+// Texts that are written, cut and emptied.
+fn is_written(text: &mut Bytes) -> bool {
+    if text.room() != 32 || !text.is_empty() {
+        return false;
+    }
+    text.extend(b"n=");
+    spell(text, 4_294_967_295, &[0x00, 0x7f, 0xab, 0xff]);
+    text.bytes() == b"n=4294967295 007fabff".as_slice()
+        && (text.len(), text.left(), text.room()) == (21, 11, 32)
+}
+
+// What stands there is cut to this text, and then emptied.
+fn is_cut(text: &mut Bytes, cut: &[u8]) -> bool {
+    text.truncate(3);
+    let is_front = text.bytes() == cut;
+    text.clear();
+    is_front && (text.len(), text.left()) == (0, 32)
+}
+
+fn text_of_32(alloc: Global) -> Result<bool, AllocError> {
+    let mut text = Bytes::with_room(alloc, 32)?;
+    Ok(is_written(&mut text) && is_cut(&mut text, b"n=4"))
+}
+
+fn text_of_zero(alloc: Global) -> Result<bool, AllocError> {
+    let mut zero = Bytes::with_room(alloc, 16)?;
+    spell(&mut zero, 0, &[]);
+    Ok(zero.bytes() == b"0 ".as_slice())
+}
+
+fn left_of(alloc: Global, room: usize) -> Result<usize, AllocError> {
+    Ok(Bytes::with_room(alloc, room)?.left())
+}
+
 #[test]
 fn bytes_and_text(rt: HostRuntime) -> Result<(), Fail> {
-    let mut text = Bytes::with_room(rt.alloc(), 32)?;
-    assert!(rt; text.is_empty());
-    text.extend(b"n=");
-    spell(&mut text, 4_294_967_295, &[0x00, 0x7f, 0xab, 0xff]);
-    assert_eq!(rt; text.bytes(), b"n=4294967295 007fabff".as_slice());
-    assert_eq!(rt; (text.len(), text.left(), text.room()), (21, 11, 32));
-    text.truncate(3);
-    assert_eq!(rt; text.bytes(), b"n=4".as_slice());
-    text.clear();
-    assert_eq!(rt; (text.len(), text.left()), (0, 32));
-    let mut zero = Bytes::with_room(rt.alloc(), 16)?;
-    spell(&mut zero, 0, &[]);
-    assert_eq!(rt; zero.bytes(), b"0 ".as_slice());
-    assert_eq!(rt; Bytes::with_room(rt.alloc(), 1_100_000)?.left(), 1_100_000);
+    assert!(rt; text_of_32(rt.alloc())?);
+    assert!(rt; text_of_zero(rt.alloc())?);
+    assert_eq!(rt; left_of(rt.alloc(), 1_100_000)?, 1_100_000);
     Ok(())
 }

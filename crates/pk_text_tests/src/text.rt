@@ -3,7 +3,6 @@
 use pk_flash::{Flash, Left, Room};
 use pk_text::{Assembler, Shower, TextEnd};
 use std::alloc::{AllocError, Global};
-use std::process::Abort;
 use std::test::*;
 
 const ROOM: Room = Room {
@@ -42,33 +41,27 @@ fn board(alloc: Global, input: &[u8]) -> Result<Flash, AllocError> {
 }
 
 // The script gives these two parts, one behind the other.
-fn check_assembled(
-    rt: &impl Abort,
+fn assembled(
     alloc: Global,
     script: &[u8],
     end: TextEnd,
     parts: [&[u8]; 2],
-) -> Result<(), AllocError> {
+) -> Result<bool, AllocError> {
     let mut flash = board(alloc, script)?;
-    let mut want = Vec::new(alloc);
-    want.extend_from_slice(parts[0])?;
-    want.extend_from_slice(parts[1])?;
-    assert_eq!(rt; Assembler::new(alloc)?.assemble(&mut flash), end);
-    assert_eq!(rt; flash.posted(), want.as_slice());
-    Ok(())
+    Ok(Assembler::new(alloc)?.assemble(&mut flash) == end && joins(flash.posted(), parts))
 }
 
-fn check_shown(
-    rt: &impl Abort,
-    alloc: Global,
-    records: &[u8],
-    end: TextEnd,
-    text: &[u8],
-) -> Result<(), AllocError> {
+// The bytes are these two parts, one behind the other.
+fn joins(bytes: &[u8], parts: [&[u8]; 2]) -> bool {
+    match bytes.strip_prefix(parts[0]) {
+        Some(rest) => rest == parts[1],
+        None => false,
+    }
+}
+
+fn shown(alloc: Global, records: &[u8], end: TextEnd, text: &[u8]) -> Result<bool, AllocError> {
     let mut flash = board(alloc, records)?;
-    assert_eq!(rt; Shower::new(alloc)?.show(&mut flash), end);
-    assert_eq!(rt; flash.posted(), text);
-    Ok(())
+    Ok(Shower::new(alloc)?.show(&mut flash) == end && flash.posted() == text)
 }
 
 // Two entries, with and without the last line feed; comments and empty lines; a line outside the grammar.
@@ -102,7 +95,7 @@ fn scripts(rt: HostRuntime) -> Result<(), Fail> {
             [b"".as_slice(), b"".as_slice()],
         ),
     ] {
-        check_assembled(&rt, alloc, script, end, parts)?;
+        assert!(rt; assembled(alloc, script, end, parts)?);
     }
     Ok(())
 }
@@ -134,37 +127,62 @@ fn records(rt: HostRuntime) -> Result<(), Fail> {
         (0, TextEnd::Done, b"".as_slice()),
     ] {
         if size <= RECORDS.len() {
-            check_shown(&rt, alloc, &RECORDS[..size], end, text)?;
+            assert!(rt; shown(alloc, &RECORDS[..size], end, text)?);
         }
     }
     Ok(())
+}
+
+// How an assembly ends whose call of this number fails, where this is posted.
+fn assembly_failed(
+    alloc: Global,
+    call: u64,
+    left: Left,
+    posted: &[u8],
+) -> Result<Option<TextEnd>, AllocError> {
+    let mut flash = board(alloc, b"flush\n")?;
+    flash.fail(alloc, call, left)?;
+    let end = Assembler::new(alloc)?.assemble(&mut flash);
+    if flash.posted() != posted {
+        return Ok(None);
+    }
+    Ok(Some(end))
+}
+
+// How a show ends whose call of this number fails, where these bytes are posted first and so many
+// in all.
+fn show_failed(
+    alloc: Global,
+    call: u64,
+    left: Left,
+    front: &[u8],
+    len: usize,
+) -> Result<Option<TextEnd>, AllocError> {
+    let mut flash = board(alloc, RECORDS)?;
+    flash.fail(alloc, call, left)?;
+    let end = Shower::new(alloc)?.show(&mut flash);
+    if !flash.posted().starts_with(front) || flash.posted().len() != len {
+        return Ok(None);
+    }
+    Ok(Some(end))
 }
 
 // The first call fetches, and posts follow it.
 #[test]
 fn failures(rt: HostRuntime) -> Result<(), Fail> {
     let alloc = rt.alloc();
-    let mut flash = board(alloc, b"flush\n")?;
-    flash.fail(alloc, 0, Left::Untouched)?;
-    assert_eq!(rt; Assembler::new(alloc)?.assemble(&mut flash), TextEnd::Input);
-    assert_eq!(rt; flash.posted(), b"".as_slice());
-    let mut flash = board(alloc, b"flush\n")?;
-    flash.fail(alloc, 1, Left::Part(10))?;
-    assert_eq!(rt;
-        Assembler::new(alloc)?.assemble(&mut flash),
-        TextEnd::Output
-    );
-    assert_eq!(rt; flash.posted(), &FLUSH[..10]);
-    let mut flash = board(alloc, RECORDS)?;
-    flash.fail(alloc, 3, Left::Part(4))?;
-    assert_eq!(rt; Shower::new(alloc)?.show(&mut flash), TextEnd::Output);
-    assert_eq!(rt;
-        flash.posted(),
-        b"cid=1 status=00 result=0 reads=0 data=-\ncid=".as_slice()
-    );
-    let mut flash = board(alloc, RECORDS)?;
-    flash.fail(alloc, 6, Left::Untouched)?;
-    assert_eq!(rt; Shower::new(alloc)?.show(&mut flash), TextEnd::Input);
-    assert_eq!(rt; flash.posted().len(), 85);
+    for (call, left, posted, end) in [
+        (0, Left::Untouched, b"".as_slice(), TextEnd::Input),
+        (1, Left::Part(10), &FLUSH[..10], TextEnd::Output),
+    ] {
+        assert!(rt; assembly_failed(alloc, call, left, posted)? == Some(end));
+    }
+    let line = b"cid=1 status=00 result=0 reads=0 data=-\ncid=".as_slice();
+    for (call, left, len, end) in [
+        (3, Left::Part(4), 44, TextEnd::Output),
+        (6, Left::Untouched, 85, TextEnd::Input),
+    ] {
+        assert!(rt; show_failed(alloc, call, left, line, len)? == Some(end));
+    }
     Ok(())
 }
