@@ -1,23 +1,15 @@
 -- What a call of the port in memory leaves, and what it answers.
-use Rattle.std.proofs.Common.{◌≡◌, inr, inl, ℕ, ◌+◌, ◌≤◌, ◌<◌, ◌^◌, refl, sym, ap, subst, ◌∙◌, arith, List, [], ◌∷◌, length, take, Option, Some, None, Result, Ok, Err, IfOk, OnErr}
-use Rattle.pk_base.specs.Shape.{Shape, limit}
+use Rattle.std.proofs.Common.{◌≡◌, inr, inl, ℕ, ◌≤◌, ◌<◌, ◌^◌, refl, sym, ap, subst, ◌∙◌, arith, List, [], ◌∷◌, length, take, Option, Some, Result, Ok, Err, IfOk, OnErr}
+use Rattle.pk_base.specs.Shape.{limit}
 use Rattle.pk_base.specs.Map.{Map}
-use Rattle.pk_base.specs.Fields.{AreBytes}
-use Rattle.pk_base.specs.declared.sizes.TheConstants.{KEY_BYTES}
-use Rattle.pk_nvme.specs.declared.opcode.Opcode.{Opcode}
-use Rattle.pk_nvme.specs.declared.opcode.Opcode.TheVariants.{Flush, Store, Retrieve, List as ListKeys, Delete, Exist, Tick, Report}
-use Rattle.pk_nvme.specs.declared.request.Request.{Request}
-use Rattle.pk_nvme.specs.Seen.{command_of}
-use Rattle.pk_nvme.specs.Command.{Command, IsWhole, key}
+use Rattle.pk_nvme.specs.Command.{Command}
 use Rattle.pk_nvme.specs.Reply.{Reply, completion}
-use Rattle.pk_nand.specs.Calls.{Rose}
-use Rattle.pk_model.specs.Answer.{map_after, reply}
+use Rattle.pk_model.specs.Answer.{map_after}
 use Rattle.pk_model.specs.Machine.{Machine, Answers, no_numbers, replied}
 use Rattle.pk_model.specs.declared.answer.Answer.{Answer}
-use Rattle.pk_model.proofs.HeldMap.{bytes-take}
-use Rattle.pk_host.specs.Port.{PortState, Steps, Replies, Completes, Took, room_for, room_of}
+use Rattle.pk_host.specs.Port.{PortState, Steps, Replies, Completes, Took, room_of}
 use Rattle.pk_host.specs.declared.types.Completed.{Completed}
-use Rattle.pk_host.specs.Good.{IsGood, IsHanded, holding}
+use Rattle.pk_host.specs.Good.{IsGood, IsHanded}
 use Rattle.pk_host_tests.specs.Memory.{seen}
 use Rattle.pk_host.proofs.LeftLemmas.{good_left}
 use Rattle.pk_host.proofs.DataLemmas.{data_fit, no_read_error}

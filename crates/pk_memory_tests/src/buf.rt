@@ -3,36 +3,67 @@
 use linked_list_allocator::LocalHeap;
 use pk_base::{Entry, Key, Shape};
 use pk_buf::Buffer;
+use std::alloc::{AllocError, Global};
 use std::test::*;
 
-// Entries stand by key, one for each, and no call takes memory. A boxed table gives all of it back.
-#[test]
-fn memory(rt: HostRuntime) -> Result<(), Fail> {
-    let shape = Shape::new(512, 16, 64).ok().ok_or("a shape")?;
-    let heap = LocalHeap::new(rt.alloc(), 4096)?;
-    let mut table = Buffer::new(&heap, shape)?;
-    assert_eq!(rt; table.room(), 30);
-    let used = heap.used();
-    let names: [&[u8]; 3] = [b"b", b"a", b"b"];
-    for name in names {
-        let Some(key) = Key::new(name) else {
-            return Ok(());
-        };
-        if table.room() > 0 {
+// Deletes a key where there is room.
+fn delete(table: &mut Buffer<&LocalHeap>, name: &[u8]) {
+    if let Some(key) = Key::new(name) {
+        if table.len() < table.room() {
             table.put(Entry::Gone { key });
         }
     }
-    assert_eq!(rt; table.len(), 2);
-    let key = Key::new(b"b").ok_or("a key")?;
-    assert_eq!(rt; table.from(&key), 1);
-    assert!(rt; table.get(&key).is_some());
-    assert_eq!(rt; heap.used(), used);
-    {
-        let mut boxed = Box::new(&heap, table)?;
-        boxed.clear();
-        assert_eq!(rt; boxed.len(), 0);
+}
+
+// Where the key stands in the table, if it does.
+fn place_of(table: &Buffer<&LocalHeap>, name: &[u8]) -> Option<u32> {
+    let key = Key::new(name)?;
+    if table.get(&key).is_none() {
+        return None;
     }
-    assert_eq!(rt; heap.used(), 0);
+    Some(table.from(&key))
+}
+
+// Two keys, one of them deleted twice: the entries and the place of the greater.
+fn deleted(table: &mut Buffer<&LocalHeap>) -> (u32, Option<u32>) {
+    delete(table, b"b");
+    delete(table, b"a");
+    delete(table, b"b");
+    (table.len(), place_of(table, b"b"))
+}
+
+// The length of a boxed table that is cleared.
+fn cleared(heap: &LocalHeap, table: Buffer<&LocalHeap>) -> Result<u32, AllocError> {
+    let mut boxed = Box::new(heap, table)?;
+    boxed.clear();
+    Ok(boxed.len())
+}
+
+// Entries stand by key, one for each, and no call takes memory.
+fn holds_by_key(heap: &LocalHeap, shape: Shape) -> Result<bool, AllocError> {
+    let mut table = Buffer::new(heap, shape)?;
+    let room = table.room();
+    let used = heap.used();
+    let seen = deleted(&mut table);
+    let is_kept = heap.used() == used;
+    let len = cleared(heap, table)?;
+    Ok(is_kept && (room, seen, len) == (30, (2, Some(1)), 0))
+}
+
+// A table in a heap of so many bytes, where it finds room, and all of it is given back.
+fn table_in(alloc: Global, size: usize, shape: Shape) -> Result<Option<bool>, AllocError> {
+    let heap = LocalHeap::new(alloc, size)?;
+    let found = holds_by_key(&heap, shape).ok();
+    if heap.used() > 0 {
+        return Ok(Some(false));
+    }
+    Ok(found)
+}
+
+#[test]
+fn memory(rt: HostRuntime) -> Result<(), Fail> {
+    let shape = Shape::new(512, 16, 64).ok().ok_or("a shape")?;
+    assert!(rt; table_in(rt.alloc(), 4096, shape)? == Some(true));
     Ok(())
 }
 
@@ -40,8 +71,6 @@ fn memory(rt: HostRuntime) -> Result<(), Fail> {
 #[test]
 fn no_room(rt: HostRuntime) -> Result<(), Fail> {
     let shape = Shape::new(512, 16, 64).ok().ok_or("a shape")?;
-    let heap = LocalHeap::new(rt.alloc(), 512)?;
-    assert!(rt; Buffer::new(&heap, shape).is_err());
-    assert_eq!(rt; heap.used(), 0);
+    assert!(rt; table_in(rt.alloc(), 512, shape)? == None);
     Ok(())
 }

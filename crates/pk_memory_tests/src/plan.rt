@@ -4,6 +4,34 @@ use pk_base::Shape;
 use pk_plan::{Owner, Plan};
 use std::test::*;
 
+// The plan of a shape: its quotas, of the journal, of meta and of values, and the most calls.
+fn quotas(plan: &Plan) -> ([u32; 3], u64) {
+    let quotas = [
+        plan.quota(Owner::Journal),
+        plan.quota(Owner::Meta),
+        plan.quota(Owner::Values),
+    ];
+    (quotas, plan.calls())
+}
+
+// So many frames pin so many levels, and no fewer do.
+fn pins(plan: &Plan, levels: u8, frames: u32) -> bool {
+    if levels > 4 || plan.need(levels) != frames || plan.pinned(frames) != levels {
+        return false;
+    }
+    frames == 0 || plan.pinned(frames - 1) as u32 + 1 == levels as u32
+}
+
+// These frames pin 0 to 4 levels.
+fn pins_all(plan: &Plan, need: &[u32; 5]) -> bool {
+    for (levels, frames) in need.iter().enumerate() {
+        if levels > 4 || !pins(plan, levels as u8, *frames) {
+            return false;
+        }
+    }
+    true
+}
+
 // Of each shape: the quotas of meta and values, the frames that pin 0 to 4 levels, and the most calls of a command.
 #[test]
 fn numbers_of_two_shapes(rt: HostRuntime) -> Result<(), Fail> {
@@ -16,19 +44,8 @@ fn numbers_of_two_shapes(rt: HostRuntime) -> Result<(), Fail> {
             .ok()
             .ok_or("a shape")?;
         let plan = Plan::of(shape);
-        assert_eq!(rt; plan.shape().blocks(), blocks);
-        assert_eq!(rt; plan.quota(Owner::Journal), 4);
-        assert_eq!(rt; plan.quota(Owner::Meta), meta);
-        assert_eq!(rt; plan.quota(Owner::Values), values);
-        assert_eq!(rt; plan.calls(), calls);
-        for levels in 0u8..5 {
-            let frames = need[levels as usize];
-            assert_eq!(rt; plan.need(levels), frames);
-            assert_eq!(rt; plan.pinned(frames), levels);
-            if frames > 0 {
-                assert_eq!(rt; plan.pinned(frames - 1), levels - 1);
-            }
-        }
+        assert!(rt; plan.shape().blocks() == blocks && pins_all(&plan, &need));
+        assert!(rt; quotas(&plan) == ([4, meta, values], calls));
     }
     Ok(())
 }
@@ -48,7 +65,7 @@ fn order_of_merges(rt: HostRuntime) -> Result<(), Fail> {
         (1, [60, 180, 960, 0], Some(2)),
         (u32::MAX, [u32::MAX, u32::MAX, u32::MAX, u32::MAX], Some(4)),
     ] {
-        assert_eq!(rt; plan.next_merge(frozen, &runs), target);
+        assert!(rt; plan.next_merge(frozen, &runs) == target);
     }
     Ok(())
 }

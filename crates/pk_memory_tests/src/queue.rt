@@ -2,22 +2,36 @@
 
 use pk_base::Shape;
 use pk_queue::Queue;
+use std::alloc::{AllocError, Global};
 use std::test::*;
+
+// Holds heads until there is no room: how many.
+fn filled(queue: &mut Queue) -> u8 {
+    for i in 0..20u8 {
+        if !queue.has_room() {
+            return i;
+        }
+        queue.hold([i; 24]);
+    }
+    20
+}
+
+// There are 15 heads, in the order in which they came.
+fn is_in_order(held: &[[u8; 24]]) -> bool {
+    held.len() == 15 && held.first() == Some(&[0u8; 24]) && held.last() == Some(&[14u8; 24])
+}
+
+// A queue has room for 15 heads, in order, and again when it is cleared.
+fn fills_and_clears(alloc: Global, shape: Shape) -> Result<bool, AllocError> {
+    let mut queue = Queue::new(alloc, shape)?;
+    let is_filled = filled(&mut queue) == 15 && is_in_order(queue.held());
+    queue.clear();
+    Ok(is_filled && queue.held().is_empty() && queue.has_room())
+}
 
 #[test]
 fn holds_in_order(rt: HostRuntime) -> Result<(), Fail> {
     let shape = Shape::new(512, 16, 64).ok().ok_or("a shape")?;
-    let mut queue = Queue::new(rt.alloc(), shape)?;
-    for i in 0..15u8 {
-        assert!(rt; queue.has_room());
-        queue.hold([i; 24]);
-    }
-    assert!(rt; !queue.has_room());
-    assert_eq!(rt; queue.held().len(), 15);
-    assert_eq!(rt; queue.held().first(), Some(&[0u8; 24]));
-    assert_eq!(rt; queue.held().last(), Some(&[14u8; 24]));
-    queue.clear();
-    assert_eq!(rt; queue.held().len(), 0);
-    assert!(rt; queue.has_room());
+    assert!(rt; fills_and_clears(rt.alloc(), shape)?);
     Ok(())
 }
