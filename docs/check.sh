@@ -25,7 +25,7 @@ has() { # crate, name
 
 docs/lemmas.sh --check >/dev/null || fault "docs/PROOFS.md: the index is not what docs/lemmas.sh prints"
 
-[ "$(wc -l <README.md)" -le 120 ] || fault "README.md: more than 120 lines"
+[ "$(wc -l <README.md)" -le 125 ] || fault "README.md: more than 125 lines"
 LC_ALL=C.UTF-8 awk '{ gsub(/[\200-\277]/, "") } length($0) > 100 { print "README.md:" FNR ": wider than 100 columns" }' README.md >>"$faults"
 
 for document in README.md docs/*.md clients/python/README.md; do
