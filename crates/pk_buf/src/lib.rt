@@ -15,7 +15,7 @@ ghost use Rattle.pk_base.specs.Seen.{entry};
 ghost use Rattle.pk_buf.specs.Table.{Table, no_entries, place_of, is_below as is_below_key, has_key, has_at, content, contents};
 
 use crate::slot::Slot;
-use pk_base::{Entry, Key, Shape, compare, is_below};
+use pk_base::{Entry, Key, Shape, is_below, is_same};
 use pk_region::Region;
 use smallvec::SmallVec;
 use std::alloc::AllocError;
@@ -55,7 +55,7 @@ fn comes_before(slot: &Slot, key: &Key) -> bool
 fn has(slot: &Slot, key: &Key) -> bool
     ensures { result ≡ has_key key.now (content slot.now) }
 {
-    compare(slot.entry.key(), key).is_eq()
+    is_same(slot.entry.key(), key)
 }
 
 // How many slots stand before the first key that is not below this one.
