@@ -40,12 +40,13 @@ impl Plan {
     }
 
     /// Each plan keeps these bounds.
-    #[tactic(auto, unfolding(pk_base::specs::Shape::data_blocks, pk_base::specs::Shape::most_calls))]
+    #[tactic(auto, unfolding(pk_base::specs::Shape::data_blocks))]
     pub fn known(&self)
         ensures { IsPlan self.now }
     {
         let _ = self.shape.cap(4);
         let _ = self.shape.data_blocks();
+        let _ = self.calls();
     }
 
     /// Most blocks of this owner.
@@ -101,7 +102,8 @@ impl Plan {
     /// The most device calls of a command.
     #[tactic(auto, unfolding(pk_base::specs::Shape::most_calls))]
     pub fn calls(&self) -> u64
-        ensures { result ≡ spec.most_calls self.now }
+        ensures value { result ≡ spec.most_calls self.now }
+        ensures most { result ≤ 8001760 }
     {
         let upper = self.shape.cap(1) + self.shape.cap(2) + self.shape.cap(3);
         let pages = (upper + self.shape.cap(4)) as u64;
