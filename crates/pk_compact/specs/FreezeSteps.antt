@@ -1,7 +1,7 @@
 -- A freeze in steps: what stands between them, and what each leaves.
-use Rattle.std.specs.Prelude.{◌≡◌, ◌≢◌, ◌⊎◌, ℕ, ◌+◌, ◌*◌, ◌/◌, ◌<◌, ◌≤◌, List, [], ◌∷◌, ◌++◌, length, Bool, true, not, ◌==◌, if◌then◌else◌, slice_get, slice_index, Some, MatchBool}
+use Rattle.std.specs.Prelude.{◌≡◌, ◌≢◌, ◌⊎◌, ℕ, ◌+◌, ◌/◌, ◌<◌, ◌≤◌, List, [], ◌∷◌, ◌++◌, length, Bool, true, not, ◌==◌, if◌then◌else◌, slice_get, slice_index, Some, MatchBool}
 use Rattle.std.specs.List.{AllByRecursion}
-use Rattle.pk_base.specs.Shape.{Shape}
+use Rattle.pk_base.specs.Shape.{Shape, root_pages}
 use Rattle.pk_base.specs.Page.{Flash, page_at}
 use Rattle.pk_base.specs.Map.{Map}
 use Rattle.pk_work.specs.Rest.{Lowers, steps_of}
@@ -70,7 +70,7 @@ pub record IsFreezing (pool : Blocks) (root : Held) (next : Next) (job : FreezeJ
 -- no page behind the root blocks differs but those of these blocks
 abbrev pub SameBut : Shape → List ℕ → Flash → Flash → Type 0
 SameBut shape blocks old new =
-    (k : ℕ) → 2 * shape.block_pages ≤ k → (AnyByRecursion (λ b. k / shape.block_pages ≡ b) blocks → ⊥) → page_at new k ≡ page_at old k
+    (k : ℕ) → root_pages shape ≤ k → (AnyByRecursion (λ b. k / shape.block_pages ≡ b) blocks → ⊥) → page_at new k ≡ page_at old k
 
 -- the pool is as before, or the freeze has one spare block more
 abbrev pub TakesOne : Blocks → FreezeJob → Blocks → FreezeJob → Type 0

@@ -1,6 +1,6 @@
 -- What changes of a flash leave of a log: the statements.
-use Rattle.std.specs.Prelude.{◌≡◌, ◌⊎◌, ℕ, ◌*◌, ◌<◌}
-use Rattle.pk_base.specs.Shape.{Shape}
+use Rattle.std.specs.Prelude.{◌≡◌, ◌⊎◌, ℕ, ◌<◌}
+use Rattle.pk_base.specs.Shape.{Shape, root_pages}
 use Rattle.pk_base.specs.Page.{Flash, page_at}
 use Rattle.pk_rootfmt.specs.Root.{Root}
 use Rattle.pk_model.specs.Found.{Found}
@@ -10,7 +10,7 @@ use Rattle.pk_log.specs.Logs.{LogOnFlash}
 
 -- no page of the root blocks, and of the blocks that the root names, differs
 abbrev pub SameNamed : Shape → Root → Flash → Flash → Type 0
-SameNamed shape root old new = (k : ℕ) → (k < 2 * shape.block_pages) ⊎ IsNamed shape root k → page_at new k ≡ page_at old k
+SameNamed shape root old new = (k : ℕ) → (k < root_pages shape) ⊎ IsNamed shape root k → page_at new k ≡ page_at old k
 
 -- then a log stands as before
 abbrev pub LogsElsewhere : Type 0

@@ -1,7 +1,7 @@
 -- What a step of a reclaim does to the space of a drive, and what it leaves of the flash.
-use Rattle.std.specs.Prelude.{◌≡◌, ℕ, ◌+◌, ◌*◌, ◌/◌, ◌<◌, List, [], ◌++◌, length, slice_get, true, Some}
+use Rattle.std.specs.Prelude.{◌≡◌, ℕ, ◌+◌, ◌/◌, ◌<◌, List, [], ◌++◌, length, slice_get, true, Some}
 use Rattle.pk_base.specs.Key.{Key}
-use Rattle.pk_base.specs.Shape.{Shape}
+use Rattle.pk_base.specs.Shape.{Shape, root_pages}
 use Rattle.pk_base.specs.Page.{Flash, page_at}
 use Rattle.pk_base.specs.Entry.{Entry, Place}
 use Rattle.pk_base.specs.Map.{Map}
@@ -41,7 +41,7 @@ pub record KeepsOthers (shape : Shape) (root : Root) (pool : Blocks) (old : Flas
   pub journal_used : used_by Journal pool'.states ≡ used_by Journal pool.states
   pub meta : (b : ℕ) → slice_get pool.states b ≡ Some (Owned Meta) → slice_get pool'.states b ≡ Some (Owned Meta)
   pub meta_used : used_by Meta pool'.states ≡ used_by Meta pool.states
-  pub low : (k : ℕ) → k < 2 * shape.block_pages → page_at new k ≡ page_at old k
+  pub low : (k : ℕ) → k < root_pages shape → page_at new k ≡ page_at old k
   pub meta_pages : (k : ℕ) → slice_get pool.states (k / shape.block_pages) ≡ Some (Owned Meta) → page_at new k ≡ page_at old k
   pub journal_pages : (k : ℕ) → slice_get pool.states (k / shape.block_pages) ≡ Some (Owned Journal)
       → (AnyByRecursion (λ b. k / shape.block_pages ≡ b) root.newest → ⊥) → page_at new k ≡ page_at old k

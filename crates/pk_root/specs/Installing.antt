@@ -1,6 +1,6 @@
 -- Installs of roots: what is next, when it can be done, and what it does to a board.
 use Rattle.std.specs.Prelude.{◌≡◌, ◌≢◌, ◌⊎◌, ℕ, ◌+◌, ◌-◌, ◌*◌, ◌/◌, ◌%◌, ◌<◌, ◌≤◌, nat_lt, if◌then◌else◌, Bool, true, false, length, Some}
-use Rattle.pk_base.specs.Shape.{Shape}
+use Rattle.pk_base.specs.Shape.{Shape, root_pages}
 use Rattle.pk_base.specs.Page.{Flash, page_at}
 use Rattle.pk_nand.specs.BoardState.{BoardState}
 use Rattle.pk_nand.specs.Calls.{InOrder, after_program, after_erase, ProgramFailed, EraseFailed}
@@ -27,12 +27,12 @@ next_behind shape page = if nat_lt (page % shape.block_pages + 1) shape.block_pa
 
 -- the root block without this page may be erased: the newest root does not lie in it
 pub record MayErase (shape : Shape) (beside newest : ℕ) : Type 0 where
-  pub in_root_blocks : beside < 2 * shape.block_pages
+  pub in_root_blocks : beside < root_pages shape
   pub elsewhere : newest / shape.block_pages ≢ other_block shape beside
 
 -- this page of the root blocks may be programmed: it is the first Erased one of its block
 pub record MayProgram (shape : Shape) (page : ℕ) (flash : Flash) : Type 0 where
-  pub in_root_blocks : page < 2 * shape.block_pages
+  pub in_root_blocks : page < root_pages shape
   pub order : InOrder shape flash page
 
 -- what is next can be done where the newest root lies in this page
@@ -49,7 +49,7 @@ pub record InstallerOnFlash (shape : Shape) (next : Next) (top : ℕ × Root) (f
 
 -- no page behind the root blocks differs
 abbrev pub SameBehind : Shape → Flash → Flash → Type 0
-SameBehind shape old new = (k : ℕ) → 2 * shape.block_pages ≤ k → page_at new k ≡ page_at old k
+SameBehind shape old new = (k : ℕ) → root_pages shape ≤ k → page_at new k ≡ page_at old k
 
 -- the newest root is the former
 pub record KeepsRoot (shape : Shape) (old cut : Flash) : Type 0 where

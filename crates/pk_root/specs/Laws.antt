@@ -1,6 +1,6 @@
 -- What changes behind the root blocks leave: the statements.
-use Rattle.std.specs.Prelude.{◌≡◌, ℕ, ◌*◌, ◌<◌}
-use Rattle.pk_base.specs.Shape.{Shape}
+use Rattle.std.specs.Prelude.{◌≡◌, ℕ, ◌<◌}
+use Rattle.pk_base.specs.Shape.{Shape, root_pages}
 use Rattle.pk_base.specs.Page.{Flash, page_at}
 use Rattle.pk_rootfmt.specs.Root.{Root}
 use Rattle.pk_rootfmt.specs.Newest.{newest_root}
@@ -9,7 +9,7 @@ use Rattle.pk_root.specs.Installing.{InstallerOnFlash}
 
 -- no page of the root blocks differs
 abbrev pub SameFront : Shape → Flash → Flash → Type 0
-SameFront shape old new = (k : ℕ) → k < 2 * shape.block_pages → page_at new k ≡ page_at old k
+SameFront shape old new = (k : ℕ) → k < root_pages shape → page_at new k ≡ page_at old k
 
 -- the newest root is that of the pages of the root blocks
 abbrev pub NewestBySame : Type 0

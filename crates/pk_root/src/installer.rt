@@ -1,5 +1,5 @@
 //! Installs of roots, at most one call of the board each.
-ghost use Rattle.std.specs.Prelude.{◌≡◌, ◌*◌, ◌<◌, ◌⊎◌, ℕ, length, not, true, false, Some, MatchBool, OnOk, OnErr, IfOk, IfErr};
+ghost use Rattle.std.specs.Prelude.{◌≡◌, ◌<◌, ◌⊎◌, ℕ, length, not, true, false, Some, MatchBool, OnOk, OnErr, IfOk, IfErr};
 ghost use Rattle.pk_base.specs.Shape as spec;
 ghost use Rattle.pk_base.specs.Page.{Flash, page_at};
 ghost use Rattle.pk_nand.specs.Calls.{IsReady};
@@ -98,7 +98,7 @@ fn program_root<B: Nand, A: Allocator>(
 
 // What is next behind a root in this page.
 fn next_behind(shape: &Shape, page: u32) -> Next
-    requires { page < 2 * shape.now.block_pages }
+    requires { page < spec.root_pages shape.now }
     ensures { result ≡ next_behind_of shape.now page }
 {
     shape.known();

@@ -1,6 +1,6 @@
 -- Which changes of a flash leave what is read of it: the statements.
-use Rattle.std.specs.Prelude.{◌≡◌, ℕ, ◌+◌, ◌*◌, ◌/◌, ◌<◌, ◌≤◌, List, Ok}
-use Rattle.pk_base.specs.Shape.{Shape, IsShape}
+use Rattle.std.specs.Prelude.{◌≡◌, ℕ, ◌+◌, ◌/◌, ◌<◌, ◌≤◌, List, Ok}
+use Rattle.pk_base.specs.Shape.{Shape, IsShape, root_pages}
 use Rattle.pk_base.specs.Page.{Flash, page_at, erased}
 use Rattle.pk_base.specs.Entry.{Entry}
 use Rattle.pk_base.specs.Map.{Map}
@@ -30,7 +30,7 @@ Same =
 abbrev pub Programs : Type 0
 Programs =
     (shape : Shape) (flash cut : Flash) (extra : List Entry) (top : ℕ × Root) (found : Found) (m : Map) (first count : ℕ) → IsShape shape → IsUnder shape flash extra top found m
-    → 2 * shape.block_pages ≤ first
+    → root_pages shape ≤ first
     → ((k : ℕ) → first ≤ k → k < first + count → page_at flash k ≡ erased)
     → ((k : ℕ) → first ≤ k → k < first + count → IsNamed shape top.1 k → ⊥)
     → SameOutside first count flash cut

@@ -1,6 +1,6 @@
 -- What a commit and a freeze make of what stands under the root: the statements.
-use Rattle.std.specs.Prelude.{◌≡◌, ◌⊎◌, ℕ, ◌+◌, ◌*◌, ◌<◌, ◌≤◌, List, [], ◌∷◌, ◌++◌, length, true, ◌==◌, if◌then◌else◌, Some}
-use Rattle.pk_base.specs.Shape.{Shape, IsShape, epoch_pages}
+use Rattle.std.specs.Prelude.{◌≡◌, ◌⊎◌, ℕ, ◌+◌, ◌<◌, ◌≤◌, List, [], ◌∷◌, ◌++◌, length, true, ◌==◌, if◌then◌else◌, Some}
+use Rattle.pk_base.specs.Shape.{Shape, IsShape, epoch_pages, root_pages}
 use Rattle.pk_base.specs.Page.{Flash, page_at, erased, page_in, commit_page}
 use Rattle.pk_base.specs.Entry.{Entry}
 use Rattle.pk_base.specs.Map.{Map}
@@ -44,7 +44,7 @@ Freezes =
     → IsUnder shape flash [] top found m → found.older ≡ []
     → is_root shape (frozen_root top.1 found first second) ≡ true
     → newest_root shape (page_at new) ≡ Some (page, frozen_root top.1 found first second)
-    → ((k : ℕ) → 2 * shape.block_pages ≤ k → page_at new k ≡ page_at flash k)
+    → ((k : ℕ) → root_pages shape ≤ k → page_at new k ≡ page_at flash k)
     → ((j : ℕ) → j < epoch_pages shape → page_at flash (page_in shape (first ∷ second ∷ []) j) ≡ erased)
     → IsUnder shape new [] (page, frozen_root top.1 found first second) (frozen found) m × Follows shape flash new
 
