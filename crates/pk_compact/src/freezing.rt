@@ -43,11 +43,14 @@ pub fn freeze_step<B: Nand, A: Allocator>(
     has_entries: bool,
     buf: &mut [u8],
 ) -> Result<bool, Fault>
+    // The board, what the freeze has done, and a page's bytes.
     requires ready { IsReady (B.state board.old) root.old.shape }
     requires may { (top : ℕ × RootValue) × (found : Found) × (m : Map)
         × IsFreezing pool.old root.old installer.old job.old (B.state board.old).pages
         has_entries top found m }
     requires room { length buf.old ≡ root.old.shape.page_bytes }
+
+    // What the step did, or the call that failed.
     ensures step { Step
         (λ done. FreezeSteps pool.old root.old installer.old job.old (B.state board.old) has_entries
         done pool.new root.new installer.new job.new (B.state board.new))
@@ -56,6 +59,8 @@ pub fn freeze_step<B: Nand, A: Allocator>(
         root.old.shape 1 (B.state board.old) (B.state board.new) result }
     ensures calls { AtMostOneCall (B.state board.old) (B.state board.new) }
     ensures grows { Grows root.old.shape (B.state board.old).pages (B.state board.new).pages }
+
+    // What stays in any case.
     ensures root_shape { root.new.shape ≡ root.old.shape }
     ensures buffer { length buf.new ≡ length buf.old }
 {

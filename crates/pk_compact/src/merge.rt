@@ -64,12 +64,15 @@ pub fn install_merge<B: Nand, A: Allocator>(
     taken: &[u16],
     buf: &mut [u8],
 ) -> Result<(), Fault>
+    // The board, a root that may follow, whose program is next, and a page's bytes.
     requires ready { IsReady (B.state board.old) root.old.shape }
     requires programs { erases_next installer.old ≡ false }
     requires can { (top : ℕ × RootValue) × (found : Found) × (m : Map)
         × CanMerge root.old installer.old (B.state board.old).pages top found m
         level count taken.now }
     requires room { length buf.old ≡ root.old.shape.page_bytes }
+
+    // The root was installed, or the call failed.
     ensures step { Step
         (λ u. MergesRoot root.old installer.old (B.state board.old) level count taken.now
         root.new.root installer.new (B.state board.new))
@@ -78,6 +81,8 @@ pub fn install_merge<B: Nand, A: Allocator>(
         root.old.shape 1 (B.state board.old) (B.state board.new) result }
     ensures calls { AtMostOneCall (B.state board.old) (B.state board.new) }
     ensures grows { Grows root.old.shape (B.state board.old).pages (B.state board.new).pages }
+
+    // What stays in any case.
     ensures shape { root.new.shape ≡ root.old.shape }
     ensures buffer { length buf.new ≡ length buf.old }
 {

@@ -50,12 +50,15 @@ pub fn install_root<B: Nand, A: Allocator>(
     installer: &mut Installer,
     buf: &mut [u8],
 ) -> Result<(), Fault>
+    // The board, a root that may follow, whose program is next, and a page's bytes.
     requires ready { IsReady (B.state board.old) root.now.shape }
     requires programs { erases_next installer.old ≡ false }
     requires can { (top : ℕ × RootValue) × (found : Found) × (then_found : Found) × (m : Map)
         × CanInstall root.now.shape root.now.root installer.old (B.state board.old).pages
         top found then_found m }
     requires room { length buf.old ≡ root.now.shape.page_bytes }
+
+    // The root was installed, or the call failed.
     ensures step { Step
         (λ u. InstallsRoot root.now.shape root.now.root installer.old (B.state board.old)
         installer.new (B.state board.new))
@@ -64,6 +67,8 @@ pub fn install_root<B: Nand, A: Allocator>(
         root.now.shape 1 (B.state board.old) (B.state board.new) result }
     ensures calls { AtMostOneCall (B.state board.old) (B.state board.new) }
     ensures grows { Grows root.now.shape (B.state board.old).pages (B.state board.new).pages }
+
+    // What stays in any case.
     ensures buffer { length buf.new ≡ length buf.old }
 {
     root.shape().known();

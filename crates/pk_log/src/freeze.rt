@@ -29,10 +29,13 @@ impl<A: Region> Log<A> {
         job: &mut FreezeJob,
         buf: &mut [u8],
     ) -> Result<bool, Fault>
+        // The board, what the freeze has done, and a page's bytes.
         requires ready { IsReady (B.state board.old) self.old.shape }
         requires can { (top : ℕ × RootValue) × (found : Found) × (m : Map)
             × CanStep self.old pool.old job.old (B.state board.old).pages top found m }
         requires room { length buf.old ≡ self.old.shape.page_bytes }
+
+        // What the step did, or the call that failed.
         ensures step { Step
             (λ done. LogSteps self.old pool.old job.old (B.state board.old) done
             self.new pool.new job.new (B.state board.new))
@@ -40,6 +43,8 @@ impl<A: Region> Log<A> {
             self.old.shape 1 (B.state board.old) (B.state board.new) result }
         ensures calls { AtMostOneCall (B.state board.old) (B.state board.new) }
         ensures grows { Grows self.old.shape (B.state board.old).pages (B.state board.new).pages }
+
+        // What stays in any case.
         ensures same_shape { self.new.shape ≡ self.old.shape }
         ensures pending { self.new.pending ≡ self.old.pending }
         ensures buffer { length buf.new ≡ length buf.old }

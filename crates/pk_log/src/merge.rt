@@ -36,16 +36,21 @@ impl<A: Region> Log<A> {
     /// Erases the root block that is next, behind which the next root is programmed: the one call of the board. The log stands as
     /// before, and the map is the same, wherever it is cut. `Stopped` where it fails; the log is not to be used any more then.
     pub fn prepare_root<B: Nand>(&mut self, board: &mut B) -> Result<(), Fault>
+        // The board, and an erase that is next.
         requires ready { IsReady (B.state board.old) self.old.shape }
         requires erases { erases_next self.old.next ≡ true }
         requires may { (top : ℕ × RootValue) × (found : Found) × (m : Map)
             × MayPrepare self.old (B.state board.old).pages top found m }
+
+        // The block was erased, or the call failed.
         ensures step { Step
             (λ u. LogPrepares self.old (B.state board.old) self.new (B.state board.new))
             (LogPrepareBreaks self.old (B.state board.old) (B.state board.new))
             self.old.shape 0 (B.state board.old) (B.state board.new) result }
         ensures calls { AtMostOneCall (B.state board.old) (B.state board.new) }
         ensures grows { Grows self.old.shape (B.state board.old).pages (B.state board.new).pages }
+
+        // What stays in any case.
         ensures same_log { self.new ≡ record self.old { next = self.new.next } }
     {
         prepare_root(board, self.root.shape(), &mut self.installer)
@@ -63,11 +68,14 @@ impl<A: Region> Log<A> {
         taken: &[u16],
         buf: &mut [u8],
     ) -> Result<(), Fault>
+        // The board, an output that stands, a program that is next, and a page's bytes.
         requires ready { IsReady (B.state board.old) self.old.shape }
         requires programs { erases_next self.old.next ≡ false }
         requires may { (top : ℕ × RootValue) × (found : Found) × (m : Map)
             × MayMerge self.old (B.state board.old).pages top found m level count taken.now }
         requires room { length buf.old ≡ self.old.shape.page_bytes }
+
+        // The root was installed, or the call failed.
         ensures step { Step
             (λ u. LogMerges self.old (B.state board.old) level count taken.now self.new
             (B.state board.new))
@@ -75,6 +83,8 @@ impl<A: Region> Log<A> {
             self.old.shape 1 (B.state board.old) (B.state board.new) result }
         ensures calls { AtMostOneCall (B.state board.old) (B.state board.new) }
         ensures grows { Grows self.old.shape (B.state board.old).pages (B.state board.new).pages }
+
+        // What stays in any case.
         ensures keeps { KeepsActive self.old self.new }
         ensures buffer { length buf.new ≡ length buf.old }
     {
