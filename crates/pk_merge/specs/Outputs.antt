@@ -12,10 +12,11 @@ use Rattle.pk_nand.specs.Calls.{IsErasedBlock, ProgramFailed, after_program}
 use Rattle.pk_nand.specs.Crash.{Reached, Went, SameOutside}
 use Rattle.pk_pin.specs.Frames.{Frames, IsLeased, free_frames, frame_of, leased, filled}
 use Rattle.pk_plan.specs.declared.owner.Owner.TheVariants.{Meta}
+use Rattle.pk_plan.specs.Quotas.{quota_of}
 use Rattle.pk_pool.specs.declared.state.BlockState.TheVariants.{Owned}
-use Rattle.pk_pool.specs.Blocks.{Blocks, IsSpare, used_by, with_state}
+use Rattle.pk_pool.specs.Blocks.{Blocks, IsSpare, PoolOnFlash, used_by, with_state}
 use Rattle.pk_pool.specs.Taking.{TakesReady, ErasesFree, ReachesIn}
-use Rattle.pk_run.specs.Kept.{Kept, RunOnFlash, most_pages, page_of, with_page}
+use Rattle.pk_run.specs.Kept.{Kept, RunOnFlash, most_blocks, most_pages, page_of, with_page}
 use Rattle.pk_level.specs.Arenas.{IsPinnedIf}
 
 -- all of these blocks are the pool's, owned for meta pages
@@ -34,6 +35,14 @@ pub record IsOutput (r : Kept) (flash : Flash) : Type 0 where
 
 -- ---- a block that is taken
 
+-- A block may be taken for the next page: the quota has room for one more, and so has the run.
+pub record MayTakeBlock (pool : Blocks) (r : Kept) (flash : Flash) : Type 0 where
+  pub same_shape : pool.shape ≡ r.shape
+  pub fits : PoolOnFlash pool flash
+  pub below : used_by Meta pool.states < quota_of pool.shape Meta
+  pub room : length r.blocks < most_blocks r
+
+-- An Erased block was taken, at most with its erase, and is the run's last one.
 pub record TakesBlock (pool : Blocks) (r : Kept) (old : BoardState) (pool' : Blocks) (r' : Kept) (new : BoardState) : Type 0 where
   pub block : ℕ
   pub spare : IsSpare pool block

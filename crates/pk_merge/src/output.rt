@@ -4,12 +4,9 @@ ghost use Rattle.pk_base.specs.Seen.{entries as seen_all};
 ghost use Rattle.pk_nand.specs.Calls.{IsReady};
 ghost use Rattle.pk_nand.specs.declared.types.Fault.TheVariants.{Stopped};
 ghost use Rattle.pk_pin.specs.Frames.{free_frames};
-ghost use Rattle.pk_plan.specs.declared.owner.Owner.TheVariants.{Meta};
-ghost use Rattle.pk_plan.specs.Quotas.{quota_of};
-ghost use Rattle.pk_pool.specs.Blocks.{PoolOnFlash, used_by};
+ghost use Rattle.pk_pool.specs.Blocks.{PoolOnFlash};
 ghost use Rattle.pk_pool.specs.Taking.{FailsToErase};
-ghost use Rattle.pk_run.specs.Kept.{most_blocks};
-ghost use Rattle.pk_merge.specs.Outputs.{TakesBlock, MayProgram, ProgramsPage, FailsToProgram, KeepsPage};
+ghost use Rattle.pk_merge.specs.Outputs.{MayTakeBlock, TakesBlock, MayProgram, ProgramsPage, FailsToProgram, KeepsPage};
 
 use pk_base::Entry;
 use pk_meta::encode;
@@ -35,11 +32,8 @@ pub fn take_block<B: Nand, A: Allocator>(
     board: &mut B,
     pool: &mut Pool<A>,
 ) -> Result<(), Fault>
-    requires shape { pool.old.shape ≡ out.old.shape }
     requires ready { IsReady (B.state board.old) pool.old.shape }
-    requires fits { PoolOnFlash pool.old (B.state board.old).pages }
-    requires below { used_by Meta pool.old.states < quota_of pool.old.shape Meta }
-    requires room { length out.old.blocks < most_blocks out.old }
+    requires may { MayTakeBlock pool.old out.old (B.state board.old).pages }
 
     // A block more.
     ensures taken { OnOk result (TakesBlock pool.old out.old (B.state board.old) pool.new out.new
