@@ -73,16 +73,21 @@ pub fn ask<P: Port>(
     value: &[u8],
     into: &mut [u8],
 ) -> Result<Received, HostError>
+    // The key, the value, and room for what comes back.
     requires key { length key.now ≤ KEY_BYTES }
     requires whole { length value.now
         ≡ value_size (of_key asked.opcode key.now asked.size asked.options value.now) }
     requires room { room_of (of_key asked.opcode key.now asked.size asked.options value.now)
         ≤ length into.old }
+
+    // The reply, or a fault of the port.
     ensures replies { IfOk result (λ r. Replies (P.state port.old) (P.state port.new)
         (of_key asked.opcode key.now asked.size asked.options value.now) (replied r into.new)) }
     ensures fits { IfOk result (λ r. r.len ≤ length into.new) }
     ensures fault { IfErr result (λ e. (e ≡ HostError.Port)
         × Rose (P.state port.old).port_faults (P.state port.new).port_faults) }
+
+    // The port took this one command, in any case.
     ensures took { P.took port.old
         (of_key asked.opcode key.now asked.size asked.options value.now ∷ []) port.new }
 {

@@ -171,13 +171,19 @@ impl Host {
         each: &mut KeyPage,
     ) -> Result<bool, HostError>
         requires { length from.now ≤ KEY_BYTES }
+
+        // The page of keys, and what it tells of the drive's.
         ensures gives { Gives (P.state port.old) (P.state port.new) (list_of from.now)
             (listed_by each.new) result }
         ensures pages { OnOk result (Pages (P.state port.old) from.now each.new) }
         ensures follows { IfOk result (λ more. Follows (P.state port.old) from.now more) }
         ensures known { OnOk result (TellsKeys (P.state port.old)) }
+
+        // What the page has in any case: keys above these bytes, and none where the call failed.
         ensures above { AllByRecursion (IsBelow from.now) each.new }
         ensures empty { OnErr result (each.new ≡ []) }
+
+        // The map stays, and the port took this one command.
         ensures leaves { Leaves (P.state port.old) (P.state port.new) (λ m. m) }
         ensures took { P.took port.old (list_of from.now ∷ []) port.new }
     {

@@ -60,15 +60,20 @@ fn merge<A: Region, B: Counts>(
     board: &mut B,
     buf: &mut [u8],
 ) -> Option<Seen>
+    // The board, and a job that does nothing.
     requires ready { IsReady (B.state board.old) target.old.shape }
     requires idle { IsIdle target.old.shape job.old }
+
+    // Both runs without entries, whose blocks exist.
     requires source { source.old ≡ empty target.old.shape source.old.level }
     requires target { target.old ≡ empty target.old.shape target.old.level }
+    requires exist { 3 < target.old.shape.blocks }
+
+    // Blocks, frames and bytes for pages of their shape.
     requires pool { pool.old.shape ≡ target.old.shape }
     requires fits { (flash : Pages) → PoolOnFlash pool.old flash }
     requires frames { arena.old.page_bytes ≡ target.old.shape.page_bytes }
     requires sized { length buf.old ≡ target.old.shape.page_bytes }
-    requires exist { 3 < target.old.shape.blocks }
 {
     if !own(pool, 2) || !own(pool, 3) {
         return None;

@@ -32,14 +32,19 @@ fn open<A: Allocator, B: Nand>(
     run: &mut Run<A>,
     buf: &mut [u8],
 ) -> Result<(), Fault>
+    // The board, a run without entries, its block, and room for a page.
     requires ready { IsReady (B.state board.old) run.old.shape }
     requires empty { run.old ≡ empty run.old.shape run.old.level }
     requires exists { block < run.old.shape.blocks }
     requires frames { arena.old.page_bytes ≡ run.old.shape.page_bytes }
     requires sized { length buf.old ≡ run.old.shape.page_bytes }
+
+    // The run stands, and so do the others.
     ensures opened { OnOk result
         (IsOpened run.old.shape (B.state board.old).pages arena.new block run.new) }
     ensures others { OnOk result (RunsStand arena.old arena.new) }
+
+    // What stays of the sizes, and of the board.
     ensures frames { OnOk result (arena.new.page_bytes ≡ arena.old.page_bytes) }
     ensures board { OnOk result
         (StaysReady run.old.shape (B.state board.old) (B.state board.new)) }
@@ -63,16 +68,21 @@ pub fn open_both<A: Allocator, B: Nand>(
     target: &mut Run<A>,
     buf: &mut [u8],
 ) -> Result<(), Fault>
+    // The board, both runs without entries, their blocks, and room for a page.
     requires ready { IsReady (B.state board.old) target.old.shape }
-    requires source { source.old ≡ empty target.old.shape source.old.level }
-    requires target { target.old ≡ empty target.old.shape target.old.level }
+    requires empty { (source.old ≡ empty target.old.shape source.old.level)
+        × (target.old ≡ empty target.old.shape target.old.level) }
     requires exist { 3 < target.old.shape.blocks }
     requires frames { arena.old.page_bytes ≡ target.old.shape.page_bytes }
     requires sized { length buf.old ≡ target.old.shape.page_bytes }
+
+    // Both runs stand.
     ensures source { OnOk result
         (IsOpened target.old.shape (B.state board.new).pages arena.new 2 source.new) }
     ensures target { OnOk result
         (IsOpened target.old.shape (B.state board.new).pages arena.new 3 target.new) }
+
+    // The board may be called, and what stays of the sizes.
     ensures frames { OnOk result (arena.new.page_bytes ≡ target.old.shape.page_bytes) }
     ensures ready { OnOk result (IsReady (B.state board.new) target.new.shape) }
     ensures shape { OnOk result (target.new.shape ≡ target.old.shape) }

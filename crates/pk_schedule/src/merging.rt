@@ -41,13 +41,18 @@ fn source_of<'a, A: Region>(log: &'a Log<A>, levels: &'a Levels<A>, level: u8) -
 impl<A: Region> Schedule<A> {
     // Begins the merge that is next, where something is frozen. No call of the board is made.
     pub(crate) fn begin(&mut self, levels: &Levels<A>, log: &Log<A>) -> Stepped
+        // No merge runs, and the parts fit each other.
         requires idle { self.old.phase ≡ NoMerge }
         requires may { (arena : Frames) × (pool : Blocks) × (flash : Flash) × (frames : ℕ)
             × (top : ℕ × RootValue) × (found : Found) × (m : Map)
             × MayWork (index log.now levels.now arena pool self.old) frames flash top found m }
+
+        // Nothing is frozen, and nothing was done; or a merge was begun.
         ensures idle { result ≡ Stepped.Idle → (length log.now.frozen.entries ≡ 0)
             × (self.new ≡ self.old) }
         ensures works { result ≡ Stepped.Worked → length log.now.frozen.entries ≡ 0 → ⊥ }
+
+        // A merge that was begun leaves the map, and less is to be done.
         ensures moves { result ≡ Stepped.Worked → (arena : Frames) (pool : Blocks)
             (board : BoardState) → IsReady board log.now.shape
             → Moves (index log.now levels.now arena pool self.old) board
@@ -56,6 +61,8 @@ impl<A: Region> Schedule<A> {
             (board : BoardState) → IsReady board log.now.shape
             → Less (index log.now levels.now arena pool self.old) board.pages
             (index log.now levels.now arena pool self.new) }
+
+        // What stays in any case.
         ensures same_freeze { self.new.freeze ≡ self.old.freeze }
     {
         levels.known();

@@ -44,10 +44,13 @@ fn serve_request<D: Engine, B: Nand>(
     value: &[u8],
     buffer: &mut [u8],
 ) -> Result<Outcome, Halt>
+    // The drive on its board, a whole value, and the buffer.
     requires fits { Fits (D.agrees drive.old) shape.now (B.state board.old) (D.sight drive.old) }
     requires whole { IsWhole (command_of request.now value.now) }
     requires room { 65536 ≤ length buffer.old }
     requires room_value { greatest shape.now ≤ length buffer.old }
+
+    // The drive's answer, and the drive on its board behind it.
     ensures fits { Fits (D.agrees drive.new) shape.now (B.state board.new) (D.sight drive.new) }
     ensures makes { Makes shape.now (mount (B.state board.old) (D.sight drive.old))
         (mount (B.state board.new) (D.sight drive.new)) (command_of request.now value.now) result
