@@ -80,7 +80,7 @@ bytes_more slots s states i h before own = bytes_pushed slots s ∙ (λ j. befor
 
 pub byte_small : (s : Slot) (byte : ℕ) → byte_by s ≡ byte → byte < 3
 byte_small Erased byte e = omega (arith, e)
-byte_small (Whole bytes) byte e = omega (arith, e)
+byte_small (Whole kept) byte e = omega (arith, e)
 byte_small Torn byte e = omega (arith, e)
 
 -- the slots of a board with a shape are its flash

@@ -5,10 +5,11 @@ use Rattle.pk_base.specs.Shape.{Shape}
 use Rattle.pk_base.specs.Page.{Page, Flash, erased, whole, torn, page_at, IsPage}
 use Rattle.pk_file.specs.declared.slot.Slot.{Slot}
 use Rattle.pk_file.specs.declared.slot.Slot.TheVariants.{Erased, Whole, Torn}
+use Rattle.pk_file.specs.Trims.{bytes_in}
 
 abbrev pub page_of : Slot → Page
 page_of Erased = erased
-page_of (Whole bytes) = whole bytes.items
+page_of (Whole kept) = whole (bytes_in kept)
 page_of Torn = torn
 
 abbrev pub pages_of : List Slot → Flash
@@ -17,7 +18,7 @@ pages_of slots = map page_of slots
 -- the byte that says the state of a page in an image file
 abbrev pub byte_by : Slot → ℕ
 byte_by Erased = ERASED
-byte_by (Whole bytes) = WHOLE
+byte_by (Whole kept) = WHOLE
 byte_by Torn = TORN
 
 -- the state bytes of slots

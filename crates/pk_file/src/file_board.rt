@@ -12,6 +12,7 @@ use crate::mirror::{Written, create_image, erase_pages, find_image, write_page};
 use crate::outgoing::Outgoing;
 use crate::slot::Slot;
 use crate::slots::{erase_slots, erased_slots, known, read_slot, set_slot};
+use crate::trimmed::Trimmed;
 use pk_base::Shape;
 use pk_nand::{Board, HostFault, LoadFault, Nand, NandFault, PageRead};
 use std::alloc::Global;
@@ -74,13 +75,13 @@ fn program_page(
     ensures fit { AllFit (shape_or_none shape.now) slots.new.items }
 {
     known(bytes);
-    let Ok(copy) = Vec::from_slice(alloc, bytes) else {
+    let Ok(kept) = Trimmed::of(alloc, bytes) else {
         return Err(NandFault);
     };
     match (file, shape) {
         (Some(file), Some(shape)) => match write_page(file, shape, page, bytes) {
             Written::Whole => {
-                set_slot(slots, page as usize, Slot::Whole(copy));
+                set_slot(slots, page as usize, Slot::Whole(kept));
                 Ok(())
             }
             Written::Torn => {

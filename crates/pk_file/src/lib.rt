@@ -13,5 +13,6 @@ mod page_reader;
 mod room;
 mod slot;
 mod slots;
+mod trimmed;
 
 pub use file_board::FileBoard;

@@ -3,8 +3,10 @@ ghost use Rattle.std.specs.Prelude.{◌≡◌, ◌≢◌, ◌<◌, ◌≤◌, �
 ghost use Rattle.pk_base.specs.Shape as spec;
 ghost use Rattle.pk_base.specs.Page.{IsPage};
 ghost use Rattle.pk_nand.specs.declared.types.LoadFault.{LoadFault};
+ghost use Rattle.pk_file.specs.Trims.{bytes_in};
 
 use crate::slots::known;
+use crate::trimmed::Trimmed;
 use pk_base::Shape;
 use pk_image::{PageTag, page_at};
 use pk_nand::LoadFault;
@@ -43,14 +45,14 @@ fn run_length(states: &[u8], first: usize) -> usize
 }
 
 /// A page of its own with these bytes.
-fn copied(alloc: Global, shape: &Shape, bytes: &[u8]) -> Result<Vec<u8>, LoadFault>
+fn copied(alloc: Global, shape: &Shape, bytes: &[u8]) -> Result<Trimmed, LoadFault>
     requires { length bytes.now ≡ shape.now.page_bytes }
-    ensures page { IfOk result (λ v. IsPage shape.now v.items) }
+    ensures page { IfOk result (λ kept. IsPage shape.now (bytes_in kept)) }
     ensures bad { (at : ℕ) → result ≢ Err (LoadFault.BadImage at) }
 {
     known(bytes);
-    match Vec::from_slice(alloc, bytes) {
-        Ok(copy) => Ok(copy),
+    match Trimmed::of(alloc, bytes) {
+        Ok(kept) => Ok(kept),
         Err(_) => Err(LoadFault::Memory),
     }
 }
@@ -119,11 +121,11 @@ impl PageReader {
         file: &File,
         states: &[u8],
         page: u32,
-    ) -> Result<Vec<u8>, LoadFault>
+    ) -> Result<Trimmed, LoadFault>
         requires count { length states.now ≡ spec.page_count self.old.shape }
         requires exists { page < length states.now }
         ensures shape { self.new.shape ≡ self.old.shape }
-        ensures page { IfOk result (λ v. IsPage self.old.shape v.items) }
+        ensures page { IfOk result (λ kept. IsPage self.old.shape (bytes_in kept)) }
         ensures bad { (at : ℕ) → result ≢ Err (LoadFault.BadImage at) }
     {
         match self.reach(file, states, page) {

@@ -1,9 +1,11 @@
 //! A page in memory.
 
+use crate::trimmed::Trimmed;
+
 /// A page; only a Whole one keeps bytes.
 #[derive(Drop)]
 pub enum Slot {
     Erased,
-    Whole(Vec<u8>),
+    Whole(Trimmed),
     Torn,
 }

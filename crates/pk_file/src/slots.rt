@@ -76,7 +76,7 @@ fn slot_in(
         Ok(PageTag::Erased) => Ok(Slot::Erased),
         Ok(PageTag::Torn) => Ok(Slot::Torn),
         Ok(PageTag::Whole) => match reader.copy(alloc, file, states, page) {
-            Ok(bytes) => Ok(Slot::Whole(bytes)),
+            Ok(kept) => Ok(Slot::Whole(kept)),
             Err(fault) => Err(fault),
         },
         Err(fault) => Err(fault),
@@ -121,8 +121,8 @@ pub fn read_slot(slots: &Vec<Slot>, page: usize, into: &mut [u8]) -> PageRead
 {
     match &slots[page] {
         Slot::Erased => PageRead::Erased,
-        Slot::Whole(bytes) => {
-            into.copy_from_slice(bytes.as_slice());
+        Slot::Whole(kept) => {
+            kept.fill(into);
             PageRead::Whole
         }
         Slot::Torn => PageRead::Torn,

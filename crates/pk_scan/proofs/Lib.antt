@@ -1,3 +1,4 @@
+pub mod Zeros
 pub mod Heads
 pub mod Reading
 pub mod Checking

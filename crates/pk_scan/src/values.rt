@@ -29,16 +29,15 @@ fn begins_with_head(shape: &Shape, key: &Key, len: u32, bytes: &[u8]) -> bool
     }
 }
 
-// Whether all bytes are 0.
+// Whether all bytes are 0. It tests once, behind the loop, so that the machine takes many bytes at a time.
 fn are_zeros(bytes: &[u8]) -> bool
     ensures { result ≡ list_all (λ b. b == 0) bytes.now }
 {
+    let mut bits = 0u8;
     for b in bytes {
-        if *b != 0 {
-            return false;
-        }
+        bits |= *b;
     }
-    true
+    bits == 0
 }
 
 // Whether only zeros stand behind so many bytes.

@@ -3,13 +3,14 @@ use Rattle.pk_base.specs.Page.{Page}
 use Rattle.pk_nand.specs.Calls.{filled}
 use Rattle.pk_nand.specs.Seen.{answer}
 use Rattle.pk_file.specs.Slots.{page_of}
+use Rattle.pk_file.specs.Trims.{bytes_in}
 use Rattle.pk_file.proofs.Slotting.{page_here, room_for}
 use Rattle.pk_file.proofs.slots.read_slot.Goals as goal
 
-pub copy_from_slice-requires : goal.copy_from_slice-requires
-copy_from_slice-requires c =
+pub fill-requires : goal.fill-requires
+fill-requires c =
     let here = page_here c.args.slots.now.items c.args.page c.index.result.now c.requires.exists c.index.ensures in
-    room_for c.args.slots.now.items c.args.page (length c.args.into.now) c.in-Whole.bytes.items c.requires.full (here ∙ ap page_of c.in-Whole.is) ∙ ap length (sym c.as_slice.ensures.value)
+    room_for c.args.slots.now.items c.args.page (length c.args.into.now) (bytes_in c.in-Whole.kept) c.requires.full (here ∙ ap page_of c.in-Whole.is)
 
 pub returns-in-Erased-clause-found : goal.returns-in-Erased-clause-found
 returns-in-Erased-clause-found c =
@@ -39,4 +40,4 @@ returns-in-Whole-clause-found c =
 pub returns-in-Whole-clause-bytes : goal.returns-in-Whole-clause-bytes
 returns-in-Whole-clause-bytes c =
     let here = page_here c.args.slots.now.items c.args.page c.index.result.now c.requires.exists c.index.ensures in
-    c.copy_from_slice.ensures.after ∙ c.as_slice.ensures.value ∙ sym (ap (λ (p : Page). filled p c.args.into.now) (here ∙ ap page_of c.in-Whole.is))
+    c.fill.ensures ∙ sym (ap (λ (p : Page). filled p c.args.into.now) (here ∙ ap page_of c.in-Whole.is))
