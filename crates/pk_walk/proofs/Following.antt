@@ -1,11 +1,13 @@
 -- A cursor in a run: the page of its place, the entry at it, and what its moves leave.
-use Rattle.std.proofs.Common.{◌≡◌, ℕ, zero, suc, ◌+◌, ◌-◌, ◌*◌, ◌/◌, ◌%◌, ◌<◌, ◌≤◌, min, refl, sym, ap, subst, ◌∙◌, arith, Bool, T, List, [], ◌∷◌, length, take, drop, slice_get, Some, div-lt_iff_lt-mul}
+use Rattle.std.proofs.Common.{◌≡◌, ℕ, zero, suc, ◌+◌, ◌-◌, ◌*◌, ◌/◌, ◌%◌, ◌<◌, ◌≤◌, min, refl, sym, ap, subst, ◌∙◌, arith, Bool, true, false, if◌then◌else◌, T, List, [], ◌∷◌, ◌++◌, length, take, drop, slice_get, Some, None, div-lt_iff_lt-mul}
+use Rattle.std.specs.Ordering.{is_gt, is_eq}
+use Rattle.std.specs.declared.cmp.Ordering.TheVariants.{Less, Equal, Greater}
 use Rattle.std.proofs.lemmas.Nat.{div-add-mod'}
 use Rattle.std.proofs.lemmas.List.{length-take, length-drop}
 use Rattle.std.proofs.lemmas.Grind.{div_ceil_times}
 use Rattle.std.proofs.Math.Nat.{mod-lt, div-le_of_le-mul, lt_of_mul-lt-mul_right}
 use Rattle.std.specs.Int.{div_ceil}
-use Rattle.pk_base.specs.Key.{Key}
+use Rattle.pk_base.specs.Key.{Key, key_cmp}
 use Rattle.pk_base.specs.Shape.{Shape, IsShape, page_entries}
 use Rattle.pk_base.specs.Entry.{Entry, key_of}
 use Rattle.pk_base.specs.Fields.{number_at}
@@ -20,9 +22,10 @@ use Rattle.pk_run.proofs.Lookups.{first_is, page_starts, holds_piece}
 use Rattle.pk_walk.specs.declared.position.Position.{Position}
 use Rattle.pk_walk.specs.declared.position.Position.TheVariants.{Above}
 use Rattle.pk_walk.specs.Visible.{is_wanted, wanted, WantsFrom}
+use Rattle.pk_walk.specs.Heads.{Head, behind, held}
 use Rattle.pk_walk.specs.Walking.{Cursor, Follows, HasPassed, Reads, ReadsAll, at_start, read_of}
 use Rattle.pk_walk.specs.Steps.{MayLoad, StaysAt}
-use Rattle.pk_walk.proofs.Wanting.{begun_at, narrowed_behind, above_is_narrower}
+use Rattle.pk_walk.proofs.Wanting.{begun_at, narrowed, narrowed_behind, above_is_narrower}
 
 -- ---- numbers
 
@@ -71,21 +74,34 @@ module _ (r : Kept) (flash : Flash) (arena : Frames) (es : List Entry) (is : IsS
 
 -- ---- moves of a cursor
 
+pub not_ended : ◌≡◌ {A = Head} None (Some None) → ⊥
+not_ended e = cc
+
 module _ (flash : Flash) (r : Kept) (es : List Entry) (position : Position) (c : Cursor) (is : IsShape r.shape) (f : Follows flash r es position c) where
   abbrev page : ℕ → ℕ
   page place = place / page_entries r.shape
 
   -- it has come past the page of its place
   pub Follows-loaded : (bytes : List ℕ) → page c.place < length r.firsts → page_at flash (page_of r (page c.place)) ≡ whole bytes → Follows flash r es position (record c { loaded = suc (page c.place); bytes = bytes })
-  Follows-loaded bytes exists here = record { pages = exists; behind = omega arith; holds = λ e. here; left = f.left }
+  Follows-loaded bytes exists here = record { pages = exists; behind = omega arith; holds = λ e. here; left = f.left; ended = f.ended }
 
   -- it has not
   pub Follows-kept : (bytes : List ℕ) → c.loaded ≤ page c.place → Follows flash r es position (record c { bytes = bytes })
-  Follows-kept bytes before = record { pages = f.pages; behind = f.behind; holds = λ e. absurd (omega (arith, before, e)); left = f.left }
+  Follows-kept bytes before = record { pages = f.pages; behind = f.behind; holds = λ e. absurd (omega (arith, before, e)); left = f.left; ended = f.ended }
 
   -- it is put to where the walk begins
-  pub Follows-begun : (place : ℕ) → c.loaded ≡ 0 → wanted (is_wanted position) es ≡ wanted (is_wanted position) (drop place es) → Follows flash r es position (record c { place = place })
-  Follows-begun place none left = record { pages = f.pages; behind = omega (arith, none); holds = λ e. absurd (omega (arith, none, e)); left = left }
+  pub Follows-begun : (place : ℕ) → c.loaded ≡ 0 → c.head ≡ None → wanted (is_wanted position) es ≡ wanted (is_wanted position) (drop place es) → Follows flash r es position (record c { place = place })
+  Follows-begun place none sought left = record {
+    pages = f.pages;
+    behind = omega (arith, none);
+    holds = λ e. absurd (omega (arith, none, e));
+    left = subst (λ (h : Head). wanted (is_wanted position) es ≡ held h ++ wanted (is_wanted position) (drop place es)) (sym sought) left;
+    ended = λ e. absurd (not_ended (sym sought ∙ e));
+  }
+
+-- where the first wanted entry has to be looked for
+pub sought_left : (flash : Flash) (r : Kept) (es : List Entry) (position : Position) (c : Cursor) → Follows flash r es position c → c.head ≡ None → wanted (is_wanted position) es ≡ wanted (is_wanted position) (drop c.place es)
+sought_left flash r es position c f sought = subst (λ (h : Head). wanted (is_wanted position) es ≡ held h ++ wanted (is_wanted position) (drop c.place es)) sought f.left
 
 -- what the load of its page asks
 pub may_load : (flash : Flash) (r : Kept) (es : List Entry) (position : Position) (c : Cursor) (p : ℕ) → IsShape r.shape → IsKept r → c.place < r.count → Follows flash r es position c
@@ -109,17 +125,44 @@ stays_failed flash r c d p is same before kept = record {
 }
 
 -- fewer keys are wanted
-pub Follows-above : (flash : Flash) (r : Kept) (es : List Entry) (position : Position) (c : Cursor) → Follows flash r es position c → (key : Key) → T (is_wanted position key) → Follows flash r es (Above key) c
-Follows-above flash r es position c f key one = record {
+above_held : (position : Position) (key : Key) (es : List Entry) (n : ℕ) (h : Head) → T (is_wanted position key) → ((e : Entry) → h ≡ Some (Some e) → key_cmp e.0 key ≡ Less → ⊥)
+    → wanted (is_wanted position) es ≡ held h ++ wanted (is_wanted position) (drop n es) → wanted (is_wanted (Above key)) es ≡ held (behind key h) ++ wanted (is_wanted (Above key)) (drop n es)
+above_held position key es n None one high left = narrowed_behind (is_wanted (Above key)) (is_wanted position) es n (above_is_narrower position key one) left
+above_held position key es n (Some None) one high left = narrowed_behind (is_wanted (Above key)) (is_wanted position) es n (above_is_narrower position key one) left
+above_held position key es n (Some (Some e)) one high left =
+    let v : Key → Bool = is_wanted (Above key) in
+    let w : Key → Bool = is_wanted position in
+    let within = above_is_narrower position key one in
+    let rest = narrowed v w (drop n es) within in
+    sym (narrowed v w es within) ∙ ap (wanted v) left
+    ∙ elim (key_cmp e.0 key) as (λ o. key_cmp e.0 key ≡ o → (if is_gt o then e ∷ wanted v (wanted w (drop n es)) else wanted v (wanted w (drop n es))) ≡ held (if is_eq o then None else Some (Some e)) ++ wanted v (drop n es)) [
+      | Less ↦ λ p. absurd (high e refl p)
+      | Equal ↦ λ p. rest
+      | Greater ↦ λ p. ap (λ (xs : List Entry). e ∷ xs) rest
+    ] refl
+
+behind_ended : (key : Key) (h : Head) → behind key h ≡ Some None → h ≡ Some None
+behind_ended key None e = cc
+behind_ended key (Some None) e = refl
+behind_ended key (Some (Some x)) e = absurd (neither (is_eq (key_cmp x.0 key)) e)
+  where
+    neither : (b : Bool) → ◌≡◌ {A = Head} (if b then None else Some (Some x)) (Some None) → ⊥
+    neither true e = cc
+    neither false e = cc
+
+pub Follows-above : (flash : Flash) (r : Kept) (es : List Entry) (position : Position) (c : Cursor) → Follows flash r es position c → (key : Key) → T (is_wanted position key)
+    → ((e : Entry) → c.head ≡ Some (Some e) → key_cmp e.0 key ≡ Less → ⊥) → Follows flash r es (Above key) (record c { head = behind key c.head })
+Follows-above flash r es position c f key one high = record {
   pages = f.pages;
   behind = f.behind;
   holds = f.holds;
-  left = narrowed_behind (is_wanted (Above key)) (is_wanted position) es c.place (above_is_narrower position key one) f.left;
+  left = above_held position key es c.place c.head one high f.left;
+  ended = λ e. f.ended (behind_ended key c.head e);
 }
 
 -- at the start it follows any run
 pub Follows-start : (flash : Flash) (r : Kept) (es : List Entry) (position : Position) (c : Cursor) → Follows flash r es position (at_start c)
-Follows-start flash r es position c = record { pages = omega arith; behind = omega arith; holds = λ e. absurd (omega (arith, e)); left = refl }
+Follows-start flash r es position c = record { pages = omega arith; behind = omega arith; holds = λ e. absurd (omega (arith, e)); left = refl; ended = λ e. absurd (not_ended e) }
 
 -- ---- where a walk begins in a run
 

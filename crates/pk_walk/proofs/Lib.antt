@@ -1,8 +1,11 @@
 pub mod Merging
+pub mod Leasts
+pub mod Taking
 pub mod Wanting
 pub mod Following
 pub mod Moving
 pub mod Paging
 pub mod Seeking
+pub mod Holding
 pub mod Rows
 pub mod Walks

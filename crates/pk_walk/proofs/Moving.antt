@@ -1,5 +1,5 @@
 -- A cursor that has the page of its place: what the page says of the run, and where the cursor goes in it.
-use Rattle.std.proofs.Common.{◌≡◌, ℕ, zero, suc, ◌+◌, ◌-◌, ◌*◌, ◌/◌, ◌%◌, ◌<◌, ◌≤◌, min, refl, sym, ap, subst, ◌∙◌, arith, Bool, true, false, List, [], ◌∷◌, length, take, drop, slice_get, Option, Some, div-lt_iff_lt-mul}
+use Rattle.std.proofs.Common.{◌≡◌, ℕ, zero, suc, ◌+◌, ◌-◌, ◌*◌, ◌/◌, ◌%◌, ◌<◌, ◌≤◌, min, refl, sym, ap, subst, ◌∙◌, arith, Bool, true, false, List, [], ◌∷◌, length, take, drop, ◌++◌, slice_get, Option, Some, None, div-lt_iff_lt-mul}
 use Rattle.std.specs.Prelude.{nat_lt}
 use Rattle.std.proofs.lemmas.Nat.{div-add-mod', le-div}
 use Rattle.std.proofs.lemmas.Bool.{ltb-true, ltb-false}
@@ -18,10 +18,11 @@ use Rattle.pk_pin.specs.Frames.{Frames}
 use Rattle.pk_run.specs.Kept.{Kept, IsKept, RunOnFlash, page_of}
 use Rattle.pk_walk.specs.declared.position.Position.{Position}
 use Rattle.pk_walk.specs.Visible.{is_wanted, wanted}
+use Rattle.pk_walk.specs.Heads.{Head, held}
 use Rattle.pk_walk.specs.Walking.{Cursor, Follows}
 use Rattle.pk_walk.specs.Steps.{IsFirstWanted, Moves}
 use Rattle.pk_walk.proofs.Wanting.{passed_by}
-use Rattle.pk_walk.proofs.Following.{entries_some, entry_within, get_taken, get_dropped, holds}
+use Rattle.pk_walk.proofs.Following.{entries_some, entry_within, get_taken, get_dropped, holds, not_ended, sought_left}
 
 -- ---- entries that are passed
 
@@ -63,11 +64,11 @@ module _ (r : Kept) (flash : Flash) (arena : Frames) (es : List Entry) (is : IsS
   abbrev piece : List Entry
   piece = take size (drop start es)
 
-  held : IsMetaPage r.shape c.bytes r.level (c.place / size) piece
-  held = holds r flash arena es is kept c.place at.inside s c.bytes at.page
+  page_has : IsMetaPage r.shape c.bytes r.level (c.place / size) piece
+  page_has = holds r flash arena es is kept c.place at.inside s c.bytes at.page
 
   count_is : number_at 2 10 c.bytes ≡ min size (length es - start)
-  count_is = (meta_again r.shape c.bytes r.level (c.place / size) piece is held).count_is ∙ length-take size (drop start es) ∙ ap (min size) (length-drop start es)
+  count_is = (meta_again r.shape c.bytes r.level (c.place / size) piece is page_has).count_is ∙ length-take size (drop start es) ∙ ap (min size) (length-drop start es)
 
   place_is : start + c.place % size ≡ c.place
   place_is = div-add-mod' c.place size
@@ -77,7 +78,7 @@ module _ (r : Kept) (flash : Flash) (arena : Frames) (es : List Entry) (is : IsS
   run_has k e got = sym (get_dropped es start k) ∙ get_taken (drop start es) size k e got
 
   pub at_decodes : Decodes c.shape c.bytes
-  at_decodes = subst (λ (g : Shape). Decodes g c.bytes) (sym at.shape) (r.level, c.place / size, piece, held)
+  at_decodes = subst (λ (g : Shape). Decodes g c.bytes) (sym at.shape) (r.level, c.place / size, piece, page_has)
 
   pub at_within : c.place % page_entries c.shape < number_at 2 10 c.bytes
   at_within = subst (λ (g : Shape). c.place % page_entries g < number_at 2 10 c.bytes) (sym at.shape) (entry_within r flash arena es is kept c.place at.inside s c.bytes at.page)
@@ -93,7 +94,7 @@ module _ (r : Kept) (flash : Flash) (arena : Frames) (es : List Entry) (is : IsS
   -- the key at a place in the page is that of the run's entry
   pub key_there : (k : ℕ) (e : Entry) → k < number_at 2 10 c.bytes → slice_get es (start + k) ≡ Some e → key_of e ≡ place_key c.bytes k
   key_there k e less got =
-      let cell = cell_entry r.shape c.bytes is r.level (c.place / size) piece held k less in
+      let cell = cell_entry r.shape c.bytes is r.level (c.place / size) piece page_has k less in
       let same : entry_at (cell_at (32 + 32 * k) c.bytes) ≡ e = same_some _ e (sym (run_has k (entry_at (cell_at (32 + 32 * k) c.bytes)) cell) ∙ got) in
       ap key_of (sym same) ∙ key_of_at (cell_at (32 + 32 * k) c.bytes)
 
@@ -102,7 +103,7 @@ module _ (r : Kept) (flash : Flash) (arena : Frames) (es : List Entry) (is : IsS
       → slice_get es c.place ≡ Some e
   entry_here e shows =
       let got = subst (λ (g : Shape). (level index : ℕ) (entries : List Entry) → IsMetaPage g c.bytes level index entries → slice_get entries (c.place % page_entries g) ≡ Some e) at.shape shows in
-      ap (slice_get es) (sym place_is) ∙ run_has (c.place % size) e (got r.level (c.place / size) piece held)
+      ap (slice_get es) (sym place_is) ∙ run_has (c.place % size) e (got r.level (c.place / size) piece page_has)
 
   -- ---- a move in the page
 
@@ -158,9 +159,12 @@ module _ (r : Kept) (flash : Flash) (arena : Frames) (es : List Entry) (is : IsS
     same_loaded : d.loaded ≡ c.loaded
     same_loaded = ap (λ (x : Cursor). x.loaded) m.cursor
 
+    pub moved_sought : c.head ≡ None → d.head ≡ None
+    moved_sought sought = ap (λ (x : Cursor). x.head) m.cursor ∙ sought
+
     -- the cursor follows the run wherever it did
-    pub moved_follows : Follows flash r es position c → Follows flash r es position d
-    moved_follows f = record {
+    pub moved_follows : c.head ≡ None → Follows flash r es position c → Follows flash r es position d
+    moved_follows sought f = record {
       pages = subst (λ (n : ℕ). n ≤ length r.firsts) (sym same_loaded) f.pages;
       behind = (let behind = f.behind in let after = later in let loaded = same_loaded in omega (arith, behind, after, loaded));
       holds = λ loaded.
@@ -168,7 +172,8 @@ module _ (r : Kept) (flash : Flash) (arena : Frames) (es : List Entry) (is : IsS
           let own = same_loaded in
           let same : c.place / size ≡ d.place / size = omega (arith, loaded, here, own) in
           ap (λ (p : ℕ). page_at flash (page_of r p)) (sym same) ∙ at.page ∙ ap (λ (x : Cursor). whole x.bytes) (sym m.cursor);
-      left = moved_left f.left;
+      left = subst (λ (h : Head). wanted (is_wanted position) es ≡ held h ++ wanted (is_wanted position) (drop d.place es)) (sym (moved_sought sought)) (moved_left (sought_left flash r es position c f sought));
+      ended = λ e. absurd (not_ended (sym (moved_sought sought) ∙ e));
     }
 
     -- where a wanted entry was found it has the page of its place still

@@ -1,12 +1,8 @@
 -- A search through the runs, one after another, with a cursor in each.
-use Rattle.std.proofs.Common.{◌≡◌, ℕ, zero, suc, ◌+◌, ◌-◌, ◌<◌, refl, sym, ap, subst, ◌∙◌, arith, Bool, true, false, if◌then◌else◌, List, [], ◌∷◌, length, slice_get, slice_set, slice_index_or, option_map, Option, Some, None}
+use Rattle.std.proofs.Common.{◌≡◌, ℕ, zero, suc, ◌+◌, ◌-◌, ◌<◌, refl, sym, ap, subst, ◌∙◌, arith, List, [], ◌∷◌, length, slice_get, slice_set, slice_index_or, Option, Some}
 use Rattle.std.specs.List.{AllByRecursion}
-use Rattle.std.specs.Ordering.{is_gt}
 use Rattle.pk_base.specs.Shape.{Shape}
-use Rattle.pk_base.specs.Key.{key_cmp}
 use Rattle.pk_base.specs.Entry.{Entry}
-use Rattle.pk_base.specs.Seen.{entry as seen}
-use Rattle.pk_base.specs.declared.entry.Entry.{Entry as RustEntry}
 use Rattle.pk_base.specs.Page.{Flash}
 use Rattle.pk_nand.specs.BoardState.{BoardState}
 use Rattle.pk_nand.specs.Calls.{IsReady, ReadFailed}
@@ -16,9 +12,8 @@ use Rattle.pk_run.specs.Kept.{Kept, RunOnFlash, empty}
 use Rattle.pk_level.specs.Levels.{Levels, IsLevels, RunsOnFlash, run_of}
 use Rattle.pk_level.proofs.Looking.{stands_at, of_level_at, reads_more}
 use Rattle.pk_walk.specs.declared.position.Position.{Position}
-use Rattle.pk_walk.specs.Visible.{is_wanted, wanted, first_of, lesser, least_first}
 use Rattle.pk_walk.specs.Walking.{Cursor, AreOfShape, Follows, FollowEach, HasPassed, Reads, ReadsAll, ReadsFail, SkipsNoPage, read_of, pages_read, most_read}
-use Rattle.pk_walk.specs.Steps.{FindsInEach, GoOn}
+use Rattle.pk_walk.specs.Steps.{GoOn, HasNone, IsKnown, ShowsEach}
 use Rattle.pk_walk.proofs.Seeking.{Reads-none, Reads-more, Reads-pages, ReadsAll-none, ReadsAll-more, one_list}
 
 same_run : (x y : Kept) → ◌≡◌ {A = Option Kept} (Some x) (Some y) → x ≡ y
@@ -135,9 +130,9 @@ module _ (levels : Levels) (arena : Frames) (position : Position) (old now : Boa
   pub Rows-goes_on : GoOn old.pages arena levels.shape levels.runs position first cs
   Rows-goes_on = record { follow = follow_any; of_shape = at.shape; passed = λ none before. (at.all none before).0 }
 
-  pub Rows-finds : (least : List (List Entry) → Option Entry) (answer : Option RustEntry) → ((ess : List (List Entry)) → RunsOnFlash old.pages arena levels.runs ess → option_map seen answer ≡ least ess)
-      → (answer ≡ None → SkipsNoPage position → AllByRecursion HasPassed first → pages_read levels.runs cs ≡ most_read levels.runs) → FindsInEach least levels.runs arena position old now first cs answer
-  Rows-finds least answer found ended = record { found = found; reads = at.reads; all = λ none before. (at.all none before).1; ended = ended }
+  pub Rows-shows : AllByRecursion IsKnown cs → (AllByRecursion HasNone cs → SkipsNoPage position → AllByRecursion HasPassed first → pages_read levels.runs cs ≡ most_read levels.runs)
+      → ShowsEach levels.runs position old now first cs
+  Rows-shows known ended = record { known = known; reads = at.reads; all = λ none before. (at.all none before).1; ended = ended }
 
   module _ (i : ℕ) (r : Kept) (c : Cursor) (run_is : slice_get levels.runs i ≡ Some r) (cursor_is : slice_get cs i ≡ Some c) where
     -- what the search in one run asks
@@ -212,60 +207,7 @@ module _ (levels : Levels) (arena : Frames) (position : Position) (old now : Boa
           let all = ap (λ (b : BoardState). after_reads k b) at.reads.2 ∙ reads_more k at.reads.0 old in
           (k + at.reads.0, page, omega (arith, e, h, few), subst (λ (b : BoardState). ReadFailed b next page) all failed)
 
-    -- what one run has of any lists
-    pub row_found : (x : Option Entry) → ((es : List Entry) → RunOnFlash r now.pages arena es → x ≡ first_of (wanted (is_wanted position) es))
-        → (ess : List (List Entry)) → RunsOnFlash old.pages arena levels.runs ess → (es : List Entry) × (slice_get ess i ≡ Some es) × (x ≡ first_of (wanted (is_wanted position) es))
-    row_found x found ess s =
-        let there = stands_at old.pages arena levels.runs ess i r s run_is in
-        (there.0, there.1, found there.0 (subst (λ (flash : Flash). RunOnFlash r flash arena there.0) (sym same_pages) there.2))
-
-lesser_none : (a : Option Entry) → lesser a None ≡ a
-lesser_none None = refl
-lesser_none (Some x) = refl
-
-no_lists : (xs : List Entry) → ◌≡◌ {A = Option (List Entry)} None (Some xs) → ⊥
-no_lists xs e = cc
-
--- the least of four lists
-pub least_of_four : (flash : Flash) (arena : Frames) (position : Position) (rs : List Kept) (ess : List (List Entry)) → length rs ≡ 4 → RunsOnFlash flash arena rs ess → (v w x y : Option Entry)
-    → (a : List Entry) × (slice_get ess 0 ≡ Some a) × (v ≡ first_of (wanted (is_wanted position) a))
-    → (b : List Entry) × (slice_get ess 1 ≡ Some b) × (w ≡ first_of (wanted (is_wanted position) b))
-    → (c : List Entry) × (slice_get ess 2 ≡ Some c) × (x ≡ first_of (wanted (is_wanted position) c))
-    → (d : List Entry) × (slice_get ess 3 ≡ Some d) × (y ≡ first_of (wanted (is_wanted position) d))
-    → lesser v (lesser w (lesser x y)) ≡ least_first (is_wanted position) ess
-least_of_four flash arena position (r1 ∷ r2 ∷ r3 ∷ r4 ∷ []) (a ∷ b ∷ c ∷ d ∷ []) four s v w x y p q o z =
-    let f : List Entry → Option Entry = λ es. first_of (wanted (is_wanted position) es) in
-    let one = p.2 ∙ ap f (sym (same_list a p.0 p.1)) in
-    let two = q.2 ∙ ap f (sym (same_list b q.0 q.1)) in
-    let three = o.2 ∙ ap f (sym (same_list c o.0 o.1)) in
-    let last = z.2 ∙ ap f (sym (same_list d z.0 z.1)) ∙ sym (lesser_none (f d)) in
-    λ i. lesser (one i) (lesser (two i) (lesser (three i) (last i)))
-least_of_four flash arena position (r1 ∷ r2 ∷ r3 ∷ r4 ∷ []) (a ∷ b ∷ c ∷ d ∷ e ∷ ess) four s v w x y p q o z = absurd s.1.1.1.1
-least_of_four flash arena position rs [] four s v w x y p q o z = absurd (no_lists p.0 p.1)
-least_of_four flash arena position rs (a ∷ []) four s v w x y p q o z = absurd (no_lists q.0 q.1)
-least_of_four flash arena position rs (a ∷ b ∷ []) four s v w x y p q o z = absurd (no_lists o.0 o.1)
-least_of_four flash arena position rs (a ∷ b ∷ c ∷ []) four s v w x y p q o z = absurd (no_lists z.0 z.1)
-least_of_four flash arena position [] (a ∷ b ∷ c ∷ d ∷ ess) four s v w x y p q o z = absurd (omega (arith, four))
-least_of_four flash arena position (r1 ∷ []) (a ∷ b ∷ c ∷ d ∷ ess) four s v w x y p q o z = absurd (omega (arith, four))
-least_of_four flash arena position (r1 ∷ r2 ∷ []) (a ∷ b ∷ c ∷ d ∷ ess) four s v w x y p q o z = absurd (omega (arith, four))
-least_of_four flash arena position (r1 ∷ r2 ∷ r3 ∷ []) (a ∷ b ∷ c ∷ d ∷ ess) four s v w x y p q o z = absurd (omega (arith, four))
-least_of_four flash arena position (r1 ∷ r2 ∷ r3 ∷ r4 ∷ r5 ∷ rs) (a ∷ b ∷ c ∷ d ∷ ess) four s v w x y p q o z = absurd (omega (arith, four))
-
--- ---- none is found
-
-no_entry : (x : Entry) → ◌≡◌ {A = Option Entry} None (Some x) → ⊥
-no_entry x e = cc
-
-neither : (b : Bool) (x y : Entry) → ◌≡◌ {A = Option Entry} None (if b then Some y else Some x) → ⊥
-neither true x y e = no_entry y e
-neither false x y e = no_entry x e
-
--- there is no lesser of two only where there is none of both
-pub none_of : (a b found : Option RustEntry) → option_map seen found ≡ lesser (option_map seen a) (option_map seen b) → found ≡ None → (a ≡ None) × (b ≡ None)
-none_of None None found is none = (refl, refl)
-none_of None (Some y) found is none = absurd (no_entry (seen y) (sym (ap (option_map seen) none) ∙ is))
-none_of (Some x) None found is none = absurd (no_entry (seen x) (sym (ap (option_map seen) none) ∙ is))
-none_of (Some x) (Some y) found is none = absurd (neither (is_gt (key_cmp (seen x).0 (seen y).0)) (seen x) (seen y) (sym (ap (option_map seen) none) ∙ is))
+-- ---- none is left
 
 -- the cursor of a run has come past all its pages
 abbrev pub HasEnded : List Kept → List Cursor → ℕ → Type 0

@@ -1,5 +1,5 @@
 -- A search in a run for the first wanted entry: what holds at each step of it, and what it finds.
-use Rattle.std.proofs.Common.{◌≡◌, ℕ, suc, ◌+◌, ◌/◌, ◌%◌, ◌<◌, ◌≤◌, refl, sym, ap, subst, ◌∙◌, arith, Bool, true, List, length, slice_get, Some, None, Result, Ok}
+use Rattle.std.proofs.Common.{◌≡◌, ℕ, suc, ◌+◌, ◌/◌, ◌%◌, ◌<◌, ◌≤◌, refl, sym, ap, subst, ◌∙◌, arith, Bool, true, List, drop, length, slice_get, Some, None, Result, Ok}
 use Rattle.pk_base.specs.Shape.{IsShape, page_entries}
 use Rattle.pk_base.specs.Entry.{Entry}
 use Rattle.pk_base.specs.Seen.{entry as seen}
@@ -16,10 +16,10 @@ use Rattle.pk_level.proofs.Looking.{reads_more}
 use Rattle.pk_walk.specs.declared.position.Position.{Position}
 use Rattle.pk_walk.specs.Visible.{is_wanted, wanted, first_of}
 use Rattle.pk_walk.specs.Walking.{Cursor, Follows, HasPassed, Reads, ReadsAll, ReadsFail, SkipsNoPage, read_of}
-use Rattle.pk_walk.specs.Steps.{FailsToShow, FindsIn, GoesOn, Looks, Moves, StaysAt}
+use Rattle.pk_walk.specs.Steps.{FailsToShow, FindsIn, GoesOn, IsAt, Looks, Moves, StaysAt}
 use Rattle.pk_walk.proofs.Wanting.{first_here, none_here}
-use Rattle.pk_walk.proofs.Following.{HasPassed-kept, all_come}
-use Rattle.pk_walk.proofs.Moving.{AtPage, entry_here, found_at, found_wanted, moved_follows, moved_within}
+use Rattle.pk_walk.proofs.Following.{HasPassed-kept, all_come, sought_left}
+use Rattle.pk_walk.proofs.Moving.{AtPage, entry_here, found_at, found_wanted, moved_follows, moved_left, moved_sought, moved_within}
 
 -- ---- reads
 
@@ -66,10 +66,14 @@ one_list r flash arena xs ys s t = same_ok xs ys (sym s.read ∙ t.read)
 pub no_answer : (e : RustEntry) → Some e ≡ None → ⊥
 no_answer e is = cc
 
+same_answer : (e x : RustEntry) → Some e ≡ Some x → e ≡ x
+same_answer e x is = cc
+
 pub record Seeking (r : Kept) (arena : Frames) (position : Position) (old now : BoardState) (first c : Cursor) : Type 0 where
   pub es : List Entry
   pub stands : RunOnFlash r old.pages arena es
   pub follows : Follows old.pages r es position c
+  pub sought : c.head ≡ None
   pub shape : c.shape ≡ first.shape
   pub reads : Reads (read_of r.leases first.loaded) (read_of r.leases c.loaded) old now
   pub all : SkipsNoPage position → HasPassed first → HasPassed c × ReadsAll (read_of r.leases first.loaded) (read_of r.leases c.loaded) old now
@@ -77,8 +81,9 @@ pub record Seeking (r : Kept) (arena : Frames) (position : Position) (old now : 
 module _ (r : Kept) (arena : Frames) (position : Position) (old : BoardState) (first : Cursor) where
   pub Seeking-start : (c : Cursor) (es : List Entry) → RunOnFlash r old.pages arena es → Follows old.pages r es position first
       → ((flash : Flash) (arena : Frames) (es : List Entry) → RunOnFlash r flash arena es → Follows flash r es position first → Follows flash r es position c)
-      → c ≡ record first { place = c.place } → (SkipsNoPage position → HasPassed first → HasPassed c) → Seeking r arena position old old first c
-  Seeking-start c es s f begun same passed = record {
+      → c ≡ record first { place = c.place } → (SkipsNoPage position → HasPassed first → HasPassed c) → first.head ≡ None → Seeking r arena position old old first c
+  Seeking-start c es s f begun same passed none = record {
+    sought = ap (λ (x : Cursor). x.head) same ∙ none;
     es = es;
     stands = s;
     follows = begun old.pages arena es s f;
@@ -98,9 +103,12 @@ module _ (r : Kept) (arena : Frames) (position : Position) (old : BoardState) (f
     pub follows_any : (es : List Entry) → RunOnFlash r old.pages arena es → Follows old.pages r es position c
     follows_any es s = subst (λ (xs : List Entry). Follows old.pages r xs position c) (one_list r old.pages arena at.es es at.stands s) at.follows
 
+    any_left : (es : List Entry) → RunOnFlash r old.pages arena es → wanted (is_wanted position) es ≡ wanted (is_wanted position) (drop c.place es)
+    any_left es s = sought_left old.pages r es position c (follows_any es s) at.sought
+
     -- all entries are passed
     pub Seeking-end : (es : List Entry) → RunOnFlash r old.pages arena es → r.count ≤ c.place → None ≡ first_of (wanted (is_wanted position) es)
-    Seeking-end es s past = none_here (is_wanted position) es c.place (omega (arith, s.many, past)) (follows_any es s).left
+    Seeking-end es s past = none_here (is_wanted position) es c.place (omega (arith, s.many, past)) (any_left es s)
 
     -- a page was looked at, and the cursor has its bytes
     pub Seeking-looked : (next : BoardState) (d : Cursor) → StaysAt now.pages r c d → Looks r now next c d → Seeking r arena position old next first d
@@ -108,6 +116,7 @@ module _ (r : Kept) (arena : Frames) (position : Position) (old : BoardState) (f
       es = at.es;
       stands = at.stands;
       follows = subst (λ (flash : Flash). Follows flash r at.es position d) (Reads-pages _ _ old now at.reads) (stays.follows at.es position follows_now);
+      sought = ap (λ (x : Cursor). x.head) stays.place ∙ at.sought;
       shape = ap (λ (x : Cursor). x.shape) stays.place ∙ at.shape;
       reads = Reads-more _ _ _ old now next at.reads looks.reads;
       all = λ none before.
@@ -159,6 +168,9 @@ module _ (r : Kept) (arena : Frames) (position : Position) (old : BoardState) (f
     pub Seeking-none : IsShape r.shape → first.shape ≡ r.shape → r.count ≤ c.place → FindsIn r arena position old now first c None
     Seeking-none is same past = record {
       found = λ es s. Seeking-end es s past;
+      at = λ e is. absurd (no_answer e (sym is));
+      past = λ e. past;
+      sought = at.sought;
       reads = at.reads;
       all = λ none before. (at.all none before).1;
       ended = λ e none before. Seeking-ended is same past none before;
@@ -173,7 +185,8 @@ module _ (r : Kept) (arena : Frames) (position : Position) (old : BoardState) (f
       Seeking-moved = record {
         es = at.es;
         stands = at.stands;
-        follows = moved_follows r old.pages arena at.es is kept at.stands c here position d found m at.follows;
+        follows = moved_follows r old.pages arena at.es is kept at.stands c here position d found m at.sought at.follows;
+        sought = moved_sought r old.pages arena at.es is kept at.stands c here position d found m at.sought;
         shape = ap (λ (x : Cursor). x.shape) m.cursor ∙ at.shape;
         reads = subst (λ (n : ℕ). Reads (read_of r.leases first.loaded) (read_of r.leases n) old now) same_loaded at.reads;
         all = λ none before. (
@@ -188,10 +201,19 @@ module _ (r : Kept) (arena : Frames) (position : Position) (old : BoardState) (f
           → FindsIn r arena position old now first d (Some e)
       Seeking-finds there e shows = record {
         found = λ es s.
-            let left = (moved_follows r old.pages arena es is kept s c here position d found m (follows_any es s)).left in
-            let got = entry_here r old.pages arena es is kept s d (found_at r old.pages arena es is kept s c here position d found m there) (seen e) shows in
+            let left = moved_left r old.pages arena es is kept s c here position d found m (any_left es s) in
+            let got = found_here es s in
             first_here (is_wanted position) es d.place (seen e) got (found_wanted r old.pages arena es is kept s c here position d found m there (seen e) got) left;
+        at = λ x same. subst (λ (y : RustEntry). IsAt r old.pages arena d (seen y)) (same_answer e x same) (record { inside = own.inside; loaded = own.loaded; is = found_here });
+        past = λ is. absurd (no_answer e is);
+        sought = Seeking-moved.sought;
         reads = Seeking-moved.reads;
         all = λ none before. (Seeking-moved.all none before).1;
         ended = λ is none before. absurd (no_answer e is);
       }
+        where
+          own : AtPage r old.pages d
+          own = found_at r old.pages arena at.es is kept at.stands c here position d found m there
+
+          found_here : (es : List Entry) → RunOnFlash r old.pages arena es → slice_get es d.place ≡ Some (seen e)
+          found_here es s = entry_here r old.pages arena es is kept s d (found_at r old.pages arena es is kept s c here position d found m there) (seen e) shows

@@ -1,6 +1,8 @@
 -- A walk over all lists: what a step leaves, and what is left behind several.
-use Rattle.std.proofs.Common.{◌≡◌, ℕ, suc, ◌+◌, ◌<◌, ◌≤◌, refl, sym, ap, subst, ◌∙◌, arith, true, false, T, is_some, List, [], ◌∷◌, length, Option, Some, None, Result, Ok, Err}
+use Rattle.std.proofs.Common.{◌≡◌, ℕ, suc, ◌+◌, ◌<◌, ◌≤◌, refl, sym, ap, subst, ◌∙◌, arith, Bool, true, false, if◌then◌else◌, T, is_some, List, [], ◌∷◌, ◌++◌, length, drop, Option, Some, None, Result, Ok, Err}
 use Rattle.std.specs.List.{AllByRecursion, flat_map}
+use Rattle.std.specs.Ordering.{is_eq, is_gt}
+use Rattle.std.specs.declared.cmp.Ordering.TheVariants.{Less, Equal, Greater}
 use Rattle.std.specs.FinMap.Entries.{is_sorted}
 use Rattle.pk_base.specs.Key.{Key, key_cmp}
 use Rattle.pk_base.specs.Shape.{Shape}
@@ -23,10 +25,12 @@ use Rattle.pk_model.proofs.Lookups.{firsts_sorted}
 use Rattle.pk_walk.specs.declared.position.Position.{Position}
 use Rattle.pk_walk.specs.declared.position.Position.TheVariants.{First, Above}
 use Rattle.pk_walk.specs.Visible.{visible, is_wanted, wanted, first_of, lesser, least_first}
-use Rattle.pk_walk.specs.Walking.{Cursor, Walk, IsWalk, AreOfShape, FollowEach, HasPassed, IsLeft, Gives, Passes, Reads, ReadsAll, ReadsFail, SkipsNoPage, SkipsNone, all_left, all_at_start, read_of, pages_read, most_read}
-use Rattle.pk_walk.specs.Steps.{Comes, FindsInEach, GoOn, WalksOn, first_left}
+use Rattle.pk_walk.specs.Heads.{Head, Shows, behind, entry_in, held, known_as, least_of, order_of}
+use Rattle.pk_walk.specs.Walking.{Cursor, Tops, Walk, IsWalk, AreOfShape, FollowEach, ShowBoth, cursors_behind, none_known, tops_behind, HasPassed, IsLeft, Gives, Passes, Reads, ReadsAll, ReadsFail, SkipsNoPage, SkipsNone, all_left, all_at_start, read_of, pages_read, most_read}
+use Rattle.pk_walk.specs.Steps.{AreKnown, Comes, GoBehind, GoOn, HasNone, IsKnown, ShowsEach, WalksOn, first_left, heads_in, heads_of}
 use Rattle.pk_walk.proofs.Merging.{EachSorted, first_of_lists}
-use Rattle.pk_walk.proofs.Wanting.{behind_first, first_wanted, none_wanted, placed_wanted}
+use Rattle.pk_walk.proofs.Wanting.{above_is_narrower, behind_first, first_wanted, narrowed, none_here, none_wanted, placed_wanted}
+use Rattle.pk_walk.proofs.Leasts.{NotBelow, NoneBelow, none_below}
 use Rattle.pk_walk.proofs.Following.{Follows-above, Follows-start}
 use Rattle.pk_walk.proofs.Seeking.{Reads-none, Reads-more, Reads-pages, ReadsAll-none, ReadsAll-more, no_answer, one_list}
 
@@ -74,6 +78,54 @@ pub least_is : (flash : Flash) (arena : Frames) (rs : List Kept) (ess : List (Li
 least_is flash arena rs ess active frozen position a b c all up down s ea eb ec is =
     is ∙ (λ i. lesser (ea i) (lesser (eb i) (ec i))) ∙ sym (first_of_lists (is_wanted position) (active ∷ frozen ∷ ess) (up, (down, each_rises flash arena rs ess s)))
 
+-- what a cursor knows is the first wanted entry of its run
+known_head : (w : Key → Bool) (es : List Entry) (n count : ℕ) (h : Head) → length es ≡ count → wanted w es ≡ held h ++ wanted w (drop n es) → (h ≡ Some None → count ≤ n) → is_some h ≡ true → entry_in h ≡ first_of (wanted w es)
+known_head w es n count None many left ended known = cc
+known_head w es n count (Some None) many left ended known = none_here w es n (omega (arith, many, ended refl)) left
+known_head w es n count (Some (Some e)) many left ended known = sym (ap first_of left)
+
+known_least : (flash : Flash) (arena : Frames) (position : Position) (rs : List Kept) (ess : List (List Entry)) (cs : List Cursor) → length rs ≡ length cs → RunsOnFlash flash arena rs ess → FollowEach flash rs ess position cs
+    → AllByRecursion IsKnown cs → least_of (heads_of cs) ≡ least_first (is_wanted position) ess
+known_least flash arena position [] [] [] same s f known = refl
+known_least flash arena position [] [] (c ∷ cs) same s f known = absurd (omega (arith, same))
+known_least flash arena position [] (es ∷ ess) cs same s f known = absurd s
+known_least flash arena position (r ∷ rs) [] cs same s f known = absurd s
+known_least flash arena position (r ∷ rs) (es ∷ ess) [] same s f known = absurd (omega (arith, same))
+known_least flash arena position (r ∷ rs) (es ∷ ess) (c ∷ cs) same s f known =
+    let own = known_head (is_wanted position) es c.place r.count c.head s.0.many f.0.left f.0.ended known.0 in
+    let rest = known_least flash arena position rs ess cs (omega (arith, same)) s.1 f.1 known.1 in
+    λ i. lesser (own i) (rest i)
+
+-- and what is known of a buffer is its first
+known_top : (es : List Entry) (position : Position) (h : Head) → Shows es position h → entry_in (known_as (first_of (wanted (is_wanted position) es)) h) ≡ first_of (wanted (is_wanted position) es)
+known_top es position None shows = refl
+known_top es position (Some found) shows = shows
+
+shows_known : (es : List Entry) (position : Position) (h : Head) → Shows es position h → Shows es position (known_as (first_of (wanted (is_wanted position) es)) h)
+shows_known es position None shows = refl
+shows_known es position (Some found) shows = shows
+
+-- where there is no least there is none of all
+neither : (a b : Option Entry) → None ≡ lesser a b → (a ≡ None) × (b ≡ None)
+neither None b e = (refl, sym e)
+neither (Some x) None e = cc
+neither (Some x) (Some y) e = absurd (either (is_gt (key_cmp x.0 y.0)) e)
+  where
+    either : (b : Bool) → ◌≡◌ {A = Option Entry} None (if b then Some y else Some x) → ⊥
+    either true e = cc
+    either false e = cc
+
+all_none : (cs : List Cursor) → None ≡ least_of (heads_of cs) → AllByRecursion IsKnown cs → AllByRecursion HasNone cs
+all_none [] e known = tt
+all_none (c ∷ cs) e known =
+    let both = neither (entry_in c.head) (least_of (heads_of cs)) e in
+    (ended c.head known.0 both.0, all_none cs (sym both.1) known.1)
+  where
+    ended : (h : Head) → is_some h ≡ true → entry_in h ≡ None → h ≡ Some None
+    ended None known none = cc
+    ended (Some None) known none = refl
+    ended (Some (Some e)) known none = cc
+
 -- ---- a step
 
 pub step_some : (position : Position) (lists : List (List Entry)) (e : RustEntry) → Some (seen e) ≡ first_of (all_left position lists) → Passes (Some e) (all_left position lists) (all_left (Above (key_of (seen e))) lists)
@@ -87,53 +139,152 @@ step_none position lists is =
     let none = none_wanted (all_left position lists) (sym is) in
     subst (λ (xs : List Entry). Passes None xs xs) (sym none) (refl, refl)
 
-pub step_follow : (flash : Flash) (position : Position) (key : Key) (rs : List Kept) (ess : List (List Entry)) (cs : List Cursor) → T (is_wanted position key) → FollowEach flash rs ess position cs → FollowEach flash rs ess (Above key) cs
-step_follow flash position key [] ess cs one f = tt
-step_follow flash position key (r ∷ rs) [] cs one f = tt
-step_follow flash position key (r ∷ rs) (es ∷ ess) [] one f = tt
-step_follow flash position key (r ∷ rs) (es ∷ ess) (c ∷ cs) one f = (Follows-above flash r es position c f.0 key one, step_follow flash position key rs ess cs one f.1)
+not_below_entry : (key : Key) (h : Head) → NotBelow key (entry_in h) → (e : Entry) → h ≡ Some (Some e) → key_cmp e.0 key ≡ Less → ⊥
+not_below_entry key h n e is = subst (λ (x : Head). NotBelow key (entry_in x)) is n
+
+pub step_follow : (flash : Flash) (position : Position) (key : Key) (rs : List Kept) (ess : List (List Entry)) (cs : List Cursor) → T (is_wanted position key) → NoneBelow key (heads_of cs) → FollowEach flash rs ess position cs
+    → FollowEach flash rs ess (Above key) (cursors_behind key cs)
+step_follow flash position key [] ess cs one none f = tt
+step_follow flash position key (r ∷ rs) [] cs one none f = tt
+step_follow flash position key (r ∷ rs) (es ∷ ess) [] one none f = tt
+step_follow flash position key (r ∷ rs) (es ∷ ess) (c ∷ cs) one none f =
+    (Follows-above flash r es position c f.0 key one (not_below_entry key c.head none.0), step_follow flash position key rs ess cs one none.1 f.1)
+
+no_entry : (e : Entry) → ◌≡◌ {A = Option Entry} None (Some e) → ⊥
+no_entry e is = cc
+
+-- what is known of a buffer stays right
+step_shows : (position : Position) (key : Key) (es : List Entry) (h : Head) → T (is_wanted position key) → NotBelow key (entry_in h) → Shows es position h → Shows es (Above key) (behind key h)
+step_shows position key es None one low shows = tt
+step_shows position key es (Some None) one low shows =
+    let v : Key → Bool = is_wanted (Above key) in
+    let none = none_wanted (wanted (is_wanted position) es) (sym shows) in
+    ap first_of (sym (ap (wanted v) none) ∙ narrowed v (is_wanted position) es (above_is_narrower position key one))
+step_shows position key es (Some (Some e)) one low shows =
+    let v : Key → Bool = is_wanted (Above key) in
+    elim (key_cmp e.0 key) as (λ o. key_cmp e.0 key ≡ o → Shows es (Above key) (if is_eq o then None else Some (Some e))) [
+      | Less ↦ λ p. absurd (low p)
+      | Equal ↦ λ p. tt
+      | Greater ↦ λ p. first_kept (wanted (is_wanted position) es) p shows ∙ ap first_of (narrowed v (is_wanted position) es (above_is_narrower position key one))
+    ] refl
+  where
+    first_kept : (xs : List Entry) → key_cmp e.0 key ≡ Greater → Some e ≡ first_of xs → Some e ≡ first_of (wanted (is_wanted (Above key)) xs)
+    first_kept [] gt is = absurd (no_entry e (sym is))
+    first_kept (x ∷ xs) gt is =
+        is ∙ ap (λ (b : Bool). first_of (if b then x ∷ wanted (is_wanted (Above key)) xs else wanted (is_wanted (Above key)) xs))
+        (sym (ap is_gt (ap (λ (y : Option Entry). order_of y (Some (key, None))) (sym is) ∙ gt)))
 
 pub step_wanted : (position : Position) (lists : List (List Entry)) (e : RustEntry) → Some (seen e) ≡ first_of (all_left position lists) → T (is_wanted position (key_of (seen e)))
 step_wanted position lists e is = first_wanted (is_wanted position) (firsts (flat_map (λ es. es) lists)) (seen e) (sym is)
 
--- what a step found at a walk's position, and where it left the cursors
-module _ (rs : List Kept) (arena : Frames) (active frozen : List Entry) (shape : Shape) (old new : BoardState) (w : Walk) (ds : List Cursor) (on : GoOn old.pages arena shape rs w.position w.cursors ds) where
+-- the pages that were come past stay so
+behind_read : (key : Key) (rs : List Kept) (cs : List Cursor) → pages_read rs (cursors_behind key cs) ≡ pages_read rs cs
+behind_read key [] cs = refl
+behind_read key (r ∷ rs) [] = refl
+behind_read key (r ∷ rs) (c ∷ cs) = ap (λ (n : ℕ). read_of r.leases c.loaded + n) (behind_read key rs cs)
+
+behind_passed : (key : Key) (cs : List Cursor) → AllByRecursion HasPassed cs → AllByRecursion HasPassed (cursors_behind key cs)
+behind_passed key [] passed = tt
+behind_passed key (c ∷ cs) passed = (passed.0, behind_passed key cs passed.1)
+
+behind_shape : (shape : Shape) (key : Key) (cs : List Cursor) → AreOfShape shape cs → AreOfShape shape (cursors_behind key cs)
+behind_shape shape key [] are = tt
+behind_shape shape key (c ∷ cs) are = (are.0, behind_shape shape key cs are.1)
+
+-- it is a walk still
+pub is_walk_behind : (shape own : Shape) (position : Position) (tops t u : Tops) (ds cs : List Cursor) (a : Option Entry) → GoBehind a t ds u cs → AreOfShape shape ds → own ≡ shape → length cs ≡ 4
+    → IsWalk (record { shape = own; position = position; tops = tops; cursors = cs })
+is_walk_behind shape own position tops t u ds cs a go are same four = record { four = four; each = subst (λ (x : Shape). AreOfShape x cs) (sym same) (each a go) }
+  where
+    each : (a : Option Entry) → GoBehind a t ds u cs → AreOfShape shape cs
+    each None go = subst (AreOfShape shape) (sym go.1) are
+    each (Some e) go = subst (AreOfShape shape) (sym go.1) (behind_shape shape e.0 ds are)
+
+-- What a step learned at a walk's position, and where it left the cursors.
+pub record Learned (rs : List Kept) (arena : Frames) (active frozen : List Entry) (shape : Shape) (old new : BoardState) (w : Walk) (t : Tops) (ds : List Cursor) : Type 0 where
+  pub on : GoOn old.pages arena shape rs w.position w.cursors ds
+  pub shows : ShowsEach rs w.position old new w.cursors ds
+  pub before : ShowBoth active frozen w.position w.tops
+  pub known : AreKnown active frozen w.position w.tops t
+  pub up : T (is_sorted key_cmp active)
+  pub down : T (is_sorted key_cmp frozen)
+  pub many : length rs ≡ length ds
+
+module _ (rs : List Kept) (arena : Frames) (active frozen : List Entry) (shape : Shape) (old new : BoardState) (w : Walk) (t : Tops) (ds : List Cursor) (at : Learned rs arena active frozen shape old new w t ds) where
+  tops_now : ShowBoth active frozen w.position t
+  tops_now = subst (ShowBoth active frozen w.position) (sym at.known) (shows_known active w.position w.tops.active at.before.0, shows_known frozen w.position w.tops.frozen at.before.1)
+
+  -- the least of what is known is the next of all
+  found : (a : Option Entry) → a ≡ least_of (heads_in t ds) → (ess : List (List Entry)) → RunsOnFlash old.pages arena rs ess → a ≡ first_left w.position active frozen ess
+  found a least ess s =
+      least_is old.pages arena rs ess active frozen w.position (entry_in t.active) (entry_in t.frozen) (least_of (heads_of ds)) a at.up at.down s
+      (ap (λ (x : Tops). entry_in x.active) at.known ∙ known_top active w.position w.tops.active at.before.0) (ap (λ (x : Tops). entry_in x.frozen) at.known ∙ known_top frozen w.position w.tops.frozen at.before.1)
+      (known_least old.pages arena w.position rs ess ds at.many s (at.on.follow ess s) at.shows.known) least
+
   -- the walk goes behind an entry
-  module _ (e : RustEntry) (key : Key) (of_entry : key ≡ key_of (seen e)) (f : FindsInEach (first_left w.position active frozen) rs arena w.position old new w.cursors ds (Some e)) where
-    pub comes_behind : Comes rs arena active frozen old new w (record w { position = Above key; cursors = ds }) (Some e)
+  module _ (e : RustEntry) (key : Key) (of_entry : key ≡ key_of (seen e)) (least : Some (seen e) ≡ least_of (heads_in t ds)) (u : Tops) (cs : List Cursor) (go : GoBehind (Some (seen e)) t ds u cs) where
+    read_same : pages_read rs cs ≡ pages_read rs ds
+    read_same = ap (pages_read rs) go.1 ∙ behind_read (key_of (seen e)) rs ds
+
+    pub comes_behind : Comes rs arena active frozen old new w (record w { position = Above key; tops = u; cursors = cs }) (Some e)
     comes_behind = record {
       passes = λ ess s.
           subst (λ (k : Key). Passes (Some e) (all_left w.position (active ∷ frozen ∷ ess)) (all_left (Above k) (active ∷ frozen ∷ ess))) (sym of_entry)
-          (step_some w.position (active ∷ frozen ∷ ess) e (f.found ess s));
-      reads = f.reads;
-      exact = λ none. f.all none.position none.passed;
+          (step_some w.position (active ∷ frozen ∷ ess) e (found (Some (seen e)) least ess s));
+      reads = subst (λ (n : ℕ). Reads (pages_read rs w.cursors) n old new) (sym read_same) at.shows.reads;
+      exact = λ none. subst (λ (n : ℕ). ReadsAll (pages_read rs w.cursors) n old new) (sym read_same) (at.shows.all none.position none.passed);
       ended = λ is none. absurd (no_answer e is);
     }
 
-    pub walks_behind : WalksOn old.pages arena rs w (record w { position = Above key; cursors = ds })
+    stays_right : (ess : List (List Entry)) → RunsOnFlash old.pages arena rs ess
+        → FollowEach old.pages rs ess (Above (key_of (seen e))) (cursors_behind (key_of (seen e)) ds) × ShowBoth active frozen (Above (key_of (seen e))) (tops_behind (key_of (seen e)) t)
+    stays_right ess s =
+        let none = none_below (heads_in t ds) (seen e) least in
+        let one = step_wanted w.position (active ∷ frozen ∷ ess) e (found (Some (seen e)) least ess s) in (
+          step_follow old.pages w.position (key_of (seen e)) rs ess ds one none.1.1 (at.on.follow ess s),
+          (step_shows w.position (key_of (seen e)) active t.active one none.0 tops_now.0, step_shows w.position (key_of (seen e)) frozen t.frozen one none.1.0 tops_now.1),
+        )
+
+    pub walks_behind : WalksOn old.pages arena rs active frozen w (record w { position = Above key; tops = u; cursors = cs })
     walks_behind = record {
       follow = λ ess s.
-          subst (λ (k : Key). FollowEach old.pages rs ess (Above k) ds) (sym of_entry)
-          (step_follow old.pages w.position (key_of (seen e)) rs ess ds (step_wanted w.position (active ∷ frozen ∷ ess) e (f.found ess s)) (on.follow ess s));
+          subst (λ (k : Key). FollowEach old.pages rs ess (Above k) cs × ShowBoth active frozen (Above k) u) (sym of_entry)
+          (subst (λ (xs : List Cursor). FollowEach old.pages rs ess (Above (key_of (seen e))) xs × ShowBoth active frozen (Above (key_of (seen e))) u) (sym go.1)
+          (subst (λ (x : Tops). FollowEach old.pages rs ess (Above (key_of (seen e))) (cursors_behind (key_of (seen e)) ds) × ShowBoth active frozen (Above (key_of (seen e))) x) (sym go.0) (stays_right ess s)));
       same_shape = refl;
-      skips_none = λ none. record { position = tt; passed = on.passed none.position none.passed };
+      skips_none = λ none. record {
+        position = tt;
+        passed = subst (AllByRecursion HasPassed) (sym go.1) (behind_passed (key_of (seen e)) ds (at.on.passed none.position none.passed));
+      };
     }
 
   -- it stays at its position
-  pub walks_there : WalksOn old.pages arena rs w (record w { cursors = ds })
-  walks_there = record {
-    follow = on.follow;
-    same_shape = refl;
-    skips_none = λ none. record { position = none.position; passed = on.passed none.position none.passed };
-  }
+  module _ (least : None ≡ least_of (heads_in t ds)) (u : Tops) (cs : List Cursor) (go : GoBehind None t ds u cs) where
+    pub walks_there : WalksOn old.pages arena rs active frozen w (record w { tops = u; cursors = cs })
+    walks_there = record {
+      follow = λ ess s. (subst (FollowEach old.pages rs ess w.position) (sym go.1) (at.on.follow ess s), subst (ShowBoth active frozen w.position) (sym go.0) tops_now);
+      same_shape = refl;
+      skips_none = λ none. record { position = none.position; passed = subst (AllByRecursion HasPassed) (sym go.1) (at.on.passed none.position none.passed) };
+    }
 
-  pub comes_to_none : FindsInEach (first_left w.position active frozen) rs arena w.position old new w.cursors ds None → Comes rs arena active frozen old new w (record w { cursors = ds }) None
-  comes_to_none f = record {
-    passes = λ ess s. step_none w.position (active ∷ frozen ∷ ess) (f.found ess s);
-    reads = f.reads;
-    exact = λ none. f.all none.position none.passed;
-    ended = λ is none. f.ended is none.position none.passed;
-  }
+    pub comes_to_none : Comes rs arena active frozen old new w (record w { tops = u; cursors = cs }) None
+    comes_to_none = record {
+      passes = λ ess s. step_none w.position (active ∷ frozen ∷ ess) (found None least ess s);
+      reads = subst (λ (xs : List Cursor). Reads (pages_read rs w.cursors) (pages_read rs xs) old new) (sym go.1) at.shows.reads;
+      exact = λ none. subst (λ (xs : List Cursor). ReadsAll (pages_read rs w.cursors) (pages_read rs xs) old new) (sym go.1) (at.shows.all none.position none.passed);
+      ended = λ is none.
+          let deep = neither (entry_in t.frozen) (least_of (heads_of ds)) (sym (neither (entry_in t.active) (lesser (entry_in t.frozen) (least_of (heads_of ds))) least).1) in
+          ap (pages_read rs) go.1 ∙ at.shows.ended (all_none ds (sym deep.1) at.shows.known) none.position none.passed;
+    }
+
+-- a read failed, and the walk is where it was
+pub walks_failed : (rs : List Kept) (arena : Frames) (active frozen : List Entry) (shape : Shape) (flash : Flash) (w : Walk) (t : Tops) (ds : List Cursor) → GoOn flash arena shape rs w.position w.cursors ds → t ≡ w.tops
+    → ShowBoth active frozen w.position w.tops → WalksOn flash arena rs active frozen w (record w { tops = t; cursors = ds })
+walks_failed rs arena active frozen shape flash w t ds on same before = record {
+  follow = λ ess s. (on.follow ess s, subst (ShowBoth active frozen w.position) (sym same) before);
+  same_shape = refl;
+  skips_none = λ none. record { position = none.position; passed = on.passed none.position none.passed };
+}
 
 -- ---- what is left
 
@@ -150,8 +301,8 @@ start_shape shape [] are = tt
 start_shape shape (c ∷ cs) are = (are.0, start_shape shape cs are.1)
 
 -- a walk whose cursors go back to the start is one
-pub start_walk : (shape : Shape) (position : Position) (cs cursors : List Cursor) → cursors ≡ all_at_start cs → length cs ≡ 4 → AreOfShape shape cs → IsWalk (record { shape = shape; position = position; cursors = cursors })
-start_walk shape position cs cursors same four are = record {
+pub start_walk : (shape : Shape) (position : Position) (tops : Tops) (cs cursors : List Cursor) → cursors ≡ all_at_start cs → length cs ≡ 4 → AreOfShape shape cs → IsWalk (record { shape = shape; position = position; tops = tops; cursors = cursors })
+start_walk shape position tops cs cursors same four are = record {
   four = ap (λ (xs : List Cursor). length xs) same ∙ start_length cs ∙ four;
   each = subst (AreOfShape shape) (sym same) (start_shape shape cs are);
 }
@@ -163,12 +314,13 @@ start_follow flash position (r ∷ rs) (es ∷ ess) [] = tt
 start_follow flash position (r ∷ rs) (es ∷ ess) (c ∷ cs) = (Follows-start flash r es position c, start_follow flash position rs ess cs)
 
 -- at the start all wanted keys are left
-pub start_left : (w : Walk) (cs : List Cursor) → w.cursors ≡ all_at_start cs → (flash : Flash) (arena : Frames) (rs : List Kept) (active frozen : List Entry) (ess : List (List Entry)) → RunsOnFlash flash arena rs ess
+pub start_left : (w : Walk) (cs : List Cursor) → w.cursors ≡ all_at_start cs → w.tops ≡ none_known → (flash : Flash) (arena : Frames) (rs : List Kept) (active frozen : List Entry) (ess : List (List Entry)) → RunsOnFlash flash arena rs ess
     → IsLeft w flash arena rs active frozen (wanted (is_wanted w.position) (visible (active ∷ frozen ∷ ess)))
-start_left w cs same flash arena rs active frozen ess stand = record {
+start_left w cs same unknown flash arena rs active frozen ess stand = record {
   ess = ess;
   stand = stand;
   follow = subst (FollowEach flash rs ess w.position) (sym same) (start_follow flash w.position rs ess cs);
+  tops = subst (ShowBoth active frozen w.position) (sym unknown) (tt, tt);
   is = refl;
 }
 
@@ -201,17 +353,18 @@ all_wanted [] = refl
 all_wanted (x ∷ xs) = ap (λ (ys : List (Key × Place)). x ∷ ys) (all_wanted xs)
 
 -- from the first key on all keys are left
-pub start_all : (w : Walk) (cs : List Cursor) → w.cursors ≡ all_at_start cs → w.position ≡ First → (flash : Flash) (arena : Frames) (rs : List Kept) (active frozen : List Entry) (ess : List (List Entry)) → RunsOnFlash flash arena rs ess
+pub start_all : (w : Walk) (cs : List Cursor) → w.cursors ≡ all_at_start cs → w.tops ≡ none_known → w.position ≡ First → (flash : Flash) (arena : Frames) (rs : List Kept) (active frozen : List Entry) (ess : List (List Entry)) → RunsOnFlash flash arena rs ess
     → IsLeft w flash arena rs active frozen (visible (active ∷ frozen ∷ ess))
-start_all w cs same first flash arena rs active frozen ess stand =
+start_all w cs same unknown first flash arena rs active frozen ess stand =
     subst (IsLeft w flash arena rs active frozen) (ap (λ (p : Position). wanted (is_wanted p) (visible (active ∷ frozen ∷ ess))) first ∙ all_wanted (visible (active ∷ frozen ∷ ess)))
-    (start_left w cs same flash arena rs active frozen ess stand)
+    (start_left w cs same unknown flash arena rs active frozen ess stand)
 
 -- the cursors follow the runs on the flash of old, only entries of deleted keys were passed since, and nothing was done but reads
 pub record Walking (rs : List Kept) (arena : Frames) (active frozen : List Entry) (shape : Shape) (old now : BoardState) (first w : Walk) : Type 0 where
   pub ess : List (List Entry)
   pub stand : RunsOnFlash old.pages arena rs ess
   pub follow : FollowEach old.pages rs ess w.position w.cursors
+  pub tops : ShowBoth active frozen w.position w.tops
   pub left : placed (all_left w.position (active ∷ frozen ∷ ess)) ≡ placed (all_left first.position (active ∷ frozen ∷ ess))
   pub same_shape : w.shape ≡ first.shape
   pub ready : IsReady now shape
@@ -224,6 +377,7 @@ module _ (rs : List Kept) (arena : Frames) (active frozen : List Entry) (shape :
     ess = left.ess;
     stand = left.stand;
     follow = left.follow;
+    tops = left.tops;
     left = refl;
     same_shape = refl;
     ready = ready;
@@ -254,13 +408,14 @@ module _ (rs : List Kept) (arena : Frames) (active frozen : List Entry) (shape :
     -- one more entry, of a deleted key
     pub Walking-gone : (next : BoardState) (v : Walk) (e : RustEntry) → is_some (seen e).1 ≡ false → v.shape ≡ w.shape → IsReady next shape
         → ((ess : List (List Entry)) → RunsOnFlash now.pages arena rs ess → Passes (Some e) (all_left w.position (active ∷ frozen ∷ ess)) (all_left v.position (active ∷ frozen ∷ ess)))
-        → ((ess : List (List Entry)) → RunsOnFlash now.pages arena rs ess → FollowEach now.pages rs ess v.position v.cursors)
+        → ((ess : List (List Entry)) → RunsOnFlash now.pages arena rs ess → FollowEach now.pages rs ess v.position v.cursors × ShowBoth active frozen v.position v.tops)
         → Reads (pages_read rs w.cursors) (pages_read rs v.cursors) now next → (SkipsNone w → SkipsNone v) → (SkipsNone w → ReadsAll (pages_read rs w.cursors) (pages_read rs v.cursors) now next)
         → Walking rs arena active frozen shape old next first v
     Walking-gone next v e gone same ready passes follow reads skips every = record {
       ess = at.ess;
       stand = at.stand;
-      follow = subst (λ (flash : Flash). FollowEach flash rs at.ess v.position v.cursors) same_pages (follow at.ess stand_now);
+      follow = subst (λ (flash : Flash). FollowEach flash rs at.ess v.position v.cursors) same_pages (follow at.ess stand_now).0;
+      tops = (follow at.ess stand_now).1;
       left = sym (passed_gone (all_left w.position lists) (all_left v.position lists) (passes at.ess stand_now)) ∙ at.left;
       same_shape = same ∙ at.same_shape;
       ready = ready;
@@ -286,18 +441,19 @@ module _ (rs : List Kept) (arena : Frames) (active frozen : List Entry) (shape :
         let own = one_of_each old.pages arena rs left.ess at.ess left.stand at.stand in
         left.is ∙ ap (λ (ess : List (List Entry)). wanted (is_wanted first.position) (visible (active ∷ frozen ∷ ess))) own ∙ left_is first.position lists ∙ sym at.left
 
-    left_next : (next : BoardState) (v : Walk) → next.pages ≡ now.pages → FollowEach now.pages rs at.ess v.position v.cursors → IsLeft v next.pages arena rs active frozen (placed (all_left v.position lists))
+    left_next : (next : BoardState) (v : Walk) → next.pages ≡ now.pages → FollowEach now.pages rs at.ess v.position v.cursors × ShowBoth active frozen v.position v.tops → IsLeft v next.pages arena rs active frozen (placed (all_left v.position lists))
     left_next next v pages follow = record {
       ess = at.ess;
       stand = subst (λ (flash : Flash). RunsOnFlash flash arena rs at.ess) (sym pages) stand_now;
-      follow = subst (λ (flash : Flash). FollowEach flash rs at.ess v.position v.cursors) (sym pages) follow;
+      follow = subst (λ (flash : Flash). FollowEach flash rs at.ess v.position v.cursors) (sym pages) follow.0;
+      tops = follow.1;
       is = sym (left_is v.position lists);
     }
 
     -- one more entry, of a key that is there
     pub Walking-gives : (next : BoardState) (v : Walk) (e : RustEntry) → is_some (seen e).1 ≡ true → next.pages ≡ now.pages
         → ((ess : List (List Entry)) → RunsOnFlash now.pages arena rs ess → Passes (Some e) (all_left w.position (active ∷ frozen ∷ ess)) (all_left v.position (active ∷ frozen ∷ ess)))
-        → ((ess : List (List Entry)) → RunsOnFlash now.pages arena rs ess → FollowEach now.pages rs ess v.position v.cursors)
+        → ((ess : List (List Entry)) → RunsOnFlash now.pages arena rs ess → FollowEach now.pages rs ess v.position v.cursors × ShowBoth active frozen v.position v.tops)
         → (rest : List (Key × Place)) → IsLeft first old.pages arena rs active frozen rest
         → (later : List (Key × Place)) × Gives (Some e) rest later × IsLeft v next.pages arena rs active frozen later
     Walking-gives next v e there pages passes follow rest left = (
@@ -317,7 +473,7 @@ module _ (rs : List Kept) (arena : Frames) (active frozen : List Entry) (shape :
     -- no more entry
     pub Walking-ends : (next : BoardState) (v : Walk) → next.pages ≡ now.pages
         → ((ess : List (List Entry)) → RunsOnFlash now.pages arena rs ess → Passes None (all_left w.position (active ∷ frozen ∷ ess)) (all_left v.position (active ∷ frozen ∷ ess)))
-        → ((ess : List (List Entry)) → RunsOnFlash now.pages arena rs ess → FollowEach now.pages rs ess v.position v.cursors)
+        → ((ess : List (List Entry)) → RunsOnFlash now.pages arena rs ess → FollowEach now.pages rs ess v.position v.cursors × ShowBoth active frozen v.position v.tops)
         → (rest : List (Key × Place)) → IsLeft first old.pages arena rs active frozen rest
         → (later : List (Key × Place)) × Gives None rest later × IsLeft v next.pages arena rs active frozen later
     Walking-ends next v pages passes follow rest left = (
@@ -332,7 +488,7 @@ module _ (rs : List Kept) (arena : Frames) (active frozen : List Entry) (shape :
 
     -- a read failed
     pub Walking-fails : (next : BoardState) (v : Walk) → next.pages ≡ now.pages → v.position ≡ w.position
-        → ((ess : List (List Entry)) → RunsOnFlash now.pages arena rs ess → FollowEach now.pages rs ess v.position v.cursors)
+        → ((ess : List (List Entry)) → RunsOnFlash now.pages arena rs ess → FollowEach now.pages rs ess v.position v.cursors × ShowBoth active frozen v.position v.tops)
         → (rest : List (Key × Place)) → IsLeft first old.pages arena rs active frozen rest → IsLeft v next.pages arena rs active frozen rest
     Walking-fails next v pages same follow rest left =
         subst (IsLeft v next.pages arena rs active frozen) (ap (λ (p : Position). placed (all_left p lists)) same ∙ sym (rest_is rest left)) (left_next next v pages (follow at.ess stand_now))
@@ -344,8 +500,8 @@ module _ (rs : List Kept) (arena : Frames) (active frozen : List Entry) (shape :
         (k + at.reads.0, page, omega (arith, h, few), subst (λ (b : BoardState). ReadFailed b next page) all failed)
 
     -- never more than all pages
-    pub few_read : (v : Walk) → ((ess : List (List Entry)) → RunsOnFlash now.pages arena rs ess → FollowEach now.pages rs ess v.position v.cursors) → pages_read rs v.cursors ≤ most_read rs
-    few_read v follow = bound rs at.ess v.cursors stand_now (follow at.ess stand_now)
+    pub few_read : (v : Walk) → ((ess : List (List Entry)) → RunsOnFlash now.pages arena rs ess → FollowEach now.pages rs ess v.position v.cursors × ShowBoth active frozen v.position v.tops) → pages_read rs v.cursors ≤ most_read rs
+    few_read v follow = bound rs at.ess v.cursors stand_now (follow at.ess stand_now).0
       where
         few : (leases : List ℕ) (n m : ℕ) → n ≤ m → read_of leases n ≤ read_of leases m
         few [] n m h = h

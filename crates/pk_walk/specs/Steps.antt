@@ -1,5 +1,5 @@
 -- What a step of a walk does: what it finds, where it leaves the cursors, and what it reads. Pages of a run that has frames are read from no flash.
-use Rattle.std.specs.Prelude.{◌≡◌, ℕ, suc, ◌+◌, ◌-◌, ◌*◌, ◌/◌, ◌%◌, ◌<◌, ◌≤◌, Bool, true, false, nat_lt, List, ◌∷◌, length, option_map, Option, None}
+use Rattle.std.specs.Prelude.{◌≡◌, ℕ, suc, ◌+◌, ◌-◌, ◌*◌, ◌/◌, ◌%◌, ◌<◌, ◌≤◌, Bool, true, false, nat_lt, List, [], ◌∷◌, length, is_some, option_map, slice_get, Option, Some, None}
 use Rattle.std.specs.List.{AllByRecursion}
 use Rattle.pk_base.specs.Shape.{Shape, page_entries}
 use Rattle.pk_base.specs.Entry.{Entry}
@@ -15,8 +15,10 @@ use Rattle.pk_pin.specs.Frames.{Frames}
 use Rattle.pk_run.specs.Kept.{Kept, RunOnFlash, page_of}
 use Rattle.pk_level.specs.Levels.{RunsOnFlash}
 use Rattle.pk_walk.specs.declared.position.Position.{Position}
+use Rattle.pk_walk.specs.declared.cursors.Orders.{Orders as RustOrders}
 use Rattle.pk_walk.specs.Visible.{is_wanted, wanted, first_of}
-use Rattle.pk_walk.specs.Walking.{Cursor, Walk, AreOfShape, Follows, FollowEach, HasPassed, Passes, Reads, ReadsAll, SkipsNoPage, SkipsNone, all_left, pages_read, most_read, read_of}
+use Rattle.pk_walk.specs.Heads.{Head, entry_in, known_as, least_of, order_of}
+use Rattle.pk_walk.specs.Walking.{Cursor, Tops, Walk, AreOfShape, Follows, FollowEach, HasPassed, Passes, Reads, ReadsAll, ShowBoth, SkipsNoPage, SkipsNone, all_left, cursors_behind, pages_read, most_read, read_of, tops_behind}
 
 -- ---- a page of a run
 
@@ -74,12 +76,33 @@ pub record Moves (position : Position) (c d : Cursor) (found : Bool) : Type 0 wh
 
 -- ---- the first wanted entry of a run
 
--- This is the first entry of the run that is wanted, or there is none; each page up to it was read at most once, and exactly once where none is skipped.
+-- the cursor's place is that of this entry, and it has its page
+pub record IsAt (r : Kept) (flash : Flash) (arena : Frames) (d : Cursor) (e : Entry) : Type 0 where
+  pub inside : d.place < r.count
+  pub loaded : d.loaded ≡ suc (d.place / page_entries r.shape)
+  pub is : (es : List Entry) → RunOnFlash r flash arena es → slice_get es d.place ≡ Some e
+
+-- This is the first entry of the run that is wanted, and the cursor is at it, or there is none; each page up to it was read at most once, and exactly once where none is skipped.
 pub record FindsIn (r : Kept) (arena : Frames) (position : Position) (old new : BoardState) (c d : Cursor) (answer : Option RustEntry) : Type 0 where
   pub found : (es : List Entry) → RunOnFlash r old.pages arena es → option_map seen answer ≡ first_of (wanted (is_wanted position) es)
+  pub at : (e : RustEntry) → answer ≡ Some e → IsAt r old.pages arena d (seen e)
+  pub past : answer ≡ None → r.count ≤ d.place
+  pub sought : d.head ≡ None
   pub reads : Reads (read_of r.leases c.loaded) (read_of r.leases d.loaded) old new
   pub all : SkipsNoPage position → HasPassed c → ReadsAll (read_of r.leases c.loaded) (read_of r.leases d.loaded) old new
   pub ended : answer ≡ None → SkipsNoPage position → HasPassed c → d.loaded ≡ length r.firsts
+
+-- the cursor with what was found at its place, and behind it
+abbrev pub holding : Option Entry → Cursor → Cursor
+holding None c = record c { head = Some None }
+holding (Some e) c = record c { place = suc c.place; head = Some (Some e) }
+
+-- The cursor knows the first wanted entry of the run; each page up to it was read at most once, and exactly once where none is skipped.
+pub record ShowsIn (r : Kept) (position : Position) (old new : BoardState) (c d : Cursor) : Type 0 where
+  pub known : is_some d.head ≡ true
+  pub reads : Reads (read_of r.leases c.loaded) (read_of r.leases d.loaded) old new
+  pub all : SkipsNoPage position → HasPassed c → ReadsAll (read_of r.leases c.loaded) (read_of r.leases d.loaded) old new
+  pub ended : d.head ≡ Some None → SkipsNoPage position → HasPassed c → d.loaded ≡ length r.firsts
 
 -- The cursor follows the run from this position on, and has skipped no page where none is skipped.
 pub record GoesOn (flash : Flash) (arena : Frames) (r : Kept) (position : Position) (c d : Cursor) : Type 0 where
@@ -89,12 +112,20 @@ pub record GoesOn (flash : Flash) (arena : Frames) (r : Kept) (position : Positi
 
 -- ---- the first wanted entry of several runs
 
--- This is the entry that is first by the runs' lists, or there is none; each page up to it was read at most once, and exactly once where none is skipped.
-pub record FindsInEach (first : List (List Entry) → Option Entry) (rs : List Kept) (arena : Frames) (position : Position) (old new : BoardState) (cs ds : List Cursor) (answer : Option RustEntry) : Type 0 where
-  pub found : (ess : List (List Entry)) → RunsOnFlash old.pages arena rs ess → option_map seen answer ≡ first ess
+-- the cursor knows the first wanted entry of its run
+abbrev pub IsKnown : Cursor → Type 0
+IsKnown c = is_some c.head ≡ true
+
+-- the cursor knows that there is none
+abbrev pub HasNone : Cursor → Type 0
+HasNone c = c.head ≡ Some None
+
+-- The cursors know the first wanted entries of the runs; each page up to them was read at most once, and exactly once where none is skipped.
+pub record ShowsEach (rs : List Kept) (position : Position) (old new : BoardState) (cs ds : List Cursor) : Type 0 where
+  pub known : AllByRecursion IsKnown ds
   pub reads : Reads (pages_read rs cs) (pages_read rs ds) old new
   pub all : SkipsNoPage position → AllByRecursion HasPassed cs → ReadsAll (pages_read rs cs) (pages_read rs ds) old new
-  pub ended : answer ≡ None → SkipsNoPage position → AllByRecursion HasPassed cs → pages_read rs ds ≡ most_read rs
+  pub ended : AllByRecursion HasNone ds → SkipsNoPage position → AllByRecursion HasPassed cs → pages_read rs ds ≡ most_read rs
 
 -- The cursors follow the runs from this position on, and have skipped no page where none is skipped.
 pub record GoOn (flash : Flash) (arena : Frames) (shape : Shape) (rs : List Kept) (position : Position) (cs ds : List Cursor) : Type 0 where
@@ -103,6 +134,33 @@ pub record GoOn (flash : Flash) (arena : Frames) (shape : Shape) (rs : List Kept
   pub passed : SkipsNoPage position → AllByRecursion HasPassed cs → AllByRecursion HasPassed ds
 
 -- ---- the next entry of a walk
+
+-- what is known of the runs' first wanted entries
+abbrev pub heads_of : List Cursor → List Head
+heads_of [] = []
+heads_of (c ∷ cs) = c.head ∷ heads_of cs
+
+-- and of those of the buffers and the runs
+abbrev pub heads_in : Tops → List Cursor → List Head
+heads_in t cs = t.active ∷ t.frozen ∷ heads_of cs
+
+-- What was not known of the buffers was looked for.
+abbrev pub AreKnown : List Entry → List Entry → Position → Tops → Tops → Type 0
+AreKnown active frozen position t u =
+    u ≡ record { active = known_as (first_of (wanted (is_wanted position) active)) t.active; frozen = known_as (first_of (wanted (is_wanted position) frozen)) t.frozen }
+
+-- How each but the first stands to the least of those before it.
+pub record AreOrders (a b c d e f : Head) (o : RustOrders) : Type 0 where
+  pub frozen_is : o.frozen ≡ order_of (least_of (a ∷ [])) (entry_in b)
+  pub first_is : o.first ≡ order_of (least_of (a ∷ b ∷ [])) (entry_in c)
+  pub second_is : o.second ≡ order_of (least_of (a ∷ b ∷ c ∷ [])) (entry_in d)
+  pub third_is : o.third ≡ order_of (least_of (a ∷ b ∷ c ∷ d ∷ [])) (entry_in e)
+  pub fourth_is : o.fourth ≡ order_of (least_of (a ∷ b ∷ c ∷ d ∷ e ∷ [])) (entry_in f)
+
+-- those of the key that was given have to be looked for, and the others are as they were
+abbrev pub GoBehind : Option Entry → Tops → List Cursor → Tops → List Cursor → Type 0
+GoBehind None t cs u ds = (u ≡ t) × (ds ≡ cs)
+GoBehind (Some e) t cs u ds = (u ≡ tops_behind e.0 t) × (ds ≡ cursors_behind e.0 cs)
 
 -- the first entry that is left in the buffers and the runs
 abbrev pub first_left : Position → List Entry → List Entry → List (List Entry) → Option Entry
@@ -115,8 +173,8 @@ pub record Comes (rs : List Kept) (arena : Frames) (active frozen : List Entry) 
   pub exact : SkipsNone w → ReadsAll (pages_read rs w.cursors) (pages_read rs v.cursors) old new
   pub ended : answer ≡ None → SkipsNone w → pages_read rs v.cursors ≡ most_read rs
 
--- The walk's cursors follow the runs from its position on, and it has skipped no page if it had skipped none.
-pub record WalksOn (flash : Flash) (arena : Frames) (rs : List Kept) (w v : Walk) : Type 0 where
-  pub follow : (ess : List (List Entry)) → RunsOnFlash flash arena rs ess → FollowEach flash rs ess v.position v.cursors
+-- The walk's cursors follow the runs from its position on, as it does the buffers, and it has skipped no page if it had skipped none.
+pub record WalksOn (flash : Flash) (arena : Frames) (rs : List Kept) (active frozen : List Entry) (w v : Walk) : Type 0 where
+  pub follow : (ess : List (List Entry)) → RunsOnFlash flash arena rs ess → FollowEach flash rs ess v.position v.cursors × ShowBoth active frozen v.position v.tops
   pub same_shape : v.shape ≡ w.shape
   pub skips_none : SkipsNone w → SkipsNone v

@@ -1,5 +1,5 @@
 -- A walk over two write buffers and four runs: what it keeps, and what is left of it.
-use Rattle.std.specs.Prelude.{◌≡◌, ⊤, ℕ, suc, ◌+◌, ◌*◌, ◌/◌, ◌≤◌, List, [], ◌∷◌, length, drop, Option, Some, None}
+use Rattle.std.specs.Prelude.{◌≡◌, ⊤, ℕ, suc, ◌+◌, ◌*◌, ◌/◌, ◌≤◌, List, [], ◌∷◌, ◌++◌, length, drop, Option, Some, None}
 use Rattle.pk_base.specs.Key.{Key}
 use Rattle.pk_base.specs.Shape.{Shape, page_entries}
 use Rattle.pk_base.specs.Entry.{Entry, Place, put_entry}
@@ -15,29 +15,56 @@ use Rattle.pk_pin.specs.Frames.{Frames}
 use Rattle.pk_run.specs.Kept.{Kept, page_of}
 use Rattle.pk_level.specs.Levels.{RunsOnFlash}
 use Rattle.pk_walk.specs.Visible.{visible, is_wanted, wanted}
+use Rattle.pk_walk.specs.declared.buffers.Tops.{Tops as RustTops}
+use Rattle.pk_walk.specs.Heads.{Head, Shows, behind, held, seen_head}
 use Rattle.pk_walk.specs.declared.position.Position.{Position}
 use Rattle.pk_walk.specs.declared.position.Position.TheVariants.{First, From, Above}
 
--- A place among the entries of a run; how many pages of the run the walk has come past, and the bytes of the last of them.
+-- A place among the entries of a run; how many pages of the run the walk has come past, and the bytes of the last of them;
+-- and the first wanted entry, which stands just before the place.
 pub record Cursor : Type 0 where
   pub shape : Shape
   pub place : ℕ
   pub loaded : ℕ
   pub bytes : List ℕ
+  pub head : Head
 
 -- before all entries of a run
 abbrev pub at_start : Cursor → Cursor
-at_start c = record c { place = 0; loaded = 0 }
+at_start c = record c { place = 0; loaded = 0; head = None }
 
 -- each cursor of a list there
 abbrev pub all_at_start : List Cursor → List Cursor
 all_at_start [] = []
 all_at_start (c ∷ cs) = at_start c ∷ all_at_start cs
 
--- the keys that were given are behind a position; and a cursor in each of the four runs
+-- where the walk goes behind a key that is not above what the cursors have
+abbrev pub cursors_behind : Key → List Cursor → List Cursor
+cursors_behind key [] = []
+cursors_behind key (c ∷ cs) = record c { head = behind key c.head } ∷ cursors_behind key cs
+
+-- what is known of the first wanted entries of the two write buffers
+pub record Tops : Type 0 where
+  pub active : Head
+  pub frozen : Head
+
+-- as memory has them
+abbrev pub seen_tops : RustTops → Tops
+seen_tops t = record { active = seen_head t.active.head; frozen = seen_head t.frozen.head }
+
+-- nothing
+abbrev pub none_known : Tops
+none_known = record { active = None; frozen = None }
+
+-- where the walk goes behind a key that is not above them
+abbrev pub tops_behind : Key → Tops → Tops
+tops_behind key t = record { active = behind key t.active; frozen = behind key t.frozen }
+
+-- the keys that were given are behind a position; the write buffers, and a cursor in each of the four runs
 pub record Walk : Type 0 where
   pub shape : Shape
   pub position : Position
+  pub tops : Tops
   pub cursors : List Cursor
 
 -- the position at which a walk from a key begins, or from the first
@@ -47,7 +74,7 @@ first_position (Some key) = From key
 
 -- at the start of a walk from this position
 abbrev pub begun : Walk → Position → Walk
-begun w position = record w { position = position; cursors = all_at_start w.cursors }
+begun w position = record w { position = position; tops = none_known; cursors = all_at_start w.cursors }
 
 -- each cursor is for runs of this shape
 abbrev pub AreOfShape : Shape → List Cursor → Type 0
@@ -61,12 +88,13 @@ pub record IsWalk (w : Walk) : Type 0 where
 
 -- ---- cursors and runs
 
--- No wanted key of the run stands before the cursor, and it has the page of its place if it has come past it.
+-- No wanted key of the run stands before the cursor but the one that it has, and it has the page of its place if it has come past it.
 pub record Follows (flash : Flash) (r : Kept) (es : List Entry) (position : Position) (c : Cursor) : Type 0 where
   pub pages : c.loaded ≤ length r.firsts
   pub behind : c.loaded ≤ suc (c.place / page_entries r.shape)
   pub holds : c.loaded ≡ suc (c.place / page_entries r.shape) → page_at flash (page_of r (c.place / page_entries r.shape)) ≡ whole c.bytes
-  pub left : wanted (is_wanted position) es ≡ wanted (is_wanted position) (drop c.place es)
+  pub left : wanted (is_wanted position) es ≡ held c.head ++ wanted (is_wanted position) (drop c.place es)
+  pub ended : c.head ≡ Some None → r.count ≤ c.place
 
 -- the cursors follow the runs of the levels, one each
 abbrev pub FollowEach : Flash → List Kept → List (List Entry) → Position → List Cursor → Type 0
@@ -74,6 +102,10 @@ FollowEach flash [] ess position cs = ⊤
 FollowEach flash (r ∷ rs) [] position cs = ⊤
 FollowEach flash (r ∷ rs) (es ∷ ess) position [] = ⊤
 FollowEach flash (r ∷ rs) (es ∷ ess) position (c ∷ cs) = Follows flash r es position c × FollowEach flash rs ess position cs
+
+-- what is known of the write buffers is right
+abbrev pub ShowBoth : List Entry → List Entry → Position → Tops → Type 0
+ShowBoth active frozen position t = Shows active position t.active × Shows frozen position t.frozen
 
 -- ---- walks that skip no page
 
@@ -100,6 +132,7 @@ pub record IsLeft (w : Walk) (flash : Flash) (arena : Frames) (runs : List Kept)
   pub ess : List (List Entry)
   pub stand : RunsOnFlash flash arena runs ess
   pub follow : FollowEach flash runs ess w.position w.cursors
+  pub tops : ShowBoth active frozen w.position w.tops
   pub is : rest ≡ wanted (is_wanted w.position) (visible (active ∷ frozen ∷ ess))
 
 -- the first of them was answered, or that there is none; and these are left

@@ -1,48 +1,70 @@
-//! The first wanted entry of a write buffer, and the lesser of two entries.
-ghost use Rattle.std.specs.Prelude.{◌≡◌, ◌≤◌, ◌<◌, suc, length, drop, map, slice_get, Some, true, option_map};
-ghost use Rattle.std.specs.Ordering.{is_eq, is_gt};
+//! The first wanted entry of a write buffer.
+ghost use Rattle.std.specs.Prelude.{◌≡◌, ◌≤◌, ◌<◌, suc, length, drop, map, slice_get, None, Some, true, option_map};
+ghost use Rattle.std.specs.Ordering.{is_eq};
 ghost use Rattle.pk_base.specs.Key.{key_cmp};
 ghost use Rattle.pk_base.specs.Entry.{key_of};
 ghost use Rattle.pk_base.specs.Seen.{entry as seen};
 ghost use Rattle.pk_walk.specs.declared.position.Position.TheVariants.{Above};
-ghost use Rattle.pk_walk.specs.Visible.{is_wanted, wanted, first_of, lesser};
+ghost use Rattle.pk_walk.specs.Heads.{known_as, seen_head};
+ghost use Rattle.pk_walk.specs.Visible.{is_wanted, wanted, first_of};
+ghost use Rattle.pk_walk.specs.Walking.{none_known, seen_tops};
 
+use crate::head::Head;
 use crate::position::Position;
 use pk_base::{Entry, Key, compare};
 use pk_buf::Buffer;
 use pk_region::Region;
 use std::cmp::Ordering;
 
-/// The places in the two write buffers where a walk found their last entries. Nothing is known of
-/// them: a place is looked at before it is taken.
-#[derive(Clone, Copy, Debug)]
-pub struct Places {
-    pub active: u32,
-    pub frozen: u32,
+/// The first wanted entry of a write buffer, as far as it was looked for, and the place where the
+/// last one was found. Nothing is known of the place: it is looked at before it is taken.
+#[derive(Drop)]
+pub struct Top {
+    pub head: Head,
+    place: u32,
 }
 
-impl Places {
-    /// The first places.
-    pub fn new() -> Places {
-        Places {
-            active: 0,
-            frozen: 0,
+/// Those of the two write buffers.
+#[derive(Drop)]
+pub struct Tops {
+    pub active: Top,
+    pub frozen: Top,
+}
+
+impl Top {
+    /// Nothing is known.
+    pub fn new() -> Top
+        ensures { seen_head result.head ≡ None }
+    {
+        Top {
+            head: Head::Sought,
+            place: 0,
+        }
+    }
+
+    /// Knows the first wanted entry of the buffer.
+    pub fn seek<A: Region>(&mut self, buffer: &Buffer<A>, position: &Position)
+        ensures { seen_head self.new.head ≡ known_as
+            (first_of (wanted (is_wanted position.now) buffer.now.entries))
+            (seen_head self.old.head) }
+    {
+        if !self.head.is_known() {
+            self.place = place_in(buffer, position, self.place);
+            self.head = Head::of(entry_at(buffer, self.place));
         }
     }
 }
 
-/// The first entry of the buffer whose key is wanted. It is looked for first where the last one was
-/// found, and its place is kept: a walk mostly stays there, or goes on by one.
-pub fn first_in<A: Region>(
-    buffer: &Buffer<A>,
-    position: &Position,
-    place: &mut u32,
-) -> Option<Entry>
-    ensures { option_map seen result
-        ≡ first_of (wanted (is_wanted position.now) buffer.now.entries) }
-{
-    *place = place_in(buffer, position, *place);
-    entry_at(buffer, *place)
+impl Tops {
+    /// Nothing is known of them.
+    pub fn new() -> Tops
+        ensures { seen_tops result ≡ none_known }
+    {
+        Tops {
+            active: Top::new(),
+            frozen: Top::new(),
+        }
+    }
 }
 
 /// The place of the first entry of the buffer whose key is wanted.
@@ -129,30 +151,4 @@ fn has_key(entry: &Entry, key: &Key) -> bool
     ensures { result ≡ is_eq (key_cmp (key_of (seen entry.now)) key.now) }
 {
     compare(entry.key(), key).is_eq()
-}
-
-/// Whether the key of an entry is above that of another.
-fn is_above(entry: &Entry, other: &Entry) -> bool
-    ensures { result ≡ is_gt (key_cmp (key_of (seen entry.now)) (key_of (seen other.now))) }
-{
-    compare(entry.key(), other.key()).is_gt()
-}
-
-/// Of two entries the one whose key is lower, and of one key the first.
-pub fn least(first: Option<Entry>, second: Option<Entry>) -> Option<Entry>
-    ensures { option_map seen result ≡ lesser (option_map seen first) (option_map seen second) }
-{
-    match first {
-        None => second,
-        Some(one) => match second {
-            None => Some(one),
-            Some(other) => {
-                if is_above(&one, &other) {
-                    Some(other)
-                } else {
-                    Some(one)
-                }
-            }
-        },
-    }
 }

@@ -1,5 +1,6 @@
 //! A place among the entries of a run, which goes forward.
-ghost use Rattle.std.specs.Prelude.{◌≡◌, ◌<◌, ◌+◌, ◌-◌, ◌%◌, ℕ, List, length, slice_get, Some, IfOk, IfErr, OnOk, OnErr};
+ghost use Rattle.std.specs.Prelude.{◌≡◌, ◌<◌, ◌+◌, ◌-◌, ◌%◌, if◌then◌else◌, ℕ, List, length, is_some, option_map, slice_get, Some, None, IfOk, IfErr, IsSome, OnOk, OnErr};
+ghost use Rattle.std.specs.Ordering.{is_eq};
 ghost use Rattle.pk_base.specs.Fields.{number_at};
 ghost use Rattle.pk_base.specs.Seen.{entry as seen};
 ghost use Rattle.pk_base.specs.Shape.{page_entries};
@@ -11,10 +12,12 @@ ghost use Rattle.pk_nand.specs.declared.types.Fault.TheVariants.{Reading};
 ghost use Rattle.pk_pin.specs.Frames.{Frames};
 ghost use Rattle.pk_run.specs.Kept.{RunOnFlash, page_of};
 ghost use Rattle.pk_walk.specs.declared.position.Position.{Position as PositionSpec};
-ghost use Rattle.pk_walk.specs.Steps.{FailsToLoad, FailsToShow, Loads, Looks, MayLoad, Moves, StaysAt};
+ghost use Rattle.pk_walk.specs.Heads.{entry_in, let_go, seen_head};
+ghost use Rattle.pk_walk.specs.Steps.{FailsToLoad, FailsToShow, Loads, Looks, MayLoad, Moves, StaysAt, holding};
 ghost use Rattle.pk_walk.specs.Walking.{Follows, HasPassed, SkipsNoPage, at_start};
 
 use crate::begin::begins_at;
+use crate::head::Head;
 use crate::page::first_wanted;
 use crate::position::Position;
 use pk_base::{Entry, Shape, get_u16};
@@ -23,19 +26,23 @@ use pk_nand::{Fault, Nand};
 use pk_pin::PinArena;
 use pk_run::Run;
 use std::alloc::{AllocError, Allocator};
+use std::cmp::Ordering;
 use std::marker::Model;
 
-/// The place, how many pages of the run lie up to it, and the bytes of the last of them.
+/// The place, how many pages of the run lie up to it, and the bytes of the last of them; and the
+/// first wanted entry, once it was found, just before the place.
 #[derive(Drop)]
 pub struct Cursor<A: Allocator> {
     shape: Shape,
     place: u32,
     loaded: u32,
     page: Vec<u8, A>,
+    head: Head,
 }
 
 impl<A: Allocator> Model for Cursor<A> {
     ghost use Rattle.std.specs.Prelude.{◌≡◌, length};
+    ghost use Rattle.pk_walk.specs.Heads.{seen_head};
     ghost use Rattle.pk_walk.specs.Walking as spec;
 
     ghost Value = { spec.Cursor };
@@ -45,6 +52,7 @@ impl<A: Allocator> Model for Cursor<A> {
       place = c.place;
       loaded = c.loaded;
       bytes = c.page.items;
+      head = seen_head c.head;
     } };
 
     ghost invariant = { λ c. length c.page.items ≡ c.shape.page_bytes };
@@ -62,6 +70,7 @@ impl<A: Allocator> Cursor<A> {
             place: 0,
             loaded: 0,
             page,
+            head: Head::Sought,
         })
     }
 
@@ -71,6 +80,7 @@ impl<A: Allocator> Cursor<A> {
     {
         self.place = 0;
         self.loaded = 0;
+        self.head = Head::Sought;
     }
 
     /// How many entries stand before the place.
@@ -80,8 +90,44 @@ impl<A: Allocator> Cursor<A> {
         self.place
     }
 
+    /// What is known of the first wanted entry.
+    pub fn head(&self) -> &Head
+        ensures { seen_head result.now ≡ self.now.head }
+    {
+        &self.head
+    }
+
+    /// Has what was found at the place, and goes behind it.
+    pub fn hold(&mut self, found: Option<Entry>)
+        requires { IsSome found → self.old.place + 1 < 4294967296 }
+        ensures { self.new ≡ holding (option_map seen found) self.old }
+    {
+        if found.is_some() {
+            self.place += 1;
+        }
+        self.head = Head::of(found);
+    }
+
+    /// Gives the first wanted entry, so that the next one has to be looked for; None where there is
+    /// none.
+    pub fn take(&mut self) -> Option<Entry>
+        ensures entry { option_map seen result ≡ entry_in self.old.head }
+        ensures cursor { self.new ≡ record self.old { head = let_go self.old.head } }
+    {
+        self.head.take()
+    }
+
+    /// Lets its entry go where the key that is given is its own.
+    pub fn pass(&mut self, given: Ordering)
+        ensures { self.new
+            ≡ record self.old { head = if is_eq given then None else self.old.head } }
+    {
+        self.head.pass(given);
+    }
+
     /// Goes to the page where a walk from this position begins, unless it has come past a page.
     pub fn begin(&mut self, run: &Run<A>, position: &Position)
+        requires { self.old.head ≡ None }
         ensures place { self.new ≡ record self.old { place = self.new.place } }
         ensures follows { (flash : Flash) (arena : Frames) (es : List EntrySpec)
             → RunOnFlash run.now flash arena es → Follows flash run.now es position.now self.old

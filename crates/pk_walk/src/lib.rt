@@ -7,6 +7,7 @@ mod begin;
 mod buffers;
 mod cursor;
 mod cursors;
+mod head;
 mod page;
 mod position;
 mod seek;

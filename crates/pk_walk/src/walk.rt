@@ -11,11 +11,11 @@ ghost use Rattle.pk_pin.specs.Frames.{Frames};
 ghost use Rattle.pk_run.specs.Kept.{Kept};
 ghost use Rattle.pk_level.specs.Levels.{RunsOnFlash};
 ghost use Rattle.pk_walk.specs.declared.position.Position.TheVariants.{First};
-ghost use Rattle.pk_walk.specs.Steps.{Comes, FindsInEach, GoOn, WalksOn, first_left};
+ghost use Rattle.pk_walk.specs.Steps.{AreKnown, Comes, GoOn, ShowsEach, WalksOn};
 ghost use Rattle.pk_walk.specs.Visible.{is_wanted, visible, wanted};
-ghost use Rattle.pk_walk.specs.Walking.{FollowEach, Gives, IsLeft, IsWalk, Reads, ReadsAll, ReadsFail, SkipsNone, AreOfShape, begun, first_position, most_read, pages_read};
+ghost use Rattle.pk_walk.specs.Walking.{FollowEach, Gives, IsLeft, IsWalk, Reads, ReadsAll, ReadsFail, ShowBoth, SkipsNone, AreOfShape, begun, first_position, most_read, pages_read, seen_tops};
 
-use crate::buffers::{Places, first_in, least};
+use crate::buffers::Tops;
 use crate::cursors::Cursors;
 use crate::position::Position;
 use pk_base::{Entry, Key, Shape};
@@ -34,20 +34,26 @@ pub struct Walk<A: Region> {
     shape: Shape,
     position: Position,
     cursors: Cursors<A>,
-    places: Places,
+    tops: Tops,
 }
 
 impl<A: Region> Model for Walk<A> {
     ghost use Rattle.pk_walk.specs.Walking as spec;
-    ghost use Rattle.pk_walk.specs.Walking.{IsWalk};
+    ghost use Rattle.pk_walk.specs.Walking.{IsWalk, seen_tops};
 
     ghost Value = { spec.Walk };
 
-    ghost view = { λ w. record { shape = w.shape; position = w.position; cursors = w.cursors } };
+    ghost view = { λ w. record {
+      shape = w.shape;
+      position = w.position;
+      tops = seen_tops w.tops;
+      cursors = w.cursors;
+    } };
 
     ghost invariant = { λ w. IsWalk (record {
       shape = w.shape;
       position = w.position;
+      tops = seen_tops w.tops;
       cursors = w.cursors;
     }) };
 }
@@ -70,7 +76,7 @@ impl<A: Region> Walk<A> {
             shape,
             position: Position::First,
             cursors,
-            places: Places::new(),
+            tops: Tops::new(),
         })
     }
 
@@ -93,6 +99,7 @@ impl<A: Region> Walk<A> {
         ensures skips_none { option_copied from.entry ≡ None → SkipsNone self.new }
     {
         self.cursors.restart();
+        self.tops = Tops::new();
         match from {
             Some(key) => {
                 self.position = Position::From(key.copy());
@@ -118,6 +125,8 @@ impl<A: Region> Walk<A> {
             × RunsOnFlash (B.state board.old).pages arena.now levels.now.runs ess
             × FollowEach (B.state board.old).pages levels.now.runs ess self.old.position
             self.old.cursors }
+        requires tops { ShowBoth active.now.entries frozen.now.entries self.old.position
+            self.old.tops }
 
         // The next entry.
         ensures comes { IfOk result (λ found. Comes levels.now.runs arena.now
@@ -126,7 +135,7 @@ impl<A: Region> Walk<A> {
 
         // The walk goes on in any case, and only a read fails.
         ensures walks_on { WalksOn (B.state board.old).pages arena.now levels.now.runs
-            self.old self.new }
+            active.now.entries frozen.now.entries self.old self.new }
         ensures kept { OnErr result (self.new.position ≡ self.old.position) }
         ensures reading { IfErr result (λ fault. fault ≡ Reading) }
         ensures err { OnErr result (ReadsFail (pages_read levels.now.runs self.old.cursors)
@@ -136,20 +145,25 @@ impl<A: Region> Walk<A> {
         ensures same { (B.state board.new).pages ≡ (B.state board.old).pages }
         ensures ready { IsReady (B.state board.new) levels.now.shape }
     {
-        match least_of_all(
+        levels.known();
+        let _ = active.len();
+        let _ = frozen.len();
+        match know_all(
             &mut self.cursors,
-            &mut self.places,
+            &mut self.tops,
             &self.position,
             board,
             arena,
             levels,
             &Buffers { active, frozen },
         ) {
-            Ok(Some(entry)) => {
-                self.position = Position::Above(entry.key().copy());
-                Ok(Some(entry))
-            }
-            Ok(None) => Ok(None),
+            Ok(()) => match self.cursors.take_least(&mut self.tops) {
+                Some(entry) => {
+                    self.position = Position::Above(entry.key().copy());
+                    Ok(Some(entry))
+                }
+                None => Ok(None),
+            },
             Err(fault) => Err(fault),
         }
     }
@@ -244,30 +258,32 @@ struct Buffers<'a, A: Region> {
     frozen: &'a Buffer<A>,
 }
 
-// The wanted entry of all lists whose key is lowest, the first of its key.
-fn least_of_all<A: Region, B: Nand>(
+// Knows the first wanted entry of each buffer and of each run.
+fn know_all<A: Region, B: Nand>(
     cursors: &mut Cursors<A>,
-    places: &mut Places,
+    tops: &mut Tops,
     position: &Position,
     board: &mut B,
     arena: &PinArena<A>,
     levels: &Levels<A>,
     buffers: &Buffers<A>,
-) -> Result<Option<Entry>, Fault>
+) -> Result<(), Fault>
     requires ready { IsReady (B.state board.old) levels.now.shape }
     requires shape { AreOfShape levels.now.shape cursors.old }
     requires follow { (ess : List (List EntrySpec))
         × RunsOnFlash (B.state board.old).pages arena.now levels.now.runs ess
         × FollowEach (B.state board.old).pages levels.now.runs ess position.now cursors.old }
 
-    // The first entry that is left.
-    ensures finds { IfOk result (λ found. FindsInEach (first_left position.now
-        buffers.now.active.now.entries buffers.now.frozen.now.entries) levels.now.runs arena.now
-        position.now (B.state board.old) (B.state board.new) cursors.old cursors.new found) }
+    // The first wanted entries.
+    ensures shows { OnOk result (ShowsEach levels.now.runs position.now
+        (B.state board.old) (B.state board.new) cursors.old cursors.new) }
+    ensures tops { OnOk result (AreKnown buffers.now.active.now.entries
+        buffers.now.frozen.now.entries position.now (seen_tops tops.old) (seen_tops tops.new)) }
 
     // The cursors go on in any case, and only a read fails.
     ensures go_on { GoOn (B.state board.old).pages arena.now levels.now.shape
         levels.now.runs position.now cursors.old cursors.new }
+    ensures kept { OnErr result (tops.new ≡ tops.old) }
     ensures reading { IfErr result (λ fault. fault ≡ Reading) }
     ensures err { OnErr result (ReadsFail (pages_read levels.now.runs cursors.old)
         (pages_read levels.now.runs cursors.new) (B.state board.old) (B.state board.new)) }
@@ -277,14 +293,12 @@ fn least_of_all<A: Region, B: Nand>(
     ensures ready { IsReady (B.state board.new) levels.now.shape }
     ensures four { length cursors.new ≡ 4 }
 {
-    let _ = buffers.active.len();
-    let _ = buffers.frozen.len();
     match cursors.seek(board, arena, levels, position) {
-        Ok(deep) => {
+        Ok(()) => {
             cursors.known();
-            let upper = first_in(buffers.frozen, position, &mut places.frozen);
-            let top = first_in(buffers.active, position, &mut places.active);
-            Ok(least(top, least(upper, deep)))
+            tops.frozen.seek(buffers.frozen, position);
+            tops.active.seek(buffers.active, position);
+            Ok(())
         }
         Err(fault) => {
             cursors.known();

@@ -1,118 +1,32 @@
-use Rattle.std.proofs.Common.{ap, arith}
+use Rattle.std.proofs.Common.{ap, sym, subst, ◌∙◌, arith, is_some}
+use Rattle.pk_walk.specs.Heads.{Head}
 use Rattle.pk_walk.specs.Walking.{Cursor}
-use Rattle.pk_walk.proofs.Moving.{at_decodes, at_within, at_fits, found_at, none_forth}
-use Rattle.pk_walk.proofs.Seeking.{Seeking-start, Seeking-looked, Seeking-moved, Seeking-finds, Seeking-goes_on, Seeking-none, Seeking-stays, Seeking-fails, looked_page}
+use Rattle.pk_walk.specs.Steps.{GoesOn, ShowsIn}
+use Rattle.pk_walk.proofs.Holding.{holding_shows, holding_goes_on, known_shows, known_goes_on, place_fits, unknown}
 use Rattle.pk_walk.proofs.seek.seek.Goals as goal
 
-pub loop-cursor-init : goal.loop-cursor-init
-loop-cursor-init g c = record {
-  ready = c.requires.ready;
-  seeking = Seeking-start c.args.run.now c.args.arena.now c.args.position.now (g.B.Nand.state c.args.board.now) c.args.cursor.now c.begin.new.self
-      c.requires.follows.0 c.requires.follows.1 c.requires.follows.2 c.begin.ensures.follows c.begin.ensures.place c.begin.ensures.passed;
-}
+pub search-requires-clause-sought : goal.search-requires-clause-sought
+search-requires-clause-sought g c = unknown c.args.cursor.now.head (ap (λ (h : Head). is_some h) (sym c.head.ensures) ∙ sym c.is_known.ensures ∙ c.if-is_known.false)
 
-pub skip-requires-clause-decodes : goal.skip-requires-clause-decodes
-skip-requires-clause-decodes g c =
-    let old = g.B.Nand.state c.args.board.now in
-    let seeking = c.loop-cursor.invariant.seeking in
-    let here = looked_page c.args.run.now c.args.arena.now c.args.position.now old c.args.cursor.now (g.B.Nand.state c.loop-cursor.board) c.loop-cursor.cursor seeking
-    (g.B.Nand.state c.look.new.board) c.look.new.self c.requires.shape (omega (arith, c.loop-cursor-test.true, c.place.ensures, c.entries.ensures)) c.in-Ok.ensures.stays c.in-Ok.ensures.looks in
-    at_decodes c.args.run.now old.pages c.args.arena.now seeking.es c.known.ensures.shape c.known.ensures.kept seeking.stands c.look.new.self here
+pub hold-requires : goal.hold-requires
+hold-requires g c some =
+    let inside = place_fits c.args.run.now c.args.arena.now c.args.position.now (g.B.Nand.state c.args.board.now) (g.B.Nand.state c.search.new.board) c.args.cursor.now c.search.new.cursor c.in-Ok.found c.in-Ok.ensures.finds some in
+    omega (arith, inside, c.entries.ensures)
 
-pub skip-requires-clause-within : goal.skip-requires-clause-within
-skip-requires-clause-within g c =
-    let old = g.B.Nand.state c.args.board.now in
-    let seeking = c.loop-cursor.invariant.seeking in
-    let here = looked_page c.args.run.now c.args.arena.now c.args.position.now old c.args.cursor.now (g.B.Nand.state c.loop-cursor.board) c.loop-cursor.cursor seeking
-    (g.B.Nand.state c.look.new.board) c.look.new.self c.requires.shape (omega (arith, c.loop-cursor-test.true, c.place.ensures, c.entries.ensures)) c.in-Ok.ensures.stays c.in-Ok.ensures.looks in
-    at_within c.args.run.now old.pages c.args.arena.now seeking.es c.known.ensures.shape c.known.ensures.kept seeking.stands c.look.new.self here
+pub returns-then-is_known-clause-shows : goal.returns-then-is_known-clause-shows
+returns-then-is_known-clause-shows g c =
+    known_shows c.args.run.now c.args.arena.now c.args.position.now (g.B.Nand.state c.args.board.now) c.args.cursor.now c.requires.follows.0 c.requires.follows.1 c.requires.follows.2 (ap (λ (h : Head). is_some h) (sym c.head.ensures) ∙ sym c.is_known.ensures ∙ c.if-is_known.true) c.known.ensures.shape c.requires.shape
 
-pub skip-requires-clause-fits : goal.skip-requires-clause-fits
-skip-requires-clause-fits g c =
-    let old = g.B.Nand.state c.args.board.now in
-    let seeking = c.loop-cursor.invariant.seeking in
-    let here = looked_page c.args.run.now c.args.arena.now c.args.position.now old c.args.cursor.now (g.B.Nand.state c.loop-cursor.board) c.loop-cursor.cursor seeking
-    (g.B.Nand.state c.look.new.board) c.look.new.self c.requires.shape (omega (arith, c.loop-cursor-test.true, c.place.ensures, c.entries.ensures)) c.in-Ok.ensures.stays c.in-Ok.ensures.looks in
-    let room = at_fits c.args.run.now old.pages c.args.arena.now seeking.es c.known.ensures.shape c.known.ensures.kept seeking.stands c.look.new.self here in
-    omega (arith, room, c.entries.ensures)
+pub returns-then-is_known-clause-goes_on : goal.returns-then-is_known-clause-goes_on
+returns-then-is_known-clause-goes_on g c =
+    known_goes_on c.args.run.now c.args.arena.now c.args.position.now (g.B.Nand.state c.args.board.now) c.args.cursor.now c.requires.follows.0 c.requires.follows.1 c.requires.follows.2
 
-pub entry-requires-clause-decodes : goal.entry-requires-clause-decodes
-entry-requires-clause-decodes g c =
-    let old = g.B.Nand.state c.args.board.now in
-    let seeking = c.loop-cursor.invariant.seeking in
-    let here = looked_page c.args.run.now c.args.arena.now c.args.position.now old c.args.cursor.now (g.B.Nand.state c.loop-cursor.board) c.loop-cursor.cursor seeking
-    (g.B.Nand.state c.look.new.board) c.look.new.self c.requires.shape (omega (arith, c.loop-cursor-test.true, c.place.ensures, c.entries.ensures)) c.in-Ok.ensures.stays c.in-Ok.ensures.looks in
-    let there = found_at c.args.run.now old.pages c.args.arena.now seeking.es c.known.ensures.shape c.known.ensures.kept seeking.stands c.look.new.self here c.args.position.now c.skip.new.self c.skip.result c.skip.ensures c.if-skip.true in
-    at_decodes c.args.run.now old.pages c.args.arena.now seeking.es c.known.ensures.shape c.known.ensures.kept seeking.stands c.skip.new.self there
+pub returns-in-Ok-clause-shows : goal.returns-in-Ok-clause-shows
+returns-in-Ok-clause-shows g c =
+    subst (λ (d : Cursor). ShowsIn c.args.run.now c.args.position.now (g.B.Nand.state c.args.board.now) (g.B.Nand.state c.search.new.board) c.args.cursor.now d) (sym c.hold.ensures)
+    (holding_shows c.args.run.now c.args.arena.now c.args.position.now (g.B.Nand.state c.args.board.now) (g.B.Nand.state c.search.new.board) c.args.cursor.now c.search.new.cursor c.in-Ok.found c.in-Ok.ensures.finds)
 
-pub entry-requires-clause-within : goal.entry-requires-clause-within
-entry-requires-clause-within g c =
-    let old = g.B.Nand.state c.args.board.now in
-    let seeking = c.loop-cursor.invariant.seeking in
-    let here = looked_page c.args.run.now c.args.arena.now c.args.position.now old c.args.cursor.now (g.B.Nand.state c.loop-cursor.board) c.loop-cursor.cursor seeking
-    (g.B.Nand.state c.look.new.board) c.look.new.self c.requires.shape (omega (arith, c.loop-cursor-test.true, c.place.ensures, c.entries.ensures)) c.in-Ok.ensures.stays c.in-Ok.ensures.looks in
-    let there = found_at c.args.run.now old.pages c.args.arena.now seeking.es c.known.ensures.shape c.known.ensures.kept seeking.stands c.look.new.self here c.args.position.now c.skip.new.self c.skip.result c.skip.ensures c.if-skip.true in
-    at_within c.args.run.now old.pages c.args.arena.now seeking.es c.known.ensures.shape c.known.ensures.kept seeking.stands c.skip.new.self there
-
-pub returns-then-skip-clause-finds : goal.returns-then-skip-clause-finds
-returns-then-skip-clause-finds g c =
-    let old = g.B.Nand.state c.args.board.now in
-    let next = g.B.Nand.state c.look.new.board in
-    let seeking = c.loop-cursor.invariant.seeking in
-    let here = looked_page c.args.run.now c.args.arena.now c.args.position.now old c.args.cursor.now (g.B.Nand.state c.loop-cursor.board) c.loop-cursor.cursor seeking
-    next c.look.new.self c.requires.shape (omega (arith, c.loop-cursor-test.true, c.place.ensures, c.entries.ensures)) c.in-Ok.ensures.stays c.in-Ok.ensures.looks in
-    let looked = Seeking-looked c.args.run.now c.args.arena.now c.args.position.now old c.args.cursor.now (g.B.Nand.state c.loop-cursor.board) c.loop-cursor.cursor seeking next c.look.new.self c.in-Ok.ensures.stays c.in-Ok.ensures.looks in
-    Seeking-finds c.args.run.now c.args.arena.now c.args.position.now old c.args.cursor.now next c.look.new.self looked c.known.ensures.shape c.known.ensures.kept here c.skip.new.self c.skip.result c.skip.ensures c.if-skip.true c.entry.result c.entry.ensures
-
-pub returns-then-skip-clause-goes_on : goal.returns-then-skip-clause-goes_on
-returns-then-skip-clause-goes_on g c =
-    let old = g.B.Nand.state c.args.board.now in
-    let next = g.B.Nand.state c.look.new.board in
-    let seeking = c.loop-cursor.invariant.seeking in
-    let here = looked_page c.args.run.now c.args.arena.now c.args.position.now old c.args.cursor.now (g.B.Nand.state c.loop-cursor.board) c.loop-cursor.cursor seeking
-    next c.look.new.self c.requires.shape (omega (arith, c.loop-cursor-test.true, c.place.ensures, c.entries.ensures)) c.in-Ok.ensures.stays c.in-Ok.ensures.looks in
-    let looked = Seeking-looked c.args.run.now c.args.arena.now c.args.position.now old c.args.cursor.now (g.B.Nand.state c.loop-cursor.board) c.loop-cursor.cursor seeking next c.look.new.self c.in-Ok.ensures.stays c.in-Ok.ensures.looks in
-    let moved = Seeking-moved c.args.run.now c.args.arena.now c.args.position.now old c.args.cursor.now next c.look.new.self looked c.known.ensures.shape c.known.ensures.kept here c.skip.new.self c.skip.result c.skip.ensures in
-    Seeking-goes_on c.args.run.now c.args.arena.now c.args.position.now old c.args.cursor.now next c.skip.new.self moved
-
-pub loop-cursor-preserved : goal.loop-cursor-preserved
-loop-cursor-preserved g c =
-    let old = g.B.Nand.state c.args.board.now in
-    let next = g.B.Nand.state c.look.new.board in
-    let seeking = c.loop-cursor.invariant.seeking in
-    let here = looked_page c.args.run.now c.args.arena.now c.args.position.now old c.args.cursor.now (g.B.Nand.state c.loop-cursor.board) c.loop-cursor.cursor seeking
-    next c.look.new.self c.requires.shape (omega (arith, c.loop-cursor-test.true, c.place.ensures, c.entries.ensures)) c.in-Ok.ensures.stays c.in-Ok.ensures.looks in
-    let looked = Seeking-looked c.args.run.now c.args.arena.now c.args.position.now old c.args.cursor.now (g.B.Nand.state c.loop-cursor.board) c.loop-cursor.cursor seeking next c.look.new.self c.in-Ok.ensures.stays c.in-Ok.ensures.looks in
-    record {
-      ready = c.in-Ok.ensures.ready;
-      seeking = Seeking-moved c.args.run.now c.args.arena.now c.args.position.now old c.args.cursor.now next c.look.new.self looked c.known.ensures.shape c.known.ensures.kept here c.skip.new.self c.skip.result c.skip.ensures;
-    }
-
-pub loop-cursor-smaller : goal.loop-cursor-smaller
-loop-cursor-smaller g c =
-    let old = g.B.Nand.state c.args.board.now in
-    let seeking = c.loop-cursor.invariant.seeking in
-    let here = looked_page c.args.run.now c.args.arena.now c.args.position.now old c.args.cursor.now (g.B.Nand.state c.loop-cursor.board) c.loop-cursor.cursor seeking
-    (g.B.Nand.state c.look.new.board) c.look.new.self c.requires.shape (omega (arith, c.loop-cursor-test.true, c.place.ensures, c.entries.ensures)) c.in-Ok.ensures.stays c.in-Ok.ensures.looks in
-    let forth = none_forth c.args.run.now old.pages c.args.arena.now seeking.es c.known.ensures.shape c.known.ensures.kept seeking.stands c.look.new.self here c.args.position.now c.skip.new.self c.skip.result c.skip.ensures c.if-skip.false in
-    let stays = ap (λ (x : Cursor). x.place) c.in-Ok.ensures.stays.place in
-    omega (arith, forth, stays, c.loop-cursor-test.true, c.place.ensures, c.entries.ensures)
-
-pub returns-in-Err-clause-goes_on : goal.returns-in-Err-clause-goes_on
-returns-in-Err-clause-goes_on g c =
-    Seeking-stays c.args.run.now c.args.arena.now c.args.position.now (g.B.Nand.state c.args.board.now) c.args.cursor.now (g.B.Nand.state c.loop-cursor.board) c.loop-cursor.cursor c.loop-cursor.invariant.seeking
-    c.look.new.self c.in-Err.ensures.stays c.in-Err.ensures.fails.kept
-
-pub returns-in-Err-clause-err : goal.returns-in-Err-clause-err
-returns-in-Err-clause-err g c =
-    Seeking-fails c.args.run.now c.args.arena.now c.args.position.now (g.B.Nand.state c.args.board.now) c.args.cursor.now (g.B.Nand.state c.loop-cursor.board) c.loop-cursor.cursor c.loop-cursor.invariant.seeking
-    (g.B.Nand.state c.look.new.board) c.look.new.self c.in-Err.ensures.fails
-
-pub returns-clause-finds : goal.returns-clause-finds
-returns-clause-finds g c =
-    Seeking-none c.args.run.now c.args.arena.now c.args.position.now (g.B.Nand.state c.args.board.now) c.args.cursor.now (g.B.Nand.state c.loop-cursor.board) c.loop-cursor.cursor c.loop-cursor.invariant.seeking
-    c.known.ensures.shape c.requires.shape (omega (arith, c.loop-cursor-test.false, c.place.ensures, c.entries.ensures))
-
-pub returns-clause-goes_on : goal.returns-clause-goes_on
-returns-clause-goes_on g c =
-    Seeking-goes_on c.args.run.now c.args.arena.now c.args.position.now (g.B.Nand.state c.args.board.now) c.args.cursor.now (g.B.Nand.state c.loop-cursor.board) c.loop-cursor.cursor c.loop-cursor.invariant.seeking
+pub returns-in-Ok-clause-goes_on : goal.returns-in-Ok-clause-goes_on
+returns-in-Ok-clause-goes_on g c =
+    subst (λ (d : Cursor). GoesOn (g.B.Nand.state c.args.board.now).pages c.args.arena.now c.args.run.now c.args.position.now c.args.cursor.now d) (sym c.hold.ensures)
+    (holding_goes_on c.args.run.now c.args.arena.now c.args.position.now (g.B.Nand.state c.args.board.now) (g.B.Nand.state c.search.new.board) c.args.cursor.now c.search.new.cursor c.in-Ok.found c.known.ensures.shape c.requires.shape c.in-Ok.ensures.finds c.in-Ok.ensures.goes_on)

@@ -1,8 +1,6 @@
-use Rattle.std.proofs.Common.{refl, ap, sym, ◌∙◌, arith, [], ◌∷◌, Some, option_map}
-use Rattle.pk_base.specs.Seen.{entry as seen}
+use Rattle.std.proofs.Common.{refl, ap, sym, ◌∙◌, arith, [], ◌∷◌, Some}
 use Rattle.pk_run.specs.Kept.{Kept}
-use Rattle.pk_walk.specs.Visible.{is_wanted, least_first, lesser}
-use Rattle.pk_walk.proofs.Rows.{Rows, Rows-start, Rows-next, Rows-failed, Rows-stays, Rows-goes_on, Rows-finds, row_follows, row_found, level_is, least_of_four, none_of, all_ended}
+use Rattle.pk_walk.proofs.Rows.{Rows, Rows-start, Rows-next, Rows-failed, Rows-stays, Rows-goes_on, Rows-shows, row_follows, level_is, all_ended}
 use Rattle.pk_walk.proofs.cursors.Cursors.seek.Goals as goal
 
 pub seek-requires-2-clause-follows : goal.seek-requires-2-clause-follows
@@ -10,7 +8,7 @@ seek-requires-2-clause-follows g c =
     let follow = rw (← c.self.view_is) at c.requires.follow in
     let shape = rw (← c.self.view_is) at c.requires.shape in
     let s0 : Rows c.args.levels.now c.args.arena.now c.args.position.now (g.B.Nand.state c.args.board.now) (g.B.Nand.state c.args.board.now) (c.self.inside.first ∷ c.self.inside.second ∷ c.self.inside.third ∷ c.self.inside.fourth ∷ []) (c.self.inside.first ∷ c.self.inside.second ∷ c.self.inside.third ∷ c.self.inside.fourth ∷ []) = Rows-start c.args.levels.now c.args.arena.now c.args.position.now (g.B.Nand.state c.args.board.now) (c.self.inside.first ∷ c.self.inside.second ∷ c.self.inside.third ∷ c.self.inside.fourth ∷ []) follow.0 c.requires.ready shape follow.1 follow.2 in
-    let s1 : Rows c.args.levels.now c.args.arena.now c.args.position.now (g.B.Nand.state c.args.board.now) (g.B.Nand.state c.seek.new.board) (c.self.inside.first ∷ c.self.inside.second ∷ c.self.inside.third ∷ c.self.inside.fourth ∷ []) (c.seek.new.cursor ∷ c.self.inside.second ∷ c.self.inside.third ∷ c.self.inside.fourth ∷ []) = Rows-next c.args.levels.now c.args.arena.now c.args.position.now (g.B.Nand.state c.args.board.now) (g.B.Nand.state c.args.board.now) (c.self.inside.first ∷ c.self.inside.second ∷ c.self.inside.third ∷ c.self.inside.fourth ∷ []) (c.self.inside.first ∷ c.self.inside.second ∷ c.self.inside.third ∷ c.self.inside.fourth ∷ []) s0 0 c.run.result.now c.self.inside.first (level_is c.args.levels.now 0 c.known.ensures.levels (omega arith) ∙ ap (λ (r : Kept). Some r) (sym c.run.ensures.run)) refl (g.B.Nand.state c.seek.new.board) c.seek.new.cursor c.in-Ok.ensures.goes_on.follows c.in-Ok.ensures.goes_on.shape c.known.ensures.levels c.in-Ok.ensures.ready c.in-Ok.ensures.finds.reads c.in-Ok.ensures.goes_on.passed c.in-Ok.ensures.finds.all in
+    let s1 : Rows c.args.levels.now c.args.arena.now c.args.position.now (g.B.Nand.state c.args.board.now) (g.B.Nand.state c.seek.new.board) (c.self.inside.first ∷ c.self.inside.second ∷ c.self.inside.third ∷ c.self.inside.fourth ∷ []) (c.seek.new.cursor ∷ c.self.inside.second ∷ c.self.inside.third ∷ c.self.inside.fourth ∷ []) = Rows-next c.args.levels.now c.args.arena.now c.args.position.now (g.B.Nand.state c.args.board.now) (g.B.Nand.state c.args.board.now) (c.self.inside.first ∷ c.self.inside.second ∷ c.self.inside.third ∷ c.self.inside.fourth ∷ []) (c.self.inside.first ∷ c.self.inside.second ∷ c.self.inside.third ∷ c.self.inside.fourth ∷ []) s0 0 c.run.result.now c.self.inside.first (level_is c.args.levels.now 0 c.known.ensures.levels (omega arith) ∙ ap (λ (r : Kept). Some r) (sym c.run.ensures.run)) refl (g.B.Nand.state c.seek.new.board) c.seek.new.cursor c.in-Ok.ensures.goes_on.follows c.in-Ok.ensures.goes_on.shape c.known.ensures.levels c.in-Ok.ensures.ready c.in-Ok.ensures.shows.reads c.in-Ok.ensures.goes_on.passed c.in-Ok.ensures.shows.all in
     row_follows c.args.levels.now c.args.arena.now c.args.position.now (g.B.Nand.state c.args.board.now) (g.B.Nand.state c.seek.new.board) (c.self.inside.first ∷ c.self.inside.second ∷ c.self.inside.third ∷ c.self.inside.fourth ∷ []) (c.seek.new.cursor ∷ c.self.inside.second ∷ c.self.inside.third ∷ c.self.inside.fourth ∷ []) s1 1 c.run-2.result.now c.self.inside.second (level_is c.args.levels.now 1 c.known.ensures.levels (omega arith) ∙ ap (λ (r : Kept). Some r) (sym c.run-2.ensures.run)) refl
 
 pub seek-requires-3-clause-follows : goal.seek-requires-3-clause-follows
@@ -18,8 +16,8 @@ seek-requires-3-clause-follows g c =
     let follow = rw (← c.self.view_is) at c.requires.follow in
     let shape = rw (← c.self.view_is) at c.requires.shape in
     let s0 : Rows c.args.levels.now c.args.arena.now c.args.position.now (g.B.Nand.state c.args.board.now) (g.B.Nand.state c.args.board.now) (c.self.inside.first ∷ c.self.inside.second ∷ c.self.inside.third ∷ c.self.inside.fourth ∷ []) (c.self.inside.first ∷ c.self.inside.second ∷ c.self.inside.third ∷ c.self.inside.fourth ∷ []) = Rows-start c.args.levels.now c.args.arena.now c.args.position.now (g.B.Nand.state c.args.board.now) (c.self.inside.first ∷ c.self.inside.second ∷ c.self.inside.third ∷ c.self.inside.fourth ∷ []) follow.0 c.requires.ready shape follow.1 follow.2 in
-    let s1 : Rows c.args.levels.now c.args.arena.now c.args.position.now (g.B.Nand.state c.args.board.now) (g.B.Nand.state c.seek.new.board) (c.self.inside.first ∷ c.self.inside.second ∷ c.self.inside.third ∷ c.self.inside.fourth ∷ []) (c.seek.new.cursor ∷ c.self.inside.second ∷ c.self.inside.third ∷ c.self.inside.fourth ∷ []) = Rows-next c.args.levels.now c.args.arena.now c.args.position.now (g.B.Nand.state c.args.board.now) (g.B.Nand.state c.args.board.now) (c.self.inside.first ∷ c.self.inside.second ∷ c.self.inside.third ∷ c.self.inside.fourth ∷ []) (c.self.inside.first ∷ c.self.inside.second ∷ c.self.inside.third ∷ c.self.inside.fourth ∷ []) s0 0 c.run.result.now c.self.inside.first (level_is c.args.levels.now 0 c.known.ensures.levels (omega arith) ∙ ap (λ (r : Kept). Some r) (sym c.run.ensures.run)) refl (g.B.Nand.state c.seek.new.board) c.seek.new.cursor c.in-Ok.ensures.goes_on.follows c.in-Ok.ensures.goes_on.shape c.known.ensures.levels c.in-Ok.ensures.ready c.in-Ok.ensures.finds.reads c.in-Ok.ensures.goes_on.passed c.in-Ok.ensures.finds.all in
-    let s2 : Rows c.args.levels.now c.args.arena.now c.args.position.now (g.B.Nand.state c.args.board.now) (g.B.Nand.state c.seek-2.new.board) (c.self.inside.first ∷ c.self.inside.second ∷ c.self.inside.third ∷ c.self.inside.fourth ∷ []) (c.seek.new.cursor ∷ c.seek-2.new.cursor ∷ c.self.inside.third ∷ c.self.inside.fourth ∷ []) = Rows-next c.args.levels.now c.args.arena.now c.args.position.now (g.B.Nand.state c.args.board.now) (g.B.Nand.state c.seek.new.board) (c.self.inside.first ∷ c.self.inside.second ∷ c.self.inside.third ∷ c.self.inside.fourth ∷ []) (c.seek.new.cursor ∷ c.self.inside.second ∷ c.self.inside.third ∷ c.self.inside.fourth ∷ []) s1 1 c.run-2.result.now c.self.inside.second (level_is c.args.levels.now 1 c.known.ensures.levels (omega arith) ∙ ap (λ (r : Kept). Some r) (sym c.run-2.ensures.run)) refl (g.B.Nand.state c.seek-2.new.board) c.seek-2.new.cursor c.in-Ok-seek.ensures.goes_on.follows c.in-Ok-seek.ensures.goes_on.shape c.known.ensures.levels c.in-Ok-seek.ensures.ready c.in-Ok-seek.ensures.finds.reads c.in-Ok-seek.ensures.goes_on.passed c.in-Ok-seek.ensures.finds.all in
+    let s1 : Rows c.args.levels.now c.args.arena.now c.args.position.now (g.B.Nand.state c.args.board.now) (g.B.Nand.state c.seek.new.board) (c.self.inside.first ∷ c.self.inside.second ∷ c.self.inside.third ∷ c.self.inside.fourth ∷ []) (c.seek.new.cursor ∷ c.self.inside.second ∷ c.self.inside.third ∷ c.self.inside.fourth ∷ []) = Rows-next c.args.levels.now c.args.arena.now c.args.position.now (g.B.Nand.state c.args.board.now) (g.B.Nand.state c.args.board.now) (c.self.inside.first ∷ c.self.inside.second ∷ c.self.inside.third ∷ c.self.inside.fourth ∷ []) (c.self.inside.first ∷ c.self.inside.second ∷ c.self.inside.third ∷ c.self.inside.fourth ∷ []) s0 0 c.run.result.now c.self.inside.first (level_is c.args.levels.now 0 c.known.ensures.levels (omega arith) ∙ ap (λ (r : Kept). Some r) (sym c.run.ensures.run)) refl (g.B.Nand.state c.seek.new.board) c.seek.new.cursor c.in-Ok.ensures.goes_on.follows c.in-Ok.ensures.goes_on.shape c.known.ensures.levels c.in-Ok.ensures.ready c.in-Ok.ensures.shows.reads c.in-Ok.ensures.goes_on.passed c.in-Ok.ensures.shows.all in
+    let s2 : Rows c.args.levels.now c.args.arena.now c.args.position.now (g.B.Nand.state c.args.board.now) (g.B.Nand.state c.seek-2.new.board) (c.self.inside.first ∷ c.self.inside.second ∷ c.self.inside.third ∷ c.self.inside.fourth ∷ []) (c.seek.new.cursor ∷ c.seek-2.new.cursor ∷ c.self.inside.third ∷ c.self.inside.fourth ∷ []) = Rows-next c.args.levels.now c.args.arena.now c.args.position.now (g.B.Nand.state c.args.board.now) (g.B.Nand.state c.seek.new.board) (c.self.inside.first ∷ c.self.inside.second ∷ c.self.inside.third ∷ c.self.inside.fourth ∷ []) (c.seek.new.cursor ∷ c.self.inside.second ∷ c.self.inside.third ∷ c.self.inside.fourth ∷ []) s1 1 c.run-2.result.now c.self.inside.second (level_is c.args.levels.now 1 c.known.ensures.levels (omega arith) ∙ ap (λ (r : Kept). Some r) (sym c.run-2.ensures.run)) refl (g.B.Nand.state c.seek-2.new.board) c.seek-2.new.cursor c.in-Ok-seek.ensures.goes_on.follows c.in-Ok-seek.ensures.goes_on.shape c.known.ensures.levels c.in-Ok-seek.ensures.ready c.in-Ok-seek.ensures.shows.reads c.in-Ok-seek.ensures.goes_on.passed c.in-Ok-seek.ensures.shows.all in
     row_follows c.args.levels.now c.args.arena.now c.args.position.now (g.B.Nand.state c.args.board.now) (g.B.Nand.state c.seek-2.new.board) (c.self.inside.first ∷ c.self.inside.second ∷ c.self.inside.third ∷ c.self.inside.fourth ∷ []) (c.seek.new.cursor ∷ c.seek-2.new.cursor ∷ c.self.inside.third ∷ c.self.inside.fourth ∷ []) s2 2 c.run-3.result.now c.self.inside.third (level_is c.args.levels.now 2 c.known.ensures.levels (omega arith) ∙ ap (λ (r : Kept). Some r) (sym c.run-3.ensures.run)) refl
 
 pub seek-requires-4-clause-follows : goal.seek-requires-4-clause-follows
@@ -27,9 +25,9 @@ seek-requires-4-clause-follows g c =
     let follow = rw (← c.self.view_is) at c.requires.follow in
     let shape = rw (← c.self.view_is) at c.requires.shape in
     let s0 : Rows c.args.levels.now c.args.arena.now c.args.position.now (g.B.Nand.state c.args.board.now) (g.B.Nand.state c.args.board.now) (c.self.inside.first ∷ c.self.inside.second ∷ c.self.inside.third ∷ c.self.inside.fourth ∷ []) (c.self.inside.first ∷ c.self.inside.second ∷ c.self.inside.third ∷ c.self.inside.fourth ∷ []) = Rows-start c.args.levels.now c.args.arena.now c.args.position.now (g.B.Nand.state c.args.board.now) (c.self.inside.first ∷ c.self.inside.second ∷ c.self.inside.third ∷ c.self.inside.fourth ∷ []) follow.0 c.requires.ready shape follow.1 follow.2 in
-    let s1 : Rows c.args.levels.now c.args.arena.now c.args.position.now (g.B.Nand.state c.args.board.now) (g.B.Nand.state c.seek.new.board) (c.self.inside.first ∷ c.self.inside.second ∷ c.self.inside.third ∷ c.self.inside.fourth ∷ []) (c.seek.new.cursor ∷ c.self.inside.second ∷ c.self.inside.third ∷ c.self.inside.fourth ∷ []) = Rows-next c.args.levels.now c.args.arena.now c.args.position.now (g.B.Nand.state c.args.board.now) (g.B.Nand.state c.args.board.now) (c.self.inside.first ∷ c.self.inside.second ∷ c.self.inside.third ∷ c.self.inside.fourth ∷ []) (c.self.inside.first ∷ c.self.inside.second ∷ c.self.inside.third ∷ c.self.inside.fourth ∷ []) s0 0 c.run.result.now c.self.inside.first (level_is c.args.levels.now 0 c.known.ensures.levels (omega arith) ∙ ap (λ (r : Kept). Some r) (sym c.run.ensures.run)) refl (g.B.Nand.state c.seek.new.board) c.seek.new.cursor c.in-Ok.ensures.goes_on.follows c.in-Ok.ensures.goes_on.shape c.known.ensures.levels c.in-Ok.ensures.ready c.in-Ok.ensures.finds.reads c.in-Ok.ensures.goes_on.passed c.in-Ok.ensures.finds.all in
-    let s2 : Rows c.args.levels.now c.args.arena.now c.args.position.now (g.B.Nand.state c.args.board.now) (g.B.Nand.state c.seek-2.new.board) (c.self.inside.first ∷ c.self.inside.second ∷ c.self.inside.third ∷ c.self.inside.fourth ∷ []) (c.seek.new.cursor ∷ c.seek-2.new.cursor ∷ c.self.inside.third ∷ c.self.inside.fourth ∷ []) = Rows-next c.args.levels.now c.args.arena.now c.args.position.now (g.B.Nand.state c.args.board.now) (g.B.Nand.state c.seek.new.board) (c.self.inside.first ∷ c.self.inside.second ∷ c.self.inside.third ∷ c.self.inside.fourth ∷ []) (c.seek.new.cursor ∷ c.self.inside.second ∷ c.self.inside.third ∷ c.self.inside.fourth ∷ []) s1 1 c.run-2.result.now c.self.inside.second (level_is c.args.levels.now 1 c.known.ensures.levels (omega arith) ∙ ap (λ (r : Kept). Some r) (sym c.run-2.ensures.run)) refl (g.B.Nand.state c.seek-2.new.board) c.seek-2.new.cursor c.in-Ok-seek.ensures.goes_on.follows c.in-Ok-seek.ensures.goes_on.shape c.known.ensures.levels c.in-Ok-seek.ensures.ready c.in-Ok-seek.ensures.finds.reads c.in-Ok-seek.ensures.goes_on.passed c.in-Ok-seek.ensures.finds.all in
-    let s3 : Rows c.args.levels.now c.args.arena.now c.args.position.now (g.B.Nand.state c.args.board.now) (g.B.Nand.state c.seek-3.new.board) (c.self.inside.first ∷ c.self.inside.second ∷ c.self.inside.third ∷ c.self.inside.fourth ∷ []) (c.seek.new.cursor ∷ c.seek-2.new.cursor ∷ c.seek-3.new.cursor ∷ c.self.inside.fourth ∷ []) = Rows-next c.args.levels.now c.args.arena.now c.args.position.now (g.B.Nand.state c.args.board.now) (g.B.Nand.state c.seek-2.new.board) (c.self.inside.first ∷ c.self.inside.second ∷ c.self.inside.third ∷ c.self.inside.fourth ∷ []) (c.seek.new.cursor ∷ c.seek-2.new.cursor ∷ c.self.inside.third ∷ c.self.inside.fourth ∷ []) s2 2 c.run-3.result.now c.self.inside.third (level_is c.args.levels.now 2 c.known.ensures.levels (omega arith) ∙ ap (λ (r : Kept). Some r) (sym c.run-3.ensures.run)) refl (g.B.Nand.state c.seek-3.new.board) c.seek-3.new.cursor c.in-Ok-seek-2.ensures.goes_on.follows c.in-Ok-seek-2.ensures.goes_on.shape c.known.ensures.levels c.in-Ok-seek-2.ensures.ready c.in-Ok-seek-2.ensures.finds.reads c.in-Ok-seek-2.ensures.goes_on.passed c.in-Ok-seek-2.ensures.finds.all in
+    let s1 : Rows c.args.levels.now c.args.arena.now c.args.position.now (g.B.Nand.state c.args.board.now) (g.B.Nand.state c.seek.new.board) (c.self.inside.first ∷ c.self.inside.second ∷ c.self.inside.third ∷ c.self.inside.fourth ∷ []) (c.seek.new.cursor ∷ c.self.inside.second ∷ c.self.inside.third ∷ c.self.inside.fourth ∷ []) = Rows-next c.args.levels.now c.args.arena.now c.args.position.now (g.B.Nand.state c.args.board.now) (g.B.Nand.state c.args.board.now) (c.self.inside.first ∷ c.self.inside.second ∷ c.self.inside.third ∷ c.self.inside.fourth ∷ []) (c.self.inside.first ∷ c.self.inside.second ∷ c.self.inside.third ∷ c.self.inside.fourth ∷ []) s0 0 c.run.result.now c.self.inside.first (level_is c.args.levels.now 0 c.known.ensures.levels (omega arith) ∙ ap (λ (r : Kept). Some r) (sym c.run.ensures.run)) refl (g.B.Nand.state c.seek.new.board) c.seek.new.cursor c.in-Ok.ensures.goes_on.follows c.in-Ok.ensures.goes_on.shape c.known.ensures.levels c.in-Ok.ensures.ready c.in-Ok.ensures.shows.reads c.in-Ok.ensures.goes_on.passed c.in-Ok.ensures.shows.all in
+    let s2 : Rows c.args.levels.now c.args.arena.now c.args.position.now (g.B.Nand.state c.args.board.now) (g.B.Nand.state c.seek-2.new.board) (c.self.inside.first ∷ c.self.inside.second ∷ c.self.inside.third ∷ c.self.inside.fourth ∷ []) (c.seek.new.cursor ∷ c.seek-2.new.cursor ∷ c.self.inside.third ∷ c.self.inside.fourth ∷ []) = Rows-next c.args.levels.now c.args.arena.now c.args.position.now (g.B.Nand.state c.args.board.now) (g.B.Nand.state c.seek.new.board) (c.self.inside.first ∷ c.self.inside.second ∷ c.self.inside.third ∷ c.self.inside.fourth ∷ []) (c.seek.new.cursor ∷ c.self.inside.second ∷ c.self.inside.third ∷ c.self.inside.fourth ∷ []) s1 1 c.run-2.result.now c.self.inside.second (level_is c.args.levels.now 1 c.known.ensures.levels (omega arith) ∙ ap (λ (r : Kept). Some r) (sym c.run-2.ensures.run)) refl (g.B.Nand.state c.seek-2.new.board) c.seek-2.new.cursor c.in-Ok-seek.ensures.goes_on.follows c.in-Ok-seek.ensures.goes_on.shape c.known.ensures.levels c.in-Ok-seek.ensures.ready c.in-Ok-seek.ensures.shows.reads c.in-Ok-seek.ensures.goes_on.passed c.in-Ok-seek.ensures.shows.all in
+    let s3 : Rows c.args.levels.now c.args.arena.now c.args.position.now (g.B.Nand.state c.args.board.now) (g.B.Nand.state c.seek-3.new.board) (c.self.inside.first ∷ c.self.inside.second ∷ c.self.inside.third ∷ c.self.inside.fourth ∷ []) (c.seek.new.cursor ∷ c.seek-2.new.cursor ∷ c.seek-3.new.cursor ∷ c.self.inside.fourth ∷ []) = Rows-next c.args.levels.now c.args.arena.now c.args.position.now (g.B.Nand.state c.args.board.now) (g.B.Nand.state c.seek-2.new.board) (c.self.inside.first ∷ c.self.inside.second ∷ c.self.inside.third ∷ c.self.inside.fourth ∷ []) (c.seek.new.cursor ∷ c.seek-2.new.cursor ∷ c.self.inside.third ∷ c.self.inside.fourth ∷ []) s2 2 c.run-3.result.now c.self.inside.third (level_is c.args.levels.now 2 c.known.ensures.levels (omega arith) ∙ ap (λ (r : Kept). Some r) (sym c.run-3.ensures.run)) refl (g.B.Nand.state c.seek-3.new.board) c.seek-3.new.cursor c.in-Ok-seek-2.ensures.goes_on.follows c.in-Ok-seek-2.ensures.goes_on.shape c.known.ensures.levels c.in-Ok-seek-2.ensures.ready c.in-Ok-seek-2.ensures.shows.reads c.in-Ok-seek-2.ensures.goes_on.passed c.in-Ok-seek-2.ensures.shows.all in
     row_follows c.args.levels.now c.args.arena.now c.args.position.now (g.B.Nand.state c.args.board.now) (g.B.Nand.state c.seek-3.new.board) (c.self.inside.first ∷ c.self.inside.second ∷ c.self.inside.third ∷ c.self.inside.fourth ∷ []) (c.seek.new.cursor ∷ c.seek-2.new.cursor ∷ c.seek-3.new.cursor ∷ c.self.inside.fourth ∷ []) s3 3 c.run-4.result.now c.self.inside.fourth (level_is c.args.levels.now 3 c.known.ensures.levels (omega arith) ∙ ap (λ (r : Kept). Some r) (sym c.run-4.ensures.run)) refl
 
 pub returns-in-Err-clause-go_on : goal.returns-in-Err-clause-go_on
@@ -44,7 +42,7 @@ returns-in-Err-seek-clause-go_on g c =
     let follow = rw (← c.self.view_is) at c.requires.follow in
     let shape = rw (← c.self.view_is) at c.requires.shape in
     let s0 : Rows c.args.levels.now c.args.arena.now c.args.position.now (g.B.Nand.state c.args.board.now) (g.B.Nand.state c.args.board.now) (c.self.inside.first ∷ c.self.inside.second ∷ c.self.inside.third ∷ c.self.inside.fourth ∷ []) (c.self.inside.first ∷ c.self.inside.second ∷ c.self.inside.third ∷ c.self.inside.fourth ∷ []) = Rows-start c.args.levels.now c.args.arena.now c.args.position.now (g.B.Nand.state c.args.board.now) (c.self.inside.first ∷ c.self.inside.second ∷ c.self.inside.third ∷ c.self.inside.fourth ∷ []) follow.0 c.requires.ready shape follow.1 follow.2 in
-    let s1 : Rows c.args.levels.now c.args.arena.now c.args.position.now (g.B.Nand.state c.args.board.now) (g.B.Nand.state c.seek.new.board) (c.self.inside.first ∷ c.self.inside.second ∷ c.self.inside.third ∷ c.self.inside.fourth ∷ []) (c.seek.new.cursor ∷ c.self.inside.second ∷ c.self.inside.third ∷ c.self.inside.fourth ∷ []) = Rows-next c.args.levels.now c.args.arena.now c.args.position.now (g.B.Nand.state c.args.board.now) (g.B.Nand.state c.args.board.now) (c.self.inside.first ∷ c.self.inside.second ∷ c.self.inside.third ∷ c.self.inside.fourth ∷ []) (c.self.inside.first ∷ c.self.inside.second ∷ c.self.inside.third ∷ c.self.inside.fourth ∷ []) s0 0 c.run.result.now c.self.inside.first (level_is c.args.levels.now 0 c.known.ensures.levels (omega arith) ∙ ap (λ (r : Kept). Some r) (sym c.run.ensures.run)) refl (g.B.Nand.state c.seek.new.board) c.seek.new.cursor c.in-Ok.ensures.goes_on.follows c.in-Ok.ensures.goes_on.shape c.known.ensures.levels c.in-Ok.ensures.ready c.in-Ok.ensures.finds.reads c.in-Ok.ensures.goes_on.passed c.in-Ok.ensures.finds.all in
+    let s1 : Rows c.args.levels.now c.args.arena.now c.args.position.now (g.B.Nand.state c.args.board.now) (g.B.Nand.state c.seek.new.board) (c.self.inside.first ∷ c.self.inside.second ∷ c.self.inside.third ∷ c.self.inside.fourth ∷ []) (c.seek.new.cursor ∷ c.self.inside.second ∷ c.self.inside.third ∷ c.self.inside.fourth ∷ []) = Rows-next c.args.levels.now c.args.arena.now c.args.position.now (g.B.Nand.state c.args.board.now) (g.B.Nand.state c.args.board.now) (c.self.inside.first ∷ c.self.inside.second ∷ c.self.inside.third ∷ c.self.inside.fourth ∷ []) (c.self.inside.first ∷ c.self.inside.second ∷ c.self.inside.third ∷ c.self.inside.fourth ∷ []) s0 0 c.run.result.now c.self.inside.first (level_is c.args.levels.now 0 c.known.ensures.levels (omega arith) ∙ ap (λ (r : Kept). Some r) (sym c.run.ensures.run)) refl (g.B.Nand.state c.seek.new.board) c.seek.new.cursor c.in-Ok.ensures.goes_on.follows c.in-Ok.ensures.goes_on.shape c.known.ensures.levels c.in-Ok.ensures.ready c.in-Ok.ensures.shows.reads c.in-Ok.ensures.goes_on.passed c.in-Ok.ensures.shows.all in
     rw (← c.self.view_is) (Rows-stays c.args.levels.now c.args.arena.now c.args.position.now (g.B.Nand.state c.args.board.now) (g.B.Nand.state c.seek.new.board) (c.self.inside.first ∷ c.self.inside.second ∷ c.self.inside.third ∷ c.self.inside.fourth ∷ []) (c.seek.new.cursor ∷ c.self.inside.second ∷ c.self.inside.third ∷ c.self.inside.fourth ∷ []) s1 1 c.run-2.result.now c.self.inside.second (level_is c.args.levels.now 1 c.known.ensures.levels (omega arith) ∙ ap (λ (r : Kept). Some r) (sym c.run-2.ensures.run)) refl (g.B.Nand.state c.seek-2.new.board) c.seek-2.new.cursor c.in-Err-seek.ensures.goes_on.follows c.in-Err-seek.ensures.goes_on.shape c.in-Err-seek.ensures.goes_on.passed)
 
 pub returns-in-Err-seek-clause-err : goal.returns-in-Err-seek-clause-err
@@ -52,7 +50,7 @@ returns-in-Err-seek-clause-err g c =
     let follow = rw (← c.self.view_is) at c.requires.follow in
     let shape = rw (← c.self.view_is) at c.requires.shape in
     let s0 : Rows c.args.levels.now c.args.arena.now c.args.position.now (g.B.Nand.state c.args.board.now) (g.B.Nand.state c.args.board.now) (c.self.inside.first ∷ c.self.inside.second ∷ c.self.inside.third ∷ c.self.inside.fourth ∷ []) (c.self.inside.first ∷ c.self.inside.second ∷ c.self.inside.third ∷ c.self.inside.fourth ∷ []) = Rows-start c.args.levels.now c.args.arena.now c.args.position.now (g.B.Nand.state c.args.board.now) (c.self.inside.first ∷ c.self.inside.second ∷ c.self.inside.third ∷ c.self.inside.fourth ∷ []) follow.0 c.requires.ready shape follow.1 follow.2 in
-    let s1 : Rows c.args.levels.now c.args.arena.now c.args.position.now (g.B.Nand.state c.args.board.now) (g.B.Nand.state c.seek.new.board) (c.self.inside.first ∷ c.self.inside.second ∷ c.self.inside.third ∷ c.self.inside.fourth ∷ []) (c.seek.new.cursor ∷ c.self.inside.second ∷ c.self.inside.third ∷ c.self.inside.fourth ∷ []) = Rows-next c.args.levels.now c.args.arena.now c.args.position.now (g.B.Nand.state c.args.board.now) (g.B.Nand.state c.args.board.now) (c.self.inside.first ∷ c.self.inside.second ∷ c.self.inside.third ∷ c.self.inside.fourth ∷ []) (c.self.inside.first ∷ c.self.inside.second ∷ c.self.inside.third ∷ c.self.inside.fourth ∷ []) s0 0 c.run.result.now c.self.inside.first (level_is c.args.levels.now 0 c.known.ensures.levels (omega arith) ∙ ap (λ (r : Kept). Some r) (sym c.run.ensures.run)) refl (g.B.Nand.state c.seek.new.board) c.seek.new.cursor c.in-Ok.ensures.goes_on.follows c.in-Ok.ensures.goes_on.shape c.known.ensures.levels c.in-Ok.ensures.ready c.in-Ok.ensures.finds.reads c.in-Ok.ensures.goes_on.passed c.in-Ok.ensures.finds.all in
+    let s1 : Rows c.args.levels.now c.args.arena.now c.args.position.now (g.B.Nand.state c.args.board.now) (g.B.Nand.state c.seek.new.board) (c.self.inside.first ∷ c.self.inside.second ∷ c.self.inside.third ∷ c.self.inside.fourth ∷ []) (c.seek.new.cursor ∷ c.self.inside.second ∷ c.self.inside.third ∷ c.self.inside.fourth ∷ []) = Rows-next c.args.levels.now c.args.arena.now c.args.position.now (g.B.Nand.state c.args.board.now) (g.B.Nand.state c.args.board.now) (c.self.inside.first ∷ c.self.inside.second ∷ c.self.inside.third ∷ c.self.inside.fourth ∷ []) (c.self.inside.first ∷ c.self.inside.second ∷ c.self.inside.third ∷ c.self.inside.fourth ∷ []) s0 0 c.run.result.now c.self.inside.first (level_is c.args.levels.now 0 c.known.ensures.levels (omega arith) ∙ ap (λ (r : Kept). Some r) (sym c.run.ensures.run)) refl (g.B.Nand.state c.seek.new.board) c.seek.new.cursor c.in-Ok.ensures.goes_on.follows c.in-Ok.ensures.goes_on.shape c.known.ensures.levels c.in-Ok.ensures.ready c.in-Ok.ensures.shows.reads c.in-Ok.ensures.goes_on.passed c.in-Ok.ensures.shows.all in
     rw (← c.self.view_is) (Rows-failed c.args.levels.now c.args.arena.now c.args.position.now (g.B.Nand.state c.args.board.now) (g.B.Nand.state c.seek.new.board) (c.self.inside.first ∷ c.self.inside.second ∷ c.self.inside.third ∷ c.self.inside.fourth ∷ []) (c.seek.new.cursor ∷ c.self.inside.second ∷ c.self.inside.third ∷ c.self.inside.fourth ∷ []) s1 1 c.run-2.result.now c.self.inside.second (level_is c.args.levels.now 1 c.known.ensures.levels (omega arith) ∙ ap (λ (r : Kept). Some r) (sym c.run-2.ensures.run)) refl (g.B.Nand.state c.seek-2.new.board) c.seek-2.new.cursor c.in-Err-seek.ensures.goes_on.follows c.in-Err-seek.ensures.goes_on.shape c.in-Err-seek.ensures.err)
 
 pub returns-in-Err-seek-2-clause-go_on : goal.returns-in-Err-seek-2-clause-go_on
@@ -60,8 +58,8 @@ returns-in-Err-seek-2-clause-go_on g c =
     let follow = rw (← c.self.view_is) at c.requires.follow in
     let shape = rw (← c.self.view_is) at c.requires.shape in
     let s0 : Rows c.args.levels.now c.args.arena.now c.args.position.now (g.B.Nand.state c.args.board.now) (g.B.Nand.state c.args.board.now) (c.self.inside.first ∷ c.self.inside.second ∷ c.self.inside.third ∷ c.self.inside.fourth ∷ []) (c.self.inside.first ∷ c.self.inside.second ∷ c.self.inside.third ∷ c.self.inside.fourth ∷ []) = Rows-start c.args.levels.now c.args.arena.now c.args.position.now (g.B.Nand.state c.args.board.now) (c.self.inside.first ∷ c.self.inside.second ∷ c.self.inside.third ∷ c.self.inside.fourth ∷ []) follow.0 c.requires.ready shape follow.1 follow.2 in
-    let s1 : Rows c.args.levels.now c.args.arena.now c.args.position.now (g.B.Nand.state c.args.board.now) (g.B.Nand.state c.seek.new.board) (c.self.inside.first ∷ c.self.inside.second ∷ c.self.inside.third ∷ c.self.inside.fourth ∷ []) (c.seek.new.cursor ∷ c.self.inside.second ∷ c.self.inside.third ∷ c.self.inside.fourth ∷ []) = Rows-next c.args.levels.now c.args.arena.now c.args.position.now (g.B.Nand.state c.args.board.now) (g.B.Nand.state c.args.board.now) (c.self.inside.first ∷ c.self.inside.second ∷ c.self.inside.third ∷ c.self.inside.fourth ∷ []) (c.self.inside.first ∷ c.self.inside.second ∷ c.self.inside.third ∷ c.self.inside.fourth ∷ []) s0 0 c.run.result.now c.self.inside.first (level_is c.args.levels.now 0 c.known.ensures.levels (omega arith) ∙ ap (λ (r : Kept). Some r) (sym c.run.ensures.run)) refl (g.B.Nand.state c.seek.new.board) c.seek.new.cursor c.in-Ok.ensures.goes_on.follows c.in-Ok.ensures.goes_on.shape c.known.ensures.levels c.in-Ok.ensures.ready c.in-Ok.ensures.finds.reads c.in-Ok.ensures.goes_on.passed c.in-Ok.ensures.finds.all in
-    let s2 : Rows c.args.levels.now c.args.arena.now c.args.position.now (g.B.Nand.state c.args.board.now) (g.B.Nand.state c.seek-2.new.board) (c.self.inside.first ∷ c.self.inside.second ∷ c.self.inside.third ∷ c.self.inside.fourth ∷ []) (c.seek.new.cursor ∷ c.seek-2.new.cursor ∷ c.self.inside.third ∷ c.self.inside.fourth ∷ []) = Rows-next c.args.levels.now c.args.arena.now c.args.position.now (g.B.Nand.state c.args.board.now) (g.B.Nand.state c.seek.new.board) (c.self.inside.first ∷ c.self.inside.second ∷ c.self.inside.third ∷ c.self.inside.fourth ∷ []) (c.seek.new.cursor ∷ c.self.inside.second ∷ c.self.inside.third ∷ c.self.inside.fourth ∷ []) s1 1 c.run-2.result.now c.self.inside.second (level_is c.args.levels.now 1 c.known.ensures.levels (omega arith) ∙ ap (λ (r : Kept). Some r) (sym c.run-2.ensures.run)) refl (g.B.Nand.state c.seek-2.new.board) c.seek-2.new.cursor c.in-Ok-seek.ensures.goes_on.follows c.in-Ok-seek.ensures.goes_on.shape c.known.ensures.levels c.in-Ok-seek.ensures.ready c.in-Ok-seek.ensures.finds.reads c.in-Ok-seek.ensures.goes_on.passed c.in-Ok-seek.ensures.finds.all in
+    let s1 : Rows c.args.levels.now c.args.arena.now c.args.position.now (g.B.Nand.state c.args.board.now) (g.B.Nand.state c.seek.new.board) (c.self.inside.first ∷ c.self.inside.second ∷ c.self.inside.third ∷ c.self.inside.fourth ∷ []) (c.seek.new.cursor ∷ c.self.inside.second ∷ c.self.inside.third ∷ c.self.inside.fourth ∷ []) = Rows-next c.args.levels.now c.args.arena.now c.args.position.now (g.B.Nand.state c.args.board.now) (g.B.Nand.state c.args.board.now) (c.self.inside.first ∷ c.self.inside.second ∷ c.self.inside.third ∷ c.self.inside.fourth ∷ []) (c.self.inside.first ∷ c.self.inside.second ∷ c.self.inside.third ∷ c.self.inside.fourth ∷ []) s0 0 c.run.result.now c.self.inside.first (level_is c.args.levels.now 0 c.known.ensures.levels (omega arith) ∙ ap (λ (r : Kept). Some r) (sym c.run.ensures.run)) refl (g.B.Nand.state c.seek.new.board) c.seek.new.cursor c.in-Ok.ensures.goes_on.follows c.in-Ok.ensures.goes_on.shape c.known.ensures.levels c.in-Ok.ensures.ready c.in-Ok.ensures.shows.reads c.in-Ok.ensures.goes_on.passed c.in-Ok.ensures.shows.all in
+    let s2 : Rows c.args.levels.now c.args.arena.now c.args.position.now (g.B.Nand.state c.args.board.now) (g.B.Nand.state c.seek-2.new.board) (c.self.inside.first ∷ c.self.inside.second ∷ c.self.inside.third ∷ c.self.inside.fourth ∷ []) (c.seek.new.cursor ∷ c.seek-2.new.cursor ∷ c.self.inside.third ∷ c.self.inside.fourth ∷ []) = Rows-next c.args.levels.now c.args.arena.now c.args.position.now (g.B.Nand.state c.args.board.now) (g.B.Nand.state c.seek.new.board) (c.self.inside.first ∷ c.self.inside.second ∷ c.self.inside.third ∷ c.self.inside.fourth ∷ []) (c.seek.new.cursor ∷ c.self.inside.second ∷ c.self.inside.third ∷ c.self.inside.fourth ∷ []) s1 1 c.run-2.result.now c.self.inside.second (level_is c.args.levels.now 1 c.known.ensures.levels (omega arith) ∙ ap (λ (r : Kept). Some r) (sym c.run-2.ensures.run)) refl (g.B.Nand.state c.seek-2.new.board) c.seek-2.new.cursor c.in-Ok-seek.ensures.goes_on.follows c.in-Ok-seek.ensures.goes_on.shape c.known.ensures.levels c.in-Ok-seek.ensures.ready c.in-Ok-seek.ensures.shows.reads c.in-Ok-seek.ensures.goes_on.passed c.in-Ok-seek.ensures.shows.all in
     rw (← c.self.view_is) (Rows-stays c.args.levels.now c.args.arena.now c.args.position.now (g.B.Nand.state c.args.board.now) (g.B.Nand.state c.seek-2.new.board) (c.self.inside.first ∷ c.self.inside.second ∷ c.self.inside.third ∷ c.self.inside.fourth ∷ []) (c.seek.new.cursor ∷ c.seek-2.new.cursor ∷ c.self.inside.third ∷ c.self.inside.fourth ∷ []) s2 2 c.run-3.result.now c.self.inside.third (level_is c.args.levels.now 2 c.known.ensures.levels (omega arith) ∙ ap (λ (r : Kept). Some r) (sym c.run-3.ensures.run)) refl (g.B.Nand.state c.seek-3.new.board) c.seek-3.new.cursor c.in-Err-seek-2.ensures.goes_on.follows c.in-Err-seek-2.ensures.goes_on.shape c.in-Err-seek-2.ensures.goes_on.passed)
 
 pub returns-in-Err-seek-2-clause-err : goal.returns-in-Err-seek-2-clause-err
@@ -69,8 +67,8 @@ returns-in-Err-seek-2-clause-err g c =
     let follow = rw (← c.self.view_is) at c.requires.follow in
     let shape = rw (← c.self.view_is) at c.requires.shape in
     let s0 : Rows c.args.levels.now c.args.arena.now c.args.position.now (g.B.Nand.state c.args.board.now) (g.B.Nand.state c.args.board.now) (c.self.inside.first ∷ c.self.inside.second ∷ c.self.inside.third ∷ c.self.inside.fourth ∷ []) (c.self.inside.first ∷ c.self.inside.second ∷ c.self.inside.third ∷ c.self.inside.fourth ∷ []) = Rows-start c.args.levels.now c.args.arena.now c.args.position.now (g.B.Nand.state c.args.board.now) (c.self.inside.first ∷ c.self.inside.second ∷ c.self.inside.third ∷ c.self.inside.fourth ∷ []) follow.0 c.requires.ready shape follow.1 follow.2 in
-    let s1 : Rows c.args.levels.now c.args.arena.now c.args.position.now (g.B.Nand.state c.args.board.now) (g.B.Nand.state c.seek.new.board) (c.self.inside.first ∷ c.self.inside.second ∷ c.self.inside.third ∷ c.self.inside.fourth ∷ []) (c.seek.new.cursor ∷ c.self.inside.second ∷ c.self.inside.third ∷ c.self.inside.fourth ∷ []) = Rows-next c.args.levels.now c.args.arena.now c.args.position.now (g.B.Nand.state c.args.board.now) (g.B.Nand.state c.args.board.now) (c.self.inside.first ∷ c.self.inside.second ∷ c.self.inside.third ∷ c.self.inside.fourth ∷ []) (c.self.inside.first ∷ c.self.inside.second ∷ c.self.inside.third ∷ c.self.inside.fourth ∷ []) s0 0 c.run.result.now c.self.inside.first (level_is c.args.levels.now 0 c.known.ensures.levels (omega arith) ∙ ap (λ (r : Kept). Some r) (sym c.run.ensures.run)) refl (g.B.Nand.state c.seek.new.board) c.seek.new.cursor c.in-Ok.ensures.goes_on.follows c.in-Ok.ensures.goes_on.shape c.known.ensures.levels c.in-Ok.ensures.ready c.in-Ok.ensures.finds.reads c.in-Ok.ensures.goes_on.passed c.in-Ok.ensures.finds.all in
-    let s2 : Rows c.args.levels.now c.args.arena.now c.args.position.now (g.B.Nand.state c.args.board.now) (g.B.Nand.state c.seek-2.new.board) (c.self.inside.first ∷ c.self.inside.second ∷ c.self.inside.third ∷ c.self.inside.fourth ∷ []) (c.seek.new.cursor ∷ c.seek-2.new.cursor ∷ c.self.inside.third ∷ c.self.inside.fourth ∷ []) = Rows-next c.args.levels.now c.args.arena.now c.args.position.now (g.B.Nand.state c.args.board.now) (g.B.Nand.state c.seek.new.board) (c.self.inside.first ∷ c.self.inside.second ∷ c.self.inside.third ∷ c.self.inside.fourth ∷ []) (c.seek.new.cursor ∷ c.self.inside.second ∷ c.self.inside.third ∷ c.self.inside.fourth ∷ []) s1 1 c.run-2.result.now c.self.inside.second (level_is c.args.levels.now 1 c.known.ensures.levels (omega arith) ∙ ap (λ (r : Kept). Some r) (sym c.run-2.ensures.run)) refl (g.B.Nand.state c.seek-2.new.board) c.seek-2.new.cursor c.in-Ok-seek.ensures.goes_on.follows c.in-Ok-seek.ensures.goes_on.shape c.known.ensures.levels c.in-Ok-seek.ensures.ready c.in-Ok-seek.ensures.finds.reads c.in-Ok-seek.ensures.goes_on.passed c.in-Ok-seek.ensures.finds.all in
+    let s1 : Rows c.args.levels.now c.args.arena.now c.args.position.now (g.B.Nand.state c.args.board.now) (g.B.Nand.state c.seek.new.board) (c.self.inside.first ∷ c.self.inside.second ∷ c.self.inside.third ∷ c.self.inside.fourth ∷ []) (c.seek.new.cursor ∷ c.self.inside.second ∷ c.self.inside.third ∷ c.self.inside.fourth ∷ []) = Rows-next c.args.levels.now c.args.arena.now c.args.position.now (g.B.Nand.state c.args.board.now) (g.B.Nand.state c.args.board.now) (c.self.inside.first ∷ c.self.inside.second ∷ c.self.inside.third ∷ c.self.inside.fourth ∷ []) (c.self.inside.first ∷ c.self.inside.second ∷ c.self.inside.third ∷ c.self.inside.fourth ∷ []) s0 0 c.run.result.now c.self.inside.first (level_is c.args.levels.now 0 c.known.ensures.levels (omega arith) ∙ ap (λ (r : Kept). Some r) (sym c.run.ensures.run)) refl (g.B.Nand.state c.seek.new.board) c.seek.new.cursor c.in-Ok.ensures.goes_on.follows c.in-Ok.ensures.goes_on.shape c.known.ensures.levels c.in-Ok.ensures.ready c.in-Ok.ensures.shows.reads c.in-Ok.ensures.goes_on.passed c.in-Ok.ensures.shows.all in
+    let s2 : Rows c.args.levels.now c.args.arena.now c.args.position.now (g.B.Nand.state c.args.board.now) (g.B.Nand.state c.seek-2.new.board) (c.self.inside.first ∷ c.self.inside.second ∷ c.self.inside.third ∷ c.self.inside.fourth ∷ []) (c.seek.new.cursor ∷ c.seek-2.new.cursor ∷ c.self.inside.third ∷ c.self.inside.fourth ∷ []) = Rows-next c.args.levels.now c.args.arena.now c.args.position.now (g.B.Nand.state c.args.board.now) (g.B.Nand.state c.seek.new.board) (c.self.inside.first ∷ c.self.inside.second ∷ c.self.inside.third ∷ c.self.inside.fourth ∷ []) (c.seek.new.cursor ∷ c.self.inside.second ∷ c.self.inside.third ∷ c.self.inside.fourth ∷ []) s1 1 c.run-2.result.now c.self.inside.second (level_is c.args.levels.now 1 c.known.ensures.levels (omega arith) ∙ ap (λ (r : Kept). Some r) (sym c.run-2.ensures.run)) refl (g.B.Nand.state c.seek-2.new.board) c.seek-2.new.cursor c.in-Ok-seek.ensures.goes_on.follows c.in-Ok-seek.ensures.goes_on.shape c.known.ensures.levels c.in-Ok-seek.ensures.ready c.in-Ok-seek.ensures.shows.reads c.in-Ok-seek.ensures.goes_on.passed c.in-Ok-seek.ensures.shows.all in
     rw (← c.self.view_is) (Rows-failed c.args.levels.now c.args.arena.now c.args.position.now (g.B.Nand.state c.args.board.now) (g.B.Nand.state c.seek-2.new.board) (c.self.inside.first ∷ c.self.inside.second ∷ c.self.inside.third ∷ c.self.inside.fourth ∷ []) (c.seek.new.cursor ∷ c.seek-2.new.cursor ∷ c.self.inside.third ∷ c.self.inside.fourth ∷ []) s2 2 c.run-3.result.now c.self.inside.third (level_is c.args.levels.now 2 c.known.ensures.levels (omega arith) ∙ ap (λ (r : Kept). Some r) (sym c.run-3.ensures.run)) refl (g.B.Nand.state c.seek-3.new.board) c.seek-3.new.cursor c.in-Err-seek-2.ensures.goes_on.follows c.in-Err-seek-2.ensures.goes_on.shape c.in-Err-seek-2.ensures.err)
 
 pub returns-in-Err-seek-3-clause-go_on : goal.returns-in-Err-seek-3-clause-go_on
@@ -78,9 +76,9 @@ returns-in-Err-seek-3-clause-go_on g c =
     let follow = rw (← c.self.view_is) at c.requires.follow in
     let shape = rw (← c.self.view_is) at c.requires.shape in
     let s0 : Rows c.args.levels.now c.args.arena.now c.args.position.now (g.B.Nand.state c.args.board.now) (g.B.Nand.state c.args.board.now) (c.self.inside.first ∷ c.self.inside.second ∷ c.self.inside.third ∷ c.self.inside.fourth ∷ []) (c.self.inside.first ∷ c.self.inside.second ∷ c.self.inside.third ∷ c.self.inside.fourth ∷ []) = Rows-start c.args.levels.now c.args.arena.now c.args.position.now (g.B.Nand.state c.args.board.now) (c.self.inside.first ∷ c.self.inside.second ∷ c.self.inside.third ∷ c.self.inside.fourth ∷ []) follow.0 c.requires.ready shape follow.1 follow.2 in
-    let s1 : Rows c.args.levels.now c.args.arena.now c.args.position.now (g.B.Nand.state c.args.board.now) (g.B.Nand.state c.seek.new.board) (c.self.inside.first ∷ c.self.inside.second ∷ c.self.inside.third ∷ c.self.inside.fourth ∷ []) (c.seek.new.cursor ∷ c.self.inside.second ∷ c.self.inside.third ∷ c.self.inside.fourth ∷ []) = Rows-next c.args.levels.now c.args.arena.now c.args.position.now (g.B.Nand.state c.args.board.now) (g.B.Nand.state c.args.board.now) (c.self.inside.first ∷ c.self.inside.second ∷ c.self.inside.third ∷ c.self.inside.fourth ∷ []) (c.self.inside.first ∷ c.self.inside.second ∷ c.self.inside.third ∷ c.self.inside.fourth ∷ []) s0 0 c.run.result.now c.self.inside.first (level_is c.args.levels.now 0 c.known.ensures.levels (omega arith) ∙ ap (λ (r : Kept). Some r) (sym c.run.ensures.run)) refl (g.B.Nand.state c.seek.new.board) c.seek.new.cursor c.in-Ok.ensures.goes_on.follows c.in-Ok.ensures.goes_on.shape c.known.ensures.levels c.in-Ok.ensures.ready c.in-Ok.ensures.finds.reads c.in-Ok.ensures.goes_on.passed c.in-Ok.ensures.finds.all in
-    let s2 : Rows c.args.levels.now c.args.arena.now c.args.position.now (g.B.Nand.state c.args.board.now) (g.B.Nand.state c.seek-2.new.board) (c.self.inside.first ∷ c.self.inside.second ∷ c.self.inside.third ∷ c.self.inside.fourth ∷ []) (c.seek.new.cursor ∷ c.seek-2.new.cursor ∷ c.self.inside.third ∷ c.self.inside.fourth ∷ []) = Rows-next c.args.levels.now c.args.arena.now c.args.position.now (g.B.Nand.state c.args.board.now) (g.B.Nand.state c.seek.new.board) (c.self.inside.first ∷ c.self.inside.second ∷ c.self.inside.third ∷ c.self.inside.fourth ∷ []) (c.seek.new.cursor ∷ c.self.inside.second ∷ c.self.inside.third ∷ c.self.inside.fourth ∷ []) s1 1 c.run-2.result.now c.self.inside.second (level_is c.args.levels.now 1 c.known.ensures.levels (omega arith) ∙ ap (λ (r : Kept). Some r) (sym c.run-2.ensures.run)) refl (g.B.Nand.state c.seek-2.new.board) c.seek-2.new.cursor c.in-Ok-seek.ensures.goes_on.follows c.in-Ok-seek.ensures.goes_on.shape c.known.ensures.levels c.in-Ok-seek.ensures.ready c.in-Ok-seek.ensures.finds.reads c.in-Ok-seek.ensures.goes_on.passed c.in-Ok-seek.ensures.finds.all in
-    let s3 : Rows c.args.levels.now c.args.arena.now c.args.position.now (g.B.Nand.state c.args.board.now) (g.B.Nand.state c.seek-3.new.board) (c.self.inside.first ∷ c.self.inside.second ∷ c.self.inside.third ∷ c.self.inside.fourth ∷ []) (c.seek.new.cursor ∷ c.seek-2.new.cursor ∷ c.seek-3.new.cursor ∷ c.self.inside.fourth ∷ []) = Rows-next c.args.levels.now c.args.arena.now c.args.position.now (g.B.Nand.state c.args.board.now) (g.B.Nand.state c.seek-2.new.board) (c.self.inside.first ∷ c.self.inside.second ∷ c.self.inside.third ∷ c.self.inside.fourth ∷ []) (c.seek.new.cursor ∷ c.seek-2.new.cursor ∷ c.self.inside.third ∷ c.self.inside.fourth ∷ []) s2 2 c.run-3.result.now c.self.inside.third (level_is c.args.levels.now 2 c.known.ensures.levels (omega arith) ∙ ap (λ (r : Kept). Some r) (sym c.run-3.ensures.run)) refl (g.B.Nand.state c.seek-3.new.board) c.seek-3.new.cursor c.in-Ok-seek-2.ensures.goes_on.follows c.in-Ok-seek-2.ensures.goes_on.shape c.known.ensures.levels c.in-Ok-seek-2.ensures.ready c.in-Ok-seek-2.ensures.finds.reads c.in-Ok-seek-2.ensures.goes_on.passed c.in-Ok-seek-2.ensures.finds.all in
+    let s1 : Rows c.args.levels.now c.args.arena.now c.args.position.now (g.B.Nand.state c.args.board.now) (g.B.Nand.state c.seek.new.board) (c.self.inside.first ∷ c.self.inside.second ∷ c.self.inside.third ∷ c.self.inside.fourth ∷ []) (c.seek.new.cursor ∷ c.self.inside.second ∷ c.self.inside.third ∷ c.self.inside.fourth ∷ []) = Rows-next c.args.levels.now c.args.arena.now c.args.position.now (g.B.Nand.state c.args.board.now) (g.B.Nand.state c.args.board.now) (c.self.inside.first ∷ c.self.inside.second ∷ c.self.inside.third ∷ c.self.inside.fourth ∷ []) (c.self.inside.first ∷ c.self.inside.second ∷ c.self.inside.third ∷ c.self.inside.fourth ∷ []) s0 0 c.run.result.now c.self.inside.first (level_is c.args.levels.now 0 c.known.ensures.levels (omega arith) ∙ ap (λ (r : Kept). Some r) (sym c.run.ensures.run)) refl (g.B.Nand.state c.seek.new.board) c.seek.new.cursor c.in-Ok.ensures.goes_on.follows c.in-Ok.ensures.goes_on.shape c.known.ensures.levels c.in-Ok.ensures.ready c.in-Ok.ensures.shows.reads c.in-Ok.ensures.goes_on.passed c.in-Ok.ensures.shows.all in
+    let s2 : Rows c.args.levels.now c.args.arena.now c.args.position.now (g.B.Nand.state c.args.board.now) (g.B.Nand.state c.seek-2.new.board) (c.self.inside.first ∷ c.self.inside.second ∷ c.self.inside.third ∷ c.self.inside.fourth ∷ []) (c.seek.new.cursor ∷ c.seek-2.new.cursor ∷ c.self.inside.third ∷ c.self.inside.fourth ∷ []) = Rows-next c.args.levels.now c.args.arena.now c.args.position.now (g.B.Nand.state c.args.board.now) (g.B.Nand.state c.seek.new.board) (c.self.inside.first ∷ c.self.inside.second ∷ c.self.inside.third ∷ c.self.inside.fourth ∷ []) (c.seek.new.cursor ∷ c.self.inside.second ∷ c.self.inside.third ∷ c.self.inside.fourth ∷ []) s1 1 c.run-2.result.now c.self.inside.second (level_is c.args.levels.now 1 c.known.ensures.levels (omega arith) ∙ ap (λ (r : Kept). Some r) (sym c.run-2.ensures.run)) refl (g.B.Nand.state c.seek-2.new.board) c.seek-2.new.cursor c.in-Ok-seek.ensures.goes_on.follows c.in-Ok-seek.ensures.goes_on.shape c.known.ensures.levels c.in-Ok-seek.ensures.ready c.in-Ok-seek.ensures.shows.reads c.in-Ok-seek.ensures.goes_on.passed c.in-Ok-seek.ensures.shows.all in
+    let s3 : Rows c.args.levels.now c.args.arena.now c.args.position.now (g.B.Nand.state c.args.board.now) (g.B.Nand.state c.seek-3.new.board) (c.self.inside.first ∷ c.self.inside.second ∷ c.self.inside.third ∷ c.self.inside.fourth ∷ []) (c.seek.new.cursor ∷ c.seek-2.new.cursor ∷ c.seek-3.new.cursor ∷ c.self.inside.fourth ∷ []) = Rows-next c.args.levels.now c.args.arena.now c.args.position.now (g.B.Nand.state c.args.board.now) (g.B.Nand.state c.seek-2.new.board) (c.self.inside.first ∷ c.self.inside.second ∷ c.self.inside.third ∷ c.self.inside.fourth ∷ []) (c.seek.new.cursor ∷ c.seek-2.new.cursor ∷ c.self.inside.third ∷ c.self.inside.fourth ∷ []) s2 2 c.run-3.result.now c.self.inside.third (level_is c.args.levels.now 2 c.known.ensures.levels (omega arith) ∙ ap (λ (r : Kept). Some r) (sym c.run-3.ensures.run)) refl (g.B.Nand.state c.seek-3.new.board) c.seek-3.new.cursor c.in-Ok-seek-2.ensures.goes_on.follows c.in-Ok-seek-2.ensures.goes_on.shape c.known.ensures.levels c.in-Ok-seek-2.ensures.ready c.in-Ok-seek-2.ensures.shows.reads c.in-Ok-seek-2.ensures.goes_on.passed c.in-Ok-seek-2.ensures.shows.all in
     rw (← c.self.view_is) (Rows-stays c.args.levels.now c.args.arena.now c.args.position.now (g.B.Nand.state c.args.board.now) (g.B.Nand.state c.seek-3.new.board) (c.self.inside.first ∷ c.self.inside.second ∷ c.self.inside.third ∷ c.self.inside.fourth ∷ []) (c.seek.new.cursor ∷ c.seek-2.new.cursor ∷ c.seek-3.new.cursor ∷ c.self.inside.fourth ∷ []) s3 3 c.run-4.result.now c.self.inside.fourth (level_is c.args.levels.now 3 c.known.ensures.levels (omega arith) ∙ ap (λ (r : Kept). Some r) (sym c.run-4.ensures.run)) refl (g.B.Nand.state c.seek-4.new.board) c.seek-4.new.cursor c.in-Err-seek-3.ensures.goes_on.follows c.in-Err-seek-3.ensures.goes_on.shape c.in-Err-seek-3.ensures.goes_on.passed)
 
 pub returns-in-Err-seek-3-clause-err : goal.returns-in-Err-seek-3-clause-err
@@ -88,9 +86,9 @@ returns-in-Err-seek-3-clause-err g c =
     let follow = rw (← c.self.view_is) at c.requires.follow in
     let shape = rw (← c.self.view_is) at c.requires.shape in
     let s0 : Rows c.args.levels.now c.args.arena.now c.args.position.now (g.B.Nand.state c.args.board.now) (g.B.Nand.state c.args.board.now) (c.self.inside.first ∷ c.self.inside.second ∷ c.self.inside.third ∷ c.self.inside.fourth ∷ []) (c.self.inside.first ∷ c.self.inside.second ∷ c.self.inside.third ∷ c.self.inside.fourth ∷ []) = Rows-start c.args.levels.now c.args.arena.now c.args.position.now (g.B.Nand.state c.args.board.now) (c.self.inside.first ∷ c.self.inside.second ∷ c.self.inside.third ∷ c.self.inside.fourth ∷ []) follow.0 c.requires.ready shape follow.1 follow.2 in
-    let s1 : Rows c.args.levels.now c.args.arena.now c.args.position.now (g.B.Nand.state c.args.board.now) (g.B.Nand.state c.seek.new.board) (c.self.inside.first ∷ c.self.inside.second ∷ c.self.inside.third ∷ c.self.inside.fourth ∷ []) (c.seek.new.cursor ∷ c.self.inside.second ∷ c.self.inside.third ∷ c.self.inside.fourth ∷ []) = Rows-next c.args.levels.now c.args.arena.now c.args.position.now (g.B.Nand.state c.args.board.now) (g.B.Nand.state c.args.board.now) (c.self.inside.first ∷ c.self.inside.second ∷ c.self.inside.third ∷ c.self.inside.fourth ∷ []) (c.self.inside.first ∷ c.self.inside.second ∷ c.self.inside.third ∷ c.self.inside.fourth ∷ []) s0 0 c.run.result.now c.self.inside.first (level_is c.args.levels.now 0 c.known.ensures.levels (omega arith) ∙ ap (λ (r : Kept). Some r) (sym c.run.ensures.run)) refl (g.B.Nand.state c.seek.new.board) c.seek.new.cursor c.in-Ok.ensures.goes_on.follows c.in-Ok.ensures.goes_on.shape c.known.ensures.levels c.in-Ok.ensures.ready c.in-Ok.ensures.finds.reads c.in-Ok.ensures.goes_on.passed c.in-Ok.ensures.finds.all in
-    let s2 : Rows c.args.levels.now c.args.arena.now c.args.position.now (g.B.Nand.state c.args.board.now) (g.B.Nand.state c.seek-2.new.board) (c.self.inside.first ∷ c.self.inside.second ∷ c.self.inside.third ∷ c.self.inside.fourth ∷ []) (c.seek.new.cursor ∷ c.seek-2.new.cursor ∷ c.self.inside.third ∷ c.self.inside.fourth ∷ []) = Rows-next c.args.levels.now c.args.arena.now c.args.position.now (g.B.Nand.state c.args.board.now) (g.B.Nand.state c.seek.new.board) (c.self.inside.first ∷ c.self.inside.second ∷ c.self.inside.third ∷ c.self.inside.fourth ∷ []) (c.seek.new.cursor ∷ c.self.inside.second ∷ c.self.inside.third ∷ c.self.inside.fourth ∷ []) s1 1 c.run-2.result.now c.self.inside.second (level_is c.args.levels.now 1 c.known.ensures.levels (omega arith) ∙ ap (λ (r : Kept). Some r) (sym c.run-2.ensures.run)) refl (g.B.Nand.state c.seek-2.new.board) c.seek-2.new.cursor c.in-Ok-seek.ensures.goes_on.follows c.in-Ok-seek.ensures.goes_on.shape c.known.ensures.levels c.in-Ok-seek.ensures.ready c.in-Ok-seek.ensures.finds.reads c.in-Ok-seek.ensures.goes_on.passed c.in-Ok-seek.ensures.finds.all in
-    let s3 : Rows c.args.levels.now c.args.arena.now c.args.position.now (g.B.Nand.state c.args.board.now) (g.B.Nand.state c.seek-3.new.board) (c.self.inside.first ∷ c.self.inside.second ∷ c.self.inside.third ∷ c.self.inside.fourth ∷ []) (c.seek.new.cursor ∷ c.seek-2.new.cursor ∷ c.seek-3.new.cursor ∷ c.self.inside.fourth ∷ []) = Rows-next c.args.levels.now c.args.arena.now c.args.position.now (g.B.Nand.state c.args.board.now) (g.B.Nand.state c.seek-2.new.board) (c.self.inside.first ∷ c.self.inside.second ∷ c.self.inside.third ∷ c.self.inside.fourth ∷ []) (c.seek.new.cursor ∷ c.seek-2.new.cursor ∷ c.self.inside.third ∷ c.self.inside.fourth ∷ []) s2 2 c.run-3.result.now c.self.inside.third (level_is c.args.levels.now 2 c.known.ensures.levels (omega arith) ∙ ap (λ (r : Kept). Some r) (sym c.run-3.ensures.run)) refl (g.B.Nand.state c.seek-3.new.board) c.seek-3.new.cursor c.in-Ok-seek-2.ensures.goes_on.follows c.in-Ok-seek-2.ensures.goes_on.shape c.known.ensures.levels c.in-Ok-seek-2.ensures.ready c.in-Ok-seek-2.ensures.finds.reads c.in-Ok-seek-2.ensures.goes_on.passed c.in-Ok-seek-2.ensures.finds.all in
+    let s1 : Rows c.args.levels.now c.args.arena.now c.args.position.now (g.B.Nand.state c.args.board.now) (g.B.Nand.state c.seek.new.board) (c.self.inside.first ∷ c.self.inside.second ∷ c.self.inside.third ∷ c.self.inside.fourth ∷ []) (c.seek.new.cursor ∷ c.self.inside.second ∷ c.self.inside.third ∷ c.self.inside.fourth ∷ []) = Rows-next c.args.levels.now c.args.arena.now c.args.position.now (g.B.Nand.state c.args.board.now) (g.B.Nand.state c.args.board.now) (c.self.inside.first ∷ c.self.inside.second ∷ c.self.inside.third ∷ c.self.inside.fourth ∷ []) (c.self.inside.first ∷ c.self.inside.second ∷ c.self.inside.third ∷ c.self.inside.fourth ∷ []) s0 0 c.run.result.now c.self.inside.first (level_is c.args.levels.now 0 c.known.ensures.levels (omega arith) ∙ ap (λ (r : Kept). Some r) (sym c.run.ensures.run)) refl (g.B.Nand.state c.seek.new.board) c.seek.new.cursor c.in-Ok.ensures.goes_on.follows c.in-Ok.ensures.goes_on.shape c.known.ensures.levels c.in-Ok.ensures.ready c.in-Ok.ensures.shows.reads c.in-Ok.ensures.goes_on.passed c.in-Ok.ensures.shows.all in
+    let s2 : Rows c.args.levels.now c.args.arena.now c.args.position.now (g.B.Nand.state c.args.board.now) (g.B.Nand.state c.seek-2.new.board) (c.self.inside.first ∷ c.self.inside.second ∷ c.self.inside.third ∷ c.self.inside.fourth ∷ []) (c.seek.new.cursor ∷ c.seek-2.new.cursor ∷ c.self.inside.third ∷ c.self.inside.fourth ∷ []) = Rows-next c.args.levels.now c.args.arena.now c.args.position.now (g.B.Nand.state c.args.board.now) (g.B.Nand.state c.seek.new.board) (c.self.inside.first ∷ c.self.inside.second ∷ c.self.inside.third ∷ c.self.inside.fourth ∷ []) (c.seek.new.cursor ∷ c.self.inside.second ∷ c.self.inside.third ∷ c.self.inside.fourth ∷ []) s1 1 c.run-2.result.now c.self.inside.second (level_is c.args.levels.now 1 c.known.ensures.levels (omega arith) ∙ ap (λ (r : Kept). Some r) (sym c.run-2.ensures.run)) refl (g.B.Nand.state c.seek-2.new.board) c.seek-2.new.cursor c.in-Ok-seek.ensures.goes_on.follows c.in-Ok-seek.ensures.goes_on.shape c.known.ensures.levels c.in-Ok-seek.ensures.ready c.in-Ok-seek.ensures.shows.reads c.in-Ok-seek.ensures.goes_on.passed c.in-Ok-seek.ensures.shows.all in
+    let s3 : Rows c.args.levels.now c.args.arena.now c.args.position.now (g.B.Nand.state c.args.board.now) (g.B.Nand.state c.seek-3.new.board) (c.self.inside.first ∷ c.self.inside.second ∷ c.self.inside.third ∷ c.self.inside.fourth ∷ []) (c.seek.new.cursor ∷ c.seek-2.new.cursor ∷ c.seek-3.new.cursor ∷ c.self.inside.fourth ∷ []) = Rows-next c.args.levels.now c.args.arena.now c.args.position.now (g.B.Nand.state c.args.board.now) (g.B.Nand.state c.seek-2.new.board) (c.self.inside.first ∷ c.self.inside.second ∷ c.self.inside.third ∷ c.self.inside.fourth ∷ []) (c.seek.new.cursor ∷ c.seek-2.new.cursor ∷ c.self.inside.third ∷ c.self.inside.fourth ∷ []) s2 2 c.run-3.result.now c.self.inside.third (level_is c.args.levels.now 2 c.known.ensures.levels (omega arith) ∙ ap (λ (r : Kept). Some r) (sym c.run-3.ensures.run)) refl (g.B.Nand.state c.seek-3.new.board) c.seek-3.new.cursor c.in-Ok-seek-2.ensures.goes_on.follows c.in-Ok-seek-2.ensures.goes_on.shape c.known.ensures.levels c.in-Ok-seek-2.ensures.ready c.in-Ok-seek-2.ensures.shows.reads c.in-Ok-seek-2.ensures.goes_on.passed c.in-Ok-seek-2.ensures.shows.all in
     rw (← c.self.view_is) (Rows-failed c.args.levels.now c.args.arena.now c.args.position.now (g.B.Nand.state c.args.board.now) (g.B.Nand.state c.seek-3.new.board) (c.self.inside.first ∷ c.self.inside.second ∷ c.self.inside.third ∷ c.self.inside.fourth ∷ []) (c.seek.new.cursor ∷ c.seek-2.new.cursor ∷ c.seek-3.new.cursor ∷ c.self.inside.fourth ∷ []) s3 3 c.run-4.result.now c.self.inside.fourth (level_is c.args.levels.now 3 c.known.ensures.levels (omega arith) ∙ ap (λ (r : Kept). Some r) (sym c.run-4.ensures.run)) refl (g.B.Nand.state c.seek-4.new.board) c.seek-4.new.cursor c.in-Err-seek-3.ensures.goes_on.follows c.in-Err-seek-3.ensures.goes_on.shape c.in-Err-seek-3.ensures.err)
 
 pub returns-clause-go_on : goal.returns-clause-go_on
@@ -98,35 +96,26 @@ returns-clause-go_on g c =
     let follow = rw (← c.self.view_is) at c.requires.follow in
     let shape = rw (← c.self.view_is) at c.requires.shape in
     let s0 : Rows c.args.levels.now c.args.arena.now c.args.position.now (g.B.Nand.state c.args.board.now) (g.B.Nand.state c.args.board.now) (c.self.inside.first ∷ c.self.inside.second ∷ c.self.inside.third ∷ c.self.inside.fourth ∷ []) (c.self.inside.first ∷ c.self.inside.second ∷ c.self.inside.third ∷ c.self.inside.fourth ∷ []) = Rows-start c.args.levels.now c.args.arena.now c.args.position.now (g.B.Nand.state c.args.board.now) (c.self.inside.first ∷ c.self.inside.second ∷ c.self.inside.third ∷ c.self.inside.fourth ∷ []) follow.0 c.requires.ready shape follow.1 follow.2 in
-    let s1 : Rows c.args.levels.now c.args.arena.now c.args.position.now (g.B.Nand.state c.args.board.now) (g.B.Nand.state c.seek.new.board) (c.self.inside.first ∷ c.self.inside.second ∷ c.self.inside.third ∷ c.self.inside.fourth ∷ []) (c.seek.new.cursor ∷ c.self.inside.second ∷ c.self.inside.third ∷ c.self.inside.fourth ∷ []) = Rows-next c.args.levels.now c.args.arena.now c.args.position.now (g.B.Nand.state c.args.board.now) (g.B.Nand.state c.args.board.now) (c.self.inside.first ∷ c.self.inside.second ∷ c.self.inside.third ∷ c.self.inside.fourth ∷ []) (c.self.inside.first ∷ c.self.inside.second ∷ c.self.inside.third ∷ c.self.inside.fourth ∷ []) s0 0 c.run.result.now c.self.inside.first (level_is c.args.levels.now 0 c.known.ensures.levels (omega arith) ∙ ap (λ (r : Kept). Some r) (sym c.run.ensures.run)) refl (g.B.Nand.state c.seek.new.board) c.seek.new.cursor c.in-Ok.ensures.goes_on.follows c.in-Ok.ensures.goes_on.shape c.known.ensures.levels c.in-Ok.ensures.ready c.in-Ok.ensures.finds.reads c.in-Ok.ensures.goes_on.passed c.in-Ok.ensures.finds.all in
-    let s2 : Rows c.args.levels.now c.args.arena.now c.args.position.now (g.B.Nand.state c.args.board.now) (g.B.Nand.state c.seek-2.new.board) (c.self.inside.first ∷ c.self.inside.second ∷ c.self.inside.third ∷ c.self.inside.fourth ∷ []) (c.seek.new.cursor ∷ c.seek-2.new.cursor ∷ c.self.inside.third ∷ c.self.inside.fourth ∷ []) = Rows-next c.args.levels.now c.args.arena.now c.args.position.now (g.B.Nand.state c.args.board.now) (g.B.Nand.state c.seek.new.board) (c.self.inside.first ∷ c.self.inside.second ∷ c.self.inside.third ∷ c.self.inside.fourth ∷ []) (c.seek.new.cursor ∷ c.self.inside.second ∷ c.self.inside.third ∷ c.self.inside.fourth ∷ []) s1 1 c.run-2.result.now c.self.inside.second (level_is c.args.levels.now 1 c.known.ensures.levels (omega arith) ∙ ap (λ (r : Kept). Some r) (sym c.run-2.ensures.run)) refl (g.B.Nand.state c.seek-2.new.board) c.seek-2.new.cursor c.in-Ok-seek.ensures.goes_on.follows c.in-Ok-seek.ensures.goes_on.shape c.known.ensures.levels c.in-Ok-seek.ensures.ready c.in-Ok-seek.ensures.finds.reads c.in-Ok-seek.ensures.goes_on.passed c.in-Ok-seek.ensures.finds.all in
-    let s3 : Rows c.args.levels.now c.args.arena.now c.args.position.now (g.B.Nand.state c.args.board.now) (g.B.Nand.state c.seek-3.new.board) (c.self.inside.first ∷ c.self.inside.second ∷ c.self.inside.third ∷ c.self.inside.fourth ∷ []) (c.seek.new.cursor ∷ c.seek-2.new.cursor ∷ c.seek-3.new.cursor ∷ c.self.inside.fourth ∷ []) = Rows-next c.args.levels.now c.args.arena.now c.args.position.now (g.B.Nand.state c.args.board.now) (g.B.Nand.state c.seek-2.new.board) (c.self.inside.first ∷ c.self.inside.second ∷ c.self.inside.third ∷ c.self.inside.fourth ∷ []) (c.seek.new.cursor ∷ c.seek-2.new.cursor ∷ c.self.inside.third ∷ c.self.inside.fourth ∷ []) s2 2 c.run-3.result.now c.self.inside.third (level_is c.args.levels.now 2 c.known.ensures.levels (omega arith) ∙ ap (λ (r : Kept). Some r) (sym c.run-3.ensures.run)) refl (g.B.Nand.state c.seek-3.new.board) c.seek-3.new.cursor c.in-Ok-seek-2.ensures.goes_on.follows c.in-Ok-seek-2.ensures.goes_on.shape c.known.ensures.levels c.in-Ok-seek-2.ensures.ready c.in-Ok-seek-2.ensures.finds.reads c.in-Ok-seek-2.ensures.goes_on.passed c.in-Ok-seek-2.ensures.finds.all in
-    let s4 : Rows c.args.levels.now c.args.arena.now c.args.position.now (g.B.Nand.state c.args.board.now) (g.B.Nand.state c.seek-4.new.board) (c.self.inside.first ∷ c.self.inside.second ∷ c.self.inside.third ∷ c.self.inside.fourth ∷ []) (c.seek.new.cursor ∷ c.seek-2.new.cursor ∷ c.seek-3.new.cursor ∷ c.seek-4.new.cursor ∷ []) = Rows-next c.args.levels.now c.args.arena.now c.args.position.now (g.B.Nand.state c.args.board.now) (g.B.Nand.state c.seek-3.new.board) (c.self.inside.first ∷ c.self.inside.second ∷ c.self.inside.third ∷ c.self.inside.fourth ∷ []) (c.seek.new.cursor ∷ c.seek-2.new.cursor ∷ c.seek-3.new.cursor ∷ c.self.inside.fourth ∷ []) s3 3 c.run-4.result.now c.self.inside.fourth (level_is c.args.levels.now 3 c.known.ensures.levels (omega arith) ∙ ap (λ (r : Kept). Some r) (sym c.run-4.ensures.run)) refl (g.B.Nand.state c.seek-4.new.board) c.seek-4.new.cursor c.in-Ok-seek-3.ensures.goes_on.follows c.in-Ok-seek-3.ensures.goes_on.shape c.known.ensures.levels c.in-Ok-seek-3.ensures.ready c.in-Ok-seek-3.ensures.finds.reads c.in-Ok-seek-3.ensures.goes_on.passed c.in-Ok-seek-3.ensures.finds.all in
+    let s1 : Rows c.args.levels.now c.args.arena.now c.args.position.now (g.B.Nand.state c.args.board.now) (g.B.Nand.state c.seek.new.board) (c.self.inside.first ∷ c.self.inside.second ∷ c.self.inside.third ∷ c.self.inside.fourth ∷ []) (c.seek.new.cursor ∷ c.self.inside.second ∷ c.self.inside.third ∷ c.self.inside.fourth ∷ []) = Rows-next c.args.levels.now c.args.arena.now c.args.position.now (g.B.Nand.state c.args.board.now) (g.B.Nand.state c.args.board.now) (c.self.inside.first ∷ c.self.inside.second ∷ c.self.inside.third ∷ c.self.inside.fourth ∷ []) (c.self.inside.first ∷ c.self.inside.second ∷ c.self.inside.third ∷ c.self.inside.fourth ∷ []) s0 0 c.run.result.now c.self.inside.first (level_is c.args.levels.now 0 c.known.ensures.levels (omega arith) ∙ ap (λ (r : Kept). Some r) (sym c.run.ensures.run)) refl (g.B.Nand.state c.seek.new.board) c.seek.new.cursor c.in-Ok.ensures.goes_on.follows c.in-Ok.ensures.goes_on.shape c.known.ensures.levels c.in-Ok.ensures.ready c.in-Ok.ensures.shows.reads c.in-Ok.ensures.goes_on.passed c.in-Ok.ensures.shows.all in
+    let s2 : Rows c.args.levels.now c.args.arena.now c.args.position.now (g.B.Nand.state c.args.board.now) (g.B.Nand.state c.seek-2.new.board) (c.self.inside.first ∷ c.self.inside.second ∷ c.self.inside.third ∷ c.self.inside.fourth ∷ []) (c.seek.new.cursor ∷ c.seek-2.new.cursor ∷ c.self.inside.third ∷ c.self.inside.fourth ∷ []) = Rows-next c.args.levels.now c.args.arena.now c.args.position.now (g.B.Nand.state c.args.board.now) (g.B.Nand.state c.seek.new.board) (c.self.inside.first ∷ c.self.inside.second ∷ c.self.inside.third ∷ c.self.inside.fourth ∷ []) (c.seek.new.cursor ∷ c.self.inside.second ∷ c.self.inside.third ∷ c.self.inside.fourth ∷ []) s1 1 c.run-2.result.now c.self.inside.second (level_is c.args.levels.now 1 c.known.ensures.levels (omega arith) ∙ ap (λ (r : Kept). Some r) (sym c.run-2.ensures.run)) refl (g.B.Nand.state c.seek-2.new.board) c.seek-2.new.cursor c.in-Ok-seek.ensures.goes_on.follows c.in-Ok-seek.ensures.goes_on.shape c.known.ensures.levels c.in-Ok-seek.ensures.ready c.in-Ok-seek.ensures.shows.reads c.in-Ok-seek.ensures.goes_on.passed c.in-Ok-seek.ensures.shows.all in
+    let s3 : Rows c.args.levels.now c.args.arena.now c.args.position.now (g.B.Nand.state c.args.board.now) (g.B.Nand.state c.seek-3.new.board) (c.self.inside.first ∷ c.self.inside.second ∷ c.self.inside.third ∷ c.self.inside.fourth ∷ []) (c.seek.new.cursor ∷ c.seek-2.new.cursor ∷ c.seek-3.new.cursor ∷ c.self.inside.fourth ∷ []) = Rows-next c.args.levels.now c.args.arena.now c.args.position.now (g.B.Nand.state c.args.board.now) (g.B.Nand.state c.seek-2.new.board) (c.self.inside.first ∷ c.self.inside.second ∷ c.self.inside.third ∷ c.self.inside.fourth ∷ []) (c.seek.new.cursor ∷ c.seek-2.new.cursor ∷ c.self.inside.third ∷ c.self.inside.fourth ∷ []) s2 2 c.run-3.result.now c.self.inside.third (level_is c.args.levels.now 2 c.known.ensures.levels (omega arith) ∙ ap (λ (r : Kept). Some r) (sym c.run-3.ensures.run)) refl (g.B.Nand.state c.seek-3.new.board) c.seek-3.new.cursor c.in-Ok-seek-2.ensures.goes_on.follows c.in-Ok-seek-2.ensures.goes_on.shape c.known.ensures.levels c.in-Ok-seek-2.ensures.ready c.in-Ok-seek-2.ensures.shows.reads c.in-Ok-seek-2.ensures.goes_on.passed c.in-Ok-seek-2.ensures.shows.all in
+    let s4 : Rows c.args.levels.now c.args.arena.now c.args.position.now (g.B.Nand.state c.args.board.now) (g.B.Nand.state c.seek-4.new.board) (c.self.inside.first ∷ c.self.inside.second ∷ c.self.inside.third ∷ c.self.inside.fourth ∷ []) (c.seek.new.cursor ∷ c.seek-2.new.cursor ∷ c.seek-3.new.cursor ∷ c.seek-4.new.cursor ∷ []) = Rows-next c.args.levels.now c.args.arena.now c.args.position.now (g.B.Nand.state c.args.board.now) (g.B.Nand.state c.seek-3.new.board) (c.self.inside.first ∷ c.self.inside.second ∷ c.self.inside.third ∷ c.self.inside.fourth ∷ []) (c.seek.new.cursor ∷ c.seek-2.new.cursor ∷ c.seek-3.new.cursor ∷ c.self.inside.fourth ∷ []) s3 3 c.run-4.result.now c.self.inside.fourth (level_is c.args.levels.now 3 c.known.ensures.levels (omega arith) ∙ ap (λ (r : Kept). Some r) (sym c.run-4.ensures.run)) refl (g.B.Nand.state c.seek-4.new.board) c.seek-4.new.cursor c.in-Ok-seek-3.ensures.goes_on.follows c.in-Ok-seek-3.ensures.goes_on.shape c.known.ensures.levels c.in-Ok-seek-3.ensures.ready c.in-Ok-seek-3.ensures.shows.reads c.in-Ok-seek-3.ensures.goes_on.passed c.in-Ok-seek-3.ensures.shows.all in
     rw (← c.self.view_is) (Rows-goes_on c.args.levels.now c.args.arena.now c.args.position.now (g.B.Nand.state c.args.board.now) (g.B.Nand.state c.seek-4.new.board) (c.self.inside.first ∷ c.self.inside.second ∷ c.self.inside.third ∷ c.self.inside.fourth ∷ []) (c.seek.new.cursor ∷ c.seek-2.new.cursor ∷ c.seek-3.new.cursor ∷ c.seek-4.new.cursor ∷ []) s4)
 
-pub returns-clause-finds : goal.returns-clause-finds
-returns-clause-finds g c =
+pub returns-clause-shows : goal.returns-clause-shows
+returns-clause-shows g c =
     let follow = rw (← c.self.view_is) at c.requires.follow in
     let shape = rw (← c.self.view_is) at c.requires.shape in
     let s0 : Rows c.args.levels.now c.args.arena.now c.args.position.now (g.B.Nand.state c.args.board.now) (g.B.Nand.state c.args.board.now) (c.self.inside.first ∷ c.self.inside.second ∷ c.self.inside.third ∷ c.self.inside.fourth ∷ []) (c.self.inside.first ∷ c.self.inside.second ∷ c.self.inside.third ∷ c.self.inside.fourth ∷ []) = Rows-start c.args.levels.now c.args.arena.now c.args.position.now (g.B.Nand.state c.args.board.now) (c.self.inside.first ∷ c.self.inside.second ∷ c.self.inside.third ∷ c.self.inside.fourth ∷ []) follow.0 c.requires.ready shape follow.1 follow.2 in
-    let s1 : Rows c.args.levels.now c.args.arena.now c.args.position.now (g.B.Nand.state c.args.board.now) (g.B.Nand.state c.seek.new.board) (c.self.inside.first ∷ c.self.inside.second ∷ c.self.inside.third ∷ c.self.inside.fourth ∷ []) (c.seek.new.cursor ∷ c.self.inside.second ∷ c.self.inside.third ∷ c.self.inside.fourth ∷ []) = Rows-next c.args.levels.now c.args.arena.now c.args.position.now (g.B.Nand.state c.args.board.now) (g.B.Nand.state c.args.board.now) (c.self.inside.first ∷ c.self.inside.second ∷ c.self.inside.third ∷ c.self.inside.fourth ∷ []) (c.self.inside.first ∷ c.self.inside.second ∷ c.self.inside.third ∷ c.self.inside.fourth ∷ []) s0 0 c.run.result.now c.self.inside.first (level_is c.args.levels.now 0 c.known.ensures.levels (omega arith) ∙ ap (λ (r : Kept). Some r) (sym c.run.ensures.run)) refl (g.B.Nand.state c.seek.new.board) c.seek.new.cursor c.in-Ok.ensures.goes_on.follows c.in-Ok.ensures.goes_on.shape c.known.ensures.levels c.in-Ok.ensures.ready c.in-Ok.ensures.finds.reads c.in-Ok.ensures.goes_on.passed c.in-Ok.ensures.finds.all in
-    let s2 : Rows c.args.levels.now c.args.arena.now c.args.position.now (g.B.Nand.state c.args.board.now) (g.B.Nand.state c.seek-2.new.board) (c.self.inside.first ∷ c.self.inside.second ∷ c.self.inside.third ∷ c.self.inside.fourth ∷ []) (c.seek.new.cursor ∷ c.seek-2.new.cursor ∷ c.self.inside.third ∷ c.self.inside.fourth ∷ []) = Rows-next c.args.levels.now c.args.arena.now c.args.position.now (g.B.Nand.state c.args.board.now) (g.B.Nand.state c.seek.new.board) (c.self.inside.first ∷ c.self.inside.second ∷ c.self.inside.third ∷ c.self.inside.fourth ∷ []) (c.seek.new.cursor ∷ c.self.inside.second ∷ c.self.inside.third ∷ c.self.inside.fourth ∷ []) s1 1 c.run-2.result.now c.self.inside.second (level_is c.args.levels.now 1 c.known.ensures.levels (omega arith) ∙ ap (λ (r : Kept). Some r) (sym c.run-2.ensures.run)) refl (g.B.Nand.state c.seek-2.new.board) c.seek-2.new.cursor c.in-Ok-seek.ensures.goes_on.follows c.in-Ok-seek.ensures.goes_on.shape c.known.ensures.levels c.in-Ok-seek.ensures.ready c.in-Ok-seek.ensures.finds.reads c.in-Ok-seek.ensures.goes_on.passed c.in-Ok-seek.ensures.finds.all in
-    let s3 : Rows c.args.levels.now c.args.arena.now c.args.position.now (g.B.Nand.state c.args.board.now) (g.B.Nand.state c.seek-3.new.board) (c.self.inside.first ∷ c.self.inside.second ∷ c.self.inside.third ∷ c.self.inside.fourth ∷ []) (c.seek.new.cursor ∷ c.seek-2.new.cursor ∷ c.seek-3.new.cursor ∷ c.self.inside.fourth ∷ []) = Rows-next c.args.levels.now c.args.arena.now c.args.position.now (g.B.Nand.state c.args.board.now) (g.B.Nand.state c.seek-2.new.board) (c.self.inside.first ∷ c.self.inside.second ∷ c.self.inside.third ∷ c.self.inside.fourth ∷ []) (c.seek.new.cursor ∷ c.seek-2.new.cursor ∷ c.self.inside.third ∷ c.self.inside.fourth ∷ []) s2 2 c.run-3.result.now c.self.inside.third (level_is c.args.levels.now 2 c.known.ensures.levels (omega arith) ∙ ap (λ (r : Kept). Some r) (sym c.run-3.ensures.run)) refl (g.B.Nand.state c.seek-3.new.board) c.seek-3.new.cursor c.in-Ok-seek-2.ensures.goes_on.follows c.in-Ok-seek-2.ensures.goes_on.shape c.known.ensures.levels c.in-Ok-seek-2.ensures.ready c.in-Ok-seek-2.ensures.finds.reads c.in-Ok-seek-2.ensures.goes_on.passed c.in-Ok-seek-2.ensures.finds.all in
-    let s4 : Rows c.args.levels.now c.args.arena.now c.args.position.now (g.B.Nand.state c.args.board.now) (g.B.Nand.state c.seek-4.new.board) (c.self.inside.first ∷ c.self.inside.second ∷ c.self.inside.third ∷ c.self.inside.fourth ∷ []) (c.seek.new.cursor ∷ c.seek-2.new.cursor ∷ c.seek-3.new.cursor ∷ c.seek-4.new.cursor ∷ []) = Rows-next c.args.levels.now c.args.arena.now c.args.position.now (g.B.Nand.state c.args.board.now) (g.B.Nand.state c.seek-3.new.board) (c.self.inside.first ∷ c.self.inside.second ∷ c.self.inside.third ∷ c.self.inside.fourth ∷ []) (c.seek.new.cursor ∷ c.seek-2.new.cursor ∷ c.seek-3.new.cursor ∷ c.self.inside.fourth ∷ []) s3 3 c.run-4.result.now c.self.inside.fourth (level_is c.args.levels.now 3 c.known.ensures.levels (omega arith) ∙ ap (λ (r : Kept). Some r) (sym c.run-4.ensures.run)) refl (g.B.Nand.state c.seek-4.new.board) c.seek-4.new.cursor c.in-Ok-seek-3.ensures.goes_on.follows c.in-Ok-seek-3.ensures.goes_on.shape c.known.ensures.levels c.in-Ok-seek-3.ensures.ready c.in-Ok-seek-3.ensures.finds.reads c.in-Ok-seek-3.ensures.goes_on.passed c.in-Ok-seek-3.ensures.finds.all in
-    rw (← c.self.view_is) (Rows-finds c.args.levels.now c.args.arena.now c.args.position.now (g.B.Nand.state c.args.board.now) (g.B.Nand.state c.seek-4.new.board) (c.self.inside.first ∷ c.self.inside.second ∷ c.self.inside.third ∷ c.self.inside.fourth ∷ []) (c.seek.new.cursor ∷ c.seek-2.new.cursor ∷ c.seek-3.new.cursor ∷ c.seek-4.new.cursor ∷ []) s4 (least_first (is_wanted c.args.position.now)) c.least-3.result
-    (λ ess each.
-    c.least-3.ensures ∙ ap (lesser (option_map seen c.in-Ok.found)) (c.least-2.ensures ∙ ap (lesser (option_map seen c.in-Ok-seek.found)) c.least.ensures)
-    ∙ least_of_four (g.B.Nand.state c.args.board.now).pages c.args.arena.now c.args.position.now c.args.levels.now.runs ess c.known.ensures.levels.four each (option_map seen c.in-Ok.found) (option_map seen c.in-Ok-seek.found) (option_map seen c.in-Ok-seek-2.found) (option_map seen c.in-Ok-seek-3.found)
-    (row_found c.args.levels.now c.args.arena.now c.args.position.now (g.B.Nand.state c.args.board.now) (g.B.Nand.state c.args.board.now) (c.self.inside.first ∷ c.self.inside.second ∷ c.self.inside.third ∷ c.self.inside.fourth ∷ []) (c.self.inside.first ∷ c.self.inside.second ∷ c.self.inside.third ∷ c.self.inside.fourth ∷ []) s0 0 c.run.result.now c.self.inside.first (level_is c.args.levels.now 0 c.known.ensures.levels (omega arith) ∙ ap (λ (r : Kept). Some r) (sym c.run.ensures.run)) refl (option_map seen c.in-Ok.found) c.in-Ok.ensures.finds.found ess each)
-    (row_found c.args.levels.now c.args.arena.now c.args.position.now (g.B.Nand.state c.args.board.now) (g.B.Nand.state c.seek.new.board) (c.self.inside.first ∷ c.self.inside.second ∷ c.self.inside.third ∷ c.self.inside.fourth ∷ []) (c.seek.new.cursor ∷ c.self.inside.second ∷ c.self.inside.third ∷ c.self.inside.fourth ∷ []) s1 1 c.run-2.result.now c.self.inside.second (level_is c.args.levels.now 1 c.known.ensures.levels (omega arith) ∙ ap (λ (r : Kept). Some r) (sym c.run-2.ensures.run)) refl (option_map seen c.in-Ok-seek.found) c.in-Ok-seek.ensures.finds.found ess each)
-    (row_found c.args.levels.now c.args.arena.now c.args.position.now (g.B.Nand.state c.args.board.now) (g.B.Nand.state c.seek-2.new.board) (c.self.inside.first ∷ c.self.inside.second ∷ c.self.inside.third ∷ c.self.inside.fourth ∷ []) (c.seek.new.cursor ∷ c.seek-2.new.cursor ∷ c.self.inside.third ∷ c.self.inside.fourth ∷ []) s2 2 c.run-3.result.now c.self.inside.third (level_is c.args.levels.now 2 c.known.ensures.levels (omega arith) ∙ ap (λ (r : Kept). Some r) (sym c.run-3.ensures.run)) refl (option_map seen c.in-Ok-seek-2.found) c.in-Ok-seek-2.ensures.finds.found ess each)
-    (row_found c.args.levels.now c.args.arena.now c.args.position.now (g.B.Nand.state c.args.board.now) (g.B.Nand.state c.seek-3.new.board) (c.self.inside.first ∷ c.self.inside.second ∷ c.self.inside.third ∷ c.self.inside.fourth ∷ []) (c.seek.new.cursor ∷ c.seek-2.new.cursor ∷ c.seek-3.new.cursor ∷ c.self.inside.fourth ∷ []) s3 3 c.run-4.result.now c.self.inside.fourth (level_is c.args.levels.now 3 c.known.ensures.levels (omega arith) ∙ ap (λ (r : Kept). Some r) (sym c.run-4.ensures.run)) refl (option_map seen c.in-Ok-seek-3.found) c.in-Ok-seek-3.ensures.finds.found ess each))
-    (λ found none all.
-    let first = none_of c.in-Ok.found c.least-2.result c.least-3.result c.least-3.ensures found in
-    let second = none_of c.in-Ok-seek.found c.least.result c.least-2.result c.least-2.ensures first.1 in
-    let third = none_of c.in-Ok-seek-2.found c.in-Ok-seek-3.found c.least.result c.least.ensures second.1 in
+    let s1 : Rows c.args.levels.now c.args.arena.now c.args.position.now (g.B.Nand.state c.args.board.now) (g.B.Nand.state c.seek.new.board) (c.self.inside.first ∷ c.self.inside.second ∷ c.self.inside.third ∷ c.self.inside.fourth ∷ []) (c.seek.new.cursor ∷ c.self.inside.second ∷ c.self.inside.third ∷ c.self.inside.fourth ∷ []) = Rows-next c.args.levels.now c.args.arena.now c.args.position.now (g.B.Nand.state c.args.board.now) (g.B.Nand.state c.args.board.now) (c.self.inside.first ∷ c.self.inside.second ∷ c.self.inside.third ∷ c.self.inside.fourth ∷ []) (c.self.inside.first ∷ c.self.inside.second ∷ c.self.inside.third ∷ c.self.inside.fourth ∷ []) s0 0 c.run.result.now c.self.inside.first (level_is c.args.levels.now 0 c.known.ensures.levels (omega arith) ∙ ap (λ (r : Kept). Some r) (sym c.run.ensures.run)) refl (g.B.Nand.state c.seek.new.board) c.seek.new.cursor c.in-Ok.ensures.goes_on.follows c.in-Ok.ensures.goes_on.shape c.known.ensures.levels c.in-Ok.ensures.ready c.in-Ok.ensures.shows.reads c.in-Ok.ensures.goes_on.passed c.in-Ok.ensures.shows.all in
+    let s2 : Rows c.args.levels.now c.args.arena.now c.args.position.now (g.B.Nand.state c.args.board.now) (g.B.Nand.state c.seek-2.new.board) (c.self.inside.first ∷ c.self.inside.second ∷ c.self.inside.third ∷ c.self.inside.fourth ∷ []) (c.seek.new.cursor ∷ c.seek-2.new.cursor ∷ c.self.inside.third ∷ c.self.inside.fourth ∷ []) = Rows-next c.args.levels.now c.args.arena.now c.args.position.now (g.B.Nand.state c.args.board.now) (g.B.Nand.state c.seek.new.board) (c.self.inside.first ∷ c.self.inside.second ∷ c.self.inside.third ∷ c.self.inside.fourth ∷ []) (c.seek.new.cursor ∷ c.self.inside.second ∷ c.self.inside.third ∷ c.self.inside.fourth ∷ []) s1 1 c.run-2.result.now c.self.inside.second (level_is c.args.levels.now 1 c.known.ensures.levels (omega arith) ∙ ap (λ (r : Kept). Some r) (sym c.run-2.ensures.run)) refl (g.B.Nand.state c.seek-2.new.board) c.seek-2.new.cursor c.in-Ok-seek.ensures.goes_on.follows c.in-Ok-seek.ensures.goes_on.shape c.known.ensures.levels c.in-Ok-seek.ensures.ready c.in-Ok-seek.ensures.shows.reads c.in-Ok-seek.ensures.goes_on.passed c.in-Ok-seek.ensures.shows.all in
+    let s3 : Rows c.args.levels.now c.args.arena.now c.args.position.now (g.B.Nand.state c.args.board.now) (g.B.Nand.state c.seek-3.new.board) (c.self.inside.first ∷ c.self.inside.second ∷ c.self.inside.third ∷ c.self.inside.fourth ∷ []) (c.seek.new.cursor ∷ c.seek-2.new.cursor ∷ c.seek-3.new.cursor ∷ c.self.inside.fourth ∷ []) = Rows-next c.args.levels.now c.args.arena.now c.args.position.now (g.B.Nand.state c.args.board.now) (g.B.Nand.state c.seek-2.new.board) (c.self.inside.first ∷ c.self.inside.second ∷ c.self.inside.third ∷ c.self.inside.fourth ∷ []) (c.seek.new.cursor ∷ c.seek-2.new.cursor ∷ c.self.inside.third ∷ c.self.inside.fourth ∷ []) s2 2 c.run-3.result.now c.self.inside.third (level_is c.args.levels.now 2 c.known.ensures.levels (omega arith) ∙ ap (λ (r : Kept). Some r) (sym c.run-3.ensures.run)) refl (g.B.Nand.state c.seek-3.new.board) c.seek-3.new.cursor c.in-Ok-seek-2.ensures.goes_on.follows c.in-Ok-seek-2.ensures.goes_on.shape c.known.ensures.levels c.in-Ok-seek-2.ensures.ready c.in-Ok-seek-2.ensures.shows.reads c.in-Ok-seek-2.ensures.goes_on.passed c.in-Ok-seek-2.ensures.shows.all in
+    let s4 : Rows c.args.levels.now c.args.arena.now c.args.position.now (g.B.Nand.state c.args.board.now) (g.B.Nand.state c.seek-4.new.board) (c.self.inside.first ∷ c.self.inside.second ∷ c.self.inside.third ∷ c.self.inside.fourth ∷ []) (c.seek.new.cursor ∷ c.seek-2.new.cursor ∷ c.seek-3.new.cursor ∷ c.seek-4.new.cursor ∷ []) = Rows-next c.args.levels.now c.args.arena.now c.args.position.now (g.B.Nand.state c.args.board.now) (g.B.Nand.state c.seek-3.new.board) (c.self.inside.first ∷ c.self.inside.second ∷ c.self.inside.third ∷ c.self.inside.fourth ∷ []) (c.seek.new.cursor ∷ c.seek-2.new.cursor ∷ c.seek-3.new.cursor ∷ c.self.inside.fourth ∷ []) s3 3 c.run-4.result.now c.self.inside.fourth (level_is c.args.levels.now 3 c.known.ensures.levels (omega arith) ∙ ap (λ (r : Kept). Some r) (sym c.run-4.ensures.run)) refl (g.B.Nand.state c.seek-4.new.board) c.seek-4.new.cursor c.in-Ok-seek-3.ensures.goes_on.follows c.in-Ok-seek-3.ensures.goes_on.shape c.known.ensures.levels c.in-Ok-seek-3.ensures.ready c.in-Ok-seek-3.ensures.shows.reads c.in-Ok-seek-3.ensures.goes_on.passed c.in-Ok-seek-3.ensures.shows.all in
+    rw (← c.self.view_is) (Rows-shows c.args.levels.now c.args.arena.now c.args.position.now (g.B.Nand.state c.args.board.now) (g.B.Nand.state c.seek-4.new.board) (c.self.inside.first ∷ c.self.inside.second ∷ c.self.inside.third ∷ c.self.inside.fourth ∷ []) (c.seek.new.cursor ∷ c.seek-2.new.cursor ∷ c.seek-3.new.cursor ∷ c.seek-4.new.cursor ∷ []) s4
+    (c.in-Ok.ensures.shows.known, (c.in-Ok-seek.ensures.shows.known, (c.in-Ok-seek-2.ensures.shows.known, (c.in-Ok-seek-3.ensures.shows.known, tt))))
+    (λ ends none all.
     all_ended c.args.levels.now.runs (c.seek.new.cursor ∷ c.seek-2.new.cursor ∷ c.seek-3.new.cursor ∷ c.seek-4.new.cursor ∷ []) c.known.ensures.levels.four
-    (c.run.result.now, c.seek.new.cursor, level_is c.args.levels.now 0 c.known.ensures.levels (omega arith) ∙ ap (λ (r : Kept). Some r) (sym c.run.ensures.run), refl, c.in-Ok.ensures.finds.ended first.0 none all.0)
-    (c.run-2.result.now, c.seek-2.new.cursor, level_is c.args.levels.now 1 c.known.ensures.levels (omega arith) ∙ ap (λ (r : Kept). Some r) (sym c.run-2.ensures.run), refl, c.in-Ok-seek.ensures.finds.ended second.0 none all.1.0)
-    (c.run-3.result.now, c.seek-3.new.cursor, level_is c.args.levels.now 2 c.known.ensures.levels (omega arith) ∙ ap (λ (r : Kept). Some r) (sym c.run-3.ensures.run), refl, c.in-Ok-seek-2.ensures.finds.ended third.0 none all.1.1.0)
-    (c.run-4.result.now, c.seek-4.new.cursor, level_is c.args.levels.now 3 c.known.ensures.levels (omega arith) ∙ ap (λ (r : Kept). Some r) (sym c.run-4.ensures.run), refl, c.in-Ok-seek-3.ensures.finds.ended third.1 none all.1.1.1.0)))
+    (c.run.result.now, c.seek.new.cursor, level_is c.args.levels.now 0 c.known.ensures.levels (omega arith) ∙ ap (λ (r : Kept). Some r) (sym c.run.ensures.run), refl, c.in-Ok.ensures.shows.ended ends.0 none all.0)
+    (c.run-2.result.now, c.seek-2.new.cursor, level_is c.args.levels.now 1 c.known.ensures.levels (omega arith) ∙ ap (λ (r : Kept). Some r) (sym c.run-2.ensures.run), refl, c.in-Ok-seek.ensures.shows.ended ends.1.0 none all.1.0)
+    (c.run-3.result.now, c.seek-3.new.cursor, level_is c.args.levels.now 2 c.known.ensures.levels (omega arith) ∙ ap (λ (r : Kept). Some r) (sym c.run-3.ensures.run), refl, c.in-Ok-seek-2.ensures.shows.ended ends.1.1.0 none all.1.1.0)
+    (c.run-4.result.now, c.seek-4.new.cursor, level_is c.args.levels.now 3 c.known.ensures.levels (omega arith) ∙ ap (λ (r : Kept). Some r) (sym c.run-4.ensures.run), refl, c.in-Ok-seek-3.ensures.shows.ended ends.1.1.1.0 none all.1.1.1.0)))

@@ -1,33 +1,84 @@
-use Rattle.std.proofs.Common.{◌∙◌}
-use Rattle.pk_walk.proofs.Walks.{comes_behind, walks_behind, comes_to_none, walks_there}
+use Rattle.std.proofs.Common.{sym, ap, ◌∙◌}
+use Rattle.pk_walk.specs.declared.position.Position.TheVariants.{Above}
+use Rattle.pk_walk.specs.Walking.{Walk, seen_tops}
+use Rattle.pk_walk.proofs.Walks.{Learned, comes_behind, walks_behind, comes_to_none, walks_there, walks_failed, is_walk_behind}
 use Rattle.pk_walk.proofs.walk.Walk.step.Goals as goal
 
-pub returns-in-Ok-Some-clause-comes : goal.returns-in-Ok-Some-clause-comes
-returns-in-Ok-Some-clause-comes g c =
-    rw (← c.self.view_is) (comes_behind c.args.levels.now.runs c.args.arena.now c.args.active.now.entries c.args.frozen.now.entries c.args.levels.now.shape (g.B.Nand.state c.args.board.now) (g.B.Nand.state c.least_of_all.new.board)
-    (record { shape = c.self.inside.shape; position = c.self.inside.position; cursors = c.self.inside.cursors }) c.least_of_all.new.cursors
-    c.in-Ok-Some.ensures.go_on c.in-Ok-Some.entry c.copy.result (c.copy.ensures ∙ c.key.ensures) (rw (c.in-Ok-Some.field-0-is) at c.in-Ok-Some.ensures.finds))
+pub invariant_of-self : goal.invariant_of-self
+invariant_of-self g c =
+    is_walk_behind c.args.levels.now.shape c.self.inside.shape (Above c.copy.result) _ (seen_tops c.know_all.new.tops) (seen_tops c.take_least.new.tops) c.know_all.new.cursors c.take_least.new.self _ c.take_least.ensures.behind c.in-Ok.ensures.go_on.of_shape
+    (ap (λ (w : Walk). w.shape) c.self.view_is ∙ c.requires.shape) c.take_least.ensures.four
 
-pub returns-in-Ok-Some-clause-walks_on : goal.returns-in-Ok-Some-clause-walks_on
-returns-in-Ok-Some-clause-walks_on g c =
-    rw (← c.self.view_is) (walks_behind c.args.levels.now.runs c.args.arena.now c.args.active.now.entries c.args.frozen.now.entries c.args.levels.now.shape (g.B.Nand.state c.args.board.now) (g.B.Nand.state c.least_of_all.new.board)
-    (record { shape = c.self.inside.shape; position = c.self.inside.position; cursors = c.self.inside.cursors }) c.least_of_all.new.cursors
-    c.in-Ok-Some.ensures.go_on c.in-Ok-Some.entry c.copy.result (c.copy.ensures ∙ c.key.ensures) (rw (c.in-Ok-Some.field-0-is) at c.in-Ok-Some.ensures.finds))
+pub returns-in-Some-clause-comes : goal.returns-in-Some-clause-comes
+returns-in-Some-clause-comes g c =
+    let tops = rw (← c.self.view_is) at c.requires.tops in
+    let learned : Learned c.args.levels.now.runs c.args.arena.now c.args.active.now.entries c.args.frozen.now.entries c.args.levels.now.shape (g.B.Nand.state c.args.board.now) (g.B.Nand.state c.know_all.new.board)
+    (record { shape = c.self.inside.shape; position = c.self.inside.position; tops = seen_tops c.self.inside.tops; cursors = c.self.inside.cursors }) (seen_tops c.know_all.new.tops) c.know_all.new.cursors = record {
+      on = c.in-Ok.ensures.go_on;
+      shows = c.in-Ok.ensures.shows;
+      before = tops;
+      known = c.in-Ok.ensures.tops;
+      up = c.len.ensures.rising;
+      down = c.len-2.ensures.rising;
+      many = c.known.ensures.levels.four ∙ sym c.in-Ok.ensures.four;
+    } in
+    rw (← c.self.view_is) (comes_behind c.args.levels.now.runs c.args.arena.now c.args.active.now.entries c.args.frozen.now.entries c.args.levels.now.shape (g.B.Nand.state c.args.board.now) (g.B.Nand.state c.know_all.new.board)
+    (record { shape = c.self.inside.shape; position = c.self.inside.position; tops = seen_tops c.self.inside.tops; cursors = c.self.inside.cursors }) (seen_tops c.know_all.new.tops) c.know_all.new.cursors
+    learned c.in-Some.entry c.copy.result (c.copy.ensures ∙ c.key.ensures) (rw c.in-Some.is at c.take_least.ensures.least) (seen_tops c.take_least.new.tops) c.take_least.new.self (rw c.in-Some.is at c.take_least.ensures.behind))
 
-pub returns-in-Ok-None-clause-comes : goal.returns-in-Ok-None-clause-comes
-returns-in-Ok-None-clause-comes g c =
-    rw (← c.self.view_is) (comes_to_none c.args.levels.now.runs c.args.arena.now c.args.active.now.entries c.args.frozen.now.entries c.args.levels.now.shape (g.B.Nand.state c.args.board.now) (g.B.Nand.state c.least_of_all.new.board)
-    (record { shape = c.self.inside.shape; position = c.self.inside.position; cursors = c.self.inside.cursors }) c.least_of_all.new.cursors
-    c.in-Ok-None.ensures.go_on (rw (c.in-Ok-None.field-0-is) at c.in-Ok-None.ensures.finds))
+pub returns-in-Some-clause-walks_on : goal.returns-in-Some-clause-walks_on
+returns-in-Some-clause-walks_on g c =
+    let tops = rw (← c.self.view_is) at c.requires.tops in
+    let learned : Learned c.args.levels.now.runs c.args.arena.now c.args.active.now.entries c.args.frozen.now.entries c.args.levels.now.shape (g.B.Nand.state c.args.board.now) (g.B.Nand.state c.know_all.new.board)
+    (record { shape = c.self.inside.shape; position = c.self.inside.position; tops = seen_tops c.self.inside.tops; cursors = c.self.inside.cursors }) (seen_tops c.know_all.new.tops) c.know_all.new.cursors = record {
+      on = c.in-Ok.ensures.go_on;
+      shows = c.in-Ok.ensures.shows;
+      before = tops;
+      known = c.in-Ok.ensures.tops;
+      up = c.len.ensures.rising;
+      down = c.len-2.ensures.rising;
+      many = c.known.ensures.levels.four ∙ sym c.in-Ok.ensures.four;
+    } in
+    rw (← c.self.view_is) (walks_behind c.args.levels.now.runs c.args.arena.now c.args.active.now.entries c.args.frozen.now.entries c.args.levels.now.shape (g.B.Nand.state c.args.board.now) (g.B.Nand.state c.know_all.new.board)
+    (record { shape = c.self.inside.shape; position = c.self.inside.position; tops = seen_tops c.self.inside.tops; cursors = c.self.inside.cursors }) (seen_tops c.know_all.new.tops) c.know_all.new.cursors
+    learned c.in-Some.entry c.copy.result (c.copy.ensures ∙ c.key.ensures) (rw c.in-Some.is at c.take_least.ensures.least) (seen_tops c.take_least.new.tops) c.take_least.new.self (rw c.in-Some.is at c.take_least.ensures.behind))
 
-pub returns-in-Ok-None-clause-walks_on : goal.returns-in-Ok-None-clause-walks_on
-returns-in-Ok-None-clause-walks_on g c =
-    rw (← c.self.view_is) (walks_there c.args.levels.now.runs c.args.arena.now c.args.active.now.entries c.args.frozen.now.entries c.args.levels.now.shape (g.B.Nand.state c.args.board.now) (g.B.Nand.state c.least_of_all.new.board)
-    (record { shape = c.self.inside.shape; position = c.self.inside.position; cursors = c.self.inside.cursors }) c.least_of_all.new.cursors
-    c.in-Ok-None.ensures.go_on)
+pub returns-in-None-clause-comes : goal.returns-in-None-clause-comes
+returns-in-None-clause-comes g c =
+    let tops = rw (← c.self.view_is) at c.requires.tops in
+    let learned : Learned c.args.levels.now.runs c.args.arena.now c.args.active.now.entries c.args.frozen.now.entries c.args.levels.now.shape (g.B.Nand.state c.args.board.now) (g.B.Nand.state c.know_all.new.board)
+    (record { shape = c.self.inside.shape; position = c.self.inside.position; tops = seen_tops c.self.inside.tops; cursors = c.self.inside.cursors }) (seen_tops c.know_all.new.tops) c.know_all.new.cursors = record {
+      on = c.in-Ok.ensures.go_on;
+      shows = c.in-Ok.ensures.shows;
+      before = tops;
+      known = c.in-Ok.ensures.tops;
+      up = c.len.ensures.rising;
+      down = c.len-2.ensures.rising;
+      many = c.known.ensures.levels.four ∙ sym c.in-Ok.ensures.four;
+    } in
+    rw (← c.self.view_is) (comes_to_none c.args.levels.now.runs c.args.arena.now c.args.active.now.entries c.args.frozen.now.entries c.args.levels.now.shape (g.B.Nand.state c.args.board.now) (g.B.Nand.state c.know_all.new.board)
+    (record { shape = c.self.inside.shape; position = c.self.inside.position; tops = seen_tops c.self.inside.tops; cursors = c.self.inside.cursors }) (seen_tops c.know_all.new.tops) c.know_all.new.cursors
+    learned (rw c.in-None.is at c.take_least.ensures.least) (seen_tops c.take_least.new.tops) c.take_least.new.self (rw c.in-None.is at c.take_least.ensures.behind))
+
+pub returns-in-None-clause-walks_on : goal.returns-in-None-clause-walks_on
+returns-in-None-clause-walks_on g c =
+    let tops = rw (← c.self.view_is) at c.requires.tops in
+    let learned : Learned c.args.levels.now.runs c.args.arena.now c.args.active.now.entries c.args.frozen.now.entries c.args.levels.now.shape (g.B.Nand.state c.args.board.now) (g.B.Nand.state c.know_all.new.board)
+    (record { shape = c.self.inside.shape; position = c.self.inside.position; tops = seen_tops c.self.inside.tops; cursors = c.self.inside.cursors }) (seen_tops c.know_all.new.tops) c.know_all.new.cursors = record {
+      on = c.in-Ok.ensures.go_on;
+      shows = c.in-Ok.ensures.shows;
+      before = tops;
+      known = c.in-Ok.ensures.tops;
+      up = c.len.ensures.rising;
+      down = c.len-2.ensures.rising;
+      many = c.known.ensures.levels.four ∙ sym c.in-Ok.ensures.four;
+    } in
+    rw (← c.self.view_is) (walks_there c.args.levels.now.runs c.args.arena.now c.args.active.now.entries c.args.frozen.now.entries c.args.levels.now.shape (g.B.Nand.state c.args.board.now) (g.B.Nand.state c.know_all.new.board)
+    (record { shape = c.self.inside.shape; position = c.self.inside.position; tops = seen_tops c.self.inside.tops; cursors = c.self.inside.cursors }) (seen_tops c.know_all.new.tops) c.know_all.new.cursors
+    learned (rw c.in-None.is at c.take_least.ensures.least) (seen_tops c.take_least.new.tops) c.take_least.new.self (rw c.in-None.is at c.take_least.ensures.behind))
 
 pub returns-in-Err-clause-walks_on : goal.returns-in-Err-clause-walks_on
 returns-in-Err-clause-walks_on g c =
-    rw (← c.self.view_is) (walks_there c.args.levels.now.runs c.args.arena.now c.args.active.now.entries c.args.frozen.now.entries c.args.levels.now.shape (g.B.Nand.state c.args.board.now) (g.B.Nand.state c.least_of_all.new.board)
-    (record { shape = c.self.inside.shape; position = c.self.inside.position; cursors = c.self.inside.cursors }) c.least_of_all.new.cursors
-    c.in-Err.ensures.go_on)
+    let tops = rw (← c.self.view_is) at c.requires.tops in
+    rw (← c.self.view_is) (walks_failed c.args.levels.now.runs c.args.arena.now c.args.active.now.entries c.args.frozen.now.entries c.args.levels.now.shape (g.B.Nand.state c.args.board.now).pages
+    (record { shape = c.self.inside.shape; position = c.self.inside.position; tops = seen_tops c.self.inside.tops; cursors = c.self.inside.cursors }) (seen_tops c.know_all.new.tops) c.know_all.new.cursors c.in-Err.ensures.go_on (ap seen_tops c.in-Err.ensures.kept) tops)

@@ -1,7 +1,7 @@
 use Rattle.std.proofs.Common.{◌-◌}
 use Rattle.pk_nand.specs.Calls.{IsReady}
 use Rattle.pk_walk.proofs.Seeking.{Seeking}
-use Rattle.pk_walk.proofs.seek.seek.Given as goal
+use Rattle.pk_walk.proofs.seek.search.Given as goal
 
 abbrev pub invariant-loop-cursor : goal.invariant-loop-cursor
 invariant-loop-cursor g l = record {

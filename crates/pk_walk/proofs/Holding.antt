@@ -1,0 +1,107 @@
+-- A cursor that knows the first wanted entry of its run, and stands behind it.
+use Rattle.std.proofs.Common.{◌≡◌, ℕ, suc, ◌*◌, ◌/◌, ◌<◌, ◌≤◌, refl, sym, ap, subst, ◌∙◌, arith, Bool, true, false, if◌then◌else◌, T, is_some, List, ◌∷◌, drop, option_map, Option, Some, None}
+use Rattle.std.specs.Option.{IsSome}
+use Rattle.std.proofs.lemmas.Nat.{div-add-mod', le-div}
+use Rattle.pk_base.specs.Shape.{Shape, IsShape, page_entries}
+use Rattle.pk_base.specs.Entry.{Entry}
+use Rattle.pk_base.specs.Seen.{entry as seen}
+use Rattle.pk_base.specs.declared.entry.Entry.{Entry as RustEntry}
+use Rattle.pk_base.specs.Page.{Flash, page_at}
+use Rattle.pk_nand.specs.BoardState.{BoardState}
+use Rattle.pk_pin.specs.Frames.{Frames}
+use Rattle.pk_run.specs.Kept.{Kept, RunOnFlash, page_of}
+use Rattle.pk_walk.specs.declared.position.Position.{Position}
+use Rattle.pk_walk.specs.Visible.{is_wanted, wanted, first_of}
+use Rattle.pk_walk.specs.Heads.{Head}
+use Rattle.pk_walk.specs.Walking.{Cursor, Follows, read_of}
+use Rattle.pk_walk.specs.Steps.{FindsIn, GoesOn, IsAt, ShowsIn, holding}
+use Rattle.pk_walk.proofs.Wanting.{dropped, first_wanted}
+use Rattle.pk_walk.proofs.Following.{all_come, entries_some, page_holds_place, sought_left}
+use Rattle.pk_walk.proofs.Seeking.{Reads-none, ReadsAll-none, one_list}
+
+not_none : (e : Entry) → ◌≡◌ {A = Head} (Some (Some e)) (Some None) → ⊥
+not_none e is = cc
+
+is_true : (b : Bool) → T b → b ≡ true
+is_true true p = refl
+is_true false p = absurd p
+
+-- what was found at the place is held, and the cursor goes behind it
+pub holds_entry : (r : Kept) (flash : Flash) (arena : Frames) (es : List Entry) (position : Position) (d : Cursor) (e : Entry) → IsShape r.shape → RunOnFlash r flash arena es → Follows flash r es position d
+    → d.head ≡ None → IsAt r flash arena d e → Some e ≡ first_of (wanted (is_wanted position) es) → Follows flash r es position (holding (Some e) d)
+holds_entry r flash arena es position d e is s f sought at found =
+    let some = entries_some r.shape is in
+    let up : d.place / page_entries r.shape ≤ suc d.place / page_entries r.shape =
+    le-div (d.place / page_entries r.shape) (suc d.place) (page_entries r.shape) some (let place = div-add-mod' d.place (page_entries r.shape) in omega (arith, place)) in
+    let loaded = at.loaded in
+    let one : is_wanted position e.0 ≡ true = is_true _ (first_wanted (is_wanted position) es e (sym found)) in
+    record {
+      pages = f.pages;
+      behind = omega (arith, loaded, up);
+      holds = λ here.
+          let same : d.place / page_entries r.shape ≡ suc d.place / page_entries r.shape = omega (arith, here, loaded) in
+          ap (λ (p : ℕ). page_at flash (page_of r p)) (sym same) ∙ f.holds loaded;
+      left = sought_left flash r es position d f sought ∙ ap (wanted (is_wanted position)) (dropped es d.place e (at.is es s))
+          ∙ ap (λ (b : Bool). if b then e ∷ wanted (is_wanted position) (drop (suc d.place) es) else wanted (is_wanted position) (drop (suc d.place) es)) one;
+      ended = λ is. absurd (not_none e is);
+    }
+
+-- or that there is none
+pub holds_none : (r : Kept) (flash : Flash) (es : List Entry) (position : Position) (d : Cursor) → Follows flash r es position d → d.head ≡ None → r.count ≤ d.place → Follows flash r es position (holding None d)
+holds_none r flash es position d f sought past = record {
+  pages = f.pages;
+  behind = f.behind;
+  holds = f.holds;
+  left = sought_left flash r es position d f sought;
+  ended = λ is. past;
+}
+
+module _ (r : Kept) (arena : Frames) (position : Position) (old new : BoardState) (c d : Cursor) where
+  -- it was looked for
+  pub holding_shows : (answer : Option RustEntry) → FindsIn r arena position old new c d answer → ShowsIn r position old new c (holding (option_map seen answer) d)
+  holding_shows None f = record { known = refl; reads = f.reads; all = f.all; ended = λ is none before. f.ended refl none before }
+  holding_shows (Some e) f = record { known = refl; reads = f.reads; all = f.all; ended = λ is none before. absurd (not_none (seen e) is) }
+
+  pub holding_goes_on : (answer : Option RustEntry) → IsShape r.shape → c.shape ≡ r.shape → FindsIn r arena position old new c d answer → GoesOn old.pages arena r position c d
+      → GoesOn old.pages arena r position c (holding (option_map seen answer) d)
+  holding_goes_on None is same f on = record {
+    follows = λ es s. holds_none r old.pages es position d (on.follows es s) f.sought (f.past refl);
+    shape = on.shape;
+    passed = on.passed;
+  }
+  holding_goes_on (Some e) is same f on = record {
+    follows = λ es s. holds_entry r old.pages arena es position d (seen e) is s (on.follows es s) f.sought (f.at e refl) (f.found es s);
+    shape = on.shape;
+    passed = λ none before.
+        let loaded = (f.at e refl).loaded in
+        let far = page_holds_place d.place (page_entries r.shape) (entries_some r.shape is) in
+        let here : suc d.place ≤ d.loaded * page_entries r.shape = subst (λ (n : ℕ). suc d.place ≤ n * page_entries r.shape) (sym loaded) (omega (arith, far)) in
+        subst (λ (shape : Shape). suc d.place ≤ d.loaded * page_entries shape) (sym (on.shape ∙ same)) here;
+  }
+
+-- it was known
+module _ (r : Kept) (arena : Frames) (position : Position) (old : BoardState) (c : Cursor) (es : List Entry) (s : RunOnFlash r old.pages arena es) (f : Follows old.pages r es position c) where
+  pub known_shows : is_some c.head ≡ true → IsShape r.shape → c.shape ≡ r.shape → ShowsIn r position old old c c
+  known_shows known is same = record {
+    known = known;
+    reads = Reads-none (read_of r.leases c.loaded) old;
+    all = λ none before. ReadsAll-none (read_of r.leases c.loaded) old;
+    ended = λ ended none before. all_come r old.pages arena es position c is same s f (f.ended ended) before;
+  }
+
+  pub known_goes_on : GoesOn old.pages arena r position c c
+  known_goes_on = record {
+    follows = λ ys t. subst (λ (xs : List Entry). Follows old.pages r xs position c) (one_list r old.pages arena es ys s t) f;
+    shape = refl;
+    passed = λ none before. before;
+  }
+
+-- where it is not known it has to be looked for
+pub unknown : (h : Head) → is_some h ≡ false → h ≡ None
+unknown None e = refl
+unknown (Some found) e = cc
+
+-- there is room behind an entry
+pub place_fits : (r : Kept) (arena : Frames) (position : Position) (old new : BoardState) (c d : Cursor) (answer : Option RustEntry) → FindsIn r arena position old new c d answer → IsSome answer → d.place < r.count
+place_fits r arena position old new c d None f some = cc
+place_fits r arena position old new c d (Some e) f some = (f.at e refl).inside

@@ -1,0 +1,69 @@
+-- The first entry of a list that a walk still wants, as far as it was looked for.
+use Rattle.std.specs.Prelude.{◌≡◌, ⊤, if◌then◌else◌, List, [], ◌∷◌, Option, Some, None}
+use Rattle.std.specs.Ordering.{is_eq}
+use Rattle.std.specs.declared.cmp.Ordering.{Ordering}
+use Rattle.std.specs.declared.cmp.Ordering.TheVariants.{Less, Greater}
+use Rattle.pk_base.specs.Key.{Key, key_cmp}
+use Rattle.pk_base.specs.Entry.{Entry}
+use Rattle.pk_base.specs.Seen.{entry}
+use Rattle.pk_walk.specs.declared.head.Head.{Head as RustHead}
+use Rattle.pk_walk.specs.declared.head.Head.TheVariants.{Sought, Ended, Stands}
+use Rattle.pk_walk.specs.declared.position.Position.{Position}
+use Rattle.pk_walk.specs.Visible.{is_wanted, wanted, first_of, lesser}
+
+-- nothing is known of it; there is none; or it is this one
+abbrev pub Head : Type 0
+Head = Option (Option Entry)
+
+-- as memory has it
+abbrev pub seen_head : RustHead → Head
+seen_head Sought = None
+seen_head Ended = Some None
+seen_head (Stands e) = Some (Some (entry e))
+
+-- the entry, where it is known
+abbrev pub entry_in : Head → Option Entry
+entry_in None = None
+entry_in (Some found) = found
+
+-- the list of it
+abbrev pub held : Head → List Entry
+held None = []
+held (Some None) = []
+held (Some (Some e)) = e ∷ []
+
+-- what is known once it was looked for
+abbrev pub known_as : Option Entry → Head → Head
+known_as found None = Some found
+known_as found (Some first) = Some first
+
+-- what is known where it was given
+abbrev pub let_go : Head → Head
+let_go None = None
+let_go (Some None) = Some None
+let_go (Some (Some e)) = None
+
+-- and where the walk goes behind a key that is not above it
+abbrev pub behind : Key → Head → Head
+behind key None = None
+behind key (Some None) = Some None
+behind key (Some (Some e)) = if is_eq (key_cmp e.0 key) then None else Some (Some e)
+
+-- what is known is right
+abbrev pub Shows : List Entry → Position → Head → Type 0
+Shows es position None = ⊤
+Shows es position (Some found) = found ≡ first_of (wanted (is_wanted position) es)
+
+-- ---- several
+
+-- the order of two entries by their keys, where one that is not there is above all
+abbrev pub order_of : Option Entry → Option Entry → Ordering
+order_of None None = Less
+order_of None (Some y) = Greater
+order_of (Some x) None = Less
+order_of (Some x) (Some y) = key_cmp x.0 y.0
+
+-- the entry whose key is lowest, and of one key the first
+abbrev pub least_of : List Head → Option Entry
+least_of [] = None
+least_of (h ∷ hs) = lesser (entry_in h) (least_of hs)
