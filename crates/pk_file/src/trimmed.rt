@@ -6,7 +6,7 @@ ghost use Rattle.pk_file.specs.Trims.{bytes_in, ZerosFrom};
 use pk_base::{put_text, put_zeros};
 use std::alloc::{AllocError, Global};
 
-/// Bytes that are tested together for zeros; so many fewer are kept at most than could be.
+/// Bytes that are tested together. Of the zeros at the end fewer than these are kept, where a page has a multiple of them.
 const STEP: usize = 128;
 
 /// Bytes, and how many zeros follow them.

@@ -208,16 +208,16 @@ fn head_at(heads: &[u16], page: usize) -> u16
     if page < heads.len() { heads[page] } else { 0 }
 }
 
-// Whether a value covers the page. It begins at most 255 pages before.
+// Whether a value covers the page. It begins at most 255 pages before, and all of these are looked at
+// without a branch, so that the machine takes many at a time.
 fn covers(heads: &[u16], page: usize) -> bool
     requires short { All (λ h. h ≤ 256) heads.now }
     requires page { page < 2 ^ 32 }
     ensures { IsTrue result ↔ ((h : ℕ) × (h ≤ page) × (page < h + slice_index heads.now h)) }
 {
-    for h in page.saturating_sub(255)..page + 1 {
-        if head_at(heads, h) as usize > page - h {
-            return true;
-        }
+    let mut found = false;
+    for h in page.saturating_sub(255)..heads.len().min(page + 1) {
+        found |= heads[h] > (page - h) as u16;
     }
-    false
+    found
 }
