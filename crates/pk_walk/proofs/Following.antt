@@ -1,6 +1,7 @@
 -- A cursor in a run: the page of its place, the entry at it, and what its moves leave.
-use Rattle.std.proofs.Common.{◌≡◌, ℕ, zero, suc, ◌+◌, ◌-◌, ◌*◌, ◌/◌, ◌%◌, ◌<◌, ◌≤◌, min, refl, sym, ap, subst, ◌∙◌, arith, Bool, true, false, if◌then◌else◌, T, List, [], ◌∷◌, ◌++◌, length, take, drop, slice_get, Some, None, div-lt_iff_lt-mul}
+use Rattle.std.proofs.Common.{◌≡◌, ℕ, zero, suc, ◌+◌, ◌-◌, ◌*◌, ◌/◌, ◌%◌, ◌<◌, ◌≤◌, min, refl, sym, ap, subst, ◌∙◌, arith, Bool, true, false, if◌then◌else◌, T, is_some, List, [], ◌∷◌, ◌++◌, length, take, drop, slice_get, Some, None, div-lt_iff_lt-mul}
 use Rattle.std.specs.Ordering.{is_gt, is_eq}
+use Rattle.std.specs.declared.cmp.Ordering.{Ordering}
 use Rattle.std.specs.declared.cmp.Ordering.TheVariants.{Less, Equal, Greater}
 use Rattle.std.proofs.lemmas.Nat.{div-add-mod'}
 use Rattle.std.proofs.lemmas.List.{length-take, length-drop}
@@ -22,9 +23,11 @@ use Rattle.pk_run.proofs.Lookups.{first_is, page_starts, holds_piece}
 use Rattle.pk_walk.specs.declared.position.Position.{Position}
 use Rattle.pk_walk.specs.declared.position.Position.TheVariants.{Above}
 use Rattle.pk_walk.specs.Visible.{is_wanted, wanted, WantsFrom}
-use Rattle.pk_walk.specs.Heads.{Head, behind, held}
+use Rattle.pk_walk.specs.Heads.{Head, IsNext, behind, held}
 use Rattle.pk_walk.specs.Walking.{Cursor, Follows, HasPassed, Reads, ReadsAll, at_start, read_of}
 use Rattle.pk_walk.specs.Steps.{MayLoad, StaysAt}
+use Rattle.pk_model.proofs.MapLemmas.{key_antisymm}
+use Rattle.pk_walk.proofs.Merging.{turned}
 use Rattle.pk_walk.proofs.Wanting.{begun_at, narrowed, narrowed_behind, above_is_narrower}
 
 -- ---- numbers
@@ -35,6 +38,20 @@ entries_some shape is = let page : 512 ≤ shape.page_bytes = is.page_least in o
 -- the page of a place in the run exists
 pub page_exists : (r : Kept) (place : ℕ) → IsShape r.shape → IsKept r → place < r.count → place / page_entries r.shape < length r.firsts
 page_exists r place is kept h = (div-lt_iff_lt-mul (entries_some r.shape is)).1 (omega (arith, h, kept.entries))
+
+-- the pages before that of a place lie before it
+pub before_page : (loaded place size : ℕ) → loaded ≡ suc (place / size) → (loaded - 1) * size ≤ place
+before_page loaded place size is =
+    let at = div-add-mod' place size in
+    let same : loaded - 1 ≡ place / size = omega (arith, is) in
+    subst (λ (n : ℕ). n * size ≤ place) (sym same) (omega (arith, at))
+
+-- so its place in the page is what is left
+pub in_page : (loaded place size : ℕ) → loaded ≡ suc (place / size) → place - (loaded - 1) * size ≡ place % size
+in_page loaded place size is =
+    let at = div-add-mod' place size in
+    let same : loaded - 1 ≡ place / size = omega (arith, is) in
+    subst (λ (n : ℕ). place - n * size ≡ place % size) (sym same) (omega (arith, at))
 
 -- ---- the entry at a place
 
@@ -74,6 +91,9 @@ module _ (r : Kept) (flash : Flash) (arena : Frames) (es : List Entry) (is : IsS
 
 -- ---- moves of a cursor
 
+not_found : ◌≡◌ {A = Bool} false true → ⊥
+not_found e = cc
+
 pub not_ended : ◌≡◌ {A = Head} None (Some None) → ⊥
 not_ended e = cc
 
@@ -83,11 +103,11 @@ module _ (flash : Flash) (r : Kept) (es : List Entry) (position : Position) (c :
 
   -- it has come past the page of its place
   pub Follows-loaded : (bytes : List ℕ) → page c.place < length r.firsts → page_at flash (page_of r (page c.place)) ≡ whole bytes → Follows flash r es position (record c { loaded = suc (page c.place); bytes = bytes })
-  Follows-loaded bytes exists here = record { pages = exists; behind = omega arith; holds = λ e. here; left = f.left; ended = f.ended }
+  Follows-loaded bytes exists here = record { pages = exists; behind = omega arith; holds = λ e. here; left = f.left; ended = f.ended; sure = λ has. (omega arith, (f.sure has).1) }
 
   -- it has not
   pub Follows-kept : (bytes : List ℕ) → c.loaded ≤ page c.place → Follows flash r es position (record c { bytes = bytes })
-  Follows-kept bytes before = record { pages = f.pages; behind = f.behind; holds = λ e. absurd (omega (arith, before, e)); left = f.left; ended = f.ended }
+  Follows-kept bytes before = record { pages = f.pages; behind = f.behind; holds = λ e. absurd (omega (arith, before, e)); left = f.left; ended = f.ended; sure = f.sure }
 
   -- it is put to where the walk begins
   pub Follows-begun : (place : ℕ) → c.loaded ≡ 0 → c.head ≡ None → wanted (is_wanted position) es ≡ wanted (is_wanted position) (drop place es) → Follows flash r es position (record c { place = place })
@@ -97,6 +117,7 @@ module _ (flash : Flash) (r : Kept) (es : List Entry) (position : Position) (c :
     holds = λ e. absurd (omega (arith, none, e));
     left = subst (λ (h : Head). wanted (is_wanted position) es ≡ held h ++ wanted (is_wanted position) (drop place es)) (sym sought) left;
     ended = λ e. absurd (not_ended (sym sought ∙ e));
+    sure = λ has. let some = (f.sure has).0 in absurd (omega (arith, none, some));
   }
 
 -- where the first wanted entry has to be looked for
@@ -150,19 +171,34 @@ behind_ended key (Some (Some x)) e = absurd (neither (is_eq (key_cmp x.0 key)) e
     neither true e = cc
     neither false e = cc
 
+-- what is next stays so
+next_behind : (position : Position) (key : Key) (h : Head) (e : Entry) → is_some h ≡ true → IsNext position h e → IsNext (Above key) (behind key h) e
+next_behind position key None e known next = cc
+next_behind position key (Some None) e known next = tt
+next_behind position key (Some (Some x)) e known next =
+    elim (key_cmp x.0 key) as (λ o. key_cmp x.0 key ≡ o → IsNext (Above key) (if is_eq o then None else Some (Some x)) e) [
+      | Less ↦ λ p. next
+      | Equal ↦ λ p. above_it (subst (λ (k : Key). key_cmp k e.0 ≡ Less) (key_antisymm x.0 key p) next)
+      | Greater ↦ λ p. next
+    ] refl
+  where
+    above_it : key_cmp key e.0 ≡ Less → T (is_gt (key_cmp e.0 key))
+    above_it low = subst (λ (o : Ordering). T (is_gt o)) (sym (turned key e.0 Less low)) tt
+
 pub Follows-above : (flash : Flash) (r : Kept) (es : List Entry) (position : Position) (c : Cursor) → Follows flash r es position c → (key : Key) → T (is_wanted position key)
-    → ((e : Entry) → c.head ≡ Some (Some e) → key_cmp e.0 key ≡ Less → ⊥) → Follows flash r es (Above key) (record c { head = behind key c.head })
-Follows-above flash r es position c f key one high = record {
+    → ((e : Entry) → c.head ≡ Some (Some e) → key_cmp e.0 key ≡ Less → ⊥) → is_some c.head ≡ true → Follows flash r es (Above key) (record c { head = behind key c.head })
+Follows-above flash r es position c f key one high known = record {
   pages = f.pages;
   behind = f.behind;
   holds = f.holds;
   left = above_held position key es c.place c.head one high f.left;
   ended = λ e. f.ended (behind_ended key c.head e);
+  sure = λ has. ((f.sure has).0, λ i e le got. next_behind position key c.head e known ((f.sure has).1 i e le got));
 }
 
 -- at the start it follows any run
 pub Follows-start : (flash : Flash) (r : Kept) (es : List Entry) (position : Position) (c : Cursor) → Follows flash r es position (at_start c)
-Follows-start flash r es position c = record { pages = omega arith; behind = omega arith; holds = λ e. absurd (omega (arith, e)); left = refl; ended = λ e. absurd (not_ended e) }
+Follows-start flash r es position c = record { pages = omega arith; behind = omega arith; holds = λ e. absurd (omega (arith, e)); left = refl; ended = λ e. absurd (not_ended e); sure = λ has. absurd (not_found has) }
 
 -- ---- where a walk begins in a run
 

@@ -1,23 +1,29 @@
 -- A cursor that knows the first wanted entry of its run, and stands behind it.
-use Rattle.std.proofs.Common.{◌≡◌, ℕ, suc, ◌*◌, ◌/◌, ◌<◌, ◌≤◌, refl, sym, ap, subst, ◌∙◌, arith, Bool, true, false, if◌then◌else◌, T, is_some, List, ◌∷◌, drop, option_map, Option, Some, None}
+use Rattle.std.proofs.Common.{◌≡◌, ℕ, zero, suc, ◌*◌, ◌/◌, ◌%◌, ◌<◌, ◌≤◌, refl, sym, ap, subst, ◌∙◌, arith, Bool, true, false, if◌then◌else◌, T, is_some, List, [], ◌∷◌, drop, slice_get, option_map, Option, Some, None, div-lt_iff_lt-mul}
 use Rattle.std.specs.Option.{IsSome}
 use Rattle.std.proofs.lemmas.Nat.{div-add-mod', le-div}
+use Rattle.std.specs.FinMap.Entries.{is_sorted}
+use Rattle.std.specs.declared.cmp.Ordering.TheVariants.{Less}
+use Rattle.pk_base.specs.Key.{key_cmp}
 use Rattle.pk_base.specs.Shape.{Shape, IsShape, page_entries}
 use Rattle.pk_base.specs.Entry.{Entry}
 use Rattle.pk_base.specs.Seen.{entry as seen}
 use Rattle.pk_base.specs.declared.entry.Entry.{Entry as RustEntry}
 use Rattle.pk_base.specs.Page.{Flash, page_at}
+use Rattle.pk_meta.specs.Page.{IsMetaPage}
 use Rattle.pk_nand.specs.BoardState.{BoardState}
 use Rattle.pk_pin.specs.Frames.{Frames}
-use Rattle.pk_run.specs.Kept.{Kept, RunOnFlash, page_of}
+use Rattle.pk_run.specs.Kept.{Kept, IsKept, RunOnFlash, page_of}
 use Rattle.pk_walk.specs.declared.position.Position.{Position}
 use Rattle.pk_walk.specs.Visible.{is_wanted, wanted, first_of}
-use Rattle.pk_walk.specs.Heads.{Head}
+use Rattle.pk_walk.specs.Heads.{Head, IsNext}
 use Rattle.pk_walk.specs.Walking.{Cursor, Follows, read_of}
 use Rattle.pk_walk.specs.Steps.{FindsIn, GoesOn, IsAt, ShowsIn, holding}
-use Rattle.pk_walk.proofs.Wanting.{dropped, first_wanted}
+use Rattle.pk_walk.proofs.Wanting.{above_at, dropped, first_here, first_wanted, same_entry}
+use Rattle.pk_model.proofs.MapLemmas.{left_part, right_part}
 use Rattle.pk_walk.proofs.Following.{all_come, entries_some, page_holds_place, sought_left}
-use Rattle.pk_walk.proofs.Seeking.{Reads-none, ReadsAll-none, one_list}
+use Rattle.pk_walk.proofs.Moving.{AtPage, entry_here}
+use Rattle.pk_walk.proofs.Seeking.{Reads-none, ReadsAll-none, no_answer, one_list, same_answer}
 
 not_none : (e : Entry) → ◌≡◌ {A = Head} (Some (Some e)) (Some None) → ⊥
 not_none e is = cc
@@ -25,6 +31,13 @@ not_none e is = cc
 is_true : (b : Bool) → T b → b ≡ true
 is_true true p = refl
 is_true false p = absurd p
+
+-- the keys of a list rise
+rises : (es : List Entry) (n i : ℕ) (e x : Entry) → T (is_sorted key_cmp es) → n < i → slice_get es n ≡ Some e → slice_get es i ≡ Some x → key_cmp e.0 x.0 ≡ Less
+rises [] n i e x up less got next = cc
+rises (y ∷ es) n zero e x up less got next = absurd (omega (arith, less))
+rises (y ∷ es) zero (suc i) e x up less got next = subst (λ (z : Entry). key_cmp z.0 x.0 ≡ Less) (same_entry y e got) (above_at y.0 es i x (left_part _ _ up) next)
+rises (y ∷ es) (suc n) (suc i) e x up less got next = rises es n i e x (right_part _ _ up) (omega (arith, less)) got next
 
 -- what was found at the place is held, and the cursor goes behind it
 pub holds_entry : (r : Kept) (flash : Flash) (arena : Frames) (es : List Entry) (position : Position) (d : Cursor) (e : Entry) → IsShape r.shape → RunOnFlash r flash arena es → Follows flash r es position d
@@ -44,6 +57,7 @@ holds_entry r flash arena es position d e is s f sought at found =
       left = sought_left flash r es position d f sought ∙ ap (wanted (is_wanted position)) (dropped es d.place e (at.is es s))
           ∙ ap (λ (b : Bool). if b then e ∷ wanted (is_wanted position) (drop (suc d.place) es) else wanted (is_wanted position) (drop (suc d.place) es)) one;
       ended = λ is. absurd (not_none e is);
+      sure = λ has. (omega (arith, loaded), λ i x le got. rises es d.place i e x s.rising (omega (arith, le)) (at.is es s) got);
     }
 
 -- or that there is none
@@ -54,6 +68,7 @@ holds_none r flash es position d f sought past = record {
   holds = f.holds;
   left = sought_left flash r es position d f sought;
   ended = λ is. past;
+  sure = λ has. ((f.sure has).0, λ i e le got. tt);
 }
 
 module _ (r : Kept) (arena : Frames) (position : Position) (old new : BoardState) (c d : Cursor) where
@@ -95,6 +110,40 @@ module _ (r : Kept) (arena : Frames) (position : Position) (old : BoardState) (c
     shape = refl;
     passed = λ none before. before;
   }
+
+-- it is not, but the entry at the place is the next
+module _ (r : Kept) (arena : Frames) (position : Position) (old : BoardState) (c : Cursor) (es : List Entry) (s : RunOnFlash r old.pages arena es) (f : Follows old.pages r es position c) (is : IsShape r.shape) (kept : IsKept r)
+    (same : c.shape ≡ r.shape) (sought : c.head ≡ None) (ready : (c.has_found ≡ true) × (c.place < r.count) × (c.place < c.loaded * page_entries c.shape)) where
+  pub ready_loaded : c.loaded ≡ suc (c.place / page_entries r.shape)
+  ready_loaded =
+      let room = subst (λ (shape : Shape). c.place < c.loaded * page_entries shape) same ready.2 in
+      let low : c.place / page_entries r.shape < c.loaded = (div-lt_iff_lt-mul (entries_some r.shape is)).1 room in
+      let most = f.behind in
+      omega (arith, low, most)
+
+  pub ready_here : AtPage r old.pages c
+  ready_here = record { shape = same; inside = ready.1; page = f.holds ready_loaded; loaded = ready_loaded }
+
+  pub ready_finds : (e : RustEntry) → ((level index : ℕ) (entries : List Entry) → IsMetaPage c.shape c.bytes level index entries → slice_get entries (c.place % page_entries c.shape) ≡ Some (seen e))
+      → FindsIn r arena position old old c c (Some e)
+  ready_finds e shows = record {
+    found = λ ys t. subst (λ (xs : List Entry). Some (seen e) ≡ first_of (wanted (is_wanted position) xs)) (one_list r old.pages arena es ys s t) first;
+    at = λ x is_it. subst (λ (y : RustEntry). IsAt r old.pages arena c (seen y)) (same_answer e x is_it) (record { inside = ready.1; loaded = ready_loaded; is = there });
+    past = λ none. absurd (no_answer e none);
+    sought = sought;
+    reads = Reads-none (read_of r.leases c.loaded) old;
+    all = λ none before. ReadsAll-none (read_of r.leases c.loaded) old;
+    ended = λ none. absurd (no_answer e none);
+  }
+    where
+      there : (ys : List Entry) → RunOnFlash r old.pages arena ys → slice_get ys c.place ≡ Some (seen e)
+      there ys t = entry_here r old.pages arena ys is kept t c ready_here (seen e) shows
+
+      first : Some (seen e) ≡ first_of (wanted (is_wanted position) es)
+      first =
+          let next = (f.sure ready.0).1 c.place (seen e) (omega arith) (there es s) in
+          let one : T (is_wanted position (seen e).0) = subst (λ (h : Head). IsNext position h (seen e)) sought next in
+          first_here (is_wanted position) es c.place (seen e) (there es s) (is_true _ one) (sought_left old.pages r es position c f sought)
 
 -- where it is not known it has to be looked for
 pub unknown : (h : Head) → is_some h ≡ false → h ≡ None

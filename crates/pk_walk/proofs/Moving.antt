@@ -18,7 +18,7 @@ use Rattle.pk_pin.specs.Frames.{Frames}
 use Rattle.pk_run.specs.Kept.{Kept, IsKept, RunOnFlash, page_of}
 use Rattle.pk_walk.specs.declared.position.Position.{Position}
 use Rattle.pk_walk.specs.Visible.{is_wanted, wanted}
-use Rattle.pk_walk.specs.Heads.{Head, held}
+use Rattle.pk_walk.specs.Heads.{Head, IsNext, held}
 use Rattle.pk_walk.specs.Walking.{Cursor, Follows}
 use Rattle.pk_walk.specs.Steps.{IsFirstWanted, Moves}
 use Rattle.pk_walk.proofs.Wanting.{passed_by}
@@ -174,6 +174,12 @@ module _ (r : Kept) (flash : Flash) (arena : Frames) (es : List Entry) (is : IsS
           ap (λ (p : ℕ). page_at flash (page_of r p)) (sym same) ∙ at.page ∙ ap (λ (x : Cursor). whole x.bytes) (sym m.cursor);
       left = subst (λ (h : Head). wanted (is_wanted position) es ≡ held h ++ wanted (is_wanted position) (drop d.place es)) (sym (moved_sought sought)) (moved_left (sought_left flash r es position c f sought));
       ended = λ e. absurd (not_ended (sym (moved_sought sought) ∙ e));
+      sure = λ has.
+          let before = f.sure (sym (ap (λ (x : Cursor). x.has_found) m.cursor) ∙ has) in
+          let forth = moved_forth in
+          let loaded = same_loaded in
+          let some = before.0 in
+          (omega (arith, some, loaded), λ i e le got. subst (λ (h : Head). IsNext position h e) (sym (ap (λ (x : Cursor). x.head) m.cursor)) (before.1 i e (omega (arith, forth, le)) got));
     }
 
     -- where a wanted entry was found it has the page of its place still

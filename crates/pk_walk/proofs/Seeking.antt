@@ -66,7 +66,7 @@ one_list r flash arena xs ys s t = same_ok xs ys (sym s.read ∙ t.read)
 pub no_answer : (e : RustEntry) → Some e ≡ None → ⊥
 no_answer e is = cc
 
-same_answer : (e x : RustEntry) → Some e ≡ Some x → e ≡ x
+pub same_answer : (e x : RustEntry) → Some e ≡ Some x → e ≡ x
 same_answer e x is = cc
 
 pub record Seeking (r : Kept) (arena : Frames) (position : Position) (old now : BoardState) (first c : Cursor) : Type 0 where

@@ -142,13 +142,13 @@ step_none position lists is =
 not_below_entry : (key : Key) (h : Head) → NotBelow key (entry_in h) → (e : Entry) → h ≡ Some (Some e) → key_cmp e.0 key ≡ Less → ⊥
 not_below_entry key h n e is = subst (λ (x : Head). NotBelow key (entry_in x)) is n
 
-pub step_follow : (flash : Flash) (position : Position) (key : Key) (rs : List Kept) (ess : List (List Entry)) (cs : List Cursor) → T (is_wanted position key) → NoneBelow key (heads_of cs) → FollowEach flash rs ess position cs
+pub step_follow : (flash : Flash) (position : Position) (key : Key) (rs : List Kept) (ess : List (List Entry)) (cs : List Cursor) → T (is_wanted position key) → NoneBelow key (heads_of cs) → AllByRecursion IsKnown cs → FollowEach flash rs ess position cs
     → FollowEach flash rs ess (Above key) (cursors_behind key cs)
-step_follow flash position key [] ess cs one none f = tt
-step_follow flash position key (r ∷ rs) [] cs one none f = tt
-step_follow flash position key (r ∷ rs) (es ∷ ess) [] one none f = tt
-step_follow flash position key (r ∷ rs) (es ∷ ess) (c ∷ cs) one none f =
-    (Follows-above flash r es position c f.0 key one (not_below_entry key c.head none.0), step_follow flash position key rs ess cs one none.1 f.1)
+step_follow flash position key [] ess cs one none known f = tt
+step_follow flash position key (r ∷ rs) [] cs one none known f = tt
+step_follow flash position key (r ∷ rs) (es ∷ ess) [] one none known f = tt
+step_follow flash position key (r ∷ rs) (es ∷ ess) (c ∷ cs) one none known f =
+    (Follows-above flash r es position c f.0 key one (not_below_entry key c.head none.0) known.0, step_follow flash position key rs ess cs one none.1 known.1 f.1)
 
 no_entry : (e : Entry) → ◌≡◌ {A = Option Entry} None (Some e) → ⊥
 no_entry e is = cc
@@ -241,7 +241,7 @@ module _ (rs : List Kept) (arena : Frames) (active frozen : List Entry) (shape :
     stays_right ess s =
         let none = none_below (heads_in t ds) (seen e) least in
         let one = step_wanted w.position (active ∷ frozen ∷ ess) e (found (Some (seen e)) least ess s) in (
-          step_follow old.pages w.position (key_of (seen e)) rs ess ds one none.1.1 (at.on.follow ess s),
+          step_follow old.pages w.position (key_of (seen e)) rs ess ds one none.1.1 at.shows.known (at.on.follow ess s),
           (step_shows w.position (key_of (seen e)) active t.active one none.0 tops_now.0, step_shows w.position (key_of (seen e)) frozen t.frozen one none.1.0 tops_now.1),
         )
 

@@ -15,7 +15,7 @@ use Rattle.pk_walk.specs.declared.position.Position.TheVariants.{First, From, Ab
 use Rattle.pk_walk.specs.Visible.{is_wanted, wanted, first_of, WantsFrom}
 use Rattle.pk_walk.proofs.Merging.{less, turned, is_true}
 
-same_entry : (x e : Entry) → ◌≡◌ {A = Option Entry} (Some x) (Some e) → x ≡ e
+pub same_entry : (x e : Entry) → ◌≡◌ {A = Option Entry} (Some x) (Some e) → x ≡ e
 same_entry x e p = cc
 
 no_entry : (e : Entry) → ◌≡◌ {A = Option Entry} None (Some e) → ⊥
@@ -66,7 +66,7 @@ dropped_all (x ∷ es) (suc n) h = dropped_all es n (omega arith)
 pub none_here : (w : Key → Bool) (es : List Entry) (n : ℕ) → length es ≤ n → wanted w es ≡ wanted w (drop n es) → None ≡ first_of (wanted w es)
 none_here w es n past left = sym (ap first_of (left ∙ ap (wanted w) (dropped_all es n past)))
 
-above_at : (k : Key) (es : List Entry) (n : ℕ) (e : Entry) → T (below_all key_cmp k es) → slice_get es n ≡ Some e → key_cmp k e.0 ≡ Less
+pub above_at : (k : Key) (es : List Entry) (n : ℕ) (e : Entry) → T (below_all key_cmp k es) → slice_get es n ≡ Some e → key_cmp k e.0 ≡ Less
 above_at k [] n e h got = absurd (no_entry e got)
 above_at k (x ∷ es) zero e h got = subst (λ (y : Entry). key_cmp k y.0 ≡ Less) (same_entry x e got) (less _ (left_part _ _ h))
 above_at k (x ∷ es) (suc n) e h got = above_at k es n e (right_part _ _ h) got

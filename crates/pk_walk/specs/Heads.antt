@@ -1,5 +1,5 @@
 -- The first entry of a list that a walk still wants, as far as it was looked for.
-use Rattle.std.specs.Prelude.{◌≡◌, ⊤, if◌then◌else◌, List, [], ◌∷◌, Option, Some, None}
+use Rattle.std.specs.Prelude.{◌≡◌, ⊤, T, if◌then◌else◌, List, [], ◌∷◌, Option, Some, None}
 use Rattle.std.specs.Ordering.{is_eq}
 use Rattle.std.specs.declared.cmp.Ordering.{Ordering}
 use Rattle.std.specs.declared.cmp.Ordering.TheVariants.{Less, Greater}
@@ -53,6 +53,12 @@ behind key (Some (Some e)) = if is_eq (key_cmp e.0 key) then None else Some (Som
 abbrev pub Shows : List Entry → Position → Head → Type 0
 Shows es position None = ⊤
 Shows es position (Some found) = found ≡ first_of (wanted (is_wanted position) es)
+
+-- the entry is wanted next, or behind the one that is known
+abbrev pub IsNext : Position → Head → Entry → Type 0
+IsNext position None e = T (is_wanted position e.0)
+IsNext position (Some None) e = ⊤
+IsNext position (Some (Some first)) e = key_cmp first.0 e.0 ≡ Less
 
 -- ---- several
 

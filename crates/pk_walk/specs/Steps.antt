@@ -95,7 +95,7 @@ pub record FindsIn (r : Kept) (arena : Frames) (position : Position) (old new : 
 -- the cursor with what was found at its place, and behind it
 abbrev pub holding : Option Entry → Cursor → Cursor
 holding None c = record c { head = Some None }
-holding (Some e) c = record c { place = suc c.place; head = Some (Some e) }
+holding (Some e) c = record c { place = suc c.place; head = Some (Some e); has_found = true }
 
 -- The cursor knows the first wanted entry of the run; each page up to it was read at most once, and exactly once where none is skipped.
 pub record ShowsIn (r : Kept) (position : Position) (old new : BoardState) (c d : Cursor) : Type 0 where

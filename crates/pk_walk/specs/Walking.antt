@@ -1,5 +1,5 @@
 -- A walk over two write buffers and four runs: what it keeps, and what is left of it.
-use Rattle.std.specs.Prelude.{◌≡◌, ⊤, ℕ, suc, ◌+◌, ◌*◌, ◌/◌, ◌≤◌, List, [], ◌∷◌, ◌++◌, length, drop, Option, Some, None}
+use Rattle.std.specs.Prelude.{◌≡◌, ⊤, ℕ, suc, ◌+◌, ◌*◌, ◌/◌, ◌<◌, ◌≤◌, Bool, true, false, slice_get, List, [], ◌∷◌, ◌++◌, length, drop, Option, Some, None}
 use Rattle.pk_base.specs.Key.{Key}
 use Rattle.pk_base.specs.Shape.{Shape, page_entries}
 use Rattle.pk_base.specs.Entry.{Entry, Place, put_entry}
@@ -16,22 +16,23 @@ use Rattle.pk_run.specs.Kept.{Kept, page_of}
 use Rattle.pk_level.specs.Levels.{RunsOnFlash}
 use Rattle.pk_walk.specs.Visible.{visible, is_wanted, wanted}
 use Rattle.pk_walk.specs.declared.buffers.Tops.{Tops as RustTops}
-use Rattle.pk_walk.specs.Heads.{Head, Shows, behind, held, seen_head}
+use Rattle.pk_walk.specs.Heads.{Head, IsNext, Shows, behind, held, seen_head}
 use Rattle.pk_walk.specs.declared.position.Position.{Position}
 use Rattle.pk_walk.specs.declared.position.Position.TheVariants.{First, From, Above}
 
 -- A place among the entries of a run; how many pages of the run the walk has come past, and the bytes of the last of them;
--- and the first wanted entry, which stands just before the place.
+-- and the first wanted entry, which stands just before the place. A cursor that has found one wants all those from its place on.
 pub record Cursor : Type 0 where
   pub shape : Shape
   pub place : ℕ
   pub loaded : ℕ
   pub bytes : List ℕ
   pub head : Head
+  pub has_found : Bool
 
 -- before all entries of a run
 abbrev pub at_start : Cursor → Cursor
-at_start c = record c { place = 0; loaded = 0; head = None }
+at_start c = record c { place = 0; loaded = 0; head = None; has_found = false }
 
 -- each cursor of a list there
 abbrev pub all_at_start : List Cursor → List Cursor
@@ -95,6 +96,7 @@ pub record Follows (flash : Flash) (r : Kept) (es : List Entry) (position : Posi
   pub holds : c.loaded ≡ suc (c.place / page_entries r.shape) → page_at flash (page_of r (c.place / page_entries r.shape)) ≡ whole c.bytes
   pub left : wanted (is_wanted position) es ≡ held c.head ++ wanted (is_wanted position) (drop c.place es)
   pub ended : c.head ≡ Some None → r.count ≤ c.place
+  pub sure : c.has_found ≡ true → (0 < c.loaded) × ((i : ℕ) (e : Entry) → c.place ≤ i → slice_get es i ≡ Some e → IsNext position c.head e)
 
 -- the cursors follow the runs of the levels, one each
 abbrev pub FollowEach : Flash → List Kept → List (List Entry) → Position → List Cursor → Type 0

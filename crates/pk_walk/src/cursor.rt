@@ -1,5 +1,5 @@
 //! A place among the entries of a run, which goes forward.
-ghost use Rattle.std.specs.Prelude.{◌≡◌, ◌<◌, ◌+◌, ◌-◌, ◌%◌, if◌then◌else◌, ℕ, List, length, is_some, option_map, slice_get, Some, None, IfOk, IfErr, IsSome, OnOk, OnErr};
+ghost use Rattle.std.specs.Prelude.{◌≡◌, ◌<◌, ◌+◌, ◌-◌, ◌*◌, ◌/◌, ◌%◌, suc, true, if◌then◌else◌, ℕ, List, length, is_some, option_map, slice_get, Some, None, IfOk, IfErr, IsSome, OnOk, OnErr};
 ghost use Rattle.std.specs.Ordering.{is_eq};
 ghost use Rattle.pk_base.specs.Fields.{number_at};
 ghost use Rattle.pk_base.specs.Seen.{entry as seen};
@@ -38,6 +38,7 @@ pub struct Cursor<A: Allocator> {
     loaded: u32,
     page: Vec<u8, A>,
     head: Head,
+    has_found: bool,
 }
 
 impl<A: Allocator> Model for Cursor<A> {
@@ -53,6 +54,7 @@ impl<A: Allocator> Model for Cursor<A> {
       loaded = c.loaded;
       bytes = c.page.items;
       head = seen_head c.head;
+      has_found = c.has_found;
     } };
 
     ghost invariant = { λ c. length c.page.items ≡ c.shape.page_bytes };
@@ -71,6 +73,7 @@ impl<A: Allocator> Cursor<A> {
             loaded: 0,
             page,
             head: Head::Sought,
+            has_found: false,
         })
     }
 
@@ -81,6 +84,7 @@ impl<A: Allocator> Cursor<A> {
         self.place = 0;
         self.loaded = 0;
         self.head = Head::Sought;
+        self.has_found = false;
     }
 
     /// How many entries stand before the place.
@@ -104,6 +108,7 @@ impl<A: Allocator> Cursor<A> {
     {
         if found.is_some() {
             self.place += 1;
+            self.has_found = true;
         }
         self.head = Head::of(found);
     }
@@ -237,16 +242,30 @@ impl<A: Allocator> Cursor<A> {
         to < get_u16(&self.page, 10) as u32
     }
 
-    /// The entry at the place.
+    /// Whether the entry at the place is the next wanted one, and its page is there. Where a walk
+    /// has found an entry it wants all those behind it.
+    pub fn is_ready(&self, run: &Run<A>) -> bool
+        ensures { result ≡ true → (self.now.has_found ≡ true) × (self.now.place < run.now.count)
+            × (self.now.place < self.now.loaded * page_entries self.now.shape) }
+    {
+        let come_past = self.loaded as u64 * self.shape.entries() as u64;
+        self.has_found && self.place < run.entries() && (self.place as u64) < come_past
+    }
+
+    /// The entry at the place, whose page is there.
     pub fn entry(&self) -> Entry
         requires decodes { Decodes self.now.shape self.now.bytes }
         requires within { self.now.place % page_entries self.now.shape
             < number_at 2 10 self.now.bytes }
+        requires here { self.now.loaded
+            ≡ suc (self.now.place / page_entries self.now.shape) }
         ensures { (level index : ℕ) (entries : List EntrySpec)
             → IsMetaPage self.now.shape self.now.bytes level index entries
             → slice_get entries (self.now.place % page_entries self.now.shape)
             ≡ Some (seen result) }
     {
-        entry(&self.shape, &self.page, self.place % self.shape.entries())
+        let place = self.place();
+        let start = (self.loaded - 1) * self.shape.entries();
+        entry(&self.shape, &self.page, place - start)
     }
 }

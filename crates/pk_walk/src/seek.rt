@@ -49,6 +49,10 @@ pub fn seek<A: Allocator, B: Nand>(
     let _ = run.entries();
     if cursor.head().is_known() {
         Ok(())
+    } else if cursor.is_ready(run) {
+        let entry = cursor.entry();
+        cursor.hold(Some(entry));
+        Ok(())
     } else {
         match search(cursor, board, arena, run, position) {
             Ok(found) => {
