@@ -1,33 +1,16 @@
 -- What a change of the map came to, by its outcome.
-use Rattle.std.proofs.Common.{◌≡◌, ℕ, refl, ap, sym, ◌∙◌, arith, false, Result, Ok, Err}
+use Rattle.std.proofs.Common.{◌≡◌, ℕ, ap, sym, ◌∙◌, arith, false, Result, Ok, Err}
 use Rattle.std.specs.Prelude.{OnOk}
 use Rattle.pk_nand.specs.declared.types.Fault.{Fault}
 use Rattle.pk_nand.specs.declared.types.Fault.TheVariants.{Reading, Stopped}
 use Rattle.pk_drive.specs.declared.types.Outcome.{Outcome}
-use Rattle.pk_core.specs.Parts.{Parts}
-use Rattle.pk_core.specs.Emptying.{OnRunning}
+use Rattle.pk_parts.specs.Parts.{Parts}
+use Rattle.pk_parts.specs.Emptying.{OnRunning}
 use Rattle.pk_core.specs.Serving.{outcome_for, stopped_by}
 use Rattle.pk_core.proofs.Executing.{never}
 
 read_error : ◌≡◌ {A = ℕ} 0x88 0 → ⊥
 read_error e = omega (arith, e)
-
-module _ (r : Result Unit Fault) (o : Outcome) (reads : ℕ) (told : o ≡ outcome_for r reads) where
-  pub told_reads : o.reads ≡ reads
-  told_reads = ap (λ (x : Outcome). x.reads) told ∙ by r
-    where
-      by : (r : Result Unit Fault) → (outcome_for r reads).reads ≡ reads
-      by (Ok u) = refl
-      by (Err Reading) = refl
-      by (Err Stopped) = refl
-
-  pub told_none : o.data_len ≡ 0
-  told_none = ap (λ (x : Outcome). x.data_len) told ∙ by r
-    where
-      by : (r : Result Unit Fault) → (outcome_for r reads).data_len ≡ 0
-      by (Ok u) = refl
-      by (Err Reading) = refl
-      by (Err Stopped) = refl
 
 -- where the drive was not stopped
 pub came_running : (P : Parts → Type 0) (r : Result Unit Fault) (e : Parts) (o : Outcome) (reads : ℕ) → o ≡ outcome_for r reads → OnRunning (P e) r → o.stopped ≡ false → P (stopped_by e r)

@@ -26,11 +26,12 @@ use Rattle.pk_drive.specs.Drive.{CountsMap}
 use Rattle.pk_drive.specs.Exec.{report_of}
 use Rattle.pk_drive.specs.Seen.{reply_of}
 use Rattle.pk_drive.specs.declared.types.Outcome.{Outcome}
-use Rattle.pk_core.specs.Parts.{Parts, sight_of, counts_of, outputs_of, frames_of}
-use Rattle.pk_core.specs.Agreeing.{DriveOnFlashWith, DriveOnFlash}
+use Rattle.pk_parts.specs.Parts.{Parts, sight_of, counts_of, outputs_of, frames_of}
+use Rattle.pk_parts.specs.Agreeing.{DriveOnFlashWith, DriveOnFlash}
 use Rattle.pk_core.specs.Done.{Does}
 use Rattle.pk_core.specs.Quiet.{DoneWithout}
-use Rattle.pk_core.proofs.Unchanging.{own, for_its_map, same_early, does_reads, reads_none, flush_step, report_step, same_ok, ok_sound, AnswersAll}
+use Rattle.pk_core.proofs.Unchanging.{same_early, does_reads, flush_step, report_step, ok_sound, AnswersAll}
+use Rattle.pk_parts.proofs.Unchanging.{own, for_its_map, reads_none, same_ok}
 
 pub numbers_more : (xs into new : List ℕ) (i d : ℕ) → i < length xs → take (4 * i + 4) new ≡ take (4 * i) into ++ u32 (get_or xs i d) → take (4 * i) into ≡ flat_map u32 (take i xs)
     → take (4 * (i + 1)) new ≡ flat_map u32 (take (i + 1) xs)

@@ -26,10 +26,10 @@ use Rattle.pk_model.specs.Growth.{Reaches}
 use Rattle.pk_drive.specs.Seen.{reply_of}
 use Rattle.pk_model.specs.Wear.{roots}
 use Rattle.pk_drive.specs.declared.types.Outcome.{Outcome}
-use Rattle.pk_core.specs.Parts.{Parts, sight_of}
-use Rattle.pk_core.specs.Agreeing.{DriveOnFlash}
+use Rattle.pk_parts.specs.Parts.{Parts, sight_of}
+use Rattle.pk_parts.specs.Agreeing.{DriveOnFlash}
 use Rattle.pk_core.specs.Done.{Does}
-use Rattle.pk_core.specs.Listed.{keys_there, ListsInto}
+use Rattle.pk_index.specs.Listed.{keys_there, ListsInto}
 use Rattle.pk_core.proofs.Replies.{keys_listed}
 
 some_same : (x y : Shape) → ◌≡◌ {A = Option Shape} (Some x) (Some y) → x ≡ y

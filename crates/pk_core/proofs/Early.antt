@@ -9,8 +9,8 @@ use Rattle.pk_model.specs.Answer.{early}
 use Rattle.pk_model.proofs.Answering.{refuses_early}
 use Rattle.pk_drive.specs.Drive.{HoldsMap}
 use Rattle.pk_drive.specs.Exec.{Executed}
-use Rattle.pk_core.specs.Parts.{Parts, sight_of}
-use Rattle.pk_core.specs.Agreeing.{DriveOnFlash}
+use Rattle.pk_parts.specs.Parts.{Parts, sight_of}
+use Rattle.pk_parts.specs.Agreeing.{DriveOnFlash}
 use Rattle.pk_core.specs.Quiet.{eleven}
 use Rattle.pk_core.proofs.Standing.{stands_for}
 

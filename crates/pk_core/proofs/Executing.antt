@@ -7,11 +7,12 @@ use Rattle.pk_nvme.specs.declared.request.Request.{Request}
 use Rattle.pk_nand.specs.BoardState.{BoardState}
 use Rattle.pk_drive.specs.Seen.{reply_of}
 use Rattle.pk_drive.specs.declared.types.Outcome.{Outcome}
-use Rattle.pk_core.specs.Parts.{Parts, sight_of}
-use Rattle.pk_core.specs.Agreeing.{DriveOnFlash, DriveOnFlashBetween}
+use Rattle.pk_parts.specs.Parts.{Parts, sight_of}
+use Rattle.pk_core.specs.Agreeing.{DriveOnFlashBetween}
+use Rattle.pk_parts.specs.Agreeing.{DriveOnFlash}
 use Rattle.pk_core.specs.Done.{Does, Executes}
 use Rattle.pk_core.specs.Serving.{IsServable}
-use Rattle.pk_core.proofs.Rooming.{entries_some}
+use Rattle.pk_parts.proofs.Rooming.{entries_some}
 
 -- one that left the drive and the pages of its board
 pub executes_quiet : (d e : Parts) (old new : BoardState) (r : Request) (c : Command) (o : Outcome) (into : List ℕ) (reads : ℕ) → IsServable d old r → e ≡ d → new.pages ≡ old.pages → o.stopped ≡ false

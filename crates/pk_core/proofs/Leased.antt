@@ -17,8 +17,8 @@ use Rattle.pk_model.specs.Found.{Found}
 use Rattle.pk_scan.specs.Opened.{HaveBlocks}
 use Rattle.pk_schedule.specs.Index.{merging, output}
 use Rattle.pk_schedule.proofs.Keeping.{idle_leases}
-use Rattle.pk_core.specs.Parts.{Parts, frames_of, index_of}
-use Rattle.pk_core.specs.Agreeing.{DriveOnFlashWith}
+use Rattle.pk_parts.specs.Parts.{Parts, frames_of, index_of}
+use Rattle.pk_parts.specs.Agreeing.{DriveOnFlashWith}
 
 le_true : (x y : ℕ) → x ≤ y → nat_le x y ≡ true
 le_true x y h = grind (arith, nat_tests)

@@ -13,18 +13,19 @@ use Rattle.pk_nand.specs.declared.types.Fault.{Fault}
 use Rattle.pk_nand.specs.BoardState.{BoardState}
 use Rattle.pk_nand.specs.Calls.{last_count}
 use Rattle.pk_drive.specs.declared.types.Outcome.{Outcome}
-use Rattle.pk_core.specs.Parts.{Parts}
-use Rattle.pk_core.specs.Emptying.{OnRunning}
+use Rattle.pk_parts.specs.Parts.{Parts}
+use Rattle.pk_parts.specs.Emptying.{OnRunning}
 use Rattle.pk_core.specs.Done.{Executes}
-use Rattle.pk_core.specs.Quiet.{ReadsOnly, ReadsFailing, Looks}
+use Rattle.pk_parts.specs.Quiet.{ReadsOnly, ReadsFailing, Looks}
 use Rattle.pk_core.specs.Serving.{IsServable, IsCounted, outcome_for, stopped_by}
-use Rattle.pk_core.specs.Staying.{Stays, StaysOrOpens, IsNoted}
-use Rattle.pk_core.specs.Programming.{PutsQuietly, TakesQuietly, ReadsQuietly, ReadsNone}
+use Rattle.pk_parts.specs.Staying.{Stays, StaysOrOpens, IsNoted}
+use Rattle.pk_core.specs.Programming.{ReadsNone}
+use Rattle.pk_parts.specs.Programming.{PutsQuietly, TakesQuietly, ReadsQuietly}
 use Rattle.pk_core.specs.LookedUp.{IsLookedUp, StoresOver, DeletesAt}
 use Rattle.pk_core.proofs.Came.{came_running, came_served}
 use Rattle.pk_core.proofs.Executing.{executes_quiet}
 use Rattle.pk_core.proofs.Served.{looks_behind, does_behind}
-use Rattle.pk_core.proofs.Staying.{stays_opens, stays_same}
+use Rattle.pk_parts.proofs.Staying.{stays_opens, stays_same}
 use Rattle.pk_core.proofs.Unchanging.{unread_look}
 
 -- the look-up left the drive as it was

@@ -8,12 +8,12 @@ use Rattle.pk_nand.specs.BoardState.{BoardState}
 use Rattle.pk_nand.specs.Effects.{OnlyReading}
 use Rattle.pk_drive.specs.Calling.{FewCalls, most_calls_of, only_looks}
 use Rattle.pk_drive.specs.declared.types.Outcome.{Outcome}
-use Rattle.pk_core.specs.Parts.{Parts, sight_of}
-use Rattle.pk_core.specs.Staying.{Stays, StaysOrOpens, StaysOrFrees, IsNoted}
+use Rattle.pk_parts.specs.Parts.{Parts, sight_of}
+use Rattle.pk_parts.specs.Staying.{Stays, StaysOrOpens, StaysOrFrees, IsNoted}
 use Rattle.pk_core.specs.Programming.{QuietStore, QuietDelete}
 use Rattle.pk_core.specs.Performing.{Performs}
 use Rattle.pk_core.specs.Stepping.{Lessens}
-use Rattle.pk_core.proofs.Staying.{stays_same, stays_frees}
+use Rattle.pk_parts.proofs.Staying.{stays_same, stays_frees}
 use Rattle.pk_core.proofs.Sights.{store_changes, delete_changes, tick_changes, delete_no_store, store_raises, delete_raises}
 use Rattle.pk_core.proofs.Callings.{few_for_tick}
 

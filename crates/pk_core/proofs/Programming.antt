@@ -1,12 +1,11 @@
--- How many pages the steps of a Store and a Delete program, and when they wait for nothing.
-use Rattle.std.proofs.Common.{◌≡◌, ◌≢◌, inl, inr, ℕ, zero, suc, ◌+◌, ◌-◌, ◌<◌, ◌≤◌, refl, sym, ap, subst, ◌∙◌, arith, Bool, true, false, not, ◌&&◌, ◌||◌, ◌==◌, List, [], ◌∷◌, ◌++◌, ◌⊎◌, length, reverse, Option, Some, None, Result, Ok, Err, is_some, cond}
-use Rattle.std.specs.Prelude.{OnOk, IsSome, if◌then◌else◌}
+-- When a Store and a Delete wait for nothing, and what they program behind their look-up.
+use Rattle.std.proofs.Common.{◌≡◌, ◌≢◌, inl, inr, ℕ, ◌+◌, ◌-◌, ◌<◌, ◌≤◌, refl, sym, ap, subst, ◌∙◌, arith, Bool, true, false, not, ◌&&◌, ◌||◌, ◌==◌, List, [], ◌∷◌, ◌++◌, ◌⊎◌, length, reverse, Option, Some, None, Result, Ok, is_some, cond}
+use Rattle.std.specs.Prelude.{IsSome, if◌then◌else◌}
 use Rattle.std.specs.FinMap.Entries.{find}
 use Rattle.std.specs.Ordering.{eq_by_cmp}
 use Rattle.std.proofs.lemmas.List.{reverse-append}
-use Rattle.std.proofs.lemmas.Bool.{ne_eqb, eq-eqb, cases_lt}
-use Rattle.std.proofs.lemmas.List.{length-append}
-use Rattle.pk_base.specs.Shape.{Shape, IsShape, charge, buffer, page_entries, epoch_pages}
+use Rattle.std.proofs.lemmas.Bool.{ne_eqb, cases_lt}
+use Rattle.pk_base.specs.Shape.{Shape, IsShape, charge, buffer, epoch_pages}
 use Rattle.pk_base.specs.Page.{Flash, page_at, page_in, erased, whole}
 use Rattle.pk_base.specs.Entry.{Entry}
 use Rattle.pk_base.specs.Key.{Key, key_cmp}
@@ -14,65 +13,20 @@ use Rattle.pk_base.specs.Firsts.{firsts}
 use Rattle.pk_base.specs.Map.{Map}
 use Rattle.pk_buf.specs.Table.{Table}
 use Rattle.pk_rootfmt.specs.Root.{Root}
-use Rattle.pk_nand.specs.declared.types.Fault.{Fault}
 use Rattle.pk_nand.specs.BoardState.{BoardState}
-use Rattle.pk_nand.specs.Calls.{counted}
 use Rattle.pk_nand.specs.Erased.{counted_by}
-use Rattle.pk_nand.specs.Effects.{OneProgram}
-use Rattle.pk_seg.specs.Stored.{written}
-use Rattle.pk_pool.specs.Blocks.{Blocks}
 use Rattle.pk_jrn.specs.Epochs.{JournalEpoch, left_of}
 use Rattle.pk_jrn.proofs.Puts.{firsts-reverse, find-firsts}
 use Rattle.pk_base.proofs.ShapeLemmas.{block_pages_positive}
 use Rattle.pk_base.specs.Refusal.{Refusal}
-use Rattle.pk_log.specs.State.{LogState, needs_freeze, pushed}
+use Rattle.pk_log.specs.State.{needs_freeze}
 use Rattle.pk_model.specs.Found.{Found, found_under}
-use Rattle.pk_data.specs.State.{DataState, fits_open}
+use Rattle.pk_data.specs.State.{fits_open}
 use Rattle.pk_drive.specs.Moving.{IsQuiet, commits_for}
-use Rattle.pk_core.specs.Parts.{Parts, sight_of}
-use Rattle.pk_core.specs.Agreeing.{DriveOnFlashWith}
-use Rattle.pk_core.specs.Moves.{StandsFor}
-use Rattle.pk_core.specs.Placing.{PlacesValue}
-use Rattle.pk_core.proofs.Rooming.{entries_some}
-use Rattle.pk_core.specs.Programming.{Programs}
-use Rattle.pk_core.specs.Quiet.{ReadsOnly}
-
--- ---- counts
-
-pub counted_more : (m k n : ℕ) → counted_by m (counted_by k n) ≡ counted_by (k + m) n
-counted_more zero k n = let same : k ≡ k + zero = omega arith in ap (λ (x : ℕ). counted_by x n) same
-counted_more (suc m) k n = let same : suc (k + m) ≡ k + suc m = omega arith in ap counted (counted_more m k n) ∙ ap (λ (x : ℕ). counted_by x n) same
-
-pub programs_none : (old new : BoardState) → new ≡ old → Programs 0 old new
-programs_none old new same = record { programs = ap (λ b. b.programs) same; erases = ap (λ b. b.erases) same }
-
-pub programs_then : (a b c : BoardState) (n m : ℕ) → Programs n a b → Programs m b c → Programs (n + m) a c
-programs_then a b c n m first second = record {
-  programs = second.programs ∙ ap (counted_by m) first.programs ∙ counted_more m n a.programs;
-  erases = second.erases ∙ first.erases;
-}
-
--- ---- a value
-
-pub written_programs : (shape : Shape) (key : Key) (page : ℕ) (value : List ℕ) (k : ℕ) (board : BoardState) → Programs k board (written shape key page value k board)
-written_programs shape key page value zero board = record { programs = refl; erases = refl }
-written_programs shape key page value (suc k) board =
-    let rest = written_programs shape key page value k board in
-    record { programs = ap counted rest.programs; erases = rest.erases }
-
-no_yes : (b : Bool) → b ≡ true → b ≡ false → ⊥
-no_yes true e f = cc
-no_yes false e f = cc
-
-pub place_programs : (shape : Shape) (key : Key) (value : List ℕ) (d : DataState) (p : Blocks) (old : BoardState) (page : ℕ) (d' : DataState) (q : Blocks) (new : BoardState) → PlacesValue shape key value d p old page d' q new
-    → fits_open shape d (charge shape (length value)) ≡ true → Programs (charge shape (length value)) old new
-place_programs shape key value d p old page d' q new is room = elim is.reserved.taken [
-  | inl next ↦ (
-      let T : BoardState → Type 0 = λ b. Programs (charge shape (length value)) b new in
-      let U : BoardState → Type 0 = λ b. Programs (charge shape (length value)) is.between b in
-      subst T next.same_board (subst U (sym is.writes) (written_programs shape key page value (charge shape (length value)) is.between)))
-  | inr opens ↦ absurd (no_yes (fits_open shape d (charge shape (length value))) room opens.no_room)
-]
+use Rattle.pk_parts.specs.Parts.{Parts, sight_of}
+use Rattle.pk_parts.specs.Agreeing.{DriveOnFlashWith}
+use Rattle.pk_parts.specs.Programming.{Programs}
+use Rattle.pk_parts.specs.Quiet.{ReadsOnly}
 
 -- ---- a key that needs no freeze
 
@@ -180,74 +134,6 @@ module _ (d : Parts) (shape : Shape) (flash : Flash) (top : ℕ × Root) (found 
   quiet_needs_none =
       both_false ((length d.log.active.entries == d.log.active.capacity) && not (is_some (find key_cmp k d.log.active.entries))) ((length d.log.pending == 0) && (left_of d.log.epoch == 0))
       (room_false (length d.log.active.entries == d.log.active.capacity) (is_some (find key_cmp k d.log.active.entries)) room_is) (page_false (length d.log.pending == 0) (left_of d.log.epoch == 0) page_is)
-
--- ---- the steps of a Store and of a Delete
-
-pub full_ok : (r : Result Unit Fault) (d : Parts) (old new : BoardState) → (m : Map) × StandsFor d d.log.shape old.pages m → (d.log.pending ≢ [] → OneProgram old new) → OnOk r (page_entries d.log.shape ≤ length d.log.pending → Programs 1 old new)
-full_ok (Ok x) d old new stands made = λ full.
-    let some = entries_some d.log.shape stands.1.with.placed.is_shape in
-    let one = made (λ none. let e = ap (λ (es : List Entry). length es) none in absurd (omega (arith, full, some, e))) in
-    record { programs = one.programs; erases = one.erases }
-full_ok (Err e) d old new stands made = tt
-
-pub pushed_more : (log log' : LogState) (e : Entry) → log' ≡ pushed log e → length log'.pending ≡ length log.pending + 1
-pushed_more log log' e is = ap (λ (l : LogState). length l.pending) is ∙ length-append log.pending (e ∷ [])
-
-pub not_wanted_ok : {X E : Type 0} (A : Type 0) (r : Result X E) (b : Bool) → b ≡ true → OnOk r (b ≡ false → A)
-not_wanted_ok A (Ok x) b wanted = λ e. absurd (no_yes b wanted e)
-not_wanted_ok A (Err e) b wanted = tt
-
-commits_one : (n m : ℕ) → n ≡ m → ◌≡◌ {A = ℕ} (if n == m then 1 else 0) 1
-commits_one n m same = ap {B = ℕ} (λ b. if b then 1 else 0) (eq-eqb n m same)
-
-commits_none : (n m : ℕ) → (n ≡ m → ⊥) → ◌≡◌ {A = ℕ} (if n == m then 1 else 0) 0
-commits_none n m other = ap {B = ℕ} (λ b. if b then 1 else 0) (ne_eqb n m other)
-
--- a commit behind one entry more
-commit_part : (r : Result Unit Fault) (a n c : Parts) (s1 s2 : BoardState) → length a.log.pending < page_entries a.log.shape → length n.log.pending ≡ length a.log.pending + 1 → n.log.shape ≡ a.log.shape
-    → OnOk r (length n.log.pending < page_entries n.log.shape → (c ≡ n) × (s2 ≡ s1)) → OnOk r (page_entries n.log.shape ≤ length n.log.pending → Programs 1 s1 s2) → OnOk r (Programs (commits_for a.log.shape (sight_of a)) s1 s2)
-commit_part (Err e) a n c s1 s2 few more shapes idle full = tt
-commit_part (Ok x) a n c s1 s2 few more shapes idle full =
-    let entries : page_entries n.log.shape ≡ page_entries a.log.shape = ap (λ s. page_entries s) shapes in
-    elim (cases_lt (length a.log.pending + 1) (page_entries a.log.shape)) [
-      | inl less ↦ subst (λ k. Programs k s1 s2) (sym (commits_none (length a.log.pending + 1) (page_entries a.log.shape) (λ e. omega (arith, less, e)))) (programs_none s1 s2 (idle (omega (arith, entries, more, less))).1)
-      | inr most ↦ subst (λ k. Programs k s1 s2) (sym (commits_one (length a.log.pending + 1) (page_entries a.log.shape) (omega (arith, most, few)))) (full (omega (arith, entries, more, most)))
-    ]
-
-then_ok : (r : Result Unit Fault) (a b c : BoardState) (n m : ℕ) (P : Type 0) → (P → Programs n a b) → OnOk r (Programs m b c) → OnOk r (P → Programs (n + m) a c)
-then_ok (Ok x) a b c n m P first second = λ p. programs_then a b c n m (first p) second
-then_ok (Err e) a b c n m P first second = tt
-
-module _ (r : Result Unit Fault) (a b n c : Parts) (s0 s1 s2 : BoardState) (size : ℕ) where
-  pub put_programs : length a.log.pending < page_entries a.log.shape → (fits_open a.log.shape a.space (charge a.log.shape size) ≡ true → Programs (charge a.log.shape size) s0 s1) → b.log ≡ a.log
-      → length n.log.pending ≡ length b.log.pending + 1 → n.log.shape ≡ b.log.shape
-      → OnOk r (length n.log.pending < page_entries n.log.shape → (c ≡ n) × (s2 ≡ s1)) → OnOk r (page_entries n.log.shape ≤ length n.log.pending → Programs 1 s1 s2)
-      → OnOk r (fits_open a.log.shape a.space (charge a.log.shape size) ≡ true → Programs (charge a.log.shape size + commits_for a.log.shape (sight_of a)) s0 s2)
-  put_programs few first same more shapes idle full =
-      then_ok r s0 s1 s2 (charge a.log.shape size) (commits_for a.log.shape (sight_of a)) (fits_open a.log.shape a.space (charge a.log.shape size) ≡ true) first
-      (commit_part r a n c s1 s2 few (more ∙ ap (λ (l : LogState). length l.pending + 1) same) (shapes ∙ ap (λ (l : LogState). l.shape) same) idle full)
-
-pub take_programs : (r : Result Unit Fault) (a n c : Parts) (s1 s2 : BoardState) → length a.log.pending < page_entries a.log.shape → length n.log.pending ≡ length a.log.pending + 1 → n.log.shape ≡ a.log.shape
-    → OnOk r (length n.log.pending < page_entries n.log.shape → (c ≡ n) × (s2 ≡ s1)) → OnOk r (page_entries n.log.shape ≤ length n.log.pending → Programs 1 s1 s2) → OnOk r (Programs (commits_for a.log.shape (sight_of a)) s1 s2)
-take_programs r a n c s1 s2 few more shapes idle full = commit_part r a n c s1 s2 few more shapes idle full
-
--- where no freeze is wanted, what makes room does nothing
-pub put_idle : (r : Result Unit Fault) (a b : Parts) (s0 s1 s2 : BoardState) (k : Key) (size : ℕ) → (needs_freeze a.log k ≡ false → (b ≡ a) × (s1 ≡ s0))
-    → OnOk r (fits_open b.log.shape b.space (charge b.log.shape size) ≡ true → Programs (charge b.log.shape size + commits_for b.log.shape (sight_of b)) s1 s2)
-    → OnOk r (needs_freeze a.log k ≡ false → fits_open a.log.shape a.space (charge a.log.shape size) ≡ true → Programs (charge a.log.shape size + commits_for a.log.shape (sight_of a)) s0 s2)
-put_idle (Err e) a b s0 s1 s2 k size idle made = tt
-put_idle (Ok x) a b s0 s1 s2 k size idle made = λ none.
-    let same = idle none in
-    let T : Parts → BoardState → Type 0 = λ d s. fits_open d.log.shape d.space (charge d.log.shape size) ≡ true → Programs (charge d.log.shape size + commits_for d.log.shape (sight_of d)) s s2 in
-    subst (λ d. T d s0) same.0 (subst (λ s. T b s) same.1 made)
-
-pub take_idle : (r : Result Unit Fault) (a b : Parts) (s0 s1 s2 : BoardState) (k : Key) → (needs_freeze a.log k ≡ false → (b ≡ a) × (s1 ≡ s0)) → OnOk r (Programs (commits_for b.log.shape (sight_of b)) s1 s2)
-    → OnOk r (needs_freeze a.log k ≡ false → Programs (commits_for a.log.shape (sight_of a)) s0 s2)
-take_idle (Err e) a b s0 s1 s2 k idle made = tt
-take_idle (Ok x) a b s0 s1 s2 k idle made = λ none.
-    let same = idle none in
-    let T : Parts → BoardState → Type 0 = λ d s. Programs (commits_for d.log.shape (sight_of d)) s s2 in
-    subst (λ d. T d s0) same.0 (subst (λ s. T b s) same.1 made)
 
 -- ---- behind the reads of a look-up
 

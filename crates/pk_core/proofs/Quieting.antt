@@ -8,9 +8,10 @@ use Rattle.pk_nand.specs.BoardState.{BoardState, shape_or_none}
 use Rattle.pk_data.specs.State.{fits_open}
 use Rattle.pk_drive.specs.Moving.{IsQuiet, HasOpenRoom, Quietly, commits_for}
 use Rattle.pk_drive.specs.declared.types.Outcome.{Outcome}
-use Rattle.pk_core.specs.Parts.{Parts, sight_of, frames_of}
-use Rattle.pk_core.specs.Agreeing.{DriveOnFlash}
-use Rattle.pk_core.specs.Programming.{Programs, QuietStore, QuietDelete}
+use Rattle.pk_parts.specs.Parts.{Parts, sight_of, frames_of}
+use Rattle.pk_parts.specs.Agreeing.{DriveOnFlash}
+use Rattle.pk_core.specs.Programming.{QuietStore, QuietDelete}
+use Rattle.pk_parts.specs.Programming.{Programs}
 use Rattle.pk_core.proofs.Noted.{left_is}
 use Rattle.pk_core.proofs.Programming.{quiet_needs_none}
 

@@ -25,7 +25,6 @@ use Rattle.pk_model.specs.Run.{Step}
 use Rattle.pk_model.specs.Sight.{Sight}
 use Rattle.pk_model.proofs.Answering.{serves, refuses_late, store_sized}
 use Rattle.pk_model.proofs.Machines.{store_check, store_late, live_stored}
-use Rattle.pk_data.specs.State.{needs_reclaim}
 use Rattle.pk_nand.specs.Effects.{NoFault, OnlyFlash}
 use Rattle.pk_drive.specs.Drive.{HoldsMap}
 use Rattle.pk_model.specs.Growth.{Reaches, Goes}
@@ -35,20 +34,24 @@ use Rattle.pk_drive.specs.Seen.{reply_of as shown}
 use Rattle.pk_model.specs.Wear.{roots}
 use Rattle.pk_drive.specs.declared.types.Outcome.{Outcome}
 use Rattle.pk_model.proofs.Growing.{weaken, weaken_went}
-use Rattle.pk_core.specs.Parts.{Parts, sight_of, frames_of}
-use Rattle.pk_core.specs.Agreeing.{DriveOnFlash}
+use Rattle.pk_parts.specs.Parts.{Parts, sight_of, frames_of}
+use Rattle.pk_parts.specs.Agreeing.{DriveOnFlash}
 use Rattle.pk_core.specs.Done.{Does, Executes}
-use Rattle.pk_core.specs.Finding.{IsPlaceIn}
-use Rattle.pk_core.specs.Moves.{StandsFor}
-use Rattle.pk_core.specs.Emptying.{Unread, Halts, OnRunning}
-use Rattle.pk_core.specs.Quiet.{ReadsOnly, Looks, eleven}
-use Rattle.pk_core.specs.Changes.{MayPut, MayTake, CanPut, CanTake, Changes, TakesOrReads, StaysBetween}
-use Rattle.pk_core.specs.Spacing.{SameMap, MayStore, StoresOrReads}
-use Rattle.pk_core.proofs.SameMaps.{same_kept}
+use Rattle.pk_parts.specs.Finding.{IsPlaceIn}
+use Rattle.pk_parts.specs.Moves.{StandsFor}
+use Rattle.pk_parts.specs.Emptying.{Unread, Halts, OnRunning}
+use Rattle.pk_core.specs.Quiet.{eleven}
+use Rattle.pk_parts.specs.Quiet.{ReadsOnly, Looks}
+use Rattle.pk_parts.specs.Changes.{MayPut, MayTake, CanPut, CanTake, Changes, TakesOrReads, StaysBetween}
+use Rattle.pk_core.specs.Spacing.{MayStore, StoresOrReads}
+use Rattle.pk_parts.specs.Spacing.{SameMap}
+use Rattle.pk_parts.proofs.SameMaps.{same_kept}
 use Rattle.pk_core.specs.Serving.{IsServable, IsCounted, outcome_for, stopped_by, pages_at}
-use Rattle.pk_core.proofs.Standing.{stands_so, agrees_so}
+use Rattle.pk_core.proofs.Standing.{stands_so}
+use Rattle.pk_parts.proofs.Standing.{agrees_so}
 use Rattle.pk_core.proofs.Counting.{counts_map}
-use Rattle.pk_core.proofs.Unchanging.{own, unread_step, looked, value_of, for_its_map, same_early, reads_none, does_reads, AnswersAll, agrees_ready}
+use Rattle.pk_core.proofs.Unchanging.{unread_step, value_of, same_early, does_reads, AnswersAll}
+use Rattle.pk_parts.proofs.Unchanging.{own, looked, for_its_map, reads_none, agrees_ready}
 
 -- ---- what a Store asks
 

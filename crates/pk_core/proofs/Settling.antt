@@ -6,11 +6,11 @@ use Rattle.pk_nand.specs.Effects.{OnlyFlash}
 use Rattle.pk_pool.specs.Blocks.{IsShared}
 use Rattle.pk_model.specs.Sight.{IsIdle}
 use Rattle.pk_drive.specs.Settling.{Settles, Rests}
-use Rattle.pk_core.specs.Parts.{Parts, sight_of}
-use Rattle.pk_core.specs.Agreeing.{DriveOnFlash}
-use Rattle.pk_core.specs.Ticking.{HasNoStep}
+use Rattle.pk_parts.specs.Parts.{Parts, sight_of}
+use Rattle.pk_parts.specs.Agreeing.{DriveOnFlash}
+use Rattle.pk_parts.specs.Ticking.{HasNoStep}
 use Rattle.pk_core.specs.Stepping.{Lessens}
-use Rattle.pk_core.proofs.Ticking.{none_idle}
+use Rattle.pk_parts.proofs.Ticking.{none_idle}
 use Rattle.pk_core.proofs.Steadying.{few_left}
 
 some_same : (x y : Shape) → ◌≡◌ {A = Option Shape} (Some x) (Some y) → x ≡ y

@@ -1,20 +1,12 @@
 -- How what is seen of a drive changes in a call.
-use Rattle.std.proofs.Common.{◌≡◌, ◌⊎◌, inl, inr, ℕ, ◌≤◌, refl, sym, ap, subst, ◌∙◌, arith, List, true, false, Result, Ok, Err}
-use Rattle.std.specs.Prelude.{OnOk}
-use Rattle.pk_base.specs.Entry.{Entry}
-use Rattle.pk_nand.specs.declared.types.Fault.{Fault}
+use Rattle.std.proofs.Common.{◌≡◌, ℕ, ◌≤◌, refl, sym, ap, subst, ◌∙◌, arith, true, false}
 use Rattle.pk_nand.specs.BoardState.{BoardState}
 use Rattle.pk_nand.specs.Calls.{last_count}
 use Rattle.pk_nand.specs.Effects.{OnlyReading, Works, Stops}
-use Rattle.pk_log.specs.State.{LogState}
-use Rattle.pk_log.specs.Commits.{CommitsNone, CommitsAll}
 use Rattle.pk_nvme.specs.declared.request.Request.{Request}
 use Rattle.pk_drive.specs.Calling.{only_looks}
 use Rattle.pk_drive.specs.Settling.{may_raise}
-use Rattle.pk_drive.specs.Moving.{Commits}
-use Rattle.pk_core.specs.Parts.{Parts, sight_of}
-use Rattle.pk_core.specs.Quiet.{ReadsOnly, ReadsFailing}
-use Rattle.pk_core.proofs.Committing.{with_log}
+use Rattle.pk_parts.specs.Quiet.{ReadsOnly, ReadsFailing}
 
 -- ---- what only reads
 
@@ -25,21 +17,6 @@ only_reads old new most made =
 
 pub only_failing : (old new : BoardState) (most : ℕ) → ReadsFailing old new most → OnlyReading old new
 only_failing old new most made = made.board
-
--- ---- a commit
-
-commits_seen : (d : Parts) (log' : LogState) (old new : BoardState) → CommitsNone d.log old log' new ⊎ CommitsAll d.log old log' new → Commits (sight_of d) (sight_of (with_log d log'))
-commits_seen d log' old new (inl none) =
-    let T : LogState → Type 0 = λ l. Commits (sight_of d) (sight_of (with_log d l)) in
-    let U : List Entry → Type 0 = λ p. sight_of d ≡ record (sight_of d) { pending = p } in
-    subst T (sym none.kept) (subst U none.none refl)
-commits_seen d log' old new (inr all) =
-    let T : LogState → Type 0 = λ l. Commits (sight_of d) (sight_of (with_log d l)) in
-    subst T (sym all.taken) refl
-
-pub seen_ok : (r : Result Unit Fault) (d : Parts) (log' : LogState) (old new : BoardState) → OnOk r (CommitsNone d.log old log' new ⊎ CommitsAll d.log old log' new) → OnOk r (Commits (sight_of d) (sight_of (with_log d log')))
-seen_ok (Ok x) d log' old new made = commits_seen d log' old new made
-seen_ok (Err e) d log' old new made = tt
 
 -- ---- counts of faults
 

@@ -1,6 +1,6 @@
 -- A drive that agrees with its flash is steady: its numbers are those of what stands there.
-use Rattle.std.proofs.Common.{◌≡◌, ◌≢◌, inl, inr, ℕ, ◌+◌, ◌*◌, ◌/◌, ◌<◌, ◌≤◌, refl, sym, ap, subst, ◌∙◌, arith, Bool, true, false, T, List, [], ◌∷◌, ◌++◌, length, map, Option, Some, None, Result, Ok, Err}
-use Rattle.std.specs.Prelude.{slice_get, slice_index_or, count_by, MatchOption, IfSome, OnOk, ◌%◌, ◌&&◌, not}
+use Rattle.std.proofs.Common.{◌≡◌, ◌≢◌, inl, inr, ℕ, ◌+◌, ◌*◌, ◌/◌, ◌<◌, ◌≤◌, refl, sym, ap, subst, ◌∙◌, arith, Bool, true, false, T, List, [], ◌∷◌, ◌++◌, length, map, Option, Some, None}
+use Rattle.std.specs.Prelude.{slice_get, slice_index_or, count_by, MatchOption, IfSome, ◌%◌, ◌&&◌, not}
 use Rattle.std.specs.List.{concat}
 use Rattle.std.proofs.Common.{div-add-mod', mod-lt}
 use Rattle.std.proofs.lemmas.Option.{slice_get_within}
@@ -19,7 +19,7 @@ use Rattle.pk_pin.specs.Frames.{leased_frames}
 use Rattle.pk_pool.specs.declared.state.BlockState.{BlockState}
 use Rattle.pk_pool.specs.declared.state.BlockState.TheVariants.{Root as RootBlock, Free, Ready, Owned}
 use Rattle.pk_nand.specs.Calls.{IsErasedBlock}
-use Rattle.pk_pool.specs.Blocks.{Blocks, IsShared, is_ready, is_owned_by, used_by}
+use Rattle.pk_pool.specs.Blocks.{Blocks, IsShared, is_ready, is_owned_by}
 use Rattle.pk_pool.proofs.States.{ready_is_not_root}
 use Rattle.pk_pool.proofs.Sharing.{behind_roots}
 use Rattle.pk_run.specs.Kept.{Kept, empty}
@@ -35,7 +35,7 @@ use Rattle.pk_data.specs.Laws.{is_for_values}
 use Rattle.pk_data.proofs.Outputs.{no_member, freed, freed_is, used_freed}
 use Rattle.pk_work.specs.Rest.{whole_merge, whole_reclaim}
 use Rattle.pk_schedule.specs.Steps.{backlog_of as backlog_of_index}
-use Rattle.pk_core.proofs.Reclaiming.{reclaim_within}
+use Rattle.pk_parts.proofs.Reclaiming.{reclaim_within}
 use Rattle.pk_data.specs.declared.open_block.OpenBlock.{OpenBlock}
 use Rattle.pk_nand.specs.BoardState.{BoardState}
 use Rattle.pk_nand.specs.Effects.{OnlyFlash}
@@ -48,10 +48,11 @@ use Rattle.pk_schedule.specs.declared.phase.Phase.TheVariants.{Idle, Running, Re
 use Rattle.pk_schedule.specs.Index.{Index, MergeStands, merging}
 use Rattle.pk_schedule.proofs.Backlogs.{index_backlog, four, entries_are}
 use Rattle.pk_drive.specs.Exec.{IsNextMerge}
-use Rattle.pk_core.specs.Parts.{Parts, sight_of, counts_of, block_if_open, frames_of, index_of, outputs_of, backlog_of, is_reclaim_due, reclaim_left}
-use Rattle.pk_core.specs.Agreeing.{DriveOnFlashWith, DriveOnFlash, DriveOnFlashBetween}
+use Rattle.pk_parts.specs.Parts.{Parts, sight_of, counts_of, block_if_open, frames_of, index_of, outputs_of, backlog_of, is_reclaim_due, reclaim_left}
+use Rattle.pk_core.specs.Agreeing.{DriveOnFlashBetween}
+use Rattle.pk_parts.specs.Agreeing.{DriveOnFlashWith, DriveOnFlash}
 use Rattle.pk_core.proofs.Leased.{leased_are}
-use Rattle.pk_core.proofs.Rooming.{entries_some}
+use Rattle.pk_parts.proofs.Rooming.{entries_some}
 use Rattle.pk_core.proofs.Places.{blocks_from, many_blocks, has_state, blocks_differ, block_in, all_in}
 
 -- ---- the blocks that are erased
@@ -257,8 +258,3 @@ pub between_none : (d : Parts) (told : Option Shape) (flash : Flash) → DriveOn
 between_none d told flash a none =
     let some : 0 < page_entries d.log.shape = entries_some d.log.shape (subst IsShape (sym a.with.shape_is) a.with.placed.is_shape) in
     (a, subst (λ (es : List Entry). length es < page_entries d.log.shape) (sym none) some)
-
-pub steadies_ok : {X E : Type 0} (r : Result X E) (e : Parts) (old new : BoardState) (before : Sight) → OnOk r (DriveOnFlash e new.shape new.pages) → OnOk r (e.log.pending ≡ []) → OnlyFlash old new → IsShared e.pool.shape e.pool.states
-    → OnOk r (Steadies old new before (sight_of e))
-steadies_ok (Ok x) e old new before is none rest shared = steadies e old new before (between_none e new.shape new.pages is none) rest shared
-steadies_ok (Err x) e old new before is none rest shared = tt

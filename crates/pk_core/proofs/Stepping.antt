@@ -32,17 +32,19 @@ use Rattle.pk_drive.specs.declared.types.Outcome.{Outcome}
 use Rattle.pk_drive.specs.declared.types.Ticked.{Ticked}
 use Rattle.pk_drive.specs.declared.types.Ticked.TheVariants.{Worked, Idle, Fault}
 use Rattle.pk_model.proofs.Growing.{weaken, weaken_went, at_end, Reaches-then, Goes-then}
-use Rattle.pk_core.specs.Parts.{Parts, sight_of, frames_of}
-use Rattle.pk_core.specs.Agreeing.{DriveOnFlash}
+use Rattle.pk_parts.specs.Parts.{Parts, sight_of, frames_of}
+use Rattle.pk_parts.specs.Agreeing.{DriveOnFlash}
 use Rattle.pk_core.specs.Done.{Does}
 use Rattle.pk_core.specs.Quiet.{eleven}
-use Rattle.pk_core.specs.Staying.{StaysOrFrees}
-use Rattle.pk_core.specs.Ticking.{MayTick, Ticks, HasNoStep, Advances}
+use Rattle.pk_parts.specs.Staying.{StaysOrFrees}
+use Rattle.pk_parts.specs.Ticking.{MayTick, Ticks, HasNoStep, Advances}
 use Rattle.pk_core.specs.Stepping.{has_failed, Steps, outcome_of}
-use Rattle.pk_core.proofs.Unchanging.{for_its_map, same_early, unread_step}
-use Rattle.pk_core.proofs.Staying.{stays_same, stays_frees, frees_then}
-use Rattle.pk_core.proofs.Callings.{few_more, spends_same, spends_within}
-use Rattle.pk_core.proofs.Ticking.{yes_no}
+use Rattle.pk_core.proofs.Unchanging.{same_early, unread_step}
+use Rattle.pk_parts.proofs.Unchanging.{for_its_map}
+use Rattle.pk_core.proofs.Staying.{frees_then}
+use Rattle.pk_parts.proofs.Staying.{stays_same, stays_frees}
+use Rattle.pk_parts.proofs.Callings.{few_more, spends_same, spends_within}
+use Rattle.pk_parts.proofs.Ticking.{yes_no}
 
 -- the drive agrees with its board after so many steps, of which none failed
 pub record Ongoing (first : Parts) (old : BoardState) (d : Parts) (board : BoardState) (made : ℕ) : Type 0 where

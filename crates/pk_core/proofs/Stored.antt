@@ -7,7 +7,7 @@ use Rattle.pk_base.specs.Entry.{Entry, Place}
 use Rattle.pk_base.specs.Key.{Key, key_cmp}
 use Rattle.pk_base.specs.Page.{Flash}
 use Rattle.pk_base.specs.Map.{Map}
-use Rattle.pk_base.specs.Shape.{Shape, IsShape, data_blocks, charge, greatest, page_entries, most_pages}
+use Rattle.pk_base.specs.Shape.{Shape, IsShape, data_blocks, charge, greatest, page_entries}
 use Rattle.pk_plan.specs.declared.owner.Owner.TheVariants.{Values}
 use Rattle.pk_pool.specs.Blocks.{used_by}
 use Rattle.pk_nand.specs.declared.types.Fault.{Fault}
@@ -19,106 +19,36 @@ use Rattle.pk_model.specs.Found.{Found}
 use Rattle.pk_model.specs.Growth.{Reaches, Goes}
 use Rattle.pk_model.specs.Crashes.{CrashFinds, commit, change}
 use Rattle.pk_model.specs.Wear.{roots, is_worn}
-use Rattle.pk_work.specs.Rest.{whole_reclaim}
-use Rattle.pk_work.specs.Calls.{commit_calls, room_calls, room_roots, space_calls}
+use Rattle.pk_work.specs.Calls.{room_calls, space_calls}
 use Rattle.pk_steps.specs.Under.{places}
-use Rattle.pk_gc.specs.declared.course.Phase.{Phase}
-use Rattle.pk_gc.specs.declared.course.Phase.TheVariants.{Idle, Copies, GivesBack}
-use Rattle.pk_gc.specs.Standing.{held_blocks, ReclaimStands}
-use Rattle.pk_gc.specs.Stepping.{runs_in}
 use Rattle.pk_log.specs.State.{needs_freeze}
 use Rattle.pk_data.specs.State.{fits_open}
-use Rattle.pk_core.specs.Costs.{Spends, reclaim_calls}
-use Rattle.pk_core.specs.Parts.{Parts, counts_of}
-use Rattle.pk_core.specs.Agreeing.{DriveOnFlash}
-use Rattle.pk_core.specs.Moves.{StandsFor, MayStep, KeepsAll, BreaksAll, StepKeeps, LeavesValues}
-use Rattle.pk_core.specs.Emptying.{StepOrRead, OnRunning}
-use Rattle.pk_core.specs.Staying.{Stays, StaysFresh, StaysOrOpens}
-use Rattle.pk_core.specs.Quiet.{ReadsOnly, ReadsFailing, Looks}
-use Rattle.pk_core.specs.Changes.{MayPut, CanPut, PutsAll, FailsToPut, PutsOrReads, StaysBetween}
-use Rattle.pk_core.specs.Programming.{PutsQuietly, ReadsNone}
-use Rattle.pk_core.specs.Reclaiming.{CannotRead, is_tight_for}
-use Rattle.pk_core.specs.Spacing.{SameMapAll, MovesOrReads, StaysSame, where_so, needs, steps_for, has_moves, space_left, MaySpace, MayStore, StoresAll, FailsToStore, StoresOrReads, CanStore, store_most}
+use Rattle.pk_parts.specs.Parts.{Parts, counts_of}
+use Rattle.pk_parts.specs.Agreeing.{DriveOnFlash}
+use Rattle.pk_parts.specs.Moves.{StandsFor, KeepsAll, BreaksAll}
+use Rattle.pk_parts.specs.Emptying.{StepOrRead, OnRunning}
+use Rattle.pk_parts.specs.Staying.{StaysFresh, StaysOrOpens}
+use Rattle.pk_parts.specs.Quiet.{ReadsOnly, ReadsFailing, Looks}
+use Rattle.pk_parts.specs.Changes.{MayPut, CanPut, PutsAll, FailsToPut, PutsOrReads, StaysBetween}
+use Rattle.pk_core.specs.Programming.{ReadsNone}
+use Rattle.pk_parts.specs.Programming.{PutsQuietly}
+use Rattle.pk_parts.specs.Reclaiming.{CannotRead}
+use Rattle.pk_core.specs.Spacing.{MayStore, StoresAll, FailsToStore, StoresOrReads, CanStore, store_most}
+use Rattle.pk_parts.specs.Spacing.{SameMapAll, MovesOrReads, StaysSame, needs}
 use Rattle.pk_core.proofs.Amounts.{store_few, numbers_last}
-use Rattle.pk_core.proofs.Changing.{kept_goes}
-use Rattle.pk_core.proofs.Callings.{spends_then}
-use Rattle.pk_core.proofs.Emptied.{keeps_reads, passes_keeps}
-use Rattle.pk_core.proofs.Keeping.{board_has}
-use Rattle.pk_core.proofs.Putting.{later_reaches, later_goes}
-use Rattle.pk_core.proofs.ReadSteps.{Passes, passes_none, reading_then, reading_failed, running_says}
-use Rattle.pk_core.proofs.Reclaiming.{reclaim_within}
-use Rattle.pk_core.proofs.Rooming.{entries_some}
-use Rattle.pk_core.proofs.SameMaps.{same_of, same_unread, moves_later, moves_kept, moves_failed, passes_moved, SameMapAll-then, stays_both}
-use Rattle.pk_core.proofs.SpaceSteps.{wanted_full, values_stay}
-use Rattle.pk_core.proofs.Standing.{found_once, agrees_so}
-use Rattle.pk_core.proofs.Staying.{fresh_then}
-use Rattle.pk_core.proofs.Steps.{may_after}
+use Rattle.pk_parts.proofs.Changing.{kept_goes}
+use Rattle.pk_parts.proofs.Keeping.{board_has}
+use Rattle.pk_parts.proofs.Putting.{later_reaches, later_goes}
+use Rattle.pk_parts.proofs.ReadSteps.{Passes, passes_none, reading_then, reading_failed, running_says}
+use Rattle.pk_parts.proofs.Rooming.{entries_some}
+use Rattle.pk_parts.proofs.SameMaps.{same_of, same_unread, passes_moved, SameMapAll-then}
+use Rattle.pk_parts.proofs.SpaceSteps.{wanted_full}
+use Rattle.pk_parts.proofs.Standing.{found_once, agrees_so}
+use Rattle.pk_parts.proofs.Staying.{fresh_then}
+use Rattle.pk_parts.proofs.Stored.{blocks_most, blocks_at}
 
 true_false : true ≡ false → ⊥
 true_false e = cc
-
--- ---- how much the reclaims take
-
-where_few : (b : Bool) (n : ℕ) → where_so b n ≤ n
-where_few true n = omega arith
-where_few false n = omega arith
-
-steps_most : (p : Phase) (count : ℕ) (d : Parts) (flash : Flash) (es : List (Key × Place)) → ReclaimStands p d.log.shape d.reclaim d.space.live flash es → steps_for p count d ≤ whole_reclaim d.log.shape
-steps_most Idle count d flash es stands = let few = where_few (needs count d) (whole_reclaim d.log.shape - 1) in omega (arith, few)
-steps_most (Copies c) count d flash es stands = let few = reclaim_within (Copies c) d.log.shape true d.reclaim d.space.live flash es stands in omega (arith, few)
-steps_most (GivesBack victim) count d flash es stands = let few = where_few (needs count d) (whole_reclaim d.log.shape - 1) in omega (arith, few)
-
-space_within : (count : ℕ) (d : Parts) (board : BoardState) → MayStep d board → space_left count d ≤ whole_reclaim d.log.shape + room_calls d.log.shape
-space_within count d board may =
-    let there = may.stands.1 in
-    let steps = steps_most d.reclaim.phase count d board.pages (places there.found d.log.pending) there.with.reclaim.stands in
-    let room = where_few (has_moves d.reclaim.phase count d && is_tight_for d) (room_calls d.log.shape) in
-    omega (arith, steps, room)
-
-space_most : (count : ℕ) (d : Parts) (board : BoardState) → MayStep d board → space_left count d + 1 ≤ space_calls d.log.shape
-space_most count d board may = let within = space_within count d board may in omega (arith, within)
-
--- ---- behind a commit
-
-module _ (count : ℕ) (a b : Parts) (s0 s1 : BoardState) (may : MayStep a s0) (same : b.log.shape ≡ a.log.shape) (step : StepKeeps {T = Unit {0}} a b 0 s0 s1 (Ok tt)) where
-  may_committed : MayStep b s1
-  may_committed = may_after a b 0 s0 s1 tt may same step
-
-  calls_same : space_calls b.log.shape ≡ space_calls a.log.shape
-  calls_same = ap (λ (s : Shape). space_calls s) same
-
-  pub space_committed : b.log.pending ≡ [] → roots s0 + space_calls a.log.shape < 18446744073709551615 → MaySpace count b s1
-  space_committed none number = record {
-    may = may_committed;
-    none_pending = none;
-    number = (
-        let most = space_most count b s1 may_committed in
-        let calls = calls_same in
-        let roots_same = step.roots_few in
-        omega (arith, number, most, calls, roots_same));
-  }
-
-  pub space_made : (r : Result Unit Fault) (c : Parts) (s2 : BoardState) → MovesOrReads b c (space_left count b) s1 s2 r → MovesOrReads a c (space_calls a.log.shape) s0 s2 r
-  space_made r c s2 second =
-      let most = space_most count b s1 may_committed in
-      let calls = calls_same in
-      moves_later r a b c 0 (space_left count b) (space_calls a.log.shape) s0 s1 s2 may.ready same (omega (arith, most, calls)) (same_of a b s0 s1 step.ended) (passes_keeps tt a b 0 s0 s1 step) second
-
-  -- a commit, and these
-  pub space_spends : (s2 : BoardState) → Spends commit_calls 0 s0 s1 → Spends (space_left count b) room_roots s1 s2 → Spends (reclaim_calls a.log.shape) room_roots s0 s2
-  space_spends s2 first second =
-      let most = space_within count b s1 may_committed in
-      let calls : reclaim_calls b.log.shape ≡ reclaim_calls a.log.shape = ap (λ (s : Shape). reclaim_calls s) same in
-      spends_then commit_calls (space_left count b) (reclaim_calls a.log.shape) 0 room_roots room_roots s0 s1 s2 (omega (arith, most, calls)) (omega arith) first second
-
-pub space_not_made : (e : Fault) (a b : Parts) (s0 s1 : BoardState) → StepKeeps {T = Unit {0}} a b 0 s0 s1 (Err e) → MovesOrReads {T = Unit {0}} a b (space_calls a.log.shape) s0 s1 (Err e)
-space_not_made e a b s0 s1 step = moves_failed e a b 0 (space_calls a.log.shape) s0 s1 (omega arith) (moves_kept (Err e) a b 0 s0 s1 (keeps_reads (Err e) a b 0 s0 s1 step))
-
-pub stays_made : (r : Result Unit Fault) (a b c : Parts) → LeavesValues a b → Stays a b → OnRunning (StaysSame b c) r → OnRunning (StaysSame a c) r
-stays_made r a b c leaves stays second = running_says (StaysSame b c) (StaysSame a c) r (stays_both a b c (values_stay a b leaves stays)) second
-
-pub most_committed : (count : ℕ) (a b : Parts) → b.log.shape ≡ a.log.shape → count ≤ most_pages a.log.shape → count ≤ most_pages b.log.shape
-most_committed count a b same most = subst (λ (s : Shape). count ≤ most_pages s) (sym same) most
 
 -- ---- a look-up finds the former value
 
@@ -313,14 +243,6 @@ pub fresh_failed : (e : Fault) (a b : Parts) → OnRunning {T = Unit {0}} (Stays
 fresh_failed e a b same = running_says {T = Unit {0}} (StaysSame a b) (StaysFresh a b) (Err e) (λ is. is.fresh) same
 
 -- ---- no more blocks are in use
-
-pub blocks_most : (d : Parts) (shape : Shape) (flash : Flash) (m : Map) → StandsFor d shape flash m → (counts_of d).blocks ≤ data_blocks shape - 1
-blocks_most d shape flash m stands = let few = stands.with.placed.few in omega (arith, few)
-
-pub blocks_at : (p : Phase) (used all : ℕ) → all - 1 ≤ used → (runs_in p ≡ true → used ≡ all) → all - 1 ≤ used - length (held_blocks p)
-blocks_at Idle used all least full = omega (arith, least)
-blocks_at (Copies c) used all least full = let same = full refl in omega (arith, same)
-blocks_at (GivesBack victim) used all least full = let same = full refl in omega (arith, same)
 
 blocks_least : (d : Parts) (flash : Flash) (m : Map) (count : ℕ) → StandsFor d d.log.shape flash m → needs count d ≡ true → data_blocks d.log.shape - 1 ≤ (counts_of d).blocks
 blocks_least d flash m count stands wanted = blocks_at d.reclaim.phase (used_by Values d.pool.states) (data_blocks d.log.shape) (wanted_full d count wanted) stands.with.reclaim.full

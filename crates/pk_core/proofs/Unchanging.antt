@@ -1,6 +1,6 @@
 -- Commands that only read: what they leave of the board, and what they answer.
-use Rattle.std.proofs.Common.{◌≡◌, ◌≢◌, inl, inr, ℕ, zero, suc, ◌+◌, ◌-◌, ◌<◌, ◌≤◌, refl, sym, ap, subst, ◌∙◌, arith, min, cond, List, [], ◌∷◌, length, take, true, false, Option, Some, None, Ok, Result, unwrap_or}
-use Rattle.std.specs.Prelude.{is_some, OnOk, OnErr, Err}
+use Rattle.std.proofs.Common.{◌≡◌, ◌≢◌, inl, inr, ℕ, ◌+◌, ◌-◌, ◌≤◌, refl, sym, ap, subst, ◌∙◌, arith, min, cond, List, [], ◌∷◌, length, take, true, false, Option, Some, None, unwrap_or}
+use Rattle.std.specs.Prelude.{is_some}
 use Rattle.std.proofs.lemmas.List.{take_min}
 use Rattle.std.specs.List.{AllByRecursion, flat_map}
 use Rattle.pk_base.specs.Fields.{u32}
@@ -9,7 +9,7 @@ use Rattle.std.specs.FinMap.{get}
 use Rattle.std.specs.FinMap.Entries.{find}
 use Rattle.pk_base.specs.Key.{Key, IsKey, key_cmp}
 use Rattle.pk_base.specs.Shape.{Shape, IsShape, limit, greatest, pinned, fetched}
-use Rattle.pk_base.specs.Page.{Flash, IsFlash, page_at}
+use Rattle.pk_base.specs.Page.{Flash, page_at}
 use Rattle.pk_base.proofs.ShapeLemmas.{fetched_charge, charge_most}
 use Rattle.pk_base.specs.Entry.{Place}
 use Rattle.pk_base.specs.EntryBytes.{IsPlace}
@@ -24,80 +24,31 @@ use Rattle.pk_segfmt.proofs.StoredLemmas.{value_found}
 use Rattle.pk_seg.specs.Stored.{IsFront}
 use Rattle.pk_seg.specs.Counts.{ReadsFailed}
 use Rattle.pk_nand.specs.BoardState.{BoardState}
-use Rattle.pk_nand.specs.Calls.{Rose, counted, last_count, ReadFailed, IsReady}
-use Rattle.pk_nand.specs.Erased.{counted_by, after_reads}
+use Rattle.pk_nand.specs.Calls.{last_count}
+use Rattle.pk_nand.specs.Erased.{after_reads}
 use Rattle.pk_nand.proofs.Reaching.{Reached-start}
-use Rattle.pk_level.specs.Levels.{ReadsUpTo, ReadFailsWithin}
 use Rattle.pk_nvme.specs.Opcode.{op_of}
 use Rattle.pk_nvme.specs.declared.opcode.Opcode.{Opcode}
 use Rattle.pk_nvme.specs.declared.opcode.Opcode.TheVariants.{Flush, Retrieve, Exist, Report}
 use Rattle.pk_model.specs.Answer.{early, fault_of, late_of, success, reply_of, check, effect}
 use Rattle.pk_model.specs.Bounds.{most_reads, most_reads_of}
 use Rattle.pk_model.specs.Found.{Found}
-use Rattle.pk_model.specs.Reading.{reading}
 use Rattle.pk_model.specs.Run.{Step}
 use Rattle.pk_model.specs.Sight.{Sight, Counts}
-use Rattle.pk_model.proofs.Answering.{refuses_late, serves, IsKeyLength, key_sized}
+use Rattle.pk_model.proofs.Answering.{refuses_late, serves}
 use Rattle.pk_steps.specs.Under.{places}
-use Rattle.pk_steps.proofs.Untouched.{under_reads}
 use Rattle.pk_drive.specs.Drive.{HoldsMap, CountsMap}
 use Rattle.pk_drive.specs.Seen.{reply_of as shown}
 use Rattle.pk_drive.specs.declared.types.Outcome.{Outcome}
 use Rattle.pk_drive.specs.Exec.{report_of}
 use Rattle.pk_model.specs.Crashes.{CrashFinds, command}
-use Rattle.pk_core.specs.Parts.{Parts, sight_of, frames_of}
-use Rattle.pk_core.specs.Agreeing.{DriveOnFlashWith, DriveOnFlash}
-use Rattle.pk_core.specs.Finding.{IsPlaceIn}
+use Rattle.pk_parts.specs.Parts.{Parts, sight_of, frames_of}
+use Rattle.pk_parts.specs.Agreeing.{DriveOnFlashWith, DriveOnFlash}
+use Rattle.pk_parts.specs.Finding.{IsPlaceIn}
 use Rattle.pk_core.specs.Done.{Does}
-use Rattle.pk_core.specs.Quiet.{ReadsOnly, ReadsFailing, Looks, ValueThere, eleven}
-
--- ---- the board
-
-pub counted_by-min : (k n : ℕ) → n ≤ last_count → counted_by k n ≡ min (n + k) last_count
-counted_by-min zero n few = omega (arith, few)
-counted_by-min (suc k) n few = ap counted (counted_by-min k n few) ∙ omega (arith, few)
-
-pub reads_none : (old : BoardState) → old.reads ≤ last_count → ReadsOnly old old 0
-reads_none old few = record { board = refl; few = few; up = omega arith; within = omega arith }
-
--- some more reads
-pub reads_more : (old mid new : BoardState) (most k : ℕ) → ReadsOnly old mid most → new ≡ after_reads k mid → ReadsOnly old new (most + k)
-reads_more old mid new most k before made =
-    let few' = before.few in
-    let count : new.reads ≡ min (mid.reads + k) last_count = ap (λ b. b.reads) made ∙ counted_by-min k mid.reads few' in
-    let T : BoardState → Type 0 = λ b. record b { reads = new.reads } ≡ record old { reads = new.reads } in
-    let same : record mid { reads = new.reads } ≡ record old { reads = new.reads } = subst T (sym before.board) refl in
-    let U : ℕ → Type 0 = λ n. new ≡ record mid { reads = n } in
-    let whole : new ≡ record mid { reads = new.reads } = subst U (sym (ap (λ b. b.reads) made)) made in
-    let up = before.up in
-    let within = before.within in
-    record { board = whole ∙ same; few = omega (arith, count); up = omega (arith, count, up, few'); within = omega (arith, count, within) }
-
--- a read behind some more fails
-pub reads_break : (old mid new : BoardState) (most k n at : ℕ) → ReadsOnly old mid most → k < n → ReadFailed (after_reads k mid) new at → ReadsFailing old new (most + n)
-reads_break old mid new most k n at before less failed =
-    let few' = before.few in
-    let count : new.reads ≡ min (mid.reads + suc k) last_count = ap (λ b. b.reads) failed.rest ∙ counted_by-min (suc k) mid.reads few' in
-    let up = before.up in
-    let within = before.within in
-    let S : BoardState → Type 0 = λ b. new ≡ record b { reads = new.reads; flash_faults = new.flash_faults; read_faults = new.read_faults; failed_at = new.failed_at } in
-    let behind : S mid = broken mid new k at failed in
-    let base : S (record old { reads = mid.reads }) = subst S before.board behind in
-    let same_faults : mid.read_faults ≡ old.read_faults = ap (λ b. b.read_faults) before.board in
-    let same_flash : mid.flash_faults ≡ old.flash_faults = ap (λ b. b.flash_faults) before.board in
-    record {
-      board = base;
-      few = omega (arith, count);
-      up = omega (arith, count, up, few');
-      within = omega (arith, count, within, less);
-      rose = subst (λ f. Rose f new.read_faults) same_faults failed.read;
-      flash = subst (λ f. Rose f new.flash_faults) same_flash failed.flash;
-    }
-  where
-    broken : (mid new : BoardState) (k at : ℕ) → ReadFailed (after_reads k mid) new at → new ≡ record mid { reads = new.reads; flash_faults = new.flash_faults; read_faults = new.read_faults; failed_at = new.failed_at }
-    broken mid new k at failed =
-        failed.rest
-        ∙ (λ i. record mid { reads = ap (λ b. b.reads) (sym failed.rest) i; flash_faults = new.flash_faults; read_faults = new.read_faults; failed_at = ap (λ b. b.failed_at) (sym failed.rest) i })
+use Rattle.pk_core.specs.Quiet.{ValueThere, eleven}
+use Rattle.pk_parts.specs.Quiet.{ReadsOnly, ReadsFailing, Looks}
+use Rattle.pk_parts.proofs.Unchanging.{reads_more, reads_break, own, for_its_map, looked}
 
 -- ---- the clauses of a command that only reads
 
@@ -157,34 +108,6 @@ does_unread old new s c most reads few few' faults made is answers =
       no_stop = λ _. refl;
       installs = omega arith;
     })
-
--- ---- the map of a drive
-
-same_some : (a b : Shape) → ◌≡◌ {A = Option Shape} (Some a) (Some b) → a ≡ b
-same_some a b e = cc
-
-pub same_ok : {E : Type 0} (x y : Map) → ◌≡◌ {A = Result Map E} (Ok x) (Ok y) → x ≡ y
-same_ok x y e = cc
-
-module _ (d : Parts) (board : BoardState) (a : DriveOnFlash d board.shape board.pages) where
-  pub own : DriveOnFlashWith d d.log.shape board.pages a.top a.found a.without a.all
-  own = subst (λ s. DriveOnFlashWith d s board.pages a.top a.found a.without a.all) (sym a.with.shape_is) a.with
-
-  -- what holds of its one map holds of every map that it stands for
-  pub for_its_map : (P : Shape → ℕ → Map → Type 0) → P d.log.shape (frames_of d) a.all → (shape : Shape) (frames : ℕ) (m : Map) → HoldsMap shape frames board (sight_of d) m → P shape frames m
-  for_its_map P here shape frames m st =
-      let same_shape : d.log.shape ≡ shape = a.with.shape_is ∙ same_some a.shape shape (sym a.told_is ∙ st.shape_is) in
-      let read = under_reads d.log.shape board.pages d.log.pending a.top a.found a.all own.pending in
-      let Q : Shape → Type 0 = λ s. P s frames m in
-      let R : ℕ → Type 0 = λ f. P d.log.shape f m in
-      let S : Map → Type 0 = λ x. P d.log.shape (frames_of d) x in
-      let U : Shape → Type 0 = λ s. reading s board.pages d.log.pending ≡ Ok m in
-      let same_map : a.all ≡ m = same_ok a.all m (sym read ∙ subst U (sym same_shape) st.map_is) in
-      subst Q same_shape (subst R st.frames_is (subst S same_map here))
-
-  -- what a look-up says of this map
-  pub looked : (k : Key) (p : Option Place) → Looks d board.pages k p → IsPlaceIn d.log.shape board.pages a.found d.log.pending a.all k p
-  looked k p looks = looks a.top a.found a.all own.index.logs own.index.stand own.pending
 
 -- ---- the value at a place
 
@@ -273,22 +196,6 @@ module _ (shape : Shape) (frames : ℕ) (m : Map) (c : Command) (passed : early 
       by_value None = omega arith
       by_value (Some v) = omega arith
 
--- ---- what a look-up read
-
-less_reads : (old new : BoardState) (n k : ℕ) → n ≤ k → ReadsOnly old new n → ReadsOnly old new k
-less_reads old new n k less r = record { board = r.board; few = r.few; up = r.up; within = (let w = r.within in omega (arith, less, w)) }
-
-less_failing : (old new : BoardState) (n k : ℕ) → n ≤ k → ReadsFailing old new n → ReadsFailing old new k
-less_failing old new n k less r = record { board = r.board; few = r.few; up = r.up; within = (let w = r.within in omega (arith, less, w)); rose = r.rose; flash = r.flash }
-
-pub looked_reads : {X Y : Type 0} (r : Result X Y) (old new : BoardState) (n p : ℕ) → old.reads ≤ last_count → n + p ≤ 4 → OnOk r (ReadsUpTo n old new) → OnOk r (ReadsOnly old new (4 - p))
-looked_reads (Ok x) old new n p few least (k, most, made) = less_reads old new (0 + k) (4 - p) (omega (arith, most, least)) (reads_more old old new 0 k (reads_none old few) made)
-looked_reads (Err y) old new n p few least made = tt
-
-pub looked_failing : {X Y : Type 0} (r : Result X Y) (old new : BoardState) (n p : ℕ) → old.reads ≤ last_count → n + p ≤ 4 → OnErr r (ReadFailsWithin n old new) → OnErr r (ReadsFailing old new (4 - p))
-looked_failing (Ok x) old new n p few least made = tt
-looked_failing (Err y) old new n p few least (k, at, less, failed) = less_failing old new (0 + n) (4 - p) (omega (arith, least)) (reads_break old old new 0 k n at (reads_none old few) less failed)
-
 -- ---- pages of a value
 
 pub few_fetched : (shape : Shape) (n : ℕ) → IsShape shape → n ≤ greatest shape → fetched shape n ≤ 64
@@ -299,19 +206,6 @@ few_fetched shape n is short =
     omega (arith, few, most, block)
 
 -- ---- the answers of commands that look a key up
-
-pub agrees_ready : (d : Parts) (board : BoardState) → DriveOnFlash d board.shape board.pages → IsReady board d.log.shape
-agrees_ready d board a = record { shape_is = a.told_is ∙ ap (λ s. Some s) (sym a.with.shape_is); flash = subst (λ s. IsFlash s board.pages) (sym a.with.shape_is) a.with.is_flash }
-
-pub agrees_same : (d d' : Parts) (told told' : Option Shape) (flash flash' : Flash) → d' ≡ d → told' ≡ told → flash' ≡ flash → DriveOnFlash d told flash → DriveOnFlash d' told' flash'
-agrees_same d d' told told' flash flash' e f g a =
-    subst (λ x. DriveOnFlash x told' flash') (sym e) (subst (λ x. DriveOnFlash d x flash') (sym f) (subst (λ x. DriveOnFlash d told x) (sym g) a))
-
-pub exist_keyed : (shape : Shape) (r : Request) → r.opcode ≡ 0x14 → early shape (command_of r []) ≡ None → IsKeyLength r.key_len
-exist_keyed shape r is passed = key_sized shape (command_of r []) Exist (λ n. refl) (ap op_of is) passed
-
-pub retrieve_keyed : (shape : Shape) (r : Request) → r.opcode ≡ 0x02 → early shape (command_of r []) ≡ None → IsKeyLength r.key_len
-retrieve_keyed shape r is passed = key_sized shape (command_of r []) Retrieve (λ n. refl) (ap op_of is) passed
 
 pub ok_sound : ◌≡◌ {A = ℕ} 0 0x88 → ⊥
 ok_sound e = cc

@@ -14,7 +14,7 @@ use Rattle.pk_drive.specs.declared.types.Outcome.{Outcome}
 use Rattle.pk_model.specs.Crashes.{command}
 use Rattle.pk_drive.specs.Call.{CallReaches, CallGoes}
 use Rattle.pk_drive.specs.Exec.{ExecStands, most_installs}
-use Rattle.pk_core.specs.Parts.{Parts, sight_of}
+use Rattle.pk_parts.specs.Parts.{Parts, sight_of}
 use Rattle.pk_core.specs.Agreeing.{DriveOnFlashBetween}
 
 -- A command gave this reply behind so many reads, or stopped the drive; drive and board are then what the contract of a drive wants.

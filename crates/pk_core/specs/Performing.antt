@@ -12,8 +12,8 @@ use Rattle.pk_drive.specs.Exec.{report_of}
 use Rattle.pk_drive.specs.Calling.{FewCalls, most_calls_of, only_looks}
 use Rattle.pk_drive.specs.Settling.{may_raise}
 use Rattle.pk_drive.specs.declared.types.Outcome.{Outcome}
-use Rattle.pk_core.specs.Parts.{Parts, counts_of, sight_of}
-use Rattle.pk_core.specs.Staying.{StaysFresh, Stays, StaysOrOpens, IsNoted}
+use Rattle.pk_parts.specs.Parts.{Parts, counts_of, sight_of}
+use Rattle.pk_parts.specs.Staying.{StaysFresh, Stays, StaysOrOpens, IsNoted}
 use Rattle.pk_core.specs.Programming.{QuietStore, QuietDelete}
 use Rattle.pk_core.specs.Stepping.{Lessens}
 

@@ -12,8 +12,8 @@ use Rattle.pk_nand.specs.Calls.{last_count}
 use Rattle.pk_model.specs.Answer.{early}
 use Rattle.pk_model.specs.Wear.{is_worn}
 use Rattle.pk_drive.specs.declared.types.Outcome.{Outcome}
-use Rattle.pk_core.specs.Parts.{Parts}
-use Rattle.pk_core.specs.Agreeing.{DriveOnFlash}
+use Rattle.pk_parts.specs.Parts.{Parts}
+use Rattle.pk_parts.specs.Agreeing.{DriveOnFlash}
 
 -- The drive stands for its board, runs and is not worn out, and the request passed the checks that read it alone.
 pub record IsServable (d : Parts) (board : BoardState) (r : Request) : Type 0 where

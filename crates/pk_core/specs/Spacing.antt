@@ -1,5 +1,5 @@
--- Space for a value: steps of reclaims until it has room, of which one may fail by a read.
-use Rattle.std.specs.Prelude.{◌≡◌, ◌⊎◌, ℕ, ◌+◌, ◌-◌, ◌≤◌, ◌<◌, List, [], length, Bool, true, false, ◌&&◌, Result, Ok, OnOk}
+-- A value is stored, wherever the former one of its key stands.
+use Rattle.std.specs.Prelude.{ℕ, ◌+◌, ◌≤◌, ◌<◌, List, length, Result}
 use Rattle.std.specs.FinMap.{insert}
 use Rattle.pk_base.specs.Fields.{AreBytes}
 use Rattle.pk_base.specs.Key.{Key}
@@ -9,103 +9,14 @@ use Rattle.pk_base.specs.Map.{Map, live}
 use Rattle.pk_nand.specs.declared.types.Fault.{Fault}
 use Rattle.pk_nand.specs.BoardState.{BoardState}
 use Rattle.pk_nand.specs.Calls.{IsReady}
-use Rattle.pk_work.specs.Rest.{whole_reclaim}
-use Rattle.pk_work.specs.Calls.{room_calls, room_roots, space_calls}
-use Rattle.pk_model.specs.Wear.{roots}
-use Rattle.pk_model.specs.Reading.{reading}
-use Rattle.pk_model.specs.Growth.{Reaches, Goes}
-use Rattle.pk_model.specs.Crashes.{CrashFinds, commit, change}
-use Rattle.pk_gc.specs.declared.course.Phase.{Phase}
-use Rattle.pk_gc.specs.declared.course.Phase.TheVariants.{Idle, Copies, GivesBack}
-use Rattle.pk_gc.specs.State.{steps_left}
-use Rattle.pk_gc.specs.Stepping.{runs_in}
-use Rattle.pk_data.specs.State.{needs_reclaim}
-use Rattle.pk_core.specs.Costs.{Spends}
-use Rattle.pk_core.specs.Parts.{Parts, frames_of}
-use Rattle.pk_core.specs.Moves.{StandsFor, MayStep, BreaksAll}
-use Rattle.pk_core.specs.Changes.{Changes}
-use Rattle.pk_core.specs.Emptying.{StepOrRead, OnRunning}
-use Rattle.pk_core.specs.Staying.{StaysFresh}
-use Rattle.pk_core.specs.Reclaiming.{is_tight_for}
-
--- ---- steps that keep the map
-
--- The map with the pending entries is the same, though its values may stand elsewhere. The flash holds what it held, or that map; and so
--- it does at every cut.
-pub record SameMap (after : Parts) (shape : Shape) (m : Map) (old new : BoardState) : Type 0 where
-  pub stands : StandsFor after shape new.pages m
-  pub still : (reading shape new.pages [] ≡ reading shape old.pages []) ⊎ (reading shape new.pages [] ≡ Ok m)
-  pub cuts : Reaches shape old new (CrashFinds shape commit old.pages m)
-
--- for every map for which the drive stood
-abbrev pub SameMapAll : Parts → Parts → BoardState → BoardState → Type 0
-SameMapAll before after old new = (shape : Shape) (m : Map) → StandsFor before shape old.pages m → SameMap after shape m old new
-
--- steps that keep it, also where a read failed
-abbrev pub MovesOrReads : {T : Type 0} → Parts → Parts → ℕ → BoardState → BoardState → Result T Fault → Type 0
-MovesOrReads {T} before after most old new result =
-    StepOrRead (λ (x : T). SameMapAll before after old new) (SameMapAll before after old new) (BreaksAll before old new) before.log.shape most old new result
-
--- What stays of a drive beside the map and where its values stand.
-pub record StaysSame (before after : Parts) : Type 0 where
-  pub frames : frames_of after ≡ frames_of before
-  pub stopped : after.stopped ≡ before.stopped
-  pub same_shape : after.log.shape ≡ before.log.shape
-  pub fresh : StaysFresh before after
-
--- ---- what is left
-
--- so much where it is so
-abbrev pub where_so : Bool → ℕ → ℕ
-where_so true n = n
-where_so false n = 0
-
--- a value of so many pages has no room without a reclaim
-abbrev pub needs : ℕ → Parts → Bool
-needs count d = needs_reclaim d.log.shape d.space d.pool count
-
--- how many steps of reclaims are left at most until none runs and such a value has room; one that is to begin takes fewer than the whole
-abbrev pub steps_for : Phase → ℕ → Parts → ℕ
-steps_for Idle count d = where_so (needs count d) (whole_reclaim d.log.shape - 1)
-steps_for (Copies c) count d = steps_left d.log.shape d.space.live.heads c
-steps_for (GivesBack victim) count d = 1 + where_so (needs count d) (whole_reclaim d.log.shape - 1)
-
--- moves are to be committed before that
-abbrev pub has_moves : Phase → ℕ → Parts → Bool
-has_moves Idle count d = needs count d
-has_moves (Copies c) count d = true
-has_moves (GivesBack victim) count d = needs count d
-
--- how many calls may be left at most: these steps, and where the moves may find no room, merges and a freeze
-abbrev pub space_left : ℕ → Parts → ℕ
-space_left count d =
-    steps_for d.reclaim.phase count d + where_so (has_moves d.reclaim.phase count d && is_tight_for d) (room_calls d.log.shape)
-
--- and how many roots: those of the merges and the freeze
-abbrev pub space_roots : ℕ → Parts → ℕ
-space_roots count d = where_so (has_moves d.reclaim.phase count d && is_tight_for d) room_roots
-
--- a reclaim runs, or is to run
-abbrev pub Awaits : ℕ → Parts → Type 0
-Awaits count d = (runs_in d.reclaim.phase ≡ true) ⊎ (needs count d ≡ true)
-
--- what a step of these asks: nothing is pending, and the numbers of roots last
-pub record MaySpace (count : ℕ) (d : Parts) (board : BoardState) : Type 0 where
-  pub may : MayStep d board
-  pub none_pending : d.log.pending ≡ []
-  pub number : roots board + space_left count d < 18446744073709551615
-
--- One was made by so many calls of the board, and less is left; or a call of it failed.
-pub record SpacesOnce (count : ℕ) (before after : Parts) (old new : BoardState) (result : Result Unit Fault) : Type 0 where
-  pub made : ℕ
-  pub some : 1 ≤ made
-  pub step : MovesOrReads before after made old new result
-  pub spends : Spends made (space_roots count before) old new
-  pub within : made ≤ space_left count before
-  pub left : OnOk result (made + space_left count after ≤ space_left count before)
-  pub roots_left : OnOk result (roots new + space_roots count after ≤ roots old + space_roots count before)
-  pub none_pending : OnRunning (after.log.pending ≡ []) result
-  pub stays : OnRunning (StaysSame before after) result
+use Rattle.pk_work.specs.Calls.{room_calls, space_calls}
+use Rattle.pk_model.specs.Growth.{Goes}
+use Rattle.pk_model.specs.Crashes.{CrashFinds, change}
+use Rattle.pk_parts.specs.Parts.{Parts}
+use Rattle.pk_parts.specs.Moves.{StandsFor}
+use Rattle.pk_parts.specs.Changes.{Changes}
+use Rattle.pk_parts.specs.Emptying.{StepOrRead}
+use Rattle.pk_parts.specs.Spacing.{SameMapAll}
 
 -- ---- a value is stored, wherever the former one of its key stands
 

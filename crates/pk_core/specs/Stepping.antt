@@ -11,9 +11,9 @@ use Rattle.pk_drive.specs.Seen.{stopped_by}
 use Rattle.pk_drive.specs.declared.types.Ticked.{Ticked}
 use Rattle.pk_drive.specs.declared.types.Ticked.TheVariants.{Worked, Idle, Fault}
 use Rattle.pk_drive.specs.declared.types.Outcome.{Outcome}
-use Rattle.pk_core.specs.Costs.{Spends}
-use Rattle.pk_core.specs.Parts.{Parts, sight_of}
-use Rattle.pk_core.specs.Ticking.{HasNoStep}
+use Rattle.pk_parts.specs.Costs.{Spends}
+use Rattle.pk_parts.specs.Parts.{Parts, sight_of}
+use Rattle.pk_parts.specs.Ticking.{HasNoStep}
 
 -- a call of the flash failed
 abbrev pub has_failed : Ticked → Bool

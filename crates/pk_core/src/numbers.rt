@@ -2,21 +2,18 @@
 ghost use Rattle.std.specs.Prelude.{◌≡◌, ◌≤◌, length, take, false};
 ghost use Rattle.pk_drive.specs.Exec.{report_of};
 ghost use Rattle.pk_drive.specs.Seen.{counts_of};
-ghost use Rattle.pk_gc.specs.Standing.{held_blocks};
-ghost use Rattle.pk_core.specs.Parts as spec;
+ghost use Rattle.pk_parts.specs.Parts as spec;
 ghost use Rattle.pk_core.specs.Quiet.{DoneWithout};
 ghost use Rattle.pk_nvme.specs.declared.status.TheConstants.{SUCCESSFUL_COMPLETION};
 ghost use Rattle.pk_nvme.specs.declared.opcode.TheConstants.{REPORT};
 
-use crate::drive::Drive;
 use crate::quiet::served;
 use pk_base::put_u32;
-use pk_drive::{Counts, Engine, Outcome};
-use pk_gc::Phase;
-use pk_plan::Owner;
+use pk_drive::{Counts, Outcome};
+use pk_parts::Parts;
 use pk_region::Region;
 
-/// Writes the sixteen numbers in their order.
+// Writes the sixteen numbers in their order.
 fn put_counts(counts: &Counts, into: &mut [u8])
     requires { 64 ≤ length into.old }
     ensures bytes { take 64 into.new ≡ report_of (counts_of counts.now) }
@@ -45,37 +42,15 @@ fn put_counts(counts: &Counts, into: &mut [u8])
     }
 }
 
-/// How many blocks a reclaim holds for values.
-fn held_count(phase: Phase) -> u32
-    ensures { result ≡ length (held_blocks phase) }
+/// Writes the numbers of a Report.
+pub(crate) fn report<A: Region>(parts: &Parts<A>, into: &mut [u8]) -> Outcome
+    requires room { 64 ≤ length into.old }
+    ensures does { DoneWithout parts.now REPORT result into.new }
+    ensures told { (result.status ≡ SUCCESSFUL_COMPLETION) × (result.stopped ≡ false) }
+    ensures bytes { take result.data_len into.new ≡ report_of (spec.counts_of parts.now) }
+    ensures fits { result.data_len ≤ length into.new }
+    ensures len { length into.new ≡ length into.old }
 {
-    match phase {
-        Phase::Idle => 0,
-        Phase::Copies(_) => 1,
-        Phase::GivesBack(_) => 1,
-    }
-}
-
-impl<A: Region> Drive<A> {
-    /// How many data blocks are in use, but for the one that a reclaim holds.
-    pub(crate) fn used_blocks(&self) -> u32
-        ensures { result ≡ (spec.counts_of self.now).blocks }
-    {
-        self.pool
-            .used(Owner::Values)
-            .saturating_sub(held_count(self.reclaim.phase()))
-    }
-
-    /// Writes the numbers of a Report.
-    pub(crate) fn report(&self, into: &mut [u8]) -> Outcome
-        requires room { 64 ≤ length into.old }
-        ensures does { DoneWithout self.now REPORT result into.new }
-        ensures told { (result.status ≡ SUCCESSFUL_COMPLETION) × (result.stopped ≡ false) }
-        ensures bytes { take result.data_len into.new ≡ report_of (spec.counts_of self.now) }
-        ensures fits { result.data_len ≤ length into.new }
-        ensures len { length into.new ≡ length into.old }
-    {
-        put_counts(&self.counts(), into);
-        served(0, 64, 0)
-    }
+    put_counts(&parts.counts(), into);
+    served(0, 64, 0)
 }

@@ -1,68 +1,26 @@
 //! A drive is opened.
-ghost use Rattle.std.specs.Prelude.{◌≡◌, ◌≤◌, ◌<◌, ℕ, [], length, false, None, IfOk, IfErr, OnOk};
-ghost use Rattle.pk_base.specs.Shape as spec;
+ghost use Rattle.std.specs.Prelude.{◌≡◌, ◌≤◌, ◌<◌, [], length, false, None, IfOk, IfErr, OnOk};
 ghost use Rattle.pk_base.specs.Shape.{page_entries};
 ghost use Rattle.pk_base.specs.Map.{Map};
-ghost use Rattle.pk_base.specs.Page.{Flash, IsFlash};
 ghost use Rattle.pk_nand.specs.Calls.{IsReady};
 ghost use Rattle.pk_nand.specs.Erased.{after_reads};
 ghost use Rattle.pk_drive.specs.Drive.{HoldsMap};
 ghost use Rattle.pk_scan.specs.Reads.{opened};
 ghost use Rattle.pk_scan.specs.Opening.{NotOpened};
-ghost use Rattle.pk_scan.specs.Opened.{FoundOnFlash};
 ghost use Rattle.pk_nand.specs.Effects.{OnlyReading};
-ghost use Rattle.pk_core.specs.Parts.{sight_of};
-ghost use Rattle.pk_core.specs.Agreeing.{DriveOnFlash};
-ghost use Rattle.pk_core.specs.Opening.{OpenedOn};
+ghost use Rattle.pk_parts.specs.Parts.{sight_of};
+ghost use Rattle.pk_parts.specs.Agreeing.{DriveOnFlash};
 ghost use Rattle.pk_drive.specs.Steady.{IsSteady, live_blocks};
 ghost use Rattle.pk_model.specs.Tree.{Tree, IsTree};
 
 use crate::drive::Drive;
-use crate::jobs::no_jobs;
 use pk_base::Shape;
-use pk_data::Data;
-use pk_log::Log;
 use pk_nand::Nand;
+use pk_parts::Parts;
 use pk_region::Region;
-use pk_scan::{Found, OpenError, scan};
-use pk_walk::Walk;
-use std::alloc::AllocError;
+use pk_scan::{OpenError, scan};
 
 impl<A: Region> Drive<A> {
-    /// The drive over what opening found. The memory that opening did not need is taken here.
-    fn over(alloc: A, found: Found<A>) -> Result<Drive<A>, AllocError>
-        ensures { IfOk result (λ d. (shape : spec.Shape) (flash : Flash) (frames : ℕ)
-            → IsFlash shape flash → FoundOnFlash shape flash frames found
-            → OpenedOn shape flash frames d) }
-    {
-        let shape = *found.root.shape();
-        shape.known();
-        let log = Log::new(
-            alloc,
-            found.root,
-            found.root_page,
-            found.epoch,
-            found.active,
-            found.frozen,
-        )?;
-        let page = Vec::from_elem(alloc, 0u8, shape.page_bytes() as usize)?;
-        let walk = Walk::new(alloc, shape)?;
-        let jobs = no_jobs(alloc, shape, found.arena.frames())?;
-        Ok(Drive {
-            log,
-            levels: found.levels,
-            arena: found.arena,
-            schedule: jobs.schedule,
-            space: Data::new(found.live),
-            reclaim: jobs.reclaim,
-            pool: found.pool,
-            keys: found.keys,
-            stopped: false,
-            page,
-            walk,
-        })
-    }
-
     /// Opens the flash of a board of this shape, with so many frames for the pages of runs. The drive's map is the one that the
     /// flash holds, and nothing is pending. Nothing is written; all memory of the drive is taken here.
     ///
@@ -102,11 +60,11 @@ impl<A: Region> Drive<A> {
         shape.known();
         match scan(alloc, board, shape, frames) {
             Err(error) => Err(error),
-            Ok(found) => match Drive::over(alloc, found) {
+            Ok(found) => match Parts::over(alloc, found) {
                 Err(_) => Err(OpenError::Memory),
-                Ok(drive) => {
-                    drive.pool.known();
-                    Ok(drive)
+                Ok(parts) => {
+                    parts.known();
+                    Ok(Drive { parts })
                 }
             },
         }

@@ -10,20 +10,22 @@ ghost use Rattle.pk_core.specs.Done.{Executes};
 ghost use Rattle.pk_core.specs.Serving.{IsServable, IsCounted, outcome_for, stopped_by, pages_at as pages_at_by};
 ghost use Rattle.pk_nvme.specs.declared.opcode.TheConstants.{STORE, DELETE};
 ghost use Rattle.pk_work.specs.Calls.{commit_calls, room_calls, room_roots, store_roots};
-ghost use Rattle.pk_core.specs.Costs.{Spends, space_and_put_calls};
-ghost use Rattle.pk_core.specs.Staying.{Stays, StaysOrOpens, IsNoted};
+ghost use Rattle.pk_parts.specs.Costs.{Spends, space_and_put_calls};
+ghost use Rattle.pk_parts.specs.Staying.{Stays, StaysOrOpens, IsNoted};
 ghost use Rattle.pk_core.specs.Programming.{QuietStore, QuietDelete};
 ghost use Rattle.pk_core.specs.LookedUp.{IsLookedUp, StoresOver, DeletesAt};
 ghost use Rattle.pk_nvme.specs.declared.status.TheConstants.{SUCCESSFUL_COMPLETION};
 
-use crate::drive::Drive;
-use crate::quiet::{reads_since, refusal, served};
+use crate::quiet::{refusal, served};
+use crate::storing::put_with_space;
 use pk_base::{Key, Place, Shape};
 use pk_drive::Outcome;
+use pk_index::reads_since;
 use pk_model::early::store_fault;
 use pk_nand::{Fault, Nand};
 use pk_nvme::Request;
 use pk_nvme::status::{KEY_DOES_NOT_EXIST, UNRECOVERED_ERROR};
+use pk_parts::Parts;
 use pk_region::Region;
 
 // The pages of the value at a place; none where there is none.
@@ -71,172 +73,178 @@ fn stopping(reads: u32) -> Outcome
     }
 }
 
-impl<A: Region> Drive<A> {
-    // A change of the map came to this, behind so many reads. A call that failed for good stops the drive.
-    fn changed(&mut self, answer: Result<(), Fault>, reads: u32) -> Outcome
-        ensures told { result ≡ outcome_for answer reads }
-        ensures rest { self.new ≡ stopped_by self.old answer }
-    {
-        match answer {
-            Ok(()) => served(0, 0, reads),
-            Err(Fault::Reading) => refusal(UNRECOVERED_ERROR, reads),
-            Err(Fault::Stopped) => {
-                self.stopped = true;
-                stopping(reads)
-            }
+// A change of the map came to this, behind so many reads. A call that failed for good stops the drive.
+fn changed<A: Region>(parts: &mut Parts<A>, answer: Result<(), Fault>, reads: u32) -> Outcome
+    ensures told { result ≡ outcome_for answer reads }
+    ensures rest { parts.new ≡ stopped_by parts.old answer }
+{
+    match answer {
+        Ok(()) => served(0, 0, reads),
+        Err(Fault::Reading) => refusal(UNRECOVERED_ERROR, reads),
+        Err(Fault::Stopped) => {
+            parts.set_stopped();
+            stopping(reads)
         }
     }
+}
 
-    // The check of a Store that fails on the map, where the key has its value at this place.
-    fn fault_of_store(&self, request: &Request, old: &Option<Place>) -> Option<u8>
-        requires old_short { MatchOption old.now (Unit {0})
-            (λ p. p.len ≤ spec.greatest self.now.log.shape) }
-        requires short { request.now.size ≤ spec.greatest self.now.log.shape }
-        ensures { result ≡ store_fault_of (command_of request.now []) (is_some old.now)
-            (sum self.now.space.live.heads - pages_at_by self.now.log.shape old.now
-            + spec.charge self.now.log.shape request.now.size) (spec.limit self.now.log.shape) }
-    {
-        let shape = self.shape();
-        let held = pages_at(&shape, old);
-        let left = self.space.total().saturating_sub(held);
-        let live = left as u64 + shape.charge(request.size) as u64;
-        store_fault(request, old.is_some(), live, shape.limit() as u64)
-    }
+// The check of a Store that fails on the map, where the key has its value at this place.
+fn fault_of_store<A: Region>(parts: &Parts<A>, request: &Request, old: &Option<Place>) -> Option<u8>
+    requires old_short { MatchOption old.now (Unit {0})
+        (λ p. p.len ≤ spec.greatest parts.now.log.shape) }
+    requires short { request.now.size ≤ spec.greatest parts.now.log.shape }
+    ensures { result ≡ store_fault_of (command_of request.now []) (is_some old.now)
+        (sum parts.now.space.live.heads - pages_at_by parts.now.log.shape old.now
+        + spec.charge parts.now.log.shape request.now.size) (spec.limit parts.now.log.shape) }
+{
+    let shape = parts.shape();
+    let held = pages_at(&shape, old);
+    let left = parts.total().saturating_sub(held);
+    let live = left as u64 + shape.charge(request.size) as u64;
+    store_fault(request, old.is_some(), live, shape.limit() as u64)
+}
 
-    // A Store whose key has its value at this place, as was found since the board had this count of reads.
-    fn store_over<B: Nand>(
-        &mut self,
-        board: &mut B,
-        request: &Request,
-        value: &[u8],
-        key: Key,
-        old: Option<Place>,
-        before: u64,
-    ) -> Outcome
-        // The command is one that it serves, and its key has its value at this place.
-        requires looked_up { IsLookedUp self.old (B.state board.old) request.now key old before }
-        requires opcode { request.now.opcode ≡ STORE }
-        requires whole { length value.now ≡ request.now.size }
+// A Store whose key has its value at this place, as was found since the board had this count of reads.
+fn store_over<B: Nand, A: Region>(
+    parts: &mut Parts<A>,
+    board: &mut B,
+    request: &Request,
+    value: &[u8],
+    key: Key,
+    old: Option<Place>,
+    before: u64,
+) -> Outcome
+    // The command is one that it serves, and its key has its value at this place.
+    requires looked_up { IsLookedUp parts.old (B.state board.old) request.now key old before }
+    requires opcode { request.now.opcode ≡ STORE }
+    requires whole { length value.now ≡ request.now.size }
 
-        // The command.
-        ensures executes { (into : List ℕ)
-            → Executes self.old self.new (B.state board.old) (B.state board.new)
-            (command_of request.now value.now) result into
-            ((B.state board.new).reads - (B.state board.old).reads) }
-        ensures told { (result.reads ≡ (B.state board.new).reads - before)
-            × (result.data_len ≡ 0) }
-        ensures reads { IsCounted (B.state board.old) (B.state board.new) }
+    // The command.
+    ensures executes { (into : List ℕ)
+        → Executes parts.old parts.new (B.state board.old) (B.state board.new)
+        (command_of request.now value.now) result into
+        ((B.state board.new).reads - (B.state board.old).reads) }
+    ensures told { (result.reads ≡ (B.state board.new).reads - before)
+        × (result.data_len ≡ 0) }
+    ensures reads { IsCounted (B.state board.old) (B.state board.new) }
 
-        // The blocks for values, and the calls.
-        ensures stores { StoresOver self.old self.new (B.state board.old) (B.state board.new) key
-            (spec.charge self.old.log.shape request.now.size) result }
-        ensures spends { Spends (space_and_put_calls self.old.log.shape
-            (spec.most_pages self.old.log.shape)) store_roots (B.state board.old)
-            (B.state board.new) }
-    {
-        known(&key);
-        match self.fault_of_store(request, &old) {
-            Some(status) => refusal(status, reads_since(board, before)),
-            None => {
-                let answer = self.put_with_space(board, key, value, old);
-                self.changed(answer, reads_since(board, before))
-            }
+    // The blocks for values, and the calls.
+    ensures stores { StoresOver parts.old parts.new (B.state board.old) (B.state board.new) key
+        (spec.charge parts.old.log.shape request.now.size) result }
+    ensures spends { Spends (space_and_put_calls parts.old.log.shape
+        (spec.most_pages parts.old.log.shape)) store_roots (B.state board.old)
+        (B.state board.new) }
+{
+    known(&key);
+    match fault_of_store(parts, request, &old) {
+        Some(status) => refusal(status, reads_since(board, before)),
+        None => {
+            let answer = put_with_space(parts, board, key, value, old);
+            changed(parts, answer, reads_since(board, before))
         }
     }
+}
 
-    /// A key gets the value of a Store, unless an option of it or the limit of live pages forbids it.
-    pub(crate) fn store<B: Nand>(
-        &mut self,
-        board: &mut B,
-        request: &Request,
-        value: &[u8],
-    ) -> Outcome
-        // The command is one that it serves.
-        requires servable { IsServable self.old (B.state board.old) request.now }
-        requires opcode { request.now.opcode ≡ STORE }
-        requires whole { length value.now ≡ request.now.size }
+/// A key gets the value of a Store, unless an option of it or the limit of live pages forbids it.
+pub(crate) fn store<B: Nand, A: Region>(
+    parts: &mut Parts<A>,
+    board: &mut B,
+    request: &Request,
+    value: &[u8],
+) -> Outcome
+    // The command is one that it serves.
+    requires servable { IsServable parts.old (B.state board.old) request.now }
+    requires opcode { request.now.opcode ≡ STORE }
+    requires whole { length value.now ≡ request.now.size }
 
-        // The command.
-        ensures executes { (into : List ℕ)
-            → Executes self.old self.new (B.state board.old) (B.state board.new)
-            (command_of request.now value.now) result into result.reads }
-        ensures no_data { result.data_len ≡ 0 }
+    // The command.
+    ensures executes { (into : List ℕ)
+        → Executes parts.old parts.new (B.state board.old) (B.state board.new)
+        (command_of request.now value.now) result into result.reads }
+    ensures no_data { result.data_len ≡ 0 }
 
-        // The blocks for values, and the calls of a Store that waits for nothing.
-        ensures opens { result.stopped ≡ false → StaysOrOpens self.old self.new
-            (spec.charge self.old.log.shape request.now.size) }
-        ensures noted { result.status ≡ SUCCESSFUL_COMPLETION
-            → IsNoted self.new (key_in (command_of request.now value.now)) }
-        ensures quiet { QuietStore self.old (B.state board.old) (B.state board.new)
-            request.now value.now result }
-        ensures spends { Spends (spec.most_calls self.old.log.shape) store_roots (B.state board.old)
-            (B.state board.new) }
-    {
-        let before = board.read_count();
-        let key = request.key();
-        match self.look(board, &key) {
-            Ok(old) => self.store_over(board, request, value, key, old, before),
-            Err(_) => refusal(UNRECOVERED_ERROR, reads_since(board, before)),
+    // The blocks for values, and the calls of a Store that waits for nothing.
+    ensures opens { result.stopped ≡ false → StaysOrOpens parts.old parts.new
+        (spec.charge parts.old.log.shape request.now.size) }
+    ensures noted { result.status ≡ SUCCESSFUL_COMPLETION
+        → IsNoted parts.new (key_in (command_of request.now value.now)) }
+    ensures quiet { QuietStore parts.old (B.state board.old) (B.state board.new)
+        request.now value.now result }
+    ensures spends { Spends (spec.most_calls parts.old.log.shape) store_roots (B.state board.old)
+        (B.state board.new) }
+{
+    let before = board.read_count();
+    let key = request.key();
+    match parts.look(board, &key) {
+        Ok(old) => store_over(parts, board, request, value, key, old, before),
+        Err(_) => refusal(UNRECOVERED_ERROR, reads_since(board, before)),
+    }
+}
+
+// A Delete whose key has its value at this place, as was found since the board had this count of reads.
+fn delete_at<B: Nand, A: Region>(
+    parts: &mut Parts<A>,
+    board: &mut B,
+    request: &Request,
+    key: Key,
+    old: Option<Place>,
+    before: u64,
+) -> Outcome
+    // The command is one that it serves, and its key has its value at this place.
+    requires looked_up { IsLookedUp parts.old (B.state board.old) request.now key old before }
+    requires opcode { request.now.opcode ≡ DELETE }
+
+    // The command.
+    ensures executes { (v into : List ℕ)
+        → Executes parts.old parts.new (B.state board.old) (B.state board.new)
+        (command_of request.now v) result into
+        ((B.state board.new).reads - (B.state board.old).reads) }
+    ensures told { (result.reads ≡ (B.state board.new).reads - before)
+        × (result.data_len ≡ 0) }
+    ensures reads { IsCounted (B.state board.old) (B.state board.new) }
+
+    // The blocks for values, and the calls.
+    ensures deletes { DeletesAt parts.old parts.new (B.state board.old) (B.state board.new) key
+        result }
+    ensures spends { Spends (room_calls parts.old.log.shape + commit_calls) room_roots
+        (B.state board.old) (B.state board.new) }
+{
+    known(&key);
+    match old {
+        None => refusal(KEY_DOES_NOT_EXIST, reads_since(board, before)),
+        Some(place) => {
+            let answer = parts.take_out(board, key, place);
+            changed(parts, answer, reads_since(board, before))
         }
     }
+}
 
-    // A Delete whose key has its value at this place, as was found since the board had this count of reads.
-    fn delete_at<B: Nand>(
-        &mut self,
-        board: &mut B,
-        request: &Request,
-        key: Key,
-        old: Option<Place>,
-        before: u64,
-    ) -> Outcome
-        // The command is one that it serves, and its key has its value at this place.
-        requires looked_up { IsLookedUp self.old (B.state board.old) request.now key old before }
-        requires opcode { request.now.opcode ≡ DELETE }
+/// A key loses its value, if it has one.
+pub(crate) fn delete<B: Nand, A: Region>(
+    parts: &mut Parts<A>,
+    board: &mut B,
+    request: &Request,
+) -> Outcome
+    requires servable { IsServable parts.old (B.state board.old) request.now }
+    requires opcode { request.now.opcode ≡ DELETE }
 
-        // The command.
-        ensures executes { (v into : List ℕ)
-            → Executes self.old self.new (B.state board.old) (B.state board.new)
-            (command_of request.now v) result into
-            ((B.state board.new).reads - (B.state board.old).reads) }
-        ensures told { (result.reads ≡ (B.state board.new).reads - before)
-            × (result.data_len ≡ 0) }
-        ensures reads { IsCounted (B.state board.old) (B.state board.new) }
+    // The command.
+    ensures executes { (v into : List ℕ)
+        → Executes parts.old parts.new (B.state board.old) (B.state board.new)
+        (command_of request.now v) result into result.reads }
+    ensures no_data { result.data_len ≡ 0 }
 
-        // The blocks for values, and the calls.
-        ensures deletes { DeletesAt self.old self.new (B.state board.old) (B.state board.new) key
-            result }
-        ensures spends { Spends (room_calls self.old.log.shape + commit_calls) room_roots
-            (B.state board.old) (B.state board.new) }
-    {
-        known(&key);
-        match old {
-            None => refusal(KEY_DOES_NOT_EXIST, reads_since(board, before)),
-            Some(place) => {
-                let answer = self.take_out(board, key, place);
-                self.changed(answer, reads_since(board, before))
-            }
-        }
-    }
-
-    /// A key loses its value, if it has one.
-    pub(crate) fn delete<B: Nand>(&mut self, board: &mut B, request: &Request) -> Outcome
-        requires servable { IsServable self.old (B.state board.old) request.now }
-        requires opcode { request.now.opcode ≡ DELETE }
-        ensures executes { (v into : List ℕ)
-            → Executes self.old self.new (B.state board.old) (B.state board.new)
-            (command_of request.now v) result into result.reads }
-        ensures no_data { result.data_len ≡ 0 }
-        ensures moves { result.stopped ≡ false → Stays self.old self.new }
-        ensures quiet { QuietDelete self.old (B.state board.old) (B.state board.new) request.now
-            result }
-        ensures spends { Spends (spec.most_calls self.old.log.shape) room_roots (B.state board.old)
-            (B.state board.new) }
-    {
-        let before = board.read_count();
-        let key = request.key();
-        match self.look(board, &key) {
-            Ok(old) => self.delete_at(board, request, key, old, before),
-            Err(_) => refusal(UNRECOVERED_ERROR, reads_since(board, before)),
-        }
+    // The blocks for values, and the calls of a Delete that waits for nothing.
+    ensures moves { result.stopped ≡ false → Stays parts.old parts.new }
+    ensures quiet { QuietDelete parts.old (B.state board.old) (B.state board.new) request.now
+        result }
+    ensures spends { Spends (spec.most_calls parts.old.log.shape) room_roots (B.state board.old)
+        (B.state board.new) }
+{
+    let before = board.read_count();
+    let key = request.key();
+    match parts.look(board, &key) {
+        Ok(old) => delete_at(parts, board, request, key, old, before),
+        Err(_) => refusal(UNRECOVERED_ERROR, reads_since(board, before)),
     }
 }

@@ -1,199 +1,35 @@
-//! The background steps.
-ghost use Rattle.std.specs.Prelude.{◌≡◌, ◌==◌, ℕ, [], length, true, false, IfOk, OnOk, OnErr, MatchBool, slice_get};
-ghost use Rattle.pk_nand.specs.Calls.{IsReady};
-ghost use Rattle.pk_pool.specs.Blocks.{PoolOnFlash, IsShared, IsOwned};
-ghost use Rattle.pk_pool.specs.Taking.{ErasesOne, ErasesNone, FailsToErase};
+//! A background step.
+ghost use Rattle.std.specs.Prelude.{◌≡◌, [], false};
 ghost use Rattle.pk_drive.specs.Tick.{TellsIdle, LowersWork};
 ghost use Rattle.pk_drive.specs.Seen.{stopped_by};
-ghost use Rattle.pk_drive.specs.declared.types.Ticked.TheVariants.{Fault as StopsDrive};
-ghost use Rattle.pk_compact.specs.FreezeSteps.{taken_by};
-ghost use Rattle.pk_schedule.specs.Steps.{has_no_merge};
-ghost use Rattle.pk_core.specs.Parts as spec;
-ghost use Rattle.pk_core.specs.Parts.{index_of, sight_of};
-ghost use Rattle.pk_core.specs.Agreeing.{DriveOnFlash};
-ghost use Rattle.pk_core.specs.Ticking.{MayTick, Ticks, Advances, WantsFreeze, WantsReclaim, wants_reclaim};
-ghost use Rattle.pk_core.specs.Staying.{StaysOrFrees};
+ghost use Rattle.pk_parts.specs.Parts.{sight_of};
+ghost use Rattle.pk_parts.specs.Agreeing.{DriveOnFlash};
+ghost use Rattle.pk_parts.specs.Ticking.{MayTick, Ticks};
+ghost use Rattle.pk_parts.specs.Staying.{StaysOrFrees};
 
-use crate::drive::Drive;
 use pk_drive::Ticked;
-use pk_gc::Reclaimed;
-use pk_nand::{Fault, Nand};
+use pk_nand::Nand;
+use pk_parts::Parts;
 use pk_region::Region;
-use pk_schedule::Stepped;
 
-impl<A: Region> Drive<A> {
-    // Erases the lowest free block that was not erased in this session; false where there is none. A failure stops the drive.
-    fn erase_spare<B: Nand>(&mut self, board: &mut B) -> Result<bool, Fault>
-        requires ready { IsReady (B.state board.old) self.old.pool.shape }
-        requires fits { PoolOnFlash self.old.pool (B.state board.old).pages }
+/// One background step. It is idle exactly where nothing is left to do.
+pub(crate) fn step<B: Nand, A: Region>(parts: &mut Parts<A>, board: &mut B) -> Ticked
+    requires may { MayTick parts.old (B.state board.old) }
 
-        // The block that was erased.
-        ensures erased { IfOk result (λ erased. MatchBool erased
-            (ErasesOne self.old.pool (B.state board.old) self.new.pool (B.state board.new))
-            (ErasesNone self.old.pool (B.state board.old) self.new.pool (B.state board.new))) }
-        ensures rest { OnOk result (self.new ≡ record self.old { pool = self.new.pool }) }
-        ensures failed { OnErr result (FailsToErase self.old.pool (B.state board.old)
-            (B.state board.new)) }
-        ensures stops { OnErr result (self.new ≡ record self.old { stopped = true }) }
+    // The drive.
+    ensures stops { parts.new.stopped ≡ stopped_by result }
+    ensures none { parts.new.log.pending ≡ [] }
+    ensures agrees { stopped_by result ≡ false
+        → DriveOnFlash parts.new (B.state board.new).shape (B.state board.new).pages }
+    ensures moves { stopped_by result ≡ false → StaysOrFrees parts.old parts.new }
 
-        // The pool and the board, however it went.
-        ensures shared { IsShared self.old.pool.shape self.old.pool.states }
-        ensures ready { IsReady (B.state board.new) self.old.pool.shape }
-        ensures owned { (b : ℕ) → IsOwned self.old.pool b
-            → slice_get self.new.pool.states b ≡ slice_get self.old.pool.states b }
-        ensures fits { PoolOnFlash self.new.pool (B.state board.new).pages }
-    {
-        self.pool.known();
-        match self.pool.erase_one(board) {
-            Ok(erased) => Ok(erased),
-            Err(fault) => {
-                self.stopped = true;
-                Err(fault)
-            }
-        }
-    }
-
-    // One step of the merges, of which one runs, or the frozen buffer has entries.
-    fn merge_step<B: Nand>(&mut self, board: &mut B) -> Ticked
-        requires may { MayTick self.old (B.state board.old) }
-        requires merges { has_no_merge (index_of self.old) ≡ false }
-        ensures { Advances self.old self.new (B.state board.old) (B.state board.new) result }
-    {
-        match self.schedule.step(
-            board,
-            &mut self.pool,
-            &mut self.arena,
-            &mut self.levels,
-            &mut self.log,
-            &mut self.page,
-        ) {
-            Ok(Stepped::Worked) => Ticked::Worked,
-            // a merge runs, or is due
-            Ok(Stepped::Idle) => unreachable!(),
-            Err(Fault::Reading) => Ticked::Fault { stopped: false },
-            Err(Fault::Stopped) => {
-                self.stopped = true;
-                Ticked::Fault { stopped: true }
-            }
-        }
-    }
-
-    // One step of the freeze that runs, or that a reclaim needs.
-    fn freeze_step<B: Nand>(&mut self, board: &mut B) -> Ticked
-        requires may { MayTick self.old (B.state board.old) }
-        requires merged { has_no_merge (index_of self.old) ≡ true }
-        requires wanted { WantsFreeze self.old }
-        ensures { Advances self.old self.new (B.state board.old) (B.state board.new) result }
-    {
-        self.pool.known();
-        match self.schedule.freeze_step(
-            board,
-            &mut self.pool,
-            &self.arena,
-            &self.levels,
-            &mut self.log,
-            &mut self.page,
-        ) {
-            Ok(_) => Ticked::Worked,
-            Err(_) => {
-                self.stopped = true;
-                Ticked::Fault { stopped: true }
-            }
-        }
-    }
-
-    // A call failed that stops the drive.
-    fn stop(&mut self) -> Ticked
-        ensures value { result ≡ StopsDrive true }
-        ensures stopped { self.new ≡ record self.old { stopped = true } }
-    {
-        self.stopped = true;
-        Ticked::Fault { stopped: true }
-    }
-
-    // One step of the reclaim that runs or is due; where its moves find no room, one of the freeze that makes it.
-    fn reclaim_step<B: Nand>(&mut self, board: &mut B) -> Ticked
-        requires may { MayTick self.old (B.state board.old) }
-        requires merged { has_no_merge (index_of self.old) ≡ true }
-        requires wanted { WantsReclaim self.old }
-        ensures { Advances self.old self.new (B.state board.old) (B.state board.new) result }
-    {
-        self.pool.known();
-        match self.reclaim_once(board) {
-            Ok(Reclaimed::Worked) => Ticked::Worked,
-            Ok(Reclaimed::Ended) => Ticked::Worked,
-            Ok(Reclaimed::NeedsFreeze) => self.freeze_step(board),
-            Err(Fault::Reading) => Ticked::Fault { stopped: false },
-            Err(Fault::Stopped) => self.stop(),
-        }
-    }
-
-    // The lowest free block that was not erased in this session is erased; idle where there is none.
-    fn erase_step<B: Nand>(&mut self, board: &mut B) -> Ticked
-        requires may { MayTick self.old (B.state board.old) }
-        requires merged { has_no_merge (index_of self.old) ≡ true }
-        requires frozen { (length (taken_by self.old.schedule.freeze) == 0) ≡ true }
-        requires reclaimed { wants_reclaim self.old ≡ false }
-        ensures { Advances self.old self.new (B.state board.old) (B.state board.new) result }
-    {
-        match self.erase_spare(board) {
-            Ok(true) => Ticked::Worked,
-            Ok(false) => Ticked::Idle,
-            Err(_) => Ticked::Fault { stopped: true },
-        }
-    }
-
-    // As many blocks are in use as may be, beside that which a reclaim holds, and the open one does not take every value.
-    fn is_reclaim_due(&self) -> bool
-        ensures { result ≡ spec.is_reclaim_due self.now }
-    {
-        let shape = self.shape();
-        self.used_blocks() == shape.data_blocks() - 1
-            && !self.space.fits_open(&shape, shape.most_pages())
-    }
-
-    // A reclaim runs, or one is due.
-    fn wants_reclaim(&self) -> bool
-        ensures { result ≡ wants_reclaim self.now }
-    {
-        self.reclaim.runs() || self.is_reclaim_due()
-    }
-
-    /// The next background step: a merge's, a freeze's, a reclaim's, or the erase of a free block. Idle where there is none.
-    pub(crate) fn advance<B: Nand>(&mut self, board: &mut B) -> Ticked
-        requires may { MayTick self.old (B.state board.old) }
-        ensures { Advances self.old self.new (B.state board.old) (B.state board.new) result }
-    {
-        if !self.schedule.has_no_merge(&self.log) {
-            self.merge_step(board)
-        } else if self.schedule.freezes() {
-            self.freeze_step(board)
-        } else if self.wants_reclaim() {
-            self.reclaim_step(board)
-        } else {
-            self.erase_step(board)
-        }
-    }
-
-    /// One background step. It is idle exactly where nothing is left to do.
-    pub(crate) fn step<B: Nand>(&mut self, board: &mut B) -> Ticked
-        requires may { MayTick self.old (B.state board.old) }
-
-        // The drive.
-        ensures stops { self.new.stopped ≡ stopped_by result }
-        ensures none { self.new.log.pending ≡ [] }
-        ensures agrees { stopped_by result ≡ false
-            → DriveOnFlash self.new (B.state board.new).shape (B.state board.new).pages }
-        ensures moves { stopped_by result ≡ false → StaysOrFrees self.old self.new }
-
-        // The step.
-        ensures ticks { Ticks (B.state board.old) (B.state board.new) (sight_of self.old)
-            (sight_of self.new) result }
-        ensures idle { TellsIdle (B.state board.old) (sight_of self.old) result }
-        ensures lowers { LowersWork (B.state board.old) (sight_of self.old) (sight_of self.new)
-            result }
-    {
-        self.pool.known();
-        self.advance(board)
-    }
+    // The step.
+    ensures ticks { Ticks (B.state board.old) (B.state board.new) (sight_of parts.old)
+        (sight_of parts.new) result }
+    ensures idle { TellsIdle (B.state board.old) (sight_of parts.old) result }
+    ensures lowers { LowersWork (B.state board.old) (sight_of parts.old) (sight_of parts.new)
+        result }
+{
+    parts.known();
+    parts.advance(board)
 }

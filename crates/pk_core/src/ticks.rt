@@ -3,23 +3,23 @@ ghost use Rattle.std.specs.Prelude.{◌≡◌, ◌≤◌, ◌+◌, ℕ, List, []
 ghost use Rattle.pk_nvme.specs.Seen.{command_of};
 ghost use Rattle.pk_nand.specs.Calls.{last_count};
 ghost use Rattle.pk_drive.specs.Seen.{stopped_by};
-ghost use Rattle.pk_core.specs.Parts.{sight_of};
-ghost use Rattle.pk_core.specs.Agreeing.{DriveOnFlash};
+ghost use Rattle.pk_parts.specs.Parts.{sight_of};
+ghost use Rattle.pk_parts.specs.Agreeing.{DriveOnFlash};
 ghost use Rattle.pk_core.specs.Serving.{IsServable};
 ghost use Rattle.pk_core.specs.Done.{Executes};
-ghost use Rattle.pk_core.specs.Ticking.{MayTick};
+ghost use Rattle.pk_parts.specs.Ticking.{MayTick};
 ghost use Rattle.pk_core.specs.Stepping.{Steps, Lessens, has_failed, outcome_of};
 ghost use Rattle.pk_nvme.specs.declared.status.TheConstants.{SUCCESSFUL_COMPLETION};
 ghost use Rattle.pk_nvme.specs.declared.opcode.TheConstants.{TICK};
 ghost use Rattle.pk_drive.specs.Calling.{FewCalls};
-ghost use Rattle.pk_core.specs.Staying.{StaysOrFrees};
+ghost use Rattle.pk_parts.specs.Staying.{StaysOrFrees};
 
-use crate::drive::Drive;
-use crate::quiet::reads_since;
 use pk_drive::{Outcome, Ticked};
+use pk_index::reads_since;
 use pk_nand::Nand;
 use pk_nvme::Request;
 use pk_nvme::status::UNRECOVERED_ERROR;
+use pk_parts::Parts;
 use pk_region::Region;
 
 // What the last step came to, behind so many reads.
@@ -39,61 +39,63 @@ fn answer_of(last: Ticked, reads: u32) -> Outcome
     }
 }
 
-impl<A: Region> Drive<A> {
-    // Makes so many background steps, fewer where nothing is left to do, or a call fails. The last one answers.
-    fn work<B: Nand>(&mut self, board: &mut B, steps: u32) -> Ticked
-        requires may { MayTick self.old (B.state board.old) }
-        requires count { (B.state board.old).reads ≤ last_count }
-        requires numbers { self.old.log.root.number + steps ≤ 18446744073709551615 }
+// Makes so many background steps, fewer where nothing is left to do, or a call fails. The last one answers.
+fn work<B: Nand, A: Region>(parts: &mut Parts<A>, board: &mut B, steps: u32) -> Ticked
+    requires may { MayTick parts.old (B.state board.old) }
+    requires count { (B.state board.old).reads ≤ last_count }
+    requires numbers { parts.old.log.root.number + steps ≤ 18446744073709551615 }
 
-        // The drive.
-        ensures stops { self.new.stopped ≡ stopped_by result }
-        ensures none { self.new.log.pending ≡ [] }
-        ensures agrees { stopped_by result ≡ false
-            → DriveOnFlash self.new (B.state board.new).shape (B.state board.new).pages }
-        ensures moves { stopped_by result ≡ false → StaysOrFrees self.old self.new }
+    // The drive.
+    ensures stops { parts.new.stopped ≡ stopped_by result }
+    ensures none { parts.new.log.pending ≡ [] }
+    ensures agrees { stopped_by result ≡ false
+        → DriveOnFlash parts.new (B.state board.new).shape (B.state board.new).pages }
+    ensures moves { stopped_by result ≡ false → StaysOrFrees parts.old parts.new }
 
-        // The steps.
-        ensures steps { Steps (B.state board.old) (B.state board.new) (sight_of self.old)
-            (sight_of self.new) result steps }
-        ensures done { has_failed result ≡ false → Lessens self.old self.new steps }
-        ensures no_more { stopped_by result ≡ false
-            → (sight_of self.new).work ≤ (sight_of self.old).work }
-    {
-        for made in 0..steps {
-            match self.advance(board) {
-                Ticked::Worked => {}
-                Ticked::Idle => return Ticked::Idle,
-                Ticked::Fault { stopped } => return Ticked::Fault { stopped },
-            }
+    // The steps.
+    ensures steps { Steps (B.state board.old) (B.state board.new) (sight_of parts.old)
+        (sight_of parts.new) result steps }
+    ensures done { has_failed result ≡ false → Lessens parts.old parts.new steps }
+    ensures no_more { stopped_by result ≡ false
+        → (sight_of parts.new).work ≤ (sight_of parts.old).work }
+{
+    for made in 0..steps {
+        match parts.advance(board) {
+            Ticked::Worked => {}
+            Ticked::Idle => return Ticked::Idle,
+            Ticked::Fault { stopped } => return Ticked::Fault { stopped },
         }
-        Ticked::Worked
     }
+    Ticked::Worked
+}
 
-    /// Makes as many background steps as the command wants, fewer where a further one would do nothing.
-    pub(crate) fn tick_command<B: Nand>(&mut self, board: &mut B, request: &Request) -> Outcome
-        // The command is one that it serves, and nothing is pending.
-        requires servable { IsServable self.old (B.state board.old) request.now }
-        requires opcode { request.now.opcode ≡ TICK }
-        requires none { self.old.log.pending ≡ [] }
+/// Makes as many background steps as the command wants, fewer where a further one would do nothing.
+pub(crate) fn tick_command<B: Nand, A: Region>(
+    parts: &mut Parts<A>,
+    board: &mut B,
+    request: &Request,
+) -> Outcome
+    // The command is one that it serves, and nothing is pending.
+    requires servable { IsServable parts.old (B.state board.old) request.now }
+    requires opcode { request.now.opcode ≡ TICK }
+    requires none { parts.old.log.pending ≡ [] }
 
-        // The command.
-        ensures executes { (v into : List ℕ)
-            → Executes self.old self.new (B.state board.old) (B.state board.new)
-            (command_of request.now v) result into result.reads }
-        ensures no_data { result.data_len ≡ 0 }
+    // The command.
+    ensures executes { (v into : List ℕ)
+        → Executes parts.old parts.new (B.state board.old) (B.state board.new)
+        (command_of request.now v) result into result.reads }
+    ensures no_data { result.data_len ≡ 0 }
 
-        // Its steps.
-        ensures none { self.new.log.pending ≡ [] }
-        ensures done { result.status ≡ SUCCESSFUL_COMPLETION
-            → Lessens self.old self.new request.now.size }
-        ensures no_more { result.stopped ≡ false
-            → (sight_of self.new).work ≤ (sight_of self.old).work }
-        ensures moves { result.stopped ≡ false → StaysOrFrees self.old self.new }
-        ensures calls { FewCalls request.now.size (B.state board.old) (B.state board.new) }
-    {
-        let before = board.read_count();
-        let last = self.work(board, request.size);
-        answer_of(last, reads_since(board, before))
-    }
+    // Its steps.
+    ensures none { parts.new.log.pending ≡ [] }
+    ensures done { result.status ≡ SUCCESSFUL_COMPLETION
+        → Lessens parts.old parts.new request.now.size }
+    ensures no_more { result.stopped ≡ false
+        → (sight_of parts.new).work ≤ (sight_of parts.old).work }
+    ensures moves { result.stopped ≡ false → StaysOrFrees parts.old parts.new }
+    ensures calls { FewCalls request.now.size (B.state board.old) (B.state board.new) }
+{
+    let before = board.read_count();
+    let last = work(parts, board, request.size);
+    answer_of(last, reads_since(board, before))
 }

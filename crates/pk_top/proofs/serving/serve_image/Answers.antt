@@ -1,6 +1,6 @@
 use Rattle.std.proofs.Common.{refl}
 use Rattle.pk_scan.specs.declared.errors.OpenError.TheVariants.{Memory}
-use Rattle.pk_core.specs.Parts.{sight_of}
+use Rattle.pk_parts.specs.Parts.{sight_of}
 use Rattle.pk_top.proofs.Sessions.{Serves-not, Serves-opened}
 use Rattle.pk_top.proofs.serving.serve_image.Goals as goal
 

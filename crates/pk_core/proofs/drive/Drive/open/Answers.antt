@@ -1,6 +1,3 @@
-use Rattle.std.proofs.Common.{subst}
-use Rattle.pk_pool.specs.Blocks.{IsShared}
-use Rattle.pk_core.specs.Parts.{Parts}
 use Rattle.std.proofs.Common.{ap, ◌∙◌}
 use Rattle.pk_nand.specs.BoardState.{BoardState}
 use Rattle.pk_core.proofs.Steadying.{between_steady}
@@ -9,17 +6,17 @@ use Rattle.pk_core.proofs.drive.Drive.open.Goals as goal
 
 pub returns-in-Ok-over-clause-agrees : goal.returns-in-Ok-over-clause-agrees
 returns-in-Ok-over-clause-agrees g c =
-    agrees_behind c.args.shape c.args.frames _ (g.B.Nand.state c.args.board.now) (g.B.Nand.state c.scan.new.board) c.in-Ok-over.drive c.known.ensures c.requires.ready c.in-Ok.ensures.reads
+    agrees_behind c.args.shape c.args.frames _ (g.B.Nand.state c.args.board.now) (g.B.Nand.state c.scan.new.board) c.in-Ok-over.parts c.known.ensures c.requires.ready c.in-Ok.ensures.reads
     (c.in-Ok-over.ensures c.args.shape _ c.args.frames c.requires.ready.flash c.in-Ok.ensures.opened)
 
 pub returns-in-Ok-over-clause-stands : goal.returns-in-Ok-over-clause-stands
 returns-in-Ok-over-clause-stands g c =
-    stands_behind c.args.shape c.args.frames _ (g.B.Nand.state c.args.board.now) (g.B.Nand.state c.scan.new.board) c.in-Ok-over.drive c.known.ensures c.requires.ready c.in-Ok.ensures.reads
+    stands_behind c.args.shape c.args.frames _ (g.B.Nand.state c.args.board.now) (g.B.Nand.state c.scan.new.board) c.in-Ok-over.parts c.known.ensures c.requires.ready c.in-Ok.ensures.reads
     (c.in-Ok-over.ensures c.args.shape _ c.args.frames c.requires.ready.flash c.in-Ok.ensures.opened)
 
 pub returns-in-Ok-over-clause-blocks : goal.returns-in-Ok-over-clause-blocks
 returns-in-Ok-over-clause-blocks g c =
-    blocks_behind c.args.shape c.args.frames _ (g.B.Nand.state c.args.board.now) (g.B.Nand.state c.scan.new.board) c.in-Ok-over.drive c.known.ensures c.requires.ready c.in-Ok.ensures.reads
+    blocks_behind c.args.shape c.args.frames _ (g.B.Nand.state c.args.board.now) (g.B.Nand.state c.scan.new.board) c.in-Ok-over.parts c.known.ensures c.requires.ready c.in-Ok.ensures.reads
     (c.in-Ok-over.ensures c.args.shape _ c.args.frames c.requires.ready.flash c.in-Ok.ensures.opened)
 
 pub returns-in-Ok-over-clause-runs : goal.returns-in-Ok-over-clause-runs
@@ -40,6 +37,6 @@ returns-in-Err-over-clause-err g c = (_, c.in-Ok.ensures.reads)
 
 pub returns-in-Ok-over-clause-steady : goal.returns-in-Ok-over-clause-steady
 returns-in-Ok-over-clause-steady g c =
-    let agrees = agrees_behind c.args.shape c.args.frames _ (g.B.Nand.state c.args.board.now) (g.B.Nand.state c.scan.new.board) c.in-Ok-over.drive c.known.ensures c.requires.ready c.in-Ok.ensures.reads
+    let agrees = agrees_behind c.args.shape c.args.frames _ (g.B.Nand.state c.args.board.now) (g.B.Nand.state c.scan.new.board) c.in-Ok-over.parts c.known.ensures c.requires.ready c.in-Ok.ensures.reads
     (c.in-Ok-over.ensures c.args.shape _ c.args.frames c.requires.ready.flash c.in-Ok.ensures.opened) in
-    between_steady _ _ c.args.shape _ agrees (ap (λ (b : BoardState). b.shape) c.in-Ok.ensures.reads ∙ c.requires.ready.shape_is) (subst (λ (d : Parts). IsShared d.pool.shape d.pool.states) c.drive.view_is c.known-in-Ok-over.ensures)
+    between_steady _ _ c.args.shape _ agrees (ap (λ (b : BoardState). b.shape) c.in-Ok.ensures.reads ∙ c.requires.ready.shape_is) c.known-in-Ok-over.ensures

@@ -1,8 +1,9 @@
 use Rattle.std.proofs.Common.{refl, ap, ◌∙◌, subst}
 use Rattle.pk_nand.specs.BoardState.{BoardState}
-use Rattle.pk_core.proofs.Standing.{stands_for, stands_here, still_stands, agrees_so}
-use Rattle.pk_core.specs.Parts.{Parts, sight_of, frames_of}
-use Rattle.pk_core.proofs.Unchanging.{agrees_ready}
+use Rattle.pk_core.proofs.Standing.{stands_for, stands_here, still_stands}
+use Rattle.pk_parts.proofs.Standing.{agrees_so}
+use Rattle.pk_parts.specs.Parts.{Parts, sight_of, frames_of}
+use Rattle.pk_parts.proofs.Unchanging.{agrees_ready}
 use Rattle.pk_core.proofs.Executing.{none_between}
 use Rattle.pk_pool.specs.Blocks.{IsShared}
 use Rattle.pk_core.proofs.Sights.{works_up, stops_up}
@@ -12,48 +13,50 @@ use Rattle.pk_core.proofs.engine.DriveEngine.commit.Goals as goal
 pub commit_pending-requires : goal.commit_pending-requires
 commit_pending-requires g c = record {
   may = record {
-    ready = agrees_ready c.args.self.now (g.B.Nand.state c.args.board.now) c.requires.agrees.0;
-    stands = stands_here c.args.self.now (g.B.Nand.state c.args.board.now).shape (g.B.Nand.state c.args.board.now).pages c.requires.agrees.0;
+    ready = agrees_ready c.self.inside.parts (g.B.Nand.state c.args.board.now) (rw (← c.self.view_is) at c.requires.agrees).0;
+    stands = stands_here c.self.inside.parts (g.B.Nand.state c.args.board.now).shape (g.B.Nand.state c.args.board.now).pages (rw (← c.self.view_is) at c.requires.agrees).0;
   };
 }
 
 pub returns-in-Ok-clause-agrees : goal.returns-in-Ok-clause-agrees
 returns-in-Ok-clause-agrees g c =
-    let a = c.requires.agrees.0 in
+    let a = (rw (← c.self.view_is) at c.requires.agrees).0 in
     let same = ap (λ (s : BoardState). s.shape) c.in-Ok.ensures.step.works.rest in
     none_between c.commit_pending.new.self (g.B.Nand.state c.commit_pending.new.board).shape (g.B.Nand.state c.commit_pending.new.board).pages
     (agrees_so _ (g.B.Nand.state c.commit_pending.new.board).shape a.shape (g.B.Nand.state c.commit_pending.new.board).pages a.all (same ∙ a.told_is)
     (c.in-Ok.ensures.step.ended a.shape a.all (record { top = a.top; found = a.found; without = a.without; with = a.with })).stands) c.in-Ok.ensures.none
 
 pub returns-in-Ok-clause-stands : goal.returns-in-Ok-clause-stands
-returns-in-Ok-clause-stands g c = λ shape frames m stands.
+returns-in-Ok-clause-stands g c = rw (← c.self.view_is) (λ shape frames m stands.
     let same = ap (λ (s : BoardState). s.shape) c.in-Ok.ensures.step.works.rest in
     still_stands _ (g.B.Nand.state c.commit_pending.new.board) shape frames m (same ∙ stands.shape_is) (ap (λ (d : Parts). frames_of d) c.in-Ok.ensures.rest ∙ stands.frames_is)
-    (c.in-Ok.ensures.step.ended shape m (stands_for c.args.self.now (g.B.Nand.state c.args.board.now) shape frames m c.requires.agrees.0 stands)).stands
+    (c.in-Ok.ensures.step.ended shape m (stands_for c.self.inside.parts (g.B.Nand.state c.args.board.now) shape frames m (rw (← c.self.view_is) at c.requires.agrees).0 stands)).stands)
 
 pub returns-in-Ok-clause-cuts : goal.returns-in-Ok-clause-cuts
-returns-in-Ok-clause-cuts g c = λ shape frames m stands.
-    (c.in-Ok.ensures.step.ended shape m (stands_for c.args.self.now (g.B.Nand.state c.args.board.now) shape frames m c.requires.agrees.0 stands)).cuts
+returns-in-Ok-clause-cuts g c = rw (← c.self.view_is) (λ shape frames m stands.
+    (c.in-Ok.ensures.step.ended shape m (stands_for c.self.inside.parts (g.B.Nand.state c.args.board.now) shape frames m (rw (← c.self.view_is) at c.requires.agrees).0 stands)).cuts)
 
 pub returns-in-Err-clause-cuts_failed : goal.returns-in-Err-clause-cuts_failed
-returns-in-Err-clause-cuts_failed g c = λ shape frames m stands.
-    c.in-Err.ensures.step.broken shape m (stands_for c.args.self.now (g.B.Nand.state c.args.board.now) shape frames m c.requires.agrees.0 stands)
+returns-in-Err-clause-cuts_failed g c = rw (← c.self.view_is) (λ shape frames m stands.
+    c.in-Err.ensures.step.broken shape m (stands_for c.self.inside.parts (g.B.Nand.state c.args.board.now) shape frames m (rw (← c.self.view_is) at c.requires.agrees).0 stands))
 
 -- ---- what is seen of it, and that it is steady
 
 pub returns-in-Ok-clause-steady : goal.returns-in-Ok-clause-steady
-returns-in-Ok-clause-steady g c =
-    let a = c.requires.agrees.0 in
+returns-in-Ok-clause-steady g c = rw (← c.self.view_is) (let a = (rw (← c.self.view_is) at c.requires.agrees).0 in
     let same = ap (λ (s : BoardState). s.shape) c.in-Ok.ensures.step.works.rest in
     let agrees = agrees_so _ (g.B.Nand.state c.commit_pending.new.board).shape a.shape (g.B.Nand.state c.commit_pending.new.board).pages a.all (same ∙ a.told_is)
     (c.in-Ok.ensures.step.ended a.shape a.all (record { top = a.top; found = a.found; without = a.without; with = a.with })).stands in
-    steadies c.commit_pending.new.self (g.B.Nand.state c.args.board.now) (g.B.Nand.state c.commit_pending.new.board) (sight_of c.args.self.now) (none_between c.commit_pending.new.self (g.B.Nand.state c.commit_pending.new.board).shape (g.B.Nand.state c.commit_pending.new.board).pages agrees c.in-Ok.ensures.none) c.in-Ok.ensures.step.works.rest (subst (λ (d : Parts). IsShared d.pool.shape d.pool.states) c.self.view_is c.known.ensures)
+    steadies c.commit_pending.new.self (g.B.Nand.state c.args.board.now) (g.B.Nand.state c.commit_pending.new.board) (sight_of c.self.inside.parts) (none_between c.commit_pending.new.self (g.B.Nand.state c.commit_pending.new.board).shape (g.B.Nand.state c.commit_pending.new.board).pages agrees c.in-Ok.ensures.none) c.in-Ok.ensures.step.works.rest c.known.ensures)
 
 pub returns-in-Ok-clause-idle : goal.returns-in-Ok-clause-idle
-returns-in-Ok-clause-idle g c = λ none. let e = c.in-Ok.ensures.idle none in (refl, e.2, ap sight_of e.1)
+returns-in-Ok-clause-idle g c = rw (← c.self.view_is) (λ none. let e = c.in-Ok.ensures.idle none in (refl, e.2, ap sight_of e.1))
 
 pub returns-in-Ok-clause-flash_up : goal.returns-in-Ok-clause-flash_up
 returns-in-Ok-clause-flash_up g c = works_up _ _ c.in-Ok.ensures.step.works
 
 pub returns-in-Err-clause-flash_up : goal.returns-in-Err-clause-flash_up
 returns-in-Err-clause-flash_up g c = stops_up _ _ c.in-Err.ensures.step.stops c.read_count.ensures.flash_faults
+
+pub returns-in-Ok-clause-seen : goal.returns-in-Ok-clause-seen
+returns-in-Ok-clause-seen g c = rw (← c.self.view_is) c.in-Ok.ensures.seen

@@ -1,7 +1,6 @@
-use Rattle.std.proofs.Common.{subst}
+use Rattle.std.proofs.Common.{refl, subst}
 use Rattle.pk_pool.specs.Blocks.{IsShared}
-use Rattle.pk_core.specs.Parts.{Parts}
-use Rattle.std.proofs.Common.{refl}
+use Rattle.pk_parts.specs.Parts.{Parts}
 use Rattle.pk_core.proofs.Counting.{agrees_counts}
 use Rattle.pk_core.proofs.Steadying.{between_steady}
 use Rattle.pk_core.proofs.engine.DriveEngine.counts.Goals as goal

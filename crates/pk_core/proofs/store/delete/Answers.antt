@@ -1,0 +1,53 @@
+use Rattle.std.proofs.Common.{ap, arith, false}
+use Rattle.pk_core.proofs.LookedUp.{looked_up, executes_behind, executes_unread}
+use Rattle.pk_core.proofs.Served.{delete_is_other}
+use Rattle.pk_core.proofs.Staying.{stays_from}
+use Rattle.pk_parts.proofs.Staying.{stays_same}
+use Rattle.pk_core.proofs.Statuses.{told_refused}
+use Rattle.pk_core.proofs.Programming.{quiet_delete_behind}
+use Rattle.pk_core.proofs.Quieted.{reads_behind}
+use Rattle.pk_core.proofs.Callings.{spends_reads, spends_failed}
+use Rattle.pk_parts.specs.Parts.{Parts}
+use Rattle.pk_parts.proofs.StoreCalls.{spends_delete}
+use Rattle.pk_core.proofs.store.delete.Goals as goal
+
+pub delete_at-requires-clause-looked_up : goal.delete_at-requires-clause-looked_up
+delete_at-requires-clause-looked_up g c =
+    looked_up c.args.parts.now c.look.new.self (g.B.Nand.state c.args.board.now) (g.B.Nand.state c.look.new.board) c.args.request.now c.key-key.result c.in-Ok.old c.read_count-before.result
+    c.requires.servable c.key-key.ensures c.read_count-before.ensures.value c.look.ensures.same c.in-Ok.ensures.looks c.in-Ok.ensures.reads
+
+pub returns-in-Ok-clause-executes : goal.returns-in-Ok-clause-executes
+returns-in-Ok-clause-executes g c = λ v into.
+    let e = c.delete_at.ensures in
+    executes_behind c.args.parts.now c.look.new.self c.delete_at.new.parts (g.B.Nand.state c.args.board.now) (g.B.Nand.state c.look.new.board) (g.B.Nand.state c.delete_at.new.board) _ _ into c.delete_at.result c.look.ensures.same c.in-Ok.ensures.reads
+    (delete_is_other c.args.request.now c.requires.opcode) e.reads (omega (arith, e.told.0, c.read_count-before.ensures.value)) (e.executes v into)
+
+pub returns-in-Err-clause-executes : goal.returns-in-Err-clause-executes
+returns-in-Err-clause-executes g c = λ v into.
+    executes_unread c.args.parts.now c.look.new.self (g.B.Nand.state c.args.board.now) (g.B.Nand.state c.look.new.board) c.args.request.now v into c.refusal.result c.reads_since.result c.requires.servable c.look.ensures.same c.refusal.ensures
+    c.read_count-before.ensures.faults c.in-Err.ensures.failing (omega (arith, c.reads_since.ensures.reads, c.read_count-before.ensures.value))
+
+pub returns-in-Ok-clause-moves : goal.returns-in-Ok-clause-moves
+returns-in-Ok-clause-moves g c = λ runs. stays_from c.args.parts.now c.look.new.self c.delete_at.new.parts c.look.ensures.same (c.delete_at.ensures.deletes.moves runs)
+
+pub returns-in-Err-clause-moves : goal.returns-in-Err-clause-moves
+returns-in-Err-clause-moves g c = λ _. stays_same _ _ c.look.ensures.same
+
+pub returns-in-Ok-clause-quiet : goal.returns-in-Ok-clause-quiet
+returns-in-Ok-clause-quiet g c = λ zero none.
+    let e = c.delete_at.ensures in
+    let mid = g.B.Nand.state c.look.new.board in
+    let new = g.B.Nand.state c.delete_at.new.board in
+    let same = reads_behind c.args.parts.now c.look.new.self mid new c.key-key.result _ c.look.ensures.same c.key-key.ensures (e.deletes.quiet zero) none in
+    quiet_delete_behind c.args.parts.now c.look.new.self (g.B.Nand.state c.args.board.now) mid new c.key-key.result _ c.delete_at.result.reads c.look.ensures.same c.in-Ok.ensures.reads c.key-key.ensures (e.deletes.programs zero)
+    (omega (arith, e.told.0, same, c.read_count-before.ensures.value, c.in-Ok.ensures.reads.within)) none
+
+pub returns-in-Err-clause-quiet : goal.returns-in-Err-clause-quiet
+returns-in-Err-clause-quiet g c = λ zero. absurd (told_refused c.refusal.result 0x88 0 0 c.reads_since.result false c.refusal.ensures (λ e. omega (arith, e)) zero)
+
+pub returns-in-Ok-clause-spends : goal.returns-in-Ok-clause-spends
+returns-in-Ok-clause-spends g c =
+    spends_delete _ _ _ _ _ (ap (λ (d : Parts). d.log.shape) c.look.ensures.same) c.requires.servable.agrees.with.index.logs.is_shape (spends_reads _ _ _ _ 0 (omega arith) c.in-Ok.ensures.reads) c.delete_at.ensures.spends
+
+pub returns-in-Err-clause-spends : goal.returns-in-Err-clause-spends
+returns-in-Err-clause-spends g c = spends_failed c.args.parts.now (g.B.Nand.state c.args.board.now) (g.B.Nand.state c.look.new.board) c.requires.servable.agrees _ _ (omega arith) c.in-Err.ensures.failing

@@ -1,0 +1,48 @@
+use Rattle.std.proofs.Common.{refl, length, arith, ap}
+use Rattle.pk_parts.proofs.Staying.{stays_opens, stays_same}
+use Rattle.pk_core.proofs.Stored.{its_drive, found_can, found_stores, found_unread, found_room, found_numbers, between_same, between_from, opens_looked}
+use Rattle.pk_parts.specs.Parts.{Parts}
+use Rattle.pk_core.proofs.Callings.{spends_reads, spends_breaks}
+use Rattle.pk_parts.proofs.StoreCalls.{spends_found}
+use Rattle.pk_core.proofs.storing.put_found.Goals as goal
+
+pub look-requires-clause-agrees : goal.look-requires-clause-agrees
+look-requires-clause-agrees g c = its_drive c.args.parts.now (g.B.Nand.state c.args.board.now) c.args.key c.args.value.now c.requires.can
+
+pub put-requires-clause-can : goal.put-requires-clause-can
+put-requires-clause-can g c =
+    found_can c.args.parts.now (g.B.Nand.state c.args.board.now).pages c.args.key c.args.value.now c.in-Ok.old c.in-Ok.ensures.looks c.look.new.self (g.B.Nand.state c.args.board.now) (g.B.Nand.state c.look.new.board) c.look.ensures.same refl c.look.ensures.pages c.look.ensures.ready c.requires.can
+
+pub put-requires-clause-room : goal.put-requires-clause-room
+put-requires-clause-room g c = found_room c.args.parts.now c.look.new.self (length c.args.value.now) c.look.ensures.same c.requires.room
+
+pub put-requires-clause-number : goal.put-requires-clause-number
+put-requires-clause-number g c = found_numbers c.args.parts.now c.look.new.self (g.B.Nand.state c.args.board.now) (g.B.Nand.state c.look.new.board) c.look.ensures.same c.in-Ok.ensures.reads c.requires.number
+
+pub returns-in-Ok-clause-step : goal.returns-in-Ok-clause-step
+returns-in-Ok-clause-step g c =
+    found_stores c.put.result c.args.parts.now c.look.new.self c.put.new.self (g.B.Nand.state c.args.board.now) (g.B.Nand.state c.look.new.board) (g.B.Nand.state c.put.new.board) c.args.key c.args.value.now c.in-Ok.old
+    c.look.ensures.same c.in-Ok.ensures.looks c.in-Ok.ensures.reads c.put.ensures.step
+
+pub returns-in-Ok-clause-stays : goal.returns-in-Ok-clause-stays
+returns-in-Ok-clause-stays g c = between_from c.put.result c.args.parts.now c.look.new.self c.put.new.self c.look.ensures.same c.put.ensures.stays
+
+pub returns-in-Ok-clause-opens : goal.returns-in-Ok-clause-opens
+returns-in-Ok-clause-opens g c = opens_looked c.put.result c.args.parts.now c.look.new.self c.put.new.self (length c.args.value.now) c.look.ensures.same c.put.ensures.opens
+
+pub returns-in-Err-clause-step : goal.returns-in-Err-clause-step
+returns-in-Err-clause-step g c =
+    found_unread c.args.parts.now c.look.new.self (g.B.Nand.state c.args.board.now) (g.B.Nand.state c.look.new.board) _ c.args.key c.args.value.now c.look.ensures.same c.read_count.ensures.faults c.in-Err.ensures.failing c.look.ensures.ready
+
+pub returns-in-Err-clause-stays : goal.returns-in-Err-clause-stays
+returns-in-Err-clause-stays g c = between_same c.args.parts.now c.look.new.self c.look.ensures.same c.requires.can.few
+
+pub returns-in-Err-clause-opens : goal.returns-in-Err-clause-opens
+returns-in-Err-clause-opens g c = stays_opens _ _ _ (stays_same _ _ c.look.ensures.same)
+
+pub returns-in-Ok-clause-spends : goal.returns-in-Ok-clause-spends
+returns-in-Ok-clause-spends g c =
+    spends_found _ _ _ _ _ (ap (λ (d : Parts). d.log.shape) c.look.ensures.same) (length c.args.value.now) (spends_reads _ _ _ _ 0 (omega arith) c.in-Ok.ensures.reads) c.put.ensures.spends
+
+pub returns-in-Err-clause-spends : goal.returns-in-Err-clause-spends
+returns-in-Err-clause-spends g c = spends_breaks _ _ _ _ _ (omega arith) c.in-Err.ensures.failing

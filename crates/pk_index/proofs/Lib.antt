@@ -1,0 +1,4 @@
+pub mod Searching
+pub mod Listing
+pub mod Replies
+pub mod Callings

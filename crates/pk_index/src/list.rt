@@ -1,0 +1,239 @@
+//! The keys of a List, as a walk gives them.
+ghost use Rattle.std.specs.Prelude.{◌≡◌, ◌+◌, ◌-◌, ◌%◌, ◌≤◌, ◌<◌, List, [], ◌∷◌, ◌++◌, length, take, min, None, false, IfOk, IfErr, OnOk, OnErr};
+ghost use Rattle.pk_base.specs.Key.{Key as KeySpec, IsKey};
+ghost use Rattle.pk_base.specs.Entry.{Entry as EntrySpec, Place};
+ghost use Rattle.pk_base.specs.Page.{Flash};
+ghost use Rattle.pk_nand.specs.declared.types.Fault.TheVariants.{Reading};
+ghost use Rattle.pk_pin.specs.Frames.{Frames};
+ghost use Rattle.pk_run.specs.Kept.{Kept};
+ghost use Rattle.pk_level.specs.Levels.{RunsOnFlash};
+ghost use Rattle.pk_walk.specs.Walking.{IsLeft, Reads, ReadsFail, pages_read, most_read};
+ghost use Rattle.pk_nvme.specs.Command.{key as key_in};
+ghost use Rattle.pk_nvme.specs.Seen.{command_of};
+ghost use Rattle.pk_model.specs.Answer.{listed, fitting, list_bytes};
+ghost use Rattle.pk_index.specs.Listed.{OffersKey, OffersNext, IsFilled, MayList, MayWalk, Walked, ListsAll, ListsInto, keys_of, keys_there};
+ghost use Rattle.pk_base.specs.Shape.{most_calls};
+ghost use Rattle.pk_drive.specs.Calling.{FewCalls};
+
+use crate::counts::{reads_since, reads_so_far};
+use crate::filled::Filled;
+use pk_base::{Key, put_text, put_u16, put_u32, put_zeros};
+use pk_drive::Outcome;
+use pk_level::Levels;
+use pk_log::Log;
+use pk_nand::{Fault, Nand};
+use pk_nvme::Request;
+use pk_nvme::status::{SUCCESSFUL_COMPLETION, UNRECOVERED_ERROR};
+use pk_pin::PinArena;
+use pk_region::Region;
+use pk_walk::Walk;
+
+// The zeros behind a listed key.
+fn padding(len: usize) -> usize
+    ensures { result ≡ (6 - len % 4) % 4 }
+{
+    (6 - len % 4) % 4
+}
+
+// The bytes of a listed key: its length, itself and zeros up to a multiple of four.
+fn listed_size(key: &[u8]) -> usize
+    requires { IsKey key.now }
+    ensures size { result ≡ length (listed key.now) }
+    ensures few { result ≤ 24 }
+{
+    2 + key.len() + padding(key.len())
+}
+
+// Writes a length of two bytes, the key, and zeros up to a multiple of four bytes.
+fn put_listed(into: &mut [u8], at: usize, key: &[u8])
+    requires key { IsKey key.now }
+    requires room { at + length (listed key.now) ≤ length into.old }
+    ensures front { take (at + length (listed key.now)) into.new
+        ≡ take at into.old ++ listed key.now }
+    ensures len { length into.new ≡ length into.old }
+{
+    let len = key.len();
+    put_u16(into, at, len as u16);
+    put_text(into, at + 2, key);
+    put_zeros(into, at + 2 + len, at + 2 + len + padding(len));
+}
+
+// Writes one more key, where it fits into the room.
+fn put_key(into: &mut [u8], at: Filled, key: &Key) -> Option<Filled>
+    requires filled { IsFilled at (length into.old) }
+    ensures offers { OffersKey into.old at at.room key.now result into.new }
+    ensures len { length into.new ≡ length into.old }
+{
+    let size = listed_size(key.bytes());
+    if size > (at.room - at.end) as usize {
+        return None;
+    }
+    put_listed(into, at.end as usize, key.bytes());
+    Some(Filled {
+        end: at.end + size as u32,
+        count: at.count + 1,
+        room: at.room,
+    })
+}
+
+// Writes the key to which the walk comes next, where there is one and it fits into the room.
+fn put_next<B: Nand, A: Region>(
+    walk: &mut Walk<A>,
+    board: &mut B,
+    levels: &Levels<A>,
+    arena: &PinArena<A>,
+    log: &Log<A>,
+    at: Filled,
+    into: &mut [u8],
+) -> Result<Option<Filled>, Fault>
+    requires may { MayWalk walk.old (B.state board.old) levels.now arena.now log.now }
+    requires filled { IsFilled at (length into.old) }
+
+    // The key, and the pages that were read for it.
+    ensures offers { IfOk result (λ next. OffersNext walk.old walk.new
+        (B.state board.old) (B.state board.new) levels.now arena.now log.now
+        at next into.old into.new) }
+    ensures walked { Walked walk.old walk.new (B.state board.old) (B.state board.new) levels.now }
+    ensures reads { OnOk result (Reads (pages_read levels.now.runs walk.old.cursors)
+        (pages_read levels.now.runs walk.new.cursors) (B.state board.old) (B.state board.new)) }
+    ensures reading { IfErr result (λ fault. fault ≡ Reading) }
+    ensures err { OnErr result (ReadsFail (pages_read levels.now.runs walk.old.cursors)
+        (pages_read levels.now.runs walk.new.cursors) (B.state board.old) (B.state board.new)) }
+    ensures len { length into.new ≡ length into.old }
+{
+    match walk.next(board, arena, levels, log.active(), log.frozen()) {
+        Ok(Some(entry)) => Ok(put_key(into, at, entry.key())),
+        Ok(None) => Ok(None),
+        Err(fault) => Err(fault),
+    }
+}
+
+// Writes the keys that are left, behind the first four bytes of the room, as many as fit into it.
+fn put_left<B: Nand, A: Region>(
+    walk: &mut Walk<A>,
+    board: &mut B,
+    levels: &Levels<A>,
+    arena: &PinArena<A>,
+    log: &Log<A>,
+    room: u32,
+    into: &mut [u8],
+) -> Result<Filled, Fault>
+    requires may { MayWalk walk.old (B.state board.old) levels.now arena.now log.now }
+    requires none_read { pages_read levels.now.runs walk.old.cursors ≡ 0 }
+    requires some { 4 ≤ room }
+    requires room { (room ≤ 65536) × (room ≤ length into.old) }
+
+    // The keys, and the pages that were read for them.
+    ensures lists { IfOk result (λ at. (at.end ≤ room) × ((rest : List (KeySpec × Place))
+        → IsLeft walk.old (B.state board.old).pages arena.now levels.now.runs
+        log.now.active.entries log.now.frozen.entries rest
+        → ListsAll (keys_of rest) room into.new at)) }
+    ensures reads { OnOk result (Reads 0 (most_read levels.now.runs)
+        (B.state board.old) (B.state board.new)) }
+    ensures reading { IfErr result (λ fault. fault ≡ Reading) }
+    ensures err { OnErr result (ReadsFail 0 (most_read levels.now.runs)
+        (B.state board.old) (B.state board.new)) }
+    ensures walked { Walked walk.old walk.new (B.state board.old) (B.state board.new) levels.now }
+    ensures len { length into.new ≡ length into.old }
+{
+    let mut at = Filled {
+        end: 4,
+        count: 0,
+        room,
+    };
+    loop {
+        match put_next(walk, board, levels, arena, log, at, into) {
+            Ok(Some(next)) => {
+                at = next;
+            }
+            Ok(None) => return Ok(at),
+            Err(fault) => return Err(fault),
+        }
+    }
+}
+
+// Begins a walk at a key; at the first key of all where this one is empty.
+fn start_walk<A: Region>(walk: &mut Walk<A>, from: &[u8])
+    requires key { length from.now ≤ 16 }
+    ensures shape { walk.new.shape ≡ walk.old.shape }
+    ensures left { (flash : Flash) (arena : Frames) (runs : List Kept)
+        (active frozen : List EntrySpec) (ess : List (List EntrySpec))
+        → RunsOnFlash flash arena runs ess → (rest : List (KeySpec × Place))
+        × IsLeft walk.new flash arena runs active frozen rest
+        × (keys_of rest ≡ keys_there from.now (active ∷ frozen ∷ ess)) }
+    ensures none_read { (runs : List Kept) → pages_read runs walk.new.cursors ≡ 0 }
+{
+    if from.is_empty() {
+        walk.start(None);
+    } else {
+        walk.start(Some(&Key::of(from)));
+    }
+}
+
+// The pages of all runs are few.
+fn few_pages<A: Region>(levels: &Levels<A>)
+    ensures few { most_read levels.now.runs ≤ 4000000 }
+    ensures within { most_read levels.now.runs < most_calls levels.now.shape }
+{
+    levels.known();
+    levels.run(1).known();
+    levels.run(2).known();
+    levels.run(3).known();
+    levels.run(4).known();
+}
+
+/// Answers a List that passed the checks that read it alone: the number of keys that are there from the one that it names on, and
+/// as many of them as fit into its size, of which no more than 65,536 bytes count; `UNRECOVERED_ERROR` without data where a read fails.
+pub fn answer_list<B: Nand, A: Region>(
+    walk: &mut Walk<A>,
+    board: &mut B,
+    log: &Log<A>,
+    levels: &Levels<A>,
+    arena: &PinArena<A>,
+    request: &Request,
+    into: &mut [u8],
+) -> Outcome
+    // The board, the parts and the request.
+    requires may { MayList walk.old (B.state board.old) levels.now arena.now }
+    requires key { request.now.key_len ≤ 16 }
+    requires some { 4 ≤ request.now.size }
+    requires room { 65536 ≤ length into.old }
+
+    // The data, and the pages that were read for them.
+    ensures lists { (ess : List (List EntrySpec))
+        → RunsOnFlash (B.state board.old).pages arena.now levels.now.runs ess
+        → ListsInto (B.state board.old) (B.state board.new) result into.new
+        (list_bytes (fitting (min request.now.size 65536 - 4)
+        (keys_there (key_in (command_of request.now []))
+        (log.now.active.entries ∷ log.now.frozen.entries ∷ ess)))) }
+    ensures few { FewCalls (most_calls levels.now.shape) (B.state board.old) (B.state board.new) }
+    ensures fits { result.data_len ≤ length into.new }
+
+    // What stays.
+    ensures walked { Walked walk.old walk.new (B.state board.old) (B.state board.new) levels.now }
+    ensures len { length into.new ≡ length into.old }
+{
+    few_pages(levels);
+    let before = reads_so_far(board);
+    let room = request.size.min(65536);
+    start_walk(walk, &request.key[..request.key_len as usize]);
+    match put_left(walk, board, levels, arena, log, room, into) {
+        Ok(at) => {
+            put_u32(into, 0, at.count);
+            Outcome {
+                status: SUCCESSFUL_COMPLETION,
+                result: 0,
+                data_len: at.end,
+                reads: reads_since(board, before),
+                stopped: false,
+            }
+        }
+        Err(_) => Outcome {
+            status: UNRECOVERED_ERROR,
+            result: 0,
+            data_len: 0,
+            reads: reads_since(board, before),
+            stopped: false,
+        },
+    }
+}

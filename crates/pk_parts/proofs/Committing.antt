@@ -1,0 +1,279 @@
+-- A commit of the pending entries keeps the map.
+use Rattle.std.proofs.Common.{◌≡◌, ◌≢◌, ◌⊎◌, inl, inr, ℕ, ◌+◌, ◌-◌, ◌/◌, ◌<◌, ◌≤◌, if◌then◌else◌, arith, Bool, true, false, List, [], ◌++◌, length, reverse, Some, Result, Ok, Err, refl, sym, ap, subst, ◌∙◌, append-nil}
+use Rattle.std.specs.Prelude.{slice_get, IsOk, IfErr, OnOk, OnErr}
+use Rattle.std.specs.List.{flat_map}
+use Rattle.pk_base.specs.Shape.{Shape, epoch_pages}
+use Rattle.pk_base.specs.Page.{Flash, page_at, page_in, whole}
+use Rattle.pk_base.specs.Entry.{Entry, Place}
+use Rattle.pk_base.specs.Key.{Key}
+use Rattle.pk_base.specs.Firsts.{firsts}
+use Rattle.pk_base.specs.Map.{Map}
+use Rattle.pk_base.specs.Mark.{all_posted}
+use Rattle.pk_base.proofs.ShapeLemmas.{block_pages_positive}
+use Rattle.pk_plan.specs.declared.owner.Owner.TheVariants.{Journal}
+use Rattle.pk_nand.specs.declared.types.Fault.{Fault}
+use Rattle.pk_nand.specs.declared.types.Fault.TheVariants.{Stopped}
+use Rattle.pk_nand.specs.BoardState.{BoardState}
+use Rattle.pk_nand.specs.Calls.{IsReady, after_program}
+use Rattle.pk_nand.proofs.Leaving.{page_at-slice_set}
+use Rattle.pk_nand.proofs.Writing.{shape_is}
+use Rattle.pk_rootfmt.specs.Root.{Root}
+use Rattle.pk_rootfmt.specs.Newest.{newest_root}
+use Rattle.pk_pool.specs.declared.state.BlockState.TheVariants.{Owned}
+use Rattle.pk_pool.specs.Blocks.{PoolOnFlash}
+use Rattle.pk_jrn.specs.Epochs.{left_of, next_page}
+use Rattle.pk_jrn.specs.Appends.{next_bytes}
+use Rattle.pk_jrn.proofs.Appending.{page_left}
+use Rattle.pk_model.specs.Found.{Found}
+use Rattle.pk_model.specs.Values.{placed}
+use Rattle.pk_model.specs.Laws.{AnyByRecursion}
+use Rattle.pk_model.proofs.Commits.{valid_blocks, among_newest}
+use Rattle.pk_model.proofs.SamePages.{any_front}
+use Rattle.pk_steps.specs.Under.{IsUnder, IsValuePage, places}
+use Rattle.pk_steps.specs.Roots.{committed}
+use Rattle.pk_steps.proofs.Untouched.{under_reads}
+use Rattle.pk_data.specs.Placed.{ValuesOnFlash}
+use Rattle.pk_data.proofs.Unchanged.{flash_elsewhere}
+use Rattle.pk_model.specs.Growth.{Goes}
+use Rattle.pk_model.specs.Crashes.{CrashFinds, commit}
+use Rattle.pk_nand.specs.Effects.{OneProgram, Works, Stops}
+use Rattle.pk_model.specs.Wear.{root_number, roots}
+use Rattle.pk_model.proofs.Growing.{weaken, weaken_went, at_end}
+use Rattle.pk_nand.proofs.Effects.{works_none, works_program, stops_program}
+use Rattle.pk_log.specs.State.{LogState, all_committed}
+use Rattle.pk_log.specs.Commits.{CommitsNone, CommitsAll, CommitFailed, CommitStands, CommitHolds, CommitReaches, CommitGoes, CommitCut as LogCut, Maps}
+use Rattle.pk_gc.specs.Standing.{ReclaimOnFlash}
+use Rattle.pk_parts.specs.Parts.{Parts, frames_of, index_of, outputs_of}
+use Rattle.pk_parts.specs.Agreeing.{DriveOnFlashWith}
+use Rattle.pk_parts.specs.Moves.{MayStep, StepKeeps, OnlyCommits, StandsFor, Keeps, KeepsAll, BreaksAll}
+use Rattle.pk_parts.proofs.Keeping.{KeepsAll-none}
+use Rattle.pk_parts.proofs.Standing.{same_found}
+use Rattle.pk_schedule.proofs.Keeping.{index_committed}
+use Rattle.pk_parts.proofs.Elsewhere.{values_same, still_fits}
+use Rattle.pk_parts.proofs.Reclaiming.{reclaim_elsewhere}
+
+-- the drive with another log
+abbrev pub with_log : Parts → LogState → Parts
+with_log d log = record d { log = log }
+
+-- the places are those with the pending entries
+pub places_committed : (found : Found) (es : List Entry) → places (committed found es) [] ≡ places found es
+places_committed found es = ap (λ (xs : List Entry). placed (firsts (reverse xs ++ reverse found.older ++ flat_map (λ ys. ys) found.runs))) (append-nil (found.newest ++ es))
+
+-- ---- the next page of the epoch was programmed
+
+module _ (d : Parts) (old new : BoardState) (top : ℕ × Root) (found : Found) (without m : Map) (agrees : DriveOnFlashWith d d.log.shape old.pages top found without m)
+    (some : d.log.pending ≢ []) (bytes : List ℕ) (made : new ≡ after_program old (next_page d.log.epoch) bytes) (ready : IsReady new d.log.shape)
+    (logs_after : CommitStands d.log old (all_committed d.log) new) (holds : CommitHolds d.log old new) where
+  abbrev its : Shape
+  its = d.log.shape
+
+  abbrev at : ℕ
+  at = next_page d.log.epoch
+
+  others : (k : ℕ) → (k ≡ at → ⊥) → page_at new.pages k ≡ page_at old.pages k
+  others k other = ap (λ (s : BoardState). page_at s.pages k) made ∙ page_at-slice_set old.pages at k (whole bytes) other
+
+  positive : 0 < its.block_pages
+  positive = block_pages_positive its agrees.index.logs.is_shape
+
+  -- it lies in a block of the newest epoch
+  among : AnyByRecursion (λ b. at / its.block_pages ≡ b) top.1.newest
+  among =
+      let logs = agrees.index.logs in
+      let inside : d.log.epoch.used < epoch_pages its = subst (λ (s : Shape). d.log.epoch.used < epoch_pages s) logs.epoch_shape (page_left d.log.epoch (logs.pending_room some)) in
+      let same : page_in its top.1.newest d.log.epoch.used ≡ at = λ i. page_in (sym logs.epoch_shape i) (sym logs.epoch_blocks i) d.log.epoch.used in
+      subst (λ (k : ℕ). AnyByRecursion (λ b. k / its.block_pages ≡ b) top.1.newest) same
+      (among_newest its top.1 (valid_blocks its (page_at old.pages) top logs.is_top) positive d.log.epoch.used inside)
+
+  owned : slice_get d.pool.states (at / its.block_pages) ≡ Some (Owned Journal)
+  owned = agrees.index.journal (at / its.block_pages) (any_front (λ c. at / its.block_pages ≡ c) top.1.newest top.1.older among)
+
+  maps : Maps d.log old top found without m
+  maps = record { logs = agrees.index.logs; without = agrees.committed; all = agrees.pending }
+
+  after_is : DriveOnFlashWith (with_log d (all_committed d.log)) its new.pages top (committed found d.log.pending) m m
+  after_is =
+      let under = holds top found without m maps in
+      let same = sym (places_committed found d.log.pending) in
+      let fits : PoolOnFlash d.pool new.pages = still_fits its d.pool old.pages new.pages at owned others agrees.placed.shape_is agrees.placed.fits in
+      let values : ValuesOnFlash its d.space d.pool (outputs_of d) new.pages (places found d.log.pending) =
+      flash_elsewhere its d.space d.pool (outputs_of d) old.pages new.pages (places found d.log.pending) agrees.placed (values_same its d.pool old.pages new.pages at owned others (outputs_of d)) fits in
+      record {
+        shape_is = refl;
+        is_flash = ready.flash;
+        index = index_committed (index_of d) (frames_of d) old.pages new.pages top found agrees.index at among others fits (logs_after top found agrees.index.logs);
+        committed = under;
+        pending = under;
+        placed = subst (λ (es : List (Key × Place)). ValuesOnFlash its d.space d.pool (outputs_of d) new.pages es) same values;
+        former = λ k is. agrees.placed.owned k (subst (λ (es : List (Key × Place)). IsValuePage its es k) (sym same) is);
+        former_read = λ k is. agrees.placed.outputs_are.unread k (subst (λ (es : List (Key × Place)). IsValuePage its es k) (sym same) is);
+        reclaim =
+            subst (λ (es : List (Key × Place)). ReclaimOnFlash its d.reclaim d.space.live d.pool new.pages es) same
+            (reclaim_elsewhere its d.reclaim d.space d.pool d.pool old.pages new.pages (places found d.log.pending) agrees.reclaim agrees.placed refl (λ k held not_open. values_same its d.pool old.pages new.pages at owned others [] k held (λ none. none)));
+        keys_are = agrees.keys_are ∙ ap length same;
+      }
+
+-- ---- cuts
+
+module _ (shape : Shape) (top : ℕ × Root) (found : Found) (es : List Entry) (start : Flash) (m0 m1 : Map) (before : IsUnder shape start [] top found m0) where
+  pub cut_of_log : (flash : Flash) (posted : List ℕ) → LogCut shape top found es m0 m1 flash posted → CrashFinds shape commit start m1 flash posted
+  cut_of_log flash posted cut = (
+    cut.0,
+    elim cut.1 [
+      | inl without ↦ inl (under_reads shape flash [] top found m0 without ∙ sym (under_reads shape start [] top found m0 before))
+      | inr all ↦ inr (under_reads shape flash [] top (committed found es) m1 all)
+    ],
+  )
+
+pub maps_of : (d : Parts) (board : BoardState) (top : ℕ × Root) (found : Found) (without m : Map) → DriveOnFlashWith d d.log.shape board.pages top found without m → Maps d.log board top found without m
+maps_of d board top found without m agrees = record { logs = agrees.index.logs; without = agrees.committed; all = agrees.pending }
+
+-- ---- the whole commit
+
+module _ (d : Parts) (log' : LogState) (old new : BoardState) (ready : IsReady new d.log.shape)
+    (logs_after : CommitStands d.log old log' new) (holds : CommitHolds d.log old new) (reaches : CommitReaches d.log old new) where
+  all_keep : CommitsAll d.log old log' new → (m : Map) → StandsFor d d.log.shape old.pages m → Keeps d (with_log d log') d.log.shape m old new
+  all_keep all m stands =
+      let agrees = stands.with in
+      let maps = maps_of d old stands.top stands.found stands.without m agrees in
+      let under = holds stands.top stands.found stands.without m maps in
+      let run = reaches stands.top stands.found stands.without m maps in
+      let L : LogState → Type 0 = λ l. CommitStands d.log old l new in
+      let K : LogState → Type 0 = λ l. Keeps d (with_log d l) d.log.shape m old new in
+      subst K (sym all.taken) (record {
+        stands = record {
+          top = stands.top;
+          found = committed stands.found d.log.pending;
+          without = m;
+          with = after_is d old new stands.top stands.found stands.without m agrees all.some (next_bytes d.log.epoch d.log.pending) all.board ready (subst L all.taken logs_after) holds;
+        };
+        same_places = λ was. places_committed stands.found d.log.pending ∙ ap (λ (f : Found). places f d.log.pending) (same_found d d.log.shape old.pages m was stands);
+        still = inr (under_reads d.log.shape new.pages [] stands.top (committed stands.found d.log.pending) m under);
+        cuts = (
+          run.0,
+          weaken run.0 old new (LogCut d.log.shape stands.top stands.found d.log.pending stands.without m) (CrashFinds d.log.shape commit old.pages m)
+              (cut_of_log d.log.shape stands.top stands.found d.log.pending old.pages stands.without m agrees.committed) run.1,
+          run.2,
+        );
+      })
+
+  pub commit_keeps : CommitsNone d.log old log' new ⊎ CommitsAll d.log old log' new → KeepsAll d (with_log d log') old new
+  commit_keeps (inl none) shape m stands = KeepsAll-none d (with_log d log') old new (ap (λ (l : LogState). with_log d l) none.kept) none.board shape m stands
+  commit_keeps (inr all) shape m stands =
+      let P : Shape → Type 0 = λ s. StandsFor d s old.pages m → Keeps d (with_log d log') s m old new in
+      subst P stands.with.shape_is (λ there. all_keep all m there) stands
+
+pub commit_breaks : (d : Parts) (old new : BoardState) → CommitGoes d.log old new → BreaksAll d old new
+commit_breaks d old new goes shape m stands =
+    let P : Shape → Type 0 = λ s. StandsFor d s old.pages m → Goes s old new (CrashFinds s commit old.pages m) in
+    subst P stands.with.shape_is (λ there.
+    let maps = maps_of d old there.top there.found there.without m there.with in
+    let run = goes there.top there.found there.without m maps in (
+      run.0,
+      weaken_went run.0 old new (LogCut d.log.shape there.top there.found d.log.pending there.without m) (CrashFinds d.log.shape commit old.pages m)
+          (cut_of_log d.log.shape there.top there.found d.log.pending old.pages there.without m there.with.committed) run.1,
+      run.2,
+    )) stands
+
+-- ---- the counts
+
+pub commit_works : (log log' : LogState) (old new : BoardState) → CommitsNone log old log' new ⊎ CommitsAll log old log' new → Works old new
+commit_works log log' old new (inl none) = works_none old new none.board
+commit_works log log' old new (inr all) = works_program old new (next_page log.epoch) (next_bytes log.epoch log.pending) all.board
+
+pub commit_stops : (log : LogState) (old new : BoardState) → CommitFailed log old new → Stops old new
+commit_stops log old new failed = stops_program old new (next_page log.epoch) (next_bytes log.epoch log.pending) failed.failed
+
+-- ---- the newest root
+
+number_same : (shape : Shape) (old new : Flash) (top : ℕ × Root) → newest_root shape (page_at old) ≡ Some top → newest_root shape (page_at new) ≡ Some top → root_number shape new ≡ root_number shape old
+unfolding root_number
+number_same shape old new top was is = rw (was, is) refl
+
+roots_of : (old new : BoardState) (shape : Shape) (top : ℕ × Root) → IsReady old shape → IsReady new shape → newest_root shape (page_at old.pages) ≡ Some top → newest_root shape (page_at new.pages) ≡ Some top → roots new ≡ roots old
+roots_of old new shape top before after was is =
+    let same = number_same shape old.pages new.pages top was is in
+    ap (λ (s : Shape). root_number s new.pages) (shape_is new shape after) ∙ same ∙ ap (λ (s : Shape). root_number s old.pages) (sym (shape_is old shape before))
+
+top_in_cut : (shape : Shape) (top : ℕ × Root) (found : Found) (es : List Entry) (m0 m1 : Map) (flash : Flash) (posted : List ℕ) → LogCut shape top found es m0 m1 flash posted → newest_root shape (page_at flash) ≡ Some top
+top_in_cut shape top found es m0 m1 flash posted cut = elim cut.1 [ inl without ↦ without.is_top | inr all ↦ all.is_top ]
+
+pub commit_roots : (d : Parts) (shape : Shape) (m : Map) (old new : BoardState) → IsReady old d.log.shape → IsReady new d.log.shape → StandsFor d shape old.pages m → CommitReaches d.log old new → roots new ≡ roots old
+commit_roots d shape m old new before after stands reaches =
+    let there = subst (λ (s : Shape). StandsFor d s old.pages m) (sym stands.with.shape_is) stands in
+    let run = reaches there.top there.found there.without m (maps_of d old there.top there.found there.without m there.with) in
+    roots_of old new d.log.shape there.top before after there.with.index.logs.is_top
+    (top_in_cut d.log.shape there.top there.found d.log.pending there.without m new.pages (all_posted run.0)
+    (at_end run.0 old new (LogCut d.log.shape there.top there.found d.log.pending there.without m) run.1))
+
+pub commit_roots_err : (d : Parts) (shape : Shape) (m : Map) (old new : BoardState) → IsReady old d.log.shape → IsReady new d.log.shape → StandsFor d shape old.pages m → CommitGoes d.log old new → roots new ≡ roots old
+commit_roots_err d shape m old new before after stands goes =
+    let there = subst (λ (s : Shape). StandsFor d s old.pages m) (sym stands.with.shape_is) stands in
+    let run = goes there.top there.found there.without m (maps_of d old there.top there.found there.without m there.with) in
+    roots_of old new d.log.shape there.top before after there.with.index.logs.is_top
+    (top_in_cut d.log.shape there.top there.found d.log.pending there.without m new.pages (all_posted run.0)
+    (run.1.cuts new.pages (all_posted run.0) run.1.stands))
+
+-- ---- the pages left of the epoch
+
+one_less : (more : Bool) (pages used : ℕ) → (if more then pages - (used + 1) else 0) ≤ (if more then pages - used else 0)
+one_less true pages used = omega arith
+one_less false pages used = omega arith
+
+no_more_left : (log log' : LogState) (old new : BoardState) → CommitsNone log old log' new ⊎ CommitsAll log old log' new → left_of log'.epoch ≤ left_of log.epoch
+no_more_left log log' old new (inl none) = subst (λ (l : LogState). left_of l.epoch ≤ left_of log.epoch) (sym none.kept) (le_itself (left_of log.epoch))
+  where
+    le_itself : (n : ℕ) → n ≤ n
+    le_itself n = omega arith
+no_more_left log log' old new (inr all) =
+    subst (λ (l : LogState). left_of l.epoch ≤ left_of log.epoch) (sym all.taken) (one_less log.epoch.takes_more (epoch_pages log.epoch.shape) log.epoch.used)
+
+-- ---- by what the call answered
+
+pub left_ok : (r : Result Unit Fault) (log log' : LogState) (old new : BoardState) → OnOk r (CommitsNone log old log' new ⊎ CommitsAll log old log' new) → OnOk r (left_of log'.epoch ≤ left_of log.epoch)
+left_ok (Ok x) log log' old new made = no_more_left log log' old new made
+left_ok (Err e) log log' old new made = tt
+
+-- where entries were pending, one program was made, whether or not it failed
+pub one_program : (r : Result Unit Fault) (log log' : LogState) (old new : BoardState) → OnOk r (CommitsNone log old log' new ⊎ CommitsAll log old log' new) → OnErr r (CommitFailed log old new)
+    → log.pending ≢ [] → OneProgram old new
+one_program (Ok x) log log' old new (inl none) failed some = absurd (some none.none)
+one_program (Ok x) log log' old new (inr all) failed some = record { programs = ap (λ s. s.programs) all.board; erases = ap (λ s. s.erases) all.board; reads = ap (λ s. s.reads) all.board }
+one_program (Err e) log log' old new made failed some = record { programs = ap (λ s. s.programs) failed.failed.rest; erases = ap (λ s. s.erases) failed.failed.rest; reads = ap (λ s. s.reads) failed.failed.rest }
+
+-- where none were, nothing was done
+pub nothing_done : (r : Result Unit Fault) (d : Parts) (log' : LogState) (old new : BoardState) → OnOk r (CommitsNone d.log old log' new ⊎ CommitsAll d.log old log' new) → OnErr r (CommitFailed d.log old new)
+    → d.log.pending ≡ [] → IsOk r × (with_log d log' ≡ d) × (new ≡ old)
+nothing_done (Ok x) d log' old new (inl none) failed is = (refl, ap (λ (l : LogState). with_log d l) none.kept, none.board)
+nothing_done (Ok x) d log' old new (inr all) failed is = absurd (all.some is)
+nothing_done (Err e) d log' old new made failed is = absurd (failed.some is)
+
+-- ---- the step
+
+pub rest_ok : (r : Result Unit Fault) (d : Parts) (log' : LogState) (old new : BoardState) → OnOk r (CommitsNone d.log old log' new ⊎ CommitsAll d.log old log' new) → OnOk r (OnlyCommits d (with_log d log'))
+rest_ok (Ok x) d log' old new (inl none) = let P : LogState → Type 0 = λ l. OnlyCommits d (with_log d l) in subst P (sym none.kept) refl
+rest_ok (Ok x) d log' old new (inr all) = let P : LogState → Type 0 = λ l. OnlyCommits d (with_log d l) in subst P (sym all.taken) refl
+rest_ok (Err e) d log' old new made = tt
+
+pub commit_step : (r : Result Unit Fault) (d : Parts) (log' : LogState) (old new : BoardState) → MayStep d old → IsReady new d.log.shape
+    → OnOk r (CommitsNone d.log old log' new ⊎ CommitsAll d.log old log' new) → OnOk r (CommitStands d.log old log' new) → OnOk r (CommitHolds d.log old new) → OnOk r (CommitReaches d.log old new)
+    → IfErr r (λ e. e ≡ Stopped) → OnErr r (CommitFailed d.log old new) → OnErr r (CommitGoes d.log old new) → StepKeeps d (with_log d log') 0 old new r
+commit_step (Ok x) d log' old new may after made stands holds reaches stopped failed goes = record {
+  ended = commit_keeps d log' old new after stands holds reaches made;
+  broken = tt;
+  works = commit_works d.log log' old new made;
+  stops = tt;
+  stopped = tt;
+  roots_few = commit_roots d d.log.shape may.stands.0 old new may.ready after may.stands.1 reaches;
+  ready = after;
+}
+commit_step (Err e) d log' old new may after made stands holds reaches stopped failed goes = record {
+  ended = tt;
+  broken = commit_breaks d old new goes;
+  works = tt;
+  stops = commit_stops d.log old new failed;
+  stopped = stopped;
+  roots_few = commit_roots_err d d.log.shape may.stands.0 old new may.ready after may.stands.1 goes;
+  ready = after;
+}

@@ -1,0 +1,65 @@
+-- What a look-up says of the map.
+use Rattle.std.proofs.Common.{◌≡◌, ℕ, ap, subst, ◌∙◌, List, Option, Some, None, Result, Ok, Err}
+use Rattle.std.specs.Prelude.{IfOk, OnOk, OnErr}
+use Rattle.std.specs.FinMap.{get}
+use Rattle.std.specs.FinMap.Entries.{find}
+use Rattle.pk_base.specs.Key.{Key, key_cmp}
+use Rattle.pk_base.specs.Shape.{Shape}
+use Rattle.pk_base.specs.Page.{Flash}
+use Rattle.pk_base.specs.Entry.{Entry}
+use Rattle.pk_base.specs.Firsts.{firsts}
+use Rattle.pk_base.specs.Map.{Map}
+use Rattle.pk_base.specs.declared.entry.Entry.{Entry as RustEntry}
+use Rattle.pk_base.specs.declared.entry.Entry.TheVariants.{Put, Gone}
+use Rattle.pk_rootfmt.specs.Root.{Root}
+use Rattle.pk_nand.specs.declared.types.Fault.{Fault}
+use Rattle.pk_run.specs.Search.{IsFound}
+use Rattle.pk_level.specs.Levels.{RunsOnFlash}
+use Rattle.pk_model.specs.Found.{Found, entries_in_order}
+use Rattle.pk_model.proofs.Lookups.{flat, find-firsts, firsts_sorted, find-placed}
+use Rattle.pk_steps.specs.Under.{IsUnder, places}
+use Rattle.pk_steps.specs.Lookups.{IsValueOf}
+use Rattle.pk_steps.proofs.Counting.{finds}
+use Rattle.pk_log.specs.Logs.{LogOnFlash}
+use Rattle.pk_parts.specs.Parts.{Parts}
+use Rattle.pk_parts.specs.Finding.{named_by, named_by_found, IsPlaceIn}
+use Rattle.pk_parts.specs.Quiet.{Looks}
+
+-- ---- the place of a value
+
+placed_is : (found : Found) (pending : List Entry) (key : Key) → find key_cmp key (places found pending) ≡ flat (find key_cmp key (entries_in_order found pending))
+placed_is found pending key =
+    find-placed key (firsts (entries_in_order found pending)) (firsts_sorted (entries_in_order found pending)) ∙ ap flat (find-firsts key (entries_in_order found pending))
+
+pub place_in_map : (shape : Shape) (flash : Flash) (top : ℕ × Root) (found : Found) (pending : List Entry) (m : Map) (key : Key) (e : Option RustEntry)
+    → IsUnder shape flash pending top found m → IsFound key (entries_in_order found pending) e → IsPlaceIn shape flash found pending m key (named_by e)
+place_in_map shape flash top found pending m key None under is = record {
+  placed = placed_is found pending key ∙ ap flat is;
+  there = subst (λ o. IsValueOf shape flash key o (get m key)) is (finds shape flash pending top found m key under);
+}
+place_in_map shape flash top found pending m key (Some (Put k page len)) under is = record {
+  placed = placed_is found pending key ∙ ap flat is.1;
+  there = subst (λ o. IsValueOf shape flash key o (get m key)) is.1 (finds shape flash pending top found m key under);
+}
+place_in_map shape flash top found pending m key (Some (Gone k)) under is = record {
+  placed = placed_is found pending key ∙ ap flat is.1;
+  there = subst (λ o. IsValueOf shape flash key o (get m key)) is.1 (finds shape flash pending top found m key under);
+}
+
+-- ---- a look-up
+
+-- what a search says of entries, the place says of the map
+pub looks_found : (d : Parts) (flash : Flash) (key : Key) (r : Result (Option RustEntry) Fault) → IfOk r (λ e. (top : ℕ × Root) (found : Found)
+    → LogOnFlash d.log flash top found → RunsOnFlash flash d.arena d.levels.runs found.runs → IsFound key (entries_in_order found d.log.pending) e)
+    → IfOk (named_by_found r) (λ p. Looks d flash key p)
+looks_found d flash key (Ok e) is = λ top found m logs stand under. place_in_map d.log.shape flash top found d.log.pending m key e under (is top found logs stand)
+looks_found d flash key (Err f) is = tt
+
+-- it is answered where the search was
+pub named_ok : (X : Type 0) (r : Result (Option RustEntry) Fault) → OnOk r X → OnOk (named_by_found r) X
+named_ok X (Ok e) x = x
+named_ok X (Err f) x = tt
+
+pub named_err : (X : Type 0) (r : Result (Option RustEntry) Fault) → OnErr r X → OnErr (named_by_found r) X
+named_err X (Ok e) x = tt
+named_err X (Err f) x = x

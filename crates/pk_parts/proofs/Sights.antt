@@ -1,0 +1,26 @@
+-- How what is seen of a drive changes in a commit.
+use Rattle.std.proofs.Common.{◌≡◌, ◌⊎◌, inl, inr, refl, sym, subst, List, Result, Ok, Err}
+use Rattle.std.specs.Prelude.{OnOk}
+use Rattle.pk_base.specs.Entry.{Entry}
+use Rattle.pk_nand.specs.declared.types.Fault.{Fault}
+use Rattle.pk_nand.specs.BoardState.{BoardState}
+use Rattle.pk_log.specs.State.{LogState}
+use Rattle.pk_log.specs.Commits.{CommitsNone, CommitsAll}
+use Rattle.pk_drive.specs.Moving.{Commits}
+use Rattle.pk_parts.specs.Parts.{Parts, sight_of}
+use Rattle.pk_parts.proofs.Committing.{with_log}
+
+-- ---- a commit
+
+commits_seen : (d : Parts) (log' : LogState) (old new : BoardState) → CommitsNone d.log old log' new ⊎ CommitsAll d.log old log' new → Commits (sight_of d) (sight_of (with_log d log'))
+commits_seen d log' old new (inl none) =
+    let T : LogState → Type 0 = λ l. Commits (sight_of d) (sight_of (with_log d l)) in
+    let U : List Entry → Type 0 = λ p. sight_of d ≡ record (sight_of d) { pending = p } in
+    subst T (sym none.kept) (subst U none.none refl)
+commits_seen d log' old new (inr all) =
+    let T : LogState → Type 0 = λ l. Commits (sight_of d) (sight_of (with_log d l)) in
+    subst T (sym all.taken) refl
+
+pub seen_ok : (r : Result Unit Fault) (d : Parts) (log' : LogState) (old new : BoardState) → OnOk r (CommitsNone d.log old log' new ⊎ CommitsAll d.log old log' new) → OnOk r (Commits (sight_of d) (sight_of (with_log d log')))
+seen_ok (Ok x) d log' old new made = commits_seen d log' old new made
+seen_ok (Err e) d log' old new made = tt

@@ -1,0 +1,484 @@
+-- A value that was written into a block for values: what the drive stands for, at every cut and behind it.
+use Rattle.std.proofs.Common.{◌≡◌, ◌⊎◌, inl, inr, ℕ, zero, suc, ◌+◌, ◌*◌, ◌/◌, ◌%◌, ◌<◌, ◌≤◌, refl, sym, ap, subst, ◌∙◌, arith, true, false, List, [], ◌∷◌, ◌++◌, length, Option, Some, None, Result, Ok, Err, slice_get, div-lt_iff_lt-mul}
+use Rattle.std.specs.List.{concat}
+use Rattle.std.proofs.lemmas.Bool.{cases_eq, le-leb}
+use Rattle.std.proofs.lemmas.Nat.{div-add-mod'}
+use Rattle.pk_base.specs.Shape.{Shape, IsShape, charge, greatest, data_blocks}
+use Rattle.pk_base.specs.Page.{Flash, page_at, erased, whole}
+use Rattle.pk_base.specs.Key.{Key, IsKey}
+use Rattle.pk_base.specs.Map.{Map}
+use Rattle.pk_base.proofs.ShapeLemmas.{block_pages_positive}
+use Rattle.pk_segfmt.proofs.StoredLemmas.{charge_some, value_again}
+use Rattle.pk_rootfmt.specs.Root.{Root, named}
+use Rattle.pk_rootfmt.specs.Newest.{newest_root}
+use Rattle.pk_plan.specs.declared.owner.Owner.{Owner}
+use Rattle.pk_plan.specs.declared.owner.Owner.TheVariants.{Journal, Meta, Values}
+use Rattle.std.specs.Prelude.{IfOk, IfErr, OnErr, ◌-◌, not, ◌&&◌, nat_le}
+use Rattle.pk_nand.specs.declared.types.Fault.{Fault}
+use Rattle.pk_nand.specs.declared.types.Fault.TheVariants.{Stopped}
+use Rattle.pk_model.specs.Steps.{Step}
+use Rattle.pk_nand.specs.BoardState.{BoardState, shape_or_none}
+use Rattle.pk_nand.specs.Calls.{IsReady}
+use Rattle.pk_pool.specs.declared.state.BlockState.{BlockState}
+use Rattle.pk_pool.specs.declared.state.BlockState.TheVariants.{Free, Ready, Owned}
+use Rattle.pk_pool.specs.Blocks.{Blocks, PoolOnFlash, IsShared, IsSpare, is_owned_by, used_by, with_state}
+use Rattle.pk_pool.proofs.States.{get-set_other}
+use Rattle.pk_pool.proofs.Sharing.{count-set}
+use Rattle.pk_pool.proofs.Fitting.{block_of}
+use Rattle.pk_model.specs.Found.{Found}
+use Rattle.pk_model.specs.Laws.{AnyByRecursion}
+use Rattle.pk_steps.specs.Under.{IsNamed, IsValuePage, places}
+use Rattle.pk_steps.proofs.Untouched.{value_page_whole, not_erased, under_reads}
+use Rattle.pk_model.specs.Growth.{Reaches, Goes}
+use Rattle.pk_model.specs.Crashes.{CrashFinds, commit}
+use Rattle.pk_model.specs.Wear.{number_of, root_number, roots}
+use Rattle.pk_model.proofs.Growing.{weaken, weaken_went}
+use Rattle.pk_nand.specs.Effects.{Works, Stops}
+use Rattle.pk_nand.proofs.Effects.{works_none, works_erase, works_then, stops_erase, stops_then}
+use Rattle.pk_segfmt.specs.Stored.{page_of}
+use Rattle.pk_nand.proofs.Leaving.{page_at-slice_set}
+use Rattle.pk_seg.specs.Stored.{written}
+use Rattle.pk_live.specs.Values.{Values as LiveValues}
+use Rattle.pk_data.specs.declared.open_block.OpenBlock.{OpenBlock}
+use Rattle.pk_data.specs.State.{DataState, fits_open, needs_reclaim, more_used}
+use Rattle.pk_data.specs.Placed.{HoldsValues, IsNotOpen}
+use Rattle.pk_data.specs.Reserving.{TakesNext}
+use Rattle.pk_gc.specs.Standing.{ReclaimOnFlash}
+use Rattle.pk_parts.specs.Parts.{Parts, outputs_of}
+use Rattle.pk_parts.specs.Agreeing.{DriveOnFlashWith}
+use Rattle.pk_parts.specs.Moves.{StandsFor, Keeps, KeepsAll, BreaksAll, MayStep}
+use Rattle.pk_parts.specs.Noting.{IsPlaced, StepPlaces}
+use Rattle.pk_parts.specs.Placing.{Reserves, PlacesValue, FailsToPlace}
+use Rattle.pk_parts.proofs.Standing.{found_once}
+use Rattle.pk_parts.proofs.Reclaiming.{SameButOpen, runs_or_rests, reclaim_rests, reclaim_elsewhere, not_of_open}
+use Rattle.pk_schedule.proofs.Keeping.{IsBeside}
+use Rattle.pk_parts.proofs.Unread.{IsReadBy, SameRead, KeepsOwners, same_top, still_without, agrees_elsewhere}
+use Rattle.pk_parts.proofs.Stills.{IsStill, SameStill, StillCut, still_then, still_goes, still_end, went_end, still_none, still_erase, still_erase_failed, still_written, still_write_failed, works_written, stops_written}
+
+-- ---- blocks and their owners
+
+spare_or_owned : (p : Blocks) (b : ℕ) (o : Owner) → IsSpare p b → slice_get p.states b ≡ Some (Owned o) → ⊥
+spare_or_owned p b o (inl free) is = cc
+spare_or_owned p b o (inr ready) is = cc
+
+owners_taken : (p : Blocks) (block : ℕ) (s : BlockState) → IsSpare p block → KeepsOwners p (with_state p block s)
+owners_taken p block s spare b o is = elim (cases_eq b block) [
+  | inl e ↦ absurd (spare_or_owned p block o spare (subst (λ (c : ℕ). slice_get p.states c ≡ Some (Owned o)) e is))
+  | inr ne ↦ get-set_other p.states block b s ne ∙ is
+]
+
+journal_taken : (p : Blocks) (block : ℕ) → IsSpare p block → used_by Journal (with_state p block (Owned Values)).states ≡ used_by Journal p.states
+journal_taken p block (inl free) = let all = count-set (is_owned_by Journal) p.states block Free (Owned Values) free in omega (arith, all)
+journal_taken p block (inr ready) = let all = count-set (is_owned_by Journal) p.states block Ready (Owned Values) ready in omega (arith, all)
+
+meta_taken : (p : Blocks) (block : ℕ) → IsSpare p block → used_by Meta (with_state p block (Owned Values)).states ≡ used_by Meta p.states
+meta_taken p block (inl free) = let all = count-set (is_owned_by Meta) p.states block Free (Owned Values) free in omega (arith, all)
+meta_taken p block (inr ready) = let all = count-set (is_owned_by Meta) p.states block Ready (Owned Values) ready in omega (arith, all)
+
+pub journal_or_values : (p : Blocks) (b : ℕ) → slice_get p.states b ≡ Some (Owned Journal) → HoldsValues p b → ⊥
+journal_or_values p b is held = cc
+
+pub meta_or_values : (p : Blocks) (b : ℕ) → slice_get p.states b ≡ Some (Owned Meta) → HoldsValues p b → ⊥
+meta_or_values p b is held = cc
+
+any_split : (P : ℕ → Type 0) (xs ys : List ℕ) → AnyByRecursion P (xs ++ ys) → AnyByRecursion P xs ⊎ AnyByRecursion P ys
+any_split P [] ys is = inr is
+any_split P (x ∷ xs) ys (inl is) = inl (inl is)
+any_split P (x ∷ xs) ys (inr is) = elim (any_split P xs ys is) [ inl front ↦ inl (inr front) | inr back ↦ inr back ]
+
+-- a root block is not free
+behind_roots : (shape : Shape) (states : List BlockState) (b : ℕ) → IsShared shape states → slice_get states b ≡ Some Free → 2 ≤ b
+behind_roots shape states zero shared free = let first = shared.first in cc
+behind_roots shape states (suc zero) shared free = let second = shared.second in cc
+behind_roots shape states (suc (suc b)) shared free = omega arith
+
+-- the pages of a value lie in the block of the first
+same_block : (n page count k : ℕ) → page % n + count ≤ n → page ≤ k → k < page + count → k / n ≡ page / n
+same_block n page count k inside low high =
+    let whole = div-add-mod' page n in
+    block_of n k (page / n) (omega (arith, whole, low)) (omega (arith, whole, high, inside))
+
+-- the page lies behind the root blocks
+not_low : (n page k : ℕ) → 0 < n → 2 ≤ page / n → page ≤ k → k < 2 * n → ⊥
+not_low n page k positive behind low small =
+    let less : page / n < 2 = (div-lt_iff_lt-mul positive).1 (omega (arith, low, small)) in
+    omega (arith, less, behind)
+
+-- the page lies in a block of the journal or of a run
+abbrev pub IsIndexed : Blocks → Shape → ℕ → Type 0
+IsIndexed pool shape k = (slice_get pool.states (k / shape.block_pages) ≡ Some (Owned Journal)) ⊎ (slice_get pool.states (k / shape.block_pages) ≡ Some (Owned Meta))
+
+-- ---- what is read
+
+module _ (d : Parts) (shape : Shape) (old : Flash) (top : ℕ × Root) (found : Found) (without all : Map) (with : DriveOnFlashWith d shape old top found without all) where
+  shape_ok : IsShape shape
+  shape_ok = subst IsShape with.shape_is with.index.logs.is_shape
+
+  positive : 0 < shape.block_pages
+  positive = block_pages_positive shape shape_ok
+
+  -- a block that the root names has another owner than values
+  pub named_owner : (b : ℕ) → AnyByRecursion (λ c. b ≡ c) (named top.1) → (slice_get d.pool.states b ≡ Some (Owned Journal)) ⊎ (slice_get d.pool.states b ≡ Some (Owned Meta))
+  named_owner b is = elim (any_split (λ c. b ≡ c) (top.1.newest ++ top.1.older) (concat top.1.runs) is) [ inl front ↦ inl (with.index.journal b front) | inr back ↦ inr (with.index.runs b back) ]
+
+  -- the page of a value is in a block for values
+  value_owner : (k : ℕ) → IsValuePage shape (places found []) k ⊎ IsValuePage shape (places found d.log.pending) k → HoldsValues d.pool (k / shape.block_pages)
+  value_owner k (inl is) = with.former k is
+  value_owner k (inr is) = with.placed.owned k is
+
+  -- no page is read of a block that has no owner
+  pub spare_unread : (block : ℕ) → IsSpare d.pool block → 2 ≤ block → (k : ℕ) → k / shape.block_pages ≡ block → IsReadBy shape top.1 found d.log.pending k → ⊥
+  spare_unread block spare behind k here is = elim is [
+    | inl first ↦ elim first [ inl low ↦ root low | inr rest ↦ elim rest [ inl in_named ↦ by_named in_named | inr value ↦ by_value (inl value) ] ]
+    | inr second ↦ elim second [ inl low ↦ root low | inr rest ↦ elim rest [ inl in_named ↦ by_named in_named | inr value ↦ by_value (inr value) ] ]
+  ]
+    where
+      root : k < 2 * shape.block_pages → ⊥
+      root low = not_low shape.block_pages k k positive (omega (arith, here, behind)) (omega arith) low
+
+      by_named : IsNamed shape top.1 k → ⊥
+      by_named in_named = elim (named_owner block (subst (λ (x : ℕ). AnyByRecursion (λ b. x ≡ b) (named top.1)) here in_named)) [
+        | inl journal ↦ spare_or_owned d.pool block Journal spare journal
+        | inr meta ↦ spare_or_owned d.pool block Meta spare meta
+      ]
+
+      by_value : IsValuePage shape (places found []) k ⊎ IsValuePage shape (places found d.log.pending) k → ⊥
+      by_value value = spare_or_owned d.pool block Values spare (subst (λ (x : ℕ). HoldsValues d.pool x) here (value_owner k value))
+
+  -- no page is read that is Erased, and stands in a block for values
+  pub erased_unread : (q : Blocks) (now : Flash) → KeepsOwners d.pool q → SameRead shape top.1 found d.log.pending old now
+      → (k : ℕ) → 2 * shape.block_pages ≤ k → HoldsValues q (k / shape.block_pages) → page_at now k ≡ erased → IsReadBy shape top.1 found d.log.pending k → ⊥
+  erased_unread q now owners same k high held none is = elim is [
+    | inl first ↦ elim first [ inl low ↦ omega (arith, low, high) | inr rest ↦ elim rest [ inl in_named ↦ by_named in_named | inr value ↦ not_erased _ (value_page_whole shape old [] top found without with.committed k value) was ] ]
+    | inr second ↦ elim second [ inl low ↦ omega (arith, low, high) | inr rest ↦ elim rest [ inl in_named ↦ by_named in_named | inr value ↦ not_erased _ (value_page_whole shape old d.log.pending top found all with.pending k value) was ] ]
+  ]
+    where
+      was : page_at old k ≡ erased
+      was = sym (same k is) ∙ none
+
+      by_named : IsNamed shape top.1 k → ⊥
+      by_named in_named = elim (named_owner (k / shape.block_pages) in_named) [
+        | inl journal ↦ journal_or_values q (k / shape.block_pages) (owners (k / shape.block_pages) Journal journal) held
+        | inr meta ↦ meta_or_values q (k / shape.block_pages) (owners (k / shape.block_pages) Meta meta) held
+      ]
+
+  -- ---- what is kept besides
+
+  -- no page is kept of a block that has no owner
+  pub spare_still : (block : ℕ) → IsSpare d.pool block → 2 ≤ block → (k : ℕ) → k / shape.block_pages ≡ block → IsStill shape top.1 found d.log.pending (IsIndexed d.pool shape) k → ⊥
+  spare_still block spare behind k here (inl is) = spare_unread block spare behind k here is
+  spare_still block spare behind k here (inr (inl journal)) = spare_or_owned d.pool block Journal spare (subst (λ (b : ℕ). slice_get d.pool.states b ≡ Some (Owned Journal)) here journal)
+  spare_still block spare behind k here (inr (inr meta)) = spare_or_owned d.pool block Meta spare (subst (λ (b : ℕ). slice_get d.pool.states b ≡ Some (Owned Meta)) here meta)
+
+  -- nor is one that is Erased, and stands in a block for values
+  pub erased_still : (q : Blocks) (now : Flash) → KeepsOwners d.pool q → SameRead shape top.1 found d.log.pending old now
+      → (k : ℕ) → 2 * shape.block_pages ≤ k → HoldsValues q (k / shape.block_pages) → page_at now k ≡ erased → IsStill shape top.1 found d.log.pending (IsIndexed d.pool shape) k → ⊥
+  erased_still q now owners same k high held none (inl is) = erased_unread q now owners same k high held none is
+  erased_still q now owners same k high held none (inr (inl journal)) = journal_or_values q (k / shape.block_pages) (owners (k / shape.block_pages) Journal journal) held
+  erased_still q now owners same k high held none (inr (inr meta)) = meta_or_values q (k / shape.block_pages) (owners (k / shape.block_pages) Meta meta) held
+
+  -- so the blocks of the journal and of runs are as before
+  pub beside_still : (q : Blocks) (now : Flash) → KeepsOwners d.pool q → q.shape ≡ shape → PoolOnFlash q now → used_by Journal q.states ≡ used_by Journal d.pool.states → used_by Meta q.states ≡ used_by Meta d.pool.states
+      → SameStill shape top.1 found d.log.pending (IsIndexed d.pool shape) old now → IsBeside d.pool old q now
+  beside_still q now owners q_shape fits journal meta same =
+      let its : d.pool.shape ≡ shape = with.placed.shape_is in
+      let at : (b k : ℕ) → k / d.pool.shape.block_pages ≡ b → b ≡ k / shape.block_pages = λ b k here. sym here ∙ ap (λ (s : Shape). k / s.block_pages) its in
+      record {
+        meta = record {
+          shape = q_shape ∙ sym its;
+          fits = fits;
+          used = meta;
+          owned = λ b is. owners b Meta is;
+          same = λ b k is here. same k (inr (inr (subst (λ (c : ℕ). slice_get d.pool.states c ≡ Some (Owned Meta)) (at b k here) is)));
+        };
+        low = λ k small. same k (inl (inl (inl (subst (λ (s : Shape). k < 2 * s.block_pages) its small))));
+        owned = λ b is. owners b Journal is;
+        used = journal;
+        same = λ b k is here. same k (inr (inl (subst (λ (c : ℕ). slice_get d.pool.states c ≡ Some (Owned Journal)) (at b k here) is)));
+      }
+
+-- ---- a block is taken, or none
+
+module _ (d : Parts) (page count : ℕ) (space : DataState) (q : Blocks) (old new : BoardState) (reserved : Reserves d.log.shape d.space d.pool old page count space q new) where
+  pub owners_reserved : KeepsOwners d.pool q
+  owners_reserved = elim reserved.taken [
+    | inl next ↦ subst (λ (r : Blocks). KeepsOwners d.pool r) (sym next.same_pool) (λ b o is. is)
+    | inr opens ↦ subst (λ (r : Blocks). KeepsOwners d.pool r) (sym opens.taken) (owners_taken d.pool opens.block (Owned Values) opens.spare)
+  ]
+
+  pub journal_reserved : used_by Journal q.states ≡ used_by Journal d.pool.states
+  journal_reserved = elim reserved.taken [
+    | inl next ↦ ap (λ (r : Blocks). used_by Journal r.states) next.same_pool
+    | inr opens ↦ ap (λ (r : Blocks). used_by Journal r.states) opens.taken ∙ journal_taken d.pool opens.block opens.spare
+  ]
+
+  pub meta_reserved : used_by Meta q.states ≡ used_by Meta d.pool.states
+  meta_reserved = elim reserved.taken [
+    | inl next ↦ ap (λ (r : Blocks). used_by Meta r.states) next.same_pool
+    | inr opens ↦ ap (λ (r : Blocks). used_by Meta r.states) opens.taken ∙ meta_taken d.pool opens.block opens.spare
+  ]
+
+  pub works_reserved : Works old new
+  works_reserved = elim reserved.taken [
+    | inl next ↦ works_none old new next.same_board
+    | inr opens ↦ elim opens.choice [ inl ready ↦ works_none old new ready.same | inr free ↦ works_erase old new opens.block free.erase ]
+  ]
+
+  module _ (ready : IsReady old d.log.shape) (top : ℕ × Root) (found : Found) (without all : Map) (with : DriveOnFlashWith d d.log.shape old.pages top found without all) where
+    abbrev still : Flash → List ℕ → Type 0
+    still = StillCut d.log.shape top.1 found d.log.pending (IsIndexed d.pool d.log.shape) old.pages
+
+    start : SameStill d.log.shape top.1 found d.log.pending (IsIndexed d.pool d.log.shape) old.pages old.pages
+    start k is = refl
+
+    pub reserve_reaches : Reaches d.log.shape old new still
+    reserve_reaches = elim reserved.taken [
+      | inl next ↦ still_none d.log.shape top.1 found d.log.pending (IsIndexed d.pool d.log.shape) old.pages old ready.shape_is start new next.same_board
+      | inr opens ↦ elim opens.choice [
+        | inl taken ↦ still_none d.log.shape top.1 found d.log.pending (IsIndexed d.pool d.log.shape) old.pages old ready.shape_is start new taken.same
+        | inr free ↦ still_erase d.log.shape top.1 found d.log.pending (IsIndexed d.pool d.log.shape) old.pages old ready.shape_is start opens.block (spare_still d d.log.shape old.pages top found without all with opens.block opens.spare opens.place.0) new free.erase
+      ]
+    ]
+
+    same_reserved : SameStill d.log.shape top.1 found d.log.pending (IsIndexed d.pool d.log.shape) old.pages new.pages
+    same_reserved = still_end d.log.shape top.1 found d.log.pending (IsIndexed d.pool d.log.shape) old.pages old new reserve_reaches
+
+    -- no page is read of those that were found
+    pub pages_unread : (k : ℕ) → page ≤ k → k < page + count → IsStill d.log.shape top.1 found d.log.pending (IsIndexed d.pool d.log.shape) k → ⊥
+    pages_unread k low high =
+        let n : ℕ = d.log.shape.block_pages in
+        let here : k / n ≡ page / n = same_block n page count k reserved.pages.inside low high in
+        let positive : 0 < n = block_pages_positive d.log.shape with.index.logs.is_shape in
+        let least : 2 * n ≤ page = elim (cases_le (2 * n) page) [ inl le ↦ le | inr less ↦ absurd (not_low n page page positive reserved.pages.behind_roots (omega arith) less) ] in
+        erased_still d d.log.shape old.pages top found without all with q new.pages owners_reserved (λ j is. same_reserved j (inl is)) k (omega (arith, least, low))
+        (subst (λ (b : ℕ). HoldsValues q b) (sym here) reserved.pages.owned) (reserved.pages.free k low high)
+      where
+        cases_le : (a b : ℕ) → (a ≤ b) ⊎ (b < a)
+        cases_le zero b = inl (omega arith)
+        cases_le (suc a) zero = inr (omega arith)
+        cases_le (suc a) (suc b) = elim (cases_le a b) [ inl le ↦ inl (omega (arith, le)) | inr less ↦ inr (omega (arith, less)) ]
+
+-- ---- the clauses, for every shape and map
+
+pub keeps_for : (before after : Parts) (old new : BoardState) → ((m : Map) → StandsFor before before.log.shape old.pages m → Keeps before after before.log.shape m old new) → KeepsAll before after old new
+keeps_for before after old new f shape m stands =
+    let is : before.log.shape ≡ shape = stands.with.shape_is in
+    subst (λ (s : Shape). Keeps before after s m old new) is (f m (subst (λ (s : Shape). StandsFor before s old.pages m) (sym is) stands))
+
+pub breaks_for : (before : Parts) (old new : BoardState) → ((m : Map) → StandsFor before before.log.shape old.pages m → Goes before.log.shape old new (CrashFinds before.log.shape commit old.pages m)) → BreaksAll before old new
+breaks_for before old new f shape m stands =
+    let is : before.log.shape ≡ shape = stands.with.shape_is in
+    subst (λ (s : Shape). Goes s old new (CrashFinds s commit old.pages m)) is (f m (subst (λ (s : Shape). StandsFor before s old.pages m) (sym is) stands))
+
+-- a cut at which no page differs that is read is one of a step that keeps the map
+pub still_commits : (d : Parts) (shape : Shape) (old : Flash) (top : ℕ × Root) (found : Found) (without all : Map) → DriveOnFlashWith d shape old top found without all
+    → (f : Flash) (q : List ℕ) → StillCut shape top.1 found d.log.pending (IsIndexed d.pool shape) old f q → CrashFinds shape commit old all f q
+still_commits d shape old top found without all with f q is =
+    (is.0, inl (under_reads shape f [] top found without (still_without d d.space d.pool shape old f top found without all with (λ k is_read. is.1 k (inl is_read))) ∙ sym (under_reads shape old [] top found without with.committed)))
+
+-- ---- the value is written
+
+-- no block is opened where all of them are in use
+never_opens : (shape : Shape) (space : DataState) (pool : Blocks) (count : ℕ) → fits_open shape space count ≡ false → needs_reclaim shape space pool count ≡ false → used_by Values pool.states ≡ data_blocks shape → ⊥
+never_opens shape space pool count none room full =
+    let few : nat_le (data_blocks shape - 1) (used_by Values pool.states) ≡ false = ap (λ b. not b && nat_le (data_blocks shape - 1) (used_by Values pool.states)) (sym none) ∙ room in
+    true_false (sym (le-leb (data_blocks shape - 1) (used_by Values pool.states) (omega (arith, full))) ∙ few)
+  where
+    true_false : true ≡ false → ⊥
+    true_false e = cc
+
+-- the block that takes values is the same one
+still_open : (o : Option OpenBlock) (count b : ℕ) → IsNotOpen o b → IsNotOpen (more_used o count) b
+still_open None count b other = other
+still_open (Some o) count b other = other
+
+-- no other page differs behind the programs of a value
+written_outside : (shape : Shape) (key : Key) (page : ℕ) (value : List ℕ) (n : ℕ) (old : BoardState) (k : ℕ) → (page ≤ k → k < page + n → ⊥) → page_at (written shape key page value n old).pages k ≡ page_at old.pages k
+written_outside shape key page value zero old k out = refl
+written_outside shape key page value (suc n) old k out =
+    page_at-slice_set (written shape key page value n old).pages (page + n) k (whole (page_of shape key value n)) (λ e. out (omega (arith, e)) (omega (arith, e)))
+    ∙ written_outside shape key page value n old k (λ low high. out low (omega (arith, high)))
+
+module _ (d : Parts) (key : Key) (value : List ℕ) (old : BoardState) (page : ℕ) (space : DataState) (q : Blocks) (new : BoardState)
+    (is : PlacesValue d.log.shape key value d.space d.pool old page space q new) (ready : IsReady old d.log.shape) (ready_new : IsReady new d.log.shape)
+    (room : needs_reclaim d.log.shape d.space d.pool (charge d.log.shape (length value)) ≡ false) where
+  abbrev pub shape : Shape
+  shape = d.log.shape
+
+  abbrev pub after : Parts
+  after = record d { space = space; pool = q }
+
+  pub works_placed : Works old new
+  works_placed = works_then old is.between new (works_reserved d page (charge shape (length value)) is.space q old is.between is.reserved)
+      (subst (λ (b : BoardState). Works is.between b) (sym is.writes) (works_written shape key page value (charge shape (length value)) is.between))
+
+  module _ (top : ℕ × Root) (found : Found) (without all : Map) (with : DriveOnFlashWith d shape old.pages top found without all) where
+    pub placed_reaches : Reaches shape old new (StillCut shape top.1 found d.log.pending (IsIndexed d.pool shape) old.pages)
+    placed_reaches =
+        let count : ℕ = charge shape (length value) in
+        let before = reserve_reaches d page count is.space q old is.between is.reserved ready top found without all with in
+        let so_far = still_end shape top.1 found d.log.pending (IsIndexed d.pool shape) old.pages old is.between before in
+        let unread = pages_unread d page count is.space q old is.between is.reserved ready top found without all with in
+        let more = still_written shape top.1 found d.log.pending (IsIndexed d.pool shape) old.pages is.between is.reserved.ready.shape_is so_far key page value unread count (omega arith) in
+        still_then shape top.1 found d.log.pending (IsIndexed d.pool shape) old.pages old is.between new ready.shape_is before
+        (subst (λ (b : BoardState). Reaches shape is.between b (StillCut shape top.1 found d.log.pending (IsIndexed d.pool shape) old.pages)) (sym is.writes) more)
+
+    same_placed : SameStill shape top.1 found d.log.pending (IsIndexed d.pool shape) old.pages new.pages
+    same_placed = still_end shape top.1 found d.log.pending (IsIndexed d.pool shape) old.pages old new placed_reaches
+
+    -- a reclaim that runs leaves no room but that of the open block, where the value goes; the same values are live
+    placed_reclaims : ReclaimOnFlash shape d.reclaim space.live q new.pages (places found d.log.pending)
+    placed_reclaims = elim (runs_or_rests d.reclaim.phase) [
+      | inr rests ↦ reclaim_rests shape d.reclaim space.live q new.pages (places found d.log.pending) with.reclaim.shape_is rests
+      | inl runs ↦ elim is.reserved.taken [
+        | inr opens ↦ absurd (never_opens shape d.space d.pool (charge shape (length value)) opens.no_room room (with.reclaim.full runs))
+        | inl next ↦
+            let T : LiveValues → Blocks → Type 0 = λ l p. ReclaimOnFlash shape d.reclaim l p new.pages (places found d.log.pending) in
+            let live : space.live ≡ d.space.live = ap (λ (x : DataState). x.live) is.counted ∙ ap (λ (x : DataState). x.live) next.kept in
+            let now : T d.space.live d.pool =
+            reclaim_elsewhere shape d.reclaim d.space d.pool d.pool old.pages new.pages (places found d.log.pending) with.reclaim with.placed refl (written_in_open next) in
+            subst (λ (l : LiveValues). T l q) (sym live) (subst (λ (p : Blocks). T d.space.live p) (sym next.same_pool) now)
+      ]
+    ]
+      where
+        written_in_open : TakesNext shape d.space d.pool old (charge shape (length value)) is.space q is.between → SameButOpen shape d.pool d.space.open_block old.pages new.pages
+        written_in_open next k held not_open =
+            let count : ℕ = charge shape (length value) in
+            let values = is.placed (outputs_of d) (places found d.log.pending) with.placed in
+            let opens : space.open_block ≡ more_used d.space.open_block count = ap (λ (x : DataState). x.open_block) is.counted ∙ ap (λ (x : DataState). more_used x.open_block count) next.kept in
+            let other : IsNotOpen space.open_block (k / shape.block_pages) = subst (λ (o : Option OpenBlock). IsNotOpen o (k / shape.block_pages)) (sym opens) (still_open d.space.open_block count (k / shape.block_pages) not_open) in
+            ap (λ (b : BoardState). page_at b.pages k) is.writes
+            ∙ written_outside shape key page value count is.between k (λ low high. not_of_open shape space q (outputs_of d) new.pages (places found d.log.pending) page count k values is.in_open low high other)
+            ∙ ap (λ (b : BoardState). page_at b.pages k) next.same_board
+
+    pub placed_agrees : DriveOnFlashWith after shape new.pages top found without all
+    placed_agrees =
+        let values = is.placed (outputs_of d) (places found d.log.pending) with.placed in
+        let owners = owners_reserved d page (charge shape (length value)) is.space q old is.between is.reserved in
+        let beside = beside_still d shape old.pages top found without all with q new.pages owners values.shape_is values.fits (journal_reserved d page (charge shape (length value)) is.space q old is.between is.reserved)
+        (meta_reserved d page (charge shape (length value)) is.space q old is.between is.reserved) same_placed in
+        agrees_elsewhere d space q shape old.pages new.pages top found without all with (λ k is. same_placed k (inl is)) ready_new.flash owners beside values placed_reclaims
+
+    pub placed_keeps : Keeps d after shape all old new
+    placed_keeps = record {
+      stands = record { top = top; found = found; without = without; with = placed_agrees };
+      same_places = λ was. ap (λ (f : Found). places f d.log.pending) (found_once d d shape old.pages was.top top was.found found was.without all without all was.with with);
+      still = (still_commits d shape old.pages top found without all with new.pages [] (refl, same_placed)).1;
+      cuts = (placed_reaches.0, weaken placed_reaches.0 old new (StillCut shape top.1 found d.log.pending (IsIndexed d.pool shape) old.pages) (CrashFinds shape commit old.pages all) (still_commits d shape old.pages top found without all with) placed_reaches.1, placed_reaches.2);
+    }
+
+  pub placed_keeps_all : KeepsAll d after old new
+  placed_keeps_all = keeps_for d after old new (λ m stands. placed_keeps stands.top stands.found stands.without m stands.with)
+
+-- ---- a call that failed
+
+module _ (d : Parts) (key : Key) (value : List ℕ) (old new : BoardState) (shared : IsShared d.pool.shape d.pool.states) (ready : IsReady old d.log.shape) where
+  pub stops_placing : FailsToPlace d.log.shape key value d.space d.pool old new → Stops old new
+  stops_placing (inl erase) = stops_erase old new erase.block erase.failed
+  stops_placing (inr write) =
+      stops_then old write.between new (works_reserved d write.page (charge d.log.shape (length value)) write.space write.pool old write.between write.reserved)
+      (stops_written d.log.shape key write.page value write.between new write.failed)
+
+  module _ (top : ℕ × Root) (found : Found) (without all : Map) (with : DriveOnFlashWith d d.log.shape old.pages top found without all) where
+    pub placing_goes : FailsToPlace d.log.shape key value d.space d.pool old new → Goes d.log.shape old new (StillCut d.log.shape top.1 found d.log.pending (IsIndexed d.pool d.log.shape) old.pages)
+    placing_goes (inl erase) =
+        let spare : IsSpare d.pool erase.block = inl erase.lowest.here in
+        still_erase_failed d.log.shape top.1 found d.log.pending (IsIndexed d.pool d.log.shape) old.pages old ready.shape_is (λ k is. refl) erase.block
+        (spare_still d d.log.shape old.pages top found without all with erase.block spare (behind_roots d.pool.shape d.pool.states erase.block shared erase.lowest.here)) new erase.failed
+    placing_goes (inr write) =
+        let count : ℕ = charge d.log.shape (length value) in
+        let before = reserve_reaches d write.page count write.space write.pool old write.between write.reserved ready top found without all with in
+        let so_far = still_end d.log.shape top.1 found d.log.pending (IsIndexed d.pool d.log.shape) old.pages old write.between before in
+        let unread = pages_unread d write.page count write.space write.pool old write.between write.reserved ready top found without all with in
+        still_goes d.log.shape top.1 found d.log.pending (IsIndexed d.pool d.log.shape) old.pages old write.between new ready.shape_is before
+        (still_write_failed d.log.shape top.1 found d.log.pending (IsIndexed d.pool d.log.shape) old.pages write.between write.reserved.ready.shape_is so_far key write.page value unread new write.failed)
+
+  pub breaks_placing : FailsToPlace d.log.shape key value d.space d.pool old new → BreaksAll d old new
+  breaks_placing failed = breaks_for d old new (λ m stands.
+      let with = stands.with in
+      let went = placing_goes stands.top stands.found stands.without m with failed in
+      (went.0, weaken_went went.0 old new (StillCut d.log.shape stands.top.1 stands.found d.log.pending (IsIndexed d.pool d.log.shape) old.pages) (CrashFinds d.log.shape commit old.pages m) (still_commits d d.log.shape old.pages stands.top stands.found stands.without m with) went.1, went.2))
+
+-- ---- the roots
+
+-- a board on which the newest root is the same
+same_roots : (shape : Shape) (old new : BoardState) → old.shape ≡ Some shape → new.shape ≡ Some shape → newest_root shape (page_at new.pages) ≡ newest_root shape (page_at old.pages) → roots new ≡ roots old
+unfolding root_number
+same_roots has_shape old new has has_new same =
+    ap (λ s. root_number (shape_or_none s) new.pages) has_new ∙ ap number_of same ∙ ap (λ s. root_number (shape_or_none s) old.pages) (sym has)
+
+-- ---- where the value stands
+
+pub value_written : (d : Parts) (key : Key) (value : List ℕ) (old : BoardState) (page : ℕ) (space : DataState) (q : Blocks) (new : BoardState)
+    → PlacesValue d.log.shape key value d.space d.pool old page space q new → IsReady old d.log.shape → IsReady new d.log.shape
+    → needs_reclaim d.log.shape d.space d.pool (charge d.log.shape (length value)) ≡ false
+    → IsKey key → length value ≤ greatest d.log.shape → (m : Map) × StandsFor d d.log.shape old.pages m
+    → Step (λ (p : ℕ). IsPlaced d (record d { space = space; pool = q }) old new key value p) (BreaksAll d old new) d.log.shape 0 old new (Ok page)
+value_written d key value old page space q new is ready ready_new room is_key short stands =
+    let shape : Shape = d.log.shape in
+    let with = stands.1.with in
+    let top = stands.1.top in
+    let found = stands.1.found in
+    let without = stands.1.without in
+    let after : Parts = record d { space = space; pool = q } in
+    let run = placed_reaches d key value old page space q new is ready ready_new room top found without stands.0 with in
+    let same = still_end shape top.1 found d.log.pending (IsIndexed d.pool shape) old.pages old new run in
+    let agrees = placed_agrees d key value old page space q new is ready ready_new room top found without stands.0 with in
+    let count : ℕ = charge shape (length value) in
+    let placed : IsPlaced d after old new key value page = record {
+      keeps = placed_keeps_all d key value old page space q new is ready ready_new room;
+      found = λ shape' top' found' without' all' other.
+          let same : d.log.shape ≡ shape' = other.shape_is in
+          subst (λ (s : Shape). DriveOnFlashWith after s new.pages top' found' without' all') same
+          (placed_agrees d key value old page space q new is ready ready_new room top' found' without' all' (subst (λ (s : Shape). DriveOnFlashWith d s old.pages top' found' without' all') (sym same) other));
+      written = record {
+        there = value_again shape with.index.logs.is_shape key value is_key (page_at new.pages) page is.stored;
+        apart = λ top' found' without' all' other k here is_value.
+            let same_found : found' ≡ found = found_once after after shape new.pages top top' found found' without stands.0 without' all' agrees other in
+            is.reserved.free (outputs_of d) (places found d.log.pending) with.placed k here.0 here.1 (subst (λ (f : Found). IsValuePage shape (places f d.log.pending) k) same_found is_value);
+      };
+      place = record {
+        exists = let e = is.reserved.pages.exists in let some = charge_some shape with.index.logs.is_shape (length value) in omega (arith, e, some);
+        past_roots = is.reserved.pages.behind_roots;
+        short = short;
+        inside = is.reserved.pages.inside;
+      };
+      owned = is.reserved.pages.owned;
+      in_open = is.in_open;
+    } in
+    record {
+      ended = placed;
+      broken = tt;
+      works = works_placed d key value old page space q new is ready ready_new room;
+      stops = tt;
+      stopped = tt;
+      ready = ready_new;
+      roots_few = same_roots shape old new ready.shape_is ready_new.shape_is (same_top shape top.1 found d.log.pending old.pages new.pages (λ k is_read. same k (inl is_read)));
+    }
+
+pub value_broken : (d behind : Parts) (key : Key) (value : List ℕ) (old new : BoardState) (e : Fault) → FailsToPlace d.log.shape key value d.space d.pool old new → e ≡ Stopped
+    → IsShared d.pool.shape d.pool.states → IsReady old d.log.shape → IsReady new d.log.shape → (m : Map) × StandsFor d d.log.shape old.pages m
+    → StepPlaces d behind old new key value (Err e)
+value_broken d behind key value old new e failed is_stopped shared ready ready_new stands =
+    let with = stands.1.with in
+    let went = placing_goes d key value old new shared ready stands.1.top stands.1.found stands.1.without stands.0 with failed in
+    let same = went_end d.log.shape stands.1.top.1 stands.1.found d.log.pending (IsIndexed d.pool d.log.shape) old.pages old new went in
+    record {
+      ended = tt;
+      broken = breaks_placing d key value old new shared ready failed;
+      works = tt;
+      stops = stops_placing d key value old new shared ready failed;
+      stopped = is_stopped;
+      roots_few = same_roots d.log.shape old new ready.shape_is ready_new.shape_is (same_top d.log.shape stands.1.top.1 stands.1.found d.log.pending old.pages new.pages (λ k is_read. same k (inl is_read)));
+      ready = ready_new;
+    }
+
+-- by what the call answered
+pub place_step : (r : Result ℕ Fault) (d : Parts) (key : Key) (value : List ℕ) (old : BoardState) (space : DataState) (q : Blocks) (new : BoardState)
+    → IfOk r (λ page. PlacesValue d.log.shape key value d.space d.pool old page space q new) → OnErr r (FailsToPlace d.log.shape key value d.space d.pool old new) → IfErr r (λ e. e ≡ Stopped)
+    → IsShared d.pool.shape d.pool.states → MayStep d old → IsReady new d.log.shape
+    → needs_reclaim d.log.shape d.space d.pool (charge d.log.shape (length value)) ≡ false → IsKey key → length value ≤ greatest d.log.shape
+    → StepPlaces d (record d { space = space; pool = q }) old new key value r
+place_step (Ok page) d key value old space q new places fails stopped shared may after room is_key short = value_written d key value old page space q new places may.ready after room is_key short may.stands
+place_step (Err e) d key value old space q new places fails stopped shared may after room is_key short =
+    value_broken d (record d { space = space; pool = q }) key value old new e fails stopped shared may.ready after may.stands

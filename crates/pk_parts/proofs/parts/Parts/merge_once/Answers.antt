@@ -1,0 +1,32 @@
+use Rattle.std.proofs.Common.{arith}
+use Rattle.pk_schedule.specs.Index.{index}
+use Rattle.pk_parts.proofs.Inside.{some_work, merges_once}
+use Rattle.pk_parts.proofs.parts.Parts.merge_once.Goals as goal
+
+pub step-requires-clause-may : goal.step-requires-clause-may
+step-requires-clause-may g c =
+    let may = rw (← c.self.view_is) at c.requires in
+    some_work _ (g.B.Nand.state c.args.board.now) may
+
+pub returns : goal.returns
+returns g c =
+    let e = c.step.ensures in
+    let may = rw (← c.self.view_is) at c.requires in
+    let x = index c.step.new.log c.step.new.levels c.step.new.arena c.step.new.pool c.step.new.self in
+    rw (← c.self.view_is) (merges_once _ (g.B.Nand.state c.args.board.now) may x (g.B.Nand.state c.step.new.board) c.step.result
+    (record {
+      idle = e.idle;
+      moves = e.moves;
+      less = e.less;
+      active = e.active;
+      running = e.running;
+      unmoved = e.unmoved;
+      again = e.again;
+      unread = e.unread;
+      broken = e.broken;
+      sound = e.sound;
+      calls = e.calls;
+      rest = e.rest;
+      installs = e.installs;
+      ready = e.ready;
+    }) c.read_count.ensures.faults (omega (arith, c.read_count.ensures.value, c.read_count.type_inv)))

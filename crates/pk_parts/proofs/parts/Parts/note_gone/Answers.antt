@@ -1,0 +1,30 @@
+use Rattle.pk_parts.proofs.Entries.{gone_short, drops_held, gone_stands}
+use Rattle.std.proofs.Common.{ap}
+use Rattle.pk_parts.proofs.Staying.{note_stays}
+use Rattle.pk_parts.proofs.Programming.{pushed_more}
+use Rattle.pk_parts.proofs.parts.Parts.note_gone.Goals as goal
+
+pub span_at-before-requires : goal.span_at-before-requires
+span_at-before-requires g c =
+    let p = rw (← c.self.view_is) at c.requires.drops in
+    rw (c.shape-shape.ensures, ← c.self.view_is) (gone_short _ p.0 p.1 c.args.key c.args.old p.2)
+
+pub remove-requires : goal.remove-requires
+remove-requires g c =
+    let p = rw (← c.self.view_is) at c.requires.drops in
+    let before = rw (c.shape-shape.ensures, ← c.self.view_is) at c.span_at-before.ensures in
+    drops_held _ p.0 p.1 c.args.key c.args.old p.2 c.span_at-before.result before
+
+pub returns-clause-stands : goal.returns-clause-stands
+returns-clause-stands g c shape flash m drops =
+    let p = rw (← c.self.view_is) at drops in
+    let before = rw (c.shape-shape.ensures, ← c.self.view_is) at c.span_at-before.ensures in
+    gone_stands _ shape flash m c.args.key c.args.old p c.push.new.self c.remove.new.self c.span_at-before.result
+    (record { pushed_is = c.push.ensures.pushed; stands = c.push.ensures.stands; fits_in = c.push.ensures.fits }) before c.remove.ensures.removed c.remove.ensures.placed
+
+pub returns-clause-moves : goal.returns-clause-moves
+returns-clause-moves g c =
+    rw (← c.self.view_is) (note_stays (record { log = c.self.inside.log; levels = c.self.inside.levels; arena = c.self.inside.arena; schedule = c.self.inside.schedule; space = c.self.inside.space; reclaim = c.self.inside.reclaim; pool = c.self.inside.pool; keys = c.self.inside.keys; stopped = c.self.inside.stopped }) _ c.push.new.self c.remove.new.self _ c.push.ensures.pushed (ap (λ s. s.open_block) c.remove.ensures.removed))
+
+pub returns-clause-more : goal.returns-clause-more
+returns-clause-more g c = rw (← c.self.view_is) (pushed_more c.self.inside.log c.push.new.self _ c.push.ensures.pushed)

@@ -1,0 +1,43 @@
+use Rattle.pk_parts.proofs.Entries.{old_short, keys_small, put_moves, put_stands}
+use Rattle.std.proofs.Common.{ap}
+use Rattle.pk_parts.proofs.Staying.{note_stays}
+use Rattle.pk_parts.proofs.Noted.{put_noted}
+use Rattle.pk_parts.proofs.Programming.{pushed_more}
+use Rattle.pk_parts.proofs.parts.Parts.note_put.Goals as goal
+
+pub span_if_there-before-requires : goal.span_if_there-before-requires
+span_if_there-before-requires g c =
+    let p = rw (← c.self.view_is) at c.requires.puts in
+    rw (c.shape-shape.ensures, ← c.self.view_is) (old_short _ p.0 p.1 c.args.key p.2 c.args.page c.args.old p.4)
+
+pub replace-requires : goal.replace-requires
+replace-requires g c =
+    let p = rw (← c.self.view_is) at c.requires.puts in
+    let before = rw (c.shape-shape.ensures, ← c.self.view_is) at c.span_if_there-before.ensures in
+    let now = rw (c.shape-shape.ensures, ← c.self.view_is) at c.span_at-now.ensures in
+    put_moves _ p.0 p.1 c.args.key p.2 c.args.page c.args.len c.args.old p.3 p.4 c.span_if_there-before.result c.span_at-now.result before now
+
+pub more_keys-self-inside-requires : goal.more_keys-self-inside-requires
+more_keys-self-inside-requires g c =
+    let p = rw (← c.self.view_is) at c.requires.puts in
+    keys_small _ _ p.0 p.4.top p.4.found p.4.without p.1 p.4.with
+
+pub returns-clause-stands : goal.returns-clause-stands
+returns-clause-stands g c shape flash m value is_len puts =
+    let p = rw (← c.self.view_is) at puts in
+    let before = rw (c.shape-shape.ensures, ← c.self.view_is) at c.span_if_there-before.ensures in
+    let now = rw (c.shape-shape.ensures, ← c.self.view_is) at c.span_at-now.ensures in
+    put_stands _ shape flash m c.args.key value c.args.page c.args.len c.args.old is_len p c.push.new.self c.replace.new.self c.more_keys-self-inside.result c.span_if_there-before.result c.span_at-now.result
+    (record { pushed_is = c.push.ensures.pushed; stands = c.push.ensures.stands; fits_in = c.push.ensures.fits }) before now c.replace.ensures.moved c.replace.ensures.placed c.more_keys-self-inside.ensures
+
+pub returns-clause-moves : goal.returns-clause-moves
+returns-clause-moves g c =
+    rw (← c.self.view_is) (note_stays (record { log = c.self.inside.log; levels = c.self.inside.levels; arena = c.self.inside.arena; schedule = c.self.inside.schedule; space = c.self.inside.space; reclaim = c.self.inside.reclaim; pool = c.self.inside.pool; keys = c.self.inside.keys; stopped = c.self.inside.stopped }) _ c.push.new.self c.replace.new.self c.more_keys-self-inside.result c.push.ensures.pushed (ap (λ s. s.open_block) c.replace.ensures.moved))
+
+pub returns-clause-noted : goal.returns-clause-noted
+returns-clause-noted g c =
+    let p = rw (← c.self.view_is) at c.requires.puts in
+    put_noted _ p.0 p.1 c.args.key p.2 c.args.page c.args.len c.args.old c.push.new.self c.replace.new.self c.more_keys-self-inside.result p.3 p.4 c.push.ensures.pushed (ap (λ s. s.open_block) c.replace.ensures.moved)
+
+pub returns-clause-more : goal.returns-clause-more
+returns-clause-more g c = rw (← c.self.view_is) (pushed_more c.self.inside.log c.push.new.self _ c.push.ensures.pushed)

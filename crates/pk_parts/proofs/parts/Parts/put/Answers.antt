@@ -1,0 +1,78 @@
+use Rattle.std.proofs.Common.{ap, ◌≤◌, length, Err, arith}
+use Rattle.pk_base.specs.Shape.{charge}
+use Rattle.pk_parts.specs.Parts.{Parts}
+use Rattle.pk_parts.specs.Changes.{StaysBetween}
+use Rattle.pk_parts.specs.Moves.{LeavesValues}
+use Rattle.pk_parts.specs.Staying.{Stays, StaysOrOpens}
+use Rattle.pk_parts.proofs.Steps.{can_put_after, still_room, step_puts_later, stays_then, stays_kept, put_failed_before}
+use Rattle.pk_parts.proofs.ReadSteps.{running_ok, running_failed, running_both}
+use Rattle.pk_parts.proofs.Staying.{stays_opens, opens_put}
+use Rattle.pk_parts.proofs.Quieted.{put_reads_none}
+use Rattle.pk_parts.proofs.Programming.{put_idle}
+use Rattle.pk_parts.proofs.Callings.{spends_still, spends_within}
+use Rattle.pk_parts.proofs.StoreCalls.{spends_put}
+use Rattle.pk_parts.proofs.parts.Parts.put.Goals as goal
+
+pub make_room-requires-clause-may : goal.make_room-requires-clause-may
+make_room-requires-clause-may g c = record { ready = c.requires.can.ready; stands = (c.requires.can.may.0, c.requires.can.may.1.stands) }
+
+pub put_with_room-requires-clause-can : goal.put_with_room-requires-clause-can
+put_with_room-requires-clause-can g c =
+    let e = c.in-Ok.ensures in
+    can_put_after c.args.self.now c.make_room.new.self _ (g.B.Nand.state c.args.board.now) (g.B.Nand.state c.make_room.new.board) tt e.leaves e.pending e.step c.args.key c.args.value.now c.args.old c.requires.can
+
+pub put_with_room-requires-clause-room : goal.put_with_room-requires-clause-room
+put_with_room-requires-clause-room g c =
+    let e = c.in-Ok.ensures in
+    still_room c.args.self.now c.make_room.new.self _ (g.B.Nand.state c.args.board.now) (g.B.Nand.state c.make_room.new.board) tt e.leaves e.pending e.step (length c.args.value.now) c.requires.room
+
+pub returns-in-Ok-clause-step : goal.returns-in-Ok-clause-step
+returns-in-Ok-clause-step g c =
+    let e = c.in-Ok.ensures in
+    step_puts_later c.args.self.now c.make_room.new.self _ (g.B.Nand.state c.args.board.now) (g.B.Nand.state c.make_room.new.board) tt e.leaves e.pending e.step c.put_with_room.result c.put_with_room.new.self (g.B.Nand.state c.put_with_room.new.board)
+    c.requires.can.ready c.args.key c.args.value.now c.args.old c.put_with_room.ensures.step
+
+pub returns-in-Ok-clause-stays : goal.returns-in-Ok-clause-stays
+returns-in-Ok-clause-stays g c =
+    let e = c.put_with_room.ensures in
+    stays_then c.put_with_room.result c.args.self.now c.make_room.new.self c.put_with_room.new.self c.in-Ok.ensures.leaves e.step.stopped e.stays
+
+pub returns-in-Ok-clause-opens : goal.returns-in-Ok-clause-opens
+returns-in-Ok-clause-opens g c =
+    let e = c.in-Ok.ensures in
+    let opens = StaysOrOpens c.args.self.now c.put_with_room.new.self (charge c.args.self.now.log.shape (length c.args.value.now)) in
+    running_ok opens opens c.put_with_room.result (λ is. is) c.put_with_room.ensures.step.stopped
+    (opens_put c.put_with_room.result c.args.self.now c.make_room.new.self c.put_with_room.new.self (length c.args.value.now) e.moves e.leaves.same_shape (ap (λ (d : Parts). d.space) e.leaves.rest) c.put_with_room.ensures.opens)
+
+pub returns-in-Ok-clause-programs : goal.returns-in-Ok-clause-programs
+returns-in-Ok-clause-programs g c =
+    put_idle c.put_with_room.result c.args.self.now c.make_room.new.self (g.B.Nand.state c.args.board.now) (g.B.Nand.state c.make_room.new.board) (g.B.Nand.state c.put_with_room.new.board) c.args.key (length c.args.value.now) c.in-Ok.ensures.idle c.put_with_room.ensures.programs
+
+pub returns-in-Ok-clause-quiet : goal.returns-in-Ok-clause-quiet
+returns-in-Ok-clause-quiet g c = put_reads_none c.put_with_room.result c.args.self.now c.make_room.new.self (g.B.Nand.state c.args.board.now) (g.B.Nand.state c.make_room.new.board) (g.B.Nand.state c.put_with_room.new.board) c.args.key c.in-Ok.ensures.idle c.put_with_room.ensures.step.works
+
+pub returns-in-Err-clause-step : goal.returns-in-Err-clause-step
+returns-in-Err-clause-step g c =
+    put_failed_before c.in-Err.fault c.args.self.now c.make_room.new.self _ (g.B.Nand.state c.args.board.now) (g.B.Nand.state c.make_room.new.board) c.requires.can.ready c.in-Err.ensures.step c.args.key c.args.value.now c.args.old
+
+pub returns-in-Err-clause-stays : goal.returns-in-Err-clause-stays
+returns-in-Err-clause-stays g c =
+    let e = c.in-Err.ensures in
+    let a = c.args.self.now in
+    let b = c.make_room.new.self in
+    running_failed Unit Unit (LeavesValues a b × (length b.log.pending ≤ length a.log.pending)) (StaysBetween a b) c.in-Err.fault (λ is. stays_kept a b is.0 is.1 c.requires.can.few) (running_both {T = Unit {0}} (LeavesValues a b) (length b.log.pending ≤ length a.log.pending) (Err c.in-Err.fault) e.leaves e.pending)
+
+pub returns-in-Err-clause-opens : goal.returns-in-Err-clause-opens
+returns-in-Err-clause-opens g c =
+    let a = c.args.self.now in
+    let b = c.make_room.new.self in
+    let count = charge a.log.shape (length c.args.value.now) in
+    running_failed Unit Unit (Stays a b) (StaysOrOpens a b count) c.in-Err.fault (stays_opens a b count) c.in-Err.ensures.moves
+
+pub returns-in-Ok-clause-spends : goal.returns-in-Ok-clause-spends
+returns-in-Ok-clause-spends g c =
+    let e = c.put_with_room.ensures in
+    spends_put _ _ _ _ _ c.in-Ok.ensures.leaves.same_shape (length c.args.value.now) c.make_room.ensures.spends (spends_still _ 0 _ _ e.calls e.step.roots_few)
+
+pub returns-in-Err-clause-spends : goal.returns-in-Err-clause-spends
+returns-in-Err-clause-spends g c = spends_within _ _ _ _ _ _ (omega arith) (omega arith) c.make_room.ensures.spends

@@ -1,0 +1,34 @@
+-- Most calls of the flash that the parts of a Store make, and most roots that they install.
+use Rattle.std.specs.Prelude.{ℕ, ◌+◌, ◌<◌, ◌≤◌}
+use Rattle.pk_base.specs.Shape.{Shape}
+use Rattle.pk_work.specs.Rest.{whole_reclaim}
+use Rattle.pk_work.specs.Calls.{commit_calls, lookup_calls, room_calls}
+use Rattle.pk_nand.specs.BoardState.{BoardState}
+use Rattle.pk_model.specs.Wear.{roots}
+use Rattle.pk_drive.specs.Calling.{FewCalls}
+
+-- At most so many calls of the flash were made, failed ones included, and at most so many roots installed.
+pub record Spends (most_calls most_roots : ℕ) (old new : BoardState) : Type 0 where
+  pub calls : FewCalls most_calls old new
+  pub installs : roots new ≤ roots old + most_roots
+
+-- the numbers of roots last for so many further ones
+abbrev pub NumbersLast : ℕ → BoardState → Type 0
+NumbersLast more board = roots board + more < 18446744073709551615
+
+-- a block is taken, and so many pages of a value are programmed
+abbrev pub place_calls : ℕ → ℕ
+place_calls count = 1 + count
+
+module _ (shape : Shape) where
+  -- the pending entries are committed, and reclaims are run, with the room that their moves may need
+  abbrev pub reclaim_calls : ℕ
+  reclaim_calls = commit_calls + whole_reclaim shape + room_calls shape
+
+  -- room for an entry, its value of so many pages, and a commit where the journal page is full
+  abbrev pub put_calls : ℕ → ℕ
+  put_calls count = room_calls shape + place_calls count + commit_calls
+
+  -- reclaims before that, and a look-up behind them
+  abbrev pub space_and_put_calls : ℕ → ℕ
+  space_and_put_calls count = reclaim_calls + lookup_calls + put_calls count

@@ -1,0 +1,16 @@
+pub mod Parts
+pub mod Agreeing
+pub mod Finding
+pub mod Moves
+pub mod Emptying
+pub mod Staying
+pub mod Programming
+pub mod Quiet
+pub mod Placing
+pub mod Ticking
+pub mod Noting
+pub mod Changes
+pub mod Opening
+pub mod Reclaiming
+pub mod Spacing
+pub mod Costs

@@ -1,0 +1,68 @@
+-- An entry in memory: what must hold before it, so that the drive stands for the map with it behind it.
+use Rattle.std.specs.Prelude.{◌≡◌, ℕ, ◌+◌, ◌/◌, ◌≤◌, List, length, Option, Some, None, Result}
+use Rattle.std.specs.FinMap.{insert}
+use Rattle.std.specs.FinMap.Entries.{find}
+use Rattle.pk_base.specs.Entry.{Place}
+use Rattle.pk_base.specs.Fields.{AreBytes}
+use Rattle.pk_base.specs.Key.{Key, key_cmp}
+use Rattle.pk_base.specs.Shape.{Shape, charge, limit}
+use Rattle.pk_base.specs.Page.{Flash}
+use Rattle.pk_base.specs.EntryBytes.{IsPlace}
+use Rattle.pk_base.specs.Map.{Map, live}
+use Rattle.pk_rootfmt.specs.Root.{Root}
+use Rattle.pk_model.specs.Found.{Found}
+use Rattle.pk_steps.specs.Under.{places}
+use Rattle.pk_nand.specs.BoardState.{BoardState}
+use Rattle.pk_nand.specs.declared.types.Fault.{Fault}
+use Rattle.pk_model.specs.Steps.{Step}
+use Rattle.pk_data.specs.Placed.{HoldsValues}
+use Rattle.pk_data.specs.Entries.{IsInOpen}
+use Rattle.pk_parts.specs.Parts.{Parts}
+use Rattle.pk_parts.specs.Agreeing.{DriveOnFlashWith}
+use Rattle.pk_parts.specs.Moves.{KeepsAll, BreaksAll, IsWritten}
+
+-- A key is to have a value that was written into the open block and is in no map yet. Until now it had the one at old, or none.
+pub record Puts (d : Parts) (shape : Shape) (flash : Flash) (m : Map) (key : Key) (value : List ℕ) (page : ℕ) (old : Option Place) : Type 0 where
+  pub top : ℕ × Root
+  pub found : Found
+  pub without : Map
+  pub with : DriveOnFlashWith d shape flash top found without m
+  pub old_is : find key_cmp key (places found d.log.pending) ≡ old
+  pub written : IsWritten d shape flash key value page
+  pub place : IsPlace shape (record { page = page; len = length value })
+  pub in_open : IsInOpen shape d.space page (charge shape (length value))
+  pub bytes : AreBytes key
+  pub room : live shape (insert m key value) ≤ limit shape
+
+-- The value of a key stands at this place, and the key is to be removed.
+pub record Drops (d : Parts) (shape : Shape) (flash : Flash) (m : Map) (key : Key) (old : Place) : Type 0 where
+  pub top : ℕ × Root
+  pub found : Found
+  pub without : Map
+  pub with : DriveOnFlashWith d shape flash top found without m
+  pub old_is : find key_cmp key (places found d.log.pending) ≡ Some old
+  pub bytes : AreBytes key
+
+-- one more key where there was none
+abbrev pub more_keys : ℕ → Option Place → ℕ
+more_keys keys None = keys + 1
+more_keys keys (Some p) = keys
+
+-- whatever stood under the root stands there, with the same places of values
+abbrev pub KeepsFound : Parts → Parts → BoardState → BoardState → Type 0
+KeepsFound before after old new =
+    (shape : Shape) (top : ℕ × Root) (found : Found) (without all : Map) → DriveOnFlashWith before shape old.pages top found without all → DriveOnFlashWith after shape new.pages top found without all
+
+-- A value was written that is in no map: it begins at this page, in the open block.
+pub record IsPlaced (before after : Parts) (old new : BoardState) (key : Key) (value : List ℕ) (page : ℕ) : Type 0 where
+  pub keeps : KeepsAll before after old new
+  pub found : KeepsFound before after old new
+  pub written : IsWritten after before.log.shape new.pages key value page
+  pub place : IsPlace before.log.shape (record { page = page; len = length value })
+  pub owned : HoldsValues after.pool (page / before.log.shape.block_pages)
+  pub in_open : IsInOpen before.log.shape after.space page (charge before.log.shape (length value))
+
+-- a step that writes it
+abbrev pub StepPlaces : Parts → Parts → BoardState → BoardState → Key → List ℕ → Result ℕ Fault → Type 0
+StepPlaces before after old new key value result =
+    Step (λ (page : ℕ). IsPlaced before after old new key value page) (BreaksAll before old new) before.log.shape 0 old new result

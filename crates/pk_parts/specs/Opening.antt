@@ -1,0 +1,26 @@
+-- A drive as it is behind its opening.
+use Rattle.std.specs.Prelude.{◌≡◌, ℕ, [], false, None}
+use Rattle.pk_base.specs.Shape.{Shape}
+use Rattle.pk_base.specs.Page.{Flash}
+use Rattle.pk_base.specs.Map.{Map}
+use Rattle.pk_rootfmt.specs.Root.{Root}
+use Rattle.pk_model.specs.Found.{Found}
+use Rattle.pk_drive.specs.Steady.{live_blocks}
+use Rattle.pk_gc.specs.Stepping.{runs_in}
+use Rattle.pk_parts.specs.Parts.{Parts, counts_of, frames_of}
+use Rattle.pk_parts.specs.Agreeing.{DriveOnFlashWith}
+
+-- The drive agrees with the flash and runs, with these frames. Nothing is pending, the epoch takes no more pages, no block is open, so
+-- many blocks are in use as have a page of a value, and no reclaim runs.
+pub record OpenedOn (shape : Shape) (flash : Flash) (frames : ℕ) (d : Parts) : Type 0 where
+  pub top : ℕ × Root
+  pub found : Found
+  pub all : Map
+  pub with : DriveOnFlashWith d shape flash top found all all
+  pub frames_are : frames_of d ≡ frames
+  pub runs : d.stopped ≡ false
+  pub none_pending : d.log.pending ≡ []
+  pub takes_none : d.log.epoch.takes_more ≡ false
+  pub none_open : d.space.open_block ≡ None
+  pub blocks_are : (counts_of d).blocks ≡ live_blocks shape found []
+  pub rests : runs_in d.reclaim.phase ≡ false

@@ -1,0 +1,121 @@
+-- What a drive keeps in memory, and what contracts see of it.
+use Rattle.std.specs.Prelude.{ℕ, ◌-◌, Bool, true, List, length, sum, count_by, Option, Some, None, ◌==◌, ◌&&◌, not, if◌then◌else◌}
+use Rattle.pk_base.specs.Shape.{Shape, charge, limit, data_blocks, most_pages}
+use Rattle.pk_plan.specs.declared.owner.Owner.TheVariants.{Values}
+use Rattle.pk_pin.specs.Frames.{Frames, leased_frames}
+use Rattle.pk_pool.specs.Blocks.{Blocks, is_ready, used_by}
+use Rattle.pk_level.specs.Levels.{Levels, run_of}
+use Rattle.pk_model.specs.Sight.{Sight, Counts}
+use Rattle.pk_log.specs.State.{LogState}
+use Rattle.pk_data.specs.State.{DataState, fits_open}
+use Rattle.pk_data.specs.declared.open_block.OpenBlock.{OpenBlock}
+use Rattle.pk_jrn.specs.Epochs.{left_of as pages_left}
+use Rattle.pk_work.specs.Backlog.{Backlog, is_tight}
+use Rattle.pk_work.specs.Rest.{whole_reclaim}
+use Rattle.pk_work.specs.Work.{work}
+use Rattle.pk_schedule.specs.Index.{Index, Schedule, index, merging}
+use Rattle.pk_schedule.specs.Steps.{backlog_of as backlog_of_index}
+use Rattle.pk_gc.specs.declared.course.Phase.{Phase}
+use Rattle.pk_gc.specs.declared.course.Phase.TheVariants.{Idle, Copies, GivesBack}
+use Rattle.pk_gc.specs.State.{JobState, steps_left}
+use Rattle.pk_gc.specs.Stepping.{runs_in}
+use Rattle.pk_gc.specs.Standing.{held_blocks}
+
+-- The log, the runs with the arena of their frames, the jobs that keep both short, where values lie, the reclaim, the blocks, how many
+-- keys there are, and whether it stopped.
+pub record Parts : Type 0 where
+  pub log : LogState
+  pub levels : Levels
+  pub arena : Frames
+  pub schedule : Schedule
+  pub space : DataState
+  pub reclaim : JobState
+  pub pool : Blocks
+  pub keys : ℕ
+  pub stopped : Bool
+
+-- how many frames there are
+abbrev pub frames_of : Parts → ℕ
+frames_of d = length d.arena.used
+
+-- where it keeps which key has its value where
+abbrev pub index_of : Parts → Index
+index_of d = index d.log d.levels d.arena d.pool d.schedule
+
+-- the blocks that a reclaim holds for values
+abbrev pub outputs_of : Parts → List ℕ
+outputs_of d = held_blocks d.reclaim.phase
+
+-- the sixteen numbers of a Report
+abbrev pub counts_of : Parts → Counts
+counts_of d = record {
+  live = sum d.space.live.heads;
+  limit = limit d.log.shape;
+  keys = d.keys;
+  pinned = d.levels.pinned;
+  frames = frames_of d;
+  leased = leased_frames d.arena;
+  active = length d.log.active.entries;
+  frozen = length d.log.frozen.entries;
+  run1 = (run_of d.levels 1).count;
+  run2 = (run_of d.levels 2).count;
+  run3 = (run_of d.levels 3).count;
+  run4 = (run_of d.levels 4).count;
+  epoch = d.log.epoch.used;
+  blocks = used_by Values d.pool.states - length (outputs_of d);
+  ready = count_by is_ready d.pool.states;
+  merge = merging d.schedule.phase;
+}
+
+-- how many pages a value takes
+abbrev pub pages_for : Parts → List ℕ → ℕ
+pages_for d value = charge d.log.shape (length value)
+
+-- the number of the block that takes values, where there is one
+abbrev pub block_if_open : Option OpenBlock → Option ℕ
+block_if_open None = None
+block_if_open (Some o) = Some o.block
+
+-- ---- what is left to do in the background
+
+-- As many blocks are in use as may be, beside that which a reclaim holds, and the open one does not take every value: a reclaim is due, or
+-- will be.
+abbrev pub is_reclaim_due : Parts → Bool
+is_reclaim_due d = ((counts_of d).blocks == data_blocks d.log.shape - 1) && not (fits_open d.log.shape d.space (most_pages d.log.shape))
+
+-- What is left of the reclaim that runs or is due. Behind the commit of its moves Stores may fill the open block, so that a further one is
+-- due behind it.
+abbrev pub reclaim_left : Shape → List ℕ → Bool → Phase → Option ℕ
+reclaim_left shape heads due Idle = if due then Some (whole_reclaim shape - 2) else None
+reclaim_left shape heads due (Copies c) = Some (steps_left shape heads c)
+reclaim_left shape heads due (GivesBack victim) = Some (if due then whole_reclaim shape - 1 else 1)
+
+-- a reclaim that is due or runs has its moves to commit yet
+abbrev pub has_moves : Bool → Phase → Bool
+has_moves due Idle = due
+has_moves due (Copies c) = true
+has_moves due (GivesBack victim) = due
+
+-- their commit may need a freeze
+abbrev pub may_freeze : Parts → Bool
+may_freeze d = has_moves (is_reclaim_due d) d.reclaim.phase && is_tight d.log.shape (length d.log.active.entries) (pages_left d.log.epoch)
+
+-- That of the index, with the reclaim. One that is due is told by what is left of it.
+abbrev pub backlog_of : Parts → Backlog
+backlog_of d = record (backlog_of_index (index_of d)) {
+  reclaim = reclaim_left d.log.shape d.space.live.heads (is_reclaim_due d) d.reclaim.phase;
+  may_freeze = may_freeze d;
+}
+
+-- ---- what contracts see
+
+abbrev pub sight_of : Parts → Sight
+sight_of d = record {
+  pending = d.log.pending;
+  stopped = d.stopped;
+  counts = counts_of d;
+  open_block = block_if_open d.space.open_block;
+  reclaims = runs_in d.reclaim.phase;
+  fresh = d.log.epoch.takes_more;
+  work = work d.log.shape (backlog_of d);
+}

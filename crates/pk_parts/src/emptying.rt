@@ -1,0 +1,132 @@
+//! Merges to the end and a whole freeze, inside a command that needs the room.
+ghost use Rattle.std.specs.Prelude.{◌≡◌, ◌<◌, ◌+◌, [], true, OnOk};
+ghost use Rattle.pk_parts.specs.Costs.{NumbersLast, Spends};
+ghost use Rattle.pk_model.specs.Wear.{roots};
+ghost use Rattle.pk_work.specs.Rest.{whole_freeze};
+ghost use Rattle.pk_work.specs.Work.{emptying};
+ghost use Rattle.pk_work.specs.Calls.{room_calls, room_roots};
+ghost use Rattle.pk_schedule.specs.Steps.{has_no_merge};
+ghost use Rattle.pk_parts.specs.Parts.{index_of};
+ghost use Rattle.pk_parts.specs.Moves.{MayStep, StepKeeps, LeavesValues};
+ghost use Rattle.pk_parts.specs.Emptying.{MayEmpty, MergesOnce, FreezesOnce, KeepsOrReads, OnRunning, HasRoom, merges_left};
+ghost use Rattle.pk_parts.specs.Staying.{Stays};
+
+use crate::parts::Parts;
+use pk_nand::{Fault, Nand};
+use pk_region::Region;
+use pk_schedule::Stepped;
+
+impl<A: Region> Parts<A> {
+    // One step of the merges, by at most one call of the board. `Reading` where a read fails: the step can be made again.
+    fn merge_once<B: Nand>(&mut self, board: &mut B) -> Result<Stepped, Fault>
+        requires { MayEmpty self.old (B.state board.old) }
+        ensures { MergesOnce self.old self.new (B.state board.old) (B.state board.new) result }
+    {
+        // so that the board's counts are known to be of 64 bits
+        let _ = board.read_count();
+        self.schedule.step(
+            board,
+            &mut self.pool,
+            &mut self.arena,
+            &mut self.levels,
+            &mut self.log,
+            &mut self.page,
+        )
+    }
+
+    // Makes steps of the merges until none runs and nothing is frozen. `Reading` where a read fails: what was merged stays so.
+    fn empty_frozen<B: Nand>(&mut self, board: &mut B) -> Result<(), Fault>
+        // Nothing is pending, and the numbers of roots last.
+        requires may { MayStep self.old (B.state board.old) }
+        requires none_pending { self.old.log.pending ≡ [] }
+        requires number { NumbersLast (merges_left self.old) (B.state board.old) }
+
+        // The map, and nothing is left.
+        ensures step { KeepsOrReads self.old self.new (merges_left self.old + 1)
+            (B.state board.old) (B.state board.new) result }
+        ensures done { OnOk result (has_no_merge (index_of self.new) ≡ true) }
+        ensures spends { Spends (merges_left self.old) 4 (B.state board.old) (B.state board.new) }
+
+        // What else stays.
+        ensures none { OnRunning (self.new.log.pending ≡ []) result }
+        ensures leaves { OnRunning (LeavesValues self.old self.new) result }
+        ensures moves { OnRunning (Stays self.old self.new) result }
+    {
+        'merges: loop {
+            match self.merge_once(board) {
+                Ok(Stepped::Worked) => {}
+                Ok(Stepped::Idle) => return Ok(()),
+                Err(fault) => return Err(fault),
+            }
+        }
+    }
+
+    // One step of a freeze of the active buffer, by at most one call of the board; true where it is over.
+    fn freeze_once<B: Nand>(&mut self, board: &mut B) -> Result<bool, Fault>
+        requires may { MayEmpty self.old (B.state board.old) }
+        requires none_merges { has_no_merge (index_of self.old) ≡ true }
+        ensures { FreezesOnce self.old self.new (B.state board.old) (B.state board.new) result }
+    {
+        self.schedule.freeze_step(
+            board,
+            &mut self.pool,
+            &self.arena,
+            &self.levels,
+            &mut self.log,
+            &mut self.page,
+        )
+    }
+
+    // Freezes the active buffer, so that any key has room. Nothing may be pending, no merge run, and nothing be frozen.
+    fn freeze_log<B: Nand>(&mut self, board: &mut B) -> Result<(), Fault>
+        // Nothing is in the way, and the numbers of roots last.
+        requires may { MayStep self.old (B.state board.old) }
+        requires none_pending { self.old.log.pending ≡ [] }
+        requires none_merges { has_no_merge (index_of self.old) ≡ true }
+        requires number { NumbersLast whole_freeze (B.state board.old) }
+
+        // The map, and any key has room, and so have the moves of a reclaim.
+        ensures step { StepKeeps self.old self.new whole_freeze (B.state board.old)
+            (B.state board.new) result }
+        ensures room { OnOk result (HasRoom self.new) }
+        ensures spends { Spends whole_freeze 1 (B.state board.old) (B.state board.new) }
+
+        // What else stays.
+        ensures none { OnOk result (self.new.log.pending ≡ []) }
+        ensures leaves { OnOk result (LeavesValues self.old self.new) }
+        ensures moves { OnOk result (Stays self.old self.new) }
+    {
+        'freezes: loop {
+            match self.freeze_once(board) {
+                Ok(false) => {}
+                Ok(true) => return Ok(()),
+                Err(fault) => return Err(fault),
+            }
+        }
+    }
+
+    /// Empties the frozen buffer by merges, and freezes the active one, so that any key has room. Nothing may be pending. `Reading`
+    /// where a read of a merge fails: the map is as it was.
+    pub(crate) fn empty_active<B: Nand>(&mut self, board: &mut B) -> Result<(), Fault>
+        requires may { MayStep self.old (B.state board.old) }
+        requires none_pending { self.old.log.pending ≡ [] }
+        requires number { NumbersLast (room_calls self.old.log.shape) (B.state board.old) }
+
+        // The map, and any key has room, and so have the moves of a reclaim.
+        ensures step { KeepsOrReads self.old self.new (room_calls self.old.log.shape)
+            (B.state board.old) (B.state board.new) result }
+        ensures room { OnOk result (HasRoom self.new) }
+        ensures spends { Spends (emptying self.old.log.shape 4 + whole_freeze) room_roots
+            (B.state board.old) (B.state board.new) }
+
+        // What else stays.
+        ensures none { OnRunning (self.new.log.pending ≡ []) result }
+        ensures leaves { OnRunning (LeavesValues self.old self.new) result }
+        ensures moves { OnRunning (Stays self.old self.new) result }
+    {
+        match self.empty_frozen(board) {
+            Ok(()) => self.freeze_log(board),
+            Err(fault) => Err(fault),
+        }
+    }
+}

@@ -1,0 +1,38 @@
+//! The steps inside a command. Each keeps the map, wherever it is cut.
+ghost use Rattle.std.specs.Prelude.{◌≡◌, ◌≢◌, ◌≤◌, [], IsOk, OnOk, OnErr};
+ghost use Rattle.pk_nand.specs.Effects.{OneProgram};
+ghost use Rattle.pk_jrn.specs.Epochs.{left_of};
+ghost use Rattle.pk_parts.specs.Moves.{MayStep, StepKeeps, OnlyCommits};
+ghost use Rattle.pk_drive.specs.Moving.{Commits};
+ghost use Rattle.pk_parts.specs.Parts.{sight_of};
+ghost use Rattle.pk_parts.specs.Staying.{Stays};
+
+use crate::parts::Parts;
+use pk_nand::{Fault, Nand};
+use pk_region::Region;
+
+impl<A: Region> Parts<A> {
+    /// Commits the pending entries; nothing is done where there are none. A step inside commands too, which are told more of it than
+    /// `commit` tells.
+    pub fn commit_pending<B: Nand>(&mut self, board: &mut B) -> Result<(), Fault>
+        requires may { MayStep self.old (B.state board.old) }
+
+        // Nothing is pending, by one program or none.
+        ensures step { StepKeeps self.old self.new 0 (B.state board.old)
+            (B.state board.new) result }
+        ensures none { OnOk result (self.new.log.pending ≡ []) }
+        ensures program { self.old.log.pending ≢ []
+            → OneProgram (B.state board.old) (B.state board.new) }
+        ensures idle { self.old.log.pending ≡ []
+            → IsOk result × (self.new ≡ self.old) × (B.state board.new ≡ B.state board.old) }
+
+        // What else stays.
+        ensures rest { OnOk result (OnlyCommits self.old self.new) }
+        ensures pages_left { OnOk result (left_of self.new.log.epoch ≤ left_of self.old.log.epoch) }
+        ensures kept { OnErr result (self.new ≡ self.old) }
+        ensures seen { OnOk result (Commits (sight_of self.old) (sight_of self.new)) }
+        ensures moves { OnOk result (Stays self.old self.new) }
+    {
+        self.log.commit(board, &mut self.page)
+    }
+}

@@ -1,0 +1,106 @@
+//! Entries that wait for a commit: a key gets the value that was written for it, or loses its own. No call takes the board.
+ghost use Rattle.std.specs.Prelude.{◌≡◌, ◌+◌, ◌-◌, ◌<◌, ◌≤◌, ℕ, List, length, false, Some, None, MatchOption};
+ghost use Rattle.std.specs.FinMap.{insert, remove};
+ghost use Rattle.pk_base.specs.Shape as spec;
+ghost use Rattle.pk_base.specs.Page.{Flash};
+ghost use Rattle.pk_base.specs.Map.{Map};
+ghost use Rattle.pk_log.specs.State.{needs_freeze as needs_freeze_for, pushed};
+ghost use Rattle.pk_data.specs.Entries.{span_of, span_if_some};
+ghost use Rattle.pk_parts.specs.Moves.{StandsFor};
+ghost use Rattle.pk_parts.specs.Noting.{Puts, Drops, more_keys as more_keys_by};
+ghost use Rattle.pk_parts.specs.Staying.{Stays, IsNoted};
+
+use crate::parts::Parts;
+use pk_base::{Entry, Key, Place, Shape};
+use pk_data::Span;
+use pk_region::Region;
+
+// The pages of the value at a place.
+fn span_at(shape: &Shape, place: &Place) -> Span
+    requires { place.now.len ≤ spec.greatest shape.now }
+    ensures { result ≡ span_of shape.now place.now }
+{
+    Span {
+        page: place.page,
+        count: shape.charge(place.len),
+    }
+}
+
+// The same, where there is one.
+fn span_if_there(shape: &Shape, place: &Option<Place>) -> Option<Span>
+    requires { MatchOption place.now (Unit {0}) (λ p. p.len ≤ spec.greatest shape.now) }
+    ensures { result ≡ span_if_some shape.now place.now }
+{
+    match place {
+        None => None,
+        Some(place) => Some(span_at(shape, place)),
+    }
+}
+
+// One more key where there was none.
+fn more_keys(keys: u32, old: &Option<Place>) -> u32
+    requires { keys ≤ 1048576 }
+    ensures { result ≡ more_keys_by keys old.now }
+{
+    match old {
+        None => keys + 1,
+        Some(_) => keys,
+    }
+}
+
+impl<A: Region> Parts<A> {
+    /// A key has the value of `len` bytes that was written at this page from now on, and no more the one at `old`.
+    pub(crate) fn note_put(&mut self, key: Key, page: u32, len: u32, old: Option<Place>)
+        requires room { needs_freeze_for self.old.log key ≡ false }
+        requires few { length self.old.log.pending < spec.page_entries self.old.log.shape }
+        requires puts { (flash : Flash) × (m : Map) × (value : List ℕ) × (length value ≡ len)
+            × Puts self.old self.old.log.shape flash m key value page old }
+
+        // The parts, and the map for which they stand.
+        ensures rest { self.new ≡ record self.old {
+          log = pushed self.old.log (key, Some (record { page = page; len = len }));
+          space = self.new.space;
+          keys = more_keys_by self.old.keys old;
+        } }
+        ensures stands { (shape : spec.Shape) (flash : Flash) (m : Map) (value : List ℕ)
+            → length value ≡ len → Puts self.old shape flash m key value page old
+            → StandsFor self.new shape flash (insert m key value) }
+        ensures moves { Stays self.old self.new }
+        ensures noted { IsNoted self.new key }
+        ensures more { length self.new.log.pending ≡ length self.old.log.pending + 1 }
+    {
+        let shape = self.shape();
+        let _ = key.bytes();
+        let before = span_if_there(&shape, &old);
+        let now = span_at(&shape, &Place { page, len });
+        self.log.push(Entry::Put { key, page, len });
+        self.space.replace(before, now);
+        self.keys = more_keys(self.keys, &old);
+    }
+
+    /// A key has no value from now on; it had the one at `old`.
+    pub(crate) fn note_gone(&mut self, key: Key, old: Place)
+        requires room { needs_freeze_for self.old.log key ≡ false }
+        requires few { length self.old.log.pending < spec.page_entries self.old.log.shape }
+        requires drops { (flash : Flash) × (m : Map)
+            × Drops self.old self.old.log.shape flash m key old }
+
+        // The parts, and the map for which they stand.
+        ensures rest { self.new ≡ record self.old {
+          log = pushed self.old.log (key, None);
+          space = self.new.space;
+          keys = self.old.keys - 1;
+        } }
+        ensures stands { (shape : spec.Shape) (flash : Flash) (m : Map)
+            → Drops self.old shape flash m key old → StandsFor self.new shape flash (remove m key) }
+        ensures moves { Stays self.old self.new }
+        ensures more { length self.new.log.pending ≡ length self.old.log.pending + 1 }
+    {
+        let shape = self.shape();
+        let _ = key.bytes();
+        let before = span_at(&shape, &old);
+        self.log.push(Entry::Gone { key });
+        self.space.remove(before);
+        self.keys -= 1;
+    }
+}

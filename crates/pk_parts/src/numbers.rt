@@ -1,0 +1,57 @@
+//! The numbers that a drive tells of itself.
+ghost use Rattle.std.specs.Prelude.{◌≡◌, length};
+ghost use Rattle.pk_drive.specs.Seen.{counts_of};
+ghost use Rattle.pk_gc.specs.Standing.{held_blocks};
+ghost use Rattle.pk_parts.specs.Parts as spec;
+
+use crate::parts::Parts;
+use pk_drive::Counts;
+use pk_gc::Phase;
+use pk_plan::Owner;
+use pk_region::Region;
+
+// How many blocks a reclaim holds for values.
+fn held_count(phase: Phase) -> u32
+    ensures { result ≡ length (held_blocks phase) }
+{
+    match phase {
+        Phase::Idle => 0,
+        Phase::Copies(_) => 1,
+        Phase::GivesBack(_) => 1,
+    }
+}
+
+impl<A: Region> Parts<A> {
+    /// How many data blocks are in use, but for the one that a reclaim holds.
+    pub(crate) fn used_blocks(&self) -> u32
+        ensures { result ≡ (spec.counts_of self.now).blocks }
+    {
+        self.pool
+            .used(Owner::Values)
+            .saturating_sub(held_count(self.reclaim.phase()))
+    }
+
+    /// The sixteen numbers of a Report.
+    pub fn counts(&self) -> Counts
+        ensures { counts_of result ≡ spec.counts_of self.now }
+    {
+        Counts {
+            live: self.space.total(),
+            limit: self.shape().limit(),
+            keys: self.keys,
+            pinned: self.levels.pinned() as u32,
+            frames: self.arena.frames(),
+            leased: self.arena.frames() - self.arena.free(),
+            active: self.log.active().len(),
+            frozen: self.log.frozen().len(),
+            run1: self.levels.entries(1),
+            run2: self.levels.entries(2),
+            run3: self.levels.entries(3),
+            run4: self.levels.entries(4),
+            epoch: self.log.epoch_used(),
+            blocks: self.used_blocks(),
+            ready: self.pool.ready(),
+            merge: self.schedule.merging() as u32,
+        }
+    }
+}

@@ -1,0 +1,107 @@
+//! The parts of a drive.
+ghost use Rattle.std.specs.Prelude.{◌≡◌, length, sum, true};
+ghost use Rattle.pk_pool.specs.Blocks.{IsShared};
+
+use pk_base::Shape;
+use pk_data::Data;
+use pk_gc::ReclaimJob;
+use pk_level::Levels;
+use pk_log::Log;
+use pk_pin::PinArena;
+use pk_pool::Pool;
+use pk_region::Region;
+use pk_schedule::Schedule;
+use pk_walk::Walk;
+use std::marker::Model;
+
+/// The parts of a drive. Contracts see them as a record, and `DriveOnFlash` says how they stand to a flash. No call but `over` takes
+/// memory.
+#[derive(Drop)]
+pub struct Parts<A: Region> {
+    pub(crate) log: Log<A>,
+    pub(crate) levels: Levels<A>,
+    pub(crate) arena: PinArena<A>,
+    pub(crate) schedule: Schedule<A>,
+    pub(crate) space: Data<A>,
+    pub(crate) reclaim: ReclaimJob<A>,
+    pub(crate) pool: Pool<A>,
+    pub(crate) keys: u32,
+    pub(crate) stopped: bool,
+    /// The bytes of a page.
+    pub(crate) page: Vec<u8, A>,
+    /// The walk of a List.
+    pub(crate) walk: Walk<A>,
+}
+
+impl<A: Region> Model for Parts<A> {
+    ghost use Rattle.std.specs.Prelude.{◌≡◌, length};
+    ghost use Rattle.pk_parts.specs.Parts as spec;
+
+    ghost Value = { spec.Parts };
+
+    ghost view = { λ d. record {
+      log = d.log;
+      levels = d.levels;
+      arena = d.arena;
+      schedule = d.schedule;
+      space = d.space;
+      reclaim = d.reclaim;
+      pool = d.pool;
+      keys = d.keys;
+      stopped = d.stopped;
+    } };
+
+    ghost invariant = { λ d. (length d.page.items ≡ d.log.shape.page_bytes) × (d.walk.shape
+        ≡ d.log.shape) };
+}
+
+impl<A: Region> Parts<A> {
+    /// The shape of the flash.
+    pub fn shape(&self) -> Shape
+        ensures { result ≡ self.now.log.shape }
+    {
+        *self.log.root().shape()
+    }
+
+    /// Blocks 0 and 1 alone are the root blocks, and each owner of blocks keeps within its quota.
+    pub fn known(&self)
+        ensures { IsShared self.now.pool.shape self.now.pool.states }
+    {
+        self.pool.known();
+    }
+
+    /// How many entries wait for a commit.
+    pub fn pending(&self) -> u32
+        ensures { result ≡ length self.now.log.pending }
+    {
+        self.log.pending()
+    }
+
+    /// The number of the newest root.
+    pub fn root_number(&self) -> u64
+        ensures { result ≡ self.now.log.root.number }
+    {
+        self.log.root().number()
+    }
+
+    /// How many pages the values of the map have.
+    pub fn total(&self) -> u32
+        ensures { result ≡ sum self.now.space.live.heads }
+    {
+        self.space.total()
+    }
+
+    /// Whether a call failed that stops the drive.
+    pub fn is_stopped(&self) -> bool
+        ensures { result ≡ self.now.stopped }
+    {
+        self.stopped
+    }
+
+    /// A call failed that stops the drive.
+    pub fn set_stopped(&mut self)
+        ensures { self.new ≡ record self.old { stopped = true } }
+    {
+        self.stopped = true;
+    }
+}

@@ -1,0 +1,110 @@
+//! Where a value goes: the next pages of the open block.
+ghost use Rattle.std.specs.Prelude.{◌≡◌, ◌≤◌, length, true, false, IfOk, IfErr, OnOk, OnErr};
+ghost use Rattle.pk_parts.specs.Parts.{pages_for};
+ghost use Rattle.pk_base.specs.Shape as spec;
+ghost use Rattle.pk_nand.specs.Calls.{IsReady};
+ghost use Rattle.pk_nand.specs.declared.types.Fault.TheVariants.{Stopped};
+ghost use Rattle.pk_data.specs.State.{needs_reclaim as needs_reclaim_for, fits_open};
+ghost use Rattle.pk_data.specs.Placed.{HasPlaced};
+ghost use Rattle.pk_parts.specs.Moves.{MayStep};
+ghost use Rattle.pk_parts.specs.Noting.{StepPlaces};
+ghost use Rattle.pk_parts.specs.Placing.{PlacesValue, FailsToPlace};
+ghost use Rattle.pk_parts.specs.Staying.{StaysOrOpens};
+ghost use Rattle.pk_parts.specs.Programming.{Programs};
+ghost use Rattle.pk_parts.specs.Costs.{place_calls};
+ghost use Rattle.pk_drive.specs.Calling.{FewCalls};
+
+use crate::parts::Parts;
+use pk_base::{Key, Shape};
+use pk_data::Data;
+use pk_nand::{Fault, Nand};
+use pk_pool::Pool;
+use pk_region::Region;
+use pk_seg::write_value;
+
+/// Writes a value into the next pages of the open block, and answers the first; the block is closed and another one opened
+/// before, where it has no room. `Stopped` where a call of the board fails. `buf` has a page's bytes, which are lost.
+pub fn write_next<B: Nand, A: Region>(
+    space: &mut Data<A>,
+    pool: &mut Pool<A>,
+    board: &mut B,
+    shape: &Shape,
+    key: &Key,
+    value: &[u8],
+    buf: &mut [u8],
+) -> Result<u32, Fault>
+    // The board, the value and the parts.
+    requires ready { IsReady (B.state board.old) shape.now }
+    requires short { length value.now ≤ spec.greatest shape.now }
+    requires placed { HasPlaced shape.now space.old pool.old (B.state board.old).pages }
+    requires room { needs_reclaim_for shape.now space.old pool.old
+        (spec.charge shape.now (length value.now)) ≡ false }
+    requires page { length buf.old ≡ shape.now.page_bytes }
+
+    // The pages that were written.
+    ensures places { IfOk result (λ page. PlacesValue shape.now key.now value.now
+        space.old pool.old (B.state board.old) page space.new pool.new (B.state board.new)) }
+    ensures stopped { IfErr result (λ e. e ≡ Stopped) }
+    ensures fails { OnErr result (FailsToPlace shape.now key.now value.now
+        space.old pool.old (B.state board.old) (B.state board.new)) }
+
+    // What stays.
+    ensures ready { IsReady (B.state board.new) shape.now }
+    ensures buffer { length buf.new ≡ length buf.old }
+{
+    shape.known();
+    let _ = shape.greatest();
+    let count = shape.charge(value.len() as u32);
+    match space.reserve(board, shape, pool, count) {
+        Ok(page) => match write_value(board, shape, page, key, value, buf) {
+            Ok(()) => {
+                space.wrote(shape, count);
+                Ok(page)
+            }
+            Err(fault) => Err(fault),
+        },
+        Err(fault) => Err(fault),
+    }
+}
+
+impl<A: Region> Parts<A> {
+    /// Writes a value of a key, whose map does not have it yet, and answers its first page. `Stopped` where a call of the board
+    /// fails.
+    pub(crate) fn place_value<B: Nand>(
+        &mut self,
+        board: &mut B,
+        key: &Key,
+        value: &[u8],
+    ) -> Result<u32, Fault>
+        requires may { MayStep self.old (B.state board.old) }
+        requires short { length value.now ≤ spec.greatest self.old.log.shape }
+        requires room { needs_reclaim_for self.old.log.shape self.old.space self.old.pool
+            (pages_for self.old value.now) ≡ false }
+
+        // The pages that were written.
+        ensures step { StepPlaces self.old self.new (B.state board.old) (B.state board.new)
+            key.now value.now result }
+        ensures rest { self.new ≡ record self.old { space = self.new.space; pool = self.new.pool } }
+        ensures opens { OnOk result (StaysOrOpens self.old self.new
+            (pages_for self.old value.now)) }
+        ensures programs { OnOk result (fits_open self.old.log.shape self.old.space
+            (pages_for self.old value.now) ≡ true
+            → Programs (pages_for self.old value.now) (B.state board.old)
+            (B.state board.new)) }
+        ensures calls { FewCalls (place_calls (pages_for self.old value.now))
+            (B.state board.old) (B.state board.new) }
+    {
+        let shape = self.shape();
+        let _ = key.bytes();
+        self.pool.known();
+        write_next(
+            &mut self.space,
+            &mut self.pool,
+            board,
+            &shape,
+            key,
+            value,
+            &mut self.page,
+        )
+    }
+}
