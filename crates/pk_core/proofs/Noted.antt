@@ -26,7 +26,6 @@ use Rattle.pk_parts.specs.Parts.{Parts, sight_of, block_if_open}
 use Rattle.pk_parts.specs.Agreeing.{DriveOnFlash}
 use Rattle.pk_parts.specs.Staying.{IsNoted, SameBlocks, OpensOne, MakesRoom}
 use Rattle.pk_parts.proofs.Ticking.{count_free}
-use Rattle.pk_parts.proofs.Noted.{open_is}
 
 -- ---- what is seen of it
 

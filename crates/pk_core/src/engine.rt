@@ -1,8 +1,7 @@
 //! The drive meets the contract of a drive.
-ghost use Rattle.std.specs.Prelude.{◌≡◌, ◌≢◌, ◌≤◌, ◌<◌, [], length, None};
+ghost use Rattle.std.specs.Prelude.{◌≡◌, ◌≢◌, ◌≤◌, [], length, None};
 ghost use Rattle.pk_base.specs.Shape.{greatest};
 ghost use Rattle.pk_nvme.specs.Seen.{command_of};
-ghost use Rattle.pk_model.specs.Answer.{early};
 ghost use Rattle.pk_model.specs.Wear.{is_worn};
 ghost use Rattle.pk_parts.specs.Parts.{sight_of};
 ghost use Rattle.pk_core.specs.Agreeing.{DriveOnFlashBetween};

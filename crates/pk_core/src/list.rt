@@ -1,5 +1,5 @@
 //! The command that lists keys.
-ghost use Rattle.std.specs.Prelude.{◌≡◌, ◌-◌, ◌≤◌, ◌<◌, List, [], length};
+ghost use Rattle.std.specs.Prelude.{◌≡◌, ◌≤◌, [], length};
 ghost use Rattle.pk_nvme.specs.Seen.{command_of};
 ghost use Rattle.pk_core.specs.Serving.{IsServable};
 ghost use Rattle.pk_core.specs.Done.{Executes};
@@ -9,7 +9,6 @@ ghost use Rattle.pk_core.specs.Quiet.{OnlyLooks};
 use pk_drive::Outcome;
 use pk_nand::Nand;
 use pk_nvme::Request;
-use pk_nvme::status::UNRECOVERED_ERROR;
 use pk_parts::Parts;
 use pk_region::Region;
 

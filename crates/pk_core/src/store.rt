@@ -1,5 +1,5 @@
 //! The commands that change the map.
-ghost use Rattle.std.specs.Prelude.{◌≡◌, ◌≤◌, ◌<◌, ◌+◌, ◌-◌, ◌/◌, is_some, sum, List, ℕ, [], length, false, true, None, Some, MatchOption};
+ghost use Rattle.std.specs.Prelude.{◌≡◌, ◌≤◌, ◌+◌, ◌-◌, ℕ, is_some, sum, List, [], length, false, true, None, Some, MatchOption};
 ghost use Rattle.pk_base.specs.Fields.{AreBytes};
 ghost use Rattle.pk_base.specs.Key.{IsKey};
 ghost use Rattle.pk_base.specs.Shape as spec;

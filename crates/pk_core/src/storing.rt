@@ -1,5 +1,5 @@
 //! A key gets a value, wherever that has room: behind reclaims where it has none.
-ghost use Rattle.std.specs.Prelude.{◌≡◌, ◌≤◌, ◌<◌, ◌+◌, true, false, OnOk};
+ghost use Rattle.std.specs.Prelude.{◌≡◌, ◌≤◌, ◌+◌, true, false, OnOk};
 ghost use Rattle.pk_parts.specs.Parts.{pages_for};
 ghost use Rattle.pk_parts.specs.Costs.{NumbersLast, Spends, put_calls, space_and_put_calls};
 ghost use Rattle.pk_nand.specs.Calls.{last_count};

@@ -1,7 +1,6 @@
 -- What a List is answered, and how many pages were read for it.
 use Rattle.std.proofs.Common.{◌≡◌, inl, inr, ℕ, zero, suc, ◌+◌, ◌<◌, ◌≤◌, min, refl, sym, ap, subst, ◌∙◌, arith, false, List, [], ◌∷◌, length, take, Option}
 use Rattle.std.specs.Prelude.{slice_index_or}
-use Rattle.pk_base.specs.Firsts.{firsts}
 use Rattle.pk_nand.specs.BoardState.{BoardState}
 use Rattle.pk_nand.specs.Calls.{counted, last_count}
 use Rattle.pk_nand.specs.Erased.{counted_by}

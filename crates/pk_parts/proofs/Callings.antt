@@ -1,6 +1,5 @@
 -- How many calls of the flash are made by calls in a row, and how many roots are installed.
 use Rattle.std.proofs.Common.{◌≡◌, ◌≢◌, inl, inr, ℕ, suc, ◌+◌, ◌≤◌, refl, sym, ap, subst, ◌∙◌, arith, List, [], ◌∷◌}
-use Rattle.std.specs.Prelude.{if◌then◌else◌}
 use Rattle.pk_nand.specs.BoardState.{BoardState}
 use Rattle.pk_nand.specs.Calls.{counted}
 use Rattle.pk_nand.specs.Erased.{counted_by}

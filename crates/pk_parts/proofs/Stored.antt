@@ -8,7 +8,6 @@ use Rattle.pk_base.specs.Map.{Map}
 use Rattle.pk_base.specs.Shape.{Shape, data_blocks, most_pages}
 use Rattle.pk_nand.specs.declared.types.Fault.{Fault}
 use Rattle.pk_nand.specs.BoardState.{BoardState}
-use Rattle.pk_model.specs.Crashes.{commit}
 use Rattle.pk_model.specs.Wear.{roots}
 use Rattle.pk_work.specs.Rest.{whole_reclaim}
 use Rattle.pk_work.specs.Calls.{commit_calls, room_calls, room_roots, space_calls}

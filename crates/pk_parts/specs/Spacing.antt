@@ -1,7 +1,7 @@
 -- Space for a value: steps of reclaims until it has room, of which one may fail by a read.
 use Rattle.std.specs.Prelude.{◌≡◌, ◌⊎◌, ℕ, ◌+◌, ◌-◌, ◌≤◌, ◌<◌, [], Bool, true, false, ◌&&◌, Result, Ok, OnOk}
 use Rattle.pk_base.specs.Shape.{Shape}
-use Rattle.pk_base.specs.Map.{Map, live}
+use Rattle.pk_base.specs.Map.{Map}
 use Rattle.pk_nand.specs.declared.types.Fault.{Fault}
 use Rattle.pk_nand.specs.BoardState.{BoardState}
 use Rattle.pk_work.specs.Rest.{whole_reclaim}

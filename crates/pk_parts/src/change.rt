@@ -1,5 +1,5 @@
 //! Changes of the map: a key gets a value, or loses its own.
-ghost use Rattle.std.specs.Prelude.{◌≡◌, ◌<◌, ◌+◌, false, OnOk};
+ghost use Rattle.std.specs.Prelude.{◌≡◌, ◌+◌, false, OnOk};
 ghost use Rattle.pk_parts.specs.Parts.{pages_for, sight_of};
 ghost use Rattle.pk_parts.specs.Costs.{NumbersLast, Spends, place_calls, put_calls};
 ghost use Rattle.pk_log.specs.State.{needs_freeze as needs_freeze_for};

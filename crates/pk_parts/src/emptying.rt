@@ -1,7 +1,6 @@
 //! Merges to the end and a whole freeze, inside a command that needs the room.
-ghost use Rattle.std.specs.Prelude.{◌≡◌, ◌<◌, ◌+◌, [], true, OnOk};
+ghost use Rattle.std.specs.Prelude.{◌≡◌, ◌+◌, [], true, OnOk};
 ghost use Rattle.pk_parts.specs.Costs.{NumbersLast, Spends};
-ghost use Rattle.pk_model.specs.Wear.{roots};
 ghost use Rattle.pk_work.specs.Rest.{whole_freeze};
 ghost use Rattle.pk_work.specs.Work.{emptying};
 ghost use Rattle.pk_work.specs.Calls.{room_calls, room_roots};

@@ -27,7 +27,8 @@ impl<A: Region> Parts<A> {
         into: &mut [u8],
     ) -> Outcome
         // The drive, the request, and the buffer for data.
-        requires agrees { DriveOnFlash self.old (B.state board.old).shape (B.state board.old).pages }
+        requires agrees { DriveOnFlash self.old (B.state board.old).shape
+            (B.state board.old).pages }
         requires key { request.now.key_len ≤ 16 }
         requires some { 4 ≤ request.now.size }
         requires room { 65536 ≤ length into.old }

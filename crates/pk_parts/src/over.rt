@@ -1,5 +1,5 @@
 //! The parts over what opening found.
-ghost use Rattle.std.specs.Prelude.{◌<◌, ℕ, false, IfOk};
+ghost use Rattle.std.specs.Prelude.{ℕ, false, IfOk};
 ghost use Rattle.pk_base.specs.Shape as spec;
 ghost use Rattle.pk_base.specs.Page.{Flash, IsFlash};
 ghost use Rattle.pk_scan.specs.Opened.{FoundOnFlash};

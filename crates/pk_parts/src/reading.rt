@@ -1,5 +1,5 @@
 //! Reads: where the value of a key stands, and its front.
-ghost use Rattle.std.specs.Prelude.{◌≡◌, ◌≤◌, ◌<◌, ◌-◌, ℕ, List, length, take, Option, IfOk, OnOk, OnErr};
+ghost use Rattle.std.specs.Prelude.{◌≡◌, ◌≤◌, ◌-◌, ℕ, List, length, take, Option, IfOk, OnOk, OnErr};
 ghost use Rattle.pk_base.specs.Shape.{fetched};
 ghost use Rattle.pk_nand.specs.Calls.{IsReady, last_count};
 ghost use Rattle.pk_nand.specs.Erased.{after_reads};

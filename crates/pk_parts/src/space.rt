@@ -1,5 +1,5 @@
 //! Space for a value: reclaims to their end, inside a Store that needs it.
-ghost use Rattle.std.specs.Prelude.{◌≡◌, ◌≤◌, ◌<◌, ◌||◌, [], false, OnOk};
+ghost use Rattle.std.specs.Prelude.{◌≡◌, ◌≤◌, ◌||◌, [], false, OnOk};
 ghost use Rattle.pk_parts.specs.Costs.{NumbersLast, Spends, reclaim_calls};
 ghost use Rattle.pk_base.specs.Shape as spec;
 ghost use Rattle.pk_work.specs.Calls.{space_calls, room_roots};

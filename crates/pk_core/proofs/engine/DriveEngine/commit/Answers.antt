@@ -1,11 +1,10 @@
-use Rattle.std.proofs.Common.{refl, ap, ◌∙◌, subst}
+use Rattle.std.proofs.Common.{refl, ap, ◌∙◌}
 use Rattle.pk_nand.specs.BoardState.{BoardState}
 use Rattle.pk_core.proofs.Standing.{stands_for, stands_here, still_stands}
 use Rattle.pk_parts.proofs.Standing.{agrees_so}
 use Rattle.pk_parts.specs.Parts.{Parts, sight_of, frames_of}
 use Rattle.pk_parts.proofs.Unchanging.{agrees_ready}
 use Rattle.pk_core.proofs.Executing.{none_between}
-use Rattle.pk_pool.specs.Blocks.{IsShared}
 use Rattle.pk_core.proofs.Sights.{works_up, stops_up}
 use Rattle.pk_core.proofs.Steadying.{steadies}
 use Rattle.pk_core.proofs.engine.DriveEngine.commit.Goals as goal

@@ -1,6 +1,4 @@
 use Rattle.std.proofs.Common.{subst}
-use Rattle.pk_pool.specs.Blocks.{IsShared}
-use Rattle.pk_parts.specs.Parts.{Parts}
 use Rattle.std.proofs.Common.{◌≡◌, sym, ap, subst, ◌∙◌, Some, None, true, false}
 use Rattle.std.specs.Prelude.{IsSome}
 use Rattle.pk_base.specs.Shape.{Shape}
@@ -13,7 +11,6 @@ use Rattle.pk_core.proofs.Early.{told_shape, executes_none}
 use Rattle.std.proofs.Common.{inl, inr}
 use Rattle.std.proofs.lemmas.Bool.{cases_eq}
 use Rattle.pk_base.specs.Shape.{charge}
-use Rattle.pk_core.proofs.Sights.{delete_no_store}
 use Rattle.pk_core.proofs.Staying.{keeps_fresh, blocks_stay, blocks_grow}
 use Rattle.pk_parts.proofs.Staying.{stays_same}
 use Rattle.pk_core.proofs.Statuses.{told_refused, told_sound, early_refuses, early_sound, zero_runs}

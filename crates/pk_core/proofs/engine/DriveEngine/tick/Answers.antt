@@ -1,10 +1,6 @@
-use Rattle.std.proofs.Common.{subst}
-use Rattle.pk_pool.specs.Blocks.{IsShared}
-use Rattle.pk_parts.specs.Parts.{Parts}
 use Rattle.pk_parts.specs.Parts.{sight_of}
 use Rattle.pk_core.proofs.Steadying.{steadies, between_none}
 use Rattle.pk_core.proofs.Due.{merges_next}
-use Rattle.std.proofs.Common.{arith}
 use Rattle.pk_core.proofs.Staying.{keeps_fresh}
 use Rattle.pk_core.proofs.Stepping.{tick_may}
 use Rattle.pk_core.proofs.engine.DriveEngine.tick.Goals as goal

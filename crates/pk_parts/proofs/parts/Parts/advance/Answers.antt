@@ -1,4 +1,4 @@
-use Rattle.std.proofs.Common.{sym, ap, ◌∙◌, inl, ◌==◌, length, not, true, false, Bool, ◌≡◌}
+use Rattle.std.proofs.Common.{sym, ap, ◌∙◌, inl, ◌==◌, length}
 use Rattle.pk_compact.specs.FreezeSteps.{taken_by}
 use Rattle.pk_parts.proofs.Advancing.{not_none, wants_is}
 use Rattle.pk_parts.specs.Parts.{Parts, index_of}

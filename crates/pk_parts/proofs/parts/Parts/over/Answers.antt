@@ -1,4 +1,4 @@
-use Rattle.std.proofs.Common.{◌≡◌, ◌∙◌, ap, subst}
+use Rattle.std.proofs.Common.{◌∙◌, subst}
 use Rattle.pk_base.specs.Shape.{Shape, pinned}
 use Rattle.pk_merge.specs.Jobs.{IsIdle}
 use Rattle.pk_parts.proofs.Opening.{opens_on}
