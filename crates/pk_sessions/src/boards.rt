@@ -1,7 +1,7 @@
 //! Boards with the pages that an earlier session left, and what the program makes of them.
 
 use crate::script::{Ask, script};
-use crate::tried::Program;
+use crate::tried::{Place, Program, same};
 use pk_base::Shape;
 use pk_flash::{Flash, Left, Room, is_flash};
 use pk_nand::{Mark, PageBytes, PageState};
@@ -128,6 +128,47 @@ pub struct Session {
     pub flash: Flash,
 }
 
+impl Session {
+    /// A failure where the session had another status.
+    pub fn ended(&self, status: u8, place: Place) -> Result<(), Fail> {
+        same(self.status, status, format_args!("the status, {place}"))
+    }
+
+    /// A failure where the session had another status, or posted other bytes.
+    pub fn posted(&self, status: u8, posted: &[u8], place: Place) -> Result<(), Fail> {
+        self.ended(status, place)?;
+        let found = self.flash.posted();
+        same(found, posted, format_args!("the posted bytes, {place}"))
+    }
+
+    /// A failure where the session made another number of programs or of erases.
+    pub fn wrote(&self, programs: u64, erases: u64, place: Place) -> Result<(), Fail> {
+        let flash = &self.flash;
+        same(
+            flash.program_count(),
+            programs,
+            format_args!("programs, {place}"),
+        )?;
+        same(flash.erase_count(), erases, format_args!("erases, {place}"))
+    }
+}
+
+/// The session of a board's input, with so many frames.
+pub fn serve_board_with<P: Program>(alloc: Global, mut flash: Flash, frames: &str) -> Session {
+    let status = serve_with::<P>(alloc, &mut flash, frames);
+    Session { status, flash }
+}
+
+/// The session of a board's input, with the frames of two levels.
+pub fn serve_board<P: Program>(alloc: Global, flash: Flash) -> Session {
+    serve_board_with::<P>(alloc, flash, "36")
+}
+
+/// A made drive of 64 blocks, with this input.
+pub fn made_board<P: Program>(alloc: Global, input: Vec<u8>) -> Result<Flash, Fail> {
+    board(alloc, worked()?, made::<P>(alloc, &MAKE_WORKED)?, input)
+}
+
 /// Serves this script on these pages.
 pub fn served<P: Program>(
     alloc: Global,
@@ -135,9 +176,8 @@ pub fn served<P: Program>(
     pages: Vec<PageState>,
     asks: &[Ask],
 ) -> Result<Session, Fail> {
-    let mut flash = board(alloc, shape, pages, script(alloc, asks)?)?;
-    let status = serve::<P>(alloc, &mut flash);
-    Ok(Session { status, flash })
+    let flash = board(alloc, shape, pages, script(alloc, asks)?)?;
+    Ok(serve_board::<P>(alloc, flash))
 }
 
 /// The pages that a session leaves, which is to end well.

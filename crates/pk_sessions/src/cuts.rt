@@ -2,7 +2,7 @@
 
 use crate::boards::{MAKE_SMALL, Session, cut, made, served, small};
 use crate::script::{Answer, Ask, Value, records, retrieved};
-use crate::tried::{Program, holds, same};
+use crate::tried::{Place, Program, holds, same};
 use crate::ways::{Ways, ways_of_erases};
 use pk_flash::{Flash, Left};
 use pk_nand::Mark;
@@ -77,15 +77,19 @@ pub fn some_ways(flash: &Flash, k: usize) -> u8 {
     }
 }
 
+fn each(alloc: Global, pages: &[u8]) -> Result<Left, AllocError> {
+    Ok(Left::Each(pages.to_vec(alloc)?))
+}
+
 /// One of these: nothing is done, all is Torn, all is done, or each page of a block by itself.
 pub fn left(alloc: Global, way: u8) -> Result<Left, AllocError> {
     match way {
         0 => Ok(Left::Untouched),
         1 => Ok(Left::Torn),
         2 => Ok(Left::Done),
-        3 => Ok(Left::Each(Vec::from_slice(alloc, &[0, 1, 2, 0, 1, 2, 0, 1])?)),
-        4 => Ok(Left::Each(Vec::from_slice(alloc, &[1, 0, 1, 0, 1, 0, 1, 0])?)),
-        _ => Ok(Left::Each(Vec::from_slice(alloc, &[2, 0, 2, 0, 2, 0, 2, 0])?)),
+        3 => each(alloc, &[0, 1, 2, 0, 1, 2, 0, 1]),
+        4 => each(alloc, &[1, 0, 1, 0, 1, 0, 1, 0]),
+        _ => each(alloc, &[2, 0, 2, 0, 2, 0, 2, 0]),
     }
 }
 
@@ -146,18 +150,22 @@ pub fn second_session<P: Program>(
 fn check_mark<P: Program>(alloc: Global, first: &Flash, k: usize) -> Result<(), Fail> {
     let ways = Ways::of(alloc, first, k)?;
     for way in 0..ways.count {
-        let (second, kept) = second_session::<P>(alloc, first, k, &ways.left(alloc, way)?)?;
-        same(
-            second.status,
-            0,
-            format_args!("the status, mark {k}, way {way}"),
-        )?;
-        holds(
-            kept.is_some(),
-            format_args!("what is there, mark {k}, way {way}"),
-        )?;
+        let left = ways.left(alloc, way)?;
+        check_way::<P>(alloc, first, k, &left, Place::Way(k, way))?;
     }
     Ok(())
+}
+
+fn check_way<P: Program>(
+    alloc: Global,
+    first: &Flash,
+    k: usize,
+    left: &Left,
+    place: Place,
+) -> Result<(), Fail> {
+    let (second, kept) = second_session::<P>(alloc, first, k, left)?;
+    second.ended(0, place)?;
+    holds(kept.is_some(), format_args!("what is there, {place}"))
 }
 
 /// The first session.
@@ -169,12 +177,8 @@ pub fn first_session<P: Program>(alloc: Global) -> Result<Session, Fail> {
 /// Each mark is interrupted in all its ways. Seven erase blocks without a Whole page, three of them in the Tick, and have 256 each.
 pub fn every_cut<P: Program>(alloc: Global) -> Result<(), Fail> {
     let first = first_session::<P>(alloc)?;
-    same(first.status, 0, "the status")?;
-    same(
-        first.flash.posted(),
-        records(alloc, &[Answer::Done; 10])?.as_slice(),
-        "the posted bytes",
-    )?;
+    let want = records(alloc, &[Answer::Done; 10])?;
+    first.posted(0, &want, Place::Named("the first session"))?;
     same(ways_of_erases(alloc, &first.flash)?, 7 * 256, "ways")?;
     for k in 0..first.flash.marks().saturating_add(1) {
         check_mark::<P>(alloc, &first.flash, k)?;

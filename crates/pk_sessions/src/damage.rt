@@ -1,8 +1,8 @@
 //! Pages that no session left so.
 
-use crate::boards::{MAKE_WORKED, made, pages_behind, served, worked};
+use crate::boards::{MAKE_WORKED, Session, made, pages_behind, served, worked};
 use crate::script::{Ask, Value};
-use crate::tried::{Program, same};
+use crate::tried::{Place, Program, holds};
 use pk_nand::{PageBytes, PageState};
 use std::alloc::{AllocError, Global};
 use std::test::*;
@@ -50,69 +50,155 @@ pub fn with_one_key<P: Program>(alloc: Global) -> Result<Vec<PageState>, Fail> {
     pages_behind::<P>(alloc, worked()?, pages, &[Ask::Store(0x61, value)])
 }
 
+// The pages from one to another are damaged: the status of a session.
+#[derive(Clone, Copy)]
+struct Case {
+    name: &'static str,
+    from: usize,
+    to: usize,
+    damage: Damage,
+    status: u8,
+}
+
+const CASES: [Case; 15] = [
+    Case {
+        name: "the value",
+        from: 32,
+        to: 33,
+        damage: Damage::Torn,
+        status: 8,
+    },
+    Case {
+        name: "no value",
+        from: 32,
+        to: 33,
+        damage: Damage::Erased,
+        status: 8,
+    },
+    Case {
+        name: "another value",
+        from: 32,
+        to: 33,
+        damage: Damage::Foreign,
+        status: 8,
+    },
+    Case {
+        name: "the value's head of another key",
+        from: 32,
+        to: 33,
+        damage: Damage::Byte(4),
+        status: 8,
+    },
+    Case {
+        name: "the value's head of another length",
+        from: 32,
+        to: 33,
+        damage: Damage::Byte(20),
+        status: 8,
+    },
+    Case {
+        name: "the value's head with another text",
+        from: 32,
+        to: 33,
+        damage: Damage::Byte(24),
+        status: 8,
+    },
+    Case {
+        name: "a byte behind the value",
+        from: 32,
+        to: 33,
+        damage: Damage::Byte(35),
+        status: 8,
+    },
+    Case {
+        name: "the last byte behind the value",
+        from: 32,
+        to: 33,
+        damage: Damage::Byte(511),
+        status: 8,
+    },
+    Case {
+        name: "the first journal page",
+        from: 64,
+        to: 65,
+        damage: Damage::Foreign,
+        status: 8,
+    },
+    Case {
+        name: "the page behind the journal",
+        from: 65,
+        to: 66,
+        damage: Damage::Foreign,
+        status: 8,
+    },
+    Case {
+        name: "a torn page behind the journal",
+        from: 65,
+        to: 66,
+        damage: Damage::Torn,
+        status: 0,
+    },
+    Case {
+        name: "the former root",
+        from: 0,
+        to: 1,
+        damage: Damage::Torn,
+        status: 0,
+    },
+    Case {
+        name: "a page behind the root",
+        from: 17,
+        to: 18,
+        damage: Damage::Foreign,
+        status: 0,
+    },
+    Case {
+        name: "all pages",
+        from: 0,
+        to: 1024,
+        damage: Damage::Erased,
+        status: 8,
+    },
+    Case {
+        name: "no pages",
+        from: 0,
+        to: 0,
+        damage: Damage::Torn,
+        status: 0,
+    },
+];
+
+fn pages_with<P: Program>(alloc: Global, case: &Case) -> Result<Vec<PageState>, Fail> {
+    let mut pages = with_one_key::<P>(alloc)?;
+    for i in case.from..case.to {
+        if i < pages.len() {
+            let page = page_with(alloc, &pages[i], case.damage)?;
+            pages[i] = page;
+        }
+    }
+    Ok(pages)
+}
+
+fn check<P: Program>(alloc: Global, case: &Case) -> Result<(), Fail> {
+    let pages = pages_with::<P>(alloc, case)?;
+    let done = served::<P>(alloc, worked()?, pages, &[Ask::Retrieve(0x61)])?;
+    check_refused(&done, case.status, Place::Named(case.name))
+}
+
+/// A session with this status posted nothing exactly where it is 8, and wrote nothing.
+pub fn check_refused(done: &Session, status: u8, place: Place) -> Result<(), Fail> {
+    done.ended(status, place)?;
+    holds(
+        done.flash.posted().is_empty() == (status == 8),
+        format_args!("whether nothing was posted, {place}"),
+    )?;
+    done.wrote(0, 0, place)
+}
+
 /// By the pages from one to another that are damaged: the status of a session, which posts and writes nothing where it is 8.
 pub fn damaged<P: Program>(alloc: Global) -> Result<(), Fail> {
-    for (name, from, to, damage, status) in [
-        ("the value", 32usize, 33usize, Damage::Torn, 8u8),
-        ("no value", 32, 33, Damage::Erased, 8),
-        ("another value", 32, 33, Damage::Foreign, 8),
-        (
-            "the value's head of another key",
-            32,
-            33,
-            Damage::Byte(4),
-            8,
-        ),
-        (
-            "the value's head of another length",
-            32,
-            33,
-            Damage::Byte(20),
-            8,
-        ),
-        (
-            "the value's head with another text",
-            32,
-            33,
-            Damage::Byte(24),
-            8,
-        ),
-        ("a byte behind the value", 32, 33, Damage::Byte(35), 8),
-        (
-            "the last byte behind the value",
-            32,
-            33,
-            Damage::Byte(511),
-            8,
-        ),
-        ("the first journal page", 64, 65, Damage::Foreign, 8),
-        ("the page behind the journal", 65, 66, Damage::Foreign, 8),
-        ("a torn page behind the journal", 65, 66, Damage::Torn, 0),
-        ("the former root", 0, 1, Damage::Torn, 0),
-        ("a page behind the root", 17, 18, Damage::Foreign, 0),
-        ("all pages", 0, 1024, Damage::Erased, 8),
-        ("no pages", 0, 0, Damage::Torn, 0),
-    ] {
-        let mut pages = with_one_key::<P>(alloc)?;
-        for i in from..to {
-            if i < pages.len() {
-                let page = page_with(alloc, &pages[i], damage)?;
-                pages[i] = page;
-            }
-        }
-        let done = served::<P>(alloc, worked()?, pages, &[Ask::Retrieve(0x61)])?;
-        same(done.status, status, format_args!("the status, {name}"))?;
-        same(
-            done.flash.posted().is_empty(),
-            status == 8,
-            format_args!("whether nothing was posted, {name}"),
-        )?;
-        same(
-            done.flash.program_count(),
-            0,
-            format_args!("programs, {name}"),
-        )?;
-        same(done.flash.erase_count(), 0, format_args!("erases, {name}"))?;
+    for case in &CASES {
+        check::<P>(alloc, case)?;
     }
     Ok(())
 }

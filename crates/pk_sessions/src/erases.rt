@@ -2,10 +2,10 @@
 
 use crate::boards::{MAKE_SMALL, Session, cut, made, pages_behind, served, small};
 use crate::script::{Answer, Ask, Value, records};
-use crate::tried::{Program, same};
+use crate::tried::{Place, Program, same};
 use crate::ways::Ways;
 use pk_flash::Flash;
-use pk_nand::Mark;
+use pk_nand::{Mark, PageState};
 use std::alloc::Global;
 use std::test::*;
 
@@ -62,22 +62,25 @@ fn first_erase(flash: &Flash) -> Option<usize> {
 
 /// Each of eight written pages stays, is Erased or is Torn, by itself. The third session answers as the second one.
 pub fn full_block<P: Program>(alloc: Global) -> Result<(), Fail> {
-    let second = second::<P>(alloc)?;
-    same(second.status, 0, "the status")?;
     let want = records(alloc, &ANSWERS)?;
-    same(second.flash.posted(), want.as_slice(), "the posted bytes")?;
+    let second = second::<P>(alloc)?;
+    second.posted(0, &want, Place::Named("the second session"))?;
     let k = first_erase(&second.flash).ok_or("an erase")?;
     let ways = Ways::of(alloc, &second.flash, k)?;
     same(ways.count, 6561, "ways")?;
     for way in 0..ways.count {
         let pages = cut(alloc, &second.flash, k, &ways.left(alloc, way)?)?;
-        let third = served::<P>(alloc, small()?, pages, &NEXT)?;
-        same(third.status, 0, format_args!("the status, way {way}"))?;
-        same(
-            third.flash.posted(),
-            want.as_slice(),
-            format_args!("the posted bytes, way {way}"),
-        )?;
+        check_third::<P>(alloc, pages, &want, Place::Way(k, way))?;
     }
     Ok(())
+}
+
+// The third session on these pages.
+fn check_third<P: Program>(
+    alloc: Global,
+    pages: Vec<PageState>,
+    want: &[u8],
+    place: Place,
+) -> Result<(), Fail> {
+    served::<P>(alloc, small()?, pages, &NEXT)?.posted(0, want, place)
 }

@@ -1,13 +1,13 @@
 //! Calls of the board that fail.
 
 use crate::boards::{
-    MAKE_WORKED, Session, board, made, pages_behind, pages_left, serve, served, worked,
+    MAKE_WORKED, Session, board, made, pages_behind, pages_left, serve_board, served, worked,
 };
 use crate::script::{Answer, Ask, Value, records, script};
-use crate::tried::{Program, same};
-use pk_flash::Left;
+use crate::tried::{Place, Program, same};
+use pk_flash::{Flash, Left};
 use pk_nand::{Board, PageState};
-use std::alloc::Global;
+use std::alloc::{AllocError, Global};
 use std::test::*;
 
 const THREE: Value = Value {
@@ -32,35 +32,32 @@ fn served_with_fault<P: Program>(
     let pages = with_one_key::<P>(alloc)?;
     let mut flash = board(alloc, worked()?, pages, script(alloc, asks)?)?;
     flash.fail(alloc, call, left)?;
-    let status = serve::<P>(alloc, &mut flash);
-    Ok(Session { status, flash })
+    Ok(serve_board::<P>(alloc, flash))
 }
 
 /// The entry is fetched behind the reads of opening, and then the page of the value is read.
 pub fn read_of_retrieve<P: Program>(alloc: Global) -> Result<(), Fail> {
     let asks = [Ask::Retrieve(0x62), Ask::Retrieve(0x62)];
     let done = served_with_fault::<P>(alloc, &asks, 36, Left::Untouched)?;
-    same(done.status, 0, "the status")?;
     let want = records(alloc, &[Answer::Unread, Answer::Found(THREE)])?;
-    same(done.flash.posted(), want.as_slice(), "the posted bytes")?;
-    Ok(())
+    done.posted(0, &want, Place::Call(36))
+}
+
+// The first byte of the input that is still to be taken.
+fn next_byte(flash: &mut Flash) -> Result<u8, Fail> {
+    let mut byte = [0u8; 1];
+    same(flash.fetch(&mut byte), Ok(1), "a byte of the input")?;
+    Ok(byte[0])
 }
 
 // Nothing was posted and nothing was written, and the first byte of the input is still to be taken.
 fn check_untouched(done: &mut Session, first: u8, call: u64) -> Result<(), Fail> {
-    same(done.status, 6, format_args!("the status, call {call}"))?;
+    done.posted(6, &[], Place::Call(call))?;
+    same(done.flash.marks(), 0, "marks")?;
     same(
-        done.flash.posted().len(),
-        0,
-        format_args!("posted bytes, call {call}"),
-    )?;
-    same(done.flash.marks(), 0, format_args!("marks, call {call}"))?;
-    let mut byte = [0u8; 1];
-    same(done.flash.fetch(&mut byte), Ok(1), "a byte of the input")?;
-    same(
-        byte[0],
+        next_byte(&mut done.flash)?,
         first,
-        format_args!("a byte of the input, call {call}"),
+        "the first byte of the input",
     )
 }
 
@@ -73,85 +70,215 @@ pub fn reads_of_opening<P: Program>(alloc: Global) -> Result<(), Fail> {
     Ok(())
 }
 
-fn left(alloc: Global, way: u8) -> Result<Left, Fail> {
+// A page of a block after another: as it was, Erased or Torn.
+const BY_TURNS: [u8; 16] = [0, 1, 2, 0, 1, 2, 0, 1, 2, 0, 1, 2, 0, 1, 2, 0];
+
+fn left(alloc: Global, way: u8) -> Result<Left, AllocError> {
     match way {
         0 => Ok(Left::Untouched),
         1 => Ok(Left::Torn),
         2 => Ok(Left::Done),
-        3 => Ok(Left::Each(Vec::from_slice(
-            alloc,
-            &[0, 1, 2, 0, 1, 2, 0, 1, 2, 0, 1, 2, 0, 1, 2, 0],
-        )?)),
+        3 => Ok(Left::Each(BY_TURNS.to_vec(alloc)?)),
         _ => Ok(Left::Part(7)),
     }
 }
 
-// Stores the key `a` while this call fails: the status, how many bytes of its record are posted, and the keys behind the session.
-fn check_store<P: Program>(
-    alloc: Global,
+// A call that fails and what it leaves: the status, how many bytes of the Store's record are posted, and the keys behind the session.
+#[derive(Clone, Copy)]
+struct Failure {
     call: u64,
     way: u8,
     status: u8,
     bytes: usize,
     keys: &'static [u8],
-) -> Result<(), Fail> {
-    let done = served_with_fault::<P>(alloc, &[Ask::Store(0x61, THREE)], call, left(alloc, way)?)?;
-    same(
-        done.status,
-        status,
-        format_args!("the status, call {call}, way {way}"),
-    )?;
-    let record = records(alloc, &[Answer::Done])?;
-    same(
-        done.flash.posted(),
-        &record[..bytes.min(record.len())],
-        format_args!("the posted bytes, call {call}, way {way}"),
-    )?;
-    let pages = pages_left(alloc, &done.flash)?;
-    let next = served::<P>(alloc, worked()?, pages, &[Ask::List])?;
-    same(
-        next.status,
-        0,
-        format_args!("the status, call {call}, way {way}"),
-    )?;
-    let list = records(alloc, &[Answer::Keys(keys)])?;
-    same(
-        next.flash.posted(),
-        list.as_slice(),
-        format_args!("the posted bytes, call {call}, way {way}"),
-    )?;
-    Ok(())
 }
 
-/// The calls behind those of opening are, in this order: the fetches of the entry and of the value, the erases of two blocks for the
-/// epoch and of the other root block, the root, the erase of a block for values, the value, the fetch at the input's end, the journal
-/// page, and the post of the record.
+// The calls behind those of opening are, in this order: the fetches of the entry and of the value, the erases of two blocks for the
+// epoch and of the other root block, the root, the erase of a block for values, the value, the fetch at the input's end, the journal
+// page, and the post of the record.
+const FAILURES: [Failure; 22] = [
+    Failure {
+        call: 35,
+        way: 0,
+        status: 4,
+        bytes: 0,
+        keys: b"b",
+    },
+    Failure {
+        call: 36,
+        way: 0,
+        status: 4,
+        bytes: 0,
+        keys: b"b",
+    },
+    Failure {
+        call: 37,
+        way: 1,
+        status: 6,
+        bytes: 0,
+        keys: b"b",
+    },
+    Failure {
+        call: 38,
+        way: 3,
+        status: 6,
+        bytes: 0,
+        keys: b"b",
+    },
+    Failure {
+        call: 39,
+        way: 0,
+        status: 6,
+        bytes: 0,
+        keys: b"b",
+    },
+    Failure {
+        call: 39,
+        way: 1,
+        status: 6,
+        bytes: 0,
+        keys: b"b",
+    },
+    Failure {
+        call: 39,
+        way: 2,
+        status: 6,
+        bytes: 0,
+        keys: b"b",
+    },
+    Failure {
+        call: 39,
+        way: 3,
+        status: 6,
+        bytes: 0,
+        keys: b"b",
+    },
+    Failure {
+        call: 40,
+        way: 0,
+        status: 6,
+        bytes: 0,
+        keys: b"b",
+    },
+    Failure {
+        call: 40,
+        way: 1,
+        status: 6,
+        bytes: 0,
+        keys: b"b",
+    },
+    Failure {
+        call: 40,
+        way: 2,
+        status: 6,
+        bytes: 0,
+        keys: b"b",
+    },
+    Failure {
+        call: 41,
+        way: 3,
+        status: 6,
+        bytes: 0,
+        keys: b"b",
+    },
+    Failure {
+        call: 42,
+        way: 0,
+        status: 6,
+        bytes: 0,
+        keys: b"b",
+    },
+    Failure {
+        call: 42,
+        way: 1,
+        status: 6,
+        bytes: 0,
+        keys: b"b",
+    },
+    Failure {
+        call: 42,
+        way: 2,
+        status: 6,
+        bytes: 0,
+        keys: b"b",
+    },
+    Failure {
+        call: 43,
+        way: 0,
+        status: 4,
+        bytes: 24,
+        keys: b"ab",
+    },
+    Failure {
+        call: 44,
+        way: 0,
+        status: 6,
+        bytes: 0,
+        keys: b"b",
+    },
+    Failure {
+        call: 44,
+        way: 1,
+        status: 6,
+        bytes: 0,
+        keys: b"b",
+    },
+    Failure {
+        call: 44,
+        way: 2,
+        status: 6,
+        bytes: 0,
+        keys: b"ab",
+    },
+    Failure {
+        call: 45,
+        way: 0,
+        status: 5,
+        bytes: 0,
+        keys: b"ab",
+    },
+    Failure {
+        call: 45,
+        way: 4,
+        status: 5,
+        bytes: 7,
+        keys: b"ab",
+    },
+    Failure {
+        call: 46,
+        way: 0,
+        status: 0,
+        bytes: 24,
+        keys: b"ab",
+    },
+];
+
+// The keys behind a session.
+fn check_listed<P: Program>(
+    alloc: Global,
+    flash: &Flash,
+    keys: &'static [u8],
+    place: Place,
+) -> Result<(), Fail> {
+    let next = served::<P>(alloc, worked()?, pages_left(alloc, flash)?, &[Ask::List])?;
+    next.posted(0, &records(alloc, &[Answer::Keys(keys)])?, place)
+}
+
+// Stores the key `a` while this call fails.
+fn check_store<P: Program>(alloc: Global, failure: &Failure) -> Result<(), Fail> {
+    let left = left(alloc, failure.way)?;
+    let place = Place::CallWay(failure.call, failure.way);
+    let done = served_with_fault::<P>(alloc, &[Ask::Store(0x61, THREE)], failure.call, left)?;
+    let record = records(alloc, &[Answer::Done])?;
+    let front = record.get(..failure.bytes).unwrap_or(&record);
+    done.posted(failure.status, front, place)?;
+    check_listed::<P>(alloc, &done.flash, failure.keys, place)
+}
+
+/// Each call of the session of a Store fails, in some ways.
 pub fn calls_of_store<P: Program>(alloc: Global) -> Result<(), Fail> {
-    for (call, way, status, bytes, keys) in [
-        (35u64, 0u8, 4u8, 0usize, b"b".as_slice()),
-        (36, 0, 4, 0, b"b"),
-        (37, 1, 6, 0, b"b"),
-        (38, 3, 6, 0, b"b"),
-        (39, 0, 6, 0, b"b"),
-        (39, 1, 6, 0, b"b"),
-        (39, 2, 6, 0, b"b"),
-        (39, 3, 6, 0, b"b"),
-        (40, 0, 6, 0, b"b"),
-        (40, 1, 6, 0, b"b"),
-        (40, 2, 6, 0, b"b"),
-        (41, 3, 6, 0, b"b"),
-        (42, 0, 6, 0, b"b"),
-        (42, 1, 6, 0, b"b"),
-        (42, 2, 6, 0, b"b"),
-        (43, 0, 4, 24, b"ab"),
-        (44, 0, 6, 0, b"b"),
-        (44, 1, 6, 0, b"b"),
-        (44, 2, 6, 0, b"ab"),
-        (45, 0, 5, 0, b"ab"),
-        (45, 4, 5, 7, b"ab"),
-        (46, 0, 0, 24, b"ab"),
-    ] {
-        check_store::<P>(alloc, call, way, status, bytes, keys)?;
+    for failure in &FAILURES {
+        check_store::<P>(alloc, failure)?;
     }
     Ok(())
 }

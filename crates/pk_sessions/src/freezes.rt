@@ -5,7 +5,7 @@ use crate::layered::{FLASHES, Layered, Lists, is_done, key_of, roots_behind, val
 use crate::merges::{check_lists, served};
 use crate::report::push_command;
 use crate::script::{entry, push_value};
-use crate::tried::{Program, holds, same};
+use crate::tried::{Place, Program, holds, same};
 use pk_flash::{Flash, Left};
 use std::alloc::{AllocError, Global};
 use std::test::*;
@@ -62,7 +62,7 @@ fn wanted_behind(
 // The session of the Store, which makes a freeze.
 fn session<P: Program>(alloc: Global, layered: &Layered) -> Result<Flash, Fail> {
     let done = served::<P>(alloc, layered, layered.pages(alloc)?, store(alloc)?)?;
-    same(done.status, 0, "the status")?;
+    done.ended(0, Place::Named("the Store"))?;
     let merges = if layered.lists.frozen == 0 { 0 } else { 4 };
     let end = done.flash.marks();
     same(

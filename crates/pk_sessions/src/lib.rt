@@ -30,4 +30,4 @@ pub mod wear;
 pub mod words;
 
 pub use boards::{MAKE_WORKED, board, made, serve, worked};
-pub use tried::{Program, holds, same};
+pub use tried::{Place, Program, holds, same};

@@ -1,13 +1,13 @@
 //! Freezes and merges by commands from a made drive on; and merges into each level, on flashes made by hand, cut off at every mark.
 
 use crate::boards::{
-    MAKE_WORKED, Session, cut, long_board, made, pages_left, serve, serve_with, worked,
+    MAKE_WORKED, Session, cut, long_board, made, pages_left, serve_board, serve_board_with, worked,
 };
 use crate::cuts::bytes_out;
 use crate::layered::{FLASHES, Layered, Lists, key_of, roots_behind, ways};
 use crate::report::{LIST, REPORT, TICK, number_at, numbers, push_command};
 use crate::script::{Value, entry, push_head, push_value};
-use crate::tried::{Program, holds, same};
+use crate::tried::{Place, Program, holds, same};
 use pk_flash::{Flash, Left};
 use pk_nand::{Mark, PageState};
 use std::alloc::{AllocError, Global};
@@ -25,18 +25,46 @@ const ABC: Value = Value {
     len: 3,
 };
 
-// Stores of so many keys of two bytes, of one page each.
-fn stores(alloc: Global, count: u16) -> Result<Vec<u8>, AllocError> {
-    let mut script = Vec::new(alloc);
+// What is asked of a made drive.
+#[derive(Clone, Copy)]
+enum Step {
+    // Stores of so many keys of two bytes, of one page each.
+    Stores(u16),
+    // With a buffer of 10 bytes.
+    Retrieve(u16),
+    Tick(u32),
+    List,
+    Report,
+}
+
+fn push_stores(into: &mut Vec<u8>, count: u16) -> Result<(), AllocError> {
     for i in 0..count {
-        script.extend_from_slice(&entry(i, STORE, key_of(i), 2, ABC.len))?;
-        push_value(&mut script, &ABC)?;
+        into.extend_from_slice(&entry(i, STORE, key_of(i), 2, ABC.len))?;
+        push_value(into, &ABC)?;
     }
-    Ok(script)
+    Ok(())
 }
 
 fn push_retrieve(into: &mut Vec<u8>, key: u16) -> Result<(), AllocError> {
     into.extend_from_slice(&entry(2, RETRIEVE, key_of(key), 2, 10))
+}
+
+fn push_step(into: &mut Vec<u8>, step: &Step) -> Result<(), AllocError> {
+    match step {
+        Step::Stores(count) => push_stores(into, *count),
+        Step::Retrieve(key) => push_retrieve(into, *key),
+        Step::Tick(steps) => push_command(into, TICK, *steps),
+        Step::List => push_command(into, LIST, 65536),
+        Step::Report => push_command(into, REPORT, 0),
+    }
+}
+
+fn script_of(alloc: Global, steps: &[Step]) -> Result<Vec<u8>, AllocError> {
+    let mut script = Vec::new(alloc);
+    for step in steps {
+        push_step(&mut script, step)?;
+    }
+    Ok(script)
 }
 
 // The bytes of a Report's record and of a Retrieve's.
@@ -44,94 +72,116 @@ const REPORT_BYTES: usize = 24 + 64;
 
 const FOUND_BYTES: usize = 24 + 3;
 
-// How many pages the command read whose record, of so many bytes, ends so many before the end.
-fn reads_of(posted: &[u8], len: usize, behind: usize) -> Result<u32, Fail> {
+// The pages that the Retrieve read whose record ends so many bytes before the end are so many.
+fn check_reads(posted: &[u8], behind: usize, wanted: u32) -> Result<(), Fail> {
+    same(reads_of(posted, behind)?, wanted, "reads")
+}
+
+// How many pages that Retrieve read.
+fn reads_of(posted: &[u8], behind: usize) -> Result<u32, Fail> {
     let start = posted
         .len()
-        .checked_sub(behind.saturating_add(len))
+        .checked_sub(behind.saturating_add(FOUND_BYTES))
         .ok_or("a record")?;
     number_at(posted, start.saturating_add(16))
 }
 
-// A made drive on which this script was served with so many frames, to its end.
-fn behind<P: Program>(alloc: Global, script: Vec<u8>, frames: &str) -> Result<Flash, Fail> {
-    let pages = made::<P>(alloc, &MAKE_WORKED)?;
-    let mut flash = long_board(alloc, worked()?, pages, script)?;
-    same(serve_with::<P>(alloc, &mut flash, frames), 0, "the status")?;
-    Ok(flash)
+// These pages behind a session that ends well.
+fn behind_pages<P: Program>(
+    alloc: Global,
+    pages: Vec<PageState>,
+    steps: &[Step],
+    frames: &str,
+) -> Result<Flash, Fail> {
+    let flash = long_board(alloc, worked()?, pages, script_of(alloc, steps)?)?;
+    let done = serve_board_with::<P>(alloc, flash, frames);
+    done.ended(0, Place::Named("from a made drive on"))?;
+    Ok(done.flash)
 }
+
+// A made drive behind such a session.
+fn behind<P: Program>(alloc: Global, steps: &[Step]) -> Result<Flash, Fail> {
+    behind_pages::<P>(alloc, made::<P>(alloc, &MAKE_WORKED)?, steps, "36")
+}
+
+const FIRST_MERGE: [Step; 5] = [
+    Step::Stores(31),
+    Step::Retrieve(0),
+    Step::Tick(1000),
+    Step::Report,
+    Step::Retrieve(0),
+];
 
 /// Thirty keys are frozen by the 31st Store, and a Tick merges them into run 1: all sixteen numbers of a Report, and the pages that a
 /// Retrieve of the first key reads before and behind the merge.
 pub fn first_merge<P: Program>(alloc: Global) -> Result<(), Fail> {
-    let mut script = stores(alloc, 31)?;
-    push_retrieve(&mut script, 0)?;
-    push_command(&mut script, TICK, 1000)?;
-    push_command(&mut script, REPORT, 0)?;
-    push_retrieve(&mut script, 0)?;
-    let flash = behind::<P>(alloc, script, "36")?;
+    let flash = behind::<P>(alloc, &FIRST_MERGE)?;
     let posted = flash.posted();
     same(
         numbers(posted, FOUND_BYTES)?,
         [31, 492, 31, 2, 36, 2, 1, 0, 30, 0, 0, 0, 1, 2, 57, 0],
         "the numbers",
     )?;
-    same(reads_of(posted, FOUND_BYTES, 0)?, 1, "reads behind")?;
-    let before = FOUND_BYTES + REPORT_BYTES + 24;
-    same(reads_of(posted, FOUND_BYTES, before)?, 1, "reads before")?;
-    Ok(())
+    check_reads(posted, 0, 1)?;
+    check_reads(posted, FOUND_BYTES + REPORT_BYTES + 24, 1)
+}
+
+const ONE_STEP: [Step; 6] = [
+    Step::Stores(31),
+    Step::Tick(1),
+    Step::Report,
+    Step::Retrieve(0),
+    Step::Tick(1000),
+    Step::Report,
+];
+
+// The Report so many bytes before the end tells whether a merge has begun, and so many frozen entries and ones of run 1.
+fn check_merge(posted: &[u8], behind: usize, wanted: [u32; 3]) -> Result<(), Fail> {
+    let found = numbers(posted, behind)?;
+    same([found[15], found[7], found[8]], wanted, "the numbers")
 }
 
 /// One step of the merge is made, and the lists are as they were; the rest of the steps ends it.
 pub fn one_step<P: Program>(alloc: Global) -> Result<(), Fail> {
-    let mut script = stores(alloc, 31)?;
-    push_command(&mut script, TICK, 1)?;
-    push_command(&mut script, REPORT, 0)?;
-    push_retrieve(&mut script, 0)?;
-    push_command(&mut script, TICK, 1000)?;
-    push_command(&mut script, REPORT, 0)?;
-    let flash = behind::<P>(alloc, script, "36")?;
+    let flash = behind::<P>(alloc, &ONE_STEP)?;
     let posted = flash.posted();
-    let last = numbers(posted, 0)?;
-    same((last[15], last[7], last[8]), (0, 0, 30), "the last numbers")?;
     let retrieved = REPORT_BYTES + 24;
-    same(reads_of(posted, FOUND_BYTES, retrieved)?, 1, "reads")?;
-    let first = numbers(posted, retrieved + FOUND_BYTES)?;
-    same(
-        (first[15], first[7], first[8]),
-        (1, 30, 0),
-        "the first numbers",
-    )?;
-    Ok(())
+    check_merge(posted, 0, [0, 0, 30])?;
+    check_reads(posted, retrieved, 1)?;
+    check_merge(posted, retrieved + FOUND_BYTES, [1, 30, 0])
+}
+
+// The lists behind four freezes, in the Report before the last record.
+fn check_two_runs(posted: &[u8]) -> Result<(), Fail> {
+    let found = numbers(posted, FOUND_BYTES)?;
+    same(entries_of(&found), [1, 30, 30, 60, 0, 0], "the entries")?;
+    same(found[12], 1, "the epoch")?;
+    check_reads(posted, 0, 1)
+}
+
+// The record of a Retrieve of the first key that read so many pages.
+fn found_abc(alloc: Global, reads: u32) -> Result<Vec<u8>, AllocError> {
+    let mut want = Vec::new(alloc);
+    push_head(&mut want, 2, 0, ABC.len, reads, ABC.len)?;
+    push_value(&mut want, &ABC)?;
+    Ok(want)
+}
+
+// A Retrieve without frames reads 2 to 5 pages, and gives the same.
+fn check_without_frames<P: Program>(alloc: Global, pages: Vec<PageState>) -> Result<(), Fail> {
+    let later = behind_pages::<P>(alloc, pages, &[Step::Retrieve(0)], "0")?;
+    let reads = reads_of(later.posted(), 0)?;
+    holds(2 <= reads && reads <= 5, format_args!("reads, {reads}"))?;
+    let want = found_abc(alloc, reads)?;
+    same(later.posted().get(20..), want.get(20..), "the data")
 }
 
 /// Four freezes merge into runs 1 and 2. A Retrieve of the first key reads the value's page alone where both levels have frames; without
 /// frames it reads a page of each run besides, and gives the same.
 pub fn two_runs<P: Program>(alloc: Global) -> Result<(), Fail> {
-    let mut script = stores(alloc, 121)?;
-    push_command(&mut script, REPORT, 0)?;
-    push_retrieve(&mut script, 0)?;
-    let flash = behind::<P>(alloc, script, "36")?;
-    let found = numbers(flash.posted(), FOUND_BYTES)?;
-    same(
-        [
-            found[6], found[7], found[8], found[9], found[10], found[11], found[12],
-        ],
-        [1, 30, 30, 60, 0, 0, 1],
-        "the numbers",
-    )?;
-    same(reads_of(flash.posted(), FOUND_BYTES, 0)?, 1, "reads")?;
-    let mut again = Vec::new(alloc);
-    push_retrieve(&mut again, 0)?;
-    let mut later = long_board(alloc, worked()?, pages_left(alloc, &flash)?, again)?;
-    same(serve_with::<P>(alloc, &mut later, "0"), 0, "the status")?;
-    let reads = reads_of(later.posted(), FOUND_BYTES, 0)?;
-    holds(2 <= reads && reads <= 5, format_args!("reads, {reads}"))?;
-    let mut want = Vec::new(alloc);
-    push_head(&mut want, 2, 0, ABC.len, reads, ABC.len)?;
-    push_value(&mut want, &ABC)?;
-    same(later.posted().get(20..), want.get(20..), "the data")?;
-    Ok(())
+    let flash = behind::<P>(alloc, &[Step::Stores(121), Step::Report, Step::Retrieve(0)])?;
+    check_two_runs(flash.posted())?;
+    check_without_frames::<P>(alloc, pages_left(alloc, &flash)?)
 }
 
 // The place of the erase of this block that comes last among the marks.
@@ -147,28 +197,22 @@ fn last_erase(flash: &Flash, wanted: u32) -> Option<usize> {
     last
 }
 
+// Each of 16 pages as it was, Erased or Torn by turns.
+const BY_TURNS: [u8; 16] = [0, 1, 2, 0, 1, 2, 0, 1, 2, 0, 1, 2, 0, 1, 2, 0];
+
 /// Roots fill block 1, and block 0 is erased for the next install: cut off there, with its pages left as they were, Erased and Torn by
 /// turns, the newest root is one of block 1, and every key whose record was posted is there.
 pub fn roots_fill_a_block<P: Program>(alloc: Global) -> Result<(), Fail> {
-    let flash = behind::<P>(alloc, stores(alloc, 300)?, "36")?;
+    let flash = behind::<P>(alloc, &[Step::Stores(300)])?;
     let k = last_erase(&flash, 0).ok_or("an erase of block 0")?;
-    let mut each = Vec::new(alloc);
-    for i in 0..16u8 {
-        each.push(i % 3)?;
-    }
-    let pages = cut(alloc, &flash, k, &Left::Each(each))?;
-    let mut script = Vec::new(alloc);
-    push_command(&mut script, LIST, 65536)?;
-    push_command(&mut script, REPORT, 0)?;
-    let mut later = long_board(alloc, worked()?, pages, script)?;
-    same(serve::<P>(alloc, &mut later), 0, "the status")?;
-    let stored = u32::try_from(bytes_out(&flash, k).div_ceil(24)).map_err(|_| "records")?;
+    let pages = cut(alloc, &flash, k, &Left::Each(BY_TURNS.to_vec(alloc)?))?;
+    let later = behind_pages::<P>(alloc, pages, &[Step::List, Step::Report], "36")?;
+    let told = bytes_out(&flash, k).div_ceil(24).min(1000) as u32;
     let keys = numbers(later.posted(), 0)?[2];
     holds(
-        stored <= keys && keys <= 300 && keys > 0,
-        format_args!("{keys} keys, {stored} told"),
-    )?;
-    Ok(())
+        told <= keys && keys <= 300 && keys > 0,
+        format_args!("{keys} keys, {told} told"),
+    )
 }
 
 // ---- on flashes made by hand
@@ -180,17 +224,8 @@ pub fn served<P: Program>(
     pages: Vec<PageState>,
     script: Vec<u8>,
 ) -> Result<Session, Fail> {
-    let mut flash = long_board(alloc, layered.shape()?, pages, script)?;
-    let status = serve::<P>(alloc, &mut flash);
-    Ok(Session { status, flash })
-}
-
-// A List of all keys, and a Report.
-fn looks(alloc: Global) -> Result<Vec<u8>, AllocError> {
-    let mut script = Vec::new(alloc);
-    push_command(&mut script, LIST, 65536)?;
-    push_command(&mut script, REPORT, 0)?;
-    Ok(script)
+    let flash = long_board(alloc, layered.shape()?, pages, script)?;
+    Ok(serve_board::<P>(alloc, flash))
 }
 
 // The numbers of entries in a Report.
@@ -212,6 +247,16 @@ fn entries_in(lists: &Lists) -> [u32; 6] {
     ]
 }
 
+// The Report that ends the posted bytes has the entries of these lists.
+fn check_entries(posted: &[u8], lists: &Lists, place: Place) -> Result<(), Fail> {
+    let found = entries_of(&numbers(posted, 0)?);
+    same(
+        found,
+        entries_in(lists),
+        format_args!("the entries, {place}"),
+    )
+}
+
 /// On these pages the keys are those of the flash that was made, and the one that was stored; and the lists have so many entries.
 pub fn check_lists<P: Program>(
     alloc: Global,
@@ -221,36 +266,24 @@ pub fn check_lists<P: Program>(
     stored: Option<u16>,
     k: usize,
 ) -> Result<(), Fail> {
-    let done = served::<P>(alloc, layered, pages, looks(alloc)?)?;
-    same(done.status, 0, format_args!("the status, mark {k}"))?;
+    let script = script_of(alloc, &[Step::List, Step::Report])?;
+    let done = served::<P>(alloc, layered, pages, script)?;
+    done.ended(0, Place::Mark(k))?;
     let want = layered.keys_listed(alloc, stored)?;
     let posted = done.flash.posted();
-    same(
-        posted.get(24..want.len().saturating_add(24)),
-        Some(want.as_slice()),
-        format_args!("the keys, mark {k}"),
-    )?;
-    same(
-        entries_of(&numbers(posted, 0)?),
-        entries_in(lists),
-        format_args!("the entries, mark {k}"),
-    )
+    let found = posted.get(24..).unwrap_or(&[]);
+    holds(found.starts_with(&want), format_args!("the keys, mark {k}"))?;
+    check_entries(posted, lists, Place::Mark(k))
 }
 
 // The session that makes all merges: the lists are empty but for run 4 and the outputs of the last three.
 fn all_merges<P: Program>(alloc: Global, layered: &Layered) -> Result<Flash, Fail> {
-    let mut script = Vec::new(alloc);
-    push_command(&mut script, TICK, 5000)?;
-    push_command(&mut script, REPORT, 0)?;
+    let script = script_of(alloc, &[Step::Tick(5000), Step::Report])?;
     let done = served::<P>(alloc, layered, layered.pages(alloc)?, script)?;
-    same(done.status, 0, "the status")?;
-    let found = numbers(done.flash.posted(), 0)?;
-    same(
-        entries_of(&found),
-        entries_in(&layered.lists.behind(4)),
-        "the entries",
-    )?;
-    same(found[15], 0, "a merge")?;
+    done.ended(0, Place::Named("all merges"))?;
+    let posted = done.flash.posted();
+    check_entries(posted, &layered.lists.behind(4), Place::Named("all merges"))?;
+    same(numbers(posted, 0)?[15], 0, "a merge")?;
     Ok(done.flash)
 }
 

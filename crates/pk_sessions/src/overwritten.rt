@@ -2,7 +2,7 @@
 //! behind so many of them, and what a session's records tell of it.
 
 use crate::script::{Value, entry, push_value};
-use crate::tried::{holds, same};
+use crate::tried::holds;
 use pk_base::get_u32;
 use std::alloc::{AllocError, Global};
 use std::test::*;
@@ -108,14 +108,36 @@ pub fn all_with(posted: &[u8], from: usize, count: u32, status: u32) -> Result<u
     let mut at = from;
     for i in 0..count {
         let record = record_at(posted, at).ok_or("a record")?;
-        same(
-            (record.status, record.len),
-            (status, 0),
-            format_args!("the status and the bytes of record {i}"),
+        holds(
+            record.status == status && record.len == 0,
+            format_args!("record {i}: {record:?}"),
         )?;
         at = record.end();
     }
     Ok(at)
+}
+
+// Whether these are the 100 bytes of a value.
+fn is_value(data: &[u8]) -> bool {
+    let mut next = data.first().copied().unwrap_or(0);
+    for byte in data {
+        if *byte != next {
+            return false;
+        }
+        next = next.wrapping_add(1);
+    }
+    data.len() == LEN as usize
+}
+
+// The first byte of the data of a Retrieve of this key.
+fn first_of(posted: &[u8], record: &Record, key: u32) -> Result<u8, Fail> {
+    let data = posted.get(record.data..record.end()).unwrap_or(&[]);
+    let is_read = 1 <= record.reads && record.reads <= 5;
+    holds(
+        record.status == 0 && is_read && is_value(data),
+        format_args!("the value of key {key}: {record:?}"),
+    )?;
+    Ok(data.first().copied().unwrap_or(0))
 }
 
 /// The first byte of the data of so many Retrieves, each of a value of 100 bytes of one page, in a table by key.
@@ -124,20 +146,7 @@ pub fn firsts(alloc: Global, posted: &[u8], from: usize, keys: u32) -> Result<Ve
     let mut at = from;
     for key in 0..keys {
         let record = record_at(posted, at).ok_or("a record")?;
-        same(record.status, 0, format_args!("the status of key {key}"))?;
-        let mut want = Vec::new(alloc);
-        let first = posted.get(record.data).copied().unwrap_or(0);
-        push_value(&mut want, &Value { first, len: LEN })?;
-        let data = posted.get(record.data..record.end()).unwrap_or(&[]);
-        holds(
-            data == want.as_slice(),
-            format_args!("the value of key {key}"),
-        )?;
-        holds(
-            1 <= record.reads && record.reads <= 5,
-            format_args!("the reads of key {key}"),
-        )?;
-        firsts.push(first)?;
+        firsts.push(first_of(posted, &record, key)?)?;
         at = record.end();
     }
     Ok(firsts)

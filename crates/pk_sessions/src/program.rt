@@ -1,8 +1,11 @@
 //! The words of the program, the worked script, and scripts that are answered as the machine in memory answers them.
 
-use crate::boards::{MAKE_WORKED, blank, board, made, pages_left, serve, worked};
-use crate::tried::{Program, same};
-use pk_flash::Left;
+use crate::boards::{
+    MAKE_WORKED, Session, blank, board, made, made_board, pages_left, serve_board, worked,
+};
+use crate::tried::{Place, Program, same};
+use pk_flash::{Flash, Left};
+use pk_nand::PageState;
 use pk_nvme::Request;
 use std::alloc::{AllocError, Global};
 use std::test::*;
@@ -48,49 +51,164 @@ fn status_of<P: Program>(alloc: Global, text: &str) -> Result<u8, Fail> {
     Ok(P::run(alloc, &words, &mut flash))
 }
 
+// Words, and their status on a board without an image and without input.
+#[derive(Clone, Copy)]
+struct Told {
+    words: &'static str,
+    status: u8,
+}
+
+const TOLD: [Told; 35] = [
+    Told {
+        words: "make 512 16 64",
+        status: 0,
+    },
+    Told {
+        words: "make 512 32 64",
+        status: 2,
+    },
+    Told {
+        words: "make 512 16 4096",
+        status: 2,
+    },
+    Told {
+        words: "make 512 16 16",
+        status: 2,
+    },
+    Told {
+        words: "make 500 16 64",
+        status: 2,
+    },
+    Told {
+        words: "make 0512 16 64",
+        status: 2,
+    },
+    Told {
+        words: "make 512 16",
+        status: 2,
+    },
+    Told {
+        words: "serve",
+        status: 2,
+    },
+    Told {
+        words: "serve 16385",
+        status: 2,
+    },
+    Told {
+        words: "serve 16384",
+        status: 8,
+    },
+    Told {
+        words: "serve 36",
+        status: 8,
+    },
+    Told {
+        words: "serve 36 36",
+        status: 2,
+    },
+    Told {
+        words: "hello",
+        status: 2,
+    },
+    Told {
+        words: "",
+        status: 2,
+    },
+    Told {
+        words: "put 61 616263",
+        status: 8,
+    },
+    Told {
+        words: "put 61 -",
+        status: 8,
+    },
+    Told {
+        words: "put 61 61626",
+        status: 2,
+    },
+    Told {
+        words: "put 61",
+        status: 2,
+    },
+    Told {
+        words: "get 6A",
+        status: 8,
+    },
+    Told {
+        words: "get 6",
+        status: 2,
+    },
+    Told {
+        words: "get 6162636465666768696a6b6c6d6e6f70",
+        status: 8,
+    },
+    Told {
+        words: "get 6162636465666768696a6b6c6d6e6f7071",
+        status: 2,
+    },
+    Told {
+        words: "del 61",
+        status: 8,
+    },
+    Told {
+        words: "has 61",
+        status: 8,
+    },
+    Told {
+        words: "list",
+        status: 8,
+    },
+    Told {
+        words: "list 61",
+        status: 8,
+    },
+    Told {
+        words: "list -",
+        status: 2,
+    },
+    Told {
+        words: "stat",
+        status: 8,
+    },
+    Told {
+        words: "stat 1",
+        status: 2,
+    },
+    Told {
+        words: "asm",
+        status: 0,
+    },
+    Told {
+        words: "asm 1",
+        status: 2,
+    },
+    Told {
+        words: "show",
+        status: 0,
+    },
+    Told {
+        words: "show -",
+        status: 2,
+    },
+    Told {
+        words: "gen 1 3",
+        status: 8,
+    },
+    Told {
+        words: "gen 1",
+        status: 2,
+    },
+];
+
 /// By the words: the status, on a board without an image and without input.
 pub fn words<P: Program>(alloc: Global) -> Result<(), Fail> {
-    for (text, status) in [
-        ("make 512 16 64", 0u8),
-        ("make 512 32 64", 2),
-        ("make 512 16 4096", 2),
-        ("make 512 16 16", 2),
-        ("make 500 16 64", 2),
-        ("make 0512 16 64", 2),
-        ("make 512 16", 2),
-        ("serve", 2),
-        ("serve 16385", 2),
-        ("serve 16384", 8),
-        ("serve 36", 8),
-        ("serve 36 36", 2),
-        ("hello", 2),
-        ("", 2),
-        ("put 61 616263", 8),
-        ("put 61 -", 8),
-        ("put 61 61626", 2),
-        ("put 61", 2),
-        ("get 6A", 8),
-        ("get 6", 2),
-        ("get 6162636465666768696a6b6c6d6e6f70", 8),
-        ("get 6162636465666768696a6b6c6d6e6f7071", 2),
-        ("del 61", 8),
-        ("has 61", 8),
-        ("list", 8),
-        ("list 61", 8),
-        ("list -", 2),
-        ("stat", 8),
-        ("stat 1", 2),
-        ("asm", 0),
-        ("asm 1", 2),
-        ("show", 0),
-        ("show -", 2),
-        ("gen 1 3", 8),
-        ("gen 1", 2),
-    ] {
+    for told in &TOLD {
+        let status = status_of::<P>(alloc, told.words)?;
         same(
-            status_of::<P>(alloc, text)?,
             status,
-            format_args!("the status of `{text}`"),
+            told.status,
+            format_args!("the status of `{}`", told.words),
         )?;
     }
     Ok(())
@@ -109,65 +227,89 @@ pub fn makes_once<P: Program>(alloc: Global) -> Result<(), Fail> {
     same(P::run(alloc, &MAKE_WORKED, &mut flash), 0, "the status")?;
     same(flash.program_count(), 1, "programs")?;
     same(P::run(alloc, &MAKE_WORKED, &mut flash), 9, "the status")?;
-    same(serve::<P>(alloc, &mut flash), 3, "the status")?;
-    same(flash.posted(), &RECORDS[..24], "the posted bytes")?;
-    Ok(())
+    let done = serve_board::<P>(alloc, flash);
+    done.posted(3, &RECORDS[..24], Place::Named("half a script"))
+}
+
+// The pages behind this script, which is to have these records.
+fn pages_behind<P: Program>(
+    alloc: Global,
+    pages: Vec<PageState>,
+    script: Vec<u8>,
+    want: &[u8],
+) -> Result<Vec<PageState>, Fail> {
+    let done = serve_board::<P>(alloc, board(alloc, worked()?, pages, script)?);
+    done.posted(0, want, Place::Named("the worked script"))?;
+    pages_left(alloc, &done.flash)
+}
+
+// The Retrieve of the worked script alone.
+fn check_retrieved<P: Program>(
+    alloc: Global,
+    pages: Vec<PageState>,
+) -> Result<Vec<PageState>, Fail> {
+    pages_behind::<P>(alloc, pages, SCRIPT[67..].to_vec(alloc)?, &RETRIEVED)
 }
 
 /// The worked script gives the worked records, and the next session still has the value. Two more sessions each store a new key;
 /// the second of them merges the frozen buffer into run 1 before it freezes the active one.
 pub fn sessions<P: Program>(alloc: Global) -> Result<(), Fail> {
-    let pages = made::<P>(alloc, &MAKE_WORKED)?;
-    let mut flash = board(alloc, worked()?, pages, SCRIPT.to_vec(alloc)?)?;
-    same(serve::<P>(alloc, &mut flash), 0, "the status")?;
-    same(flash.posted(), RECORDS.as_slice(), "the posted bytes")?;
-    for (script, status, posted) in [
-        (SCRIPT[67..].to_vec(alloc)?, 0u8, RETRIEVED.as_slice()),
-        (store(alloc, 0x62)?, 0, &STORED),
-        (store(alloc, 0x63)?, 0, &STORED),
-        (SCRIPT[67..].to_vec(alloc)?, 0, RETRIEVED.as_slice()),
-    ] {
-        flash = board(alloc, worked()?, pages_left(alloc, &flash)?, script)?;
-        same(serve::<P>(alloc, &mut flash), status, "the status")?;
-        same(flash.posted(), posted, "the posted bytes")?;
+    let mut pages = made::<P>(alloc, &MAKE_WORKED)?;
+    pages = pages_behind::<P>(alloc, pages, SCRIPT.to_vec(alloc)?, &RECORDS)?;
+    pages = check_retrieved::<P>(alloc, pages)?;
+    for key in [0x62u8, 0x63] {
+        pages = pages_behind::<P>(alloc, pages, store(alloc, key)?, &STORED)?;
     }
+    let _ = check_retrieved::<P>(alloc, pages)?;
     Ok(())
+}
+
+// The session of the worked script on this board ends so, and leaves no mark.
+fn check_unmarked<P: Program>(alloc: Global, flash: Flash, status: u8) -> Result<(), Fail> {
+    let done = serve_board::<P>(alloc, flash);
+    done.ended(status, Place::Named("no drive"))?;
+    same(done.flash.marks(), 0, "marks")
+}
+
+// A made drive of which the first read fails.
+fn unread<P: Program>(alloc: Global) -> Result<Flash, Fail> {
+    let mut flash = made_board::<P>(alloc, SCRIPT.to_vec(alloc)?)?;
+    flash.fail(alloc, 0, Left::Untouched)?;
+    Ok(flash)
 }
 
 /// A flash without a root is no drive, and neither is a board without an image. A read that fails while the drive is opened is
 /// no missing drive.
 pub fn refuses<P: Program>(alloc: Global) -> Result<(), Fail> {
-    let mut rootless = blank(alloc, Some(worked()?), SCRIPT.to_vec(alloc)?)?;
-    same(serve::<P>(alloc, &mut rootless), 8, "the status")?;
-    same(rootless.marks(), 0, "marks")?;
+    let rootless = blank(alloc, Some(worked()?), SCRIPT.to_vec(alloc)?)?;
+    check_unmarked::<P>(alloc, rootless, 8)?;
     same(status_of::<P>(alloc, "serve 36")?, 8, "the status")?;
-    let pages = made::<P>(alloc, &MAKE_WORKED)?;
-    let mut failing = board(alloc, worked()?, pages, SCRIPT.to_vec(alloc)?)?;
-    failing.fail(alloc, 0, Left::Untouched)?;
-    same(serve::<P>(alloc, &mut failing), 6, "the status")?;
-    same(failing.marks(), 0, "marks")?;
-    Ok(())
+    check_unmarked::<P>(alloc, unread::<P>(alloc)?, 6)
 }
+
+// The session of these words on a board without an image, with this input.
+fn session_of<P: Program>(
+    alloc: Global,
+    words: &'static str,
+    input: &[u8],
+) -> Result<Session, AllocError> {
+    let mut flash = blank(alloc, None, input.to_vec(alloc)?)?;
+    let status = P::run(alloc, &[words], &mut flash);
+    Ok(Session { status, flash })
+}
+
+const TEXT: &[u8] = b"store 61 616263\nretrieve 61 3\n";
+
+const SHOWN: &[u8] = b"cid=1 status=00 result=0 reads=0 data=-\n\
+    cid=2 status=00 result=3 reads=1 data=616263\n";
 
 /// The text of the worked script is assembled to its bytes, and its records are shown.
 pub fn texts<P: Program>(alloc: Global) -> Result<(), Fail> {
-    let text = b"store 61 616263\nretrieve 61 3\n".as_slice();
-    let mut lines = blank(alloc, None, text.to_vec(alloc)?)?;
-    same(P::run(alloc, &["asm"], &mut lines), 0, "the status")?;
-    same(lines.posted(), SCRIPT.as_slice(), "the posted bytes")?;
-    let mut records = blank(alloc, None, RECORDS.to_vec(alloc)?)?;
-    same(P::run(alloc, &["show"], &mut records), 0, "the status")?;
-    same(
-        records.posted(),
-        b"cid=1 status=00 result=0 reads=0 data=-\n\
-        cid=2 status=00 result=3 reads=1 data=616263\n"
-            .as_slice(),
-        "the posted bytes",
-    )?;
-    let mut bad = blank(alloc, None, b"flush\nstroe\n".to_vec(alloc)?)?;
-    same(P::run(alloc, &["asm"], &mut bad), 12, "the status")?;
-    same(bad.posted().len(), 64, "posted bytes")?;
-    Ok(())
+    session_of::<P>(alloc, "asm", TEXT)?.posted(0, &SCRIPT, Place::Named("asm"))?;
+    session_of::<P>(alloc, "show", &RECORDS)?.posted(0, SHOWN, Place::Named("show"))?;
+    let bad = session_of::<P>(alloc, "asm", b"flush\nstroe\n")?;
+    bad.ended(12, Place::Named("asm"))?;
+    same(bad.flash.posted().len(), 64, "posted bytes")
 }
 
 /// A command on a key of one byte.

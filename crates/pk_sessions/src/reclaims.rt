@@ -1,14 +1,14 @@
 //! Reclaims of drives that are full, cut off at every mark, and with each call of the board failing in turn.
 
 use crate::boards::{
-    MAKE_SMALL, MAKE_WORKED, Session, board_in, cut, made, pages_left, serve, small, worked,
+    MAKE_SMALL, MAKE_WORKED, Session, board_in, cut, made, pages_left, serve_board, small, worked,
 };
 use crate::cuts::bytes_out;
 use crate::overwritten::{
     OTHER, commands_kept, firsts, firsts_behind, key_of, push_plain, push_retrieves, push_store,
     push_stores, record_at, value_of,
 };
-use crate::tried::{Program, holds, same};
+use crate::tried::{Place, Program, holds, same};
 use crate::ways::few_ways;
 use pk_base::Shape;
 use pk_flash::{Flash, Left, Room};
@@ -77,9 +77,8 @@ impl Full {
         script: Vec<u8>,
         room: Room,
     ) -> Result<Session, Fail> {
-        let mut flash = board_in(alloc, self.shape()?, pages, script, room)?;
-        let status = serve::<P>(alloc, &mut flash);
-        Ok(Session { status, flash })
+        let flash = board_in(alloc, self.shape()?, pages, script, room)?;
+        Ok(serve_board::<P>(alloc, flash))
     }
 
     // The room of a later session.
@@ -92,7 +91,7 @@ impl Full {
         let mut script = Vec::new(alloc);
         push_stores(&mut script, self.keys, 0, to)?;
         let done = self.served::<P>(alloc, self.made::<P>(alloc)?, script, ROOM)?;
-        same(done.status, 0, "the status of the first session")?;
+        done.ended(0, Place::Named("the first session"))?;
         Ok(done.flash)
     }
 }
@@ -133,8 +132,32 @@ fn told(flash: &Flash, k: usize) -> u32 {
     (bytes_out(flash, k) / 24).min(100_000) as u32
 }
 
-// The second session behind this cut of the first one, and what it retrieved: the values behind as many commands as the first session
-// told, or some more.
+// A session behind its end, and the first bytes of the values that it retrieved.
+#[derive(Drop)]
+struct Behind {
+    flash: Flash,
+    found: Vec<u8>,
+}
+
+// Serves this script, which retrieves each key first, on these pages.
+fn retrieved<P: Program>(
+    alloc: Global,
+    full: &Full,
+    pages: Vec<PageState>,
+    script: Vec<u8>,
+    place: Place,
+) -> Result<Behind, Fail> {
+    let done = full.served::<P>(alloc, pages, script, full.later())?;
+    done.ended(0, place)?;
+    let found = firsts(alloc, done.flash.posted(), 0, full.keys)?;
+    Ok(Behind {
+        flash: done.flash,
+        found,
+    })
+}
+
+// The second session behind this cut of the first one: it retrieves the values behind as many commands as the first session told, or
+// some more.
 fn second<P: Program>(
     alloc: Global,
     full: &Full,
@@ -142,43 +165,39 @@ fn second<P: Program>(
     most: u32,
     k: usize,
     left: &Left,
-) -> Result<(Flash, Vec<u8>), Fail> {
+) -> Result<Behind, Fail> {
     let pages = cut(alloc, first, k, left)?;
-    let done = full.served::<P>(alloc, pages, second_script(alloc, full)?, full.later())?;
-    same(done.status, 0, format_args!("the status, mark {k}"))?;
-    let posted = done.flash.posted();
-    let found = firsts(alloc, posted, 0, full.keys)?;
-    let kept = commands_kept(alloc, &found, full.keys, told(first, k), most)?;
+    let script = second_script(alloc, full)?;
+    let second = retrieved::<P>(alloc, full, pages, script, Place::Mark(k))?;
+    let kept = commands_kept(alloc, &second.found, full.keys, told(first, k), most)?;
     holds(kept.is_some(), format_args!("the values, mark {k}"))?;
-    Ok((done.flash, found))
+    Ok(second)
 }
 
-// The third session behind this cut of the second one: the values are the same, but for the first key's, which is the one that the second
-// session stored, where this was told, and may be it else.
+// Whether these values are those of the second session, but for the first key's, which is the one that it stored, where this was told,
+// and may be it else.
+fn is_kept(found: &[u8], held: &[u8], is_told: bool) -> bool {
+    let is_new = found.first() == Some(&value_of(OTHER).first);
+    let is_old = found.first() == held.first();
+    found.get(1..) == held.get(1..) && (is_new || is_old && !is_told)
+}
+
+// The third session behind this cut of the second one.
 fn third<P: Program>(
     alloc: Global,
     full: &Full,
-    second: &Flash,
-    held: &[u8],
+    second: &Behind,
     k: usize,
     left: &Left,
 ) -> Result<(), Fail> {
-    let pages = cut(alloc, second, k, left)?;
-    let done = full.served::<P>(alloc, pages, third_script(alloc, full)?, full.later())?;
-    same(done.status, 0, format_args!("the third status, mark {k}"))?;
-    let found = firsts(alloc, done.flash.posted(), 0, full.keys)?;
-    same(
-        found.get(1..),
-        held.get(1..),
-        format_args!("the third values, mark {k}"),
-    )?;
+    let pages = cut(alloc, &second.flash, k, left)?;
+    let script = third_script(alloc, full)?;
+    let third = retrieved::<P>(alloc, full, pages, script, Place::Mark(k))?;
     let retrieved = u64::from(full.keys).saturating_mul(124);
-    let is_told = bytes_out(second, k) as u64 > retrieved;
-    let is_new = found.first() == Some(&value_of(OTHER).first);
-    let is_old = found.first() == held.first();
+    let is_told = bytes_out(&second.flash, k) as u64 > retrieved;
     holds(
-        is_new || is_old && !is_told,
-        format_args!("the third first key, mark {k}"),
+        is_kept(&third.found, &second.found, is_told),
+        format_args!("the values of the third session, mark {k}"),
     )
 }
 
@@ -201,8 +220,8 @@ fn check<P: Program>(
             continue;
         }
         for left in &few_ways(alloc, first, k)? {
-            let (second, held) = second::<P>(alloc, full, first, most, k, left)?;
-            let behind = check_second::<P>(alloc, full, &second, &held, cuts.first, every)?;
+            let second = second::<P>(alloc, full, first, most, k, left)?;
+            let behind = check_second::<P>(alloc, full, &second, cuts.first, every)?;
             cuts.first = cuts.first.saturating_add(1);
             cuts.second = cuts.second.saturating_add(behind);
         }
@@ -214,8 +233,7 @@ fn check<P: Program>(
 fn check_second<P: Program>(
     alloc: Global,
     full: &Full,
-    second: &Flash,
-    held: &[u8],
+    second: &Behind,
     turn: u32,
     every: u32,
 ) -> Result<u32, Fail> {
@@ -224,11 +242,11 @@ fn check_second<P: Program>(
         return Ok(cuts);
     }
     let mut at = turn;
-    for k in 0..second.marks().saturating_add(1) {
-        for left in &few_ways(alloc, second, k)? {
+    for k in 0..second.flash.marks().saturating_add(1) {
+        for left in &few_ways(alloc, &second.flash, k)? {
             at = at.wrapping_add(1);
             if at % every == 0 {
-                third::<P>(alloc, full, second, held, k, left)?;
+                third::<P>(alloc, full, second, k, left)?;
                 cuts = cuts.saturating_add(1);
             }
         }
@@ -278,35 +296,41 @@ pub fn every_cut_of_reclaims<P: Program>(alloc: Global) -> Result<(), Fail> {
 
 // ---- calls that fail
 
+// What stands under each key behind a session in which a call failed, and the first command whose record is missing.
+#[derive(Drop)]
+struct Known {
+    held: Vec<u8>,
+    next: u32,
+}
+
 // What the Stores from this command on, whose records these are, leave under each key: those with 00h are done, and one with 88h is not.
-// And the first command whose record is missing.
-fn replayed(
-    alloc: Global,
-    full: &Full,
-    posted: &[u8],
-    from: u32,
-    to: u32,
-) -> Result<(Vec<u8>, u32), Fail> {
+fn replayed(alloc: Global, full: &Full, posted: &[u8], from: u32, to: u32) -> Result<Known, Fail> {
     let mut held = firsts_behind(alloc, full.keys, from)?;
     let mut at = 0usize;
+    let mut next = from;
     for command in from..to {
-        let Some(record) = record_at(posted, at) else {
-            return Ok((held, command));
-        };
-        let key = key_of(command, full.keys) as usize;
-        if record.status == 0 && key < held.len() {
-            held[key] = value_of(command).first;
-        } else {
-            same(record.status, 0x88, format_args!("the status of {command}"))?;
+        if let Some(record) = record_at(posted, at) {
+            replay(&mut held, full, record.status, command)?;
+            at = record.end();
+            next = command.saturating_add(1);
         }
-        at = record.end();
     }
-    Ok((held, to))
+    Ok(Known { held, next })
+}
+
+fn replay(held: &mut Vec<u8>, full: &Full, status: u32, command: u32) -> Result<(), Fail> {
+    let key = key_of(command, full.keys) as usize;
+    if status == 0 && key < held.len() {
+        held[key] = value_of(command).first;
+        return Ok(());
+    }
+    same(status, 0x88, format_args!("the status of {command}"))
 }
 
 // Whether these are the values behind the commands that were told, or behind some more.
-fn is_behind(full: &Full, mut held: Vec<u8>, found: &[u8], from: u32, to: u32) -> bool {
-    for command in from..to {
+fn is_behind(full: &Full, known: Known, found: &[u8], to: u32) -> bool {
+    let mut held = known.held;
+    for command in known.next..to {
         if held.as_slice() == found {
             return true;
         }
@@ -318,38 +342,52 @@ fn is_behind(full: &Full, mut held: Vec<u8>, found: &[u8], from: u32, to: u32) -
     held.as_slice() == found
 }
 
-// Overwrites while the call with this number fails: whether there was one. Behind it the drive is opened again.
+// The session of overwrites up to this command while a call fails.
+fn served_with_fault<P: Program>(
+    alloc: Global,
+    stored: &Flash,
+    to: u32,
+    call: u64,
+    left: Left,
+) -> Result<Session, Fail> {
+    let mut script = Vec::new(alloc);
+    push_stores(&mut script, SMALL.keys, SMALL.keys, to)?;
+    let pages = pages_left(alloc, stored)?;
+    let mut flash = board_in(alloc, small()?, pages, script, FEW)?;
+    flash.fail(alloc, call, left)?;
+    Ok(serve_board::<P>(alloc, flash))
+}
+
+// The drive is opened again, and has the values behind the commands that were told, or behind some more.
+fn check_behind<P: Program>(alloc: Global, flash: &Flash, to: u32, call: u64) -> Result<(), Fail> {
+    let known = replayed(alloc, &SMALL, flash.posted(), SMALL.keys, to)?;
+    let pages = pages_left(alloc, flash)?;
+    let script = third_script(alloc, &SMALL)?;
+    let again = retrieved::<P>(alloc, &SMALL, pages, script, Place::Call(call))?;
+    holds(
+        is_behind(&SMALL, known, &again.found, to),
+        format_args!("the values behind call {call}"),
+    )
+}
+
+// Overwrites on the full drive of 33 blocks while the call with this number fails: whether there was one.
 fn failing<P: Program>(
     alloc: Global,
-    full: &Full,
     stored: &Flash,
     to: u32,
     call: u64,
     left: Left,
 ) -> Result<bool, Fail> {
-    let mut script = Vec::new(alloc);
-    push_stores(&mut script, full.keys, full.keys, to)?;
-    let pages = pages_left(alloc, stored)?;
-    let mut flash = board_in(alloc, full.shape()?, pages, script, FEW)?;
-    flash.fail(alloc, call, left)?;
-    let status = serve::<P>(alloc, &mut flash);
-    let (held, next) = replayed(alloc, full, flash.posted(), full.keys, to)?;
-    let behind = pages_left(alloc, &flash)?;
-    let again = full.served::<P>(alloc, behind, third_script(alloc, full)?, full.later())?;
-    same(
-        again.status,
-        0,
-        format_args!("the status behind call {call}"),
-    )?;
-    let found = firsts(alloc, again.flash.posted(), 0, full.keys)?;
-    holds(
-        is_behind(full, held, &found, next, to),
-        format_args!("the values behind call {call}"),
-    )?;
-    let calls = flash.read_count().saturating_add(flash.program_count());
+    let done = served_with_fault::<P>(alloc, stored, to, call, left)?;
+    check_behind::<P>(alloc, &done.flash, to, call)?;
+    let status = done.status;
+    let calls = done
+        .flash
+        .read_count()
+        .saturating_add(done.flash.program_count());
     let is_one = [0, 4, 5, 6].contains(&status) && calls > 0;
     holds(is_one, format_args!("status {status}, call {call}"))?;
-    Ok(status != 0 || !is_done(flash.posted(), full.keys, to))
+    Ok(status != 0 || !is_done(done.flash.posted(), SMALL.keys, to))
 }
 
 // Whether each of these commands has a record with 00h.
@@ -380,7 +418,7 @@ pub fn every_call_fails<P: Program>(alloc: Global) -> Result<(), Fail> {
         } else {
             Left::Done
         };
-        if failing::<P>(alloc, &SMALL, &stored, 40, call, left)? {
+        if failing::<P>(alloc, &stored, 40, call, left)? {
             failed = failed.saturating_add(1);
         }
     }

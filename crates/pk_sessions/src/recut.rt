@@ -1,11 +1,14 @@
 //! The second session is cut off at every mark, too, behind a cut of the first one at each of its marks.
 
 use crate::boards::{MAKE_SMALL, Session, cut, made, served, small};
-use crate::cuts::{E, HELD, Held, bytes_out, first_session, left, second_session, some_ways};
+use crate::cuts::{
+    E, HELD, Held, bytes_out, first_session, left, second_answers, second_session, some_ways,
+};
 use crate::script::{Answer, Ask, Value, records, retrieved};
-use crate::tried::{Program, holds, same};
+use crate::tried::{Place, Program, holds, same};
 use crate::ways::{Ways, ways_of_erases};
 use pk_flash::{Flash, Left};
+use pk_nand::PageState;
 use std::alloc::{AllocError, Global};
 use std::test::*;
 
@@ -21,20 +24,20 @@ const THIRD: [Ask; 7] = [
     Ask::Retrieve(0x66),
 ];
 
-// The records of the third session on these values, with this one under the fifth key. Where the second session began an epoch over
+// The answers of the third session on these values, with this one under the fifth key. Where the second session began an epoch over
 // one with entries, the Store merges these before it freezes a second time; where values stand in both blocks that they may have, it
 // reclaims one of them.
-fn third_records(alloc: Global, held: &Held, fifth: Option<Value>) -> Result<Vec<u8>, AllocError> {
-    let all = [
-        retrieved(held[0]),
-        retrieved(held[1]),
-        retrieved(held[2]),
-        retrieved(held[3]),
+fn third_answers(held: &Held, fifth: Option<Value>) -> [Answer; 7] {
+    let [first, second, third, fourth] = *held;
+    [
+        retrieved(first),
+        retrieved(second),
+        retrieved(third),
+        retrieved(fourth),
         retrieved(fifth),
         Answer::Done,
         Answer::Found(F),
-    ];
-    records(alloc, &all)
+    ]
 }
 
 // Whether values of the first session and the one of the second stand in a block each, which are all that values may have: a further
@@ -43,20 +46,9 @@ fn fill_both_blocks(held: &Held, fifth: Option<Value>) -> bool {
     fifth.is_some() && held.iter().any(|value| value.is_some())
 }
 
-// How many bytes the records have in front of that of the Store in the third session.
-fn bytes_before_last_store(
-    alloc: Global,
-    held: &Held,
-    fifth: Option<Value>,
-) -> Result<usize, AllocError> {
-    let answers = [
-        retrieved(held[0]),
-        retrieved(held[1]),
-        retrieved(held[2]),
-        retrieved(held[3]),
-        retrieved(fifth),
-    ];
-    Ok(records(alloc, &answers)?.len())
+// How many bytes the first of these records have, so many.
+fn bytes_before(alloc: Global, answers: &[Answer], count: usize) -> Result<usize, AllocError> {
+    Ok(records(alloc, answers.get(..count).unwrap_or(answers))?.len())
 }
 
 // Whether these are the records that are wanted, but for the count of reads of the one that begins at this byte.
@@ -81,24 +73,22 @@ fn are_third(
     held: &Held,
     fifth: Option<Value>,
 ) -> Result<bool, AllocError> {
-    let want = third_records(alloc, held, fifth)?;
+    let answers = third_answers(held, fifth);
+    let want = records(alloc, &answers)?;
     if fill_both_blocks(held, fifth) {
-        let at = bytes_before_last_store(alloc, held, fifth)?;
+        let at = bytes_before(alloc, &answers, 5)?;
         Ok(same_but_reads(posted, &want, at))
     } else {
         Ok(posted == want.as_slice())
     }
 }
 
-// How many bytes the records of the four Retrieves have that begin the second session.
-fn bytes_before_store(alloc: Global, held: &Held) -> Result<usize, AllocError> {
-    let answers = [
-        retrieved(held[0]),
-        retrieved(held[1]),
-        retrieved(held[2]),
-        retrieved(held[3]),
-    ];
-    Ok(records(alloc, &answers)?.len())
+// Whether these are the records of the third session, where the Store of the fifth key was told or not.
+fn is_third(alloc: Global, posted: &[u8], held: &Held, is_told: bool) -> Result<bool, AllocError> {
+    if are_third(alloc, posted, held, Some(E))? {
+        return Ok(true);
+    }
+    Ok(!is_told && are_third(alloc, posted, held, None)?)
 }
 
 // Serves the third session behind a cut of the second one. The fifth key is there, if a byte of its Store's record was posted, and
@@ -114,19 +104,13 @@ fn check_recut<P: Program>(
     let held = HELD.get(commands).ok_or("commands")?;
     let pages = cut(alloc, second, k, left)?;
     let third = served::<P>(alloc, small()?, pages, &THIRD)?;
-    let is_told = bytes_out(second, k) > bytes_before_store(alloc, held)?;
-    let is_there = are_third(alloc, third.flash.posted(), held, Some(E))?;
-    let is_missing = are_third(alloc, third.flash.posted(), held, None)?;
-    same(
-        third.status,
-        0,
-        format_args!("the status, {commands}, mark {k}, way {way}"),
-    )?;
+    third.ended(0, Place::Way(k, way))?;
+    // the records of the four Retrieves begin the second session
+    let is_told = bytes_out(second, k) > bytes_before(alloc, &second_answers(held), 4)?;
     holds(
-        is_there || (is_missing && !is_told),
+        is_third(alloc, third.flash.posted(), held, is_told)?,
         format_args!("what is there, {commands}, mark {k}, way {way}"),
-    )?;
-    Ok(())
+    )
 }
 
 // Interrupts this mark of the second session in some ways.
@@ -218,45 +202,56 @@ pub fn every_cut_of_second<P: Program>(alloc: Global) -> Result<(), Fail> {
     Ok(())
 }
 
+// Where a session is cut off, and what is left there.
+#[derive(Clone, Copy)]
+struct Cut {
+    k: usize,
+    way: u8,
+}
+
+const CUTS: [Cut; 11] = [
+    Cut { k: 2, way: 1 },
+    Cut { k: 3, way: 1 },
+    Cut { k: 3, way: 2 },
+    Cut { k: 2, way: 3 },
+    Cut { k: 3, way: 2 },
+    Cut { k: 4, way: 5 },
+    Cut { k: 1, way: 4 },
+    Cut { k: 3, way: 2 },
+    Cut { k: 5, way: 1 },
+    Cut { k: 6, way: 1 },
+    Cut { k: 8, way: 0 },
+];
+
+// The pages behind a cut of the session that stores the key `f`.
+fn behind_cut<P: Program>(
+    alloc: Global,
+    pages: Vec<PageState>,
+    at: &Cut,
+) -> Result<Vec<PageState>, Fail> {
+    let done = served::<P>(
+        alloc,
+        small()?,
+        pages,
+        &[Ask::Store(0x66, F), Ask::Retrieve(0x66)],
+    )?;
+    let want = records(alloc, &[Answer::Done, Answer::Found(F)])?;
+    done.posted(0, &want, Place::Way(at.k, u32::from(at.way)))?;
+    cut(alloc, &done.flash, at.k, &left(alloc, at.way)?)
+}
+
 /// Sessions that are cut off one after another before an entry is on the flash, some behind a root of their own: the marks of each are
 /// the erases of two blocks for the epoch and of the other root block, the root, the erase of a block for values, the value, the journal
 /// page and the post. The last session is not cut.
 pub fn cut_many_times<P: Program>(alloc: Global) -> Result<(), Fail> {
-    let asks = [Ask::Store(0x66, F), Ask::Retrieve(0x66)];
-    let want = records(alloc, &[Answer::Done, Answer::Found(F)])?;
     let mut pages = made::<P>(alloc, &MAKE_SMALL)?;
-    for (k, way) in [
-        (2usize, 1u8),
-        (3, 1),
-        (3, 2),
-        (2, 3),
-        (3, 2),
-        (4, 5),
-        (1, 4),
-        (3, 2),
-        (5, 1),
-        (6, 1),
-        (8, 0),
-    ] {
-        let done = served::<P>(alloc, small()?, pages, &asks)?;
-        same(
-            done.status,
-            0,
-            format_args!("the status, mark {k}, way {way}"),
-        )?;
-        same(
-            done.flash.posted(),
-            want.as_slice(),
-            format_args!("the posted bytes, mark {k}, way {way}"),
-        )?;
-        pages = cut(alloc, &done.flash, k, &left(alloc, way)?)?;
+    for at in &CUTS {
+        pages = behind_cut::<P>(alloc, pages, at)?;
     }
     let last = served::<P>(alloc, small()?, pages, &[Ask::Retrieve(0x66)])?;
-    same(last.status, 0, "the status")?;
-    same(
-        last.flash.posted(),
-        records(alloc, &[Answer::Found(F)])?.as_slice(),
-        "the posted bytes",
-    )?;
-    Ok(())
+    last.posted(
+        0,
+        &records(alloc, &[Answer::Found(F)])?,
+        Place::Named("the last session"),
+    )
 }

@@ -3,11 +3,12 @@
 //! The lists are, from the first that counts: the newest epoch, the older one, and runs 1 to 4. Keys are bytes, and the value of a key
 //! stands at a place of its own. An entry that one of an earlier list covers names a page that has no value.
 
-use crate::boards::{Session, board, cut, pages_left, serve_with, worked};
+use crate::boards::{Session, board, cut, pages_left, serve_board_with, worked};
 use crate::cuts::bytes_out;
+use crate::damage::check_refused;
 use crate::pages::{Note, erased, journal_page, meta_page, root_page, set, write, write_value};
 use crate::script::{Ask, Value, pages_read, push_head, push_list, push_value, script};
-use crate::tried::{Program, holds, same};
+use crate::tried::{Place, Program, holds};
 use pk_flash::{Flash, Left};
 use pk_nand::PageState;
 use std::alloc::{AllocError, Global};
@@ -160,33 +161,119 @@ fn served_with<P: Program>(
     asks: &[Ask],
     frames: &str,
 ) -> Result<Session, Fail> {
-    let mut flash = board(alloc, worked()?, pages, script(alloc, asks)?)?;
-    let status = serve_with::<P>(alloc, &mut flash, frames);
-    Ok(Session { status, flash })
+    let flash = board(alloc, worked()?, pages, script(alloc, asks)?)?;
+    Ok(serve_board_with::<P>(alloc, flash, frames))
 }
 
 // By the key: the level whose run has the entry that counts, 0 for the buffers and 4 for none, and whether the key is there.
-const ROWS: [(u8, u32, bool); 20] = [
-    (1, 0, true),
-    (60, 0, true),
-    (7, 0, true),
-    (18, 0, false),
-    (30, 0, false),
-    (20, 1, true),
-    (10, 1, false),
-    (25, 2, true),
-    (40, 2, true),
-    (80, 2, true),
-    (15, 2, false),
-    (70, 2, false),
-    (32, 3, true),
-    (62, 3, true),
-    (12, 3, false),
-    (33, 4, true),
-    (45, 2, true),
-    (39, 4, true),
-    (23, 4, false),
-    (100, 4, false),
+#[derive(Clone, Copy)]
+struct Row {
+    key: u8,
+    level: u32,
+    is_there: bool,
+}
+
+const ROWS: [Row; 20] = [
+    Row {
+        key: 1,
+        level: 0,
+        is_there: true,
+    },
+    Row {
+        key: 60,
+        level: 0,
+        is_there: true,
+    },
+    Row {
+        key: 7,
+        level: 0,
+        is_there: true,
+    },
+    Row {
+        key: 18,
+        level: 0,
+        is_there: false,
+    },
+    Row {
+        key: 30,
+        level: 0,
+        is_there: false,
+    },
+    Row {
+        key: 20,
+        level: 1,
+        is_there: true,
+    },
+    Row {
+        key: 10,
+        level: 1,
+        is_there: false,
+    },
+    Row {
+        key: 25,
+        level: 2,
+        is_there: true,
+    },
+    Row {
+        key: 40,
+        level: 2,
+        is_there: true,
+    },
+    Row {
+        key: 80,
+        level: 2,
+        is_there: true,
+    },
+    Row {
+        key: 15,
+        level: 2,
+        is_there: false,
+    },
+    Row {
+        key: 70,
+        level: 2,
+        is_there: false,
+    },
+    Row {
+        key: 32,
+        level: 3,
+        is_there: true,
+    },
+    Row {
+        key: 62,
+        level: 3,
+        is_there: true,
+    },
+    Row {
+        key: 12,
+        level: 3,
+        is_there: false,
+    },
+    Row {
+        key: 33,
+        level: 4,
+        is_there: true,
+    },
+    Row {
+        key: 45,
+        level: 2,
+        is_there: true,
+    },
+    Row {
+        key: 39,
+        level: 4,
+        is_there: true,
+    },
+    Row {
+        key: 23,
+        level: 4,
+        is_there: false,
+    },
+    Row {
+        key: 100,
+        level: 4,
+        is_there: false,
+    },
 ];
 
 // Adds the record of the Retrieve of a key, where so many levels are pinned: one page is read for each other level down to that of the
@@ -195,14 +282,13 @@ fn push_retrieved(
     into: &mut Vec<u8>,
     number: u16,
     pinned: u32,
-    row: &(u8, u32, bool),
+    row: &Row,
 ) -> Result<(), AllocError> {
-    let (key, level, is_there) = *row;
-    let looked = level.saturating_sub(pinned);
-    if !is_there {
+    let looked = row.level.saturating_sub(pinned);
+    if !row.is_there {
         return push_head(into, number, 0x87, 0, looked, 0);
     }
-    let value = value_of(key);
+    let value = value_of(row.key);
     let reads = looked.saturating_add(pages_read(value.len));
     push_head(into, number, 0, value.len, reads, value.len)?;
     push_value(into, &value)
@@ -220,8 +306,8 @@ fn push_report(into: &mut Vec<u8>, number: u16, numbers: &[u32; 16]) -> Result<(
 // A Retrieve of each key of the rows.
 fn retrieves(alloc: Global) -> Result<Vec<Ask>, AllocError> {
     let mut asks = Vec::new(alloc);
-    for (key, _, _) in &ROWS {
-        asks.push(Ask::Retrieve(*key))?;
+    for row in &ROWS {
+        asks.push(Ask::Retrieve(row.key))?;
     }
     Ok(asks)
 }
@@ -237,63 +323,138 @@ fn retrieved(alloc: Global, pinned: u32) -> Result<Vec<u8>, AllocError> {
     Ok(bytes)
 }
 
-// By the frames: how many levels they pin.
-const FRAMES: [(&str, u32); 8] = [
-    ("0", 0),
-    ("7", 0),
-    ("8", 1),
-    ("35", 1),
-    ("36", 2),
-    ("147", 2),
-    ("148", 3),
-    ("236", 4),
+// Frames, and how many levels they pin.
+#[derive(Clone, Copy)]
+struct Pins {
+    frames: &'static str,
+    pinned: u32,
+}
+
+const PINS: [Pins; 8] = [
+    Pins {
+        frames: "0",
+        pinned: 0,
+    },
+    Pins {
+        frames: "7",
+        pinned: 0,
+    },
+    Pins {
+        frames: "8",
+        pinned: 1,
+    },
+    Pins {
+        frames: "35",
+        pinned: 1,
+    },
+    Pins {
+        frames: "36",
+        pinned: 2,
+    },
+    Pins {
+        frames: "147",
+        pinned: 2,
+    },
+    Pins {
+        frames: "148",
+        pinned: 3,
+    },
+    Pins {
+        frames: "236",
+        pinned: 4,
+    },
 ];
+
+fn check_found<P: Program>(alloc: Global, asks: &[Ask], pins: &Pins) -> Result<(), Fail> {
+    let done = served_with::<P>(alloc, with_two_epochs(alloc)?, asks, pins.frames)?;
+    let want = retrieved(alloc, pins.pinned)?;
+    done.posted(0, &want, Place::Named(pins.frames))?;
+    done.wrote(0, 0, Place::Named(pins.frames))
+}
 
 /// A Retrieve reads no page of a pinned run, and one of each other run down to that with the entry.
 pub fn keys_are_found<P: Program>(alloc: Global) -> Result<(), Fail> {
     let asks = retrieves(alloc)?;
-    for (frames, pinned) in FRAMES {
-        let done = served_with::<P>(alloc, with_two_epochs(alloc)?, &asks, frames)?;
-        same(done.status, 0, format_args!("the status, {frames} frames"))?;
-        let want = retrieved(alloc, pinned)?;
-        same(
-            done.flash.posted(),
-            want.as_slice(),
-            format_args!("the posted bytes, {frames} frames"),
-        )?;
-        same(
-            done.flash.program_count(),
-            0,
-            format_args!("programs, {frames} frames"),
-        )?;
+    for pins in &PINS {
+        check_found::<P>(alloc, &asks, pins)?;
     }
     Ok(())
 }
 
-/// A List of all keys reads each page of the runs that are not pinned once, and a Report counts the lists. By the frames: the pinned
-/// levels, the pages that the List reads, and the frames with a page.
+// By the frames: the pinned levels, the pages that a List reads, and the frames with a page.
+#[derive(Clone, Copy)]
+struct Listing {
+    frames: &'static str,
+    number: u32,
+    pinned: u32,
+    reads: u32,
+    leased: u32,
+}
+
+const LISTINGS: [Listing; 5] = [
+    Listing {
+        frames: "0",
+        number: 0,
+        pinned: 0,
+        reads: 8,
+        leased: 0,
+    },
+    Listing {
+        frames: "8",
+        number: 8,
+        pinned: 1,
+        reads: 7,
+        leased: 1,
+    },
+    Listing {
+        frames: "36",
+        number: 36,
+        pinned: 2,
+        reads: 5,
+        leased: 3,
+    },
+    Listing {
+        frames: "148",
+        number: 148,
+        pinned: 3,
+        reads: 2,
+        leased: 6,
+    },
+    Listing {
+        frames: "236",
+        number: 236,
+        pinned: 4,
+        reads: 0,
+        leased: 8,
+    },
+];
+
+// The records of a List and a Report.
+fn records_of(alloc: Global, listing: &Listing) -> Result<Vec<u8>, AllocError> {
+    let mut want = Vec::new(alloc);
+    push_list(&mut want, 1, listing.reads, &KEYS)?;
+    let (pinned, number, leased) = (listing.pinned, listing.number, listing.leased);
+    let numbers = [
+        45, 492, 43, pinned, number, leased, 3, 3, 2, 16, 31, 17, 2, 11, 0, 0,
+    ];
+    push_report(&mut want, 2, &numbers)?;
+    Ok(want)
+}
+
+fn check_listing<P: Program>(alloc: Global, listing: &Listing) -> Result<(), Fail> {
+    let asks = [Ask::List, Ask::Report];
+    let done = served_with::<P>(alloc, with_two_epochs(alloc)?, &asks, listing.frames)?;
+    done.posted(
+        0,
+        &records_of(alloc, listing)?,
+        Place::Named(listing.frames),
+    )
+}
+
+/// A List of all keys reads each page of the runs that are not pinned once, and a Report counts the lists.
 pub fn keys_are_listed<P: Program>(alloc: Global) -> Result<(), Fail> {
-    for (frames, number, pinned, reads, leased) in [
-        ("0", 0u32, 0u32, 8u32, 0u32),
-        ("8", 8, 1, 7, 1),
-        ("36", 36, 2, 5, 3),
-        ("148", 148, 3, 2, 6),
-        ("236", 236, 4, 0, 8),
-    ] {
-        let asks = [Ask::List, Ask::Report];
-        let done = served_with::<P>(alloc, with_two_epochs(alloc)?, &asks, frames)?;
-        same(done.status, 0, format_args!("the status, {frames} frames"))?;
-        let mut want = Vec::new(alloc);
-        push_list(&mut want, 1, reads, &KEYS)?;
-        let numbers = [
-            45, 492, 43, pinned, number, leased, 3, 3, 2, 16, 31, 17, 2, 11, 0, 0,
-        ];
-        push_report(&mut want, 2, &numbers)?;
-        same(
-            done.flash.posted(),
-            want.as_slice(),
-            format_args!("the posted bytes, {frames} frames"),
-        )?;
+    for listing in &LISTINGS {
+        check_listing::<P>(alloc, listing)?;
     }
     Ok(())
 }
@@ -316,95 +477,140 @@ fn stored<P: Program>(alloc: Global) -> Result<Session, Fail> {
     served_with::<P>(alloc, pages, &[Ask::Store(90, value_of(90))], "36")
 }
 
-/// A Store begins an epoch over the one with five keys, by a root that names the same runs. The session behind it has all keys.
-pub fn store_over_runs<P: Program>(alloc: Global) -> Result<(), Fail> {
-    let stored = stored::<P>(alloc)?;
-    same(stored.status, 0, "the status")?;
-    same(stored.flash.program_count(), 3, "programs")?;
-    same(stored.flash.erase_count(), 4, "erases")?;
-    let left = pages_left(alloc, &stored.flash)?;
-    let done = served_with::<P>(alloc, left, &[Ask::List, Ask::Report], "36")?;
-    same(done.status, 0, "the status")?;
+// The records of a List and of a Report behind the Store.
+fn records_behind(alloc: Global) -> Result<Vec<u8>, AllocError> {
     let mut want = listed(alloc, true)?;
     let numbers = [46, 492, 44, 2, 36, 3, 1, 5, 2, 16, 31, 17, 1, 12, 0, 0];
     push_report(&mut want, 2, &numbers)?;
-    same(done.flash.posted(), want.as_slice(), "the posted bytes")?;
-    let left = pages_left(alloc, &stored.flash)?;
-    let loaded = served_with::<P>(alloc, left, &retrieves(alloc)?, "36")?;
-    same(loaded.status, 0, "the status")?;
-    same(
-        loaded.flash.posted(),
-        retrieved(alloc, 2)?.as_slice(),
-        "the posted bytes",
-    )?;
-    Ok(())
+    Ok(want)
+}
+
+// The session of these commands on the pages of this board.
+fn check_next<P: Program>(
+    alloc: Global,
+    flash: &Flash,
+    asks: &[Ask],
+    want: &[u8],
+) -> Result<(), Fail> {
+    let done = served_with::<P>(alloc, pages_left(alloc, flash)?, asks, "36")?;
+    done.posted(0, want, Place::Named("behind the Store"))
+}
+
+/// A Store begins an epoch over the one with five keys, by a root that names the same runs. The session behind it has all keys.
+pub fn store_over_runs<P: Program>(alloc: Global) -> Result<(), Fail> {
+    let stored = stored::<P>(alloc)?;
+    stored.ended(0, Place::Named("the Store"))?;
+    stored.wrote(3, 4, Place::Named("the Store"))?;
+    let want = records_behind(alloc)?;
+    check_next::<P>(alloc, &stored.flash, &[Ask::List, Ask::Report], &want)?;
+    let want = retrieved(alloc, 2)?;
+    check_next::<P>(alloc, &stored.flash, &retrieves(alloc)?, &want)
 }
 
 // Lists the keys behind a cut of the Store. The new one is there, if a byte of its record was posted, and may be there else.
 fn check_cut<P: Program>(alloc: Global, stored: &Flash, k: usize, left: &Left) -> Result<(), Fail> {
     let pages = cut(alloc, stored, k, left)?;
     let done = served_with::<P>(alloc, pages, &[Ask::List], "36")?;
-    same(done.status, 0, format_args!("the status, mark {k}"))?;
-    let is_there = done.flash.posted() == listed(alloc, true)?.as_slice();
-    let is_missing = done.flash.posted() == listed(alloc, false)?.as_slice();
+    done.ended(0, Place::Mark(k))?;
     let is_told = bytes_out(stored, k) > 0;
     holds(
-        is_there || (is_missing && !is_told),
+        is_listed(alloc, done.flash.posted(), is_told)?,
         format_args!("what is there, mark {k}"),
-    )?;
-    Ok(())
+    )
+}
+
+fn is_listed(alloc: Global, posted: &[u8], is_told: bool) -> Result<bool, AllocError> {
+    if posted == listed(alloc, true)?.as_slice() {
+        return Ok(true);
+    }
+    Ok(!is_told && posted == listed(alloc, false)?.as_slice())
 }
 
 /// The Store is cut off at each of its marks, which is not begun, torn or done.
 pub fn cut_over_runs<P: Program>(alloc: Global) -> Result<(), Fail> {
     let stored = stored::<P>(alloc)?;
     for k in 0..stored.flash.marks().saturating_add(1) {
-        for left in [Left::Untouched, Left::Torn, Left::Done] {
-            check_cut::<P>(alloc, &stored.flash, k, &left)?;
-        }
+        check_cut::<P>(alloc, &stored.flash, k, &Left::Untouched)?;
+        check_cut::<P>(alloc, &stored.flash, k, &Left::Torn)?;
+        check_cut::<P>(alloc, &stored.flash, k, &Left::Done)?;
     }
     Ok(())
 }
 
-// Serves a Retrieve on the flash where this page is Torn: the status, and nothing is posted where it is 8.
-fn check_torn<P: Program>(alloc: Global, name: &str, page: u32, status: u8) -> Result<(), Fail> {
+// A page that is Torn: the status of a session.
+#[derive(Clone, Copy)]
+struct TornPage {
+    name: &'static str,
+    page: u32,
+    status: u8,
+}
+
+// The values of the keys 80, 33 and 39 begin at the pages 480, 386 and 398.
+const TORN_PAGES: [TornPage; 10] = [
+    TornPage {
+        name: "the page of run 1",
+        page: 96,
+        status: 8,
+    },
+    TornPage {
+        name: "the second page of run 2",
+        page: 113,
+        status: 8,
+    },
+    TornPage {
+        name: "the last page of run 3",
+        page: 130,
+        status: 8,
+    },
+    TornPage {
+        name: "the first page of run 4",
+        page: 144,
+        status: 8,
+    },
+    TornPage {
+        name: "behind run 4",
+        page: 146,
+        status: 0,
+    },
+    TornPage {
+        name: "the value of a key in run 2",
+        page: 480,
+        status: 8,
+    },
+    TornPage {
+        name: "the second page of a value in run 4",
+        page: 387,
+        status: 8,
+    },
+    TornPage {
+        name: "behind a value",
+        page: 399,
+        status: 0,
+    },
+    TornPage {
+        name: "the place of covered entries",
+        page: NOTHING,
+        status: 0,
+    },
+    TornPage {
+        name: "the older epoch",
+        page: 64,
+        status: 8,
+    },
+];
+
+// Serves a Retrieve on the flash where this page is Torn.
+fn check_torn<P: Program>(alloc: Global, torn: &TornPage) -> Result<(), Fail> {
     let mut pages = with_two_epochs(alloc)?;
-    set(&mut pages, page, PageState::Torn)?;
+    set(&mut pages, torn.page, PageState::Torn)?;
     let done = served_with::<P>(alloc, pages, &[Ask::Retrieve(33)], "36")?;
-    same(done.status, status, format_args!("the status, {name}"))?;
-    same(
-        done.flash.posted().is_empty(),
-        status == 8,
-        format_args!("whether nothing was posted, {name}"),
-    )?;
-    same(
-        done.flash.program_count(),
-        0,
-        format_args!("programs, {name}"),
-    )?;
-    same(done.flash.erase_count(), 0, format_args!("erases, {name}"))?;
-    Ok(())
+    check_refused(&done, torn.status, Place::Named(torn.name))
 }
 
 /// A page of a run that is Torn, and one of a value under any list, are damage; pages that no list counts are none.
 pub fn torn_pages<P: Program>(alloc: Global) -> Result<(), Fail> {
-    for (name, page, status) in [
-        ("the page of run 1", 96u32, 8u8),
-        ("the second page of run 2", 113, 8),
-        ("the last page of run 3", 130, 8),
-        ("the first page of run 4", 144, 8),
-        ("behind run 4", 146, 0),
-        ("the value of a key in run 2", place(80), 8),
-        (
-            "the second page of a value in run 4",
-            place(33).saturating_add(1),
-            8,
-        ),
-        ("behind a value", place(39).saturating_add(1), 0),
-        ("the place of covered entries", NOTHING, 0),
-        ("the older epoch", 64, 8),
-    ] {
-        check_torn::<P>(alloc, name, page, status)?;
+    for torn in &TORN_PAGES {
+        check_torn::<P>(alloc, torn)?;
     }
     Ok(())
 }

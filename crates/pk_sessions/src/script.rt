@@ -79,6 +79,22 @@ pub fn push_value(into: &mut Vec<u8>, value: &Value) -> Result<(), AllocError> {
     Ok(())
 }
 
+/// The bytes of a value.
+pub fn value_bytes(alloc: Global, value: &Value) -> Result<Vec<u8>, AllocError> {
+    let mut bytes = Vec::new(alloc);
+    push_value(&mut bytes, value)?;
+    Ok(bytes)
+}
+
+/// These bytes, one after another.
+pub fn joined(alloc: Global, parts: &[&[u8]]) -> Result<Vec<u8>, AllocError> {
+    let mut bytes = Vec::new(alloc);
+    for part in parts {
+        bytes.extend_from_slice(part)?;
+    }
+    Ok(bytes)
+}
+
 fn push_ask(into: &mut Vec<u8>, cid: u16, ask: &Ask) -> Result<(), AllocError> {
     into.extend_from_slice(&entry_of(cid, ask))?;
     match ask {

@@ -1,13 +1,13 @@
 //! An image goes from session to session.
 
 use crate::boards::{
-    MAKE_SMALL, MAKE_WORKED, board, cut, last_program, made, pages_left, serve, served, small,
-    worked,
+    MAKE_SMALL, MAKE_WORKED, board, cut, last_program, made, made_board, pages_left, serve_board,
+    served, small, worked,
 };
 use crate::script::{
-    Answer, Ask, Value, entry, push_answer, push_head, push_value, records, script,
+    Answer, Ask, Value, entry, joined, push_answer, push_head, push_value, records, script,
 };
-use crate::tried::{Program, holds, same};
+use crate::tried::{Place, Program, holds, same};
 use pk_base::{Shape, get_u32};
 use pk_flash::{Flash, Left};
 use pk_nand::PageState;
@@ -20,22 +20,25 @@ const THREE: Value = Value {
     len: 3,
 };
 
-// Serves the script, and compares status and records.
+// Serves the script, and compares the records.
 fn serve_as<P: Program>(
     alloc: Global,
     pages: Vec<PageState>,
     asks: &[Ask],
-    status: u8,
     answers: &[Answer],
 ) -> Result<Vec<PageState>, Fail> {
     let done = served::<P>(alloc, worked()?, pages, asks)?;
-    same(done.status, status, "the status")?;
-    same(
-        done.flash.posted(),
-        records(alloc, answers)?.as_slice(),
-        "the posted bytes",
-    )?;
+    done.posted(0, &records(alloc, answers)?, Place::Named("these asks"))?;
     pages_left(alloc, &done.flash)
+}
+
+// A session that lists these keys, on these pages.
+fn check_keys<P: Program>(
+    alloc: Global,
+    pages: Vec<PageState>,
+    keys: &'static [u8],
+) -> Result<Vec<PageState>, Fail> {
+    serve_as::<P>(alloc, pages, &[Ask::List], &[Answer::Keys(keys)])
 }
 
 /// A value is stored and deleted by one root, one page of the value and one of the journal; erased are the two blocks of the
@@ -44,85 +47,101 @@ pub fn store_and_delete<P: Program>(alloc: Global) -> Result<(), Fail> {
     let pages = made::<P>(alloc, &MAKE_WORKED)?;
     let asks = [Ask::Store(0x61, THREE), Ask::Delete(0x61)];
     let done = served::<P>(alloc, worked()?, pages, &asks)?;
-    same(done.status, 0, "the status")?;
-    same(done.flash.program_count(), 3, "programs")?;
-    same(done.flash.erase_count(), 4, "erases")?;
-    let left = pages_left(alloc, &done.flash)?;
-    let _ = serve_as::<P>(alloc, left, &[Ask::List], 0, &[Answer::Keys(&[])])?;
+    done.ended(0, Place::Named("a Store and a Delete"))?;
+    done.wrote(3, 4, Place::Named("a Store and a Delete"))?;
+    let _ = check_keys::<P>(alloc, pages_left(alloc, &done.flash)?, &[])?;
     Ok(())
 }
 
+const LARGE: Value = Value {
+    first: 7,
+    len: 1000,
+};
+
 /// A value that one session stores is what the next one retrieves, byte for byte, and the one behind it.
 pub fn values_stay<P: Program>(alloc: Global) -> Result<(), Fail> {
-    let large = Value {
-        first: 7,
-        len: 1000,
-    };
-    let stores = [Ask::Store(0x61, THREE), Ask::Store(0x62, large)];
+    let stores = [Ask::Store(0x61, THREE), Ask::Store(0x62, LARGE)];
     let loads = [Ask::Retrieve(0x62), Ask::Retrieve(0x61)];
-    let found = [Answer::Found(large), Answer::Found(THREE)];
-    let pages = made::<P>(alloc, &MAKE_WORKED)?;
-    let pages = serve_as::<P>(alloc, pages, &stores, 0, &[Answer::Done, Answer::Done])?;
-    let pages = serve_as::<P>(alloc, pages, &loads, 0, &found)?;
-    let _ = serve_as::<P>(alloc, pages, &loads, 0, &found)?;
+    let found = [Answer::Found(LARGE), Answer::Found(THREE)];
+    let mut pages = made::<P>(alloc, &MAKE_WORKED)?;
+    pages = serve_as::<P>(alloc, pages, &stores, &[Answer::Done, Answer::Done])?;
+    pages = serve_as::<P>(alloc, pages, &loads, &found)?;
+    let _ = serve_as::<P>(alloc, pages, &loads, &found)?;
     Ok(())
+}
+
+// Stores this key in one session, and lists all keys in the next.
+fn store_and_list<P: Program>(
+    alloc: Global,
+    pages: Vec<PageState>,
+    key: u8,
+    keys: &'static [u8],
+) -> Result<Vec<PageState>, Fail> {
+    let pages = serve_as::<P>(alloc, pages, &[Ask::Store(key, THREE)], &[Answer::Done])?;
+    check_keys::<P>(alloc, pages, keys)
 }
 
 /// Each session that stores begins an epoch. The third merges the frozen entries into run 1 before it freezes further ones.
 pub fn three_stores<P: Program>(alloc: Global) -> Result<(), Fail> {
     let mut pages = made::<P>(alloc, &MAKE_WORKED)?;
-    for (key, status, answers, keys) in [
-        (0x61u8, 0u8, [Answer::Done].as_slice(), b"a".as_slice()),
-        (0x62, 0, &[Answer::Done], b"ab"),
-        (0x63, 0, &[Answer::Done], b"abc"),
-    ] {
-        pages = serve_as::<P>(alloc, pages, &[Ask::Store(key, THREE)], status, answers)?;
-        pages = serve_as::<P>(alloc, pages, &[Ask::List], 0, &[Answer::Keys(keys)])?;
-    }
+    pages = store_and_list::<P>(alloc, pages, 0x61, b"a")?;
+    pages = store_and_list::<P>(alloc, pages, 0x62, b"ab")?;
+    let _ = store_and_list::<P>(alloc, pages, 0x63, b"abc")?;
     Ok(())
+}
+
+// The pages of a drive of 33 blocks behind these commands.
+fn serve_small<P: Program>(
+    alloc: Global,
+    pages: Vec<PageState>,
+    asks: &[Ask],
+    answers: &[Answer],
+) -> Result<Vec<PageState>, Fail> {
+    let done = served::<P>(alloc, small()?, pages, asks)?;
+    done.posted(0, &records(alloc, answers)?, Place::Named("full blocks"))?;
+    pages_left(alloc, &done.flash)
 }
 
 /// Sixteen Stores of one key fill the two blocks that values may have, and the next one gives a block back, which has none that is live.
 pub fn full_blocks<P: Program>(alloc: Global) -> Result<(), Fail> {
-    let pages = made::<P>(alloc, &MAKE_SMALL)?;
-    let done = served::<P>(alloc, small()?, pages, &[Ask::Store(0x61, THREE); 17])?;
-    same(done.status, 0, "the status")?;
-    same(
-        done.flash.posted(),
-        records(alloc, &[Answer::Done; 17])?.as_slice(),
-        "the posted bytes",
+    let mut pages = made::<P>(alloc, &MAKE_SMALL)?;
+    pages = serve_small::<P>(
+        alloc,
+        pages,
+        &[Ask::Store(0x61, THREE); 17],
+        &[Answer::Done; 17],
     )?;
-    let left = pages_left(alloc, &done.flash)?;
-    let again = served::<P>(alloc, small()?, left, &[Ask::Retrieve(0x61)])?;
-    same(again.status, 0, "the status")?;
-    same(
-        again.flash.posted(),
-        records(alloc, &[Answer::Found(THREE)])?.as_slice(),
-        "the posted bytes",
-    )?;
+    let found = [Answer::Found(THREE)];
+    let _ = serve_small::<P>(alloc, pages, &[Ask::Retrieve(0x61)], &found)?;
     Ok(())
 }
 
+const COMMITS: [Ask; 4] = [
+    Ask::Store(0x61, THREE),
+    Ask::Flush,
+    Ask::Store(0x62, THREE),
+    Ask::Flush,
+];
+
 /// Two keys, each with a commit of its own, cut at the journal page of the second, which is not begun, torn or done.
 pub fn journal_page<P: Program>(alloc: Global) -> Result<(), Fail> {
-    let asks = [
-        Ask::Store(0x61, THREE),
-        Ask::Flush,
-        Ask::Store(0x62, THREE),
-        Ask::Flush,
-    ];
     let pages = made::<P>(alloc, &MAKE_WORKED)?;
-    let done = served::<P>(alloc, worked()?, pages, &asks)?;
-    same(done.status, 0, "the status")?;
-    let k = last_program(&done.flash).ok_or("a journal page")?;
-    for (left, keys) in [
-        (Left::Untouched, b"a".as_slice()),
-        (Left::Torn, b"a"),
-        (Left::Done, b"ab"),
-    ] {
-        let pages = cut(alloc, &done.flash, k, &left)?;
-        let _ = serve_as::<P>(alloc, pages, &[Ask::List], 0, &[Answer::Keys(keys)])?;
-    }
+    let done = served::<P>(alloc, worked()?, pages, &COMMITS)?;
+    done.ended(0, Place::Named("two commits"))?;
+    check_page::<P>(alloc, &done.flash, &Left::Untouched, b"a")?;
+    check_page::<P>(alloc, &done.flash, &Left::Torn, b"a")?;
+    check_page::<P>(alloc, &done.flash, &Left::Done, b"ab")
+}
+
+// The keys behind a cut at the last program.
+fn check_page<P: Program>(
+    alloc: Global,
+    flash: &Flash,
+    left: &Left,
+    keys: &'static [u8],
+) -> Result<(), Fail> {
+    let k = last_program(flash).ok_or("a journal page")?;
+    let _ = check_keys::<P>(alloc, cut(alloc, flash, k, left)?, keys)?;
     Ok(())
 }
 
@@ -159,10 +178,9 @@ fn reported(posted: &[u8], place: usize) -> Option<u32> {
 
 // A made drive on which this script was served.
 fn behind<P: Program>(alloc: Global, script: Vec<u8>) -> Result<Flash, Fail> {
-    let pages = made::<P>(alloc, &MAKE_WORKED)?;
-    let mut flash = board(alloc, worked()?, pages, script)?;
-    same(serve::<P>(alloc, &mut flash), 0, "the status")?;
-    Ok(flash)
+    let done = serve_board::<P>(alloc, made_board::<P>(alloc, script)?);
+    done.ended(0, Place::Named("a made drive"))?;
+    Ok(done.flash)
 }
 
 // Serves a script that ends with a Report on a made drive, and compares numbers of it.
@@ -171,10 +189,14 @@ fn check_report<P: Program>(
     script: Vec<u8>,
     numbers: &[(&str, usize, u32)],
 ) -> Result<(), Fail> {
-    let flash = behind::<P>(alloc, script)?;
+    check_numbers(behind::<P>(alloc, script)?.posted(), numbers)
+}
+
+// The Report that ends the posted bytes has these numbers.
+fn check_numbers(posted: &[u8], numbers: &[(&str, usize, u32)]) -> Result<(), Fail> {
     for (name, place, number) in numbers {
         same(
-            reported(flash.posted(), *place),
+            reported(posted, *place),
             Some(*number),
             format_args!("the posted bytes, {name}"),
         )?;
@@ -204,45 +226,55 @@ pub fn first_of_full_buffer<P: Program>(alloc: Global) -> Result<(), Fail> {
     let mut script = many_stores(alloc)?;
     script.extend_from_slice(&entry(33, 0x02, [0, 0], 2, 3))?;
     let flash = behind::<P>(alloc, script)?;
-    let mut record = Vec::new(alloc);
-    push_answer(&mut record, 33, &Answer::Found(THREE))?;
+    let record = found_as(alloc, 33)?;
     same(record.len(), 27, "a record")?;
-    holds(flash.posted().ends_with(&record), "the posted bytes")?;
-    Ok(())
+    holds(flash.posted().ends_with(&record), "the posted bytes")
+}
+
+// The record of a Retrieve of three bytes, with this number.
+fn found_as(alloc: Global, number: u16) -> Result<Vec<u8>, AllocError> {
+    let mut record = Vec::new(alloc);
+    push_answer(&mut record, number, &Answer::Found(THREE))?;
+    Ok(record)
 }
 
 /// A value of the greatest size has all the pages that a value may have.
 pub fn greatest_value<P: Program>(alloc: Global) -> Result<(), Fail> {
-    let greatest = Value {
-        first: 9,
-        len: 2016,
-    };
-    let asks = [Ask::Store(0x61, greatest), Ask::Report];
+    let asks = script(alloc, &[Ask::Store(0x61, GREATEST), Ask::Report])?;
+    let done = behind::<P>(alloc, asks)?;
     let numbers = [("live", 0usize, 4u32), ("limit", 1, 492), ("keys", 2, 1)];
-    check_report::<P>(alloc, script(alloc, &asks)?, &numbers)?;
-    let done = behind::<P>(alloc, script(alloc, &asks)?)?;
-    holds(
-        done.posted().starts_with(&records(alloc, &[Answer::Done])?),
-        "the posted bytes",
-    )?;
-    same(done.posted().len(), 24 + 88, "posted bytes")?;
-    Ok(())
+    check_numbers(done.posted(), &numbers)?;
+    let want = records(alloc, &[Answer::Done])?;
+    holds(done.posted().starts_with(&want), "the posted bytes")?;
+    same(done.posted().len(), 24 + 88, "posted bytes")
 }
+
+const GREATEST: Value = Value {
+    first: 9,
+    len: 2016,
+};
 
 /// A Retrieve gives as much of a value as its buffer takes, and tells its whole length. Without a buffer it reads no page.
 pub fn short_buffers<P: Program>(alloc: Global) -> Result<(), Fail> {
-    let mut script = entry(1, 0x01, [0x61, 0], 1, 5).to_vec(alloc)?;
-    script.extend_from_slice(b"hello")?;
-    script.extend_from_slice(&entry(2, 0x02, [0x61, 0], 1, 2))?;
-    script.extend_from_slice(&entry(3, 0x02, [0x61, 0], 1, 0))?;
+    let store = entry(1, 0x01, [0x61, 0], 1, 5);
+    let two_bytes = entry(2, 0x02, [0x61, 0], 1, 2);
+    let no_byte = entry(3, 0x02, [0x61, 0], 1, 0);
+    let script = joined(alloc, &[&store, b"hello", &two_bytes, &no_byte])?;
     let flash = behind::<P>(alloc, script)?;
+    same(
+        flash.posted(),
+        short_records(alloc)?.as_slice(),
+        "the posted bytes",
+    )
+}
+
+fn short_records(alloc: Global) -> Result<Vec<u8>, AllocError> {
     let mut want = Vec::new(alloc);
     push_head(&mut want, 1, 0, 0, 0, 0)?;
     push_head(&mut want, 2, 0, 5, 1, 2)?;
     want.extend_from_slice(b"he")?;
     push_head(&mut want, 3, 0, 5, 0, 0)?;
-    same(flash.posted(), want.as_slice(), "the posted bytes")?;
-    Ok(())
+    Ok(want)
 }
 
 /// A session without commands posts nothing and leaves the flash alone.
@@ -283,22 +315,27 @@ fn of_user(cid: u16, opcode: u8, size: u32) -> [u8; 64] {
     .entry()
 }
 
-/// A value of 1,000 bytes under a key of sixteen, on pages of 4,096 bytes: it is read whole, by one read.
-pub fn one_large_page<P: Program>(alloc: Global) -> Result<(), Fail> {
-    let value = Value {
-        first: 7,
-        len: 1000,
-    };
-    let shape = Shape::new(4096, 64, 512).ok().ok_or("a shape")?;
-    let mut script = of_user(1, 0x01, value.len).to_vec(alloc)?;
-    push_value(&mut script, &value)?;
+// A Store of this value, and a Retrieve of it.
+fn of_one_user(alloc: Global) -> Result<Vec<u8>, AllocError> {
+    let mut script = of_user(1, 0x01, LARGE.len).to_vec(alloc)?;
+    push_value(&mut script, &LARGE)?;
     script.extend_from_slice(&of_user(2, 0x02, 4096))?;
-    let pages = made::<P>(alloc, &["make", "4096", "64", "512"])?;
-    let mut flash = board(alloc, shape, pages, script)?;
-    same(serve::<P>(alloc, &mut flash), 0, "the status")?;
+    Ok(script)
+}
+
+// Their records.
+fn records_of_user(alloc: Global) -> Result<Vec<u8>, AllocError> {
     let mut want = Vec::new(alloc);
     push_head(&mut want, 1, 0, 0, 0, 0)?;
-    push_head(&mut want, 2, 0, value.len, 1, value.len)?;
-    push_value(&mut want, &value)?;
-    same(flash.posted(), want.as_slice(), "the posted bytes")
+    push_head(&mut want, 2, 0, LARGE.len, 1, LARGE.len)?;
+    push_value(&mut want, &LARGE)?;
+    Ok(want)
+}
+
+/// A value of 1,000 bytes under a key of sixteen, on pages of 4,096 bytes: it is read whole, by one read.
+pub fn one_large_page<P: Program>(alloc: Global) -> Result<(), Fail> {
+    let shape = Shape::new(4096, 64, 512).ok().ok_or("a shape")?;
+    let pages = made::<P>(alloc, &["make", "4096", "64", "512"])?;
+    let done = serve_board::<P>(alloc, board(alloc, shape, pages, of_one_user(alloc)?)?);
+    done.posted(0, &records_of_user(alloc)?, Place::Named("one large page"))
 }

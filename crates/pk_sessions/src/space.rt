@@ -5,10 +5,10 @@ use crate::overwritten::{
     OTHER, all_with, firsts, firsts_behind, push_plain, push_retrieves, push_store, push_stores,
     record_at, value_of,
 };
-use crate::script::{Value, entry, push_value};
+use crate::script::{Value, entry, value_bytes};
 use crate::tried::{Program, same};
 use pk_flash::{Flash, Room};
-use std::alloc::Global;
+use std::alloc::{AllocError, Global};
 use std::test::*;
 
 // The keys of one page each that a full drive of 64 blocks of 16 pages has.
@@ -31,46 +31,75 @@ fn of_len(len: u32) -> Value {
     Value { first: 9, len }
 }
 
+// One more key, overwrites of one page and of two, and a Retrieve.
+fn push_tries(into: &mut Vec<u8>) -> Result<(), AllocError> {
+    push_store(into, KEYS, &value_of(OTHER))?;
+    push_store(into, 0, &of_len(480))?;
+    push_store(into, 0, &of_len(481))?;
+    into.extend_from_slice(&entry(2, 0x02, [0, 0], 2, 1000))
+}
+
+// A Delete, the key again, and a Flush.
+fn push_again(into: &mut Vec<u8>) -> Result<(), AllocError> {
+    into.extend_from_slice(&entry(4, 0x10, [0, 0], 2, 0))?;
+    push_store(into, KEYS, &value_of(OTHER))?;
+    push_plain(into, 0x00, 0)
+}
+
+fn full_script(alloc: Global) -> Result<Vec<u8>, AllocError> {
+    let mut script = Vec::new(alloc);
+    push_stores(&mut script, KEYS, 0, KEYS)?;
+    push_tries(&mut script)?;
+    push_again(&mut script)?;
+    Ok(script)
+}
+
+// The records from this byte on have these statuses, and no data: where the next one begins.
+fn check_statuses(posted: &[u8], from: usize, statuses: &[u32]) -> Result<usize, Fail> {
+    let mut at = from;
+    for status in statuses {
+        at = all_with(posted, at, 1, *status)?;
+    }
+    Ok(at)
+}
+
+// The record that begins here has the value of one page: where the next one begins.
+fn check_old(alloc: Global, posted: &[u8], at: usize) -> Result<usize, Fail> {
+    let old = record_at(posted, at).ok_or("a record")?;
+    let want = value_bytes(alloc, &of_len(480))?;
+    let found = posted.get(old.data..old.end()).unwrap_or(&[]);
+    same(found, want.as_slice(), "the old value")?;
+    Ok(old.end())
+}
+
 /// The drive is full with 492 values of one page each. One more key has no room; an overwrite of a page has, one of two pages has not,
 /// and leaves the old value; and behind a Delete the key has room.
 pub fn full_drive<P: Program>(alloc: Global) -> Result<(), Fail> {
-    let mut script = Vec::new(alloc);
-    push_stores(&mut script, KEYS, 0, KEYS)?;
-    push_store(&mut script, KEYS, &value_of(OTHER))?;
-    push_store(&mut script, 0, &of_len(480))?;
-    push_store(&mut script, 0, &of_len(481))?;
-    script.extend_from_slice(&entry(2, 0x02, [0, 0], 2, 1000))?;
-    script.extend_from_slice(&entry(4, 0x10, [0, 0], 2, 0))?;
-    push_store(&mut script, KEYS, &value_of(OTHER))?;
-    push_plain(&mut script, 0x00, 0)?;
-    let flash = session::<P>(alloc, script)?;
+    let flash = session::<P>(alloc, full_script(alloc)?)?;
     let posted = flash.posted();
     let mut at = all_with(posted, 0, KEYS, 0)?;
-    at = all_with(posted, at, 1, 0x81)?;
-    at = all_with(posted, at, 1, 0)?;
-    at = all_with(posted, at, 1, 0x81)?;
-    let old = record_at(posted, at).ok_or("a record")?;
-    let mut want = Vec::new(alloc);
-    push_value(&mut want, &of_len(480))?;
-    same(
-        posted.get(old.data..old.end()),
-        Some(want.as_slice()),
-        "the old value",
-    )?;
-    at = all_with(posted, old.end(), 3, 0)?;
+    at = check_statuses(posted, at, &[0x81, 0, 0x81])?;
+    at = check_old(alloc, posted, at)?;
+    at = check_statuses(posted, at, &[0, 0, 0])?;
     same(at, posted.len(), "the bytes posted")
 }
 
 /// The full drive takes 2,000 overwrites, and each key has its last value.
 pub fn overwrites<P: Program>(alloc: Global) -> Result<(), Fail> {
-    let commands = KEYS + 2000;
-    let mut script = Vec::new(alloc);
-    push_stores(&mut script, KEYS, 0, commands)?;
-    push_retrieves(&mut script, KEYS)?;
-    let flash = session::<P>(alloc, script)?;
+    let flash = session::<P>(alloc, overwriting(alloc)?)?;
     let posted = flash.posted();
-    let at = all_with(posted, 0, commands, 0)?;
+    let at = all_with(posted, 0, COMMANDS, 0)?;
     let found = firsts(alloc, posted, at, KEYS)?;
-    let want = firsts_behind(alloc, KEYS, commands)?;
+    let want = firsts_behind(alloc, KEYS, COMMANDS)?;
     same(found.as_slice(), want.as_slice(), "the values")
+}
+
+const COMMANDS: u32 = KEYS + 2000;
+
+// The Stores, and a Retrieve of each key.
+fn overwriting(alloc: Global) -> Result<Vec<u8>, AllocError> {
+    let mut script = Vec::new(alloc);
+    push_stores(&mut script, KEYS, 0, COMMANDS)?;
+    push_retrieves(&mut script, KEYS)?;
+    Ok(script)
 }

@@ -2,7 +2,7 @@
 
 use pk_flash::Flash;
 use std::alloc::Global;
-use std::fmt::{Debug, Display};
+use std::fmt::{self, Debug, Display, Formatter, Write};
 use std::test::*;
 
 /// A program: it does what words ask for over a board, and gives its exit status.
@@ -28,4 +28,32 @@ pub fn same<T: PartialEq + Debug + Drop, D: Display + Drop>(
         return Ok(());
     }
     Err(Fail::new(format_args!("{what}: {found:?}, and not {wanted:?}")))
+}
+
+/// Where in a trial something was found, as a failure tells it.
+#[derive(Clone, Copy)]
+pub enum Place {
+    Named(&'static str),
+    /// Behind a cut at this mark.
+    Mark(usize),
+    /// The same, left in this way.
+    Way(usize, u32),
+    /// While this call fails.
+    Call(u64),
+    /// The same, which leaves this.
+    CallWay(u64, u8),
+    Root(u64),
+}
+
+impl Display for Place {
+    fn fmt<W: Write>(&self, f: &mut Formatter<W>) -> fmt::Result {
+        match self {
+            Place::Named(name) => f.write_str(name),
+            Place::Mark(k) => write!(f, "mark {k}"),
+            Place::Way(k, way) => write!(f, "mark {k}, way {way}"),
+            Place::Call(call) => write!(f, "call {call}"),
+            Place::CallWay(call, way) => write!(f, "call {call}, way {way}"),
+            Place::Root(number) => write!(f, "root {number}"),
+        }
+    }
 }

@@ -2,7 +2,7 @@
 
 use crate::boards::{MAKE_WORKED, made, served, worked};
 use crate::script::{Answer, Ask, Value, records};
-use crate::tried::{Program, same};
+use crate::tried::{Place, Program};
 use pk_nand::{PageBytes, PageState};
 use std::alloc::{AllocError, Global};
 use std::test::*;
@@ -37,33 +37,85 @@ fn made_with_number<P: Program>(alloc: Global, number: u64) -> Result<Vec<PageSt
     Ok(pages)
 }
 
+// By the number of the newest root and the commands that come: the status, and how many records are posted.
+#[derive(Clone, Copy)]
+struct Case {
+    number: u64,
+    commands: usize,
+    status: u8,
+    answered: usize,
+}
+
+const CASES: [Case; 8] = [
+    Case {
+        number: 1 << 63,
+        commands: 0,
+        status: 0,
+        answered: 0,
+    },
+    Case {
+        number: 1 << 63,
+        commands: 1,
+        status: 10,
+        answered: 0,
+    },
+    Case {
+        number: u64::MAX,
+        commands: 0,
+        status: 0,
+        answered: 0,
+    },
+    Case {
+        number: u64::MAX,
+        commands: 1,
+        status: 10,
+        answered: 0,
+    },
+    Case {
+        number: (1 << 63) - 1,
+        commands: 0,
+        status: 0,
+        answered: 0,
+    },
+    Case {
+        number: (1 << 63) - 1,
+        commands: 1,
+        status: 0,
+        answered: 1,
+    },
+    Case {
+        number: (1 << 63) - 1,
+        commands: 2,
+        status: 10,
+        answered: 1,
+    },
+    Case {
+        number: (1 << 63) - 2,
+        commands: 2,
+        status: 0,
+        answered: 2,
+    },
+];
+
+fn check<P: Program>(alloc: Global, case: &Case) -> Result<(), Fail> {
+    let asks = STORES.get(..case.commands).unwrap_or(&STORES);
+    let pages = made_with_number::<P>(alloc, case.number)?;
+    let done = served::<P>(alloc, worked()?, pages, asks)?;
+    let answers = DONE.get(..case.answered).unwrap_or(&DONE);
+    done.posted(
+        case.status,
+        &records(alloc, answers)?,
+        Place::Root(case.number),
+    )
+}
+
+const DONE: [Answer; 2] = [Answer::Done, Answer::Done];
+
 /// By the number of the newest root and the commands that come: the status, and how many records are posted. The Store that is the
 /// last one of a drive begins an epoch by the root 2^63.
 pub fn numbers<P: Program>(alloc: Global) -> Result<(), Fail> {
-    for (number, commands, status, answered) in [
-        (1u64 << 63, 0usize, 0u8, 0usize),
-        (1 << 63, 1, 10, 0),
-        (u64::MAX, 0, 0, 0),
-        (u64::MAX, 1, 10, 0),
-        ((1 << 63) - 1, 0, 0, 0),
-        ((1 << 63) - 1, 1, 0, 1),
-        ((1 << 63) - 1, 2, 10, 1),
-        ((1 << 63) - 2, 2, 0, 2),
-    ] {
-        let pages = made_with_number::<P>(alloc, number)?;
-        let done = served::<P>(alloc, worked()?, pages, &STORES[..commands])?;
-        same(
-            done.status,
-            status,
-            format_args!("the status, root {number}, {commands} commands"),
-        )?;
-        let all = [Answer::Done, Answer::Done];
-        let want = records(alloc, &all[..answered])?;
-        same(
-            done.flash.posted(),
-            want.as_slice(),
-            format_args!("the posted bytes, root {number}, {commands} commands"),
-        )?;
+    for case in &CASES {
+        check::<P>(alloc, case)?;
     }
     Ok(())
 }

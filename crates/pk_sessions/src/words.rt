@@ -2,7 +2,7 @@
 
 use crate::boards::{MAKE_WORKED, Session, board, made, pages_left, worked};
 use crate::program::words_in;
-use crate::tried::{Program, same};
+use crate::tried::{Place, Program, same};
 use pk_base::Shape;
 use pk_flash::Left;
 use pk_nand::PageState;
@@ -21,148 +21,164 @@ struct Said {
     text: &'static [u8],
 }
 
-// One word after another, each a session on what the one before left.
-fn one_by_one<P: Program>(
-    alloc: Global,
-    pages: Vec<PageState>,
-    said: &[Said],
-) -> Result<Vec<PageState>, Fail> {
-    let mut pages = pages;
-    for word in said {
-        let mut flash = board(alloc, worked()?, pages, Vec::new(alloc))?;
-        let status = P::run(alloc, &words_in(alloc, word.words)?, &mut flash);
-        same(status, 0, format_args!("the status of `{}`", word.words))?;
-        same(
-            flash.posted(),
-            word.text,
-            format_args!("the text of `{}`", word.words),
-        )?;
-        pages = pages_left(alloc, &flash)?;
-    }
-    Ok(pages)
-}
-
-/// Each word has its text, and leaves the map that the next one finds.
-pub fn texts<P: Program>(alloc: Global) -> Result<(), Fail> {
-    let said = [
-        Said {
-            words: "put 61 616263",
-            text: b"ok\n",
-        },
-        Said {
-            words: "put 63 -",
-            text: b"ok\n",
-        },
-        Said {
-            words: "get 61",
-            text: b"ok 616263\n",
-        },
-        Said {
-            words: "get 63",
-            text: b"ok -\n",
-        },
-        Said {
-            words: "get 62",
-            text: b"refused 87\n",
-        },
-        Said {
-            words: "list",
-            text: b"61\n63\n",
-        },
-        Said {
-            words: "list 62",
-            text: b"63\n",
-        },
-        Said {
-            words: "list 63",
-            text: b"63\n",
-        },
-        Said {
-            words: "list 64",
-            text: b"",
-        },
-        Said {
-            words: "has 61",
-            text: b"ok\n",
-        },
-        Said {
-            words: "has 62",
-            text: b"refused 87\n",
-        },
-        Said {
-            words: "del 61",
-            text: b"ok\n",
-        },
-        Said {
-            words: "stat",
-            text: NUMBERS,
-        },
-        Said {
-            words: "del 61",
-            text: b"refused 87\n",
-        },
-        Said {
-            words: "list",
-            text: b"63\n",
-        },
-    ];
-    one_by_one::<P>(alloc, made::<P>(alloc, &MAKE_WORKED)?, &said)?;
-    Ok(())
-}
-
-// A session of words on these pages, in which the call of the flash or of the host with this number fails.
-fn failing<P: Program>(
+// A session of words on these pages, in which the call of the flash or of the host with this number fails, if one is to.
+fn session_of<P: Program>(
     alloc: Global,
     pages: Vec<PageState>,
     words: &str,
-    call: u64,
+    fails: Option<u64>,
 ) -> Result<Session, Fail> {
     let mut flash = board(alloc, worked()?, pages, Vec::new(alloc))?;
-    flash.fail(alloc, call, Left::Untouched)?;
+    if let Some(call) = fails {
+        flash.fail(alloc, call, Left::Untouched)?;
+    }
     let status = P::run(alloc, &words_in(alloc, words)?, &mut flash);
     Ok(Session { status, flash })
 }
 
-// The pages of a drive with the key `a`, whose value stands in page 32.
-fn with_one_key<P: Program>(alloc: Global) -> Result<Vec<PageState>, Fail> {
-    let stored = [Said {
+// The pages behind a word.
+fn behind<P: Program>(
+    alloc: Global,
+    pages: Vec<PageState>,
+    said: &Said,
+) -> Result<Vec<PageState>, Fail> {
+    let done = session_of::<P>(alloc, pages, said.words, None)?;
+    done.posted(0, said.text, Place::Named(said.words))?;
+    pages_left(alloc, &done.flash)
+}
+
+const SAID: [Said; 15] = [
+    Said {
         words: "put 61 616263",
         text: b"ok\n",
-    }];
-    one_by_one::<P>(alloc, made::<P>(alloc, &MAKE_WORKED)?, &stored)
+    },
+    Said {
+        words: "put 63 -",
+        text: b"ok\n",
+    },
+    Said {
+        words: "get 61",
+        text: b"ok 616263\n",
+    },
+    Said {
+        words: "get 63",
+        text: b"ok -\n",
+    },
+    Said {
+        words: "get 62",
+        text: b"refused 87\n",
+    },
+    Said {
+        words: "list",
+        text: b"61\n63\n",
+    },
+    Said {
+        words: "list 62",
+        text: b"63\n",
+    },
+    Said {
+        words: "list 63",
+        text: b"63\n",
+    },
+    Said {
+        words: "list 64",
+        text: b"",
+    },
+    Said {
+        words: "has 61",
+        text: b"ok\n",
+    },
+    Said {
+        words: "has 62",
+        text: b"refused 87\n",
+    },
+    Said {
+        words: "del 61",
+        text: b"ok\n",
+    },
+    Said {
+        words: "stat",
+        text: NUMBERS,
+    },
+    Said {
+        words: "del 61",
+        text: b"refused 87\n",
+    },
+    Said {
+        words: "list",
+        text: b"63\n",
+    },
+];
+
+/// Each word has its text, and leaves the map that the next one finds.
+pub fn texts<P: Program>(alloc: Global) -> Result<(), Fail> {
+    let mut pages = made::<P>(alloc, &MAKE_WORKED)?;
+    for said in &SAID {
+        pages = behind::<P>(alloc, pages, said)?;
+    }
+    Ok(())
+}
+
+// The pages of a drive with the key `a`, whose value stands in page 32.
+fn with_one_key<P: Program>(alloc: Global) -> Result<Vec<PageState>, Fail> {
+    behind::<P>(alloc, made::<P>(alloc, &MAKE_WORKED)?, &SAID[0])
+}
+
+// How many reads open that drive: a Report reads no page.
+fn opening<P: Program>(alloc: Global) -> Result<u64, Fail> {
+    let quiet = session_of::<P>(alloc, with_one_key::<P>(alloc)?, "stat", None)?;
+    quiet.ended(0, Place::Named("stat"))?;
+    Ok(quiet.flash.read_count())
+}
+
+// Words, of which the first call behind opening fails: their status and text.
+#[derive(Clone, Copy)]
+struct Failing {
+    words: &'static str,
+    status: u8,
+    text: &'static [u8],
+}
+
+const FAILING: [Failing; 5] = [
+    Failing {
+        words: "get 61",
+        status: 0,
+        text: b"refused 88\n",
+    },
+    Failing {
+        words: "stat",
+        status: 5,
+        text: b"",
+    },
+    Failing {
+        words: "has 61",
+        status: 5,
+        text: b"",
+    },
+    Failing {
+        words: "list",
+        status: 5,
+        text: b"",
+    },
+    Failing {
+        words: "put 62 62",
+        status: 6,
+        text: b"",
+    },
+];
+
+fn check_failing<P: Program>(alloc: Global, failing: &Failing, call: u64) -> Result<(), Fail> {
+    let pages = with_one_key::<P>(alloc)?;
+    let done = session_of::<P>(alloc, pages, failing.words, Some(call))?;
+    done.posted(failing.status, failing.text, Place::Named(failing.words))
 }
 
 /// A read that fails behind opening is told, and so is an output that fails.
 pub fn failures<P: Program>(alloc: Global) -> Result<(), Fail> {
-    // a Report reads no page, so that these are the reads of opening
-    let mut quiet = board(alloc, worked()?, with_one_key::<P>(alloc)?, Vec::new(alloc))?;
-    same(
-        P::run(alloc, &["stat"], &mut quiet),
-        0,
-        "the status of `stat`",
-    )?;
-    let opened = quiet.read_count();
-    for (words, status, text) in [
-        ("get 61", 0u8, b"refused 88\n".as_slice()),
-        ("stat", 5, b""),
-        ("has 61", 5, b""),
-        ("list", 5, b""),
-    ] {
-        let done = failing::<P>(alloc, with_one_key::<P>(alloc)?, words, opened)?;
-        same(done.status, status, format_args!("the status of `{words}`"))?;
-        same(
-            done.flash.posted(),
-            text,
-            format_args!("the text of `{words}`"),
-        )?;
+    let opened = opening::<P>(alloc)?;
+    for failing in &FAILING {
+        check_failing::<P>(alloc, failing, opened)?;
     }
-    let done = failing::<P>(alloc, with_one_key::<P>(alloc)?, "put 62 62", opened)?;
-    same(done.status, 6, "the status of a Store whose program fails")?;
-    same(
-        done.flash.posted(),
-        b"".as_slice(),
-        "the text of a Store whose program fails",
-    )?;
     Ok(())
 }
 
@@ -172,11 +188,9 @@ pub fn torn<P: Program>(alloc: Global) -> Result<(), Fail> {
     if let Some(page) = pages.get_mut(32) {
         *page = PageState::Torn;
     }
-    let mut flash = board(alloc, worked()?, pages, Vec::new(alloc))?;
-    same(P::run(alloc, &["get", "61"], &mut flash), 8, "the status")?;
-    same(flash.posted(), b"".as_slice(), "the text")?;
-    same(flash.marks(), 0, "marks")?;
-    Ok(())
+    let done = session_of::<P>(alloc, pages, "get 61", None)?;
+    done.posted(8, b"", Place::Named("get 61"))?;
+    same(done.flash.marks(), 0, "marks")
 }
 
 /// What a workload of three commands posts on a new drive of 512 blocks of 64 pages of 4,096 bytes: an Exist and a Delete of missing
@@ -189,11 +203,7 @@ pub fn workload<P: Program>(alloc: Global) -> Result<(), Fail> {
     let shape = Shape::new(4096, 64, 512).ok().ok_or("a shape")?;
     let pages = made::<P>(alloc, &["make", "4096", "64", "512"])?;
     let mut flash = board(alloc, shape, pages, Vec::new(alloc))?;
-    same(
-        P::run(alloc, &["gen", "1", "3"], &mut flash),
-        0,
-        "the status",
-    )?;
-    same(flash.posted(), SUMMARY, "the summary")?;
-    Ok(())
+    let status = P::run(alloc, &["gen", "1", "3"], &mut flash);
+    let done = Session { status, flash };
+    done.posted(0, SUMMARY, Place::Named("gen 1 3"))
 }
