@@ -136,9 +136,9 @@ impl<A: Region> Walk<A> {
         // The walk goes on in any case, and only a read fails.
         ensures walks_on { WalksOn (B.state board.old).pages arena.now levels.now.runs
             active.now.entries frozen.now.entries self.old self.new }
-        ensures kept { OnErr result (self.new.position ≡ self.old.position) }
         ensures reading { IfErr result (λ fault. fault ≡ Reading) }
-        ensures err { OnErr result (ReadsFail (pages_read levels.now.runs self.old.cursors)
+        ensures fails { OnErr result ((self.new.position ≡ self.old.position)
+            × ReadsFail (pages_read levels.now.runs self.old.cursors)
             (pages_read levels.now.runs self.new.cursors) (B.state board.old) (B.state board.new)) }
 
         // The flash is as it was.
@@ -275,17 +275,17 @@ fn know_all<A: Region, B: Nand>(
         × FollowEach (B.state board.old).pages levels.now.runs ess position.now cursors.old }
 
     // The first wanted entries.
-    ensures shows { OnOk result (ShowsEach levels.now.runs position.now
-        (B.state board.old) (B.state board.new) cursors.old cursors.new) }
-    ensures tops { OnOk result (AreKnown buffers.now.active.now.entries
-        buffers.now.frozen.now.entries position.now (seen_tops tops.old) (seen_tops tops.new)) }
+    ensures learns { OnOk result (ShowsEach levels.now.runs position.now
+        (B.state board.old) (B.state board.new) cursors.old cursors.new
+        × AreKnown buffers.now.active.now.entries buffers.now.frozen.now.entries position.now
+        (seen_tops tops.old) (seen_tops tops.new)) }
 
     // The cursors go on in any case, and only a read fails.
     ensures go_on { GoOn (B.state board.old).pages arena.now levels.now.shape
         levels.now.runs position.now cursors.old cursors.new }
-    ensures kept { OnErr result (tops.new ≡ tops.old) }
     ensures reading { IfErr result (λ fault. fault ≡ Reading) }
-    ensures err { OnErr result (ReadsFail (pages_read levels.now.runs cursors.old)
+    ensures fails { OnErr result ((tops.new ≡ tops.old)
+        × ReadsFail (pages_read levels.now.runs cursors.old)
         (pages_read levels.now.runs cursors.new) (B.state board.old) (B.state board.new)) }
 
     // The flash is as it was.

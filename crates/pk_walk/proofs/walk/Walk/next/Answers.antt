@@ -46,7 +46,7 @@ returns-in-Ok-None-clause-few g c =
 pub returns-in-Err-clause-kept : goal.returns-in-Err-clause-kept
 returns-in-Err-clause-kept g c rest left =
     Walking-fails c.args.levels.now.runs c.args.arena.now c.args.active.now.entries c.args.frozen.now.entries c.args.levels.now.shape (g.B.Nand.state c.args.board.now) c.args.self.now (g.B.Nand.state c.loop-entry.board) c.loop-entry.self c.loop-entry.invariant.walking
-    (g.B.Nand.state c.step.new.board) c.step.new.self c.in-Err.ensures.same c.in-Err.ensures.kept c.in-Err.ensures.walks_on.follow rest left
+    (g.B.Nand.state c.step.new.board) c.step.new.self c.in-Err.ensures.same c.in-Err.ensures.fails.0 c.in-Err.ensures.walks_on.follow rest left
 
 pub returns-in-Err-clause-few : goal.returns-in-Err-clause-few
 returns-in-Err-clause-few g c =
@@ -56,7 +56,7 @@ returns-in-Err-clause-few g c =
 pub returns-in-Err-clause-err : goal.returns-in-Err-clause-err
 returns-in-Err-clause-err g c =
     fails_behind c.args.levels.now.runs c.args.arena.now c.args.active.now.entries c.args.frozen.now.entries c.args.levels.now.shape (g.B.Nand.state c.args.board.now) c.args.self.now (g.B.Nand.state c.loop-entry.board) c.loop-entry.self c.loop-entry.invariant.walking
-    (g.B.Nand.state c.step.new.board) c.step.new.self c.in-Err.ensures.err
+    (g.B.Nand.state c.step.new.board) c.step.new.self c.in-Err.ensures.fails.1
 
 pub returns-then-has_place-clause-exact : goal.returns-then-has_place-clause-exact
 returns-then-has_place-clause-exact g c none =

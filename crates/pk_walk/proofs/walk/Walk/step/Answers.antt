@@ -15,9 +15,9 @@ returns-in-Some-clause-comes g c =
     let learned : Learned c.args.levels.now.runs c.args.arena.now c.args.active.now.entries c.args.frozen.now.entries c.args.levels.now.shape (g.B.Nand.state c.args.board.now) (g.B.Nand.state c.know_all.new.board)
     (record { shape = c.self.inside.shape; position = c.self.inside.position; tops = seen_tops c.self.inside.tops; cursors = c.self.inside.cursors }) (seen_tops c.know_all.new.tops) c.know_all.new.cursors = record {
       on = c.in-Ok.ensures.go_on;
-      shows = c.in-Ok.ensures.shows;
+      shows = c.in-Ok.ensures.learns.0;
       before = tops;
-      known = c.in-Ok.ensures.tops;
+      known = c.in-Ok.ensures.learns.1;
       up = c.len.ensures.rising;
       down = c.len-2.ensures.rising;
       many = c.known.ensures.levels.four ∙ sym c.in-Ok.ensures.four;
@@ -32,9 +32,9 @@ returns-in-Some-clause-walks_on g c =
     let learned : Learned c.args.levels.now.runs c.args.arena.now c.args.active.now.entries c.args.frozen.now.entries c.args.levels.now.shape (g.B.Nand.state c.args.board.now) (g.B.Nand.state c.know_all.new.board)
     (record { shape = c.self.inside.shape; position = c.self.inside.position; tops = seen_tops c.self.inside.tops; cursors = c.self.inside.cursors }) (seen_tops c.know_all.new.tops) c.know_all.new.cursors = record {
       on = c.in-Ok.ensures.go_on;
-      shows = c.in-Ok.ensures.shows;
+      shows = c.in-Ok.ensures.learns.0;
       before = tops;
-      known = c.in-Ok.ensures.tops;
+      known = c.in-Ok.ensures.learns.1;
       up = c.len.ensures.rising;
       down = c.len-2.ensures.rising;
       many = c.known.ensures.levels.four ∙ sym c.in-Ok.ensures.four;
@@ -49,9 +49,9 @@ returns-in-None-clause-comes g c =
     let learned : Learned c.args.levels.now.runs c.args.arena.now c.args.active.now.entries c.args.frozen.now.entries c.args.levels.now.shape (g.B.Nand.state c.args.board.now) (g.B.Nand.state c.know_all.new.board)
     (record { shape = c.self.inside.shape; position = c.self.inside.position; tops = seen_tops c.self.inside.tops; cursors = c.self.inside.cursors }) (seen_tops c.know_all.new.tops) c.know_all.new.cursors = record {
       on = c.in-Ok.ensures.go_on;
-      shows = c.in-Ok.ensures.shows;
+      shows = c.in-Ok.ensures.learns.0;
       before = tops;
-      known = c.in-Ok.ensures.tops;
+      known = c.in-Ok.ensures.learns.1;
       up = c.len.ensures.rising;
       down = c.len-2.ensures.rising;
       many = c.known.ensures.levels.four ∙ sym c.in-Ok.ensures.four;
@@ -66,9 +66,9 @@ returns-in-None-clause-walks_on g c =
     let learned : Learned c.args.levels.now.runs c.args.arena.now c.args.active.now.entries c.args.frozen.now.entries c.args.levels.now.shape (g.B.Nand.state c.args.board.now) (g.B.Nand.state c.know_all.new.board)
     (record { shape = c.self.inside.shape; position = c.self.inside.position; tops = seen_tops c.self.inside.tops; cursors = c.self.inside.cursors }) (seen_tops c.know_all.new.tops) c.know_all.new.cursors = record {
       on = c.in-Ok.ensures.go_on;
-      shows = c.in-Ok.ensures.shows;
+      shows = c.in-Ok.ensures.learns.0;
       before = tops;
-      known = c.in-Ok.ensures.tops;
+      known = c.in-Ok.ensures.learns.1;
       up = c.len.ensures.rising;
       down = c.len-2.ensures.rising;
       many = c.known.ensures.levels.four ∙ sym c.in-Ok.ensures.four;
@@ -81,4 +81,4 @@ pub returns-in-Err-clause-walks_on : goal.returns-in-Err-clause-walks_on
 returns-in-Err-clause-walks_on g c =
     let tops = rw (← c.self.view_is) at c.requires.tops in
     rw (← c.self.view_is) (walks_failed c.args.levels.now.runs c.args.arena.now c.args.active.now.entries c.args.frozen.now.entries c.args.levels.now.shape (g.B.Nand.state c.args.board.now).pages
-    (record { shape = c.self.inside.shape; position = c.self.inside.position; tops = seen_tops c.self.inside.tops; cursors = c.self.inside.cursors }) (seen_tops c.know_all.new.tops) c.know_all.new.cursors c.in-Err.ensures.go_on (ap seen_tops c.in-Err.ensures.kept) tops)
+    (record { shape = c.self.inside.shape; position = c.self.inside.position; tops = seen_tops c.self.inside.tops; cursors = c.self.inside.cursors }) (seen_tops c.know_all.new.tops) c.know_all.new.cursors c.in-Err.ensures.go_on (ap seen_tops c.in-Err.ensures.fails.0) tops)
