@@ -1,23 +1,23 @@
 //! Calls of the board that fail in the worked session, a Store and a Retrieve on a made drive, one by one.
 
 use pk_flash::{Flash, Left};
-use pk_sessions::boards::{board, made, pages_left, serve, served, worked};
+use pk_sessions::boards::{Session, made_board, pages_left, serve_board, served, worked};
 use pk_sessions::program::{RECORDS, SCRIPT};
 use pk_sessions::script::{Answer, Ask, records};
-use pk_sessions::{MAKE_WORKED, Program, same};
-use std::alloc::Global;
+use pk_sessions::{Place, Program, same};
+use std::alloc::{AllocError, Global};
 use std::test::*;
 
+// A page of a block after another: as it was, Erased or Torn.
+const BY_TURNS: [u8; 16] = [0, 1, 2, 0, 1, 2, 0, 1, 2, 0, 1, 2, 0, 1, 2, 0];
+
 // What a call that fails leaves.
-fn left(alloc: Global, way: u8) -> Result<Left, Fail> {
+fn left(alloc: Global, way: u8) -> Result<Left, AllocError> {
     match way {
         0 => Ok(Left::Untouched),
         1 => Ok(Left::Torn),
         2 => Ok(Left::Done),
-        3 => Ok(Left::Each(Vec::from_slice(
-            alloc,
-            &[0, 1, 2, 0, 1, 2, 0, 1, 2, 0, 1, 2, 0, 1, 2, 0],
-        )?)),
+        3 => Ok(Left::Each(BY_TURNS.to_vec(alloc)?)),
         _ => Ok(Left::Part(10)),
     }
 }
@@ -31,84 +31,250 @@ enum Posted {
     Unread,
 }
 
-fn bytes_posted(alloc: Global, what: Posted) -> Result<Vec<u8>, Fail> {
+fn bytes_posted(alloc: Global, what: Posted) -> Result<Vec<u8>, AllocError> {
     match what {
-        Posted::Front(count) => Ok(RECORDS[..count.min(51)].to_vec(alloc)?),
-        Posted::Unread => Ok(records(alloc, &[Answer::Done, Answer::Unread])?),
+        Posted::Front(count) => RECORDS[..count.min(51)].to_vec(alloc),
+        Posted::Unread => records(alloc, &[Answer::Done, Answer::Unread]),
     }
 }
 
-// Serves the worked script on a made drive while this call fails: the status, what is posted, and the keys behind the session.
-fn check_worked<P: Program>(
-    alloc: Global,
+// A call of the worked session that fails, and what it leaves: the status, what is posted, and the keys behind the session.
+#[derive(Clone, Copy)]
+struct Failure {
     call: u64,
     way: u8,
     status: u8,
     what: Posted,
     keys: &'static [u8],
-) -> Result<Flash, Fail> {
-    let pages = made::<P>(alloc, &MAKE_WORKED)?;
-    let mut flash = board(alloc, worked()?, pages, SCRIPT.to_vec(alloc)?)?;
-    flash.fail(alloc, call, left(alloc, way)?)?;
-    same(
-        serve::<P>(alloc, &mut flash),
-        status,
-        format_args!("the status, call {call}, way {way}"),
-    )?;
-    same(
-        flash.posted(),
-        bytes_posted(alloc, what)?.as_slice(),
-        format_args!("the posted bytes, call {call}, way {way}"),
-    )?;
-    let behind = served::<P>(alloc, worked()?, pages_left(alloc, &flash)?, &[Ask::List])?;
-    same(
-        behind.status,
-        0,
-        format_args!("the status behind call {call}, way {way}"),
-    )?;
-    same(
-        behind.flash.posted(),
-        records(alloc, &[Answer::Keys(keys)])?.as_slice(),
-        format_args!("the keys behind call {call}, way {way}"),
-    )?;
-    Ok(flash)
 }
 
-/// Each call of the worked session behind the reads that open the drive, in their order: the fetches of the entry and of the value, the
-/// erases of two blocks for the epoch and of the other root block, the root, the erase of a block for values, the value, the fetch of
-/// the next entry, the journal page, the post of the Store's record, the read of the value, the posts of the head and of the data of the
-/// Retrieve's record, and the fetch at the input's end. The last row has a number behind the last call.
+// Each call of the worked session behind the reads that open the drive, in their order: the fetches of the entry and of the value, the
+// erases of two blocks for the epoch and of the other root block, the root, the erase of a block for values, the value, the fetch of
+// the next entry, the journal page, the post of the Store's record, the read of the value, the posts of the head and of the data of the
+// Retrieve's record, and the fetch at the input's end. The last row has a number behind the last call.
+const FAILURES: [Failure; 27] = [
+    Failure {
+        call: 33,
+        way: 0,
+        status: 4,
+        what: Posted::Front(0),
+        keys: b"",
+    },
+    Failure {
+        call: 34,
+        way: 0,
+        status: 4,
+        what: Posted::Front(0),
+        keys: b"",
+    },
+    Failure {
+        call: 35,
+        way: 0,
+        status: 6,
+        what: Posted::Front(0),
+        keys: b"",
+    },
+    Failure {
+        call: 35,
+        way: 1,
+        status: 6,
+        what: Posted::Front(0),
+        keys: b"",
+    },
+    Failure {
+        call: 36,
+        way: 3,
+        status: 6,
+        what: Posted::Front(0),
+        keys: b"",
+    },
+    Failure {
+        call: 37,
+        way: 0,
+        status: 6,
+        what: Posted::Front(0),
+        keys: b"",
+    },
+    Failure {
+        call: 37,
+        way: 2,
+        status: 6,
+        what: Posted::Front(0),
+        keys: b"",
+    },
+    Failure {
+        call: 38,
+        way: 0,
+        status: 6,
+        what: Posted::Front(0),
+        keys: b"",
+    },
+    Failure {
+        call: 38,
+        way: 1,
+        status: 6,
+        what: Posted::Front(0),
+        keys: b"",
+    },
+    Failure {
+        call: 38,
+        way: 2,
+        status: 6,
+        what: Posted::Front(0),
+        keys: b"",
+    },
+    Failure {
+        call: 39,
+        way: 1,
+        status: 6,
+        what: Posted::Front(0),
+        keys: b"",
+    },
+    Failure {
+        call: 40,
+        way: 0,
+        status: 6,
+        what: Posted::Front(0),
+        keys: b"",
+    },
+    Failure {
+        call: 40,
+        way: 1,
+        status: 6,
+        what: Posted::Front(0),
+        keys: b"",
+    },
+    Failure {
+        call: 40,
+        way: 2,
+        status: 6,
+        what: Posted::Front(0),
+        keys: b"",
+    },
+    Failure {
+        call: 41,
+        way: 0,
+        status: 4,
+        what: Posted::Front(24),
+        keys: b"a",
+    },
+    Failure {
+        call: 42,
+        way: 0,
+        status: 6,
+        what: Posted::Front(0),
+        keys: b"",
+    },
+    Failure {
+        call: 42,
+        way: 1,
+        status: 6,
+        what: Posted::Front(0),
+        keys: b"",
+    },
+    Failure {
+        call: 42,
+        way: 2,
+        status: 6,
+        what: Posted::Front(0),
+        keys: b"a",
+    },
+    Failure {
+        call: 43,
+        way: 0,
+        status: 5,
+        what: Posted::Front(0),
+        keys: b"a",
+    },
+    Failure {
+        call: 43,
+        way: 4,
+        status: 5,
+        what: Posted::Front(10),
+        keys: b"a",
+    },
+    Failure {
+        call: 44,
+        way: 0,
+        status: 0,
+        what: Posted::Unread,
+        keys: b"a",
+    },
+    Failure {
+        call: 45,
+        way: 0,
+        status: 5,
+        what: Posted::Front(24),
+        keys: b"a",
+    },
+    Failure {
+        call: 45,
+        way: 4,
+        status: 5,
+        what: Posted::Front(34),
+        keys: b"a",
+    },
+    Failure {
+        call: 46,
+        way: 0,
+        status: 5,
+        what: Posted::Front(48),
+        keys: b"a",
+    },
+    Failure {
+        call: 46,
+        way: 4,
+        status: 5,
+        what: Posted::Front(51),
+        keys: b"a",
+    },
+    Failure {
+        call: 47,
+        way: 0,
+        status: 4,
+        what: Posted::Front(51),
+        keys: b"a",
+    },
+    Failure {
+        call: 48,
+        way: 0,
+        status: 0,
+        what: Posted::Front(51),
+        keys: b"a",
+    },
+];
+
+// Serves the worked script on a made drive while this call fails.
+fn served_with_fault<P: Program>(alloc: Global, call: u64, left: Left) -> Result<Session, Fail> {
+    let mut flash = made_board::<P>(alloc, SCRIPT.to_vec(alloc)?)?;
+    flash.fail(alloc, call, left)?;
+    Ok(serve_board::<P>(alloc, flash))
+}
+
+// The keys behind a session.
+fn check_keys<P: Program>(
+    alloc: Global,
+    flash: &Flash,
+    keys: &'static [u8],
+    place: Place,
+) -> Result<(), Fail> {
+    let behind = served::<P>(alloc, worked()?, pages_left(alloc, flash)?, &[Ask::List])?;
+    behind.posted(0, &records(alloc, &[Answer::Keys(keys)])?, place)
+}
+
+fn check_worked<P: Program>(alloc: Global, failure: &Failure) -> Result<Flash, Fail> {
+    let left = left(alloc, failure.way)?;
+    let place = Place::CallWay(failure.call, failure.way);
+    let done = served_with_fault::<P>(alloc, failure.call, left)?;
+    done.posted(failure.status, &bytes_posted(alloc, failure.what)?, place)?;
+    check_keys::<P>(alloc, &done.flash, failure.keys, place)?;
+    Ok(done.flash)
+}
+
+/// Each call of the worked session behind the reads that open the drive fails, in some ways.
 pub fn calls_of_the_worked_session<P: Program>(alloc: Global) -> Result<(), Fail> {
-    for (call, way, status, what, keys) in [
-        (33u64, 0u8, 4u8, Posted::Front(0), b"".as_slice()),
-        (34, 0, 4, Posted::Front(0), b""),
-        (35, 0, 6, Posted::Front(0), b""),
-        (35, 1, 6, Posted::Front(0), b""),
-        (36, 3, 6, Posted::Front(0), b""),
-        (37, 0, 6, Posted::Front(0), b""),
-        (37, 2, 6, Posted::Front(0), b""),
-        (38, 0, 6, Posted::Front(0), b""),
-        (38, 1, 6, Posted::Front(0), b""),
-        (38, 2, 6, Posted::Front(0), b""),
-        (39, 1, 6, Posted::Front(0), b""),
-        (40, 0, 6, Posted::Front(0), b""),
-        (40, 1, 6, Posted::Front(0), b""),
-        (40, 2, 6, Posted::Front(0), b""),
-        (41, 0, 4, Posted::Front(24), b"a"),
-        (42, 0, 6, Posted::Front(0), b""),
-        (42, 1, 6, Posted::Front(0), b""),
-        (42, 2, 6, Posted::Front(0), b"a"),
-        (43, 0, 5, Posted::Front(0), b"a"),
-        (43, 4, 5, Posted::Front(10), b"a"),
-        (44, 0, 0, Posted::Unread, b"a"),
-        (45, 0, 5, Posted::Front(24), b"a"),
-        (45, 4, 5, Posted::Front(34), b"a"),
-        (46, 0, 5, Posted::Front(48), b"a"),
-        (46, 4, 5, Posted::Front(51), b"a"),
-        (47, 0, 4, Posted::Front(51), b"a"),
-        (48, 0, 0, Posted::Front(51), b"a"),
-    ] {
-        let _ = check_worked::<P>(alloc, call, way, status, what, keys)?;
+    for failure in &FAILURES {
+        let _ = check_worked::<P>(alloc, failure)?;
     }
     Ok(())
 }
@@ -116,8 +282,15 @@ pub fn calls_of_the_worked_session<P: Program>(alloc: Global) -> Result<(), Fail
 /// Each read that opens the made drive fails: nothing of the input is taken, and nothing is posted or written.
 pub fn reads_of_the_worked_opening<P: Program>(alloc: Global) -> Result<(), Fail> {
     for call in 0..33u64 {
-        let flash = check_worked::<P>(alloc, call, 0, 6, Posted::Front(0), b"")?;
-        same(flash.marks(), 0, format_args!("marks, call {call}"))?;
+        let failure = Failure {
+            call,
+            way: 0,
+            status: 6,
+            what: Posted::Front(0),
+            keys: b"",
+        };
+        let flash = check_worked::<P>(alloc, &failure)?;
+        same(flash.marks(), 0, "marks")?;
     }
     Ok(())
 }

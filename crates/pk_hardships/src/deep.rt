@@ -7,32 +7,53 @@
 use pk_base::Shape;
 use pk_flash::{Flash, Left, Room};
 use pk_nand::PageState;
-use pk_sessions::boards::{board_in, made, pages_left, serve};
+use pk_nvme::opcode::{DELETE, FLUSH};
+use pk_sessions::boards::{board_in, made, pages_left, serve_board};
 use pk_sessions::cuts::bytes_out;
 use pk_sessions::overwritten::{
     OTHER, firsts, firsts_behind, push_plain, push_retrieves, push_store, push_stores, value_of,
 };
 use pk_sessions::script::entry;
 use pk_sessions::ways::few_ways;
-use pk_sessions::{Program, holds, same};
+use pk_sessions::{Place, Program, holds};
 use std::alloc::{AllocError, Global};
 use std::test::*;
-
-const FLUSH: u8 = 0x00;
-
-const DELETE: u8 = 0x10;
 
 const ROOM: Room = Room {
     posted: 8_192,
     marks: 180,
 };
 
-/// A drive of few blocks: the words that make it, the numbers among them, how many keys of one page each it has, with how many Stores of
-/// them it begins, and how many other keys are stored and deleted behind these.
+/// One of the smallest shapes: the words that make a drive of it, and the numbers among them.
 #[derive(Clone, Copy)]
-pub struct Few {
+pub struct Smallest {
     pub words: [&'static str; 4],
     pub numbers: [u32; 3],
+}
+
+/// The smallest shape.
+pub const SMALL: Smallest = Smallest {
+    words: ["make", "512", "8", "33"],
+    numbers: [512, 8, 33],
+};
+
+/// The smallest one with pages of 1,024 bytes.
+pub const WIDE: Smallest = Smallest {
+    words: ["make", "1024", "8", "32"],
+    numbers: [1024, 8, 32],
+};
+
+/// The smallest one with 16 pages in a block.
+pub const LONG: Smallest = Smallest {
+    words: ["make", "512", "16", "22"],
+    numbers: [512, 16, 22],
+};
+
+/// A drive of one of these shapes: how many keys of one page each it has, with how many Stores of them it begins, and how many other
+/// keys are stored and deleted behind these.
+#[derive(Clone, Copy)]
+pub struct Few {
+    pub smallest: Smallest,
     pub keys: u32,
     pub stores: u32,
     pub gone: u32,
@@ -41,22 +62,19 @@ pub struct Few {
 /// The three smallest shapes, with as many keys as there is room for, and so many Stores as fill the two blocks that values may have.
 pub const SHAPES: [Few; 3] = [
     Few {
-        words: ["make", "512", "8", "33"],
-        numbers: [512, 8, 33],
+        smallest: SMALL,
         keys: 12,
         stores: 16,
         gone: 0,
     },
     Few {
-        words: ["make", "1024", "8", "32"],
-        numbers: [1024, 8, 32],
+        smallest: WIDE,
         keys: 12,
         stores: 16,
         gone: 0,
     },
     Few {
-        words: ["make", "512", "16", "22"],
-        numbers: [512, 16, 22],
+        smallest: LONG,
         keys: 24,
         stores: 32,
         gone: 0,
@@ -65,7 +83,7 @@ pub const SHAPES: [Few; 3] = [
 
 impl Few {
     fn shape(&self) -> Result<Shape, Fail> {
-        let [page_bytes, block_pages, blocks] = self.numbers;
+        let [page_bytes, block_pages, blocks] = self.smallest.numbers;
         Ok(
             Shape::new(page_bytes, block_pages, blocks)
                 .ok()
@@ -140,9 +158,9 @@ fn served<P: Program>(
     pages: Vec<PageState>,
     script: Vec<u8>,
 ) -> Result<Flash, Fail> {
-    let mut flash = few_board(alloc, few, pages, script)?;
-    same(serve::<P>(alloc, &mut flash), 0, "the status")?;
-    Ok(flash)
+    let done = serve_board::<P>(alloc, few_board(alloc, few, pages, script)?);
+    done.ended(0, Place::Named("a session on few blocks"))?;
+    Ok(done.flash)
 }
 
 fn is_found(before: &Before, found: &[u8]) -> bool {
@@ -309,14 +327,27 @@ fn making(few: &Few) -> Room {
     }
 }
 
-/// The board of the drive, and what it holds.
-pub fn full<P: Program>(alloc: Global, few: &Few) -> Result<(Flash, Before), Fail> {
+// The Stores with which a drive begins, and those of the keys that are deleted.
+fn making_script(alloc: Global, few: &Few) -> Result<Vec<u8>, AllocError> {
     let mut script = Vec::new(alloc);
     push_stores(&mut script, few.keys, 0, few.stores)?;
     push_gone(&mut script, few.gone)?;
-    let pages = made::<P>(alloc, &few.words)?;
-    let mut flash = board_in(alloc, few.shape()?, pages, script, making(few))?;
-    same(serve::<P>(alloc, &mut flash), 0, "the status")?;
+    Ok(script)
+}
+
+// The board of the drive.
+fn made_drive<P: Program>(alloc: Global, few: &Few) -> Result<Flash, Fail> {
+    let pages = made::<P>(alloc, &few.smallest.words)?;
+    let script = making_script(alloc, few)?;
+    let flash = board_in(alloc, few.shape()?, pages, script, making(few))?;
+    let done = serve_board::<P>(alloc, flash);
+    done.ended(0, Place::Named("the Stores"))?;
+    Ok(done.flash)
+}
+
+/// The board of the drive, and what it holds.
+pub fn full<P: Program>(alloc: Global, few: &Few) -> Result<(Flash, Before), Fail> {
+    let flash = made_drive::<P>(alloc, few)?;
     let before = Before {
         held: firsts_behind(alloc, few.keys, few.stores)?,
         key: few.keys,

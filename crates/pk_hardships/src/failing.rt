@@ -3,7 +3,7 @@
 use crate::deep::{Before, Few, commands, few_board, full, session, stored};
 use pk_flash::{Flash, Left};
 use pk_nand::{Mark, PageState};
-use pk_sessions::boards::{pages_left, serve};
+use pk_sessions::boards::{Session, pages_left, serve_board};
 use pk_sessions::overwritten::{Record, record_at};
 use pk_sessions::{Program, holds, same};
 use std::alloc::{AllocError, Global};
@@ -93,7 +93,8 @@ fn ends_with_change(flash: &Flash) -> bool {
     marks > 0 && is_change(flash.mark(marks - 1))
 }
 
-fn kind_of(status: u8, flash: &Flash, unread: u32) -> Result<Kind, Fail> {
+fn kind_of(done: &Session, unread: u32) -> Result<Kind, Fail> {
+    let (status, flash) = (done.status, &done.flash);
     let is_idle = flash.marks() == 0 && flash.posted().is_empty();
     match (status, unread) {
         (0, 0) => Ok(Kind::NoCall),
@@ -127,18 +128,28 @@ fn fails<P: Program>(
     call: u64,
     left: Left,
 ) -> Result<Kind, Fail> {
-    let mut flash = few_board(alloc, few, pages, commands(alloc, few, 1)?)?;
-    flash.fail(alloc, call, left)?;
-    let status = serve::<P>(alloc, &mut flash);
-    let records = few.keys.saturating_add(2);
-    let kind = kind_of(status, &flash, unread(flash.posted(), records)?)?;
+    let done = served_with_fault::<P>(alloc, few, pages, call, left)?;
+    let posted = done.flash.posted();
+    let kind = kind_of(&done, unread(posted, few.keys.saturating_add(2))?)?;
     holds(
-        kind != Kind::NoCall || record_of(flash.posted(), few.keys.saturating_add(1)).is_some(),
+        kind != Kind::NoCall || record_of(posted, few.keys.saturating_add(1)).is_some(),
         format_args!("all records, call {call}"),
     )?;
-    let known = behind(alloc, few, held, flash.posted())?;
-    let _ = session::<P>(alloc, few, pages_left(alloc, &flash)?, &known, 2)?;
+    let known = behind(alloc, few, held, posted)?;
+    let _ = session::<P>(alloc, few, pages_left(alloc, &done.flash)?, &known, 2)?;
     Ok(kind)
+}
+
+fn served_with_fault<P: Program>(
+    alloc: Global,
+    few: &Few,
+    pages: Vec<PageState>,
+    call: u64,
+    left: Left,
+) -> Result<Session, Fail> {
+    let mut flash = few_board(alloc, few, pages, commands(alloc, few, 1)?)?;
+    flash.fail(alloc, call, left)?;
+    Ok(serve_board::<P>(alloc, flash))
 }
 
 fn left(alloc: Global, way: u8) -> Result<Left, AllocError> {
@@ -169,27 +180,38 @@ fn posts_of(flash: &Flash) -> u64 {
 fn check_way<P: Program>(alloc: Global, few: &Few, way: u8) -> Result<Kinds, Fail> {
     let (drive, before) = full::<P>(alloc, few)?;
     let whole = session::<P>(alloc, few, pages_left(alloc, &drive)?, &before, 1)?;
+    let kinds = kinds_of::<P>(alloc, few, &drive, &before, way)?;
+    let wanted = wanted_kinds(&whole.flash, kinds.fetches);
+    same(kinds, wanted, "the kinds of calls that failed")?;
+    Ok(kinds)
+}
+
+// The kinds of all calls of the session on this drive, each of which fails in turn.
+fn kinds_of<P: Program>(
+    alloc: Global,
+    few: &Few,
+    drive: &Flash,
+    before: &Before,
+    way: u8,
+) -> Result<Kinds, Fail> {
     let mut kinds = NONE;
     for call in 0..MOST {
-        let pages = pages_left(alloc, &drive)?;
+        let pages = pages_left(alloc, drive)?;
         let left = left(alloc, way)?;
         let kind = fails::<P>(alloc, few, pages, &before.held, call, left)?;
         kinds = kinds.with(kind);
     }
-    same(
-        kinds,
-        Kinds {
-            reads: whole.flash.read_count(),
-            fetches: kinds.fetches,
-            posts: posts_of(&whole.flash),
-            stops: whole
-                .flash
-                .program_count()
-                .saturating_add(whole.flash.erase_count()),
-        },
-        "the kinds of calls that failed",
-    )?;
     Ok(kinds)
+}
+
+// The kinds of calls that the whole session makes, with so many fetches.
+fn wanted_kinds(flash: &Flash, fetches: u64) -> Kinds {
+    Kinds {
+        reads: flash.read_count(),
+        fetches,
+        posts: posts_of(flash),
+        stops: flash.program_count().saturating_add(flash.erase_count()),
+    }
 }
 
 /// Each call fails and leaves all as it was, a page or a block Torn, its work done, a block page by page, or a part of a post. A read

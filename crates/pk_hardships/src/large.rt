@@ -3,10 +3,10 @@
 use pk_base::Shape;
 use pk_flash::Room;
 use pk_nvme::Request;
-use pk_sessions::boards::{board_in, made, serve_with};
+use pk_sessions::boards::{Session, board_in, made, serve_board_with};
 use pk_sessions::overwritten::{Record, all_with, record_at, value_of};
-use pk_sessions::script::push_value;
-use pk_sessions::{Program, holds, same};
+use pk_sessions::script::{push_value, value_bytes};
+use pk_sessions::{Place, Program, holds, same};
 use std::alloc::{AllocError, Global};
 use std::test::*;
 
@@ -70,32 +70,40 @@ fn push_retrieves(into: &mut Vec<u8>) -> Result<(), AllocError> {
 
 // The record has the value of this key, and tells the pages of its look-up and the one of the value.
 fn check_record(alloc: Global, posted: &[u8], record: &Record, key: u32) -> Result<(), Fail> {
-    same(record.status, 0, format_args!("the status of key {key}"))?;
-    let mut want = Vec::new(alloc);
-    push_value(&mut want, &value_of(key))?;
-    holds(
-        posted.get(record.data..record.end()) == Some(want.as_slice()),
-        format_args!("the value of key {key}"),
-    )?;
+    let want = value_bytes(alloc, &value_of(key))?;
     let least = if key < IN_RUNS { 2 } else { 1 };
+    let is_read = least <= record.reads && record.reads <= 5;
+    let is_value = posted.get(record.data..record.end()) == Some(want.as_slice());
     holds(
-        least <= record.reads && record.reads <= 5,
-        format_args!("{} pages were read of key {key}", record.reads),
+        record.status == 0 && is_read && is_value,
+        format_args!("the value of key {key}: {record:?}"),
     )
 }
 
-/// The drive takes 24,000 Stores, and gives each value back. Without frames each key of a run costs a page of every run down to its own.
-pub fn many_keys<P: Program>(alloc: Global) -> Result<(), Fail> {
-    let shape = Shape::new(4096, 64, 1024).ok().ok_or("a shape")?;
-    let pages = made::<P>(alloc, &MAKE)?;
-    let mut flash = board_in(alloc, shape, pages, commands(alloc)?, ROOM)?;
-    same(serve_with::<P>(alloc, &mut flash, "0"), 0, "the status")?;
-    let posted = flash.posted();
-    let mut at = all_with(posted, 0, KEYS, 0)?;
+// The records of the Retrieves, from this byte on: where they end.
+fn check_records(alloc: Global, posted: &[u8], from: usize) -> Result<usize, Fail> {
+    let mut at = from;
     for key in 0..KEYS {
         let record = record_at(posted, at).ok_or("a record")?;
         check_record(alloc, posted, &record, key)?;
         at = record.end();
     }
-    same(at, posted.len(), "the bytes posted")
+    Ok(at)
+}
+
+// The session of all commands on a made drive.
+fn served<P: Program>(alloc: Global) -> Result<Session, Fail> {
+    let shape = Shape::new(4096, 64, 1024).ok().ok_or("a shape")?;
+    let pages = made::<P>(alloc, &MAKE)?;
+    let flash = board_in(alloc, shape, pages, commands(alloc)?, ROOM)?;
+    Ok(serve_board_with::<P>(alloc, flash, "0"))
+}
+
+/// The drive takes 24,000 Stores, and gives each value back. Without frames each key of a run costs a page of every run down to its own.
+pub fn many_keys<P: Program>(alloc: Global) -> Result<(), Fail> {
+    let done = served::<P>(alloc)?;
+    done.ended(0, Place::Named("many keys"))?;
+    let posted = done.flash.posted();
+    let end = check_records(alloc, posted, all_with(posted, 0, KEYS, 0)?)?;
+    same(end, posted.len(), "the bytes posted")
 }

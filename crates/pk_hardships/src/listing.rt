@@ -4,8 +4,8 @@ use pk_base::Shape;
 use pk_flash::{Flash, Left, Room};
 use pk_nand::PageState;
 use pk_nvme::Request;
-use pk_sessions::boards::{Session, board_in, made, pages_left, serve};
-use pk_sessions::{Program, holds, same};
+use pk_sessions::boards::{Session, board_in, made, pages_left, serve_board};
+use pk_sessions::{Place, Program, holds, same};
 use std::alloc::{AllocError, Global};
 use std::test::*;
 
@@ -70,9 +70,10 @@ fn lines(alloc: Global, count: u32) -> Result<Vec<u8>, AllocError> {
 // The pages of a drive with all keys.
 fn filled<P: Program>(alloc: Global) -> Result<Flash, Fail> {
     let pages = made::<P>(alloc, &MAKE)?;
-    let mut flash = board_in(alloc, shape()?, pages, script(alloc)?, ROOM)?;
-    same(serve::<P>(alloc, &mut flash), 0, "the status of the Stores")?;
-    Ok(flash)
+    let flash = board_in(alloc, shape()?, pages, script(alloc)?, ROOM)?;
+    let done = serve_board::<P>(alloc, flash);
+    done.ended(0, Place::Named("the Stores"))?;
+    Ok(done.flash)
 }
 
 // The list of all keys on these pages, in which the call with this number fails, where there is one.
@@ -96,50 +97,76 @@ fn lines_and_failure(alloc: Global, count: u32) -> Result<Vec<u8>, AllocError> {
     Ok(lines)
 }
 
+// How a list ends of which a call fails: the lines of the keys that were told, and the others.
+#[derive(Drop)]
+struct Ends {
+    all: Vec<u8>,
+    first: Vec<u8>,
+    // A read failed in the first, the second or the third command.
+    first_failed: Vec<u8>,
+    second_failed: Vec<u8>,
+    third_failed: Vec<u8>,
+}
+
+fn all_ends(alloc: Global) -> Result<Ends, AllocError> {
+    Ok(Ends {
+        all: lines(alloc, KEYS)?,
+        first: lines(alloc, TOLD)?,
+        first_failed: lines_and_failure(alloc, 0)?,
+        second_failed: lines_and_failure(alloc, TOLD)?,
+        third_failed: lines_and_failure(alloc, KEYS)?,
+    })
+}
+
+// Which of these ends a list with this status and text has: reads that fail in each command, and the three posts that do.
+fn end_of(status: u8, posted: &[u8], ends: &Ends) -> Option<usize> {
+    match status {
+        0 if posted == ends.first_failed.as_slice() => Some(0),
+        0 if posted == ends.second_failed.as_slice() => Some(1),
+        0 if posted == ends.third_failed.as_slice() => Some(2),
+        5 if posted.is_empty() => Some(3),
+        5 if posted == ends.first.as_slice() => Some(4),
+        5 if posted == ends.all.as_slice() => Some(5),
+        _ => None,
+    }
+}
+
+// The whole list, which posts three times: how many calls it makes behind the first one.
+fn calls_of_list<P: Program>(alloc: Global, filled: &Flash, all: &[u8]) -> Result<u64, Fail> {
+    let whole = listed::<P>(alloc, pages_left(alloc, filled)?, None)?;
+    whole.posted(0, all, Place::Named("a whole list"))?;
+    same(whole.flash.marks(), 3, "posts")?;
+    Ok(whole.flash.read_count().saturating_add(3))
+}
+
+// The end of the list in which this call fails.
+fn failing<P: Program>(
+    alloc: Global,
+    filled: &Flash,
+    ends: &Ends,
+    call: u64,
+) -> Result<usize, Fail> {
+    let done = listed::<P>(alloc, pages_left(alloc, filled)?, Some(call))?;
+    match end_of(done.status, done.flash.posted(), ends) {
+        Some(end) => Ok(end),
+        None => Err(Fail::new(format_args!("status {} where call {call} fails", done.status))),
+    }
+}
+
 /// A list asks three times: for the first keys, for the others, and whether one is behind them; and it tells what it finds each time. Each
 /// of its last calls fails in turn. Behind a read of the second command that fails the keys of the first one are told, and that a command
 /// failed; and behind a post that fails nothing is told any more.
 pub fn later_commands_fail<P: Program>(alloc: Global) -> Result<(), Fail> {
     let filled = filled::<P>(alloc)?;
-    let whole = listed::<P>(alloc, pages_left(alloc, &filled)?, None)?;
-    same(whole.status, 0, "the status of a whole list")?;
-    let all = lines(alloc, KEYS)?;
-    same(
-        whole.flash.posted(),
-        all.as_slice(),
-        "the lines of a whole list",
-    )?;
-    same(whole.flash.marks(), 3, "posts")?;
-    let calls = whole.flash.read_count().saturating_add(3);
-    let first = lines(alloc, TOLD)?;
-    let first_failed = lines_and_failure(alloc, 0)?;
-    let second_failed = lines_and_failure(alloc, TOLD)?;
-    let third_failed = lines_and_failure(alloc, KEYS)?;
-    // how often each end is seen: reads that fail in each command, and the three posts
+    let ends = all_ends(alloc)?;
+    let calls = calls_of_list::<P>(alloc, &filled, &ends.all)?;
+    // how often each end is seen
     let mut seen = [0u32; 6];
     for back in 1..13u64 {
-        let call = calls.saturating_sub(back);
-        let done = listed::<P>(alloc, pages_left(alloc, &filled)?, Some(call))?;
-        let posted = done.flash.posted();
-        let ends = [
-            (0u8, first_failed.as_slice()),
-            (0, second_failed.as_slice()),
-            (0, third_failed.as_slice()),
-            (5, b"".as_slice()),
-            (5, first.as_slice()),
-            (5, all.as_slice()),
-        ];
-        let mut is_one = false;
-        for (i, (status, text)) in ends.iter().enumerate() {
-            if done.status == *status && posted == *text {
-                seen[i] = seen[i].saturating_add(1);
-                is_one = true;
-            }
+        let end = failing::<P>(alloc, &filled, &ends, calls.saturating_sub(back))?;
+        if end < 6 {
+            seen[end] = seen[end].saturating_add(1);
         }
-        holds(
-            is_one,
-            format_args!("status {} where call {call} fails", done.status),
-        )?;
     }
     holds(
         seen[0] > 0 && seen[1] > 0,

@@ -4,7 +4,7 @@
 //! Where there are merges, so many keys were stored and deleted that the frozen buffer is more than run 1 has room for, run 1 more than
 //! run 2 has, and run 2 more than run 3. The merge into run 4 leaves the deleted keys out, so that the session has few marks.
 
-use crate::deep::{Few, Part, check, first, in_all_ways};
+use crate::deep::{Few, LONG, Part, SMALL, WIDE, check, first, in_all_ways};
 use pk_flash::Flash;
 use pk_nand::Mark;
 use pk_sessions::{Program, holds, same};
@@ -14,22 +14,19 @@ use std::test::*;
 /// Drives of few keys, with nothing frozen.
 pub const FREEZES: [Few; 3] = [
     Few {
-        words: ["make", "512", "8", "33"],
-        numbers: [512, 8, 33],
+        smallest: SMALL,
         keys: 5,
         stores: 5,
         gone: 0,
     },
     Few {
-        words: ["make", "1024", "8", "32"],
-        numbers: [1024, 8, 32],
+        smallest: WIDE,
         keys: 5,
         stores: 5,
         gone: 0,
     },
     Few {
-        words: ["make", "512", "16", "22"],
-        numbers: [512, 16, 22],
+        smallest: LONG,
         keys: 5,
         stores: 5,
         gone: 0,
@@ -39,22 +36,19 @@ pub const FREEZES: [Few; 3] = [
 /// Drives whose next merges are into levels 4, 3, 2 and 1.
 pub const MERGES: [Few; 3] = [
     Few {
-        words: ["make", "512", "8", "33"],
-        numbers: [512, 8, 33],
+        smallest: SMALL,
         keys: 5,
         stores: 5,
         gone: 1_082,
     },
     Few {
-        words: ["make", "1024", "8", "32"],
-        numbers: [1024, 8, 32],
+        smallest: WIDE,
         keys: 5,
         stores: 5,
         gone: 2_545,
     },
     Few {
-        words: ["make", "512", "16", "22"],
-        numbers: [512, 16, 22],
+        smallest: LONG,
         keys: 5,
         stores: 5,
         gone: 1_082,
@@ -73,7 +67,7 @@ fn first_in_all_ways(every: usize) -> Part {
 
 // How many roots are programmed in a session: one for each merge, and one for a freeze.
 fn roots(flash: &Flash, few: &Few) -> u32 {
-    let [_, block_pages, _] = few.numbers;
+    let [_, block_pages, _] = few.smallest.numbers;
     let end = block_pages.saturating_mul(2);
     let mut roots = 0u32;
     for i in 0..flash.marks() {

@@ -4,11 +4,10 @@
 use crate::opened::{Opened, Opens};
 use crate::plain::{Item, whole};
 use crate::reading::{Reading, reading_of};
-use pk_base::Shape;
 use pk_flash::Room;
 use pk_nand::{PageBytes, PageState};
 use pk_nvme::Request;
-use pk_sessions::boards::{board_in, serve, worked};
+use pk_sessions::boards::{Session, board_in, serve_board, worked};
 use pk_sessions::damage::with_one_key;
 use pk_sessions::overwritten::record_at;
 use pk_sessions::pages::{Note, journal_page, meta_page, root_page, set, write};
@@ -126,45 +125,72 @@ fn is_worn(pages: &[PageState]) -> bool {
     }
 }
 
-// The session on these pages has these keys and values, and nothing else; or the drive is worn out, and serves no command.
-fn check_map<O: Opens>(
-    alloc: Global,
-    shape: Shape,
-    pages: &[PageState],
-    items: &[Item],
-    what: &str,
+// A flash: what was done to it, and a number that tells which.
+#[derive(Clone, Copy)]
+struct Spoiled<'a> {
+    pages: &'a [PageState],
+    what: &'static str,
     number: usize,
-) -> Result<(), Fail> {
-    let script = asks(alloc, items)?;
-    let mut flash = board_in(alloc, shape, copies(alloc, pages)?, script, ROOM)?;
-    let status = serve::<O>(alloc, &mut flash);
-    let posted = flash.posted();
-    if is_worn(pages) {
-        return same(
-            (status, posted.len()),
-            (10, 0),
-            format_args!("a worn drive, {what} {number}"),
-        );
+}
+
+impl Spoiled<'_> {
+    // A failure of this flash where this does not hold.
+    fn holds(&self, is_so: bool, what: &'static str) -> Result<(), Fail> {
+        holds(is_so, format_args!("{what}, {} {}", self.what, self.number))
     }
-    same(status, 0, format_args!("the status, {what} {number}"))?;
-    let list = record_at(posted, 0).ok_or("a record")?;
-    same(
-        posted.get(list.data..list.end()),
-        Some(listed(alloc, items)?.as_slice()),
-        format_args!("the keys, {what} {number}"),
-    )?;
-    let mut at = list.end();
+}
+
+// The record that begins here has these data: where the next one begins.
+fn record_with(posted: &[u8], at: usize, data: &[u8]) -> Option<usize> {
+    let record = record_at(posted, at)?;
+    if posted.get(record.data..record.end()) == Some(data) {
+        Some(record.end())
+    } else {
+        None
+    }
+}
+
+// The records of Retrieves of these keys have the values of these pages: where the next one begins.
+fn check_values(
+    alloc: Global,
+    spoiled: &Spoiled,
+    items: &[Item],
+    posted: &[u8],
+    from: usize,
+) -> Result<usize, Fail> {
+    let mut at = from;
     for item in items {
-        let record = record_at(posted, at).ok_or("a record")?;
         let (first, len) = item.place.ok_or("a place")?;
-        same(
-            posted.get(record.data..record.end()),
-            Some(value_at(alloc, pages, first, len)?.as_slice()),
-            format_args!("a value, {what} {number}"),
-        )?;
-        at = record.end();
+        let value = value_at(alloc, spoiled.pages, first, len)?;
+        at = record_with(posted, at, &value).ok_or("a value")?;
     }
-    same(at, posted.len(), "the posted bytes")
+    Ok(at)
+}
+
+// The session on these pages.
+fn served<O: Opens>(alloc: Global, pages: &[PageState], items: &[Item]) -> Result<Session, Fail> {
+    let flash = board_in(
+        alloc,
+        worked()?,
+        copies(alloc, pages)?,
+        asks(alloc, items)?,
+        ROOM,
+    )?;
+    Ok(serve_board::<O>(alloc, flash))
+}
+
+// The session on these pages has these keys and values, and nothing else; or the drive is worn out, and serves no command.
+fn check_map<O: Opens>(alloc: Global, spoiled: &Spoiled, items: &[Item]) -> Result<(), Fail> {
+    let done = served::<O>(alloc, spoiled.pages, items)?;
+    let posted = done.flash.posted();
+    if is_worn(spoiled.pages) {
+        let is_refused = done.status == 10 && posted.is_empty();
+        return spoiled.holds(is_refused, "a worn drive");
+    }
+    spoiled.holds(done.status == 0, "the status")?;
+    let at = record_with(posted, 0, &listed(alloc, items)?).ok_or("the keys")?;
+    let end = check_values(alloc, spoiled, items, posted, at)?;
+    spoiled.holds(end == posted.len(), "the posted bytes")
 }
 
 // ---- one flash
@@ -177,34 +203,38 @@ fn opened_of(reading: &Reading) -> Opened {
     }
 }
 
+// What opening answers on these pages, which it leaves alone.
+fn opening<O: Opens>(alloc: Global, spoiled: &Spoiled) -> Result<Opened, Fail> {
+    let pages = copies(alloc, spoiled.pages)?;
+    let mut flash = board_in(alloc, worked()?, pages, Vec::new(alloc), NO_ROOM)?;
+    let opened = O::opened(alloc, &mut flash);
+    let is_idle = flash.program_count() == 0 && flash.erase_count() == 0;
+    spoiled.holds(is_idle, "nothing written")?;
+    Ok(opened)
+}
+
 // Opening answers as the reading does, and writes nothing. How it answers.
 fn check<O: Opens>(
     alloc: Global,
     pages: &[PageState],
-    what: &str,
+    what: &'static str,
     number: usize,
 ) -> Result<Opened, Fail> {
-    let shape = worked()?;
-    let reading = reading_of(alloc, &shape, pages)?;
-    let mut flash = board_in(
-        alloc,
-        shape,
-        copies(alloc, pages)?,
-        Vec::new(alloc),
-        NO_ROOM,
-    )?;
-    let opened = O::opened(alloc, &mut flash);
+    let spoiled = Spoiled {
+        pages,
+        what,
+        number,
+    };
+    let opened = opening::<O>(alloc, &spoiled)?;
+    let reading = reading_of(alloc, &worked()?, pages)?;
+    let wanted = opened_of(&reading);
     same(
         opened,
-        opened_of(&reading),
+        wanted,
         format_args!("what opening answers, {what} {number}"),
     )?;
-    holds(
-        flash.program_count() == 0 && flash.erase_count() == 0,
-        format_args!("nothing written, {what} {number}"),
-    )?;
     if let Reading::Map(items) = &reading {
-        check_map::<O>(alloc, shape, pages, items, what, number)?;
+        check_map::<O>(alloc, &spoiled, items)?;
     }
     Ok(opened)
 }
@@ -349,133 +379,150 @@ pub fn exchanged<O: Opens>(alloc: Global) -> Result<(), Fail> {
 
 // ---- pages that are others
 
+// A page of the grammar.
+#[derive(Clone, Copy)]
+enum Kind {
+    // A root with this number, of epoch 9 and no entry, which names these two blocks.
+    Root(u64, [u16; 2]),
+    // The page of an epoch with this index.
+    Journal(u64, u32, &'static [Note]),
+    // The page of a run with this index.
+    Meta(u8, &'static [Note]),
+}
+
 // A page that is written over another one, and what opening answers then.
 #[derive(Clone, Copy)]
 struct Over {
     name: &'static str,
     page: u32,
-    bytes: [u8; 512],
+    kind: Kind,
     opened: Opened,
 }
 
-// Roots beside the newest one, which has the number 7 and stands in page 0. An empty drive has no key.
-fn roots() -> [Over; 6] {
-    let empty = |number: u64| root_page(number, 9, 1, [0; 4], &[40, 41]);
-    [
-        Over {
-            name: "another root of the same number behind it",
-            page: 1,
-            bytes: empty(7),
-            opened: Opened::Keys(43),
-        },
-        Over {
-            name: "another root of the same number in block 1",
-            page: 16,
-            bytes: empty(7),
-            opened: Opened::Keys(43),
-        },
-        Over {
-            name: "a root of a lower number",
-            page: 16,
-            bytes: empty(6),
-            opened: Opened::Keys(43),
-        },
-        Over {
-            name: "a root of a greater number",
-            page: 31,
-            bytes: root_page(10, 9, 1, [0; 4], &[40, 41]),
-            opened: Opened::Keys(0),
-        },
-        Over {
-            name: "a root that names a block twice",
-            page: 31,
-            bytes: root_page(10, 9, 1, [0; 4], &[40, 40]),
-            opened: Opened::Keys(43),
-        },
-        Over {
-            name: "a root whose epoch is above its number",
-            page: 31,
-            bytes: empty(8),
-            opened: Opened::Keys(43),
-        },
-    ]
-}
-
-// Pages of epochs and runs that are not those that the root names.
-fn lists() -> [Over; 9] {
-    let front = [Note::Gone(30), Note::Gone(31)];
-    let unsorted = [Note::Gone(21), Note::Gone(20)];
-    let there = [Note::Put(20, place(20), 100)];
-    [
-        Over {
-            name: "the epoch of another drive",
-            page: 32,
-            bytes: journal_page(9, 0, &front),
-            opened: Opened::Damaged(32),
-        },
-        Over {
-            name: "a page of the same epoch of another drive, whose keys are deleted",
-            page: 32,
-            bytes: journal_page(3, 0, &[Note::Gone(20), Note::Gone(18)]),
-            opened: Opened::Keys(42),
-        },
-        Over {
-            name: "a page of the same epoch with the index of another",
-            page: 32,
-            bytes: journal_page(3, 1, &front),
-            opened: Opened::Damaged(32),
-        },
-        Over {
-            name: "a page of the older epoch with the number of the newest",
-            page: 64,
-            bytes: journal_page(3, 0, &front),
-            opened: Opened::Damaged(64),
-        },
-        Over {
-            name: "a page of another level",
-            page: 96,
-            bytes: meta_page(2, 0, &[Note::Gone(10), Note::Gone(20)]),
-            opened: Opened::Damaged(96),
-        },
-        Over {
-            name: "a page with other entries, as many",
-            page: 96,
-            bytes: meta_page(1, 0, &[Note::Gone(10), Note::Gone(20)]),
-            opened: Opened::Keys(42),
-        },
-        Over {
-            name: "a page with fewer entries",
-            page: 96,
-            bytes: meta_page(1, 0, &there),
-            opened: Opened::Damaged(96),
-        },
-        Over {
-            name: "a page whose keys do not rise",
-            page: 96,
-            bytes: meta_page(1, 0, &unsorted),
-            opened: Opened::Damaged(96),
-        },
-        Over {
-            name: "a page that says that the value stands in a block of the root",
-            page: 96,
-            bytes: meta_page(1, 0, &[Note::Gone(10), Note::Put(20, 40, 100)]),
-            opened: Opened::Damaged(40),
-        },
-    ]
-}
-
-fn check_over<O: Opens>(alloc: Global, rows: &[Over]) -> Result<(), Fail> {
-    for row in rows {
-        let mut pages = with_two_epochs(alloc)?;
-        write(alloc, &mut pages, row.page, &row.bytes)?;
-        let opened = check::<O>(alloc, &pages, row.name, row.page as usize)?;
-        same(opened, row.opened, row.name)?;
+fn bytes_of(kind: &Kind) -> [u8; 512] {
+    match kind {
+        Kind::Root(number, blocks) => root_page(*number, 9, 1, [0; 4], blocks),
+        Kind::Journal(epoch, index, notes) => journal_page(*epoch, *index, notes),
+        Kind::Meta(level, notes) => meta_page(*level, 0, notes),
     }
-    Ok(())
+}
+
+const FRONT: [Note; 2] = [Note::Gone(30), Note::Gone(31)];
+
+const GONE: [Note; 2] = [Note::Gone(10), Note::Gone(20)];
+
+// Roots beside the newest one, which has the number 7 and stands in page 0. An empty drive has no key.
+const ROOTS: [Over; 6] = [
+    Over {
+        name: "another root of the same number behind it",
+        page: 1,
+        kind: Kind::Root(7, [40, 41]),
+        opened: Opened::Keys(43),
+    },
+    Over {
+        name: "another root of the same number in block 1",
+        page: 16,
+        kind: Kind::Root(7, [40, 41]),
+        opened: Opened::Keys(43),
+    },
+    Over {
+        name: "a root of a lower number",
+        page: 16,
+        kind: Kind::Root(6, [40, 41]),
+        opened: Opened::Keys(43),
+    },
+    Over {
+        name: "a root of a greater number",
+        page: 31,
+        kind: Kind::Root(10, [40, 41]),
+        opened: Opened::Keys(0),
+    },
+    Over {
+        name: "a root that names a block twice",
+        page: 31,
+        kind: Kind::Root(10, [40, 40]),
+        opened: Opened::Keys(43),
+    },
+    Over {
+        name: "a root whose epoch is above its number",
+        page: 31,
+        kind: Kind::Root(8, [40, 41]),
+        opened: Opened::Keys(43),
+    },
+];
+
+// Pages of epochs and runs that are not those that the root names. The value of the key 20 begins at page 360.
+const LISTS: [Over; 9] = [
+    Over {
+        name: "the epoch of another drive",
+        page: 32,
+        kind: Kind::Journal(9, 0, &FRONT),
+        opened: Opened::Damaged(32),
+    },
+    Over {
+        name: "a page of the same epoch of another drive, whose keys are deleted",
+        page: 32,
+        kind: Kind::Journal(3, 0, &[Note::Gone(20), Note::Gone(18)]),
+        opened: Opened::Keys(42),
+    },
+    Over {
+        name: "a page of the same epoch with the index of another",
+        page: 32,
+        kind: Kind::Journal(3, 1, &FRONT),
+        opened: Opened::Damaged(32),
+    },
+    Over {
+        name: "a page of the older epoch with the number of the newest",
+        page: 64,
+        kind: Kind::Journal(3, 0, &FRONT),
+        opened: Opened::Damaged(64),
+    },
+    Over {
+        name: "a page of another level",
+        page: 96,
+        kind: Kind::Meta(2, &GONE),
+        opened: Opened::Damaged(96),
+    },
+    Over {
+        name: "a page with other entries, as many",
+        page: 96,
+        kind: Kind::Meta(1, &GONE),
+        opened: Opened::Keys(42),
+    },
+    Over {
+        name: "a page with fewer entries",
+        page: 96,
+        kind: Kind::Meta(1, &[Note::Put(20, 360, 100)]),
+        opened: Opened::Damaged(96),
+    },
+    Over {
+        name: "a page whose keys do not rise",
+        page: 96,
+        kind: Kind::Meta(1, &[Note::Gone(21), Note::Gone(20)]),
+        opened: Opened::Damaged(96),
+    },
+    Over {
+        name: "a page that says that the value stands in a block of the root",
+        page: 96,
+        kind: Kind::Meta(1, &[Note::Gone(10), Note::Put(20, 40, 100)]),
+        opened: Opened::Damaged(40),
+    },
+];
+
+fn check_over<O: Opens>(alloc: Global, row: &Over) -> Result<(), Fail> {
+    let mut pages = with_two_epochs(alloc)?;
+    write(alloc, &mut pages, row.page, &bytes_of(&row.kind))?;
+    let opened = check::<O>(alloc, &pages, row.name, row.page as usize)?;
+    same(opened, row.opened, row.name)
 }
 
 /// Pages of roots, epochs and runs that are of the grammar, and not those that stood there.
 pub fn others<O: Opens>(alloc: Global) -> Result<(), Fail> {
-    check_over::<O>(alloc, &roots())?;
-    check_over::<O>(alloc, &lists())
+    for row in &ROOTS {
+        check_over::<O>(alloc, row)?;
+    }
+    for row in &LISTS {
+        check_over::<O>(alloc, row)?;
+    }
+    Ok(())
 }
