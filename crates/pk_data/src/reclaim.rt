@@ -1,5 +1,5 @@
 //! A step of a reclaim.
-ghost use Rattle.std.specs.Prelude.{◌≡◌, length, IfOk, IfErr, OnErr};
+ghost use Rattle.std.specs.Prelude.{◌≡◌, IfOk, IfErr, OnErr};
 ghost use Rattle.pk_nand.specs.Calls.{IsReady};
 ghost use Rattle.pk_nand.specs.declared.types.Fault.TheVariants.{Reading};
 ghost use Rattle.pk_pool.specs.Blocks.{PoolOnFlash};
@@ -51,8 +51,7 @@ fn open_of(front: Front) -> Option<OpenBlock>
 
 impl<A: Region> Data<A> {
     /// A step of a reclaim, which is begun where none runs; at most one call of the board. `Reading` and `Stopped` where this
-    /// call fails: the values are as before where it was a read, and not to be used any more where the drive stopped. `buf` has
-    /// the bytes of a page, which are lost.
+    /// call fails: the values are as before where it was a read, and not to be used any more where the drive stopped.
     pub fn reclaim_step<B: Nand>(
         &mut self,
         board: &mut B,
@@ -60,7 +59,6 @@ impl<A: Region> Data<A> {
         pool: &mut Pool<A>,
         active: &mut Buffer<A>,
         epoch: &mut Epoch,
-        buf: &mut [u8],
     ) -> Result<Reclaimed, Fault>
         requires can { CanStep job.old (hands_of self.old pool.old active.old epoch.old)
             (B.state board.old).pages }
@@ -70,7 +68,6 @@ impl<A: Region> Data<A> {
         requires pool_fits { PoolOnFlash pool.old (B.state board.old).pages }
         requires epoch_fits { EpochOnFlash epoch.old (B.state board.old).pages }
         requires blocks { AreBlocks epoch.old.shape epoch.old.blocks }
-        requires room { length buf.old ≡ job.old.shape.page_bytes }
 
         // What it did.
         ensures steps { IfOk result (λ r. Steps job.old
@@ -89,10 +86,9 @@ impl<A: Region> Data<A> {
         // Either way all may be used again.
         ensures shape { job.new.shape ≡ job.old.shape }
         ensures ready { IsReady (B.state board.new) job.old.shape }
-        ensures buffer { length buf.new ≡ length buf.old }
     {
         let mut front = front_of(self.open_block);
-        let answer = job.step(board, pool, &mut self.live, active, epoch, &mut front, buf);
+        let answer = job.step(board, pool, &mut self.live, active, epoch, &mut front);
         self.open_block = open_of(front);
         answer
     }

@@ -120,7 +120,7 @@ module _ (job : JobState) (h : Hands) (old : BoardState) (job' : JobState) (h' :
     tries : (r : Reclaimed) → Tries c job h old job' h' new r → r ≢ NeedsFreeze → LowersFrom left
     tries Worked is free =
         let made = is.finishes in
-        become left (record job { phase = GivesBack c.victim }) _ made.job_is made.hands (omega arith) (more (c.left + live_unseen job.shape heads c) _ (unready h.pool.states))
+        become left (record job { phase = GivesBack c.victim; page = job'.page }) _ made.job_is made.hands (omega arith) (more (c.left + live_unseen job.shape heads c) _ (unready h.pool.states))
       where
         more : (pages less u : ℕ) → 1 + u < (pages - less) + pages + 2 * 0 + 2 + u
         more pages less u = omega arith

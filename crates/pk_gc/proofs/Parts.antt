@@ -8,11 +8,14 @@ use Rattle.pk_gc.specs.declared.course.Course.{Course}
 use Rattle.pk_gc.specs.declared.reclaimed.Reclaimed.{Reclaimed}
 use Rattle.pk_gc.specs.declared.reclaimed.Committed.{Committed}
 use Rattle.pk_gc.specs.declared.reclaimed.Committed.TheVariants.{None, NeedsFreeze, All}
-use Rattle.pk_gc.specs.State.{JobState, source}
+use Rattle.pk_gc.specs.declared.course.Phase.TheVariants.{Idle, GivesBack}
+use Rattle.pk_live.specs.Values.{block_sum}
+use Rattle.pk_gc.specs.declared.moves.Move.{Move}
+use Rattle.pk_gc.specs.State.{JobState, CanGoAll, heads_all, source}
 use Rattle.pk_gc.specs.Victims.{AreDead}
 use Rattle.pk_gc.specs.Committing.{Commits, Adds, Refuses, entries_left}
-use Rattle.pk_gc.specs.Stepping.{Hands, Finishes, moved_in, handed_over, given_back}
-use Rattle.pk_gc.specs.Asking.{Finished}
+use Rattle.pk_gc.specs.Stepping.{Hands, CanEnd, Finishes, moved_in, handed_over, given_back}
+use Rattle.pk_gc.specs.Asking.{CanFinish, Finished, IsBehindCommit}
 
 -- ---- the search for the next head
 
@@ -53,41 +56,72 @@ module _ (shape : Shape) (c : Course) (n m : ℕ)
 -- ---- the end
 
 module _ (c : Course) (job : JobState) (h : Hands) (old : BoardState) (epoch : JournalEpoch)
-    (new : BoardState) (job' : JobState) (h' : Hands) (r : Reclaimed) where
+    (new : BoardState) where
   -- what became of the moves that are left
   abbrev CommitsIn : Committed → Type 0
   CommitsIn committed =
       Commits (entries_left h.live.heads job.moves) h.active h.epoch old epoch new committed
 
-  -- the end was tried, with this answer
-  abbrev FinishesIn : Reclaimed → Type 0
-  FinishesIn x = Finishes c job h old job' h' new x
+  -- Where the output may take the victim's place, the end can be tried.
+  pub can_finish : (committed : Committed) (kept : JobState) → CommitsIn committed
+      → kept.moves ≡ job.moves → CanEnd c job h
+      → CanFinish committed c kept h.live h.front h.pool h.active
+  can_finish committed kept commits same end = record {
+    goes = goes committed commits;
+    none = none committed commits;
+    closed = end.closed;
+    empty = subst (λ (ms : List Move). block_sum (heads_all h.live.heads ms) h.live.block_pages c.victim ≡ 0)
+        (sym same) end.empty;
+    owned = end.owned;
+    open_exists = end.open_exists;
+  }
+    where
+      goes : (x : Committed) → CommitsIn x → x ≡ All → CanGoAll h.live.block_pages h.active.capacity h.live.heads h.active.entries kept.moves
+      goes None commits is = cc
+      goes NeedsFreeze commits is = cc
+      goes All commits is =
+          subst (λ (ms : List Move). CanGoAll h.live.block_pages h.active.capacity h.live.heads h.active.entries ms)
+          (sym same) (end.goes commits.room)
 
-  -- commit and end together finish the reclaim
-  pub finishes : (committed : Committed) → CommitsIn committed
-      → Finished committed c job (record h { epoch = epoch }) job' h' r → FinishesIn r
-  finishes None commits done =
-      let kept : record h { epoch = epoch } ≡ h = λ i. record h { epoch = commits.1.kept i } in
-      subst FinishesIn (sym done.0) (record {
-        job_is = done.1;
-        none = commits.0;
-        hands = done.2 ∙ ap (λ (x : Hands). given_back c.victim (handed_over c x)) kept;
-        board = commits.1.same;
-      })
-  finishes NeedsFreeze commits done =
-      let es = entries_left h.live.heads job.moves in
-      let epoch_is : h'.epoch ≡ epoch = ap (λ (x : Hands). x.epoch) done.2 in
-      let refuses : Refuses es h.active h.epoch old h'.epoch new =
-      subst (λ (e : JournalEpoch). Refuses es h.active h.epoch old e new) (sym epoch_is) commits in
-      let hands : h' ≡ h = done.2 ∙ (λ i. record h { epoch = commits.rests.kept i }) in
-      subst FinishesIn (sym done.0) (done.1, hands, refuses)
-  finishes All commits done =
-      let es = entries_left h.live.heads job.moves in
-      let epoch_is : h'.epoch ≡ epoch = ap (λ (x : Hands). x.epoch) done.2 in
-      let adds : Adds es h.active h.epoch old h'.epoch new =
-      subst (λ (e : JournalEpoch). Adds es h.active h.epoch old e new) (sym epoch_is) commits in
-      subst FinishesIn (sym done.0) (record {
-        job_is = done.1;
-        adds = adds;
-        hands = done.2 ∙ (λ i. record (handed_over c (moved_in job h)) { epoch = sym epoch_is i });
-      })
+      none : (x : Committed) → CommitsIn x → x ≡ None → heads_all h.live.heads kept.moves ≡ h.live.heads
+      none None commits is =
+          subst (λ (ms : List Move). heads_all h.live.heads ms ≡ h.live.heads) (sym same) (end.none commits.0)
+      none NeedsFreeze commits is = cc
+      none All commits is = cc
+
+  module _ (job' : JobState) (h' : Hands) (r : Reclaimed) where
+    -- the end was tried, with this answer
+    abbrev FinishesIn : Reclaimed → Type 0
+    FinishesIn x = Finishes c job h old job' h' new x
+
+    -- commit and end together finish the reclaim, where the commit left this job
+    pub finishes : (committed : Committed) (kept : JobState) → CommitsIn committed
+        → IsBehindCommit committed job kept
+        → Finished committed c kept (record h { epoch = epoch }) job' h' r → FinishesIn r
+    finishes None kept commits same done =
+        let rests : record h { epoch = epoch } ≡ h = λ i. record h { epoch = commits.1.kept i } in
+        subst FinishesIn (sym done.0) (record {
+          job_is = done.1 ∙ (λ i. record (same i) { phase = Idle });
+          none = commits.0;
+          hands = done.2 ∙ ap (λ (x : Hands). given_back c.victim (handed_over c x)) rests;
+          board = commits.1.same;
+        })
+    finishes NeedsFreeze kept commits same done =
+        let es = entries_left h.live.heads job.moves in
+        let epoch_is : h'.epoch ≡ epoch = ap (λ (x : Hands). x.epoch) done.2 in
+        let refuses : Refuses es h.active h.epoch old h'.epoch new =
+        subst (λ (e : JournalEpoch). Refuses es h.active h.epoch old e new) (sym epoch_is) commits in
+        let hands : h' ≡ h = done.2 ∙ (λ i. record h { epoch = commits.rests.kept i }) in
+        subst FinishesIn (sym done.0) (done.1 ∙ same, hands, refuses)
+    finishes All kept commits same done =
+        let es = entries_left h.live.heads job.moves in
+        let epoch_is : h'.epoch ≡ epoch = ap (λ (x : Hands). x.epoch) done.2 in
+        let adds : Adds es h.active h.epoch old h'.epoch new =
+        subst (λ (e : JournalEpoch). Adds es h.active h.epoch old e new) (sym epoch_is) commits in
+        let page_is : job'.page ≡ kept.page = ap (λ (j : JobState). j.page) done.1 in
+        subst FinishesIn (sym done.0) (record {
+          job_is = done.1 ∙ (λ i. record (same i) { phase = GivesBack c.victim; page = sym page_is i });
+          adds = adds;
+          hands = done.2
+              ∙ (λ i. record (handed_over c (moved_in (same i) h)) { epoch = sym epoch_is i });
+        })

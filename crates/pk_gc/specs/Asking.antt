@@ -107,6 +107,11 @@ pub record CannotAdd (es : List Entry) (active : Table) (epoch : JournalEpoch) (
   pub kept : epoch' ≡ epoch
   pub adds : FailsToAdd es active epoch old new
 
+-- the job as before; where its moves were added, in its page
+abbrev pub IsBehindCommit : Committed → JobState → JobState → Type 0
+IsBehindCommit All job job' = job' ≡ record job { page = job'.page }
+IsBehindCommit _ job job' = job' ≡ job
+
 -- The output may take the victim's place, by what became of the moves.
 pub record CanFinish (committed : Committed) (c : Course) (job : JobState) (live : Values)
     (front : OpenBlock) (pool : Blocks) (active : Table) : Type 0 where

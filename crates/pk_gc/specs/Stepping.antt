@@ -60,7 +60,7 @@ given_back victim h = record h { pool = with_state h.pool victim Free }
 
 -- The moves that were left are in the next page of the epoch, by one program, and the output is the open block.
 pub record CommitsMoves (c : Course) (job : JobState) (h : Hands) (old : BoardState) (job' : JobState) (h' : Hands) (new : BoardState) : Type 0 where
-  pub job_is : job' ≡ record job { phase = GivesBack c.victim }
+  pub job_is : job' ≡ record job { phase = GivesBack c.victim; page = job'.page }
   pub adds : Adds (entries_left h.live.heads job.moves) h.active h.epoch old h'.epoch new
   pub hands : h' ≡ record (handed_over c (moved_in job h)) { epoch = h'.epoch }
 

@@ -22,7 +22,7 @@ ghost use Rattle.pk_gc.specs.Committing.{Commits, entries_left};
 ghost use Rattle.pk_gc.specs.Stepping.{CanStep, Steps, ProgramsHeld, runs_in};
 ghost use Rattle.pk_gc.specs.Breaking.{Breaks, FailsToCopy};
 ghost use Rattle.pk_gc.specs.Asking.{MayStart, MayCopy, MayBegin, ReadsFirst, CannotRead};
-ghost use Rattle.pk_gc.specs.Asking.{IsEpoch, CannotAdd, CanFinish, Finished, RunsOn, hands_of};
+ghost use Rattle.pk_gc.specs.Asking.{IsEpoch, CannotAdd, IsBehindCommit, CanFinish, Finished, RunsOn, hands_of};
 
 use crate::course::{Course, Phase};
 use crate::moves::{Move, apply, fill_left, new_keys};
@@ -43,7 +43,7 @@ use std::alloc::AllocError;
 use std::marker::Model;
 
 /// A reclaim: how far it has come, the values that it copied, and the page between a read and a
-/// program.
+/// program, in which the moves are written as well.
 #[derive(Drop)]
 pub struct ReclaimJob<A: Region> {
     shape: Shape,
@@ -119,7 +119,6 @@ impl<A: Region> ReclaimJob<A> {
         active: &mut Buffer<A>,
         epoch: &mut Epoch,
         front: &mut OpenBlock,
-        buf: &mut [u8],
     ) -> Result<Reclaimed, Fault>
         requires can { CanStep self.old
             (hands_of live.old front.old pool.old active.old epoch.old) (B.state board.old).pages }
@@ -129,7 +128,6 @@ impl<A: Region> ReclaimJob<A> {
         requires pool_fits { PoolOnFlash pool.old (B.state board.old).pages }
         requires epoch_fits { EpochOnFlash epoch.old (B.state board.old).pages }
         requires blocks { AreBlocks epoch.old.shape epoch.old.blocks }
-        requires room { length buf.old ≡ self.old.shape.page_bytes }
 
         // What it did.
         ensures steps { IfOk result (λ r. Steps self.old
@@ -150,7 +148,6 @@ impl<A: Region> ReclaimJob<A> {
         // Either way all may be used again.
         ensures shape { self.new.shape ≡ self.old.shape }
         ensures ready { IsReady (B.state board.new) self.old.shape }
-        ensures buffer { length buf.new ≡ length buf.old }
     {
         match self.phase {
             Phase::Idle => return self.begin(board, pool, live, front),
@@ -168,7 +165,7 @@ impl<A: Region> ReclaimJob<A> {
                 let first = course.victim * self.shape.block_pages();
                 match next_head(live, first + course.seen, first + self.shape.block_pages()) {
                     Some(page) => return self.begin_value(board, course, page),
-                    None => match self.commit(board, live, active, epoch, buf) {
+                    None => match self.commit(board, live, active, epoch) {
                         Ok(committed) => {
                             return Ok(self.finish(committed, course, pool, live, active, front));
                         }
@@ -373,19 +370,18 @@ impl<A: Region> ReclaimJob<A> {
         }
     }
 
-    // Adds the moves that are left to the newest epoch, in one page of the journal.
+    // Adds the moves that are left to the newest epoch, in one page of the journal. It is made in the
+    // job's own page, since all that was read is programmed.
     fn commit<B: Nand>(
         &mut self,
         board: &mut B,
         live: &Live<A>,
         active: &Buffer<A>,
         epoch: &mut Epoch,
-        buf: &mut [u8],
     ) -> Result<Committed, Fault>
         requires copies { (c : CourseSpec) × MayCopy c self.old (B.state board.old).pages }
         requires epoch { IsEpoch self.old.shape epoch.old (B.state board.old).pages }
         requires ready { IsReady (B.state board.old) self.old.shape }
-        requires room { length buf.old ≡ self.old.shape.page_bytes }
 
         // What became of them.
         ensures commits { IfOk result (λ r. Commits (entries_left live.now.heads self.old.moves)
@@ -393,10 +389,10 @@ impl<A: Region> ReclaimJob<A> {
         ensures failed { IfErr result (λ e. CannotAdd (entries_left live.now.heads self.old.moves)
             active.now epoch.old (B.state board.old) epoch.new (B.state board.new) e) }
 
-        // Either way all may be used again.
-        ensures kept { self.new ≡ self.old }
+        // Of the job only the page may differ, and this where it was programmed.
+        ensures job { IfOk result (λ r. IsBehindCommit r self.old self.new) }
+        ensures kept { self.new ≡ record self.old { page = self.new.page } }
         ensures ready { IsReady (B.state board.new) self.old.shape }
-        ensures buffer { length buf.new ≡ length buf.old }
     {
         self.shape.known();
         fill_left(&self.moves, live, &mut self.entries);
@@ -406,7 +402,7 @@ impl<A: Region> ReclaimJob<A> {
         if active.room() < new_keys(&self.entries, active) || epoch.left() == 0 {
             return Ok(Committed::NeedsFreeze);
         }
-        match epoch.append(board, &self.entries, buf) {
+        match epoch.append(board, &self.entries, &mut self.page) {
             Ok(()) => return Ok(Committed::All),
             Err(fault) => return Err(fault),
         }

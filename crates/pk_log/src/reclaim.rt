@@ -1,5 +1,5 @@
 //! A step of a reclaim beside a log.
-ghost use Rattle.std.specs.Prelude.{◌≡◌, ℕ, length, IfOk, IfErr, OnErr};
+ghost use Rattle.std.specs.Prelude.{◌≡◌, ℕ, IfOk, IfErr, OnErr};
 ghost use Rattle.pk_nand.specs.Calls.{IsReady};
 ghost use Rattle.pk_nand.specs.declared.types.Fault.TheVariants.{Reading};
 ghost use Rattle.pk_pool.specs.Blocks.{PoolOnFlash};
@@ -20,14 +20,13 @@ use pk_region::Region;
 impl<A: Region> Log<A> {
     /// A step of a reclaim, which is begun where none runs; at most one call of the board. Its moves go into the newest epoch and
     /// the active buffer. `Reading` and `Stopped` where the call fails: log and values are as before where it was a read, and not
-    /// to be used any more where the drive stopped. `buf` has the bytes of a page, which are lost.
+    /// to be used any more where the drive stopped.
     pub fn reclaim_step<B: Nand>(
         &mut self,
         board: &mut B,
         job: &mut ReclaimJob<A>,
         values: &mut Data<A>,
         pool: &mut Pool<A>,
-        buf: &mut [u8],
     ) -> Result<Reclaimed, Fault>
         requires stands { (top : ℕ × RootValue) × (found : Found)
             × LogOnFlash self.old (B.state board.old).pages top found }
@@ -38,7 +37,6 @@ impl<A: Region> Log<A> {
         requires pool_shape { pool.old.shape ≡ self.old.shape }
         requires ready { IsReady (B.state board.old) self.old.shape }
         requires pool_fits { PoolOnFlash pool.old (B.state board.old).pages }
-        requires room { length buf.old ≡ self.old.shape.page_bytes }
 
         // What it did.
         ensures steps { IfOk result (λ r. Steps job.old
@@ -60,8 +58,7 @@ impl<A: Region> Log<A> {
         // Either way all may be used again.
         ensures shape { job.new.shape ≡ job.old.shape }
         ensures ready { IsReady (B.state board.new) self.old.shape }
-        ensures buffer { length buf.new ≡ length buf.old }
     {
-        values.reclaim_step(board, job, pool, &mut self.active, &mut self.epoch, buf)
+        values.reclaim_step(board, job, pool, &mut self.active, &mut self.epoch)
     }
 }

@@ -44,7 +44,6 @@ impl<A: Region> Parts<A> {
             &mut self.space,
             &mut self.log,
             &mut self.pool,
-            &mut self.page,
         )
     }
 }

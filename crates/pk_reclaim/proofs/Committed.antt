@@ -163,7 +163,7 @@ module _ (log : LogState) (values : DataState) (pool : Blocks) (c : Course) (mov
     }
 
     abbrev there : Space
-    there = space_in then_log values' pool moves page (GivesBack c.victim)
+    there = space_in then_log values' pool moves job'.page (GivesBack c.victim)
 
     log_then : log' ≡ then_log
     log_then = log_is ∙ (λ i. record log { active = (ap (λ (h : Hands). h.active) commits.hands) i; epoch = commits.adds.taken i })
@@ -236,7 +236,7 @@ module _ (log : LogState) (values : DataState) (pool : Blocks) (c : Course) (mov
     }
 
     -- what was made of log, pool and job
-    as_made : (P : LogState → Blocks → JobState → Type 0) → P then_log pool (job_in log moves page (GivesBack c.victim)) → P log' pool' job'
+    as_made : (P : LogState → Blocks → JobState → Type 0) → P then_log pool (job_in log moves job'.page (GivesBack c.victim)) → P log' pool' job'
     as_made P is =
         subst (λ (l : LogState). P l pool' job') (sym log_then)
         (subst (λ (p : Blocks). P then_log p job') (sym pool_same)

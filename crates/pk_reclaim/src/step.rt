@@ -1,5 +1,5 @@
 //! A step of a reclaim over the space of a drive.
-ghost use Rattle.std.specs.Prelude.{◌≡◌, ℕ, length, Err, IfOk, OnOk};
+ghost use Rattle.std.specs.Prelude.{◌≡◌, ℕ, Err, IfOk, OnOk};
 ghost use Rattle.pk_base.specs.Map.{Map};
 ghost use Rattle.pk_nand.specs.Calls.{IsReady};
 ghost use Rattle.pk_nand.specs.Effects.{AtMostOneCall, NoFault, OnlyFlash, Stops};
@@ -22,21 +22,19 @@ use pk_region::Region;
 /// programmed into the output, the moves are committed, or the victim is given back. `NeedsFreeze` where the moves find no room
 /// in the active buffer or the newest epoch: nothing was done, and after a freeze the step is to be made again. `Reading` where
 /// a read fails: all is as it was, and the step can be made again. `Stopped` where a program or an erase fails; nothing is to be
-/// used any more then. `buf` has the bytes of a page, which are lost.
+/// used any more then.
 pub fn reclaim_step<B: Nand, A: Region>(
     board: &mut B,
     job: &mut ReclaimJob<A>,
     values: &mut Data<A>,
     log: &mut Log<A>,
     pool: &mut Pool<A>,
-    buf: &mut [u8],
 ) -> Result<Reclaimed, Fault>
     // They are the space of the drive on this board.
     requires ready { IsReady (B.state board.old) log.old.shape }
     requires may { (top : ℕ × RootValue) × (found : Found) × (m : Map)
         × MayReclaim (space log.old values.old pool.old job.old) (B.state board.old).pages top
         found m }
-    requires room { length buf.old ≡ log.old.shape.page_bytes }
 
     // A step was made, or wants a freeze before it.
     ensures does { IfOk result (λ r. Does (space log.old values.old pool.old job.old)
@@ -59,8 +57,7 @@ pub fn reclaim_step<B: Nand, A: Region>(
     ensures calls { AtMostOneCall (B.state board.old) (B.state board.new) }
     ensures rest { OnlyFlash (B.state board.old) (B.state board.new) }
     ensures ready { IsReady (B.state board.new) log.old.shape }
-    ensures buffer { length buf.new ≡ length buf.old }
 {
     pool.known();
-    log.reclaim_step(board, job, values, pool, buf)
+    log.reclaim_step(board, job, values, pool)
 }

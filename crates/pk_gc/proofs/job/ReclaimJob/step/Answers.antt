@@ -4,8 +4,8 @@ use Rattle.pk_gc.specs.declared.course.Phase.{Phase}
 use Rattle.pk_gc.specs.declared.course.Phase.TheVariants.{Copies}
 use Rattle.pk_gc.specs.State.{JobState}
 use Rattle.pk_gc.specs.Stepping.{CanGoOn, CanStepIn, BeginsValue, Tries, StepsIn}
-use Rattle.pk_gc.specs.Asking.{Finished, hands_of}
-use Rattle.pk_gc.proofs.Parts.{first_head, dead_to_end, finishes}
+use Rattle.pk_gc.specs.Asking.{hands_of}
+use Rattle.pk_gc.proofs.Parts.{first_head, dead_to_end, can_finish, finishes}
 use Rattle.pk_gc.proofs.job.ReclaimJob.step.Goals as goal
 
 pub begin_value-requires-clause-may : goal.begin_value-requires-clause-may
@@ -38,6 +38,32 @@ begin_value-requires-clause-may g c =
       place = next.1.1;
       runs = on.runs;
       next = next.1.2;
+    }
+
+pub finish-requires : goal.finish-requires
+finish-requires g c =
+    let job = c.args.self.now in
+    let old = g.B.Nand.state c.args.board.now in
+    let hands =
+    hands_of c.args.live.now c.args.front.now c.args.pool.now c.args.active.now c.args.epoch.now in
+    let course = c.in-Copies.course in
+    let is : job.phase ≡ Copies course =
+    sym (ap (λ (s : JobState). s.phase) c.self.view_is) ∙ c.in-Copies.is in
+    let on : CanGoOn course job hands old.pages =
+    subst (λ (p : Phase). CanStepIn p job hands old.pages) is c.requires.can in
+    let whole : course.left ≡ 0 = omega (arith, c.if-course-gt0.false) in
+    let pages : c.block_pages.result ≡ job.shape.block_pages =
+    c.block_pages.ensures.value ∙ ap (λ (s : JobState). s.shape.block_pages) c.self.view_is in
+    let pages_too : c.block_pages-in-Copies.result ≡ job.shape.block_pages =
+    c.block_pages-in-Copies.ensures.value
+    ∙ ap (λ (s : JobState). s.shape.block_pages) c.self.view_is in
+    let dead =
+    dead_to_end job.shape course _ _ pages pages_too hands.live.heads c.in-None.ensures in
+    let kept = c.commit.new.self in
+    record {
+      can = can_finish course job hands old c.commit.new.epoch (g.B.Nand.state c.commit.new.board)
+          c.in-Ok.committed kept c.in-Ok.ensures.commits
+          (ap (λ (s : JobState). s.moves) c.commit.ensures.kept) (on.end whole dead);
     }
 
 -- what holds of a call that was Ok, of its answer and by itself
@@ -104,14 +130,12 @@ returns-in-Ok-clause-steps g c =
     let hands' =
     hands_of c.finish.new.live c.finish.new.front c.finish.new.pool c.finish.new.active epoch in
     let r = c.finish.result in
-    let done =
-    subst (λ (j : JobState). Finished c.in-Ok.committed course j (record hands { epoch = epoch }) job' hands' r)
-    c.commit.ensures.kept (c.finish.ensures.finished epoch) in
     let tries : Tries course job hands old job' hands' new r = record {
       free = c.if-course.false;
       whole = whole;
       dead = dead;
       finishes = finishes course job hands old epoch new job' hands' r
-          c.in-Ok.committed c.in-Ok.ensures.commits done;
+          c.in-Ok.committed c.commit.new.self c.in-Ok.ensures.commits c.in-Ok.ensures.job
+          (c.finish.ensures.finished epoch);
     } in
     subst (λ (p : Phase). StepsIn p job hands old job' hands' new r) (sym is) (inr tries)
