@@ -7,6 +7,8 @@ use pk_base::Shape;
 use pk_flash::{Flash, Room};
 use pk_nand::{Mark, PageState};
 use pk_nvme::Request;
+use pk_nvme::opcode::{DELETE, FLUSH, STORE, TICK};
+use pk_nvme::status::{CAPACITY_EXCEEDED, SUCCESSFUL_COMPLETION};
 use pk_sessions::boards::{board_in, made, pages_left, serve_with};
 use pk_sessions::overwritten::record_at;
 use pk_sessions::script::entry;
@@ -78,16 +80,16 @@ fn push_command(into: &mut Vec<u8>, opcode: u8, key: u32, size: u32) -> Result<(
         options: 0,
     };
     into.extend_from_slice(&request.entry())?;
-    if opcode == 0x01 {
+    if opcode == STORE {
         for _ in 0..size {
             into.push(7)?;
         }
     }
-    into.extend_from_slice(&entry(2, 0x00, [0, 0], 0, 0))
+    into.extend_from_slice(&entry(2, FLUSH, [0, 0], 0, 0))
 }
 
 fn push_tick(into: &mut Vec<u8>, steps: u32) -> Result<(), AllocError> {
-    into.extend_from_slice(&entry(3, 0xc0, [0, 0], 0, steps))
+    into.extend_from_slice(&entry(3, TICK, [0, 0], 0, steps))
 }
 
 // The commands of a workload from this one on, a Store and a Delete by turns, then steps one by one, and at last as many as the bound.
@@ -103,9 +105,9 @@ fn script(
     for number in from..from.saturating_add(count) {
         let key = number / 2;
         if number % 2 == 0 {
-            push_command(&mut script, 0x01, key, below(series, load.bytes))?;
+            push_command(&mut script, STORE, key, below(series, load.bytes))?;
         } else {
-            push_command(&mut script, 0x10, key.saturating_sub(load.behind), 0)?;
+            push_command(&mut script, DELETE, key.saturating_sub(load.behind), 0)?;
         }
     }
     for _ in 0..STEPS {
@@ -130,12 +132,15 @@ fn note(most: &mut Most, flash: &Flash, commands: u32) -> Result<(), Fail> {
             // the post was counted, and no call of the flash is one
             calls = calls.saturating_sub(1).saturating_add(record.reads);
             if number < first_step {
+                let is_full = record.status == u32::from(CAPACITY_EXCEEDED);
                 most.calls = most.calls.max(calls);
-                most.full = most
-                    .full
-                    .saturating_add(if record.status == 0x81 { 1 } else { 0 });
+                most.full = most.full.saturating_add(if is_full { 1 } else { 0 });
             } else {
-                same(record.status, 0, "the status of a step")?;
+                same(
+                    record.status,
+                    u32::from(SUCCESSFUL_COMPLETION),
+                    "the status of a step",
+                )?;
                 if number < last_step && calls > 0 {
                     most.steps = most
                         .steps

@@ -3,6 +3,7 @@
 use crate::deep::{Before, Few, commands, few_board, full, session, stored};
 use pk_flash::{Flash, Left};
 use pk_nand::{Mark, PageState};
+use pk_nvme::status::{SUCCESSFUL_COMPLETION, UNRECOVERED_ERROR};
 use pk_sessions::boards::{Session, pages_left, serve_board};
 use pk_sessions::overwritten::{Record, record_at};
 use pk_sessions::{Program, holds, same};
@@ -66,8 +67,12 @@ fn unread(posted: &[u8], records: u32) -> Result<u32, Fail> {
     for _ in 0..records {
         if let Some(record) = record_at(posted, at) {
             at = record.end();
-            if record.status != 0 {
-                same(record.status, 0x88, "the status of a record")?;
+            if record.status != u32::from(SUCCESSFUL_COMPLETION) {
+                same(
+                    record.status,
+                    u32::from(UNRECOVERED_ERROR),
+                    "the status of a record",
+                )?;
                 unread = unread.saturating_add(1);
             }
         }
@@ -110,7 +115,8 @@ fn kind_of(done: &Session, unread: u32) -> Result<Kind, Fail> {
 // What the next session is to find, by the record of the Store.
 fn behind(alloc: Global, few: &Few, held: &[u8], posted: &[u8]) -> Result<Before, AllocError> {
     let record = record_of(posted, few.keys);
-    let is_refused = matches!(record, Some(record) if record.status != 0);
+    let is_refused =
+        matches!(record, Some(record) if record.status != u32::from(SUCCESSFUL_COMPLETION));
     Ok(Before {
         held: held.to_vec(alloc)?,
         key: if is_refused { few.keys } else { 1 },

@@ -3,6 +3,8 @@
 use pk_base::Shape;
 use pk_flash::Room;
 use pk_nvme::Request;
+use pk_nvme::opcode::{RETRIEVE, STORE};
+use pk_nvme::status::SUCCESSFUL_COMPLETION;
 use pk_sessions::boards::{Session, board_in, made, serve_board_with};
 use pk_sessions::overwritten::{Record, all_with, record_at, value_of};
 use pk_sessions::script::{push_value, value_bytes};
@@ -11,10 +13,6 @@ use std::alloc::{AllocError, Global};
 use std::test::*;
 
 const MAKE: [&str; 4] = ["make", "4096", "64", "1024"];
-
-const STORE: u8 = 0x01;
-
-const RETRIEVE: u8 = 0x02;
 
 const KEYS: u32 = 24_000;
 
@@ -75,7 +73,7 @@ fn check_record(alloc: Global, posted: &[u8], record: &Record, key: u32) -> Resu
     let is_read = least <= record.reads && record.reads <= 5;
     let is_value = posted.get(record.data..record.end()) == Some(want.as_slice());
     holds(
-        record.status == 0 && is_read && is_value,
+        record.status == u32::from(SUCCESSFUL_COMPLETION) && is_read && is_value,
         format_args!("the value of key {key}: {record:?}"),
     )
 }

@@ -4,6 +4,7 @@ use pk_base::Shape;
 use pk_flash::{Flash, Left, Room};
 use pk_nand::PageState;
 use pk_nvme::Request;
+use pk_nvme::opcode::STORE;
 use pk_sessions::boards::{Session, board_in, made, pages_left, serve_board};
 use pk_sessions::{Place, Program, holds, same};
 use std::alloc::{AllocError, Global};
@@ -40,7 +41,7 @@ fn script(alloc: Global) -> Result<Vec<u8>, AllocError> {
     let mut script = Vec::new(alloc);
     for i in 0..KEYS {
         let request = Request {
-            opcode: 0x01,
+            opcode: STORE,
             cid: 1,
             namespace: 1,
             key_len: 16,

@@ -7,6 +7,7 @@ use crate::reading::{Reading, reading_of};
 use pk_flash::Room;
 use pk_nand::{PageBytes, PageState};
 use pk_nvme::Request;
+use pk_nvme::opcode::{LIST, RETRIEVE};
 use pk_sessions::boards::{Session, board_in, serve_board, worked};
 use pk_sessions::damage::with_one_key;
 use pk_sessions::overwritten::record_at;
@@ -25,10 +26,6 @@ const NO_ROOM: Room = Room {
     posted: 0,
     marks: 0,
 };
-
-const LIST: u8 = 0x06;
-
-const RETRIEVE: u8 = 0x02;
 
 fn copied(alloc: Global, page: &PageState) -> Result<PageState, AllocError> {
     match page {
