@@ -2,6 +2,7 @@
 use Rattle.std.proofs.Common.{◌≡◌, ◌≢◌, inl, inr, ℕ, ◌+◌, ◌-◌, ◌/◌, ◌%◌, ◌<◌, ◌≤◌, refl, sym, ap, subst, ◌∙◌, arith, Bool, true, false, not, ◌&&◌, ◌||◌, ◌==◌, List, [], length, sum, nat_le, is_some, min, Option, Some, None, Result, Ok, Err, leb-true}
 use Rattle.std.specs.Prelude.{MatchOption}
 use Rattle.std.specs.FinMap.{get, insert, remove, contains_key}
+use Rattle.pk_base.specs.Choices.{or_else}
 use Rattle.pk_base.specs.Entry.{Place}
 use Rattle.pk_base.specs.Fields.{AreBytes}
 use Rattle.pk_base.specs.Key.{Key, IsKey}
@@ -19,7 +20,7 @@ use Rattle.pk_nand.specs.Calls.{last_count}
 use Rattle.pk_nvme.specs.Opcode.{op_of}
 use Rattle.pk_nvme.specs.declared.opcode.Opcode.{Opcode}
 use Rattle.pk_nvme.specs.declared.opcode.Opcode.TheVariants.{Store, Retrieve, Delete}
-use Rattle.pk_model.specs.Answer.{early, first_of, check, late_of, success, map_after}
+use Rattle.pk_model.specs.Answer.{early, check, late_of, success, map_after}
 use Rattle.pk_model.specs.Bounds.{most_reads}
 use Rattle.pk_model.specs.Run.{Step}
 use Rattle.pk_model.specs.Sight.{Sight}
@@ -218,7 +219,7 @@ not_unread options live most status there is = by_cases (not (options % 2 == 1) 
     differs : (x : ℕ) → x ≢ 0x88 → ◌≡◌ {A = Option ℕ} (Some x) (Some status) → status ≢ 0x88
     differs x ne e same = ne (some_same x status e ∙ same)
 
-    by_cases : (a b c : Bool) → first_of (check a 0x87) (first_of (check b 0x89) (check c 0x81)) ≡ Some status → status ≢ 0x88
+    by_cases : (a b c : Bool) → or_else (check a 0x87) (or_else (check b 0x89) (check c 0x81)) ≡ Some status → status ≢ 0x88
     by_cases false b c e = differs 0x87 (λ x. omega (arith, x)) e
     by_cases true false c e = differs 0x89 (λ x. omega (arith, x)) e
     by_cases true true false e = differs 0x81 (λ x. omega (arith, x)) e
@@ -228,7 +229,7 @@ not_unread options live most status there is = by_cases (not (options % 2 == 1) 
 within : (options live most : ℕ) (there : Bool) → store_check options there live most ≡ None → live ≤ most
 within options live most there is = by_cases (not (options % 2 == 1) || there) (not (options / 2 % 2 == 1 && there)) (nat_le live most) refl is
   where
-    by_cases : (a b c : Bool) → nat_le live most ≡ c → first_of (check a 0x87) (first_of (check b 0x89) (check c 0x81)) ≡ None → live ≤ most
+    by_cases : (a b c : Bool) → nat_le live most ≡ c → or_else (check a 0x87) (or_else (check b 0x89) (check c 0x81)) ≡ None → live ≤ most
     by_cases false b c l e = cc
     by_cases true false c l e = cc
     by_cases true true false l e = cc

@@ -1,11 +1,12 @@
 -- What refuses a command is no success.
 use Rattle.std.proofs.Common.{◌≡◌, ◌≢◌, ℕ, ◌/◌, ◌%◌, refl, sym, ap, subst, ◌∙◌, arith, Bool, true, false, not, ◌&&◌, ◌||◌, ◌==◌, nat_le, Option, Some, None}
+use Rattle.pk_base.specs.Choices.{or_else}
 use Rattle.pk_base.specs.Shape.{Shape, greatest}
 use Rattle.pk_nvme.specs.Command.{Command}
 use Rattle.pk_nvme.specs.declared.opcode.Opcode.{Opcode}
 use Rattle.pk_nvme.specs.declared.opcode.Opcode.TheVariants.{Flush, Store, Retrieve, List as ListKeys, Delete, Exist, Tick, Report}
 use Rattle.pk_nvme.specs.Opcode.{op_of}
-use Rattle.pk_model.specs.Answer.{first_of, check, is_namespace, is_key_length, size_fault, fault_of, early}
+use Rattle.pk_model.specs.Answer.{check, is_namespace, is_key_length, size_fault, fault_of, early}
 use Rattle.pk_model.proofs.Machines.{store_check}
 use Rattle.pk_drive.specs.declared.types.Outcome.{Outcome}
 
@@ -20,7 +21,7 @@ says : (P : ℕ → Type 0) (x status : ℕ) → P x → ◌≡◌ {A = Option �
 says P x status here is = subst P (some_same x status is) here
 
 -- one of two checks fails, or what follows them
-two_checks : (P : ℕ → Type 0) (a b : Bool) (x y status : ℕ) (last : Option ℕ) → P x → P y → (last ≡ Some status → P status) → first_of (check a x) (first_of (check b y) last) ≡ Some status → P status
+two_checks : (P : ℕ → Type 0) (a b : Bool) (x y status : ℕ) (last : Option ℕ) → P x → P y → (last ≡ Some status → P status) → or_else (check a x) (or_else (check b y) last) ≡ Some status → P status
 two_checks P false b x y status last one other follows is = says P x status one is
 two_checks P true false x y status last one other follows is = says P y status other is
 two_checks P true true x y status last one other follows is = follows is

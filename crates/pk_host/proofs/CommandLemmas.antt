@@ -3,6 +3,7 @@ use Rattle.std.proofs.Common.{◌≡◌, ◌==◌, inl, inr, ℕ, ◌≤◌, Lis
 use Rattle.std.proofs.lemmas.List.{take_at}
 use Rattle.std.proofs.lemmas.Bool.{le-leb, eq-eqb}
 use Rattle.std.specs.FinMap.{contains_key}
+use Rattle.pk_base.specs.Choices.{or_else}
 use Rattle.pk_base.specs.Key.{Key, IsKey}
 use Rattle.pk_base.specs.Shape.{Shape, greatest}
 use Rattle.pk_base.specs.Map.{Map}
@@ -13,7 +14,7 @@ use Rattle.pk_nvme.specs.declared.opcode.Opcode.{Opcode}
 use Rattle.pk_nvme.specs.declared.opcode.Opcode.TheVariants.{Store}
 use Rattle.pk_nvme.specs.declared.status.TheConstants.{CAPACITY_EXCEEDED, INVALID_VALUE_SIZE, INVALID_KEY_SIZE, KEY_DOES_NOT_EXIST, UNRECOVERED_ERROR, KEY_EXISTS}
 use Rattle.pk_nvme.specs.declared.opcode.TheConstants.{STORE, RETRIEVE, DELETE, EXIST}
-use Rattle.pk_model.specs.Answer.{first_of, check, late_of, live_after, refused, reply, reply_of, map_after, effect, Answer}
+use Rattle.pk_model.specs.Answer.{check, late_of, live_after, refused, reply, reply_of, map_after, effect, Answer}
 use Rattle.pk_model.specs.Run.{StepIn}
 use Rattle.pk_host.specs.Calls.{of_key, list_of, report}
 
@@ -110,15 +111,15 @@ key_length k h = rw (le-leb 1 (length k) h.some, le-leb (length k) 16 h.most) re
 
 module _ (shape : Shape) (most : ℕ) (m : Map) (k : Key) (h : IsKey k) where
   pub delete_by : refused shape most m (of_key DELETE k 0 0 []) ≡ check (contains_key m (key (of_key DELETE k 0 0 []))) KEY_DOES_NOT_EXIST
-  delete_by = ap (λ b. first_of (first_of (check b INVALID_KEY_SIZE) None) (check (contains_key m (key (of_key DELETE k 0 0 []))) KEY_DOES_NOT_EXIST)) (key_length k h)
+  delete_by = ap (λ b. or_else (or_else (check b INVALID_KEY_SIZE) None) (check (contains_key m (key (of_key DELETE k 0 0 []))) KEY_DOES_NOT_EXIST)) (key_length k h)
 
   pub exist_by : refused shape most m (of_key EXIST k 0 0 []) ≡ check (contains_key m (key (of_key EXIST k 0 0 []))) KEY_DOES_NOT_EXIST
-  exist_by = ap (λ b. first_of (first_of (check b INVALID_KEY_SIZE) None) (check (contains_key m (key (of_key EXIST k 0 0 []))) KEY_DOES_NOT_EXIST)) (key_length k h)
+  exist_by = ap (λ b. or_else (or_else (check b INVALID_KEY_SIZE) None) (check (contains_key m (key (of_key EXIST k 0 0 []))) KEY_DOES_NOT_EXIST)) (key_length k h)
 
   pub retrieve_by : (size : ℕ) → refused shape most m (of_key RETRIEVE k size 0 []) ≡ check (contains_key m (key (of_key RETRIEVE k size 0 []))) KEY_DOES_NOT_EXIST
-  retrieve_by size = ap (λ b. first_of (first_of (check b INVALID_KEY_SIZE) None) (check (contains_key m (key (of_key RETRIEVE k size 0 []))) KEY_DOES_NOT_EXIST)) (key_length k h)
+  retrieve_by size = ap (λ b. or_else (or_else (check b INVALID_KEY_SIZE) None) (check (contains_key m (key (of_key RETRIEVE k size 0 []))) KEY_DOES_NOT_EXIST)) (key_length k h)
 
-  not_zero : (fits is_there is_new room : Bool) → first_of (check fits INVALID_VALUE_SIZE) (first_of (check is_there KEY_DOES_NOT_EXIST) (first_of (check is_new KEY_EXISTS) (check room CAPACITY_EXCEEDED))) ≡ Some 0 → ⊥
+  not_zero : (fits is_there is_new room : Bool) → or_else (check fits INVALID_VALUE_SIZE) (or_else (check is_there KEY_DOES_NOT_EXIST) (or_else (check is_new KEY_EXISTS) (check room CAPACITY_EXCEEDED))) ≡ Some 0 → ⊥
   not_zero false is_there is_new room e = cc
   not_zero true false is_new room e = cc
   not_zero true true false room e = cc
@@ -128,13 +129,13 @@ module _ (shape : Shape) (most : ℕ) (m : Map) (k : Key) (h : IsKey k) where
   pub store_by : (options : ℕ) (value : List ℕ) → refused shape most m (of_key STORE k (length value) options value) ≡ Some 0 → ⊥
   store_by options value e =
       let c : Command = of_key STORE k (length value) options value in
-      let checks : refused shape most m c ≡ first_of (check (nat_le (length value) (greatest shape)) INVALID_VALUE_SIZE) (late_of shape most m c (Some Store)) =
-      ap (λ b. first_of (first_of (check b INVALID_KEY_SIZE) (check (nat_le (length value) (greatest shape)) INVALID_VALUE_SIZE)) (late_of shape most m c (Some Store))) (key_length k h) in
+      let checks : refused shape most m c ≡ or_else (check (nat_le (length value) (greatest shape)) INVALID_VALUE_SIZE) (late_of shape most m c (Some Store)) =
+      ap (λ b. or_else (or_else (check b INVALID_KEY_SIZE) (check (nat_le (length value) (greatest shape)) INVALID_VALUE_SIZE)) (late_of shape most m c (Some Store))) (key_length k h) in
       not_zero (nat_le (length value) (greatest shape)) (not (must_exist c) || contains_key m (key c)) (not (must_be_new c && contains_key m (key c))) (nat_le (live_after shape m c) most) (sym checks ∙ e)
 
 -- a List of 65,536 bytes is never refused
 pub list_by : (shape : Shape) (most : ℕ) (m : Map) (from : Key) → length from ≤ 16 → refused shape most m (list_of from) ≡ None
-list_by shape most m from short = ap (λ b. first_of (first_of (check b INVALID_KEY_SIZE) None) None) (le-leb (length from) 16 short)
+list_by shape most m from short = ap (λ b. or_else (or_else (check b INVALID_KEY_SIZE) None) None) (le-leb (length from) 16 short)
 
 -- nor is a Report
 pub report_by : (shape : Shape) (most : ℕ) (m : Map) → refused shape most m report ≡ None

@@ -3,6 +3,7 @@ use Rattle.std.proofs.Common.{◌≡◌, ◌≢◌, ℕ, ◌-◌, ◌*◌, ◌�
 use Rattle.std.proofs.lemmas.Bool.{leb-true, eq-eqb}
 use Rattle.std.proofs.lemmas.List.{length-take}
 use Rattle.std.specs.FinMap.{get, contains_key, len}
+use Rattle.pk_base.specs.Choices.{or_else}
 use Rattle.pk_base.specs.Key.{Key}
 use Rattle.pk_base.specs.Fields.{u32}
 use Rattle.pk_base.specs.Shape.{Shape, greatest, pinned}
@@ -14,7 +15,7 @@ use Rattle.pk_nvme.specs.declared.status.TheConstants.{SUCCESSFUL_COMPLETION, IN
 use Rattle.pk_nvme.specs.Opcode.{op_of}
 use Rattle.pk_nvme.specs.Command.{Command, key, must_exist, must_be_new}
 use Rattle.pk_nvme.specs.Reply.{Reply}
-use Rattle.pk_model.specs.Answer.{first_of, check, is_namespace, is_key_length, size_fault, fault_of, early, late_of, live_after, refused, reply, reply_of, listed, fitting, list_bytes}
+use Rattle.pk_model.specs.Answer.{check, is_namespace, is_key_length, size_fault, fault_of, early, late_of, live_after, refused, reply, reply_of, listed, fitting, list_bytes}
 use Rattle.pk_model.specs.Machine.{no_numbers}
 use Rattle.pk_model.proofs.Answering.{refuses_with, serves, list_sized}
 use Rattle.pk_host.specs.Port.{room_for, room_of}
@@ -78,7 +79,7 @@ abbrev IsOther : Option ℕ → Type 0
 IsOther None = Unit {0}
 IsOther (Some status) = status ≢ UNRECOVERED_ERROR
 
-other_first : (p q : Option ℕ) → IsOther p → IsOther q → IsOther (first_of p q)
+other_first : (p q : Option ℕ) → IsOther p → IsOther q → IsOther (or_else p q)
 other_first None q h k = k
 other_first (Some status) q h k = h
 

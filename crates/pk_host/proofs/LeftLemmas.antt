@@ -3,6 +3,7 @@ use Rattle.std.proofs.Common.{◌≡◌, ℕ, refl, sym, ap, subst, ◌∙◌, a
 use Rattle.std.proofs.lemmas.Bool.{leb-true}
 use Rattle.std.proofs.lemmas.List.{length-take-le}
 use Rattle.std.specs.FinMap.{get, contains_key, insert, remove, empty}
+use Rattle.pk_base.specs.Choices.{or_else}
 use Rattle.pk_base.specs.Shape.{Shape, limit, charge}
 use Rattle.pk_base.specs.Map.{Map, live, pages_if_some}
 use Rattle.pk_nvme.specs.declared.opcode.TheConstants.{FLUSH, STORE, RETRIEVE, LIST, DELETE, EXIST, TICK, REPORT}
@@ -11,7 +12,7 @@ use Rattle.pk_nvme.specs.declared.opcode.Opcode.TheVariants.{Flush, Store, Retri
 use Rattle.pk_nvme.specs.declared.status.TheConstants.{CAPACITY_EXCEEDED, KEY_DOES_NOT_EXIST, KEY_EXISTS}
 use Rattle.pk_nvme.specs.Opcode.{op_of}
 use Rattle.pk_nvme.specs.Command.{Command, key, must_exist, must_be_new}
-use Rattle.pk_model.specs.Answer.{first_of, check, fault_of, early, late_of, live_after, refused, map_after, effect}
+use Rattle.pk_model.specs.Answer.{check, fault_of, early, late_of, live_after, refused, map_after, effect}
 use Rattle.pk_model.proofs.Answering.{refuses_with, serves, key_sized, store_sized}
 use Rattle.pk_model.proofs.Machines.{live-empty, live-remove, live_stored}
 use Rattle.pk_host.specs.Good.{IsGood, IsHanded, holding}
@@ -19,7 +20,7 @@ use Rattle.pk_host.proofs.EntryLemmas.{map_empty, map_insert, map_remove}
 
 -- ---- checks that passed
 
-pub first_none : (p q : Option ℕ) → first_of p q ≡ None → (p ≡ None) × (q ≡ None)
+pub first_none : (p q : Option ℕ) → or_else p q ≡ None → (p ≡ None) × (q ≡ None)
 first_none None q h = (refl, h)
 first_none (Some s) q h = cc
 
@@ -67,7 +68,7 @@ module _ (shape : Shape) (m : Map) (c : Command) (good : IsGood (holding shape m
       let whole : length c.value ≡ c.size = handed.whole.whole ∙ ap (λ b. if b then c.size else 0) (store_alone c.opcode is) in
       let small = store_sized shape c is passed in
       let behind = first_none (check (not (must_be_new c && contains_key m (key c))) KEY_EXISTS) (check (nat_le (live_after shape m c) (limit shape)) CAPACITY_EXCEEDED)
-      (first_none (check (not (must_exist c) || contains_key m (key c)) KEY_DOES_NOT_EXIST) (first_of (check (not (must_be_new c && contains_key m (key c))) KEY_EXISTS) (check (nat_le (live_after shape m c) (limit shape)) CAPACITY_EXCEEDED)) late).1 in
+      (first_none (check (not (must_exist c) || contains_key m (key c)) KEY_DOES_NOT_EXIST) (or_else (check (not (must_be_new c && contains_key m (key c))) KEY_EXISTS) (check (nat_le (live_after shape m c) (limit shape)) CAPACITY_EXCEEDED)) late).1 in
       let most = leb-true (live_after shape m c) (limit shape) (check_none (nat_le (live_after shape m c) (limit shape)) CAPACITY_EXCEEDED behind.1) in
       let is_live : live_after shape m c ≡ live shape (insert m (key c) c.value) =
       live_stored shape m (key c) c.value (live shape m) (pages_if_some shape (get m (key c))) (charge shape c.size) refl refl (ap (charge shape) (sym whole)) in

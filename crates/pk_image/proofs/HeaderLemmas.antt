@@ -6,7 +6,7 @@ use Rattle.std.proofs.lemmas.Bool.Decides.{nat_tests}
 use Rattle.std.proofs.lemmas.List.{drop_all}
 use Rattle.pk_base.specs.declared.shape.ShapeError.{ShapeError}
 use Rattle.pk_base.specs.declared.shape.ShapeError.TheVariants.{BadPage, BadBlock, TooLarge, TooSmall}
-use Rattle.pk_base.specs.Fields.{u32, spelled, zeros, first_of}
+use Rattle.pk_base.specs.Fields.{u32, spelled, zeros, first_fault}
 use Rattle.pk_base.specs.Shape.{Shape, IsShape, checked, has_bad_page, has_bad_block, is_too_large, is_too_small, page_entries, dense, meta_blocks}
 use Rattle.pk_base.proofs.Tables.{◌⊕◌, fields_of, AllNone, all_none, first_none, unless_true, true_unless, unlike_stands, stands_unlike, number_stands, stands_number, Stand, AreSized, stand_spelled, spelled_stand}
 use Rattle.pk_image.specs.Header.{magic, file_size, header_bytes, named_shape, is_shape, has_size, IsHeader, header_checks, header_fault, place_of}
@@ -91,11 +91,11 @@ and_parts true b e = (refl, e)
 and_parts false b e = cc
 
 -- a header of a file that is not too short, or none
-long_enough : (bytes : List ℕ) (size : ℕ) → header_fault bytes size ≡ None → (nat_le 32 size ≡ true) × (first_of (header_checks bytes size) ≡ None)
+long_enough : (bytes : List ℕ) (size : ℕ) → header_fault bytes size ≡ None → (nat_le 32 size ≡ true) × (first_fault (header_checks bytes size) ≡ None)
 unfolding header_fault
 long_enough bytes size e = cases (nat_le 32 size) refl e
   where
-    cases : (b : Bool) → nat_le 32 size ≡ b → (if b then first_of (header_checks bytes size) else Some size) ≡ None → (nat_le 32 size ≡ true) × (first_of (header_checks bytes size) ≡ None)
+    cases : (b : Bool) → nat_le 32 size ≡ b → (if b then first_fault (header_checks bytes size) else Some size) ≡ None → (nat_le 32 size ≡ true) × (first_fault (header_checks bytes size) ≡ None)
     cases true is h = (is, h)
     cases false is h = cc
 

@@ -1,7 +1,7 @@
 -- The header of an image file: its bytes, and the first field that is wrong.
 use Rattle.std.specs.Prelude.{◌≡◌, ℕ, ◌+◌, ◌*◌, List, [], ◌∷◌, Bool, ◌==◌, ◌&&◌, nat_le, if◌then◌else◌, is_ok, Option, Some}
 use Rattle.pk_image.specs.declared.head.TheConstants.{HEADER_BYTES}
-use Rattle.pk_base.specs.Fields.{u32, u32_at, unlike, unless, first_of, spelled, zeros}
+use Rattle.pk_base.specs.Fields.{u32, u32_at, unlike, unless, first_fault, spelled, zeros}
 use Rattle.pk_base.specs.Shape.{Shape, IsShape, page_count, checked}
 use Rattle.pk_image.specs.declared.head.ImageError.{ImageError}
 use Rattle.pk_image.specs.declared.head.ImageError.TheVariants.{Bad}
@@ -43,7 +43,7 @@ header_checks bytes size =
 
 -- The first wrong field of a file's header. A file that is shorter than a header is wrong at its length.
 unfoldable pub header_fault : List ℕ → ℕ → Option ℕ
-header_fault bytes size = if nat_le HEADER_BYTES size then first_of (header_checks bytes size) else Some size
+header_fault bytes size = if nat_le HEADER_BYTES size then first_fault (header_checks bytes size) else Some size
 
 -- the place that a refusal names
 abbrev pub place_of : ImageError → ℕ

@@ -2,7 +2,7 @@
 use Rattle.std.specs.Prelude.{◌≡◌, ℕ, zero, suc, ◌+◌, ◌*◌, ◌<◌, List, [], ◌∷◌, length, take, drop, slice_index, ◌==◌, nat_le, if◌then◌else◌, Option, Some, None}
 use Rattle.pk_image.specs.declared.head.TheConstants.{HEADER_BYTES}
 use Rattle.pk_image.specs.declared.tag.TheConstants.{ERASED, WHOLE, TORN}
-use Rattle.pk_base.specs.Fields.{AreBytes, first_of}
+use Rattle.pk_base.specs.Fields.{AreBytes, first_fault}
 use Rattle.pk_base.specs.Shape.{Shape, page_count}
 use Rattle.pk_base.specs.Page.{Page, Flash, erased, whole, torn, page_at}
 use Rattle.pk_image.specs.declared.tag.PageTag.{PageTag}
@@ -75,7 +75,7 @@ bad_state at (byte ∷ bytes) = if nat_le byte TORN then bad_state (at + 1) byte
 unfoldable pub image_fault : List ℕ → Option ℕ
 image_fault file =
     let header : List ℕ = take HEADER_BYTES file in
-    first_of (header_fault header (length file) ∷ bad_state HEADER_BYTES (take (page_count (named_shape header)) (drop HEADER_BYTES file)) ∷ [])
+    first_fault (header_fault header (length file) ∷ bad_state HEADER_BYTES (take (page_count (named_shape header)) (drop HEADER_BYTES file)) ∷ [])
 
 -- ---- laws
 

@@ -3,6 +3,7 @@ use Rattle.std.proofs.Common.{◌≡◌, ℕ, refl, sym, ◌∙◌, Option, Some
 use Rattle.std.specs.Prelude.{IfOk}
 use Rattle.std.specs.List.{flat_map}
 use Rattle.std.specs.FinMap.Entries.{find}
+use Rattle.pk_base.specs.Choices.{or_else}
 use Rattle.pk_base.specs.Key.{Key, key_cmp}
 use Rattle.pk_base.specs.Page.{Flash}
 use Rattle.pk_base.specs.Entry.{Place, key_of}
@@ -11,7 +12,6 @@ use Rattle.pk_base.specs.declared.entry.Entry.{Entry as RustEntry}
 use Rattle.pk_rootfmt.specs.Root.{Root}
 use Rattle.pk_run.specs.Search.{IsFound}
 use Rattle.pk_model.specs.Found.{Found, entries_in_order}
-use Rattle.pk_steps.specs.Lookups.{or_else}
 use Rattle.pk_steps.proofs.Counting.{found_in}
 use Rattle.pk_log.specs.State.{LogState, entry_of}
 use Rattle.pk_log.specs.Logs.{LogOnFlash}

@@ -1,6 +1,7 @@
 -- What memory keeps of a journal.
 use Rattle.std.specs.Prelude.{ℕ, ◌+◌, List, [], ◌∷◌, ◌++◌, length, Bool, ◌&&◌, ◌||◌, not, ◌==◌, Option, is_some}
 use Rattle.std.specs.FinMap.Entries.{find, put}
+use Rattle.pk_base.specs.Choices.{or_else}
 use Rattle.pk_base.specs.Key.{Key, key_cmp}
 use Rattle.pk_base.specs.Shape.{Shape}
 use Rattle.pk_base.specs.Entry.{Entry, Place, key_of}
@@ -10,7 +11,6 @@ use Rattle.pk_root.specs.declared.next.Next.{Next}
 use Rattle.pk_root.specs.declared.next.Next.TheVariants.{Erase}
 use Rattle.pk_buf.specs.Table.{Table}
 use Rattle.pk_jrn.specs.Epochs.{JournalEpoch, left_of}
-use Rattle.pk_steps.specs.Lookups.{or_else}
 
 -- The shape, the newest root and what its installer does next, the epoch that is written, the buffers of the newest and of the
 -- older epoch, and the entries that wait for a commit, which the buffer of the newest epoch has already.

@@ -1,6 +1,7 @@
 -- Which reply a command has and which map it leaves, by the first check that fails.
 use Rattle.std.proofs.Common.{◌≡◌, ℕ, ◌≤◌, List, Bool, true, false, ◌&&◌, nat_le, IsTrue, Option, Some, None, refl, sym, ap, ◌∙◌}
 use Rattle.std.proofs.lemmas.Bool.{leb-true}
+use Rattle.pk_base.specs.Choices.{or_else}
 use Rattle.pk_base.specs.Shape.{Shape, greatest}
 use Rattle.pk_base.specs.Map.{Map}
 use Rattle.pk_nvme.specs.Command.{Command}
@@ -8,7 +9,7 @@ use Rattle.pk_nvme.specs.Reply.{refusal}
 use Rattle.pk_nvme.specs.Opcode.{op_of}
 use Rattle.pk_nvme.specs.declared.opcode.Opcode.{Opcode}
 use Rattle.pk_nvme.specs.declared.opcode.Opcode.TheVariants.{Store, List as ListKeys}
-use Rattle.pk_model.specs.Answer.{first_of, check, is_namespace, is_key_length, size_fault, fault_of, early, late_of, refused, reply, reply_of, map_after, effect}
+use Rattle.pk_model.specs.Answer.{check, is_namespace, is_key_length, size_fault, fault_of, early, late_of, refused, reply, reply_of, map_after, effect}
 
 module _ (shape : Shape) (most frames : ℕ) (m : Map) (own : List ℕ) (c : Command) where
   -- it is refused
@@ -26,10 +27,10 @@ module _ (shape : Shape) (most frames : ℕ) (m : Map) (own : List ℕ) (c : Com
   refuses_with status e = record { replied = rw e refl; leaves = rw e refl }
 
   pub refuses_early : (status : ℕ) → early shape c ≡ Some status → Refuses status
-  refuses_early status e = refuses_with status (ap (λ f. first_of f (late_of shape most m c (op_of c.opcode))) e)
+  refuses_early status e = refuses_with status (ap (λ f. or_else f (late_of shape most m c (op_of c.opcode))) e)
 
   by_kind : (k : Opcode) → op_of c.opcode ≡ Some k → early shape c ≡ None → refused shape most m c ≡ late_of shape most m c (Some k)
-  by_kind k is e = ap (λ f. first_of f (late_of shape most m c (op_of c.opcode))) e ∙ ap (late_of shape most m c) is
+  by_kind k is e = ap (λ f. or_else f (late_of shape most m c (op_of c.opcode))) e ∙ ap (late_of shape most m c) is
 
   pub refuses_late : (k : Opcode) (status : ℕ) → op_of c.opcode ≡ Some k → early shape c ≡ None → late_of shape most m c (Some k) ≡ Some status → Refuses status
   refuses_late k status is e late = refuses_with status (by_kind k is e ∙ late)
@@ -40,7 +41,7 @@ module _ (shape : Shape) (most frames : ℕ) (m : Map) (own : List ℕ) (c : Com
 
 -- ---- what an early check that passed says
 
-first_none : (p q : Option ℕ) → first_of p q ≡ None → (p ≡ None) × (q ≡ None)
+first_none : (p q : Option ℕ) → or_else p q ≡ None → (p ≡ None) × (q ≡ None)
 first_none None q h = (refl, h)
 first_none (Some s) q h = cc
 
@@ -57,14 +58,14 @@ both_true false b h = cc
 passed_size : (shape : Shape) (c : Command) (k : Opcode) → op_of c.opcode ≡ Some k → early shape c ≡ None → size_fault shape k c.size ≡ None
 passed_size shape c k is e =
     let faults : fault_of shape c (Some k) ≡ None = ap (fault_of shape c) (sym is) ∙ e in
-    let behind = first_none (check (is_namespace k c.namespace) 0x0B) (first_of (check (is_key_length k c.key_len) 0x86) (size_fault shape k c.size)) faults in
+    let behind = first_none (check (is_namespace k c.namespace) 0x0B) (or_else (check (is_key_length k c.key_len) 0x86) (size_fault shape k c.size)) faults in
     (first_none (check (is_key_length k c.key_len) 0x86) (size_fault shape k c.size) behind.1).1
 
 -- the key of a command that passed has a key's length
 passed_key : (shape : Shape) (c : Command) (k : Opcode) → op_of c.opcode ≡ Some k → early shape c ≡ None → is_key_length k c.key_len ≡ true
 passed_key shape c k is e =
     let faults : fault_of shape c (Some k) ≡ None = ap (fault_of shape c) (sym is) ∙ e in
-    let behind = first_none (check (is_namespace k c.namespace) 0x0B) (first_of (check (is_key_length k c.key_len) 0x86) (size_fault shape k c.size)) faults in
+    let behind = first_none (check (is_namespace k c.namespace) 0x0B) (or_else (check (is_key_length k c.key_len) 0x86) (size_fault shape k c.size)) faults in
     check_none (is_key_length k c.key_len) 0x86 (first_none (check (is_key_length k c.key_len) 0x86) (size_fault shape k c.size) behind.1).0
 
 -- the commands with a key

@@ -8,6 +8,7 @@ use Rattle.std.specs.declared.cmp.Ordering.TheVariants.{Less, Equal, Greater}
 use Rattle.std.specs.Ordering.{is_eq, eq_by_cmp}
 use Rattle.std.specs.Cmp.{tied_itself}
 use Rattle.std.specs.FinMap.{get, contains_key, insert, remove, empty, entries, len, len-entries, len-empty, get-insert, get-remove, same_map}
+use Rattle.pk_base.specs.Choices.{or_else}
 use Rattle.pk_base.specs.Key.{Key, key_cmp}
 use Rattle.pk_base.specs.Fields.{u32}
 use Rattle.pk_base.specs.Shape.{Shape, limit, charge, need, pinned}
@@ -18,7 +19,7 @@ use Rattle.pk_nvme.specs.Reply.{refusal}
 use Rattle.pk_nvme.specs.Opcode.{op_of}
 use Rattle.pk_nvme.specs.declared.opcode.Opcode.{Opcode}
 use Rattle.pk_nvme.specs.declared.opcode.Opcode.TheVariants.{Store}
-use Rattle.pk_model.specs.Answer.{first_of, check, early, late_of, reply_of, effect, success, report_bytes}
+use Rattle.pk_model.specs.Answer.{check, early, late_of, reply_of, effect, success, report_bytes}
 use Rattle.pk_model.specs.Machine.{Machine, replied, no_numbers, Answers}
 use Rattle.pk_model.specs.declared.answer.Answer.{Answer}
 use Rattle.pk_model.proofs.Answering.{refuses_early, refuses_late, serves}
@@ -148,7 +149,7 @@ len-live shape m = subst (λ n. n ≤ live shape m) (sym (len-entries m)) (lengt
 
 abbrev pub store_check : ℕ → Bool → ℕ → ℕ → Option ℕ
 store_check options is_there live_pages most =
-    first_of (check (not (options % 2 == 1) || is_there) 0x87) (first_of (check (not (options / 2 % 2 == 1 && is_there)) 0x89) (check (nat_le live_pages most) 0x81))
+    or_else (check (not (options % 2 == 1) || is_there) 0x87) (or_else (check (not (options / 2 % 2 == 1 && is_there)) 0x89) (check (nat_le live_pages most) 0x81))
 
 pub store_late : (shape : Shape) (m : Map) (r : Request) (v : List ℕ) (is_there : Bool) (before held charged most : ℕ)
     → is_there ≡ contains_key m (key (command_of r v)) → before ≡ live shape m → held ≡ pages_if_some shape (get m (key (command_of r v))) → charged ≡ charge shape r.size → most ≡ limit shape

@@ -4,7 +4,7 @@ use Rattle.std.specs.Prelude.{nat_eq, ◌==◌, slice_set}
 use Rattle.std.specs.List.{list_any}
 use Rattle.std.proofs.lemmas.Bool.Decides.{nat_tests}
 use Rattle.std.proofs.lemmas.List.{drop-drop}
-use Rattle.pk_base.specs.Fields.{u16_at, unless, first_of}
+use Rattle.pk_base.specs.Fields.{u16_at, unless, first_fault}
 use Rattle.pk_base.specs.Shape.{Shape}
 use Rattle.pk_rootfmt.specs.Root.{u16s_at}
 use Rattle.pk_rootfmt.specs.Fault.{is_other_block, blocks_fault}
@@ -41,7 +41,7 @@ pub fault_stop : (g : Shape) (page : List ℕ) (i count : ℕ) → i < count →
 fault_stop g page i count less e =
     ap (blocks_fault g (64 + 2 * i) (u16s_at i (drop 64 page))) (left_more page i count less) ∙ stop _ (is_other_block g (u16s_at i (drop 64 page)) (u16_at page (64 + 2 * i))) _ e
   where
-    stop : (at : ℕ) (test : Bool) (rest : Option ℕ) → test ≡ false → first_of (unless at test ∷ rest ∷ []) ≡ Some at
+    stop : (at : ℕ) (test : Bool) (rest : Option ℕ) → test ≡ false → first_fault (unless at test ∷ rest ∷ []) ≡ Some at
     stop at test rest e = rw e refl
 
 pub fault_more : (g : Shape) (page : List ℕ) (i count : ℕ) → i < count → is_other_block g (u16s_at i (drop 64 page)) (u16_at page (64 + 2 * i)) ≡ true
@@ -54,7 +54,7 @@ fault_more g page i count less e =
     ∙ ap (λ (r : List ℕ). blocks_fault g ((64 + 2 * i) + 2) r rest) (read_more page 64 i)
     ∙ sym (ap (blocks_fault g (64 + 2 * i) (u16s_at i (drop 64 page))) (left_more page i count less) ∙ on (64 + 2 * i) (is_other_block g (u16s_at i (drop 64 page)) (u16_at page (64 + 2 * i))) _ e)
   where
-    on : (at : ℕ) (test : Bool) (rest : Option ℕ) → test ≡ true → first_of (unless at test ∷ rest ∷ []) ≡ rest
+    on : (at : ℕ) (test : Bool) (rest : Option ℕ) → test ≡ true → first_fault (unless at test ∷ rest ∷ []) ≡ rest
     on at test None e = rw e refl
     on at test (Some k) e = rw e refl
 

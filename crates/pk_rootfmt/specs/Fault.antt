@@ -1,7 +1,7 @@
 -- The first wrong field of a root page.
 use Rattle.std.specs.Prelude.{ℕ, ◌+◌, ◌-◌, ◌*◌, List, [], ◌∷◌, ◌++◌, drop, Bool, ◌&&◌, ◌||◌, not, ◌==◌, nat_le, nat_lt, Option, None}
 use Rattle.std.specs.List.{list_any}
-use Rattle.pk_base.specs.Fields.{u16_at, u32_at, u64_at, unlike, unless, first_of, zeros}
+use Rattle.pk_base.specs.Fields.{u16_at, u32_at, u64_at, unlike, unless, first_fault, zeros}
 use Rattle.pk_base.specs.declared.sizes.TheConstants.{ROOT_BLOCKS, EPOCH_BLOCKS}
 use Rattle.pk_rootfmt.specs.declared.layout.TheConstants.{VERSION, LIST_FROM}
 use Rattle.pk_base.specs.Shape.{Shape, page_entries, cap, run_blocks}
@@ -18,7 +18,7 @@ is_other_block shape before block = nat_le ROOT_BLOCKS block && nat_lt block sha
 -- the first wrong one of these block numbers, which begin at a place behind other ones
 abbrev pub blocks_fault : Shape → ℕ → List ℕ → List ℕ → Option ℕ
 blocks_fault shape at before [] = None
-blocks_fault shape at before (b ∷ bs) = first_of (unless at (is_other_block shape before b) ∷ blocks_fault shape (at + 2) (before ++ b ∷ []) bs ∷ [])
+blocks_fault shape at before (b ∷ bs) = first_fault (unless at (is_other_block shape before b) ∷ blocks_fault shape (at + 2) (before ++ b ∷ []) bs ∷ [])
 
 -- an older epoch has the number before, so the newest is at least 2 where there is one
 abbrev pub is_epoch : ℕ → ℕ → ℕ → Bool
@@ -52,14 +52,14 @@ module _ (shape : Shape) (page : List ℕ) where
   list_checks = blocks_fault shape LIST_FROM [] (u16s_at listed (drop LIST_FROM page)) ∷ unlike (LIST_FROM + 2 * listed) (zeros (shape.page_bytes - (LIST_FROM + 2 * listed))) page ∷ []
 
   unfoldable pub shape_fault : Option ℕ
-  shape_fault = first_of shape_checks
+  shape_fault = first_fault shape_checks
 
   unfoldable pub number_fault : Option ℕ
-  number_fault = first_of number_checks
+  number_fault = first_fault number_checks
 
   unfoldable pub list_fault : Option ℕ
-  list_fault = first_of list_checks
+  list_fault = first_fault list_checks
 
   -- the first byte of the first wrong field of a page
   abbrev pub root_fault : Option ℕ
-  root_fault = first_of (shape_fault ∷ number_fault ∷ list_fault ∷ [])
+  root_fault = first_fault (shape_fault ∷ number_fault ∷ list_fault ∷ [])

@@ -1,7 +1,7 @@
 -- The head of a value: what it holds, and the first field that is wrong.
 use Rattle.std.specs.Prelude.{ℕ, ◌+◌, ◌-◌, ◌≤◌, List, [], ◌∷◌, slice_index, ◌&&◌, nat_le, Option}
 use Rattle.pk_base.specs.declared.sizes.TheConstants.{KEY_BYTES}
-use Rattle.pk_base.specs.Fields.{number_at, field, unlike, unless, first_of, zeros}
+use Rattle.pk_base.specs.Fields.{number_at, field, unlike, unless, first_fault, zeros}
 use Rattle.pk_base.specs.Shape.{Shape, greatest}
 use Rattle.pk_base.specs.Key.{Key, IsKey}
 
@@ -23,4 +23,4 @@ head_checks shape bytes =
 
 -- the first byte of the first wrong field of a head
 unfoldable pub head_fault : Shape → List ℕ → Option ℕ
-head_fault shape bytes = first_of (head_checks shape bytes)
+head_fault shape bytes = first_fault (head_checks shape bytes)

@@ -1,19 +1,20 @@
 -- No answer on a map is an unrecovered read error.
 use Rattle.std.proofs.Common.{arith, unwrap_or, ◌≡◌, ◌≢◌, ℕ, List, Option, Some, None, refl, ap, Bool, true, false, nat_le, replicate, ◌&&◌, ◌||◌, not}
 use Rattle.std.specs.FinMap.{contains_key}
+use Rattle.pk_base.specs.Choices.{or_else}
 use Rattle.pk_base.specs.Shape.{Shape, greatest}
 use Rattle.pk_nvme.specs.Command.{Command, key, must_exist, must_be_new}
 use Rattle.pk_base.specs.Map.{Map}
 use Rattle.pk_nvme.specs.Opcode.{op_of}
 use Rattle.pk_nvme.specs.declared.opcode.Opcode.{Opcode}
 use Rattle.pk_nvme.specs.declared.opcode.Opcode.TheVariants.{Flush, Store, Retrieve, List as ListKeys, Delete, Exist, Tick, Report}
-use Rattle.pk_model.specs.Answer.{first_of, check, is_namespace, is_key_length, size_fault, fault_of, early, late_of, live_after, refused, reply, reply_of, Answer, map_after}
+use Rattle.pk_model.specs.Answer.{check, is_namespace, is_key_length, size_fault, fault_of, early, late_of, live_after, refused, reply, reply_of, Answer, map_after}
 
 -- not this status
 abbrev Other : Option ℕ → Type 0
 Other o = o ≢ Some 0x88
 
-first_other : (p q : Option ℕ) → Other p → Other q → Other (first_of p q)
+first_other : (p q : Option ℕ) → Other p → Other q → Other (or_else p q)
 first_other (Some s) q hp hq = hp
 first_other None q hp hq = hq
 

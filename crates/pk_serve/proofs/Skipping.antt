@@ -1,6 +1,7 @@
 -- A Store that is too large is refused whatever its value is.
 use Rattle.std.proofs.Common.{◌≡◌, ◌≢◌, inl, inr, ℕ, ◌<◌, List, [], Option, Some, None, refl, sym, ◌∙◌, ap, subst, arith, false, nat_le, Ok}
 use Rattle.std.proofs.lemmas.Bool.Decides.{nat_tests}
+use Rattle.pk_base.specs.Choices.{or_else}
 use Rattle.pk_base.specs.Shape.{Shape, greatest, limit}
 use Rattle.pk_base.specs.Page.{Flash}
 use Rattle.pk_nvme.specs.Command.{Command}
@@ -9,7 +10,7 @@ use Rattle.pk_nand.specs.BoardState.{BoardState, shape_or_none}
 use Rattle.pk_base.specs.Map.{Map}
 use Rattle.pk_nvme.specs.Opcode.{op_of}
 use Rattle.pk_nvme.specs.declared.opcode.Opcode.TheVariants.{Store, Retrieve}
-use Rattle.pk_model.specs.Answer.{first_of, check, is_namespace, is_key_length, fault_of, early, late_of, refused, reply, map_after}
+use Rattle.pk_model.specs.Answer.{check, is_namespace, is_key_length, fault_of, early, late_of, refused, reply, map_after}
 use Rattle.pk_model.specs.Run.{Step}
 use Rattle.pk_model.specs.Sight.{Sight}
 use Rattle.pk_model.specs.Growth.{Reaches, Goes}
@@ -20,25 +21,25 @@ use Rattle.pk_model.proofs.Growing.{weaken, weaken_went}
 
 abbrev store_early : Shape → ℕ → ℕ → ℕ → Option ℕ
 store_early shape namespace key_len size =
-    first_of (check (is_namespace Store namespace) 0x0B) (first_of (check (is_key_length Store key_len) 0x86) (check (nat_le size (greatest shape)) 0x85))
+    or_else (check (is_namespace Store namespace) 0x0B) (or_else (check (is_key_length Store key_len) 0x86) (check (nat_le size (greatest shape)) 0x85))
 
 early_is : (shape : Shape) (c : Command) → c.opcode ≡ 0x01 → early shape c ≡ store_early shape c.namespace c.key_len c.size
 early_is shape c e = ap (λ o. fault_of shape c (op_of o)) e
 
-first_some : (p q : Option ℕ) → (s : ℕ) × (q ≡ Some s) → (s : ℕ) × (first_of p q ≡ Some s)
+first_some : (p q : Option ℕ) → (s : ℕ) × (q ≡ Some s) → (s : ℕ) × (or_else p q ≡ Some s)
 first_some (Some t) q h = (t, refl)
 first_some None q h = h
 
 too_large : (shape : Shape) (namespace key_len size : ℕ) → greatest shape < size → (s : ℕ) × (store_early shape namespace key_len size ≡ Some s)
 too_large shape namespace key_len size large =
     let e : nat_le size (greatest shape) ≡ false = grind (arith, nat_tests) in
-    first_some (check (is_namespace Store namespace) 0x0B) (first_of (check (is_key_length Store key_len) 0x86) (check (nat_le size (greatest shape)) 0x85))
+    first_some (check (is_namespace Store namespace) 0x0B) (or_else (check (is_key_length Store key_len) 0x86) (check (nat_le size (greatest shape)) 0x85))
     (first_some (check (is_key_length Store key_len) 0x86) (check (nat_le size (greatest shape)) 0x85) (0x85, ap (λ b. check b 0x85) e))
 
 -- a command that is refused early
 module _ (shape : Shape) (most frames : ℕ) (m : Map) (own : List ℕ) (c : Command) (s : ℕ) (e : early shape c ≡ Some s) where
   refused_is : refused shape most m c ≡ Some s
-  refused_is = ap (λ o. first_of o (late_of shape most m c (op_of c.opcode))) e
+  refused_is = ap (λ o. or_else o (late_of shape most m c (op_of c.opcode))) e
 
   leaves : map_after shape most m c ≡ m
   unfolding map_after

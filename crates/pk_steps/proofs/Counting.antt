@@ -4,6 +4,7 @@ use Rattle.std.specs.List.{flat_map}
 use Rattle.std.specs.Ordering.{is_lt, eq_by_cmp}
 use Rattle.std.specs.FinMap.{get, entries, from_entries, entries-insert, len-entries}
 use Rattle.std.specs.FinMap.Entries.{put, find, is_sorted, below_all}
+use Rattle.pk_base.specs.Choices.{or_else}
 use Rattle.pk_base.specs.Key.{Key, key_cmp}
 use Rattle.pk_base.specs.Shape.{Shape}
 use Rattle.pk_base.specs.Page.{Page, Flash, page_at}
@@ -20,7 +21,7 @@ use Rattle.pk_model.proofs.Merges.{placed_sorted}
 use Rattle.pk_model.proofs.Live.{live-pages}
 use Rattle.pk_model.proofs.HeldMap.{nothing_fits, none_of_empty}
 use Rattle.pk_steps.specs.Under.{counting, places}
-use Rattle.pk_steps.specs.Lookups.{IsValueOf, Finds, or_else, FoundIn, Counts}
+use Rattle.pk_steps.specs.Lookups.{IsValueOf, Finds, FoundIn, Counts}
 use Rattle.pk_steps.proofs.Untouched.{values_under}
 
 value_of : (shape : Shape) (flash : Flash) (q : Key) (e : Option (Option Place)) (value : Option (List ℕ)) → Has shape (page_at flash) q (flat e) value → IsValueOf shape flash q e value

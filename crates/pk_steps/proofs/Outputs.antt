@@ -4,6 +4,7 @@ use Rattle.std.specs.Int.{div_ceil}
 use Rattle.std.specs.Ordering.{eq_by_cmp}
 use Rattle.std.specs.FinMap.Entries.{find, is_sorted, below_all}
 use Rattle.std.proofs.lemmas.List.FromFn.{length-range_with_len}
+use Rattle.pk_base.specs.Choices.{or_else}
 use Rattle.pk_base.specs.Key.{Key, key_cmp}
 use Rattle.pk_base.specs.Shape.{Shape, IsShape, page_entries, buffer, deepest, limit, data_blocks, dense, charge}
 use Rattle.pk_base.specs.Page.{Flash, page_at}
@@ -32,7 +33,6 @@ use Rattle.pk_model.proofs.Commits.{root_valid}
 use Rattle.pk_model.proofs.ValueSets.{values_sound, fits_parts}
 use Rattle.pk_model.proofs.HeldMap.{nothing_fits}
 use Rattle.pk_steps.proofs.Untouched.{Values, values_under}
-use Rattle.pk_steps.specs.Lookups.{or_else}
 use Rattle.pk_steps.specs.Under.{IsUnder, places}
 use Rattle.pk_steps.specs.Merging.{output_of}
 use Rattle.pk_steps.specs.Fitting.{OutputFits}

@@ -3,6 +3,7 @@ use Rattle.std.specs.Prelude.{◌≡◌, ℕ, List, ◌++◌, length, map, rever
 use Rattle.std.specs.List.{flat_map}
 use Rattle.std.specs.FinMap.{get, len, keys}
 use Rattle.std.specs.FinMap.Entries.{find, is_sorted}
+use Rattle.pk_base.specs.Choices.{or_else}
 use Rattle.pk_base.specs.Key.{Key, key_cmp}
 use Rattle.pk_base.specs.Shape.{Shape, IsShape}
 use Rattle.pk_base.specs.Page.{Flash, IsFlash, page_at}
@@ -25,11 +26,6 @@ abbrev pub Finds : Type 0
 Finds =
     (shape : Shape) (flash : Flash) (pending : List Entry) (top : ℕ × Root) (found : Found) (m : Map) (key : Key) → IsUnder shape flash pending top found m
     → IsValueOf shape flash key (find key_cmp key (entries_in_order found pending)) (get m key)
-
--- the first of two, if there is one
-abbrev pub or_else : Option (Option Place) → Option (Option Place) → Option (Option Place)
-or_else None later = later
-or_else (Some e) later = Some e
 
 -- the entry that counts is the one of the active buffer, or of the frozen one, or of the runs in their order
 abbrev pub FoundIn : Type 0
