@@ -3,7 +3,7 @@ use Rattle.std.proofs.Common.{◌≡◌, ◌≢◌, ◌⊎◌, inl, inr, ℕ, �
 use Rattle.std.specs.Prelude.{slice_get}
 use Rattle.std.specs.List.{concat}
 use Rattle.pk_base.specs.Shape.{Shape, IsShape}
-use Rattle.pk_base.specs.Page.{Flash, page_at}
+use Rattle.pk_base.specs.Page.{Flash, page_at, SameBehind}
 use Rattle.pk_base.specs.Map.{Map}
 use Rattle.pk_work.specs.Rest.{Lowers, steps_of}
 use Rattle.pk_work.specs.Jobs.{freeze_rest}
@@ -21,7 +21,7 @@ use Rattle.pk_pool.specs.Blocks.{Blocks, IsShared, IsSpare, PoolOnFlash}
 use Rattle.pk_pool.specs.Unready.{unready}
 use Rattle.pk_pool.proofs.Fitting.{PoolOnFlash-same}
 use Rattle.pk_root.specs.declared.next.Next.{Next}
-use Rattle.pk_root.specs.Installing.{SameBehind, erases_next}
+use Rattle.pk_root.specs.Installing.{erases_next}
 use Rattle.pk_steps.specs.Under.{IsValuePage, places}
 use Rattle.pk_steps.specs.Roots.{frozen_root, frozen}
 use Rattle.pk_steps.specs.Next.{IsNext}

@@ -1,7 +1,7 @@
 -- The tree of lists behind a step, whether it was made or failed: the newest root is the former, or the one that follows.
 use Rattle.std.proofs.Common.{◌≡◌, inl, inr, ℕ, ◌≤◌, [], Some}
 use Rattle.pk_base.specs.Shape.{Shape, IsShape}
-use Rattle.pk_base.specs.Page.{Flash, page_at}
+use Rattle.pk_base.specs.Page.{Flash, page_at, SameBehind}
 use Rattle.pk_base.specs.Map.{Map}
 use Rattle.pk_base.specs.Mark.{all_posted}
 use Rattle.pk_nand.specs.BoardState.{BoardState}
@@ -14,7 +14,7 @@ use Rattle.pk_model.proofs.SamePages.{newest_root_same}
 use Rattle.pk_root.specs.declared.next.Next.{Next}
 use Rattle.pk_pool.specs.Blocks.{Blocks, IsSpare}
 use Rattle.pk_pool.specs.Taking.{FailsToErase as FailsToTake}
-use Rattle.pk_root.specs.Installing.{SameBehind, Installs, FailsToInstall}
+use Rattle.pk_root.specs.Installing.{Installs, FailsToInstall}
 use Rattle.pk_root.specs.Laws.{SameFront}
 use Rattle.pk_steps.proofs.Standing.{installed}
 use Rattle.pk_compact.specs.Installing.{CanInstall}

@@ -1,7 +1,7 @@
 -- The erase of the other root block, and what stays of others.
 use Rattle.std.proofs.Common.{◌≡◌, inl, ℕ, zero, suc, ◌+◌, ◌*◌, ◌/◌, ◌%◌, ◌<◌, ◌≤◌, [], ◌∷◌, slice_index, Some, refl, sym, subst, ◌∙◌, arith, mod-lt, div-lt_iff_lt-mul, mul-le-mul_right}
 use Rattle.pk_base.specs.Shape.{Shape, IsShape, epoch_pages}
-use Rattle.pk_base.specs.Page.{Flash, page_at, page_in, erased}
+use Rattle.pk_base.specs.Page.{Flash, page_at, page_in, erased, SameBehind}
 use Rattle.pk_base.specs.EntryBytes.{IsEntry}
 use Rattle.pk_base.specs.Firsts.{firsts}
 use Rattle.pk_base.specs.Map.{Map}
@@ -21,7 +21,7 @@ use Rattle.pk_model.proofs.SamePages.{map_under_same}
 use Rattle.pk_model.proofs.Commits.{root_valid}
 use Rattle.pk_model.proofs.Entries.{counting_all, journal_are, meta_are}
 use Rattle.pk_root.specs.declared.next.Next.TheVariants.{Erase}
-use Rattle.pk_root.specs.Installing.{other_block, InstallerOnFlash, SameBehind}
+use Rattle.pk_root.specs.Installing.{other_block, InstallerOnFlash}
 use Rattle.pk_root.proofs.Installs.{behind_block}
 use Rattle.pk_steps.specs.Under.{IsUnder}
 use Rattle.pk_steps.proofs.Untouched.{under_reads}

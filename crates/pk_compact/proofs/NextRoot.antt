@@ -1,7 +1,7 @@
 -- The install of a root that may follow: its program, and the erase before it.
 use Rattle.std.proofs.Common.{◌≡◌, ◌⊎◌, inl, inr, ℕ, ◌+◌, ◌*◌, ◌<◌, ◌≤◌, List, [], Some, false, refl, sym, ap, subst, ◌∙◌, arith, le_refl}
 use Rattle.pk_base.specs.Shape.{Shape, IsShape}
-use Rattle.pk_base.specs.Page.{Flash, page_at}
+use Rattle.pk_base.specs.Page.{Flash, page_at, SameBehind}
 use Rattle.pk_base.specs.Map.{Map}
 use Rattle.pk_base.specs.Mark.{program, after, all_posted}
 use Rattle.pk_nand.specs.BoardState.{BoardState}
@@ -25,7 +25,7 @@ use Rattle.pk_model.proofs.Roots.{root_program, root_installed}
 use Rattle.pk_model.proofs.Running.{Reaches-program, Goes-program}
 use Rattle.pk_root.specs.declared.next.Next.{Next}
 use Rattle.pk_root.specs.declared.next.Next.TheVariants.{Erase, Program}
-use Rattle.pk_root.specs.Installing.{other_block, erases_next, InstallerOnFlash, SameBehind, KeepsRoot, Installs, ErasesOther, FailsToInstall, FailsToErase}
+use Rattle.pk_root.specs.Installing.{other_block, erases_next, InstallerOnFlash, KeepsRoot, Installs, ErasesOther, FailsToInstall, FailsToErase}
 use Rattle.pk_root.proofs.Places.{in_block}
 use Rattle.pk_root.proofs.Scanning.{root_page_exists}
 use Rattle.pk_steps.specs.Under.{IsUnder}

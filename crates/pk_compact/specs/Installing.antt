@@ -1,7 +1,7 @@
 -- The install of a root that may follow the newest one, in two steps: the erase before it, where one is next, and its program.
 use Rattle.std.specs.Prelude.{◌≡◌, ℕ, ◌+◌, [], false}
 use Rattle.pk_base.specs.Shape.{Shape}
-use Rattle.pk_base.specs.Page.{Flash}
+use Rattle.pk_base.specs.Page.{Flash, SameBehind}
 use Rattle.pk_base.specs.Map.{Map}
 use Rattle.pk_nand.specs.BoardState.{BoardState}
 use Rattle.pk_rootfmt.specs.Root.{Root}
@@ -10,7 +10,7 @@ use Rattle.pk_model.specs.Growth.{Reaches, Goes}
 use Rattle.pk_model.specs.Crashes.{CrashFinds, background}
 use Rattle.pk_model.specs.Wear.{root_number}
 use Rattle.pk_root.specs.declared.next.Next.{Next}
-use Rattle.pk_root.specs.Installing.{InstallerOnFlash, SameBehind, erases_next}
+use Rattle.pk_root.specs.Installing.{InstallerOnFlash, erases_next}
 use Rattle.pk_steps.specs.Under.{IsUnder}
 use Rattle.pk_steps.specs.Next.{IsNext}
 

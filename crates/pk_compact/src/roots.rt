@@ -1,13 +1,14 @@
 //! The install of the next root in two steps, by one call of the board each: the erase before it, and its program.
 ghost use Rattle.std.specs.Prelude.{◌≡◌, ℕ, length, true, false};
 ghost use Rattle.pk_base.specs.Map.{Map};
+ghost use Rattle.pk_base.specs.Page.{SameBehind};
 ghost use Rattle.pk_nand.specs.Calls.{IsReady};
 ghost use Rattle.pk_nand.specs.Effects.{AtMostOneCall};
 ghost use Rattle.pk_rootfmt.specs.Root.{Root as RootValue};
 ghost use Rattle.pk_model.specs.Found.{Found};
 ghost use Rattle.pk_model.specs.Growth.{Grows};
 ghost use Rattle.pk_model.specs.Steps.{Step};
-ghost use Rattle.pk_root.specs.Installing.{erases_next, SameBehind};
+ghost use Rattle.pk_root.specs.Installing.{erases_next};
 ghost use Rattle.pk_compact.specs.Installing.{CanPrepare, Prepares, PrepareBreaks, CanInstall, InstallsRoot, InstallBreaks};
 
 use pk_base::Shape;

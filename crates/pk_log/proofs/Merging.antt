@@ -1,13 +1,12 @@
 -- The install of a merge over a log.
 use Rattle.std.proofs.Common.{◌≡◌, ℕ, ◌*◌, ◌≤◌, refl, sym, ap, subst, ◌∙◌, arith, Bool, true, false, List, [], slice_index, ◌==◌, if◌then◌else◌, mul-le-mul_right}
 use Rattle.pk_base.specs.Shape.{Shape}
-use Rattle.pk_base.specs.Page.{Flash, page_at}
+use Rattle.pk_base.specs.Page.{Flash, page_at, SameBehind}
 use Rattle.pk_base.specs.Entry.{Entry}
 use Rattle.pk_base.specs.Map.{Map}
 use Rattle.pk_nand.specs.BoardState.{BoardState}
 use Rattle.pk_rootfmt.specs.Root.{Root}
 use Rattle.pk_root.specs.declared.next.Next.{Next}
-use Rattle.pk_root.specs.Installing.{SameBehind}
 use Rattle.pk_buf.specs.Table.{Table}
 use Rattle.pk_jrn.specs.Epochs.{EpochOnFlash}
 use Rattle.pk_jrn.specs.Laws.{SameBlocks}

@@ -1,14 +1,13 @@
 -- A freeze of a log in steps: when one may be made, and what it leaves.
 use Rattle.std.specs.Prelude.{◌≡◌, ℕ, ◌+◌, ◌<◌, ◌≤◌, List, [], ◌∷◌, length, Bool, true, ◌==◌, if◌then◌else◌, slice_get, Some, MatchBool}
 use Rattle.std.specs.List.{AllByRecursion}
-use Rattle.pk_base.specs.Page.{Flash}
+use Rattle.pk_base.specs.Page.{Flash, SameBehind}
 use Rattle.pk_base.specs.Map.{Map}
 use Rattle.pk_work.specs.Rest.{Lowers}
 use Rattle.pk_plan.specs.declared.owner.Owner.TheVariants.{Journal}
 use Rattle.pk_nand.specs.BoardState.{BoardState}
 use Rattle.pk_rootfmt.specs.Root.{Root, differ}
 use Rattle.pk_root.specs.declared.next.Next.{Next}
-use Rattle.pk_root.specs.Installing.{SameBehind}
 use Rattle.pk_jrn.specs.Epochs.{started}
 use Rattle.pk_model.specs.Found.{Found}
 use Rattle.pk_model.specs.Growth.{Reaches, Goes}

@@ -1,11 +1,11 @@
 -- The install of a merge over a log, in two steps: the erase before its root, where one is next, and its program.
 use Rattle.std.specs.Prelude.{◌≡◌, ℕ, ◌+◌, ◌<◌, ◌≤◌, List, [], ◌==◌, if◌then◌else◌, false}
-use Rattle.pk_base.specs.Page.{Flash}
+use Rattle.pk_base.specs.Page.{Flash, SameBehind}
 use Rattle.pk_base.specs.Map.{Map}
 use Rattle.pk_base.specs.Merge.{room}
 use Rattle.pk_nand.specs.BoardState.{BoardState}
 use Rattle.pk_rootfmt.specs.Root.{Root}
-use Rattle.pk_root.specs.Installing.{SameBehind, erases_next}
+use Rattle.pk_root.specs.Installing.{erases_next}
 use Rattle.pk_buf.specs.Table.{Table}
 use Rattle.pk_model.specs.Found.{Found}
 use Rattle.pk_model.specs.Growth.{Reaches, Goes}

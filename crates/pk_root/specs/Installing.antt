@@ -1,7 +1,7 @@
 -- Installs of roots: what is next, when it can be done, and what it does to a board.
 use Rattle.std.specs.Prelude.{◌≡◌, ◌≢◌, ◌⊎◌, ℕ, ◌+◌, ◌-◌, ◌*◌, ◌/◌, ◌%◌, ◌<◌, ◌≤◌, nat_lt, if◌then◌else◌, Bool, true, false, length, Some}
 use Rattle.pk_base.specs.Shape.{Shape, root_pages}
-use Rattle.pk_base.specs.Page.{Flash, page_at}
+use Rattle.pk_base.specs.Page.{Flash, page_at, SameBehind}
 use Rattle.pk_nand.specs.BoardState.{BoardState}
 use Rattle.pk_nand.specs.Calls.{InOrder, after_program, after_erase, ProgramFailed, EraseFailed}
 use Rattle.pk_nand.specs.Crash.{Reached, Went}
@@ -46,10 +46,6 @@ pub record InstallerOnFlash (shape : Shape) (next : Next) (top : ℕ × Root) (f
   pub possible : IsPossible shape next top.0 flash
 
 -- ---- cuts
-
--- no page behind the root blocks differs
-abbrev pub SameBehind : Shape → Flash → Flash → Type 0
-SameBehind shape old new = (k : ℕ) → root_pages shape ≤ k → page_at new k ≡ page_at old k
 
 -- the newest root is the former
 pub record KeepsRoot (shape : Shape) (old cut : Flash) : Type 0 where

@@ -1,13 +1,13 @@
 //! Installs of roots, at most one call of the board each.
 ghost use Rattle.std.specs.Prelude.{◌≡◌, ◌<◌, ◌⊎◌, ℕ, length, not, true, false, Some, MatchBool, OnOk, OnErr, IfOk, IfErr};
 ghost use Rattle.pk_base.specs.Shape as spec;
-ghost use Rattle.pk_base.specs.Page.{Flash, page_at};
+ghost use Rattle.pk_base.specs.Page.{Flash, page_at, SameBehind};
 ghost use Rattle.pk_nand.specs.Calls.{IsReady};
 ghost use Rattle.pk_nand.specs.declared.types.Fault.TheVariants.{Stopped};
 ghost use Rattle.pk_rootfmt.specs.Root.{Root as RootValue, is_root};
 ghost use Rattle.pk_rootfmt.specs.Newest.{newest_root};
 ghost use Rattle.pk_root.specs.declared.next.Next.TheVariants.{Erase, Program};
-ghost use Rattle.pk_root.specs.Installing.{erases_next, next_behind as next_behind_of, InstallerOnFlash, SameBehind, Installs, ErasesOther, FailsToInstall, FailsToErase};
+ghost use Rattle.pk_root.specs.Installing.{erases_next, next_behind as next_behind_of, InstallerOnFlash, Installs, ErasesOther, FailsToInstall, FailsToErase};
 
 use crate::next::Next;
 use pk_base::Shape;

@@ -4,7 +4,7 @@ use Rattle.std.specs.Prelude.{slice_get}
 use Rattle.std.specs.List.{AllByRecursion}
 use Rattle.pk_base.specs.Shape.{Shape}
 use Rattle.pk_base.specs.Merge.{next_merge}
-use Rattle.pk_base.specs.Page.{Flash, page_at}
+use Rattle.pk_base.specs.Page.{Flash, page_at, SameBehind}
 use Rattle.pk_base.specs.Map.{Map}
 use Rattle.pk_base.proofs.ShapeLemmas.{block_pages_positive}
 use Rattle.pk_work.specs.Rest.{Lowers, left_of, whole_merge}
@@ -15,7 +15,7 @@ use Rattle.pk_plan.specs.declared.owner.Owner.TheVariants.{Meta, Values}
 use Rattle.pk_nand.specs.BoardState.{BoardState}
 use Rattle.pk_rootfmt.specs.Root.{Root}
 use Rattle.pk_root.specs.declared.next.Next.{Next}
-use Rattle.pk_root.specs.Installing.{SameBehind, erases_next}
+use Rattle.pk_root.specs.Installing.{erases_next}
 use Rattle.pk_model.specs.Found.{Found}
 use Rattle.pk_model.specs.Laws.{AnyByRecursion}
 use Rattle.pk_pool.specs.declared.state.BlockState.TheVariants.{Owned, Ready as ReadyBlock}

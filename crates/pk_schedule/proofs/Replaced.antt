@@ -7,10 +7,10 @@ use Rattle.std.proofs.lemmas.List.{length-set, length-map}
 use Rattle.pk_base.specs.Shape.{Shape}
 use Rattle.pk_base.specs.Entry.{Entry}
 use Rattle.pk_base.specs.Map.{Map}
+use Rattle.pk_base.specs.Page.{SameBehind}
 use Rattle.pk_plan.specs.declared.owner.Owner.TheVariants.{Journal, Meta, Values}
 use Rattle.pk_nand.specs.BoardState.{BoardState}
 use Rattle.pk_rootfmt.specs.Root.{Root, named}
-use Rattle.pk_root.specs.Installing.{SameBehind}
 use Rattle.pk_pin.specs.Frames.{Frames, AreLeases, times}
 use Rattle.pk_pin.proofs.Leases.{times-append}
 use Rattle.pk_model.specs.Found.{Found}

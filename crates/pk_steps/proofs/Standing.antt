@@ -2,7 +2,7 @@
 use Rattle.std.proofs.Common.{◌≡◌, inl, inr, ℕ, ◌/◌, ◌<◌, sym, ap, subst, ◌∙◌, T, true, List, [], ◌++◌, length, nat_le, ◌==◌, not, Some, Ok, le→leb}
 use Rattle.std.specs.List.{AllByRecursion, list_any}
 use Rattle.pk_base.specs.Shape.{Shape, IsShape, buffer}
-use Rattle.pk_base.specs.Page.{Flash, page_at}
+use Rattle.pk_base.specs.Page.{Flash, page_at, SameBehind}
 use Rattle.pk_base.specs.Entry.{Entry, Place}
 use Rattle.pk_base.specs.EntryBytes.{IsEntry}
 use Rattle.pk_base.specs.Firsts.{firsts}
@@ -25,7 +25,7 @@ use Rattle.pk_model.proofs.HeldMap.{nothing_fits}
 use Rattle.pk_steps.specs.Under.{IsUnder, places}
 use Rattle.pk_steps.proofs.Untouched.{Values, values_under}
 use Rattle.pk_steps.proofs.Places.{In, all_of, any_in_back, in_value, not_of}
-use Rattle.pk_steps.specs.Next.{SameBehind, IsNext, Installed, Installs, tree_of}
+use Rattle.pk_steps.specs.Next.{IsNext, Installed, Installs, tree_of}
 
 module _ (shape : Shape) (flash new : Flash) (extra : List Entry) (top : ℕ × Root) (found : Found) (m : Map) (is_shape : IsShape shape) (entries : AllByRecursion (IsEntry shape) extra)
     (before : IsUnder shape flash extra top found m) (behind : SameBehind shape flash new) where
