@@ -2,6 +2,7 @@
 use Rattle.std.specs.Prelude.{ℕ, ◌%◌, ◌^◌, List, [], length, Option, Some, None}
 use Rattle.pk_nvme.specs.declared.limits.TheConstants.{NAMESPACE}
 use Rattle.pk_nvme.specs.declared.opcode.TheConstants.{FLUSH, STORE, RETRIEVE, LIST, DELETE, EXIST, TICK, REPORT}
+use Rattle.pk_base.specs.declared.sizes.TheConstants.{KEY_BYTES}
 use Rattle.pk_base.specs.Fields.{padded}
 use Rattle.pk_nvme.specs.Seen.{entry_of}
 use Rattle.pk_asm.specs.declared.form.Form.{Form}
@@ -10,7 +11,7 @@ use Rattle.pk_asm.specs.declared.form.Form.TheVariants.{Store, Retrieve, Delete,
 -- the entry of this number, in namespace 1, with these fields and zeros everywhere else
 unfoldable pub entry_with : ℕ → ℕ → List ℕ → ℕ → ℕ → List ℕ
 entry_with number opcode key size options =
-    entry_of (record { opcode = opcode; cid = number % 2 ^ 16; namespace = NAMESPACE; key_len = length key; key = padded 16 key; size = size; options = options })
+    entry_of (record { opcode = opcode; cid = number % 2 ^ 16; namespace = NAMESPACE; key_len = length key; key = padded KEY_BYTES key; size = size; options = options })
 
 -- a missing key is one of no byte
 abbrev pub key_or_none : Option (List ℕ) → List ℕ

@@ -1,11 +1,13 @@
 -- The line that is printed for an entry and its bytes.
 use Rattle.std.specs.Prelude.{◌≡◌, ℕ, ◌+◌, ◌≤◌, ◌<◌, ◌^◌, Bool, ◌==◌, ◌&&◌, not, nat_le, nat_lt, if◌then◌else◌, List, [], ◌∷◌, ◌++◌, length, take, Option, Some, None, option_map, codes, bytes_eq}
 use Rattle.std.specs.List.{flat_map}
+use Rattle.pk_base.specs.declared.sizes.TheConstants.{KEY_BYTES}
 use Rattle.pk_nvme.specs.declared.opcode.TheConstants.{FLUSH, STORE, RETRIEVE, LIST, DELETE, EXIST, TICK, REPORT}
 use Rattle.pk_nvme.specs.Bytes.{RoomyList}
 use Rattle.pk_nvme.specs.Command.{Command, command}
 use Rattle.pk_nvme.specs.Text.{number_text, hex_text, bytes_text}
 use Rattle.pk_asm.specs.Form.{form_entry}
+use Rattle.pk_asm.specs.Words.{blank}
 use Rattle.pk_asm.specs.Line.{says, named_of, entry, most_bytes}
 use Rattle.pk_asm.specs.declared.form.Form.{Form}
 use Rattle.pk_asm.specs.declared.form.Form.TheVariants.{Store, Retrieve, Delete, Exist, ListFrom, Flush, Report, Tick}
@@ -14,7 +16,7 @@ use Rattle.pk_asm.specs.declared.form.Form.TheVariants.{Store, Retrieve, Delete,
 
 -- words, each behind a blank
 abbrev pub behind_blanks : List (List ℕ) → List ℕ
-behind_blanks words = flat_map (λ word. 32 ∷ word) words
+behind_blanks words = flat_map (λ word. blank ∷ word) words
 
 -- the line of these words, divided by single blanks
 abbrev pub line_of : List (List ℕ) → List ℕ
@@ -53,7 +55,7 @@ raw_line e bytes = line_of (codes "raw" ∷ hex_text e ∷ bytes_text bytes ∷ 
 
 -- the key in the key's place, if its length is that of a key
 abbrev pub key_at : ℕ → List ℕ → Option (List ℕ)
-key_at size place = if nat_le 1 size && nat_le size 16 then Some (take size place) else None
+key_at size place = if nat_le 1 size && nat_le size KEY_BYTES then Some (take size place) else None
 
 -- the forms with these fields of a command: the bytes of the key, its place, the size
 abbrev pub store_candidate : ℕ → List ℕ → ℕ → ℕ → ℕ → Option Form

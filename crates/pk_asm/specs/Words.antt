@@ -1,15 +1,20 @@
 -- The words of a line of a text script.
-use Rattle.std.specs.Prelude.{ℕ, ◌==◌, nat_le, if◌then◌else◌, List, length, Option, None}
+use Rattle.std.specs.Prelude.{ℕ, ◌*◌, ◌==◌, nat_le, if◌then◌else◌, List, length, Option, None}
 use Rattle.std.specs.List.{slice_split}
+use Rattle.pk_base.specs.declared.sizes.TheConstants.{KEY_BYTES}
 use Rattle.pk_nvme.specs.Text.{some_bytes_of}
+
+-- what stands between two words
+abbrev pub blank : ℕ
+blank = 32
 
 -- the words of a line, divided by single blanks
 abbrev pub words : List ℕ → List (List ℕ)
-words line = slice_split (λ byte. byte == 32) line
+words line = slice_split (λ byte. byte == blank) line
 
--- the key that a word of 2 to 32 hexadecimal digits is
+-- the key that a word of hexadecimal digits is, two for each byte
 abbrev pub key_of : List ℕ → Option (List ℕ)
-key_of word = if nat_le (length word) 32 then some_bytes_of word else None
+key_of word = if nat_le (length word) (2 * KEY_BYTES) then some_bytes_of word else None
 
 -- the entry that a word of 128 hexadecimal digits is
 abbrev pub entry_of : List ℕ → Option (List ℕ)

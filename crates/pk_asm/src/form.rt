@@ -2,7 +2,7 @@
 ghost use Rattle.std.specs.Prelude.{◌≡◌, ◌≤◌, length};
 ghost use Rattle.pk_asm.specs.Form.{entry_with, form_entry};
 
-use pk_base::{Key, put_padded};
+use pk_base::{KEY_BYTES, Key, put_padded};
 use pk_nvme::Request;
 use pk_nvme::limits::NAMESPACE;
 use pk_nvme::opcode::{DELETE, EXIST, FLUSH, LIST, REPORT, RETRIEVE, STORE, TICK};
@@ -25,11 +25,11 @@ pub enum Form {
 
 /// The entry of this number, in namespace 1, with these fields.
 fn entry_of(number: u64, opcode: u8, key: &[u8], size: u32, options: u8) -> [u8; 64]
-    requires { length key.now ≤ 16 }
+    requires { length key.now ≤ KEY_BYTES }
     ensures { result ≡ entry_with number opcode key.now size options }
 {
-    let mut place = [0u8; 16];
-    put_padded(&mut place, 0, 16, key);
+    let mut place = [0u8; KEY_BYTES];
+    put_padded(&mut place, 0, KEY_BYTES, key);
     let request = Request {
         opcode,
         cid: (number % 65536) as u16,

@@ -1,7 +1,7 @@
 //! The words of a line behind its first.
 ghost use Rattle.std.specs.Prelude.{◌≡◌, ◌==◌, ◌∷◌};
 ghost use Rattle.std.specs.List.{position};
-ghost use Rattle.pk_asm.specs.Words.{words};
+ghost use Rattle.pk_asm.specs.Words.{blank, words};
 ghost use Rattle.pk_asm.specs.Operands.{rest_words, words_in};
 
 /// The words behind the first word of a line; no line has more than three.
@@ -16,7 +16,7 @@ pub enum Operands<'a> {
 
 /// The place of the first blank.
 fn blank_at(line: &[u8]) -> Option<usize>
-    ensures { result ≡ position (λ byte. byte == 32) line.now }
+    ensures { result ≡ position (λ byte. byte == blank) line.now }
 {
     line.iter().position(|byte| *byte == b' ')
 }

@@ -8,7 +8,7 @@ ghost use Rattle.pk_asm.specs.Printed as spec;
 
 use crate::form::Form;
 use crate::writer::{Word, put_line};
-use pk_base::Key;
+use pk_base::{KEY_BYTES, Key};
 use pk_nvme::opcode::{DELETE, EXIST, FLUSH, LIST, REPORT, RETRIEVE, STORE, TICK};
 use pk_nvme::{Bytes, Request};
 
@@ -17,7 +17,7 @@ fn key_of(request: &Request) -> Option<Key>
     ensures { result ≡ spec.key_at request.now.key_len request.now.key }
 {
     let size = request.key_len as usize;
-    if size == 0 || size > 16 {
+    if size == 0 || size > KEY_BYTES {
         return None;
     }
     let place = request.key;

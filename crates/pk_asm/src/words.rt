@@ -9,7 +9,7 @@ ghost use Rattle.pk_nvme.specs.Text.{is_number as is_number_text, number_of, som
 ghost use Rattle.pk_asm.specs.Words.{key_of, entry_of};
 
 use hex::FromHex;
-use pk_base::Key;
+use pk_base::{KEY_BYTES, Key};
 use pk_nvme::Bytes;
 
 fn are_digits(word: &[u8]) -> bool
@@ -64,15 +64,15 @@ pub fn number(word: &[u8]) -> Option<u32>
     }
 }
 
-/// The key that a word of 2 to 32 hexadecimal digits is, two for each byte, in either case.
+/// The key that a word of hexadecimal digits is, two for each byte, in either case.
 pub fn key(word: &[u8]) -> Option<Key>
     ensures { result ≡ key_of word.now }
 {
     let size = word.len() / 2;
-    if size == 0 || size > 16 || word.len() % 2 == 1 {
+    if size == 0 || size > KEY_BYTES || word.len() % 2 == 1 {
         return None;
     }
-    let mut bytes = [0u8; 16];
+    let mut bytes = [0u8; KEY_BYTES];
     match hex::decode_to_slice(word, &mut bytes[..size]) {
         Ok(()) => Some(Key::of(&bytes[..size])),
         Err(_) => None,

@@ -1,6 +1,7 @@
 //! From an entry and its bytes to a line.
 ghost use Rattle.std.specs.Prelude.{◌≡◌, ◌+◌, ◌*◌, ◌-◌, ◌^◌, ◌≤◌, ◌<◌, ◌++◌, ◌∷◌, ◌&&◌, [], length, nat_le, if◌then◌else◌, map};
 ghost use Rattle.pk_nvme.specs.Text.{hex_text, bytes_text};
+ghost use Rattle.pk_asm.specs.Words.{blank};
 ghost use Rattle.pk_asm.specs.PrintedWord.{word_text, tail_text};
 ghost use Rattle.pk_asm.specs.Printed.{WritesLine};
 
@@ -48,7 +49,7 @@ impl<'a> Word<'a> {
     fn put(self, into: &mut Bytes)
         requires { length into.old.items + (1 + length (word_text self)) ≤ into.old.room }
         ensures { into.new
-            ≡ record into.old { items = into.old.items ++ 32 ∷ word_text self.entry } }
+            ≡ record into.old { items = into.old.items ++ blank ∷ word_text self.entry } }
     {
         into.push(b' ');
         match self {

@@ -1,6 +1,7 @@
 -- The pages of a value one by one: which of them the reading of a flash accepts.
 use Rattle.std.specs.Prelude.{ℕ, zero, suc, ◌+◌, ◌-◌, ◌*◌, List, [], drop, Bool, false, ◌&&◌, ◌==◌, nat_eq}
 use Rattle.std.specs.List.{list_all, starts_with}
+use Rattle.pk_base.specs.declared.sizes.TheConstants.{HEAD_BYTES}
 use Rattle.pk_base.specs.Key.{Key}
 use Rattle.pk_base.specs.Shape.{Shape}
 use Rattle.pk_base.specs.Entry.{Place}
@@ -24,7 +25,7 @@ passes front left (whole bytes) = fits_page front left bytes
 
 -- the bytes that are left for page i of a value and the pages behind it
 abbrev pub left_at : Shape → ℕ → ℕ → ℕ
-left_at shape len i = 32 + len - i * shape.page_bytes
+left_at shape len i = HEAD_BYTES + len - i * shape.page_bytes
 
 -- page i of the value of this key is right
 abbrev pub is_right : Shape → (ℕ → Page) → Key → Place → ℕ → Bool

@@ -1,5 +1,6 @@
 -- Values on a board, and the board while one is written.
 use Rattle.std.specs.Prelude.{◌≡◌, ℕ, zero, suc, ◌+◌, ◌-◌, ◌*◌, ◌<◌, ◌≤◌, List, ◌++◌, length, take, drop, min}
+use Rattle.pk_base.specs.declared.sizes.TheConstants.{HEAD_BYTES}
 use Rattle.pk_base.specs.Key.{Key}
 use Rattle.pk_base.specs.Shape.{Shape, charge}
 use Rattle.pk_base.specs.Page.{Flash, page_at, whole}
@@ -18,16 +19,16 @@ pub record IsFront (shape : Shape) (flash : Flash) (page n : ℕ) (key : Key) (v
 -- page i of a value, of these bytes, brings its piece of the value's front behind the pieces before
 abbrev pub BringsPiece : Shape → ℕ → List ℕ → List ℕ → List ℕ → Type 0
 BringsPiece shape i bytes old new =
-    let at : ℕ = i * shape.page_bytes - 32 in
-    take (min (length old) ((i + 1) * shape.page_bytes - 32)) new
-    ≡ take at old ++ take (length old - at) (drop (32 - i * shape.page_bytes) bytes)
+    let at : ℕ = i * shape.page_bytes - HEAD_BYTES in
+    take (min (length old) ((i + 1) * shape.page_bytes - HEAD_BYTES)) new
+    ≡ take at old ++ take (length old - at) (drop (HEAD_BYTES - i * shape.page_bytes) bytes)
 
 -- the page is a whole one and begins with this head
 pub record HasHead (shape : Shape) (flash : Flash) (page : ℕ) (key : Key) (len : ℕ) : Type 0 where
   pub is_head : IsHead shape key len
   pub bytes : List ℕ
   pub here : page_at flash page ≡ whole bytes
-  pub front : take 32 bytes ≡ head_bytes key len
+  pub front : take HEAD_BYTES bytes ≡ head_bytes key len
 
 module _ (shape : Shape) (key : Key) (page : ℕ) (value : List ℕ) where
   -- the board behind the programs of the first k pages of a value

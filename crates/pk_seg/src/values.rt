@@ -11,7 +11,7 @@ ghost use Rattle.pk_seg.specs.Counts.{ReadsFailed};
 ghost use Rattle.pk_seg.specs.Stored.{IsFront, HasHead, BringsPiece, written, WriteFailed};
 
 use crate::pages::write_page;
-use pk_base::{Key, Shape};
+use pk_base::{HEAD_BYTES, Key, Shape};
 use pk_nand::{Fault, Nand};
 use pk_segfmt::{Head, head, page as value_page};
 
@@ -73,19 +73,19 @@ pub fn write_value<B: Nand>(
     Ok(())
 }
 
-// Copies page i of a value, behind the 32 bytes of its head, to its place in the value's front.
+// Copies page i of a value, behind the bytes of its head, to its place in the value's front.
 fn copy_page(into: &mut [u8], i: u32, page: &[u8])
-    requires within { i * length page.now - 32 ≤ length into.old }
-    requires head { 32 ≤ length page.now }
+    requires within { i * length page.now - HEAD_BYTES ≤ length into.old }
+    requires head { HEAD_BYTES ≤ length page.now }
     requires small { length page.now ≤ 16384 }
-    ensures front { take (min (length into.old) ((i + 1) * length page.now - 32)) into.new
-        ≡ take (i * length page.now - 32) into.old
-        ++ take (length into.old - (i * length page.now - 32))
-        (drop (32 - i * length page.now) page.now) }
+    ensures front { take (min (length into.old) ((i + 1) * length page.now - HEAD_BYTES)) into.new
+        ≡ take (i * length page.now - HEAD_BYTES) into.old
+        ++ take (length into.old - (i * length page.now - HEAD_BYTES))
+        (drop (HEAD_BYTES - i * length page.now) page.now) }
     ensures len { length into.new ≡ length into.old }
 {
-    let done = (i as usize * page.len()).saturating_sub(32);
-    let part = if i == 0 { &page[32..] } else { page };
+    let done = (i as usize * page.len()).saturating_sub(HEAD_BYTES);
+    let part = if i == 0 { &page[HEAD_BYTES..] } else { page };
     let count = part.len().min(into.len() - done);
     into[done..done + count].copy_from_slice(&part[..count]);
 }
@@ -103,7 +103,7 @@ fn read_part<B: Nand>(
     requires ready { IsReady (B.state board.old) shape.now }
     requires number { page + i < 2 ^ 32 }
     requires exists { page + i < length (B.state board.old).pages }
-    requires within { i * shape.now.page_bytes - 32 ≤ length into.old }
+    requires within { i * shape.now.page_bytes - HEAD_BYTES ≤ length into.old }
     requires room { length buf.old ≡ shape.now.page_bytes }
 
     // The piece that the page brings, by one read.
@@ -118,7 +118,7 @@ fn read_part<B: Nand>(
 {
     shape.known();
     let size = buf.len();
-    let at = (i as usize * size).saturating_sub(32);
+    let at = (i as usize * size).saturating_sub(HEAD_BYTES);
     if i > 0 && at + size <= into.len() {
         match board.read(page + i, &mut into[at..at + size]) {
             Ok(_) => Ok(()),
