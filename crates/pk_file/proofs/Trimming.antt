@@ -1,17 +1,26 @@
--- Bytes without a bit.
-use Rattle.std.proofs.Common.{◌≡◌, inl, inr, ℕ, ◌+◌, ◌<◌, ◌≤◌, List, get_or, bit_or, sym, subst, arith}
-use Rattle.std.proofs.lemmas.Bool.Decides.{eqb_tells}
-use Rattle.std.proofs.lemmas.Nat.{le_or_l, le_or_r}
+-- Bytes at the end of which only zeros stand.
+use Rattle.std.proofs.Common.{◌≡◌, ◌==◌, inl, inr, ℕ, ◌+◌, ◌-◌, ◌<◌, ◌≤◌, true, List, length, take, drop, get_or, sym, ap, ◌∙◌, arith, length-drop}
+use Rattle.std.specs.List.{list_all}
+use Rattle.std.proofs.lemmas.Bool.{cases_lt, eqb-true}
+use Rattle.std.proofs.lemmas.List.{get_or-take, get_or-drop, length-take-le}
+use Rattle.std.proofs.lemmas.List.Sums.{AllPass-from_list_all}
+use Rattle.pk_file.specs.Trims.{ZerosFrom}
 
--- one more byte without a bit
-pub zeros_more : (bytes : List ℕ) (bits from i : ℕ) → (bits ≡ 0 → (k : ℕ) → from ≤ k → k < i → get_or bytes k 0 ≡ 0) → bit_or bits (get_or bytes i 0) ≡ 0
-    → (k : ℕ) → from ≤ k → k < i + 1 → get_or bytes k 0 ≡ 0
-zeros_more bytes bits from i before none k low high =
-    let left = le_or_l bits (get_or bytes i 0) in
-    let right = le_or_r bits (get_or bytes i 0) in
-    let here : get_or bytes i 0 ≡ 0 = omega (arith, none, right) in
-    let P : ℕ → Type 0 = λ n. get_or bytes n 0 ≡ 0 in
-    elim (eqb_tells k i) [
-      | inl same ↦ subst P (sym same.1) here
-      | inr other ↦ before (omega (arith, none, left)) k low (let ne = other.1 in omega (arith, high, ne))
+-- the zeros begin further in front
+pub zeros_before : (bytes : List ℕ) (next end : ℕ) → next ≤ end → end ≤ length bytes
+    → list_all (λ b. b == 0) (take (end - next) (drop next bytes)) ≡ true → ZerosFrom end bytes → ZerosFrom next bytes
+zeros_before bytes next end order room all behind k low high =
+    elim (cases_lt k end) [
+      | inl inside ↦
+          let j : ℕ = k - next in
+          let place : next + j ≡ k = omega (arith, low) in
+          let less : j < end - next = omega (arith, inside, low) in
+          let part : List ℕ = take (end - next) (drop next bytes) in
+          let size : length part ≡ end - next =
+          length-take-le (end - next) (drop next bytes) (omega (arith, room, order, length-drop next bytes)) in
+          let here : (get_or part j 0 == 0) ≡ true =
+          AllPass-from_list_all (λ b. b == 0) part all j 0 (omega (arith, less, size)) in
+          sym (get_or-take (end - next) (drop next bytes) j 0 less ∙ get_or-drop next bytes j 0 ∙ ap (λ (i : ℕ). get_or bytes i 0) place)
+          ∙ eqb-true (get_or part j 0) 0 here
+      | inr past ↦ behind k past high
     ]

@@ -1,9 +1,8 @@
 //! The bytes of a page without the zeros at its end: a page is filled up with zeros behind what it holds, and these take no memory.
-ghost use Rattle.std.specs.Prelude.{◌≡◌, ◌<◌, ◌≤◌, ℕ, length, slice_index, IfOk};
-ghost use Rattle.std.specs.Bool.{OnTrue};
+ghost use Rattle.std.specs.Prelude.{◌≡◌, ◌≤◌, length, IfOk};
 ghost use Rattle.pk_file.specs.Trims.{bytes_in, ZerosFrom};
 
-use pk_base::{put_text, put_zeros};
+use pk_base::{are_zeros, put_text, put_zeros};
 use std::alloc::{AllocError, Global};
 
 /// Bytes that are tested together. Of the zeros at the end fewer than these are kept, where a page has a multiple of them.
@@ -16,19 +15,6 @@ pub struct Trimmed {
     pub zeros: usize,
 }
 
-/// Whether only zeros stand from this place to that. It tests once, behind the loop, so that the machine takes many bytes at a time.
-fn are_zeros(bytes: &[u8], from: usize, to: usize) -> bool
-    requires { to ≤ length bytes.now }
-    ensures { OnTrue result
-        ((k : ℕ) → from ≤ k → k < to → slice_index bytes.now k ≡ 0) }
-{
-    let mut bits = 0u8;
-    for i in from..to {
-        bits |= bytes[i];
-    }
-    bits == 0
-}
-
 /// How many bytes to keep of these: behind them only zeros stand.
 fn front_len(bytes: &[u8]) -> usize
     ensures within { result ≤ length bytes.now }
@@ -37,7 +23,7 @@ fn front_len(bytes: &[u8]) -> usize
     let steps = bytes.len() / STEP;
     for i in 0..steps {
         let end = bytes.len() - i * STEP;
-        if !are_zeros(bytes, end - STEP, end) {
+        if !are_zeros(&bytes[end - STEP..end]) {
             return end;
         }
     }

@@ -3,11 +3,15 @@ use Rattle.std.proofs.Common.{◌≡◌, ℕ, Bool, true, List, ◌++◌, length
 use Rattle.std.specs.List.{starts_with}
 use Rattle.std.proofs.lemmas.Bool.Decides.{same_from_decides}
 use Rattle.std.proofs.lemmas.List.{take-append-drop, take_at}
-use Rattle.pk_base.specs.Key.{Key, IsKey}
+use Rattle.std.specs.Ordering.{is_eq}
+use Rattle.std.specs.Cmp.{tied_itself}
+use Rattle.pk_base.specs.Key.{Key, IsKey, key_cmp}
 use Rattle.std.specs.Prelude.{Result, Ok, Err}
 use Rattle.pk_segfmt.specs.Value.{head_bytes}
 use Rattle.pk_segfmt.specs.declared.found.Head.{Head}
 use Rattle.pk_segfmt.specs.declared.found.BadHead.{BadHead}
+use Rattle.pk_model.proofs.MapLemmas.{key_total}
+use Rattle.pk_model.proofs.Lookups.{same_key}
 use Rattle.pk_segfmt.proofs.ValueLemmas.{starts_front, front_starts}
 use Rattle.pk_segfmt.proofs.StoredLemmas.{length-head_bytes}
 
@@ -27,6 +31,11 @@ head_told bytes k k' l l' t is here only told tells =
       λ starts. only (begun bytes (head_bytes k l) (length-head_bytes k l is) starts),
       λ both. begins bytes (head_bytes k l) (here ∙ (λ i. head_bytes (both.0 i) (both.1 i))),
     )
+
+-- a test of two keys that tells whether they are the same
+pub same_told : (a b : Key) (t : Bool) → t ≡ is_eq (key_cmp a b) → (t ≡ true → a ≡ b) × (a ≡ b → t ≡ true)
+same_told a b t is =
+    (λ e. same_key a b (sym is ∙ e), λ same. is ∙ ap (λ (k : Key). is_eq (key_cmp k b)) same ∙ ap is_eq (tied_itself key_total b))
 
 -- what was found is the head of this key and length
 pub same_found : (h : Head) (key : Key) (len : ℕ) → ◌≡◌ {A = Result Head BadHead} (Ok h) (Ok (record { key = key; len = len })) → (h.key ≡ key) × (h.len ≡ len)

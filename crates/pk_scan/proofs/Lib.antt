@@ -1,4 +1,3 @@
-pub mod Zeros
 pub mod Heads
 pub mod Reading
 pub mod Checking

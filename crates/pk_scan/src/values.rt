@@ -12,7 +12,7 @@ ghost use Rattle.pk_scan.specs.Checked.{HasValue, NotFound, PageRefused};
 ghost use Rattle.pk_scan.specs.Board.{StaysReady};
 
 use crate::errors::PageError;
-use pk_base::{HEAD_BYTES, Key, Place, Shape};
+use pk_base::{HEAD_BYTES, Key, Place, Shape, are_zeros, is_same};
 use pk_nand::{Nand, PageRead};
 use pk_segfmt::head;
 
@@ -22,22 +22,12 @@ fn begins_with_head(shape: &Shape, key: &Key, len: u32, bytes: &[u8]) -> bool
     requires sized { length bytes.now ≡ shape.now.page_bytes }
     ensures { result ≡ starts_with nat_eq bytes.now (head_bytes key.now len) }
 {
-    let key = key.bytes();
+    // so that the key is known to be one
+    let _ = key.bytes();
     match head(shape, bytes) {
-        Ok(found) => found.len == len && found.key.bytes() == key,
+        Ok(found) => found.len == len && is_same(&found.key, key),
         Err(_) => false,
     }
-}
-
-// Whether all bytes are 0. It tests once, behind the loop, so that the machine takes many bytes at a time.
-fn are_zeros(bytes: &[u8]) -> bool
-    ensures { result ≡ list_all (λ b. b == 0) bytes.now }
-{
-    let mut bits = 0u8;
-    for b in bytes {
-        bits |= *b;
-    }
-    bits == 0
 }
 
 // Whether only zeros stand behind so many bytes.
