@@ -9,3 +9,4 @@ pub mod Seeking
 pub mod Holding
 pub mod Rows
 pub mod Walks
+pub mod Keeping

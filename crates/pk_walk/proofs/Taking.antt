@@ -4,7 +4,7 @@ use Rattle.std.specs.Ordering.{is_gt, is_eq}
 use Rattle.std.specs.declared.cmp.Ordering.{Ordering}
 use Rattle.pk_base.specs.Entry.{Entry}
 use Rattle.pk_walk.specs.declared.head.Head.{Head as RustHead}
-use Rattle.pk_walk.specs.declared.cursors.Orders.{Orders as RustOrders}
+use Rattle.pk_walk.specs.declared.orders.Orders.{Orders as RustOrders}
 use Rattle.pk_walk.specs.Visible.{lesser}
 use Rattle.pk_walk.specs.Heads.{Head, entry_in, least_of, let_go, order_of, seen_head}
 use Rattle.pk_walk.specs.Walking.{Cursor, Tops}

@@ -79,7 +79,7 @@ least_is flash arena rs ess active frozen position a b c all up down s ea eb ec 
     is ∙ (λ i. lesser (ea i) (lesser (eb i) (ec i))) ∙ sym (first_of_lists (is_wanted position) (active ∷ frozen ∷ ess) (up, (down, each_rises flash arena rs ess s)))
 
 -- what a cursor knows is the first wanted entry of its run
-known_head : (w : Key → Bool) (es : List Entry) (n count : ℕ) (h : Head) → length es ≡ count → wanted w es ≡ held h ++ wanted w (drop n es) → (h ≡ Some None → count ≤ n) → is_some h ≡ true → entry_in h ≡ first_of (wanted w es)
+pub known_head : (w : Key → Bool) (es : List Entry) (n count : ℕ) (h : Head) → length es ≡ count → wanted w es ≡ held h ++ wanted w (drop n es) → (h ≡ Some None → count ≤ n) → is_some h ≡ true → entry_in h ≡ first_of (wanted w es)
 known_head w es n count None many left ended known = cc
 known_head w es n count (Some None) many left ended known = none_here w es n (omega (arith, many, ended refl)) left
 known_head w es n count (Some (Some e)) many left ended known = sym (ap first_of left)

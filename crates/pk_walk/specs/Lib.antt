@@ -1,4 +1,5 @@
 pub mod Heads
+pub mod Orders
 pub mod Steps
 pub mod Visible
 pub mod Walking

@@ -15,7 +15,7 @@ use Rattle.pk_pin.specs.Frames.{Frames}
 use Rattle.pk_run.specs.Kept.{Kept, RunOnFlash, page_of}
 use Rattle.pk_level.specs.Levels.{RunsOnFlash}
 use Rattle.pk_walk.specs.declared.position.Position.{Position}
-use Rattle.pk_walk.specs.declared.cursors.Orders.{Orders as RustOrders}
+use Rattle.pk_walk.specs.declared.orders.Orders.{Orders as RustOrders}
 use Rattle.pk_walk.specs.Visible.{is_wanted, wanted, first_of}
 use Rattle.pk_walk.specs.Heads.{Head, entry_in, known_as, least_of, order_of}
 use Rattle.pk_walk.specs.Walking.{Cursor, Tops, Walk, AreOfShape, Follows, FollowEach, HasPassed, Passes, Reads, ReadsAll, ShowBoth, SkipsNoPage, SkipsNone, all_left, cursors_behind, pages_read, most_read, read_of, tops_behind}

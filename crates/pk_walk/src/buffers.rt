@@ -43,6 +43,7 @@ impl Top {
     }
 
     /// Knows the first wanted entry of the buffer.
+    #[inline(always)]
     pub fn seek<A: Region>(&mut self, buffer: &Buffer<A>, position: &Position)
         ensures { seen_head self.new.head ≡ known_as
             (first_of (wanted (is_wanted position.now) buffer.now.entries))
@@ -68,6 +69,7 @@ impl Tops {
 }
 
 /// The place of the first entry of the buffer whose key is wanted.
+#[inline(never)]
 fn place_in<A: Region>(buffer: &Buffer<A>, position: &Position, hint: u32) -> u32
     ensures { slice_get buffer.now.entries result
         ≡ first_of (wanted (is_wanted position.now) buffer.now.entries) }

@@ -1,17 +1,19 @@
 //! A cursor for each of the four runs.
+ghost use Rattle.std.specs.List.{AllByRecursion};
 ghost use Rattle.std.specs.Prelude.{◌≡◌, List, length, option_map, IfOk, IfErr, OnErr, OnOk};
 ghost use Rattle.pk_base.specs.Entry.{Entry as EntrySpec};
 ghost use Rattle.pk_base.specs.Seen.{entry as seen};
 ghost use Rattle.pk_nand.specs.Calls.{IsReady};
 ghost use Rattle.pk_nand.specs.declared.types.Fault.TheVariants.{Reading};
 ghost use Rattle.pk_level.specs.Levels.{RunsOnFlash};
-ghost use Rattle.pk_walk.specs.Heads.{least_of, seen_head};
-ghost use Rattle.pk_walk.specs.Steps.{AreOrders, GoBehind, GoOn, ShowsEach, heads_in};
+ghost use Rattle.pk_walk.specs.Heads.{least_of};
+ghost use Rattle.pk_walk.specs.Orders.{AreKept, AreOrdersOf, IsSettled};
+ghost use Rattle.pk_walk.specs.Steps.{GoBehind, GoOn, ShowsEach, heads_in};
 ghost use Rattle.pk_walk.specs.Walking.{AreOfShape, FollowEach, ReadsFail, all_at_start, pages_read, seen_tops};
 
 use crate::buffers::Tops;
 use crate::cursor::Cursor;
-use crate::head::{Head, lower, order};
+use crate::orders::{KeptOrders, Orders, orders_of};
 use crate::position::Position;
 use crate::seek::seek;
 use pk_base::{Entry, Shape};
@@ -19,7 +21,6 @@ use pk_level::Levels;
 use pk_nand::{Fault, Nand};
 use pk_pin::PinArena;
 use std::alloc::{AllocError, Allocator};
-use std::cmp::Ordering;
 use std::marker::Model;
 
 /// The cursors of runs 1 to 4. Contracts see the list of them.
@@ -126,82 +127,59 @@ impl<A: Allocator> Cursors<A> {
         Ok(())
     }
 
-    /// Gives the least of the entries that are known, and the others of its key are let go with it:
-    /// of one key the first counts. None where there is none.
-    pub fn take_least(&mut self, tops: &mut Tops) -> Option<Entry>
-        ensures least { option_map seen result ≡ least_of (heads_in (seen_tops tops.old) self.old) }
-        ensures behind { GoBehind (option_map seen result) (seen_tops tops.old) self.old
-            (seen_tops tops.new) self.new }
-        ensures four { length self.new ≡ 4 }
+    /// How the entries that are known stand to each other.
+    fn orders(&self, tops: &Tops, kept: &KeptOrders) -> Orders
+        requires { AreKept (seen_tops tops.now) self.now kept.now }
+        ensures { AreOrdersOf (heads_in (seen_tops tops.now) self.now) result }
     {
-        let orders = orders_of(
+        orders_of(
+            kept,
             &tops.active.head,
             &tops.frozen.head,
             self.first.head(),
             self.second.head(),
             self.third.head(),
             self.fourth.head(),
-        );
+        )
+    }
+
+    /// Gives the least of the entries, which are known, and the others of its key are let go with
+    /// it: of one key the first counts. None where there is none.
+    pub fn take_least(&mut self, tops: &mut Tops, kept: &mut KeptOrders) -> Option<Entry>
+        requires kept { AreKept (seen_tops tops.old) self.old kept.old }
+        requires settled { AllByRecursion IsSettled (heads_in (seen_tops tops.old) self.old) }
+        ensures least { option_map seen result ≡ least_of (heads_in (seen_tops tops.old) self.old) }
+        ensures behind { GoBehind (option_map seen result) (seen_tops tops.old) self.old
+            (seen_tops tops.new) self.new }
+        ensures four { length self.new ≡ 4 }
+        ensures kept { AreKept (seen_tops tops.new) self.new kept.new }
+    {
+        let orders = self.orders(tops, kept);
         if orders.fourth.is_gt() {
+            *kept = orders.before_fourth();
             return self.fourth.take();
         }
         self.fourth.pass(orders.fourth);
         if orders.third.is_gt() {
+            *kept = orders.before_third();
             return self.third.take();
         }
         self.third.pass(orders.third);
         if orders.second.is_gt() {
+            *kept = orders.before_second();
             return self.second.take();
         }
         self.second.pass(orders.second);
         if orders.first.is_gt() {
+            *kept = orders.before_first();
             return self.first.take();
         }
         self.first.pass(orders.first);
+        *kept = KeptOrders::none();
         if orders.frozen.is_gt() {
             return tops.frozen.head.take();
         }
         tops.frozen.head.pass(orders.frozen);
         tops.active.head.take()
-    }
-}
-
-/// How the first wanted entry of each source but the active buffer stands to the least of those
-/// before it.
-#[derive(Clone, Copy, Debug)]
-struct Orders {
-    frozen: Ordering,
-    first: Ordering,
-    second: Ordering,
-    third: Ordering,
-    fourth: Ordering,
-}
-
-// Those of these heads.
-fn orders_of(
-    active: &Head,
-    frozen: &Head,
-    first: &Head,
-    second: &Head,
-    third: &Head,
-    fourth: &Head,
-) -> Orders
-    ensures { AreOrders (seen_head active.now) (seen_head frozen.now) (seen_head first.now)
-        (seen_head second.now) (seen_head third.now) (seen_head fourth.now) result }
-{
-    let of_frozen = order(active, frozen);
-    let upper = lower(active, frozen, of_frozen);
-    let of_first = order(upper, first);
-    let two = lower(upper, first, of_first);
-    let of_second = order(two, second);
-    let three = lower(two, second, of_second);
-    let of_third = order(three, third);
-    let four = lower(three, third, of_third);
-    Orders {
-        frozen: of_frozen,
-        first: of_first,
-        second: of_second,
-        third: of_third,
-        fourth: order(four, fourth),
     }
 }

@@ -8,6 +8,7 @@ mod buffers;
 mod cursor;
 mod cursors;
 mod head;
+mod orders;
 mod page;
 mod position;
 mod seek;

@@ -17,6 +17,7 @@ use std::alloc::Allocator;
 
 /// Knows the first entry of the run whose key is wanted. Each page is read once at most, as the cursor comes past it, and once
 /// exactly where none is skipped. `Reading` where a read fails; else nothing fails.
+#[inline(always)]
 pub fn seek<A: Allocator, B: Nand>(
     cursor: &mut Cursor<A>,
     board: &mut B,
@@ -65,6 +66,7 @@ pub fn seek<A: Allocator, B: Nand>(
 }
 
 // Comes to the first entry of the run whose key is wanted; None where there is none.
+#[inline(never)]
 fn search<A: Allocator, B: Nand>(
     cursor: &mut Cursor<A>,
     board: &mut B,

@@ -17,6 +17,7 @@ ghost use Rattle.pk_walk.specs.Walking.{FollowEach, Gives, IsLeft, IsWalk, Reads
 
 use crate::buffers::Tops;
 use crate::cursors::Cursors;
+use crate::orders::KeptOrders;
 use crate::position::Position;
 use pk_base::{Entry, Key, Shape};
 use pk_buf::Buffer;
@@ -35,10 +36,12 @@ pub struct Walk<A: Region> {
     position: Position,
     cursors: Cursors<A>,
     tops: Tops,
+    orders: KeptOrders,
 }
 
 impl<A: Region> Model for Walk<A> {
     ghost use Rattle.pk_walk.specs.Walking as spec;
+    ghost use Rattle.pk_walk.specs.Orders.{AreKept};
     ghost use Rattle.pk_walk.specs.Walking.{IsWalk, seen_tops};
 
     ghost Value = { spec.Walk };
@@ -55,7 +58,7 @@ impl<A: Region> Model for Walk<A> {
       position = w.position;
       tops = seen_tops w.tops;
       cursors = w.cursors;
-    }) };
+    }) × AreKept (seen_tops w.tops) w.cursors w.orders };
 }
 
 impl<A: Region> Walk<A> {
@@ -77,6 +80,7 @@ impl<A: Region> Walk<A> {
             position: Position::First,
             cursors,
             tops: Tops::new(),
+            orders: KeptOrders::none(),
         })
     }
 
@@ -100,6 +104,7 @@ impl<A: Region> Walk<A> {
     {
         self.cursors.restart();
         self.tops = Tops::new();
+        self.orders = KeptOrders::none();
         match from {
             Some(key) => {
                 self.position = Position::From(key.copy());
@@ -157,14 +162,17 @@ impl<A: Region> Walk<A> {
             levels,
             &Buffers { active, frozen },
         ) {
-            Ok(()) => match self.cursors.take_least(&mut self.tops) {
+            Ok(()) => match self.cursors.take_least(&mut self.tops, &mut self.orders) {
                 Some(entry) => {
                     self.position = Position::Above(entry.key().copy());
                     Ok(Some(entry))
                 }
                 None => Ok(None),
             },
-            Err(fault) => Err(fault),
+            Err(fault) => {
+                self.orders = KeptOrders::none();
+                Err(fault)
+            }
         }
     }
 
