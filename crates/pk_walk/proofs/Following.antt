@@ -1,5 +1,5 @@
 -- A cursor in a run: the page of its place, the entry at it, and what its moves leave.
-use Rattle.std.proofs.Common.{◌≡◌, ℕ, zero, suc, ◌+◌, ◌-◌, ◌*◌, ◌/◌, ◌%◌, ◌<◌, ◌≤◌, min, refl, sym, ap, subst, ◌∙◌, arith, Bool, true, false, if◌then◌else◌, T, is_some, List, [], ◌∷◌, ◌++◌, length, take, drop, slice_get, Option, Some, None, div-lt_iff_lt-mul}
+use Rattle.std.proofs.Common.{◌≡◌, ℕ, zero, suc, ◌+◌, ◌-◌, ◌*◌, ◌/◌, ◌%◌, ◌<◌, ◌≤◌, min, refl, sym, ap, subst, ◌∙◌, arith, Bool, true, false, if◌then◌else◌, T, is_some, List, [], ◌∷◌, ◌++◌, length, take, drop, slice_get, Option, Some, None, div-lt_iff_lt-mul, mul-le-mul, suc-mul}
 use Rattle.std.specs.Ordering.{is_gt, is_eq}
 use Rattle.std.specs.declared.cmp.Ordering.{Ordering}
 use Rattle.std.specs.declared.cmp.Ordering.TheVariants.{Less, Equal, Greater}
@@ -39,19 +39,30 @@ entries_some shape is = let page : 512 ≤ shape.page_bytes = is.page_least in o
 pub page_exists : (r : Kept) (place : ℕ) → IsShape r.shape → IsKept r → place < r.count → place / page_entries r.shape < length r.firsts
 page_exists r place is kept h = (div-lt_iff_lt-mul (entries_some r.shape is)).1 (omega (arith, h, kept.entries))
 
--- the pages before that of a place lie before it
-pub before_page : (loaded place size : ℕ) → loaded ≡ suc (place / size) → (loaded - 1) * size ≤ place
-before_page loaded place size is =
-    let at = div-add-mod' place size in
-    let same : loaded - 1 ≡ place / size = omega (arith, is) in
-    subst (λ (n : ℕ). n * size ≤ place) (sym same) (omega (arith, at))
+-- where the pages end that were come past
+module _ (loaded place size stop : ℕ) (is : loaded ≡ suc (place / size)) (far : stop ≡ loaded * size) where
+  stops : stop ≡ place / size * size + size
+  stops = far ∙ ap (λ (n : ℕ). n * size) is ∙ suc-mul (place / size) size
 
--- so its place in the page is what is left
-pub in_page : (loaded place size : ℕ) → loaded ≡ suc (place / size) → place - (loaded - 1) * size ≡ place % size
-in_page loaded place size is =
-    let at = div-add-mod' place size in
-    let same : loaded - 1 ≡ place / size = omega (arith, is) in
-    subst (λ (n : ℕ). place - n * size ≡ place % size) (sym same) (omega (arith, at))
+  pub page_before : size ≤ stop
+  page_before = let e = stops in omega (arith, e)
+
+  -- the last of them begins up to the place
+  pub before_place : stop - size ≤ place
+  before_place = let e = stops in let at = div-add-mod' place size in omega (arith, e, at)
+
+  -- so the place in the page is what is left
+  pub in_page : place - (stop - size) ≡ place % size
+  in_page = let e = stops in let at = div-add-mod' place size in omega (arith, e, at)
+
+entries_most : (shape : Shape) → IsShape shape → page_entries shape ≤ 512
+entries_most shape is = let page : shape.page_bytes ≤ 16384 = is.page_most in omega arith
+
+pub end_fits : (shape : Shape) (p size : ℕ) → IsShape shape → p < 1000000 → size ≡ page_entries shape → (p + 1) * size < 4294967296
+end_fits shape p size is few same =
+    let most = entries_most shape is in
+    let end : (p + 1) * size ≤ 1000000 * 512 = mul-le-mul {n₂ = 1000000} {m₂ = 512} (omega (arith, few)) (omega (arith, same, most)) in
+    omega (arith, end)
 
 -- ---- the entry at a place
 

@@ -30,19 +30,22 @@ use std::cmp::Ordering;
 use std::marker::Model;
 
 /// The place, how many pages of the run lie up to it, and the bytes of the last of them that was
-/// read; and the first wanted entry, once it was found, just before the place.
+/// read; and the first wanted entry, once it was found, just before the place. `end` is the place
+/// where those pages end.
 #[derive(Drop)]
 pub struct Cursor<A: Allocator> {
     shape: Shape,
     place: u32,
     loaded: u32,
+    end: u32,
     page: Vec<u8, A>,
     head: Head,
     has_found: bool,
 }
 
 impl<A: Allocator> Model for Cursor<A> {
-    ghost use Rattle.std.specs.Prelude.{◌≡◌, length};
+    ghost use Rattle.std.specs.Prelude.{◌≡◌, ◌*◌, length};
+    ghost use Rattle.pk_base.specs.Shape.{page_entries};
     ghost use Rattle.pk_walk.specs.Heads.{seen_head};
     ghost use Rattle.pk_walk.specs.Walking as spec;
 
@@ -57,7 +60,8 @@ impl<A: Allocator> Model for Cursor<A> {
       has_found = c.has_found;
     } };
 
-    ghost invariant = { λ c. length c.page.items ≡ c.shape.page_bytes };
+    ghost invariant = { λ c. (length c.page.items ≡ c.shape.page_bytes)
+        × (c.end ≡ c.loaded * page_entries c.shape) };
 }
 
 impl<A: Allocator> Cursor<A> {
@@ -71,6 +75,7 @@ impl<A: Allocator> Cursor<A> {
             shape,
             place: 0,
             loaded: 0,
+            end: 0,
             page,
             head: Head::Sought,
             has_found: false,
@@ -83,6 +88,7 @@ impl<A: Allocator> Cursor<A> {
     {
         self.place = 0;
         self.loaded = 0;
+        self.end = 0;
         self.head = Head::Sought;
         self.has_found = false;
     }
@@ -145,6 +151,16 @@ impl<A: Allocator> Cursor<A> {
         }
     }
 
+    // Has come past the pages up to page `p`.
+    fn come_past(&mut self, p: u32)
+        requires { p < 1000000 }
+        ensures { self.new ≡ record self.old { loaded = suc p } }
+    {
+        let end = (p + 1) * self.shape.entries();
+        self.loaded = p + 1;
+        self.end = end;
+    }
+
     // Comes to page `p`, the one of the place, by one read at most: it has its bytes, unless they
     // are in a frame.
     fn load<B: Nand>(
@@ -181,12 +197,12 @@ impl<A: Allocator> Cursor<A> {
         } else {
             match run.lease(p) {
                 Some(_) => {
-                    self.loaded = p + 1;
+                    self.come_past(p);
                     Ok(())
                 }
                 None => match run.load_page(board, arena, p, &mut self.page) {
                     Ok(()) => {
-                        self.loaded = p + 1;
+                        self.come_past(p);
                         Ok(())
                     }
                     Err(fault) => Err(fault),
@@ -286,8 +302,7 @@ impl<A: Allocator> Cursor<A> {
         ensures { result ≡ true → (self.now.has_found ≡ true) × (self.now.place < run.now.count)
             × (self.now.place < self.now.loaded * page_entries self.now.shape) }
     {
-        let come_past = self.loaded as u64 * self.shape.entries() as u64;
-        self.has_found && self.place < run.entries() && (self.place as u64) < come_past
+        self.has_found && self.place < self.end && self.place < run.entries()
     }
 
     /// The entry at the place, whose page is there.
@@ -298,8 +313,7 @@ impl<A: Allocator> Cursor<A> {
             → slice_get entries (self.now.place % page_entries self.now.shape)
             ≡ Some (seen result) }
     {
-        let place = self.place();
-        let start = (self.loaded - 1) * self.shape.entries();
-        entry(&self.shape, self.bytes(arena, run), place - start)
+        let start = self.end - self.shape.entries();
+        entry(&self.shape, self.bytes(arena, run), self.place - start)
     }
 }
