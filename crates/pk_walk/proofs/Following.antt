@@ -1,5 +1,5 @@
 -- A cursor in a run: the page of its place, the entry at it, and what its moves leave.
-use Rattle.std.proofs.Common.{◌≡◌, ℕ, zero, suc, ◌+◌, ◌-◌, ◌*◌, ◌/◌, ◌%◌, ◌<◌, ◌≤◌, min, refl, sym, ap, subst, ◌∙◌, arith, Bool, true, false, if◌then◌else◌, T, is_some, List, [], ◌∷◌, ◌++◌, length, take, drop, slice_get, Some, None, div-lt_iff_lt-mul}
+use Rattle.std.proofs.Common.{◌≡◌, ℕ, zero, suc, ◌+◌, ◌-◌, ◌*◌, ◌/◌, ◌%◌, ◌<◌, ◌≤◌, min, refl, sym, ap, subst, ◌∙◌, arith, Bool, true, false, if◌then◌else◌, T, is_some, List, [], ◌∷◌, ◌++◌, length, take, drop, slice_get, Option, Some, None, div-lt_iff_lt-mul, mul-le-mul, suc-mul}
 use Rattle.std.specs.Ordering.{is_gt, is_eq}
 use Rattle.std.specs.declared.cmp.Ordering.{Ordering}
 use Rattle.std.specs.declared.cmp.Ordering.TheVariants.{Less, Equal, Greater}
@@ -19,13 +19,13 @@ use Rattle.pk_nand.specs.BoardState.{BoardState}
 use Rattle.pk_pin.specs.Frames.{Frames}
 use Rattle.pk_run.specs.Kept.{Kept, IsKept, RunOnFlash, page_of, after_look}
 use Rattle.pk_run.specs.Search.{IsPageFor}
-use Rattle.pk_run.proofs.Lookups.{first_is, page_starts, holds_piece}
+use Rattle.pk_run.proofs.Lookups.{first_is, page_starts, holds_piece, no_leases}
 use Rattle.pk_walk.specs.declared.position.Position.{Position}
 use Rattle.pk_walk.specs.declared.position.Position.TheVariants.{Above}
 use Rattle.pk_walk.specs.Visible.{is_wanted, wanted, WantsFrom}
 use Rattle.pk_walk.specs.Heads.{Head, IsNext, behind, held}
 use Rattle.pk_walk.specs.Walking.{Cursor, Follows, HasPassed, Reads, ReadsAll, at_start, read_of}
-use Rattle.pk_walk.specs.Steps.{MayLoad, StaysAt}
+use Rattle.pk_walk.specs.Steps.{MayLoad, StaysAt, bytes_in, seen_bytes}
 use Rattle.pk_model.proofs.MapLemmas.{key_antisymm}
 use Rattle.pk_walk.proofs.Merging.{turned}
 use Rattle.pk_walk.proofs.Wanting.{begun_at, narrowed, narrowed_behind, above_is_narrower}
@@ -39,19 +39,30 @@ entries_some shape is = let page : 512 ≤ shape.page_bytes = is.page_least in o
 pub page_exists : (r : Kept) (place : ℕ) → IsShape r.shape → IsKept r → place < r.count → place / page_entries r.shape < length r.firsts
 page_exists r place is kept h = (div-lt_iff_lt-mul (entries_some r.shape is)).1 (omega (arith, h, kept.entries))
 
--- the pages before that of a place lie before it
-pub before_page : (loaded place size : ℕ) → loaded ≡ suc (place / size) → (loaded - 1) * size ≤ place
-before_page loaded place size is =
-    let at = div-add-mod' place size in
-    let same : loaded - 1 ≡ place / size = omega (arith, is) in
-    subst (λ (n : ℕ). n * size ≤ place) (sym same) (omega (arith, at))
+-- where the pages end that were come past
+module _ (loaded place size stop : ℕ) (is : loaded ≡ suc (place / size)) (far : stop ≡ loaded * size) where
+  stops : stop ≡ place / size * size + size
+  stops = far ∙ ap (λ (n : ℕ). n * size) is ∙ suc-mul (place / size) size
 
--- so its place in the page is what is left
-pub in_page : (loaded place size : ℕ) → loaded ≡ suc (place / size) → place - (loaded - 1) * size ≡ place % size
-in_page loaded place size is =
-    let at = div-add-mod' place size in
-    let same : loaded - 1 ≡ place / size = omega (arith, is) in
-    subst (λ (n : ℕ). place - n * size ≡ place % size) (sym same) (omega (arith, at))
+  pub page_before : size ≤ stop
+  page_before = let e = stops in omega (arith, e)
+
+  -- the last of them begins up to the place
+  pub before_place : stop - size ≤ place
+  before_place = let e = stops in let at = div-add-mod' place size in omega (arith, e, at)
+
+  -- so the place in the page is what is left
+  pub in_page : place - (stop - size) ≡ place % size
+  in_page = let e = stops in let at = div-add-mod' place size in omega (arith, e, at)
+
+entries_most : (shape : Shape) → IsShape shape → page_entries shape ≤ 512
+entries_most shape is = let page : shape.page_bytes ≤ 16384 = is.page_most in omega arith
+
+pub end_fits : (shape : Shape) (p size : ℕ) → IsShape shape → p < 1000000 → size ≡ page_entries shape → (p + 1) * size < 4294967296
+end_fits shape p size is few same =
+    let most = entries_most shape is in
+    let end : (p + 1) * size ≤ 1000000 * 512 = mul-le-mul {n₂ = 1000000} {m₂ = 512} (omega (arith, few)) (omega (arith, same, most)) in
+    omega (arith, end)
 
 -- ---- the entry at a place
 
@@ -89,6 +100,39 @@ module _ (r : Kept) (flash : Flash) (arena : Frames) (es : List Entry) (is : IsS
       let count : number_at 2 10 bytes ≡ min size (length es - place / size * size) = own.count_is ∙ long ∙ ap (min size) left in
       rw count (omega (arith, low, at, inside, s.many))
 
+-- ---- the bytes of a page
+
+seen_nowhere : (leases : List ℕ) (i : ℕ) → slice_get leases i ≡ None → length leases ≤ i
+seen_nowhere [] i e = omega arith
+seen_nowhere (l ∷ leases) zero e = cc
+seen_nowhere (l ∷ leases) (suc i) e = omega (arith, seen_nowhere leases i e)
+
+-- where a page has a frame, the run has frames
+pub has_frames : (leases : List ℕ) (i lease : ℕ) → slice_get leases i ≡ Some lease → leases ≡ [] → ⊥
+has_frames [] i lease got none = cc
+has_frames (l ∷ leases) i lease got none = cc
+
+module _ (r : Kept) (flash : Flash) (arena : Frames) (es : List Entry) (s : RunOnFlash r flash arena es) (read : List ℕ) (p : ℕ) (exists : p < length r.firsts) (own : r.leases ≡ [] → page_at flash (page_of r p) ≡ whole read) where
+  seen_page : (o : Option ℕ) → slice_get r.leases p ≡ o → page_at flash (page_of r p) ≡ whole (seen_bytes read arena o)
+  seen_page None e = own (no_leases r flash arena es s p exists (seen_nowhere r.leases p e))
+  seen_page (Some lease) e = (s.frames p lease e).bytes
+
+-- the cursor has the page that it came past last
+pub page_seen : (r : Kept) (flash : Flash) (arena : Frames) (es : List Entry) (c : Cursor) (p : ℕ) → RunOnFlash r flash arena es → p < length r.firsts → c.loaded ≡ suc p
+    → (r.leases ≡ [] → page_at flash (page_of r p) ≡ whole c.bytes) → page_at flash (page_of r p) ≡ whole (bytes_in r arena c)
+page_seen r flash arena es c p s exists loaded own =
+    let same : p ≡ c.loaded - 1 = omega (arith, loaded) in
+    subst (λ (n : ℕ). page_at flash (page_of r p) ≡ whole (seen_bytes c.bytes arena (slice_get r.leases n))) same (seen_page r flash arena es s c.bytes p exists own (slice_get r.leases p) refl)
+
+-- where it has a frame nothing is read
+pub come_pinned : (leases : List ℕ) (p lease a b : ℕ) (old : BoardState) → slice_get leases p ≡ Some lease → Reads (read_of leases a) (read_of leases b) old old
+come_pinned [] p lease a b old got = cc
+come_pinned (l ∷ leases) p lease a b old got = (0, omega arith, refl)
+
+pub come_pinned_all : (leases : List ℕ) (p lease a b : ℕ) (old : BoardState) → slice_get leases p ≡ Some lease → ReadsAll (read_of leases a) (read_of leases b) old old
+come_pinned_all [] p lease a b old got = cc
+come_pinned_all (l ∷ leases) p lease a b old got = (0, omega arith, refl)
+
 -- ---- moves of a cursor
 
 not_found : ◌≡◌ {A = Bool} false true → ⊥
@@ -102,19 +146,19 @@ module _ (flash : Flash) (r : Kept) (es : List Entry) (position : Position) (c :
   page place = place / page_entries r.shape
 
   -- it has come past the page of its place
-  pub Follows-loaded : (bytes : List ℕ) → page c.place < length r.firsts → page_at flash (page_of r (page c.place)) ≡ whole bytes → Follows flash r es position (record c { loaded = suc (page c.place); bytes = bytes })
-  Follows-loaded bytes exists here = record { pages = exists; behind = omega arith; holds = λ e. here; left = f.left; ended = f.ended; sure = λ has. (omega arith, (f.sure has).1) }
+  pub Follows-loaded : (bytes : List ℕ) → page c.place < length r.firsts → (r.leases ≡ [] → page_at flash (page_of r (page c.place)) ≡ whole bytes) → Follows flash r es position (record c { loaded = suc (page c.place); bytes = bytes })
+  Follows-loaded bytes exists here = record { pages = exists; behind = omega arith; holds = λ none e. here none; left = f.left; ended = f.ended; sure = λ has. (omega arith, (f.sure has).1) }
 
   -- it has not
   pub Follows-kept : (bytes : List ℕ) → c.loaded ≤ page c.place → Follows flash r es position (record c { bytes = bytes })
-  Follows-kept bytes before = record { pages = f.pages; behind = f.behind; holds = λ e. absurd (omega (arith, before, e)); left = f.left; ended = f.ended; sure = f.sure }
+  Follows-kept bytes before = record { pages = f.pages; behind = f.behind; holds = λ none e. absurd (omega (arith, before, e)); left = f.left; ended = f.ended; sure = f.sure }
 
   -- it is put to where the walk begins
   pub Follows-begun : (place : ℕ) → c.loaded ≡ 0 → c.head ≡ None → wanted (is_wanted position) es ≡ wanted (is_wanted position) (drop place es) → Follows flash r es position (record c { place = place })
   Follows-begun place none sought left = record {
     pages = f.pages;
     behind = omega (arith, none);
-    holds = λ e. absurd (omega (arith, none, e));
+    holds = λ unpinned e. absurd (omega (arith, none, e));
     left = subst (λ (h : Head). wanted (is_wanted position) es ≡ held h ++ wanted (is_wanted position) (drop place es)) (sym sought) left;
     ended = λ e. absurd (not_ended (sym sought ∙ e));
     sure = λ has. let some = (f.sure has).0 in absurd (omega (arith, none, some));
@@ -131,7 +175,7 @@ may_load flash r es position c p is kept inside f same =
     subst (λ (q : ℕ). MayLoad flash r q c) (sym same) (record { exists = page_exists r c.place is kept inside; behind = f.behind; holds = f.holds })
 
 -- with the page of its place it is where it was
-pub stays_loaded : (flash : Flash) (r : Kept) (c d : Cursor) → IsShape r.shape → c.place / page_entries r.shape < length r.firsts → page_at flash (page_of r (c.place / page_entries r.shape)) ≡ whole d.bytes
+pub stays_loaded : (flash : Flash) (r : Kept) (c d : Cursor) → IsShape r.shape → c.place / page_entries r.shape < length r.firsts → (r.leases ≡ [] → page_at flash (page_of r (c.place / page_entries r.shape)) ≡ whole d.bytes)
     → d ≡ record c { loaded = suc (c.place / page_entries r.shape); bytes = d.bytes } → StaysAt flash r c d
 stays_loaded flash r c d is exists here moved = record {
   place = moved ∙ (λ i. record c { loaded = (sym moved i).loaded; bytes = d.bytes });
@@ -198,7 +242,7 @@ Follows-above flash r es position c f key one high known = record {
 
 -- at the start it follows any run
 pub Follows-start : (flash : Flash) (r : Kept) (es : List Entry) (position : Position) (c : Cursor) → Follows flash r es position (at_start c)
-Follows-start flash r es position c = record { pages = omega arith; behind = omega arith; holds = λ e. absurd (omega (arith, e)); left = refl; ended = λ e. absurd (not_ended e); sure = λ has. absurd (not_found has) }
+Follows-start flash r es position c = record { pages = omega arith; behind = omega arith; holds = λ none e. absurd (omega (arith, e)); left = refl; ended = λ e. absurd (not_ended e); sure = λ has. absurd (not_found has) }
 
 -- ---- where a walk begins in a run
 

@@ -18,10 +18,10 @@ use Rattle.pk_walk.specs.declared.position.Position.{Position}
 use Rattle.pk_walk.specs.Visible.{is_wanted, wanted, first_of}
 use Rattle.pk_walk.specs.Heads.{Head, IsNext}
 use Rattle.pk_walk.specs.Walking.{Cursor, Follows, read_of}
-use Rattle.pk_walk.specs.Steps.{FindsIn, GoesOn, IsAt, ShowsIn, holding}
+use Rattle.pk_walk.specs.Steps.{FindsIn, GoesOn, IsAt, ShowsIn, bytes_in, holding}
 use Rattle.pk_walk.proofs.Wanting.{above_at, dropped, first_here, first_wanted, same_entry}
 use Rattle.pk_model.proofs.MapLemmas.{left_part, right_part}
-use Rattle.pk_walk.proofs.Following.{all_come, entries_some, page_holds_place, sought_left}
+use Rattle.pk_walk.proofs.Following.{all_come, entries_some, page_exists, page_holds_place, page_seen, sought_left}
 use Rattle.pk_walk.proofs.Moving.{AtPage, entry_here}
 use Rattle.pk_walk.proofs.Seeking.{Reads-none, ReadsAll-none, no_answer, one_list, same_answer}
 
@@ -51,9 +51,9 @@ holds_entry r flash arena es position d e is s f sought at found =
     record {
       pages = f.pages;
       behind = omega (arith, loaded, up);
-      holds = λ here.
+      holds = λ none here.
           let same : d.place / page_entries r.shape ≡ suc d.place / page_entries r.shape = omega (arith, here, loaded) in
-          ap (λ (p : ℕ). page_at flash (page_of r p)) (sym same) ∙ f.holds loaded;
+          ap (λ (p : ℕ). page_at flash (page_of r p)) (sym same) ∙ f.holds none loaded;
       left = sought_left flash r es position d f sought ∙ ap (wanted (is_wanted position)) (dropped es d.place e (at.is es s))
           ∙ ap (λ (b : Bool). if b then e ∷ wanted (is_wanted position) (drop (suc d.place) es) else wanted (is_wanted position) (drop (suc d.place) es)) one;
       ended = λ is. absurd (not_none e is);
@@ -121,10 +121,15 @@ module _ (r : Kept) (arena : Frames) (position : Position) (old : BoardState) (c
       let most = f.behind in
       omega (arith, low, most)
 
-  pub ready_here : AtPage r old.pages c
-  ready_here = record { shape = same; inside = ready.1; page = f.holds ready_loaded; loaded = ready_loaded }
+  pub ready_here : AtPage r old.pages arena c
+  ready_here = record {
+    shape = same;
+    inside = ready.1;
+    page = page_seen r old.pages arena es c (c.place / page_entries r.shape) s (page_exists r c.place is kept ready.1) ready_loaded (λ none. f.holds none ready_loaded);
+    loaded = ready_loaded;
+  }
 
-  pub ready_finds : (e : RustEntry) → ((level index : ℕ) (entries : List Entry) → IsMetaPage c.shape c.bytes level index entries → slice_get entries (c.place % page_entries c.shape) ≡ Some (seen e))
+  pub ready_finds : (e : RustEntry) → ((level index : ℕ) (entries : List Entry) → IsMetaPage c.shape (bytes_in r arena c) level index entries → slice_get entries (c.place % page_entries c.shape) ≡ Some (seen e))
       → FindsIn r arena position old old c c (Some e)
   ready_finds e shows = record {
     found = λ ys t. subst (λ (xs : List Entry). Some (seen e) ≡ first_of (wanted (is_wanted position) xs)) (one_list r old.pages arena es ys s t) first;

@@ -9,7 +9,7 @@ use Rattle.pk_base.specs.Shape.{Shape, IsShape, page_entries}
 use Rattle.pk_base.specs.Entry.{Entry, key_of}
 use Rattle.pk_base.specs.EntryBytes.{entry_at, cell_at}
 use Rattle.pk_base.specs.Fields.{number_at}
-use Rattle.pk_base.specs.Page.{Flash, page_at, whole}
+use Rattle.pk_base.specs.Page.{Flash, IsFlash, page_at, whole}
 use Rattle.pk_base.proofs.EntryLemmas.{key_of_at}
 use Rattle.pk_meta.specs.Page.{Decodes, IsMetaPage}
 use Rattle.pk_meta.proofs.PageLemmas.{meta_again}
@@ -20,7 +20,7 @@ use Rattle.pk_walk.specs.declared.position.Position.{Position}
 use Rattle.pk_walk.specs.Visible.{is_wanted, wanted}
 use Rattle.pk_walk.specs.Heads.{Head, IsNext, held}
 use Rattle.pk_walk.specs.Walking.{Cursor, Follows}
-use Rattle.pk_walk.specs.Steps.{IsFirstWanted, Moves}
+use Rattle.pk_walk.specs.Steps.{HasPage, IsFirstWanted, Moves, bytes_in}
 use Rattle.pk_walk.proofs.Wanting.{passed_by}
 use Rattle.pk_walk.proofs.Following.{entries_some, entry_within, get_taken, get_dropped, holds, not_ended, sought_left}
 
@@ -44,16 +44,16 @@ passed_many w es n (suc m) room none left =
 -- ---- the page of the place
 
 -- the cursor has the page of its place, and there is an entry at it
-pub record AtPage (r : Kept) (flash : Flash) (c : Cursor) : Type 0 where
+pub record AtPage (r : Kept) (flash : Flash) (arena : Frames) (c : Cursor) : Type 0 where
   pub shape : c.shape ≡ r.shape
   pub inside : c.place < r.count
-  pub page : page_at flash (page_of r (c.place / page_entries r.shape)) ≡ whole c.bytes
+  pub page : page_at flash (page_of r (c.place / page_entries r.shape)) ≡ whole (bytes_in r arena c)
   pub loaded : c.loaded ≡ suc (c.place / page_entries r.shape)
 
 same_some : (x e : Entry) → ◌≡◌ {A = Option Entry} (Some x) (Some e) → x ≡ e
 same_some x e p = cc
 
-module _ (r : Kept) (flash : Flash) (arena : Frames) (es : List Entry) (is : IsShape r.shape) (kept : IsKept r) (s : RunOnFlash r flash arena es) (c : Cursor) (at : AtPage r flash c) where
+module _ (r : Kept) (flash : Flash) (arena : Frames) (es : List Entry) (is : IsShape r.shape) (kept : IsKept r) (s : RunOnFlash r flash arena es) (c : Cursor) (at : AtPage r flash arena c) where
   abbrev size : ℕ
   size = page_entries r.shape
 
@@ -64,11 +64,11 @@ module _ (r : Kept) (flash : Flash) (arena : Frames) (es : List Entry) (is : IsS
   abbrev piece : List Entry
   piece = take size (drop start es)
 
-  page_has : IsMetaPage r.shape c.bytes r.level (c.place / size) piece
-  page_has = holds r flash arena es is kept c.place at.inside s c.bytes at.page
+  page_has : IsMetaPage r.shape (bytes_in r arena c) r.level (c.place / size) piece
+  page_has = holds r flash arena es is kept c.place at.inside s (bytes_in r arena c) at.page
 
-  count_is : number_at 2 10 c.bytes ≡ min size (length es - start)
-  count_is = (meta_again r.shape c.bytes r.level (c.place / size) piece is page_has).count_is ∙ length-take size (drop start es) ∙ ap (min size) (length-drop start es)
+  count_is : number_at 2 10 (bytes_in r arena c) ≡ min size (length es - start)
+  count_is = (meta_again r.shape (bytes_in r arena c) r.level (c.place / size) piece is page_has).count_is ∙ length-take size (drop start es) ∙ ap (min size) (length-drop start es)
 
   place_is : start + c.place % size ≡ c.place
   place_is = div-add-mod' c.place size
@@ -77,40 +77,50 @@ module _ (r : Kept) (flash : Flash) (arena : Frames) (es : List Entry) (is : IsS
   pub run_has : (k : ℕ) (e : Entry) → slice_get piece k ≡ Some e → slice_get es (start + k) ≡ Some e
   run_has k e got = sym (get_dropped es start k) ∙ get_taken (drop start es) size k e got
 
-  pub at_decodes : Decodes c.shape c.bytes
-  at_decodes = subst (λ (g : Shape). Decodes g c.bytes) (sym at.shape) (r.level, c.place / size, piece, page_has)
+  at_decodes : Decodes c.shape (bytes_in r arena c)
+  at_decodes = subst (λ (g : Shape). Decodes g (bytes_in r arena c)) (sym at.shape) (r.level, c.place / size, piece, page_has)
 
-  pub at_within : c.place % page_entries c.shape < number_at 2 10 c.bytes
-  at_within = subst (λ (g : Shape). c.place % page_entries g < number_at 2 10 c.bytes) (sym at.shape) (entry_within r flash arena es is kept c.place at.inside s c.bytes at.page)
+  at_within : c.place % page_entries c.shape < number_at 2 10 (bytes_in r arena c)
+  at_within = subst (λ (g : Shape). c.place % page_entries g < number_at 2 10 (bytes_in r arena c)) (sym at.shape) (entry_within r flash arena es is kept c.place at.inside s (bytes_in r arena c) at.page)
 
-  fits : start + number_at 2 10 c.bytes ≤ r.count
+  fits : start + number_at 2 10 (bytes_in r arena c) ≤ r.count
   fits = let count = count_is in let place = place_is in let inside = at.inside in let many = s.many in omega (arith, count, place, inside, many)
 
-  pub at_fits : c.place - c.place % page_entries c.shape + number_at 2 10 c.bytes ≤ r.count
+  pub at_fits : c.place - c.place % page_entries c.shape + number_at 2 10 (bytes_in r arena c) ≤ r.count
   at_fits =
-      subst (λ (g : Shape). c.place - c.place % page_entries g + number_at 2 10 c.bytes ≤ r.count) (sym at.shape)
+      subst (λ (g : Shape). c.place - c.place % page_entries g + number_at 2 10 (bytes_in r arena c) ≤ r.count) (sym at.shape)
       (let place = place_is in let room = fits in omega (arith, place, room))
 
+  -- the cursor has the page
+  pub at_page : IsFlash r.shape flash → HasPage r arena c
+  at_page full = record {
+    loaded = at.loaded ∙ ap (λ (g : Shape). suc (c.place / page_entries g)) (sym at.shape);
+    leased = λ lease got. (s.frames (c.loaded - 1) lease got).leased;
+    sized = (full.full (page_of r (c.place / size)) (bytes_in r arena c) at.page).0 ∙ ap (λ (g : Shape). g.page_bytes) (sym at.shape);
+    decodes = at_decodes;
+    within = at_within;
+  }
+
   -- the key at a place in the page is that of the run's entry
-  pub key_there : (k : ℕ) (e : Entry) → k < number_at 2 10 c.bytes → slice_get es (start + k) ≡ Some e → key_of e ≡ place_key c.bytes k
+  pub key_there : (k : ℕ) (e : Entry) → k < number_at 2 10 (bytes_in r arena c) → slice_get es (start + k) ≡ Some e → key_of e ≡ place_key (bytes_in r arena c) k
   key_there k e less got =
-      let cell = cell_entry r.shape c.bytes is r.level (c.place / size) piece page_has k less in
-      let same : entry_at (cell_at (32 + 32 * k) c.bytes) ≡ e = same_some _ e (sym (run_has k (entry_at (cell_at (32 + 32 * k) c.bytes)) cell) ∙ got) in
-      ap key_of (sym same) ∙ key_of_at (cell_at (32 + 32 * k) c.bytes)
+      let cell = cell_entry r.shape (bytes_in r arena c) is r.level (c.place / size) piece page_has k less in
+      let same : entry_at (cell_at (32 + 32 * k) (bytes_in r arena c)) ≡ e = same_some _ e (sym (run_has k (entry_at (cell_at (32 + 32 * k) (bytes_in r arena c))) cell) ∙ got) in
+      ap key_of (sym same) ∙ key_of_at (cell_at (32 + 32 * k) (bytes_in r arena c))
 
   -- an entry at the place in the page is the run's at the place
-  pub entry_here : (e : Entry) → ((level index : ℕ) (entries : List Entry) → IsMetaPage c.shape c.bytes level index entries → slice_get entries (c.place % page_entries c.shape) ≡ Some e)
+  pub entry_here : (e : Entry) → ((level index : ℕ) (entries : List Entry) → IsMetaPage c.shape (bytes_in r arena c) level index entries → slice_get entries (c.place % page_entries c.shape) ≡ Some e)
       → slice_get es c.place ≡ Some e
   entry_here e shows =
-      let got = subst (λ (g : Shape). (level index : ℕ) (entries : List Entry) → IsMetaPage g c.bytes level index entries → slice_get entries (c.place % page_entries g) ≡ Some e) at.shape shows in
+      let got = subst (λ (g : Shape). (level index : ℕ) (entries : List Entry) → IsMetaPage g (bytes_in r arena c) level index entries → slice_get entries (c.place % page_entries g) ≡ Some e) at.shape shows in
       ap (slice_get es) (sym place_is) ∙ run_has (c.place % size) e (got r.level (c.place / size) piece page_has)
 
   -- ---- a move in the page
 
-  module _ (position : Position) (d : Cursor) (found : Bool) (m : Moves position c d found) where
+  module _ (position : Position) (d : Cursor) (found : Bool) (m : Moves position (bytes_in r arena c) c d found) where
     -- as the run has it
-    first : IsFirstWanted position c.bytes (c.place % size) m.to
-    first = subst (λ (g : Shape). IsFirstWanted position c.bytes (c.place % page_entries g) m.to) at.shape m.first
+    first : IsFirstWanted position (bytes_in r arena c) (c.place % size) m.to
+    first = subst (λ (g : Shape). IsFirstWanted position (bytes_in r arena c) (c.place % page_entries g) m.to) at.shape m.first
 
     moved_to : d.place ≡ start + m.to
     moved_to =
@@ -167,11 +177,11 @@ module _ (r : Kept) (flash : Flash) (arena : Frames) (es : List Entry) (is : IsS
     moved_follows sought f = record {
       pages = subst (λ (n : ℕ). n ≤ length r.firsts) (sym same_loaded) f.pages;
       behind = (let behind = f.behind in let after = later in let loaded = same_loaded in omega (arith, behind, after, loaded));
-      holds = λ loaded.
+      holds = λ none loaded.
           let here = at.loaded in
           let own = same_loaded in
           let same : c.place / size ≡ d.place / size = omega (arith, loaded, here, own) in
-          ap (λ (p : ℕ). page_at flash (page_of r p)) (sym same) ∙ at.page ∙ ap (λ (x : Cursor). whole x.bytes) (sym m.cursor);
+          ap (λ (p : ℕ). page_at flash (page_of r p)) (sym same) ∙ f.holds none here ∙ ap (λ (x : Cursor). whole x.bytes) (sym m.cursor);
       left = subst (λ (h : Head). wanted (is_wanted position) es ≡ held h ++ wanted (is_wanted position) (drop d.place es)) (sym (moved_sought sought)) (moved_left (sought_left flash r es position c f sought));
       ended = λ e. absurd (not_ended (sym (moved_sought sought) ∙ e));
       sure = λ has.
@@ -184,10 +194,10 @@ module _ (r : Kept) (flash : Flash) (arena : Frames) (es : List Entry) (is : IsS
 
     -- where a wanted entry was found it has the page of its place still
     module _ (there : found ≡ true) where
-      within : m.to < number_at 2 10 c.bytes
-      within = ltb-true m.to (number_at 2 10 c.bytes) (sym m.tells ∙ there)
+      within : m.to < number_at 2 10 (bytes_in r arena c)
+      within = ltb-true m.to (number_at 2 10 (bytes_in r arena c)) (sym m.tells ∙ there)
 
-      pub found_at : AtPage r flash d
+      pub found_at : AtPage r flash arena d
       found_at =
           let less = within in
           let room = fits in
@@ -199,7 +209,7 @@ module _ (r : Kept) (flash : Flash) (arena : Frames) (es : List Entry) (is : IsS
           record {
             shape = ap (λ (x : Cursor). x.shape) m.cursor ∙ at.shape;
             inside = omega (arith, to, less, room);
-            page = ap (λ (p : ℕ). page_at flash (page_of r p)) (sym same) ∙ at.page ∙ ap (λ (x : Cursor). whole x.bytes) (sym m.cursor);
+            page = ap (λ (p : ℕ). page_at flash (page_of r p)) (sym same) ∙ at.page ∙ ap (λ (x : Cursor). whole (bytes_in r arena x)) (sym m.cursor);
             loaded = ap (λ (x : Cursor). x.loaded) m.cursor ∙ at.loaded ∙ ap (λ (n : ℕ). suc n) same;
           }
 
@@ -210,19 +220,19 @@ module _ (r : Kept) (flash : Flash) (arena : Frames) (es : List Entry) (is : IsS
     -- else it went on
     pub none_forth : found ≡ false → c.place < d.place
     none_forth none =
-        let least = ltb-false m.to (number_at 2 10 c.bytes) (sym m.tells ∙ none) in
-        let own = entry_within r flash arena es is kept c.place at.inside s c.bytes at.page in
+        let least = ltb-false m.to (number_at 2 10 (bytes_in r arena c)) (sym m.tells ∙ none) in
+        let own = entry_within r flash arena es is kept c.place at.inside s (bytes_in r arena c) at.page in
         let to = moved_to in
         let place = place_is in
         omega (arith, least, own, to, place)
 
 -- ---- as the cursor goes there
 
-pub moves_to : (position : Position) (b : Cursor) (n to count : ℕ) (xs ys : List ℕ) → n ≡ page_entries b.shape → xs ≡ b.bytes → ys ≡ b.bytes → IsFirstWanted position xs (b.place % n) to → count ≡ number_at 2 10 ys
-    → Moves position b (record b { place = b.place - b.place % n + to }) (nat_lt to count)
-moves_to position b n to count xs ys size own same first is = record {
+pub moves_to : (position : Position) (page : List ℕ) (b : Cursor) (n to count : ℕ) → n ≡ page_entries b.shape → IsFirstWanted position page (b.place % page_entries b.shape) to → count ≡ number_at 2 10 page
+    → Moves position page b (record b { place = b.place - b.place % n + to }) (nat_lt to count)
+moves_to position page b n to count size first is = record {
   to = to;
-  first = subst (λ (zs : List ℕ). IsFirstWanted position zs (b.place % page_entries b.shape) to) own (subst (λ (m : ℕ). IsFirstWanted position xs (b.place % m) to) size first);
+  first = first;
   cursor = ap (λ (m : ℕ). record b { place = b.place - b.place % m + to }) size;
-  tells = ap (λ (m : ℕ). nat_lt to m) (is ∙ ap (number_at 2 10) same);
+  tells = ap (λ (m : ℕ). nat_lt to m) is;
 }

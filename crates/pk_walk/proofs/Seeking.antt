@@ -16,7 +16,7 @@ use Rattle.pk_level.proofs.Looking.{reads_more}
 use Rattle.pk_walk.specs.declared.position.Position.{Position}
 use Rattle.pk_walk.specs.Visible.{is_wanted, wanted, first_of}
 use Rattle.pk_walk.specs.Walking.{Cursor, Follows, HasPassed, Reads, ReadsAll, ReadsFail, SkipsNoPage, read_of}
-use Rattle.pk_walk.specs.Steps.{FailsToShow, FindsIn, GoesOn, IsAt, Looks, Moves, StaysAt}
+use Rattle.pk_walk.specs.Steps.{FailsToShow, FindsIn, GoesOn, IsAt, Looks, Moves, StaysAt, bytes_in}
 use Rattle.pk_walk.proofs.Wanting.{first_here, none_here}
 use Rattle.pk_walk.proofs.Following.{HasPassed-kept, all_come, sought_left}
 use Rattle.pk_walk.proofs.Moving.{AtPage, entry_here, found_at, found_wanted, moved_follows, moved_left, moved_sought, moved_within}
@@ -111,7 +111,7 @@ module _ (r : Kept) (arena : Frames) (position : Position) (old : BoardState) (f
     Seeking-end es s past = none_here (is_wanted position) es c.place (omega (arith, s.many, past)) (any_left es s)
 
     -- a page was looked at, and the cursor has its bytes
-    pub Seeking-looked : (next : BoardState) (d : Cursor) → StaysAt now.pages r c d → Looks r now next c d → Seeking r arena position old next first d
+    pub Seeking-looked : (next : BoardState) (d : Cursor) → StaysAt now.pages r c d → Looks r arena now next c d → Seeking r arena position old next first d
     Seeking-looked next d stays looks = record {
       es = at.es;
       stands = at.stands;
@@ -126,14 +126,14 @@ module _ (r : Kept) (arena : Frames) (position : Position) (old : BoardState) (f
     }
 
     -- it is the page of its place
-    pub looked_page : (next : BoardState) (d : Cursor) → first.shape ≡ r.shape → c.place < r.count → StaysAt now.pages r c d → Looks r now next c d → AtPage r old.pages d
+    pub looked_page : (next : BoardState) (d : Cursor) → first.shape ≡ r.shape → c.place < r.count → StaysAt now.pages r c d → Looks r arena now next c d → AtPage r old.pages arena d
     looked_page next d same inside stays looks =
         let place : c.place ≡ d.place = sym (ap (λ (x : Cursor). x.place) stays.place) in
         record {
           shape = ap (λ (x : Cursor). x.shape) stays.place ∙ at.shape ∙ same;
           inside = omega (arith, place, inside);
-          page = subst (λ (n : ℕ). page_at old.pages (page_of r (n / page_entries r.shape)) ≡ whole d.bytes) place
-              (subst (λ (flash : Flash). page_at flash (page_of r (c.place / page_entries r.shape)) ≡ whole d.bytes) (Reads-pages _ _ old now at.reads) looks.page);
+          page = subst (λ (n : ℕ). page_at old.pages (page_of r (n / page_entries r.shape)) ≡ whole (bytes_in r arena d)) place
+              (subst (λ (flash : Flash). page_at flash (page_of r (c.place / page_entries r.shape)) ≡ whole (bytes_in r arena d)) (Reads-pages _ _ old now at.reads) looks.page);
           loaded = subst (λ (n : ℕ). d.loaded ≡ suc (n / page_entries r.shape)) place looks.loaded;
         }
 
@@ -177,7 +177,7 @@ module _ (r : Kept) (arena : Frames) (position : Position) (old : BoardState) (f
     }
 
     -- the cursor has the page of its place, and goes on in it
-    module _ (is : IsShape r.shape) (kept : IsKept r) (here : AtPage r old.pages c) (d : Cursor) (found : Bool) (m : Moves position c d found) where
+    module _ (is : IsShape r.shape) (kept : IsKept r) (here : AtPage r old.pages arena c) (d : Cursor) (found : Bool) (m : Moves position (bytes_in r arena c) c d found) where
       same_loaded : c.loaded ≡ d.loaded
       same_loaded = sym (ap (λ (x : Cursor). x.loaded) m.cursor)
 
@@ -197,7 +197,7 @@ module _ (r : Kept) (arena : Frames) (position : Position) (old : BoardState) (f
 
       -- to the first wanted entry
       pub Seeking-finds : (there : found ≡ true) (e : RustEntry)
-          → ((level index : ℕ) (entries : List Entry) → IsMetaPage d.shape d.bytes level index entries → slice_get entries (d.place % page_entries d.shape) ≡ Some (seen e))
+          → ((level index : ℕ) (entries : List Entry) → IsMetaPage d.shape (bytes_in r arena d) level index entries → slice_get entries (d.place % page_entries d.shape) ≡ Some (seen e))
           → FindsIn r arena position old now first d (Some e)
       Seeking-finds there e shows = record {
         found = λ es s.
@@ -212,7 +212,7 @@ module _ (r : Kept) (arena : Frames) (position : Position) (old : BoardState) (f
         ended = λ is none before. absurd (no_answer e is);
       }
         where
-          own : AtPage r old.pages d
+          own : AtPage r old.pages arena d
           own = found_at r old.pages arena at.es is kept at.stands c here position d found m there
 
           found_here : (es : List Entry) → RunOnFlash r old.pages arena es → slice_get es d.place ≡ Some (seen e)

@@ -11,7 +11,8 @@ use Rattle.pk_base.specs.Seen.{entry as seen}
 use Rattle.pk_base.specs.declared.entry.Entry.{Entry as RustEntry}
 use Rattle.pk_nand.specs.BoardState.{BoardState}
 use Rattle.pk_nand.specs.Calls.{ReadFailed}
-use Rattle.pk_pin.specs.Frames.{Frames}
+use Rattle.pk_meta.specs.Page.{Decodes}
+use Rattle.pk_pin.specs.Frames.{Frames, IsLeased, frame_of}
 use Rattle.pk_run.specs.Kept.{Kept, RunOnFlash, page_of}
 use Rattle.pk_level.specs.Levels.{RunsOnFlash}
 use Rattle.pk_walk.specs.declared.position.Position.{Position}
@@ -22,11 +23,28 @@ use Rattle.pk_walk.specs.Walking.{Cursor, Tops, Walk, AreOfShape, Follows, Follo
 
 -- ---- a page of a run
 
--- Page p of the run is there, and the cursor has come past no later one, and has its bytes if it has come past it.
+-- the bytes of a page: those in its frame, or, where it has none, those that were read
+abbrev pub seen_bytes : List ℕ → Frames → Option ℕ → List ℕ
+seen_bytes read arena None = read
+seen_bytes read arena (Some lease) = frame_of arena lease
+
+-- of the last page that the cursor has come past
+abbrev pub bytes_in : Kept → Frames → Cursor → List ℕ
+bytes_in r arena c = seen_bytes c.bytes arena (slice_get r.leases (c.loaded - 1))
+
+-- The cursor has the page of its place, in a frame or as it was read, and there is an entry at it.
+pub record HasPage (r : Kept) (arena : Frames) (c : Cursor) : Type 0 where
+  pub loaded : c.loaded ≡ suc (c.place / page_entries c.shape)
+  pub leased : (lease : ℕ) → slice_get r.leases (c.loaded - 1) ≡ Some lease → IsLeased arena lease
+  pub sized : length (bytes_in r arena c) ≡ c.shape.page_bytes
+  pub decodes : Decodes c.shape (bytes_in r arena c)
+  pub within : c.place % page_entries c.shape < number_at 2 10 (bytes_in r arena c)
+
+-- Page p of the run is there, and the cursor has come past no later one; and where the run has no frames, it has its bytes if it has come past it.
 pub record MayLoad (flash : Flash) (r : Kept) (p : ℕ) (c : Cursor) : Type 0 where
   pub exists : p < length r.firsts
   pub behind : c.loaded ≤ suc p
-  pub holds : c.loaded ≡ suc p → page_at flash (page_of r p) ≡ whole c.bytes
+  pub holds : r.leases ≡ [] → c.loaded ≡ suc p → page_at flash (page_of r p) ≡ whole c.bytes
 
 -- The cursor has come past page p; pages were read at most once as it came past them, and exactly once where it skipped none.
 pub record Loads (r : Kept) (p : ℕ) (old new : BoardState) (c d : Cursor) : Type 0 where
@@ -48,8 +66,8 @@ pub record StaysAt (flash : Flash) (r : Kept) (c d : Cursor) : Type 0 where
   pub follows : (es : List Entry) (position : Position) → Follows flash r es position c → Follows flash r es position d
 
 -- The cursor has the page of its place; it was read at most once, and exactly once where none was skipped.
-pub record Looks (r : Kept) (old new : BoardState) (c d : Cursor) : Type 0 where
-  pub page : page_at old.pages (page_of r (c.place / page_entries r.shape)) ≡ whole d.bytes
+pub record Looks (r : Kept) (arena : Frames) (old new : BoardState) (c d : Cursor) : Type 0 where
+  pub page : page_at old.pages (page_of r (c.place / page_entries r.shape)) ≡ whole (bytes_in r arena d)
   pub loaded : d.loaded ≡ suc (c.place / page_entries r.shape)
   pub here : d.place < d.loaded * page_entries d.shape
   pub reads : Reads (read_of r.leases c.loaded) (read_of r.leases d.loaded) old new
@@ -67,12 +85,12 @@ pub record IsFirstWanted (position : Position) (page : List ℕ) (from place : �
   pub before : (k : ℕ) → from ≤ k → k < place → is_wanted position (cell_key (cell_at (HEAD_BYTES + ENTRY_BYTES * k) page)) ≡ false
   pub at : place < number_at 2 10 page → is_wanted position (cell_key (cell_at (HEAD_BYTES + ENTRY_BYTES * place) page)) ≡ true
 
--- The cursor went on in its page to the first wanted entry from its place on, or, where none was found, behind the last.
-pub record Moves (position : Position) (c d : Cursor) (found : Bool) : Type 0 where
+-- The cursor went on in its page, of these bytes, to the first wanted entry from its place on, or, where none was found, behind the last.
+pub record Moves (position : Position) (page : List ℕ) (c d : Cursor) (found : Bool) : Type 0 where
   pub to : ℕ
-  pub first : IsFirstWanted position c.bytes (c.place % page_entries c.shape) to
+  pub first : IsFirstWanted position page (c.place % page_entries c.shape) to
   pub cursor : d ≡ record c { place = c.place - c.place % page_entries c.shape + to }
-  pub tells : found ≡ nat_lt to (number_at 2 10 c.bytes)
+  pub tells : found ≡ nat_lt to (number_at 2 10 page)
 
 -- ---- the first wanted entry of a run
 

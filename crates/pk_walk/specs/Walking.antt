@@ -20,8 +20,8 @@ use Rattle.pk_walk.specs.Heads.{Head, IsNext, Shows, behind, held, seen_head}
 use Rattle.pk_walk.specs.declared.position.Position.{Position}
 use Rattle.pk_walk.specs.declared.position.Position.TheVariants.{First, From, Above}
 
--- A place among the entries of a run; how many pages of the run the walk has come past, and the bytes of the last of them;
--- and the first wanted entry, which stands just before the place. A cursor that has found one wants all those from its place on.
+-- A place among the entries of a run; how many pages of the run the walk has come past, and the bytes of the last of them where it
+-- was read; and the first wanted entry, which stands just before the place. A cursor that has found one wants all those from its place on.
 pub record Cursor : Type 0 where
   pub shape : Shape
   pub place : ℕ
@@ -89,11 +89,11 @@ pub record IsWalk (w : Walk) : Type 0 where
 
 -- ---- cursors and runs
 
--- No wanted key of the run stands before the cursor but the one that it has, and it has the page of its place if it has come past it.
+-- No wanted key of the run stands before the cursor but the one that it has; and where the run has no frames, it has the page of its place if it has come past it.
 pub record Follows (flash : Flash) (r : Kept) (es : List Entry) (position : Position) (c : Cursor) : Type 0 where
   pub pages : c.loaded ≤ length r.firsts
   pub behind : c.loaded ≤ suc (c.place / page_entries r.shape)
-  pub holds : c.loaded ≡ suc (c.place / page_entries r.shape) → page_at flash (page_of r (c.place / page_entries r.shape)) ≡ whole c.bytes
+  pub holds : r.leases ≡ [] → c.loaded ≡ suc (c.place / page_entries r.shape) → page_at flash (page_of r (c.place / page_entries r.shape)) ≡ whole c.bytes
   pub left : wanted (is_wanted position) es ≡ held c.head ++ wanted (is_wanted position) (drop c.place es)
   pub ended : c.head ≡ Some None → r.count ≤ c.place
   pub sure : c.has_found ≡ true → (0 < c.loaded) × ((i : ℕ) (e : Entry) → c.place ≤ i → slice_get es i ≡ Some e → IsNext position c.head e)

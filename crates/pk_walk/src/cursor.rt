@@ -1,19 +1,19 @@
 //! A place among the entries of a run, which goes forward.
-ghost use Rattle.std.specs.Prelude.{◌≡◌, ◌<◌, ◌+◌, ◌-◌, ◌*◌, ◌/◌, ◌%◌, suc, true, if◌then◌else◌, ℕ, List, length, is_some, option_map, slice_get, Some, None, IfOk, IfErr, IsSome, OnOk, OnErr};
+ghost use Rattle.std.specs.Prelude.{◌≡◌, ◌<◌, ◌+◌, ◌-◌, ◌*◌, ◌/◌, ◌%◌, suc, true, if◌then◌else◌, ℕ, List, [], length, is_some, option_map, slice_get, Some, None, IfOk, IfErr, IsSome, OnOk, OnErr};
 ghost use Rattle.std.specs.Ordering.{is_eq};
 ghost use Rattle.pk_base.specs.Fields.{number_at};
 ghost use Rattle.pk_base.specs.Seen.{entry as seen};
 ghost use Rattle.pk_base.specs.Shape.{page_entries};
 ghost use Rattle.pk_base.specs.Entry.{Entry as EntrySpec};
 ghost use Rattle.pk_base.specs.Page.{Flash, page_at, whole};
-ghost use Rattle.pk_meta.specs.Page.{Decodes, IsMetaPage};
+ghost use Rattle.pk_meta.specs.Page.{IsMetaPage};
 ghost use Rattle.pk_nand.specs.Calls.{IsReady};
 ghost use Rattle.pk_nand.specs.declared.types.Fault.TheVariants.{Reading};
 ghost use Rattle.pk_pin.specs.Frames.{Frames};
 ghost use Rattle.pk_run.specs.Kept.{RunOnFlash, page_of};
 ghost use Rattle.pk_walk.specs.declared.position.Position.{Position as PositionSpec};
 ghost use Rattle.pk_walk.specs.Heads.{entry_in, let_go, seen_head};
-ghost use Rattle.pk_walk.specs.Steps.{FailsToLoad, FailsToShow, Loads, Looks, MayLoad, Moves, StaysAt, holding};
+ghost use Rattle.pk_walk.specs.Steps.{FailsToLoad, FailsToShow, HasPage, IsFirstWanted, Loads, Looks, MayLoad, Moves, StaysAt, bytes_in, holding};
 ghost use Rattle.pk_walk.specs.Walking.{Follows, HasPassed, SkipsNoPage, at_start};
 
 use crate::begin::begins_at;
@@ -29,20 +29,23 @@ use std::alloc::{AllocError, Allocator};
 use std::cmp::Ordering;
 use std::marker::Model;
 
-/// The place, how many pages of the run lie up to it, and the bytes of the last of them; and the
-/// first wanted entry, once it was found, just before the place.
+/// The place, how many pages of the run lie up to it, and the bytes of the last of them that was
+/// read; and the first wanted entry, once it was found, just before the place. `end` is the place
+/// where those pages end.
 #[derive(Drop)]
 pub struct Cursor<A: Allocator> {
     shape: Shape,
     place: u32,
     loaded: u32,
+    end: u32,
     page: Vec<u8, A>,
     head: Head,
     has_found: bool,
 }
 
 impl<A: Allocator> Model for Cursor<A> {
-    ghost use Rattle.std.specs.Prelude.{◌≡◌, length};
+    ghost use Rattle.std.specs.Prelude.{◌≡◌, ◌*◌, length};
+    ghost use Rattle.pk_base.specs.Shape.{page_entries};
     ghost use Rattle.pk_walk.specs.Heads.{seen_head};
     ghost use Rattle.pk_walk.specs.Walking as spec;
 
@@ -57,7 +60,8 @@ impl<A: Allocator> Model for Cursor<A> {
       has_found = c.has_found;
     } };
 
-    ghost invariant = { λ c. length c.page.items ≡ c.shape.page_bytes };
+    ghost invariant = { λ c. (length c.page.items ≡ c.shape.page_bytes)
+        × (c.end ≡ c.loaded * page_entries c.shape) };
 }
 
 impl<A: Allocator> Cursor<A> {
@@ -71,6 +75,7 @@ impl<A: Allocator> Cursor<A> {
             shape,
             place: 0,
             loaded: 0,
+            end: 0,
             page,
             head: Head::Sought,
             has_found: false,
@@ -83,6 +88,7 @@ impl<A: Allocator> Cursor<A> {
     {
         self.place = 0;
         self.loaded = 0;
+        self.end = 0;
         self.head = Head::Sought;
         self.has_found = false;
     }
@@ -145,7 +151,18 @@ impl<A: Allocator> Cursor<A> {
         }
     }
 
-    // Has the bytes of page `p`, the one of the place, by one read at most.
+    // Has come past the pages up to page `p`.
+    fn come_past(&mut self, p: u32)
+        requires { p < 1000000 }
+        ensures { self.new ≡ record self.old { loaded = suc p } }
+    {
+        let end = (p + 1) * self.shape.entries();
+        self.loaded = p + 1;
+        self.end = end;
+    }
+
+    // Comes to page `p`, the one of the place, by one read at most: it has its bytes, unless they
+    // are in a frame.
     fn load<B: Nand>(
         &mut self,
         board: &mut B,
@@ -162,8 +179,8 @@ impl<A: Allocator> Cursor<A> {
         // The page.
         ensures loads { OnOk result (Loads run.now p (B.state board.old) (B.state board.new)
             self.old self.new) }
-        ensures page { OnOk result (page_at (B.state board.old).pages (page_of run.now p)
-            ≡ whole self.new.bytes) }
+        ensures page { OnOk result (run.now.leases ≡ [] → page_at (B.state board.old).pages
+            (page_of run.now p) ≡ whole self.new.bytes) }
 
         // Only a read fails.
         ensures fails { OnErr result (FailsToLoad run.now p (B.state board.old)
@@ -178,12 +195,18 @@ impl<A: Allocator> Cursor<A> {
         if self.loaded == p + 1 {
             Ok(())
         } else {
-            match run.load_page(board, arena, p, &mut self.page) {
-                Ok(()) => {
-                    self.loaded = p + 1;
+            match run.lease(p) {
+                Some(_) => {
+                    self.come_past(p);
                     Ok(())
                 }
-                Err(fault) => Err(fault),
+                None => match run.load_page(board, arena, p, &mut self.page) {
+                    Ok(()) => {
+                        self.come_past(p);
+                        Ok(())
+                    }
+                    Err(fault) => Err(fault),
+                },
             }
         }
     }
@@ -204,8 +227,8 @@ impl<A: Allocator> Cursor<A> {
         requires exists { self.old.place < run.now.count }
 
         // The page of the place.
-        ensures looks { OnOk result (Looks run.now (B.state board.old) (B.state board.new)
-            self.old self.new) }
+        ensures looks { OnOk result (Looks run.now arena.now (B.state board.old)
+            (B.state board.new) self.old self.new) }
 
         // The cursor stays at its place in any case, and only a read fails.
         ensures stays { StaysAt (B.state board.old).pages run.now self.old self.new }
@@ -226,20 +249,51 @@ impl<A: Allocator> Cursor<A> {
         }
     }
 
-    /// Goes to the first wanted entry from the place on in its page; false where there is none, and
-    /// it is behind the page then.
-    pub fn skip(&mut self, position: &Position) -> bool
-        requires decodes { Decodes self.old.shape self.old.bytes }
-        requires within { self.old.place % page_entries self.old.shape
-            < number_at 2 10 self.old.bytes }
-        requires fits { self.old.place - self.old.place % page_entries self.old.shape
-            + number_at 2 10 self.old.bytes < 4294967296 }
-        ensures { Moves position.now self.old self.new result }
+    // The bytes of the page of the place: where the page has a frame they are read in it.
+    fn bytes<'a>(&'a self, arena: &'a PinArena<A>, run: &Run<A>) -> &'a [u8]
+        requires { HasPage run.now arena.now self.now }
+        ensures { result.now ≡ bytes_in run.now arena.now self.now }
+    {
+        match run.lease(self.loaded - 1) {
+            Some(lease) => arena.bytes(lease),
+            None => &self.page,
+        }
+    }
+
+    // The place in its page of the first wanted entry from the place on; the end where there is
+    // none.
+    fn wanted_here(&self, arena: &PinArena<A>, run: &Run<A>, position: &Position) -> u32
+        requires { HasPage run.now arena.now self.now }
+        ensures { IsFirstWanted position.now (bytes_in run.now arena.now self.now)
+            (self.now.place % page_entries self.now.shape) result }
     {
         let before = self.place % self.shape.entries();
-        let to = first_wanted(&self.shape, &self.page, position, before);
+        first_wanted(&self.shape, self.bytes(arena, run), position, before)
+    }
+
+    // How many entries its page has.
+    fn entries_here(&self, arena: &PinArena<A>, run: &Run<A>) -> u32
+        requires { HasPage run.now arena.now self.now }
+        ensures { result ≡ number_at 2 10 (bytes_in run.now arena.now self.now) }
+    {
+        self.shape.known();
+        get_u16(self.bytes(arena, run), 10) as u32
+    }
+
+    /// Goes to the first wanted entry from the place on in its page; false where there is none, and
+    /// it is behind the page then.
+    pub fn skip(&mut self, arena: &PinArena<A>, run: &Run<A>, position: &Position) -> bool
+        requires page { HasPage run.now arena.now self.old }
+        requires fits { self.old.place - self.old.place % page_entries self.old.shape
+            + number_at 2 10 (bytes_in run.now arena.now self.old) < 4294967296 }
+        ensures { Moves position.now (bytes_in run.now arena.now self.old) self.old self.new
+            result }
+    {
+        let before = self.place % self.shape.entries();
+        let to = self.wanted_here(arena, run, position);
+        let end = self.entries_here(arena, run);
         self.place = self.place - before + to;
-        to < get_u16(&self.page, 10) as u32
+        to < end
     }
 
     /// Whether the entry at the place is the next wanted one, and its page is there. Where a walk
@@ -248,24 +302,18 @@ impl<A: Allocator> Cursor<A> {
         ensures { result ≡ true → (self.now.has_found ≡ true) × (self.now.place < run.now.count)
             × (self.now.place < self.now.loaded * page_entries self.now.shape) }
     {
-        let come_past = self.loaded as u64 * self.shape.entries() as u64;
-        self.has_found && self.place < run.entries() && (self.place as u64) < come_past
+        self.has_found && self.place < self.end && self.place < run.entries()
     }
 
     /// The entry at the place, whose page is there.
-    pub fn entry(&self) -> Entry
-        requires decodes { Decodes self.now.shape self.now.bytes }
-        requires within { self.now.place % page_entries self.now.shape
-            < number_at 2 10 self.now.bytes }
-        requires here { self.now.loaded
-            ≡ suc (self.now.place / page_entries self.now.shape) }
+    pub fn entry(&self, arena: &PinArena<A>, run: &Run<A>) -> Entry
+        requires { HasPage run.now arena.now self.now }
         ensures { (level index : ℕ) (entries : List EntrySpec)
-            → IsMetaPage self.now.shape self.now.bytes level index entries
+            → IsMetaPage self.now.shape (bytes_in run.now arena.now self.now) level index entries
             → slice_get entries (self.now.place % page_entries self.now.shape)
             ≡ Some (seen result) }
     {
-        let place = self.place();
-        let start = (self.loaded - 1) * self.shape.entries();
-        entry(&self.shape, &self.page, place - start)
+        let start = self.end - self.shape.entries();
+        entry(&self.shape, self.bytes(arena, run), self.place - start)
     }
 }

@@ -51,7 +51,7 @@ pub fn seek<A: Allocator, B: Nand>(
     if cursor.head().is_known() {
         Ok(())
     } else if cursor.is_ready(run) {
-        let entry = cursor.entry();
+        let entry = cursor.entry(arena, run);
         cursor.hold(Some(entry));
         Ok(())
     } else {
@@ -103,8 +103,8 @@ fn search<A: Allocator, B: Nand>(
             Ok(()) => {}
             Err(fault) => return Err(fault),
         }
-        if cursor.skip(position) {
-            return Ok(Some(cursor.entry()));
+        if cursor.skip(arena, run, position) {
+            return Ok(Some(cursor.entry(arena, run)));
         }
     }
     Ok(None)

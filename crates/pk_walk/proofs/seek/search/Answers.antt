@@ -1,7 +1,6 @@
-use Rattle.std.proofs.Common.{suc, sym, ◌∙◌, ◌/◌, ap, arith}
-use Rattle.pk_base.specs.Shape.{Shape, page_entries}
+use Rattle.std.proofs.Common.{ap, arith}
 use Rattle.pk_walk.specs.Walking.{Cursor}
-use Rattle.pk_walk.proofs.Moving.{at_decodes, at_within, at_fits, found_at, none_forth}
+use Rattle.pk_walk.proofs.Moving.{at_page, at_fits, found_at, none_forth}
 use Rattle.pk_walk.proofs.Seeking.{Seeking-start, Seeking-looked, Seeking-moved, Seeking-finds, Seeking-goes_on, Seeking-none, Seeking-stays, Seeking-fails, looked_page}
 use Rattle.pk_walk.proofs.seek.search.Goals as goal
 
@@ -12,21 +11,13 @@ loop-cursor-init g c = record {
       c.requires.follows.0 c.requires.follows.1 c.requires.follows.2 c.begin.ensures.follows c.begin.ensures.place c.begin.ensures.passed c.requires.sought;
 }
 
-pub skip-requires-clause-decodes : goal.skip-requires-clause-decodes
-skip-requires-clause-decodes g c =
+pub skip-requires-clause-page : goal.skip-requires-clause-page
+skip-requires-clause-page g c =
     let old = g.B.Nand.state c.args.board.now in
     let seeking = c.loop-cursor.invariant.seeking in
     let here = looked_page c.args.run.now c.args.arena.now c.args.position.now old c.args.cursor.now (g.B.Nand.state c.loop-cursor.board) c.loop-cursor.cursor seeking
     (g.B.Nand.state c.look.new.board) c.look.new.self c.requires.shape (omega (arith, c.loop-cursor-test.true, c.place.ensures, c.entries.ensures)) c.in-Ok.ensures.stays c.in-Ok.ensures.looks in
-    at_decodes c.args.run.now old.pages c.args.arena.now seeking.es c.known.ensures.shape c.known.ensures.kept seeking.stands c.look.new.self here
-
-pub skip-requires-clause-within : goal.skip-requires-clause-within
-skip-requires-clause-within g c =
-    let old = g.B.Nand.state c.args.board.now in
-    let seeking = c.loop-cursor.invariant.seeking in
-    let here = looked_page c.args.run.now c.args.arena.now c.args.position.now old c.args.cursor.now (g.B.Nand.state c.loop-cursor.board) c.loop-cursor.cursor seeking
-    (g.B.Nand.state c.look.new.board) c.look.new.self c.requires.shape (omega (arith, c.loop-cursor-test.true, c.place.ensures, c.entries.ensures)) c.in-Ok.ensures.stays c.in-Ok.ensures.looks in
-    at_within c.args.run.now old.pages c.args.arena.now seeking.es c.known.ensures.shape c.known.ensures.kept seeking.stands c.look.new.self here
+    at_page c.args.run.now old.pages c.args.arena.now seeking.es c.known.ensures.shape c.known.ensures.kept seeking.stands c.look.new.self here c.requires.ready.flash
 
 pub skip-requires-clause-fits : goal.skip-requires-clause-fits
 skip-requires-clause-fits g c =
@@ -37,32 +28,14 @@ skip-requires-clause-fits g c =
     let room = at_fits c.args.run.now old.pages c.args.arena.now seeking.es c.known.ensures.shape c.known.ensures.kept seeking.stands c.look.new.self here in
     omega (arith, room, c.entries.ensures)
 
-pub entry-requires-clause-decodes : goal.entry-requires-clause-decodes
-entry-requires-clause-decodes g c =
+pub entry-requires : goal.entry-requires
+entry-requires g c =
     let old = g.B.Nand.state c.args.board.now in
     let seeking = c.loop-cursor.invariant.seeking in
     let here = looked_page c.args.run.now c.args.arena.now c.args.position.now old c.args.cursor.now (g.B.Nand.state c.loop-cursor.board) c.loop-cursor.cursor seeking
     (g.B.Nand.state c.look.new.board) c.look.new.self c.requires.shape (omega (arith, c.loop-cursor-test.true, c.place.ensures, c.entries.ensures)) c.in-Ok.ensures.stays c.in-Ok.ensures.looks in
     let there = found_at c.args.run.now old.pages c.args.arena.now seeking.es c.known.ensures.shape c.known.ensures.kept seeking.stands c.look.new.self here c.args.position.now c.skip.new.self c.skip.result c.skip.ensures c.if-skip.true in
-    at_decodes c.args.run.now old.pages c.args.arena.now seeking.es c.known.ensures.shape c.known.ensures.kept seeking.stands c.skip.new.self there
-
-pub entry-requires-clause-within : goal.entry-requires-clause-within
-entry-requires-clause-within g c =
-    let old = g.B.Nand.state c.args.board.now in
-    let seeking = c.loop-cursor.invariant.seeking in
-    let here = looked_page c.args.run.now c.args.arena.now c.args.position.now old c.args.cursor.now (g.B.Nand.state c.loop-cursor.board) c.loop-cursor.cursor seeking
-    (g.B.Nand.state c.look.new.board) c.look.new.self c.requires.shape (omega (arith, c.loop-cursor-test.true, c.place.ensures, c.entries.ensures)) c.in-Ok.ensures.stays c.in-Ok.ensures.looks in
-    let there = found_at c.args.run.now old.pages c.args.arena.now seeking.es c.known.ensures.shape c.known.ensures.kept seeking.stands c.look.new.self here c.args.position.now c.skip.new.self c.skip.result c.skip.ensures c.if-skip.true in
-    at_within c.args.run.now old.pages c.args.arena.now seeking.es c.known.ensures.shape c.known.ensures.kept seeking.stands c.skip.new.self there
-
-pub entry-requires-clause-here : goal.entry-requires-clause-here
-entry-requires-clause-here g c =
-    let old = g.B.Nand.state c.args.board.now in
-    let seeking = c.loop-cursor.invariant.seeking in
-    let here = looked_page c.args.run.now c.args.arena.now c.args.position.now old c.args.cursor.now (g.B.Nand.state c.loop-cursor.board) c.loop-cursor.cursor seeking
-    (g.B.Nand.state c.look.new.board) c.look.new.self c.requires.shape (omega (arith, c.loop-cursor-test.true, c.place.ensures, c.entries.ensures)) c.in-Ok.ensures.stays c.in-Ok.ensures.looks in
-    let there = found_at c.args.run.now old.pages c.args.arena.now seeking.es c.known.ensures.shape c.known.ensures.kept seeking.stands c.look.new.self here c.args.position.now c.skip.new.self c.skip.result c.skip.ensures c.if-skip.true in
-    there.loaded ∙ ap (λ (g : Shape). suc (c.skip.new.self.place / page_entries g)) (sym there.shape)
+    at_page c.args.run.now old.pages c.args.arena.now seeking.es c.known.ensures.shape c.known.ensures.kept seeking.stands c.skip.new.self there c.requires.ready.flash
 
 pub returns-then-skip-clause-finds : goal.returns-then-skip-clause-finds
 returns-then-skip-clause-finds g c =

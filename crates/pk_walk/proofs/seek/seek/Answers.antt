@@ -1,10 +1,9 @@
-use Rattle.std.proofs.Common.{suc, ◌/◌, ap, sym, subst, ◌∙◌, arith, is_some, Some}
-use Rattle.pk_base.specs.Shape.{Shape, page_entries}
+use Rattle.std.proofs.Common.{ap, sym, subst, ◌∙◌, arith, is_some, Some}
 use Rattle.pk_walk.specs.Heads.{Head}
 use Rattle.pk_walk.specs.Walking.{Cursor}
 use Rattle.pk_walk.specs.Steps.{GoesOn, ShowsIn}
-use Rattle.pk_walk.proofs.Moving.{at_decodes, at_within}
-use Rattle.pk_walk.proofs.Holding.{holding_shows, holding_goes_on, known_shows, known_goes_on, place_fits, ready_finds, ready_here, ready_loaded, unknown}
+use Rattle.pk_walk.proofs.Moving.{at_page}
+use Rattle.pk_walk.proofs.Holding.{holding_shows, holding_goes_on, known_shows, known_goes_on, place_fits, ready_finds, ready_here, unknown}
 use Rattle.pk_walk.proofs.seek.seek.Goals as goal
 
 pub search-requires-clause-sought : goal.search-requires-clause-sought
@@ -33,23 +32,11 @@ returns-in-Ok-clause-goes_on g c =
     subst (λ (d : Cursor). GoesOn (g.B.Nand.state c.args.board.now).pages c.args.arena.now c.args.run.now c.args.position.now c.args.cursor.now d) (sym c.hold-in-Ok.ensures)
     (holding_goes_on c.args.run.now c.args.arena.now c.args.position.now (g.B.Nand.state c.args.board.now) (g.B.Nand.state c.search.new.board) c.args.cursor.now c.search.new.cursor c.in-Ok.found c.known.ensures.shape c.requires.shape c.in-Ok.ensures.finds c.in-Ok.ensures.goes_on)
 
-pub entry-entry-requires-clause-decodes : goal.entry-entry-requires-clause-decodes
-entry-entry-requires-clause-decodes g c =
+pub entry-entry-requires : goal.entry-entry-requires
+entry-entry-requires g c =
     let here = ready_here c.args.run.now c.args.arena.now c.args.position.now (g.B.Nand.state c.args.board.now) c.args.cursor.now c.requires.follows.0 c.requires.follows.1 c.requires.follows.2
     c.known.ensures.shape c.known.ensures.kept c.requires.shape (unknown c.args.cursor.now.head (ap (λ (h : Head). is_some h) (sym c.head.ensures) ∙ sym c.is_known.ensures ∙ c.if-is_known.false)) (c.is_ready.ensures c.if-is_ready.true) in
-    at_decodes c.args.run.now (g.B.Nand.state c.args.board.now).pages c.args.arena.now c.requires.follows.0 c.known.ensures.shape c.known.ensures.kept c.requires.follows.1 c.args.cursor.now here
-
-pub entry-entry-requires-clause-within : goal.entry-entry-requires-clause-within
-entry-entry-requires-clause-within g c =
-    let here = ready_here c.args.run.now c.args.arena.now c.args.position.now (g.B.Nand.state c.args.board.now) c.args.cursor.now c.requires.follows.0 c.requires.follows.1 c.requires.follows.2
-    c.known.ensures.shape c.known.ensures.kept c.requires.shape (unknown c.args.cursor.now.head (ap (λ (h : Head). is_some h) (sym c.head.ensures) ∙ sym c.is_known.ensures ∙ c.if-is_known.false)) (c.is_ready.ensures c.if-is_ready.true) in
-    at_within c.args.run.now (g.B.Nand.state c.args.board.now).pages c.args.arena.now c.requires.follows.0 c.known.ensures.shape c.known.ensures.kept c.requires.follows.1 c.args.cursor.now here
-
-pub entry-entry-requires-clause-here : goal.entry-entry-requires-clause-here
-entry-entry-requires-clause-here g c =
-    let loaded = ready_loaded c.args.run.now c.args.arena.now c.args.position.now (g.B.Nand.state c.args.board.now) c.args.cursor.now c.requires.follows.0 c.requires.follows.1 c.requires.follows.2
-    c.known.ensures.shape c.known.ensures.kept c.requires.shape (unknown c.args.cursor.now.head (ap (λ (h : Head). is_some h) (sym c.head.ensures) ∙ sym c.is_known.ensures ∙ c.if-is_known.false)) (c.is_ready.ensures c.if-is_ready.true) in
-    loaded ∙ ap (λ (shape : Shape). suc (c.args.cursor.now.place / page_entries shape)) (sym c.requires.shape)
+    at_page c.args.run.now (g.B.Nand.state c.args.board.now).pages c.args.arena.now c.requires.follows.0 c.known.ensures.shape c.known.ensures.kept c.requires.follows.1 c.args.cursor.now here c.requires.ready.flash
 
 pub hold-requires : goal.hold-requires
 hold-requires g c some = let inside = (c.is_ready.ensures c.if-is_ready.true).1 in omega (arith, inside, c.entries.ensures)

@@ -1,7 +1,17 @@
 use Rattle.std.proofs.Common.{ap, arith, rules, ◌≤◌}
 use Rattle.pk_walk.specs.Walking.{Cursor}
-use Rattle.pk_walk.proofs.Following.{looked, looked_all}
+use Rattle.pk_walk.proofs.Following.{looked, looked_all, come_pinned, come_pinned_all, has_frames}
 use Rattle.pk_walk.proofs.cursor.Cursor.load.Goals as goal
+
+pub returns-in-Some-clause-loads : goal.returns-in-Some-clause-loads
+returns-in-Some-clause-loads g c = record {
+  cursor = search rules;
+  reads = come_pinned c.args.run.now.leases c.args.p _ _ _ (g.B.Nand.state c.args.board.now) c.in-Some.ensures;
+  all = λ come. come_pinned_all c.args.run.now.leases c.args.p _ _ _ (g.B.Nand.state c.args.board.now) c.in-Some.ensures;
+}
+
+pub returns-in-Some-clause-page : goal.returns-in-Some-clause-page
+returns-in-Some-clause-page g c none = absurd (has_frames c.args.run.now.leases c.args.p _ c.in-Some.ensures none)
 
 pub returns-in-Ok-clause-loads : goal.returns-in-Ok-clause-loads
 returns-in-Ok-clause-loads g c =
