@@ -10,7 +10,6 @@ use pk_nand::{Mark, PageBytes};
 use std::alloc::{AllocError, Global};
 
 /// The marks since the board was handed in. Each mark to come has a buffer for its bytes and one for those of its page.
-#[derive(Drop)]
 pub struct Trail {
     pub marks: Vec<Mark>,
     pub room: usize,
@@ -23,6 +22,19 @@ pub struct Trail {
     ghost marks_left: { room ≤ length marks.items + length for_marks.items },
     ghost pages_spare: { AreSpare page_bytes for_pages.items },
     ghost marks_spare: { AreSpare page_bytes for_marks.items },
+}
+
+// Written out, so that whoever drops one meets a call, and not the drops of all its parts.
+impl Drop for Trail {
+    fn drop(self) {
+        let Trail {
+            marks: _,
+            room: _,
+            page_bytes: _,
+            for_pages: _,
+            for_marks: _,
+        } = self;
+    }
 }
 
 impl Trail {

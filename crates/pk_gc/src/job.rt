@@ -44,13 +44,25 @@ use std::marker::Model;
 
 /// A reclaim: how far it has come, the values that it copied, and the page between a read and a
 /// program, in which the moves are written as well.
-#[derive(Drop)]
 pub struct ReclaimJob<A: Region> {
     shape: Shape,
     phase: Phase,
     moves: Vec<Move, A>,
     entries: Vec<Entry, A>,
     page: Vec<u8, A>,
+}
+
+// Written out, so that whoever drops one meets a call, and not the drops of all its parts.
+impl<A: Region> Drop for ReclaimJob<A> {
+    fn drop(self) {
+        let ReclaimJob {
+            shape: _,
+            phase: _,
+            moves: _,
+            entries: _,
+            page: _,
+        } = self;
+    }
 }
 
 impl<A: Region> Model for ReclaimJob<A> {

@@ -14,13 +14,25 @@ use std::marker::Model;
 
 /// The live values. Contracts see how many pages the value has that begins at each page, which is 0
 /// where none begins, and which blocks are closed.
-#[derive(Drop)]
 pub struct Live<A: Allocator> {
     block_pages: u32,
     total: u32,
     heads: Vec<u16, A>,
     counts: Vec<u32, A>,
     closed: Vec<bool, A>,
+}
+
+// Written out, so that whoever drops one meets a call, and not the drops of all its parts.
+impl<A: Allocator> Drop for Live<A> {
+    fn drop(self) {
+        let Live {
+            block_pages: _,
+            total: _,
+            heads: _,
+            counts: _,
+            closed: _,
+        } = self;
+    }
 }
 
 impl<A: Allocator> Model for Live<A> {

@@ -27,7 +27,6 @@ use std::alloc::AllocError;
 use std::marker::Model;
 
 /// What a drive keeps of its journal. Contracts see it as a value, and `LogOnFlash` says how it stands to a flash.
-#[derive(Drop)]
 pub struct Log<A: Region> {
     pub(crate) root: Root<A>,
     pub(crate) installer: Installer,
@@ -35,6 +34,20 @@ pub struct Log<A: Region> {
     pub(crate) active: Buffer<A>,
     pub(crate) frozen: Buffer<A>,
     pub(crate) pending: Vec<Entry, A>,
+}
+
+// Written out, so that whoever drops one meets a call, and not the drops of all its parts.
+impl<A: Region> Drop for Log<A> {
+    fn drop(self) {
+        let Log {
+            root: _,
+            installer: _,
+            epoch: _,
+            active: _,
+            frozen: _,
+            pending: _,
+        } = self;
+    }
 }
 
 impl<A: Region> Model for Log<A> {

@@ -32,13 +32,25 @@ use std::alloc::{AllocError, Allocator};
 use std::marker::Model;
 
 /// A merge, or none; and the runs for the outputs of the next ones.
-#[derive(Drop)]
 pub struct MergeJob<A: Region> {
     pinned: u8,
     target: u8,
     output: Option<Run<A>>,
     merger: Merger<A>,
     spares: Spares<A>,
+}
+
+// Written out, so that whoever drops one meets a call, and not the drops of all its parts.
+impl<A: Region> Drop for MergeJob<A> {
+    fn drop(self) {
+        let MergeJob {
+            pinned: _,
+            target: _,
+            output: _,
+            merger: _,
+            spares: _,
+        } = self;
+    }
 }
 
 impl<A: Region> Model for MergeJob<A> {

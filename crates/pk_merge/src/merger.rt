@@ -33,12 +33,23 @@ use std::cmp::Ordering;
 use std::marker::Model;
 
 /// A cursor in the source and one in the target, the entries of the next output page, and a page's bytes.
-#[derive(Drop)]
 pub struct Merger<A: Region> {
     source: Cursor<A>,
     target: Cursor<A>,
     gathered: Gathered<A>,
     page: Vec<u8, A>,
+}
+
+// Written out, so that whoever drops one meets a call, and not the drops of all its parts.
+impl<A: Region> Drop for Merger<A> {
+    fn drop(self) {
+        let Merger {
+            source: _,
+            target: _,
+            gathered: _,
+            page: _,
+        } = self;
+    }
 }
 
 impl<A: Region> Model for Merger<A> {

@@ -16,7 +16,6 @@ use std::marker::Model;
 
 /// The parts of a drive. Contracts see them as a record, and `DriveOnFlash` says how they stand to a flash. No call but `over` takes
 /// memory.
-#[derive(Drop)]
 pub struct Parts<A: Region> {
     pub(crate) log: Log<A>,
     pub(crate) levels: Levels<A>,
@@ -31,6 +30,25 @@ pub struct Parts<A: Region> {
     pub(crate) page: Vec<u8, A>,
     /// The walk of a List.
     pub(crate) walk: Walk<A>,
+}
+
+// Written out, so that whoever drops one meets a call, and not the drops of all its parts.
+impl<A: Region> Drop for Parts<A> {
+    fn drop(self) {
+        let Parts {
+            log: _,
+            levels: _,
+            arena: _,
+            schedule: _,
+            space: _,
+            reclaim: _,
+            pool: _,
+            keys: _,
+            stopped: _,
+            page: _,
+            walk: _,
+        } = self;
+    }
 }
 
 impl<A: Region> Model for Parts<A> {

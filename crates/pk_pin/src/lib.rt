@@ -30,12 +30,23 @@ impl Model for Lease {
 }
 
 /// The frames, each of one page. Contracts see which are leased, and what each contains.
-#[derive(Drop)]
 pub struct PinArena<A: Allocator> {
     page_bytes: usize,
     free: u32,
     used: Vec<bool, A>,
     bytes: Vec<u8, A>,
+}
+
+// Written out, so that whoever drops one meets a call, and not the drops of all its parts.
+impl<A: Allocator> Drop for PinArena<A> {
+    fn drop(self) {
+        let PinArena {
+            page_bytes: _,
+            free: _,
+            used: _,
+            bytes: _,
+        } = self;
+    }
 }
 
 impl<A: Allocator> Model for PinArena<A> {

@@ -19,7 +19,6 @@ use std::alloc::{AllocError, Allocator};
 use std::marker::Model;
 
 /// What memory keeps of a run. Contracts see it as a value, and `RunOnFlash` says which entries it has on a flash.
-#[derive(Drop)]
 pub struct Run<A: Allocator> {
     shape: Shape,
     level: u8,
@@ -27,6 +26,20 @@ pub struct Run<A: Allocator> {
     blocks: Vec<u16, A>,
     firsts: Vec<Key, A>,
     leases: Vec<Lease, A>,
+}
+
+// Written out, so that whoever drops one meets a call, and not the drops of all its parts.
+impl<A: Allocator> Drop for Run<A> {
+    fn drop(self) {
+        let Run {
+            shape: _,
+            level: _,
+            count: _,
+            blocks: _,
+            firsts: _,
+            leases: _,
+        } = self;
+    }
 }
 
 impl<A: Allocator> Model for Run<A> {

@@ -32,7 +32,6 @@ use std::marker::Model;
 /// The place, how many pages of the run lie up to it, and the bytes of the last of them that was
 /// read; and the first wanted entry, once it was found, just before the place. `end` is the place
 /// where those pages end.
-#[derive(Drop)]
 pub struct Cursor<A: Allocator> {
     shape: Shape,
     place: u32,
@@ -41,6 +40,21 @@ pub struct Cursor<A: Allocator> {
     page: Vec<u8, A>,
     head: Head,
     has_found: bool,
+}
+
+// Written out, so that whoever drops one meets a call, and not the drops of all its parts.
+impl<A: Allocator> Drop for Cursor<A> {
+    fn drop(self) {
+        let Cursor {
+            shape: _,
+            place: _,
+            loaded: _,
+            end: _,
+            page: _,
+            head: _,
+            has_found: _,
+        } = self;
+    }
 }
 
 impl<A: Allocator> Model for Cursor<A> {

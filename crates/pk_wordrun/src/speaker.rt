@@ -28,7 +28,6 @@ const MOST_VALUE_BYTES: usize = 4000;
 const SUMMARY_BYTES: usize = 9 * 20;
 
 /// All memory of the words, for drives of one shape, which is what contracts see of it.
-#[derive(Drop)]
 pub struct Speaker {
     pub(crate) shape: Shape,
     pub(crate) words: Words,
@@ -37,6 +36,19 @@ pub struct Speaker {
     pub(crate) value: Bytes,
     /// The summary of a workload.
     pub(crate) text: Bytes,
+}
+
+// Written out, so that whoever drops one meets a call, and not the drops of all its parts.
+impl Drop for Speaker {
+    fn drop(self) {
+        let Speaker {
+            shape: _,
+            words: _,
+            buffer: _,
+            value: _,
+            text: _,
+        } = self;
+    }
 }
 
 impl Model for Speaker {

@@ -19,13 +19,25 @@ use std::alloc::{AllocError, Global};
 use std::marker::Model;
 
 /// All memory that the words need, for drives of one shape, and the text that was said last.
-#[derive(Drop)]
 pub struct Words {
     shape: Shape,
     pub(crate) host: Host,
     value: Vec<u8>,
     pub(crate) page: KeyPage,
     pub(crate) text: Bytes,
+}
+
+// Written out, so that whoever drops one meets a call, and not the drops of all its parts.
+impl Drop for Words {
+    fn drop(self) {
+        let Words {
+            shape: _,
+            host: _,
+            value: _,
+            page: _,
+            text: _,
+        } = self;
+    }
 }
 
 impl Model for Words {
