@@ -1,5 +1,5 @@
 //! The keys of a List, as a walk gives them.
-ghost use Rattle.std.specs.Prelude.{◌≡◌, ◌+◌, ◌-◌, ◌%◌, ◌≤◌, ◌<◌, List, [], ◌∷◌, ◌++◌, length, take, min, None, false, IfOk, IfErr, OnOk, OnErr};
+ghost use Rattle.std.specs.Prelude.{◌≡◌, ◌+◌, ◌-◌, ◌%◌, ◌≤◌, ◌<◌, List, [], ◌∷◌, ◌++◌, length, replicate, take, min, None, false, IfOk, IfErr, OnOk, OnErr};
 ghost use Rattle.pk_base.specs.Key.{Key as KeySpec, IsKey};
 ghost use Rattle.pk_base.specs.Entry.{Entry as EntrySpec, Place};
 ghost use Rattle.pk_base.specs.Page.{Flash};
@@ -55,7 +55,20 @@ fn put_listed(into: &mut [u8], at: usize, key: &[u8])
     let len = key.len();
     put_u16(into, at, len as u16);
     put_text(into, at + 2, key);
-    put_zeros(into, at + 2 + len, at + 2 + len + padding(len));
+    put_padding(into, at + 2 + len, padding(len));
+}
+
+// Writes so many zeros; two of them, as behind a key of 16 bytes, at once.
+fn put_padding(into: &mut [u8], at: usize, count: usize)
+    requires { at + count ≤ length into.old }
+    ensures front { take (at + count) into.new ≡ take at into.old ++ replicate count 0 }
+    ensures len { length into.new ≡ length into.old }
+{
+    if count == 2 {
+        put_u16(into, at, 0);
+    } else {
+        put_zeros(into, at, at + count);
+    }
 }
 
 // Writes one more key, where it fits into the room.
