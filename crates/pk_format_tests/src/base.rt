@@ -31,13 +31,6 @@ fn has_large_numbers() -> bool {
     }
 }
 
-// The numbers of two shapes.
-#[test]
-fn numbers(rt: HostRuntime) {
-    assert!(rt; has_small_numbers());
-    assert!(rt; has_large_numbers());
-}
-
 fn is_refused(page_bytes: u32, block_pages: u32, blocks: u32, error: ShapeError) -> bool {
     match Shape::new(page_bytes, block_pages, blocks) {
         Ok(_) => false,
@@ -45,12 +38,12 @@ fn is_refused(page_bytes: u32, block_pages: u32, blocks: u32, error: ShapeError)
     }
 }
 
-#[test]
-fn refusals(rt: HostRuntime) {
-    assert!(rt; is_refused(500, 16, 64, ShapeError::BadPage));
-    assert!(rt; is_refused(512, 32, 64, ShapeError::BadBlock));
-    assert!(rt; is_refused(512, 16, 4096, ShapeError::TooLarge));
-    assert!(rt; is_refused(512, 16, 16, ShapeError::TooSmall));
+// Shapes that are none.
+fn refuses_shapes() -> bool {
+    is_refused(500, 16, 64, ShapeError::BadPage)
+        && is_refused(512, 32, 64, ShapeError::BadBlock)
+        && is_refused(512, 16, 4096, ShapeError::TooLarge)
+        && is_refused(512, 16, 16, ShapeError::TooSmall)
 }
 
 // An entry of 32 bytes.
@@ -94,11 +87,16 @@ fn are_found(shape: &Shape) -> bool {
     true
 }
 
-#[test]
-fn wrong_fields(rt: HostRuntime) {
-    let all = match Shape::new(512, 16, 64) {
+fn finds_fields() -> bool {
+    match Shape::new(512, 16, 64) {
         Ok(shape) => are_found(&shape),
         Err(_) => false,
-    };
-    assert!(rt; all);
+    }
+}
+
+// The numbers of two shapes, shapes that are refused, and wrong fields of entries.
+#[test]
+fn shapes_and_entries(rt: HostRuntime) {
+    assert!(rt; has_small_numbers() && has_large_numbers() && refuses_shapes());
+    assert!(rt; finds_fields());
 }

@@ -63,14 +63,6 @@ fn is_written() -> bool {
     }
 }
 
-// The header is written and read.
-#[test]
-fn headers(rt: HostRuntime) {
-    assert!(rt; is_written());
-    assert!(rt; read_header(&written_out(), SIZE).is_ok());
-    assert!(rt; are_refused());
-}
-
 // The places of the states and of the bytes of pages.
 fn are_places(shape: &Shape) -> bool {
     if shape.page_count() != 1024 {
@@ -104,13 +96,17 @@ fn has_places() -> bool {
     }
 }
 
-// The states of bytes, and the places of pages.
+fn are_states() -> bool {
+    is_state(0, 32, PageTag::Erased)
+        && is_state(1, 33, PageTag::Whole)
+        && is_state(2, 34, PageTag::Torn)
+        && is_no_state(3, 35)
+        && is_no_state(255, 36)
+}
+
+// The header is written and read, the states of bytes, and the places of pages.
 #[test]
-fn places(rt: HostRuntime) {
-    assert!(rt; is_state(0, 32, PageTag::Erased));
-    assert!(rt; is_state(1, 33, PageTag::Whole));
-    assert!(rt; is_state(2, 34, PageTag::Torn));
-    assert!(rt; is_no_state(3, 35));
-    assert!(rt; is_no_state(255, 36));
-    assert!(rt; has_places());
+fn images(rt: HostRuntime) {
+    assert!(rt; is_written() && read_header(&written_out(), SIZE).is_ok() && are_refused());
+    assert!(rt; are_states() && has_places());
 }

@@ -1,8 +1,9 @@
 //! Root pages by their bytes.
+ghost use Rattle.std.specs.Prelude.{◌≡◌};
 
 use pk_base::Shape;
 use pk_rootfmt::{BadRoot, Root, first};
-use std::alloc::{AllocError, Allocator};
+use std::alloc::Allocator;
 use std::test::*;
 
 /// The first root on a flash of 64 blocks of 16 pages of 512 bytes.
@@ -70,22 +71,13 @@ fn writes_first(shape: &Shape) -> bool {
 }
 
 /// A root without numbers becomes the first one.
-fn reads_first<A: Allocator + Clone>(alloc: A, shape: Shape) -> Result<bool, AllocError> {
-    let mut root = Root::new(alloc, shape)?;
-    if shape.page_bytes() != 512 || (root.number(), root.newest()) != (0, [0, 0]) {
-        return Ok(false);
+fn reads_first<A: Allocator>(root: &mut Root<A>, shape: &Shape) -> bool
+    requires { root.old.shape ≡ shape.now }
+{
+    if shape.page_bytes() != 512 || root.number() != 0 || root.newest() != [0, 0] {
+        return false;
     }
-    Ok(root.decode(&first_page()).is_ok() && is_first(&root))
-}
-
-#[test]
-fn first_root(rt: HostRuntime) {
-    let alloc = rt.alloc();
-    let all = match Shape::new(512, 16, 64) {
-        Ok(shape) => writes_first(&shape) && reads_first(alloc, shape) == Ok(true),
-        Err(_) => false,
-    };
-    assert!(rt; all);
+    root.decode(&first_page()).is_ok() && is_first(root)
 }
 
 /// The numbers and blocks of the later root.
@@ -97,29 +89,20 @@ fn is_later<A: Allocator>(root: &Root<A>) -> bool {
 }
 
 /// The later root is read, written, and kept where no root is read.
-fn later_goes_both_ways<A: Allocator + Clone>(alloc: A, shape: Shape) -> Result<bool, AllocError> {
-    let mut root = Root::new(alloc, shape)?;
+fn later_goes_both_ways<A: Allocator>(root: &mut Root<A>, shape: &Shape) -> bool
+    requires { root.old.shape ≡ shape.now }
+{
     if shape.page_bytes() != 512 {
-        return Ok(false);
+        return false;
     }
     match root.decode(&later_page()) {
         Ok(()) => {}
-        Err(_) => return Ok(false),
+        Err(_) => return false,
     }
     let mut page = [0xffu8; 512];
     root.encode(&mut page);
     let is_refused = root.decode(&[0u8; 512]) == Err(BadRoot { at: 0 });
-    Ok(page == later_page() && is_refused && is_later(&root))
-}
-
-#[test]
-fn later_root(rt: HostRuntime) {
-    let alloc = rt.alloc();
-    let all = match Shape::new(512, 16, 64) {
-        Ok(shape) => later_goes_both_ways(alloc, shape) == Ok(true),
-        Err(_) => false,
-    };
-    assert!(rt; all);
+    page == later_page() && is_refused && is_later(root)
 }
 
 /// The numbers and blocks of a root whose parts were set.
@@ -132,29 +115,19 @@ fn is_set<A: Allocator>(root: &Root<A>) -> bool {
 }
 
 /// The parts of a root are set, and then the older epoch is taken away.
-fn sets_parts<A: Allocator + Clone>(alloc: A, shape: Shape) -> Result<bool, AllocError> {
-    let most = shape.meta_blocks();
-    let mut root = Root::new(alloc, shape)?;
-    if most < 4 {
-        return Ok(false);
+fn sets_parts<A: Allocator>(root: &mut Root<A>, shape: &Shape) -> bool
+    requires { root.old.shape ≡ shape.now }
+{
+    if shape.meta_blocks() < 4 {
+        return false;
     }
     root.set_number(9);
     root.set_epochs(4, [7, 8], Some([5, 6]));
     root.set_run(3, 300, &[10, 11]);
     root.set_run(1, 20, &[9]);
-    let is_set = is_set(&root);
+    let is_set = is_set(root);
     root.set_epochs(5, [7, 8], None);
-    Ok(is_set && root.older().is_none())
-}
-
-#[test]
-fn parts_set(rt: HostRuntime) {
-    let alloc = rt.alloc();
-    let all = match Shape::new(512, 16, 64) {
-        Ok(shape) => sets_parts(alloc, shape) == Ok(true),
-        Err(_) => false,
-    };
-    assert!(rt; all);
+    is_set && root.older().is_none()
 }
 
 /// A byte that is put at a place, and the first wrong field then.
@@ -213,19 +186,39 @@ fn are_found<A: Allocator + Copy>(alloc: A, shape: &Shape, page: &[u8; 512], row
     true
 }
 
-#[test]
-fn wrong_first_pages(rt: HostRuntime) {
-    let all = match Shape::new(512, 16, 64) {
-        Ok(shape) => are_found(rt.alloc(), &shape, &first_page(), FIRST_WRONG),
-        Err(_) => false,
+/// A root without numbers, which this does to it.
+#[derive(Clone, Copy)]
+enum Deed {
+    ReadFirst,
+    GoBothWays,
+    SetParts,
+}
+
+fn does<A: Allocator + Clone>(alloc: A, shape: &Shape, deed: Deed) -> bool {
+    let Ok(mut root) = Root::new(alloc, *shape) else {
+        return false;
     };
-    assert!(rt; all);
+    match deed {
+        Deed::ReadFirst => reads_first(&mut root, shape),
+        Deed::GoBothWays => later_goes_both_ways(&mut root, shape),
+        Deed::SetParts => sets_parts(&mut root, shape),
+    }
+}
+
+/// Roots are written and read, their parts are set, and each field in turn is wrong.
+fn are_roots<A: Allocator + Copy>(alloc: A, shape: &Shape) -> bool {
+    writes_first(shape)
+        && does(alloc, shape, Deed::ReadFirst)
+        && does(alloc, shape, Deed::GoBothWays)
+        && does(alloc, shape, Deed::SetParts)
+        && are_found(alloc, shape, &first_page(), FIRST_WRONG)
+        && are_found(alloc, shape, &later_page(), LATER_WRONG)
 }
 
 #[test]
-fn wrong_later_pages(rt: HostRuntime) {
+fn roots(rt: HostRuntime) {
     let all = match Shape::new(512, 16, 64) {
-        Ok(shape) => are_found(rt.alloc(), &shape, &later_page(), LATER_WRONG),
+        Ok(shape) => are_roots(rt.alloc(), &shape),
         Err(_) => false,
     };
     assert!(rt; all);

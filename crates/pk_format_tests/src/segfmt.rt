@@ -47,15 +47,6 @@ const SMALL: &[&[u8]] = &[
     b"hi",
 ];
 
-#[test]
-fn small_value(rt: HostRuntime) {
-    let all = match Shape::new(512, 16, 64) {
-        Ok(shape) => has_parts(&shape, b"ab", b"hi", 0, SMALL),
-        Err(_) => false,
-    };
-    assert!(rt; all);
-}
-
 // The value's last ten bytes stand in front of its second page.
 const FIRST: &[&[u8]] = &[
     b"\x10\x44\0\0",
@@ -73,15 +64,6 @@ fn has_both(shape: &Shape) -> bool {
     let mut value = [0x2eu8; 490];
     value[480..].copy_from_slice(b"0123456789");
     has_parts(shape, KEY, &value, 0, FIRST) && has_parts(shape, KEY, &value, 1, SECOND)
-}
-
-#[test]
-fn two_pages(rt: HostRuntime) {
-    let all = match Shape::new(512, 16, 64) {
-        Ok(shape) => has_both(&shape),
-        Err(_) => false,
-    };
-    assert!(rt; all);
 }
 
 // A head by its bytes.
@@ -148,11 +130,18 @@ fn are_refused(shape: &Shape) -> bool {
     true
 }
 
-// The head is read, and heads that differ from it in one byte are refused.
+// Values of one page and of two are written; a head is read, and heads that differ from it in one byte are refused.
+fn are_values(shape: &Shape) -> bool {
+    has_parts(shape, b"ab", b"hi", 0, SMALL)
+        && has_both(shape)
+        && is_head(shape)
+        && are_refused(shape)
+}
+
 #[test]
-fn wrong_bytes(rt: HostRuntime) {
+fn values(rt: HostRuntime) {
     let all = match Shape::new(512, 16, 64) {
-        Ok(shape) => is_head(&shape) && are_refused(&shape),
+        Ok(shape) => are_values(&shape),
         Err(_) => false,
     };
     assert!(rt; all);

@@ -145,13 +145,6 @@ const FRONT: &[Row] = &[
     (Ask::Other(RETRIEVE, b"a", 0), 0x00, 5, b""),
 ];
 
-#[test]
-fn sizes_of_values(rt: HostRuntime) {
-    assert!(rt; answers_all(rt.alloc(), EMPTY_VALUE));
-    assert!(rt; answers_all(rt.alloc(), GREATEST_VALUE));
-    assert!(rt; answers_all(rt.alloc(), FRONT));
-}
-
 /// Options of a Store on a missing key and on one that exists, and a key that is deleted.
 const OPTIONS: &[Row] = &[
     (Ask::Store(b"a", 1, b"x"), 0x87, 0, b""),
@@ -165,11 +158,6 @@ const OPTIONS: &[Row] = &[
     (Ask::Other(EXIST, b"a", 0), 0x87, 0, b""),
     (Ask::Other(RETRIEVE, b"a", 1), 0x87, 0, b""),
 ];
-
-#[test]
-fn keys_that_exist_or_not(rt: HostRuntime) {
-    assert!(rt; answers_all(rt.alloc(), OPTIONS));
-}
 
 /// The keys 61, 6100 and 62 in buffers of several sizes.
 const LISTS: &[Row] = &[
@@ -208,8 +196,11 @@ const LISTS: &[Row] = &[
 ];
 
 #[test]
-fn lists(rt: HostRuntime) {
-    assert!(rt; answers_all(rt.alloc(), LISTS));
+fn answers_to_commands(rt: HostRuntime) {
+    let alloc = rt.alloc();
+    assert!(rt; answers_all(alloc, EMPTY_VALUE) && answers_all(alloc, GREATEST_VALUE));
+    assert!(rt; answers_all(alloc, FRONT) && answers_all(alloc, OPTIONS));
+    assert!(rt; answers_all(alloc, LISTS));
 }
 
 /// Opcodes, namespaces and lengths of keys, and the status of each.

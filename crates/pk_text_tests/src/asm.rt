@@ -104,11 +104,6 @@ fn have_forms(alloc: Global) -> Result<bool, AllocError> {
     Ok(forms_hold(&mut value, &mut into))
 }
 
-#[test]
-fn forms_both_ways(rt: HostRuntime) {
-    assert!(rt; have_forms(rt.alloc()) == Ok(true));
-}
-
 /// A line with its number, and the entry and bytes that it gives.
 type Row = (&'static [u8], u64, Option<[u8; 5]>, &'static [u8]);
 
@@ -143,11 +138,6 @@ const SCRIPT: &[Row] = &[
     (b"store 61 616263", 1, Some([0x01, 1, 0x61, 3, 0]), b"abc"),
     (b"retrieve 61 3", 2, Some([0x02, 2, 0x61, 3, 0]), b""),
 ];
-
-#[test]
-fn script(rt: HostRuntime) {
-    assert!(rt; give_all(rt.alloc(), SCRIPT));
-}
 
 /// Lines outside the grammar.
 const BAD: &[&[u8]] = &[
@@ -194,13 +184,11 @@ fn are_bad(value: &mut Bytes) -> bool {
     true
 }
 
-#[test]
-fn bad_lines(rt: HostRuntime) {
-    let all = match Bytes::with_room(rt.alloc(), 1_100_000) {
+fn refuses_bad(alloc: Global) -> bool {
+    match Bytes::with_room(alloc, 1_100_000) {
         Ok(mut value) => are_bad(&mut value),
         Err(_) => false,
-    };
-    assert!(rt; all);
+    }
 }
 
 // Upper and lower case are read; empty lines and comments give nothing.
@@ -221,12 +209,6 @@ fn are_numbers() -> bool {
         && number(b"0") == Some(0)
         && number(b"00") == None
         && number(b"") == None
-}
-
-#[test]
-fn other_lines(rt: HostRuntime) {
-    assert!(rt; give_all(rt.alloc(), OTHERS));
-    assert!(rt; are_numbers());
 }
 
 /// So many bytes, these first and digits behind them.
@@ -263,13 +245,12 @@ fn long_gives(alloc: Global, size: usize, front: &[u8], bytes: Option<usize>) ->
 }
 
 // A comment of the greatest length and one that is longer; a Store of nearly that length and one that is longer.
-#[test]
-fn longest(rt: HostRuntime) {
+fn are_longest(alloc: Global) -> bool {
     let store = b"store 61 ".as_slice();
-    assert!(rt; long_gives(rt.alloc(), 2_200_000, b"#", Some(0)));
-    assert!(rt; long_gives(rt.alloc(), 2_200_001, b"#", None));
-    assert!(rt; long_gives(rt.alloc(), 2_199_999, store, Some(1_099_995)));
-    assert!(rt; long_gives(rt.alloc(), 2_200_001, store, None));
+    long_gives(alloc, 2_200_000, b"#", Some(0))
+        && long_gives(alloc, 2_200_001, b"#", None)
+        && long_gives(alloc, 2_199_999, store, Some(1_099_995))
+        && long_gives(alloc, 2_200_001, store, None)
 }
 
 /// How many of two flushes are printed, where they leave this text.
@@ -292,8 +273,14 @@ fn fit(alloc: Global, room: usize, text: &[u8], count: u32) -> bool {
 }
 
 // A line and its line feed are written where they fit, behind what stands there.
+fn have_room(alloc: Global) -> bool {
+    fit(alloc, 11, b"flush\n", 1) && fit(alloc, 12, b"flush\nflush\n", 2)
+}
+
 #[test]
-fn room(rt: HostRuntime) {
-    assert!(rt; fit(rt.alloc(), 11, b"flush\n", 1));
-    assert!(rt; fit(rt.alloc(), 12, b"flush\nflush\n", 2));
+fn lines(rt: HostRuntime) {
+    let alloc = rt.alloc();
+    assert!(rt; have_forms(alloc) == Ok(true));
+    assert!(rt; give_all(alloc, SCRIPT) && give_all(alloc, OTHERS) && are_numbers());
+    assert!(rt; refuses_bad(alloc) && are_longest(alloc) && have_room(alloc));
 }

@@ -38,14 +38,6 @@ fn shows_largest(alloc: Global) -> bool {
     shows(alloc, &head, b"\xfe", line)
 }
 
-// The lines of a Store, of a Retrieve of three bytes that read one page, and of the largest numbers.
-#[test]
-fn lines(rt: HostRuntime) {
-    assert!(rt; shows_store(rt.alloc()));
-    assert!(rt; shows_retrieve(rt.alloc()));
-    assert!(rt; shows_largest(rt.alloc()));
-}
-
 // Whether the record's head is shown in so much room, whether a byte fits behind it, and how many
 // bytes are there then.
 fn shown_in(alloc: Global, room: usize) -> Option<(bool, bool, usize)> {
@@ -56,9 +48,12 @@ fn shown_in(alloc: Global, room: usize) -> Option<(bool, bool, usize)> {
     Some((is_shown, is_behind, text.len()))
 }
 
-// A text that does not fit is not written at all.
+// The lines of a Store, of a Retrieve of three bytes that read one page, and of the largest numbers; a text that does not fit is not
+// written at all.
 #[test]
-fn no_room(rt: HostRuntime) {
-    assert!(rt; shown_in(rt.alloc(), 39) == Some((true, false, 39)));
-    assert!(rt; shown_in(rt.alloc(), 38) == Some((false, false, 0)));
+fn lines(rt: HostRuntime) {
+    let alloc = rt.alloc();
+    assert!(rt; shows_store(alloc) && shows_retrieve(alloc) && shows_largest(alloc));
+    assert!(rt; shown_in(alloc, 39) == Some((true, false, 39)));
+    assert!(rt; shown_in(alloc, 38) == Some((false, false, 0)));
 }

@@ -79,14 +79,12 @@ const BOTH: &[u8] = b"store 61 616263\nretrieve 61 3\n";
 const NO_FEED: &[u8] = b"store 61 616263\nretrieve 61 3";
 
 // Two entries, with and without the last line feed; comments and empty lines; a line outside the grammar.
-#[test]
-fn scripts(rt: HostRuntime) {
-    let alloc = rt.alloc();
-    assert!(rt; assembles(alloc, BOTH, TextEnd::Done, &STORE, &RETRIEVE));
-    assert!(rt; assembles(alloc, NO_FEED, TextEnd::Done, &STORE, &RETRIEVE));
-    assert!(rt; assembles(alloc, b"# one\n\nflush\n", TextEnd::Done, &FLUSH, b""));
-    assert!(rt; assembles(alloc, b"flush\nstroe\n", TextEnd::BadLine, &FLUSH, b""));
-    assert!(rt; assembles(alloc, b"", TextEnd::Done, b"", b""));
+fn are_assembled(alloc: Global) -> bool {
+    assembles(alloc, BOTH, TextEnd::Done, &STORE, &RETRIEVE)
+        && assembles(alloc, NO_FEED, TextEnd::Done, &STORE, &RETRIEVE)
+        && assembles(alloc, b"# one\n\nflush\n", TextEnd::Done, &FLUSH, b"")
+        && assembles(alloc, b"flush\nstroe\n", TextEnd::BadLine, &FLUSH, b"")
+        && assembles(alloc, b"", TextEnd::Done, b"", b"")
 }
 
 const SHOWN: &[u8] = b"cid=1 status=00 result=0 reads=0 data=-\n\
@@ -104,13 +102,11 @@ fn shows(alloc: Global, size: usize, end: TextEnd, shown: usize) -> bool {
 }
 
 // Two records; one that is cut short within its data, and one within its head.
-#[test]
-fn records(rt: HostRuntime) {
-    let alloc = rt.alloc();
-    assert!(rt; shows(alloc, 51, TextEnd::Done, 85));
-    assert!(rt; shows(alloc, 50, TextEnd::Truncated, 82));
-    assert!(rt; shows(alloc, 34, TextEnd::Truncated, 40));
-    assert!(rt; shows(alloc, 0, TextEnd::Done, 0));
+fn are_shown(alloc: Global) -> bool {
+    shows(alloc, 51, TextEnd::Done, 85)
+        && shows(alloc, 50, TextEnd::Truncated, 82)
+        && shows(alloc, 34, TextEnd::Truncated, 40)
+        && shows(alloc, 0, TextEnd::Done, 0)
 }
 
 // A board of which this call fails.
@@ -142,11 +138,16 @@ fn show_fails(alloc: Global, call: u64, left: Left, end: TextEnd, len: usize) ->
 }
 
 // The first call fetches, and posts follow it.
+fn are_failures(alloc: Global) -> bool {
+    assembly_fails(alloc, 0, Left::Untouched, TextEnd::Input, b"")
+        && assembly_fails(alloc, 1, Left::Part(10), TextEnd::Output, &FLUSH[..10])
+        && show_fails(alloc, 3, Left::Part(4), TextEnd::Output, 44)
+        && show_fails(alloc, 6, Left::Untouched, TextEnd::Input, 85)
+}
+
 #[test]
-fn failures(rt: HostRuntime) {
-    let alloc = rt.alloc();
-    assert!(rt; assembly_fails(alloc, 0, Left::Untouched, TextEnd::Input, b""));
-    assert!(rt; assembly_fails(alloc, 1, Left::Part(10), TextEnd::Output, &FLUSH[..10]));
-    assert!(rt; show_fails(alloc, 3, Left::Part(4), TextEnd::Output, 44));
-    assert!(rt; show_fails(alloc, 6, Left::Untouched, TextEnd::Input, 85));
+fn texts(rt: HostRuntime) {
+    assert!(rt; are_assembled(rt.alloc()));
+    assert!(rt; are_shown(rt.alloc()));
+    assert!(rt; are_failures(rt.alloc()));
 }
