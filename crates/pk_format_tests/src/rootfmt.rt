@@ -115,17 +115,18 @@ fn is_set<A: Allocator>(root: &Root<A>) -> bool {
 }
 
 /// The parts of a root are set, and then the older epoch is taken away.
-fn sets_parts<A: Allocator>(root: &mut Root<A>, shape: &Shape) -> bool
-    requires { root.old.shape ≡ shape.now }
-{
+fn sets_parts<A: Allocator + Clone>(alloc: A, shape: &Shape) -> bool {
     if shape.meta_blocks() < 4 {
         return false;
     }
+    let Ok(mut root) = Root::new(alloc, *shape) else {
+        return false;
+    };
     root.set_number(9);
     root.set_epochs(4, [7, 8], Some([5, 6]));
     root.set_run(3, 300, &[10, 11]);
     root.set_run(1, 20, &[9]);
-    let is_set = is_set(root);
+    let is_set = is_set(&root);
     root.set_epochs(5, [7, 8], None);
     is_set && root.older().is_none()
 }
@@ -186,31 +187,23 @@ fn are_found<A: Allocator + Copy>(alloc: A, shape: &Shape, page: &[u8; 512], row
     true
 }
 
-/// A root without numbers, which this does to it.
-#[derive(Clone, Copy)]
-enum Deed {
-    ReadFirst,
-    GoBothWays,
-    SetParts,
-}
-
-fn does<A: Allocator + Clone>(alloc: A, shape: &Shape, deed: Deed) -> bool {
+/// A root without numbers is read: the first one, or the later one, which is written, too.
+fn reads<A: Allocator + Clone>(alloc: A, shape: &Shape, is_first: bool) -> bool {
     let Ok(mut root) = Root::new(alloc, *shape) else {
         return false;
     };
-    match deed {
-        Deed::ReadFirst => reads_first(&mut root, shape),
-        Deed::GoBothWays => later_goes_both_ways(&mut root, shape),
-        Deed::SetParts => sets_parts(&mut root, shape),
+    if is_first {
+        return reads_first(&mut root, shape);
     }
+    later_goes_both_ways(&mut root, shape)
 }
 
 /// Roots are written and read, their parts are set, and each field in turn is wrong.
 fn are_roots<A: Allocator + Copy>(alloc: A, shape: &Shape) -> bool {
     writes_first(shape)
-        && does(alloc, shape, Deed::ReadFirst)
-        && does(alloc, shape, Deed::GoBothWays)
-        && does(alloc, shape, Deed::SetParts)
+        && reads(alloc, shape, true)
+        && reads(alloc, shape, false)
+        && sets_parts(alloc, shape)
         && are_found(alloc, shape, &first_page(), FIRST_WRONG)
         && are_found(alloc, shape, &later_page(), LATER_WRONG)
 }
