@@ -17,29 +17,33 @@ fn is_large(shape: &Shape) -> bool {
         && (shape.meta_blocks(), shape.data_blocks()) == (11, 495)
 }
 
-// The numbers of two shapes.
-#[test]
-fn numbers(rt: HostRuntime) -> Result<(), Fail> {
-    let small = Shape::new(512, 16, 64).ok().ok_or("a shape")?;
-    let large = Shape::new(4096, 64, 512).ok().ok_or("a shape")?;
-    assert!(rt; is_small(&small) && is_large(&large));
-    Ok(())
-}
-
-fn refused(page_bytes: u32, block_pages: u32, blocks: u32) -> Option<ShapeError> {
-    Shape::new(page_bytes, block_pages, blocks).err()
-}
-
-#[test]
-fn refusals(rt: HostRuntime) {
-    for (page_bytes, block_pages, blocks, error) in [
-        (500, 16, 64, ShapeError::BadPage),
-        (512, 32, 64, ShapeError::BadBlock),
-        (512, 16, 4096, ShapeError::TooLarge),
-        (512, 16, 16, ShapeError::TooSmall),
-    ] {
-        assert!(rt; refused(page_bytes, block_pages, blocks) == Some(error));
+fn has_small_numbers() -> bool {
+    match Shape::new(512, 16, 64) {
+        Ok(shape) => is_small(&shape),
+        Err(_) => false,
     }
+}
+
+fn has_large_numbers() -> bool {
+    match Shape::new(4096, 64, 512) {
+        Ok(shape) => is_large(&shape),
+        Err(_) => false,
+    }
+}
+
+fn is_refused(page_bytes: u32, block_pages: u32, blocks: u32, error: ShapeError) -> bool {
+    match Shape::new(page_bytes, block_pages, blocks) {
+        Ok(_) => false,
+        Err(found) => found == error,
+    }
+}
+
+// Shapes that are none.
+fn refuses_shapes() -> bool {
+    is_refused(500, 16, 64, ShapeError::BadPage)
+        && is_refused(512, 32, 64, ShapeError::BadBlock)
+        && is_refused(512, 16, 4096, ShapeError::TooLarge)
+        && is_refused(512, 16, 16, ShapeError::TooSmall)
 }
 
 // An entry of 32 bytes.
@@ -61,22 +65,38 @@ fn refused_at(shape: &Shape, place: usize, byte: u8) -> Option<u32> {
 }
 
 // The first wrong field of an entry's bytes, each changed at one place; the first is no change.
-#[test]
-fn wrong_fields(rt: HostRuntime) -> Result<(), Fail> {
-    let shape = Shape::new(512, 16, 64).ok().ok_or("a shape")?;
-    for (place, byte, at) in [
-        (0usize, 1u8, None),
-        (0, 17, Some(0u32)),
-        (1, 3, Some(1)),
-        (2, 1, Some(2)),
-        (3, 1, Some(3)),
-        (19, 1, Some(4)),
-        (22, 1, Some(20)),
-        (20, 31, Some(20)),
-        (26, 1, Some(24)),
-        (31, 1, Some(28)),
-    ] {
-        assert!(rt; refused_at(&shape, place, byte) == at);
+const FIELDS: &[(usize, u8, Option<u32>)] = &[
+    (0, 1, None),
+    (0, 17, Some(0)),
+    (1, 3, Some(1)),
+    (2, 1, Some(2)),
+    (3, 1, Some(3)),
+    (19, 1, Some(4)),
+    (22, 1, Some(20)),
+    (20, 31, Some(20)),
+    (26, 1, Some(24)),
+    (31, 1, Some(28)),
+];
+
+fn are_found(shape: &Shape) -> bool {
+    for (place, byte, at) in FIELDS {
+        if refused_at(shape, *place, *byte) != *at {
+            return false;
+        }
     }
-    Ok(())
+    true
+}
+
+fn finds_fields() -> bool {
+    match Shape::new(512, 16, 64) {
+        Ok(shape) => are_found(&shape),
+        Err(_) => false,
+    }
+}
+
+// The numbers of two shapes, shapes that are refused, and wrong fields of entries.
+#[test]
+fn shapes_and_entries(rt: HostRuntime) {
+    assert!(rt; has_small_numbers() && has_large_numbers() && refuses_shapes());
+    assert!(rt; finds_fields());
 }

@@ -14,41 +14,53 @@ fn written_out() -> [u8; 32] {
     bytes
 }
 
-// The place that a header with another byte at this place is refused at.
-fn refused_at(place: usize, byte: u8, len: u64) -> Option<ImageError> {
+// The length of the file.
+const SIZE: u64 = 32 + 1024 * 513;
+
+// Where a header with another byte at this place is refused, in a file of this length.
+fn refused_at(place: usize, byte: u8, len: u64) -> Option<u64> {
     let mut other = written_out();
     if place < 32 {
         other[place] = byte;
     }
-    read_header(&other, len).err()
+    match read_header(&other, len) {
+        Err(ImageError::Bad { at }) => Some(at),
+        _ => None,
+    }
 }
 
-// Headers that differ from it in one byte, and files of other lengths; the first is no change.
-#[test]
-fn headers(rt: HostRuntime) -> Result<(), Fail> {
-    let shape = Shape::new(512, 16, 64).ok().ok_or("a shape")?;
-    let size = 32 + 1024 * 513;
-    assert!(rt; header(&shape) == written_out());
-    assert!(rt; refused_at(0, b'P', size).is_none());
-    for (place, byte, len, at) in [
-        (0usize, b'p', size, 0u64),
-        (7, b'2', size, 0),
-        (8, 1, size, 8),
-        (12, 32, size, 8),
-        (16, 16, size, 8),
-        (17, 1, size, 32),
-        (19, 1, size, 8),
-        (20, 1, size, 20),
-        (31, 1, size, 20),
-        (0, b'P', 0, 0),
-        (0, b'P', 31, 31),
-        (0, b'P', 32, 32),
-        (0, b'P', size - 1, 32),
-        (0, b'P', size + 1, 32),
-    ] {
-        assert!(rt; refused_at(place, byte, len) == Some(ImageError::Bad { at }));
+// Headers that differ from it in one byte, files of other lengths, and where each is refused.
+const WRONG: &[(usize, u8, u64, u64)] = &[
+    (0, b'p', SIZE, 0),
+    (7, b'2', SIZE, 0),
+    (8, 1, SIZE, 8),
+    (12, 32, SIZE, 8),
+    (16, 16, SIZE, 8),
+    (17, 1, SIZE, 32),
+    (19, 1, SIZE, 8),
+    (20, 1, SIZE, 20),
+    (31, 1, SIZE, 20),
+    (0, b'P', 0, 0),
+    (0, b'P', 31, 31),
+    (0, b'P', 32, 32),
+    (0, b'P', SIZE - 1, 32),
+    (0, b'P', SIZE + 1, 32),
+];
+
+fn are_refused() -> bool {
+    for (place, byte, len, at) in WRONG {
+        if refused_at(*place, *byte, *len) != Some(*at) {
+            return false;
+        }
     }
-    Ok(())
+    true
+}
+
+fn is_written() -> bool {
+    match Shape::new(512, 16, 64) {
+        Ok(shape) => header(&shape) == written_out(),
+        Err(_) => false,
+    }
 }
 
 // The places of the states and of the bytes of pages.
@@ -61,19 +73,40 @@ fn are_places(shape: &Shape) -> bool {
         && page_at(shape, 1023) == 32 + 1024 + 1023 * 512
 }
 
-// The states of bytes, and the places of pages.
-#[test]
-fn places(rt: HostRuntime) -> Result<(), Fail> {
-    for (byte, at, tag) in [
-        (0, 32, Ok(PageTag::Erased)),
-        (1, 33, Ok(PageTag::Whole)),
-        (2, 34, Ok(PageTag::Torn)),
-        (3, 35, Err(ImageError::Bad { at: 35 })),
-        (255, 36, Err(ImageError::Bad { at: 36 })),
-    ] {
-        assert!(rt; state(byte, at) == tag);
+// The byte at this place has this state.
+fn is_state(byte: u8, place: u64, tag: PageTag) -> bool {
+    match state(byte, place) {
+        Ok(found) => found == tag,
+        Err(_) => false,
     }
-    let shape = Shape::new(512, 16, 64).ok().ok_or("a shape")?;
-    assert!(rt; are_places(&shape));
-    Ok(())
+}
+
+// A byte is no state, which is found at this place.
+fn is_no_state(byte: u8, place: u64) -> bool {
+    match state(byte, place) {
+        Err(ImageError::Bad { at }) => at == place,
+        _ => false,
+    }
+}
+
+fn has_places() -> bool {
+    match Shape::new(512, 16, 64) {
+        Ok(shape) => are_places(&shape),
+        Err(_) => false,
+    }
+}
+
+fn are_states() -> bool {
+    is_state(0, 32, PageTag::Erased)
+        && is_state(1, 33, PageTag::Whole)
+        && is_state(2, 34, PageTag::Torn)
+        && is_no_state(3, 35)
+        && is_no_state(255, 36)
+}
+
+// The header is written and read, the states of bytes, and the places of pages.
+#[test]
+fn images(rt: HostRuntime) {
+    assert!(rt; is_written() && read_header(&written_out(), SIZE).is_ok() && are_refused());
+    assert!(rt; are_states() && has_places());
 }

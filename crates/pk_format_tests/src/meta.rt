@@ -32,58 +32,60 @@ fn refused_at(shape: &Shape, place: usize, byte: u8) -> Option<u32> {
     }
 }
 
-// What stands before the entries of the page.
-fn head_of(shape: &Shape) -> Option<MetaHead> {
+// What stands before the entries of the page is read.
+fn is_read(shape: &Shape) -> bool {
     if shape.page_bytes() != 512 {
-        return None;
+        return false;
     }
-    decode(shape, &written_out()).ok()
+    let wanted = MetaHead {
+        level: 2,
+        index: 258,
+        count: 2,
+    };
+    match decode(shape, &written_out()) {
+        Ok(head) => head == wanted,
+        Err(_) => false,
+    }
 }
 
-// The page is decoded, its keys are found, and each field in turn is wrong.
-#[test]
-fn a_page(rt: HostRuntime) -> Result<(), Fail> {
-    let shape = Shape::new(512, 16, 64).ok().ok_or("a shape")?;
-    assert!(rt;
-        head_of(&shape)
-            == Some(MetaHead {
-                level: 2,
-                index: 258,
-                count: 2
-            })
-    );
-    for (place, byte, at) in [
-        (0usize, b'p', Some(0u32)),
-        (7, b'a', Some(0)),
-        (8, 0, Some(8)),
-        (8, 4, None),
-        (8, 5, Some(8)),
-        (9, 1, Some(9)),
-        (10, 0, Some(10)),
-        (10, 16, Some(10)),
-        (11, 1, Some(10)),
-        (10, 1, Some(64)),
-        (10, 3, Some(96)),
-        (15, 255, None),
-        (16, 1, Some(16)),
-        (31, 1, Some(16)),
-        (32, 0, Some(32)),
-        (33, 3, Some(32)),
-        (34, 1, Some(32)),
-        (36, b'b', Some(64)),
-        (37, 1, Some(32)),
-        (52, 31, Some(32)),
-        (56, 8, None),
-        (57, 8, Some(32)),
-        (60, 1, Some(32)),
-        (64, 1, Some(64)),
-        (84, 1, Some(64)),
-        (96, 1, Some(96)),
-        (511, 1, Some(96)),
-    ] {
-        assert!(rt; refused_at(&shape, place, byte) == at);
+// Pages with another byte at a place, and the first wrong field of each.
+const WRONG: &[(usize, u8, Option<u32>)] = &[
+    (0, b'p', Some(0)),
+    (7, b'a', Some(0)),
+    (8, 0, Some(8)),
+    (8, 4, None),
+    (8, 5, Some(8)),
+    (9, 1, Some(9)),
+    (10, 0, Some(10)),
+    (10, 16, Some(10)),
+    (11, 1, Some(10)),
+    (10, 1, Some(64)),
+    (10, 3, Some(96)),
+    (15, 255, None),
+    (16, 1, Some(16)),
+    (31, 1, Some(16)),
+    (32, 0, Some(32)),
+    (33, 3, Some(32)),
+    (34, 1, Some(32)),
+    (36, b'b', Some(64)),
+    (37, 1, Some(32)),
+    (52, 31, Some(32)),
+    (56, 8, None),
+    (57, 8, Some(32)),
+    (60, 1, Some(32)),
+    (64, 1, Some(64)),
+    (84, 1, Some(64)),
+    (96, 1, Some(96)),
+    (511, 1, Some(96)),
+];
+
+fn are_refused(shape: &Shape) -> bool {
+    for (place, byte, at) in WRONG {
+        if refused_at(shape, *place, *byte) != *at {
+            return false;
+        }
     }
-    Ok(())
+    true
 }
 
 // The length of the value of a key, 0 where it was deleted.
@@ -102,18 +104,32 @@ fn len_of(shape: &Shape, page: &[u8], key: &[u8]) -> Option<u32> {
     }
 }
 
-#[test]
-fn keys(rt: HostRuntime) -> Result<(), Fail> {
-    let shape = Shape::new(512, 16, 64).ok().ok_or("a shape")?;
-    let page = written_out();
-    for (key, len) in [
-        (b"a".as_slice(), Some(3)),
-        (b"ab".as_slice(), Some(0)),
-        (b"A".as_slice(), None),
-        (b"aa".as_slice(), None),
-        (b"b".as_slice(), None),
-    ] {
-        assert!(rt; len_of(&shape, &page, key) == len);
+// The lengths of the values of keys.
+const LENGTHS: &[(&[u8], Option<u32>)] = &[
+    (b"a", Some(3)),
+    (b"ab", Some(0)),
+    (b"A", None),
+    (b"aa", None),
+    (b"b", None),
+];
+
+fn have_lengths(shape: &Shape, page: &[u8]) -> bool {
+    for (key, len) in LENGTHS {
+        if len_of(shape, page, key) != *len {
+            return false;
+        }
     }
-    Ok(())
+    true
+}
+
+// The page is decoded, its keys are found, and each field in turn is wrong.
+#[test]
+fn a_page(rt: HostRuntime) {
+    let all = match Shape::new(512, 16, 64) {
+        Ok(shape) => {
+            is_read(&shape) && are_refused(&shape) && have_lengths(&shape, &written_out())
+        }
+        Err(_) => false,
+    };
+    assert!(rt; all);
 }

@@ -1,8 +1,9 @@
 //! Root pages by their bytes.
+ghost use Rattle.std.specs.Prelude.{◌≡◌};
 
 use pk_base::Shape;
 use pk_rootfmt::{BadRoot, Root, first};
-use std::alloc::{AllocError, Allocator};
+use std::alloc::Allocator;
 use std::test::*;
 
 /// The first root on a flash of 64 blocks of 16 pages of 512 bytes.
@@ -29,27 +30,25 @@ fn later_page() -> [u8; 512] {
 }
 
 /// The page with another byte at this place.
-fn changed(page: [u8; 512], place: u16, byte: u8) -> [u8; 512] {
+fn changed(page: [u8; 512], place: usize, byte: u8) -> [u8; 512] {
     let mut page = page;
-    if let Some(old) = page.get_mut(place as usize) {
+    if let Some(old) = page.get_mut(place) {
         *old = byte;
     }
     page
 }
 
 /// The first wrong field of a page of this shape; none where it is read as a root.
-fn wrong_byte<A: Allocator + Clone>(
-    alloc: A,
-    shape: &Shape,
-    page: &[u8],
-) -> Result<Option<u32>, AllocError> {
-    let mut root = Root::new(alloc, *shape)?;
+fn wrong_byte<A: Allocator + Clone>(alloc: A, shape: &Shape, page: &[u8]) -> Option<u32> {
     if page.len() != shape.page_bytes() as usize {
-        return Ok(None);
+        return None;
     }
+    let Ok(mut root) = Root::new(alloc, *shape) else {
+        return None;
+    };
     match root.decode(page) {
-        Ok(()) => Ok(None),
-        Err(BadRoot { at }) => Ok(Some(at)),
+        Ok(()) => None,
+        Err(BadRoot { at }) => Some(at),
     }
 }
 
@@ -72,19 +71,13 @@ fn writes_first(shape: &Shape) -> bool {
 }
 
 /// A root without numbers becomes the first one.
-fn reads_first<A: Allocator + Clone>(alloc: A, shape: Shape) -> Result<bool, AllocError> {
-    let mut root = Root::new(alloc, shape)?;
-    if shape.page_bytes() != 512 || (root.number(), root.newest()) != (0, [0, 0]) {
-        return Ok(false);
+fn reads_first<A: Allocator>(root: &mut Root<A>, shape: &Shape) -> bool
+    requires { root.old.shape ≡ shape.now }
+{
+    if shape.page_bytes() != 512 || root.number() != 0 || root.newest() != [0, 0] {
+        return false;
     }
-    Ok(root.decode(&first_page()).is_ok() && is_first(&root))
-}
-
-#[test]
-fn first_root(rt: HostRuntime) -> Result<(), Fail> {
-    let shape = Shape::new(512, 16, 64).ok().ok_or("a shape")?;
-    assert!(rt; writes_first(&shape) && reads_first(rt.alloc(), shape)?);
-    Ok(())
+    root.decode(&first_page()).is_ok() && is_first(root)
 }
 
 /// The numbers and blocks of the later root.
@@ -96,26 +89,20 @@ fn is_later<A: Allocator>(root: &Root<A>) -> bool {
 }
 
 /// The later root is read, written, and kept where no root is read.
-fn later_goes_both_ways<A: Allocator + Clone>(alloc: A, shape: Shape) -> Result<bool, AllocError> {
-    let mut root = Root::new(alloc, shape)?;
+fn later_goes_both_ways<A: Allocator>(root: &mut Root<A>, shape: &Shape) -> bool
+    requires { root.old.shape ≡ shape.now }
+{
     if shape.page_bytes() != 512 {
-        return Ok(false);
+        return false;
     }
     match root.decode(&later_page()) {
         Ok(()) => {}
-        Err(_) => return Ok(false),
+        Err(_) => return false,
     }
     let mut page = [0xffu8; 512];
     root.encode(&mut page);
     let is_refused = root.decode(&[0u8; 512]) == Err(BadRoot { at: 0 });
-    Ok(page == later_page() && is_refused && is_later(&root))
-}
-
-#[test]
-fn later_root(rt: HostRuntime) -> Result<(), Fail> {
-    let shape = Shape::new(512, 16, 64).ok().ok_or("a shape")?;
-    assert!(rt; later_goes_both_ways(rt.alloc(), shape)?);
-    Ok(())
+    page == later_page() && is_refused && is_later(root)
 }
 
 /// The numbers and blocks of a root whose parts were set.
@@ -128,83 +115,104 @@ fn is_set<A: Allocator>(root: &Root<A>) -> bool {
 }
 
 /// The parts of a root are set, and then the older epoch is taken away.
-fn sets_parts<A: Allocator + Clone>(alloc: A, shape: Shape) -> Result<bool, AllocError> {
-    let most = shape.meta_blocks();
-    let mut root = Root::new(alloc, shape)?;
-    if most < 4 {
-        return Ok(false);
+fn sets_parts<A: Allocator + Clone>(alloc: A, shape: &Shape) -> bool {
+    if shape.meta_blocks() < 4 {
+        return false;
     }
+    let Ok(mut root) = Root::new(alloc, *shape) else {
+        return false;
+    };
     root.set_number(9);
     root.set_epochs(4, [7, 8], Some([5, 6]));
     root.set_run(3, 300, &[10, 11]);
     root.set_run(1, 20, &[9]);
     let is_set = is_set(&root);
     root.set_epochs(5, [7, 8], None);
-    Ok(is_set && root.older().is_none())
+    is_set && root.older().is_none()
 }
 
-#[test]
-fn parts_set(rt: HostRuntime) -> Result<(), Fail> {
-    let shape = Shape::new(512, 16, 64).ok().ok_or("a shape")?;
-    assert!(rt; sets_parts(rt.alloc(), shape)?);
-    Ok(())
-}
+/// A byte that is put at a place, and the first wrong field then.
+type Row = (usize, u8, u32);
 
-#[test]
-fn wrong_first_pages(rt: HostRuntime) -> Result<(), Fail> {
-    let shape = Shape::new(512, 16, 64).ok().ok_or("a shape")?;
-    for (place, byte, at) in [
-        (0u16, 0u8, 0u32),
-        (7, 0, 0),
-        (8, 2, 8),
-        (9, 1, 8),
-        (10, 8, 10),
-        (12, 1, 12),
-        (16, 65, 16),
-        (18, 3, 18),
-        (18, 4, 32),
-        (20, 1, 20),
-        (23, 1, 20),
-        (24, 0, 24),
-        (32, 0, 32),
-        (32, 2, 32),
-        (40, 61, 40),
-        (44, 241, 44),
-        (49, 4, 48),
-        (53, 5, 52),
-        (56, 1, 56),
-        (63, 1, 56),
-        (64, 1, 64),
-        (64, 64, 64),
-        (66, 2, 66),
-        (40, 1, 68),
-        (68, 1, 68),
-        (511, 1, 68),
-    ] {
-        let page = changed(first_page(), place, byte);
-        assert!(rt; wrong_byte(rt.alloc(), &shape, &page)? == Some(at));
+const FIRST_WRONG: &[Row] = &[
+    (0, 0, 0),
+    (7, 0, 0),
+    (8, 2, 8),
+    (9, 1, 8),
+    (10, 8, 10),
+    (12, 1, 12),
+    (16, 65, 16),
+    (18, 3, 18),
+    (18, 4, 32),
+    (20, 1, 20),
+    (23, 1, 20),
+    (24, 0, 24),
+    (32, 0, 32),
+    (32, 2, 32),
+    (40, 61, 40),
+    (44, 241, 44),
+    (49, 4, 48),
+    (53, 5, 52),
+    (56, 1, 56),
+    (63, 1, 56),
+    (64, 1, 64),
+    (64, 64, 64),
+    (66, 2, 66),
+    (40, 1, 68),
+    (68, 1, 68),
+    (511, 1, 68),
+];
+
+const LATER_WRONG: &[Row] = &[
+    (24, 2, 32),
+    (32, 1, 32),
+    (66, 5, 66),
+    (68, 1, 68),
+    (70, 6, 70),
+    (18, 2, 70),
+    (72, 3, 72),
+    (73, 1, 72),
+    (40, 0, 72),
+    (74, 1, 74),
+    (75, 1, 74),
+];
+
+/// Whether each of these changes of a page is found.
+fn are_found<A: Allocator + Copy>(alloc: A, shape: &Shape, page: &[u8; 512], rows: &[Row]) -> bool {
+    for (place, byte, at) in rows {
+        if wrong_byte(alloc, shape, &changed(*page, *place, *byte)) != Some(*at) {
+            return false;
+        }
     }
-    Ok(())
+    true
+}
+
+/// A root without numbers is read: the first one, or the later one, which is written, too.
+fn reads<A: Allocator + Clone>(alloc: A, shape: &Shape, is_first: bool) -> bool {
+    let Ok(mut root) = Root::new(alloc, *shape) else {
+        return false;
+    };
+    if is_first {
+        return reads_first(&mut root, shape);
+    }
+    later_goes_both_ways(&mut root, shape)
+}
+
+/// Roots are written and read, their parts are set, and each field in turn is wrong.
+fn are_roots<A: Allocator + Copy>(alloc: A, shape: &Shape) -> bool {
+    writes_first(shape)
+        && reads(alloc, shape, true)
+        && reads(alloc, shape, false)
+        && sets_parts(alloc, shape)
+        && are_found(alloc, shape, &first_page(), FIRST_WRONG)
+        && are_found(alloc, shape, &later_page(), LATER_WRONG)
 }
 
 #[test]
-fn wrong_later_pages(rt: HostRuntime) -> Result<(), Fail> {
-    let shape = Shape::new(512, 16, 64).ok().ok_or("a shape")?;
-    for (place, byte, at) in [
-        (24u16, 2u8, 32u32),
-        (32, 1, 32),
-        (66, 5, 66),
-        (68, 1, 68),
-        (70, 6, 70),
-        (18, 2, 70),
-        (72, 3, 72),
-        (73, 1, 72),
-        (40, 0, 72),
-        (74, 1, 74),
-        (75, 1, 74),
-    ] {
-        let page = changed(later_page(), place, byte);
-        assert!(rt; wrong_byte(rt.alloc(), &shape, &page)? == Some(at));
-    }
-    Ok(())
+fn roots(rt: HostRuntime) {
+    let all = match Shape::new(512, 16, 64) {
+        Ok(shape) => are_roots(rt.alloc(), &shape),
+        Err(_) => false,
+    };
+    assert!(rt; all);
 }

@@ -47,13 +47,6 @@ const SMALL: &[&[u8]] = &[
     b"hi",
 ];
 
-#[test]
-fn small_value(rt: HostRuntime) -> Result<(), Fail> {
-    let shape = Shape::new(512, 16, 64).ok().ok_or("a shape")?;
-    assert!(rt; has_parts(&shape, b"ab", b"hi", 0, SMALL));
-    Ok(())
-}
-
 // The value's last ten bytes stand in front of its second page.
 const FIRST: &[&[u8]] = &[
     b"\x10\x44\0\0",
@@ -65,15 +58,12 @@ const FIRST: &[&[u8]] = &[
 
 const SECOND: &[&[u8]] = &[b"0123456789"];
 
-#[test]
-fn two_pages(rt: HostRuntime) -> Result<(), Fail> {
-    let shape = Shape::new(512, 16, 64).ok().ok_or("a shape")?;
+const KEY: &[u8] = b"abcdefghijklmnop";
+
+fn has_both(shape: &Shape) -> bool {
     let mut value = [0x2eu8; 490];
     value[480..].copy_from_slice(b"0123456789");
-    for (number, parts) in [(0, FIRST), (1, SECOND)] {
-        assert!(rt; has_parts(&shape, b"abcdefghijklmnop", &value, number, parts));
-    }
-    Ok(())
+    has_parts(shape, KEY, &value, 0, FIRST) && has_parts(shape, KEY, &value, 1, SECOND)
 }
 
 // A head by its bytes.
@@ -115,26 +105,44 @@ fn refused_at(shape: &Shape, place: usize, byte: u8) -> Option<u32> {
     }
 }
 
-// The head is read, and heads that differ from it in one byte are refused.
-#[test]
-fn wrong_bytes(rt: HostRuntime) -> Result<(), Fail> {
-    let shape = Shape::new(512, 16, 64).ok().ok_or("a shape")?;
-    assert!(rt; is_head(&shape));
-    for (place, byte, at) in [
-        (0usize, 0u8, 0u32),
-        (0, 17, 0),
-        (0, 1, 4),
-        (1, 0x45, 1),
-        (2, 1, 2),
-        (3, 1, 2),
-        (6, 1, 4),
-        (19, 1, 4),
-        (20, 0xe1, 20),
-        (23, 1, 20),
-        (24, 0, 24),
-        (31, 0, 24),
-    ] {
-        assert!(rt; refused_at(&shape, place, byte) == Some(at));
+// Heads with another byte at a place, and the first wrong field of each.
+const WRONG: &[(usize, u8, u32)] = &[
+    (0, 0, 0),
+    (0, 17, 0),
+    (0, 1, 4),
+    (1, 0x45, 1),
+    (2, 1, 2),
+    (3, 1, 2),
+    (6, 1, 4),
+    (19, 1, 4),
+    (20, 0xe1, 20),
+    (23, 1, 20),
+    (24, 0, 24),
+    (31, 0, 24),
+];
+
+fn are_refused(shape: &Shape) -> bool {
+    for (place, byte, at) in WRONG {
+        if refused_at(shape, *place, *byte) != Some(*at) {
+            return false;
+        }
     }
-    Ok(())
+    true
+}
+
+// Values of one page and of two are written; a head is read, and heads that differ from it in one byte are refused.
+fn are_values(shape: &Shape) -> bool {
+    has_parts(shape, b"ab", b"hi", 0, SMALL)
+        && has_both(shape)
+        && is_head(shape)
+        && are_refused(shape)
+}
+
+#[test]
+fn values(rt: HostRuntime) {
+    let all = match Shape::new(512, 16, 64) {
+        Ok(shape) => are_values(&shape),
+        Err(_) => false,
+    };
+    assert!(rt; all);
 }

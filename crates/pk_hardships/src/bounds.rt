@@ -9,10 +9,10 @@ use pk_nand::{Mark, PageState};
 use pk_nvme::Request;
 use pk_nvme::opcode::{DELETE, FLUSH, STORE, TICK};
 use pk_nvme::status::{CAPACITY_EXCEEDED, SUCCESSFUL_COMPLETION};
+use pk_sessions::Program;
 use pk_sessions::boards::{board_in, made, pages_left, serve_with};
-use pk_sessions::overwritten::record_at;
+use pk_sessions::overwritten::{Record, record_at};
 use pk_sessions::script::entry;
-use pk_sessions::{Program, holds, same};
 use std::alloc::{AllocError, Global};
 use std::test::*;
 
@@ -39,7 +39,7 @@ const SHORT: Room = Room {
 
 /// What is seen of a drive: the most calls of the flash that a command made, the most background steps to rest, how many Stores found no
 /// room; and the bounds of the first two.
-#[derive(Clone, Copy, Debug)]
+#[derive(Clone, Copy)]
 pub struct Most {
     pub calls: u32,
     pub steps: u32,
@@ -53,6 +53,14 @@ pub struct Most {
 struct Load {
     bytes: u32,
     behind: u32,
+}
+
+// What was seen, the series of the sizes, and the number of the next command.
+#[derive(Clone, Copy)]
+struct Seen {
+    most: Most,
+    series: u64,
+    from: u32,
 }
 
 // A number below this one, from a series.
@@ -92,67 +100,80 @@ fn push_tick(into: &mut Vec<u8>, steps: u32) -> Result<(), AllocError> {
     into.extend_from_slice(&entry(3, TICK, [0, 0], 0, steps))
 }
 
-// The commands of a workload from this one on, a Store and a Delete by turns, then steps one by one, and at last as many as the bound.
-fn script(
-    alloc: Global,
+// The commands of a workload from this one on, a Store and a Delete by turns.
+fn push_load(
+    into: &mut Vec<u8>,
     load: &Load,
     series: &mut u64,
     from: u32,
     count: u32,
-    bound: u32,
-) -> Result<Vec<u8>, AllocError> {
-    let mut script = Vec::new(alloc);
+) -> Result<(), AllocError> {
     for number in from..from.saturating_add(count) {
         let key = number / 2;
         if number % 2 == 0 {
-            push_command(&mut script, STORE, key, below(series, load.bytes))?;
+            push_command(into, STORE, key, below(series, load.bytes))?;
         } else {
-            push_command(&mut script, DELETE, key.saturating_sub(load.behind), 0)?;
+            push_command(into, DELETE, key.saturating_sub(load.behind), 0)?;
         }
     }
+    Ok(())
+}
+
+fn push_ticks(into: &mut Vec<u8>, bound: u32) -> Result<(), AllocError> {
     for _ in 0..STEPS {
-        push_tick(&mut script, 1)?;
+        push_tick(into, 1)?;
     }
-    push_tick(&mut script, bound)?;
+    push_tick(into, bound)
+}
+
+// The commands of a workload from the next one on, then steps one by one, and at last as many as the bound.
+fn script(alloc: Global, load: &Load, seen: &mut Seen, count: u32) -> Result<Vec<u8>, AllocError> {
+    let mut script = Vec::new(alloc);
+    push_load(&mut script, load, &mut seen.series, seen.from, count)?;
+    push_ticks(&mut script, seen.most.steps_bound)?;
     Ok(script)
 }
 
-// Notes what a session of so many commands came to.
-fn note(most: &mut Most, flash: &Flash, commands: u32) -> Result<(), Fail> {
+// Notes what the command or the step with this number made, so many calls: false where a step behind the first one with this number is
+// not as it is to be.
+fn note_record(most: &mut Most, record: &Record, calls: u32, number: u32, first_step: u32) -> bool {
+    if number < first_step {
+        let is_full = record.status == u32::from(CAPACITY_EXCEEDED);
+        let full = if is_full { 1 } else { 0 };
+        most.calls = most.calls.max(calls);
+        most.full = most.full.saturating_add(full);
+        return true;
+    }
+    let step = number - first_step;
+    if step < STEPS && calls > 0 {
+        most.steps = most.steps.max(step.saturating_add(1));
+    }
+    record.status == u32::from(SUCCESSFUL_COMPLETION) && (step < STEPS || calls == 0)
+}
+
+// Notes what a session of so many commands came to: false where that is not as it is to be.
+fn note(most: &mut Most, flash: &Flash, commands: u32) -> bool {
     let first_step = commands.saturating_mul(2);
-    let last_step = first_step.saturating_add(STEPS);
     let mut at = 0usize;
     let mut number = 0u32;
     let mut calls = 0u32;
     for i in 0..flash.marks() {
-        calls = calls.saturating_add(1);
-        if let Mark::Post { .. } = flash.mark(i) {
-            let record = record_at(flash.posted(), at).ok_or("a record")?;
-            at = record.end();
-            // the post was counted, and no call of the flash is one
-            calls = calls.saturating_sub(1).saturating_add(record.reads);
-            if number < first_step {
-                let is_full = record.status == u32::from(CAPACITY_EXCEEDED);
-                most.calls = most.calls.max(calls);
-                most.full = most.full.saturating_add(if is_full { 1 } else { 0 });
-            } else {
-                same(
-                    record.status,
-                    u32::from(SUCCESSFUL_COMPLETION),
-                    "the status of a step",
-                )?;
-                if number < last_step && calls > 0 {
-                    most.steps = most
-                        .steps
-                        .max(number.saturating_sub(first_step).saturating_add(1));
-                }
-                holds(number < last_step || calls == 0, "a drive at rest")?;
-            }
-            number = number.saturating_add(1);
-            calls = 0;
+        if !matches!(flash.mark(i), Mark::Post { .. }) {
+            calls = calls.saturating_add(1);
+            continue;
         }
+        let Some(record) = record_at(flash.posted(), at) else {
+            return false;
+        };
+        at = record.end();
+        let made = calls.saturating_add(record.reads);
+        if !note_record(most, &record, made, number, first_step) {
+            return false;
+        }
+        number = number.saturating_add(1);
+        calls = 0;
     }
-    same(number, last_step.saturating_add(1), "records")
+    number == first_step.saturating_add(STEPS).saturating_add(1)
 }
 
 // A session of the workload on these pages, and the pages behind it.
@@ -166,8 +187,9 @@ fn session<P: Program>(
 ) -> Result<Vec<PageState>, Fail> {
     let room = if count < MANY { SHORT } else { LONG };
     let mut flash = board_in(alloc, shape, pages, script, room)?;
-    same(serve_with::<P>(alloc, &mut flash, "0"), 0, "the status")?;
-    note(most, &flash, count)?;
+    if serve_with::<P>(alloc, &mut flash, "0") != 0 || !note(most, &flash, count) {
+        return Err(Fail::from("the records of a session"));
+    }
     pages_left(alloc, &flash)
 }
 
@@ -193,32 +215,63 @@ fn bounds(shape: &Shape) -> Most {
     }
 }
 
+// The sessions of one workload on these pages, and the pages behind them.
+fn sessions<P: Program>(
+    alloc: Global,
+    shape: Shape,
+    pages: Vec<PageState>,
+    load: &Load,
+    seen: &mut Seen,
+) -> Result<Vec<PageState>, Fail> {
+    let mut pages = pages;
+    for i in 0..SESSIONS {
+        let count = if i == 0 { MANY } else { FEW.saturating_add(i) };
+        let script = script(alloc, load, seen, count)?;
+        pages = session::<P>(alloc, shape, pages, script, count, &mut seen.most)?;
+        seen.from = seen.from.saturating_add(count);
+    }
+    Ok(pages)
+}
+
+fn are_within(most: &Most, blocks: u32) -> bool {
+    most.calls <= most.calls_bound
+        && most.calls >= most.calls_bound / 10
+        && most.steps <= most.steps_bound
+        && most.steps >= blocks
+        && most.full > 0
+}
+
+// Three workloads on these pages.
+fn workloads<P: Program>(
+    alloc: Global,
+    shape: Shape,
+    pages: Vec<PageState>,
+    seen: &mut Seen,
+) -> Result<(), Fail> {
+    let bytes = shape.greatest();
+    let small = Load {
+        bytes: 1,
+        behind: 4,
+    };
+    let pages = sessions::<P>(alloc, shape, pages, &small, seen)?;
+    let pages = sessions::<P>(alloc, shape, pages, &Load { bytes, behind: 3 }, seen)?;
+    let _ = sessions::<P>(alloc, shape, pages, &Load { bytes, behind: 12 }, seen)?;
+    Ok(())
+}
+
 /// What is seen of a drive of this shape, which these words make, without frames, under three workloads. No command makes more calls than
 /// the bound, to a tenth of which a merge into each run, a freeze and a reclaim in one command come; and no more steps lead to rest than
 /// the bound of them, and at least as many as there are blocks.
 pub fn most_work<P: Program>(alloc: Global, make: &[&str], shape: Shape) -> Result<Most, Fail> {
-    let mut most = bounds(&shape);
-    let mut pages = made::<P>(alloc, make)?;
-    let mut series = 1u64;
-    let mut from = 0u32;
-    let greatest = shape.greatest();
-    for (bytes, behind) in [(1, 4), (greatest, 3), (greatest, 12)] {
-        let load = Load { bytes, behind };
-        for i in 0..SESSIONS {
-            let count = if i == 0 { MANY } else { FEW.saturating_add(i) };
-            let script = script(alloc, &load, &mut series, from, count, most.steps_bound)?;
-            pages = session::<P>(alloc, shape, pages, script, count, &mut most)?;
-            from = from.saturating_add(count);
-        }
+    let mut seen = Seen {
+        most: bounds(&shape),
+        series: 1,
+        from: 0,
+    };
+    let pages = made::<P>(alloc, make)?;
+    workloads::<P>(alloc, shape, pages, &mut seen)?;
+    if !are_within(&seen.most, shape.blocks()) {
+        return Err(Fail::from("the bounds of calls and of steps, and a full drive"));
     }
-    holds(
-        most.calls <= most.calls_bound && most.calls >= most.calls_bound / 10,
-        format_args!("{} calls of {}", most.calls, most.calls_bound),
-    )?;
-    holds(
-        most.steps <= most.steps_bound && most.steps >= shape.blocks(),
-        format_args!("{} steps of {}", most.steps, most.steps_bound),
-    )?;
-    holds(most.full > 0, "a full drive")?;
-    Ok(most)
+    Ok(seen.most)
 }

@@ -5,17 +5,17 @@
 //! alone, or behind a merge into each level.
 
 use pk_base::Shape;
-use pk_flash::{Flash, Left, Room};
+use pk_flash::{Flash, Room};
 use pk_nand::PageState;
 use pk_nvme::opcode::{DELETE, FLUSH};
-use pk_sessions::boards::{board_in, made, pages_left, serve_board};
+use pk_sessions::boards::{board_in, cut, made, pages_left};
 use pk_sessions::cuts::bytes_out;
 use pk_sessions::overwritten::{
     OTHER, firsts, firsts_behind, push_plain, push_retrieves, push_store, push_stores, value_of,
 };
 use pk_sessions::script::entry;
 use pk_sessions::ways::few_ways;
-use pk_sessions::{Place, Program, holds};
+use pk_sessions::{Program, holds, serve};
 use std::alloc::{AllocError, Global};
 use std::test::*;
 
@@ -81,17 +81,6 @@ pub const SHAPES: [Few; 3] = [
     },
 ];
 
-impl Few {
-    fn shape(&self) -> Result<Shape, Fail> {
-        let [page_bytes, block_pages, blocks] = self.smallest.numbers;
-        Ok(
-            Shape::new(page_bytes, block_pages, blocks)
-                .ok()
-                .ok_or("a shape")?,
-        )
-    }
-}
-
 /// Which cuts are made of three sessions, one behind the other: of the marks of the second and of the third one of every so many, which go
 /// on from cut to cut, and of each session in all ways, or in one by turns.
 #[derive(Clone, Copy)]
@@ -120,6 +109,26 @@ const LAST: Part = Part {
     all_of_third: true,
 };
 
+impl Few {
+    /// The shape of the drive.
+    pub fn shape(&self) -> Result<Shape, Fail> {
+        let [page_bytes, block_pages, blocks] = self.smallest.numbers;
+        match Shape::new(page_bytes, block_pages, blocks) {
+            Ok(shape) => Ok(shape),
+            Err(_) => Err(Fail::from("a shape")),
+        }
+    }
+}
+
+/// Sessions on a drive of few keys, and which cuts are made of them.
+#[derive(Clone, Copy)]
+pub struct Trial<'a> {
+    pub alloc: Global,
+    pub few: &'a Few,
+    pub shape: Shape,
+    pub part: &'a Part,
+}
+
 /// What a session is to find: these first bytes of the values of all keys, or the same but for one key, which has this one, and surely
 /// where that was told.
 #[derive(Drop)]
@@ -137,183 +146,252 @@ pub struct Behind {
     pub flash: Flash,
 }
 
+// A cut of a session: at this mark, which is interrupted in the way with this number.
+#[derive(Clone, Copy)]
+struct Interrupted {
+    mark: usize,
+    way: usize,
+}
+
 /// The first byte of what the session with this number stores, under the key with this number.
 pub fn stored(number: u32) -> u8 {
     value_of(OTHER.saturating_add(number)).first
 }
 
-/// A board of this shape with these pages and this input.
-pub fn few_board(
-    alloc: Global,
-    few: &Few,
-    pages: Vec<PageState>,
-    script: Vec<u8>,
-) -> Result<Flash, Fail> {
-    board_in(alloc, few.shape()?, pages, script, ROOM)
+// The board behind the session of its input, which is to end well.
+fn served<P: Program>(alloc: Global, mut flash: Flash) -> Result<Flash, Fail> {
+    if serve::<P>(alloc, &mut flash) != 0 {
+        return Err(Fail::from("the status of a session on few blocks"));
+    }
+    Ok(flash)
 }
 
-fn served<P: Program>(
-    alloc: Global,
-    few: &Few,
-    pages: Vec<PageState>,
-    script: Vec<u8>,
-) -> Result<Flash, Fail> {
-    let done = serve_board::<P>(alloc, few_board(alloc, few, pages, script)?);
-    done.ended(0, Place::Named("a session on few blocks"))?;
-    Ok(done.flash)
+fn first_at(firsts: &[u8], key: usize) -> Option<u8> {
+    firsts.get(key).copied()
+}
+
+fn is_key_found(before: &Before, found: &[u8], key: usize) -> bool {
+    let first = first_at(found, key);
+    let is_old = first == first_at(&before.held, key);
+    if key as u64 != u64::from(before.key) {
+        return is_old;
+    }
+    first == Some(before.first) || is_old && !before.is_told
 }
 
 fn is_found(before: &Before, found: &[u8]) -> bool {
     for key in 0..before.held.len() {
-        let is_one = key as u64 == u64::from(before.key);
-        let is_old = found.get(key) == before.held.get(key);
-        let is_new = found.get(key) == Some(&before.first);
-        let is_there = if is_one {
-            is_new || is_old && !before.is_told
-        } else {
-            is_old
-        };
-        if !is_there {
+        if !is_key_found(before, found, key) {
             return false;
         }
     }
     true
 }
 
-/// The script of the session with this number: it retrieves each key, and overwrites the one with this number.
-pub fn commands(alloc: Global, few: &Few, number: u32) -> Result<Vec<u8>, AllocError> {
+fn push_commands(into: &mut Vec<u8>, keys: u32, number: u32) -> Result<(), AllocError> {
+    push_retrieves(into, keys)?;
+    push_store(into, number, &value_of(OTHER.saturating_add(number)))?;
+    push_plain(into, FLUSH, 0)
+}
+
+// The script of the session with this number: it retrieves each key, and overwrites the one with this number.
+fn commands(alloc: Global, keys: u32, number: u32) -> Result<Vec<u8>, AllocError> {
     let mut script = Vec::new(alloc);
-    push_retrieves(&mut script, few.keys)?;
-    push_store(&mut script, number, &value_of(OTHER.saturating_add(number)))?;
-    push_plain(&mut script, FLUSH, 0)?;
+    push_commands(&mut script, keys, number)?;
     Ok(script)
 }
 
-/// That session on these pages.
+/// The board of the session with this number on these pages.
+pub fn few_board(trial: &Trial, pages: Vec<PageState>, number: u32) -> Result<Flash, Fail> {
+    let script = commands(trial.alloc, trial.few.keys, number)?;
+    board_in(trial.alloc, trial.shape, pages, script, ROOM)
+}
+
+// What the session of this board found, which is to be this.
+fn found(trial: &Trial, before: &Before, flash: &Flash) -> Result<Vec<u8>, Fail> {
+    let found = firsts(trial.alloc, flash.posted(), 0, trial.few.keys)?;
+    if !is_found(before, &found) {
+        return Err(Fail::from("the values of a session on few blocks"));
+    }
+    Ok(found)
+}
+
+/// The session with this number on these pages.
 pub fn session<P: Program>(
-    alloc: Global,
-    few: &Few,
+    trial: &Trial,
     pages: Vec<PageState>,
     before: &Before,
     number: u32,
 ) -> Result<Behind, Fail> {
-    let flash = served::<P>(alloc, few, pages, commands(alloc, few, number)?)?;
-    let found = firsts(alloc, flash.posted(), 0, few.keys)?;
-    holds(
-        is_found(before, &found),
-        format_args!("the values of session {number}"),
-    )?;
-    Ok(Behind { found, flash })
+    let board = few_board(trial, pages, number)?;
+    let flash = served::<P>(trial.alloc, board)?;
+    match found(trial, before, &flash) {
+        Ok(found) => Ok(Behind { found, flash }),
+        Err(fail) => Err(fail),
+    }
 }
 
 // What is known of the flash behind a cut of a session at this mark.
-fn cut_at(
-    alloc: Global,
-    few: &Few,
-    behind: &Behind,
-    number: u32,
-    k: usize,
-) -> Result<Before, Fail> {
-    let retrieved = u64::from(few.keys).saturating_mul(124);
+fn known(trial: &Trial, behind: &Behind, number: u32, mark: usize) -> Result<Before, AllocError> {
+    let retrieved = u64::from(trial.few.keys).saturating_mul(124);
     Ok(Before {
-        held: behind.found.to_vec(alloc)?,
+        held: behind.found.to_vec(trial.alloc)?,
         key: number,
         first: stored(number),
-        is_told: bytes_out(&behind.flash, k) as u64 > retrieved,
+        is_told: bytes_out(&behind.flash, mark) as u64 > retrieved,
     })
 }
 
-// Some ways in which this mark is interrupted, or one of them by turns, which go on with this number.
-fn some_ways(
-    alloc: Global,
-    flash: &Flash,
-    k: usize,
+// Adds the cuts at this mark: in some ways, or in one of them by turns, which go on with this number.
+fn push_cuts(
+    into: &mut Vec<Interrupted>,
+    mark: usize,
+    ways: usize,
     turn: usize,
     all: bool,
-) -> Result<Vec<Left>, AllocError> {
-    let mut ways = few_ways(alloc, flash, k)?;
-    if !all && !ways.is_empty() {
-        let one = ways.swap_remove(k.wrapping_add(turn) % ways.len());
-        ways.clear();
-        ways.push(one)?;
+) -> Result<(), AllocError> {
+    if ways == 0 {
+        return Ok(());
     }
-    Ok(ways)
+    if !all {
+        let way = mark.wrapping_add(turn) % ways;
+        into.push(Interrupted { mark, way })?;
+        return Ok(());
+    }
+    for way in 0..ways {
+        into.push(Interrupted { mark, way })?;
+    }
+    Ok(())
 }
 
-fn pages_at(alloc: Global, flash: &Flash, k: usize, left: &Left) -> Result<Vec<PageState>, Fail> {
-    if flash.shape().is_none() || k > flash.marks() {
-        return Err(Fail::from("a cut"));
+// In how many of some ways this mark is interrupted.
+fn ways_at(alloc: Global, flash: &Flash, mark: usize) -> Result<usize, AllocError> {
+    Ok(few_ways(alloc, flash, mark)?.len())
+}
+
+// The cuts of a session, at one of every so many marks.
+fn cuts(
+    alloc: Global,
+    flash: &Flash,
+    every: usize,
+    turn: usize,
+    all: bool,
+) -> Result<Vec<Interrupted>, AllocError> {
+    let mut cuts = Vec::new(alloc);
+    for mark in 0..flash.marks().saturating_add(1) {
+        if is_one(mark, turn, every) {
+            push_cuts(&mut cuts, mark, ways_at(alloc, flash, mark)?, turn, all)?;
+        }
     }
-    Ok(flash.cut(alloc, k, left)?)
+    Ok(cuts)
 }
 
 // Whether this mark is one of those that are cut.
-fn is_one(k: usize, turn: usize, every: usize) -> bool {
-    every > 0 && k.wrapping_add(turn) % every == 0
+fn is_one(mark: usize, turn: usize, every: usize) -> bool {
+    every > 0 && mark.wrapping_add(turn) % every == 0
+}
+
+fn pages_at(alloc: Global, flash: &Flash, at: &Interrupted) -> Result<Vec<PageState>, Fail> {
+    let ways = few_ways(alloc, flash, at.mark)?;
+    match ways.get(at.way) {
+        Some(left) => cut(alloc, flash, at.mark, left),
+        None => Err(Fail::from("a way")),
+    }
+}
+
+// The session behind a cut of the one with this number, and what it finds.
+fn session_behind<P: Program>(
+    trial: &Trial,
+    behind: &Behind,
+    number: u32,
+    at: &Interrupted,
+) -> Result<Behind, Fail> {
+    let known = known(trial, behind, number, at.mark)?;
+    let pages = pages_at(trial.alloc, &behind.flash, at)?;
+    session::<P>(trial, pages, &known, number.saturating_add(1))
 }
 
 // Cuts the third session off, and looks at what is left. How many cuts.
-fn check_third<P: Program>(
-    alloc: Global,
-    few: &Few,
-    pages: Vec<PageState>,
-    before: &Before,
-    part: &Part,
-    turn: usize,
-) -> Result<u32, Fail> {
-    let third = session::<P>(alloc, few, pages, before, 3)?;
-    let mut cuts = 0u32;
-    for k in 0..third.flash.marks().saturating_add(1) {
-        if !is_one(k, turn, part.every) {
-            continue;
-        }
-        let known = cut_at(alloc, few, &third, 3, k)?;
-        for left in &some_ways(alloc, &third.flash, k, turn, part.all_of_third)? {
-            let pages = pages_at(alloc, &third.flash, k, left)?;
-            let _ = session::<P>(alloc, few, pages, &known, 4)?;
-            cuts = cuts.saturating_add(1);
-        }
+fn check_third<P: Program>(trial: &Trial, third: &Behind, turn: usize) -> Result<usize, Fail> {
+    let part = trial.part;
+    let cuts = cuts(
+        trial.alloc,
+        &third.flash,
+        part.every,
+        turn,
+        part.all_of_third,
+    )?;
+    for at in &cuts {
+        let _ = session_behind::<P>(trial, third, 3, at)?;
     }
-    Ok(cuts)
+    Ok(cuts.len())
+}
+
+fn check_behind_second<P: Program>(
+    trial: &Trial,
+    second: &Behind,
+    at: &Interrupted,
+    turn: usize,
+) -> Result<usize, Fail> {
+    let third = session_behind::<P>(trial, second, 2, at)?;
+    check_third::<P>(trial, &third, turn)
 }
 
 // The same of the second session, and of the third one behind each cut.
-fn check_second<P: Program>(
-    alloc: Global,
-    few: &Few,
-    pages: Vec<PageState>,
-    before: &Before,
-    part: &Part,
-    turn: usize,
-) -> Result<u32, Fail> {
-    let second = session::<P>(alloc, few, pages, before, 2)?;
+fn check_second<P: Program>(trial: &Trial, second: &Behind, turn: usize) -> Result<usize, Fail> {
+    let part = trial.part;
+    let cuts = cuts(
+        trial.alloc,
+        &second.flash,
+        part.every,
+        turn,
+        part.all_of_second,
+    )?;
     let mut next = turn;
-    let mut cuts = 0u32;
-    for k in 0..second.flash.marks().saturating_add(1) {
-        if !is_one(k, turn, part.every) {
-            continue;
-        }
-        let known = cut_at(alloc, few, &second, 2, k)?;
-        for left in &some_ways(alloc, &second.flash, k, turn, part.all_of_second)? {
-            let pages = pages_at(alloc, &second.flash, k, left)?;
-            let behind = check_third::<P>(alloc, few, pages, &known, part, next)?;
-            cuts = cuts.saturating_add(behind);
-            next = next.wrapping_add(1);
-        }
+    let mut count = 0usize;
+    for at in &cuts {
+        count = count.saturating_add(check_behind_second::<P>(trial, second, at, next)?);
+        next = next.wrapping_add(1);
     }
-    Ok(cuts)
+    Ok(count)
+}
+
+fn check_behind_first<P: Program>(
+    trial: &Trial,
+    first: &Behind,
+    at: &Interrupted,
+    turn: usize,
+) -> Result<usize, Fail> {
+    let second = session_behind::<P>(trial, first, 1, at)?;
+    check_second::<P>(trial, &second, turn)
+}
+
+/// Cuts three sessions off, one behind the other, of which this is the first: it at every mark. How many cuts of the third one.
+pub fn check<P: Program>(trial: &Trial, first: &Behind) -> Result<usize, Fail> {
+    let cuts = cuts(trial.alloc, &first.flash, 1, 0, trial.part.all_of_first)?;
+    let mut turn = 0usize;
+    let mut count = 0usize;
+    for at in &cuts {
+        count = count.saturating_add(check_behind_first::<P>(trial, first, at, turn)?);
+        turn = turn.wrapping_add(1);
+    }
+    Ok(count)
 }
 
 // The number of the first key that is deleted.
 const FIRST_GONE: u32 = 1_000;
+
+fn push_delete(into: &mut Vec<u8>, key: u32) -> Result<(), AllocError> {
+    let [_, _, high, low] = key.to_be_bytes();
+    into.extend_from_slice(&entry(4, DELETE, [high, low], 2, 0))
+}
 
 // Adds Stores of so many keys, each with its Delete.
 fn push_gone(into: &mut Vec<u8>, count: u32) -> Result<(), AllocError> {
     for i in 0..count {
         let key = FIRST_GONE.saturating_add(i);
         push_store(into, key, &value_of(i))?;
-        let [_, _, high, low] = key.to_be_bytes();
-        into.extend_from_slice(&entry(4, DELETE, [high, low], 2, 0))?;
+        push_delete(into, key)?;
     }
     Ok(())
 }
@@ -327,76 +405,72 @@ fn making(few: &Few) -> Room {
     }
 }
 
+fn push_making(into: &mut Vec<u8>, few: &Few) -> Result<(), AllocError> {
+    push_stores(into, few.keys, 0, few.stores)?;
+    push_gone(into, few.gone)
+}
+
 // The Stores with which a drive begins, and those of the keys that are deleted.
 fn making_script(alloc: Global, few: &Few) -> Result<Vec<u8>, AllocError> {
     let mut script = Vec::new(alloc);
-    push_stores(&mut script, few.keys, 0, few.stores)?;
-    push_gone(&mut script, few.gone)?;
+    push_making(&mut script, few)?;
     Ok(script)
 }
 
-// The board of the drive.
-fn made_drive<P: Program>(alloc: Global, few: &Few) -> Result<Flash, Fail> {
-    let pages = made::<P>(alloc, &few.smallest.words)?;
-    let script = making_script(alloc, few)?;
-    let flash = board_in(alloc, few.shape()?, pages, script, making(few))?;
-    let done = serve_board::<P>(alloc, flash);
-    done.ended(0, Place::Named("the Stores"))?;
-    Ok(done.flash)
+fn making_board<P: Program>(trial: &Trial) -> Result<Flash, Fail> {
+    let script = making_script(trial.alloc, trial.few)?;
+    let pages = made::<P>(trial.alloc, &trial.few.smallest.words)?;
+    board_in(trial.alloc, trial.shape, pages, script, making(trial.few))
 }
 
-/// The board of the drive, and what it holds.
-pub fn full<P: Program>(alloc: Global, few: &Few) -> Result<(Flash, Before), Fail> {
-    let flash = made_drive::<P>(alloc, few)?;
-    let before = Before {
-        held: firsts_behind(alloc, few.keys, few.stores)?,
+/// The board of the drive.
+pub fn drive<P: Program>(trial: &Trial) -> Result<Flash, Fail> {
+    let board = making_board::<P>(trial)?;
+    served::<P>(trial.alloc, board)
+}
+
+/// What the drive holds.
+pub fn held(trial: &Trial) -> Result<Before, AllocError> {
+    let few = trial.few;
+    Ok(Before {
+        held: firsts_behind(trial.alloc, few.keys, few.stores)?,
         key: few.keys,
         first: 0,
         is_told: false,
-    };
-    Ok((flash, before))
+    })
+}
+
+fn drive_pages<P: Program>(trial: &Trial) -> Result<Vec<PageState>, Fail> {
+    let drive = drive::<P>(trial)?;
+    pages_left(trial.alloc, &drive)
 }
 
 /// The first session on the drive.
-pub fn first<P: Program>(alloc: Global, few: &Few) -> Result<Behind, Fail> {
-    let (drive, before) = full::<P>(alloc, few)?;
-    session::<P>(alloc, few, pages_left(alloc, &drive)?, &before, 1)
-}
-
-/// Cuts three sessions off, one behind the other, of which this is the first: it at every mark. How many cuts of the third one.
-pub fn check<P: Program>(
-    alloc: Global,
-    few: &Few,
-    first: &Behind,
-    part: &Part,
-) -> Result<u32, Fail> {
-    let mut turn = 0usize;
-    let mut cuts = 0u32;
-    for k in 0..first.flash.marks().saturating_add(1) {
-        let known = cut_at(alloc, few, first, 1, k)?;
-        for left in &some_ways(alloc, &first.flash, k, 0, part.all_of_first)? {
-            let pages = pages_at(alloc, &first.flash, k, left)?;
-            cuts = cuts.saturating_add(check_second::<P>(alloc, few, pages, &known, part, turn)?);
-            turn = turn.wrapping_add(1);
-        }
-    }
-    Ok(cuts)
+pub fn first<P: Program>(trial: &Trial) -> Result<Behind, Fail> {
+    let held = held(trial)?;
+    let pages = drive_pages::<P>(trial)?;
+    session::<P>(trial, pages, &held, 1)
 }
 
 // From a full drive on, whose first session programs a root, the copies, the page of their moves, the value and the page of its entry.
-fn check_full<P: Program>(alloc: Global, few: &Few, part: &Part) -> Result<u32, Fail> {
-    let first = first::<P>(alloc, few)?;
-    holds(
-        first.flash.program_count() >= 6,
-        format_args!("{} programs", first.flash.program_count()),
-    )?;
-    check::<P>(alloc, few, &first, part)
+fn check_full<P: Program>(trial: &Trial) -> Result<usize, Fail> {
+    let first = first::<P>(trial)?;
+    if first.flash.program_count() < 6 {
+        return Err(Fail::from("the programs of a first session"));
+    }
+    check::<P>(trial, &first)
 }
 
 /// The first two sessions are cut off in one way by turns.
 pub fn three_deep<P: Program>(alloc: Global, few: &Few) -> Result<(), Fail> {
-    let cuts = check_full::<P>(alloc, few, &LAST)?;
-    holds(cuts >= 5_000, format_args!("{cuts} cuts"))
+    let trial = Trial {
+        alloc,
+        few,
+        shape: few.shape()?,
+        part: &LAST,
+    };
+    let cuts = check_full::<P>(&trial)?;
+    holds(cuts >= 5_000, "5,000 cuts")
 }
 
 /// All sessions are cut off in all ways, the later two at one of every so many marks. This takes long.
@@ -404,6 +478,13 @@ pub fn three_deep_in_all_ways<P: Program>(
     alloc: Global,
     few: &Few,
     every: usize,
-) -> Result<u32, Fail> {
-    check_full::<P>(alloc, few, &in_all_ways(every))
+) -> Result<usize, Fail> {
+    let part = in_all_ways(every);
+    let trial = Trial {
+        alloc,
+        few,
+        shape: few.shape()?,
+        part: &part,
+    };
+    check_full::<P>(&trial)
 }

@@ -1,12 +1,12 @@
 //! A session that begins with a reclaim and a freeze inside it, with each of its calls failing in turn.
 
-use crate::deep::{Before, Few, commands, few_board, full, session, stored};
+use crate::deep::{Before, Few, Trial, drive, few_board, held, in_all_ways, session, stored};
 use pk_flash::{Flash, Left};
-use pk_nand::{Mark, PageState};
+use pk_nand::Mark;
 use pk_nvme::status::{SUCCESSFUL_COMPLETION, UNRECOVERED_ERROR};
 use pk_sessions::boards::{Session, pages_left, serve_board};
 use pk_sessions::overwritten::{Record, record_at};
-use pk_sessions::{Program, holds, same};
+use pk_sessions::{Program, holds};
 use std::alloc::{AllocError, Global};
 use std::test::*;
 
@@ -14,7 +14,7 @@ use std::test::*;
 const MOST: u64 = 400;
 
 // What came of a session in which a call failed, by its status and what else tells the kind of that call.
-#[derive(Clone, Copy, Debug, PartialEq, Eq)]
+#[derive(Clone, Copy)]
 enum Kind {
     // Status 0 with all records 00h: there is no such call.
     NoCall,
@@ -31,7 +31,7 @@ enum Kind {
 }
 
 // How often each kind came.
-#[derive(Clone, Copy, Debug, PartialEq, Eq)]
+#[derive(Clone, Copy)]
 struct Kinds {
     reads: u64,
     fetches: u64,
@@ -60,24 +60,22 @@ impl Kinds {
     }
 }
 
-// The records that are posted whole: how many have another status than 00h, which is to be 88h.
-fn unread(posted: &[u8], records: u32) -> Result<u32, Fail> {
+// The records that are posted whole: how many are of an unrecovered error; None where one is neither that nor a success.
+fn unread(posted: &[u8], records: u32) -> Option<u32> {
     let mut at = 0usize;
     let mut unread = 0u32;
     for _ in 0..records {
-        if let Some(record) = record_at(posted, at) {
-            at = record.end();
-            if record.status != u32::from(SUCCESSFUL_COMPLETION) {
-                same(
-                    record.status,
-                    u32::from(UNRECOVERED_ERROR),
-                    "the status of a record",
-                )?;
-                unread = unread.saturating_add(1);
-            }
+        let Some(record) = record_at(posted, at) else {
+            return Some(unread);
+        };
+        at = record.end();
+        if record.status == u32::from(UNRECOVERED_ERROR) {
+            unread = unread.saturating_add(1);
+        } else if record.status != u32::from(SUCCESSFUL_COMPLETION) {
+            return None;
         }
     }
-    Ok(unread)
+    Some(unread)
 }
 
 // The record with this number, if it is posted.
@@ -98,64 +96,85 @@ fn ends_with_change(flash: &Flash) -> bool {
     marks > 0 && is_change(flash.mark(marks - 1))
 }
 
-fn kind_of(done: &Session, unread: u32) -> Result<Kind, Fail> {
-    let (status, flash) = (done.status, &done.flash);
-    let is_idle = flash.marks() == 0 && flash.posted().is_empty();
-    match (status, unread) {
-        (0, 0) => Ok(Kind::NoCall),
-        (0, 1) => Ok(Kind::Read),
-        (4, 0) => Ok(Kind::Fetch),
-        (5, 0) => Ok(Kind::Post),
-        (6, 0) if is_idle => Ok(Kind::Opening),
-        (6, 0) if ends_with_change(flash) => Ok(Kind::Stop),
-        _ => Err(Fail::new(format_args!("status {status}, {unread} records with 88h"))),
+fn is_idle(flash: &Flash) -> bool {
+    flash.marks() == 0 && flash.posted().is_empty()
+}
+
+// All records of a session are posted.
+fn is_whole(flash: &Flash, keys: u32) -> bool {
+    record_of(flash.posted(), keys.saturating_add(1)).is_some()
+}
+
+// What came of this session on so many keys; None where nothing may come so.
+fn kind_of(done: &Session, keys: u32) -> Option<Kind> {
+    let flash = &done.flash;
+    let unread = unread(flash.posted(), keys.saturating_add(2))?;
+    match (done.status, unread) {
+        (0, 0) if is_whole(flash, keys) => Some(Kind::NoCall),
+        (0, 1) => Some(Kind::Read),
+        (4, 0) => Some(Kind::Fetch),
+        (5, 0) => Some(Kind::Post),
+        (6, 0) if is_idle(flash) => Some(Kind::Opening),
+        (6, 0) if ends_with_change(flash) => Some(Kind::Stop),
+        _ => None,
     }
 }
 
 // What the next session is to find, by the record of the Store.
-fn behind(alloc: Global, few: &Few, held: &[u8], posted: &[u8]) -> Result<Before, AllocError> {
-    let record = record_of(posted, few.keys);
+fn behind(trial: &Trial, held: &[u8], posted: &[u8]) -> Result<Before, AllocError> {
+    let keys = trial.few.keys;
+    let record = record_of(posted, keys);
     let is_refused =
         matches!(record, Some(record) if record.status != u32::from(SUCCESSFUL_COMPLETION));
     Ok(Before {
-        held: held.to_vec(alloc)?,
-        key: if is_refused { few.keys } else { 1 },
+        held: held.to_vec(trial.alloc)?,
+        key: if is_refused { keys } else { 1 },
         first: stored(1),
         is_told: record.is_some(),
     })
 }
 
-// The session on these pages while this call fails, and the next one.
+// The session behind one in which a call failed.
+fn check_next<P: Program>(trial: &Trial, held: &[u8], flash: &Flash) -> Result<(), Fail> {
+    let known = behind(trial, held, flash.posted())?;
+    let pages = pages_left(trial.alloc, flash)?;
+    let _ = session::<P>(trial, pages, &known, 2)?;
+    Ok(())
+}
+
+// The session on this drive while this call fails, and the next one.
 fn fails<P: Program>(
-    alloc: Global,
-    few: &Few,
-    pages: Vec<PageState>,
+    trial: &Trial,
+    drive: &Flash,
     held: &[u8],
     call: u64,
-    left: Left,
+    way: u8,
 ) -> Result<Kind, Fail> {
-    let done = served_with_fault::<P>(alloc, few, pages, call, left)?;
-    let posted = done.flash.posted();
-    let kind = kind_of(&done, unread(posted, few.keys.saturating_add(2))?)?;
-    holds(
-        kind != Kind::NoCall || record_of(posted, few.keys.saturating_add(1)).is_some(),
-        format_args!("all records, call {call}"),
-    )?;
-    let known = behind(alloc, few, held, posted)?;
-    let _ = session::<P>(alloc, few, pages_left(alloc, &done.flash)?, &known, 2)?;
-    Ok(kind)
+    let done = served_with_fault::<P>(trial, drive, call, way)?;
+    check_next::<P>(trial, held, &done.flash)?;
+    match kind_of(&done, trial.few.keys) {
+        Some(kind) => Ok(kind),
+        None => Err(Fail::from("how a session ends in which a call fails")),
+    }
+}
+
+// The board of the first session on this drive, of which this call fails.
+fn board_with_fault(trial: &Trial, drive: &Flash, call: u64, way: u8) -> Result<Flash, Fail> {
+    let left = left(trial.alloc, way)?;
+    let pages = pages_left(trial.alloc, drive)?;
+    let mut flash = few_board(trial, pages, 1)?;
+    flash.fail(trial.alloc, call, left)?;
+    Ok(flash)
 }
 
 fn served_with_fault<P: Program>(
-    alloc: Global,
-    few: &Few,
-    pages: Vec<PageState>,
+    trial: &Trial,
+    drive: &Flash,
     call: u64,
-    left: Left,
+    way: u8,
 ) -> Result<Session, Fail> {
-    let mut flash = few_board(alloc, few, pages, commands(alloc, few, 1)?)?;
-    flash.fail(alloc, call, left)?;
-    Ok(serve_board::<P>(alloc, flash))
+    let flash = board_with_fault(trial, drive, call, way)?;
+    Ok(serve_board::<P>(trial.alloc, flash))
 }
 
 fn left(alloc: Global, way: u8) -> Result<Left, AllocError> {
@@ -182,32 +201,20 @@ fn posts_of(flash: &Flash) -> u64 {
     posts
 }
 
-// Each call fails and leaves this.
-fn check_way<P: Program>(alloc: Global, few: &Few, way: u8) -> Result<Kinds, Fail> {
-    let (drive, before) = full::<P>(alloc, few)?;
-    let whole = session::<P>(alloc, few, pages_left(alloc, &drive)?, &before, 1)?;
-    let kinds = kinds_of::<P>(alloc, few, &drive, &before, way)?;
-    let wanted = wanted_kinds(&whole.flash, kinds.fetches);
-    same(kinds, wanted, "the kinds of calls that failed")?;
+// The kinds of all calls of the session on this drive, each of which fails in turn and leaves this.
+fn kinds_of<P: Program>(trial: &Trial, drive: &Flash, held: &[u8], way: u8) -> Result<Kinds, Fail> {
+    let mut kinds = NONE;
+    for call in 0..MOST {
+        kinds = kinds.with(fails::<P>(trial, drive, held, call, way)?);
+    }
     Ok(kinds)
 }
 
-// The kinds of all calls of the session on this drive, each of which fails in turn.
-fn kinds_of<P: Program>(
-    alloc: Global,
-    few: &Few,
-    drive: &Flash,
-    before: &Before,
-    way: u8,
-) -> Result<Kinds, Fail> {
-    let mut kinds = NONE;
-    for call in 0..MOST {
-        let pages = pages_left(alloc, drive)?;
-        let left = left(alloc, way)?;
-        let kind = fails::<P>(alloc, few, pages, &before.held, call, left)?;
-        kinds = kinds.with(kind);
-    }
-    Ok(kinds)
+fn are_same(one: &Kinds, other: &Kinds) -> bool {
+    one.reads == other.reads
+        && one.fetches == other.fetches
+        && one.posts == other.posts
+        && one.stops == other.stops
 }
 
 // The kinds of calls that the whole session makes, with so many fetches.
@@ -220,15 +227,41 @@ fn wanted_kinds(flash: &Flash, fetches: u64) -> Kinds {
     }
 }
 
-/// Each call fails and leaves all as it was, a page or a block Torn, its work done, a block page by page, or a part of a post. A read
-/// fails its command, or the opening; a fetch, a post, a program and an erase end the run; and the next session finds what was told.
-pub fn each_call<P: Program>(alloc: Global, few: &Few) -> Result<(), Fail> {
+// Each call fails in each way, where this is the board of the whole session: as many of each kind as that makes.
+fn check_ways<P: Program>(
+    trial: &Trial,
+    drive: &Flash,
+    held: &[u8],
+    whole: &Flash,
+) -> Result<(), Fail> {
     for way in 0..5u8 {
-        let kinds = check_way::<P>(alloc, few, way)?;
+        let kinds = kinds_of::<P>(trial, drive, held, way)?;
+        let wanted = wanted_kinds(whole, kinds.fetches);
         holds(
-            kinds.fetches > u64::from(few.keys),
-            format_args!("{kinds:?}"),
+            are_same(&kinds, &wanted) && kinds.fetches > u64::from(trial.few.keys),
+            "the kinds of calls that failed",
         )?;
     }
     Ok(())
+}
+
+fn check_drive<P: Program>(trial: &Trial, drive: &Flash) -> Result<(), Fail> {
+    let before = held(trial)?;
+    let pages = pages_left(trial.alloc, drive)?;
+    let whole = session::<P>(trial, pages, &before, 1)?;
+    check_ways::<P>(trial, drive, &before.held, &whole.flash)
+}
+
+/// Each call fails and leaves all as it was, a page or a block Torn, its work done, a block page by page, or a part of a post. A read
+/// fails its command, or the opening; a fetch, a post, a program and an erase end the run; and the next session finds what was told.
+pub fn each_call<P: Program>(alloc: Global, few: &Few) -> Result<(), Fail> {
+    let part = in_all_ways(1);
+    let trial = Trial {
+        alloc,
+        few,
+        shape: few.shape()?,
+        part: &part,
+    };
+    let drive = drive::<P>(&trial)?;
+    check_drive::<P>(&trial, &drive)
 }

@@ -1,14 +1,14 @@
 //! A drive of 65,536 pages with 24,000 keys: their index with all keys has 576,000 bytes, and the pages of its runs more.
 
 use pk_base::Shape;
-use pk_flash::Room;
+use pk_flash::{Flash, Room};
 use pk_nvme::Request;
 use pk_nvme::opcode::{RETRIEVE, STORE};
 use pk_nvme::status::SUCCESSFUL_COMPLETION;
-use pk_sessions::boards::{Session, board_in, made, serve_board_with};
+use pk_sessions::boards::{board_in, made, serve_with};
 use pk_sessions::overwritten::{Record, all_with, record_at, value_of};
 use pk_sessions::script::{push_value, value_bytes};
-use pk_sessions::{Place, Program, holds, same};
+use pk_sessions::{Program, holds};
 use std::alloc::{AllocError, Global};
 use std::test::*;
 
@@ -66,42 +66,52 @@ fn push_retrieves(into: &mut Vec<u8>) -> Result<(), AllocError> {
     Ok(())
 }
 
+fn is_value(alloc: Global, data: Option<&[u8]>, key: u32) -> bool {
+    match value_bytes(alloc, &value_of(key)) {
+        Ok(want) => data == Some(want.as_slice()),
+        Err(_) => false,
+    }
+}
+
 // The record has the value of this key, and tells the pages of its look-up and the one of the value.
-fn check_record(alloc: Global, posted: &[u8], record: &Record, key: u32) -> Result<(), Fail> {
-    let want = value_bytes(alloc, &value_of(key))?;
+fn is_record(alloc: Global, posted: &[u8], record: &Record, key: u32) -> bool {
     let least = if key < IN_RUNS { 2 } else { 1 };
     let is_read = least <= record.reads && record.reads <= 5;
-    let is_value = posted.get(record.data..record.end()) == Some(want.as_slice());
-    holds(
-        record.status == u32::from(SUCCESSFUL_COMPLETION) && is_read && is_value,
-        format_args!("the value of key {key}: {record:?}"),
-    )
+    record.status == u32::from(SUCCESSFUL_COMPLETION)
+        && is_read
+        && is_value(alloc, posted.get(record.data..record.end()), key)
 }
 
-// The records of the Retrieves, from this byte on: where they end.
-fn check_records(alloc: Global, posted: &[u8], from: usize) -> Result<usize, Fail> {
+// The records of the Retrieves, from this byte on, are as they are to be, and nothing is behind them.
+fn are_records(alloc: Global, posted: &[u8], from: usize) -> bool {
     let mut at = from;
     for key in 0..KEYS {
-        let record = record_at(posted, at).ok_or("a record")?;
-        check_record(alloc, posted, &record, key)?;
-        at = record.end();
+        match record_at(posted, at) {
+            Some(record) if is_record(alloc, posted, &record, key) => at = record.end(),
+            _ => return false,
+        }
     }
-    Ok(at)
+    at == posted.len()
 }
 
-// The session of all commands on a made drive.
-fn served<P: Program>(alloc: Global) -> Result<Session, Fail> {
-    let shape = Shape::new(4096, 64, 1024).ok().ok_or("a shape")?;
+// The board of all commands on a made drive.
+fn large_board<P: Program>(alloc: Global) -> Result<Flash, Fail> {
+    let Ok(shape) = Shape::new(4096, 64, 1024) else {
+        return Err(Fail::from("a shape"));
+    };
+    let script = commands(alloc)?;
     let pages = made::<P>(alloc, &MAKE)?;
-    let flash = board_in(alloc, shape, pages, commands(alloc)?, ROOM)?;
-    Ok(serve_board_with::<P>(alloc, flash, "0"))
+    board_in(alloc, shape, pages, script, ROOM)
 }
 
 /// The drive takes 24,000 Stores, and gives each value back. Without frames each key of a run costs a page of every run down to its own.
 pub fn many_keys<P: Program>(alloc: Global) -> Result<(), Fail> {
-    let done = served::<P>(alloc)?;
-    done.ended(0, Place::Named("many keys"))?;
-    let posted = done.flash.posted();
-    let end = check_records(alloc, posted, all_with(posted, 0, KEYS, 0)?)?;
-    same(end, posted.len(), "the bytes posted")
+    let mut flash = large_board::<P>(alloc)?;
+    holds(
+        serve_with::<P>(alloc, &mut flash, "0") == 0,
+        "the status of many keys",
+    )?;
+    let posted = flash.posted();
+    let at = all_with(posted, 0, KEYS, 0)?;
+    holds(are_records(alloc, posted, at), "the values of many keys")
 }

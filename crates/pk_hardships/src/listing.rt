@@ -5,8 +5,8 @@ use pk_flash::{Flash, Left, Room};
 use pk_nand::PageState;
 use pk_nvme::Request;
 use pk_nvme::opcode::STORE;
-use pk_sessions::boards::{Session, board_in, made, pages_left, serve_board};
-use pk_sessions::{Place, Program, holds, same};
+use pk_sessions::boards::{Session, board_in, made, pages_left};
+use pk_sessions::{Program, holds, serve};
 use std::alloc::{AllocError, Global};
 use std::test::*;
 
@@ -54,27 +54,43 @@ fn script(alloc: Global) -> Result<Vec<u8>, AllocError> {
     Ok(script)
 }
 
-// The lines of the first keys, so many.
-fn lines(alloc: Global, count: u32) -> Result<Vec<u8>, AllocError> {
+// The bytes of a line: two digits for each byte of a key, and a line feed.
+const LINE: usize = 33;
+
+fn digit(number: u8) -> u8 {
+    let low = number % 16;
+    if low < 10 { 48 + low } else { 87 + low }
+}
+
+fn push_line(into: &mut Vec<u8>, key: &[u8; 16]) -> Result<(), AllocError> {
+    for byte in key {
+        into.extend_from_slice(&[digit(*byte / 16), digit(*byte)])?;
+    }
+    into.push(b'\n')?;
+    Ok(())
+}
+
+// The lines of all keys.
+fn lines(alloc: Global) -> Result<Vec<u8>, AllocError> {
     let mut lines = Vec::new(alloc);
-    for number in 0..count {
-        for byte in key_of(number) {
-            for digit in [byte / 16, byte % 16] {
-                lines.push(if digit < 10 { 48 + digit } else { 87 + digit })?;
-            }
-        }
-        lines.push(b'\n')?;
+    for number in 0..KEYS {
+        push_line(&mut lines, &key_of(number))?;
     }
     Ok(lines)
 }
 
-// The pages of a drive with all keys.
-fn filled<P: Program>(alloc: Global) -> Result<Flash, Fail> {
+fn filling_board<P: Program>(alloc: Global) -> Result<Flash, Fail> {
+    let shape = shape()?;
+    let script = script(alloc)?;
     let pages = made::<P>(alloc, &MAKE)?;
-    let flash = board_in(alloc, shape()?, pages, script(alloc)?, ROOM)?;
-    let done = serve_board::<P>(alloc, flash);
-    done.ended(0, Place::Named("the Stores"))?;
-    Ok(done.flash)
+    board_in(alloc, shape, pages, script, ROOM)
+}
+
+// The board of a drive with all keys.
+fn filled<P: Program>(alloc: Global) -> Result<Flash, Fail> {
+    let mut flash = filling_board::<P>(alloc)?;
+    holds(serve::<P>(alloc, &mut flash) == 0, "the Stores")?;
+    Ok(flash)
 }
 
 // The list of all keys on these pages, in which the call with this number fails, where there is one.
@@ -91,43 +107,30 @@ fn listed<P: Program>(
     Ok(Session { status, flash })
 }
 
-// The lines of the first keys, so many, and that a command failed behind them.
-fn lines_and_failure(alloc: Global, count: u32) -> Result<Vec<u8>, AllocError> {
-    let mut lines = lines(alloc, count)?;
-    lines.extend_from_slice(b"refused 88\n")?;
-    Ok(lines)
+// The lines of the first keys, so many.
+fn front(all: &[u8], count: u32) -> &[u8] {
+    let end = (count as usize).saturating_mul(LINE);
+    &all[..end.min(all.len())]
 }
 
-// How a list ends of which a call fails: the lines of the keys that were told, and the others.
-#[derive(Drop)]
-struct Ends {
-    all: Vec<u8>,
-    first: Vec<u8>,
-    // A read failed in the first, the second or the third command.
-    first_failed: Vec<u8>,
-    second_failed: Vec<u8>,
-    third_failed: Vec<u8>,
+// These are the lines of the first keys, so many, and that a command failed behind them.
+fn is_failure(posted: &[u8], all: &[u8], count: u32) -> bool {
+    match posted.strip_prefix(front(all, count)) {
+        Some(rest) => rest == b"refused 88\n".as_slice(),
+        None => false,
+    }
 }
 
-fn all_ends(alloc: Global) -> Result<Ends, AllocError> {
-    Ok(Ends {
-        all: lines(alloc, KEYS)?,
-        first: lines(alloc, TOLD)?,
-        first_failed: lines_and_failure(alloc, 0)?,
-        second_failed: lines_and_failure(alloc, TOLD)?,
-        third_failed: lines_and_failure(alloc, KEYS)?,
-    })
-}
-
-// Which of these ends a list with this status and text has: reads that fail in each command, and the three posts that do.
-fn end_of(status: u8, posted: &[u8], ends: &Ends) -> Option<usize> {
+// Which end a list with this status and text has, where these are the lines of all keys: a read failed in the first, the second or the
+// third command, or one of the three posts failed.
+fn end_of(status: u8, posted: &[u8], all: &[u8]) -> Option<usize> {
     match status {
-        0 if posted == ends.first_failed.as_slice() => Some(0),
-        0 if posted == ends.second_failed.as_slice() => Some(1),
-        0 if posted == ends.third_failed.as_slice() => Some(2),
+        0 if is_failure(posted, all, 0) => Some(0),
+        0 if is_failure(posted, all, TOLD) => Some(1),
+        0 if is_failure(posted, all, KEYS) => Some(2),
         5 if posted.is_empty() => Some(3),
-        5 if posted == ends.first.as_slice() => Some(4),
-        5 if posted == ends.all.as_slice() => Some(5),
+        5 if posted == front(all, TOLD) => Some(4),
+        5 if posted == all => Some(5),
         _ => None,
     }
 }
@@ -135,8 +138,8 @@ fn end_of(status: u8, posted: &[u8], ends: &Ends) -> Option<usize> {
 // The whole list, which posts three times: how many calls it makes behind the first one.
 fn calls_of_list<P: Program>(alloc: Global, filled: &Flash, all: &[u8]) -> Result<u64, Fail> {
     let whole = listed::<P>(alloc, pages_left(alloc, filled)?, None)?;
-    whole.posted(0, all, Place::Named("a whole list"))?;
-    same(whole.flash.marks(), 3, "posts")?;
+    let is_so = whole.status == 0 && whole.flash.posted() == all && whole.flash.marks() == 3;
+    holds(is_so, "a whole list")?;
     Ok(whole.flash.read_count().saturating_add(3))
 }
 
@@ -144,34 +147,37 @@ fn calls_of_list<P: Program>(alloc: Global, filled: &Flash, all: &[u8]) -> Resul
 fn failing<P: Program>(
     alloc: Global,
     filled: &Flash,
-    ends: &Ends,
+    all: &[u8],
     call: u64,
 ) -> Result<usize, Fail> {
     let done = listed::<P>(alloc, pages_left(alloc, filled)?, Some(call))?;
-    match end_of(done.status, done.flash.posted(), ends) {
+    match end_of(done.status, done.flash.posted(), all) {
         Some(end) => Ok(end),
-        None => Err(Fail::new(format_args!("status {} where call {call} fails", done.status))),
+        None => Err(Fail::from("a list in which a call fails")),
     }
+}
+
+// How often each end is seen of lists of which the last calls fail.
+fn ends_seen<P: Program>(alloc: Global, filled: &Flash, all: &[u8]) -> Result<[u32; 6], Fail> {
+    let calls = calls_of_list::<P>(alloc, filled, all)?;
+    let mut seen = [0u32; 6];
+    for back in 1..13u64 {
+        let end = failing::<P>(alloc, filled, all, calls.saturating_sub(back))?;
+        if end < 6 {
+            seen[end] = seen[end].saturating_add(1);
+        }
+    }
+    Ok(seen)
 }
 
 /// A list asks three times: for the first keys, for the others, and whether one is behind them; and it tells what it finds each time. Each
 /// of its last calls fails in turn. Behind a read of the second command that fails the keys of the first one are told, and that a command
 /// failed; and behind a post that fails nothing is told any more.
 pub fn later_commands_fail<P: Program>(alloc: Global) -> Result<(), Fail> {
+    let all = lines(alloc)?;
     let filled = filled::<P>(alloc)?;
-    let ends = all_ends(alloc)?;
-    let calls = calls_of_list::<P>(alloc, &filled, &ends.all)?;
-    // how often each end is seen
-    let mut seen = [0u32; 6];
-    for back in 1..13u64 {
-        let end = failing::<P>(alloc, &filled, &ends, calls.saturating_sub(back))?;
-        if end < 6 {
-            seen[end] = seen[end].saturating_add(1);
-        }
-    }
-    holds(
-        seen[0] > 0 && seen[1] > 0,
-        format_args!("{} and {} reads", seen[0], seen[1]),
-    )?;
-    same([seen[3], seen[4], seen[5]], [1, 1, 1], "posts that fail")
+    let [first, second, _, none, told, whole] = ends_seen::<P>(alloc, &filled, &all)?;
+    let are_reads = first > 0 && second > 0;
+    let are_posts = none == 1 && told == 1 && whole == 1;
+    holds(are_reads && are_posts, "how often each end is seen")
 }

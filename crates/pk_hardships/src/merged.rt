@@ -4,10 +4,10 @@
 //! Where there are merges, so many keys were stored and deleted that the frozen buffer is more than run 1 has room for, run 1 more than
 //! run 2 has, and run 2 more than run 3. The merge into run 4 leaves the deleted keys out, so that the session has few marks.
 
-use crate::deep::{Few, LONG, Part, SMALL, WIDE, check, first, in_all_ways};
+use crate::deep::{Few, LONG, Part, SMALL, Trial, WIDE, check, first, in_all_ways};
 use pk_flash::Flash;
 use pk_nand::Mark;
-use pk_sessions::{Program, holds, same};
+use pk_sessions::{Program, holds};
 use std::alloc::Global;
 use std::test::*;
 
@@ -86,17 +86,25 @@ fn check_roots<P: Program>(
     few: &Few,
     wanted: u32,
     part: &Part,
-) -> Result<u32, Fail> {
-    let first = first::<P>(alloc, few)?;
-    same(roots(&first.flash, few), wanted, "roots")?;
-    check::<P>(alloc, few, &first, part)
+) -> Result<usize, Fail> {
+    let trial = Trial {
+        alloc,
+        few,
+        shape: few.shape()?,
+        part,
+    };
+    let first = first::<P>(&trial)?;
+    if roots(&first.flash, few) != wanted {
+        return Err(Fail::from("the roots of a first session"));
+    }
+    check::<P>(&trial, &first)
 }
 
 /// A freeze on each shape, cut off at every mark in all ways, and the sessions behind it at every mark in one way by turns.
 pub fn freezes<P: Program>(alloc: Global) -> Result<(), Fail> {
     for few in &FREEZES {
         let cuts = check_roots::<P>(alloc, few, 1, &first_in_all_ways(1))?;
-        holds(cuts >= 1_000, format_args!("{cuts} cuts"))?;
+        holds(cuts >= 1_000, "1,000 cuts")?;
     }
     Ok(())
 }
@@ -105,15 +113,23 @@ pub fn freezes<P: Program>(alloc: Global) -> Result<(), Fail> {
 /// every five.
 pub fn merges<P: Program>(alloc: Global, few: &Few) -> Result<(), Fail> {
     let cuts = check_roots::<P>(alloc, few, 5, &first_in_all_ways(5))?;
-    holds(cuts >= 500, format_args!("{cuts} cuts"))
+    holds(cuts >= 500, "500 cuts")
 }
 
 /// A freeze in all ways of all three sessions, the later two at one of every so many marks. This takes long where that is each.
-pub fn freeze_in_all_ways<P: Program>(alloc: Global, few: &Few, every: usize) -> Result<u32, Fail> {
+pub fn freeze_in_all_ways<P: Program>(
+    alloc: Global,
+    few: &Few,
+    every: usize,
+) -> Result<usize, Fail> {
     check_roots::<P>(alloc, few, 1, &in_all_ways(every))
 }
 
 /// So are merges into levels 4, 3, 2 and 1 and the freeze behind them.
-pub fn merges_in_all_ways<P: Program>(alloc: Global, few: &Few, every: usize) -> Result<u32, Fail> {
+pub fn merges_in_all_ways<P: Program>(
+    alloc: Global,
+    few: &Few,
+    every: usize,
+) -> Result<usize, Fail> {
     check_roots::<P>(alloc, few, 5, &in_all_ways(every))
 }

@@ -5,7 +5,7 @@ use pk_sessions::Program;
 use std::alloc::Global;
 
 /// What opening answers, and of a flash that holds a map, how many keys it has.
-#[derive(Clone, Copy, Debug, PartialEq, Eq)]
+#[derive(Clone, Copy, PartialEq, Eq)]
 pub enum Opened {
     Keys(u32),
     NotFormatted,

@@ -5,7 +5,7 @@ use pk_nand::PageState;
 use std::alloc::{AllocError, Global};
 
 /// An entry: a key, and where its value begins and how many bytes it has, unless the key was deleted. Behind the key's bytes are zeros.
-#[derive(Clone, Copy, Debug, PartialEq, Eq)]
+#[derive(Clone, Copy)]
 pub struct Item {
     pub key: [u8; 16],
     pub key_len: u8,

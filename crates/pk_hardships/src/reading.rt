@@ -8,7 +8,7 @@ use pk_nand::PageState;
 use std::alloc::{AllocError, Global};
 
 /// How a reading ends.
-#[derive(Debug, PartialEq, Eq, Drop)]
+#[derive(Drop)]
 pub enum Reading {
     NotFormatted,
     Damaged(u32),

@@ -4,16 +4,16 @@
 use crate::opened::{Opened, Opens};
 use crate::plain::{Item, whole};
 use crate::reading::{Reading, reading_of};
-use pk_flash::Room;
+use pk_flash::{Flash, Room};
 use pk_nand::{PageBytes, PageState};
 use pk_nvme::Request;
 use pk_nvme::opcode::{LIST, RETRIEVE};
-use pk_sessions::boards::{Session, board_in, serve_board, worked};
+use pk_sessions::boards::{board_in, worked};
 use pk_sessions::damage::with_one_key;
 use pk_sessions::overwritten::record_at;
 use pk_sessions::pages::{Note, journal_page, meta_page, root_page, set, write};
-use pk_sessions::runs::{place, with_two_epochs};
-use pk_sessions::{holds, same};
+use pk_sessions::runs::with_two_epochs;
+use pk_sessions::{holds, serve};
 use std::alloc::{AllocError, Global};
 use std::test::*;
 
@@ -122,21 +122,6 @@ fn is_worn(pages: &[PageState]) -> bool {
     }
 }
 
-// A flash: what was done to it, and a number that tells which.
-#[derive(Clone, Copy)]
-struct Spoiled<'a> {
-    pages: &'a [PageState],
-    what: &'static str,
-    number: usize,
-}
-
-impl Spoiled<'_> {
-    // A failure of this flash where this does not hold.
-    fn holds(&self, is_so: bool, what: &'static str) -> Result<(), Fail> {
-        holds(is_so, format_args!("{what}, {} {}", self.what, self.number))
-    }
-}
-
 // The record that begins here has these data: where the next one begins.
 fn record_with(posted: &[u8], at: usize, data: &[u8]) -> Option<usize> {
     let record = record_at(posted, at)?;
@@ -147,47 +132,77 @@ fn record_with(posted: &[u8], at: usize, data: &[u8]) -> Option<usize> {
     }
 }
 
-// The records of Retrieves of these keys have the values of these pages: where the next one begins.
-fn check_values(
+// The record of a Retrieve of this key begins here and has the value of these pages: where the next one begins.
+fn value_end(
     alloc: Global,
-    spoiled: &Spoiled,
+    pages: &[PageState],
+    item: &Item,
+    posted: &[u8],
+    at: usize,
+) -> Result<Option<usize>, AllocError> {
+    let Some((first, len)) = item.place else {
+        return Ok(None);
+    };
+    let value = value_at(alloc, pages, first, len)?;
+    Ok(record_with(posted, at, &value))
+}
+
+// The records of Retrieves of these keys have the values of these pages, and nothing is behind them.
+fn have_values(
+    alloc: Global,
+    pages: &[PageState],
     items: &[Item],
     posted: &[u8],
     from: usize,
-) -> Result<usize, Fail> {
+) -> Result<bool, AllocError> {
     let mut at = from;
     for item in items {
-        let (first, len) = item.place.ok_or("a place")?;
-        let value = value_at(alloc, spoiled.pages, first, len)?;
-        at = record_with(posted, at, &value).ok_or("a value")?;
+        match value_end(alloc, pages, item, posted, at)? {
+            Some(end) => at = end,
+            None => return Ok(false),
+        }
     }
-    Ok(at)
+    Ok(at == posted.len())
 }
 
-// The session on these pages.
-fn served<O: Opens>(alloc: Global, pages: &[PageState], items: &[Item]) -> Result<Session, Fail> {
-    let flash = board_in(
-        alloc,
-        worked()?,
-        copies(alloc, pages)?,
-        asks(alloc, items)?,
-        ROOM,
-    )?;
-    Ok(serve_board::<O>(alloc, flash))
+fn served_board(alloc: Global, pages: &[PageState], items: &[Item]) -> Result<Flash, Fail> {
+    let shape = worked()?;
+    let script = asks(alloc, items)?;
+    let pages = copies(alloc, pages)?;
+    board_in(alloc, shape, pages, script, ROOM)
+}
+
+// The first record has these keys: where the next one begins.
+fn keys_end(alloc: Global, items: &[Item], posted: &[u8]) -> Result<Option<usize>, AllocError> {
+    let keys = listed(alloc, items)?;
+    Ok(record_with(posted, 0, &keys))
+}
+
+// A session that ended so has these keys and values, and nothing else; or the drive is worn out, and served no command.
+fn has_map(
+    alloc: Global,
+    pages: &[PageState],
+    items: &[Item],
+    status: u8,
+    posted: &[u8],
+) -> Result<bool, AllocError> {
+    if is_worn(pages) {
+        return Ok(status == 10 && posted.is_empty());
+    }
+    if status != 0 {
+        return Ok(false);
+    }
+    match keys_end(alloc, items, posted)? {
+        Some(at) => have_values(alloc, pages, items, posted, at),
+        None => Ok(false),
+    }
 }
 
 // The session on these pages has these keys and values, and nothing else; or the drive is worn out, and serves no command.
-fn check_map<O: Opens>(alloc: Global, spoiled: &Spoiled, items: &[Item]) -> Result<(), Fail> {
-    let done = served::<O>(alloc, spoiled.pages, items)?;
-    let posted = done.flash.posted();
-    if is_worn(spoiled.pages) {
-        let is_refused = done.status == 10 && posted.is_empty();
-        return spoiled.holds(is_refused, "a worn drive");
-    }
-    spoiled.holds(done.status == 0, "the status")?;
-    let at = record_with(posted, 0, &listed(alloc, items)?).ok_or("the keys")?;
-    let end = check_values(alloc, spoiled, items, posted, at)?;
-    spoiled.holds(end == posted.len(), "the posted bytes")
+fn serves_map<O: Opens>(alloc: Global, pages: &[PageState], items: &[Item]) -> Result<bool, Fail> {
+    let mut flash = served_board(alloc, pages, items)?;
+    let status = serve::<O>(alloc, &mut flash);
+    Ok(has_map(alloc, pages, items, status, flash.posted())?)
 }
 
 // ---- one flash
@@ -201,13 +216,28 @@ fn opened_of(reading: &Reading) -> Opened {
 }
 
 // What opening answers on these pages, which it leaves alone.
-fn opening<O: Opens>(alloc: Global, spoiled: &Spoiled) -> Result<Opened, Fail> {
-    let pages = copies(alloc, spoiled.pages)?;
-    let mut flash = board_in(alloc, worked()?, pages, Vec::new(alloc), NO_ROOM)?;
+fn opening<O: Opens>(alloc: Global, pages: &[PageState]) -> Result<Opened, Fail> {
+    let shape = worked()?;
+    let pages = copies(alloc, pages)?;
+    let mut flash = board_in(alloc, shape, pages, Vec::new(alloc), NO_ROOM)?;
     let opened = O::opened(alloc, &mut flash);
-    let is_idle = flash.program_count() == 0 && flash.erase_count() == 0;
-    spoiled.holds(is_idle, "nothing written")?;
+    if flash.program_count() > 0 || flash.erase_count() > 0 {
+        return Err(Fail::from("an opening that writes"));
+    }
     Ok(opened)
+}
+
+// Opening answered as the reading of these pages does, and a session has the map.
+fn is_as_read<O: Opens>(alloc: Global, pages: &[PageState], opened: Opened) -> Result<bool, Fail> {
+    let shape = worked()?;
+    let reading = reading_of(alloc, &shape, pages)?;
+    if opened_of(&reading) != opened {
+        return Ok(false);
+    }
+    match &reading {
+        Reading::Map(items) => serves_map::<O>(alloc, pages, items),
+        _ => Ok(true),
+    }
 }
 
 // Opening answers as the reading does, and writes nothing. How it answers.
@@ -217,21 +247,9 @@ fn check<O: Opens>(
     what: &'static str,
     number: usize,
 ) -> Result<Opened, Fail> {
-    let spoiled = Spoiled {
-        pages,
-        what,
-        number,
-    };
-    let opened = opening::<O>(alloc, &spoiled)?;
-    let reading = reading_of(alloc, &worked()?, pages)?;
-    let wanted = opened_of(&reading);
-    same(
-        opened,
-        wanted,
-        format_args!("what opening answers, {what} {number}"),
-    )?;
-    if let Reading::Map(items) = &reading {
-        check_map::<O>(alloc, &spoiled, items)?;
+    let opened = opening::<O>(alloc, pages)?;
+    if !is_as_read::<O>(alloc, pages, opened)? {
+        return Err(Fail::new(format_args!("{what} {number}")));
     }
     Ok(opened)
 }
@@ -253,6 +271,17 @@ fn raised(alloc: Global, page: &PageState, at: usize, by: u8) -> Result<PageStat
     }
 }
 
+fn with_page(
+    alloc: Global,
+    pages: &[PageState],
+    at: u32,
+    page: PageState,
+) -> Result<Vec<PageState>, Fail> {
+    let mut spoiled = copies(alloc, pages)?;
+    set(&mut spoiled, at, page)?;
+    Ok(spoiled)
+}
+
 fn with_byte(
     alloc: Global,
     pages: &[PageState],
@@ -260,10 +289,22 @@ fn with_byte(
     at: usize,
     by: u8,
 ) -> Result<Vec<PageState>, Fail> {
-    let mut spoiled = copies(alloc, pages)?;
-    let found = pages.get(page as usize).ok_or("a page")?;
-    set(&mut spoiled, page, raised(alloc, found, at, by)?)?;
-    Ok(spoiled)
+    match pages.get(page as usize) {
+        Some(found) => with_page(alloc, pages, page, raised(alloc, found, at, by)?),
+        None => Err(Fail::from("a page")),
+    }
+}
+
+// Opening answers as the reading does behind a change of one byte.
+fn check_byte<O: Opens>(
+    alloc: Global,
+    pages: &[PageState],
+    page: u32,
+    at: usize,
+    by: u8,
+) -> Result<Opened, Fail> {
+    let spoiled = with_byte(alloc, pages, page, at, by)?;
+    check::<O>(alloc, &spoiled, "byte", at)
 }
 
 // Where opening a drive with one key refuses it behind a change of this byte of its journal page: at the journal page, or, where that is
@@ -281,10 +322,11 @@ fn refused_at(byte: usize) -> u32 {
 pub fn journal_bytes<O: Opens>(alloc: Global) -> Result<(), Fail> {
     let pages = with_one_key::<O>(alloc)?;
     for at in 0..64usize {
-        let spoiled = with_byte(alloc, &pages, 64, at, 1)?;
-        let opened = check::<O>(alloc, &spoiled, "byte", at)?;
-        let want = Opened::Damaged(refused_at(at));
-        same(opened, want, format_args!("byte {at}"))?;
+        let opened = check_byte::<O>(alloc, &pages, 64, at, 1)?;
+        holds(
+            opened == Opened::Damaged(refused_at(at)),
+            "a byte that is refused",
+        )?;
     }
     Ok(())
 }
@@ -294,11 +336,10 @@ pub fn journal_bytes_by_all<O: Opens>(alloc: Global) -> Result<(), Fail> {
     let pages = with_one_key::<O>(alloc)?;
     for way in 0..64 * 255u32 {
         let at = (way / 255) as usize;
-        let spoiled = with_byte(alloc, &pages, 64, at, (way % 255) as u8 + 1)?;
-        let opened = check::<O>(alloc, &spoiled, "byte", at)?;
+        let opened = check_byte::<O>(alloc, &pages, 64, at, (way % 255) as u8 + 1)?;
         holds(
             matches!(opened, Opened::Damaged(_)),
-            format_args!("byte {at} by {}", way % 255 + 1),
+            "a byte that is refused",
         )?;
     }
     Ok(())
@@ -310,18 +351,19 @@ const BY: [u8; 3] = [1, 128, 255];
 // Each byte of a page is changed in three ways.
 fn check_bytes<O: Opens>(alloc: Global, pages: &[PageState], page: u32) -> Result<(), Fail> {
     for way in 0..512 * 3usize {
-        let by = BY[way % 3];
-        let spoiled = with_byte(alloc, pages, page, way / 3, by)?;
-        let _ = check::<O>(alloc, &spoiled, "byte", way / 3)?;
+        let _ = check_byte::<O>(alloc, pages, page, way / 3, BY[way % 3])?;
     }
     Ok(())
 }
 
+// The root, the pages of the epochs, the first pages of the runs, and those of the values of the keys 33 and 80.
+const PAGES: [u32; 11] = [0, 32, 33, 64, 96, 112, 128, 144, 145, 386, 480];
+
 /// Each byte of the root, of each page of the epochs, and of the first pages of the runs of all levels, and the first pages of two values.
 pub fn every_byte<O: Opens>(alloc: Global) -> Result<(), Fail> {
     let pages = with_two_epochs(alloc)?;
-    for page in [0, 32, 33, 64, 96, 112, 128, 144, 145, place(33), place(80)] {
-        check_bytes::<O>(alloc, &pages, page)?;
+    for page in &PAGES {
+        check_bytes::<O>(alloc, &pages, *page)?;
     }
     Ok(())
 }
@@ -338,13 +380,23 @@ fn other(alloc: Global, way: u32) -> Result<PageState, AllocError> {
     }
 }
 
+// Opening answers as the reading does where this page is made another.
+fn check_page<O: Opens>(
+    alloc: Global,
+    pages: &[PageState],
+    page: u32,
+    way: u32,
+) -> Result<(), Fail> {
+    let spoiled = with_page(alloc, pages, page, other(alloc, way)?)?;
+    let _ = check::<O>(alloc, &spoiled, "page", page as usize)?;
+    Ok(())
+}
+
 /// Each page of half the flash, with all that the root names and all values, is Erased, Torn, or has bytes that no page has.
 pub fn every_page<O: Opens>(alloc: Global) -> Result<(), Fail> {
     let pages = with_two_epochs(alloc)?;
     for way in 0..4 * 512u32 {
-        let mut spoiled = copies(alloc, &pages)?;
-        set(&mut spoiled, way / 4, other(alloc, way % 4)?)?;
-        let _ = check::<O>(alloc, &spoiled, "page", (way / 4) as usize)?;
+        check_page::<O>(alloc, &pages, way / 4, way % 4)?;
     }
     Ok(())
 }
@@ -360,15 +412,20 @@ fn exchange(pages: &mut Vec<PageState>, one: usize, other: usize) {
     }
 }
 
+// Opening answers as the reading does where the two blocks of this pair are exchanged.
+fn check_exchanged<O: Opens>(alloc: Global, pages: &[PageState], pair: usize) -> Result<(), Fail> {
+    let mut spoiled = copies(alloc, pages)?;
+    exchange(&mut spoiled, pair / 32, pair % 32);
+    let _ = check::<O>(alloc, &spoiled, "exchanged blocks", pair)?;
+    Ok(())
+}
+
 /// Any two of the first 32 blocks are exchanged.
 pub fn exchanged<O: Opens>(alloc: Global) -> Result<(), Fail> {
     let pages = with_two_epochs(alloc)?;
     for pair in 0..32 * 32usize {
-        let (one, other) = (pair / 32, pair % 32);
-        if one < other {
-            let mut spoiled = copies(alloc, &pages)?;
-            exchange(&mut spoiled, one, other);
-            let _ = check::<O>(alloc, &spoiled, "exchanged blocks", pair)?;
+        if pair / 32 < pair % 32 {
+            check_exchanged::<O>(alloc, &pages, pair)?;
         }
     }
     Ok(())
@@ -510,7 +567,7 @@ fn check_over<O: Opens>(alloc: Global, row: &Over) -> Result<(), Fail> {
     let mut pages = with_two_epochs(alloc)?;
     write(alloc, &mut pages, row.page, &bytes_of(&row.kind))?;
     let opened = check::<O>(alloc, &pages, row.name, row.page as usize)?;
-    same(opened, row.opened, row.name)
+    holds(opened == row.opened, row.name)
 }
 
 /// Pages of roots, epochs and runs that are of the grammar, and not those that stood there.

@@ -1,9 +1,9 @@
 //! Answers of the machine in memory.
 
 use pk_base::Shape;
-use pk_model::MapMachine;
+use pk_model::{Answer, MapMachine};
 use pk_nvme::Request;
-use std::alloc::{AllocError, Global};
+use std::alloc::Global;
 use std::test::*;
 
 const STORE: u8 = 0x01;
@@ -18,17 +18,18 @@ const EXIST: u8 = 0x14;
 
 const REPORT: u8 = 0xc2;
 
-/// A command with the value that follows it, and its answer.
+/// What is asked: a Store of a value under a key, with these options, or a command with an opcode,
+/// a key and a size.
 #[derive(Clone, Copy)]
-struct Row<'a> {
-    request: Request,
-    value: &'a [u8],
-    status: u8,
-    result: u32,
-    bytes: &'a [u8],
+enum Ask {
+    Store(&'static [u8], u8, &'static [u8]),
+    Other(u8, &'static [u8], u32),
 }
 
-fn request(opcode: u8, key: &[u8], size: u32) -> Request {
+/// A command and its answer: the status, the number in the completion, and the bytes.
+type Row = (Ask, u8, u32, &'static [u8]);
+
+fn request(opcode: u8, key: &[u8], size: u32, options: u8) -> Request {
     let mut place = [0; 16];
     let len = key.len().min(16);
     place[..len].copy_from_slice(&key[..len]);
@@ -39,200 +40,264 @@ fn request(opcode: u8, key: &[u8], size: u32) -> Request {
         key_len: len as u8,
         key: place,
         size,
-        options: 0,
+        options,
     }
 }
 
-fn store<'a>(key: &[u8], options: u8, value: &'a [u8], status: u8) -> Row<'a> {
-    let mut request = request(STORE, key, value.len().min(65536) as u32);
-    request.options = options;
-    Row {
-        request,
-        value,
-        status,
-        result: 0,
-        bytes: &[],
+fn request_of(ask: &Ask) -> Request {
+    match ask {
+        Ask::Store(key, options, value) => {
+            request(STORE, key, value.len().min(65536) as u32, *options)
+        }
+        Ask::Other(opcode, key, size) => request(*opcode, key, *size, 0),
     }
 }
 
-fn ask<'a>(
-    opcode: u8,
-    key: &[u8],
-    size: u32,
-    status: u8,
-    result_field: u32,
-    bytes: &'a [u8],
-) -> Row<'a> {
-    Row {
-        request: request(opcode, key, size),
-        value: &[],
-        status,
-        result: result_field,
-        bytes,
+fn value_of(ask: &Ask) -> &[u8] {
+    match ask {
+        Ask::Store(_, _, value) => value,
+        Ask::Other(_, _, _) => &[],
     }
 }
 
-/// Whether the machine answers as the row says.
-fn answers(machine: &mut MapMachine, alloc: Global, row: &Row) -> Result<bool, AllocError> {
-    if row.value.len() != row.request.value_bytes() as usize {
-        return Ok(false);
+fn is_answer(answer: &Answer, status: u8, result_field: u32, bytes: &[u8]) -> bool {
+    answer.status == status && answer.result == result_field && answer.bytes.bytes() == bytes
+}
+
+/// Whether the machine answers this request, with this value, so.
+fn answers(
+    alloc: Global,
+    machine: &mut MapMachine,
+    request: &Request,
+    value: &[u8],
+    (status, result_field, bytes): (u8, u32, &[u8]),
+) -> bool {
+    if value.len() != request.value_bytes() as usize {
+        return false;
     }
-    let answer = machine.step(alloc, &row.request.entry(), row.value)?;
-    Ok(
-        answer.status == row.status
-            && answer.result == row.result
-            && answer.bytes.bytes() == row.bytes,
-    )
+    match machine.step(alloc, &request.entry(), value) {
+        Ok(answer) => is_answer(&answer, status, result_field, bytes),
+        Err(_) => false,
+    }
 }
 
-fn machine(alloc: Global) -> Result<MapMachine, Fail> {
-    let shape = Shape::new(512, 16, 64).ok().ok_or("a shape")?;
-    Ok(MapMachine::new(alloc, shape)?)
+fn machine(alloc: Global) -> Option<MapMachine> {
+    match Shape::new(512, 16, 64) {
+        Ok(shape) => MapMachine::new(alloc, shape).ok(),
+        Err(_) => None,
+    }
 }
 
-/// The first row that a new machine answers otherwise.
-fn first_wrong(alloc: Global, rows: &[Row]) -> Result<Option<usize>, Fail> {
-    let mut machine = machine(alloc)?;
-    for (place, row) in rows.iter().enumerate() {
-        if !answers(&mut machine, alloc, row)? {
-            return Ok(Some(place));
+/// The first row that this machine answers otherwise.
+fn first_wrong(alloc: Global, machine: &mut MapMachine, rows: &[Row]) -> Option<usize> {
+    for i in 0..rows.len() {
+        let (ask, status, result_field, bytes) = &rows[i];
+        let answer = (*status, *result_field, *bytes);
+        if !answers(alloc, machine, &request_of(ask), value_of(ask), answer) {
+            return Some(i);
         }
     }
-    Ok(None)
+    None
 }
 
-/// A Report with so many live pages and keys.
-fn report(live: u8, keys: u8) -> [u8; 64] {
-    let mut bytes = [0; 64];
-    bytes[0] = live;
-    bytes[4] = 0xec;
-    bytes[5] = 0x01;
-    bytes[8] = keys;
-    bytes
-}
-
-// Values of no byte, of the greatest size and of one byte more, and the front of a value.
-#[test]
-fn sizes_of_values(rt: HostRuntime) -> Result<(), Fail> {
-    let value = [7; 2017];
-    let one_page = report(1, 1);
-    let four_pages = report(4, 1);
-    let rows = [
-        store(b"a", 0, &[], 0x00),
-        ask(EXIST, b"a", 0, 0x00, 0, &[]),
-        ask(RETRIEVE, b"a", 10, 0x00, 0, &[]),
-        ask(REPORT, b"", 0, 0x00, 0, &one_page),
-    ];
-    assert_eq!(rt; first_wrong(rt.alloc(), &rows)?, None);
-    let rows = [
-        store(b"a", 0, &value[..2016], 0x00),
-        ask(REPORT, b"", 0, 0x00, 0, &four_pages),
-        store(b"a", 0, &value, 0x85),
-        ask(EXIST, b"a", 0, 0x00, 0, &[]),
-    ];
-    assert_eq!(rt; first_wrong(rt.alloc(), &rows)?, None);
-    let rows = [
-        store(b"a", 0, b"hello", 0x00),
-        ask(RETRIEVE, b"a", 2, 0x00, 5, b"he"),
-        ask(RETRIEVE, b"a", 0, 0x00, 5, &[]),
-    ];
-    assert_eq!(rt; first_wrong(rt.alloc(), &rows)?, None);
-    Ok(())
-}
-
-// Options of a Store on a missing key and on one that exists, and a key that is deleted.
-#[test]
-fn keys_that_exist_or_not(rt: HostRuntime) -> Result<(), Fail> {
-    let rows = [
-        store(b"a", 1, b"x", 0x87),
-        store(b"a", 3, b"x", 0x87),
-        store(b"a", 2, b"x", 0x00),
-        store(b"a", 2, b"x", 0x89),
-        store(b"a", 3, b"x", 0x89),
-        store(b"a", 1, b"x", 0x00),
-        ask(DELETE, b"a", 0, 0x00, 0, &[]),
-        ask(DELETE, b"a", 0, 0x87, 0, &[]),
-        ask(EXIST, b"a", 0, 0x87, 0, &[]),
-        ask(RETRIEVE, b"a", 1, 0x87, 0, &[]),
-    ];
-    assert_eq!(rt; first_wrong(rt.alloc(), &rows)?, None);
-    Ok(())
-}
-
-// The keys 61, 6100 and 62 in buffers of several sizes.
-#[test]
-fn lists(rt: HostRuntime) -> Result<(), Fail> {
-    let all = [3, 0, 0, 0, 1, 0, 0x61, 0, 2, 0, 0x61, 0, 1, 0, 0x62, 0];
-    let two = [2, 0, 0, 0, 1, 0, 0x61, 0, 2, 0, 0x61, 0];
-    let one = [1, 0, 0, 0, 1, 0, 0x61, 0];
-    let none = [0; 4];
-    let rows = [
-        store(b"b", 0, b"x", 0x00),
-        store(b"a\0", 0, b"x", 0x00),
-        store(b"a", 0, b"x", 0x00),
-        ask(LIST, b"a", 3, 0x02, 0, &[]),
-        ask(LIST, b"a", 4, 0x00, 0, &none),
-        ask(LIST, b"a", 7, 0x00, 0, &none),
-        ask(LIST, b"a", 8, 0x00, 0, &one),
-        ask(LIST, b"a", 11, 0x00, 0, &one),
-        ask(LIST, b"a", 12, 0x00, 0, &two),
-        ask(LIST, b"a", 16, 0x00, 0, &all),
-        ask(LIST, b"\x60\0", 8, 0x00, 0, &one),
-        ask(LIST, b"", 70000, 0x00, 0, &all),
-    ];
-    assert_eq!(rt; first_wrong(rt.alloc(), &rows)?, None);
-    Ok(())
-}
-
-// Lengths of keys, opcodes and namespaces, and the status of each.
-#[test]
-fn early_checks(rt: HostRuntime) -> Result<(), Fail> {
-    let mut machine = machine(rt.alloc())?;
-    for (opcode, namespace, key_len, status) in [
-        (STORE, 1u32, 0u8, 0x86),
-        (STORE, 1, 1, 0x00),
-        (STORE, 1, 16, 0x00),
-        (STORE, 1, 17, 0x86),
-        (STORE, 1, 200, 0x86),
-        (LIST, 1, 17, 0x86),
-        (0x03, 1, 1, 0x01),
-        (EXIST, 2, 1, 0x0b),
-        (0x00, 0xffff_ffff, 1, 0x00),
-        (EXIST, 0xffff_ffff, 1, 0x0b),
-        (0x03, 2, 1, 0x01),
-        (0xc0, 1, 1, 0x00),
-    ] {
-        let value: &[u8] = if opcode == STORE { b"four" } else { b"" };
-        let mut row = store(b"abcdefghijklmnop", 0, value, status);
-        row.request.opcode = opcode;
-        row.request.namespace = namespace;
-        row.request.key_len = key_len;
-        row.request.size = 4;
-        assert!(rt; answers(&mut machine, rt.alloc(), &row)?);
+/// Whether a new machine answers as all rows say.
+fn answers_all(alloc: Global, rows: &[Row]) -> bool {
+    match machine(alloc) {
+        Some(mut machine) => first_wrong(alloc, &mut machine, rows).is_none(),
+        None => false,
     }
-    Ok(())
+}
+
+/// A Report with one live page and one key.
+const ONE_PAGE: &[u8; 64] = b"\
+    \x01\0\0\0\xec\x01\0\0\x01\0\0\0\0\0\0\0\
+    \0\0\0\0\0\0\0\0\0\0\0\0\0\0\0\0\
+    \0\0\0\0\0\0\0\0\0\0\0\0\0\0\0\0\
+    \0\0\0\0\0\0\0\0\0\0\0\0\0\0\0\0";
+
+/// A Report with four live pages and one key.
+const FOUR_PAGES: &[u8; 64] = b"\
+    \x04\0\0\0\xec\x01\0\0\x01\0\0\0\0\0\0\0\
+    \0\0\0\0\0\0\0\0\0\0\0\0\0\0\0\0\
+    \0\0\0\0\0\0\0\0\0\0\0\0\0\0\0\0\
+    \0\0\0\0\0\0\0\0\0\0\0\0\0\0\0\0";
+
+/// A value of no byte.
+const EMPTY_VALUE: &[Row] = &[
+    (Ask::Store(b"a", 0, b""), 0x00, 0, b""),
+    (Ask::Other(EXIST, b"a", 0), 0x00, 0, b""),
+    (Ask::Other(RETRIEVE, b"a", 10), 0x00, 0, b""),
+    (Ask::Other(REPORT, b"", 0), 0x00, 0, ONE_PAGE),
+];
+
+/// A value of the greatest size, and one of one byte more.
+const GREATEST_VALUE: &[Row] = &[
+    (Ask::Store(b"a", 0, &[7; 2016]), 0x00, 0, b""),
+    (Ask::Other(REPORT, b"", 0), 0x00, 0, FOUR_PAGES),
+    (Ask::Store(b"a", 0, &[7; 2017]), 0x85, 0, b""),
+    (Ask::Other(EXIST, b"a", 0), 0x00, 0, b""),
+];
+
+/// The front of a value.
+const FRONT: &[Row] = &[
+    (Ask::Store(b"a", 0, b"hello"), 0x00, 0, b""),
+    (Ask::Other(RETRIEVE, b"a", 2), 0x00, 5, b"he"),
+    (Ask::Other(RETRIEVE, b"a", 0), 0x00, 5, b""),
+];
+
+/// Options of a Store on a missing key and on one that exists, and a key that is deleted.
+const OPTIONS: &[Row] = &[
+    (Ask::Store(b"a", 1, b"x"), 0x87, 0, b""),
+    (Ask::Store(b"a", 3, b"x"), 0x87, 0, b""),
+    (Ask::Store(b"a", 2, b"x"), 0x00, 0, b""),
+    (Ask::Store(b"a", 2, b"x"), 0x89, 0, b""),
+    (Ask::Store(b"a", 3, b"x"), 0x89, 0, b""),
+    (Ask::Store(b"a", 1, b"x"), 0x00, 0, b""),
+    (Ask::Other(DELETE, b"a", 0), 0x00, 0, b""),
+    (Ask::Other(DELETE, b"a", 0), 0x87, 0, b""),
+    (Ask::Other(EXIST, b"a", 0), 0x87, 0, b""),
+    (Ask::Other(RETRIEVE, b"a", 1), 0x87, 0, b""),
+];
+
+/// The keys 61, 6100 and 62 in buffers of several sizes.
+const LISTS: &[Row] = &[
+    (Ask::Store(b"b", 0, b"x"), 0x00, 0, b""),
+    (Ask::Store(b"a\0", 0, b"x"), 0x00, 0, b""),
+    (Ask::Store(b"a", 0, b"x"), 0x00, 0, b""),
+    (Ask::Other(LIST, b"a", 3), 0x02, 0, b""),
+    (Ask::Other(LIST, b"a", 4), 0x00, 0, b"\0\0\0\0"),
+    (Ask::Other(LIST, b"a", 7), 0x00, 0, b"\0\0\0\0"),
+    (Ask::Other(LIST, b"a", 8), 0x00, 0, b"\x01\0\0\0\x01\0a\0"),
+    (Ask::Other(LIST, b"a", 11), 0x00, 0, b"\x01\0\0\0\x01\0a\0"),
+    (
+        Ask::Other(LIST, b"a", 12),
+        0x00,
+        0,
+        b"\x02\0\0\0\x01\0a\0\x02\0a\0",
+    ),
+    (
+        Ask::Other(LIST, b"a", 16),
+        0x00,
+        0,
+        b"\x03\0\0\0\x01\0a\0\x02\0a\0\x01\0b\0",
+    ),
+    (
+        Ask::Other(LIST, b"\x60\0", 8),
+        0x00,
+        0,
+        b"\x01\0\0\0\x01\0a\0",
+    ),
+    (
+        Ask::Other(LIST, b"", 70000),
+        0x00,
+        0,
+        b"\x03\0\0\0\x01\0a\0\x02\0a\0\x01\0b\0",
+    ),
+];
+
+#[test]
+fn answers_to_commands(rt: HostRuntime) {
+    let alloc = rt.alloc();
+    assert!(rt; answers_all(alloc, EMPTY_VALUE) && answers_all(alloc, GREATEST_VALUE));
+    assert!(rt; answers_all(alloc, FRONT) && answers_all(alloc, OPTIONS));
+    assert!(rt; answers_all(alloc, LISTS));
+}
+
+/// Opcodes, namespaces and lengths of keys, and the status of each.
+const EARLY: &[(u8, u32, u8, u8)] = &[
+    (STORE, 1, 0, 0x86),
+    (STORE, 1, 1, 0x00),
+    (STORE, 1, 16, 0x00),
+    (STORE, 1, 17, 0x86),
+    (STORE, 1, 200, 0x86),
+    (LIST, 1, 17, 0x86),
+    (0x03, 1, 1, 0x01),
+    (EXIST, 2, 1, 0x0b),
+    (0x00, 0xffff_ffff, 1, 0x00),
+    (EXIST, 0xffff_ffff, 1, 0x0b),
+    (0x03, 2, 1, 0x01),
+    (0xc0, 1, 1, 0x00),
+];
+
+/// Whether a command with this opcode, namespace and length of its key has this status.
+fn has_status(
+    alloc: Global,
+    machine: &mut MapMachine,
+    (opcode, namespace, key_len, status): (u8, u32, u8, u8),
+) -> bool {
+    let value: &[u8] = if opcode == STORE { b"four" } else { b"" };
+    let request = Request {
+        opcode,
+        cid: 1,
+        namespace,
+        key_len,
+        key: *b"abcdefghijklmnop",
+        size: 4,
+        options: 0,
+    };
+    answers(alloc, machine, &request, value, (status, 0, &[]))
+}
+
+fn have_status(alloc: Global, machine: &mut MapMachine) -> bool {
+    for row in EARLY {
+        if !has_status(alloc, machine, *row) {
+            return false;
+        }
+    }
+    true
+}
+
+#[test]
+fn early_checks(rt: HostRuntime) {
+    let all = match machine(rt.alloc()) {
+        Some(mut machine) => have_status(rt.alloc(), &mut machine),
+        None => false,
+    };
+    assert!(rt; all);
+}
+
+/// Whether a Store of so many bytes under a number has this status.
+fn stores(alloc: Global, machine: &mut MapMachine, number: u16, len: u16, status: u8) -> bool {
+    let value = [7; 512];
+    let len = len.min(512);
+    let request = request(STORE, &number.to_be_bytes(), u32::from(len), 0);
+    let value = &value[..usize::from(len)];
+    answers(alloc, machine, &request, value, (status, 0, &[]))
+}
+
+/// Whether so many Stores of one page each are done.
+fn fills(alloc: Global, machine: &mut MapMachine, count: u16) -> bool {
+    for number in 0..count {
+        if !stores(alloc, machine, number, 100, 0x00) {
+            return false;
+        }
+    }
+    true
+}
+
+/// Whether a command on the first key is done, with this number in its completion.
+fn is_done(alloc: Global, machine: &mut MapMachine, opcode: u8, result_field: u32) -> bool {
+    let request = request(opcode, &[0, 0], 0, 0);
+    answers(alloc, machine, &request, &[], (0x00, result_field, &[]))
+}
+
+/// Whether a machine with the keys 0 to 491 is full, up to the byte, until one is deleted.
+fn is_full(alloc: Global, machine: &mut MapMachine) -> bool {
+    stores(alloc, machine, 492, 100, 0x81)
+        && stores(alloc, machine, 0, 480, 0x00)
+        && stores(alloc, machine, 0, 481, 0x81)
+        && is_done(alloc, machine, RETRIEVE, 480)
+        && is_done(alloc, machine, DELETE, 0)
+        && stores(alloc, machine, 492, 100, 0x00)
 }
 
 // A machine that is filled up to its limit of 492 pages.
 #[test]
-fn capacity(rt: HostRuntime) -> Result<(), Fail> {
-    let mut machine = machine(rt.alloc())?;
-    let value = [7; 481];
-    for i in 0u16..492 {
-        let row = store(&i.to_be_bytes(), 0, &value[..100], 0x00);
-        assert!(rt; answers(&mut machine, rt.alloc(), &row)?);
-    }
-    let first = 0u16.to_be_bytes();
-    let next = 492u16.to_be_bytes();
-    for row in [
-        store(&next, 0, &value[..100], 0x81),
-        store(&first, 0, &value[..480], 0x00),
-        store(&first, 0, &value, 0x81),
-        ask(RETRIEVE, &first, 0, 0x00, 480, &[]),
-        ask(DELETE, &first, 0, 0x00, 0, &[]),
-        store(&next, 0, &value[..100], 0x00),
-    ] {
-        assert!(rt; answers(&mut machine, rt.alloc(), &row)?);
-    }
-    Ok(())
+fn capacity(rt: HostRuntime) {
+    let alloc = rt.alloc();
+    let all = match machine(alloc) {
+        Some(mut machine) => fills(alloc, &mut machine, 492) && is_full(alloc, &mut machine),
+        None => false,
+    };
+    assert!(rt; all);
 }

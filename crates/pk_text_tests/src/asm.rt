@@ -78,56 +78,66 @@ fn prints(into: &mut Bytes, entry: &[u8; 64], bytes: &[u8], line: &[u8]) -> bool
         }
 }
 
-/// The first of the forms that does not go both ways.
-fn first_wrong_form(alloc: Global) -> Result<Option<usize>, AllocError> {
+/// The form goes both ways.
+fn goes_both_ways(
+    value: &mut Bytes,
+    into: &mut Bytes,
+    (line, fields, bytes): &(&[u8], [u8; 5], &[u8]),
+) -> bool {
+    let entry = entry(*fields);
+    gives(value, line, 5, Some(entry), bytes) && prints(into, &entry, bytes, line)
+}
+
+/// All forms go both ways.
+fn forms_hold(value: &mut Bytes, into: &mut Bytes) -> bool {
+    for form in FORMS {
+        if !goes_both_ways(value, into, form) {
+            return false;
+        }
+    }
+    true
+}
+
+fn have_forms(alloc: Global) -> Result<bool, AllocError> {
     let mut value = Bytes::with_room(alloc, 1_100_000)?;
     let mut into = Bytes::with_room(alloc, 200)?;
-    for (i, (line, fields, bytes)) in FORMS.iter().enumerate() {
-        let entry = entry(*fields);
-        if !gives(&mut value, line, 5, Some(entry), bytes)
-            || !prints(&mut into, &entry, bytes, line)
-        {
-            return Ok(Some(i));
-        }
-    }
-    Ok(None)
+    Ok(forms_hold(&mut value, &mut into))
 }
 
-#[test]
-fn forms_both_ways(rt: HostRuntime) -> Result<(), Fail> {
-    assert_eq!(rt; first_wrong_form(rt.alloc())?, None);
-    Ok(())
+/// A line with its number, and the entry and bytes that it gives.
+type Row = (&'static [u8], u64, Option<[u8; 5]>, &'static [u8]);
+
+/// The line gives its entry and bytes.
+fn is_given(value: &mut Bytes, (line, number, fields, bytes): &Row) -> bool {
+    let expected = match fields {
+        Some(fields) => Some(entry(*fields)),
+        None => None,
+    };
+    gives(value, line, *number, expected, bytes)
 }
 
-/// The first of these lines, with their numbers, that does not give its entry and bytes.
-fn first_wrong_line(
-    alloc: Global,
-    lines: &[(&[u8], u64, Option<[u8; 5]>, &[u8])],
-) -> Result<Option<usize>, AllocError> {
-    let mut value = Bytes::with_room(alloc, 1_100_000)?;
-    for (i, (line, number, fields, bytes)) in lines.iter().enumerate() {
-        let expected = match fields {
-            Some(fields) => Some(entry(*fields)),
-            None => None,
-        };
-        if !gives(&mut value, line, *number, expected, bytes) {
-            return Ok(Some(i));
+fn are_given(value: &mut Bytes, rows: &[Row]) -> bool {
+    for row in rows {
+        if !is_given(value, row) {
+            return false;
         }
     }
-    Ok(None)
+    true
+}
+
+/// All these lines give their entries and bytes.
+fn give_all(alloc: Global, rows: &[Row]) -> bool {
+    match Bytes::with_room(alloc, 1_100_000) {
+        Ok(mut value) => are_given(&mut value, rows),
+        Err(_) => false,
+    }
 }
 
 // A Store and a Retrieve as the entries and bytes of a script, 131 in all.
-const SCRIPT: &[(&[u8], u64, Option<[u8; 5]>, &[u8])] = &[
+const SCRIPT: &[Row] = &[
     (b"store 61 616263", 1, Some([0x01, 1, 0x61, 3, 0]), b"abc"),
     (b"retrieve 61 3", 2, Some([0x02, 2, 0x61, 3, 0]), b""),
 ];
-
-#[test]
-fn script(rt: HostRuntime) -> Result<(), Fail> {
-    assert_eq!(rt; first_wrong_line(rt.alloc(), SCRIPT)?, None);
-    Ok(())
-}
 
 /// Lines outside the grammar.
 const BAD: &[&[u8]] = &[
@@ -165,25 +175,24 @@ fn is_bad(value: &mut Bytes, line: &[u8]) -> bool {
     assemble_line(line, 1, value) == Err(BadLine) && value.is_empty()
 }
 
-/// The first of the bad lines that is not refused.
-fn first_taken(alloc: Global) -> Result<Option<usize>, AllocError> {
-    let mut value = Bytes::with_room(alloc, 1_100_000)?;
-    for (i, line) in BAD.iter().enumerate() {
-        if !is_bad(&mut value, line) {
-            return Ok(Some(i));
+fn are_bad(value: &mut Bytes) -> bool {
+    for line in BAD {
+        if !is_bad(value, line) {
+            return false;
         }
     }
-    Ok(None)
+    true
 }
 
-#[test]
-fn bad_lines(rt: HostRuntime) -> Result<(), Fail> {
-    assert_eq!(rt; first_taken(rt.alloc())?, None);
-    Ok(())
+fn refuses_bad(alloc: Global) -> bool {
+    match Bytes::with_room(alloc, 1_100_000) {
+        Ok(mut value) => are_bad(&mut value),
+        Err(_) => false,
+    }
 }
 
 // Upper and lower case are read; empty lines and comments give nothing.
-const OTHERS: &[(&[u8], u64, Option<[u8; 5]>, &[u8])] = &[
+const OTHERS: &[Row] = &[
     (
         b"store 6A AbfF",
         1,
@@ -200,13 +209,6 @@ fn are_numbers() -> bool {
         && number(b"0") == Some(0)
         && number(b"00") == None
         && number(b"") == None
-}
-
-#[test]
-fn other_lines(rt: HostRuntime) -> Result<(), Fail> {
-    assert_eq!(rt; first_wrong_line(rt.alloc(), OTHERS)?, None);
-    assert!(rt; are_numbers());
-    Ok(())
 }
 
 /// So many bytes, these first and digits behind them.
@@ -231,25 +233,24 @@ fn given(value: &mut Bytes, line: &[u8]) -> Option<usize> {
     }
 }
 
-/// How many bytes a line of this length gives, which begins so and goes on with digits.
-fn long_given(alloc: Global, size: usize, front: &[u8]) -> Result<Option<usize>, AllocError> {
-    let mut value = Bytes::with_room(alloc, 1_100_000)?;
-    let line = long_line(alloc, size, front)?;
-    Ok(given(&mut value, &line))
+/// A line of this length, which begins so and goes on with digits, gives so many bytes, or is refused.
+fn long_gives(alloc: Global, size: usize, front: &[u8], bytes: Option<usize>) -> bool {
+    let Ok(line) = long_line(alloc, size, front) else {
+        return false;
+    };
+    match Bytes::with_room(alloc, 1_100_000) {
+        Ok(mut value) => given(&mut value, &line) == bytes,
+        Err(_) => false,
+    }
 }
 
 // A comment of the greatest length and one that is longer; a Store of nearly that length and one that is longer.
-#[test]
-fn longest(rt: HostRuntime) -> Result<(), Fail> {
-    for (size, front, bytes) in [
-        (2_200_000, b"#".as_slice(), Some(0)),
-        (2_200_001, b"#".as_slice(), None),
-        (2_199_999, b"store 61 ".as_slice(), Some(1_099_995)),
-        (2_200_001, b"store 61 ".as_slice(), None),
-    ] {
-        assert_eq!(rt; long_given(rt.alloc(), size, front)?, bytes);
-    }
-    Ok(())
+fn are_longest(alloc: Global) -> bool {
+    let store = b"store 61 ".as_slice();
+    long_gives(alloc, 2_200_000, b"#", Some(0))
+        && long_gives(alloc, 2_200_001, b"#", None)
+        && long_gives(alloc, 2_199_999, store, Some(1_099_995))
+        && long_gives(alloc, 2_200_001, store, None)
 }
 
 /// How many of two flushes are printed, where they leave this text.
@@ -263,20 +264,23 @@ fn flushes(into: &mut Bytes, text: &[u8]) -> Option<u32> {
     Some(first as u32 + second as u32)
 }
 
-/// How many of two flushes fit so much room, where they print this text.
-fn fitting(alloc: Global, room: usize, text: &[u8]) -> Result<Option<u32>, AllocError> {
-    let mut into = Bytes::with_room(alloc, room)?;
-    Ok(flushes(&mut into, text))
+/// So many of two flushes fit so much room, where they print this text.
+fn fit(alloc: Global, room: usize, text: &[u8], count: u32) -> bool {
+    match Bytes::with_room(alloc, room) {
+        Ok(mut into) => flushes(&mut into, text) == Some(count),
+        Err(_) => false,
+    }
 }
 
 // A line and its line feed are written where they fit, behind what stands there.
+fn have_room(alloc: Global) -> bool {
+    fit(alloc, 11, b"flush\n", 1) && fit(alloc, 12, b"flush\nflush\n", 2)
+}
+
 #[test]
-fn room(rt: HostRuntime) -> Result<(), Fail> {
-    for (room, text, fit) in [
-        (11, b"flush\n".as_slice(), 1),
-        (12, b"flush\nflush\n".as_slice(), 2),
-    ] {
-        assert_eq!(rt; fitting(rt.alloc(), room, text)?, Some(fit));
-    }
-    Ok(())
+fn lines(rt: HostRuntime) {
+    let alloc = rt.alloc();
+    assert!(rt; have_forms(alloc) == Ok(true));
+    assert!(rt; give_all(alloc, SCRIPT) && give_all(alloc, OTHERS) && are_numbers());
+    assert!(rt; refuses_bad(alloc) && are_longest(alloc) && have_room(alloc));
 }

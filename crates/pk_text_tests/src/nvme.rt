@@ -2,7 +2,7 @@
 ghost use Rattle.std.specs.Prelude.{◌+◌, ◌*◌, ◌≤◌, length};
 
 use pk_nvme::{Bytes, Request, completion, laws, record_head};
-use std::alloc::{AllocError, Global};
+use std::alloc::Global;
 use std::test::*;
 
 const STORE: [u8; 12] = [1, 0, 1, 0, 1, 0, 0, 0, 0x61, 0, 0, 0];
@@ -15,14 +15,13 @@ fn is_store(request: &Request) -> bool {
 }
 
 // A Store of three bytes under the key 61, as bytes.
-#[test]
-fn store_entry(rt: HostRuntime) {
+fn reads_store() -> bool {
     let mut entry = [0; 64];
     entry[0..12].copy_from_slice(&STORE);
     entry[40] = 3;
     entry[44] = 1;
     let request = Request::of(&entry);
-    assert!(rt; is_store(&request) && request.entry() == entry);
+    is_store(&request) && request.entry() == entry
 }
 
 // The bytes of an entry of a Retrieve whose key stands in the dwords 2, 3, 14 and 15.
@@ -34,8 +33,7 @@ fn is_split(entry: &[u8; 64]) -> bool {
 }
 
 // Bytes 0 to 15 of a key stand in the dwords 2, 3, 14 and 15; a Retrieve brings no value.
-#[test]
-fn key_of_13_bytes(rt: HostRuntime) {
+fn splits_key() -> bool {
     let request = Request {
         opcode: 2,
         cid: 0x0201,
@@ -46,8 +44,7 @@ fn key_of_13_bytes(rt: HostRuntime) {
         options: 0,
     };
     let entry = request.entry();
-    let back = laws::read_back(&request).entry();
-    assert!(rt; is_split(&entry) && request.value_bytes() == 0 && back == entry);
+    is_split(&entry) && request.value_bytes() == 0 && laws::read_back(&request).entry() == entry
 }
 
 // The record of a Store.
@@ -60,13 +57,14 @@ const READ: [u8; 24] = [
 ];
 
 // The records of a Store, and of a Retrieve of three bytes that read one page.
-#[test]
-fn records(rt: HostRuntime) {
-    let stored = record_head(&completion(1, 1, 0, 0), 0, 0);
-    let read = record_head(&completion(2, 2, 0, 3), 1, 3);
+fn are_records() -> bool {
+    record_head(&completion(1, 1, 0, 0), 0, 0) == STORED
+        && record_head(&completion(2, 2, 0, 3), 1, 3) == READ
+}
+
+fn is_refused() -> bool {
     let refused = completion(0x0403, 65_537, 0x87, 0);
-    assert!(rt; stored == STORED && read == READ);
-    assert!(rt; &refused[8..16] == [1, 0, 1, 0, 3, 4, 0x0f, 1].as_slice());
+    &refused[8..16] == [1, 0, 1, 0, 3, 4, 0x0f, 1].as_slice()
 }
 
 // A number, a blank and the digits of some bytes.
@@ -97,25 +95,34 @@ fn is_cut(text: &mut Bytes, cut: &[u8]) -> bool {
     is_front && (text.len(), text.left()) == (0, 32)
 }
 
-fn text_of_32(alloc: Global) -> Result<bool, AllocError> {
-    let mut text = Bytes::with_room(alloc, 32)?;
-    Ok(is_written(&mut text) && is_cut(&mut text, b"n=4"))
+fn text_of_32(alloc: Global) -> bool {
+    match Bytes::with_room(alloc, 32) {
+        Ok(mut text) => is_written(&mut text) && is_cut(&mut text, b"n=4"),
+        Err(_) => false,
+    }
 }
 
-fn text_of_zero(alloc: Global) -> Result<bool, AllocError> {
-    let mut zero = Bytes::with_room(alloc, 16)?;
-    spell(&mut zero, 0, &[]);
-    Ok(zero.bytes() == b"0 ".as_slice())
+fn text_of_zero(alloc: Global) -> bool {
+    match Bytes::with_room(alloc, 16) {
+        Ok(mut zero) => {
+            spell(&mut zero, 0, &[]);
+            zero.bytes() == b"0 ".as_slice()
+        }
+        Err(_) => false,
+    }
 }
 
-fn left_of(alloc: Global, room: usize) -> Result<usize, AllocError> {
-    Ok(Bytes::with_room(alloc, room)?.left())
+fn has_left(alloc: Global, room: usize) -> bool {
+    match Bytes::with_room(alloc, room) {
+        Ok(text) => text.left() == room,
+        Err(_) => false,
+    }
 }
 
 #[test]
-fn bytes_and_text(rt: HostRuntime) -> Result<(), Fail> {
-    assert!(rt; text_of_32(rt.alloc())?);
-    assert!(rt; text_of_zero(rt.alloc())?);
-    assert_eq!(rt; left_of(rt.alloc(), 1_100_000)?, 1_100_000);
-    Ok(())
+fn entries_and_bytes(rt: HostRuntime) {
+    let alloc = rt.alloc();
+    assert!(rt; reads_store() && splits_key());
+    assert!(rt; are_records() && is_refused());
+    assert!(rt; text_of_32(alloc) && text_of_zero(alloc) && has_left(alloc, 1_100_000));
 }

@@ -40,149 +40,114 @@ fn board(alloc: Global, input: &[u8]) -> Result<Flash, AllocError> {
     Flash::new(alloc, None, input.to_vec(alloc)?, ROOM)
 }
 
+// How a script that is assembled ends; None where memory was missing.
+fn end_of(alloc: Global, flash: &mut Flash) -> Option<TextEnd> {
+    match Assembler::new(alloc) {
+        Ok(mut assembler) => Some(assembler.assemble(flash)),
+        Err(_) => None,
+    }
+}
+
+// How records that are shown end; None where memory was missing.
+fn end_of_show(alloc: Global, flash: &mut Flash) -> Option<TextEnd> {
+    match Shower::new(alloc) {
+        Ok(mut shower) => Some(shower.show(flash)),
+        Err(_) => None,
+    }
+}
+
 // The script gives these two parts, one behind the other.
-fn assembled(
-    alloc: Global,
-    script: &[u8],
-    end: TextEnd,
-    parts: [&[u8]; 2],
-) -> Result<bool, AllocError> {
-    let mut flash = board(alloc, script)?;
-    Ok(Assembler::new(alloc)?.assemble(&mut flash) == end && joins(flash.posted(), parts))
+fn assembles(alloc: Global, script: &[u8], end: TextEnd, first: &[u8], second: &[u8]) -> bool {
+    match board(alloc, script) {
+        Ok(mut flash) => {
+            end_of(alloc, &mut flash) == Some(end) && joins(flash.posted(), first, second)
+        }
+        Err(_) => false,
+    }
 }
 
 // The bytes are these two parts, one behind the other.
-fn joins(bytes: &[u8], parts: [&[u8]; 2]) -> bool {
-    match bytes.strip_prefix(parts[0]) {
-        Some(rest) => rest == parts[1],
+fn joins(bytes: &[u8], first: &[u8], second: &[u8]) -> bool {
+    match bytes.strip_prefix(first) {
+        Some(rest) => rest == second,
         None => false,
     }
 }
 
-fn shown(alloc: Global, records: &[u8], end: TextEnd, text: &[u8]) -> Result<bool, AllocError> {
-    let mut flash = board(alloc, records)?;
-    Ok(Shower::new(alloc)?.show(&mut flash) == end && flash.posted() == text)
-}
+const BOTH: &[u8] = b"store 61 616263\nretrieve 61 3\n";
+
+const NO_FEED: &[u8] = b"store 61 616263\nretrieve 61 3";
 
 // Two entries, with and without the last line feed; comments and empty lines; a line outside the grammar.
-#[test]
-fn scripts(rt: HostRuntime) -> Result<(), Fail> {
-    let alloc = rt.alloc();
-    for (script, end, parts) in [
-        (
-            b"store 61 616263\nretrieve 61 3\n".as_slice(),
-            TextEnd::Done,
-            [STORE.as_slice(), RETRIEVE.as_slice()],
-        ),
-        (
-            b"store 61 616263\nretrieve 61 3".as_slice(),
-            TextEnd::Done,
-            [STORE.as_slice(), RETRIEVE.as_slice()],
-        ),
-        (
-            b"# one\n\nflush\n".as_slice(),
-            TextEnd::Done,
-            [FLUSH.as_slice(), b"".as_slice()],
-        ),
-        (
-            b"flush\nstroe\n".as_slice(),
-            TextEnd::BadLine,
-            [FLUSH.as_slice(), b"".as_slice()],
-        ),
-        (
-            b"".as_slice(),
-            TextEnd::Done,
-            [b"".as_slice(), b"".as_slice()],
-        ),
-    ] {
-        assert!(rt; assembled(alloc, script, end, parts)?);
+fn are_assembled(alloc: Global) -> bool {
+    assembles(alloc, BOTH, TextEnd::Done, &STORE, &RETRIEVE)
+        && assembles(alloc, NO_FEED, TextEnd::Done, &STORE, &RETRIEVE)
+        && assembles(alloc, b"# one\n\nflush\n", TextEnd::Done, &FLUSH, b"")
+        && assembles(alloc, b"flush\nstroe\n", TextEnd::BadLine, &FLUSH, b"")
+        && assembles(alloc, b"", TextEnd::Done, b"", b"")
+}
+
+const SHOWN: &[u8] = b"cid=1 status=00 result=0 reads=0 data=-\n\
+    cid=2 status=00 result=3 reads=1 data=616263\n";
+
+// So many bytes of the records give so many bytes of their lines.
+fn shows(alloc: Global, size: usize, end: TextEnd, shown: usize) -> bool {
+    match board(alloc, &RECORDS[..size.min(RECORDS.len())]) {
+        Ok(mut flash) => {
+            end_of_show(alloc, &mut flash) == Some(end)
+                && flash.posted() == &SHOWN[..shown.min(SHOWN.len())]
+        }
+        Err(_) => false,
     }
-    Ok(())
 }
 
 // Two records; one that is cut short within its data, and one within its head.
-#[test]
-fn records(rt: HostRuntime) -> Result<(), Fail> {
-    let alloc = rt.alloc();
-    for (size, end, text) in [
-        (
-            51,
-            TextEnd::Done,
-            b"cid=1 status=00 result=0 reads=0 data=-\n\
-              cid=2 status=00 result=3 reads=1 data=616263\n"
-                .as_slice(),
-        ),
-        (
-            50,
-            TextEnd::Truncated,
-            b"cid=1 status=00 result=0 reads=0 data=-\n\
-              cid=2 status=00 result=3 reads=1 data=6162"
-                .as_slice(),
-        ),
-        (
-            34,
-            TextEnd::Truncated,
-            b"cid=1 status=00 result=0 reads=0 data=-\n".as_slice(),
-        ),
-        (0, TextEnd::Done, b"".as_slice()),
-    ] {
-        if size <= RECORDS.len() {
-            assert!(rt; shown(alloc, &RECORDS[..size], end, text)?);
-        }
-    }
-    Ok(())
+fn are_shown(alloc: Global) -> bool {
+    shows(alloc, 51, TextEnd::Done, 85)
+        && shows(alloc, 50, TextEnd::Truncated, 82)
+        && shows(alloc, 34, TextEnd::Truncated, 40)
+        && shows(alloc, 0, TextEnd::Done, 0)
 }
 
-// How an assembly ends whose call of this number fails, where this is posted.
-fn assembly_failed(
-    alloc: Global,
-    call: u64,
-    left: Left,
-    posted: &[u8],
-) -> Result<Option<TextEnd>, AllocError> {
-    let mut flash = board(alloc, b"flush\n")?;
+// A board of which this call fails.
+fn failing(alloc: Global, input: &[u8], call: u64, left: Left) -> Result<Flash, AllocError> {
+    let mut flash = board(alloc, input)?;
     flash.fail(alloc, call, left)?;
-    let end = Assembler::new(alloc)?.assemble(&mut flash);
-    if flash.posted() != posted {
-        return Ok(None);
-    }
-    Ok(Some(end))
+    Ok(flash)
 }
 
-// How a show ends whose call of this number fails, where these bytes are posted first and so many
+// An assembly whose call of this number fails ends so, and this is posted.
+fn assembly_fails(alloc: Global, call: u64, left: Left, end: TextEnd, posted: &[u8]) -> bool {
+    match failing(alloc, b"flush\n", call, left) {
+        Ok(mut flash) => end_of(alloc, &mut flash) == Some(end) && flash.posted() == posted,
+        Err(_) => false,
+    }
+}
+
+// A show whose call of this number fails ends so, and these bytes are posted first, and so many
 // in all.
-fn show_failed(
-    alloc: Global,
-    call: u64,
-    left: Left,
-    front: &[u8],
-    len: usize,
-) -> Result<Option<TextEnd>, AllocError> {
-    let mut flash = board(alloc, RECORDS)?;
-    flash.fail(alloc, call, left)?;
-    let end = Shower::new(alloc)?.show(&mut flash);
-    if !flash.posted().starts_with(front) || flash.posted().len() != len {
-        return Ok(None);
+fn show_fails(alloc: Global, call: u64, left: Left, end: TextEnd, len: usize) -> bool {
+    match failing(alloc, RECORDS, call, left) {
+        Ok(mut flash) => {
+            end_of_show(alloc, &mut flash) == Some(end)
+                && flash.posted().starts_with(&SHOWN[..44])
+                && flash.posted().len() == len
+        }
+        Err(_) => false,
     }
-    Ok(Some(end))
 }
 
 // The first call fetches, and posts follow it.
+fn are_failures(alloc: Global) -> bool {
+    assembly_fails(alloc, 0, Left::Untouched, TextEnd::Input, b"")
+        && assembly_fails(alloc, 1, Left::Part(10), TextEnd::Output, &FLUSH[..10])
+        && show_fails(alloc, 3, Left::Part(4), TextEnd::Output, 44)
+        && show_fails(alloc, 6, Left::Untouched, TextEnd::Input, 85)
+}
+
 #[test]
-fn failures(rt: HostRuntime) -> Result<(), Fail> {
-    let alloc = rt.alloc();
-    for (call, left, posted, end) in [
-        (0, Left::Untouched, b"".as_slice(), TextEnd::Input),
-        (1, Left::Part(10), &FLUSH[..10], TextEnd::Output),
-    ] {
-        assert!(rt; assembly_failed(alloc, call, left, posted)? == Some(end));
-    }
-    let line = b"cid=1 status=00 result=0 reads=0 data=-\ncid=".as_slice();
-    for (call, left, len, end) in [
-        (3, Left::Part(4), 44, TextEnd::Output),
-        (6, Left::Untouched, 85, TextEnd::Input),
-    ] {
-        assert!(rt; show_failed(alloc, call, left, line, len)? == Some(end));
-    }
-    Ok(())
+fn texts(rt: HostRuntime) {
+    assert!(rt; are_assembled(rt.alloc()));
+    assert!(rt; are_shown(rt.alloc()));
+    assert!(rt; are_failures(rt.alloc()));
 }
