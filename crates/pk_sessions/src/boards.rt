@@ -1,6 +1,7 @@
 //! Boards with the pages that an earlier session left, and what the program makes of them.
 
-use crate::script::{Ask, script};
+use crate::exits::DONE;
+use crate::script::{Answer, Ask, records, script};
 use crate::tried::{Place, Program, same};
 use pk_base::Shape;
 use pk_flash::{Flash, Left, Room, is_flash};
@@ -25,14 +26,22 @@ const LONG: Room = Room {
     marks: 1500,
 };
 
+/// The shape of these numbers.
+pub fn shape_of(page_bytes: u32, block_pages: u32, blocks: u32) -> Result<Shape, Fail> {
+    match Shape::new(page_bytes, block_pages, blocks) {
+        Ok(shape) => Ok(shape),
+        Err(_) => Err(Fail::from("a shape")),
+    }
+}
+
 /// The shape of 33 blocks of 8 pages.
 pub fn small() -> Result<Shape, Fail> {
-    Ok(Shape::new(512, 8, 33).ok().ok_or("a shape")?)
+    shape_of(512, 8, 33)
 }
 
 /// The shape of 64 blocks of 16 pages.
 pub fn worked() -> Result<Shape, Fail> {
-    Ok(Shape::new(512, 16, 64).ok().ok_or("a shape")?)
+    shape_of(512, 16, 64)
 }
 
 /// A board of Erased pages, or one without an image, with this input.
@@ -82,33 +91,47 @@ pub fn cut(alloc: Global, flash: &Flash, k: usize, left: &Left) -> Result<Vec<Pa
     Ok(flash.cut(alloc, k, left)?)
 }
 
+/// A page that is Whole with these bytes.
+pub fn whole(alloc: Global, bytes: &[u8]) -> Result<PageState, AllocError> {
+    Ok(PageState::Whole(PageBytes::of(bytes.to_vec(alloc)?)))
+}
+
 fn copied(alloc: Global, page: &PageState) -> Result<PageState, AllocError> {
     match page {
         PageState::Erased => Ok(PageState::Erased),
-        PageState::Whole(bytes) => Ok(PageState::Whole(PageBytes::of(
-            bytes.bytes().to_vec(alloc)?,
-        ))),
+        PageState::Whole(bytes) => whole(alloc, bytes.bytes()),
         PageState::Torn => Ok(PageState::Torn),
     }
 }
 
+fn push_pages(into: &mut Vec<PageState>, alloc: Global, flash: &Flash) -> Result<(), Fail> {
+    let shape = flash.shape().ok_or("a shape")?;
+    for page in 0..shape.page_count() {
+        into.push(copied(alloc, flash.page(page))?)?;
+    }
+    Ok(())
+}
+
 /// The pages that a board has now.
 pub fn pages_left(alloc: Global, flash: &Flash) -> Result<Vec<PageState>, Fail> {
-    let shape = flash.shape().ok_or("a shape")?;
     let mut pages = Vec::new(alloc);
-    for page in 0..shape.page_count() {
-        pages.push(copied(alloc, flash.page(page))?)?;
-    }
+    push_pages(&mut pages, alloc, flash)?;
     Ok(pages)
 }
 
 /// The pages of a drive that these words made.
 pub fn made<P: Program>(alloc: Global, words: &[&str]) -> Result<Vec<PageState>, Fail> {
     let mut flash = blank(alloc, None, Vec::new(alloc))?;
-    if P::run(alloc, words, &mut flash) != 0 {
-        return Err(Fail::from("a made drive"));
+    let status = P::run(alloc, words, &mut flash);
+    pages_done(alloc, status, &flash)
+}
+
+// The pages that a board has now, where this is the status of a session that ended well.
+fn pages_done(alloc: Global, status: u8, flash: &Flash) -> Result<Vec<PageState>, Fail> {
+    if status != DONE {
+        return Err(Fail::from("a session that ends well"));
     }
-    pages_left(alloc, &flash)
+    pages_left(alloc, flash)
 }
 
 /// The status with which the program serves the board's input with so many frames.
@@ -141,16 +164,37 @@ impl Session {
         same(found, posted, format_args!("the posted bytes, {place}"))
     }
 
+    /// A failure where the session did not end well, or posted other records than these.
+    pub fn answered(&self, alloc: Global, answers: &[Answer], place: Place) -> Result<(), Fail> {
+        let want = records(alloc, answers)?;
+        self.posted(DONE, &want, place)
+    }
+
     /// A failure where the session made another number of programs or of erases.
     pub fn wrote(&self, programs: u64, erases: u64, place: Place) -> Result<(), Fail> {
-        let flash = &self.flash;
         same(
-            flash.program_count(),
-            programs,
-            format_args!("programs, {place}"),
-        )?;
-        same(flash.erase_count(), erases, format_args!("erases, {place}"))
+            [self.flash.program_count(), self.flash.erase_count()],
+            [programs, erases],
+            format_args!("programs and erases, {place}"),
+        )
     }
+}
+
+/// The board behind a session that is to end well.
+pub fn ended_well(done: Session, place: Place) -> Result<Flash, Fail> {
+    done.ended(DONE, place)?;
+    Ok(done.flash)
+}
+
+/// This board, on which the call with this number fails, and leaves this.
+pub fn with_failing(
+    alloc: Global,
+    mut flash: Flash,
+    call: u64,
+    left: Left,
+) -> Result<Flash, AllocError> {
+    flash.fail(alloc, call, left)?;
+    Ok(flash)
 }
 
 /// The session of a board's input, with so many frames.
@@ -180,6 +224,30 @@ pub fn served<P: Program>(
     Ok(serve_board::<P>(alloc, flash))
 }
 
+/// Serves this script on pages of 33 blocks.
+pub fn served_small<P: Program>(
+    alloc: Global,
+    pages: Vec<PageState>,
+    asks: &[Ask],
+) -> Result<Session, Fail> {
+    served::<P>(alloc, small()?, pages, asks)
+}
+
+/// A board of 64 blocks with these pages, and with this script as its input.
+pub fn asked_worked(alloc: Global, pages: Vec<PageState>, asks: &[Ask]) -> Result<Flash, Fail> {
+    board(alloc, worked()?, pages, script(alloc, asks)?)
+}
+
+/// Serves this script on pages of 64 blocks.
+pub fn served_worked<P: Program>(
+    alloc: Global,
+    pages: Vec<PageState>,
+    asks: &[Ask],
+) -> Result<Session, Fail> {
+    let flash = asked_worked(alloc, pages, asks)?;
+    Ok(serve_board::<P>(alloc, flash))
+}
+
 /// The pages that a session leaves, which is to end well.
 pub fn pages_behind<P: Program>(
     alloc: Global,
@@ -188,10 +256,7 @@ pub fn pages_behind<P: Program>(
     asks: &[Ask],
 ) -> Result<Vec<PageState>, Fail> {
     let done = served::<P>(alloc, shape, pages, asks)?;
-    if done.status != 0 {
-        return Err(Fail::from("a session"));
-    }
-    pages_left(alloc, &done.flash)
+    pages_done(alloc, done.status, &done.flash)
 }
 
 /// The place of the last program among the marks.

@@ -1,8 +1,9 @@
 //! A session that is cut off at every mark, and the session behind it.
 
-use crate::boards::{MAKE_SMALL, Session, cut, made, served, small};
+use crate::boards::{MAKE_SMALL, Session, cut, made, served_small};
+use crate::exits::DONE;
 use crate::script::{Answer, Ask, Value, records, retrieved};
-use crate::tried::{Place, Program, holds, same};
+use crate::tried::{Place, Program, holds_at, same};
 use crate::ways::{Ways, ways_of_erases};
 use pk_flash::{Flash, Left};
 use pk_nand::Mark;
@@ -118,18 +119,24 @@ pub fn second_answers(held: &Held) -> [Answer; 6] {
     ]
 }
 
+// Whether these are the records of the second session on these values.
+fn are_second(alloc: Global, posted: &[u8], held: &Held) -> Result<bool, AllocError> {
+    let want = records(alloc, &second_answers(held))?;
+    Ok(posted == want.as_slice())
+}
+
 // The first number of commands, from this one on, behind which the records are the posted ones.
-fn commands_kept(alloc: Global, posted: &[u8], least: usize) -> Result<Option<usize>, AllocError> {
-    let mut kept = None;
-    for count in 0..HELD.len() {
-        if kept.is_none() && least <= count {
-            let want = records(alloc, &second_answers(&HELD[count]))?;
-            if posted == want.as_slice() {
-                kept = Some(count);
-            }
+fn commands_kept(
+    alloc: Global,
+    second: &Session,
+    least: usize,
+) -> Result<Option<usize>, AllocError> {
+    for count in least..HELD.len() {
+        if are_second(alloc, second.flash.posted(), &HELD[count])? {
+            return Ok(Some(count));
         }
     }
-    Ok(kept)
+    Ok(None)
 }
 
 /// The second session on the pages that are left where the first one is cut off here, and behind how many commands of the
@@ -141,17 +148,19 @@ pub fn second_session<P: Program>(
     left: &Left,
 ) -> Result<(Session, Option<usize>), Fail> {
     let pages = cut(alloc, first, k, left)?;
-    let second = served::<P>(alloc, small()?, pages, &SECOND)?;
-    let least = bytes_out(first, k).div_ceil(24);
-    let kept = commands_kept(alloc, second.flash.posted(), least)?;
+    let second = served_small::<P>(alloc, pages, &SECOND)?;
+    let kept = commands_kept(alloc, &second, bytes_out(first, k).div_ceil(24))?;
     Ok((second, kept))
 }
 
 fn check_mark<P: Program>(alloc: Global, first: &Flash, k: usize) -> Result<(), Fail> {
     let ways = Ways::of(alloc, first, k)?;
+    check_ways::<P>(alloc, first, k, &ways)
+}
+
+fn check_ways<P: Program>(alloc: Global, first: &Flash, k: usize, ways: &Ways) -> Result<(), Fail> {
     for way in 0..ways.count {
-        let left = ways.left(alloc, way)?;
-        check_way::<P>(alloc, first, k, &left, Place::Way(k, way))?;
+        check_way::<P>(alloc, first, k, ways, way)?;
     }
     Ok(())
 }
@@ -160,28 +169,42 @@ fn check_way<P: Program>(
     alloc: Global,
     first: &Flash,
     k: usize,
-    left: &Left,
-    place: Place,
+    ways: &Ways,
+    way: u32,
 ) -> Result<(), Fail> {
-    let (second, kept) = second_session::<P>(alloc, first, k, left)?;
-    second.ended(0, place)?;
-    holds(kept.is_some(), format_args!("what is there, {place}"))
+    let left = ways.left(alloc, way)?;
+    let (second, kept) = second_session::<P>(alloc, first, k, &left)?;
+    holds_at(
+        second.status == DONE && kept.is_some(),
+        "the status, or what is there",
+        Place::Way(k, way),
+    )
 }
 
 /// The first session.
 pub fn first_session<P: Program>(alloc: Global) -> Result<Session, Fail> {
-    let pages = made::<P>(alloc, &MAKE_SMALL)?;
-    served::<P>(alloc, small()?, pages, &FIRST)
+    served_small::<P>(alloc, made::<P>(alloc, &MAKE_SMALL)?, &FIRST)
 }
 
 /// Each mark is interrupted in all its ways. Seven erase blocks without a Whole page, three of them in the Tick, and have 256 each.
 pub fn every_cut<P: Program>(alloc: Global) -> Result<(), Fail> {
     let first = first_session::<P>(alloc)?;
-    let want = records(alloc, &[Answer::Done; 10])?;
-    first.posted(0, &want, Place::Named("the first session"))?;
-    same(ways_of_erases(alloc, &first.flash)?, 7 * 256, "ways")?;
-    for k in 0..first.flash.marks().saturating_add(1) {
-        check_mark::<P>(alloc, &first.flash, k)?;
+    check_first(alloc, &first)?;
+    check_marks::<P>(alloc, &first.flash)
+}
+
+fn check_first(alloc: Global, first: &Session) -> Result<(), Fail> {
+    first.answered(
+        alloc,
+        &[Answer::Done; 10],
+        Place::Named("the first session"),
+    )?;
+    same(ways_of_erases(alloc, &first.flash)?, 7 * 256, "ways")
+}
+
+fn check_marks<P: Program>(alloc: Global, first: &Flash) -> Result<(), Fail> {
+    for k in 0..first.marks().saturating_add(1) {
+        check_mark::<P>(alloc, first, k)?;
     }
     Ok(())
 }

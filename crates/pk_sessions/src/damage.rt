@@ -1,8 +1,9 @@
 //! Pages that no session left so.
 
-use crate::boards::{MAKE_WORKED, Session, made, pages_behind, served, worked};
+use crate::boards::{MAKE_WORKED, Session, made, pages_behind, served_worked, worked};
+use crate::exits::{DONE, NO_DRIVE};
 use crate::script::{Ask, Value};
-use crate::tried::{Place, Program, holds};
+use crate::tried::{Place, Program, holds_at};
 use pk_nand::{PageBytes, PageState};
 use std::alloc::{AllocError, Global};
 use std::test::*;
@@ -66,131 +67,138 @@ const CASES: [Case; 15] = [
         from: 32,
         to: 33,
         damage: Damage::Torn,
-        status: 8,
+        status: NO_DRIVE,
     },
     Case {
         name: "no value",
         from: 32,
         to: 33,
         damage: Damage::Erased,
-        status: 8,
+        status: NO_DRIVE,
     },
     Case {
         name: "another value",
         from: 32,
         to: 33,
         damage: Damage::Foreign,
-        status: 8,
+        status: NO_DRIVE,
     },
     Case {
         name: "the value's head of another key",
         from: 32,
         to: 33,
         damage: Damage::Byte(4),
-        status: 8,
+        status: NO_DRIVE,
     },
     Case {
         name: "the value's head of another length",
         from: 32,
         to: 33,
         damage: Damage::Byte(20),
-        status: 8,
+        status: NO_DRIVE,
     },
     Case {
         name: "the value's head with another text",
         from: 32,
         to: 33,
         damage: Damage::Byte(24),
-        status: 8,
+        status: NO_DRIVE,
     },
     Case {
         name: "a byte behind the value",
         from: 32,
         to: 33,
         damage: Damage::Byte(35),
-        status: 8,
+        status: NO_DRIVE,
     },
     Case {
         name: "the last byte behind the value",
         from: 32,
         to: 33,
         damage: Damage::Byte(511),
-        status: 8,
+        status: NO_DRIVE,
     },
     Case {
         name: "the first journal page",
         from: 64,
         to: 65,
         damage: Damage::Foreign,
-        status: 8,
+        status: NO_DRIVE,
     },
     Case {
         name: "the page behind the journal",
         from: 65,
         to: 66,
         damage: Damage::Foreign,
-        status: 8,
+        status: NO_DRIVE,
     },
     Case {
         name: "a torn page behind the journal",
         from: 65,
         to: 66,
         damage: Damage::Torn,
-        status: 0,
+        status: DONE,
     },
     Case {
         name: "the former root",
         from: 0,
         to: 1,
         damage: Damage::Torn,
-        status: 0,
+        status: DONE,
     },
     Case {
         name: "a page behind the root",
         from: 17,
         to: 18,
         damage: Damage::Foreign,
-        status: 0,
+        status: DONE,
     },
     Case {
         name: "all pages",
         from: 0,
         to: 1024,
         damage: Damage::Erased,
-        status: 8,
+        status: NO_DRIVE,
     },
     Case {
         name: "no pages",
         from: 0,
         to: 0,
         damage: Damage::Torn,
-        status: 0,
+        status: DONE,
     },
 ];
 
-fn pages_with<P: Program>(alloc: Global, case: &Case) -> Result<Vec<PageState>, Fail> {
-    let mut pages = with_one_key::<P>(alloc)?;
+fn damage_pages(alloc: Global, pages: &mut [PageState], case: &Case) -> Result<(), AllocError> {
     for i in case.from..case.to {
         if i < pages.len() {
             let page = page_with(alloc, &pages[i], case.damage)?;
             pages[i] = page;
         }
     }
+    Ok(())
+}
+
+fn pages_with<P: Program>(alloc: Global, case: &Case) -> Result<Vec<PageState>, Fail> {
+    let mut pages = with_one_key::<P>(alloc)?;
+    damage_pages(alloc, &mut pages, case)?;
     Ok(pages)
 }
 
 fn check<P: Program>(alloc: Global, case: &Case) -> Result<(), Fail> {
     let pages = pages_with::<P>(alloc, case)?;
-    let done = served::<P>(alloc, worked()?, pages, &[Ask::Retrieve(0x61)])?;
+    let done = served_worked::<P>(alloc, pages, &[Ask::Retrieve(0x61)])?;
     check_refused(&done, case.status, Place::Named(case.name))
 }
 
 /// A session with this status posted nothing exactly where it is 8, and wrote nothing.
 pub fn check_refused(done: &Session, status: u8, place: Place) -> Result<(), Fail> {
     done.ended(status, place)?;
-    holds(
-        done.flash.posted().is_empty() == (status == 8),
-        format_args!("whether nothing was posted, {place}"),
+    let is_empty = done.flash.posted().is_empty();
+    holds_at(
+        is_empty == (status == NO_DRIVE),
+        "whether nothing was posted",
+        place,
     )?;
     done.wrote(0, 0, place)
 }

@@ -1,7 +1,7 @@
 //! The erase of a full block, cut off in all its ways.
 
-use crate::boards::{MAKE_SMALL, Session, cut, made, pages_behind, served, small};
-use crate::script::{Answer, Ask, Value, records};
+use crate::boards::{MAKE_SMALL, Session, made, pages_behind, served_small, small};
+use crate::script::{Answer, Ask, Value};
 use crate::tried::{Place, Program, same};
 use crate::ways::Ways;
 use pk_flash::Flash;
@@ -47,7 +47,7 @@ const ANSWERS: [Answer; 4] = [
 fn second<P: Program>(alloc: Global) -> Result<Session, Fail> {
     let pages = made::<P>(alloc, &MAKE_SMALL)?;
     let pages = pages_behind::<P>(alloc, small()?, pages, &FILL)?;
-    served::<P>(alloc, small()?, pages, &NEXT)
+    served_small::<P>(alloc, pages, &NEXT)
 }
 
 // The place of the first erase among the marks.
@@ -62,25 +62,27 @@ fn first_erase(flash: &Flash) -> Option<usize> {
 
 /// Each of eight written pages stays, is Erased or is Torn, by itself. The third session answers as the second one.
 pub fn full_block<P: Program>(alloc: Global) -> Result<(), Fail> {
-    let want = records(alloc, &ANSWERS)?;
     let second = second::<P>(alloc)?;
-    second.posted(0, &want, Place::Named("the second session"))?;
-    let k = first_erase(&second.flash).ok_or("an erase")?;
-    let ways = Ways::of(alloc, &second.flash, k)?;
+    second.answered(alloc, &ANSWERS, Place::Named("the second session"))?;
+    check_first_erase::<P>(alloc, &second.flash)
+}
+
+fn check_first_erase<P: Program>(alloc: Global, flash: &Flash) -> Result<(), Fail> {
+    let k = first_erase(flash).ok_or("an erase")?;
+    let ways = Ways::of(alloc, flash, k)?;
     same(ways.count, 6561, "ways")?;
+    check_ways::<P>(alloc, flash, k, &ways)
+}
+
+fn check_ways<P: Program>(alloc: Global, flash: &Flash, k: usize, ways: &Ways) -> Result<(), Fail> {
     for way in 0..ways.count {
-        let pages = cut(alloc, &second.flash, k, &ways.left(alloc, way)?)?;
-        check_third::<P>(alloc, pages, &want, Place::Way(k, way))?;
+        let pages = ways.pages(alloc, flash, k, way)?;
+        check_third::<P>(alloc, pages, Place::Way(k, way))?;
     }
     Ok(())
 }
 
 // The third session on these pages.
-fn check_third<P: Program>(
-    alloc: Global,
-    pages: Vec<PageState>,
-    want: &[u8],
-    place: Place,
-) -> Result<(), Fail> {
-    served::<P>(alloc, small()?, pages, &NEXT)?.posted(0, want, place)
+fn check_third<P: Program>(alloc: Global, pages: Vec<PageState>, place: Place) -> Result<(), Fail> {
+    served_small::<P>(alloc, pages, &NEXT)?.answered(alloc, &ANSWERS, place)
 }

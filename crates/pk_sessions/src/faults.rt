@@ -1,12 +1,15 @@
 //! Calls of the board that fail.
 
 use crate::boards::{
-    MAKE_WORKED, Session, board, made, pages_behind, pages_left, serve_board, served, worked,
+    MAKE_WORKED, Session, asked_worked, made, pages_behind, pages_left, serve_board, served_worked,
+    with_failing, worked,
 };
-use crate::script::{Answer, Ask, Value, records, script};
+use crate::exits::{DONE, FLASH, INPUT, OUTPUT};
+use crate::script::{Answer, Ask, Value, records};
 use crate::tried::{Place, Program, same};
 use pk_flash::{Flash, Left};
 use pk_nand::{Board, PageState};
+use pk_nvme::opcode::DELETE;
 use std::alloc::{AllocError, Global};
 use std::test::*;
 
@@ -29,18 +32,23 @@ fn served_with_fault<P: Program>(
     call: u64,
     left: Left,
 ) -> Result<Session, Fail> {
-    let pages = with_one_key::<P>(alloc)?;
-    let mut flash = board(alloc, worked()?, pages, script(alloc, asks)?)?;
-    flash.fail(alloc, call, left)?;
+    let flash = with_failing(alloc, asked::<P>(alloc, asks)?, call, left)?;
     Ok(serve_board::<P>(alloc, flash))
+}
+
+fn asked<P: Program>(alloc: Global, asks: &[Ask]) -> Result<Flash, Fail> {
+    asked_worked(alloc, with_one_key::<P>(alloc)?, asks)
 }
 
 /// The entry is fetched behind the reads of opening, and then the page of the value is read.
 pub fn read_of_retrieve<P: Program>(alloc: Global) -> Result<(), Fail> {
     let asks = [Ask::Retrieve(0x62), Ask::Retrieve(0x62)];
     let done = served_with_fault::<P>(alloc, &asks, 36, Left::Untouched)?;
-    let want = records(alloc, &[Answer::Unread, Answer::Found(THREE)])?;
-    done.posted(0, &want, Place::Call(36))
+    done.answered(
+        alloc,
+        &[Answer::Unread, Answer::Found(THREE)],
+        Place::Call(36),
+    )
 }
 
 // The first byte of the input that is still to be taken.
@@ -52,7 +60,7 @@ fn next_byte(flash: &mut Flash) -> Result<u8, Fail> {
 
 // Nothing was posted and nothing was written, and the first byte of the input is still to be taken.
 fn check_untouched(done: &mut Session, first: u8, call: u64) -> Result<(), Fail> {
-    done.posted(6, &[], Place::Call(call))?;
+    done.posted(FLASH, &[], Place::Call(call))?;
     same(done.flash.marks(), 0, "marks")?;
     same(
         next_byte(&mut done.flash)?,
@@ -65,7 +73,7 @@ fn check_untouched(done: &mut Session, first: u8, call: u64) -> Result<(), Fail>
 pub fn reads_of_opening<P: Program>(alloc: Global) -> Result<(), Fail> {
     for call in 0..35u64 {
         let mut done = served_with_fault::<P>(alloc, &[Ask::Delete(0x62)], call, Left::Untouched)?;
-        check_untouched(&mut done, 0x10, call)?;
+        check_untouched(&mut done, DELETE, call)?;
     }
     Ok(())
 }
@@ -100,179 +108,196 @@ const FAILURES: [Failure; 22] = [
     Failure {
         call: 35,
         way: 0,
-        status: 4,
+        status: INPUT,
         bytes: 0,
         keys: b"b",
     },
     Failure {
         call: 36,
         way: 0,
-        status: 4,
+        status: INPUT,
         bytes: 0,
         keys: b"b",
     },
     Failure {
         call: 37,
         way: 1,
-        status: 6,
+        status: FLASH,
         bytes: 0,
         keys: b"b",
     },
     Failure {
         call: 38,
         way: 3,
-        status: 6,
+        status: FLASH,
         bytes: 0,
         keys: b"b",
     },
     Failure {
         call: 39,
         way: 0,
-        status: 6,
+        status: FLASH,
         bytes: 0,
         keys: b"b",
     },
     Failure {
         call: 39,
         way: 1,
-        status: 6,
+        status: FLASH,
         bytes: 0,
         keys: b"b",
     },
     Failure {
         call: 39,
         way: 2,
-        status: 6,
+        status: FLASH,
         bytes: 0,
         keys: b"b",
     },
     Failure {
         call: 39,
         way: 3,
-        status: 6,
+        status: FLASH,
         bytes: 0,
         keys: b"b",
     },
     Failure {
         call: 40,
         way: 0,
-        status: 6,
+        status: FLASH,
         bytes: 0,
         keys: b"b",
     },
     Failure {
         call: 40,
         way: 1,
-        status: 6,
+        status: FLASH,
         bytes: 0,
         keys: b"b",
     },
     Failure {
         call: 40,
         way: 2,
-        status: 6,
+        status: FLASH,
         bytes: 0,
         keys: b"b",
     },
     Failure {
         call: 41,
         way: 3,
-        status: 6,
+        status: FLASH,
         bytes: 0,
         keys: b"b",
     },
     Failure {
         call: 42,
         way: 0,
-        status: 6,
+        status: FLASH,
         bytes: 0,
         keys: b"b",
     },
     Failure {
         call: 42,
         way: 1,
-        status: 6,
+        status: FLASH,
         bytes: 0,
         keys: b"b",
     },
     Failure {
         call: 42,
         way: 2,
-        status: 6,
+        status: FLASH,
         bytes: 0,
         keys: b"b",
     },
     Failure {
         call: 43,
         way: 0,
-        status: 4,
+        status: INPUT,
         bytes: 24,
         keys: b"ab",
     },
     Failure {
         call: 44,
         way: 0,
-        status: 6,
+        status: FLASH,
         bytes: 0,
         keys: b"b",
     },
     Failure {
         call: 44,
         way: 1,
-        status: 6,
+        status: FLASH,
         bytes: 0,
         keys: b"b",
     },
     Failure {
         call: 44,
         way: 2,
-        status: 6,
+        status: FLASH,
         bytes: 0,
         keys: b"ab",
     },
     Failure {
         call: 45,
         way: 0,
-        status: 5,
+        status: OUTPUT,
         bytes: 0,
         keys: b"ab",
     },
     Failure {
         call: 45,
         way: 4,
-        status: 5,
+        status: OUTPUT,
         bytes: 7,
         keys: b"ab",
     },
     Failure {
         call: 46,
         way: 0,
-        status: 0,
+        status: DONE,
         bytes: 24,
         keys: b"ab",
     },
 ];
 
-// The keys behind a session.
-fn check_listed<P: Program>(
-    alloc: Global,
-    flash: &Flash,
-    keys: &'static [u8],
-    place: Place,
-) -> Result<(), Fail> {
-    let next = served::<P>(alloc, worked()?, pages_left(alloc, flash)?, &[Ask::List])?;
-    next.posted(0, &records(alloc, &[Answer::Keys(keys)])?, place)
+impl Failure {
+    fn place(&self) -> Place {
+        Place::CallWay(self.call, self.way)
+    }
 }
+
+// The keys behind a session.
+fn check_listed<P: Program>(alloc: Global, flash: &Flash, failure: &Failure) -> Result<(), Fail> {
+    let next = served_worked::<P>(alloc, pages_left(alloc, flash)?, &LIST)?;
+    check_keys(alloc, &next, failure)
+}
+
+const LIST: [Ask; 1] = [Ask::List];
+
+fn check_keys(alloc: Global, next: &Session, failure: &Failure) -> Result<(), Fail> {
+    next.answered(alloc, &[Answer::Keys(failure.keys)], failure.place())
+}
+
+// The bytes that the session of the Store posted.
+fn check_posted(alloc: Global, done: &Session, failure: &Failure) -> Result<(), Fail> {
+    let record = records(alloc, &[Answer::Done])?;
+    let front = record.get(..failure.bytes).unwrap_or(&record);
+    done.posted(failure.status, front, failure.place())
+}
+
+fn check_failed<P: Program>(alloc: Global, done: &Session, failure: &Failure) -> Result<(), Fail> {
+    check_posted(alloc, done, failure)?;
+    check_listed::<P>(alloc, &done.flash, failure)
+}
+
+const STORE: [Ask; 1] = [Ask::Store(0x61, THREE)];
 
 // Stores the key `a` while this call fails.
 fn check_store<P: Program>(alloc: Global, failure: &Failure) -> Result<(), Fail> {
     let left = left(alloc, failure.way)?;
-    let place = Place::CallWay(failure.call, failure.way);
-    let done = served_with_fault::<P>(alloc, &[Ask::Store(0x61, THREE)], failure.call, left)?;
-    let record = records(alloc, &[Answer::Done])?;
-    let front = record.get(..failure.bytes).unwrap_or(&record);
-    done.posted(failure.status, front, place)?;
-    check_listed::<P>(alloc, &done.flash, failure.keys, place)
+    let done = served_with_fault::<P>(alloc, &STORE, failure.call, left)?;
+    check_failed::<P>(alloc, &done, failure)
 }
 
 /// Each call of the session of a Store fails, in some ways.

@@ -1,6 +1,7 @@
 //! Flashes made by hand, byte for byte as their formats say: entries in both epochs and in each run, under keys of two bytes, on pages of
 //! any size.
 
+use crate::boards::shape_of;
 use crate::pages::{Sizes, Top, erased, put_root, write};
 use crate::script::Value;
 use crate::ways::few_ways;
@@ -11,11 +12,18 @@ use std::alloc::{AllocError, Global};
 use std::test::*;
 
 /// How many entries the newest epoch, the older one, and runs 1 to 4 have. There is an older epoch only where it has some.
-#[derive(Clone, Copy, Debug, PartialEq, Eq)]
+#[derive(Clone, Copy)]
 pub struct Lists {
     pub active: u16,
     pub frozen: u16,
     pub runs: [u16; 4],
+}
+
+/// What is there behind a cut: how long the lists are, and a key that was stored.
+#[derive(Clone, Copy)]
+pub struct Wanted {
+    pub lists: Lists,
+    pub stored: Option<u16>,
 }
 
 /// A flash that is made, and what its lists have.
@@ -111,23 +119,26 @@ pub fn value_of(key: u16) -> Value {
     }
 }
 
+// The bytes of an entry.
+fn note_bytes(note: &Note) -> [u8; 32] {
+    let key = key_of(note.key);
+    let mut bytes = [0u8; 32];
+    bytes[0] = 2;
+    bytes[1] = if note.first.is_some() { 1 } else { 2 };
+    bytes[4] = key[0];
+    bytes[5] = key[1];
+    if let Some(first) = note.first {
+        put_u32(&mut bytes, 20, first);
+        put_u32(&mut bytes, 24, VALUE_BYTES);
+    }
+    bytes
+}
+
 // Writes an entry at this place among those of a page.
 fn put_note(page: &mut [u8], i: u16, note: &Note) {
     let at = 32 + 32 * usize::from(i);
-    if page.len() < at + 32 {
-        return;
-    }
-    let bytes = key_of(note.key);
-    put_u8(page, at, 2);
-    put_u8(page, at + 4, bytes[0]);
-    put_u8(page, at + 5, bytes[1]);
-    match note.first {
-        Some(first) => {
-            put_u8(page, at + 1, 1);
-            put_u32(page, at + 20, first);
-            put_u32(page, at + 24, VALUE_BYTES);
-        }
-        None => put_u8(page, at + 1, 2),
+    if page.len() >= at + 32 {
+        page[at..at + 32].copy_from_slice(&note_bytes(note));
     }
 }
 
@@ -164,22 +175,29 @@ fn put_journal(page: &mut [u8], epoch: u64, index: u16, count: u16) {
     put_u16(page, 20, count);
 }
 
+// The head of the value of a key, and the value.
+fn value_front(key: u16) -> [u8; 37] {
+    let name = key_of(key);
+    let mut bytes = [0u8; 37];
+    bytes[0] = 2;
+    bytes[1] = 0x44;
+    bytes[4] = name[0];
+    bytes[5] = name[1];
+    put_u32(&mut bytes, 20, VALUE_BYTES);
+    put_text(&mut bytes, 24, b"PINKDATA");
+    for i in 0..5u8 {
+        bytes[32 + usize::from(i)] = value_of(key).first.wrapping_add(i);
+    }
+    bytes
+}
+
 // Writes the value of a key, which stands on one page.
 fn put_value(page: &mut [u8], key: u16) {
-    if page.len() < 64 {
-        return;
-    }
-    let bytes = key_of(key);
-    put_u8(page, 0, 2);
-    put_u8(page, 1, 0x44);
-    put_u8(page, 4, bytes[0]);
-    put_u8(page, 5, bytes[1]);
-    put_u32(page, 20, VALUE_BYTES);
-    put_text(page, 24, b"PINKDATA");
-    let mut next = value_of(key).first;
-    for i in 0..5usize {
-        put_u8(page, 32 + i, next);
-        next = next.wrapping_add(1);
+    let front = value_front(key);
+    for i in 0..37usize {
+        if i < page.len() {
+            page[i] = front[i];
+        }
     }
 }
 
@@ -227,21 +245,41 @@ impl<'a> Writer<'a> {
             let from = index.saturating_mul(most);
             let count = most.min(entries.saturating_sub(from));
             put_meta(&mut self.page, level, index, count);
-            put_gone(&mut self.page, FIRST_GONE.saturating_add(from), count);
-            let at = self.at(block, index);
-            self.write(at)?;
+            self.write_keys_gone(
+                self.at(block, index),
+                FIRST_GONE.saturating_add(from),
+                count,
+            )?;
         }
         Ok(())
     }
 
+    // Adds so many deleted keys from this one on to the page that was made, and writes it.
+    fn write_keys_gone(&mut self, at: u32, first: u16, count: u16) -> Result<(), Fail> {
+        put_gone(&mut self.page, first, count);
+        self.write(at)
+    }
+
     // Writes run 4, of one page, and the values of its keys, which fill pages of this block.
     fn write_there(&mut self, block: u16, entries: u16, values: u16) -> Result<(), Fail> {
+        self.write_values(entries, values)?;
+        put_meta(&mut self.page, 4, 0, entries);
+        self.put_there(entries, values);
+        let at = self.at(block, 0);
+        self.write(at)
+    }
+
+    fn write_values(&mut self, entries: u16, values: u16) -> Result<(), Fail> {
         for i in 0..entries {
             put_value(&mut self.page, FIRST_THERE.saturating_add(i));
             let at = self.at(values, i);
             self.write(at)?;
         }
-        put_meta(&mut self.page, 4, 0, entries);
+        Ok(())
+    }
+
+    // Writes the entries of run 4 into the page that is made.
+    fn put_there(&mut self, entries: u16, values: u16) {
         for i in 0..entries {
             let note = Note {
                 key: FIRST_THERE.saturating_add(i),
@@ -249,8 +287,6 @@ impl<'a> Writer<'a> {
             };
             put_note(&mut self.page, i, &note);
         }
-        let at = self.at(block, 0);
-        self.write(at)
     }
 
     // Writes a page of an epoch with so many deleted keys from this one on, where there are some.
@@ -266,9 +302,7 @@ impl<'a> Writer<'a> {
             return Ok(());
         }
         put_journal(&mut self.page, epoch, index, count);
-        put_gone(&mut self.page, first, count);
-        let at = self.at(block, index);
-        self.write(at)
+        self.write_keys_gone(self.at(block, index), first, count)
     }
 
     // Writes the root into page 0.
@@ -336,14 +370,10 @@ impl Layered {
 
     pub fn shape(&self) -> Result<Shape, Fail> {
         let sizes = &self.sizes;
-        Ok(
-            Shape::new(
-                u32::from(sizes.page_bytes),
-                u32::from(sizes.block_pages),
-                u32::from(sizes.blocks),
-            )
-            .ok()
-            .ok_or("a shape")?,
+        shape_of(
+            u32::from(sizes.page_bytes),
+            u32::from(sizes.block_pages),
+            u32::from(sizes.blocks),
         )
     }
 
@@ -365,38 +395,49 @@ impl Layered {
     /// values in the last block but one.
     pub fn pages(&self, alloc: Global) -> Result<Vec<PageState>, Fail> {
         let mut writer = Writer::new(alloc, &self.sizes)?;
+        self.write_lists(&mut writer)?;
+        Ok(writer.pages)
+    }
+
+    fn write_lists(&self, writer: &mut Writer) -> Result<(), Fail> {
         let mut named = Named {
             blocks: [0; 20],
             count: 0,
             next: 2,
         };
-        named.take(2);
+        named.take(if self.lists.frozen > 0 { 4 } else { 2 });
         writer.write_epoch(3, 2, 0, FIRST_THERE, self.lists.active)?;
-        if self.lists.frozen > 0 {
-            named.take(2);
-            let half = self.lists.frozen / 2;
-            let rest = self.lists.frozen.saturating_sub(half);
-            writer.write_epoch(2, 4, 0, FIRST_GONE, half)?;
-            writer.write_epoch(2, 4, 1, FIRST_GONE.saturating_add(half), rest)?;
-        }
-        self.write_runs(&mut writer, &mut named)?;
-        writer.write_root(&self.lists, named.blocks())?;
-        Ok(writer.pages)
+        self.write_frozen(writer)?;
+        self.write_runs(writer, &mut named)?;
+        writer.write_root(&self.lists, named.blocks())
+    }
+
+    // Writes epoch 2, where there is one, in two pages.
+    fn write_frozen(&self, writer: &mut Writer) -> Result<(), Fail> {
+        let half = self.lists.frozen / 2;
+        let rest = self.lists.frozen.saturating_sub(half);
+        writer.write_epoch(2, 4, 0, FIRST_GONE, half)?;
+        writer.write_epoch(2, 4, 1, FIRST_GONE.saturating_add(half), rest)
     }
 
     /// The data of a List: the keys of run 4 but for those that the newest epoch deletes, and one more where it was stored.
     pub fn keys_listed(&self, alloc: Global, stored: Option<u16>) -> Result<Vec<u8>, AllocError> {
-        let there = self.lists.runs[3].saturating_sub(self.lists.active);
-        let more = if stored.is_some() { 1 } else { 0 };
         let mut data = Vec::new(alloc);
-        data.extend_from_slice(&u32::from(there).saturating_add(more).to_le_bytes())?;
-        for i in self.lists.active..self.lists.runs[3] {
-            push_key(&mut data, FIRST_THERE.saturating_add(i))?;
-        }
+        self.push_there(&mut data, if stored.is_some() { 1 } else { 0 })?;
         if let Some(key) = stored {
             push_key(&mut data, key)?;
         }
         Ok(data)
+    }
+
+    // Adds the count of the keys of run 4 that are there and of so many more, and those of run 4.
+    fn push_there(&self, into: &mut Vec<u8>, more: u32) -> Result<(), AllocError> {
+        let there = self.lists.runs[3].saturating_sub(self.lists.active);
+        into.extend_from_slice(&u32::from(there).saturating_add(more).to_le_bytes())?;
+        for i in self.lists.active..self.lists.runs[3] {
+            push_key(into, FIRST_THERE.saturating_add(i))?;
+        }
+        Ok(())
     }
 }
 
@@ -421,6 +462,15 @@ impl Lists {
             lists.active = 0;
         }
         lists
+    }
+
+    /// What is there with these lists: where a key was stored, it is the only entry of the newest epoch.
+    pub fn with_stored(&self, stored: Option<u16>) -> Wanted {
+        let mut lists = *self;
+        if stored.is_some() {
+            lists.active = 1;
+        }
+        Wanted { lists, stored }
     }
 
     // So many of the four merges are made. All that run 3 has are deleted keys.
@@ -476,4 +526,9 @@ pub fn roots_behind(flash: &Flash, sizes: &Sizes, k: usize, left: &Left) -> usiz
         }
     }
     roots
+}
+
+/// How many roots are programmed in all.
+pub fn roots_of(flash: &Flash, sizes: &Sizes) -> usize {
+    roots_behind(flash, sizes, flash.marks(), &Left::Untouched)
 }

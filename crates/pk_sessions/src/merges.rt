@@ -1,21 +1,20 @@
 //! Freezes and merges by commands from a made drive on; and merges into each level, on flashes made by hand, cut off at every mark.
 
 use crate::boards::{
-    MAKE_WORKED, Session, cut, long_board, made, pages_left, serve_board, serve_board_with, worked,
+    MAKE_WORKED, Session, cut, ended_well, last_program, long_board, made, pages_left, serve_board,
+    serve_board_with, worked,
 };
 use crate::cuts::bytes_out;
-use crate::layered::{FLASHES, Layered, Lists, key_of, roots_behind, ways};
-use crate::report::{LIST, REPORT, TICK, number_at, numbers, push_command};
-use crate::script::{Value, entry, push_head, push_value};
-use crate::tried::{Place, Program, holds, same};
+use crate::exits::DONE;
+use crate::layered::{FLASHES, Layered, Lists, Wanted, is_done, key_of, roots_behind, ways};
+use crate::report::{number_at, numbers, push_command};
+use crate::script::{Value, entry, push_found, push_value};
+use crate::tried::{Place, Program, at_least, holds, holds_at, same};
 use pk_flash::{Flash, Left};
 use pk_nand::{Mark, PageState};
+use pk_nvme::opcode::{LIST, REPORT, RETRIEVE, STORE, TICK};
 use std::alloc::{AllocError, Global};
 use std::test::*;
-
-const STORE: u8 = 0x01;
-
-const RETRIEVE: u8 = 0x02;
 
 // ---- from a made drive on
 
@@ -39,10 +38,14 @@ enum Step {
 
 fn push_stores(into: &mut Vec<u8>, count: u16) -> Result<(), AllocError> {
     for i in 0..count {
-        into.extend_from_slice(&entry(i, STORE, key_of(i), 2, ABC.len))?;
-        push_value(into, &ABC)?;
+        push_store(into, i)?;
     }
     Ok(())
+}
+
+fn push_store(into: &mut Vec<u8>, i: u16) -> Result<(), AllocError> {
+    into.extend_from_slice(&entry(i, STORE, key_of(i), 2, ABC.len))?;
+    push_value(into, &ABC)
 }
 
 fn push_retrieve(into: &mut Vec<u8>, key: u16) -> Result<(), AllocError> {
@@ -93,10 +96,13 @@ fn behind_pages<P: Program>(
     steps: &[Step],
     frames: &str,
 ) -> Result<Flash, Fail> {
-    let flash = long_board(alloc, worked()?, pages, script_of(alloc, steps)?)?;
+    let flash = board_of(alloc, pages, steps)?;
     let done = serve_board_with::<P>(alloc, flash, frames);
-    done.ended(0, Place::Named("from a made drive on"))?;
-    Ok(done.flash)
+    ended_well(done, Place::Named("from a made drive on"))
+}
+
+fn board_of(alloc: Global, pages: Vec<PageState>, steps: &[Step]) -> Result<Flash, Fail> {
+    long_board(alloc, worked()?, pages, script_of(alloc, steps)?)
 }
 
 // A made drive behind such a session.
@@ -116,14 +122,17 @@ const FIRST_MERGE: [Step; 5] = [
 /// Retrieve of the first key reads before and behind the merge.
 pub fn first_merge<P: Program>(alloc: Global) -> Result<(), Fail> {
     let flash = behind::<P>(alloc, &FIRST_MERGE)?;
-    let posted = flash.posted();
+    check_first(flash.posted())
+}
+
+fn check_first(posted: &[u8]) -> Result<(), Fail> {
+    check_reads(posted, 0, 1)?;
+    check_reads(posted, FOUND_BYTES + REPORT_BYTES + 24, 1)?;
     same(
         numbers(posted, FOUND_BYTES)?,
         [31, 492, 31, 2, 36, 2, 1, 0, 30, 0, 0, 0, 1, 2, 57, 0],
         "the numbers",
-    )?;
-    check_reads(posted, 0, 1)?;
-    check_reads(posted, FOUND_BYTES + REPORT_BYTES + 24, 1)
+    )
 }
 
 const ONE_STEP: [Step; 6] = [
@@ -144,11 +153,13 @@ fn check_merge(posted: &[u8], behind: usize, wanted: [u32; 3]) -> Result<(), Fai
 /// One step of the merge is made, and the lists are as they were; the rest of the steps ends it.
 pub fn one_step<P: Program>(alloc: Global) -> Result<(), Fail> {
     let flash = behind::<P>(alloc, &ONE_STEP)?;
-    let posted = flash.posted();
-    let retrieved = REPORT_BYTES + 24;
+    check_step(flash.posted())
+}
+
+fn check_step(posted: &[u8]) -> Result<(), Fail> {
     check_merge(posted, 0, [0, 0, 30])?;
-    check_reads(posted, retrieved, 1)?;
-    check_merge(posted, retrieved + FOUND_BYTES, [1, 30, 0])
+    check_reads(posted, REPORT_BYTES + 24, 1)?;
+    check_merge(posted, REPORT_BYTES + 24 + FOUND_BYTES, [1, 30, 0])
 }
 
 // The lists behind four freezes, in the Report before the last record.
@@ -162,24 +173,29 @@ fn check_two_runs(posted: &[u8]) -> Result<(), Fail> {
 // The record of a Retrieve of the first key that read so many pages.
 fn found_abc(alloc: Global, reads: u32) -> Result<Vec<u8>, AllocError> {
     let mut want = Vec::new(alloc);
-    push_head(&mut want, 2, 0, ABC.len, reads, ABC.len)?;
-    push_value(&mut want, &ABC)?;
+    push_found(&mut want, 2, reads, &ABC)?;
     Ok(want)
 }
 
 // A Retrieve without frames reads 2 to 5 pages, and gives the same.
 fn check_without_frames<P: Program>(alloc: Global, pages: Vec<PageState>) -> Result<(), Fail> {
     let later = behind_pages::<P>(alloc, pages, &[Step::Retrieve(0)], "0")?;
-    let reads = reads_of(later.posted(), 0)?;
-    holds(2 <= reads && reads <= 5, format_args!("reads, {reads}"))?;
-    let want = found_abc(alloc, reads)?;
-    same(later.posted().get(20..), want.get(20..), "the data")
+    check_found(alloc, later.posted())
 }
+
+fn check_found(alloc: Global, posted: &[u8]) -> Result<(), Fail> {
+    let reads = reads_of(posted, 0)?;
+    holds(2 <= reads && reads <= 5, "the reads of a Retrieve")?;
+    let want = found_abc(alloc, reads)?;
+    same(posted.get(20..), want.get(20..), "the data")
+}
+
+const TWO_RUNS: [Step; 3] = [Step::Stores(121), Step::Report, Step::Retrieve(0)];
 
 /// Four freezes merge into runs 1 and 2. A Retrieve of the first key reads the value's page alone where both levels have frames; without
 /// frames it reads a page of each run besides, and gives the same.
 pub fn two_runs<P: Program>(alloc: Global) -> Result<(), Fail> {
-    let flash = behind::<P>(alloc, &[Step::Stores(121), Step::Report, Step::Retrieve(0)])?;
+    let flash = behind::<P>(alloc, &TWO_RUNS)?;
     check_two_runs(flash.posted())?;
     check_without_frames::<P>(alloc, pages_left(alloc, &flash)?)
 }
@@ -205,14 +221,22 @@ const BY_TURNS: [u8; 16] = [0, 1, 2, 0, 1, 2, 0, 1, 2, 0, 1, 2, 0, 1, 2, 0];
 pub fn roots_fill_a_block<P: Program>(alloc: Global) -> Result<(), Fail> {
     let flash = behind::<P>(alloc, &[Step::Stores(300)])?;
     let k = last_erase(&flash, 0).ok_or("an erase of block 0")?;
-    let pages = cut(alloc, &flash, k, &Left::Each(BY_TURNS.to_vec(alloc)?))?;
-    let later = behind_pages::<P>(alloc, pages, &[Step::List, Step::Report], "36")?;
+    let keys = keys_behind::<P>(alloc, by_turns(alloc, &flash, k)?)?;
     let told = bytes_out(&flash, k).div_ceil(24).min(1000) as u32;
-    let keys = numbers(later.posted(), 0)?[2];
-    holds(
-        told <= keys && keys <= 300 && keys > 0,
-        format_args!("{keys} keys, {told} told"),
-    )
+    holds(told <= keys && keys <= 300 && keys > 0, "the keys")
+}
+
+// The pages behind the first k marks, of which the next, an erase, leaves its pages so.
+fn by_turns(alloc: Global, flash: &Flash, k: usize) -> Result<Vec<PageState>, Fail> {
+    let left = Left::Each(BY_TURNS.to_vec(alloc)?);
+    cut(alloc, flash, k, &left)
+}
+
+// How many keys a session on these pages tells.
+fn keys_behind<P: Program>(alloc: Global, pages: Vec<PageState>) -> Result<u32, Fail> {
+    let later = behind_pages::<P>(alloc, pages, &[Step::List, Step::Report], "36")?;
+    let numbers = numbers(later.posted(), 0)?;
+    Ok(numbers[2])
 }
 
 // ---- on flashes made by hand
@@ -257,62 +281,119 @@ fn check_entries(posted: &[u8], lists: &Lists, place: Place) -> Result<(), Fail>
     )
 }
 
-/// On these pages the keys are those of the flash that was made, and the one that was stored; and the lists have so many entries.
-pub fn check_lists<P: Program>(
+// On these pages the keys are those of the flash that was made, and the one that was stored; and the lists have so many entries.
+fn check_lists<P: Program>(
     alloc: Global,
     layered: &Layered,
     pages: Vec<PageState>,
-    lists: &Lists,
-    stored: Option<u16>,
+    want: &Wanted,
     k: usize,
 ) -> Result<(), Fail> {
     let script = script_of(alloc, &[Step::List, Step::Report])?;
     let done = served::<P>(alloc, layered, pages, script)?;
-    done.ended(0, Place::Mark(k))?;
-    let want = layered.keys_listed(alloc, stored)?;
-    let posted = done.flash.posted();
+    done.ended(DONE, Place::Mark(k))?;
+    let keys = layered.keys_listed(alloc, want.stored)?;
+    check_listed(done.flash.posted(), &keys, &want.lists, Place::Mark(k))
+}
+
+// These are the records of a List of these keys, and of a Report.
+fn check_listed(posted: &[u8], keys: &[u8], lists: &Lists, place: Place) -> Result<(), Fail> {
     let found = posted.get(24..).unwrap_or(&[]);
-    holds(found.starts_with(&want), format_args!("the keys, mark {k}"))?;
-    check_entries(posted, lists, Place::Mark(k))
+    holds_at(found.starts_with(keys), "the keys", place)?;
+    check_entries(posted, lists, place)
 }
 
 // The session that makes all merges: the lists are empty but for run 4 and the outputs of the last three.
 fn all_merges<P: Program>(alloc: Global, layered: &Layered) -> Result<Flash, Fail> {
-    let script = script_of(alloc, &[Step::Tick(5000), Step::Report])?;
-    let done = served::<P>(alloc, layered, layered.pages(alloc)?, script)?;
-    done.ended(0, Place::Named("all merges"))?;
-    let posted = done.flash.posted();
-    check_entries(posted, &layered.lists.behind(4), Place::Named("all merges"))?;
-    same(numbers(posted, 0)?[15], 0, "a merge")?;
+    let done = merged::<P>(alloc, layered)?;
+    check_merged(&done, &layered.lists)?;
     Ok(done.flash)
 }
 
-// This mark of the session that makes all merges is interrupted, and leaves this: the keys are the same, and each merge is made whose root
-// is there.
+fn merged<P: Program>(alloc: Global, layered: &Layered) -> Result<Session, Fail> {
+    let script = script_of(alloc, &[Step::Tick(5000), Step::Report])?;
+    served::<P>(alloc, layered, layered.pages(alloc)?, script)
+}
+
+// The Report has these lists behind four merges, and no merge that is begun.
+fn check_merged(done: &Session, lists: &Lists) -> Result<(), Fail> {
+    let place = Place::Named("all merges");
+    done.ended(DONE, place)?;
+    check_entries(done.flash.posted(), &lists.behind(4), place)?;
+    let numbers = numbers(done.flash.posted(), 0)?;
+    same(numbers[15], 0, "a merge")
+}
+
+// What is there where this mark is interrupted and leaves this: each merge and the freeze are made whose root is there; and where a key is
+// stored, it is there where the page with its entry, which is programmed last, is.
+fn wanted_behind(
+    layered: &Layered,
+    flash: &Flash,
+    stored: Option<u16>,
+    k: usize,
+    left: &Left,
+) -> Wanted {
+    let roots = roots_behind(flash, &layered.sizes, k, left);
+    let lists = layered.lists.behind(roots);
+    if stored.is_some() && is_entry_done(flash, k, left) {
+        lists.with_stored(stored)
+    } else {
+        lists.with_stored(None)
+    }
+}
+
+fn is_entry_done(flash: &Flash, k: usize, left: &Left) -> bool {
+    match last_program(flash) {
+        Some(entry_page) => is_done(entry_page, k, left),
+        None => false,
+    }
+}
+
 fn check_cut<P: Program>(
     alloc: Global,
     layered: &Layered,
     flash: &Flash,
+    stored: Option<u16>,
     k: usize,
     left: &Left,
 ) -> Result<(), Fail> {
-    let roots = roots_behind(flash, &layered.sizes, k, left);
-    let lists = layered.lists.behind(roots);
-    let pages = cut(alloc, flash, k, left)?;
-    check_lists::<P>(alloc, layered, pages, &lists, None, k)
+    let want = wanted_behind(layered, flash, stored, k, left);
+    check_lists::<P>(alloc, layered, cut(alloc, flash, k, left)?, &want, k)
 }
 
-// Each mark of that session is interrupted in some ways; and how many cuts these are.
-fn check_cuts<P: Program>(alloc: Global, layered: &Layered) -> Result<u32, Fail> {
-    let flash = all_merges::<P>(alloc, layered)?;
+/// Each mark of a session that makes merges, or stores this key behind a freeze, is interrupted in some ways; and how many cuts these are.
+pub fn check_marks<P: Program>(
+    alloc: Global,
+    layered: &Layered,
+    flash: &Flash,
+    stored: Option<u16>,
+) -> Result<u32, Fail> {
     let mut cuts = 0u32;
     for k in 0..flash.marks().saturating_add(1) {
-        for left in &ways(alloc, &flash, k)? {
-            check_cut::<P>(alloc, layered, &flash, k, left)?;
-            cuts = cuts.saturating_add(1);
-        }
+        cuts = cuts.saturating_add(check_mark::<P>(alloc, layered, flash, stored, k)?);
     }
     Ok(cuts)
+}
+
+fn check_mark<P: Program>(
+    alloc: Global,
+    layered: &Layered,
+    flash: &Flash,
+    stored: Option<u16>,
+    k: usize,
+) -> Result<u32, Fail> {
+    let ways = ways(alloc, flash, k)?;
+    let mut cuts = 0u32;
+    for left in &ways {
+        check_cut::<P>(alloc, layered, flash, stored, k, left)?;
+        cuts = cuts.saturating_add(1);
+    }
+    Ok(cuts)
+}
+
+fn check_cuts<P: Program>(alloc: Global, layered: &Layered) -> Result<u32, Fail> {
+    let flash = all_merges::<P>(alloc, layered)?;
+    check_marks::<P>(alloc, layered, &flash, None)
 }
 
 /// Merges into levels 4, 3, 2 and 1 in one session, which is cut off at every mark: the keys are the same behind each cut, and the lists are
@@ -322,5 +403,5 @@ pub fn every_cut_of_merges<P: Program>(alloc: Global) -> Result<(), Fail> {
     for layered in &FLASHES {
         cuts = cuts.saturating_add(check_cuts::<P>(alloc, layered)?);
     }
-    holds(cuts >= 500, format_args!("{cuts} cuts"))
+    at_least(cuts, 500, "cuts")
 }

@@ -2,14 +2,11 @@
 //! behind so many of them, and what a session's records tell of it.
 
 use crate::script::{Value, entry, push_value};
-use crate::tried::holds;
 use pk_base::get_u32;
+use pk_nvme::opcode::{RETRIEVE, STORE};
+use pk_nvme::status::SUCCESSFUL_COMPLETION;
 use std::alloc::{AllocError, Global};
 use std::test::*;
-
-const STORE: u8 = 0x01;
-
-const RETRIEVE: u8 = 0x02;
 
 const LEN: u32 = 100;
 
@@ -71,7 +68,7 @@ pub fn push_plain(into: &mut Vec<u8>, opcode: u8, size: u32) -> Result<(), Alloc
 }
 
 /// A record: its status, how many pages were read, where its data begin, and how many they are.
-#[derive(Clone, Copy, Debug, PartialEq, Eq)]
+#[derive(Clone, Copy, Debug)]
 pub struct Record {
     pub status: u32,
     pub reads: u32,
@@ -80,6 +77,16 @@ pub struct Record {
 }
 
 impl Record {
+    /// Whether the command was done.
+    pub fn is_done(&self) -> bool {
+        self.status == u32::from(SUCCESSFUL_COMPLETION)
+    }
+
+    // Whether a Retrieve was done, and read 1 to 5 pages.
+    fn gives_value(&self) -> bool {
+        self.is_done() && 1 <= self.reads && self.reads <= 5
+    }
+
     /// Where the next record begins.
     pub fn end(&self) -> usize {
         self.data.saturating_add(self.len)
@@ -103,18 +110,30 @@ pub fn record_at(posted: &[u8], at: usize) -> Option<Record> {
     Some(record)
 }
 
+// Where the record ends that begins here, which is to have this status and no data.
+fn end_with(posted: &[u8], at: usize, status: u32) -> Option<usize> {
+    match record_at(posted, at) {
+        Some(record) if record.status == status && record.len == 0 => Some(record.end()),
+        _ => None,
+    }
+}
+
 /// The end of the first records, so many, each of which is to have this status and no data.
 pub fn all_with(posted: &[u8], from: usize, count: u32, status: u32) -> Result<usize, Fail> {
     let mut at = from;
     for i in 0..count {
-        let record = record_at(posted, at).ok_or("a record")?;
-        holds(
-            record.status == status && record.len == 0,
-            format_args!("record {i}: {record:?}"),
-        )?;
-        at = record.end();
+        match end_with(posted, at, status) {
+            Some(end) => at = end,
+            None => return Err(other_record(posted, at, i)),
+        }
     }
     Ok(at)
+}
+
+// What the record with this number is, which is not the one that was wanted.
+fn other_record(posted: &[u8], at: usize, i: u32) -> Fail {
+    let record = record_at(posted, at);
+    Fail::new(format_args!("record {i}: {record:?}"))
 }
 
 // Whether these are the 100 bytes of a value.
@@ -129,39 +148,62 @@ fn is_value(data: &[u8]) -> bool {
     data.len() == LEN as usize
 }
 
-// The first byte of the data of a Retrieve of this key.
-fn first_of(posted: &[u8], record: &Record, key: u32) -> Result<u8, Fail> {
+// The first byte of a value, and where its record ends.
+#[derive(Clone, Copy)]
+struct First {
+    byte: u8,
+    end: usize,
+}
+
+// The value of 100 bytes that the record of a Retrieve has which begins here, and which read 1 to 5 pages.
+fn first_at(posted: &[u8], at: usize) -> Option<First> {
+    let record = record_at(posted, at)?;
     let data = posted.get(record.data..record.end()).unwrap_or(&[]);
-    let is_read = 1 <= record.reads && record.reads <= 5;
-    holds(
-        record.status == 0 && is_read && is_value(data),
-        format_args!("the value of key {key}: {record:?}"),
-    )?;
-    Ok(data.first().copied().unwrap_or(0))
+    match data.first() {
+        Some(byte) if record.gives_value() && is_value(data) => Some(First {
+            byte: *byte,
+            end: record.end(),
+        }),
+        _ => None,
+    }
 }
 
 /// The first byte of the data of so many Retrieves, each of a value of 100 bytes of one page, in a table by key.
 pub fn firsts(alloc: Global, posted: &[u8], from: usize, keys: u32) -> Result<Vec<u8>, Fail> {
     let mut firsts = Vec::new(alloc);
+    push_firsts(&mut firsts, posted, from, keys)?;
+    Ok(firsts)
+}
+
+fn push_firsts(into: &mut Vec<u8>, posted: &[u8], from: usize, keys: u32) -> Result<(), Fail> {
     let mut at = from;
     for key in 0..keys {
-        let record = record_at(posted, at).ok_or("a record")?;
-        firsts.push(first_of(posted, &record, key)?)?;
-        at = record.end();
+        match first_at(posted, at) {
+            Some(first) => {
+                into.push(first.byte)?;
+                at = first.end;
+            }
+            None => return Err(other_record(posted, at, key)),
+        }
     }
-    Ok(firsts)
+    Ok(())
 }
 
 /// The first bytes of the values of all keys behind so many commands.
 pub fn firsts_behind(alloc: Global, keys: u32, commands: u32) -> Result<Vec<u8>, AllocError> {
     let mut firsts = Vec::from_elem(alloc, 0u8, keys as usize)?;
     for command in 0..commands {
-        let key = key_of(command, keys) as usize;
-        if key < firsts.len() {
-            firsts[key] = value_of(command).first;
-        }
+        overwrite(&mut firsts, keys, command);
     }
     Ok(firsts)
+}
+
+/// Sets the first byte of the value that the command with this number stores, in a table by key.
+pub fn overwrite(firsts: &mut [u8], keys: u32, command: u32) {
+    let key = key_of(command, keys) as usize;
+    if key < firsts.len() {
+        firsts[key] = value_of(command).first;
+    }
 }
 
 /// Behind how many commands, at least so many and at most so many, these are the first bytes of the values of all keys.
@@ -173,14 +215,16 @@ pub fn commands_kept(
     most: u32,
 ) -> Result<Option<u32>, AllocError> {
     let mut held = firsts_behind(alloc, keys, least)?;
+    Ok(kept_from(&mut held, found, keys, least, most))
+}
+
+/// The same where these are the first bytes behind the least number of commands.
+pub fn kept_from(held: &mut [u8], found: &[u8], keys: u32, least: u32, most: u32) -> Option<u32> {
     for command in least..most.saturating_add(1) {
-        if held.as_slice() == found {
-            return Ok(Some(command));
+        if *held == *found {
+            return Some(command);
         }
-        let key = key_of(command, keys) as usize;
-        if key < held.len() {
-            held[key] = value_of(command).first;
-        }
+        overwrite(held, keys, command);
     }
-    Ok(None)
+    None
 }

@@ -90,18 +90,37 @@ pub fn put_root(page: &mut [u8], sizes: &Sizes, top: &Top) {
     }
     put_text(page, 0, b"PINKROOT");
     put_u16(page, 8, 1);
-    put_u16(page, 10, sizes.block_pages);
-    put_u32(page, 12, u32::from(sizes.page_bytes));
-    put_u16(page, 16, sizes.blocks);
     put_u16(page, 18, top.epochs.saturating_mul(2));
     put_u64(page, 24, top.number);
     put_u64(page, 32, top.epoch);
-    put_u32(page, 40, top.runs[0]);
-    put_u32(page, 44, top.runs[1]);
-    put_u32(page, 48, top.runs[2]);
-    put_u32(page, 52, top.runs[3]);
-    for i in 0..top.blocks.len().min(20) {
-        put_u16(page, 64 + 2 * i, top.blocks[i]);
+    put_sizes(page, sizes);
+    put_runs(page, &top.runs);
+    put_blocks(page, top.blocks);
+}
+
+fn put_sizes(page: &mut [u8], sizes: &Sizes) {
+    if page.len() < 512 {
+        return;
+    }
+    put_u16(page, 10, sizes.block_pages);
+    put_u32(page, 12, u32::from(sizes.page_bytes));
+    put_u16(page, 16, sizes.blocks);
+}
+
+fn put_runs(page: &mut [u8], runs: &[u32; 4]) {
+    for i in 0..4usize {
+        if page.len() >= 512 {
+            put_u32(page, 40 + 4 * i, runs[i]);
+        }
+    }
+}
+
+// Writes the numbers of at most 20 blocks.
+fn put_blocks(page: &mut [u8], blocks: &[u16]) {
+    for i in 0..blocks.len().min(20) {
+        if page.len() >= 512 {
+            put_u16(page, 64 + 2 * i, blocks[i]);
+        }
     }
 }
 
@@ -133,20 +152,29 @@ pub fn root_page(
 
 // The head of a value, the value, and zeros up to whole pages.
 fn value_bytes(alloc: Global, key: u8, value: &Value) -> Result<Vec<u8>, AllocError> {
+    let mut bytes = value_head(key, value.len).to_vec(alloc)?;
+    push_padded(&mut bytes, value)?;
+    Ok(bytes)
+}
+
+fn value_head(key: u8, len: u32) -> [u8; 32] {
     let mut head = [0u8; 32];
     put_u8(&mut head, 0, 1);
     put_u8(&mut head, 1, 0x44);
     put_u8(&mut head, 4, key);
-    put_u32(&mut head, 20, value.len);
+    put_u32(&mut head, 20, len);
     put_text(&mut head, 24, b"PINKDATA");
-    let mut bytes = head.to_vec(alloc)?;
-    push_value(&mut bytes, value)?;
+    head
+}
+
+fn push_padded(into: &mut Vec<u8>, value: &Value) -> Result<(), AllocError> {
+    push_value(into, value)?;
     for _ in 0..512u32 {
-        if bytes.len() % 512 != 0 {
-            bytes.push(0)?;
+        if into.len() % 512 != 0 {
+            into.push(0)?;
         }
     }
-    Ok(bytes)
+    Ok(())
 }
 
 /// Sets one page.
@@ -174,11 +202,20 @@ pub fn write_value(
     value: &Value,
 ) -> Result<(), Fail> {
     let bytes = value_bytes(alloc, key, value)?;
+    write_pages(alloc, pages, first, &bytes)
+}
+
+// Writes at most 4 pages of bytes, from this one on.
+fn write_pages(
+    alloc: Global,
+    pages: &mut Vec<PageState>,
+    first: u32,
+    bytes: &[u8],
+) -> Result<(), Fail> {
     for i in 0..4u8 {
         let from = 512 * usize::from(i);
-        if from + 512 <= bytes.len() {
-            let at = first.saturating_add(u32::from(i));
-            write(alloc, pages, at, &bytes[from..from + 512])?;
+        if let Some(page) = bytes.get(from..from + 512) {
+            write(alloc, pages, first.saturating_add(u32::from(i)), page)?;
         }
     }
     Ok(())

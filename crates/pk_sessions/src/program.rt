@@ -3,10 +3,12 @@
 use crate::boards::{
     MAKE_WORKED, Session, blank, board, made, made_board, pages_left, serve_board, worked,
 };
+use crate::exits::{BAD_LINE, DONE, FLASH, MADE, NO_DRIVE, TRUNCATED, WORDS};
 use crate::tried::{Place, Program, same};
 use pk_flash::{Flash, Left};
 use pk_nand::PageState;
 use pk_nvme::Request;
+use pk_nvme::opcode::STORE;
 use std::alloc::{AllocError, Global};
 use std::test::*;
 
@@ -36,7 +38,7 @@ const STORED: [u8; 24] = [
 ];
 
 // The words of a text, which single blanks divide.
-pub(crate) fn words_in<'a>(alloc: Global, text: &'a str) -> Result<Vec<&'a str>, AllocError> {
+fn words_in<'a>(alloc: Global, text: &'a str) -> Result<Vec<&'a str>, AllocError> {
     let mut words = Vec::new(alloc);
     for word in text.split(' ') {
         words.push(word)?;
@@ -46,177 +48,81 @@ pub(crate) fn words_in<'a>(alloc: Global, text: &'a str) -> Result<Vec<&'a str>,
 
 // The status of these words on a board without an image and without input.
 fn status_of<P: Program>(alloc: Global, text: &str) -> Result<u8, Fail> {
-    let words = words_in(alloc, text)?;
     let mut flash = blank(alloc, None, Vec::new(alloc))?;
-    Ok(P::run(alloc, &words, &mut flash))
+    Ok(run_words::<P>(alloc, text, &mut flash)?)
 }
 
-// Words, and their status on a board without an image and without input.
-#[derive(Clone, Copy)]
-struct Told {
-    words: &'static str,
-    status: u8,
+// The status of these words on this board.
+pub(crate) fn run_words<P: Program>(
+    alloc: Global,
+    text: &str,
+    flash: &mut Flash,
+) -> Result<u8, AllocError> {
+    let words = words_in(alloc, text)?;
+    Ok(P::run(alloc, &words, flash))
 }
 
-const TOLD: [Told; 35] = [
-    Told {
-        words: "make 512 16 64",
-        status: 0,
-    },
-    Told {
-        words: "make 512 32 64",
-        status: 2,
-    },
-    Told {
-        words: "make 512 16 4096",
-        status: 2,
-    },
-    Told {
-        words: "make 512 16 16",
-        status: 2,
-    },
-    Told {
-        words: "make 500 16 64",
-        status: 2,
-    },
-    Told {
-        words: "make 0512 16 64",
-        status: 2,
-    },
-    Told {
-        words: "make 512 16",
-        status: 2,
-    },
-    Told {
-        words: "serve",
-        status: 2,
-    },
-    Told {
-        words: "serve 16385",
-        status: 2,
-    },
-    Told {
-        words: "serve 16384",
-        status: 8,
-    },
-    Told {
-        words: "serve 36",
-        status: 8,
-    },
-    Told {
-        words: "serve 36 36",
-        status: 2,
-    },
-    Told {
-        words: "hello",
-        status: 2,
-    },
-    Told {
-        words: "",
-        status: 2,
-    },
-    Told {
-        words: "put 61 616263",
-        status: 8,
-    },
-    Told {
-        words: "put 61 -",
-        status: 8,
-    },
-    Told {
-        words: "put 61 61626",
-        status: 2,
-    },
-    Told {
-        words: "put 61",
-        status: 2,
-    },
-    Told {
-        words: "get 6A",
-        status: 8,
-    },
-    Told {
-        words: "get 6",
-        status: 2,
-    },
-    Told {
-        words: "get 6162636465666768696a6b6c6d6e6f70",
-        status: 8,
-    },
-    Told {
-        words: "get 6162636465666768696a6b6c6d6e6f7071",
-        status: 2,
-    },
-    Told {
-        words: "del 61",
-        status: 8,
-    },
-    Told {
-        words: "has 61",
-        status: 8,
-    },
-    Told {
-        words: "list",
-        status: 8,
-    },
-    Told {
-        words: "list 61",
-        status: 8,
-    },
-    Told {
-        words: "list -",
-        status: 2,
-    },
-    Told {
-        words: "stat",
-        status: 8,
-    },
-    Told {
-        words: "stat 1",
-        status: 2,
-    },
-    Told {
-        words: "asm",
-        status: 0,
-    },
-    Told {
-        words: "asm 1",
-        status: 2,
-    },
-    Told {
-        words: "show",
-        status: 0,
-    },
-    Told {
-        words: "show -",
-        status: 2,
-    },
-    Told {
-        words: "gen 1 3",
-        status: 8,
-    },
-    Told {
-        words: "gen 1",
-        status: 2,
-    },
+// Words that need no image.
+const WELL: [&str; 3] = ["make 512 16 64", "asm", "show"];
+
+// Words outside the table.
+const OUTSIDE: [&str; 20] = [
+    "make 512 32 64",
+    "make 512 16 4096",
+    "make 512 16 16",
+    "make 500 16 64",
+    "make 0512 16 64",
+    "make 512 16",
+    "serve",
+    "serve 16385",
+    "serve 36 36",
+    "hello",
+    "",
+    "put 61 61626",
+    "put 61",
+    "get 6",
+    "get 6162636465666768696a6b6c6d6e6f7071",
+    "list -",
+    "stat 1",
+    "asm 1",
+    "show -",
+    "gen 1",
 ];
 
-/// By the words: the status, on a board without an image and without input.
-pub fn words<P: Program>(alloc: Global) -> Result<(), Fail> {
-    for told in &TOLD {
-        let status = status_of::<P>(alloc, told.words)?;
-        same(
-            status,
-            told.status,
-            format_args!("the status of `{}`", told.words),
-        )?;
+// Words that need a drive.
+const ON_DRIVES: [&str; 12] = [
+    "serve 16384",
+    "serve 36",
+    "put 61 616263",
+    "put 61 -",
+    "get 6A",
+    "get 6162636465666768696a6b6c6d6e6f70",
+    "del 61",
+    "has 61",
+    "list",
+    "list 61",
+    "stat",
+    "gen 1 3",
+];
+
+// These words have this status on a board without an image and without input.
+fn check_words<P: Program>(alloc: Global, words: &[&'static str], status: u8) -> Result<(), Fail> {
+    for text in words {
+        same(status_of::<P>(alloc, *text)?, status, *text)?;
     }
     Ok(())
 }
 
+/// By the words: the status, on a board without an image and without input.
+pub fn words<P: Program>(alloc: Global) -> Result<(), Fail> {
+    check_words::<P>(alloc, &WELL, DONE)?;
+    check_words::<P>(alloc, &OUTSIDE, WORDS)?;
+    check_words::<P>(alloc, &ON_DRIVES, NO_DRIVE)
+}
+
 // A Store of a byte under a key of one byte.
 fn store(alloc: Global, key: u8) -> Result<Vec<u8>, Fail> {
-    let mut script = command(0x01, 1, key, 1, 0).entry().to_vec(alloc)?;
+    let mut script = command(STORE, 1, key, 1, 0).entry().to_vec(alloc)?;
     script.push(key)?;
     Ok(script)
 }
@@ -224,11 +130,15 @@ fn store(alloc: Global, key: u8) -> Result<Vec<u8>, Fail> {
 /// An image is made once, and a script that ends inside an entry is told so.
 pub fn makes_once<P: Program>(alloc: Global) -> Result<(), Fail> {
     let mut flash = blank(alloc, None, SCRIPT[..70].to_vec(alloc)?)?;
-    same(P::run(alloc, &MAKE_WORKED, &mut flash), 0, "the status")?;
-    same(flash.program_count(), 1, "programs")?;
-    same(P::run(alloc, &MAKE_WORKED, &mut flash), 9, "the status")?;
+    make_twice::<P>(alloc, &mut flash)?;
     let done = serve_board::<P>(alloc, flash);
-    done.posted(3, &RECORDS[..24], Place::Named("half a script"))
+    done.posted(TRUNCATED, &RECORDS[..24], Place::Named("half a script"))
+}
+
+fn make_twice<P: Program>(alloc: Global, flash: &mut Flash) -> Result<(), Fail> {
+    same(P::run(alloc, &MAKE_WORKED, flash), DONE, "the status")?;
+    same(flash.program_count(), 1, "programs")?;
+    same(P::run(alloc, &MAKE_WORKED, flash), MADE, "the status")
 }
 
 // The pages behind this script, which is to have these records.
@@ -239,7 +149,7 @@ fn pages_behind<P: Program>(
     want: &[u8],
 ) -> Result<Vec<PageState>, Fail> {
     let done = serve_board::<P>(alloc, board(alloc, worked()?, pages, script)?);
-    done.posted(0, want, Place::Named("the worked script"))?;
+    done.posted(DONE, want, Place::Named("the worked script"))?;
     pages_left(alloc, &done.flash)
 }
 
@@ -254,14 +164,27 @@ fn check_retrieved<P: Program>(
 /// The worked script gives the worked records, and the next session still has the value. Two more sessions each store a new key;
 /// the second of them merges the frozen buffer into run 1 before it freezes the active one.
 pub fn sessions<P: Program>(alloc: Global) -> Result<(), Fail> {
-    let mut pages = made::<P>(alloc, &MAKE_WORKED)?;
-    pages = pages_behind::<P>(alloc, pages, SCRIPT.to_vec(alloc)?, &RECORDS)?;
-    pages = check_retrieved::<P>(alloc, pages)?;
-    for key in [0x62u8, 0x63] {
-        pages = pages_behind::<P>(alloc, pages, store(alloc, key)?, &STORED)?;
-    }
+    let pages = behind_script::<P>(alloc)?;
+    let pages = check_retrieved::<P>(alloc, pages)?;
+    let pages = check_stored::<P>(alloc, pages, 0x62)?;
+    let pages = check_stored::<P>(alloc, pages, 0x63)?;
     let _ = check_retrieved::<P>(alloc, pages)?;
     Ok(())
+}
+
+// The pages behind the worked script.
+fn behind_script<P: Program>(alloc: Global) -> Result<Vec<PageState>, Fail> {
+    let pages = made::<P>(alloc, &MAKE_WORKED)?;
+    pages_behind::<P>(alloc, pages, SCRIPT.to_vec(alloc)?, &RECORDS)
+}
+
+// A Store of this key alone.
+fn check_stored<P: Program>(
+    alloc: Global,
+    pages: Vec<PageState>,
+    key: u8,
+) -> Result<Vec<PageState>, Fail> {
+    pages_behind::<P>(alloc, pages, store(alloc, key)?, &STORED)
 }
 
 // The session of the worked script on this board ends so, and leaves no mark.
@@ -281,10 +204,13 @@ fn unread<P: Program>(alloc: Global) -> Result<Flash, Fail> {
 /// A flash without a root is no drive, and neither is a board without an image. A read that fails while the drive is opened is
 /// no missing drive.
 pub fn refuses<P: Program>(alloc: Global) -> Result<(), Fail> {
-    let rootless = blank(alloc, Some(worked()?), SCRIPT.to_vec(alloc)?)?;
-    check_unmarked::<P>(alloc, rootless, 8)?;
-    same(status_of::<P>(alloc, "serve 36")?, 8, "the status")?;
-    check_unmarked::<P>(alloc, unread::<P>(alloc)?, 6)
+    check_unmarked::<P>(alloc, rootless(alloc)?, NO_DRIVE)?;
+    check_unmarked::<P>(alloc, unread::<P>(alloc)?, FLASH)?;
+    same(status_of::<P>(alloc, "serve 36")?, NO_DRIVE, "the status")
+}
+
+fn rootless(alloc: Global) -> Result<Flash, Fail> {
+    Ok(blank(alloc, Some(worked()?), SCRIPT.to_vec(alloc)?)?)
 }
 
 // The session of these words on a board without an image, with this input.
@@ -305,10 +231,25 @@ const SHOWN: &[u8] = b"cid=1 status=00 result=0 reads=0 data=-\n\
 
 /// The text of the worked script is assembled to its bytes, and its records are shown.
 pub fn texts<P: Program>(alloc: Global) -> Result<(), Fail> {
-    session_of::<P>(alloc, "asm", TEXT)?.posted(0, &SCRIPT, Place::Named("asm"))?;
-    session_of::<P>(alloc, "show", &RECORDS)?.posted(0, SHOWN, Place::Named("show"))?;
+    check_text::<P>(alloc, "asm", TEXT, &SCRIPT)?;
+    check_text::<P>(alloc, "show", &RECORDS, SHOWN)?;
+    check_bad_line::<P>(alloc)
+}
+
+// These words turn the input into these bytes.
+fn check_text<P: Program>(
+    alloc: Global,
+    words: &'static str,
+    input: &[u8],
+    posted: &[u8],
+) -> Result<(), Fail> {
+    let done = session_of::<P>(alloc, words, input)?;
+    done.posted(DONE, posted, Place::Named(words))
+}
+
+fn check_bad_line<P: Program>(alloc: Global) -> Result<(), Fail> {
     let bad = session_of::<P>(alloc, "asm", b"flush\nstroe\n")?;
-    bad.ended(12, Place::Named("asm"))?;
+    bad.ended(BAD_LINE, Place::Named("asm"))?;
     same(bad.flash.posted().len(), 64, "posted bytes")
 }
 

@@ -1,11 +1,12 @@
 //! The second session is cut off at every mark, too, behind a cut of the first one at each of its marks.
 
-use crate::boards::{MAKE_SMALL, Session, cut, made, served, small};
+use crate::boards::{MAKE_SMALL, Session, cut, made, served_small};
 use crate::cuts::{
     E, HELD, Held, bytes_out, first_session, left, second_answers, second_session, some_ways,
 };
+use crate::exits::DONE;
 use crate::script::{Answer, Ask, Value, records, retrieved};
-use crate::tried::{Place, Program, holds, same};
+use crate::tried::{Place, Program, holds_at, same};
 use crate::ways::{Ways, ways_of_erases};
 use pk_flash::{Flash, Left};
 use pk_nand::PageState;
@@ -51,18 +52,17 @@ fn bytes_before(alloc: Global, answers: &[Answer], count: usize) -> Result<usize
     Ok(records(alloc, answers.get(..count).unwrap_or(answers))?.len())
 }
 
+// Whether these are there, and the same.
+fn both_are(one: Option<&[u8]>, other: Option<&[u8]>) -> bool {
+    one.is_some() && one == other
+}
+
 // Whether these are the records that are wanted, but for the count of reads of the one that begins at this byte.
 fn same_but_reads(posted: &[u8], want: &[u8], at: usize) -> bool {
     let front = at.saturating_add(16);
     let behind = at.saturating_add(20);
-    let fronts = match (posted.get(..front), want.get(..front)) {
-        (Some(one), Some(other)) => one == other,
-        _ => false,
-    };
-    match (posted.get(behind..), want.get(behind..)) {
-        (Some(one), Some(other)) => fronts && one == other,
-        _ => false,
-    }
+    both_are(posted.get(..front), want.get(..front))
+        && both_are(posted.get(behind..), want.get(behind..))
 }
 
 // Whether these are the records of the third session on these values, with this one under the fifth key. A Store that reclaims a block
@@ -73,18 +73,26 @@ fn are_third(
     held: &Held,
     fifth: Option<Value>,
 ) -> Result<bool, AllocError> {
-    let answers = third_answers(held, fifth);
-    let want = records(alloc, &answers)?;
+    let at = bytes_before(alloc, &third_answers(held, fifth), 5)?;
+    let want = records(alloc, &third_answers(held, fifth))?;
     if fill_both_blocks(held, fifth) {
-        let at = bytes_before(alloc, &answers, 5)?;
         Ok(same_but_reads(posted, &want, at))
     } else {
         Ok(posted == want.as_slice())
     }
 }
 
-// Whether these are the records of the third session, where the Store of the fifth key was told or not.
-fn is_third(alloc: Global, posted: &[u8], held: &Held, is_told: bool) -> Result<bool, AllocError> {
+// Whether the third session ended well with its records, where the Store of the fifth key was told or not.
+fn is_third(
+    alloc: Global,
+    third: &Session,
+    held: &Held,
+    is_told: bool,
+) -> Result<bool, AllocError> {
+    let posted = third.flash.posted();
+    if third.status != DONE {
+        return Ok(false);
+    }
     if are_third(alloc, posted, held, Some(E))? {
         return Ok(true);
     }
@@ -96,33 +104,46 @@ fn is_third(alloc: Global, posted: &[u8], held: &Held, is_told: bool) -> Result<
 fn check_recut<P: Program>(
     alloc: Global,
     second: &Flash,
-    commands: usize,
+    held: &Held,
     k: usize,
     way: u32,
     left: &Left,
 ) -> Result<(), Fail> {
-    let held = HELD.get(commands).ok_or("commands")?;
     let pages = cut(alloc, second, k, left)?;
-    let third = served::<P>(alloc, small()?, pages, &THIRD)?;
-    third.ended(0, Place::Way(k, way))?;
-    // the records of the four Retrieves begin the second session
-    let is_told = bytes_out(second, k) > bytes_before(alloc, &second_answers(held), 4)?;
-    holds(
-        is_third(alloc, third.flash.posted(), held, is_told)?,
-        format_args!("what is there, {commands}, mark {k}, way {way}"),
-    )
+    let is_told = is_fifth_told(alloc, second, held, k)?;
+    check_third::<P>(alloc, pages, held, is_told, Place::Way(k, way))
+}
+
+// Whether a byte of the record of the Store is out where this mark of the second session is interrupted. The records of the four
+// Retrieves begin it.
+fn is_fifth_told(alloc: Global, second: &Flash, held: &Held, k: usize) -> Result<bool, AllocError> {
+    let before = bytes_before(alloc, &second_answers(held), 4)?;
+    Ok(bytes_out(second, k) > before)
+}
+
+// The third session on these pages.
+fn check_third<P: Program>(
+    alloc: Global,
+    pages: Vec<PageState>,
+    held: &Held,
+    is_told: bool,
+    place: Place,
+) -> Result<(), Fail> {
+    let third = served_small::<P>(alloc, pages, &THIRD)?;
+    let is_so = is_third(alloc, &third, held, is_told)?;
+    holds_at(is_so, "the status, or what is there", place)
 }
 
 // Interrupts this mark of the second session in some ways.
 fn check_mark<P: Program>(
     alloc: Global,
     second: &Flash,
-    commands: usize,
+    held: &Held,
     k: usize,
 ) -> Result<(), Fail> {
     for way in 0..some_ways(second, k) {
         let left = left(alloc, way)?;
-        check_recut::<P>(alloc, second, commands, k, u32::from(way), &left)?;
+        check_recut::<P>(alloc, second, held, k, u32::from(way), &left)?;
     }
     Ok(())
 }
@@ -131,13 +152,13 @@ fn check_mark<P: Program>(
 fn check_all_ways<P: Program>(
     alloc: Global,
     second: &Flash,
-    commands: usize,
+    held: &Held,
     k: usize,
 ) -> Result<(), Fail> {
     let ways = Ways::of(alloc, second, k)?;
     for way in 0..ways.count {
         let left = ways.left(alloc, way)?;
-        check_recut::<P>(alloc, second, commands, k, way, &left)?;
+        check_recut::<P>(alloc, second, held, k, way, &left)?;
     }
     Ok(())
 }
@@ -150,9 +171,20 @@ fn check_second<P: Program>(
     left: &Left,
 ) -> Result<(), Fail> {
     let (second, kept) = second_session::<P>(alloc, first, k, left)?;
-    let commands = kept.ok_or("a map")?;
-    for i in 0..second.flash.marks().saturating_add(1) {
-        check_mark::<P>(alloc, &second.flash, commands, i)?;
+    check_kept::<P>(alloc, &second.flash, kept)
+}
+
+// The same behind so many commands of the first session.
+fn check_kept<P: Program>(alloc: Global, second: &Flash, kept: Option<usize>) -> Result<(), Fail> {
+    match kept {
+        Some(commands) => check_marks::<P>(alloc, second, &HELD[commands.min(10)]),
+        None => Err(Fail::from("a map")),
+    }
+}
+
+fn check_marks<P: Program>(alloc: Global, second: &Flash, held: &Held) -> Result<(), Fail> {
+    for k in 0..second.marks().saturating_add(1) {
+        check_mark::<P>(alloc, second, held, k)?;
     }
     Ok(())
 }
@@ -169,9 +201,13 @@ fn one_way(flash: &Flash, k: usize) -> u8 {
 /// The second session is cut off at every mark in some ways, behind one cut of the first session at each of its marks.
 pub fn cut_twice<P: Program>(alloc: Global) -> Result<(), Fail> {
     let first = first_session::<P>(alloc)?;
-    for k in 0..first.flash.marks().saturating_add(1) {
-        let left = left(alloc, one_way(&first.flash, k))?;
-        check_second::<P>(alloc, &first.flash, k, &left)?;
+    cut_each_twice::<P>(alloc, &first.flash)
+}
+
+fn cut_each_twice<P: Program>(alloc: Global, first: &Flash) -> Result<(), Fail> {
+    for k in 0..first.marks().saturating_add(1) {
+        let left = left(alloc, one_way(first, k))?;
+        check_second::<P>(alloc, first, k, &left)?;
     }
     Ok(())
 }
@@ -191,13 +227,14 @@ fn second_behind_first<P: Program>(alloc: Global) -> Result<Session, Fail> {
 /// root block, which has a root.
 pub fn every_cut_of_second<P: Program>(alloc: Global) -> Result<(), Fail> {
     let second = second_behind_first::<P>(alloc)?;
-    same(
-        ways_of_erases(alloc, &second.flash)?,
-        3 * 256 + 3 * 128,
-        "ways",
-    )?;
-    for k in 0..second.flash.marks().saturating_add(1) {
-        check_all_ways::<P>(alloc, &second.flash, 10, k)?;
+    let ways = ways_of_erases(alloc, &second.flash)?;
+    same(ways, 3 * 256 + 3 * 128, "ways")?;
+    check_all_marks::<P>(alloc, &second.flash)
+}
+
+fn check_all_marks<P: Program>(alloc: Global, second: &Flash) -> Result<(), Fail> {
+    for k in 0..second.marks().saturating_add(1) {
+        check_all_ways::<P>(alloc, second, &HELD[10], k)?;
     }
     Ok(())
 }
@@ -229,16 +266,18 @@ fn behind_cut<P: Program>(
     pages: Vec<PageState>,
     at: &Cut,
 ) -> Result<Vec<PageState>, Fail> {
-    let done = served::<P>(
-        alloc,
-        small()?,
-        pages,
-        &[Ask::Store(0x66, F), Ask::Retrieve(0x66)],
-    )?;
-    let want = records(alloc, &[Answer::Done, Answer::Found(F)])?;
-    done.posted(0, &want, Place::Way(at.k, u32::from(at.way)))?;
-    cut(alloc, &done.flash, at.k, &left(alloc, at.way)?)
+    let done = served_small::<P>(alloc, pages, &STORE_F)?;
+    let place = Place::Way(at.k, u32::from(at.way));
+    done.answered(alloc, &[Answer::Done, Answer::Found(F)], place)?;
+    pages_at(alloc, &done.flash, at)
 }
+
+fn pages_at(alloc: Global, flash: &Flash, at: &Cut) -> Result<Vec<PageState>, Fail> {
+    let left = left(alloc, at.way)?;
+    cut(alloc, flash, at.k, &left)
+}
+
+const STORE_F: [Ask; 2] = [Ask::Store(0x66, F), Ask::Retrieve(0x66)];
 
 /// Sessions that are cut off one after another before an entry is on the flash, some behind a root of their own: the marks of each are
 /// the erases of two blocks for the epoch and of the other root block, the root, the erase of a block for values, the value, the journal
@@ -248,10 +287,10 @@ pub fn cut_many_times<P: Program>(alloc: Global) -> Result<(), Fail> {
     for at in &CUTS {
         pages = behind_cut::<P>(alloc, pages, at)?;
     }
-    let last = served::<P>(alloc, small()?, pages, &[Ask::Retrieve(0x66)])?;
-    last.posted(
-        0,
-        &records(alloc, &[Answer::Found(F)])?,
-        Place::Named("the last session"),
-    )
+    check_last::<P>(alloc, pages)
+}
+
+fn check_last<P: Program>(alloc: Global, pages: Vec<PageState>) -> Result<(), Fail> {
+    let last = served_small::<P>(alloc, pages, &[Ask::Retrieve(0x66)])?;
+    last.answered(alloc, &[Answer::Found(F)], Place::Named("the last session"))
 }

@@ -5,12 +5,6 @@ use pk_base::get_u32;
 use std::alloc::AllocError;
 use std::test::*;
 
-pub const LIST: u8 = 0x06;
-
-pub const TICK: u8 = 0xc0;
-
-pub const REPORT: u8 = 0xc2;
-
 /// Adds a command without a key.
 pub fn push_command(into: &mut Vec<u8>, opcode: u8, size: u32) -> Result<(), AllocError> {
     into.extend_from_slice(&entry(1, opcode, [0, 0], 0, size))

@@ -1,10 +1,12 @@
 //! What a host asks, the bytes in which it asks, and the records that it is answered.
 
+use pk_nvme::opcode::{DELETE, FLUSH, LIST, REPORT, RETRIEVE, STORE, TICK};
+use pk_nvme::status::{KEY_DOES_NOT_EXIST, SUCCESSFUL_COMPLETION, UNRECOVERED_ERROR};
 use pk_nvme::{Request, completion, record_head};
 use std::alloc::{AllocError, Global};
 
 /// A value of `len` bytes: the first one, and each next one greater by one, 0 behind 255.
-#[derive(Clone, Copy, Debug, PartialEq, Eq)]
+#[derive(Clone, Copy)]
 pub struct Value {
     pub first: u8,
     pub len: u32,
@@ -28,15 +30,15 @@ pub enum Ask {
 /// How it is answered.
 #[derive(Clone, Copy)]
 pub enum Answer {
-    /// 00h without data.
+    /// Done, without data.
     Done,
-    /// 87h.
+    /// There is no such key.
     Missing,
-    /// 88h, behind one read.
+    /// A call of the flash failed, behind one read.
     Unread,
-    /// 00h with this value, whose pages were read.
+    /// Done, with this value, whose pages were read.
     Found(Value),
-    /// 00h with these keys of one byte.
+    /// Done, with these keys of one byte.
     Keys(&'static [u8]),
 }
 
@@ -59,13 +61,13 @@ pub fn entry(cid: u16, opcode: u8, key: [u8; 2], key_len: u8, size: u32) -> [u8;
 
 fn entry_of(cid: u16, ask: &Ask) -> [u8; 64] {
     match ask {
-        Ask::Store(key, value) => entry(cid, 0x01, [*key, 0], 1, value.len),
-        Ask::Retrieve(key) => entry(cid, 0x02, [*key, 0], 1, 1000),
-        Ask::Delete(key) => entry(cid, 0x10, [*key, 0], 1, 0),
-        Ask::Flush => entry(cid, 0x00, [0, 0], 0, 0),
-        Ask::Tick(steps) => entry(cid, 0xc0, [0, 0], 0, *steps),
-        Ask::List => entry(cid, 0x06, [0, 0], 0, 1000),
-        Ask::Report => entry(cid, 0xc2, [0, 0], 0, 0),
+        Ask::Store(key, value) => entry(cid, STORE, [*key, 0], 1, value.len),
+        Ask::Retrieve(key) => entry(cid, RETRIEVE, [*key, 0], 1, 1000),
+        Ask::Delete(key) => entry(cid, DELETE, [*key, 0], 1, 0),
+        Ask::Flush => entry(cid, FLUSH, [0, 0], 0, 0),
+        Ask::Tick(steps) => entry(cid, TICK, [0, 0], 0, *steps),
+        Ask::List => entry(cid, LIST, [0, 0], 0, 1000),
+        Ask::Report => entry(cid, REPORT, [0, 0], 0, 0),
     }
 }
 
@@ -127,6 +129,29 @@ pub fn push_head(
     into.extend_from_slice(&record_head(&done, reads, data_len))
 }
 
+/// Adds the record of a command that was done, without data and without a read.
+pub fn push_done(into: &mut Vec<u8>, number: u16) -> Result<(), AllocError> {
+    push_head(into, number, SUCCESSFUL_COMPLETION, 0, 0, 0)
+}
+
+/// Adds the record of a Retrieve that gives this whole value behind so many reads.
+pub fn push_found(
+    into: &mut Vec<u8>,
+    number: u16,
+    reads: u32,
+    value: &Value,
+) -> Result<(), AllocError> {
+    push_head(
+        into,
+        number,
+        SUCCESSFUL_COMPLETION,
+        value.len,
+        reads,
+        value.len,
+    )?;
+    push_value(into, value)
+}
+
 /// The pages of 512 bytes that a value of so many bytes has behind its head of 32; none are read for no bytes.
 pub fn pages_read(len: u32) -> u32 {
     if len == 0 {
@@ -150,7 +175,7 @@ pub fn push_list(
     keys: &[u8],
 ) -> Result<(), AllocError> {
     let count = keys.len().min(200) as u32;
-    push_head(into, number, 0, 0, reads, 4 + 4 * count)?;
+    push_head(into, number, SUCCESSFUL_COMPLETION, 0, reads, 4 + 4 * count)?;
     into.extend_from_slice(&count.to_le_bytes())?;
     push_keys(into, keys)
 }
@@ -158,14 +183,10 @@ pub fn push_list(
 /// Adds the record with this number and CID.
 pub fn push_answer(into: &mut Vec<u8>, number: u16, answer: &Answer) -> Result<(), AllocError> {
     match answer {
-        Answer::Done => push_head(into, number, 0, 0, 0, 0),
-        Answer::Missing => push_head(into, number, 0x87, 0, 0, 0),
-        Answer::Unread => push_head(into, number, 0x88, 0, 1, 0),
-        Answer::Found(value) => {
-            let reads = pages_read(value.len);
-            push_head(into, number, 0, value.len, reads, value.len)?;
-            push_value(into, value)
-        }
+        Answer::Done => push_done(into, number),
+        Answer::Missing => push_head(into, number, KEY_DOES_NOT_EXIST, 0, 0, 0),
+        Answer::Unread => push_head(into, number, UNRECOVERED_ERROR, 0, 1, 0),
+        Answer::Found(value) => push_found(into, number, pages_read(value.len), value),
         Answer::Keys(keys) => push_list(into, number, 0, keys),
     }
 }

@@ -30,6 +30,22 @@ pub fn same<T: PartialEq + Debug + Drop, D: Display + Drop>(
     Err(Fail::new(format_args!("{what}: {found:?}, and not {wanted:?}")))
 }
 
+/// A failure at this place where this does not hold.
+pub fn holds_at(is_so: bool, what: &'static str, place: Place) -> Result<(), Fail> {
+    if is_so {
+        return Ok(());
+    }
+    Err(Fail::new(format_args!("{what}, {place}")))
+}
+
+/// A failure where there are fewer than so many.
+pub fn at_least(count: u32, least: u32, what: &'static str) -> Result<(), Fail> {
+    if count >= least {
+        return Ok(());
+    }
+    Err(Fail::new(format_args!("{what}: {count}, and not {least}")))
+}
+
 /// Where in a trial something was found, as a failure tells it.
 #[derive(Clone, Copy)]
 pub enum Place {
@@ -45,15 +61,40 @@ pub enum Place {
     Root(u64),
 }
 
+impl Place {
+    // What is numbered.
+    fn name(&self) -> &'static str {
+        match self {
+            Place::Named(name) => *name,
+            Place::Mark(_) | Place::Way(_, _) => "mark",
+            Place::Call(_) | Place::CallWay(_, _) => "call",
+            Place::Root(_) => "root",
+        }
+    }
+
+    // Its number, and 0 where there is none.
+    fn number(&self) -> u64 {
+        match self {
+            Place::Named(_) => 0,
+            Place::Mark(k) | Place::Way(k, _) => *k as u64,
+            Place::Call(call) | Place::CallWay(call, _) => *call,
+            Place::Root(number) => *number,
+        }
+    }
+
+    // The way, and 0 where there is none.
+    fn way(&self) -> u32 {
+        match self {
+            Place::Way(_, way) => *way,
+            Place::CallWay(_, way) => u32::from(*way),
+            _ => 0,
+        }
+    }
+}
+
 impl Display for Place {
     fn fmt<W: Write>(&self, f: &mut Formatter<W>) -> fmt::Result {
-        match self {
-            Place::Named(name) => f.write_str(name),
-            Place::Mark(k) => write!(f, "mark {k}"),
-            Place::Way(k, way) => write!(f, "mark {k}, way {way}"),
-            Place::Call(call) => write!(f, "call {call}"),
-            Place::CallWay(call, way) => write!(f, "call {call}, way {way}"),
-            Place::Root(number) => write!(f, "root {number}"),
-        }
+        let (name, number, way) = (self.name(), self.number(), self.way());
+        write!(f, "{name} {number}, way {way}")
     }
 }

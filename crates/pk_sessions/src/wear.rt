@@ -1,6 +1,7 @@
 //! Drives whose roots have great numbers.
 
-use crate::boards::{MAKE_WORKED, made, served, worked};
+use crate::boards::{MAKE_WORKED, Session, made, served_worked};
+use crate::exits::{DONE, WORN};
 use crate::script::{Answer, Ask, Value, records};
 use crate::tried::{Place, Program};
 use pk_nand::{PageBytes, PageState};
@@ -29,12 +30,17 @@ fn numbered(alloc: Global, page: &PageState, number: u64) -> Result<PageState, A
 // A made drive whose root, the only one, has this number.
 fn made_with_number<P: Program>(alloc: Global, number: u64) -> Result<Vec<PageState>, Fail> {
     let mut pages = made::<P>(alloc, &MAKE_WORKED)?;
+    set_number(alloc, &mut pages, number)?;
+    Ok(pages)
+}
+
+fn set_number(alloc: Global, pages: &mut [PageState], number: u64) -> Result<(), Fail> {
     if pages.is_empty() {
         return Err(Fail::from("pages"));
     }
     let root = numbered(alloc, &pages[0], number)?;
     pages[0] = root;
-    Ok(pages)
+    Ok(())
 }
 
 // By the number of the newest root and the commands that come: the status, and how many records are posted.
@@ -50,49 +56,49 @@ const CASES: [Case; 8] = [
     Case {
         number: 1 << 63,
         commands: 0,
-        status: 0,
+        status: DONE,
         answered: 0,
     },
     Case {
         number: 1 << 63,
         commands: 1,
-        status: 10,
+        status: WORN,
         answered: 0,
     },
     Case {
         number: u64::MAX,
         commands: 0,
-        status: 0,
+        status: DONE,
         answered: 0,
     },
     Case {
         number: u64::MAX,
         commands: 1,
-        status: 10,
+        status: WORN,
         answered: 0,
     },
     Case {
         number: (1 << 63) - 1,
         commands: 0,
-        status: 0,
+        status: DONE,
         answered: 0,
     },
     Case {
         number: (1 << 63) - 1,
         commands: 1,
-        status: 0,
+        status: DONE,
         answered: 1,
     },
     Case {
         number: (1 << 63) - 1,
         commands: 2,
-        status: 10,
+        status: WORN,
         answered: 1,
     },
     Case {
         number: (1 << 63) - 2,
         commands: 2,
-        status: 0,
+        status: DONE,
         answered: 2,
     },
 ];
@@ -100,16 +106,17 @@ const CASES: [Case; 8] = [
 fn check<P: Program>(alloc: Global, case: &Case) -> Result<(), Fail> {
     let asks = STORES.get(..case.commands).unwrap_or(&STORES);
     let pages = made_with_number::<P>(alloc, case.number)?;
-    let done = served::<P>(alloc, worked()?, pages, asks)?;
-    let answers = DONE.get(..case.answered).unwrap_or(&DONE);
-    done.posted(
-        case.status,
-        &records(alloc, answers)?,
-        Place::Root(case.number),
-    )
+    let done = served_worked::<P>(alloc, pages, asks)?;
+    check_posted(alloc, &done, case)
 }
 
-const DONE: [Answer; 2] = [Answer::Done, Answer::Done];
+fn check_posted(alloc: Global, done: &Session, case: &Case) -> Result<(), Fail> {
+    let answers = ANSWERS.get(..case.answered).unwrap_or(&ANSWERS);
+    let want = records(alloc, answers)?;
+    done.posted(case.status, &want, Place::Root(case.number))
+}
+
+const ANSWERS: [Answer; 2] = [Answer::Done, Answer::Done];
 
 /// By the number of the newest root and the commands that come: the status, and how many records are posted. The Store that is the
 /// last one of a drive begins an epoch by the root 2^63.

@@ -1,9 +1,10 @@
 //! The words that ask the drive, each a session of its own.
 
 use crate::boards::{MAKE_WORKED, Session, board, made, pages_left, worked};
-use crate::program::words_in;
+use crate::exits::{DONE, FLASH, NO_DRIVE, OUTPUT};
+use crate::program::run_words;
+use crate::sessions::large_board;
 use crate::tried::{Place, Program, same};
-use pk_base::Shape;
 use pk_flash::Left;
 use pk_nand::PageState;
 use std::alloc::Global;
@@ -15,7 +16,7 @@ const NUMBERS: &[u8] =
     run1 1\nrun2 0\nrun3 0\nrun4 0\nepoch 1\nblocks 1\nready 0\nmerge 0\n";
 
 // Words, and the text that they are to post with status 0.
-#[derive(Clone, Copy, Debug)]
+#[derive(Clone, Copy)]
 struct Said {
     words: &'static str,
     text: &'static [u8],
@@ -32,7 +33,7 @@ fn session_of<P: Program>(
     if let Some(call) = fails {
         flash.fail(alloc, call, Left::Untouched)?;
     }
-    let status = P::run(alloc, &words_in(alloc, words)?, &mut flash);
+    let status = run_words::<P>(alloc, words, &mut flash)?;
     Ok(Session { status, flash })
 }
 
@@ -43,7 +44,7 @@ fn behind<P: Program>(
     said: &Said,
 ) -> Result<Vec<PageState>, Fail> {
     let done = session_of::<P>(alloc, pages, said.words, None)?;
-    done.posted(0, said.text, Place::Named(said.words))?;
+    done.posted(DONE, said.text, Place::Named(said.words))?;
     pages_left(alloc, &done.flash)
 }
 
@@ -127,7 +128,7 @@ fn with_one_key<P: Program>(alloc: Global) -> Result<Vec<PageState>, Fail> {
 // How many reads open that drive: a Report reads no page.
 fn opening<P: Program>(alloc: Global) -> Result<u64, Fail> {
     let quiet = session_of::<P>(alloc, with_one_key::<P>(alloc)?, "stat", None)?;
-    quiet.ended(0, Place::Named("stat"))?;
+    quiet.ended(DONE, Place::Named("stat"))?;
     Ok(quiet.flash.read_count())
 }
 
@@ -142,27 +143,27 @@ struct Failing {
 const FAILING: [Failing; 5] = [
     Failing {
         words: "get 61",
-        status: 0,
+        status: DONE,
         text: b"refused 88\n",
     },
     Failing {
         words: "stat",
-        status: 5,
+        status: OUTPUT,
         text: b"",
     },
     Failing {
         words: "has 61",
-        status: 5,
+        status: OUTPUT,
         text: b"",
     },
     Failing {
         words: "list",
-        status: 5,
+        status: OUTPUT,
         text: b"",
     },
     Failing {
         words: "put 62 62",
-        status: 6,
+        status: FLASH,
         text: b"",
     },
 ];
@@ -182,14 +183,18 @@ pub fn failures<P: Program>(alloc: Global) -> Result<(), Fail> {
     Ok(())
 }
 
-/// A drive whose value is torn is not opened by a word.
-pub fn torn<P: Program>(alloc: Global) -> Result<(), Fail> {
+fn with_torn_value<P: Program>(alloc: Global) -> Result<Vec<PageState>, Fail> {
     let mut pages = with_one_key::<P>(alloc)?;
     if let Some(page) = pages.get_mut(32) {
         *page = PageState::Torn;
     }
-    let done = session_of::<P>(alloc, pages, "get 61", None)?;
-    done.posted(8, b"", Place::Named("get 61"))?;
+    Ok(pages)
+}
+
+/// A drive whose value is torn is not opened by a word.
+pub fn torn<P: Program>(alloc: Global) -> Result<(), Fail> {
+    let done = session_of::<P>(alloc, with_torn_value::<P>(alloc)?, "get 61", None)?;
+    done.posted(NO_DRIVE, b"", Place::Named("get 61"))?;
     same(done.flash.marks(), 0, "marks")
 }
 
@@ -200,10 +205,8 @@ const SUMMARY: &[u8] =
 
 /// A workload has its summary.
 pub fn workload<P: Program>(alloc: Global) -> Result<(), Fail> {
-    let shape = Shape::new(4096, 64, 512).ok().ok_or("a shape")?;
-    let pages = made::<P>(alloc, &["make", "4096", "64", "512"])?;
-    let mut flash = board(alloc, shape, pages, Vec::new(alloc))?;
+    let mut flash = large_board::<P>(alloc, Vec::new(alloc))?;
     let status = P::run(alloc, &["gen", "1", "3"], &mut flash);
     let done = Session { status, flash };
-    done.posted(0, SUMMARY, Place::Named("gen 1 3"))
+    done.posted(DONE, SUMMARY, Place::Named("gen 1 3"))
 }

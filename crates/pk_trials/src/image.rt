@@ -1,7 +1,7 @@
 //! The words on an image file that leaves its grammar.
 
 use pk_file::FileBoard;
-use pk_top::run;
+use pk_top::{Status, run};
 use std::fs::OpenOptions;
 use std::os::unix::fs::FileExt;
 use std::test::*;
@@ -36,7 +36,7 @@ fn third_state(rt: HostRuntime) -> Result<(), Fail> {
     let folder = own_folder(&rt)?;
     let path = format!(in rt.alloc(); "{}/image", folder.as_str())?;
     let made = status_of(&rt, path.as_str(), &["make", "512", "16", "64"]);
-    assert_eq!(rt; made, 0);
+    assert_eq!(rt; made, Status::DONE.0);
     let file = OpenOptions::new()
         .read(true)
         .write(true)
@@ -56,13 +56,13 @@ fn third_state(rt: HostRuntime) -> Result<(), Fail> {
         &["make", "512", "16", "64"],
     ] {
         let status = status_of(&rt, path.as_str(), words);
-        assert_eq!(rt; status, 8);
+        assert_eq!(rt; status, Status::NO_DRIVE.0);
         let behind = fs::read(&rt, path.as_str())?;
         assert!(rt; behind.as_slice() == before.as_slice());
     }
     file.write_all_at(&[0], 36)?;
     let status = status_of(&rt, path.as_str(), &["stat"]);
-    assert_eq!(rt; status, 0);
+    assert_eq!(rt; status, Status::DONE.0);
     fs::remove_file(&rt, path.as_str())?;
     fs::remove_dir(&rt, folder.as_str())?;
     Ok(())

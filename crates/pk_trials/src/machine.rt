@@ -2,11 +2,16 @@
 
 use crate::tests::Pink;
 use pk_model::MapMachine;
+use pk_nvme::opcode::{DELETE, EXIST, FLUSH, LIST, RETRIEVE, STORE, TICK};
 use pk_nvme::{Request, completion, record_head};
 use pk_sessions::program::command;
 use pk_sessions::{MAKE_WORKED, board, made, serve, worked};
+use pk_top::Status;
 use std::alloc::Global;
 use std::test::*;
+
+// No command has this opcode.
+const UNKNOWN: u8 = 0x03;
 
 // The record of a command by the machine in memory. A value that is handed out stands on one page.
 fn record_of(
@@ -22,7 +27,7 @@ fn record_of(
     }
     let answer = machine.step(alloc, &request.entry(), value)?;
     let data = answer.bytes.bytes();
-    let reads = if request.opcode == 2 && !data.is_empty() {
+    let reads = if request.opcode == RETRIEVE && !data.is_empty() {
         1
     } else {
         0
@@ -43,24 +48,24 @@ fn as_the_machine(rt: HostRuntime) -> Result<(), Fail> {
     let mut records = Vec::new(alloc);
     let mut taken = 0u32;
     for (request, value) in [
-        (command(0x01, 1, 0x61, 3, 0), b"abc".as_slice()),
-        (command(0x01, 2, 0x62, 0, 2), b""),
-        (command(0x02, 3, 0x61, 2, 0), b""),
-        (command(0x02, 4, 0x61, 0, 0), b""),
-        (command(0x02, 5, 0x62, 9, 0), b""),
-        (command(0x01, 6, 0x62, 2, 2), b"no"),
-        (command(0x01, 7, 0x63, 2, 1), b"no"),
-        (command(0x14, 8, 0x62, 0, 0), b""),
-        (command(0x06, 9, 0x61, 64, 0), b""),
-        (command(0x10, 10, 0x61, 0, 0), b""),
-        (command(0x10, 11, 0x61, 0, 0), b""),
-        (command(0x02, 12, 0x61, 9, 0), b""),
-        (command(0x00, 13, 0, 0, 0), b""),
-        (command(0xC0, 14, 0, 5, 0), b""),
-        (command(0x03, 15, 0x61, 0, 0), b""),
-        (command(0x06, 16, 0x61, 3, 0), b""),
-        (command(0x01, 17, 0x61, 2017, 0), [7u8; 2017].as_slice()),
-        (command(0x14, 18, 0x61, 0, 0), b""),
+        (command(STORE, 1, 0x61, 3, 0), b"abc".as_slice()),
+        (command(STORE, 2, 0x62, 0, 2), b""),
+        (command(RETRIEVE, 3, 0x61, 2, 0), b""),
+        (command(RETRIEVE, 4, 0x61, 0, 0), b""),
+        (command(RETRIEVE, 5, 0x62, 9, 0), b""),
+        (command(STORE, 6, 0x62, 2, 2), b"no"),
+        (command(STORE, 7, 0x63, 2, 1), b"no"),
+        (command(EXIST, 8, 0x62, 0, 0), b""),
+        (command(LIST, 9, 0x61, 64, 0), b""),
+        (command(DELETE, 10, 0x61, 0, 0), b""),
+        (command(DELETE, 11, 0x61, 0, 0), b""),
+        (command(RETRIEVE, 12, 0x61, 9, 0), b""),
+        (command(FLUSH, 13, 0, 0, 0), b""),
+        (command(TICK, 14, 0, 5, 0), b""),
+        (command(UNKNOWN, 15, 0x61, 0, 0), b""),
+        (command(LIST, 16, 0x61, 3, 0), b""),
+        (command(STORE, 17, 0x61, 2017, 0), [7u8; 2017].as_slice()),
+        (command(EXIST, 18, 0x61, 0, 0), b""),
     ] {
         taken = taken.wrapping_add(1);
         script.extend_from_slice(&request.entry())?;
@@ -68,7 +73,7 @@ fn as_the_machine(rt: HostRuntime) -> Result<(), Fail> {
         record_of(alloc, &mut machine, taken, &request, value, &mut records)?;
     }
     let mut flash = board(alloc, worked()?, made::<Pink>(alloc, &MAKE_WORKED)?, script)?;
-    assert_eq!(rt; serve::<Pink>(alloc, &mut flash), 0);
+    assert_eq!(rt; serve::<Pink>(alloc, &mut flash), Status::DONE.0);
     assert_eq!(rt; flash.posted(), records.as_slice());
     Ok(())
 }
