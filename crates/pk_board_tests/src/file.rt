@@ -55,28 +55,23 @@ fn read_and_erase<B: Nand>(board: &mut B, alloc: Global, into: &mut [u8]) -> Opt
     }
 }
 
-// What a load of a file answers: how many pages its image has, or at which byte it leaves the grammar.
-#[derive(Clone, Copy, PartialEq, Eq)]
-enum Answer {
-    Nothing,
-    Pages(u32),
-    Bad(u64),
-    Fault,
-}
-
-fn loaded(rt: &HostRuntime, path: &str) -> Answer {
+// What a load of this file answers.
+fn loaded(rt: &HostRuntime, path: &str) -> Result<Option<u32>, LoadFault> {
     let mut board = FileBoard::new(rt, path);
     match board.load(rt.alloc()) {
-        Ok(Some(shape)) => Answer::Pages(shape.page_count()),
-        Ok(None) => Answer::Nothing,
-        Err(LoadFault::BadImage { at }) => Answer::Bad(at),
-        Err(_) => Answer::Fault,
+        Ok(Some(shape)) => Ok(Some(shape.page_count())),
+        Ok(None) => Ok(None),
+        Err(fault) => Err(fault),
     }
 }
 
 // Makes an image whose first page has these bytes. What a load of the file answers while the board
 // is there.
-fn first_board(rt: &HostRuntime, path: &str, bytes: &[u8; 512]) -> Option<Answer> {
+fn first_board(
+    rt: &HostRuntime,
+    path: &str,
+    bytes: &[u8; 512],
+) -> Option<Result<Option<u32>, LoadFault>> {
     let shape = Shape::new(512, 16, 64).ok()?;
     if shape.page_bytes() != 512 {
         return None;
@@ -94,23 +89,32 @@ fn next_board(rt: &HostRuntime, path: &str, into: &mut [u8; 512]) -> Option<Page
     read_and_erase(&mut board, rt.alloc(), into)
 }
 
-// Three boards over one file, one after another: while the first is there no other opens its image; the next ones find the page as it
-// was written, and then its block erased.
-fn are_three(rt: &HostRuntime, path: &str) -> bool {
+// Three boards over one file, one after another: what a load answers while the first is there, and
+// what the next ones read.
+fn three_boards(
+    rt: &HostRuntime,
+    path: &str,
+) -> Option<(Result<Option<u32>, LoadFault>, PageRead, PageRead)> {
     let bytes = [7u8; 512];
     let mut into = [0u8; 512];
-    first_board(rt, path, &bytes) == Some(Answer::Fault)
-        && next_board(rt, path, &mut into) == Some(PageRead::Whole)
-        && into == bytes
-        && next_board(rt, path, &mut into) == Some(PageRead::Erased)
+    let first = first_board(rt, path, &bytes)?;
+    let second = next_board(rt, path, &mut into)?;
+    if into != bytes {
+        return None;
+    }
+    let third = next_board(rt, path, &mut into)?;
+    Some((first, second, third))
 }
 
+// While a board is there no other opens its image; the next ones find the page as it was written,
+// and then its block erased.
 #[test]
 fn sessions(rt: HostRuntime) -> Result<(), Fail> {
     let path = image_path(&rt, "sessions")?;
-    let are_three = are_three(&rt, path.as_str());
+    let seen = three_boards(&rt, path.as_str());
     fs::remove_file(&rt, path.as_str())?;
-    assert!(rt; are_three);
+    let wanted = (Err(LoadFault::Fault), PageRead::Whole, PageRead::Erased);
+    assert_eq!(rt; seen, Some(wanted));
     Ok(())
 }
 
@@ -123,58 +127,60 @@ fn new_file(rt: &HostRuntime, path: &str) -> io::Result<File> {
         .open(rt, path)
 }
 
-// A change of a file: its length, where that changes, and bytes at a place; and what a load answers behind it.
-type Row = (Option<u64>, u64, &'static [u8], Answer);
-
-// An image of shape (512, 16, 64) written out by hand, then with a wrong state byte, a wrong header and wrong lengths. The file has no
-// byte at first.
-const CHANGES: &[Row] = &[
-    (None, 0, b"", Answer::Nothing),
-    (Some(525_344), 0, b"", Answer::Bad(0)),
-    (None, 0, b"PINKIMG1", Answer::Bad(8)),
-    (
-        None,
-        8,
-        b"\0\x02\0\0\x10\0\0\0\x40\0\0\0",
-        Answer::Pages(1024),
-    ),
-    (None, 32, &[1, 2, 0, 1, 3, 4], Answer::Bad(36)),
-    (None, 36, &[2, 2], Answer::Pages(1024)),
-    (Some(525_343), 0, b"", Answer::Bad(32)),
-    (Some(525_345), 0, b"", Answer::Bad(32)),
-    (Some(32), 0, b"", Answer::Bad(32)),
-    (Some(20), 0, b"", Answer::Bad(20)),
-];
-
-fn change(file: &File, len: Option<u64>, at: u64, bytes: &[u8]) -> io::Result<()> {
+// What a load of the file answers behind a change of its length, where there is one, and of these
+// bytes of it.
+fn changed(
+    rt: &HostRuntime,
+    path: &str,
+    file: &File,
+    len: Option<u64>,
+    at: u64,
+    bytes: &[u8],
+) -> io::Result<Result<Option<u32>, LoadFault>> {
     if let Some(len) = len {
         file.set_len(len)?;
     }
-    file.write_all_at(bytes, at)
+    file.write_all_at(bytes, at)?;
+    Ok(loaded(rt, path))
 }
 
-// A load answers so behind this change.
-fn is_loaded(rt: &HostRuntime, path: &str, file: &File, (len, at, bytes, want): &Row) -> bool {
-    change(file, *len, *at, bytes).is_ok() && loaded(rt, path) == *want
+// The answer where the image leaves its grammar at this byte.
+fn bad(at: u64) -> Result<Option<u32>, LoadFault> {
+    Err(LoadFault::BadImage { at })
 }
 
-// The changes of a new file, one behind the other.
-fn are_loaded(rt: &HostRuntime, path: &str) -> io::Result<bool> {
+// An image of shape (512, 16, 64) written out by hand, then with a wrong state byte, a wrong header
+// and wrong lengths. The file has no byte at first. The first of these changes behind which another
+// answer comes.
+fn first_wrong(rt: &HostRuntime, path: &str) -> io::Result<Option<u32>> {
     let file = new_file(rt, path)?;
-    for row in CHANGES {
-        if !is_loaded(rt, path, &file, row) {
-            return Ok(false);
+    let header = [0, 2, 0, 0, 16, 0, 0, 0, 64, 0, 0, 0];
+    for (number, len, at, bytes, want) in [
+        (0u32, None, 0u64, b"".as_slice(), Ok(None)),
+        (1, Some(525_344u64), 0, b"", bad(0)),
+        (2, None, 0, b"PINKIMG1", bad(8)),
+        (3, None, 8, &header, Ok(Some(1024u32))),
+        (4, None, 32, &[1, 2, 0, 1, 3, 4], bad(36)),
+        (5, None, 36, &[2, 2], Ok(Some(1024))),
+        (6, Some(525_343), 0, b"", bad(32)),
+        (7, Some(525_345), 0, b"", bad(32)),
+        (8, Some(32), 0, b"", bad(32)),
+        (9, Some(20), 0, b"", bad(20)),
+    ] {
+        if changed(rt, path, &file, len, at, bytes)? != want {
+            return Ok(Some(number));
         }
     }
-    Ok(true)
+    Ok(None)
 }
 
 #[test]
 fn bad_images(rt: HostRuntime) -> Result<(), Fail> {
     let path = image_path(&rt, "bad_images")?;
-    let is_missing = loaded(&rt, path.as_str()) == Answer::Nothing;
-    let are_loaded = are_loaded(&rt, path.as_str())?;
+    let missing = loaded(&rt, path.as_str());
+    let wrong = first_wrong(&rt, path.as_str())?;
     fs::remove_file(&rt, path.as_str())?;
-    assert!(rt; is_missing && are_loaded);
+    assert_eq!(rt; missing, Ok(None));
+    assert_eq!(rt; wrong, None);
     Ok(())
 }
