@@ -3,6 +3,7 @@
 use crate::MemoryPort;
 use pk_base::{Key, Shape};
 use pk_host::{Host, HostError, KeyPage, StoreRule};
+use pk_nvme::status::{INVALID_VALUE_SIZE, KEY_DOES_NOT_EXIST, KEY_EXISTS};
 use std::alloc::{AllocError, Global};
 use std::test::*;
 
@@ -71,7 +72,9 @@ fn a_service(rt: HostRuntime) -> Result<(), Fail> {
 
 // The calls for a key that is not there.
 fn refuses_absent(host: &mut Host, port: &mut MemoryPort, a: &Key) -> bool {
-    let refused = Err(HostError::Refused { status: 0x87 });
+    let refused = Err(HostError::Refused {
+        status: KEY_DOES_NOT_EXIST,
+    });
     host.store(port, a, b"x", StoreRule::IfExists) == refused
         && host.exist(port, a) == Ok(false)
         && host.delete(port, a) == Ok(false)
@@ -80,8 +83,10 @@ fn refuses_absent(host: &mut Host, port: &mut MemoryPort, a: &Key) -> bool {
 
 // The Stores under a key that is there, and of a value that is too long.
 fn refuses_present(host: &mut Host, port: &mut MemoryPort, a: &Key) -> bool {
-    let refused = Err(HostError::Refused { status: 0x89 });
-    let too_long = Err(HostError::Refused { status: 0x85 });
+    let refused = Err(HostError::Refused { status: KEY_EXISTS });
+    let too_long = Err(HostError::Refused {
+        status: INVALID_VALUE_SIZE,
+    });
     host.store(port, a, b"hello", StoreRule::IfAbsent) == Ok(())
         && host.store(port, a, b"x", StoreRule::IfAbsent) == refused
         && host.store(port, a, &[0; 65505], StoreRule::Any) == too_long

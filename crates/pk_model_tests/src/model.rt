@@ -3,20 +3,14 @@
 use pk_base::Shape;
 use pk_model::{Answer, MapMachine};
 use pk_nvme::Request;
+use pk_nvme::opcode::{DELETE, EXIST, FLUSH, LIST, REPORT, RETRIEVE, STORE, TICK};
+use pk_nvme::status::{
+    CAPACITY_EXCEEDED, INVALID_COMMAND_OPCODE, INVALID_FIELD_IN_COMMAND, INVALID_KEY_SIZE,
+    INVALID_NAMESPACE_OR_FORMAT, INVALID_VALUE_SIZE, KEY_DOES_NOT_EXIST, KEY_EXISTS,
+    SUCCESSFUL_COMPLETION,
+};
 use std::alloc::Global;
 use std::test::*;
-
-const STORE: u8 = 0x01;
-
-const RETRIEVE: u8 = 0x02;
-
-const LIST: u8 = 0x06;
-
-const DELETE: u8 = 0x10;
-
-const EXIST: u8 = 0x14;
-
-const REPORT: u8 = 0xc2;
 
 /// What is asked: a Store of a value under a key, with these options, or a command with an opcode,
 /// a key and a size.
@@ -124,72 +118,117 @@ const FOUR_PAGES: &[u8; 64] = b"\
 
 /// A value of no byte.
 const EMPTY_VALUE: &[Row] = &[
-    (Ask::Store(b"a", 0, b""), 0x00, 0, b""),
-    (Ask::Other(EXIST, b"a", 0), 0x00, 0, b""),
-    (Ask::Other(RETRIEVE, b"a", 10), 0x00, 0, b""),
-    (Ask::Other(REPORT, b"", 0), 0x00, 0, ONE_PAGE),
+    (Ask::Store(b"a", 0, b""), SUCCESSFUL_COMPLETION, 0, b""),
+    (Ask::Other(EXIST, b"a", 0), SUCCESSFUL_COMPLETION, 0, b""),
+    (
+        Ask::Other(RETRIEVE, b"a", 10),
+        SUCCESSFUL_COMPLETION,
+        0,
+        b"",
+    ),
+    (
+        Ask::Other(REPORT, b"", 0),
+        SUCCESSFUL_COMPLETION,
+        0,
+        ONE_PAGE,
+    ),
 ];
 
 /// A value of the greatest size, and one of one byte more.
 const GREATEST_VALUE: &[Row] = &[
-    (Ask::Store(b"a", 0, &[7; 2016]), 0x00, 0, b""),
-    (Ask::Other(REPORT, b"", 0), 0x00, 0, FOUR_PAGES),
-    (Ask::Store(b"a", 0, &[7; 2017]), 0x85, 0, b""),
-    (Ask::Other(EXIST, b"a", 0), 0x00, 0, b""),
+    (
+        Ask::Store(b"a", 0, &[7; 2016]),
+        SUCCESSFUL_COMPLETION,
+        0,
+        b"",
+    ),
+    (
+        Ask::Other(REPORT, b"", 0),
+        SUCCESSFUL_COMPLETION,
+        0,
+        FOUR_PAGES,
+    ),
+    (Ask::Store(b"a", 0, &[7; 2017]), INVALID_VALUE_SIZE, 0, b""),
+    (Ask::Other(EXIST, b"a", 0), SUCCESSFUL_COMPLETION, 0, b""),
 ];
 
 /// The front of a value.
 const FRONT: &[Row] = &[
-    (Ask::Store(b"a", 0, b"hello"), 0x00, 0, b""),
-    (Ask::Other(RETRIEVE, b"a", 2), 0x00, 5, b"he"),
-    (Ask::Other(RETRIEVE, b"a", 0), 0x00, 5, b""),
+    (Ask::Store(b"a", 0, b"hello"), SUCCESSFUL_COMPLETION, 0, b""),
+    (
+        Ask::Other(RETRIEVE, b"a", 2),
+        SUCCESSFUL_COMPLETION,
+        5,
+        b"he",
+    ),
+    (Ask::Other(RETRIEVE, b"a", 0), SUCCESSFUL_COMPLETION, 5, b""),
 ];
 
 /// Options of a Store on a missing key and on one that exists, and a key that is deleted.
 const OPTIONS: &[Row] = &[
-    (Ask::Store(b"a", 1, b"x"), 0x87, 0, b""),
-    (Ask::Store(b"a", 3, b"x"), 0x87, 0, b""),
-    (Ask::Store(b"a", 2, b"x"), 0x00, 0, b""),
-    (Ask::Store(b"a", 2, b"x"), 0x89, 0, b""),
-    (Ask::Store(b"a", 3, b"x"), 0x89, 0, b""),
-    (Ask::Store(b"a", 1, b"x"), 0x00, 0, b""),
-    (Ask::Other(DELETE, b"a", 0), 0x00, 0, b""),
-    (Ask::Other(DELETE, b"a", 0), 0x87, 0, b""),
-    (Ask::Other(EXIST, b"a", 0), 0x87, 0, b""),
-    (Ask::Other(RETRIEVE, b"a", 1), 0x87, 0, b""),
+    (Ask::Store(b"a", 1, b"x"), KEY_DOES_NOT_EXIST, 0, b""),
+    (Ask::Store(b"a", 3, b"x"), KEY_DOES_NOT_EXIST, 0, b""),
+    (Ask::Store(b"a", 2, b"x"), SUCCESSFUL_COMPLETION, 0, b""),
+    (Ask::Store(b"a", 2, b"x"), KEY_EXISTS, 0, b""),
+    (Ask::Store(b"a", 3, b"x"), KEY_EXISTS, 0, b""),
+    (Ask::Store(b"a", 1, b"x"), SUCCESSFUL_COMPLETION, 0, b""),
+    (Ask::Other(DELETE, b"a", 0), SUCCESSFUL_COMPLETION, 0, b""),
+    (Ask::Other(DELETE, b"a", 0), KEY_DOES_NOT_EXIST, 0, b""),
+    (Ask::Other(EXIST, b"a", 0), KEY_DOES_NOT_EXIST, 0, b""),
+    (Ask::Other(RETRIEVE, b"a", 1), KEY_DOES_NOT_EXIST, 0, b""),
 ];
 
 /// The keys 61, 6100 and 62 in buffers of several sizes.
 const LISTS: &[Row] = &[
-    (Ask::Store(b"b", 0, b"x"), 0x00, 0, b""),
-    (Ask::Store(b"a\0", 0, b"x"), 0x00, 0, b""),
-    (Ask::Store(b"a", 0, b"x"), 0x00, 0, b""),
-    (Ask::Other(LIST, b"a", 3), 0x02, 0, b""),
-    (Ask::Other(LIST, b"a", 4), 0x00, 0, b"\0\0\0\0"),
-    (Ask::Other(LIST, b"a", 7), 0x00, 0, b"\0\0\0\0"),
-    (Ask::Other(LIST, b"a", 8), 0x00, 0, b"\x01\0\0\0\x01\0a\0"),
-    (Ask::Other(LIST, b"a", 11), 0x00, 0, b"\x01\0\0\0\x01\0a\0"),
+    (Ask::Store(b"b", 0, b"x"), SUCCESSFUL_COMPLETION, 0, b""),
+    (Ask::Store(b"a\0", 0, b"x"), SUCCESSFUL_COMPLETION, 0, b""),
+    (Ask::Store(b"a", 0, b"x"), SUCCESSFUL_COMPLETION, 0, b""),
+    (Ask::Other(LIST, b"a", 3), INVALID_FIELD_IN_COMMAND, 0, b""),
+    (
+        Ask::Other(LIST, b"a", 4),
+        SUCCESSFUL_COMPLETION,
+        0,
+        b"\0\0\0\0",
+    ),
+    (
+        Ask::Other(LIST, b"a", 7),
+        SUCCESSFUL_COMPLETION,
+        0,
+        b"\0\0\0\0",
+    ),
+    (
+        Ask::Other(LIST, b"a", 8),
+        SUCCESSFUL_COMPLETION,
+        0,
+        b"\x01\0\0\0\x01\0a\0",
+    ),
+    (
+        Ask::Other(LIST, b"a", 11),
+        SUCCESSFUL_COMPLETION,
+        0,
+        b"\x01\0\0\0\x01\0a\0",
+    ),
     (
         Ask::Other(LIST, b"a", 12),
-        0x00,
+        SUCCESSFUL_COMPLETION,
         0,
         b"\x02\0\0\0\x01\0a\0\x02\0a\0",
     ),
     (
         Ask::Other(LIST, b"a", 16),
-        0x00,
+        SUCCESSFUL_COMPLETION,
         0,
         b"\x03\0\0\0\x01\0a\0\x02\0a\0\x01\0b\0",
     ),
     (
         Ask::Other(LIST, b"\x60\0", 8),
-        0x00,
+        SUCCESSFUL_COMPLETION,
         0,
         b"\x01\0\0\0\x01\0a\0",
     ),
     (
         Ask::Other(LIST, b"", 70000),
-        0x00,
+        SUCCESSFUL_COMPLETION,
         0,
         b"\x03\0\0\0\x01\0a\0\x02\0a\0\x01\0b\0",
     ),
@@ -203,20 +242,23 @@ fn answers_to_commands(rt: HostRuntime) {
     assert!(rt; answers_all(alloc, LISTS));
 }
 
+/// An opcode that no command has.
+const UNKNOWN: u8 = 0x03;
+
 /// Opcodes, namespaces and lengths of keys, and the status of each.
 const EARLY: &[(u8, u32, u8, u8)] = &[
-    (STORE, 1, 0, 0x86),
-    (STORE, 1, 1, 0x00),
-    (STORE, 1, 16, 0x00),
-    (STORE, 1, 17, 0x86),
-    (STORE, 1, 200, 0x86),
-    (LIST, 1, 17, 0x86),
-    (0x03, 1, 1, 0x01),
-    (EXIST, 2, 1, 0x0b),
-    (0x00, 0xffff_ffff, 1, 0x00),
-    (EXIST, 0xffff_ffff, 1, 0x0b),
-    (0x03, 2, 1, 0x01),
-    (0xc0, 1, 1, 0x00),
+    (STORE, 1, 0, INVALID_KEY_SIZE),
+    (STORE, 1, 1, SUCCESSFUL_COMPLETION),
+    (STORE, 1, 16, SUCCESSFUL_COMPLETION),
+    (STORE, 1, 17, INVALID_KEY_SIZE),
+    (STORE, 1, 200, INVALID_KEY_SIZE),
+    (LIST, 1, 17, INVALID_KEY_SIZE),
+    (UNKNOWN, 1, 1, INVALID_COMMAND_OPCODE),
+    (EXIST, 2, 1, INVALID_NAMESPACE_OR_FORMAT),
+    (FLUSH, 0xffff_ffff, 1, SUCCESSFUL_COMPLETION),
+    (EXIST, 0xffff_ffff, 1, INVALID_NAMESPACE_OR_FORMAT),
+    (UNKNOWN, 2, 1, INVALID_COMMAND_OPCODE),
+    (TICK, 1, 1, SUCCESSFUL_COMPLETION),
 ];
 
 /// Whether a command with this opcode, namespace and length of its key has this status.
@@ -268,7 +310,7 @@ fn stores(alloc: Global, machine: &mut MapMachine, number: u16, len: u16, status
 /// Whether so many Stores of one page each are done.
 fn fills(alloc: Global, machine: &mut MapMachine, count: u16) -> bool {
     for number in 0..count {
-        if !stores(alloc, machine, number, 100, 0x00) {
+        if !stores(alloc, machine, number, 100, SUCCESSFUL_COMPLETION) {
             return false;
         }
     }
@@ -278,17 +320,23 @@ fn fills(alloc: Global, machine: &mut MapMachine, count: u16) -> bool {
 /// Whether a command on the first key is done, with this number in its completion.
 fn is_done(alloc: Global, machine: &mut MapMachine, opcode: u8, result_field: u32) -> bool {
     let request = request(opcode, &[0, 0], 0, 0);
-    answers(alloc, machine, &request, &[], (0x00, result_field, &[]))
+    answers(
+        alloc,
+        machine,
+        &request,
+        &[],
+        (SUCCESSFUL_COMPLETION, result_field, &[]),
+    )
 }
 
 /// Whether a machine with the keys 0 to 491 is full, up to the byte, until one is deleted.
 fn is_full(alloc: Global, machine: &mut MapMachine) -> bool {
-    stores(alloc, machine, 492, 100, 0x81)
-        && stores(alloc, machine, 0, 480, 0x00)
-        && stores(alloc, machine, 0, 481, 0x81)
+    stores(alloc, machine, 492, 100, CAPACITY_EXCEEDED)
+        && stores(alloc, machine, 0, 480, SUCCESSFUL_COMPLETION)
+        && stores(alloc, machine, 0, 481, CAPACITY_EXCEEDED)
         && is_done(alloc, machine, RETRIEVE, 480)
         && is_done(alloc, machine, DELETE, 0)
-        && stores(alloc, machine, 492, 100, 0x00)
+        && stores(alloc, machine, 492, 100, SUCCESSFUL_COMPLETION)
 }
 
 // A machine that is filled up to its limit of 492 pages.
