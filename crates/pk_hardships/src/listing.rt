@@ -6,6 +6,7 @@ use pk_nand::PageState;
 use pk_nvme::Request;
 use pk_nvme::opcode::STORE;
 use pk_sessions::boards::{Session, board_in, made, pages_left};
+use pk_sessions::exits::DONE;
 use pk_sessions::{Program, holds, serve};
 use std::alloc::{AllocError, Global};
 use std::test::*;
@@ -138,7 +139,7 @@ fn end_of(status: u8, posted: &[u8], all: &[u8]) -> Option<usize> {
 // The whole list, which posts three times: how many calls it makes behind the first one.
 fn calls_of_list<P: Program>(alloc: Global, filled: &Flash, all: &[u8]) -> Result<u64, Fail> {
     let whole = listed::<P>(alloc, pages_left(alloc, filled)?, None)?;
-    let is_so = whole.status == 0 && whole.flash.posted() == all && whole.flash.marks() == 3;
+    let is_so = whole.status == DONE && whole.flash.posted() == all && whole.flash.marks() == 3;
     holds(is_so, "a whole list")?;
     Ok(whole.flash.read_count().saturating_add(3))
 }

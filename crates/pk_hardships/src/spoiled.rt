@@ -10,6 +10,7 @@ use pk_nvme::Request;
 use pk_nvme::opcode::{LIST, RETRIEVE};
 use pk_sessions::boards::{board_in, worked};
 use pk_sessions::damage::with_one_key;
+use pk_sessions::exits::{DONE, WORN};
 use pk_sessions::overwritten::record_at;
 use pk_sessions::pages::{Note, journal_page, meta_page, root_page, set, write};
 use pk_sessions::runs::with_two_epochs;
@@ -187,9 +188,9 @@ fn has_map(
     posted: &[u8],
 ) -> Result<bool, AllocError> {
     if is_worn(pages) {
-        return Ok(status == 10 && posted.is_empty());
+        return Ok(status == WORN && posted.is_empty());
     }
-    if status != 0 {
+    if status != DONE {
         return Ok(false);
     }
     match keys_end(alloc, items, posted)? {

@@ -10,7 +10,7 @@ pub mod cuts;
 pub mod damage;
 pub mod ends;
 pub mod erases;
-mod exits;
+pub mod exits;
 pub mod faults;
 pub mod freezes;
 mod layered;
