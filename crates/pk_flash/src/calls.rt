@@ -25,16 +25,6 @@ pub fn raise(count: &mut u64)
     *count = count.saturating_add(1);
 }
 
-fn programmed(bytes: PageBytes, left: Option<&Left>) -> Option<PageState>
-    ensures { option_map seen result
-        ≡ program_choice_of bytes (left_of (option_copied left.entry)) }
-{
-    match left {
-        None => Some(PageState::Whole(bytes)),
-        Some(left) => program_choice(bytes, left),
-    }
-}
-
 /// Programs a page, or fails and leaves what `left` says.
 pub fn program_page(
     pages: &mut Vec<PageState>,
@@ -69,7 +59,7 @@ pub fn program_page(
         return Err(NandFault);
     }
     let own = trail.note_program(at, bytes);
-    choose(pages, at as usize, programmed(own, left));
+    choose(pages, at as usize, program_choice(own, left));
     match left {
         None => Ok(()),
         Some(_) => Err(NandFault),
@@ -112,15 +102,10 @@ pub fn erase_block(
     trail.note(Mark::Erase { block });
     let count = block_pages_of(shape) as usize;
     let first = block as usize * count;
+    choose_row(pages, first, count, left);
     match left {
-        None => {
-            choose_row(pages, first, count, &Left::Done);
-            Ok(())
-        }
-        Some(left) => {
-            choose_row(pages, first, count, left);
-            Err(NandFault)
-        }
+        None => Ok(()),
+        Some(_) => Err(NandFault),
     }
 }
 

@@ -5,19 +5,23 @@ ghost use Rattle.pk_flash.specs.Spare.{AreSpare};
 use pk_nand::PageBytes;
 use std::alloc::{AllocError, Global};
 
-/// So many empty buffers with room for a page.
+/// Two empty buffers with room for a page for each of so many marks.
 pub fn spare_buffers(
     alloc: Global,
-    count: usize,
+    marks: usize,
     page_bytes: usize,
 ) -> Result<Vec<Vec<u8>>, AllocError>
-    ensures count { IfOk result (λ v. length v.items ≡ count) }
+    ensures count { IfOk result (λ v. length v.items ≡ marks + marks) }
     ensures spare { IfOk result (λ v. AreSpare page_bytes v.items) }
 {
+    if marks > usize::MAX / 2 {
+        return Err(AllocError);
+    }
+    let count = marks + marks;
     let mut spare = Vec::with_capacity(alloc, count)?;
     for i in 0..count {
         let _ = i;
-        spare.push(Vec::with_capacity(alloc, page_bytes)?)?;
+        spare.push_reserved(Vec::with_capacity(alloc, page_bytes)?);
     }
     Ok(spare)
 }

@@ -9,19 +9,16 @@ use crate::spare::{copy_into_spare, spare_buffers};
 use pk_nand::{Mark, PageBytes};
 use std::alloc::{AllocError, Global};
 
-/// The marks since the board was handed in. Each mark to come has a buffer for its bytes and one for those of its page.
+/// The marks since the board was handed in. Each mark to come has two spare buffers, for its bytes and for those of its page.
 pub struct Trail {
     pub marks: Vec<Mark>,
     pub room: usize,
     pub page_bytes: u32,
-    for_pages: Vec<Vec<u8>>,
-    for_marks: Vec<Vec<u8>>,
+    spare: Vec<Vec<u8>>,
     ghost within: { length marks.items ≤ room },
     ghost holds: { room ≤ vec_capacity marks },
-    ghost pages_left: { room ≤ length marks.items + length for_pages.items },
-    ghost marks_left: { room ≤ length marks.items + length for_marks.items },
-    ghost pages_spare: { AreSpare page_bytes for_pages.items },
-    ghost marks_spare: { AreSpare page_bytes for_marks.items },
+    ghost left: { room + room ≤ length marks.items + length marks.items + length spare.items },
+    ghost spare_room: { AreSpare page_bytes spare.items },
 }
 
 // Written out, so that whoever drops one meets a call, and not the drops of all its parts.
@@ -31,8 +28,7 @@ impl Drop for Trail {
             marks: _,
             room: _,
             page_bytes: _,
-            for_pages: _,
-            for_marks: _,
+            spare: _,
         } = self;
     }
 }
@@ -44,12 +40,13 @@ impl Trail {
         ensures room { IfOk result (λ t. t.room ≡ room) }
         ensures page { IfOk result (λ t. t.page_bytes ≡ page_bytes) }
     {
+        let marks = Vec::with_capacity(alloc, room)?;
+        let spare = spare_buffers(alloc, room, page_bytes as usize)?;
         Ok(Trail {
-            marks: Vec::with_capacity(alloc, room)?,
+            marks,
             room,
             page_bytes,
-            for_pages: spare_buffers(alloc, room, page_bytes as usize)?,
-            for_marks: spare_buffers(alloc, room, page_bytes as usize)?,
+            spare,
         })
     }
 
@@ -60,10 +57,7 @@ impl Trail {
         ensures marks { self.new.marks.items ≡ self.old.marks.items }
         ensures room { self.new.room ≡ self.old.room }
     {
-        let for_pages = spare_buffers(alloc, self.room, page_bytes as usize)?;
-        let for_marks = spare_buffers(alloc, self.room, page_bytes as usize)?;
-        self.for_pages = for_pages;
-        self.for_marks = for_marks;
+        self.spare = spare_buffers(alloc, self.room, page_bytes as usize)?;
         self.page_bytes = page_bytes;
         Ok(())
     }
@@ -96,8 +90,8 @@ impl Trail {
         ensures room { self.new.room ≡ self.old.room }
         ensures page { self.new.page_bytes ≡ self.old.page_bytes }
     {
-        let own = copy_into_spare(&mut self.for_pages, bytes);
-        let copy = copy_into_spare(&mut self.for_marks, bytes);
+        let own = copy_into_spare(&mut self.spare, bytes);
+        let copy = copy_into_spare(&mut self.spare, bytes);
         self.marks
             .push_reserved(Mark::Program { page, bytes: copy });
         own
@@ -114,7 +108,7 @@ impl Trail {
         ensures page { self.new.page_bytes ≡ self.old.page_bytes }
     {
         if bytes.len() <= self.page_bytes as usize {
-            let copy = copy_into_spare(&mut self.for_marks, bytes);
+            let copy = copy_into_spare(&mut self.spare, bytes);
             self.marks.push_reserved(Mark::Post { bytes: copy });
             Ok(())
         } else {

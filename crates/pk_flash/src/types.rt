@@ -1,7 +1,7 @@
 //! The room of a board in memory, and the failures that are planned for it.
 
 /// How many bytes may be posted, and how many marks made. A call that would pass this room fails, with nothing done.
-#[derive(Clone, Copy, Debug, PartialEq, Eq)]
+#[derive(Clone, Copy)]
 pub struct Room {
     pub posted: usize,
     pub marks: usize,

@@ -1,4 +1,5 @@
-use Rattle.std.proofs.Common.{◌≡◌, length}
+use Rattle.std.proofs.Common.{◌≡◌, ◌≤◌, length}
+use Rattle.std.specs.Prelude.{vec_len, vec_capacity}
 use Rattle.pk_flash.specs.Spare.{AreSpare}
 use Rattle.pk_flash.proofs.spare.spare_buffers.Given as goal
 
@@ -6,5 +7,7 @@ abbrev pub invariant-loop-i : goal.invariant-loop-i
 invariant-loop-i l =
     record {
       count : length l.spare.items ≡ l.i;
+      len : vec_len l.spare ≡ l.i;
+      room : l.count ≤ vec_capacity l.spare;
       spare : AreSpare l.page_bytes l.spare.items;
     }
