@@ -9,14 +9,14 @@ ghost use Rattle.pk_nand.specs.Seen.{state as seen, states, marks as seen_marks}
 ghost use Rattle.pk_flash.specs.Plan.{left_of};
 ghost use Rattle.pk_flash.specs.Outcomes.{choice as choice_of, program_choice as program_choice_of};
 ghost use Rattle.pk_flash.specs.Rows.{RowChosen};
-ghost use Rattle.pk_flash.specs.Exact.{ActsBy, HasRoomFor, PostsBy, part as part_of};
+ghost use Rattle.pk_flash.specs.Exact.{ActsBy, PostsBy, part as part_of};
 
 use crate::pages::{block_pages_of, choose, choose_row, program_choice};
 use crate::trail::Trail;
 use crate::types::Left;
 use pk_base::Shape;
 use pk_nand::{HostFault, Mark, NandFault, PageBytes, PageState};
-use std::alloc::{AllocError, Global};
+use std::alloc::Global;
 
 /// One more, up to the last value.
 pub fn raise(count: &mut u64)
@@ -109,50 +109,6 @@ pub fn erase_block(
     }
 }
 
-// Gives bytes out and notes it, where there is room for both and, past a page of bytes, memory for the mark's.
-fn give(
-    alloc: Global,
-    posted: &mut Vec<u8>,
-    posted_room: usize,
-    trail: &mut Trail,
-    bytes: &[u8],
-) -> Result<(), AllocError>
-    requires { posted_room ≤ vec_capacity posted.old }
-
-    // The bytes and their mark are there.
-    ensures posted { OnOk result (posted.new.items ≡ posted.old.items ++ bytes.now) }
-    ensures marks { OnOk result (seen_marks trail.new.marks.items
-        ≡ seen_marks trail.old.marks.items ++ post bytes.now ∷ []) }
-    ensures had_room { OnOk result (HasRoomFor (length bytes.now) posted_room trail.old.room
-        posted.old.items trail.old.marks.items) }
-
-    // Or nothing is, for want of room.
-    ensures posted_err { OnErr result (posted.new.items ≡ posted.old.items) }
-    ensures marks_err { OnErr result (trail.new.marks.items ≡ trail.old.marks.items) }
-    ensures cause { OnErr result ((posted_room < length posted.old.items + length bytes.now)
-        ⊎ (trail.old.room ≤ length trail.old.marks.items)
-        ⊎ (trail.old.page_bytes < length bytes.now)) }
-
-    // The buffers keep their room.
-    ensures holds { posted_room ≤ vec_capacity posted.new }
-    ensures room { trail.new.room ≡ trail.old.room }
-    ensures page_bytes { trail.new.page_bytes ≡ trail.old.page_bytes }
-{
-    if bytes.len() > posted_room || posted.len() > posted_room - bytes.len() {
-        return Err(AllocError);
-    }
-    if trail.is_full() {
-        return Err(AllocError);
-    }
-    match trail.note_post(alloc, bytes) {
-        Ok(()) => match posted.extend_from_slice(bytes) {
-            Ok(()) => Ok(()),
-            Err(_) => unreachable!(),
-        },
-        Err(_) => Err(AllocError),
-    }
-}
-
 // How many bytes a post gives out.
 fn part(left: Option<&Left>, all: usize) -> usize
     ensures part { result ≡ part_of all (option_copied left.entry) }
@@ -195,10 +151,17 @@ pub fn post_bytes(
     ensures page_bytes { trail.new.page_bytes ≡ trail.old.page_bytes }
 {
     let count = part(left, bytes.len());
-    match give(alloc, posted, posted_room, trail, &bytes[..count]) {
-        Ok(()) => match left {
-            None => Ok(()),
-            Some(_) => Err(HostFault),
+    let out = &bytes[..count];
+    if count > posted_room || posted.len() > posted_room - count || trail.is_full() {
+        return Err(HostFault);
+    }
+    match trail.note_post(alloc, out) {
+        Ok(()) => match posted.extend_from_slice(out) {
+            Ok(()) => match left {
+                None => Ok(()),
+                Some(_) => Err(HostFault),
+            },
+            Err(_) => unreachable!(),
         },
         Err(_) => Err(HostFault),
     }

@@ -7,6 +7,6 @@ returns-in-Some-clause-left c = record {
   out = take c.part-count.result c.args.bytes.now;
   unposted = drop c.part-count.result c.args.bytes.now;
   front = take-append-drop c.part-count.result c.args.bytes.now;
-  posted_is = ap (λ l. Some l) c.in-Ok.ensures.posted;
+  posted_is = ap (λ l. Some l) c.in-Ok-extend_from_slice.ensures.items;
   trail_is = inl (ap (λ l. Some l) c.in-Ok.ensures.marks);
 }
