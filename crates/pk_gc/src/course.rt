@@ -1,7 +1,7 @@
 //! How far a reclaim has come.
 
 /// What a reclaim does.
-#[derive(Clone, Copy, Debug, PartialEq, Eq)]
+#[derive(Clone, Copy)]
 pub enum Phase {
     /// None runs.
     Idle,
@@ -12,7 +12,7 @@ pub enum Phase {
 }
 
 /// How far the copy has come.
-#[derive(Clone, Copy, Debug, PartialEq, Eq)]
+#[derive(Clone, Copy)]
 pub struct Course {
     /// The block whose live values are copied.
     pub victim: u32,
