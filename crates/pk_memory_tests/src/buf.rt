@@ -3,7 +3,7 @@
 use linked_list_allocator::LocalHeap;
 use pk_base::{Entry, Key, Shape};
 use pk_buf::Buffer;
-use std::alloc::{AllocError, Global};
+use std::alloc::Global;
 use std::test::*;
 
 // Deletes a key where there is room.
@@ -32,45 +32,56 @@ fn deleted(table: &mut Buffer<&LocalHeap>) -> (u32, Option<u32>) {
     (table.len(), place_of(table, b"b"))
 }
 
-// The length of a boxed table that is cleared.
-fn cleared(heap: &LocalHeap, table: Buffer<&LocalHeap>) -> Result<u32, AllocError> {
-    let mut boxed = Box::new(heap, table)?;
-    boxed.clear();
-    Ok(boxed.len())
-}
-
 // Entries stand by key, one for each, and no call takes memory.
-fn holds_by_key(heap: &LocalHeap, shape: Shape) -> Result<bool, AllocError> {
-    let mut table = Buffer::new(heap, shape)?;
+fn holds_by_key(heap: &LocalHeap, table: &mut Buffer<&LocalHeap>) -> bool {
     let room = table.room();
     let used = heap.used();
-    let seen = deleted(&mut table);
-    let is_kept = heap.used() == used;
-    let len = cleared(heap, table)?;
-    Ok(is_kept && (room, seen, len) == (30, (2, Some(1)), 0))
+    let seen = deleted(table);
+    heap.used() == used && room == 30 && seen == (2, Some(1))
 }
 
-// A table in a heap of so many bytes, where it finds room, and all of it is given back.
-fn table_in(alloc: Global, size: usize, shape: Shape) -> Result<Option<bool>, AllocError> {
-    let heap = LocalHeap::new(alloc, size)?;
-    let found = holds_by_key(&heap, shape).ok();
-    if heap.used() > 0 {
-        return Ok(Some(false));
+// The length of a boxed table that is cleared.
+fn cleared(heap: &LocalHeap, table: Buffer<&LocalHeap>) -> Option<u32> {
+    match Box::new(heap, table) {
+        Ok(mut boxed) => {
+            boxed.clear();
+            Some(boxed.len())
+        }
+        Err(_) => None,
     }
-    Ok(found)
 }
 
-#[test]
-fn memory(rt: HostRuntime) -> Result<(), Fail> {
-    let shape = Shape::new(512, 16, 64).ok().ok_or("a shape")?;
-    assert!(rt; table_in(rt.alloc(), 4096, shape)? == Some(true));
-    Ok(())
+// Whether a table is as it is to be; None where it finds no room.
+fn found(heap: &LocalHeap, shape: Shape) -> Option<bool> {
+    match Buffer::new(heap, shape) {
+        Ok(mut table) => {
+            let holds = holds_by_key(heap, &mut table);
+            let len = cleared(heap, table)?;
+            Some(holds && len == 0)
+        }
+        Err(_) => None,
+    }
+}
+
+// This is found of a table in a heap of so many bytes, and all of it is given back.
+fn finds(alloc: Global, size: usize, shape: Shape, wanted: Option<bool>) -> bool {
+    match LocalHeap::new(alloc, size) {
+        Ok(heap) => found(&heap, shape) == wanted && heap.used() == 0,
+        Err(_) => false,
+    }
+}
+
+// The same for the shape of 64 blocks of 16 pages of 512 bytes.
+fn finds_small(alloc: Global, size: usize, wanted: Option<bool>) -> bool {
+    match Shape::new(512, 16, 64) {
+        Ok(shape) => finds(alloc, size, shape, wanted),
+        Err(_) => false,
+    }
 }
 
 // A table that finds no room is an error.
 #[test]
-fn no_room(rt: HostRuntime) -> Result<(), Fail> {
-    let shape = Shape::new(512, 16, 64).ok().ok_or("a shape")?;
-    assert!(rt; table_in(rt.alloc(), 512, shape)? == None);
-    Ok(())
+fn memory(rt: HostRuntime) {
+    assert!(rt; finds_small(rt.alloc(), 4096, Some(true)));
+    assert!(rt; finds_small(rt.alloc(), 512, None));
 }

@@ -2,46 +2,69 @@
 
 use linked_list_allocator::LocalHeap;
 use pk_pin::PinArena;
+use std::alloc::Global;
 use std::test::*;
 
+const FIRST: &[u8; 4] = &[1, 2, 3, 4];
+
+const SECOND: &[u8; 4] = &[5, 6, 7, 8];
+
 // Frames are leased until none is free, and each contains what it was filled with.
-#[test]
-fn leases(rt: HostRuntime) -> Result<(), Fail> {
-    let mut arena = PinArena::new(rt.alloc(), 2, 4)?;
-    let first = arena.take().ok_or("a frame")?;
-    let second = arena.take().ok_or("a frame")?;
-    assert!(rt; arena.take().is_none());
-    arena.fill(&first, &[1, 2, 3, 4]);
-    arena.fill(&second, &[5, 6, 7, 8]);
-    assert_eq!(rt; arena.bytes(&first), [1, 2, 3, 4].as_slice());
+fn leases(alloc: Global) -> bool {
+    let Ok(mut arena) = PinArena::new(alloc, 2, 4) else {
+        return false;
+    };
+    let Some(first) = arena.take() else {
+        return false;
+    };
+    let Some(second) = arena.take() else {
+        return false;
+    };
+    let is_all = arena.take().is_none();
+    arena.fill(&first, FIRST);
+    arena.fill(&second, SECOND);
+    let is_filled = arena.bytes(&first) == FIRST.as_slice();
     arena.give(first);
-    assert_eq!(rt; arena.free(), 1);
-    assert_eq!(rt; arena.frames(), 2);
-    assert_eq!(rt; arena.bytes(&second), [5, 6, 7, 8].as_slice());
-    Ok(())
+    let counts = (arena.free(), arena.frames());
+    is_all && is_filled && counts == (1, 2) && arena.bytes(&second) == SECOND.as_slice()
 }
 
+const PAGE: &[u8; 512] = &[7; 512];
+
 // 64 frames of 512 bytes take 32,768 bytes and one more for each frame, and no call takes any.
-#[test]
-fn memory(rt: HostRuntime) -> Result<(), Fail> {
-    let heap = LocalHeap::new(rt.alloc(), 40000)?;
-    let mut arena = PinArena::new(&heap, 64, 512)?;
-    assert_eq!(rt; heap.used(), 64 * 512 + 64);
-    let lease = arena.take().ok_or("a frame")?;
-    arena.fill(&lease, &[7; 512]);
-    assert_eq!(rt; arena.bytes(&lease)[511], 7);
-    assert_eq!(rt; arena.free(), 63);
+fn takes_once(heap: &LocalHeap) -> bool {
+    let Ok(mut arena) = PinArena::new(heap, 64, 512) else {
+        return false;
+    };
+    let used = heap.used();
+    let Some(lease) = arena.take() else {
+        return false;
+    };
+    arena.fill(&lease, PAGE);
+    let is_filled = arena.bytes(&lease)[511] == 7;
+    let free = arena.free();
     arena.give(lease);
-    assert_eq!(rt; arena.frames(), 64);
-    assert_eq!(rt; heap.used(), 64 * 512 + 64);
-    Ok(())
+    is_filled && (free, arena.frames()) == (63, 64) && used == 64 * 512 + 64 && heap.used() == used
+}
+
+fn memory(alloc: Global) -> bool {
+    match LocalHeap::new(alloc, 40000) {
+        Ok(heap) => takes_once(&heap),
+        Err(_) => false,
+    }
 }
 
 // An arena that finds no room is an error, and leaves the heap as it was.
+fn no_room(alloc: Global) -> bool {
+    match LocalHeap::new(alloc, 16384) {
+        Ok(heap) => PinArena::new(&heap, 36, 512).is_err() && heap.used() == 0,
+        Err(_) => false,
+    }
+}
+
 #[test]
-fn no_room(rt: HostRuntime) -> Result<(), Fail> {
-    let heap = LocalHeap::new(rt.alloc(), 16384)?;
-    assert!(rt; PinArena::new(&heap, 36, 512).is_err());
-    assert_eq!(rt; heap.used(), 0);
-    Ok(())
+fn frames(rt: HostRuntime) {
+    assert!(rt; leases(rt.alloc()));
+    assert!(rt; memory(rt.alloc()));
+    assert!(rt; no_room(rt.alloc()));
 }

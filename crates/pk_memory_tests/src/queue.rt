@@ -2,7 +2,7 @@
 
 use pk_base::Shape;
 use pk_queue::Queue;
-use std::alloc::{AllocError, Global};
+use std::alloc::Global;
 use std::test::*;
 
 // Holds heads until there is no room: how many.
@@ -22,16 +22,22 @@ fn is_in_order(held: &[[u8; 24]]) -> bool {
 }
 
 // A queue has room for 15 heads, in order, and again when it is cleared.
-fn fills_and_clears(alloc: Global, shape: Shape) -> Result<bool, AllocError> {
-    let mut queue = Queue::new(alloc, shape)?;
-    let is_filled = filled(&mut queue) == 15 && is_in_order(queue.held());
-    queue.clear();
-    Ok(is_filled && queue.held().is_empty() && queue.has_room())
+fn fills_and_clears(alloc: Global, shape: Shape) -> bool {
+    match Queue::new(alloc, shape) {
+        Ok(mut queue) => {
+            let is_filled = filled(&mut queue) == 15 && is_in_order(queue.held());
+            queue.clear();
+            is_filled && queue.held().is_empty() && queue.has_room()
+        }
+        Err(_) => false,
+    }
 }
 
 #[test]
-fn holds_in_order(rt: HostRuntime) -> Result<(), Fail> {
-    let shape = Shape::new(512, 16, 64).ok().ok_or("a shape")?;
-    assert!(rt; fills_and_clears(rt.alloc(), shape)?);
-    Ok(())
+fn holds_in_order(rt: HostRuntime) {
+    let all = match Shape::new(512, 16, 64) {
+        Ok(shape) => fills_and_clears(rt.alloc(), shape),
+        Err(_) => false,
+    };
+    assert!(rt; all);
 }
