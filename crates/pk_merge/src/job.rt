@@ -74,7 +74,7 @@ impl<A: Region> MergeJob<A> {
         ensures idle { IfOk result (λ j. IsIdle plan j) }
         ensures pinned { IfOk result (λ j. j.pinned ≡ shapes.pinned plan frames) }
     {
-        let merger = Merger::new(alloc.clone()?, plan.shape())?;
+        let merger = Merger::new(alloc, plan.shape())?;
         let spares = Spares::new(alloc, plan.shape())?;
         Ok(MergeJob {
             pinned: plan.pinned(frames),
@@ -234,16 +234,14 @@ impl<A: Region> MergeJob<A> {
         ensures taken { held_at self.old level ≡ Some result }
         ensures left { self.new ≡ taken_from self.old level }
     {
-        if level == self.target {
-            match self.output.take() {
-                Some(run) => run,
-                None => unreachable!(),
-            }
+        let held = if level == self.target {
+            self.output.take()
         } else {
-            match self.spares.take(level) {
-                Some(run) => run,
-                None => unreachable!(),
-            }
+            self.spares.take(level)
+        };
+        match held {
+            Some(run) => run,
+            None => unreachable!(),
         }
     }
 

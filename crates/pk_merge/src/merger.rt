@@ -76,9 +76,9 @@ impl<A: Region> Merger<A> {
         ensures shape { IfOk result (λ m. IsMergerOf shape m) }
         ensures start { IfOk result (λ m. m ≡ restarted m) }
     {
-        let source = Cursor::new(alloc.clone()?, shape)?;
-        let target = Cursor::new(alloc.clone()?, shape)?;
-        let gathered = Gathered::new(alloc.clone()?, shape)?;
+        let source = Cursor::new(alloc, shape)?;
+        let target = Cursor::new(alloc, shape)?;
+        let gathered = Gathered::new(alloc, shape)?;
         let page = Vec::from_elem(alloc, 0u8, shape.page_bytes() as usize)?;
         Ok(Merger {
             source,
@@ -129,9 +129,9 @@ impl<A: Region> Merger<A> {
         let source_left = self.source.place() < source.entries();
         let target_left = self.target.place() < target.entries();
         !self.gathered.is_full()
-            && (source_left || target_left)
-            && !(source_left && source.wants_page(&self.source))
-            && !(target_left && self.target.wants_page())
+            & (source_left | target_left)
+            & !(source_left & source.wants_page(&self.source))
+            & !(target_left & self.target.wants_page())
     }
 
     // Whether the entries of the next page are all there.

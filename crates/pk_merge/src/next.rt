@@ -1,7 +1,7 @@
 //! What a merge does next.
 
 /// The one action of a step.
-#[derive(Clone, Copy, Debug, PartialEq, Eq)]
+#[derive(Clone, Copy)]
 pub enum Next {
     /// Loads the page at the source's cursor.
     LoadSource,
