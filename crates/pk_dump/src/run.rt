@@ -17,7 +17,7 @@ use std::alloc::{AllocError, Allocator};
 use std::fmt::Write;
 
 /// Which page of which run.
-#[derive(Clone, Copy, Debug, PartialEq, Eq)]
+#[derive(Clone, Copy)]
 pub struct Wanted {
     pub level: u8,
     pub index: u32,
