@@ -169,7 +169,13 @@ fn tell_block<A: Allocator>(
 {
     shape.known();
     let used = block_use(root, block);
-    tell_use(out, form, block, name_of(used, live, block), count_of(live, block))?;
+    tell_use(
+        out,
+        form,
+        block,
+        name_of(used, live, block),
+        count_of(live, block),
+    )?;
     tell_letters(out, shape, used, live, block, pages)
 }
 

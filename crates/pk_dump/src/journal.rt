@@ -139,6 +139,14 @@ fn tell_commit(
     Ok(goes_on(held))
 }
 
+/// Tells of the number of an epoch.
+fn tell_number(out: &mut String, form: Form, number: u64) -> Result<(), AllocError> {
+    match form {
+        Form::People => writeln!(out, "epoch {number}"),
+        Form::Programs => writeln!(out, "epoch number={number}"),
+    }
+}
+
 /// Tells of the commits of an epoch.
 fn tell_epoch(
     out: &mut String,
@@ -150,10 +158,7 @@ fn tell_epoch(
     requires { AreFull shape.now pages.now }
 {
     let number = epoch.number;
-    match form {
-        Form::People => writeln!(out, "epoch {number}")?,
-        Form::Programs => writeln!(out, "epoch number={number}")?,
-    }
+    tell_number(out, form, number)?;
     for index in 0..shape.epoch_commits() {
         let Some(at) = page_in(shape, &epoch.blocks, index) else {
             return Ok(());
