@@ -111,6 +111,50 @@ fn name_of<A: Allocator>(used: BlockUse, live: Option<&Live<A>>, block: u32) -> 
     }
 }
 
+/// Tells what a block is for, and how many live pages it has.
+fn tell_use(
+    out: &mut String,
+    form: Form,
+    block: u32,
+    name: &str,
+    count: u32,
+) -> Result<(), AllocError> {
+    match form {
+        Form::People => write!(out, "block {block:>4} {name:<12} {count:>3} live  "),
+        Form::Programs => write!(out, "block number={block} use={name} live={count} pages="),
+    }
+}
+
+/// Tells of the pages of a block, a letter for each.
+fn tell_letters<A: Allocator>(
+    out: &mut String,
+    shape: &Shape,
+    used: BlockUse,
+    live: Option<&Live<A>>,
+    block: u32,
+    pages: &[PageState],
+) -> Result<(), AllocError>
+    requires { block < shape.now.blocks }
+{
+    shape.known();
+    let first = block * shape.block_pages();
+    for i in 0..shape.block_pages() {
+        let Some(page) = pages.get((first + i) as usize) else {
+            return Ok(());
+        };
+        out.push(letter(used, life_of(live, first + i), page))?;
+    }
+    writeln!(out, "")
+}
+
+/// How many live pages a block has.
+fn count_of<A: Allocator>(live: Option<&Live<A>>, block: u32) -> u32 {
+    match live {
+        Some(live) => live.count(block),
+        None => 0,
+    }
+}
+
 /// Tells of a block: its use, its live pages, and a letter for each page.
 fn tell_block<A: Allocator>(
     out: &mut String,
@@ -125,23 +169,14 @@ fn tell_block<A: Allocator>(
 {
     shape.known();
     let used = block_use(root, block);
-    let name = name_of(used, live, block);
-    let count = match live {
-        Some(live) => live.count(block),
-        None => 0,
-    };
-    match form {
-        Form::People => write!(out, "block {block:>4} {name:<12} {count:>3} live  ")?,
-        Form::Programs => write!(out, "block number={block} use={name} live={count} pages=")?,
-    }
-    let first = block * shape.block_pages();
-    for i in 0..shape.block_pages() {
-        let Some(page) = pages.get((first + i) as usize) else {
-            return Ok(());
-        };
-        out.push(letter(used, life_of(live, first + i), page))?;
-    }
-    writeln!(out, "")
+    tell_use(
+        out,
+        form,
+        block,
+        name_of(used, live, block),
+        count_of(live, block),
+    )?;
+    tell_letters(out, shape, used, live, block, pages)
 }
 
 /// Tells of all blocks.

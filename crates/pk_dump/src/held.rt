@@ -8,7 +8,7 @@ use std::alloc::AllocError;
 use std::fmt::Write;
 
 /// What stands where a page of an epoch or of a run has its place.
-#[derive(Clone, Copy, Debug, PartialEq, Eq)]
+#[derive(Clone, Copy)]
 pub enum Held {
     /// The page is Erased.
     Erased,
@@ -32,6 +32,15 @@ pub fn page_in(shape: &Shape, blocks: &[u16], place: u32) -> Option<u32>
     }
 }
 
+/// What a page without entries is called.
+fn name_of(held: Held) -> &'static str {
+    match held {
+        Held::Erased => "erased",
+        Held::Torn => "torn",
+        Held::Wrong | Held::Entries { .. } => "wrong",
+    }
+}
+
 /// Tells of a page at its place; its entries are told behind it.
 pub fn tell_held(
     out: &mut String,
@@ -40,18 +49,15 @@ pub fn tell_held(
     page: u32,
     held: Held,
 ) -> Result<(), AllocError> {
-    match form {
-        Form::People => match held {
-            Held::Erased => writeln!(out, "{of}: page {page} is erased"),
-            Held::Torn => writeln!(out, "{of}: page {page} is torn"),
-            Held::Wrong => writeln!(out, "{of}: page {page} is wrong"),
-            Held::Entries { count } => writeln!(out, "{of}: page {page}, {count} entries"),
-        },
-        Form::Programs => match held {
-            Held::Erased => writeln!(out, "page of={of} number={page} is=erased"),
-            Held::Torn => writeln!(out, "page of={of} number={page} is=torn"),
-            Held::Wrong => writeln!(out, "page of={of} number={page} is=wrong"),
-            Held::Entries { count } => writeln!(out, "page of={of} number={page} entries={count}"),
-        },
+    let name = name_of(held);
+    match (form, held) {
+        (Form::People, Held::Entries { count }) => {
+            writeln!(out, "{of}: page {page}, {count} entries")
+        }
+        (Form::People, _) => writeln!(out, "{of}: page {page} is {name}"),
+        (Form::Programs, Held::Entries { count }) => {
+            writeln!(out, "page of={of} number={page} entries={count}")
+        }
+        (Form::Programs, _) => writeln!(out, "page of={of} number={page} is={name}"),
     }
 }

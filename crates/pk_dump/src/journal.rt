@@ -18,7 +18,7 @@ use std::alloc::{AllocError, Allocator};
 use std::fmt::Write;
 
 /// An epoch that a root names: its number, and its blocks.
-#[derive(Clone, Copy, Debug, PartialEq, Eq)]
+#[derive(Clone, Copy)]
 pub struct NamedEpoch {
     pub number: u64,
     pub blocks: [u16; 2],
@@ -107,6 +107,14 @@ fn tell_entries(
     Ok(())
 }
 
+/// Whether an epoch may go on behind such a page.
+fn goes_on(held: Held) -> bool {
+    match held {
+        Held::Entries { .. } | Held::Wrong => true,
+        Held::Erased | Held::Torn => false,
+    }
+}
+
 /// Tells of a commit, and answers whether the epoch goes on behind it.
 fn tell_commit(
     out: &mut String,
@@ -121,16 +129,21 @@ fn tell_commit(
     requires index { index < epoch_commits shape.now }
 {
     let held = commit_in(shape, number, index, page);
-    if held == Held::Erased {
+    if let Held::Erased = held {
         return Ok(false);
     }
     tell_held(out, form, "epoch", at, held)?;
-    match held {
-        Held::Entries { .. } => {
-            tell_entries(out, form, shape, page)?;
-            Ok(true)
-        }
-        _ => Ok(held == Held::Wrong),
+    if let Held::Entries { .. } = held {
+        tell_entries(out, form, shape, page)?;
+    }
+    Ok(goes_on(held))
+}
+
+/// Tells of the number of an epoch.
+fn tell_number(out: &mut String, form: Form, number: u64) -> Result<(), AllocError> {
+    match form {
+        Form::People => writeln!(out, "epoch {number}"),
+        Form::Programs => writeln!(out, "epoch number={number}"),
     }
 }
 
@@ -145,10 +158,7 @@ fn tell_epoch(
     requires { AreFull shape.now pages.now }
 {
     let number = epoch.number;
-    match form {
-        Form::People => writeln!(out, "epoch {number}")?,
-        Form::Programs => writeln!(out, "epoch number={number}")?,
-    }
+    tell_number(out, form, number)?;
     for index in 0..shape.epoch_commits() {
         let Some(at) = page_in(shape, &epoch.blocks, index) else {
             return Ok(());

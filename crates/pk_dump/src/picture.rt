@@ -2,7 +2,7 @@
 use pk_nand::PageState;
 
 /// What a block is for.
-#[derive(Clone, Copy, Debug, PartialEq, Eq)]
+#[derive(Clone, Copy)]
 pub enum BlockUse {
     /// Roots.
     Root,
@@ -17,7 +17,7 @@ pub enum BlockUse {
 }
 
 /// What is known of the value to which a page belongs.
-#[derive(Clone, Copy, Debug, PartialEq, Eq)]
+#[derive(Clone, Copy)]
 pub enum Life {
     /// It is the value of a key that is there.
     Live,

@@ -29,6 +29,55 @@ fn root_in<A: Allocator>(root: &mut Root<A>, page: &PageState) -> bool
     }
 }
 
+/// Tells of the number of a root and of its newest epoch.
+fn tell_epoch<A: Allocator>(
+    out: &mut String,
+    form: Form,
+    page: u32,
+    root: &Root<A>,
+) -> Result<(), AllocError> {
+    let number = root.number();
+    let epoch = root.epoch();
+    match form {
+        Form::People => write!(
+            out,
+            "root {number} in page {page}: epoch {epoch} in blocks "
+        )?,
+        Form::Programs => write!(
+            out,
+            "root page={page} number={number} epoch={epoch} blocks="
+        )?,
+    }
+    tell_pair(out, root.newest())
+}
+
+/// Tells of the blocks of the older epoch, behind those of the newest one.
+fn tell_older(out: &mut String, form: Form, older: Option<[u16; 2]>) -> Result<(), AllocError> {
+    match older {
+        Some(blocks) => {
+            out.push_str(match form {
+                Form::People => ", the older one in blocks ",
+                Form::Programs => " older=",
+            })?;
+            tell_pair(out, blocks)
+        }
+        None => out.push_str(match form {
+            Form::People => "",
+            Form::Programs => " older=-",
+        }),
+    }
+}
+
+/// Tells whether a root is the newest, at the end of its line.
+fn tell_newest(out: &mut String, form: Form, is_newest: bool) -> Result<(), AllocError> {
+    out.push_str(match (form, is_newest) {
+        (Form::People, true) => "; the newest\n",
+        (Form::People, false) => "\n",
+        (Form::Programs, true) => " newest=1\n",
+        (Form::Programs, false) => " newest=0\n",
+    })
+}
+
 /// Tells of the root of a page.
 fn tell_root<A: Allocator>(
     out: &mut String,
@@ -37,43 +86,12 @@ fn tell_root<A: Allocator>(
     root: &Root<A>,
     newest: Option<u32>,
 ) -> Result<(), AllocError> {
-    let number = root.number();
-    let epoch = root.epoch();
-    let blocks = root.newest();
-    match form {
-        Form::People => {
-            write!(
-                out,
-                "root {number} in page {page}: epoch {epoch} in blocks "
-            )?;
-            tell_pair(out, blocks)?;
-            if let Some(older) = root.older() {
-                write!(out, ", the older one in blocks ")?;
-                tell_pair(out, older)?;
-            }
-        }
-        Form::Programs => {
-            write!(
-                out,
-                "root page={page} number={number} epoch={epoch} blocks="
-            )?;
-            tell_pair(out, blocks)?;
-            write!(out, " older=")?;
-            match root.older() {
-                Some(older) => tell_pair(out, older)?,
-                None => write!(out, "-")?,
-            }
-        }
-    }
+    tell_epoch(out, form, page, root)?;
+    tell_older(out, form, root.older())?;
     for level in 1..5u8 {
         tell_level(out, form, level, root)?;
     }
-    let is_newest = newest == Some(page);
-    match form {
-        Form::People if is_newest => writeln!(out, "; the newest"),
-        Form::People => writeln!(out, ""),
-        Form::Programs => writeln!(out, " newest={}", is_newest as u32),
-    }
+    tell_newest(out, form, newest == Some(page))
 }
 
 /// Tells of the run of a level under a root.
@@ -87,18 +105,11 @@ fn tell_level<A: Allocator>(
 {
     let entries = root.entries(level);
     match form {
-        Form::People => {
-            if entries != 0 {
-                write!(out, "; run {level} of {entries} entries in blocks ")?;
-                tell_blocks(out, root.blocks(level))?;
-            }
-        }
-        Form::Programs => {
-            write!(out, " run{level}={entries} run{level}_blocks=")?;
-            tell_blocks(out, root.blocks(level))?;
-        }
+        Form::People if entries == 0 => return Ok(()),
+        Form::People => write!(out, "; run {level} of {entries} entries in blocks ")?,
+        Form::Programs => write!(out, " run{level}={entries} run{level}_blocks=")?,
     }
-    Ok(())
+    tell_blocks(out, root.blocks(level))
 }
 
 /// Tells of every root of the root blocks.

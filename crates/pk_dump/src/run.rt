@@ -17,7 +17,7 @@ use std::alloc::{AllocError, Allocator};
 use std::fmt::Write;
 
 /// Which page of which run.
-#[derive(Clone, Copy, Debug, PartialEq, Eq)]
+#[derive(Clone, Copy)]
 pub struct Wanted {
     pub level: u8,
     pub index: u32,
@@ -113,6 +113,14 @@ fn tell_page(
     }
 }
 
+/// Tells how many entries the run of a level has.
+fn tell_count(out: &mut String, form: Form, level: u8, entries: u32) -> Result<(), AllocError> {
+    match form {
+        Form::People => writeln!(out, "run {level}: {entries} entries"),
+        Form::Programs => writeln!(out, "run level={level} entries={entries}"),
+    }
+}
+
 /// Tells of the pages of the run of a level, with so many entries in these blocks.
 fn tell_run(
     out: &mut String,
@@ -126,10 +134,7 @@ fn tell_run(
     requires full { AreFull shape.now pages.now }
     requires level { 1 ≤ level × level ≤ 4 }
 {
-    match form {
-        Form::People => writeln!(out, "run {level}: {entries} entries")?,
-        Form::Programs => writeln!(out, "run level={level} entries={entries}")?,
-    }
+    tell_count(out, form, level, entries)?;
     for index in 0..entries.div_ceil(shape.entries()) {
         let wanted = wanted_page(shape, level, entries, index);
         let Some(at) = page_in(shape, blocks, index) else {

@@ -34,23 +34,29 @@ pub fn tell_key(out: &mut String, key: &Key) -> Result<(), AllocError> {
 
 /// Tells of an entry.
 pub fn tell_entry(out: &mut String, form: Form, entry: &Entry) -> Result<(), AllocError> {
-    match form {
-        Form::People => write!(out, "  ")?,
-        Form::Programs => write!(out, "entry key=")?,
-    }
+    out.push_str(match form {
+        Form::People => "  ",
+        Form::Programs => "entry key=",
+    })?;
     tell_key(out, entry.key())?;
-    match (form, entry.place()) {
-        (Form::People, Some(place)) => {
-            let page = place.page;
-            let len = place.len;
-            writeln!(out, " in page {page}, {len} bytes")
-        }
-        (Form::People, None) => writeln!(out, " deleted"),
-        (Form::Programs, Some(place)) => {
-            let page = place.page;
-            let len = place.len;
-            writeln!(out, " page={page} len={len}")
-        }
-        (Form::Programs, None) => writeln!(out, " deleted=1"),
+    match entry.place() {
+        Some(place) => tell_place(out, form, place.page, place.len),
+        None => tell_deleted(out, form),
+    }
+}
+
+/// Tells where a value stands, behind its key.
+fn tell_place(out: &mut String, form: Form, page: u32, len: u32) -> Result<(), AllocError> {
+    match form {
+        Form::People => writeln!(out, " in page {page}, {len} bytes"),
+        Form::Programs => writeln!(out, " page={page} len={len}"),
+    }
+}
+
+/// Tells that a key was deleted, behind it.
+fn tell_deleted(out: &mut String, form: Form) -> Result<(), AllocError> {
+    match form {
+        Form::People => out.push_str(" deleted\n"),
+        Form::Programs => out.push_str(" deleted=1\n"),
     }
 }
