@@ -201,25 +201,6 @@ fn store(operands: Operands, value: &mut Bytes) -> Option<Form>
 }
 
 /// An entry as it is; the bytes behind it come into `value`.
-fn raw_with(entry: Option<[u8; 64]>, bytes: &[u8], value: &mut Bytes) -> Option<[u8; 64]>
-    requires empty { value.old.items ≡ [] }
-    requires fits { length bytes.now ≤ 2 * value.old.room }
-    ensures entry { result ≡ option_map (λ s. s.0) (spec.raw_with entry (bytes_of bytes.now)) }
-    ensures value { value.new
-        ≡ record value.old { items = spec.brought (spec.raw_with entry (bytes_of bytes.now)) } }
-{
-    match entry {
-        Some(entry) => {
-            if bytes_word(bytes, value) {
-                Some(entry)
-            } else {
-                None
-            }
-        }
-        None => None,
-    }
-}
-
 fn raw(operands: Operands, value: &mut Bytes) -> Option<[u8; 64]>
     requires empty { value.old.items ≡ [] }
     requires fits { AllByRecursion (λ word. length word ≤ 2 * value.old.room) (words_in operands) }
@@ -228,7 +209,14 @@ fn raw(operands: Operands, value: &mut Bytes) -> Option<[u8; 64]>
         ≡ record value.old { items = spec.brought (spec.raw_of (words_in operands.entry)) } }
 {
     match operands {
-        Operands::Two(entry, bytes) => raw_with(entry_word(entry), bytes, value),
+        Operands::Two(word, bytes) => {
+            let entry = entry_word(word)?;
+            if bytes_word(bytes, value) {
+                Some(entry)
+            } else {
+                None
+            }
+        }
         _ => None,
     }
 }
