@@ -1,8 +1,7 @@
 //! The line of an entry and its bytes.
 ghost use Rattle.std.specs.Prelude.{◌≡◌, ◌+◌, ◌≤◌, ◌<◌, ◌++◌, ◌∷◌, ◌&&◌, [], length, nat_le, if◌then◌else◌, codes};
 ghost use Rattle.pk_nvme.specs.Text.{hex_text, bytes_text, number_text};
-ghost use Rattle.pk_asm.specs.Printed.{WritesLine, behind_blanks};
-ghost use Rattle.pk_asm.specs.PrintedWord.{word_text, tail_text};
+ghost use Rattle.pk_asm.specs.Printed.{WritesLine};
 ghost use Rattle.pk_nvme.specs.Seen.{command_of};
 ghost use Rattle.pk_nvme.specs.Command.{command};
 ghost use Rattle.pk_asm.specs.Printed as spec;
@@ -144,29 +143,6 @@ fn form_that_gives(number: u64, entry: &[u8; 64], value: &[u8]) -> Option<Form>
     that_gives(number, entry, candidate(&Request::of(entry), value))
 }
 
-/// The line of a name and one word, and its line feed, where they fit.
-fn put_one(name: &[u8], word: Word, into: &mut Bytes) -> bool
-    ensures { WritesLine (name.now ++ tail_text (word.entry ∷ [])) into.old into.new result }
-{
-    put_line(name, &[word], into)
-}
-
-/// The line of a name and two words, and its line feed, where they fit.
-fn put_two(name: &[u8], first: Word, second: Word, into: &mut Bytes) -> bool
-    ensures { WritesLine (name.now ++ tail_text (first.entry ∷ second.entry ∷ [])) into.old into.new
-        result }
-{
-    put_line(name, &[first, second], into)
-}
-
-/// The line of a Store with this word behind its key and its bytes, and its line feed, where they fit.
-fn put_optional(key: Word, bytes: Word, option: &[u8], into: &mut Bytes) -> bool
-    ensures { WritesLine (codes "store" ++ behind_blanks (word_text key.entry ∷ word_text bytes.entry ∷ option.now ∷ []))
-        into.old into.new result }
-{
-    put_line(b"store", &[key, bytes, Word::Text(option)], into)
-}
-
 /// The line of a Store with these option bits, and its line feed, where they fit.
 fn put_store<'a>(key: &'a [u8], options: u8, value: &'a [u8], into: &mut Bytes) -> bool
     ensures { WritesLine (spec.line_of (codes "store" ∷ hex_text key.now ∷ bytes_text value.now
@@ -175,10 +151,10 @@ fn put_store<'a>(key: &'a [u8], options: u8, value: &'a [u8], into: &mut Bytes) 
     let key = Word::Hex(key);
     let bytes = Word::of_bytes(value);
     match options {
-        1 => put_optional(key, bytes, b"if-exists", into),
-        2 => put_optional(key, bytes, b"if-absent", into),
-        3 => put_optional(key, bytes, b"both", into),
-        _ => put_two(b"store", key, bytes, into),
+        1 => put_line(b"store", &[key, bytes, Word::Text(b"if-exists")], into),
+        2 => put_line(b"store", &[key, bytes, Word::Text(b"if-absent")], into),
+        3 => put_line(b"store", &[key, bytes, Word::Text(b"both")], into),
+        _ => put_line(b"store", &[key, bytes], into),
     }
 }
 
@@ -188,8 +164,8 @@ fn put_list(from: &Option<Key>, size: u32, into: &mut Bytes) -> bool
         into.new result }
 {
     match from {
-        Some(key) => put_two(b"list", Word::Hex(key.bytes()), Word::Number(size), into),
-        None => put_two(b"list", Word::Text(b"-"), Word::Number(size), into),
+        Some(key) => put_line(b"list", &[Word::Hex(key.bytes()), Word::Number(size)], into),
+        None => put_line(b"list", &[Word::Text(b"-"), Word::Number(size)], into),
     }
 }
 
@@ -200,19 +176,18 @@ fn put_form(form: &Form, value: &[u8], into: &mut Bytes) -> bool
     match form {
         Form::Store { key, options, .. } => put_store(key.bytes(), *options, value, into),
         Form::Retrieve { key, size } => {
-            put_two(
+            put_line(
                 b"retrieve",
-                Word::Hex(key.bytes()),
-                Word::Number(*size),
+                &[Word::Hex(key.bytes()), Word::Number(*size)],
                 into,
             )
         }
-        Form::Delete { key } => put_one(b"delete", Word::Hex(key.bytes()), into),
-        Form::Exist { key } => put_one(b"exist", Word::Hex(key.bytes()), into),
+        Form::Delete { key } => put_line(b"delete", &[Word::Hex(key.bytes())], into),
+        Form::Exist { key } => put_line(b"exist", &[Word::Hex(key.bytes())], into),
         Form::ListFrom { from, size } => put_list(from, *size, into),
         Form::Flush => put_line(b"flush", &[], into),
         Form::Report => put_line(b"report", &[], into),
-        Form::Tick { steps } => put_one(b"tick", Word::Number(*steps), into),
+        Form::Tick { steps } => put_line(b"tick", &[Word::Number(*steps)], into),
     }
 }
 
@@ -227,6 +202,6 @@ pub fn print(entry: &[u8; 64], value: &[u8], number: u64, into: &mut Bytes) -> b
 {
     match form_that_gives(number, entry, value) {
         Some(form) => put_form(&form, value, into),
-        None => put_two(b"raw", Word::Hex(entry), Word::of_bytes(value), into),
+        None => put_line(b"raw", &[Word::Hex(entry), Word::of_bytes(value)], into),
     }
 }
