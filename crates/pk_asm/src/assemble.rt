@@ -29,10 +29,13 @@ fn retrieve(operands: Operands) -> Option<Form>
     ensures { result ≡ spec.retrieve_of (words_in operands.entry) }
 {
     match operands {
-        Operands::Two(key_word, size) => Some(Form::Retrieve {
-            key: key(key_word)?,
-            size: number_of(size)?,
-        }),
+        Operands::Two(key_word, size) => match key(key_word) {
+            Some(key) => match number_of(size) {
+                Some(size) => Some(Form::Retrieve { key, size }),
+                None => None,
+            },
+            None => None,
+        },
         _ => None,
     }
 }
@@ -41,9 +44,10 @@ fn delete(operands: Operands) -> Option<Form>
     ensures { result ≡ spec.delete_of (words_in operands.entry) }
 {
     match operands {
-        Operands::One(key_word) => Some(Form::Delete {
-            key: key(key_word)?,
-        }),
+        Operands::One(key_word) => match key(key_word) {
+            Some(key) => Some(Form::Delete { key }),
+            None => None,
+        },
         _ => None,
     }
 }
@@ -52,9 +56,10 @@ fn exist(operands: Operands) -> Option<Form>
     ensures { result ≡ spec.exist_of (words_in operands.entry) }
 {
     match operands {
-        Operands::One(key_word) => Some(Form::Exist {
-            key: key(key_word)?,
-        }),
+        Operands::One(key_word) => match key(key_word) {
+            Some(key) => Some(Form::Exist { key }),
+            None => None,
+        },
         _ => None,
     }
 }
@@ -76,10 +81,13 @@ fn list(operands: Operands) -> Option<Form>
     ensures { result ≡ spec.list_of (words_in operands.entry) }
 {
     match operands {
-        Operands::Two(key_word, size) => Some(Form::ListFrom {
-            from: from(key_word)?,
-            size: number_of(size)?,
-        }),
+        Operands::Two(key_word, size) => match from(key_word) {
+            Some(from) => match number_of(size) {
+                Some(size) => Some(Form::ListFrom { from, size }),
+                None => None,
+            },
+            None => None,
+        },
         _ => None,
     }
 }
@@ -106,9 +114,10 @@ fn tick(operands: Operands) -> Option<Form>
     ensures { result ≡ spec.tick_of (words_in operands.entry) }
 {
     match operands {
-        Operands::One(steps) => Some(Form::Tick {
-            steps: number_of(steps)?,
-        }),
+        Operands::One(steps) => match number_of(steps) {
+            Some(steps) => Some(Form::Tick { steps }),
+            None => None,
+        },
         _ => None,
     }
 }
@@ -201,25 +210,6 @@ fn store(operands: Operands, value: &mut Bytes) -> Option<Form>
 }
 
 /// An entry as it is; the bytes behind it come into `value`.
-fn raw_with(entry: Option<[u8; 64]>, bytes: &[u8], value: &mut Bytes) -> Option<[u8; 64]>
-    requires empty { value.old.items ≡ [] }
-    requires fits { length bytes.now ≤ 2 * value.old.room }
-    ensures entry { result ≡ option_map (λ s. s.0) (spec.raw_with entry (bytes_of bytes.now)) }
-    ensures value { value.new
-        ≡ record value.old { items = spec.brought (spec.raw_with entry (bytes_of bytes.now)) } }
-{
-    match entry {
-        Some(entry) => {
-            if bytes_word(bytes, value) {
-                Some(entry)
-            } else {
-                None
-            }
-        }
-        None => None,
-    }
-}
-
 fn raw(operands: Operands, value: &mut Bytes) -> Option<[u8; 64]>
     requires empty { value.old.items ≡ [] }
     requires fits { AllByRecursion (λ word. length word ≤ 2 * value.old.room) (words_in operands) }
@@ -228,7 +218,16 @@ fn raw(operands: Operands, value: &mut Bytes) -> Option<[u8; 64]>
         ≡ record value.old { items = spec.brought (spec.raw_of (words_in operands.entry)) } }
 {
     match operands {
-        Operands::Two(entry, bytes) => raw_with(entry_word(entry), bytes, value),
+        Operands::Two(word, bytes) => match entry_word(word) {
+            Some(entry) => {
+                if bytes_word(bytes, value) {
+                    Some(entry)
+                } else {
+                    None
+                }
+            }
+            None => None,
+        },
         _ => None,
     }
 }

@@ -31,10 +31,22 @@ pub struct Assembler {
 impl Assembler {
     /// Takes all the memory that assembling needs; an error where it is missing.
     pub fn new(alloc: Global) -> Result<Assembler, AllocError> {
-        let feed = Feed::new(alloc)?;
-        let line = Bytes::with_room(alloc, MOST_BYTES + 1)?;
-        let value = Bytes::with_room(alloc, MOST_VALUE)?;
-        let out = Bytes::with_room(alloc, 64 + MOST_VALUE)?;
+        let feed = match Feed::new(alloc) {
+            Ok(feed) => feed,
+            Err(error) => return Err(error),
+        };
+        let line = match Bytes::with_room(alloc, MOST_BYTES + 1) {
+            Ok(line) => line,
+            Err(error) => return Err(error),
+        };
+        let value = match Bytes::with_room(alloc, MOST_VALUE) {
+            Ok(value) => value,
+            Err(error) => return Err(error),
+        };
+        let out = match Bytes::with_room(alloc, 64 + MOST_VALUE) {
+            Ok(out) => out,
+            Err(error) => return Err(error),
+        };
         Ok(Assembler {
             feed,
             line,

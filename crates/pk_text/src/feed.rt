@@ -33,12 +33,14 @@ impl Feed {
     pub fn new(alloc: Global) -> Result<Feed, AllocError>
         ensures { IfOk result (λ f. f ≡ []) }
     {
-        let bytes = Vec::from_elem(alloc, 0u8, PIECE)?;
-        Ok(Feed {
-            bytes,
-            from: 0,
-            to: 0,
-        })
+        match Vec::from_elem(alloc, 0u8, PIECE) {
+            Ok(bytes) => Ok(Feed {
+                bytes,
+                from: 0,
+                to: 0,
+            }),
+            Err(error) => Err(error),
+        }
     }
 
     /// No bytes.

@@ -26,9 +26,18 @@ pub struct Shower {
 impl Shower {
     /// Takes all the memory that showing needs; an error where it is missing.
     pub fn new(alloc: Global) -> Result<Shower, AllocError> {
-        let feed = Feed::new(alloc)?;
-        let head = Bytes::with_room(alloc, 24)?;
-        let text = Bytes::with_room(alloc, 2 * PIECE)?;
+        let feed = match Feed::new(alloc) {
+            Ok(feed) => feed,
+            Err(error) => return Err(error),
+        };
+        let head = match Bytes::with_room(alloc, 24) {
+            Ok(head) => head,
+            Err(error) => return Err(error),
+        };
+        let text = match Bytes::with_room(alloc, 2 * PIECE) {
+            Ok(text) => text,
+            Err(error) => return Err(error),
+        };
         Ok(Shower { feed, head, text })
     }
 
