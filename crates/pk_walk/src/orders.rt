@@ -9,7 +9,7 @@ use std::cmp::Ordering;
 
 /// How the first wanted entry of each source but the active buffer stands to the least of those
 /// before it.
-#[derive(Clone, Copy, Debug)]
+#[derive(Clone, Copy)]
 pub struct Orders {
     pub frozen: Ordering,
     pub first: Ordering,
@@ -19,7 +19,7 @@ pub struct Orders {
 }
 
 /// Those of them that hold for the next key as well: neither that source nor one before it went on.
-#[derive(Clone, Copy, Debug)]
+#[derive(Clone, Copy)]
 pub struct KeptOrders {
     pub frozen: Option<Ordering>,
     pub first: Option<Ordering>,

@@ -23,14 +23,24 @@ fn wants_at(shape: &Shape, page: &[u8], position: &Position, i: u32) -> bool
     position.wants(cell)
 }
 
-/// The place to look at next: the two next ones first, and then the middle.
-fn next_look(from: u32, low: u32, high: u32) -> u32
+/// How many of the next entries are looked at before the rest is halved: two, since a walk mostly
+/// stays at its place or goes on by one, and none where it begins at a key.
+fn first_looks(position: &Position) -> u32 {
+    match position {
+        Position::From(_) => 0,
+        Position::First => 2,
+        Position::Above(_) => 2,
+    }
+}
+
+/// The place to look at next: some of the next ones first, and then the middle.
+fn next_look(from: u32, low: u32, high: u32, first: u32) -> u32
     requires rest { low < high }
     requires forth { from ≤ low }
     ensures low { low ≤ result }
     ensures high { result < high }
 {
-    if low - from < 2 {
+    if low - from < first {
         low
     } else {
         low + (high - low) / 2
@@ -38,8 +48,6 @@ fn next_look(from: u32, low: u32, high: u32) -> u32
 }
 
 /// The place of the first wanted entry of the page from this place on; the end where there is none.
-/// The two next entries are looked at first, since a walk mostly stays at its place or goes on by
-/// one, and then the rest is halved.
 pub fn first_wanted(shape: &Shape, page: &[u8], position: &Position, from: u32) -> u32
     requires sized { length page.now ≡ shape.now.page_bytes }
     requires decodes { Decodes shape.now page.now }
@@ -47,10 +55,11 @@ pub fn first_wanted(shape: &Shape, page: &[u8], position: &Position, from: u32) 
     ensures { IsFirstWanted position.now page.now from result }
 {
     shape.known();
+    let first = first_looks(position);
     let mut low = from;
     let mut high = get_u16(page, 10) as u32;
     while low < high {
-        let middle = next_look(from, low, high);
+        let middle = next_look(from, low, high, first);
         if wants_at(shape, page, position, middle) {
             high = middle;
         } else {
