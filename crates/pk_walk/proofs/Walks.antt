@@ -1,5 +1,5 @@
 -- A walk over all lists: what a step leaves, and what is left behind several.
-use Rattle.std.proofs.Common.{◌≡◌, ℕ, suc, ◌+◌, ◌<◌, ◌≤◌, refl, sym, ap, subst, ◌∙◌, arith, Bool, true, false, if◌then◌else◌, T, is_some, List, [], ◌∷◌, ◌++◌, length, drop, Option, Some, None, Result, Ok, Err}
+use Rattle.std.proofs.Common.{◌≡◌, ℕ, suc, ◌+◌, ◌<◌, ◌≤◌, refl, sym, ap, subst, ◌∙◌, arith, Bool, true, false, if◌then◌else◌, T, is_some, option_map, List, [], ◌∷◌, ◌++◌, length, drop, Option, Some, None, Result, Ok, Err}
 use Rattle.std.specs.List.{AllByRecursion, flat_map}
 use Rattle.std.specs.Ordering.{is_eq, is_gt}
 use Rattle.std.specs.declared.cmp.Ordering.TheVariants.{Less, Equal, Greater}
@@ -24,7 +24,7 @@ use Rattle.pk_model.specs.Values.{placed}
 use Rattle.pk_model.proofs.Lookups.{firsts_sorted}
 use Rattle.pk_walk.specs.declared.position.Position.{Position}
 use Rattle.pk_walk.specs.declared.position.Position.TheVariants.{First, Above}
-use Rattle.pk_walk.specs.Visible.{visible, is_wanted, wanted, first_of, lesser, least_first}
+use Rattle.pk_walk.specs.Visible.{visible, behind_found, is_wanted, wanted, first_of, lesser, least_first}
 use Rattle.pk_walk.specs.Heads.{Head, Shows, behind, entry_in, held, known_as, least_of, order_of}
 use Rattle.pk_walk.specs.Walking.{Cursor, Tops, Walk, IsWalk, AreOfShape, FollowEach, ShowBoth, cursors_behind, none_known, tops_behind, HasPassed, IsLeft, Gives, Passes, Reads, ReadsAll, ReadsFail, SkipsNoPage, SkipsNone, all_left, all_at_start, read_of, pages_read, most_read}
 use Rattle.pk_walk.specs.Steps.{AreKnown, Comes, GoBehind, GoOn, HasNone, IsKnown, ShowsEach, WalksOn, first_left, heads_in, heads_of}
@@ -276,6 +276,17 @@ module _ (rs : List Kept) (arena : Frames) (active frozen : List Entry) (shape :
           let deep = neither (entry_in t.frozen) (least_of (heads_of ds)) (sym (neither (entry_in t.active) (lesser (entry_in t.frozen) (least_of (heads_of ds))) least).1) in
           ap (pages_read rs) go.1 ∙ at.shows.ended (all_none ds (sym deep.1) at.shows.known) none.position none.passed;
     }
+
+  -- whatever it was, the walk goes behind it
+  pub comes_to_found : (a : Option RustEntry) (p : Position) → p ≡ behind_found (option_map seen a) w.position → option_map seen a ≡ least_of (heads_in t ds) → (u : Tops) (cs : List Cursor) → GoBehind (option_map seen a) t ds u cs
+      → Comes rs arena active frozen old new w (record w { position = p; tops = u; cursors = cs }) a
+  comes_to_found None p is least u cs go = subst (λ (q : Position). Comes rs arena active frozen old new w (record w { position = q; tops = u; cursors = cs }) None) (sym is) (comes_to_none least u cs go)
+  comes_to_found (Some e) p is least u cs go = subst (λ (q : Position). Comes rs arena active frozen old new w (record w { position = q; tops = u; cursors = cs }) (Some e)) (sym is) (comes_behind e (key_of (seen e)) refl least u cs go)
+
+  pub walks_to_found : (a : Option RustEntry) (p : Position) → p ≡ behind_found (option_map seen a) w.position → option_map seen a ≡ least_of (heads_in t ds) → (u : Tops) (cs : List Cursor) → GoBehind (option_map seen a) t ds u cs
+      → WalksOn old.pages arena rs active frozen w (record w { position = p; tops = u; cursors = cs })
+  walks_to_found None p is least u cs go = subst (λ (q : Position). WalksOn old.pages arena rs active frozen w (record w { position = q; tops = u; cursors = cs })) (sym is) (walks_there least u cs go)
+  walks_to_found (Some e) p is least u cs go = subst (λ (q : Position). WalksOn old.pages arena rs active frozen w (record w { position = q; tops = u; cursors = cs })) (sym is) (walks_behind e (key_of (seen e)) refl least u cs go)
 
 -- a read failed, and the walk is where it was
 pub walks_failed : (rs : List Kept) (arena : Frames) (active frozen : List Entry) (shape : Shape) (flash : Flash) (w : Walk) (t : Tops) (ds : List Cursor) → GoOn flash arena shape rs w.position w.cursors ds → t ≡ w.tops

@@ -20,6 +20,11 @@ is_wanted First key = true
 is_wanted (From from) key = not (is_lt (key_cmp key from))
 is_wanted (Above from) key = is_gt (key_cmp key from)
 
+-- the position behind what was found, if anything was
+abbrev pub behind_found : Option Entry → Position → Position
+behind_found None position = position
+behind_found (Some e) position = Above e.0
+
 -- what a list has of the keys that are wanted
 abbrev pub wanted : {X : Type 0} → (Key → Bool) → List (Key × X) → List (Key × X)
 wanted is_one es = filter (λ e. is_one e.0) es

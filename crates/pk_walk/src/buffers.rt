@@ -50,9 +50,18 @@ impl Top {
             (seen_head self.old.head) }
     {
         if !self.head.is_known() {
-            self.place = place_in(buffer, position, self.place);
-            self.head = Head::of(entry_at(buffer, self.place));
+            self.look(buffer, position);
         }
+    }
+
+    // Looks for it. A call, since it is mostly known.
+    #[inline(never)]
+    fn look<A: Region>(&mut self, buffer: &Buffer<A>, position: &Position)
+        ensures { seen_head self.new.head
+            ≡ Some (first_of (wanted (is_wanted position.now) buffer.now.entries)) }
+    {
+        self.place = place_in(buffer, position, self.place);
+        self.head = Head::of(entry_at(buffer, self.place));
     }
 }
 
@@ -69,7 +78,6 @@ impl Tops {
 }
 
 /// The place of the first entry of the buffer whose key is wanted.
-#[inline(never)]
 fn place_in<A: Region>(buffer: &Buffer<A>, position: &Position, hint: u32) -> u32
     ensures { slice_get buffer.now.entries result
         ≡ first_of (wanted (is_wanted position.now) buffer.now.entries) }

@@ -13,15 +13,15 @@ ghost use Rattle.pk_pin.specs.Frames.{Frames};
 ghost use Rattle.pk_run.specs.Kept.{RunOnFlash, page_of};
 ghost use Rattle.pk_walk.specs.declared.position.Position.{Position as PositionSpec};
 ghost use Rattle.pk_walk.specs.Heads.{entry_in, let_go, seen_head};
+ghost use Rattle.pk_walk.specs.Visible.{behind_found};
 ghost use Rattle.pk_walk.specs.Steps.{FailsToLoad, FailsToShow, HasPage, IsFirstWanted, Loads, Looks, MayLoad, Moves, StaysAt, bytes_in, holding};
 ghost use Rattle.pk_walk.specs.Walking.{Follows, HasPassed, SkipsNoPage, at_start};
 
 use crate::begin::begins_at;
 use crate::head::Head;
-use crate::page::first_wanted;
+use crate::page::{entry_at, first_wanted};
 use crate::position::Position;
 use pk_base::{Entry, Shape, get_u16};
-use pk_meta::entry;
 use pk_nand::{Fault, Nand};
 use pk_pin::PinArena;
 use pk_run::Run;
@@ -122,6 +122,7 @@ impl<A: Allocator> Cursor<A> {
     }
 
     /// Has what was found at the place, and goes behind it.
+    #[inline(always)]
     pub fn hold(&mut self, found: Option<Entry>)
         requires { IsSome found → self.old.place + 1 < 4294967296 }
         ensures { self.new ≡ holding (option_map seen found) self.old }
@@ -135,11 +136,20 @@ impl<A: Allocator> Cursor<A> {
 
     /// Gives the first wanted entry, so that the next one has to be looked for; None where there is
     /// none.
+    #[inline(always)]
     pub fn take(&mut self) -> Option<Entry>
         ensures entry { option_map seen result ≡ entry_in self.old.head }
         ensures cursor { self.new ≡ record self.old { head = let_go self.old.head } }
     {
         self.head.take()
+    }
+
+    /// Brings the position behind the first wanted entry, if there is one.
+    #[inline(always)]
+    pub fn lead(&self, position: &mut Position)
+        ensures { position.new ≡ behind_found (entry_in self.now.head) position.old }
+    {
+        self.head.lead(position);
     }
 
     /// Lets its entry go where the key that is given is its own.
@@ -320,6 +330,7 @@ impl<A: Allocator> Cursor<A> {
     }
 
     /// The entry at the place, whose page is there.
+    #[inline(always)]
     pub fn entry(&self, arena: &PinArena<A>, run: &Run<A>) -> Entry
         requires { HasPage run.now arena.now self.now }
         ensures { (level index : ℕ) (entries : List EntrySpec)
@@ -328,6 +339,6 @@ impl<A: Allocator> Cursor<A> {
             ≡ Some (seen result) }
     {
         let start = self.end - self.shape.entries();
-        entry(&self.shape, self.bytes(arena, run), self.place - start)
+        entry_at(&self.shape, self.bytes(arena, run), self.place - start)
     }
 }

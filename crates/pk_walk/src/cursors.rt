@@ -9,6 +9,7 @@ ghost use Rattle.pk_level.specs.Levels.{RunsOnFlash};
 ghost use Rattle.pk_walk.specs.Heads.{least_of};
 ghost use Rattle.pk_walk.specs.Orders.{AreKept, AreOrdersOf, IsSettled};
 ghost use Rattle.pk_walk.specs.Steps.{GoBehind, GoOn, ShowsEach, heads_in};
+ghost use Rattle.pk_walk.specs.Visible.{behind_found};
 ghost use Rattle.pk_walk.specs.Walking.{AreOfShape, FollowEach, ReadsFail, all_at_start, pages_read, seen_tops};
 
 use crate::buffers::Tops;
@@ -143,9 +144,15 @@ impl<A: Allocator> Cursors<A> {
         )
     }
 
-    /// Gives the least of the entries, which are known, and the others of its key are let go with
-    /// it: of one key the first counts. None where there is none.
-    pub fn take_least(&mut self, tops: &mut Tops, kept: &mut KeptOrders) -> Option<Entry>
+    /// Gives the least of the entries, which are known, brings the position behind it, and lets the
+    /// others of its key go with it: of one key the first counts. None where there is none.
+    #[inline(always)]
+    pub fn take_least(
+        &mut self,
+        tops: &mut Tops,
+        kept: &mut KeptOrders,
+        position: &mut Position,
+    ) -> Option<Entry>
         requires kept { AreKept (seen_tops tops.old) self.old kept.old }
         requires settled { AllByRecursion IsSettled (heads_in (seen_tops tops.old) self.old) }
         ensures least { option_map seen result ≡ least_of (heads_in (seen_tops tops.old) self.old) }
@@ -153,33 +160,40 @@ impl<A: Allocator> Cursors<A> {
             (seen_tops tops.new) self.new }
         ensures four { length self.new ≡ 4 }
         ensures kept { AreKept (seen_tops tops.new) self.new kept.new }
+        ensures passed { position.new ≡ behind_found (option_map seen result) position.old }
     {
         let orders = self.orders(tops, kept);
         if orders.fourth.is_gt() {
             *kept = orders.before_fourth();
+            self.fourth.lead(position);
             return self.fourth.take();
         }
         self.fourth.pass(orders.fourth);
         if orders.third.is_gt() {
             *kept = orders.before_third();
+            self.third.lead(position);
             return self.third.take();
         }
         self.third.pass(orders.third);
         if orders.second.is_gt() {
             *kept = orders.before_second();
+            self.second.lead(position);
             return self.second.take();
         }
         self.second.pass(orders.second);
         if orders.first.is_gt() {
             *kept = orders.before_first();
+            self.first.lead(position);
             return self.first.take();
         }
         self.first.pass(orders.first);
         *kept = KeptOrders::none();
         if orders.frozen.is_gt() {
+            tops.frozen.head.lead(position);
             return tops.frozen.head.take();
         }
         tops.frozen.head.pass(orders.frozen);
+        tops.active.head.lead(position);
         tops.active.head.take()
     }
 }

@@ -3,7 +3,9 @@ ghost use Rattle.std.specs.Prelude.{◌≡◌, if◌then◌else◌, is_some, opt
 ghost use Rattle.std.specs.Ordering.{is_eq, is_gt};
 ghost use Rattle.pk_base.specs.Seen.{entry as seen};
 ghost use Rattle.pk_walk.specs.Heads.{entry_in, let_go, order_of, seen_head};
+ghost use Rattle.pk_walk.specs.Visible.{behind_found};
 
+use crate::position::Position;
 use pk_base::{Entry, compare};
 use std::cmp::Ordering;
 use std::mem;
@@ -42,6 +44,7 @@ impl Head {
     }
 
     /// Gives it, so that the next one has to be looked for; None where there is none.
+    #[inline(always)]
     pub fn take(&mut self) -> Option<Entry>
         ensures entry { option_map seen result ≡ entry_in (seen_head self.old) }
         ensures head { seen_head self.new ≡ let_go (seen_head self.old) }
@@ -53,6 +56,19 @@ impl Head {
                 None
             }
             Head::Stands(entry) => Some(entry),
+        }
+    }
+
+    /// Brings the position behind it, if there is one. Before it is given, since what is given is
+    /// moved faster where nothing has pointed to it.
+    #[inline(always)]
+    pub fn lead(&self, position: &mut Position)
+        ensures { position.new ≡ behind_found (entry_in (seen_head self.now)) position.old }
+    {
+        match self {
+            Head::Sought => {}
+            Head::Ended => {}
+            Head::Stands(entry) => position.go_above(entry.key()),
         }
     }
 

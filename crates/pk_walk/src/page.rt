@@ -1,14 +1,53 @@
 //! The first wanted entry of a page, from a place on.
-ghost use Rattle.std.specs.Prelude.{◌≡◌, ◌≤◌, ◌<◌, ◌+◌, ◌*◌, length};
-ghost use Rattle.pk_base.specs.declared.sizes.TheConstants.{HEAD_BYTES, ENTRY_BYTES};
-ghost use Rattle.pk_base.specs.EntryBytes.{cell_at, cell_key};
+ghost use Rattle.std.specs.Prelude.{◌≡◌, ◌≤◌, ◌<◌, ◌+◌, ◌*◌, ℕ, List, length, slice_get, slice_index, Some};
+ghost use Rattle.pk_base.specs.Entry.{Entry as EntrySpec};
+ghost use Rattle.pk_base.specs.Seen.{entry as seen};
+ghost use Rattle.pk_base.specs.declared.sizes.TheConstants.{HEAD_BYTES, ENTRY_BYTES, KEY_BYTES};
+ghost use Rattle.pk_base.specs.EntryBytes.{cell_at, cell_key, entry_at};
 ghost use Rattle.pk_base.specs.Fields.{number_at};
-ghost use Rattle.pk_meta.specs.Page.{Decodes};
+ghost use Rattle.pk_meta.specs.Page.{Decodes, IsMetaPage};
 ghost use Rattle.pk_walk.specs.Visible.{is_wanted};
 ghost use Rattle.pk_walk.specs.Steps.{IsFirstWanted};
 
 use crate::position::Position;
-use pk_base::{Shape, cell_of, get_u16};
+use pk_base::{Entry, KEY_BYTES, Key, Shape, cell_of, get_u16, get_u32};
+use pk_meta::entry;
+
+// The entry of these bytes, which have a whole key and a value.
+#[inline(always)]
+#[tactic(auto, unfolding(pk_base::specs::EntryBytes::entry_at))]
+fn whole_put(cell: &[u8]) -> Entry
+    requires sized { length cell.now ≡ ENTRY_BYTES }
+    requires whole { slice_index cell.now 0 ≡ KEY_BYTES }
+    requires put { slice_index cell.now 1 ≡ 1 }
+    ensures { seen result ≡ entry_at cell.now }
+{
+    Entry::Put {
+        key: Key::of(&cell[4..4 + KEY_BYTES]),
+        page: get_u32(cell, 20),
+        len: get_u32(cell, 24),
+    }
+}
+
+/// An entry of a page. Where its key is a whole one that has a value, as mostly, that is known
+/// before it is read, so that it is read without a choice and without a call.
+#[inline(always)]
+pub fn entry_at(shape: &Shape, page: &[u8], i: u32) -> Entry
+    requires sized { length page.now ≡ shape.now.page_bytes }
+    requires decodes { Decodes shape.now page.now }
+    requires within { i < number_at 2 10 page.now }
+    ensures { (level index : ℕ) (entries : List EntrySpec)
+        → IsMetaPage shape.now page.now level index entries
+        → slice_get entries i ≡ Some (seen result) }
+{
+    shape.known();
+    let cell = cell_of(page, i as usize);
+    if cell[0] as usize == KEY_BYTES && cell[1] == 1 {
+        whole_put(cell)
+    } else {
+        entry(shape, page, i)
+    }
+}
 
 /// Whether the key of an entry of the page is wanted.
 fn wants_at(shape: &Shape, page: &[u8], position: &Position, i: u32) -> bool

@@ -1,9 +1,10 @@
 //! The place in the order of keys to which a walk has come.
 ghost use Rattle.std.specs.Prelude.{◌≡◌, ◌≤◌, ◌+◌, length, slice_index};
 ghost use Rattle.pk_base.specs.EntryBytes.{cell_key};
+ghost use Rattle.pk_walk.specs.declared.position.Position.TheVariants.{Above};
 ghost use Rattle.pk_walk.specs.Visible.{is_wanted};
 
-use pk_base::{Key, compare_cell};
+use pk_base::{KEY_BYTES, Key, compare_cell};
 
 /// All keys are wanted, or those that are not below a key, or those above it.
 #[derive(Drop)]
@@ -14,6 +15,19 @@ pub enum Position {
 }
 
 impl Position {
+    /// Goes to those above this key. A whole key is copied where it stands.
+    #[inline(always)]
+    pub fn go_above(&mut self, key: &Key)
+        ensures { self.new ≡ Above key.now }
+    {
+        let bytes = key.bytes();
+        if bytes.len() == KEY_BYTES {
+            *self = Position::Above(Key::of(&bytes[..KEY_BYTES]));
+        } else {
+            *self = Position::Above(key.copy());
+        }
+    }
+
     /// Whether the key in the bytes of an entry is one of those from this position on.
     pub fn wants(&self, cell: &[u8]) -> bool
         requires { 4 + slice_index cell.now 0 ≤ length cell.now }

@@ -1,10 +1,14 @@
 //! The first wanted entry of a run, from a cursor on.
-ghost use Rattle.std.specs.Prelude.{◌≡◌, List, None, IfErr, IfOk, OnErr, OnOk};
+ghost use Rattle.std.specs.Prelude.{◌≡◌, ◌<◌, ◌+◌, ◌%◌, ℕ, List, slice_get, None, Some, IfErr, IfOk, OnErr, OnOk};
 ghost use Rattle.pk_base.specs.Entry.{Entry as EntrySpec};
+ghost use Rattle.pk_base.specs.Seen.{entry as seen};
+ghost use Rattle.pk_base.specs.Shape.{page_entries};
+ghost use Rattle.pk_base.specs.declared.entry.Entry.{Entry as RustEntry};
+ghost use Rattle.pk_meta.specs.Page.{IsMetaPage};
 ghost use Rattle.pk_nand.specs.Calls.{IsReady};
 ghost use Rattle.pk_nand.specs.declared.types.Fault.TheVariants.{Reading};
 ghost use Rattle.pk_run.specs.Kept.{RunOnFlash};
-ghost use Rattle.pk_walk.specs.Steps.{FindsIn, GoesOn, ShowsIn};
+ghost use Rattle.pk_walk.specs.Steps.{FindsIn, GoesOn, HasPage, ShowsIn, bytes_in, holding};
 ghost use Rattle.pk_walk.specs.Walking.{Follows, ReadsFail, read_of};
 
 use crate::cursor::Cursor;
@@ -51,22 +55,67 @@ pub fn seek<A: Allocator, B: Nand>(
     if cursor.head().is_known() {
         Ok(())
     } else if cursor.is_ready(run) {
-        let entry = cursor.entry(arena, run);
-        cursor.hold(Some(entry));
+        hold_next(cursor, arena, run);
         Ok(())
     } else {
-        match search(cursor, board, arena, run, position) {
-            Ok(found) => {
-                cursor.hold(found);
-                Ok(())
-            }
-            Err(fault) => Err(fault),
+        seek_page(cursor, board, arena, run, position)
+    }
+}
+
+// Has the entry at the cursor's place, whose page is there. It is apart, so that the room for an
+// entry is made only where one is read.
+#[inline(always)]
+fn hold_next<A: Allocator>(cursor: &mut Cursor<A>, arena: &PinArena<A>, run: &Run<A>)
+    requires page { HasPage run.now arena.now cursor.old }
+    requires room { cursor.old.place + 1 < 4294967296 }
+    ensures { (e : RustEntry) × (cursor.new ≡ holding (Some (seen e)) cursor.old)
+        × ((level index : ℕ) (entries : List EntrySpec) → IsMetaPage cursor.old.shape
+        (bytes_in run.now arena.now cursor.old) level index entries
+        → slice_get entries (cursor.old.place % page_entries cursor.old.shape) ≡ Some (seen e)) }
+{
+    let entry = cursor.entry(arena, run);
+    cursor.hold(Some(entry));
+}
+
+// Knows the first wanted entry, which was not looked for, where the page of the place is not there. A call, for the same reason.
+#[inline(never)]
+fn seek_page<A: Allocator, B: Nand>(
+    cursor: &mut Cursor<A>,
+    board: &mut B,
+    arena: &PinArena<A>,
+    run: &Run<A>,
+    position: &Position,
+) -> Result<(), Fault>
+    requires ready { IsReady (B.state board.old) run.now.shape }
+    requires shape { cursor.old.shape ≡ run.now.shape }
+    requires follows { (es : List EntrySpec)
+        × RunOnFlash run.now (B.state board.old).pages arena.now es
+        × Follows (B.state board.old).pages run.now es position.now cursor.old }
+    requires sought { cursor.old.head ≡ None }
+
+    // As `seek`.
+    ensures shows { OnOk result (ShowsIn run.now position.now
+        (B.state board.old) (B.state board.new) cursor.old cursor.new) }
+    ensures goes_on { GoesOn (B.state board.old).pages arena.now run.now position.now
+        cursor.old cursor.new }
+    ensures reading { IfErr result (λ fault. fault ≡ Reading) }
+    ensures err { OnErr result (ReadsFail (read_of run.now.leases cursor.old.loaded)
+        (read_of run.now.leases cursor.new.loaded) (B.state board.old) (B.state board.new)) }
+    ensures same { (B.state board.new).pages ≡ (B.state board.old).pages }
+    ensures ready { IsReady (B.state board.new) run.now.shape }
+{
+    run.known();
+    let _ = run.entries();
+    match search(cursor, board, arena, run, position) {
+        Ok(found) => {
+            cursor.hold(found);
+            Ok(())
         }
+        Err(fault) => Err(fault),
     }
 }
 
 // Comes to the first entry of the run whose key is wanted; None where there is none.
-#[inline(never)]
 fn search<A: Allocator, B: Nand>(
     cursor: &mut Cursor<A>,
     board: &mut B,

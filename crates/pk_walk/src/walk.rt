@@ -128,6 +128,7 @@ impl<A: Region> Walk<A> {
     }
 
     // Comes to the next entry that counts, also to one of a deleted key; None behind the last.
+    #[inline(never)]
     fn step<B: Nand>(
         &mut self,
         board: &mut B,
@@ -174,13 +175,10 @@ impl<A: Region> Walk<A> {
             levels,
             &Buffers { active, frozen },
         ) {
-            Ok(()) => match self.cursors.take_least(&mut self.tops, &mut self.orders) {
-                Some(entry) => {
-                    self.position = Position::Above(entry.key().copy());
-                    Ok(Some(entry))
-                }
-                None => Ok(None),
-            },
+            Ok(()) => Ok(
+                self.cursors
+                    .take_least(&mut self.tops, &mut self.orders, &mut self.position),
+            ),
             Err(fault) => {
                 self.orders = KeptOrders::none();
                 Err(fault)
@@ -193,6 +191,7 @@ impl<A: Region> Walk<A> {
     ///
     /// The parts are as at the first call since the start. A page of a run without frames is read when the walk comes to it, and
     /// not again; a walk that began at the first key has read each of them once behind its last key.
+    #[inline(always)]
     pub fn next<B: Nand>(
         &mut self,
         board: &mut B,

@@ -26,4 +26,4 @@ returns g c level index entries is =
     in_page c.self.inside.loaded c.self.inside.place c.entries.result c.self.inside.end here far ∙ (λ i. ap (λ (x : Cursor). x.place) c.self.view_is i % size i) in
     let of_page = subst (λ (xs : List ℕ). IsMetaPage c.args.self.now.shape xs level index entries) (sym c.bytes.ensures) is in
     let own = subst (λ (x : Cursor). IsMetaPage x.shape c.bytes.result.now level index entries) (sym c.self.view_is) of_page in
-    ap (slice_get entries) (sym left) ∙ c.entry.ensures level index entries own
+    ap (slice_get entries) (sym left) ∙ c.entry_at.ensures level index entries own

@@ -1,6 +1,7 @@
-use Rattle.std.proofs.Common.{[], ◌∷◌, refl, sym, ◌∙◌, option_map}
+use Rattle.std.proofs.Common.{[], ◌∷◌, ap, refl, sym, ◌∙◌, option_map}
 use Rattle.pk_base.specs.Seen.{entry as seen}
 use Rattle.pk_walk.specs.Heads.{seen_head}
+use Rattle.pk_walk.specs.Visible.{behind_found}
 use Rattle.pk_walk.specs.Walking.{seen_tops}
 use Rattle.pk_walk.proofs.Keeping.{before_first, before_fourth, before_second, before_third, none_kept}
 use Rattle.pk_walk.proofs.Taking.{fourth_went, third_went, second_went, first_went, frozen_went, active_went}
@@ -149,3 +150,21 @@ returns-then-is_gt-5-clause-kept g c =
 pub returns-clause-kept : goal.returns-clause-kept
 returns-clause-kept g c =
     none_kept (record { active = seen_head c.take-2.new.self; frozen = seen_head c.pass-5.new.self }) (c.pass-4.new.self ∷ c.pass-3.new.self ∷ c.pass-2.new.self ∷ c.pass.new.self ∷ []) c.none.result c.none.ensures
+
+pub returns-then-is_gt-clause-passed : goal.returns-then-is_gt-clause-passed
+returns-then-is_gt-clause-passed g c = c.lead.ensures ∙ ap (λ o. behind_found o c.args.position.now) (sym c.take.ensures.entry)
+
+pub returns-then-is_gt-2-clause-passed : goal.returns-then-is_gt-2-clause-passed
+returns-then-is_gt-2-clause-passed g c = c.lead-then-is_gt-2.ensures ∙ ap (λ o. behind_found o c.args.position.now) (sym c.take-then-is_gt-2.ensures.entry)
+
+pub returns-then-is_gt-3-clause-passed : goal.returns-then-is_gt-3-clause-passed
+returns-then-is_gt-3-clause-passed g c = c.lead-then-is_gt-3.ensures ∙ ap (λ o. behind_found o c.args.position.now) (sym c.take-then-is_gt-3.ensures.entry)
+
+pub returns-then-is_gt-4-clause-passed : goal.returns-then-is_gt-4-clause-passed
+returns-then-is_gt-4-clause-passed g c = c.lead-then-is_gt-4.ensures ∙ ap (λ o. behind_found o c.args.position.now) (sym c.take-then-is_gt-4.ensures.entry)
+
+pub returns-then-is_gt-5-clause-passed : goal.returns-then-is_gt-5-clause-passed
+returns-then-is_gt-5-clause-passed g c = c.lead-then-is_gt-5.ensures ∙ ap (λ o. behind_found o c.args.position.now) (sym c.take-then-is_gt-5.ensures.entry)
+
+pub returns-clause-passed : goal.returns-clause-passed
+returns-clause-passed g c = c.lead-2.ensures ∙ ap (λ o. behind_found o c.args.position.now) (sym c.take-2.ensures.entry)

@@ -1,9 +1,8 @@
 use Rattle.std.proofs.Common.{sym, ap, subst, ◌∙◌}
-use Rattle.pk_walk.specs.declared.position.Position.TheVariants.{Above}
 use Rattle.pk_base.specs.Shape.{Shape}
 use Rattle.pk_walk.specs.Walking.{Walk, AreOfShape, seen_tops}
 use Rattle.pk_walk.proofs.Keeping.{learned_kept, learned_settled, none_kept}
-use Rattle.pk_walk.proofs.Walks.{Learned, comes_behind, walks_behind, comes_to_none, walks_there, walks_failed, is_walk_behind}
+use Rattle.pk_walk.proofs.Walks.{Learned, comes_to_found, walks_to_found, walks_failed, is_walk_behind}
 use Rattle.pk_walk.proofs.walk.Walk.step.Goals as goal
 
 pub take_least-requires-clause-kept : goal.take_least-requires-clause-kept
@@ -43,7 +42,7 @@ take_least-requires-clause-settled g c =
 
 pub invariant_of-self : goal.invariant_of-self
 invariant_of-self g c = (
-  is_walk_behind c.args.levels.now.shape c.self.inside.shape (Above c.copy.result) _ (seen_tops c.know_all.new.tops) (seen_tops c.take_least.new.tops) c.know_all.new.cursors c.take_least.new.self _ c.take_least.ensures.behind c.in-Ok.ensures.go_on.of_shape
+  is_walk_behind c.args.levels.now.shape c.self.inside.shape c.take_least.new.position _ (seen_tops c.know_all.new.tops) (seen_tops c.take_least.new.tops) c.know_all.new.cursors c.take_least.new.self _ c.take_least.ensures.behind c.in-Ok.ensures.go_on.of_shape
       (ap (λ (w : Walk). w.shape) c.self.view_is ∙ c.requires.shape) c.take_least.ensures.four,
   c.take_least.ensures.kept,
 )
@@ -55,8 +54,8 @@ invariant_of-self-in-Err g c =
       none_kept (seen_tops c.know_all.new.tops) c.know_all.new.cursors c.none-self-inside.result c.none-self-inside.ensures,
     )
 
-pub returns-in-Some-clause-comes : goal.returns-in-Some-clause-comes
-returns-in-Some-clause-comes g c =
+pub returns-in-Ok-clause-comes : goal.returns-in-Ok-clause-comes
+returns-in-Ok-clause-comes g c =
     let tops = rw (← c.self.view_is) at c.requires.tops in
     let learned : Learned c.args.levels.now.runs c.args.arena.now c.args.active.now.entries c.args.frozen.now.entries c.args.levels.now.shape (g.B.Nand.state c.args.board.now) (g.B.Nand.state c.know_all.new.board)
     (record { shape = c.self.inside.shape; position = c.self.inside.position; tops = seen_tops c.self.inside.tops; cursors = c.self.inside.cursors }) (seen_tops c.know_all.new.tops) c.know_all.new.cursors = record {
@@ -68,12 +67,12 @@ returns-in-Some-clause-comes g c =
       down = c.len-2.ensures.rising;
       many = c.known.ensures.levels.four ∙ sym c.in-Ok.ensures.four;
     } in
-    rw (← c.self.view_is) (comes_behind c.args.levels.now.runs c.args.arena.now c.args.active.now.entries c.args.frozen.now.entries c.args.levels.now.shape (g.B.Nand.state c.args.board.now) (g.B.Nand.state c.know_all.new.board)
+    rw (← c.self.view_is) (comes_to_found c.args.levels.now.runs c.args.arena.now c.args.active.now.entries c.args.frozen.now.entries c.args.levels.now.shape (g.B.Nand.state c.args.board.now) (g.B.Nand.state c.know_all.new.board)
     (record { shape = c.self.inside.shape; position = c.self.inside.position; tops = seen_tops c.self.inside.tops; cursors = c.self.inside.cursors }) (seen_tops c.know_all.new.tops) c.know_all.new.cursors
-    learned c.in-Some.entry c.copy.result (c.copy.ensures ∙ c.key.ensures) (rw c.in-Some.is at c.take_least.ensures.least) (seen_tops c.take_least.new.tops) c.take_least.new.self (rw c.in-Some.is at c.take_least.ensures.behind))
+    learned c.take_least.result c.take_least.new.position c.take_least.ensures.passed c.take_least.ensures.least (seen_tops c.take_least.new.tops) c.take_least.new.self c.take_least.ensures.behind)
 
-pub returns-in-Some-clause-walks_on : goal.returns-in-Some-clause-walks_on
-returns-in-Some-clause-walks_on g c =
+pub returns-in-Ok-clause-walks_on : goal.returns-in-Ok-clause-walks_on
+returns-in-Ok-clause-walks_on g c =
     let tops = rw (← c.self.view_is) at c.requires.tops in
     let learned : Learned c.args.levels.now.runs c.args.arena.now c.args.active.now.entries c.args.frozen.now.entries c.args.levels.now.shape (g.B.Nand.state c.args.board.now) (g.B.Nand.state c.know_all.new.board)
     (record { shape = c.self.inside.shape; position = c.self.inside.position; tops = seen_tops c.self.inside.tops; cursors = c.self.inside.cursors }) (seen_tops c.know_all.new.tops) c.know_all.new.cursors = record {
@@ -85,43 +84,9 @@ returns-in-Some-clause-walks_on g c =
       down = c.len-2.ensures.rising;
       many = c.known.ensures.levels.four ∙ sym c.in-Ok.ensures.four;
     } in
-    rw (← c.self.view_is) (walks_behind c.args.levels.now.runs c.args.arena.now c.args.active.now.entries c.args.frozen.now.entries c.args.levels.now.shape (g.B.Nand.state c.args.board.now) (g.B.Nand.state c.know_all.new.board)
+    rw (← c.self.view_is) (walks_to_found c.args.levels.now.runs c.args.arena.now c.args.active.now.entries c.args.frozen.now.entries c.args.levels.now.shape (g.B.Nand.state c.args.board.now) (g.B.Nand.state c.know_all.new.board)
     (record { shape = c.self.inside.shape; position = c.self.inside.position; tops = seen_tops c.self.inside.tops; cursors = c.self.inside.cursors }) (seen_tops c.know_all.new.tops) c.know_all.new.cursors
-    learned c.in-Some.entry c.copy.result (c.copy.ensures ∙ c.key.ensures) (rw c.in-Some.is at c.take_least.ensures.least) (seen_tops c.take_least.new.tops) c.take_least.new.self (rw c.in-Some.is at c.take_least.ensures.behind))
-
-pub returns-in-None-clause-comes : goal.returns-in-None-clause-comes
-returns-in-None-clause-comes g c =
-    let tops = rw (← c.self.view_is) at c.requires.tops in
-    let learned : Learned c.args.levels.now.runs c.args.arena.now c.args.active.now.entries c.args.frozen.now.entries c.args.levels.now.shape (g.B.Nand.state c.args.board.now) (g.B.Nand.state c.know_all.new.board)
-    (record { shape = c.self.inside.shape; position = c.self.inside.position; tops = seen_tops c.self.inside.tops; cursors = c.self.inside.cursors }) (seen_tops c.know_all.new.tops) c.know_all.new.cursors = record {
-      on = c.in-Ok.ensures.go_on;
-      shows = c.in-Ok.ensures.learns.0;
-      before = tops;
-      known = c.in-Ok.ensures.learns.1;
-      up = c.len.ensures.rising;
-      down = c.len-2.ensures.rising;
-      many = c.known.ensures.levels.four ∙ sym c.in-Ok.ensures.four;
-    } in
-    rw (← c.self.view_is) (comes_to_none c.args.levels.now.runs c.args.arena.now c.args.active.now.entries c.args.frozen.now.entries c.args.levels.now.shape (g.B.Nand.state c.args.board.now) (g.B.Nand.state c.know_all.new.board)
-    (record { shape = c.self.inside.shape; position = c.self.inside.position; tops = seen_tops c.self.inside.tops; cursors = c.self.inside.cursors }) (seen_tops c.know_all.new.tops) c.know_all.new.cursors
-    learned (rw c.in-None.is at c.take_least.ensures.least) (seen_tops c.take_least.new.tops) c.take_least.new.self (rw c.in-None.is at c.take_least.ensures.behind))
-
-pub returns-in-None-clause-walks_on : goal.returns-in-None-clause-walks_on
-returns-in-None-clause-walks_on g c =
-    let tops = rw (← c.self.view_is) at c.requires.tops in
-    let learned : Learned c.args.levels.now.runs c.args.arena.now c.args.active.now.entries c.args.frozen.now.entries c.args.levels.now.shape (g.B.Nand.state c.args.board.now) (g.B.Nand.state c.know_all.new.board)
-    (record { shape = c.self.inside.shape; position = c.self.inside.position; tops = seen_tops c.self.inside.tops; cursors = c.self.inside.cursors }) (seen_tops c.know_all.new.tops) c.know_all.new.cursors = record {
-      on = c.in-Ok.ensures.go_on;
-      shows = c.in-Ok.ensures.learns.0;
-      before = tops;
-      known = c.in-Ok.ensures.learns.1;
-      up = c.len.ensures.rising;
-      down = c.len-2.ensures.rising;
-      many = c.known.ensures.levels.four ∙ sym c.in-Ok.ensures.four;
-    } in
-    rw (← c.self.view_is) (walks_there c.args.levels.now.runs c.args.arena.now c.args.active.now.entries c.args.frozen.now.entries c.args.levels.now.shape (g.B.Nand.state c.args.board.now) (g.B.Nand.state c.know_all.new.board)
-    (record { shape = c.self.inside.shape; position = c.self.inside.position; tops = seen_tops c.self.inside.tops; cursors = c.self.inside.cursors }) (seen_tops c.know_all.new.tops) c.know_all.new.cursors
-    learned (rw c.in-None.is at c.take_least.ensures.least) (seen_tops c.take_least.new.tops) c.take_least.new.self (rw c.in-None.is at c.take_least.ensures.behind))
+    learned c.take_least.result c.take_least.new.position c.take_least.ensures.passed c.take_least.ensures.least (seen_tops c.take_least.new.tops) c.take_least.new.self c.take_least.ensures.behind)
 
 pub returns-in-Err-clause-walks_on : goal.returns-in-Err-clause-walks_on
 returns-in-Err-clause-walks_on g c =
