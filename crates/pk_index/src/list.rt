@@ -29,6 +29,7 @@ use pk_region::Region;
 use pk_walk::Walk;
 
 // The zeros behind a listed key.
+#[inline(always)]
 fn padding(len: usize) -> usize
     ensures { result ≡ (6 - len % 4) % 4 }
 {
@@ -36,6 +37,7 @@ fn padding(len: usize) -> usize
 }
 
 // The bytes of a listed key: its length, itself and zeros up to a multiple of four.
+#[inline(always)]
 fn listed_size(key: &[u8]) -> usize
     requires { IsKey key.now }
     ensures size { result ≡ length (listed key.now) }
@@ -45,6 +47,7 @@ fn listed_size(key: &[u8]) -> usize
 }
 
 // Writes a length of two bytes, the key, and zeros up to a multiple of four bytes.
+#[inline(always)]
 fn put_listed(into: &mut [u8], at: usize, key: &[u8])
     requires key { IsKey key.now }
     requires room { at + length (listed key.now) ≤ length into.old }
@@ -85,17 +88,34 @@ fn put_padding(into: &mut [u8], at: usize, count: usize)
     }
 }
 
-// Writes one more key, where it fits into the room.
+// Writes one more key, where it fits into the room; a whole one by itself, whose sizes are all
+// numbers then, which is faster.
 fn put_key(into: &mut [u8], at: Filled, key: &Key) -> Option<Filled>
     requires filled { IsFilled at (length into.old) }
     ensures offers { OffersKey into.old at at.room key.now result into.new }
     ensures len { length into.new ≡ length into.old }
 {
-    let size = listed_size(key.bytes());
+    let bytes = key.bytes();
+    if bytes.len() == KEY_BYTES {
+        put_one(into, at, &bytes[..KEY_BYTES])
+    } else {
+        put_one(into, at, bytes)
+    }
+}
+
+// Writes the bytes of one more key, where they fit into the room.
+#[inline(always)]
+fn put_one(into: &mut [u8], at: Filled, key: &[u8]) -> Option<Filled>
+    requires key { IsKey key.now }
+    requires filled { IsFilled at (length into.old) }
+    ensures offers { OffersKey into.old at at.room key.now result into.new }
+    ensures len { length into.new ≡ length into.old }
+{
+    let size = listed_size(key);
     if size > (at.room - at.end) as usize {
         return None;
     }
-    put_listed(into, at.end as usize, key.bytes());
+    put_listed(into, at.end as usize, key);
     Some(Filled {
         end: at.end + size as u32,
         count: at.count + 1,
