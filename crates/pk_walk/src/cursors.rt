@@ -80,6 +80,7 @@ impl<A: Allocator> Cursors<A> {
     }
 
     /// Knows the first wanted entry of each run. `Reading` where a read fails; else nothing fails.
+    #[inline(always)]
     pub fn seek<B: Nand>(
         &mut self,
         board: &mut B,
@@ -129,6 +130,7 @@ impl<A: Allocator> Cursors<A> {
     }
 
     /// How the entries that are known stand to each other.
+    #[inline(always)]
     fn orders(&self, tops: &Tops, kept: &KeptOrders) -> Orders
         requires { AreKept (seen_tops tops.now) self.now kept.now }
         ensures { AreOrdersOf (heads_in (seen_tops tops.now) self.now) result }

@@ -85,6 +85,7 @@ impl Orders {
 }
 
 /// Those of these heads; what is kept is not compared again.
+#[inline(always)]
 pub fn orders_of(
     kept: &KeptOrders,
     active: &Head,
@@ -118,6 +119,7 @@ pub fn orders_of(
 }
 
 // How they stand, compared only where that is not kept.
+#[inline(always)]
 fn kept_order(kept: Option<Ordering>, head: &Head, other: &Head) -> Ordering
     requires { IfSome kept (λ o. o
         ≡ order_of (entry_in (seen_head head.now)) (entry_in (seen_head other.now))) }

@@ -127,8 +127,10 @@ impl<A: Region> Walk<A> {
         }
     }
 
-    // Comes to the next entry that counts, also to one of a deleted key; None behind the last.
-    #[inline(never)]
+    // Comes to the next entry that counts, also to one of a deleted key; None behind the last. In
+    // the code of the callers, as all that it calls for a key whose page is there: then an entry
+    // is moved least on its way out.
+    #[inline(always)]
     fn step<B: Nand>(
         &mut self,
         board: &mut B,
@@ -278,6 +280,7 @@ struct Buffers<'a, A: Region> {
 }
 
 // Knows the first wanted entry of each buffer and of each run.
+#[inline(always)]
 fn know_all<A: Region, B: Nand>(
     cursors: &mut Cursors<A>,
     tops: &mut Tops,
