@@ -16,6 +16,7 @@ mod reading;
 mod root;
 mod run;
 mod telling;
+mod text;
 mod words;
 
 pub use errors::DumpError;

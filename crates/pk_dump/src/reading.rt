@@ -6,12 +6,11 @@ ghost use Rattle.pk_scan.specs.Board.{StaysReady};
 ghost use Rattle.pk_dump.specs.Readings.{IsReadingOf};
 
 use crate::errors::DumpError;
-use crate::form::Form;
+use crate::text::Text;
 use pk_base::Shape;
 use pk_nand::Nand;
 use pk_scan::{Found, OpenError, scan};
-use std::alloc::{AllocError, Global};
-use std::fmt::Write;
+use std::alloc::Global;
 
 /// How reading a flash ends.
 #[derive(Drop)]
@@ -40,21 +39,18 @@ pub fn reading_of<B: Nand>(alloc: Global, board: &mut B, shape: Shape) -> Result
 }
 
 /// Tells how reading the flash ends.
-pub fn tell_reading(out: &mut String, form: Form, reading: &Reading) -> Result<(), AllocError> {
-    match (form, reading) {
-        (Form::People, Reading::Map(found)) => {
-            let keys = found.keys;
-            writeln!(out, "the flash holds a map of {keys} keys")
-        }
-        (Form::People, Reading::NoRoot) => writeln!(out, "the flash has no root"),
-        (Form::People, Reading::Fails { page }) => {
-            writeln!(out, "reading the flash fails at page {page}")
-        }
-        (Form::Programs, Reading::Map(found)) => {
-            let keys = found.keys;
-            writeln!(out, "map keys={keys}")
-        }
-        (Form::Programs, Reading::NoRoot) => writeln!(out, "no-root"),
-        (Form::Programs, Reading::Fails { page }) => writeln!(out, "fails page={page}"),
+pub fn tell_reading(text: &mut Text, reading: &Reading) {
+    match reading {
+        Reading::Map(found) => text.tell(
+            "the flash holds a map of {0} keys\n",
+            "map keys={0}\n",
+            &[found.keys as u64],
+        ),
+        Reading::NoRoot => text.tell("the flash has no root\n", "no-root\n", &[]),
+        Reading::Fails { page } => text.tell(
+            "reading the flash fails at page {0}\n",
+            "fails page={0}\n",
+            &[*page as u64],
+        ),
     }
 }

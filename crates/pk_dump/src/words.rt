@@ -1,62 +1,38 @@
 //! Keys, entries and block numbers as text.
 
-use crate::form::Form;
+use crate::text::Text;
 use pk_base::{Entry, Key};
-use std::alloc::AllocError;
-use std::fmt::Write;
-
-/// Tells of two blocks.
-pub fn tell_pair(out: &mut String, blocks: [u16; 2]) -> Result<(), AllocError> {
-    tell_blocks(out, &blocks)
-}
 
 /// Tells of blocks, with a comma between two; a dash where there are none.
-pub fn tell_blocks(out: &mut String, blocks: &[u16]) -> Result<(), AllocError> {
+pub fn tell_blocks(text: &mut Text, blocks: &[u16]) {
     if blocks.is_empty() {
-        return write!(out, "-");
+        text.letter('-');
     }
     for (i, block) in blocks.iter().enumerate() {
         if i > 0 {
-            write!(out, ",")?;
+            text.letter(',');
         }
-        write!(out, "{block}")?;
+        text.tell("{0}", "{0}", &[*block as u64]);
     }
-    Ok(())
 }
 
 /// Tells of a key: two hexadecimal digits a byte.
-pub fn tell_key(out: &mut String, key: &Key) -> Result<(), AllocError> {
+fn tell_key(text: &mut Text, key: &Key) {
     for byte in key.bytes() {
-        write!(out, "{byte:02x}")?;
+        text.byte(*byte);
     }
-    Ok(())
 }
 
-/// Tells of an entry.
-pub fn tell_entry(out: &mut String, form: Form, entry: &Entry) -> Result<(), AllocError> {
-    out.push_str(match form {
-        Form::People => "  ",
-        Form::Programs => "entry key=",
-    })?;
-    tell_key(out, entry.key())?;
+/// Tells of an entry: its key, and where its value stands, or that the key was deleted.
+pub fn tell_entry(text: &mut Text, entry: &Entry) {
+    text.tell("  ", "entry key=", &[]);
+    tell_key(text, entry.key());
     match entry.place() {
-        Some(place) => tell_place(out, form, place.page, place.len),
-        None => tell_deleted(out, form),
-    }
-}
-
-/// Tells where a value stands, behind its key.
-fn tell_place(out: &mut String, form: Form, page: u32, len: u32) -> Result<(), AllocError> {
-    match form {
-        Form::People => writeln!(out, " in page {page}, {len} bytes"),
-        Form::Programs => writeln!(out, " page={page} len={len}"),
-    }
-}
-
-/// Tells that a key was deleted, behind it.
-fn tell_deleted(out: &mut String, form: Form) -> Result<(), AllocError> {
-    match form {
-        Form::People => out.push_str(" deleted\n"),
-        Form::Programs => out.push_str(" deleted=1\n"),
+        Some(place) => text.tell(
+            " in page {0}, {1} bytes\n",
+            " page={0} len={1}\n",
+            &[place.page as u64, place.len as u64],
+        ),
+        None => text.tell(" deleted\n", " deleted=1\n", &[]),
     }
 }
