@@ -1,6 +1,6 @@
 //! The calls of a host, with values that the definition is to give.
 
-use crate::MemoryPort;
+use crate::memory_port::MemoryPort;
 use pk_base::{Key, Shape};
 use pk_host::{Host, HostError, KeyPage, StoreRule};
 use pk_nvme::status::{INVALID_VALUE_SIZE, KEY_DOES_NOT_EXIST, KEY_EXISTS};

@@ -1,7 +1,7 @@
 use Rattle.std.proofs.Common.{◌∷◌, [], arith}
 use Rattle.pk_nvme.specs.Text.{number_text}
 use Rattle.pk_nvme.proofs.TextLemmas.{appended, number_text_short}
-use Rattle.pk_text_tests.proofs.nvme.spell.Goals as goal
+use Rattle.pk_format_tests.proofs.nvme.spell.Goals as goal
 
 pub push_number-requires : goal.push_number-requires
 push_number-requires c =

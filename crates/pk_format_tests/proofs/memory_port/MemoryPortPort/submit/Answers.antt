@@ -3,10 +3,10 @@ use Rattle.pk_nvme.specs.Opcode.{op_of}
 use Rattle.pk_nvme.specs.Command.{command}
 use Rattle.pk_model.specs.Machine.{Machine}
 use Rattle.pk_host.specs.Port.{Took}
-use Rattle.pk_host_tests.specs.Memory.{seen}
+use Rattle.pk_format_tests.specs.Memory.{seen}
 use Rattle.pk_host.proofs.HandedLemmas.{room_small}
-use Rattle.pk_host_tests.proofs.PortLemmas.{answer_fits, replies_so, took_one, took_fault}
-use Rattle.pk_host_tests.proofs.memory_port.MemoryPortPort.submit.Goals as goal
+use Rattle.pk_format_tests.proofs.PortLemmas.{answer_fits, replies_so, took_one, took_fault}
+use Rattle.pk_format_tests.proofs.memory_port.MemoryPortPort.submit.Goals as goal
 
 pub completed-requires-clause-room : goal.completed-requires-clause-room
 completed-requires-clause-room c =

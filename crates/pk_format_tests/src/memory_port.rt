@@ -4,7 +4,7 @@ ghost use Rattle.pk_nvme.specs.Command.{command};
 ghost use Rattle.pk_model.specs.Machine.{replied};
 ghost use Rattle.pk_host.specs.Port.{PortState, Replies, Completes, Took};
 ghost use Rattle.pk_host.specs.TookLaws.{took_none, took_both};
-ghost use Rattle.pk_host_tests.specs.Memory.{seen};
+ghost use Rattle.pk_format_tests.specs.Memory.{seen};
 
 use crate::machine::GoodMachine;
 use pk_base::Shape;

@@ -1,7 +1,7 @@
 use Rattle.std.proofs.Common.{refl, ap}
 use Rattle.pk_nvme.specs.Command.{Command}
-use Rattle.pk_host_tests.proofs.PortLemmas.{completes_so}
-use Rattle.pk_host_tests.proofs.memory_port.completed.Goals as goal
+use Rattle.pk_format_tests.proofs.PortLemmas.{completes_so}
+use Rattle.pk_format_tests.proofs.memory_port.completed.Goals as goal
 
 pub returns : goal.returns
 returns c old new value replies =

@@ -10,7 +10,7 @@ use Rattle.pk_model.specs.declared.answer.Answer.{Answer}
 use Rattle.pk_host.specs.Port.{PortState, Steps, Replies, Completes, Took, room_of}
 use Rattle.pk_host.specs.declared.types.Completed.{Completed}
 use Rattle.pk_host.specs.Good.{IsGood, IsHanded}
-use Rattle.pk_host_tests.specs.Memory.{seen}
+use Rattle.pk_format_tests.specs.Memory.{seen}
 use Rattle.pk_host.proofs.LeftLemmas.{good_left}
 use Rattle.pk_host.proofs.DataLemmas.{data_fit, no_read_error}
 
