@@ -38,10 +38,17 @@ for crate in "$top"/crates/*/; do
 done
 tests=$folder/crates/pk_hardship_tests
 rm "$tests"/src/*
+# the trial of a reclaim stands in pk_trials, whose other dependencies it does not need
+cp "$top/crates/pk_trials/src/reclaims.rt" "$top/crates/pk_trials/src/steps.rt" "$tests/src/"
+sed -i 's/^pk_hardship_tests: /&pk_nand pk_nvme /' "$folder/crates.txt"
 cat > "$tests/src/lib.rt" <<'RT'
 //! The trials that take long.
 #![tactic(auto)]
 
+#[cfg(test)]
+mod reclaims;
+#[cfg(test)]
+mod steps;
 #[cfg(test)]
 mod tests;
 RT
@@ -63,27 +70,15 @@ RT
     cat <<'RT'
 //! One test for each long trial.
 
-use pk_flash::Flash;
+use crate::reclaims::first_on_full_twice;
+use crate::steps::Pink;
 use pk_hardships::deep::{SHAPES, three_deep_in_all_ways};
 use pk_hardships::merged::{FREEZES, MERGES, freeze_in_all_ways, merges_in_all_ways};
-use pk_sessions::Program;
-use pk_sessions::reclaims::first_on_full_twice;
-use pk_top::run;
-use std::alloc::Global;
 use std::test::*;
-
-/// The program whose parts this repository proves.
-pub struct Pink;
-
-impl Program for Pink {
-    fn run(alloc: Global, words: &[&str], flash: &mut Flash) -> u8 {
-        run(alloc, words, flash).0
-    }
-}
 
 #[test]
 fn first_on_full(rt: HostRuntime) -> Result<(), Fail> {
-    let cuts = first_on_full_twice::<Pink>(rt.alloc(), EVERY)?;
+    let cuts = first_on_full_twice(&rt, rt.alloc(), EVERY);
     println!(rt; "first_on_full: {} cuts, and {} behind them", cuts.first, cuts.second)?;
     Ok(())
 }

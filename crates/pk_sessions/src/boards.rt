@@ -1,16 +1,13 @@
 //! Boards with the pages that an earlier session left, and what the program makes of them.
 
 use crate::exits::DONE;
-use crate::script::{Answer, Ask, records, script};
+use crate::script::{Ask, script};
 use crate::tried::{Place, Program, same};
 use pk_base::Shape;
 use pk_flash::{Flash, Left, Room, is_flash};
-use pk_nand::{Mark, PageBytes, PageState};
+use pk_nand::{PageBytes, PageState};
 use std::alloc::{AllocError, Global};
 use std::test::*;
-
-/// The words that make a drive of 33 blocks of 8 pages.
-pub const MAKE_SMALL: [&str; 4] = ["make", "512", "8", "33"];
 
 /// The words that make a drive of 64 blocks of 16 pages.
 pub const MAKE_WORKED: [&str; 4] = ["make", "512", "16", "64"];
@@ -20,23 +17,12 @@ const ROOM: Room = Room {
     marks: 200,
 };
 
-// For sessions of some hundred commands.
-const LONG: Room = Room {
-    posted: 65536,
-    marks: 1500,
-};
-
 /// The shape of these numbers.
 pub fn shape_of(page_bytes: u32, block_pages: u32, blocks: u32) -> Result<Shape, Fail> {
     match Shape::new(page_bytes, block_pages, blocks) {
         Ok(shape) => Ok(shape),
         Err(_) => Err(Fail::from("a shape")),
     }
-}
-
-/// The shape of 33 blocks of 8 pages.
-pub fn small() -> Result<Shape, Fail> {
-    shape_of(512, 8, 33)
 }
 
 /// The shape of 64 blocks of 16 pages.
@@ -57,16 +43,6 @@ pub fn board(
     input: Vec<u8>,
 ) -> Result<Flash, Fail> {
     board_in(alloc, shape, pages, input, ROOM)
-}
-
-/// The same with room for some hundred commands.
-pub fn long_board(
-    alloc: Global,
-    shape: Shape,
-    pages: Vec<PageState>,
-    input: Vec<u8>,
-) -> Result<Flash, Fail> {
-    board_in(alloc, shape, pages, input, LONG)
 }
 
 /// The same with this room.
@@ -163,49 +139,12 @@ impl Session {
         let found = self.flash.posted();
         same(found, posted, format_args!("the posted bytes, {place}"))
     }
-
-    /// A failure where the session did not end well, or posted other records than these.
-    pub fn answered(&self, alloc: Global, answers: &[Answer], place: Place) -> Result<(), Fail> {
-        let want = records(alloc, answers)?;
-        self.posted(DONE, &want, place)
-    }
-
-    /// A failure where the session made another number of programs or of erases.
-    pub fn wrote(&self, programs: u64, erases: u64, place: Place) -> Result<(), Fail> {
-        same(
-            [self.flash.program_count(), self.flash.erase_count()],
-            [programs, erases],
-            format_args!("programs and erases, {place}"),
-        )
-    }
-}
-
-/// The board behind a session that is to end well.
-pub fn ended_well(done: Session, place: Place) -> Result<Flash, Fail> {
-    done.ended(DONE, place)?;
-    Ok(done.flash)
-}
-
-/// This board, on which the call with this number fails, and leaves this.
-pub fn with_failing(
-    alloc: Global,
-    mut flash: Flash,
-    call: u64,
-    left: Left,
-) -> Result<Flash, AllocError> {
-    flash.fail(alloc, call, left)?;
-    Ok(flash)
-}
-
-/// The session of a board's input, with so many frames.
-pub fn serve_board_with<P: Program>(alloc: Global, mut flash: Flash, frames: &str) -> Session {
-    let status = serve_with::<P>(alloc, &mut flash, frames);
-    Session { status, flash }
 }
 
 /// The session of a board's input, with the frames of two levels.
-pub fn serve_board<P: Program>(alloc: Global, flash: Flash) -> Session {
-    serve_board_with::<P>(alloc, flash, "36")
+pub fn serve_board<P: Program>(alloc: Global, mut flash: Flash) -> Session {
+    let status = serve::<P>(alloc, &mut flash);
+    Session { status, flash }
 }
 
 /// A made drive of 64 blocks, with this input.
@@ -224,30 +163,6 @@ pub fn served<P: Program>(
     Ok(serve_board::<P>(alloc, flash))
 }
 
-/// Serves this script on pages of 33 blocks.
-pub fn served_small<P: Program>(
-    alloc: Global,
-    pages: Vec<PageState>,
-    asks: &[Ask],
-) -> Result<Session, Fail> {
-    served::<P>(alloc, small()?, pages, asks)
-}
-
-/// A board of 64 blocks with these pages, and with this script as its input.
-pub fn asked_worked(alloc: Global, pages: Vec<PageState>, asks: &[Ask]) -> Result<Flash, Fail> {
-    board(alloc, worked()?, pages, script(alloc, asks)?)
-}
-
-/// Serves this script on pages of 64 blocks.
-pub fn served_worked<P: Program>(
-    alloc: Global,
-    pages: Vec<PageState>,
-    asks: &[Ask],
-) -> Result<Session, Fail> {
-    let flash = asked_worked(alloc, pages, asks)?;
-    Ok(serve_board::<P>(alloc, flash))
-}
-
 /// The pages that a session leaves, which is to end well.
 pub fn pages_behind<P: Program>(
     alloc: Global,
@@ -257,15 +172,4 @@ pub fn pages_behind<P: Program>(
 ) -> Result<Vec<PageState>, Fail> {
     let done = served::<P>(alloc, shape, pages, asks)?;
     pages_done(alloc, done.status, &done.flash)
-}
-
-/// The place of the last program among the marks.
-pub fn last_program(flash: &Flash) -> Option<usize> {
-    let mut last = None;
-    for i in 0..flash.marks() {
-        if matches!(flash.mark(i), Mark::Program { .. }) {
-            last = Some(i);
-        }
-    }
-    last
 }

@@ -205,26 +205,3 @@ pub fn overwrite(firsts: &mut [u8], keys: u32, command: u32) {
         firsts[key] = value_of(command).first;
     }
 }
-
-/// Behind how many commands, at least so many and at most so many, these are the first bytes of the values of all keys.
-pub fn commands_kept(
-    alloc: Global,
-    found: &[u8],
-    keys: u32,
-    least: u32,
-    most: u32,
-) -> Result<Option<u32>, AllocError> {
-    let mut held = firsts_behind(alloc, keys, least)?;
-    Ok(kept_from(&mut held, found, keys, least, most))
-}
-
-/// The same where these are the first bytes behind the least number of commands.
-pub fn kept_from(held: &mut [u8], found: &[u8], keys: u32, least: u32, most: u32) -> Option<u32> {
-    for command in least..most.saturating_add(1) {
-        if *held == *found {
-            return Some(command);
-        }
-        overwrite(held, keys, command);
-    }
-    None
-}

@@ -88,15 +88,6 @@ pub fn value_bytes(alloc: Global, value: &Value) -> Result<Vec<u8>, AllocError> 
     Ok(bytes)
 }
 
-/// These bytes, one after another.
-pub fn joined(alloc: Global, parts: &[&[u8]]) -> Result<Vec<u8>, AllocError> {
-    let mut bytes = Vec::new(alloc);
-    for part in parts {
-        bytes.extend_from_slice(part)?;
-    }
-    Ok(bytes)
-}
-
 fn push_ask(into: &mut Vec<u8>, cid: u16, ask: &Ask) -> Result<(), AllocError> {
     into.extend_from_slice(&entry_of(cid, ask))?;
     match ask {
@@ -200,12 +191,4 @@ pub fn records(alloc: Global, answers: &[Answer]) -> Result<Vec<u8>, AllocError>
         push_answer(&mut bytes, number, answer)?;
     }
     Ok(bytes)
-}
-
-/// The answer to a Retrieve of a key under which this stands.
-pub fn retrieved(value: Option<Value>) -> Answer {
-    match value {
-        Some(value) => Answer::Found(value),
-        None => Answer::Missing,
-    }
 }

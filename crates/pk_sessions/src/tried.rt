@@ -30,22 +30,6 @@ pub fn same<T: PartialEq + Debug + Drop, D: Display + Drop>(
     Err(Fail::new(format_args!("{what}: {found:?}, and not {wanted:?}")))
 }
 
-/// A failure at this place where this does not hold.
-pub fn holds_at(is_so: bool, what: &'static str, place: Place) -> Result<(), Fail> {
-    if is_so {
-        return Ok(());
-    }
-    Err(Fail::new(format_args!("{what}, {place}")))
-}
-
-/// A failure where there are fewer than so many.
-pub fn at_least(count: u32, least: u32, what: &'static str) -> Result<(), Fail> {
-    if count >= least {
-        return Ok(());
-    }
-    Err(Fail::new(format_args!("{what}: {count}, and not {least}")))
-}
-
 /// Where in a trial something was found, as a failure tells it.
 #[derive(Clone, Copy)]
 pub enum Place {

@@ -29,41 +29,44 @@ fn status_of(rt: &HostRuntime, path: &str, words: &[&str]) -> u8 {
     }
 }
 
+const MAKE: [&str; 4] = ["make", "512", "16", "64"];
+
+// Words that need the image, and those that make one.
+const WORDS: [&[&str]; 10] = [
+    &["put", "61", "616263"],
+    &["get", "61"],
+    &["del", "61"],
+    &["has", "61"],
+    &["list"],
+    &["list", "61"],
+    &["stat"],
+    &["gen", "1", "3"],
+    &["serve", "36"],
+    &MAKE,
+];
+
 // The state byte of a page is 3: each word that needs the image ends with 8, and no byte of the file changes. With the byte as it was the
 // image is one again.
 #[test]
-fn third_state(rt: HostRuntime) -> Result<(), Fail> {
-    let folder = own_folder(&rt)?;
-    let path = format!(in rt.alloc(); "{}/image", folder.as_str())?;
-    let made = status_of(&rt, path.as_str(), &["make", "512", "16", "64"]);
-    assert_eq!(rt; made, Status::DONE.0);
-    let file = OpenOptions::new()
-        .read(true)
-        .write(true)
-        .open(&rt, path.as_str())?;
-    file.write_all_at(&[3], 36)?;
-    let before = fs::read(&rt, path.as_str())?;
-    for words in [
-        ["put", "61", "616263"].as_slice(),
-        &["get", "61"],
-        &["del", "61"],
-        &["has", "61"],
-        &["list"],
-        &["list", "61"],
-        &["stat"],
-        &["gen", "1", "3"],
-        &["serve", "36"],
-        &["make", "512", "16", "64"],
-    ] {
+fn third_state(rt: HostRuntime) {
+    let folder = own_folder(&rt).expect(&rt, "a folder");
+    let path = format!(in rt.alloc(); "{}/image", folder.as_str()).expect(&rt, "memory");
+    let made = status_of(&rt, path.as_str(), &MAKE);
+    assert!(rt; made == Status::DONE.0, "a made image");
+    let mut options = OpenOptions::new();
+    options.read(true).write(true);
+    let file = options.open(&rt, path.as_str()).expect(&rt, "the file");
+    file.write_all_at(&[3], 36).expect(&rt, "a state byte");
+    let before = fs::read(&rt, path.as_str()).expect(&rt, "the file");
+    for words in &WORDS {
         let status = status_of(&rt, path.as_str(), words);
-        assert_eq!(rt; status, Status::NO_DRIVE.0);
-        let behind = fs::read(&rt, path.as_str())?;
-        assert!(rt; behind.as_slice() == before.as_slice());
+        assert!(rt; status == Status::NO_DRIVE.0, "the status");
+        let behind = fs::read(&rt, path.as_str()).expect(&rt, "the file");
+        assert!(rt; behind.as_slice() == before.as_slice(), "the file");
     }
-    file.write_all_at(&[0], 36)?;
+    file.write_all_at(&[0], 36).expect(&rt, "a state byte");
     let status = status_of(&rt, path.as_str(), &["stat"]);
-    assert_eq!(rt; status, Status::DONE.0);
-    fs::remove_file(&rt, path.as_str())?;
-    fs::remove_dir(&rt, folder.as_str())?;
-    Ok(())
+    assert!(rt; status == Status::DONE.0, "an image");
+    fs::remove_file(&rt, path.as_str()).expect(&rt, "the file");
+    fs::remove_dir(&rt, folder.as_str()).expect(&rt, "the folder");
 }

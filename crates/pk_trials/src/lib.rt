@@ -1,12 +1,46 @@
 //! The trials of whole sessions, run on the program; scripts that it answers as the machine in memory answers them; and its words on
 //! an image file that is none.
 //!
-//! The crate has nothing but these tests. What the first ones do stands in `pk_sessions`.
+//! An image goes from session to session, is cut off at every mark, fails at calls, is damaged and is worn. Each trial compares the status
+//! and the posted bytes with the records of the answers that it lists. The crate has nothing but these tests. They see words, scripts and
+//! records alone, and the board in memory.
 #![tactic(auto)]
 
 #[cfg(test)]
+mod cuts;
+#[cfg(test)]
+mod damage;
+#[cfg(test)]
+mod ends;
+#[cfg(test)]
+mod erases;
+#[cfg(test)]
+mod faults;
+#[cfg(test)]
+mod freezes;
+#[cfg(test)]
 mod image;
+#[cfg(test)]
+mod layered;
 #[cfg(test)]
 mod machine;
 #[cfg(test)]
-mod tests;
+mod merges;
+#[cfg(test)]
+mod reclaims;
+#[cfg(test)]
+mod recut;
+#[cfg(test)]
+mod runs;
+#[cfg(test)]
+mod sessions;
+#[cfg(test)]
+mod space;
+#[cfg(test)]
+mod steps;
+#[cfg(test)]
+mod ways;
+#[cfg(test)]
+mod wear;
+#[cfg(test)]
+mod words;

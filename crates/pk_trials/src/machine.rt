@@ -1,79 +1,226 @@
 //! Scripts that are answered as the machine in memory answers them.
 
-use crate::tests::Pink;
+use crate::steps::{add, made_board, posted, serve, worked};
 use pk_model::MapMachine;
 use pk_nvme::opcode::{DELETE, EXIST, FLUSH, LIST, RETRIEVE, STORE, TICK};
 use pk_nvme::{Request, completion, record_head};
-use pk_sessions::program::command;
-use pk_sessions::{MAKE_WORKED, board, made, serve, worked};
-use pk_top::Status;
+use pk_sessions::Place;
+use pk_sessions::exits::DONE;
 use std::alloc::Global;
+use std::process::Abort;
 use std::test::*;
 
 // No command has this opcode.
 const UNKNOWN: u8 = 0x03;
 
-// The record of a command by the machine in memory. A value that is handed out stands on one page.
-fn record_of(
+// A command on a key of one byte, and the value that it stores.
+#[derive(Clone, Copy)]
+struct Command {
+    opcode: u8,
+    key: u8,
+    size: u32,
+    options: u8,
+    value: &'static [u8],
+}
+
+const COMMANDS: [Command; 18] = [
+    Command {
+        opcode: STORE,
+        key: 0x61,
+        size: 3,
+        options: 0,
+        value: b"abc",
+    },
+    Command {
+        opcode: STORE,
+        key: 0x62,
+        size: 0,
+        options: 2,
+        value: b"",
+    },
+    Command {
+        opcode: RETRIEVE,
+        key: 0x61,
+        size: 2,
+        options: 0,
+        value: b"",
+    },
+    Command {
+        opcode: RETRIEVE,
+        key: 0x61,
+        size: 0,
+        options: 0,
+        value: b"",
+    },
+    Command {
+        opcode: RETRIEVE,
+        key: 0x62,
+        size: 9,
+        options: 0,
+        value: b"",
+    },
+    Command {
+        opcode: STORE,
+        key: 0x62,
+        size: 2,
+        options: 2,
+        value: b"no",
+    },
+    Command {
+        opcode: STORE,
+        key: 0x63,
+        size: 2,
+        options: 1,
+        value: b"no",
+    },
+    Command {
+        opcode: EXIST,
+        key: 0x62,
+        size: 0,
+        options: 0,
+        value: b"",
+    },
+    Command {
+        opcode: LIST,
+        key: 0x61,
+        size: 64,
+        options: 0,
+        value: b"",
+    },
+    Command {
+        opcode: DELETE,
+        key: 0x61,
+        size: 0,
+        options: 0,
+        value: b"",
+    },
+    Command {
+        opcode: DELETE,
+        key: 0x61,
+        size: 0,
+        options: 0,
+        value: b"",
+    },
+    Command {
+        opcode: RETRIEVE,
+        key: 0x61,
+        size: 9,
+        options: 0,
+        value: b"",
+    },
+    Command {
+        opcode: FLUSH,
+        key: 0,
+        size: 0,
+        options: 0,
+        value: b"",
+    },
+    Command {
+        opcode: TICK,
+        key: 0,
+        size: 5,
+        options: 0,
+        value: b"",
+    },
+    Command {
+        opcode: UNKNOWN,
+        key: 0x61,
+        size: 0,
+        options: 0,
+        value: b"",
+    },
+    Command {
+        opcode: LIST,
+        key: 0x61,
+        size: 3,
+        options: 0,
+        value: b"",
+    },
+    Command {
+        opcode: STORE,
+        key: 0x61,
+        size: 2017,
+        options: 0,
+        value: &[7u8; 2017],
+    },
+    Command {
+        opcode: EXIST,
+        key: 0x61,
+        size: 0,
+        options: 0,
+        value: b"",
+    },
+];
+
+// The command with this number.
+fn request(number: u16, command: &Command) -> Request {
+    let mut key = [0u8; 16];
+    key[0] = command.key;
+    Request {
+        opcode: command.opcode,
+        cid: number,
+        namespace: 1,
+        key_len: 1,
+        key,
+        size: command.size,
+        options: command.options,
+    }
+}
+
+// Adds the record of a command by the machine in memory. A value that is handed out stands on one page.
+fn add_record(
+    rt: &impl Abort,
     alloc: Global,
     machine: &mut MapMachine,
-    taken: u32,
     request: &Request,
     value: &[u8],
     into: &mut Vec<u8>,
-) -> Result<(), Fail> {
-    if value.len() != request.value_bytes() as usize {
-        return Err(Fail::from("a value of its size"));
-    }
-    let answer = machine.step(alloc, &request.entry(), value)?;
+) {
+    assert!(rt;
+        value.len() == request.value_bytes() as usize,
+        "a value of its size"
+    );
+    let answer = machine
+        .step(alloc, &request.entry(), value)
+        .expect(rt, "memory");
     let data = answer.bytes.bytes();
-    let reads = if request.opcode == RETRIEVE && !data.is_empty() {
-        1
-    } else {
-        0
-    };
+    let is_value = request.opcode == RETRIEVE && !data.is_empty();
+    let reads = if is_value { 1 } else { 0 };
+    let taken = u32::from(request.cid);
     let entry = completion(request.cid, taken, answer.status, answer.result);
-    let size = u32::try_from(data.len()).map_err(|_| "a record")?;
-    into.extend_from_slice(&record_head(&entry, reads, size))?;
-    into.extend_from_slice(data)?;
-    Ok(())
+    let size = u32::try_from(data.len()).expect(rt, "a record");
+    add(rt, into, &record_head(&entry, reads, size));
+    add(rt, into, data);
 }
 
 // The records of several commands are those of the machine in memory, byte for byte.
 #[test]
-fn as_the_machine(rt: HostRuntime) -> Result<(), Fail> {
+fn as_the_machine(rt: HostRuntime) {
     let alloc = rt.alloc();
-    let mut machine = MapMachine::new(alloc, worked()?)?;
+    let mut machine = MapMachine::new(alloc, worked(&rt)).expect(&rt, "memory");
     let mut script = Vec::new(alloc);
     let mut records = Vec::new(alloc);
-    let mut taken = 0u32;
-    for (request, value) in [
-        (command(STORE, 1, 0x61, 3, 0), b"abc".as_slice()),
-        (command(STORE, 2, 0x62, 0, 2), b""),
-        (command(RETRIEVE, 3, 0x61, 2, 0), b""),
-        (command(RETRIEVE, 4, 0x61, 0, 0), b""),
-        (command(RETRIEVE, 5, 0x62, 9, 0), b""),
-        (command(STORE, 6, 0x62, 2, 2), b"no"),
-        (command(STORE, 7, 0x63, 2, 1), b"no"),
-        (command(EXIST, 8, 0x62, 0, 0), b""),
-        (command(LIST, 9, 0x61, 64, 0), b""),
-        (command(DELETE, 10, 0x61, 0, 0), b""),
-        (command(DELETE, 11, 0x61, 0, 0), b""),
-        (command(RETRIEVE, 12, 0x61, 9, 0), b""),
-        (command(FLUSH, 13, 0, 0, 0), b""),
-        (command(TICK, 14, 0, 5, 0), b""),
-        (command(UNKNOWN, 15, 0x61, 0, 0), b""),
-        (command(LIST, 16, 0x61, 3, 0), b""),
-        (command(STORE, 17, 0x61, 2017, 0), [7u8; 2017].as_slice()),
-        (command(EXIST, 18, 0x61, 0, 0), b""),
-    ] {
-        taken = taken.wrapping_add(1);
-        script.extend_from_slice(&request.entry())?;
-        script.extend_from_slice(value)?;
-        record_of(alloc, &mut machine, taken, &request, value, &mut records)?;
+    let mut number = 0u16;
+    for command in &COMMANDS {
+        number = number.wrapping_add(1);
+        let request = request(number, command);
+        add(&rt, &mut script, &request.entry());
+        add(&rt, &mut script, command.value);
+        add_record(
+            &rt,
+            alloc,
+            &mut machine,
+            &request,
+            command.value,
+            &mut records,
+        );
     }
-    let mut flash = board(alloc, worked()?, made::<Pink>(alloc, &MAKE_WORKED)?, script)?;
-    assert_eq!(rt; serve::<Pink>(alloc, &mut flash), Status::DONE.0);
-    assert_eq!(rt; flash.posted(), records.as_slice());
-    Ok(())
+    let session = serve(alloc, made_board(&rt, alloc, script));
+    posted(
+        &rt,
+        &session,
+        DONE,
+        &records,
+        Place::Named("these commands"),
+    );
 }

@@ -1,14 +1,15 @@
 //! Flashes made by hand, byte for byte as their formats say: entries in both epochs and in each run, under keys of two bytes, on pages of
 //! any size.
 
-use crate::boards::shape_of;
-use crate::pages::{Sizes, Top, erased, put_root, write};
-use crate::script::Value;
-use crate::ways::few_ways;
+use crate::steps::{add, done, shape_of};
 use pk_base::{Shape, put_text, put_u8, put_u16, put_u32, put_u64};
 use pk_flash::{Flash, Left};
 use pk_nand::{Mark, PageState};
-use std::alloc::{AllocError, Global};
+use pk_sessions::pages::{Sizes, Top, erased, put_root, write};
+use pk_sessions::script::Value;
+use pk_sessions::ways::few_ways;
+use std::alloc::Global;
+use std::process::Abort;
 use std::test::*;
 
 /// How many entries the newest epoch, the older one, and runs 1 to 4 have. There is an older epoch only where it has some.
@@ -101,13 +102,6 @@ fn entries_of(sizes: &Sizes) -> u16 {
     sizes.page_bytes.saturating_sub(32) / 32
 }
 
-// An entry: its key, and where its value begins, or that the key was deleted.
-#[derive(Clone, Copy)]
-struct Note {
-    key: u16,
-    first: Option<u32>,
-}
-
 // The value of each key has five bytes.
 const VALUE_BYTES: u32 = 5;
 
@@ -119,37 +113,29 @@ pub fn value_of(key: u16) -> Value {
     }
 }
 
-// The bytes of an entry.
-fn note_bytes(note: &Note) -> [u8; 32] {
-    let key = key_of(note.key);
-    let mut bytes = [0u8; 32];
-    bytes[0] = 2;
-    bytes[1] = if note.first.is_some() { 1 } else { 2 };
-    bytes[4] = key[0];
-    bytes[5] = key[1];
-    if let Some(first) = note.first {
-        put_u32(&mut bytes, 20, first);
-        put_u32(&mut bytes, 24, VALUE_BYTES);
-    }
-    bytes
-}
-
-// Writes an entry at this place among those of a page.
-fn put_note(page: &mut [u8], i: u16, note: &Note) {
+// Writes the entry of a key at this place among those of a page: where its value begins, or that the key was deleted.
+fn put_note(page: &mut [u8], i: u16, key: u16, first: Option<u32>) {
     let at = 32 + 32 * usize::from(i);
-    if page.len() >= at + 32 {
-        page[at..at + 32].copy_from_slice(&note_bytes(note));
+    if page.len() < at + 32 {
+        return;
+    }
+    let name = key_of(key);
+    put_u8(page, at, 2);
+    put_u8(page, at + 4, name[0]);
+    put_u8(page, at + 5, name[1]);
+    if let Some(first) = first {
+        put_u8(page, at + 1, 1);
+        put_u32(page, at + 20, first);
+        put_u32(page, at + 24, VALUE_BYTES);
+    } else {
+        put_u8(page, at + 1, 2);
     }
 }
 
 // Writes entries of deleted keys, so many from this one on.
 fn put_gone(page: &mut [u8], first: u16, count: u16) {
     for i in 0..count {
-        let note = Note {
-            key: first.saturating_add(i),
-            first: None,
-        };
-        put_note(page, i, &note);
+        put_note(page, i, first.saturating_add(i), None);
     }
 }
 
@@ -175,29 +161,24 @@ fn put_journal(page: &mut [u8], epoch: u64, index: u16, count: u16) {
     put_u16(page, 20, count);
 }
 
-// The head of the value of a key, and the value.
-fn value_front(key: u16) -> [u8; 37] {
-    let name = key_of(key);
-    let mut bytes = [0u8; 37];
-    bytes[0] = 2;
-    bytes[1] = 0x44;
-    bytes[4] = name[0];
-    bytes[5] = name[1];
-    put_u32(&mut bytes, 20, VALUE_BYTES);
-    put_text(&mut bytes, 24, b"PINKDATA");
-    for i in 0..5u8 {
-        bytes[32 + usize::from(i)] = value_of(key).first.wrapping_add(i);
-    }
-    bytes
-}
-
-// Writes the value of a key, which stands on one page.
+// Writes the value of a key, which stands on one page, behind its head.
 fn put_value(page: &mut [u8], key: u16) {
-    let front = value_front(key);
-    for i in 0..37usize {
-        if i < page.len() {
-            page[i] = front[i];
-        }
+    if page.len() < 37 {
+        return;
+    }
+    let name = key_of(key);
+    put_u8(page, 0, 2);
+    put_u8(page, 1, 0x44);
+    put_u8(page, 4, name[0]);
+    put_u8(page, 5, name[1]);
+    put_u32(page, 20, VALUE_BYTES);
+    put_text(page, 24, b"PINKDATA");
+    for i in 0..5u8 {
+        put_u8(
+            page,
+            32 + usize::from(i),
+            value_of(key).first.wrapping_add(i),
+        );
     }
 }
 
@@ -205,26 +186,14 @@ fn put_value(page: &mut [u8], key: u16) {
 
 // The pages of a flash while they are written.
 #[derive(Drop)]
-struct Writer<'a> {
+struct Writer {
     alloc: Global,
-    sizes: &'a Sizes,
+    sizes: Sizes,
     pages: Vec<PageState>,
     page: Vec<u8>,
 }
 
-impl<'a> Writer<'a> {
-    fn new(alloc: Global, sizes: &'a Sizes) -> Result<Writer<'a>, AllocError> {
-        let count = u32::from(sizes.block_pages).saturating_mul(u32::from(sizes.blocks));
-        let pages = erased(alloc, count)?;
-        let page = Vec::from_elem(alloc, 0u8, usize::from(sizes.page_bytes))?;
-        Ok(Writer {
-            alloc,
-            sizes,
-            pages,
-            page,
-        })
-    }
-
+impl Writer {
     // The number of a page of a block.
     fn at(&self, block: u16, i: u16) -> u32 {
         let first = u32::from(block).saturating_mul(u32::from(self.sizes.block_pages));
@@ -232,95 +201,58 @@ impl<'a> Writer<'a> {
     }
 
     // Writes the page that was made, and begins a new one.
-    fn write(&mut self, at: u32) -> Result<(), Fail> {
-        write(self.alloc, &mut self.pages, at, &self.page)?;
+    fn write(&mut self, rt: &impl Abort, at: u32) {
+        done(rt, write(self.alloc, &mut self.pages, at, &self.page));
         self.page.fill(0);
-        Ok(())
     }
 
     // Writes a run of deleted keys from this block on.
-    fn write_gone(&mut self, level: u8, block: u16, entries: u16) -> Result<(), Fail> {
-        let most = entries_of(self.sizes).max(1);
+    fn write_gone(&mut self, rt: &impl Abort, level: u8, block: u16, entries: u16) {
+        let most = entries_of(&self.sizes).max(1);
         for index in 0..entries.div_ceil(most) {
             let from = index.saturating_mul(most);
             let count = most.min(entries.saturating_sub(from));
             put_meta(&mut self.page, level, index, count);
-            self.write_keys_gone(
-                self.at(block, index),
-                FIRST_GONE.saturating_add(from),
-                count,
-            )?;
+            put_gone(&mut self.page, FIRST_GONE.saturating_add(from), count);
+            self.write(rt, self.at(block, index));
         }
-        Ok(())
-    }
-
-    // Adds so many deleted keys from this one on to the page that was made, and writes it.
-    fn write_keys_gone(&mut self, at: u32, first: u16, count: u16) -> Result<(), Fail> {
-        put_gone(&mut self.page, first, count);
-        self.write(at)
     }
 
     // Writes run 4, of one page, and the values of its keys, which fill pages of this block.
-    fn write_there(&mut self, block: u16, entries: u16, values: u16) -> Result<(), Fail> {
-        self.write_values(entries, values)?;
-        put_meta(&mut self.page, 4, 0, entries);
-        self.put_there(entries, values);
-        let at = self.at(block, 0);
-        self.write(at)
-    }
-
-    fn write_values(&mut self, entries: u16, values: u16) -> Result<(), Fail> {
+    fn write_there(&mut self, rt: &impl Abort, block: u16, entries: u16, values: u16) {
         for i in 0..entries {
             put_value(&mut self.page, FIRST_THERE.saturating_add(i));
-            let at = self.at(values, i);
-            self.write(at)?;
+            self.write(rt, self.at(values, i));
         }
-        Ok(())
-    }
-
-    // Writes the entries of run 4 into the page that is made.
-    fn put_there(&mut self, entries: u16, values: u16) {
+        put_meta(&mut self.page, 4, 0, entries);
         for i in 0..entries {
-            let note = Note {
-                key: FIRST_THERE.saturating_add(i),
-                first: Some(self.at(values, i)),
-            };
-            put_note(&mut self.page, i, &note);
+            let first = self.at(values, i);
+            put_note(
+                &mut self.page,
+                i,
+                FIRST_THERE.saturating_add(i),
+                Some(first),
+            );
         }
+        self.write(rt, self.at(block, 0));
     }
 
     // Writes a page of an epoch with so many deleted keys from this one on, where there are some.
     fn write_epoch(
         &mut self,
+        rt: &impl Abort,
         epoch: u64,
         block: u16,
         index: u16,
         first: u16,
         count: u16,
-    ) -> Result<(), Fail> {
+    ) {
         if count == 0 {
-            return Ok(());
+            return;
         }
         put_journal(&mut self.page, epoch, index, count);
-        self.write_keys_gone(self.at(block, index), first, count)
-    }
-
-    // Writes the root into page 0.
-    fn write_root(&mut self, lists: &Lists, blocks: &[u16]) -> Result<(), Fail> {
-        let top = Top {
-            number: 7,
-            epoch: 3,
-            epochs: if lists.frozen == 0 { 1 } else { 2 },
-            runs: [
-                u32::from(lists.runs[0]),
-                u32::from(lists.runs[1]),
-                u32::from(lists.runs[2]),
-                u32::from(lists.runs[3]),
-            ],
-            blocks,
-        };
-        put_root(&mut self.page, self.sizes, &top);
-        self.write(0)
+        put_gone(&mut self.page, first, count);
+        self.write(rt, self.at(block, index));
     }
 }
 
@@ -368,82 +300,93 @@ impl Layered {
         }
     }
 
-    pub fn shape(&self) -> Result<Shape, Fail> {
+    pub fn shape(&self, rt: &impl Abort) -> Shape {
         let sizes = &self.sizes;
         shape_of(
+            rt,
             u32::from(sizes.page_bytes),
             u32::from(sizes.block_pages),
             u32::from(sizes.blocks),
         )
     }
 
-    // Writes the runs, and names their blocks.
-    fn write_runs(&self, writer: &mut Writer, named: &mut Named) -> Result<(), Fail> {
-        for level in 1..=4u8 {
-            let entries = self.lists.runs[usize::from(level) - 1];
-            if level < 4 {
-                writer.write_gone(level, named.next, entries)?;
-            } else {
-                writer.write_there(named.next, entries, self.sizes.blocks.saturating_sub(2))?;
-            }
-            named.take(blocks_for(&self.sizes, entries));
-        }
-        Ok(())
-    }
-
     /// The flash: the root in page 0, epoch 3 in blocks 2 and 3, epoch 2 in the next two where there is one, the runs behind them, and the
     /// values in the last block but one.
-    pub fn pages(&self, alloc: Global) -> Result<Vec<PageState>, Fail> {
-        let mut writer = Writer::new(alloc, &self.sizes)?;
-        self.write_lists(&mut writer)?;
-        Ok(writer.pages)
+    pub fn pages(&self, rt: &impl Abort, alloc: Global) -> Vec<PageState> {
+        let sizes = self.sizes;
+        let count = u32::from(sizes.block_pages).saturating_mul(u32::from(sizes.blocks));
+        let mut writer = Writer {
+            alloc,
+            sizes,
+            pages: erased(alloc, count).expect(rt, "memory"),
+            page: Vec::from_elem(alloc, 0u8, usize::from(sizes.page_bytes)).expect(rt, "memory"),
+        };
+        self.write_epochs(rt, &mut writer);
+        self.write_runs(rt, &mut writer);
+        writer.pages
     }
 
-    fn write_lists(&self, writer: &mut Writer) -> Result<(), Fail> {
+    // Writes epoch 3 and, in two pages, epoch 2 where there is one.
+    fn write_epochs(&self, rt: &impl Abort, writer: &mut Writer) {
+        let half = self.lists.frozen / 2;
+        let rest = self.lists.frozen.saturating_sub(half);
+        writer.write_epoch(rt, 3, 2, 0, FIRST_THERE, self.lists.active);
+        writer.write_epoch(rt, 2, 4, 0, FIRST_GONE, half);
+        writer.write_epoch(rt, 2, 4, 1, FIRST_GONE.saturating_add(half), rest);
+    }
+
+    // Writes the runs, and the root, which names all blocks.
+    fn write_runs(&self, rt: &impl Abort, writer: &mut Writer) {
+        let runs = self.lists.runs;
         let mut named = Named {
             blocks: [0; 20],
             count: 0,
             next: 2,
         };
         named.take(if self.lists.frozen > 0 { 4 } else { 2 });
-        writer.write_epoch(3, 2, 0, FIRST_THERE, self.lists.active)?;
-        self.write_frozen(writer)?;
-        self.write_runs(writer, &mut named)?;
-        writer.write_root(&self.lists, named.blocks())
-    }
-
-    // Writes epoch 2, where there is one, in two pages.
-    fn write_frozen(&self, writer: &mut Writer) -> Result<(), Fail> {
-        let half = self.lists.frozen / 2;
-        let rest = self.lists.frozen.saturating_sub(half);
-        writer.write_epoch(2, 4, 0, FIRST_GONE, half)?;
-        writer.write_epoch(2, 4, 1, FIRST_GONE.saturating_add(half), rest)
+        writer.write_gone(rt, 1, named.next, runs[0]);
+        named.take(blocks_for(&self.sizes, runs[0]));
+        writer.write_gone(rt, 2, named.next, runs[1]);
+        named.take(blocks_for(&self.sizes, runs[1]));
+        writer.write_gone(rt, 3, named.next, runs[2]);
+        named.take(blocks_for(&self.sizes, runs[2]));
+        writer.write_there(rt, named.next, runs[3], self.sizes.blocks.saturating_sub(2));
+        named.take(blocks_for(&self.sizes, runs[3]));
+        let top = Top {
+            number: 7,
+            epoch: 3,
+            epochs: if self.lists.frozen == 0 { 1 } else { 2 },
+            runs: [
+                u32::from(runs[0]),
+                u32::from(runs[1]),
+                u32::from(runs[2]),
+                u32::from(runs[3]),
+            ],
+            blocks: named.blocks(),
+        };
+        put_root(&mut writer.page, &self.sizes, &top);
+        writer.write(rt, 0);
     }
 
     /// The data of a List: the keys of run 4 but for those that the newest epoch deletes, and one more where it was stored.
-    pub fn keys_listed(&self, alloc: Global, stored: Option<u16>) -> Result<Vec<u8>, AllocError> {
+    pub fn keys_listed(&self, rt: &impl Abort, alloc: Global, stored: Option<u16>) -> Vec<u8> {
         let mut data = Vec::new(alloc);
-        self.push_there(&mut data, if stored.is_some() { 1 } else { 0 })?;
-        if let Some(key) = stored {
-            push_key(&mut data, key)?;
-        }
-        Ok(data)
-    }
-
-    // Adds the count of the keys of run 4 that are there and of so many more, and those of run 4.
-    fn push_there(&self, into: &mut Vec<u8>, more: u32) -> Result<(), AllocError> {
-        let there = self.lists.runs[3].saturating_sub(self.lists.active);
-        into.extend_from_slice(&u32::from(there).saturating_add(more).to_le_bytes())?;
+        let there = u32::from(self.lists.runs[3].saturating_sub(self.lists.active));
+        let more = if stored.is_some() { 1 } else { 0 };
+        add(rt, &mut data, &there.saturating_add(more).to_le_bytes());
         for i in self.lists.active..self.lists.runs[3] {
-            push_key(into, FIRST_THERE.saturating_add(i))?;
+            add_key(rt, &mut data, FIRST_THERE.saturating_add(i));
         }
-        Ok(())
+        if let Some(key) = stored {
+            add_key(rt, &mut data, key);
+        }
+        data
     }
 }
 
-fn push_key(data: &mut Vec<u8>, number: u16) -> Result<(), AllocError> {
+fn add_key(rt: &impl Abort, data: &mut Vec<u8>, number: u16) {
     let key = key_of(number);
-    data.extend_from_slice(&[2, 0, key[0], key[1]])
+    add(rt, data, &[2, 0, key[0], key[1]]);
 }
 
 // ---- what roots change
@@ -496,12 +439,12 @@ impl Lists {
 // ---- cuts
 
 /// Some ways in which this mark is interrupted, and one at a post.
-pub fn ways(alloc: Global, flash: &Flash, k: usize) -> Result<Vec<Left>, AllocError> {
-    let mut ways = few_ways(alloc, flash, k)?;
+pub fn ways(rt: &impl Abort, alloc: Global, flash: &Flash, k: usize) -> Vec<Left> {
+    let mut ways = few_ways(alloc, flash, k).expect(rt, "memory");
     if ways.is_empty() {
-        ways.push(Left::Untouched)?;
+        ways.push(Left::Untouched).expect(rt, "memory");
     }
-    Ok(ways)
+    ways
 }
 
 // Whether this mark programs a page of the root blocks.

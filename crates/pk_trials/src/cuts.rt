@@ -1,0 +1,182 @@
+//! A session that is cut off at every mark, and the session behind it.
+
+use crate::steps::{MAKE_SMALL, answered, ask_small, copied, cut, holds, made, records, same};
+use crate::ways::{Ways, ways_of_erases};
+use pk_flash::{Flash, Left};
+use pk_nand::Mark;
+use pk_sessions::Place;
+use pk_sessions::boards::Session;
+use pk_sessions::cuts::bytes_out;
+use pk_sessions::exits::DONE;
+use pk_sessions::script::{Answer, Ask, Value};
+use std::alloc::Global;
+use std::process::Abort;
+use std::test::*;
+
+const A_FIRST: Value = Value { first: 1, len: 100 };
+
+const A_LATER: Value = Value { first: 2, len: 200 };
+
+const B: Value = Value { first: 3, len: 600 };
+
+const C: Value = Value { first: 4, len: 992 };
+
+const D: Value = Value { first: 5, len: 0 };
+
+/// The value of the second session.
+pub const E: Value = Value { first: 6, len: 10 };
+
+// Values of one and two pages, seven in all, which one block takes.
+const FIRST: [Ask; 10] = [
+    Ask::Store(0x61, A_FIRST),
+    Ask::Store(0x62, B),
+    Ask::Flush,
+    Ask::Store(0x61, A_LATER),
+    Ask::Store(0x63, C),
+    Ask::Delete(0x62),
+    Ask::Flush,
+    Ask::Tick(3),
+    Ask::Store(0x64, D),
+    Ask::Delete(0x61),
+];
+
+/// What stands under the four keys.
+pub type Held = [Option<Value>; 4];
+
+/// Behind so many commands of the first session.
+pub const HELD: [Held; 11] = [
+    [None, None, None, None],
+    [Some(A_FIRST), None, None, None],
+    [Some(A_FIRST), Some(B), None, None],
+    [Some(A_FIRST), Some(B), None, None],
+    [Some(A_LATER), Some(B), None, None],
+    [Some(A_LATER), Some(B), Some(C), None],
+    [Some(A_LATER), None, Some(C), None],
+    [Some(A_LATER), None, Some(C), None],
+    [Some(A_LATER), None, Some(C), None],
+    [Some(A_LATER), None, Some(C), Some(D)],
+    [None, None, Some(C), Some(D)],
+];
+
+const SECOND: [Ask; 6] = [
+    Ask::Retrieve(0x61),
+    Ask::Retrieve(0x62),
+    Ask::Retrieve(0x63),
+    Ask::Retrieve(0x64),
+    Ask::Store(0x65, E),
+    Ask::Retrieve(0x65),
+];
+
+/// In how many ways an interruption of the mark with this number is tried where it is one of two: all of a program, six of an erase, of
+/// which each page may stay, be Erased or Torn (`Ways` has all of these); a post leaves the pages alone, whatever part of it went out.
+/// Behind the last mark there is one way.
+pub fn some_ways(flash: &Flash, k: usize) -> u8 {
+    if k >= flash.marks() {
+        return 1;
+    }
+    match flash.mark(k) {
+        Mark::Program { .. } => 3,
+        Mark::Erase { .. } => 6,
+        Mark::Post { .. } => 1,
+    }
+}
+
+// Each page of a block of eight by itself: as it was (0), Erased (1) or Torn (2).
+const EACH: [[u8; 8]; 3] = [
+    [0, 1, 2, 0, 1, 2, 0, 1],
+    [1, 0, 1, 0, 1, 0, 1, 0],
+    [2, 0, 2, 0, 2, 0, 2, 0],
+];
+
+/// One of these: nothing is all is Torn, all is or each page of a block by itself.
+pub fn left(rt: &impl Abort, alloc: Global, way: u8) -> Left {
+    match way {
+        0 => Left::Untouched,
+        1 => Left::Torn,
+        2 => Left::Done,
+        3 => Left::Each(copied(rt, alloc, &EACH[0])),
+        4 => Left::Each(copied(rt, alloc, &EACH[1])),
+        _ => Left::Each(copied(rt, alloc, &EACH[2])),
+    }
+}
+
+/// The answer to a Retrieve of a key under which this stands.
+pub fn retrieved(value: Option<Value>) -> Answer {
+    match value {
+        Some(value) => Answer::Found(value),
+        None => Answer::Missing,
+    }
+}
+
+/// The answers of the second session on these values.
+pub fn second_answers(held: &Held) -> [Answer; 6] {
+    [
+        retrieved(held[0]),
+        retrieved(held[1]),
+        retrieved(held[2]),
+        retrieved(held[3]),
+        Answer::Done,
+        Answer::Found(E),
+    ]
+}
+
+// The first number of commands, from this one on, behind which the records of the second session are the posted ones.
+fn commands_kept(rt: &impl Abort, alloc: Global, posted: &[u8], least: usize) -> Option<usize> {
+    for count in least..HELD.len() {
+        let want = records(rt, alloc, &second_answers(&HELD[count]));
+        if posted == want.as_slice() {
+            return Some(count);
+        }
+    }
+    None
+}
+
+/// The second session on the pages that are left where the first one is cut off here, and behind how many commands of the
+/// first one. Those with a byte of their record posted, which has 24, are among them.
+pub fn second_session(
+    rt: &impl Abort,
+    alloc: Global,
+    first: &Flash,
+    k: usize,
+    left: &Left,
+) -> (Session, Option<usize>) {
+    let second = ask_small(rt, alloc, cut(rt, alloc, first, k, left), &SECOND);
+    let least = bytes_out(first, k).div_ceil(24);
+    let kept = commands_kept(rt, alloc, second.flash.posted(), least);
+    (second, kept)
+}
+
+/// The first session.
+pub fn first_session(rt: &impl Abort, alloc: Global) -> Session {
+    ask_small(rt, alloc, made(rt, alloc, &MAKE_SMALL), &FIRST)
+}
+
+// Interrupts this mark in all its ways.
+fn check_mark(rt: &impl Abort, alloc: Global, first: &Flash, k: usize) {
+    let ways = Ways::of(rt, alloc, first, k);
+    for way in 0..ways.count {
+        let left = ways.left(rt, alloc, way);
+        let (second, kept) = second_session(rt, alloc, first, k, &left);
+        let is_so = second.status == DONE && kept.is_some();
+        holds(
+            rt,
+            is_so,
+            "the status, or what is there",
+            Place::Way(k, way),
+        );
+    }
+}
+
+/// Each mark is interrupted in all its ways. Seven erase blocks without a Whole page, three of them in the Tick, and have 256 each.
+#[test]
+fn every_cut(rt: HostRuntime) {
+    let alloc = rt.alloc();
+    let first = first_session(&rt, alloc);
+    let place = Place::Named("the first session");
+    answered(&rt, alloc, &first, &[Answer::Done; 10], place);
+    let ways = ways_of_erases(&rt, alloc, &first.flash);
+    same(&rt, u64::from(ways), 7 * 256, "ways");
+    for k in 0..first.flash.marks().saturating_add(1) {
+        check_mark(&rt, alloc, &first.flash, k);
+    }
+}

@@ -1,0 +1,275 @@
+//! Calls of the board that fail.
+
+use crate::steps::{
+    MAKE_WORKED, answered, ask, copied, ended_well, made, pages_left, posted, records, same,
+    script, serve, worked_board,
+};
+use pk_flash::Left;
+use pk_nand::Board;
+use pk_nvme::opcode::DELETE;
+use pk_sessions::Place;
+use pk_sessions::boards::Session;
+use pk_sessions::exits::{DONE, FLASH, INPUT, OUTPUT};
+use pk_sessions::script::{Answer, Ask, Value};
+use std::alloc::Global;
+use std::process::Abort;
+use std::test::*;
+
+const THREE: Value = Value {
+    first: 0x61,
+    len: 3,
+};
+
+// Serves this script on a drive with the key `b`, which one session stored, while the call with this number fails. The drive is opened
+// by 35 reads: 32 pages of the root blocks, the journal page and the Erased one behind it, and the page of the value.
+fn ask_failing(rt: &impl Abort, alloc: Global, asks: &[Ask], call: u64, left: Left) -> Session {
+    let first = ask(
+        rt,
+        alloc,
+        made(rt, alloc, &MAKE_WORKED),
+        &[Ask::Store(0x62, THREE)],
+    );
+    let first = ended_well(rt, first, Place::Named("the first session"));
+    let pages = pages_left(rt, alloc, &first);
+    let mut flash = worked_board(rt, alloc, pages, script(rt, alloc, asks));
+    flash.fail(alloc, call, left).expect(rt, "memory");
+    serve(alloc, flash)
+}
+
+/// The entry is fetched behind the reads of opening, and then the page of the value is read.
+#[test]
+fn read_of_retrieve(rt: HostRuntime) {
+    let alloc = rt.alloc();
+    let asks = [Ask::Retrieve(0x62), Ask::Retrieve(0x62)];
+    let session = ask_failing(&rt, alloc, &asks, 36, Left::Untouched);
+    let answers = [Answer::Unread, Answer::Found(THREE)];
+    answered(&rt, alloc, &session, &answers, Place::Call(36));
+}
+
+/// Each read of opening fails once: nothing was posted and nothing was written, and the first byte of the input is still to be taken.
+#[test]
+fn reads_of_opening(rt: HostRuntime) {
+    for call in 0..35u64 {
+        let asks = [Ask::Delete(0x62)];
+        let mut session = ask_failing(&rt, rt.alloc(), &asks, call, Left::Untouched);
+        posted(&rt, &session, FLASH, &[], Place::Call(call));
+        same(&rt, session.flash.marks() as u64, 0, "marks");
+        let mut byte = [0u8; 1];
+        let fetched = session.flash.fetch(&mut byte);
+        assert!(rt; fetched == Ok(1), "a byte of the input");
+        same(
+            &rt,
+            u64::from(byte[0]),
+            u64::from(DELETE),
+            "the first byte of the input",
+        );
+    }
+}
+
+// A page of a block after another: as it was, Erased or Torn.
+const BY_TURNS: [u8; 16] = [0, 1, 2, 0, 1, 2, 0, 1, 2, 0, 1, 2, 0, 1, 2, 0];
+
+fn left(rt: &impl Abort, alloc: Global, way: u8) -> Left {
+    match way {
+        0 => Left::Untouched,
+        1 => Left::Torn,
+        2 => Left::Done,
+        3 => Left::Each(copied(rt, alloc, &BY_TURNS)),
+        _ => Left::Part(7),
+    }
+}
+
+// A call that fails and what it leaves: the status, how many bytes of the Store's record are posted, and the keys behind the session.
+#[derive(Clone, Copy)]
+struct Failure {
+    call: u64,
+    way: u8,
+    status: u8,
+    bytes: usize,
+    keys: &'static [u8],
+}
+
+// The calls behind those of opening are, in this order: the fetches of the entry and of the value, the erases of two blocks for the
+// epoch and of the other root block, the root, the erase of a block for values, the value, the fetch at the input's end, the journal
+// page, and the post of the record.
+const FAILURES: [Failure; 22] = [
+    Failure {
+        call: 35,
+        way: 0,
+        status: INPUT,
+        bytes: 0,
+        keys: b"b",
+    },
+    Failure {
+        call: 36,
+        way: 0,
+        status: INPUT,
+        bytes: 0,
+        keys: b"b",
+    },
+    Failure {
+        call: 37,
+        way: 1,
+        status: FLASH,
+        bytes: 0,
+        keys: b"b",
+    },
+    Failure {
+        call: 38,
+        way: 3,
+        status: FLASH,
+        bytes: 0,
+        keys: b"b",
+    },
+    Failure {
+        call: 39,
+        way: 0,
+        status: FLASH,
+        bytes: 0,
+        keys: b"b",
+    },
+    Failure {
+        call: 39,
+        way: 1,
+        status: FLASH,
+        bytes: 0,
+        keys: b"b",
+    },
+    Failure {
+        call: 39,
+        way: 2,
+        status: FLASH,
+        bytes: 0,
+        keys: b"b",
+    },
+    Failure {
+        call: 39,
+        way: 3,
+        status: FLASH,
+        bytes: 0,
+        keys: b"b",
+    },
+    Failure {
+        call: 40,
+        way: 0,
+        status: FLASH,
+        bytes: 0,
+        keys: b"b",
+    },
+    Failure {
+        call: 40,
+        way: 1,
+        status: FLASH,
+        bytes: 0,
+        keys: b"b",
+    },
+    Failure {
+        call: 40,
+        way: 2,
+        status: FLASH,
+        bytes: 0,
+        keys: b"b",
+    },
+    Failure {
+        call: 41,
+        way: 3,
+        status: FLASH,
+        bytes: 0,
+        keys: b"b",
+    },
+    Failure {
+        call: 42,
+        way: 0,
+        status: FLASH,
+        bytes: 0,
+        keys: b"b",
+    },
+    Failure {
+        call: 42,
+        way: 1,
+        status: FLASH,
+        bytes: 0,
+        keys: b"b",
+    },
+    Failure {
+        call: 42,
+        way: 2,
+        status: FLASH,
+        bytes: 0,
+        keys: b"b",
+    },
+    Failure {
+        call: 43,
+        way: 0,
+        status: INPUT,
+        bytes: 24,
+        keys: b"ab",
+    },
+    Failure {
+        call: 44,
+        way: 0,
+        status: FLASH,
+        bytes: 0,
+        keys: b"b",
+    },
+    Failure {
+        call: 44,
+        way: 1,
+        status: FLASH,
+        bytes: 0,
+        keys: b"b",
+    },
+    Failure {
+        call: 44,
+        way: 2,
+        status: FLASH,
+        bytes: 0,
+        keys: b"ab",
+    },
+    Failure {
+        call: 45,
+        way: 0,
+        status: OUTPUT,
+        bytes: 0,
+        keys: b"ab",
+    },
+    Failure {
+        call: 45,
+        way: 4,
+        status: OUTPUT,
+        bytes: 7,
+        keys: b"ab",
+    },
+    Failure {
+        call: 46,
+        way: 0,
+        status: DONE,
+        bytes: 24,
+        keys: b"ab",
+    },
+];
+
+// Stores the key `a` while this call fails: what was posted, and the keys behind the session.
+fn check_store(rt: &impl Abort, alloc: Global, failure: &Failure) {
+    let place = Place::CallWay(failure.call, failure.way);
+    let left = left(rt, alloc, failure.way);
+    let session = ask_failing(rt, alloc, &[Ask::Store(0x61, THREE)], failure.call, left);
+    let record = records(rt, alloc, &[Answer::Done]);
+    let front = record.get(..failure.bytes).unwrap_or(&record);
+    posted(rt, &session, failure.status, front, place);
+    let next = ask(
+        rt,
+        alloc,
+        pages_left(rt, alloc, &session.flash),
+        &[Ask::List],
+    );
+    answered(rt, alloc, &next, &[Answer::Keys(failure.keys)], place);
+}
+
+/// Each call of the session of a Store fails, in some ways.
+#[test]
+fn calls_of_store(rt: HostRuntime) {
+    for failure in &FAILURES {
+        check_store(&rt, rt.alloc(), failure);
+    }
+}

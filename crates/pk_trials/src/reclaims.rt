@@ -1,0 +1,453 @@
+//! Reclaims of drives that are full, cut off at every mark, and with each call of the board failing in turn.
+
+use crate::steps::{
+    MAKE_SMALL, MAKE_WORKED, at_least, cut, done, ended, ended_well, holds, made, pages_left,
+    serve, small, worked,
+};
+use pk_base::Shape;
+use pk_flash::{Flash, Left, Room};
+use pk_nand::PageState;
+use pk_nvme::opcode::FLUSH;
+use pk_nvme::status::UNRECOVERED_ERROR;
+use pk_sessions::Place;
+use pk_sessions::boards::{Session, board_in};
+use pk_sessions::cuts::bytes_out;
+use pk_sessions::exits::{DONE, FLASH, INPUT, OUTPUT};
+use pk_sessions::overwritten::{
+    OTHER, firsts, firsts_behind, overwrite, push_plain, push_retrieves, push_store, push_stores,
+    record_at, value_of,
+};
+use pk_sessions::ways::few_ways;
+use std::alloc::Global;
+use std::process::Abort;
+use std::test::*;
+
+// For first sessions.
+const ROOM: Room = Room {
+    posted: 131_072,
+    marks: 6_000,
+};
+
+// For later sessions, which retrieve each key: of a drive of 64 blocks, and of one of 33.
+const LATER: Room = Room {
+    posted: 65_536,
+    marks: 1_500,
+};
+
+const FEW: Room = Room {
+    posted: 16_384,
+    marks: 400,
+};
+
+// A drive that is full with so many keys of one page each, and how many commands are made before the first reclaim: as many as blocks
+// for values have pages, but for one block.
+#[derive(Clone, Copy)]
+struct Full {
+    keys: u32,
+    before: u32,
+    is_small: bool,
+}
+
+const SMALL: Full = Full {
+    keys: 12,
+    before: 16,
+    is_small: true,
+};
+
+const WORKED: Full = Full {
+    keys: 492,
+    before: 656,
+    is_small: false,
+};
+
+impl Full {
+    fn shape(&self, rt: &impl Abort) -> Shape {
+        if self.is_small { small(rt) } else { worked(rt) }
+    }
+
+    // The words that make it.
+    fn words(&self) -> &'static [&'static str] {
+        if self.is_small {
+            &MAKE_SMALL
+        } else {
+            &MAKE_WORKED
+        }
+    }
+
+    // The room of a later session.
+    fn later(&self) -> Room {
+        if self.is_small { FEW } else { LATER }
+    }
+
+    // Serves this script on these pages.
+    fn serve(
+        &self,
+        rt: &impl Abort,
+        alloc: Global,
+        pages: Vec<PageState>,
+        script: Vec<u8>,
+        room: Room,
+    ) -> Session {
+        let flash = done(rt, board_in(alloc, self.shape(rt), pages, script, room));
+        serve(alloc, flash)
+    }
+
+    // The session of the commands up to this one, on a made drive.
+    fn commands(&self, rt: &impl Abort, alloc: Global, to: u32) -> Flash {
+        let script = stores(rt, alloc, self.keys, 0, to);
+        let session = self.serve(rt, alloc, made(rt, alloc, self.words()), script, ROOM);
+        ended_well(rt, session, Place::Named("the first session"))
+    }
+
+    // A script that retrieves each key.
+    fn retrieves(&self, rt: &impl Abort, alloc: Global) -> Vec<u8> {
+        let mut script = Vec::new(alloc);
+        push_retrieves(&mut script, self.keys).expect(rt, "memory");
+        script
+    }
+}
+
+// The Stores with these numbers, of so many keys.
+fn stores(rt: &impl Abort, alloc: Global, keys: u32, from: u32, to: u32) -> Vec<u8> {
+    let mut script = Vec::new(alloc);
+    push_stores(&mut script, keys, from, to).expect(rt, "memory");
+    script
+}
+
+/// How many cuts of a first session were tried, and how many of the sessions behind them.
+#[derive(Clone, Copy)]
+pub struct Cuts {
+    pub first: u32,
+    pub second: u32,
+}
+
+// How many commands were told, at least a byte of the record of each, where this mark is interrupted.
+fn told(flash: &Flash, k: usize) -> u32 {
+    (bytes_out(flash, k) / 24).min(100_000) as u32
+}
+
+// The first bytes of the values that a session retrieved which is to end well.
+fn found_in(
+    rt: &impl Abort,
+    alloc: Global,
+    full: &Full,
+    session: &Session,
+    place: Place,
+) -> Vec<u8> {
+    ended(rt, session, DONE, place);
+    done(rt, firsts(alloc, session.flash.posted(), 0, full.keys))
+}
+
+// The first bytes of the values that a session finds on these pages which retrieves each key.
+fn values_on(
+    rt: &impl Abort,
+    alloc: Global,
+    full: &Full,
+    pages: Vec<PageState>,
+    place: Place,
+) -> Vec<u8> {
+    let script = full.retrieves(rt, alloc);
+    let session = full.serve(rt, alloc, pages, script, full.later());
+    found_in(rt, alloc, full, &session, place)
+}
+
+// How a first session is cut off: of a drive like this, with at most so many commands, from this mark on. Of the cuts of the second
+// session behind each one of every so many is made, none where `every` is 0; which ones goes on from cut to cut.
+#[derive(Clone, Copy)]
+struct Cutting {
+    full: Full,
+    most: u32,
+    from: usize,
+    every: u32,
+}
+
+// Behind how many commands, at least so many and at most so many, these are the first bytes of the values of all keys, where the first
+// bytes that are held are those behind the least number of commands.
+fn kept_from(held: &mut [u8], found: &[u8], keys: u32, least: u32, most: u32) -> Option<u32> {
+    for command in least..most.saturating_add(1) {
+        if *held == *found {
+            return Some(command);
+        }
+        overwrite(held, keys, command);
+    }
+    None
+}
+
+// A session behind its end, and the first bytes of the values that it retrieved.
+#[derive(Drop)]
+struct Behind {
+    flash: Flash,
+    found: Vec<u8>,
+}
+
+// The second session behind this cut of the first one, which retrieves each key and then overwrites the first one: it finds the values
+// behind as many commands as the first session told, or some more.
+fn second(
+    rt: &impl Abort,
+    alloc: Global,
+    cutting: &Cutting,
+    first: &Flash,
+    k: usize,
+    left: &Left,
+) -> Behind {
+    let full = &cutting.full;
+    let mut script = full.retrieves(rt, alloc);
+    push_store(&mut script, 0, &value_of(OTHER)).expect(rt, "memory");
+    push_plain(&mut script, FLUSH, 0).expect(rt, "memory");
+    let pages = cut(rt, alloc, first, k, left);
+    let session = full.serve(rt, alloc, pages, script, full.later());
+    let found = found_in(rt, alloc, full, &session, Place::Mark(k));
+    let least = told(first, k);
+    let mut held = firsts_behind(alloc, full.keys, least).expect(rt, "memory");
+    let kept = kept_from(&mut held, &found, full.keys, least, cutting.most);
+    holds(rt, kept.is_some(), "the values", Place::Mark(k));
+    Behind {
+        flash: session.flash,
+        found,
+    }
+}
+
+// Whether these values are those of the second session, but for the first key's, which is the one that it stored, where this was told,
+// and may be it else.
+fn is_kept(found: &[u8], held: &[u8], is_told: bool) -> bool {
+    let is_new = found.first() == Some(&value_of(OTHER).first);
+    let is_old = found.first() == held.first();
+    found.get(1..) == held.get(1..) && (is_new || is_old && !is_told)
+}
+
+// The third session behind this cut of the second one.
+fn check_third(
+    rt: &impl Abort,
+    alloc: Global,
+    full: &Full,
+    second: &Behind,
+    k: usize,
+    left: &Left,
+) {
+    let pages = cut(rt, alloc, &second.flash, k, left);
+    let found = values_on(rt, alloc, full, pages, Place::Mark(k));
+    // whether a byte is out behind the records of the Retrieves
+    let retrieved = u64::from(full.keys).saturating_mul(124);
+    let is_told = bytes_out(&second.flash, k) as u64 > retrieved;
+    let is_so = is_kept(&found, &second.found, is_told);
+    holds(rt, is_so, "the values of the third session", Place::Mark(k));
+}
+
+// Some of the cuts of a second session, which take turns.
+#[derive(Clone, Copy)]
+struct Turns {
+    every: u32,
+    at: u32,
+    taken: u32,
+}
+
+impl Turns {
+    // Whether the next cut is to be made.
+    fn take(&mut self) -> bool {
+        self.at = self.at.wrapping_add(1);
+        if self.every == 0 || self.at % self.every != 0 {
+            return false;
+        }
+        self.taken = self.taken.saturating_add(1);
+        true
+    }
+}
+
+// Of all cuts of a second session one of every so many: how many these are.
+fn check_second(
+    rt: &impl Abort,
+    alloc: Global,
+    cutting: &Cutting,
+    second: &Behind,
+    at: u32,
+) -> u32 {
+    let mut turns = Turns {
+        every: cutting.every,
+        at,
+        taken: 0,
+    };
+    for k in 0..second.flash.marks().saturating_add(1) {
+        let ways = few_ways(alloc, &second.flash, k).expect(rt, "memory");
+        for left in &ways {
+            if turns.take() {
+                check_third(rt, alloc, &cutting.full, second, k, left);
+            }
+        }
+    }
+    turns.taken
+}
+
+// Cuts the first session off at this mark, in some ways.
+fn check_mark(
+    rt: &impl Abort,
+    alloc: Global,
+    cutting: &Cutting,
+    first: &Flash,
+    k: usize,
+    cuts: &mut Cuts,
+) {
+    let ways = few_ways(alloc, first, k).expect(rt, "memory");
+    for left in &ways {
+        let second = second(rt, alloc, cutting, first, k, left);
+        if cutting.every > 0 {
+            let taken = check_second(rt, alloc, cutting, &second, cuts.first);
+            cuts.second = cuts.second.saturating_add(taken);
+        }
+        cuts.first = cuts.first.saturating_add(1);
+    }
+}
+
+// Cuts the first session off at each mark behind which all keys were told, in some ways each.
+fn check(rt: &impl Abort, alloc: Global, cutting: &Cutting, first: &Flash) -> Cuts {
+    let mut cuts = Cuts {
+        first: 0,
+        second: 0,
+    };
+    for k in cutting.from..first.marks().saturating_add(1) {
+        if told(first, k) >= cutting.full.keys {
+            check_mark(rt, alloc, cutting, first, k, &mut cuts);
+        }
+    }
+    cuts
+}
+
+// The first reclaim of a full drive, cut off at every mark: from before it to the end of the command that makes it.
+fn check_first(rt: &impl Abort, alloc: Global, full: &Full, every: u32) -> Cuts {
+    let before = full.commands(rt, alloc, full.before);
+    let cutting = Cutting {
+        full: *full,
+        most: full.before.saturating_add(1),
+        // the last page of entries and its post are those of the end of the input
+        from: before.marks().saturating_sub(3),
+        every,
+    };
+    let first = full.commands(rt, alloc, cutting.most);
+    check(rt, alloc, &cutting, &first)
+}
+
+/// The first reclaim of a full drive of 64 blocks, cut off at every mark.
+#[test]
+fn first_on_full(rt: HostRuntime) {
+    let cuts = check_first(&rt, rt.alloc(), &WORKED, 0);
+    at_least(&rt, cuts.first, 30, "cuts");
+}
+
+/// The same, and of the cuts of the session behind each one, of every mark in some ways, one of every so many. This takes minutes.
+pub fn first_on_full_twice(rt: &impl Abort, alloc: Global, every: u32) -> Cuts {
+    check_first(rt, alloc, &WORKED, every)
+}
+
+/// The first reclaim of a full drive of 33 blocks, cut off at every mark, and so the session behind each cut.
+#[test]
+fn first_on_small(rt: HostRuntime) {
+    let cuts = check_first(&rt, rt.alloc(), &SMALL, 1);
+    at_least(&rt, cuts.first, 10, "cuts");
+    at_least(&rt, cuts.second, 100, "cuts behind them");
+}
+
+// A session of so many commands on a full drive of 33 blocks.
+const OVERWRITES: Cutting = Cutting {
+    full: SMALL,
+    most: 60,
+    from: 0,
+    every: 0,
+};
+
+/// A full drive of 33 blocks takes overwrites, of which nearly each makes a reclaim, and some a freeze inside it: it is cut off at every
+/// mark behind the Stores of all keys.
+#[test]
+fn every_cut_of_reclaims(rt: HostRuntime) {
+    let first = SMALL.commands(&rt, rt.alloc(), OVERWRITES.most);
+    let cuts = check(&rt, rt.alloc(), &OVERWRITES, &first);
+    at_least(&rt, cuts.first, 300, "cuts");
+}
+
+// ---- calls that fail
+
+// The overwrites are the commands from the Stores of all keys up to this one.
+const LAST: u32 = 40;
+
+// Takes into what stands under each key the overwrites whose records these are: those that are done, and not one for which a call of the
+// flash failed. The first command whose record is missing.
+fn replay(rt: &impl Abort, held: &mut [u8], posted: &[u8]) -> u32 {
+    let mut at = 0usize;
+    let mut next = SMALL.keys;
+    for command in SMALL.keys..LAST {
+        if let Some(record) = record_at(posted, at) {
+            if record.is_done() {
+                overwrite(held, SMALL.keys, command);
+            } else {
+                let is_unread = record.status == u32::from(UNRECOVERED_ERROR);
+                holds(rt, is_unread, "the status of a record", Place::Call(0));
+            }
+            at = record.end();
+            next = command.saturating_add(1);
+        }
+    }
+    next
+}
+
+// The drive is opened again behind a call that failed, and has the values behind the commands that were told, or behind some more.
+fn check_behind(rt: &impl Abort, alloc: Global, flash: &Flash, call: u64) {
+    let mut held = firsts_behind(alloc, SMALL.keys, SMALL.keys).expect(rt, "memory");
+    let next = replay(rt, &mut held, flash.posted());
+    let pages = pages_left(rt, alloc, flash);
+    let found = values_on(rt, alloc, &SMALL, pages, Place::Call(call));
+    let kept = kept_from(&mut held, &found, SMALL.keys, next, LAST);
+    holds(rt, kept.is_some(), "the values", Place::Call(call));
+}
+
+// Overwrites on the full drive of 33 blocks while the call with this number fails: whether there was one. The session read or wrote
+// something, and ended well or with the status of a call that failed.
+fn failing(rt: &impl Abort, alloc: Global, stored: &Flash, call: u64, left: Left) -> bool {
+    let pages = pages_left(rt, alloc, stored);
+    let script = stores(rt, alloc, SMALL.keys, SMALL.keys, LAST);
+    let mut flash = done(rt, board_in(alloc, small(rt), pages, script, FEW));
+    flash.fail(alloc, call, left).expect(rt, "memory");
+    let session = serve(alloc, flash);
+    check_behind(rt, alloc, &session.flash, call);
+    let is_one = [DONE, INPUT, OUTPUT, FLASH].contains(&session.status);
+    let has_calls = session.flash.read_count() > 0 || session.flash.program_count() > 0;
+    holds(rt, is_one && has_calls, "the status", Place::Call(call));
+    session.status != DONE || !is_done(session.flash.posted(), SMALL.keys, LAST)
+}
+
+// Whether each of these commands was done by its record.
+fn is_done(posted: &[u8], from: u32, to: u32) -> bool {
+    let mut at = 0usize;
+    for _ in from..to {
+        match record_at(posted, at) {
+            Some(record) => {
+                if !record.is_done() {
+                    return false;
+                }
+                at = record.end();
+            }
+            None => return false,
+        }
+    }
+    true
+}
+
+// What the call with this number leaves.
+fn left_by(call: u64) -> Left {
+    if call % 2 == 0 {
+        Left::Torn
+    } else {
+        Left::Done
+    }
+}
+
+/// Each call of a session of overwrites on a full drive of 33 blocks fails once, reads of opening, fetches, values, entries, roots, copies,
+/// erases and posts: nothing that was told is lost.
+#[test]
+fn every_call_fails(rt: HostRuntime) {
+    let stored = SMALL.commands(&rt, rt.alloc(), SMALL.keys);
+    let mut failed = 0u32;
+    for call in 0..600u64 {
+        if failing(&rt, rt.alloc(), &stored, call, left_by(call)) {
+            failed = failed.saturating_add(1);
+        }
+    }
+    at_least(&rt, failed, 100, "calls that failed");
+}

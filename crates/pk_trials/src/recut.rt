@@ -1,0 +1,229 @@
+//! The second session is cut off at every mark, too, behind a cut of the first one at each of its marks.
+
+use crate::cuts::{
+    E, HELD, Held, first_session, left, retrieved, second_answers, second_session, some_ways,
+};
+use crate::steps::{MAKE_SMALL, answered, ask_small, cut, holds, made, records, same};
+use crate::ways::{Ways, ways_of_erases};
+use pk_flash::{Flash, Left};
+use pk_sessions::Place;
+use pk_sessions::boards::Session;
+use pk_sessions::cuts::bytes_out;
+use pk_sessions::exits::DONE;
+use pk_sessions::script::{Answer, Ask, Value};
+use std::alloc::Global;
+use std::process::Abort;
+use std::test::*;
+
+const F: Value = Value { first: 7, len: 300 };
+
+const THIRD: [Ask; 7] = [
+    Ask::Retrieve(0x61),
+    Ask::Retrieve(0x62),
+    Ask::Retrieve(0x63),
+    Ask::Retrieve(0x64),
+    Ask::Retrieve(0x65),
+    Ask::Store(0x66, F),
+    Ask::Retrieve(0x66),
+];
+
+// The answers of the third session on these values, with this one under the fifth key. Where the second session began an epoch over
+// one with entries, the Store merges these before it freezes a second time; where values stand in both blocks that they may have, it
+// reclaims one of them.
+fn third_answers(held: &Held, fifth: Option<Value>) -> [Answer; 7] {
+    let [first, second, third, fourth] = *held;
+    [
+        retrieved(first),
+        retrieved(second),
+        retrieved(third),
+        retrieved(fourth),
+        retrieved(fifth),
+        Answer::Done,
+        Answer::Found(F),
+    ]
+}
+
+// Whether values of the first session and the one of the second stand in a block each, which are all that values may have: a further
+// Store reclaims one of them.
+fn fill_both_blocks(held: &Held, fifth: Option<Value>) -> bool {
+    fifth.is_some() && held.iter().any(|value| value.is_some())
+}
+
+// Whether these are there, and the same.
+fn both_are(one: Option<&[u8]>, other: Option<&[u8]>) -> bool {
+    one.is_some() && one == other
+}
+
+// Whether these are the records that are wanted, but for the count of reads of the one that begins at this byte.
+fn same_but_reads(posted: &[u8], want: &[u8], at: usize) -> bool {
+    let front = at.saturating_add(16);
+    let behind = at.saturating_add(20);
+    both_are(posted.get(..front), want.get(..front))
+        && both_are(posted.get(behind..), want.get(behind..))
+}
+
+// Whether these are the records of the third session on these values, with this one under the fifth key. A Store that reclaims a block
+// tells the pages that it read.
+fn are_third(
+    rt: &impl Abort,
+    alloc: Global,
+    posted: &[u8],
+    held: &Held,
+    fifth: Option<Value>,
+) -> bool {
+    let answers = third_answers(held, fifth);
+    let want = records(rt, alloc, &answers);
+    if !fill_both_blocks(held, fifth) {
+        return posted == want.as_slice();
+    }
+    let before = records(rt, alloc, &answers[..5]);
+    same_but_reads(posted, &want, before.len())
+}
+
+// Serves the third session behind a cut of the second one. The fifth key is there, if a byte of its Store's record was posted, and
+// may be there else; the records of the four Retrieves begin the second session.
+fn check_recut(
+    rt: &impl Abort,
+    alloc: Global,
+    second: &Flash,
+    held: &Held,
+    k: usize,
+    way: u32,
+    left: &Left,
+) {
+    let third = ask_small(rt, alloc, cut(rt, alloc, second, k, left), &THIRD);
+    let before = records(rt, alloc, &second_answers(held)[..4]);
+    let is_told = bytes_out(second, k) > before.len();
+    let posted = third.flash.posted();
+    let is_new = are_third(rt, alloc, posted, held, Some(E));
+    let is_old = !is_told && are_third(rt, alloc, posted, held, None);
+    let is_so = third.status == DONE && (is_new || is_old);
+    holds(
+        rt,
+        is_so,
+        "the status, or what is there",
+        Place::Way(k, way),
+    );
+}
+
+// Interrupts each mark of the second session in some ways.
+fn check_some_ways(rt: &impl Abort, alloc: Global, second: &Flash, held: &Held) {
+    for k in 0..second.marks().saturating_add(1) {
+        for way in 0..some_ways(second, k) {
+            let left = left(rt, alloc, way);
+            check_recut(rt, alloc, second, held, k, u32::from(way), &left);
+        }
+    }
+}
+
+// Interrupts this mark of the second session in all its ways.
+fn check_all_ways(rt: &impl Abort, alloc: Global, second: &Flash, held: &Held, k: usize) {
+    let ways = Ways::of(rt, alloc, second, k);
+    for way in 0..ways.count {
+        let left = ways.left(rt, alloc, way);
+        check_recut(rt, alloc, second, held, k, way, &left);
+    }
+}
+
+// One way in which this mark is interrupted.
+fn one_way(flash: &Flash, k: usize) -> u8 {
+    match some_ways(flash, k) {
+        6 => 3 + (k % 3) as u8,
+        3 => 1,
+        _ => 0,
+    }
+}
+
+/// The second session is cut off at every mark in some ways, behind one cut of the first session at each of its marks.
+#[test]
+fn cut_twice(rt: HostRuntime) {
+    let alloc = rt.alloc();
+    let first = first_session(&rt, alloc).flash;
+    for k in 0..first.marks().saturating_add(1) {
+        let left = left(&rt, alloc, one_way(&first, k));
+        let (second, kept) = second_session(&rt, alloc, &first, k, &left);
+        let commands = kept.expect(&rt, "a map");
+        check_some_ways(&rt, alloc, &second.flash, &HELD[commands.min(10)]);
+    }
+}
+
+// The second session behind the whole first one.
+fn second_behind_first(rt: &impl Abort, alloc: Global) -> Session {
+    let first = first_session(rt, alloc).flash;
+    let (second, kept) = second_session(rt, alloc, &first, first.marks(), &Left::Untouched);
+    holds(
+        rt,
+        kept == Some(10),
+        "all commands",
+        Place::Named("the second session"),
+    );
+    second
+}
+
+/// The second session is cut off at every mark in all its ways, behind the whole first one. Of its four erases one is that of the other
+/// root block, which has a root.
+#[test]
+fn every_cut_of_second(rt: HostRuntime) {
+    let alloc = rt.alloc();
+    let second = second_behind_first(&rt, alloc).flash;
+    let ways = ways_of_erases(&rt, alloc, &second);
+    same(&rt, u64::from(ways), 3 * 256 + 3 * 128, "ways");
+    for k in 0..second.marks().saturating_add(1) {
+        check_all_ways(&rt, alloc, &second, &HELD[10], k);
+    }
+}
+
+// Where a session is cut off, and what is left there.
+#[derive(Clone, Copy)]
+struct Cut {
+    k: usize,
+    way: u8,
+}
+
+const CUTS: [Cut; 11] = [
+    Cut { k: 2, way: 1 },
+    Cut { k: 3, way: 1 },
+    Cut { k: 3, way: 2 },
+    Cut { k: 2, way: 3 },
+    Cut { k: 3, way: 2 },
+    Cut { k: 4, way: 5 },
+    Cut { k: 1, way: 4 },
+    Cut { k: 3, way: 2 },
+    Cut { k: 5, way: 1 },
+    Cut { k: 6, way: 1 },
+    Cut { k: 8, way: 0 },
+];
+
+/// Sessions that are cut off one after another before an entry is on the flash, some behind a root of their own: the marks of each are
+/// the erases of two blocks for the epoch and of the other root block, the root, the erase of a block for values, the value, the journal
+/// page and the post. The last session is not cut.
+#[test]
+fn cut_many_times(rt: HostRuntime) {
+    let alloc = rt.alloc();
+    let mut pages = made(&rt, alloc, &MAKE_SMALL);
+    for at in &CUTS {
+        let session = ask_small(
+            &rt,
+            alloc,
+            pages,
+            &[Ask::Store(0x66, F), Ask::Retrieve(0x66)],
+        );
+        let place = Place::Way(at.k, u32::from(at.way));
+        answered(
+            &rt,
+            alloc,
+            &session,
+            &[Answer::Done, Answer::Found(F)],
+            place,
+        );
+        pages = cut(&rt, alloc, &session.flash, at.k, &left(&rt, alloc, at.way));
+    }
+    let last = ask_small(&rt, alloc, pages, &[Ask::Retrieve(0x66)]);
+    answered(
+        &rt,
+        alloc,
+        &last,
+        &[Answer::Found(F)],
+        Place::Named("the last session"),
+    );
+}

@@ -1,0 +1,462 @@
+//! An image goes from session to session.
+
+use crate::steps::{
+    MAKE_SMALL, MAKE_WORKED, Pink, add, answered, ask, ask_small, blank, board, copied, cut, ended,
+    ended_well, holds, joined, last_program, made, made_board, pages_left, posted, records, same,
+    script, serve, shape_of, worked, worked_board, wrote,
+};
+use pk_base::get_u32;
+use pk_flash::{Flash, Left};
+use pk_nand::PageState;
+use pk_nvme::Request;
+use pk_nvme::opcode::{FLUSH, REPORT, RETRIEVE, STORE};
+use pk_nvme::status::SUCCESSFUL_COMPLETION;
+use pk_sessions::exits::{DONE, FLASH, MADE, NO_DRIVE, TRUNCATED};
+use pk_sessions::program::{RECORDS, SCRIPT};
+use pk_sessions::script::{
+    Answer, Ask, Value, entry, push_answer, push_done, push_found, push_head, push_value,
+};
+use pk_sessions::{Place, Program};
+use std::alloc::Global;
+use std::process::Abort;
+use std::test::*;
+
+const THREE: Value = Value {
+    first: 0x61,
+    len: 3,
+};
+
+const LARGE: Value = Value {
+    first: 7,
+    len: 1000,
+};
+
+// ---- the worked script
+
+// The record of the Retrieve as the first command of a session.
+const RETRIEVED: [u8; 27] = [
+    3, 0, 0, 0, 0, 0, 0, 0, 1, 0, 1, 0, 2, 0, 1, 0, 1, 0, 0, 0, 3, 0, 0, 0, 0x61, 0x62, 0x63,
+];
+
+// The record of a Store as the first command of a session.
+const STORED: [u8; 24] = [
+    0, 0, 0, 0, 0, 0, 0, 0, 1, 0, 1, 0, 1, 0, 1, 0, 0, 0, 0, 0, 0, 0, 0, 0,
+];
+
+/// An image is made once, and a script that ends inside an entry is told so.
+#[test]
+fn makes_once(rt: HostRuntime) {
+    let alloc = rt.alloc();
+    let mut flash = blank(&rt, alloc, None, &SCRIPT[..70]);
+    let first = Pink::run(alloc, &MAKE_WORKED, &mut flash);
+    same(&rt, u64::from(first), u64::from(DONE), "the status");
+    same(&rt, flash.program_count(), 1, "programs");
+    let next = Pink::run(alloc, &MAKE_WORKED, &mut flash);
+    same(&rt, u64::from(next), u64::from(MADE), "the status");
+    let session = serve(alloc, flash);
+    let place = Place::Named("half a script");
+    posted(&rt, &session, TRUNCATED, &RECORDS[..24], place);
+}
+
+// The pages behind this script, which is to have these records.
+fn behind(
+    rt: &impl Abort,
+    alloc: Global,
+    pages: Vec<PageState>,
+    script: Vec<u8>,
+    want: &[u8],
+) -> Vec<PageState> {
+    let session = serve(alloc, worked_board(rt, alloc, pages, script));
+    posted(rt, &session, DONE, want, Place::Named("the worked script"));
+    pages_left(rt, alloc, &session.flash)
+}
+
+// The pages behind the Store of a byte under this key.
+fn behind_store(rt: &impl Abort, alloc: Global, pages: Vec<PageState>, key: u8) -> Vec<PageState> {
+    let value = Value { first: key, len: 1 };
+    let script = script(rt, alloc, &[Ask::Store(key, value)]);
+    behind(rt, alloc, pages, script, &STORED)
+}
+
+/// The worked script gives the worked records, and the next session still has the value. Two more sessions each store a new key;
+/// the second of them merges the frozen buffer into run 1 before it freezes the active one.
+#[test]
+fn sessions(rt: HostRuntime) {
+    let alloc = rt.alloc();
+    let pages = made(&rt, alloc, &MAKE_WORKED);
+    let pages = behind(&rt, alloc, pages, copied(&rt, alloc, &SCRIPT), &RECORDS);
+    let retrieve = copied(&rt, alloc, &SCRIPT[67..]);
+    let pages = behind(&rt, alloc, pages, retrieve, &RETRIEVED);
+    let pages = behind_store(&rt, alloc, pages, 0x62);
+    let pages = behind_store(&rt, alloc, pages, 0x63);
+    let retrieve = copied(&rt, alloc, &SCRIPT[67..]);
+    let _ = behind(&rt, alloc, pages, retrieve, &RETRIEVED);
+}
+
+// The session of this board ends so, and leaves no mark.
+fn check_unmarked(rt: &impl Abort, alloc: Global, flash: Flash, status: u8) {
+    let session = serve(alloc, flash);
+    ended(rt, &session, status, Place::Named("no drive"));
+    same(rt, session.flash.marks() as u64, 0, "marks");
+}
+
+/// A flash without a root is no drive, and neither is a board without an image. A read that fails while the drive is opened is
+/// no missing drive.
+#[test]
+fn refuses(rt: HostRuntime) {
+    let alloc = rt.alloc();
+    let rootless = blank(&rt, alloc, Some(worked(&rt)), &SCRIPT);
+    check_unmarked(&rt, alloc, rootless, NO_DRIVE);
+    let mut unread = made_board(&rt, alloc, copied(&rt, alloc, &SCRIPT));
+    unread.fail(alloc, 0, Left::Untouched).expect(&rt, "memory");
+    check_unmarked(&rt, alloc, unread, FLASH);
+    let no_image = serve(alloc, blank(&rt, alloc, None, &[]));
+    ended(&rt, &no_image, NO_DRIVE, Place::Named("no image"));
+}
+
+// ---- sessions in a row
+
+// What one session asks, and how it is answered.
+#[derive(Clone, Copy)]
+struct Talk {
+    asks: &'static [Ask],
+    answers: &'static [Answer],
+}
+
+const LOAD: Talk = Talk {
+    asks: &[Ask::Retrieve(0x62), Ask::Retrieve(0x61)],
+    answers: &[Answer::Found(LARGE), Answer::Found(THREE)],
+};
+
+const STAYING: [Talk; 3] = [
+    Talk {
+        asks: &[Ask::Store(0x61, THREE), Ask::Store(0x62, LARGE)],
+        answers: &[Answer::Done, Answer::Done],
+    },
+    LOAD,
+    LOAD,
+];
+
+const THREE_STORES: [Talk; 6] = [
+    Talk {
+        asks: &[Ask::Store(0x61, THREE)],
+        answers: &[Answer::Done],
+    },
+    Talk {
+        asks: &[Ask::List],
+        answers: &[Answer::Keys(b"a")],
+    },
+    Talk {
+        asks: &[Ask::Store(0x62, THREE)],
+        answers: &[Answer::Done],
+    },
+    Talk {
+        asks: &[Ask::List],
+        answers: &[Answer::Keys(b"ab")],
+    },
+    Talk {
+        asks: &[Ask::Store(0x63, THREE)],
+        answers: &[Answer::Done],
+    },
+    Talk {
+        asks: &[Ask::List],
+        answers: &[Answer::Keys(b"abc")],
+    },
+];
+
+// These sessions one behind the other, from a made drive on.
+fn check_talks(rt: &impl Abort, alloc: Global, talks: &[Talk]) {
+    let mut pages = made(rt, alloc, &MAKE_WORKED);
+    for talk in talks {
+        let session = ask(rt, alloc, pages, talk.asks);
+        answered(
+            rt,
+            alloc,
+            &session,
+            talk.answers,
+            Place::Named("these asks"),
+        );
+        pages = pages_left(rt, alloc, &session.flash);
+    }
+}
+
+/// A value that one session stores is what the next one retrieves, byte for byte, and the one behind it.
+#[test]
+fn values_stay(rt: HostRuntime) {
+    check_talks(&rt, rt.alloc(), &STAYING);
+}
+
+/// Each session that stores begins an epoch. The third merges the frozen entries into run 1 before it freezes further ones.
+#[test]
+fn three_stores(rt: HostRuntime) {
+    check_talks(&rt, rt.alloc(), &THREE_STORES);
+}
+
+// A session that lists these keys, on these pages.
+fn check_keys(rt: &impl Abort, alloc: Global, pages: Vec<PageState>, keys: &'static [u8]) {
+    let session = ask(rt, alloc, pages, &[Ask::List]);
+    answered(
+        rt,
+        alloc,
+        &session,
+        &[Answer::Keys(keys)],
+        Place::Named("a List"),
+    );
+}
+
+/// A value is stored and deleted by one root, one page of the value and one of the journal; erased are the two blocks of the
+/// new epoch, the other root block and the value's block. In the next session no key is there.
+#[test]
+fn store_and_delete(rt: HostRuntime) {
+    let alloc = rt.alloc();
+    let asks = [Ask::Store(0x61, THREE), Ask::Delete(0x61)];
+    let session = ask(&rt, alloc, made(&rt, alloc, &MAKE_WORKED), &asks);
+    ended(&rt, &session, DONE, Place::Named("a Store and a Delete"));
+    wrote(&rt, &session, 3, 4);
+    check_keys(&rt, alloc, pages_left(&rt, alloc, &session.flash), &[]);
+}
+
+/// Sixteen Stores of one key fill the two blocks that values may have, and the next one gives a block back, which has none that is live.
+#[test]
+fn full_blocks(rt: HostRuntime) {
+    let alloc = rt.alloc();
+    let pages = made(&rt, alloc, &MAKE_SMALL);
+    let filled = ask_small(&rt, alloc, pages, &[Ask::Store(0x61, THREE); 17]);
+    answered(
+        &rt,
+        alloc,
+        &filled,
+        &[Answer::Done; 17],
+        Place::Named("full blocks"),
+    );
+    let pages = pages_left(&rt, alloc, &filled.flash);
+    let next = ask_small(&rt, alloc, pages, &[Ask::Retrieve(0x61)]);
+    answered(
+        &rt,
+        alloc,
+        &next,
+        &[Answer::Found(THREE)],
+        Place::Named("behind full blocks"),
+    );
+}
+
+const COMMITS: [Ask; 4] = [
+    Ask::Store(0x61, THREE),
+    Ask::Flush,
+    Ask::Store(0x62, THREE),
+    Ask::Flush,
+];
+
+/// Two keys, each with a commit of its own, cut at the journal page of the second, which is not begun, torn or done.
+#[test]
+fn journal_page(rt: HostRuntime) {
+    let alloc = rt.alloc();
+    let session = ask(&rt, alloc, made(&rt, alloc, &MAKE_WORKED), &COMMITS);
+    let flash = ended_well(&rt, session, Place::Named("two commits"));
+    let k = last_program(&flash).expect(&rt, "a journal page");
+    let untouched = cut(&rt, alloc, &flash, k, &Left::Untouched);
+    check_keys(&rt, alloc, untouched, b"a");
+    check_keys(&rt, alloc, cut(&rt, alloc, &flash, k, &Left::Torn), b"a");
+    check_keys(&rt, alloc, cut(&rt, alloc, &flash, k, &Left::Done), b"ab");
+}
+
+// ---- Reports
+
+// Adds the entry of a Store of three bytes, and its value.
+fn add_store(rt: &impl Abort, into: &mut Vec<u8>, store: &[u8; 64]) {
+    add(rt, into, store);
+    add(rt, into, b"abc");
+}
+
+// 31 Stores of keys of two bytes with one page each, and a Report.
+fn many_stores(rt: &impl Abort, alloc: Global) -> Vec<u8> {
+    let mut script = Vec::new(alloc);
+    for i in 0..31u8 {
+        add_store(rt, &mut script, &entry(u16::from(i), STORE, [0, i], 2, 3));
+    }
+    add(rt, &mut script, &entry(31, REPORT, [0, 0], 0, 0));
+    script
+}
+
+// 33 Stores of one key, each with a Flush behind it, and a Report.
+fn many_commits(rt: &impl Abort, alloc: Global) -> Vec<u8> {
+    let mut script = Vec::new(alloc);
+    for _ in 0..33u8 {
+        add_store(rt, &mut script, &entry(1, STORE, [0x61, 0], 1, 3));
+        add(rt, &mut script, &entry(2, FLUSH, [0, 0], 0, 0));
+    }
+    add(rt, &mut script, &entry(3, REPORT, [0, 0], 0, 0));
+    script
+}
+
+// The session of this script on a made drive, which is to end well.
+fn on_made(rt: &impl Abort, alloc: Global, script: Vec<u8>) -> Flash {
+    let session = serve(alloc, made_board(rt, alloc, script));
+    ended_well(rt, session, Place::Named("a made drive"))
+}
+
+// The Report that ends the posted bytes has these numbers at these places.
+fn check_numbers(rt: &impl Abort, posted: &[u8], numbers: &[(&str, usize, u32)]) {
+    assert!(rt; posted.len() >= 64, "a Report");
+    for (name, place, number) in numbers {
+        assert!(rt; *place < 16, "a place of a Report");
+        let found = get_u32(posted, posted.len() - 64 + 4 * *place);
+        same(rt, u64::from(found), u64::from(*number), name);
+    }
+}
+
+const FULL_BUFFER: [(&str, usize, u32); 9] = [
+    ("live", 0, 31),
+    ("limit", 1, 492),
+    ("keys", 2, 31),
+    ("pinned", 3, 2),
+    ("frames", 4, 36),
+    ("active", 6, 1),
+    ("frozen", 7, 30),
+    ("run1", 8, 0),
+    ("epoch", 12, 1),
+];
+
+/// Thirty keys fill the write buffer, and the next one is the first of a new epoch, of which one page is used behind the commit
+/// before the Report.
+#[test]
+fn full_buffer(rt: HostRuntime) {
+    let flash = on_made(&rt, rt.alloc(), many_stores(&rt, rt.alloc()));
+    check_numbers(&rt, flash.posted(), &FULL_BUFFER);
+}
+
+/// The first of these keys stands in the frozen buffer, so a Retrieve of it reads the value's page alone.
+#[test]
+fn first_of_full_buffer(rt: HostRuntime) {
+    let alloc = rt.alloc();
+    let mut script = many_stores(&rt, alloc);
+    add(&rt, &mut script, &entry(33, RETRIEVE, [0, 0], 2, 3));
+    let flash = on_made(&rt, alloc, script);
+    let mut record = Vec::new(alloc);
+    push_answer(&mut record, 33, &Answer::Found(THREE)).expect(&rt, "memory");
+    same(&rt, record.len() as u64, 27, "a record");
+    let is_so = flash.posted().ends_with(&record);
+    holds(
+        &rt,
+        is_so,
+        "the posted bytes",
+        Place::Named("the last record"),
+    );
+}
+
+const GREATEST_NUMBERS: [(&str, usize, u32); 3] = [
+    ("live", 0, 4),
+    ("limit", 1, 492),
+    ("keys", 2, 1),
+];
+
+const GREATEST: Value = Value {
+    first: 9,
+    len: 2016,
+};
+
+/// A value of the greatest size has all the pages that a value may have.
+#[test]
+fn greatest_value(rt: HostRuntime) {
+    let alloc = rt.alloc();
+    let asks = script(&rt, alloc, &[Ask::Store(0x61, GREATEST), Ask::Report]);
+    let flash = on_made(&rt, alloc, asks);
+    check_numbers(&rt, flash.posted(), &GREATEST_NUMBERS);
+    same(&rt, flash.posted().len() as u64, 24 + 88, "posted bytes");
+    let want = records(&rt, alloc, &[Answer::Done]);
+    let is_so = flash.posted().starts_with(&want);
+    holds(
+        &rt,
+        is_so,
+        "the posted bytes",
+        Place::Named("the first record"),
+    );
+}
+
+const FULL_EPOCH: [(&str, usize, u32); 5] = [
+    ("live", 0, 1),
+    ("keys", 2, 1),
+    ("active", 6, 1),
+    ("frozen", 7, 1),
+    ("epoch", 12, 1),
+];
+
+/// Commits of one key fill the 32 pages of an epoch, and the next one is the first of a new epoch.
+#[test]
+fn full_epoch(rt: HostRuntime) {
+    let flash = on_made(&rt, rt.alloc(), many_commits(&rt, rt.alloc()));
+    check_numbers(&rt, flash.posted(), &FULL_EPOCH);
+}
+
+// ---- buffers and pages
+
+/// A Retrieve gives as much of a value as its buffer takes, and tells its whole length. Without a buffer it reads no page.
+#[test]
+fn short_buffers(rt: HostRuntime) {
+    let alloc = rt.alloc();
+    let store = entry(1, STORE, [0x61, 0], 1, 5);
+    let two_bytes = entry(2, RETRIEVE, [0x61, 0], 1, 2);
+    let no_byte = entry(3, RETRIEVE, [0x61, 0], 1, 0);
+    let script = joined(&rt, alloc, &[&store, b"hello", &two_bytes, &no_byte]);
+    let flash = on_made(&rt, alloc, script);
+    let mut want = Vec::new(alloc);
+    push_done(&mut want, 1).expect(&rt, "memory");
+    push_head(&mut want, 2, SUCCESSFUL_COMPLETION, 5, 1, 2).expect(&rt, "memory");
+    add(&rt, &mut want, b"he");
+    push_head(&mut want, 3, SUCCESSFUL_COMPLETION, 5, 0, 0).expect(&rt, "memory");
+    let is_so = flash.posted() == want.as_slice();
+    holds(
+        &rt,
+        is_so,
+        "the posted bytes",
+        Place::Named("short buffers"),
+    );
+}
+
+/// A session without commands posts nothing and leaves the flash alone.
+#[test]
+fn no_commands(rt: HostRuntime) {
+    let session = serve(
+        rt.alloc(),
+        made_board(&rt, rt.alloc(), Vec::new(rt.alloc())),
+    );
+    posted(&rt, &session, DONE, &[], Place::Named("no commands"));
+    wrote(&rt, &session, 0, 0);
+    same(&rt, session.flash.marks() as u64, 0, "marks");
+}
+
+// The entry of a command on the key of a user.
+fn of_user(cid: u16, opcode: u8, size: u32) -> [u8; 64] {
+    let mut key = [0u8; 16];
+    key.copy_from_slice(b"user:00000000042");
+    Request {
+        opcode,
+        cid,
+        namespace: 1,
+        key_len: 16,
+        key,
+        size,
+        options: 0,
+    }
+    .entry()
+}
+
+/// A value of 1,000 bytes under a key of sixteen, on pages of 4,096 bytes: it is read whole, by one read.
+#[test]
+fn one_large_page(rt: HostRuntime) {
+    let alloc = rt.alloc();
+    let mut script = copied(&rt, alloc, &of_user(1, STORE, LARGE.len));
+    push_value(&mut script, &LARGE).expect(&rt, "memory");
+    add(&rt, &mut script, &of_user(2, RETRIEVE, 4096));
+    let session = serve(alloc, large_board(&rt, alloc, script));
+    let mut want = Vec::new(alloc);
+    push_done(&mut want, 1).expect(&rt, "memory");
+    push_found(&mut want, 2, 1, &LARGE).expect(&rt, "memory");
+    posted(&rt, &session, DONE, &want, Place::Named("one large page"));
+}
+
+/// A made drive of 512 blocks of 64 pages of 4,096 bytes, with this input.
+pub fn large_board(rt: &impl Abort, alloc: Global, input: Vec<u8>) -> Flash {
+    let pages = made(rt, alloc, &["make", "4096", "64", "512"]);
+    board(rt, alloc, shape_of(rt, 4096, 64, 512), pages, input)
+}
