@@ -6,7 +6,7 @@ ghost use Rattle.pk_plan.specs.declared.owner.Owner.TheVariants.{Meta};
 ghost use Rattle.pk_pool.specs.Blocks.{PoolOnFlash};
 ghost use Rattle.pk_pool.specs.declared.state.BlockState.TheVariants.{Owned};
 ghost use Rattle.pk_merge.specs.Jobs.{IsIdle, JobRuns};
-ghost use Rattle.pk_merge_tests.specs.Opened.{IsOpened, HasRoom, from_run};
+ghost use Rattle.pk_engine_tests.specs.Opened.{IsOpened, HasRoom, from_run};
 
 use pk_base::Shape;
 use pk_merge::MergeJob;

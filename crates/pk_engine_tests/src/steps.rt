@@ -3,7 +3,7 @@ ghost use Rattle.std.specs.Prelude.{◌≡◌, List, OnOk, length};
 ghost use Rattle.pk_base.specs.Entry.{Entry as EntrySpec};
 ghost use Rattle.pk_nand.specs.Calls.{IsReady};
 ghost use Rattle.pk_merge.specs.Jobs.{JobRuns, RunsOn};
-ghost use Rattle.pk_merge_tests.specs.Opened.{HasOutput, from_run};
+ghost use Rattle.pk_engine_tests.specs.Opened.{HasOutput, from_run};
 
 use pk_flash::Flash;
 use pk_merge::{MergeJob, Source};

@@ -2,10 +2,10 @@ use Rattle.std.proofs.Common.{◌+◌, ◌≤◌, refl, subst, arith}
 use Rattle.pk_base.specs.Shape.{Shape}
 use Rattle.pk_merge.specs.declared.source.Source.TheVariants.{Run}
 use Rattle.pk_merge.specs.Jobs.{pins}
-use Rattle.pk_merge_tests.specs.Opened.{HasRoom}
-use Rattle.pk_merge_tests.proofs.Beginning.{has_cap, begins_for}
-use Rattle.pk_merge_tests.proofs.Carried.{carried}
-use Rattle.pk_merge_tests.proofs.begin.begin.Goals as goal
+use Rattle.pk_engine_tests.specs.Opened.{HasRoom}
+use Rattle.pk_engine_tests.proofs.Beginning.{has_cap, begins_for}
+use Rattle.pk_engine_tests.proofs.Carried.{carried}
+use Rattle.pk_engine_tests.proofs.begin.begin.Goals as goal
 
 pub returns-clause-runs : goal.returns-clause-runs
 returns-clause-runs g c = λ yes flash fits s t.

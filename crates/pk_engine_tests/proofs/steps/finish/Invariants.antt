@@ -2,8 +2,8 @@ use Rattle.std.proofs.Common.{List}
 use Rattle.pk_base.specs.Entry.{Entry}
 use Rattle.pk_nand.specs.Calls.{IsReady}
 use Rattle.pk_merge.specs.Jobs.{JobRuns}
-use Rattle.pk_merge_tests.specs.Opened.{from_run}
-use Rattle.pk_merge_tests.proofs.steps.finish.Given as goal
+use Rattle.pk_engine_tests.specs.Opened.{from_run}
+use Rattle.pk_engine_tests.proofs.steps.finish.Given as goal
 
 -- the merge runs, and the board may be called
 abbrev pub invariant-loop-i : goal.invariant-loop-i

@@ -5,7 +5,7 @@ ghost use Rattle.pk_nand.specs.Calls.{IsReady};
 ghost use Rattle.pk_run.specs.Kept.{empty};
 ghost use Rattle.pk_scan.specs.Board.{StaysReady};
 ghost use Rattle.pk_scan.specs.Runs.{RunsStand};
-ghost use Rattle.pk_merge_tests.specs.Opened.{IsOpened};
+ghost use Rattle.pk_engine_tests.specs.Opened.{IsOpened};
 
 use pk_base::Shape;
 use pk_nand::{Fault, Nand};

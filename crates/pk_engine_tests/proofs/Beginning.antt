@@ -18,7 +18,7 @@ use Rattle.pk_run.specs.Kept.{Kept}
 use Rattle.pk_merge.specs.declared.source.Source.TheVariants.{Run}
 use Rattle.pk_merge.specs.Outputs.{AreMeta}
 use Rattle.pk_merge.specs.Running.{merged, CanBegin}
-use Rattle.pk_merge_tests.specs.Opened.{IsOpened, HasRoom}
+use Rattle.pk_engine_tests.specs.Opened.{IsOpened, HasRoom}
 
 -- ---- no more entries than both lists have
 
