@@ -1,2 +1,3 @@
 mod ReadPages
 mod Commits
+mod Refusals

@@ -1,9 +1,9 @@
 //! Whether the flash holds a map, and where reading it fails, if it does.
-ghost use Rattle.std.specs.Prelude.{IfOk};
+ghost use Rattle.std.specs.Prelude.{◌≡◌, IfOk};
 ghost use Rattle.pk_base.specs.Shape as spec;
 ghost use Rattle.pk_nand.specs.Calls.{IsReady};
 ghost use Rattle.pk_scan.specs.Board.{StaysReady};
-ghost use Rattle.pk_dump.specs.Readings.{IsReadingOf};
+ghost use Rattle.pk_dump.specs.Readings.{IsReadingOf, refused_as};
 
 use crate::errors::DumpError;
 use crate::text::Text;
@@ -23,7 +23,20 @@ pub enum Reading {
     Fails { page: u32 },
 }
 
+/// How reading ends where it opens nothing, if that tells of the flash.
+fn refused(error: OpenError) -> Result<Reading, DumpError>
+    ensures { result ≡ refused_as error }
+{
+    match error {
+        OpenError::NotFormatted => Ok(Reading::NoRoot),
+        OpenError::Damaged { page } => Ok(Reading::Fails { page }),
+        OpenError::Fault => Err(DumpError::Fault),
+        OpenError::Memory => Err(DumpError::Memory),
+    }
+}
+
 /// Reads the flash as opening does.
+#[tactic(auto, using(crate::proofs::Refusals::refused_reading))]
 pub fn reading_of<B: Nand>(alloc: Global, board: &mut B, shape: Shape) -> Result<Reading, DumpError>
     requires ready { IsReady (B.state board.old) shape }
     ensures reading { IfOk result (λ r. IsReadingOf shape (B.state board.old).pages r) }
@@ -31,10 +44,7 @@ pub fn reading_of<B: Nand>(alloc: Global, board: &mut B, shape: Shape) -> Result
 {
     match scan(alloc, board, shape, 0) {
         Ok(found) => Ok(Reading::Map(found)),
-        Err(OpenError::NotFormatted) => Ok(Reading::NoRoot),
-        Err(OpenError::Damaged { page }) => Ok(Reading::Fails { page }),
-        Err(OpenError::Fault) => Err(DumpError::Fault),
-        Err(OpenError::Memory) => Err(DumpError::Memory),
+        Err(error) => refused(error),
     }
 }
 

@@ -4,7 +4,6 @@ ghost use Rattle.pk_nand.specs.Seen.{state};
 ghost use Rattle.pk_rootfmt.specs.Newest.{root_of};
 ghost use Rattle.pk_dump.specs.Pages.{IsFull, AreFull};
 
-use crate::form::Form;
 use crate::text::Text;
 use crate::words::tell_blocks;
 use pk_nand::PageState;
@@ -33,7 +32,7 @@ fn tell_level<A: Allocator>(text: &mut Text, level: u8, root: &Root<A>)
     requires { 1 ≤ level × level ≤ 4 }
 {
     let entries = root.entries(level);
-    if entries == 0 && text.form() == Form::People {
+    if entries == 0 && text.is_for_people() {
         return;
     }
     text.tell(

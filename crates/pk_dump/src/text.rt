@@ -22,9 +22,12 @@ impl Text {
         }
     }
 
-    /// Whom the text is for.
-    pub fn form(&self) -> Form {
-        self.form
+    /// Whether it is for people.
+    pub fn is_for_people(&self) -> bool {
+        match self.form {
+            Form::People => true,
+            Form::Programs => false,
+        }
     }
 
     /// The text, if there was memory for all of it.
