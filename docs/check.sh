@@ -76,7 +76,7 @@ sed -n 's/^| .* | \(`.*\|the test.*\) |$/\1/p' docs/WRONG-BODIES.md | while IFS=
             pk_*) crate=$name ;;
             *)
                 [ -f "crates/$crate/must-fail/$name.edit" ] \
-                    || grep -rqw "fn $name" crates/pk_trials/src crates/pk_heap_tests/src \
+                    || grep -rqw "fn $name" crates/pk_trials/src crates/pk_hardship_tests/src \
                     || fault "docs/WRONG-BODIES.md: neither a wrong body nor a test $name"
                 ;;
         esac

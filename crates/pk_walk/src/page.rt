@@ -13,6 +13,9 @@ use crate::position::Position;
 use pk_base::{Entry, KEY_BYTES, Key, Shape, cell_of, get_u16, get_u32};
 use pk_meta::entry;
 
+// The second byte of an entry that has a value.
+const PUT: u8 = 1;
+
 // The entry of these bytes, which have a whole key and a value.
 #[inline(always)]
 #[tactic(auto, unfolding(pk_base::specs::EntryBytes::entry_at))]
@@ -42,7 +45,7 @@ pub fn entry_at(shape: &Shape, page: &[u8], i: u32) -> Entry
 {
     shape.known();
     let cell = cell_of(page, i as usize);
-    if cell[0] as usize == KEY_BYTES && cell[1] == 1 {
+    if cell[0] as usize == KEY_BYTES && cell[1] == PUT {
         whole_put(cell)
     } else {
         entry(shape, page, i)
