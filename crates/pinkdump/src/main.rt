@@ -4,12 +4,11 @@
 use pk_dump::{DumpError, Form, dump};
 use pk_file::FileBoard;
 use pk_nand::{LoadFault, Nand};
-use std::alloc::Global;
 use std::env;
 use std::process::ExitCode;
 
 /// Why nothing is told.
-#[derive(Clone, Copy)]
+#[derive(Clone, Copy, Debug, PartialEq, Eq)]
 enum Refused {
     /// The words are none that it knows.
     Words,
@@ -37,58 +36,25 @@ impl Refused {
             Refused::BadImage { .. } => 8,
         }
     }
-
-    /// What is told of it.
-    fn words(self) -> &'static str {
-        match self {
-            Refused::Words => "IMAGE, or IMAGE lines",
-            Refused::NoImage => "there is no image",
-            Refused::BadImage { .. } => "no image",
-            Refused::Fault => "the file failed",
-            Refused::Memory => "there is not enough memory",
-            Refused::Output => "writing the output failed",
-        }
-    }
-}
-
-/// Why nothing is told of an image that was not loaded.
-fn not_loaded(fault: LoadFault) -> Refused {
-    match fault {
-        LoadFault::BadImage { at } => Refused::BadImage { at },
-        LoadFault::Fault => Refused::Fault,
-        LoadFault::Memory => Refused::Memory,
-    }
-}
-
-/// Why nothing is told of an image that was loaded.
-fn not_told(error: DumpError) -> Refused {
-    match error {
-        DumpError::Fault => Refused::Fault,
-        DumpError::Memory => Refused::Memory,
-    }
-}
-
-/// The text that tells of the image of a board.
-fn text_of<B: Nand>(alloc: Global, board: &mut B, form: Form) -> Result<String, Refused> {
-    match board.load(alloc) {
-        Ok(Some(shape)) => match dump(alloc, form, board, shape) {
-            Ok(text) => Ok(text),
-            Err(error) => Err(not_told(error)),
-        },
-        Ok(None) => Err(Refused::NoImage),
-        Err(fault) => Err(not_loaded(fault)),
-    }
 }
 
 /// Tells of the image of this path.
 fn tell(rt: &HostRuntime, image: &str, form: Form) -> Result<(), Refused> {
     let mut board = FileBoard::new(rt, image);
-    match text_of(rt.alloc(), &mut board, form) {
+    let shape = match board.load(rt.alloc()) {
+        Ok(Some(shape)) => shape,
+        Ok(None) => return Err(Refused::NoImage),
+        Err(LoadFault::BadImage { at }) => return Err(Refused::BadImage { at }),
+        Err(LoadFault::Fault) => return Err(Refused::Fault),
+        Err(LoadFault::Memory) => return Err(Refused::Memory),
+    };
+    match dump(rt.alloc(), form, &mut board, shape) {
         Ok(text) => match rt.print(&text) {
             Ok(()) => Ok(()),
             Err(_) => Err(Refused::Output),
         },
-        Err(why) => Err(why),
+        Err(DumpError::Fault) => Err(Refused::Fault),
+        Err(DumpError::Memory) => Err(Refused::Memory),
     }
 }
 
@@ -123,10 +89,14 @@ fn main(rt: HostRuntime) -> ExitCode {
         Ok(()) => ExitCode::from(0),
         Err(why) => {
             let _ = match why {
+                Refused::Words => eprintln!(rt; "pinkdump: IMAGE, or IMAGE lines"),
+                Refused::NoImage => eprintln!(rt; "pinkdump: there is no image"),
                 Refused::BadImage { at } => {
                     eprintln!(rt; "pinkdump: no image: the first wrong byte is at {at}")
                 }
-                _ => eprintln!(rt; "pinkdump: {}", why.words()),
+                Refused::Fault => eprintln!(rt; "pinkdump: the file failed"),
+                Refused::Memory => eprintln!(rt; "pinkdump: there is not enough memory"),
+                Refused::Output => eprintln!(rt; "pinkdump: writing the output failed"),
             };
             ExitCode::from(why.status())
         }

@@ -1,3 +1,2 @@
 mod ReadPages
 mod Commits
-mod Refusals

@@ -7,12 +7,14 @@ ghost use Rattle.pk_rootfmt.specs.Held.{older_of, blocks_or_none};
 ghost use Rattle.pk_dump.specs.Uses.{run_of, use_of};
 ghost use Rattle.pk_scan.specs.Adopts.{is_among};
 
-use crate::finding::Finding;
+use crate::form::Form;
 use crate::picture::{BlockUse, Life, letter};
-use crate::text::Text;
+use pk_base::Shape;
 use pk_live::Live;
+use pk_nand::PageState;
 use pk_rootfmt::Root;
-use std::alloc::Allocator;
+use std::alloc::{AllocError, Allocator};
+use std::fmt::Write;
 
 /// Whether the run of a level has a block.
 fn in_run<A: Allocator>(root: &Root<A>, level: u8, block: u16) -> bool
@@ -86,8 +88,8 @@ fn life_of<A: Allocator>(live: Option<&Live<A>>, page: u32) -> Life
     }
 }
 
-/// The name of what a block is for, with so many live pages where that is known.
-fn name_of(used: BlockUse, count: Option<u32>) -> &'static str {
+/// The name of what a block is for; of a block that no root names, whether it has a live page.
+fn name_of<A: Allocator>(used: BlockUse, live: Option<&Live<A>>, block: u32) -> &'static str {
     match used {
         BlockUse::Root => "roots",
         BlockUse::Newest => "newest-epoch",
@@ -96,52 +98,98 @@ fn name_of(used: BlockUse, count: Option<u32>) -> &'static str {
         BlockUse::Run { level: 2 } => "run2",
         BlockUse::Run { level: 3 } => "run3",
         BlockUse::Run { .. } => "run4",
-        BlockUse::Rest => match count {
-            Some(0) => "free",
-            Some(_) => "values",
+        BlockUse::Rest => match live {
+            Some(live) => {
+                if live.count(block) > 0 {
+                    "values"
+                } else {
+                    "free"
+                }
+            }
             None => "unknown",
         },
     }
 }
 
-/// How many live pages a block has, where that is known.
-fn count_of<A: Allocator>(live: Option<&Live<A>>, block: u32) -> Option<u32> {
-    match live {
-        Some(live) => Some(live.count(block)),
-        None => None,
+/// Tells what a block is for, and how many live pages it has.
+fn tell_use(
+    out: &mut String,
+    form: Form,
+    block: u32,
+    name: &str,
+    count: u32,
+) -> Result<(), AllocError> {
+    match form {
+        Form::People => write!(out, "block {block:>4} {name:<12} {count:>3} live  "),
+        Form::Programs => write!(out, "block number={block} use={name} live={count} pages="),
     }
 }
 
-/// Tells of the pages of a block of this use, a letter for each.
-fn tell_letters(text: &mut Text, found: &Finding, used: BlockUse, block: u32)
-    requires { block < found.now.root.shape.blocks }
+/// Tells of the pages of a block, a letter for each.
+fn tell_letters<A: Allocator>(
+    out: &mut String,
+    shape: &Shape,
+    used: BlockUse,
+    live: Option<&Live<A>>,
+    block: u32,
+    pages: &[PageState],
+) -> Result<(), AllocError>
+    requires { block < shape.now.blocks }
 {
-    let shape = found.root.shape();
     shape.known();
     let first = block * shape.block_pages();
     for i in 0..shape.block_pages() {
-        let Some(page) = found.pages.get((first + i) as usize) else {
-            return;
+        let Some(page) = pages.get((first + i) as usize) else {
+            return Ok(());
         };
-        text.letter(letter(used, life_of(found.live(), first + i), page));
+        out.push(letter(used, life_of(live, first + i), page))?;
     }
-    text.letter('\n');
+    writeln!(out, "")
+}
+
+/// How many live pages a block has.
+fn count_of<A: Allocator>(live: Option<&Live<A>>, block: u32) -> u32 {
+    match live {
+        Some(live) => live.count(block),
+        None => 0,
+    }
 }
 
 /// Tells of a block: its use, its live pages, and a letter for each page.
-fn tell_block(text: &mut Text, found: &Finding, block: u32)
-    requires { block < found.now.root.shape.blocks }
+fn tell_block<A: Allocator>(
+    out: &mut String,
+    form: Form,
+    shape: &Shape,
+    root: Option<&Root<A>>,
+    live: Option<&Live<A>>,
+    block: u32,
+    pages: &[PageState],
+) -> Result<(), AllocError>
+    requires { block < shape.now.blocks }
 {
-    found.root.shape().known();
-    let used = block_use(found.named(), block);
-    let count = count_of(found.live(), block);
-    text.block(block, name_of(used, count), count.unwrap_or(0));
-    tell_letters(text, found, used, block);
+    shape.known();
+    let used = block_use(root, block);
+    tell_use(
+        out,
+        form,
+        block,
+        name_of(used, live, block),
+        count_of(live, block),
+    )?;
+    tell_letters(out, shape, used, live, block, pages)
 }
 
 /// Tells of all blocks.
-pub fn tell_blocks(text: &mut Text, found: &Finding) {
-    for block in 0..found.root.shape().blocks() {
-        tell_block(text, found, block);
+pub fn tell_blocks<A: Allocator>(
+    out: &mut String,
+    form: Form,
+    shape: &Shape,
+    root: Option<&Root<A>>,
+    live: Option<&Live<A>>,
+    pages: &[PageState],
+) -> Result<(), AllocError> {
+    for block in 0..shape.blocks() {
+        tell_block(out, form, shape, root, live, block, pages)?;
     }
+    Ok(())
 }

@@ -1,7 +1,7 @@
 //! How lines are written.
 
 /// Whom the lines are for.
-#[derive(Clone, Copy)]
+#[derive(Clone, Copy, Debug, PartialEq, Eq)]
 pub enum Form {
     /// Sentences.
     People,

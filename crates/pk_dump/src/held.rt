@@ -2,8 +2,10 @@
 ghost use Rattle.std.specs.Prelude.{◌≡◌, ◌*◌, ◌≤◌, length, MatchOption};
 ghost use Rattle.pk_base.specs.Page.{page_in as page_in_blocks};
 
-use crate::text::Text;
+use crate::form::Form;
 use pk_base::Shape;
+use std::alloc::AllocError;
+use std::fmt::Write;
 
 /// What stands where a page of an epoch or of a run has its place.
 #[derive(Clone, Copy)]
@@ -30,14 +32,32 @@ pub fn page_in(shape: &Shape, blocks: &[u16], place: u32) -> Option<u32>
     }
 }
 
-/// Tells of a page behind its number; its entries are told behind it.
-pub fn tell_held(text: &mut Text, held: Held) {
+/// What a page without entries is called.
+fn name_of(held: Held) -> &'static str {
     match held {
-        Held::Erased => text.tell(" is erased\n", " is=erased\n", &[]),
-        Held::Torn => text.tell(" is torn\n", " is=torn\n", &[]),
-        Held::Wrong => text.tell(" is wrong\n", " is=wrong\n", &[]),
-        Held::Entries { count } => {
-            text.tell(", {0} entries\n", " entries={0}\n", &[count as u64]);
+        Held::Erased => "erased",
+        Held::Torn => "torn",
+        Held::Wrong | Held::Entries { .. } => "wrong",
+    }
+}
+
+/// Tells of a page at its place; its entries are told behind it.
+pub fn tell_held(
+    out: &mut String,
+    form: Form,
+    of: &str,
+    page: u32,
+    held: Held,
+) -> Result<(), AllocError> {
+    let name = name_of(held);
+    match (form, held) {
+        (Form::People, Held::Entries { count }) => {
+            writeln!(out, "{of}: page {page}, {count} entries")
         }
+        (Form::People, _) => writeln!(out, "{of}: page {page} is {name}"),
+        (Form::Programs, Held::Entries { count }) => {
+            writeln!(out, "page of={of} number={page} entries={count}")
+        }
+        (Form::Programs, _) => writeln!(out, "page of={of} number={page} is={name}"),
     }
 }

@@ -7,14 +7,15 @@ ghost use Rattle.pk_dump.specs.Pages.{IsFull, AreFull};
 ghost use Rattle.pk_dump.specs.Holds.{HoldsCommit};
 ghost use Rattle.pk_dump.specs.Named.{newest_named, older_named};
 
+use crate::form::Form;
 use crate::held::{Held, page_in, tell_held};
-use crate::text::Text;
 use crate::words::tell_entry;
 use pk_base::Shape;
 use pk_jrnfmt::{JrnHead, decode, entry};
 use pk_nand::PageState;
 use pk_rootfmt::Root;
-use std::alloc::Allocator;
+use std::alloc::{AllocError, Allocator};
+use std::fmt::Write;
 
 /// An epoch that a root names: its number, and its blocks.
 #[derive(Clone, Copy)]
@@ -86,73 +87,105 @@ fn commit_in(shape: &Shape, number: u64, index: u32, page: &PageState) -> Held
 }
 
 /// Tells of the entries of a page that holds a commit.
-fn tell_entries(text: &mut Text, shape: &Shape, page: &PageState)
+fn tell_entries(
+    out: &mut String,
+    form: Form,
+    shape: &Shape,
+    page: &PageState,
+) -> Result<(), AllocError>
     requires { IsFull shape.now (state page.now) }
 {
     let PageState::Whole(bytes) = page else {
-        return;
+        return Ok(());
     };
     let Ok(head) = decode(shape, bytes.bytes()) else {
-        return;
+        return Ok(());
     };
     for i in 0..head.count {
-        tell_entry(text, &entry(shape, bytes.bytes(), i));
+        tell_entry(out, form, &entry(shape, bytes.bytes(), i))?;
+    }
+    Ok(())
+}
+
+/// Whether an epoch may go on behind such a page.
+fn goes_on(held: Held) -> bool {
+    match held {
+        Held::Entries { .. } | Held::Wrong => true,
+        Held::Erased | Held::Torn => false,
     }
 }
 
-/// Tells of a commit, and answers whether the epoch may go on behind it.
+/// Tells of a commit, and answers whether the epoch goes on behind it.
 fn tell_commit(
-    text: &mut Text,
+    out: &mut String,
+    form: Form,
     shape: &Shape,
     number: u64,
     index: u32,
     at: u32,
     page: &PageState,
-) -> bool
+) -> Result<bool, AllocError>
     requires full { IsFull shape.now (state page.now) }
     requires index { index < epoch_commits shape.now }
 {
     let held = commit_in(shape, number, index, page);
     if let Held::Erased = held {
-        return false;
+        return Ok(false);
     }
-    text.tell("epoch: page {0}", "page of=epoch number={0}", &[at as u64]);
-    tell_held(text, held);
-    match held {
-        Held::Entries { .. } => {
-            tell_entries(text, shape, page);
-            true
-        }
-        Held::Wrong => true,
-        Held::Erased | Held::Torn => false,
+    tell_held(out, form, "epoch", at, held)?;
+    if let Held::Entries { .. } = held {
+        tell_entries(out, form, shape, page)?;
+    }
+    Ok(goes_on(held))
+}
+
+/// Tells of the number of an epoch.
+fn tell_number(out: &mut String, form: Form, number: u64) -> Result<(), AllocError> {
+    match form {
+        Form::People => writeln!(out, "epoch {number}"),
+        Form::Programs => writeln!(out, "epoch number={number}"),
     }
 }
 
 /// Tells of the commits of an epoch.
-fn tell_epoch(text: &mut Text, shape: &Shape, epoch: NamedEpoch, pages: &[PageState])
+fn tell_epoch(
+    out: &mut String,
+    form: Form,
+    shape: &Shape,
+    epoch: NamedEpoch,
+    pages: &[PageState],
+) -> Result<(), AllocError>
     requires { AreFull shape.now pages.now }
 {
     let number = epoch.number;
-    text.tell("epoch {0}\n", "epoch number={0}\n", &[number]);
+    tell_number(out, form, number)?;
     for index in 0..shape.epoch_commits() {
         let Some(at) = page_in(shape, &epoch.blocks, index) else {
-            return;
+            return Ok(());
         };
         let Some(page) = pages.get(at as usize) else {
-            return;
+            return Ok(());
         };
-        if !tell_commit(text, shape, number, index, at, page) {
-            return;
+        if !tell_commit(out, form, shape, number, index, at, page)? {
+            return Ok(());
         }
     }
+    Ok(())
 }
 
 /// Tells of the epochs that a root names, the newest one first.
-pub fn tell_epochs<A: Allocator>(text: &mut Text, root: &Root<A>, pages: &[PageState])
+pub fn tell_epochs<A: Allocator>(
+    out: &mut String,
+    form: Form,
+    root: &Root<A>,
+    pages: &[PageState],
+) -> Result<(), AllocError>
     requires { AreFull root.now.shape pages.now }
 {
-    tell_epoch(text, root.shape(), newest_of(root), pages);
-    if let Some(older) = older_of(root) {
-        tell_epoch(text, root.shape(), older, pages);
+    let shape = root.shape();
+    tell_epoch(out, form, shape, newest_of(root), pages)?;
+    match older_of(root) {
+        Some(older) => tell_epoch(out, form, shape, older, pages),
+        None => Ok(()),
     }
 }

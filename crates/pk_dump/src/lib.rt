@@ -16,7 +16,6 @@ mod reading;
 mod root;
 mod run;
 mod telling;
-mod text;
 mod words;
 
 pub use errors::DumpError;

@@ -1,16 +1,17 @@
 //! Whether the flash holds a map, and where reading it fails, if it does.
-ghost use Rattle.std.specs.Prelude.{◌≡◌, IfOk};
+ghost use Rattle.std.specs.Prelude.{IfOk};
 ghost use Rattle.pk_base.specs.Shape as spec;
 ghost use Rattle.pk_nand.specs.Calls.{IsReady};
 ghost use Rattle.pk_scan.specs.Board.{StaysReady};
-ghost use Rattle.pk_dump.specs.Readings.{IsReadingOf, refused_as};
+ghost use Rattle.pk_dump.specs.Readings.{IsReadingOf};
 
 use crate::errors::DumpError;
-use crate::text::Text;
+use crate::form::Form;
 use pk_base::Shape;
 use pk_nand::Nand;
 use pk_scan::{Found, OpenError, scan};
-use std::alloc::Global;
+use std::alloc::{AllocError, Global};
+use std::fmt::Write;
 
 /// How reading a flash ends.
 #[derive(Drop)]
@@ -23,20 +24,7 @@ pub enum Reading {
     Fails { page: u32 },
 }
 
-/// How reading ends where it opens nothing, if that tells of the flash.
-fn refused(error: OpenError) -> Result<Reading, DumpError>
-    ensures { result ≡ refused_as error }
-{
-    match error {
-        OpenError::NotFormatted => Ok(Reading::NoRoot),
-        OpenError::Damaged { page } => Ok(Reading::Fails { page }),
-        OpenError::Fault => Err(DumpError::Fault),
-        OpenError::Memory => Err(DumpError::Memory),
-    }
-}
-
 /// Reads the flash as opening does.
-#[tactic(auto, using(crate::proofs::Refusals::refused_reading))]
 pub fn reading_of<B: Nand>(alloc: Global, board: &mut B, shape: Shape) -> Result<Reading, DumpError>
     requires ready { IsReady (B.state board.old) shape }
     ensures reading { IfOk result (λ r. IsReadingOf shape (B.state board.old).pages r) }
@@ -44,23 +32,29 @@ pub fn reading_of<B: Nand>(alloc: Global, board: &mut B, shape: Shape) -> Result
 {
     match scan(alloc, board, shape, 0) {
         Ok(found) => Ok(Reading::Map(found)),
-        Err(error) => refused(error),
+        Err(OpenError::NotFormatted) => Ok(Reading::NoRoot),
+        Err(OpenError::Damaged { page }) => Ok(Reading::Fails { page }),
+        Err(OpenError::Fault) => Err(DumpError::Fault),
+        Err(OpenError::Memory) => Err(DumpError::Memory),
     }
 }
 
 /// Tells how reading the flash ends.
-pub fn tell_reading(text: &mut Text, reading: &Reading) {
-    match reading {
-        Reading::Map(found) => text.tell(
-            "the flash holds a map of {0} keys\n",
-            "map keys={0}\n",
-            &[found.keys as u64],
-        ),
-        Reading::NoRoot => text.tell("the flash has no root\n", "no-root\n", &[]),
-        Reading::Fails { page } => text.tell(
-            "reading the flash fails at page {0}\n",
-            "fails page={0}\n",
-            &[*page as u64],
-        ),
+pub fn tell_reading(out: &mut String, form: Form, reading: &Reading) -> Result<(), AllocError> {
+    match (form, reading) {
+        (Form::People, Reading::Map(found)) => {
+            let keys = found.keys;
+            writeln!(out, "the flash holds a map of {keys} keys")
+        }
+        (Form::People, Reading::NoRoot) => writeln!(out, "the flash has no root"),
+        (Form::People, Reading::Fails { page }) => {
+            writeln!(out, "reading the flash fails at page {page}")
+        }
+        (Form::Programs, Reading::Map(found)) => {
+            let keys = found.keys;
+            writeln!(out, "map keys={keys}")
+        }
+        (Form::Programs, Reading::NoRoot) => writeln!(out, "no-root"),
+        (Form::Programs, Reading::Fails { page }) => writeln!(out, "fails page={page}"),
     }
 }

@@ -4,11 +4,13 @@ ghost use Rattle.pk_nand.specs.Seen.{state};
 ghost use Rattle.pk_rootfmt.specs.Newest.{root_of};
 ghost use Rattle.pk_dump.specs.Pages.{IsFull, AreFull};
 
-use crate::text::Text;
-use crate::words::tell_blocks;
+use crate::form::Form;
+use crate::words::{tell_blocks, tell_pair};
+use pk_base::Shape;
 use pk_nand::PageState;
 use pk_rootfmt::Root;
-use std::alloc::Allocator;
+use std::alloc::{AllocError, Allocator, Global};
+use std::fmt::Write;
 
 /// Takes the root of a page, and answers whether there is one; without one the root stays.
 fn root_in<A: Allocator>(root: &mut Root<A>, page: &PageState) -> bool
@@ -27,67 +29,108 @@ fn root_in<A: Allocator>(root: &mut Root<A>, page: &PageState) -> bool
     }
 }
 
-/// Tells of the run of a level under a root.
-fn tell_level<A: Allocator>(text: &mut Text, level: u8, root: &Root<A>)
-    requires { 1 ≤ level × level ≤ 4 }
-{
-    let entries = root.entries(level);
-    if entries == 0 && text.is_for_people() {
-        return;
+/// Tells of the number of a root and of its newest epoch.
+fn tell_epoch<A: Allocator>(
+    out: &mut String,
+    form: Form,
+    page: u32,
+    root: &Root<A>,
+) -> Result<(), AllocError> {
+    let number = root.number();
+    let epoch = root.epoch();
+    match form {
+        Form::People => write!(
+            out,
+            "root {number} in page {page}: epoch {epoch} in blocks "
+        )?,
+        Form::Programs => write!(
+            out,
+            "root page={page} number={number} epoch={epoch} blocks="
+        )?,
     }
-    text.tell(
-        "; run {0} of {1} entries in blocks ",
-        " run{0}={1} run{0}_blocks=",
-        &[level as u64, entries as u64],
-    );
-    tell_blocks(text, root.blocks(level));
+    tell_pair(out, root.newest())
 }
 
-/// Tells of the blocks of the older epoch, if there is one, behind those of the newest one.
-fn tell_older(text: &mut Text, older: Option<[u16; 2]>) {
+/// Tells of the blocks of the older epoch, behind those of the newest one.
+fn tell_older(out: &mut String, form: Form, older: Option<[u16; 2]>) -> Result<(), AllocError> {
     match older {
         Some(blocks) => {
-            text.tell(", the older one in blocks ", " older=", &[]);
-            tell_blocks(text, &blocks);
+            out.push_str(match form {
+                Form::People => ", the older one in blocks ",
+                Form::Programs => " older=",
+            })?;
+            tell_pair(out, blocks)
         }
-        None => text.tell("", " older=-", &[]),
+        None => out.push_str(match form {
+            Form::People => "",
+            Form::Programs => " older=-",
+        }),
     }
+}
+
+/// Tells whether a root is the newest, at the end of its line.
+fn tell_newest(out: &mut String, form: Form, is_newest: bool) -> Result<(), AllocError> {
+    out.push_str(match (form, is_newest) {
+        (Form::People, true) => "; the newest\n",
+        (Form::People, false) => "\n",
+        (Form::Programs, true) => " newest=1\n",
+        (Form::Programs, false) => " newest=0\n",
+    })
 }
 
 /// Tells of the root of a page.
-fn tell_root<A: Allocator>(text: &mut Text, page: u32, root: &Root<A>, newest: Option<u32>) {
-    text.tell(
-        "root {0} in page {1}: epoch {2} in blocks ",
-        "root page={1} number={0} epoch={2} blocks=",
-        &[root.number(), page as u64, root.epoch()],
-    );
-    tell_blocks(text, &root.newest());
-    tell_older(text, root.older());
+fn tell_root<A: Allocator>(
+    out: &mut String,
+    form: Form,
+    page: u32,
+    root: &Root<A>,
+    newest: Option<u32>,
+) -> Result<(), AllocError> {
+    tell_epoch(out, form, page, root)?;
+    tell_older(out, form, root.older())?;
     for level in 1..5u8 {
-        tell_level(text, level, root);
+        tell_level(out, form, level, root)?;
     }
-    if newest == Some(page) {
-        text.tell("; the newest\n", " newest=1\n", &[]);
-    } else {
-        text.tell("\n", " newest=0\n", &[]);
-    }
+    tell_newest(out, form, newest == Some(page))
 }
 
-/// Tells of every root of the root blocks. Each is taken into `root`.
-pub fn tell_roots<A: Allocator>(
-    text: &mut Text,
-    root: &mut Root<A>,
+/// Tells of the run of a level under a root.
+fn tell_level<A: Allocator>(
+    out: &mut String,
+    form: Form,
+    level: u8,
+    root: &Root<A>,
+) -> Result<(), AllocError>
+    requires { 1 ≤ level × level ≤ 4 }
+{
+    let entries = root.entries(level);
+    match form {
+        Form::People if entries == 0 => return Ok(()),
+        Form::People => write!(out, "; run {level} of {entries} entries in blocks ")?,
+        Form::Programs => write!(out, " run{level}={entries} run{level}_blocks=")?,
+    }
+    tell_blocks(out, root.blocks(level))
+}
+
+/// Tells of every root of the root blocks.
+pub fn tell_roots(
+    alloc: Global,
+    out: &mut String,
+    form: Form,
+    shape: &Shape,
     pages: &[PageState],
     newest: Option<u32>,
-)
-    requires { AreFull root.old.shape pages.now }
+) -> Result<(), AllocError>
+    requires { AreFull shape.now pages.now }
 {
-    for at in 0..root.shape().root_pages() {
+    let mut root = Root::new(alloc, *shape)?;
+    for at in 0..shape.root_pages() {
         let Some(page) = pages.get(at as usize) else {
-            return;
+            return Ok(());
         };
-        if root_in(root, page) {
-            tell_root(text, at, root, newest);
+        if root_in(&mut root, page) {
+            tell_root(out, form, at, &root, newest)?;
         }
     }
+    Ok(())
 }

@@ -6,14 +6,15 @@ ghost use Rattle.pk_dump.specs.Pages.{IsFull, AreFull};
 ghost use Rattle.pk_dump.specs.Holds.{HoldsRunPage};
 ghost use Rattle.pk_dump.specs.Named.{wanted_of};
 
+use crate::form::Form;
 use crate::held::{Held, page_in, tell_held};
-use crate::text::Text;
 use crate::words::tell_entry;
 use pk_base::Shape;
 use pk_meta::{decode, entry};
 use pk_nand::PageState;
 use pk_rootfmt::Root;
-use std::alloc::Allocator;
+use std::alloc::{AllocError, Allocator};
+use std::fmt::Write;
 
 /// Which page of which run.
 #[derive(Clone, Copy)]
@@ -72,77 +73,103 @@ fn run_page_in(shape: &Shape, wanted: Wanted, page: &PageState) -> Held
 }
 
 /// Tells of the entries of a page of a run.
-fn tell_entries(text: &mut Text, shape: &Shape, page: &PageState)
+fn tell_entries(
+    out: &mut String,
+    form: Form,
+    shape: &Shape,
+    page: &PageState,
+) -> Result<(), AllocError>
     requires { IsFull shape.now (state page.now) }
 {
     let PageState::Whole(bytes) = page else {
-        return;
+        return Ok(());
     };
     let Ok(head) = decode(shape, bytes.bytes()) else {
-        return;
+        return Ok(());
     };
     for i in 0..head.count {
-        tell_entry(text, &entry(shape, bytes.bytes(), i));
+        tell_entry(out, form, &entry(shape, bytes.bytes(), i))?;
     }
+    Ok(())
 }
 
 /// Tells of a page of a run.
-fn tell_page(text: &mut Text, shape: &Shape, wanted: Wanted, at: u32, page: &PageState)
+fn tell_page(
+    out: &mut String,
+    form: Form,
+    shape: &Shape,
+    wanted: Wanted,
+    at: u32,
+    page: &PageState,
+) -> Result<(), AllocError>
     requires full { IsFull shape.now (state page.now) }
     requires level { 1 ≤ wanted.level × wanted.level ≤ 4 }
 {
     let held = run_page_in(shape, wanted, page);
-    text.tell("run: page {0}", "page of=run number={0}", &[at as u64]);
-    tell_held(text, held);
-    if let Held::Entries { .. } = held {
-        tell_entries(text, shape, page);
+    tell_held(out, form, "run", at, held)?;
+    match held {
+        Held::Entries { .. } => tell_entries(out, form, shape, page),
+        _ => Ok(()),
     }
 }
 
-/// Tells of the run of a level, with so many entries in these blocks.
+/// Tells how many entries the run of a level has.
+fn tell_count(out: &mut String, form: Form, level: u8, entries: u32) -> Result<(), AllocError> {
+    match form {
+        Form::People => writeln!(out, "run {level}: {entries} entries"),
+        Form::Programs => writeln!(out, "run level={level} entries={entries}"),
+    }
+}
+
+/// Tells of the pages of the run of a level, with so many entries in these blocks.
 fn tell_run(
-    text: &mut Text,
+    out: &mut String,
+    form: Form,
     shape: &Shape,
     level: u8,
     entries: u32,
     blocks: &[u16],
     pages: &[PageState],
-)
+) -> Result<(), AllocError>
     requires full { AreFull shape.now pages.now }
     requires level { 1 ≤ level × level ≤ 4 }
 {
-    text.tell(
-        "run {0}: {1} entries\n",
-        "run level={0} entries={1}\n",
-        &[level as u64, entries as u64],
-    );
+    tell_count(out, form, level, entries)?;
     for index in 0..entries.div_ceil(shape.entries()) {
         let wanted = wanted_page(shape, level, entries, index);
         let Some(at) = page_in(shape, blocks, index) else {
-            return;
+            return Ok(());
         };
         let Some(page) = pages.get(at as usize) else {
-            return;
+            return Ok(());
         };
-        tell_page(text, shape, wanted, at, page);
+        tell_page(out, form, shape, wanted, at, page)?;
     }
+    Ok(())
 }
 
 /// Tells of the runs that a root names, from the first level on.
-pub fn tell_runs<A: Allocator>(text: &mut Text, root: &Root<A>, pages: &[PageState])
+pub fn tell_runs<A: Allocator>(
+    out: &mut String,
+    form: Form,
+    root: &Root<A>,
+    pages: &[PageState],
+) -> Result<(), AllocError>
     requires { AreFull root.now.shape pages.now }
 {
     for level in 1..5u8 {
         let entries = root.entries(level);
         if entries > 0 {
             tell_run(
-                text,
+                out,
+                form,
                 root.shape(),
                 level,
                 entries,
                 root.blocks(level),
                 pages,
-            );
+            )?;
         }
     }
+    Ok(())
 }

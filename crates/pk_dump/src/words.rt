@@ -1,38 +1,62 @@
 //! Keys, entries and block numbers as text.
 
-use crate::text::Text;
+use crate::form::Form;
 use pk_base::{Entry, Key};
+use std::alloc::AllocError;
+use std::fmt::Write;
+
+/// Tells of two blocks.
+pub fn tell_pair(out: &mut String, blocks: [u16; 2]) -> Result<(), AllocError> {
+    tell_blocks(out, &blocks)
+}
 
 /// Tells of blocks, with a comma between two; a dash where there are none.
-pub fn tell_blocks(text: &mut Text, blocks: &[u16]) {
+pub fn tell_blocks(out: &mut String, blocks: &[u16]) -> Result<(), AllocError> {
     if blocks.is_empty() {
-        text.letter('-');
+        return write!(out, "-");
     }
     for (i, block) in blocks.iter().enumerate() {
         if i > 0 {
-            text.letter(',');
+            write!(out, ",")?;
         }
-        text.tell("{0}", "{0}", &[*block as u64]);
+        write!(out, "{block}")?;
     }
+    Ok(())
 }
 
 /// Tells of a key: two hexadecimal digits a byte.
-fn tell_key(text: &mut Text, key: &Key) {
+pub fn tell_key(out: &mut String, key: &Key) -> Result<(), AllocError> {
     for byte in key.bytes() {
-        text.byte(*byte);
+        write!(out, "{byte:02x}")?;
+    }
+    Ok(())
+}
+
+/// Tells of an entry.
+pub fn tell_entry(out: &mut String, form: Form, entry: &Entry) -> Result<(), AllocError> {
+    out.push_str(match form {
+        Form::People => "  ",
+        Form::Programs => "entry key=",
+    })?;
+    tell_key(out, entry.key())?;
+    match entry.place() {
+        Some(place) => tell_place(out, form, place.page, place.len),
+        None => tell_deleted(out, form),
     }
 }
 
-/// Tells of an entry: its key, and where its value stands, or that the key was deleted.
-pub fn tell_entry(text: &mut Text, entry: &Entry) {
-    text.tell("  ", "entry key=", &[]);
-    tell_key(text, entry.key());
-    match entry.place() {
-        Some(place) => text.tell(
-            " in page {0}, {1} bytes\n",
-            " page={0} len={1}\n",
-            &[place.page as u64, place.len as u64],
-        ),
-        None => text.tell(" deleted\n", " deleted=1\n", &[]),
+/// Tells where a value stands, behind its key.
+fn tell_place(out: &mut String, form: Form, page: u32, len: u32) -> Result<(), AllocError> {
+    match form {
+        Form::People => writeln!(out, " in page {page}, {len} bytes"),
+        Form::Programs => writeln!(out, " page={page} len={len}"),
+    }
+}
+
+/// Tells that a key was deleted, behind it.
+fn tell_deleted(out: &mut String, form: Form) -> Result<(), AllocError> {
+    match form {
+        Form::People => out.push_str(" deleted\n"),
+        Form::Programs => out.push_str(" deleted=1\n"),
     }
 }
