@@ -10,7 +10,7 @@ use crate::form::Form;
 use crate::operands::{Operands, split_word, words_behind};
 use crate::words::{bytes_word, entry_word, key, number as number_of};
 use pk_base::Key;
-use pk_nvme::Bytes;
+use pk_nvme::{Bytes, SUBMISSION_BYTES};
 
 /// A line is outside the grammar.
 #[derive(Clone, Copy, Debug, PartialEq, Eq)]
@@ -210,7 +210,7 @@ fn store(operands: Operands, value: &mut Bytes) -> Option<Form>
 }
 
 /// An entry as it is; the bytes behind it come into `value`.
-fn raw(operands: Operands, value: &mut Bytes) -> Option<[u8; 64]>
+fn raw(operands: Operands, value: &mut Bytes) -> Option<[u8; SUBMISSION_BYTES]>
     requires empty { value.old.items ≡ [] }
     requires fits { AllByRecursion (λ word. length word ≤ 2 * value.old.room) (words_in operands) }
     ensures entry { result ≡ option_map (λ s. s.0) (spec.raw_of (words_in operands.entry)) }
@@ -251,7 +251,7 @@ fn named(name: &[u8], operands: Operands, value: &mut Bytes) -> Option<Form>
 
 /// The entry of a line; its bytes come into `value`.
 #[tactic(auto, unfolding(crate::specs::Line::entry_said))]
-fn entry_said(line: &[u8], number: u64, value: &mut Bytes) -> Option<[u8; 64]>
+fn entry_said(line: &[u8], number: u64, value: &mut Bytes) -> Option<[u8; SUBMISSION_BYTES]>
     requires empty { value.old.items ≡ [] }
     requires fits { length line.now ≤ 2 * value.old.room }
     requires short { length line.now < 2 ^ 32 }
@@ -277,7 +277,7 @@ pub fn assemble_line(
     line: &[u8],
     number: u64,
     value: &mut Bytes,
-) -> Result<Option<[u8; 64]>, BadLine>
+) -> Result<Option<[u8; SUBMISSION_BYTES]>, BadLine>
     requires { 1100000 ≤ value.old.room }
     // `BadLine` comes exactly outside the grammar.
     ensures exact { MatchResult result

@@ -10,7 +10,7 @@ ghost use Rattle.pk_asm.specs.Words.{key_of, entry_of};
 
 use hex::FromHex;
 use pk_base::{KEY_BYTES, Key};
-use pk_nvme::Bytes;
+use pk_nvme::{Bytes, SUBMISSION_BYTES};
 
 fn are_digits(word: &[u8]) -> bool
     ensures { result ≡ list_all is_ascii_digit word.now }
@@ -80,10 +80,10 @@ pub fn key(word: &[u8]) -> Option<Key>
 }
 
 /// The 64 bytes that a word of 128 hexadecimal digits is.
-pub fn entry_word(word: &[u8]) -> Option<[u8; 64]>
+pub fn entry_word(word: &[u8]) -> Option<[u8; SUBMISSION_BYTES]>
     ensures { result ≡ entry_of word.now }
 {
-    match <[u8; 64] as FromHex>::from_hex(word) {
+    match <[u8; SUBMISSION_BYTES] as FromHex>::from_hex(word) {
         Ok(entry) => Some(entry),
         Err(_) => None,
     }

@@ -10,13 +10,14 @@ ghost use Rattle.pk_nvme.specs.declared.opcode.TheConstants.{REPORT};
 use crate::quiet::served;
 use pk_base::put_u32;
 use pk_drive::{Counts, Outcome};
+use pk_nvme::REPORT_BYTES;
 use pk_parts::Parts;
 use pk_region::Region;
 
 // Writes the sixteen numbers in their order.
 fn put_counts(counts: &Counts, into: &mut [u8])
-    requires { 64 ≤ length into.old }
-    ensures bytes { take 64 into.new ≡ report_of (counts_of counts.now) }
+    requires { REPORT_BYTES ≤ length into.old }
+    ensures bytes { take REPORT_BYTES into.new ≡ report_of (counts_of counts.now) }
     ensures len { length into.new ≡ length into.old }
 {
     let numbers = [
@@ -44,7 +45,7 @@ fn put_counts(counts: &Counts, into: &mut [u8])
 
 /// Writes the numbers of a Report.
 pub(crate) fn report<A: Region>(parts: &Parts<A>, into: &mut [u8]) -> Outcome
-    requires room { 64 ≤ length into.old }
+    requires room { REPORT_BYTES ≤ length into.old }
     ensures does { DoneWithout parts.now REPORT result into.new }
     ensures told { (result.status ≡ SUCCESSFUL_COMPLETION) × (result.stopped ≡ false) }
     ensures bytes { take result.data_len into.new ≡ report_of (spec.counts_of parts.now) }
@@ -52,5 +53,5 @@ pub(crate) fn report<A: Region>(parts: &Parts<A>, into: &mut [u8]) -> Outcome
     ensures len { length into.new ≡ length into.old }
 {
     put_counts(&parts.counts(), into);
-    served(0, 64, 0)
+    served(0, REPORT_BYTES as u32, 0)
 }

@@ -7,7 +7,7 @@ ghost use Rattle.pk_gen.specs.Workload.{Generator, begin, request_of, value_of, 
 use crate::command::command;
 use crate::draw::{drawn, step};
 use crate::value::write_value;
-use pk_nvme::{Bytes, Request};
+use pk_nvme::{Bytes, Request, SUBMISSION_BYTES};
 use std::marker::Model;
 
 /// The generator of a workload. Contracts see its state and the identifier of its next command.
@@ -63,7 +63,7 @@ impl Workload {
     }
 
     /// The entry of the next command; its value, which is empty where it is no Store, replaces what stood there.
-    pub fn next(&mut self, value: &mut Bytes) -> [u8; 64]
+    pub fn next(&mut self, value: &mut Bytes) -> [u8; SUBMISSION_BYTES]
         requires { 4000 ≤ value.old.room }
         ensures entry { result ≡ entry_of (request_of self.old) }
         ensures value { value.new ≡ record value.old { items = value_of self.old } }

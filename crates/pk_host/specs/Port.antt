@@ -2,6 +2,7 @@
 use Rattle.std.specs.Prelude.{◌≡◌, ◌⊎◌, ℕ, ◌≤◌, ◌<◌, ◌^◌, List, [], ◌∷◌, length, take, Option, Some, None}
 use Rattle.pk_base.specs.Shape.{Shape}
 use Rattle.pk_base.specs.Map.{Map, IsMap, live}
+use Rattle.pk_nvme.specs.declared.sizes.TheConstants.{REPORT_BYTES}
 use Rattle.pk_nvme.specs.declared.opcode.Opcode.{Opcode}
 use Rattle.pk_nvme.specs.declared.opcode.Opcode.TheVariants.{Retrieve, List as ListKeys, Report}
 use Rattle.pk_nvme.specs.declared.status.TheConstants.{UNRECOVERED_ERROR}
@@ -32,7 +33,7 @@ pub record IsWithin (p : PortState) (m : Map) : Type 0 where
 abbrev pub room_for : ℕ → Option Opcode → ℕ
 room_for size (Some Retrieve) = size
 room_for size (Some ListKeys) = size
-room_for size (Some Report) = 64
+room_for size (Some Report) = REPORT_BYTES
 room_for size _ = 0
 
 abbrev pub room_of : Command → ℕ

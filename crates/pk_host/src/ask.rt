@@ -11,7 +11,7 @@ ghost use Rattle.pk_host.specs.Received.{replied};
 use crate::port::Port;
 use crate::types::HostError;
 use pk_base::{KEY_BYTES, get_u16, get_u32};
-use pk_nvme::Request;
+use pk_nvme::{COMPLETION_BYTES, Request};
 use pk_nvme::limits::NAMESPACE;
 
 /// A command but for its key and value: which it is, its size in bytes, and its options.
@@ -50,7 +50,7 @@ fn request_of(asked: Asked, key: &[u8]) -> Request
 }
 
 /// The status of a completion.
-fn status_of(entry: &[u8; 16]) -> u8
+fn status_of(entry: &[u8; COMPLETION_BYTES]) -> u8
     ensures { (cid head status field : ℕ) → entry.now ≡ completion cid head status field
         → status < 256 → result ≡ status }
 {
@@ -58,7 +58,7 @@ fn status_of(entry: &[u8; 16]) -> u8
 }
 
 /// The result of a completion.
-fn result_of(entry: &[u8; 16]) -> u32
+fn result_of(entry: &[u8; COMPLETION_BYTES]) -> u32
     ensures { (cid head status field : ℕ) → entry.now ≡ completion cid head status field
         → field < 2 ^ 32 → result ≡ field }
 {

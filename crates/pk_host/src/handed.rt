@@ -5,7 +5,7 @@ ghost use Rattle.pk_nvme.specs.Command.{command, IsWhole};
 ghost use Rattle.pk_host.specs.Good.{IsHanded};
 
 use pk_base::KEY_BYTES;
-use pk_nvme::Request;
+use pk_nvme::{Request, SUBMISSION_BYTES};
 
 // Bytes are numbers below 256.
 fn are_bytes(bytes: &[u8])
@@ -30,7 +30,7 @@ fn is_u32(number: u32)
 }
 
 /// An entry and a whole value are bytes, and the size that the entry names has 32 bits. This computes nothing.
-pub fn is_handed(entry: &[u8; 64], value: &[u8])
+pub fn is_handed(entry: &[u8; SUBMISSION_BYTES], value: &[u8])
     requires { IsWhole (command entry.now value.now) }
     ensures bytes { IsHanded (command entry.now value.now) }
     ensures size { (command entry.now value.now).size < 2 ^ 32 }

@@ -6,6 +6,7 @@ ghost use Rattle.pk_nand.specs.Calls.{Rose};
 ghost use Rattle.pk_host.specs.Port.{PortState, Completes, Took, room_of};
 
 use crate::types::{Completed, PortFault};
+use pk_nvme::SUBMISSION_BYTES;
 
 /// A drive that answers each command before the next is handed over.
 pub trait Port {
@@ -16,10 +17,10 @@ pub trait Port {
     ghost took: { Self → List Command → Self → Type 0 };
 
     /// Hands over a submission entry in the drive's namespace, with the value of a Store; the data of the answer come into the
-    /// front of the buffer, which has the bytes that the entry names (64 for a Report). An error only where `port_faults` rose.
+    /// front of the buffer, which has the bytes that the entry names (`REPORT_BYTES` for a Report). An error only where `port_faults` rose.
     fn submit(
         &mut self,
-        entry: &[u8; 64],
+        entry: &[u8; SUBMISSION_BYTES],
         value: &[u8],
         into: &mut [u8],
     ) -> Result<Completed, PortFault>

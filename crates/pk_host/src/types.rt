@@ -1,12 +1,13 @@
 //! What ports and hosts answer with.
 
+use pk_nvme::COMPLETION_BYTES;
 use thiserror::Error;
 
 /// What a port answers to a command.
 #[derive(Clone, Copy, Debug)]
 pub struct Completed {
     /// The completion entry.
-    pub entry: [u8; 16],
+    pub entry: [u8; COMPLETION_BYTES],
     /// How many bytes of data stand in the front of the buffer.
     pub data_len: u32,
 }

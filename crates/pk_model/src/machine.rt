@@ -16,7 +16,7 @@ use crate::listing::Page;
 use crate::table::Table;
 use crate::value::Value;
 use pk_base::{HEAD_BYTES, Key, Shape};
-use pk_nvme::Request;
+use pk_nvme::{Request, SUBMISSION_BYTES};
 use pk_nvme::limits::{COUNT_BYTES, MOST_LIST_BYTES};
 use pk_nvme::opcode::{DELETE, EXIST, FLUSH, LIST, REPORT, RETRIEVE, STORE, TICK};
 use pk_nvme::status::{INVALID_COMMAND_OPCODE, KEY_DOES_NOT_EXIST};
@@ -103,7 +103,7 @@ impl MapMachine {
     pub fn step(
         &mut self,
         alloc: Global,
-        entry: &[u8; 64],
+        entry: &[u8; SUBMISSION_BYTES],
         value: &[u8],
     ) -> Result<Answer, AllocError>
         requires { IsWhole (command entry.now value.now) }

@@ -3,13 +3,14 @@ ghost use Rattle.std.specs.Prelude.{◌≡◌, ◌<◌, ◌++◌, ◌%◌};
 ghost use Rattle.pk_base.specs.Fields.{u32 as u32_bytes};
 ghost use Rattle.pk_nvme.specs.Reply.{completion as completion_bytes};
 
+use crate::sizes::{COMPLETION_BYTES, RECORD_HEAD_BYTES};
 use pk_base::{put_text, put_u16, put_u32, put_zeros};
 
 /// The completion entry of the command with this CID, behind so many entries taken, this one included.
-pub fn completion(cid: u16, taken: u32, status: u8, result_field: u32) -> [u8; 16]
+pub fn completion(cid: u16, taken: u32, status: u8, result_field: u32) -> [u8; COMPLETION_BYTES]
     ensures { result ≡ completion_bytes cid taken status result_field }
 {
-    let mut entry = [0u8; 16];
+    let mut entry = [0u8; COMPLETION_BYTES];
     put_u32(&mut entry, 0, result_field);
     put_zeros(&mut entry, 4, 8);
     put_u16(&mut entry, 8, (taken % 65536) as u16);
@@ -20,12 +21,16 @@ pub fn completion(cid: u16, taken: u32, status: u8, result_field: u32) -> [u8; 1
 }
 
 /// The bytes of a record before its data: the completion, the pages read and the bytes of the data.
-pub fn record_head(completion: &[u8; 16], reads: u32, data_len: u32) -> [u8; 24]
+pub fn record_head(
+    completion: &[u8; COMPLETION_BYTES],
+    reads: u32,
+    data_len: u32,
+) -> [u8; RECORD_HEAD_BYTES]
     ensures { result ≡ completion.now ++ u32_bytes reads ++ u32_bytes data_len }
 {
-    let mut head = [0u8; 24];
+    let mut head = [0u8; RECORD_HEAD_BYTES];
     put_text(&mut head, 0, completion);
-    put_u32(&mut head, 16, reads);
-    put_u32(&mut head, 20, data_len);
+    put_u32(&mut head, COMPLETION_BYTES, reads);
+    put_u32(&mut head, COMPLETION_BYTES + 4, data_len);
     head
 }

@@ -12,7 +12,7 @@ use crate::step::serve_lent;
 use pk_drive::{Engine, Outcome};
 use pk_host::{Completed, Port, PortFault, is_handed};
 use pk_nand::Nand;
-use pk_nvme::{Request, completion};
+use pk_nvme::{Request, SUBMISSION_BYTES, completion};
 
 /// Copies the front of a buffer into the front of another.
 fn copy_front(from: &[u8], into: &mut [u8], len: usize)
@@ -77,7 +77,7 @@ impl<'d, 'b, 't, 'm, D: Engine, B: Nand> Port for DrivePort<'d, 'b, 't, 'm, D, B
 
     fn submit(
         &mut self,
-        entry: &[u8; 64],
+        entry: &[u8; SUBMISSION_BYTES],
         value: &[u8],
         into: &mut [u8],
     ) -> Result<Completed, PortFault> {

@@ -4,13 +4,14 @@ ghost use Rattle.pk_base.specs.Shape.{page_entries};
 ghost use Rattle.pk_queue.specs.Queue.{Queue as spec};
 
 use pk_base::Shape;
+use pk_nvme::RECORD_HEAD_BYTES;
 use std::alloc::{AllocError, Global};
 use std::marker::Model;
 
 /// Heads of records in order. Contracts see them as a list, with the number that has room.
 #[derive(Drop)]
 pub struct Queue {
-    heads: Vec<[u8; 24]>,
+    heads: Vec<[u8; RECORD_HEAD_BYTES]>,
     room: usize,
 }
 
@@ -36,7 +37,7 @@ impl Queue {
     }
 
     /// Holds another record.
-    pub fn hold(&mut self, head: [u8; 24])
+    pub fn hold(&mut self, head: [u8; RECORD_HEAD_BYTES])
         requires { length self.old.heads < self.old.room }
         ensures { self.new ≡ record self.old { heads = self.old.heads ++ head ∷ [] } }
     {
@@ -44,7 +45,7 @@ impl Queue {
     }
 
     /// The heads that are held.
-    pub fn held(&self) -> &[[u8; 24]]
+    pub fn held(&self) -> &[[u8; RECORD_HEAD_BYTES]]
         ensures { result.now ≡ self.now.heads }
     {
         &self.heads

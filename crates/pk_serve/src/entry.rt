@@ -7,7 +7,7 @@ use crate::End;
 use crate::input::{fill, skip};
 use pk_base::Shape;
 use pk_nand::{Board, HostFault};
-use pk_nvme::Request;
+use pk_nvme::{Request, SUBMISSION_BYTES};
 use pk_nvme::opcode::STORE;
 
 /// A command that is served as the next one.
@@ -21,10 +21,10 @@ pub struct Numbered {
 
 /// Takes an entry, or tells why none was taken. None is where no more are to be.
 pub fn take_entry<B: Board>(board: &mut B, entry: &mut [u8], no_more: bool) -> Result<(), End>
-    requires { length entry.old ≡ 64 }
+    requires { length entry.old ≡ SUBMISSION_BYTES }
     ensures ok { OnOk result (Entered (B.state board.old) (B.state board.new) entry.new) }
     ensures taken { OnOk result (no_more ≡ false) }
-    ensures len { length entry.new ≡ 64 }
+    ensures len { length entry.new ≡ SUBMISSION_BYTES }
     ensures err { IfErr result
         (λ end. NoEntry (B.state board.old) (B.state board.new) no_more end) }
 {
@@ -40,7 +40,7 @@ pub fn take_entry<B: Board>(board: &mut B, entry: &mut [u8], no_more: bool) -> R
     }
     match fill(board, entry, first) {
         Ok(n) => {
-            if n < 64 {
+            if n < SUBMISSION_BYTES {
                 return Err(End::Truncated);
             }
             Ok(())

@@ -13,7 +13,7 @@ use crate::step::{flush, serve_one};
 use pk_base::Shape;
 use pk_drive::Engine;
 use pk_nand::Board;
-use pk_nvme::Request;
+use pk_nvme::{Request, SUBMISSION_BYTES};
 use pk_queue::Queue;
 
 /// Takes one command and serves it.
@@ -51,7 +51,7 @@ pub fn serve_next<D: Engine, B: Board>(
         (B.state board.new).pages) × (drive.new ≡ drive.old) × (held.new.heads ≡ held.old.heads))) }
 {
     let worn = drive.is_worn();
-    let mut entry = [0u8; 64];
+    let mut entry = [0u8; SUBMISSION_BYTES];
     match take_entry(board, &mut entry, worn) {
         Ok(()) => {}
         Err(end) => return Err(end),
@@ -107,7 +107,7 @@ pub fn serve_entries<D: Engine, B: Board>(
             Err(end) => return end,
         }
     }
-    let mut entry = [0u8; 64];
+    let mut entry = [0u8; SUBMISSION_BYTES];
     match take_entry(board, &mut entry, true) {
         Ok(()) => End::Worn,
         Err(end) => end,

@@ -17,7 +17,7 @@ use pk_drive::{Engine, Outcome};
 use pk_nand::Board;
 use pk_nvme::opcode::{DELETE, STORE};
 use pk_nvme::status::SUCCESSFUL_COMPLETION;
-use pk_nvme::{Request, completion, record_head};
+use pk_nvme::{RECORD_HEAD_BYTES, Request, completion, record_head};
 use pk_queue::Queue;
 
 /// Gives bytes to the host; none where there are none.
@@ -44,7 +44,7 @@ pub fn give<B: Board>(board: &mut B, bytes: &[u8]) -> Result<(), End>
 }
 
 /// Gives the held records to the host, in order.
-pub fn give_all<B: Board>(board: &mut B, heads: &[[u8; 24]]) -> Result<(), End>
+pub fn give_all<B: Board>(board: &mut B, heads: &[[u8; RECORD_HEAD_BYTES]]) -> Result<(), End>
     // What stays of the board.
     ensures flash { ((B.state board.new).shape ≡ (B.state board.old).shape)
         × ((B.state board.new).pages ≡ (B.state board.old).pages) }
@@ -158,7 +158,7 @@ pub fn is_held<D: Engine>(
 }
 
 /// The head of a command's record; its data follow.
-pub fn head_of(request: &Request, count: u32, outcome: &Outcome) -> [u8; 24]
+pub fn head_of(request: &Request, count: u32, outcome: &Outcome) -> [u8; RECORD_HEAD_BYTES]
     ensures { (into : List ℕ) → outcome.now.data_len ≤ length into
         → reply_record count request.now.cid (reply_of outcome.now into) outcome.now.reads
         ≡ result ++ take outcome.now.data_len into }
@@ -172,7 +172,7 @@ pub fn finish<D: Engine, B: Board>(
     drive: &mut D,
     board: &mut B,
     held: &mut Queue,
-    head: [u8; 24],
+    head: [u8; RECORD_HEAD_BYTES],
     bytes: &[u8],
     waits: bool,
 ) -> Result<(), End>

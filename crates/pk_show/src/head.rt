@@ -5,11 +5,11 @@ ghost use Rattle.pk_nvme.specs.Text.{number_text};
 ghost use Rattle.pk_show.specs.Shown.{head_of, front, shown_head};
 
 use pk_base::{get_u16, get_u32};
-use pk_nvme::Bytes;
+use pk_nvme::{Bytes, RECORD_HEAD_BYTES};
 
 /// Writes a record's line up to the digits of its data, with `-` where it has no data: the digits, where there are any, and a
 /// line feed follow. It is false exactly where that text does not fit the room, and then nothing is written.
-pub fn show_head(head: &[u8; 24], into: &mut Bytes) -> bool
+pub fn show_head(head: &[u8; RECORD_HEAD_BYTES], into: &mut Bytes) -> bool
     ensures fits { IsTrue result
         ↔ (length into.old.items + length (shown_head head.now) ≤ into.old.room) }
     ensures written { into.new
@@ -35,7 +35,7 @@ struct Head {
 }
 
 impl Head {
-    fn of(head: &[u8; 24]) -> Head
+    fn of(head: &[u8; RECORD_HEAD_BYTES]) -> Head
         ensures { result ≡ head_of head.now }
     {
         Head {

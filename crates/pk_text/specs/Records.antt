@@ -1,6 +1,7 @@
 -- Answer records as lines of text.
 use Rattle.std.specs.Prelude.{ℕ, zero, suc, nat_le, nat_lt, if◌then◌else◌, List, [], ◌∷◌, ◌++◌, length, take, drop, codes}
 use Rattle.pk_base.specs.Fields.{u32_at}
+use Rattle.pk_nvme.specs.declared.sizes.TheConstants.{RECORD_HEAD_BYTES}
 use Rattle.pk_nvme.specs.Text.{hex_text}
 use Rattle.pk_show.specs.Shown.{shown_head}
 use Rattle.pk_text.specs.Written.{Written, ended, before, most}
@@ -22,7 +23,7 @@ head_shown head more bytes = before (shown_head head) (data_shown (u32_at head 2
 
 -- the line of the record that begins here, and then what follows; a record that ends within its head of 24 bytes gives nothing
 abbrev pub record_shown : (List ℕ → Written) → List ℕ → Written
-record_shown more bytes = if nat_lt (length bytes) 24 then ended Truncated else head_shown (take 24 bytes) more (drop 24 bytes)
+record_shown more bytes = if nat_lt (length bytes) RECORD_HEAD_BYTES then ended Truncated else head_shown (take RECORD_HEAD_BYTES bytes) more (drop RECORD_HEAD_BYTES bytes)
 
 -- the lines of at most so many records, behind so many others
 abbrev pub records_shown : ℕ → ℕ → List ℕ → Written

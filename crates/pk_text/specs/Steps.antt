@@ -1,6 +1,7 @@
 -- Steps of a run: bytes that are taken from the input, and what is posted for them.
 use Rattle.std.specs.Prelude.{◌≡◌, ◌≢◌, ◌<◌, ℕ, suc, ◌==◌, List, [], ◌∷◌, ◌++◌, length, Option, Some, None, Bool, true, false, MatchOption}
 use Rattle.std.specs.List.{AllByRecursion}
+use Rattle.pk_nvme.specs.declared.sizes.TheConstants.{RECORD_HEAD_BYTES}
 use Rattle.pk_asm.specs.Line.{Line, entry, says}
 use Rattle.pk_nand.specs.BoardState.{BoardState}
 use Rattle.pk_nand.specs.Calls.{Rose, longer, PostFailed, put_back, AtEnd}
@@ -105,5 +106,5 @@ GivesNot number line old new BadLine = (says number line ≡ None) × (new ≡ o
 
 -- the head of a record was taken, or a part of it with which the input ends
 abbrev pub HeadTaken : List ℕ → List ℕ → BoardState → BoardState → List ℕ → Bool → Type 0
-HeadTaken pending pending' old new head true = Fed pending pending' old new head × (length head ≡ 24)
-HeadTaken pending pending' old new head false = Fed pending pending' old new head × (length head < 24) × IsOver pending' new
+HeadTaken pending pending' old new head true = Fed pending pending' old new head × (length head ≡ RECORD_HEAD_BYTES)
+HeadTaken pending pending' old new head false = Fed pending pending' old new head × (length head < RECORD_HEAD_BYTES) × IsOver pending' new

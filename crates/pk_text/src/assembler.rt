@@ -10,7 +10,7 @@ use crate::feed::Feed;
 use crate::line::{MOST_BYTES, give_line, take_line};
 use crate::over::stop;
 use pk_nand::Board;
-use pk_nvme::Bytes;
+use pk_nvme::{Bytes, SUBMISSION_BYTES};
 use std::alloc::{AllocError, Global};
 
 // Most bytes of a value: the digits of a line.
@@ -43,7 +43,7 @@ impl Assembler {
             Ok(value) => value,
             Err(error) => return Err(error),
         };
-        let out = match Bytes::with_room(alloc, 64 + MOST_VALUE) {
+        let out = match Bytes::with_room(alloc, SUBMISSION_BYTES + MOST_VALUE) {
             Ok(out) => out,
             Err(error) => return Err(error),
         };

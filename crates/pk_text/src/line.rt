@@ -7,7 +7,7 @@ use crate::TextEnd;
 use crate::feed::Feed;
 use pk_asm::assemble_line;
 use pk_nand::{Board, HostFault};
-use pk_nvme::Bytes;
+use pk_nvme::{Bytes, SUBMISSION_BYTES};
 
 /// Most bytes of a line, its line feed not counted.
 pub const MOST_BYTES: usize = 2_200_000;
@@ -49,11 +49,11 @@ pub fn take_line<B: Board>(
 /// Posts an entry and the bytes behind it in one piece.
 fn post_entry<B: Board>(
     board: &mut B,
-    entry: &[u8; 64],
+    entry: &[u8; SUBMISSION_BYTES],
     value: &Bytes,
     out: &mut Bytes,
 ) -> Result<(), HostFault>
-    requires { value.now.room + 64 ≤ out.old.room }
+    requires { value.now.room + SUBMISSION_BYTES ≤ out.old.room }
     ensures room { out.new.room ≡ out.old.room }
     ensures ok { OnOk result
         (B.state board.new ≡ after_post (B.state board.old) (entry.now ++ value.now.items)) }

@@ -14,7 +14,7 @@ use crate::TextEnd;
 use crate::feed::Feed;
 use pk_base::{get_u16, get_u32};
 use pk_nand::{Board, HostFault};
-use pk_nvme::Bytes;
+use pk_nvme::{Bytes, RECORD_HEAD_BYTES};
 use pk_show::{show_head, show_piece};
 
 /// Most bytes of data that are shown in one piece.
@@ -26,14 +26,14 @@ pub fn take_head<B: Board>(
     board: &mut B,
     head: &mut Bytes,
 ) -> Result<bool, HostFault>
-    requires { head.old.room ≡ 24 }
+    requires { head.old.room ≡ RECORD_HEAD_BYTES }
     ensures room { head.new.room ≡ head.old.room }
     ensures ok { IfOk result (λ whole. HeadTaken feed.old feed.new (B.state board.old)
         (B.state board.new) head.new.items whole) }
     ensures err { OnErr result (FeedFailed (B.state board.old) (B.state board.new)) }
 {
     head.clear();
-    for _count in 0..24usize {
+    for _count in 0..RECORD_HEAD_BYTES {
         match feed.next(board) {
             Ok(Some(byte)) => head.push(byte),
             Ok(None) => return Ok(false),
@@ -44,7 +44,7 @@ pub fn take_head<B: Board>(
 }
 
 // Writes the front of a record's line.
-fn write_front(head: &[u8; 24], text: &mut Bytes)
+fn write_front(head: &[u8; RECORD_HEAD_BYTES], text: &mut Bytes)
     requires { text.old.room ≡ 8192 }
     ensures { text.new ≡ record text.old { items = shown_head head.now } }
 {
@@ -57,7 +57,7 @@ fn write_front(head: &[u8; 24], text: &mut Bytes)
 
 /// Posts the front of the line of the record with this head. Answers the bytes of its data.
 pub fn post_front<B: Board>(board: &mut B, head: &Bytes, text: &mut Bytes) -> Result<u32, HostFault>
-    requires whole { length head.now.items ≡ 24 }
+    requires whole { length head.now.items ≡ RECORD_HEAD_BYTES }
     requires room { text.old.room ≡ 8192 }
     ensures room { text.new.room ≡ text.old.room }
     ensures size { IfOk result (λ size. size ≡ u32_at head.now.items 20) }
@@ -66,7 +66,7 @@ pub fn post_front<B: Board>(board: &mut B, head: &Bytes, text: &mut Bytes) -> Re
     ensures err { OnErr result
         (PostFailed (B.state board.old) (B.state board.new) (shown_head head.now.items)) }
 {
-    let mut bytes = [0u8; 24];
+    let mut bytes = [0u8; RECORD_HEAD_BYTES];
     bytes.copy_from_slice(head.bytes());
     write_front(&bytes, text);
     match board.post(text.bytes()) {
@@ -176,7 +176,7 @@ pub fn show_record<B: Board>(
     head: &Bytes,
     text: &mut Bytes,
 ) -> Result<(), TextEnd>
-    requires whole { length head.now.items ≡ 24 }
+    requires whole { length head.now.items ≡ RECORD_HEAD_BYTES }
     requires room { text.old.room ≡ 8192 }
     ensures room { text.new.room ≡ text.old.room }
     ensures advances { OnOk result ((more : List ℕ → Written)

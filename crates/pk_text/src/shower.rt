@@ -10,7 +10,7 @@ use crate::feed::Feed;
 use crate::over::stop;
 use crate::record::{PIECE, show_record, take_head};
 use pk_nand::Board;
-use pk_nvme::Bytes;
+use pk_nvme::{Bytes, RECORD_HEAD_BYTES};
 use std::alloc::{AllocError, Global};
 
 /// The memory in which answer records are shown: a piece of the input, a head, and a piece of a line.
@@ -19,7 +19,7 @@ pub struct Shower {
     feed: Feed,
     head: Bytes,
     text: Bytes,
-    ghost head_room: { head.room ≡ 24 },
+    ghost head_room: { head.room ≡ RECORD_HEAD_BYTES },
     ghost text_room: { text.room ≡ 8192 },
 }
 
@@ -30,7 +30,7 @@ impl Shower {
             Ok(feed) => feed,
             Err(error) => return Err(error),
         };
-        let head = match Bytes::with_room(alloc, 24) {
+        let head = match Bytes::with_room(alloc, RECORD_HEAD_BYTES) {
             Ok(head) => head,
             Err(error) => return Err(error),
         };

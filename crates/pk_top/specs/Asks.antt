@@ -14,6 +14,7 @@ use Rattle.pk_wordrun.specs.Tasks.{Task, only_asks, SaysTask, KeptTask}
 use Rattle.pk_wordrun.specs.Told.{EndsBy, Finished, most_roots}
 use Rattle.pk_wordrun.specs.declared.end.WordEnd.{WordEnd}
 use Rattle.pk_wordrun.specs.declared.end.WordEnd.TheVariants.{Done, Output, Flash as FlashFailed, Worn}
+use Rattle.pk_top.specs.declared.status.TheConstants.Status.{DONE, OUTPUT, FLASH, MEMORY, NO_DRIVE, WORN}
 use Rattle.pk_top.specs.Loads.{LoadRefused}
 use Rattle.pk_top.specs.Serves.{NotServed, behind_opening}
 use Rattle.pk_top.specs.Statuses.{Untouched}
@@ -23,10 +24,10 @@ abbrev pub word_frames : ℕ
 word_frames = 36
 
 abbrev pub word_status : WordEnd → ℕ
-word_status Done = 0
-word_status Output = 5
-word_status FlashFailed = 6
-word_status Worn = 10
+word_status Done = DONE.0
+word_status Output = OUTPUT.0
+word_status FlashFailed = FLASH.0
+word_status Worn = WORN.0
 
 -- The headline: whatever map the flash held at first, every cut holds the map after commands of the word from the front on; where a byte was given
 -- out, the map after all of them, and what was given out begins the text that is said of both maps. From each state of the trail to the next the
@@ -59,7 +60,7 @@ pub record AsksFound (task : Task) (old new : BoardState) (status : ℕ) : Type 
 -- Memory for the words was missing and nothing was done; or the load was refused; or it found no image; or it found one.
 abbrev pub AskRun : Task → BoardState → BoardState → ℕ → Type 0
 AskRun task old new status =
-    ((status ≡ 7) × (new ≡ old)) ⊎ (LoadRefused old new status ⊎ (((status ≡ 8) × Loaded old new None) ⊎ AsksFound task old new status))
+    ((status ≡ MEMORY.0) × (new ≡ old)) ⊎ (LoadRefused old new status ⊎ (((status ≡ NO_DRIVE.0) × Loaded old new None) ⊎ AsksFound task old new status))
 
 -- ---- completeness
 
@@ -68,7 +69,7 @@ AskRun task old new status =
 abbrev pub AsksAll : Task → Shape → BoardState → BoardState → ℕ → Type 0
 AsksAll task shape loaded new status =
     (start : Map) → Holds shape loaded.pages start → roots loaded < 4611686018427387904 → NoneRose loaded new → (Rose loaded.flash_faults new.flash_faults → ⊥)
-    → ((status ≡ 0) × Finished task shape word_frames start loaded new) ⊎ ((status ≡ 7) × Untouched loaded new)
+    → ((status ≡ DONE.0) × Finished task shape word_frames start loaded new) ⊎ ((status ≡ MEMORY.0) × Untouched loaded new)
 
 -- the same of a board that holds its pages from the start
 abbrev pub AsksWhole : Task → BoardState → BoardState → ℕ → Type 0

@@ -4,12 +4,13 @@ use Rattle.pk_nand.specs.BoardState.{BoardState}
 use Rattle.pk_nand.specs.Calls.{Rose, LoadFailed, MakeFailed}
 use Rattle.pk_nand.specs.declared.types.LoadFault.{LoadFault}
 use Rattle.pk_nand.specs.declared.types.LoadFault.TheVariants.{Fault, BadImage, Memory}
+use Rattle.pk_top.specs.declared.status.TheConstants.Status.{FLASH, MEMORY, NO_DRIVE}
 
 -- its status
 abbrev pub load_status : LoadFault → ℕ
-load_status Fault = 6
-load_status (BadImage at) = 8
-load_status Memory = 7
+load_status Fault = FLASH.0
+load_status (BadImage at) = NO_DRIVE.0
+load_status Memory = MEMORY.0
 
 -- why: a call of the flash failed exactly where the refusal says so, and a damaged image is one that the board says to be damaged
 abbrev pub HasReason : BoardState → BoardState → LoadFault → Type 0

@@ -7,11 +7,12 @@ use Rattle.pk_nand.specs.Calls.{Loaded, Made, ProgramFailed, after_program}
 use Rattle.pk_rootfmt.specs.Held.{first as first_root}
 use Rattle.pk_rootfmt.specs.Root.{root_bytes}
 use Rattle.pk_model.specs.Reading.{Holds}
+use Rattle.pk_top.specs.declared.status.TheConstants.Status.{DONE, FLASH, MEMORY, MADE}
 use Rattle.pk_top.specs.Loads.{LoadRefused, MakeRefused}
 
 -- The flash of an image that was made holds the empty map, by one program.
 pub record Formatted (shape : Shape) (made new : BoardState) (status : ℕ) : Type 0 where
-  pub tells : status ≡ 0
+  pub tells : status ≡ DONE.0
   pub holds : Holds shape new.pages empty
   pub program : new ≡ after_program made 0 (root_bytes shape first_root)
 
@@ -19,7 +20,7 @@ pub record Formatted (shape : Shape) (made new : BoardState) (status : ℕ) : Ty
 pub record MadeImage (shape : Shape) (loaded new : BoardState) (status : ℕ) : Type 0 where
   pub made : BoardState
   pub is_made : Made loaded made shape
-  pub formats : Formatted shape made new status ⊎ ((status ≡ 6) × ProgramFailed made new 0 (root_bytes shape first_root))
+  pub formats : Formatted shape made new status ⊎ ((status ≡ FLASH.0) × ProgramFailed made new 0 (root_bytes shape first_root))
 
 -- What was done where there was no image.
 abbrev pub Makes : Shape → BoardState → BoardState → ℕ → Type 0
@@ -33,14 +34,14 @@ pub record MakesNew (shape : Shape) (old new : BoardState) (status : ℕ) : Type
 
 -- there was one
 pub record FoundImage (old new : BoardState) (status : ℕ) : Type 0 where
-  pub tells : status ≡ 9
+  pub tells : status ≡ MADE.0
   pub shape : Shape
   pub found : Loaded old new (Some shape)
 
 -- Memory for the words was missing and nothing was done; or the load was refused; or it found an image; or it found none.
 abbrev pub MakeRun : Shape → BoardState → BoardState → ℕ → Type 0
 MakeRun shape old new status =
-    ((status ≡ 7) × (new ≡ old)) ⊎ (LoadRefused old new status ⊎ (FoundImage old new status ⊎ MakesNew shape old new status))
+    ((status ≡ MEMORY.0) × (new ≡ old)) ⊎ (LoadRefused old new status ⊎ (FoundImage old new status ⊎ MakesNew shape old new status))
 
 -- a drive of this shape with the empty map
 pub record IsMade (shape : Shape) (board : BoardState) : Type 0 where

@@ -20,6 +20,7 @@ use Rattle.pk_scan.specs.Reads.{opened}
 use Rattle.pk_scan.specs.Opening.{NotOpened}
 use Rattle.pk_nand.specs.Effects.{OnlyReading}
 use Rattle.pk_scan.specs.declared.errors.OpenError.{OpenError}
+use Rattle.pk_top.specs.declared.status.TheConstants.Status.{DONE, MEMORY, NO_DRIVE}
 use Rattle.pk_top.specs.Ends.{end_status, open_status}
 use Rattle.pk_top.specs.Loads.{LoadRefused}
 use Rattle.pk_top.specs.Statuses.{Untouched}
@@ -70,7 +71,7 @@ abbrev pub ServesAll : Shape → ℕ → BoardState → BoardState → ℕ → T
 ServesAll shape frames loaded new status =
     (start : Map) → Holds shape loaded.pages start → (input : List ℕ) → loaded.input ≡ Some input
     → IsServable loaded new (script input).0 (script input).1 → (Rose loaded.flash_faults new.flash_faults → ⊥)
-    → ((status ≡ 0) × Complete shape frames start loaded new (script input).0) ⊎ ((status ≡ 7) × Untouched loaded new)
+    → ((status ≡ DONE.0) × Complete shape frames start loaded new (script input).0) ⊎ ((status ≡ MEMORY.0) × Untouched loaded new)
 
 -- the same of a board that holds its pages from the start
 abbrev pub ServesWhole : ℕ → BoardState → BoardState → ℕ → Type 0
@@ -95,4 +96,4 @@ pub record ServesFound (frames : ℕ) (old new : BoardState) (status : ℕ) : Ty
 -- Memory for the words was missing and nothing was done; or the load was refused; or it found no image; or it found one.
 abbrev pub ServeRun : ℕ → BoardState → BoardState → ℕ → Type 0
 ServeRun frames old new status =
-    ((status ≡ 7) × (new ≡ old)) ⊎ (LoadRefused old new status ⊎ (((status ≡ 8) × Loaded old new None) ⊎ ServesFound frames old new status))
+    ((status ≡ MEMORY.0) × (new ≡ old)) ⊎ (LoadRefused old new status ⊎ (((status ≡ NO_DRIVE.0) × Loaded old new None) ⊎ ServesFound frames old new status))

@@ -2,6 +2,7 @@
 ghost use Rattle.std.specs.Prelude.{◌≡◌, ◌≢◌, ◌≤◌, ◌⊎◌, ℕ, None, Some, map};
 ghost use Rattle.pk_base.specs.Shape.{Shape as Form};
 ghost use Rattle.pk_top.specs.Words as spec;
+ghost use Rattle.pk_top.specs.declared.status.TheConstants.Status.{DONE, WORDS, MEMORY};
 ghost use Rattle.pk_top.specs.Statuses.{Tells, Untouched};
 ghost use Rattle.pk_top.specs.Resting.{Rests, RestsIn};
 ghost use Rattle.pk_top.specs.Texts.{seen};
@@ -31,13 +32,13 @@ use std::alloc::Global;
 /// posted is the finite map's, and each session begins from the map after the commands that were kept of the one before.
 pub fn run<B: Board>(alloc: Global, words: &[&str], board: &mut B) -> Status
     // The words, the status and its cause.
-    ensures words { result.0 ≡ 2 → (spec.word_of (map (λ w. w.now) words.now) ≡ None)
+    ensures words { result.0 ≡ WORDS.0 → (spec.word_of (map (λ w. w.now) words.now) ≡ None)
         × (B.state board.new ≡ B.state board.old) }
     ensures no_words { spec.word_of (map (λ w. w.now) words.now) ≡ None
-        → (B.state board.new ≡ B.state board.old) × ((result.0 ≡ 2) ⊎ (result.0 ≡ 7)) }
-    ensures tells { (result.0 ≡ 2) ⊎ Tells (B.state board.old) (B.state board.new) result.0 }
+        → (B.state board.new ≡ B.state board.old) × ((result.0 ≡ WORDS.0) ⊎ (result.0 ≡ MEMORY.0)) }
+    ensures tells { (result.0 ≡ WORDS.0) ⊎ Tells (B.state board.old) (B.state board.new) result.0 }
     ensures memory { ((shape : Form)
-        → spec.word_of (map (λ w. w.now) words.now) ≢ Some (spec.make shape)) → result.0 ≡ 7
+        → spec.word_of (map (λ w. w.now) words.now) ≢ Some (spec.make shape)) → result.0 ≡ MEMORY.0
         → Untouched (B.state board.old) (B.state board.new) }
 
     // The words that touch the flash.
@@ -45,7 +46,7 @@ pub fn run<B: Board>(alloc: Global, words: &[&str], board: &mut B) -> Status
         → spec.word_of (map (λ w. w.now) words.now) ≡ Some (spec.make shape)
         → MakeRun shape (B.state board.old) (B.state board.new) result.0 }
     ensures made { (shape : Form)
-        → spec.word_of (map (λ w. w.now) words.now) ≡ Some (spec.make shape) → result.0 ≡ 0
+        → spec.word_of (map (λ w. w.now) words.now) ≡ Some (spec.make shape) → result.0 ≡ DONE.0
         → IsMade shape (B.state board.new) }
     ensures serves { (frames : ℕ)
         → spec.word_of (map (λ w. w.now) words.now) ≡ Some (spec.serve frames)
@@ -81,7 +82,7 @@ fn obey<B: Board>(alloc: Global, word: Word, board: &mut B) -> Status
 
     // The status and its cause.
     ensures tells { Tells (B.state board.old) (B.state board.new) result.0 }
-    ensures memory { ((shape : Form) → seen word ≢ spec.make shape) → result.0 ≡ 7
+    ensures memory { ((shape : Form) → seen word ≢ spec.make shape) → result.0 ≡ MEMORY.0
         → Untouched (B.state board.old) (B.state board.new) }
 
     // The words that touch the flash.

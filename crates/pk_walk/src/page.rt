@@ -10,11 +10,8 @@ ghost use Rattle.pk_walk.specs.Visible.{is_wanted};
 ghost use Rattle.pk_walk.specs.Steps.{IsFirstWanted};
 
 use crate::position::Position;
-use pk_base::{Entry, KEY_BYTES, Key, Shape, cell_of, get_u16, get_u32};
+use pk_base::{Entry, KEY_BYTES, Key, PUT_KIND, Shape, cell_of, get_u16, get_u32};
 use pk_meta::entry;
-
-// The second byte of an entry that has a value.
-const PUT: u8 = 1;
 
 // The entry of these bytes, which have a whole key and a value.
 #[inline(always)]
@@ -22,7 +19,7 @@ const PUT: u8 = 1;
 fn whole_put(cell: &[u8]) -> Entry
     requires sized { length cell.now ≡ ENTRY_BYTES }
     requires whole { slice_index cell.now 0 ≡ KEY_BYTES }
-    requires put { slice_index cell.now 1 ≡ 1 }
+    requires put { slice_index cell.now 1 ≡ PUT_KIND }
     ensures { seen result ≡ entry_at cell.now }
 {
     Entry::Put {
@@ -45,7 +42,7 @@ pub fn entry_at(shape: &Shape, page: &[u8], i: u32) -> Entry
 {
     shape.known();
     let cell = cell_of(page, i as usize);
-    if cell[0] as usize == KEY_BYTES && cell[1] == PUT {
+    if cell[0] as usize == KEY_BYTES && cell[1] == PUT_KIND {
         whole_put(cell)
     } else {
         entry(shape, page, i)

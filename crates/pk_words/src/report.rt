@@ -12,7 +12,7 @@ use crate::lines::say_status;
 use crate::words::Words;
 use pk_base::get_u32;
 use pk_host::{HostError, Port, PortFault};
-use pk_nvme::Bytes;
+use pk_nvme::{Bytes, REPORT_BYTES};
 
 impl Words {
     /// Says the numbers of a Report.
@@ -24,7 +24,7 @@ impl Words {
         ensures took { P.took port.old (report ∷ []) port.new }
         ensures shape { self.new.shape ≡ self.old.shape }
     {
-        let mut numbers = [0u8; 64];
+        let mut numbers = [0u8; REPORT_BYTES];
         match self.host.report(port, &mut numbers) {
             Ok(()) => {
                 say_numbers(&numbers, &mut self.text);
@@ -40,7 +40,7 @@ impl Words {
 }
 
 /// Says the numbers of a Report, each with its name.
-fn say_numbers(numbers: &[u8; 64], text: &mut Bytes)
+fn say_numbers(numbers: &[u8; REPORT_BYTES], text: &mut Bytes)
     requires { 16 * 18 ≤ text.old.room }
     ensures { text.new ≡ record text.old { items = report_lines numbers.now } }
 {
@@ -51,8 +51,8 @@ fn say_numbers(numbers: &[u8; 64], text: &mut Bytes)
 }
 
 /// Says one more number with its name, from its four bytes at a place.
-fn add_number(name: &[u8], numbers: &[u8; 64], at: usize, text: &mut Bytes)
-    requires inside { at + 4 ≤ 64 }
+fn add_number(name: &[u8], numbers: &[u8; REPORT_BYTES], at: usize, text: &mut Bytes)
+    requires inside { at + 4 ≤ REPORT_BYTES }
     requires short { length name.now ≤ 6 }
     requires room { length text.old.items + 18 ≤ text.old.room }
     ensures line { text.new ≡ record text.old {

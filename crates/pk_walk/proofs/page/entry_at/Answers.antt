@@ -8,7 +8,7 @@ use Rattle.pk_walk.proofs.page.entry_at.Goals as goal
 pub cell_of-cell-requires : goal.cell_of-cell-requires
 cell_of-cell-requires c = omega (arith, cell_room c.args.shape.now c.args.page.now c.known.ensures c.requires.decodes)
 
-pub returns-then-cell-eq-PUT : goal.returns-then-cell-eq-PUT
-returns-then-cell-eq-PUT c level index entries is =
+pub returns-then-cell-eq-PUT_KIND : goal.returns-then-cell-eq-PUT_KIND
+returns-then-cell-eq-PUT_KIND c level index entries is =
     let e : seen c.whole_put.result ≡ _ = c.whole_put.ensures ∙ ap entry_at c.cell_of-cell.ensures.value in
     cell_entry c.args.shape.now c.args.page.now c.known.ensures level index entries is c.args.i c.requires.within ∙ ap (λ (x : Entry). Some x) (sym e)

@@ -1,0 +1,10 @@
+//! Sizes of entries and records, in bytes. Code, contracts and definitions name them.
+
+/// A submission entry (NVMe Base Specification 2.0, Submission Queue Entry).
+pub const SUBMISSION_BYTES: usize = 64;
+/// A completion entry (NVMe Base Specification 2.0, Completion Queue Entry).
+pub const COMPLETION_BYTES: usize = 16;
+/// What stands before the data of a record: the completion entry, the pages read and the bytes of the data.
+pub const RECORD_HEAD_BYTES: usize = 24;
+/// The data of a Report: sixteen numbers of four bytes.
+pub const REPORT_BYTES: usize = 64;
