@@ -16,3 +16,13 @@ pub const CAP_1: u32 = 4;
 pub const CAP_2: u32 = 16;
 /// The most pages of run 3.
 pub const CAP_3: u32 = 64;
+/// The levels of runs.
+pub const LEVELS: u8 = 4;
+/// The most bytes of a page.
+pub const MOST_PAGE_BYTES: u32 = 16384;
+/// The most pages of a block.
+pub const MOST_BLOCK_PAGES: u32 = 256;
+/// The most blocks of a flash.
+pub const MOST_BLOCKS: u32 = 4096;
+/// The most bytes of a flash.
+pub const MOST_FLASH_BYTES: u64 = 268_435_456;

@@ -4,9 +4,9 @@ use Rattle.std.specs.Prelude.{◌↔◌}
 use Rattle.pk_nand.specs.BoardState.{BoardState}
 use Rattle.pk_pool.specs.Blocks.{IsShared}
 use Rattle.pk_model.specs.Sight.{IsIdle}
-use Rattle.pk_drive.specs.Tick.{TellsIdle, LowersWork}
-use Rattle.pk_drive.specs.declared.types.Ticked.{Ticked}
-use Rattle.pk_drive.specs.declared.types.Ticked.TheVariants.{Idle}
+use Rattle.pk_call.specs.Tick.{TellsIdle, LowersWork}
+use Rattle.pk_call.specs.declared.types.Ticked.{Ticked}
+use Rattle.pk_call.specs.declared.types.Ticked.TheVariants.{Idle}
 use Rattle.pk_parts.specs.Parts.{Parts, sight_of}
 use Rattle.pk_parts.specs.Ticking.{MayTick, Advances}
 use Rattle.pk_parts.proofs.Unchanging.{for_its_map}

@@ -7,7 +7,7 @@ use Rattle.pk_nand.specs.BoardState.{BoardState}
 use Rattle.pk_nand.specs.Calls.{last_count}
 use Rattle.pk_nand.specs.Erased.{counted_by}
 use Rattle.pk_model.specs.Wear.{roots}
-use Rattle.pk_drive.specs.Calling.{FewCalls, most_calls_of}
+use Rattle.pk_call.specs.Calling.{FewCalls, most_calls_of}
 use Rattle.pk_nand.specs.BoardState.{shape_or_none}
 use Rattle.pk_parts.specs.Costs.{Spends}
 use Rattle.pk_parts.specs.Parts.{Parts}

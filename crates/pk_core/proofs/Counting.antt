@@ -22,10 +22,10 @@ use Rattle.pk_steps.proofs.Untouched.{under_reads}
 use Rattle.pk_steps.proofs.Counting.{counts}
 use Rattle.pk_data.proofs.Standing.{total_of}
 use Rattle.pk_model.specs.Wear.{root_number, number_of}
-use Rattle.pk_drive.specs.Drive.{CountsMap}
-use Rattle.pk_drive.specs.Exec.{report_of}
-use Rattle.pk_drive.specs.Seen.{reply_of}
-use Rattle.pk_drive.specs.declared.types.Outcome.{Outcome}
+use Rattle.pk_call.specs.Drive.{CountsMap}
+use Rattle.pk_call.specs.Exec.{report_of}
+use Rattle.pk_call.specs.Seen.{reply_of}
+use Rattle.pk_call.specs.declared.types.Outcome.{Outcome}
 use Rattle.pk_parts.specs.Parts.{Parts, sight_of, counts_of, outputs_of, frames_of}
 use Rattle.pk_parts.specs.Agreeing.{DriveOnFlashWith, DriveOnFlash}
 use Rattle.pk_core.specs.Done.{Does}

@@ -20,12 +20,12 @@ use Rattle.pk_model.specs.Reading.{reading}
 use Rattle.pk_model.proofs.Answering.{serves}
 use Rattle.pk_steps.proofs.Untouched.{under_reads}
 use Rattle.pk_nand.specs.Effects.{OnlyFlash, OnlyReading}
-use Rattle.pk_drive.specs.Exec.{ExecStands}
+use Rattle.pk_call.specs.Exec.{ExecStands}
 use Rattle.pk_model.specs.Crashes.{CrashFinds, command}
 use Rattle.pk_model.specs.Growth.{Reaches}
-use Rattle.pk_drive.specs.Seen.{reply_of}
+use Rattle.pk_call.specs.Seen.{reply_of}
 use Rattle.pk_model.specs.Wear.{roots}
-use Rattle.pk_drive.specs.declared.types.Outcome.{Outcome}
+use Rattle.pk_call.specs.declared.types.Outcome.{Outcome}
 use Rattle.pk_parts.specs.Parts.{Parts, sight_of}
 use Rattle.pk_parts.specs.Agreeing.{DriveOnFlash}
 use Rattle.pk_core.specs.Done.{Does}

@@ -2,7 +2,7 @@
 use Rattle.std.proofs.Common.{sym, subst}
 use Rattle.pk_nand.specs.BoardState.{BoardState, shape_or_none}
 use Rattle.pk_pool.specs.Blocks.{IsShared}
-use Rattle.pk_drive.specs.Exec.{IsNextMerge}
+use Rattle.pk_call.specs.Exec.{IsNextMerge}
 use Rattle.pk_parts.specs.Parts.{Parts, sight_of}
 use Rattle.pk_core.specs.Agreeing.{DriveOnFlashBetween}
 use Rattle.pk_core.proofs.Steadying.{between_steady}

@@ -7,8 +7,8 @@ use Rattle.pk_nvme.specs.Reply.{refusal}
 use Rattle.pk_nand.specs.BoardState.{BoardState, shape_of as shape_told, shape_or_none}
 use Rattle.pk_model.specs.Answer.{early}
 use Rattle.pk_model.proofs.Answering.{refuses_early}
-use Rattle.pk_drive.specs.Drive.{HoldsMap}
-use Rattle.pk_drive.specs.Exec.{Executed}
+use Rattle.pk_call.specs.Drive.{HoldsMap}
+use Rattle.pk_call.specs.Exec.{Executed}
 use Rattle.pk_parts.specs.Parts.{Parts, sight_of}
 use Rattle.pk_parts.specs.Agreeing.{DriveOnFlash}
 use Rattle.pk_core.specs.Quiet.{eleven}

@@ -5,8 +5,8 @@ use Rattle.pk_base.specs.Page.{Flash}
 use Rattle.pk_nvme.specs.Command.{Command}
 use Rattle.pk_nvme.specs.declared.request.Request.{Request}
 use Rattle.pk_nand.specs.BoardState.{BoardState}
-use Rattle.pk_drive.specs.Seen.{reply_of}
-use Rattle.pk_drive.specs.declared.types.Outcome.{Outcome}
+use Rattle.pk_call.specs.Seen.{reply_of}
+use Rattle.pk_call.specs.declared.types.Outcome.{Outcome}
 use Rattle.pk_parts.specs.Parts.{Parts, sight_of}
 use Rattle.pk_core.specs.Agreeing.{DriveOnFlashBetween}
 use Rattle.pk_parts.specs.Agreeing.{DriveOnFlash}

@@ -21,7 +21,7 @@ use Rattle.pk_model.proofs.Lookups.{find-firsts}
 use Rattle.pk_data.specs.State.{fits_open, has_left}
 use Rattle.pk_data.specs.Placed.{IsOpenIn}
 use Rattle.pk_data.specs.declared.open_block.OpenBlock.{OpenBlock}
-use Rattle.pk_drive.specs.Moving.{HasOpenRoom, StoresIn, Stores}
+use Rattle.pk_call.specs.Moving.{HasOpenRoom, StoresIn, Stores}
 use Rattle.pk_parts.specs.Parts.{Parts, sight_of, block_if_open}
 use Rattle.pk_parts.specs.Agreeing.{DriveOnFlash}
 use Rattle.pk_parts.specs.Staying.{IsNoted, SameBlocks, OpensOne, MakesRoom}

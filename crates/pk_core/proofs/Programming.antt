@@ -22,7 +22,7 @@ use Rattle.pk_base.specs.Refusal.{Refusal}
 use Rattle.pk_log.specs.State.{needs_freeze}
 use Rattle.pk_model.specs.Found.{Found, found_under}
 use Rattle.pk_data.specs.State.{fits_open}
-use Rattle.pk_drive.specs.Moving.{IsQuiet, commits_for}
+use Rattle.pk_call.specs.Moving.{IsQuiet, commits_for}
 use Rattle.pk_parts.specs.Parts.{Parts, sight_of}
 use Rattle.pk_parts.specs.Agreeing.{DriveOnFlashWith}
 use Rattle.pk_parts.specs.Programming.{Programs}

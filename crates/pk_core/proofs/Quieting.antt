@@ -6,8 +6,8 @@ use Rattle.pk_nvme.specs.Seen.{command_of}
 use Rattle.pk_nvme.specs.declared.request.Request.{Request}
 use Rattle.pk_nand.specs.BoardState.{BoardState, shape_or_none}
 use Rattle.pk_data.specs.State.{fits_open}
-use Rattle.pk_drive.specs.Moving.{IsQuiet, HasOpenRoom, Quietly, commits_for}
-use Rattle.pk_drive.specs.declared.types.Outcome.{Outcome}
+use Rattle.pk_call.specs.Moving.{IsQuiet, HasOpenRoom, Quietly, commits_for}
+use Rattle.pk_call.specs.declared.types.Outcome.{Outcome}
 use Rattle.pk_parts.specs.Parts.{Parts, sight_of, frames_of}
 use Rattle.pk_parts.specs.Agreeing.{DriveOnFlash}
 use Rattle.pk_core.specs.Programming.{QuietStore, QuietDelete}

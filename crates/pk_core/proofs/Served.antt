@@ -27,13 +27,13 @@ use Rattle.pk_model.specs.Sight.{Sight}
 use Rattle.pk_model.proofs.Answering.{serves, refuses_late, store_sized}
 use Rattle.pk_model.proofs.Machines.{store_check, store_late, live_stored}
 use Rattle.pk_nand.specs.Effects.{NoFault, OnlyFlash}
-use Rattle.pk_drive.specs.Drive.{HoldsMap}
+use Rattle.pk_call.specs.Drive.{HoldsMap}
 use Rattle.pk_model.specs.Growth.{Reaches, Goes}
-use Rattle.pk_drive.specs.Exec.{Executed, most_installs, most_roots}
+use Rattle.pk_call.specs.Exec.{Executed, most_installs, most_roots}
 use Rattle.pk_model.specs.Crashes.{CrashFinds, commit, change, command}
-use Rattle.pk_drive.specs.Seen.{reply_of as shown}
+use Rattle.pk_call.specs.Seen.{reply_of as shown}
 use Rattle.pk_model.specs.Wear.{roots}
-use Rattle.pk_drive.specs.declared.types.Outcome.{Outcome}
+use Rattle.pk_call.specs.declared.types.Outcome.{Outcome}
 use Rattle.pk_model.proofs.Growing.{weaken, weaken_went}
 use Rattle.pk_parts.specs.Parts.{Parts, sight_of, frames_of}
 use Rattle.pk_parts.specs.Agreeing.{DriveOnFlash}

@@ -4,8 +4,8 @@ use Rattle.pk_nand.specs.BoardState.{BoardState}
 use Rattle.pk_nand.specs.Calls.{last_count}
 use Rattle.pk_nand.specs.Effects.{OnlyReading, Works, Stops}
 use Rattle.pk_nvme.specs.declared.request.Request.{Request}
-use Rattle.pk_drive.specs.Calling.{only_looks}
-use Rattle.pk_drive.specs.Settling.{may_raise}
+use Rattle.pk_call.specs.Calling.{only_looks}
+use Rattle.pk_call.specs.Settling.{may_raise}
 use Rattle.pk_parts.specs.Quiet.{ReadsOnly, ReadsFailing}
 
 -- ---- what only reads

@@ -5,7 +5,7 @@ use Rattle.pk_base.specs.Page.{Flash}
 use Rattle.pk_base.specs.Map.{Map}
 use Rattle.pk_base.specs.Refusal.{Refusal}
 use Rattle.pk_nand.specs.BoardState.{BoardState}
-use Rattle.pk_drive.specs.Drive.{HoldsMap}
+use Rattle.pk_call.specs.Drive.{HoldsMap}
 use Rattle.pk_parts.specs.Parts.{Parts, sight_of, frames_of}
 use Rattle.pk_parts.specs.Agreeing.{DriveOnFlash}
 use Rattle.pk_parts.specs.Moves.{StandsFor}

@@ -6,7 +6,7 @@ use Rattle.pk_rootfmt.specs.Root.{Root}
 use Rattle.pk_rootfmt.specs.Newest.{newest_root}
 use Rattle.pk_nand.specs.BoardState.{BoardState, shape_of, shape_or_none}
 use Rattle.pk_nand.specs.Effects.{OnlyFlash}
-use Rattle.pk_drive.specs.Moving.{KeepsFresh, BlocksGrow}
+use Rattle.pk_call.specs.Moving.{KeepsFresh, BlocksGrow}
 use Rattle.pk_parts.specs.Parts.{Parts, sight_of}
 use Rattle.pk_parts.specs.Agreeing.{DriveOnFlash}
 use Rattle.pk_parts.specs.Staying.{StaysFresh, SameBlocks, OpensOne, MakesRoom, Stays, StaysOrOpens, StaysOrFrees}

@@ -39,7 +39,7 @@ use Rattle.pk_parts.proofs.Reclaiming.{reclaim_within}
 use Rattle.pk_data.specs.declared.open_block.OpenBlock.{OpenBlock}
 use Rattle.pk_nand.specs.BoardState.{BoardState}
 use Rattle.pk_nand.specs.Effects.{OnlyFlash}
-use Rattle.pk_drive.specs.Steady.{Steadies, IsSteady, IsReadyBlock, HasReady, entries_of_runs, live_blocks, pages_of_runs}
+use Rattle.pk_call.specs.Steady.{Steadies, IsSteady, IsReadyBlock, HasReady, entries_of_runs, live_blocks, pages_of_runs}
 use Rattle.pk_work.specs.Backlog.{IsBacklog, due_level}
 use Rattle.pk_work.specs.Work.{work}
 use Rattle.pk_work.proofs.Within.{work_most}
@@ -47,7 +47,7 @@ use Rattle.pk_schedule.specs.declared.phase.Phase.{Phase}
 use Rattle.pk_schedule.specs.declared.phase.Phase.TheVariants.{Idle, Running, Ready as ReadyToInstall}
 use Rattle.pk_schedule.specs.Index.{Index, MergeStands, merging}
 use Rattle.pk_schedule.proofs.Backlogs.{index_backlog, four, entries_are}
-use Rattle.pk_drive.specs.Exec.{IsNextMerge}
+use Rattle.pk_call.specs.Exec.{IsNextMerge}
 use Rattle.pk_parts.specs.Parts.{Parts, sight_of, counts_of, block_if_open, frames_of, index_of, outputs_of, backlog_of, is_reclaim_due, reclaim_left}
 use Rattle.pk_core.specs.Agreeing.{DriveOnFlashBetween}
 use Rattle.pk_parts.specs.Agreeing.{DriveOnFlashWith, DriveOnFlash}

@@ -23,14 +23,14 @@ use Rattle.pk_model.proofs.Answering.{serves}
 use Rattle.pk_rootfmt.specs.Root.{Root}
 use Rattle.pk_rootfmt.specs.Newest.{newest_root}
 use Rattle.pk_model.specs.Wear.{number_of, root_number, roots, is_worn}
-use Rattle.pk_drive.specs.Drive.{HoldsMap}
+use Rattle.pk_call.specs.Drive.{HoldsMap}
 use Rattle.pk_nand.specs.Effects.{OnlyFlash, NoFault, AtMostOneCall}
 use Rattle.pk_model.specs.Crashes.{CrashFinds, background, command}
-use Rattle.pk_drive.specs.Exec.{most_installs}
-use Rattle.pk_drive.specs.Seen.{stopped_by, reply_of}
-use Rattle.pk_drive.specs.declared.types.Outcome.{Outcome}
-use Rattle.pk_drive.specs.declared.types.Ticked.{Ticked}
-use Rattle.pk_drive.specs.declared.types.Ticked.TheVariants.{Worked, Idle, Fault}
+use Rattle.pk_call.specs.Exec.{most_installs}
+use Rattle.pk_call.specs.Seen.{stopped_by, reply_of}
+use Rattle.pk_call.specs.declared.types.Outcome.{Outcome}
+use Rattle.pk_call.specs.declared.types.Ticked.{Ticked}
+use Rattle.pk_call.specs.declared.types.Ticked.TheVariants.{Worked, Idle, Fault}
 use Rattle.pk_model.proofs.Growing.{weaken, weaken_went, at_end, Reaches-then, Goes-then}
 use Rattle.pk_parts.specs.Parts.{Parts, sight_of, frames_of}
 use Rattle.pk_parts.specs.Agreeing.{DriveOnFlash}

@@ -37,10 +37,10 @@ use Rattle.pk_model.specs.Run.{Step}
 use Rattle.pk_model.specs.Sight.{Sight, Counts}
 use Rattle.pk_model.proofs.Answering.{refuses_late, serves}
 use Rattle.pk_steps.specs.Under.{places}
-use Rattle.pk_drive.specs.Drive.{HoldsMap, CountsMap}
-use Rattle.pk_drive.specs.Seen.{reply_of as shown}
-use Rattle.pk_drive.specs.declared.types.Outcome.{Outcome}
-use Rattle.pk_drive.specs.Exec.{report_of}
+use Rattle.pk_call.specs.Drive.{HoldsMap, CountsMap}
+use Rattle.pk_call.specs.Seen.{reply_of as shown}
+use Rattle.pk_call.specs.declared.types.Outcome.{Outcome}
+use Rattle.pk_call.specs.Exec.{report_of}
 use Rattle.pk_model.specs.Crashes.{CrashFinds, command}
 use Rattle.pk_parts.specs.Parts.{Parts, sight_of, frames_of}
 use Rattle.pk_parts.specs.Agreeing.{DriveOnFlashWith, DriveOnFlash}

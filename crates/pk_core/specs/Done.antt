@@ -8,12 +8,12 @@ use Rattle.pk_nand.specs.Calls.{Rose, last_count}
 use Rattle.pk_model.specs.Sight.{Sight}
 use Rattle.pk_model.specs.Wear.{roots}
 use Rattle.pk_nand.specs.Effects.{OnlyFlash, NoFault}
-use Rattle.pk_drive.specs.Meter.{reads_after}
-use Rattle.pk_drive.specs.Seen.{reply_of}
-use Rattle.pk_drive.specs.declared.types.Outcome.{Outcome}
+use Rattle.pk_call.specs.Meter.{reads_after}
+use Rattle.pk_call.specs.Seen.{reply_of}
+use Rattle.pk_call.specs.declared.types.Outcome.{Outcome}
 use Rattle.pk_model.specs.Crashes.{command}
-use Rattle.pk_drive.specs.Call.{CallReaches, CallGoes}
-use Rattle.pk_drive.specs.Exec.{ExecStands, most_installs}
+use Rattle.pk_call.specs.Call.{CallReaches, CallGoes}
+use Rattle.pk_call.specs.Exec.{ExecStands, most_installs}
 use Rattle.pk_parts.specs.Parts.{Parts, sight_of}
 use Rattle.pk_core.specs.Agreeing.{DriveOnFlashBetween}
 

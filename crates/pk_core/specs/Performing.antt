@@ -8,10 +8,10 @@ use Rattle.pk_nvme.specs.Seen.{command_of}
 use Rattle.pk_nvme.specs.declared.request.Request.{Request}
 use Rattle.pk_nand.specs.BoardState.{BoardState}
 use Rattle.pk_nand.specs.Effects.{OnlyReading}
-use Rattle.pk_drive.specs.Exec.{report_of}
-use Rattle.pk_drive.specs.Calling.{FewCalls, most_calls_of, only_looks}
-use Rattle.pk_drive.specs.Settling.{may_raise}
-use Rattle.pk_drive.specs.declared.types.Outcome.{Outcome}
+use Rattle.pk_call.specs.Exec.{report_of}
+use Rattle.pk_call.specs.Calling.{FewCalls, most_calls_of, only_looks}
+use Rattle.pk_call.specs.Settling.{may_raise}
+use Rattle.pk_call.specs.declared.types.Outcome.{Outcome}
 use Rattle.pk_parts.specs.Parts.{Parts, counts_of, sight_of}
 use Rattle.pk_parts.specs.Staying.{StaysFresh, Stays, StaysOrOpens, IsNoted}
 use Rattle.pk_core.specs.Programming.{QuietStore, QuietDelete}

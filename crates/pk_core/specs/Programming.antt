@@ -9,8 +9,8 @@ use Rattle.pk_nvme.specs.declared.request.Request.{Request}
 use Rattle.pk_nand.specs.BoardState.{BoardState}
 use Rattle.pk_log.specs.State.{needs_freeze}
 use Rattle.pk_data.specs.State.{fits_open}
-use Rattle.pk_drive.specs.Moving.{commits_for}
-use Rattle.pk_drive.specs.declared.types.Outcome.{Outcome}
+use Rattle.pk_call.specs.Moving.{commits_for}
+use Rattle.pk_call.specs.declared.types.Outcome.{Outcome}
 use Rattle.pk_parts.specs.Parts.{Parts, sight_of}
 use Rattle.pk_parts.specs.Programming.{Programs, ReadsQuietly}
 

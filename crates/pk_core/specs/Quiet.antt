@@ -13,9 +13,9 @@ use Rattle.pk_nand.specs.Calls.{last_count}
 use Rattle.pk_nand.specs.Effects.{OnlyReading}
 use Rattle.pk_seg.specs.Stored.{IsFront}
 use Rattle.pk_model.specs.Answer.{early}
-use Rattle.pk_drive.specs.Calling.{FewCalls}
-use Rattle.pk_drive.specs.Seen.{reply_of}
-use Rattle.pk_drive.specs.declared.types.Outcome.{Outcome}
+use Rattle.pk_call.specs.Calling.{FewCalls}
+use Rattle.pk_call.specs.Seen.{reply_of}
+use Rattle.pk_call.specs.declared.types.Outcome.{Outcome}
 use Rattle.pk_parts.specs.Parts.{Parts, sight_of}
 use Rattle.pk_parts.specs.Agreeing.{DriveOnFlash}
 use Rattle.pk_core.specs.Done.{Does}

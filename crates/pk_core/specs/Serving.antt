@@ -11,7 +11,7 @@ use Rattle.pk_nand.specs.BoardState.{BoardState}
 use Rattle.pk_nand.specs.Calls.{last_count}
 use Rattle.pk_model.specs.Answer.{early}
 use Rattle.pk_model.specs.Wear.{is_worn}
-use Rattle.pk_drive.specs.declared.types.Outcome.{Outcome}
+use Rattle.pk_call.specs.declared.types.Outcome.{Outcome}
 use Rattle.pk_parts.specs.Parts.{Parts}
 use Rattle.pk_parts.specs.Agreeing.{DriveOnFlash}
 

@@ -6,11 +6,11 @@ use Rattle.pk_nand.specs.Calls.{Rose, last_count}
 use Rattle.pk_model.specs.Sight.{Sight}
 use Rattle.pk_nand.specs.Effects.{OnlyFlash, NoFault}
 use Rattle.pk_model.specs.Crashes.{background}
-use Rattle.pk_drive.specs.Call.{KeepsMap, CallReaches, CallGoes}
-use Rattle.pk_drive.specs.Seen.{stopped_by}
-use Rattle.pk_drive.specs.declared.types.Ticked.{Ticked}
-use Rattle.pk_drive.specs.declared.types.Ticked.TheVariants.{Worked, Idle, Fault}
-use Rattle.pk_drive.specs.declared.types.Outcome.{Outcome}
+use Rattle.pk_call.specs.Call.{KeepsMap, CallReaches, CallGoes}
+use Rattle.pk_call.specs.Seen.{stopped_by}
+use Rattle.pk_call.specs.declared.types.Ticked.{Ticked}
+use Rattle.pk_call.specs.declared.types.Ticked.TheVariants.{Worked, Idle, Fault}
+use Rattle.pk_call.specs.declared.types.Outcome.{Outcome}
 use Rattle.pk_parts.specs.Costs.{Spends}
 use Rattle.pk_parts.specs.Parts.{Parts, sight_of}
 use Rattle.pk_parts.specs.Ticking.{HasNoStep}

@@ -6,7 +6,7 @@ ghost use Rattle.pk_core.specs.Done.{Executes};
 ghost use Rattle.pk_nvme.specs.declared.opcode.TheConstants.{LIST};
 ghost use Rattle.pk_core.specs.Quiet.{OnlyLooks};
 
-use pk_drive::Outcome;
+use pk_call::Outcome;
 use pk_nand::Nand;
 use pk_nvme::Request;
 use pk_parts::Parts;

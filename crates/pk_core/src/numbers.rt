@@ -1,7 +1,7 @@
 //! The numbers of a Report, and its bytes.
 ghost use Rattle.std.specs.Prelude.{◌≡◌, ◌≤◌, length, take, false};
-ghost use Rattle.pk_drive.specs.Exec.{report_of};
-ghost use Rattle.pk_drive.specs.Seen.{counts_of};
+ghost use Rattle.pk_call.specs.Exec.{report_of};
+ghost use Rattle.pk_call.specs.Seen.{counts_of};
 ghost use Rattle.pk_parts.specs.Parts as spec;
 ghost use Rattle.pk_core.specs.Quiet.{DoneWithout};
 ghost use Rattle.pk_nvme.specs.declared.status.TheConstants.{SUCCESSFUL_COMPLETION};
@@ -9,7 +9,7 @@ ghost use Rattle.pk_nvme.specs.declared.opcode.TheConstants.{REPORT};
 
 use crate::quiet::served;
 use pk_base::put_u32;
-use pk_drive::{Counts, Outcome};
+use pk_call::{Counts, Outcome};
 use pk_nvme::REPORT_BYTES;
 use pk_parts::Parts;
 use pk_region::Region;

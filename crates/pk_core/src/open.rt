@@ -4,13 +4,13 @@ ghost use Rattle.pk_base.specs.Shape.{page_entries};
 ghost use Rattle.pk_base.specs.Map.{Map};
 ghost use Rattle.pk_nand.specs.Calls.{IsReady};
 ghost use Rattle.pk_nand.specs.Erased.{after_reads};
-ghost use Rattle.pk_drive.specs.Drive.{HoldsMap};
+ghost use Rattle.pk_call.specs.Drive.{HoldsMap};
 ghost use Rattle.pk_scan.specs.Reads.{opened};
 ghost use Rattle.pk_scan.specs.Opening.{NotOpened};
 ghost use Rattle.pk_nand.specs.Effects.{OnlyReading};
 ghost use Rattle.pk_parts.specs.Parts.{sight_of};
 ghost use Rattle.pk_parts.specs.Agreeing.{DriveOnFlash};
-ghost use Rattle.pk_drive.specs.Steady.{IsSteady, live_blocks};
+ghost use Rattle.pk_call.specs.Steady.{IsSteady, live_blocks};
 ghost use Rattle.pk_model.specs.Tree.{Tree, IsTree};
 
 use crate::drive::Drive;

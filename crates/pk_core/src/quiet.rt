@@ -7,7 +7,7 @@ ghost use Rattle.pk_core.specs.Done.{Executes};
 ghost use Rattle.pk_core.specs.Quiet.{OnlyLooks, DoneWithout};
 ghost use Rattle.pk_nvme.specs.declared.opcode.TheConstants.{FLUSH, RETRIEVE, EXIST};
 
-use pk_drive::Outcome;
+use pk_call::Outcome;
 use pk_index::reads_since;
 use pk_nand::Nand;
 use pk_nvme::Request;

@@ -19,7 +19,7 @@ ghost use Rattle.pk_nvme.specs.declared.status.TheConstants.{SUCCESSFUL_COMPLETI
 use crate::quiet::{refusal, served};
 use crate::storing::put_with_space;
 use pk_base::{Key, Place, Shape};
-use pk_drive::Outcome;
+use pk_call::Outcome;
 use pk_index::reads_since;
 use pk_model::early::store_fault;
 use pk_nand::{Fault, Nand};

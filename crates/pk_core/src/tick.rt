@@ -1,13 +1,13 @@
 //! A background step.
 ghost use Rattle.std.specs.Prelude.{◌≡◌, [], false};
-ghost use Rattle.pk_drive.specs.Tick.{TellsIdle, LowersWork};
-ghost use Rattle.pk_drive.specs.Seen.{stopped_by};
+ghost use Rattle.pk_call.specs.Tick.{TellsIdle, LowersWork};
+ghost use Rattle.pk_call.specs.Seen.{stopped_by};
 ghost use Rattle.pk_parts.specs.Parts.{sight_of};
 ghost use Rattle.pk_parts.specs.Agreeing.{DriveOnFlash};
 ghost use Rattle.pk_parts.specs.Ticking.{MayTick, Ticks};
 ghost use Rattle.pk_parts.specs.Staying.{StaysOrFrees};
 
-use pk_drive::Ticked;
+use pk_call::Ticked;
 use pk_nand::Nand;
 use pk_parts::Parts;
 use pk_region::Region;

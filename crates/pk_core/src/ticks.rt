@@ -2,7 +2,7 @@
 ghost use Rattle.std.specs.Prelude.{◌≡◌, ◌≤◌, ◌+◌, ℕ, List, [], false};
 ghost use Rattle.pk_nvme.specs.Seen.{command_of};
 ghost use Rattle.pk_nand.specs.Calls.{last_count};
-ghost use Rattle.pk_drive.specs.Seen.{stopped_by};
+ghost use Rattle.pk_call.specs.Seen.{stopped_by};
 ghost use Rattle.pk_parts.specs.Parts.{sight_of};
 ghost use Rattle.pk_parts.specs.Agreeing.{DriveOnFlash};
 ghost use Rattle.pk_core.specs.Serving.{IsServable};
@@ -11,10 +11,10 @@ ghost use Rattle.pk_parts.specs.Ticking.{MayTick};
 ghost use Rattle.pk_core.specs.Stepping.{Steps, Lessens, has_failed, outcome_of};
 ghost use Rattle.pk_nvme.specs.declared.status.TheConstants.{SUCCESSFUL_COMPLETION};
 ghost use Rattle.pk_nvme.specs.declared.opcode.TheConstants.{TICK};
-ghost use Rattle.pk_drive.specs.Calling.{FewCalls};
+ghost use Rattle.pk_call.specs.Calling.{FewCalls};
 ghost use Rattle.pk_parts.specs.Staying.{StaysOrFrees};
 
-use pk_drive::{Outcome, Ticked};
+use pk_call::{Outcome, Ticked};
 use pk_index::reads_since;
 use pk_nand::Nand;
 use pk_nvme::Request;

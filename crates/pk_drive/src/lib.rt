@@ -4,7 +4,5 @@
 #![tactic(auto)]
 
 mod engine;
-mod types;
 
 pub use engine::Engine;
-pub use types::{Counts, Outcome, Ticked};

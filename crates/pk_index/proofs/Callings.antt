@@ -6,7 +6,7 @@ use Rattle.pk_run.specs.Kept.{Kept, IsKept}
 use Rattle.pk_level.specs.Levels.{AreOfLevels}
 use Rattle.pk_walk.specs.Walking.{Reads, ReadsFail, read_of, most_read}
 use Rattle.pk_nand.specs.BoardState.{BoardState}
-use Rattle.pk_drive.specs.Calling.{FewCalls}
+use Rattle.pk_call.specs.Calling.{FewCalls}
 
 -- ---- a List
 

@@ -5,7 +5,7 @@ use Rattle.pk_nand.specs.BoardState.{BoardState}
 use Rattle.pk_nand.specs.Calls.{counted, last_count}
 use Rattle.pk_nand.specs.Erased.{counted_by}
 use Rattle.pk_run.specs.Kept.{Kept, IsKept}
-use Rattle.pk_drive.specs.declared.types.Outcome.{Outcome}
+use Rattle.pk_call.specs.declared.types.Outcome.{Outcome}
 use Rattle.pk_walk.specs.Walking.{Reads, ReadsFail, read_of, most_read}
 use Rattle.pk_index.specs.Listed.{ListsInto}
 

@@ -11,8 +11,8 @@ use Rattle.pk_level.specs.Levels.{Levels, RunsOnFlash}
 use Rattle.pk_walk.specs.Walking.{Walk, IsLeft, pages_read, most_read}
 use Rattle.pk_log.specs.State.{LogState}
 use Rattle.pk_nand.specs.Effects.{NoFault}
-use Rattle.pk_drive.specs.Meter.{reads_after}
-use Rattle.pk_drive.specs.declared.types.Outcome.{Outcome}
+use Rattle.pk_call.specs.Meter.{reads_after}
+use Rattle.pk_call.specs.declared.types.Outcome.{Outcome}
 use Rattle.pk_model.specs.Answer.{listed, fitting}
 use Rattle.pk_walk.specs.Visible.{visible}
 use Rattle.pk_index.specs.declared.filled.Filled.{Filled}

@@ -13,12 +13,12 @@ ghost use Rattle.pk_nvme.specs.Seen.{command_of};
 ghost use Rattle.pk_model.specs.Answer.{listed, fitting, list_bytes};
 ghost use Rattle.pk_index.specs.Listed.{OffersKey, OffersNext, IsFilled, MayList, MayWalk, Walked, ListsAll, ListsInto, keys_of, keys_there};
 ghost use Rattle.pk_base.specs.Shape.{most_calls};
-ghost use Rattle.pk_drive.specs.Calling.{FewCalls};
+ghost use Rattle.pk_call.specs.Calling.{FewCalls};
 
 use crate::counts::{reads_since, reads_so_far};
 use crate::filled::Filled;
 use pk_base::{KEY_BYTES, Key, put_text, put_u16, put_u32, put_zeros};
-use pk_drive::Outcome;
+use pk_call::Outcome;
 use pk_level::Levels;
 use pk_log::Log;
 use pk_nand::{Fault, Nand};

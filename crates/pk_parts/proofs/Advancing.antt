@@ -23,8 +23,8 @@ use Rattle.pk_model.specs.Growth.{Grows, Reaches, Goes}
 use Rattle.pk_model.specs.Wear.{roots}
 use Rattle.pk_model.specs.Crashes.{CrashFinds, background}
 use Rattle.pk_steps.proofs.Untouched.{under_reads}
-use Rattle.pk_drive.specs.Drive.{HoldsMap}
-use Rattle.pk_drive.specs.declared.types.Ticked.TheVariants.{Worked, Idle, Fault}
+use Rattle.pk_call.specs.Drive.{HoldsMap}
+use Rattle.pk_call.specs.declared.types.Ticked.TheVariants.{Worked, Idle, Fault}
 use Rattle.pk_log.specs.State.{LogState}
 use Rattle.pk_schedule.specs.declared.phase.Phase.{Phase}
 use Rattle.pk_schedule.specs.declared.phase.Phase.TheVariants.{Idle as NoMerge, Running, Ready}

@@ -5,7 +5,7 @@ use Rattle.pk_nand.specs.Calls.{counted}
 use Rattle.pk_nand.specs.Erased.{counted_by}
 use Rattle.pk_nand.specs.Effects.{AtMostOneCall, OneProgram}
 use Rattle.pk_model.specs.Wear.{roots}
-use Rattle.pk_drive.specs.Calling.{FewCalls}
+use Rattle.pk_call.specs.Calling.{FewCalls}
 use Rattle.pk_parts.specs.Costs.{Spends}
 use Rattle.pk_parts.proofs.Programming.{counted_more}
 

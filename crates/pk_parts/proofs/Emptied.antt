@@ -25,7 +25,7 @@ use Rattle.pk_work.proofs.Within.{due_most, merging_most}
 use Rattle.pk_schedule.specs.declared.phase.Stepped.{Stepped}
 use Rattle.pk_schedule.specs.declared.phase.Stepped.TheVariants.{Worked, Idle}
 use Rattle.pk_schedule.specs.Steps.{FreezeMoves, Freezes, backlog_of, has_no_merge, is_between}
-use Rattle.pk_drive.specs.Calling.{FewCalls}
+use Rattle.pk_call.specs.Calling.{FewCalls}
 use Rattle.pk_parts.specs.Costs.{Spends}
 use Rattle.pk_parts.specs.Parts.{Parts, frames_of, index_of}
 use Rattle.pk_base.specs.Map.{Map}

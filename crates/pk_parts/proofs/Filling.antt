@@ -17,7 +17,7 @@ use Rattle.pk_data.specs.State.{DataState, with_written, next_page}
 use Rattle.pk_data.specs.Placed.{StayPlaced}
 use Rattle.pk_data.specs.Reserving.{TakesNextOrOpens, WritesNext}
 use Rattle.pk_data.specs.Entries.{IsInOpen}
-use Rattle.pk_drive.specs.Calling.{FewCalls}
+use Rattle.pk_call.specs.Calling.{FewCalls}
 use Rattle.pk_parts.specs.Costs.{place_calls}
 use Rattle.pk_parts.specs.Placing.{Reserves, PlacesValue, FailsToWrite, FailsToPlace}
 use Rattle.pk_parts.proofs.Callings.{few_same, few_within, few_then}

@@ -16,7 +16,7 @@ use Rattle.pk_seg.specs.Stored.{written}
 use Rattle.pk_pool.specs.Blocks.{Blocks}
 use Rattle.pk_log.specs.State.{LogState, needs_freeze, pushed}
 use Rattle.pk_data.specs.State.{DataState, fits_open}
-use Rattle.pk_drive.specs.Moving.{commits_for}
+use Rattle.pk_call.specs.Moving.{commits_for}
 use Rattle.pk_parts.specs.Parts.{Parts, sight_of}
 use Rattle.pk_parts.specs.Moves.{StandsFor}
 use Rattle.pk_parts.specs.Placing.{PlacesValue}

@@ -16,9 +16,9 @@ use Rattle.pk_model.specs.Wear.{roots}
 use Rattle.pk_model.specs.Crashes.{CrashFinds, background}
 use Rattle.pk_model.specs.Reading.{reading}
 use Rattle.pk_base.specs.Entry.{Entry}
-use Rattle.pk_drive.specs.Drive.{HoldsMap}
-use Rattle.pk_drive.specs.declared.types.Ticked.{Ticked}
-use Rattle.pk_drive.specs.declared.types.Ticked.TheVariants.{Worked, Fault}
+use Rattle.pk_call.specs.Drive.{HoldsMap}
+use Rattle.pk_call.specs.declared.types.Ticked.{Ticked}
+use Rattle.pk_call.specs.declared.types.Ticked.TheVariants.{Worked, Fault}
 use Rattle.pk_gc.specs.declared.reclaimed.Reclaimed.{Reclaimed}
 use Rattle.pk_gc.specs.declared.reclaimed.Reclaimed.TheVariants.{Worked as GoesOn, Ended}
 use Rattle.pk_gc.specs.declared.course.Phase.{Phase}

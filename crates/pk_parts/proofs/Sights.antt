@@ -6,7 +6,7 @@ use Rattle.pk_nand.specs.declared.types.Fault.{Fault}
 use Rattle.pk_nand.specs.BoardState.{BoardState}
 use Rattle.pk_log.specs.State.{LogState}
 use Rattle.pk_log.specs.Commits.{CommitsNone, CommitsAll}
-use Rattle.pk_drive.specs.Moving.{Commits}
+use Rattle.pk_call.specs.Moving.{Commits}
 use Rattle.pk_parts.specs.Parts.{Parts, sight_of}
 use Rattle.pk_parts.proofs.Committing.{with_log}
 

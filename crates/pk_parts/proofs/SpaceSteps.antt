@@ -28,7 +28,7 @@ use Rattle.pk_parts.specs.Emptying.{KeepsOrReads, OnRunning, HasRoom}
 use Rattle.pk_parts.specs.Staying.{Stays}
 use Rattle.pk_parts.specs.Reclaiming.{MayReclaim, Lessens, LeavesIndex, DoesReclaim, Waits, CannotRead, FailsReclaim, is_tight_for}
 use Rattle.pk_parts.specs.Spacing.{MovesOrReads, StaysSame, where_so, needs, has_moves, space_left, space_roots, Awaits, MaySpace, SpacesOnce}
-use Rattle.pk_drive.specs.Calling.{FewCalls}
+use Rattle.pk_call.specs.Calling.{FewCalls}
 use Rattle.pk_parts.proofs.Callings.{few_none, few_one, few_within, few_then, spends_still, spends_within}
 use Rattle.pk_parts.proofs.Inside.{one_call}
 use Rattle.pk_parts.proofs.SameMaps.{same_held, same_unread, breaks_failed, moves_kept, moves_later, moves_within, moves_none, may_moved, passes_moved, stays_none, stays_both}

@@ -44,12 +44,12 @@ use Rattle.pk_data.specs.declared.open_block.OpenBlock.{OpenBlock}
 use Rattle.pk_data.proofs.Unchanged.{block_elsewhere}
 use Rattle.pk_model.specs.Growth.{Grows, Reaches, Goes}
 use Rattle.pk_model.specs.Wear.{number_of, root_number, roots}
-use Rattle.pk_drive.specs.Drive.{HoldsMap}
+use Rattle.pk_call.specs.Drive.{HoldsMap}
 use Rattle.pk_nand.specs.Effects.{AtMostOneCall}
-use Rattle.pk_drive.specs.Seen.{stopped_by}
+use Rattle.pk_call.specs.Seen.{stopped_by}
 use Rattle.pk_model.specs.Crashes.{CrashFinds, background}
-use Rattle.pk_drive.specs.declared.types.Ticked.{Ticked}
-use Rattle.pk_drive.specs.declared.types.Ticked.TheVariants.{Worked, Idle, Fault}
+use Rattle.pk_call.specs.declared.types.Ticked.{Ticked}
+use Rattle.pk_call.specs.declared.types.Ticked.TheVariants.{Worked, Idle, Fault}
 use Rattle.pk_model.proofs.Growing.{weaken, weaken_went}
 use Rattle.pk_data.specs.Laws.{SameValues}
 use Rattle.pk_gc.specs.Stepping.{runs_in}

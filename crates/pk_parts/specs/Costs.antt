@@ -5,7 +5,7 @@ use Rattle.pk_work.specs.Rest.{whole_reclaim}
 use Rattle.pk_work.specs.Calls.{commit_calls, lookup_calls, room_calls}
 use Rattle.pk_nand.specs.BoardState.{BoardState}
 use Rattle.pk_model.specs.Wear.{roots}
-use Rattle.pk_drive.specs.Calling.{FewCalls}
+use Rattle.pk_call.specs.Calling.{FewCalls}
 
 -- At most so many calls of the flash were made, failed ones included, and at most so many roots installed.
 pub record Spends (most_calls most_roots : ℕ) (old new : BoardState) : Type 0 where

@@ -5,7 +5,7 @@ use Rattle.pk_base.specs.Page.{Flash}
 use Rattle.pk_base.specs.Map.{Map}
 use Rattle.pk_rootfmt.specs.Root.{Root}
 use Rattle.pk_model.specs.Found.{Found}
-use Rattle.pk_drive.specs.Steady.{live_blocks}
+use Rattle.pk_call.specs.Steady.{live_blocks}
 use Rattle.pk_gc.specs.Stepping.{runs_in}
 use Rattle.pk_parts.specs.Parts.{Parts, counts_of, frames_of}
 use Rattle.pk_parts.specs.Agreeing.{DriveOnFlashWith}

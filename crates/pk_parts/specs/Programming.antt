@@ -5,7 +5,7 @@ use Rattle.pk_nand.specs.BoardState.{BoardState}
 use Rattle.pk_nand.specs.Erased.{counted_by}
 use Rattle.pk_log.specs.State.{needs_freeze}
 use Rattle.pk_data.specs.State.{fits_open}
-use Rattle.pk_drive.specs.Moving.{commits_for}
+use Rattle.pk_call.specs.Moving.{commits_for}
 use Rattle.pk_parts.specs.Parts.{Parts, sight_of}
 
 -- So many programs were made, and no erase.

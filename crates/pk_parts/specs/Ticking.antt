@@ -9,10 +9,10 @@ use Rattle.pk_model.specs.Growth.{Grows}
 use Rattle.pk_model.specs.Wear.{roots}
 use Rattle.pk_nand.specs.Effects.{OnlyFlash, OnlyReading, NoFault, AtMostOneCall}
 use Rattle.pk_model.specs.Crashes.{background}
-use Rattle.pk_drive.specs.Call.{KeepsMap, CallReaches, CallGoes}
-use Rattle.pk_drive.specs.Seen.{stopped_by}
-use Rattle.pk_drive.specs.declared.types.Ticked.{Ticked}
-use Rattle.pk_drive.specs.declared.types.Ticked.TheVariants.{Worked, Idle, Fault}
+use Rattle.pk_call.specs.Call.{KeepsMap, CallReaches, CallGoes}
+use Rattle.pk_call.specs.Seen.{stopped_by}
+use Rattle.pk_call.specs.declared.types.Ticked.{Ticked}
+use Rattle.pk_call.specs.declared.types.Ticked.TheVariants.{Worked, Idle, Fault}
 use Rattle.pk_compact.specs.FreezeSteps.{taken_by}
 use Rattle.pk_schedule.specs.Steps.{has_no_merge}
 use Rattle.pk_gc.specs.Stepping.{runs_in}

@@ -4,12 +4,12 @@ ghost use Rattle.pk_parts.specs.Parts.{pages_for, sight_of};
 ghost use Rattle.pk_parts.specs.Costs.{NumbersLast, Spends, place_calls, put_calls};
 ghost use Rattle.pk_log.specs.State.{needs_freeze as needs_freeze_for};
 ghost use Rattle.pk_work.specs.Calls.{commit_calls, room_calls, room_roots};
-ghost use Rattle.pk_drive.specs.Calling.{FewCalls};
+ghost use Rattle.pk_call.specs.Calling.{FewCalls};
 ghost use Rattle.pk_parts.specs.Changes.{CanPut, CanTake, StepPuts, StepTakes, PutsOrReads, TakesOrReads, StaysBetween};
 ghost use Rattle.pk_parts.specs.Emptying.{OnRunning};
 ghost use Rattle.pk_parts.specs.Spacing.{needs};
 ghost use Rattle.pk_parts.specs.Staying.{Stays, StaysOrOpens, IsNoted};
-ghost use Rattle.pk_drive.specs.Moving.{commits_for};
+ghost use Rattle.pk_call.specs.Moving.{commits_for};
 ghost use Rattle.pk_parts.specs.Programming.{Programs, FillsQuietly, PutsQuietly, TakesQuietly, ReadsQuietly};
 
 use crate::parts::Parts;

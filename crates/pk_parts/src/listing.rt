@@ -6,12 +6,12 @@ ghost use Rattle.pk_level.specs.Levels.{RunsOnFlash};
 ghost use Rattle.pk_nvme.specs.Command.{key as key_in};
 ghost use Rattle.pk_nvme.specs.Seen.{command_of};
 ghost use Rattle.pk_model.specs.Answer.{fitting, list_bytes};
-ghost use Rattle.pk_drive.specs.Calling.{FewCalls};
+ghost use Rattle.pk_call.specs.Calling.{FewCalls};
 ghost use Rattle.pk_index.specs.Listed.{ListsInto, keys_there};
 ghost use Rattle.pk_parts.specs.Agreeing.{DriveOnFlash};
 
 use crate::parts::Parts;
-use pk_drive::Outcome;
+use pk_call::Outcome;
 use pk_index::answer_list;
 use pk_nand::Nand;
 use pk_nvme::Request;

@@ -3,7 +3,7 @@ ghost use Rattle.std.specs.Prelude.{◌≡◌, ◌≢◌, ◌≤◌, [], IsOk, O
 ghost use Rattle.pk_nand.specs.Effects.{OneProgram};
 ghost use Rattle.pk_jrn.specs.Epochs.{left_of};
 ghost use Rattle.pk_parts.specs.Moves.{MayStep, StepKeeps, OnlyCommits};
-ghost use Rattle.pk_drive.specs.Moving.{Commits};
+ghost use Rattle.pk_call.specs.Moving.{Commits};
 ghost use Rattle.pk_parts.specs.Parts.{sight_of};
 ghost use Rattle.pk_parts.specs.Staying.{Stays};
 

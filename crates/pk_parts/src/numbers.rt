@@ -1,11 +1,11 @@
 //! The numbers that a drive tells of itself.
 ghost use Rattle.std.specs.Prelude.{◌≡◌, length};
-ghost use Rattle.pk_drive.specs.Seen.{counts_of};
+ghost use Rattle.pk_call.specs.Seen.{counts_of};
 ghost use Rattle.pk_gc.specs.Standing.{held_blocks};
 ghost use Rattle.pk_parts.specs.Parts as spec;
 
 use crate::parts::Parts;
-use pk_drive::Counts;
+use pk_call::Counts;
 use pk_gc::Phase;
 use pk_plan::Owner;
 use pk_region::Region;

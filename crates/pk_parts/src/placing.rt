@@ -12,7 +12,7 @@ ghost use Rattle.pk_parts.specs.Placing.{PlacesValue, FailsToPlace};
 ghost use Rattle.pk_parts.specs.Staying.{StaysOrOpens};
 ghost use Rattle.pk_parts.specs.Programming.{Programs};
 ghost use Rattle.pk_parts.specs.Costs.{place_calls};
-ghost use Rattle.pk_drive.specs.Calling.{FewCalls};
+ghost use Rattle.pk_call.specs.Calling.{FewCalls};
 
 use crate::parts::Parts;
 use pk_base::{Key, Shape};

@@ -3,7 +3,7 @@ ghost use Rattle.std.specs.Prelude.{◌≡◌, ◌==◌, ℕ, length, true, fals
 ghost use Rattle.pk_nand.specs.Calls.{IsReady};
 ghost use Rattle.pk_pool.specs.Blocks.{PoolOnFlash, IsShared, IsOwned};
 ghost use Rattle.pk_pool.specs.Taking.{ErasesOne, ErasesNone, FailsToErase};
-ghost use Rattle.pk_drive.specs.declared.types.Ticked.TheVariants.{Fault as StopsDrive};
+ghost use Rattle.pk_call.specs.declared.types.Ticked.TheVariants.{Fault as StopsDrive};
 ghost use Rattle.pk_compact.specs.FreezeSteps.{taken_by};
 ghost use Rattle.pk_schedule.specs.Steps.{has_no_merge};
 ghost use Rattle.pk_parts.specs.Parts as spec;
@@ -11,7 +11,7 @@ ghost use Rattle.pk_parts.specs.Parts.{index_of};
 ghost use Rattle.pk_parts.specs.Ticking.{MayTick, Advances, WantsFreeze, WantsReclaim, wants_reclaim};
 
 use crate::parts::Parts;
-use pk_drive::Ticked;
+use pk_call::Ticked;
 use pk_gc::Reclaimed;
 use pk_nand::{Fault, Nand};
 use pk_region::Region;

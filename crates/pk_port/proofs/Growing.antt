@@ -17,7 +17,7 @@ use Rattle.pk_model.specs.Kept.{AtMost, rise}
 use Rattle.pk_model.specs.Reading.{Holds}
 use Rattle.pk_model.specs.Run.{Exchange, commands, faults, records}
 use Rattle.pk_model.proofs.Growing.{weaken, weaken_went, at_end, Reaches-then, Goes-then, Goes-post_failed, GrowsAlong-post}
-use Rattle.pk_drive.specs.Meter.{meter, Metered}
+use Rattle.pk_call.specs.Meter.{meter, Metered}
 use Rattle.pk_serve.specs.Port.{StepCut}
 use Rattle.pk_serve.specs.Serving.{StepWithin}
 use Rattle.pk_serve.proofs.Answering.{reply_other, answers}

@@ -13,12 +13,12 @@ use Rattle.pk_nvme.specs.Reply.{Reply}
 use Rattle.pk_nand.specs.BoardState.{BoardState, shape_of, shape_or_none}
 use Rattle.pk_nand.specs.Calls.{Rose}
 use Rattle.pk_nand.specs.Effects.{OnlyFlash, OnlyReading}
-use Rattle.pk_drive.specs.Calling.{only_looks}
+use Rattle.pk_call.specs.Calling.{only_looks}
 use Rattle.pk_model.specs.Reading.{reading, Holds}
 use Rattle.pk_model.specs.Sight.{Sight}
 use Rattle.pk_model.specs.Wear.{root_number, roots, is_worn}
-use Rattle.pk_drive.specs.Exec.{most_installs, IsValue}
-use Rattle.pk_drive.specs.Meter.{reads_after}
+use Rattle.pk_call.specs.Exec.{most_installs, IsValue}
+use Rattle.pk_call.specs.Meter.{reads_after}
 use Rattle.pk_serve.specs.Port.{Submitted, Submits, SubmitStops}
 use Rattle.pk_host.specs.Good.{IsGood, IsHanded, holding}
 use Rattle.pk_host.specs.Port.{Steps, Replies, room_of}

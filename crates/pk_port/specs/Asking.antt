@@ -10,7 +10,7 @@ use Rattle.pk_model.specs.Growth.{Reaches}
 use Rattle.pk_model.specs.Kept.{Kept, AtMost, rise}
 use Rattle.pk_model.specs.Reading.{Holds}
 use Rattle.pk_model.specs.Run.{Exchange, commands, RunWithin, faults}
-use Rattle.pk_drive.specs.Meter.{meter, MeteredAll}
+use Rattle.pk_call.specs.Meter.{meter, MeteredAll}
 
 -- the flash holds the map after commands from the front on, and no byte was given out
 abbrev pub KeptSilently : Shape → ℕ → Map → List Command → Option ℕ → Flash → List ℕ → Type 0

@@ -5,7 +5,7 @@ use Rattle.pk_base.specs.Page.{Flash}
 use Rattle.pk_base.specs.Map.{Map}
 use Rattle.pk_nand.specs.BoardState.{BoardState}
 use Rattle.pk_model.specs.Sight.{Sight}
-use Rattle.pk_drive.specs.Drive.{HoldsMap}
+use Rattle.pk_call.specs.Drive.{HoldsMap}
 use Rattle.pk_host.specs.Good.{IsGood, holding}
 
 -- A drive that agrees with its board, with nothing pending, stands for a map of the board's shape within its limit.

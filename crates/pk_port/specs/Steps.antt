@@ -12,10 +12,10 @@ use Rattle.pk_model.specs.Reading.{reading, Holds}
 use Rattle.pk_model.specs.Run.{Exchange}
 use Rattle.pk_model.specs.Wear.{is_worn}
 use Rattle.pk_model.specs.Sight.{Sight}
-use Rattle.pk_drive.specs.Calling.{only_looks}
-use Rattle.pk_drive.specs.Meter.{meter, Metered}
-use Rattle.pk_drive.specs.Seen.{reply_of}
-use Rattle.pk_drive.specs.declared.types.Outcome.{Outcome}
+use Rattle.pk_call.specs.Calling.{only_looks}
+use Rattle.pk_call.specs.Meter.{meter, Metered}
+use Rattle.pk_call.specs.Seen.{reply_of}
+use Rattle.pk_call.specs.declared.types.Outcome.{Outcome}
 use Rattle.pk_serve.specs.Port.{StepCut}
 use Rattle.pk_serve.specs.Serving.{StepWithin}
 use Rattle.pk_host.specs.Port.{PortState}

@@ -3,13 +3,14 @@ ghost use Rattle.std.specs.Prelude.{◌≡◌, ◌≤◌, ◌<◌, ◌^◌, ℕ,
 ghost use Rattle.std.proofs.Common.{refl, ◌∙◌};
 ghost use Rattle.pk_nvme.specs.Command.{Command};
 ghost use Rattle.pk_host.specs.Port.{PortState, Replies, Completes};
-ghost use Rattle.pk_drive.specs.Seen.{reply_of};
+ghost use Rattle.pk_call.specs.Seen.{reply_of};
 ghost use Rattle.pk_port.specs.Steps.{standing, seen, Chain};
 ghost use Rattle.pk_port.specs.Laws.{joined_by, told_by};
 
 use crate::DrivePort;
 use crate::step::serve_lent;
-use pk_drive::{Engine, Outcome};
+use pk_call::Outcome;
+use pk_drive::Engine;
 use pk_host::{Completed, Port, PortFault, is_handed};
 use pk_nand::Nand;
 use pk_nvme::{Request, SUBMISSION_BYTES, completion};

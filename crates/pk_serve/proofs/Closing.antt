@@ -25,7 +25,7 @@ use Rattle.pk_serve.specs.Run.{Served, ServedBy, KeepsScript, KeepsSome, Answers
 use Rattle.pk_nand.specs.Calls.{put_back, AtEnd}
 use Rattle.pk_serve.specs.declared.end.End.{End}
 use Rattle.pk_serve.specs.declared.end.End.TheVariants.{Done, Truncated, Input, Output, Flash, Worn}
-use Rattle.pk_drive.specs.Meter.{meter}
+use Rattle.pk_call.specs.Meter.{meter}
 use Rattle.pk_serve.proofs.Counting.{metered-roots, metered-unworn, few_unworn}
 use Rattle.pk_serve.proofs.Serves.{kept-more}
 use Rattle.pk_serve.proofs.Commanding.{answered-more}

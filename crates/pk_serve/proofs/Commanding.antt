@@ -10,12 +10,12 @@ use Rattle.pk_model.specs.Run.{Exchange, commands}
 use Rattle.pk_model.specs.Sight.{Sight}
 use Rattle.pk_nand.specs.Effects.{OnlyFlash}
 use Rattle.pk_model.specs.Wear.{roots}
-use Rattle.pk_drive.specs.Meter.{reads_after}
+use Rattle.pk_call.specs.Meter.{reads_after}
 use Rattle.pk_model.specs.Crashes.{command}
-use Rattle.pk_drive.specs.Call.{CallReaches, CallGoes}
-use Rattle.pk_drive.specs.Exec.{ExecStands, most_installs}
+use Rattle.pk_call.specs.Call.{CallReaches, CallGoes}
+use Rattle.pk_call.specs.Exec.{ExecStands, most_installs}
 use Rattle.pk_model.proofs.Growing.{weaken_went}
-use Rattle.pk_drive.specs.Calling.{FewCalls, most_calls_of}
+use Rattle.pk_call.specs.Calling.{FewCalls, most_calls_of}
 use Rattle.pk_nand.specs.BoardState.{shape_of}
 use Rattle.pk_serve.specs.Serving.{Serving, Answered, Cutoff, Next, Breaks, Keeps, Serves, Stops, KeptAt}
 use Rattle.pk_model.specs.Kept.{rise}

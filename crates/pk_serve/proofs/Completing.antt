@@ -17,14 +17,14 @@ use Rattle.pk_model.specs.Reading.{reading}
 use Rattle.pk_model.specs.Script.{script, commands_in, begins_whole}
 use Rattle.pk_model.specs.Kept.{AtMost, rise}
 use Rattle.pk_model.specs.Sight.{Sight}
-use Rattle.pk_drive.specs.Exec.{most_installs, most_roots}
+use Rattle.pk_call.specs.Exec.{most_installs, most_roots}
 use Rattle.pk_model.specs.Wear.{is_worn, roots}
 use Rattle.pk_serve.specs.Serving.{installs}
 use Rattle.pk_serve.specs.Run.{Served}
 use Rattle.pk_serve.specs.Complete.{ticks, Complete, IsServable, Completes}
 use Rattle.pk_serve.specs.declared.end.End.{End}
 use Rattle.pk_serve.specs.declared.end.End.TheVariants.{Done, Truncated, Input, Output, Flash, Worn}
-use Rattle.pk_drive.specs.Meter.{meter}
+use Rattle.pk_call.specs.Meter.{meter}
 use Rattle.pk_serve.proofs.Counting.{faults-one, metered-roots}
 use Rattle.pk_serve.specs.Ends.{IsFault}
 use Rattle.pk_serve.specs.Input.{behind}

@@ -6,7 +6,7 @@ use Rattle.pk_nvme.specs.Reply.{reply_record}
 use Rattle.pk_model.specs.Kept.{AtMost, rise}
 use Rattle.pk_model.specs.Run.{Exchange, commands, records, faults}
 use Rattle.pk_nand.specs.BoardState.{BoardState}
-use Rattle.pk_drive.specs.Meter.{Meter, MeteredAll}
+use Rattle.pk_call.specs.Meter.{Meter, MeteredAll}
 use Rattle.pk_model.specs.Wear.{is_worn, roots}
 use Rattle.pk_serve.specs.Serving.{installs}
 

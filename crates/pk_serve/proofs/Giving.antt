@@ -9,8 +9,8 @@ use Rattle.pk_model.specs.Sight.{Sight}
 use Rattle.pk_nand.specs.Effects.{OnlyFlash}
 use Rattle.pk_model.specs.Wear.{roots}
 use Rattle.pk_model.specs.Crashes.{commit}
-use Rattle.pk_drive.specs.Call.{KeepsMap, CallReaches, CallGoes}
-use Rattle.pk_drive.specs.Commit.{CommitPrograms}
+use Rattle.pk_call.specs.Call.{KeepsMap, CallReaches, CallGoes}
+use Rattle.pk_call.specs.Commit.{CommitPrograms}
 use Rattle.pk_serve.specs.Calling.{owed}
 use Rattle.pk_serve.specs.Serving.{Serving, Flushed, Breaks, Posts, PostBreaks}
 use Rattle.pk_serve.specs.declared.end.End.{End}

@@ -12,7 +12,7 @@ use Rattle.pk_base.specs.Map.{Map}
 use Rattle.pk_model.specs.Script.{value_follows as value_bytes}
 use Rattle.pk_model.specs.Run.{Exchange}
 use Rattle.pk_model.specs.Sight.{Sight}
-use Rattle.pk_drive.specs.Exec.{IsValue}
+use Rattle.pk_call.specs.Exec.{IsValue}
 use Rattle.pk_serve.specs.Serving.{Serving, Serves, Stops}
 use Rattle.pk_serve.specs.declared.end.End.{End}
 use Rattle.pk_serve.specs.Ends.{IsFault}

@@ -18,15 +18,15 @@ use Rattle.pk_model.specs.Run.{Exchange, commands, faults}
 use Rattle.pk_model.specs.Reading.{reading}
 use Rattle.pk_model.specs.Kept.{AtMost, rise}
 use Rattle.pk_model.specs.Sight.{Sight}
-use Rattle.pk_drive.specs.Drive.{HoldsMap}
+use Rattle.pk_call.specs.Drive.{HoldsMap}
 use Rattle.pk_nand.specs.Effects.{OnlyFlash}
 use Rattle.pk_model.specs.Wear.{roots}
 use Rattle.pk_model.specs.Growth.{GrowsAlong, Reaches, Goes}
-use Rattle.pk_drive.specs.Meter.{Meter, Metered, MeteredAll, meter, reads_after}
-use Rattle.pk_drive.specs.Exec.{Executed, most_installs}
+use Rattle.pk_call.specs.Meter.{Meter, Metered, MeteredAll, meter, reads_after}
+use Rattle.pk_call.specs.Exec.{Executed, most_installs}
 use Rattle.pk_model.specs.Crashes.{CrashFinds, commit, command}
 use Rattle.pk_model.proofs.Growing.{weaken, at_end, grows_behind, Goes-then, GrowsAlong-post, Goes-post_failed}
-use Rattle.pk_drive.specs.Calling.{most_calls_of}
+use Rattle.pk_call.specs.Calling.{most_calls_of}
 use Rattle.pk_serve.specs.Calling.{calls_of, owed, most_calls_of_all}
 use Rattle.pk_serve.specs.Serving.{KeptAt, Serving, Answered, Cutoff, Next, StepWithin}
 use Rattle.pk_serve.proofs.Calling.{owed_one, most_calls-append}

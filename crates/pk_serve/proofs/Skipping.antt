@@ -15,8 +15,8 @@ use Rattle.pk_model.specs.Run.{Step}
 use Rattle.pk_model.specs.Sight.{Sight}
 use Rattle.pk_model.specs.Growth.{Reaches, Goes}
 use Rattle.pk_model.specs.Crashes.{CrashFinds, command}
-use Rattle.pk_drive.specs.Call.{CallReaches, CallGoes}
-use Rattle.pk_drive.specs.Exec.{Executed, ExecStands, IsValue}
+use Rattle.pk_call.specs.Call.{CallReaches, CallGoes}
+use Rattle.pk_call.specs.Exec.{Executed, ExecStands, IsValue}
 use Rattle.pk_model.proofs.Growing.{weaken, weaken_went}
 
 abbrev store_early : Shape → ℕ → ℕ → ℕ → Option ℕ

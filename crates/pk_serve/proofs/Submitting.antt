@@ -12,11 +12,11 @@ use Rattle.pk_model.specs.Answer.{map_after}
 use Rattle.pk_model.specs.Run.{Step}
 use Rattle.pk_model.specs.Reading.{reading, Holds}
 use Rattle.pk_model.specs.Sight.{Sight}
-use Rattle.pk_drive.specs.Drive.{HoldsMap}
+use Rattle.pk_call.specs.Drive.{HoldsMap}
 use Rattle.pk_model.specs.Growth.{Reaches}
 use Rattle.pk_model.specs.Crashes.{CrashFinds, commit, command}
-use Rattle.pk_drive.specs.Call.{KeepsMap, CallReaches, CallGoes}
-use Rattle.pk_drive.specs.Exec.{ExecStands}
+use Rattle.pk_call.specs.Call.{KeepsMap, CallReaches, CallGoes}
+use Rattle.pk_call.specs.Exec.{ExecStands}
 use Rattle.pk_model.proofs.Growing.{weaken, weaken_went, at_end, Reaches-then, Goes-then}
 use Rattle.pk_serve.specs.Port.{StepCut, Submits, SubmitStops}
 

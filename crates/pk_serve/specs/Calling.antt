@@ -4,7 +4,7 @@ use Rattle.pk_base.specs.Shape.{Shape}
 use Rattle.pk_base.specs.Entry.{Entry}
 use Rattle.pk_nvme.specs.Command.{Command}
 use Rattle.pk_nand.specs.BoardState.{BoardState}
-use Rattle.pk_drive.specs.Calling.{most_calls_of}
+use Rattle.pk_call.specs.Calling.{most_calls_of}
 
 -- the calls of the flash that a board has counted, failed ones included
 abbrev pub calls_of : BoardState → ℕ

@@ -8,7 +8,7 @@ use Rattle.pk_model.specs.Script.{script}
 use Rattle.pk_base.specs.Shape.{Shape}
 use Rattle.pk_model.specs.Sight.{Sight}
 use Rattle.pk_model.specs.Wear.{is_worn}
-use Rattle.pk_drive.specs.Exec.{IsValue}
+use Rattle.pk_call.specs.Exec.{IsValue}
 use Rattle.pk_serve.specs.Ends.{IsFault}
 use Rattle.pk_serve.specs.Part.{IsHanded}
 use Rattle.pk_serve.specs.Serving.{Serves, Stops}

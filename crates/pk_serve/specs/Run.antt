@@ -10,10 +10,10 @@ use Rattle.pk_model.specs.Reading.{Holds}
 use Rattle.pk_model.specs.Kept.{AtMost, rise}
 use Rattle.pk_model.specs.Script.{script}
 use Rattle.pk_model.specs.Sight.{Sight}
-use Rattle.pk_drive.specs.Drive.{HoldsMap}
+use Rattle.pk_call.specs.Drive.{HoldsMap}
 use Rattle.pk_model.specs.Wear.{is_worn, roots}
 use Rattle.pk_model.specs.Growth.{Goes}
-use Rattle.pk_drive.specs.Meter.{meter, MeteredAll}
+use Rattle.pk_call.specs.Meter.{meter, MeteredAll}
 use Rattle.pk_serve.specs.Ends.{NoFaults}
 use Rattle.pk_serve.specs.Serving.{Answered, KeptAt, installs}
 use Rattle.pk_serve.specs.Calling.{calls_of, most_calls_of_all}

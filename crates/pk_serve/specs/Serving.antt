@@ -14,10 +14,10 @@ use Rattle.pk_model.specs.Bounds.{most_reads}
 use Rattle.pk_model.specs.Run.{Exchange, Step, RunWithin, commands, records, faults}
 use Rattle.pk_model.specs.Kept.{Kept, AtMost, rise}
 use Rattle.pk_model.specs.Sight.{Sight}
-use Rattle.pk_drive.specs.Drive.{HoldsMap}
+use Rattle.pk_call.specs.Drive.{HoldsMap}
 use Rattle.pk_model.specs.Growth.{GrowsAlong, Goes}
-use Rattle.pk_drive.specs.Meter.{Meter, meter, MeteredAll, reads_after}
-use Rattle.pk_drive.specs.Exec.{most_installs}
+use Rattle.pk_call.specs.Meter.{Meter, meter, MeteredAll, reads_after}
+use Rattle.pk_call.specs.Exec.{most_installs}
 use Rattle.pk_serve.specs.Ends.{NoFaults, HasCause}
 use Rattle.pk_serve.specs.Calling.{calls_of, owed, most_calls_of_all}
 use Rattle.pk_serve.specs.declared.end.End.{End}

@@ -5,16 +5,17 @@ ghost use Rattle.pk_nvme.specs.Seen.{command_of};
 ghost use Rattle.pk_nand.specs.BoardState.{shape_of};
 ghost use Rattle.pk_nand.specs.Calls.{Rose};
 ghost use Rattle.pk_nand.specs.Effects.{OnlyFlash, OnlyReading};
-ghost use Rattle.pk_drive.specs.Calling.{only_looks};
-ghost use Rattle.pk_drive.specs.Exec.{most_installs, IsValue};
-ghost use Rattle.pk_drive.specs.Meter.{reads_after};
-ghost use Rattle.pk_drive.specs.Seen.{reply_of};
+ghost use Rattle.pk_call.specs.Calling.{only_looks};
+ghost use Rattle.pk_call.specs.Exec.{most_installs, IsValue};
+ghost use Rattle.pk_call.specs.Meter.{reads_after};
+ghost use Rattle.pk_call.specs.Seen.{reply_of};
 ghost use Rattle.pk_model.specs.Wear.{is_worn, roots};
 ghost use Rattle.pk_serve.specs.Port.{Submits, SubmitStops};
 ghost use Rattle.pk_nvme.specs.declared.status.TheConstants.{UNRECOVERED_ERROR};
 ghost use Rattle.pk_nvme.specs.declared.opcode.TheConstants.{STORE};
 
-use pk_drive::{Engine, Outcome};
+use pk_call::Outcome;
+use pk_drive::Engine;
 use pk_nand::{Nand, NandFault};
 use pk_nvme::Request;
 

@@ -17,7 +17,7 @@ use Rattle.pk_model.specs.Kept.{Kept, rise}
 use Rattle.pk_model.specs.Reading.{reading, Holds}
 use Rattle.pk_model.specs.Sight.{Sight}
 use Rattle.pk_serve.proofs.Counting.{at_most-zero}
-use Rattle.pk_drive.specs.Drive.{HoldsMap}
+use Rattle.pk_call.specs.Drive.{HoldsMap}
 use Rattle.pk_scan.specs.Opening.{NotOpened}
 use Rattle.pk_scan.specs.declared.errors.OpenError.{OpenError}
 use Rattle.pk_words.specs.Lines.{key_lines}

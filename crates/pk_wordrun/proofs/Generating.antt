@@ -15,11 +15,11 @@ use Rattle.pk_nvme.specs.declared.opcode.TheConstants.{STORE, RETRIEVE, LIST, DE
 use Rattle.pk_nand.specs.BoardState.{BoardState}
 use Rattle.pk_nand.specs.Calls.{Rose, longer, after_post, PostFailed}
 use Rattle.pk_gen.specs.Workload.{Generator, workload, generator, request_of, value_of, a_of, b_of, c_of, is_store, value_len, request, tick}
-use Rattle.pk_drive.specs.Drive.{CountsMap}
-use Rattle.pk_drive.specs.Exec.{most_installs}
-use Rattle.pk_drive.specs.Meter.{meter}
-use Rattle.pk_drive.specs.Seen.{counts_of}
-use Rattle.pk_drive.specs.declared.types.Counts.{Counts}
+use Rattle.pk_call.specs.Drive.{CountsMap}
+use Rattle.pk_call.specs.Exec.{most_installs}
+use Rattle.pk_call.specs.Meter.{meter}
+use Rattle.pk_call.specs.Seen.{counts_of}
+use Rattle.pk_call.specs.declared.types.Counts.{Counts}
 use Rattle.pk_model.specs.Sight as model
 use Rattle.pk_model.specs.Sight.{Sight, map_of}
 use Rattle.pk_model.specs.Growth.{Goes}

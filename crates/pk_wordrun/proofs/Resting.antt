@@ -6,7 +6,7 @@ use Rattle.pk_nand.specs.Calls.{after_post, PostFailed}
 use Rattle.pk_nand.specs.Effects.{OnlyReading}
 use Rattle.pk_nand.specs.Resting.{RestsFlash}
 use Rattle.pk_nand.proofs.Resting.{Rests-start, Rests-then, Rests-post, Rests-post_failed}
-use Rattle.pk_drive.specs.Calling.{only_looks}
+use Rattle.pk_call.specs.Calling.{only_looks}
 use Rattle.pk_words.specs.Question.{Question, put, get, delete, has, stat, command_of}
 use Rattle.pk_wordrun.specs.Tasks.{only_asked}
 

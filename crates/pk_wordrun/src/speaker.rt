@@ -3,7 +3,7 @@ ghost use Rattle.std.specs.Prelude.{◌≡◌, [], false, IfOk};
 ghost use Rattle.pk_base.specs.Map.{Map};
 ghost use Rattle.pk_nand.specs.Calls.{IsReady};
 ghost use Rattle.pk_model.specs.Reading.{Holds};
-ghost use Rattle.pk_drive.specs.Drive.{HoldsMap};
+ghost use Rattle.pk_call.specs.Drive.{HoldsMap};
 ghost use Rattle.pk_wordrun.specs.Seen.{seen, IsShortTask};
 ghost use Rattle.pk_wordrun.specs.Told.{Told};
 

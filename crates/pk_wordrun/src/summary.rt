@@ -7,7 +7,7 @@ ghost use Rattle.pk_words.specs.Lines.{number_line};
 ghost use Rattle.pk_wordrun.specs.Summary.{summary_lines};
 ghost use Rattle.pk_wordrun.specs.Sums.{Sums, IsOf};
 
-use pk_drive::Outcome;
+use pk_call::Outcome;
 use pk_nvme::opcode::RETRIEVE;
 use pk_nvme::status::{
     CAPACITY_EXCEEDED, INVALID_VALUE_SIZE, KEY_DOES_NOT_EXIST, SUCCESSFUL_COMPLETION,

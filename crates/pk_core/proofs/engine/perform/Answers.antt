@@ -1,7 +1,7 @@
 use Rattle.std.proofs.Common.{refl, ap, arith}
 use Rattle.pk_nvme.specs.Seen.{command_of}
 use Rattle.pk_core.proofs.Executing.{executes_quiet}
-use Rattle.pk_drive.specs.Calling.{only_looks}
+use Rattle.pk_call.specs.Calling.{only_looks}
 use Rattle.pk_core.proofs.Performing.{performs_looking, performs_store, performs_delete, performs_tick}
 use Rattle.pk_core.proofs.Callings.{few_for_looks}
 use Rattle.pk_parts.proofs.Callings.{few_within, few_none}

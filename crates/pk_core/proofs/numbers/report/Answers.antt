@@ -1,5 +1,5 @@
 use Rattle.std.proofs.Common.{◌∙◌, ap}
-use Rattle.pk_drive.specs.Exec.{report_of}
+use Rattle.pk_call.specs.Exec.{report_of}
 use Rattle.pk_core.proofs.Counting.{report_done}
 use Rattle.pk_core.proofs.numbers.report.Goals as goal
 

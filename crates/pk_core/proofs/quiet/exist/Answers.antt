@@ -3,7 +3,7 @@ use Rattle.pk_nand.specs.Calls.{last_count}
 use Rattle.pk_parts.specs.Quiet.{Looks}
 use Rattle.pk_core.proofs.Unchanging.{exist_found, exist_none}
 use Rattle.pk_nvme.specs.Seen.{command_of}
-use Rattle.pk_drive.specs.declared.types.Outcome.{Outcome}
+use Rattle.pk_call.specs.declared.types.Outcome.{Outcome}
 use Rattle.pk_core.proofs.Executing.{executes_quiet}
 use Rattle.pk_core.proofs.LookedUp.{executes_unread}
 use Rattle.pk_core.proofs.Sights.{only_reads, only_failing}

@@ -1,7 +1,7 @@
 use Rattle.std.proofs.Common.{inr, arith}
 use Rattle.pk_core.proofs.Stepping.{ongoing_none, ongoing_may, ongoing_more, ongoing_last, ongoing_done, ongoing_stays, ongoing_no_more, steps_within}
 use Rattle.pk_parts.specs.Parts.{sight_of}
-use Rattle.pk_drive.specs.declared.types.Ticked.TheVariants.{Worked, Idle, Fault}
+use Rattle.pk_call.specs.declared.types.Ticked.TheVariants.{Worked, Idle, Fault}
 use Rattle.pk_core.proofs.ticks.work.Goals as goal
 
 pub loop-made-init : goal.loop-made-init

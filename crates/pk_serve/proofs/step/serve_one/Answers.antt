@@ -3,7 +3,7 @@ use Rattle.pk_base.specs.Shape.{Shape}
 use Rattle.pk_nvme.specs.Seen.{command_of}
 use Rattle.pk_nand.specs.BoardState.{shape_of, shape_or_none}
 use Rattle.pk_queue.specs.Queue.{bytes_of}
-use Rattle.pk_drive.specs.Exec.{IsValue}
+use Rattle.pk_call.specs.Exec.{IsValue}
 use Rattle.pk_serve.proofs.Commanding.{stops_before, stops_in, serves_all, stops_behind}
 use Rattle.pk_serve.proofs.Skipping.{stands_value, reaches_value, went_value}
 use Rattle.pk_serve.proofs.Blaming.{quiet-then, quiet-flash}

@@ -4,7 +4,7 @@ use Rattle.pk_nvme.specs.Command.{Command}
 use Rattle.pk_nvme.specs.Seen.{command_of}
 use Rattle.pk_nvme.specs.declared.request.Request.{Request}
 use Rattle.pk_gen.specs.Workload.{request_of, value_of}
-use Rattle.pk_drive.specs.Seen.{reply_of}
+use Rattle.pk_call.specs.Seen.{reply_of}
 use Rattle.pk_port.specs.Steps.{mount, Serves}
 use Rattle.pk_wordrun.proofs.workload.serve_turn.Goals as goal
 

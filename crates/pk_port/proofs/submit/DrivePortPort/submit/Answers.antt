@@ -1,6 +1,6 @@
 use Rattle.std.proofs.Common.{◌≤◌, sym, refl, subst, ap, arith}
 use Rattle.pk_nvme.specs.Command.{Command}
-use Rattle.pk_drive.specs.Seen.{reply_of}
+use Rattle.pk_call.specs.Seen.{reply_of}
 use Rattle.pk_host.specs.Good.{IsHanded}
 use Rattle.pk_host.specs.Port.{Replies, room_of}
 use Rattle.pk_port.specs.Steps.{mount, seen}

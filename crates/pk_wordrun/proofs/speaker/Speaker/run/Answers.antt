@@ -2,7 +2,7 @@ use Rattle.std.proofs.Common.{sym, subst}
 use Rattle.pk_base.specs.Shape.{Shape}
 use Rattle.pk_base.specs.Map.{Map}
 use Rattle.pk_nand.specs.Calls.{IsReady}
-use Rattle.pk_drive.specs.Drive.{HoldsMap}
+use Rattle.pk_call.specs.Drive.{HoldsMap}
 use Rattle.pk_wordrun.proofs.Opening.{fits-opened, fits-somehow}
 use Rattle.pk_wordrun.proofs.speaker.Speaker.run.Goals as goal
 

@@ -5,7 +5,7 @@ use Rattle.pk_base.specs.Map.{Map}
 use Rattle.pk_nand.specs.BoardState.{BoardState}
 use Rattle.pk_nand.specs.Effects.{OneProgram}
 use Rattle.pk_model.specs.Sight.{Sight}
-use Rattle.pk_drive.specs.Drive.{HoldsMap}
+use Rattle.pk_call.specs.Drive.{HoldsMap}
 
 -- where entries are pending, it is one program
 abbrev pub CommitPrograms : BoardState → BoardState → Sight → Type 0

@@ -6,7 +6,7 @@ use Rattle.pk_nand.specs.BoardState.{BoardState}
 use Rattle.pk_nand.specs.Calls.{Rose, last_count}
 use Rattle.pk_model.specs.Run.{Exchange}
 use Rattle.pk_model.specs.Wear.{roots}
-use Rattle.pk_drive.specs.Exec.{most_installs}
+use Rattle.pk_call.specs.Exec.{most_installs}
 
 -- how many pages were read, the count of reads that failed, and the number of the newest root
 pub record Meter : Type 0 where

@@ -13,7 +13,7 @@ use Rattle.pk_nvme.specs.declared.opcode.Opcode.TheVariants.{Retrieve}
 use Rattle.pk_model.specs.Run.{Step}
 use Rattle.pk_model.specs.Bounds.{most_reads}
 use Rattle.pk_model.specs.Sight.{Sight, Counts, numbers}
-use Rattle.pk_drive.specs.Drive.{HoldsMap}
+use Rattle.pk_call.specs.Drive.{HoldsMap}
 
 -- a command that did not stop the drive
 pub record Executed (shape : Shape) (frames : ℕ) (new : BoardState) (drive : Sight) (m : Map) (c : Command) (reply : Reply) (reads : ℕ) : Type 0 where

@@ -13,8 +13,8 @@ use Rattle.pk_model.specs.Values.{placed, blocks_with, all_pages}
 use Rattle.pk_model.specs.Laws.{AnyByRecursion}
 use Rattle.pk_model.specs.Tree.{Tree, IsTree}
 use Rattle.pk_model.specs.Sight.{Sight, Counts, most_work}
-use Rattle.pk_drive.specs.Drive.{HoldsMap}
-use Rattle.pk_drive.specs.Exec.{IsNextMerge}
+use Rattle.pk_call.specs.Drive.{HoldsMap}
+use Rattle.pk_call.specs.Exec.{IsNextMerge}
 
 -- A block that may be taken as it is: behind the root blocks, named by no root, not the one that takes values, and wholly Erased.
 pub record IsReadyBlock (shape : Shape) (flash : Flash) (root : Root) (taking : Option ℕ) (b : ℕ) : Type 0 where

@@ -6,7 +6,7 @@ use Rattle.pk_nand.specs.BoardState.{BoardState}
 use Rattle.pk_model.specs.Crashes.{Moment, CrashFinds}
 use Rattle.pk_model.specs.Growth.{Reaches, Goes}
 use Rattle.pk_model.specs.Sight.{Sight}
-use Rattle.pk_drive.specs.Drive.{HoldsMap}
+use Rattle.pk_call.specs.Drive.{HoldsMap}
 
 -- it stands for the same map behind the call
 abbrev pub KeepsMap : BoardState → BoardState → Sight → Sight → Type 0

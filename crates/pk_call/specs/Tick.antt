@@ -4,9 +4,9 @@ use Rattle.pk_base.specs.Shape.{Shape}
 use Rattle.pk_base.specs.Map.{Map}
 use Rattle.pk_nand.specs.BoardState.{BoardState}
 use Rattle.pk_model.specs.Sight.{Sight, IsIdle}
-use Rattle.pk_drive.specs.Drive.{HoldsMap}
-use Rattle.pk_drive.specs.declared.types.Ticked.{Ticked}
-use Rattle.pk_drive.specs.declared.types.Ticked.TheVariants.{Worked, Idle}
+use Rattle.pk_call.specs.Drive.{HoldsMap}
+use Rattle.pk_call.specs.declared.types.Ticked.{Ticked}
+use Rattle.pk_call.specs.declared.types.Ticked.TheVariants.{Worked, Idle}
 
 -- it answers that the drive is idle exactly where it is
 abbrev pub TellsIdle : BoardState → Sight → Ticked → Type 0

@@ -2,10 +2,10 @@
 use Rattle.std.specs.Prelude.{ℕ, List, take, Bool, false}
 use Rattle.pk_nvme.specs.Reply.{Reply}
 use Rattle.pk_model.specs.Sight as model
-use Rattle.pk_drive.specs.declared.types.Outcome.{Outcome}
-use Rattle.pk_drive.specs.declared.types.Counts.{Counts}
-use Rattle.pk_drive.specs.declared.types.Ticked.{Ticked}
-use Rattle.pk_drive.specs.declared.types.Ticked.TheVariants.{Worked, Idle, Fault}
+use Rattle.pk_call.specs.declared.types.Outcome.{Outcome}
+use Rattle.pk_call.specs.declared.types.Counts.{Counts}
+use Rattle.pk_call.specs.declared.types.Ticked.{Ticked}
+use Rattle.pk_call.specs.declared.types.Ticked.TheVariants.{Worked, Idle, Fault}
 
 -- the reply that an outcome tells, with its data in front of a buffer
 abbrev pub reply_of : Outcome → List ℕ → Reply
