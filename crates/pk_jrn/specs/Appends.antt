@@ -1,5 +1,5 @@
 -- Entries that are added to an epoch.
-use Rattle.std.specs.Prelude.{◌⊎◌, ℕ, ◌≤◌, List, ◌++◌, length}
+use Rattle.std.specs.Prelude.{◌⊎◌, ℕ, ◌≤◌, List, [], ◌∷◌, ◌++◌, length}
 use Rattle.pk_base.specs.Shape.{buffer}
 use Rattle.pk_base.specs.Page.{Flash}
 use Rattle.pk_base.specs.Entry.{Entry}
@@ -12,6 +12,10 @@ use Rattle.pk_jrn.specs.Epochs.{JournalEpoch, next_page, Reads}
 -- the bytes of the epoch's next page, with these entries
 abbrev pub next_bytes : JournalEpoch → List Entry → List ℕ
 next_bytes e new = journal_bytes e.shape e.number e.used new
+
+-- the programs of its next commit, with these entries
+abbrev pub programs_of_commit : JournalEpoch → List Entry → List (ℕ × List ℕ)
+programs_of_commit e new = (next_page e , next_bytes e new) ∷ []
 
 -- The entries of the epoch, and behind them the new ones, have no more keys than a write buffer.
 abbrev pub HaveRoom : JournalEpoch → List Entry → List Entry → Type 0

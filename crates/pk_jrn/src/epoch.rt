@@ -5,11 +5,11 @@ ghost use Rattle.pk_base.specs.Shape.{page_entries, epoch_commits};
 ghost use Rattle.pk_base.specs.Page.{Flash};
 ghost use Rattle.pk_base.specs.EntryBytes.{IsEntry};
 ghost use Rattle.pk_base.specs.Seen.{entries as seen_all};
-ghost use Rattle.pk_nand.specs.Calls.{IsReady, after_program, ProgramFailed};
+ghost use Rattle.pk_nand.specs.Calls.{IsReady, after_programs, ProgramsFailed};
 ghost use Rattle.pk_nand.specs.declared.types.Fault.TheVariants.{Stopped};
 ghost use Rattle.pk_jrnfmt.specs.Page.{journal_entries};
-ghost use Rattle.pk_jrn.specs.Epochs.{started, found_at_opening, left_of, next_page, AreBlocks, AreErased, EpochOnFlash, Reads};
-ghost use Rattle.pk_jrn.specs.Appends.{next_bytes, AddsAll, CommitReached, CommitWent};
+ghost use Rattle.pk_jrn.specs.Epochs.{started, found_at_opening, left_of, AreBlocks, AreErased, EpochOnFlash, Reads};
+ghost use Rattle.pk_jrn.specs.Appends.{next_bytes, programs_of_commit, AddsAll, CommitReached, CommitWent};
 
 use crate::pages::page_of;
 use pk_base::{Entry, Shape};
@@ -136,10 +136,9 @@ impl Epoch {
         requires blocks { AreBlocks self.old.shape self.old.blocks }
         requires room { length buf.old ≡ self.old.shape.page_bytes }
 
-        // One program, by which the epoch has a commit more.
-        ensures ok { OnOk result (B.state board.new
-            ≡ after_program (B.state board.old) (next_page self.old)
-            (next_bytes self.old (seen_all entries.now))) }
+        // The programs by which the epoch has a commit more.
+        ensures ok { OnOk result (B.state board.new ≡ after_programs (B.state board.old)
+            (programs_of_commit self.old (seen_all entries.now))) }
         ensures taken { OnOk result (self.new ≡ record self.old { used = self.old.used + 1 }) }
         ensures fits { OnOk result (EpochOnFlash self.new (B.state board.new).pages) }
 
@@ -153,8 +152,8 @@ impl Epoch {
 
         // Or the program failed, and the epoch stays.
         ensures stopped { IfErr result (λ e. e ≡ Stopped) }
-        ensures err { OnErr result (ProgramFailed (B.state board.old) (B.state board.new)
-            (next_page self.old) (next_bytes self.old (seen_all entries.now))) }
+        ensures err { OnErr result (ProgramsFailed (B.state board.old) (B.state board.new)
+            (programs_of_commit self.old (seen_all entries.now))) }
         ensures cuts_err { OnErr result (CommitWent self.old (seen_all entries.now)
             (B.state board.old) (B.state board.new)) }
         ensures kept { OnErr result (self.new ≡ self.old) }
