@@ -2,11 +2,11 @@
 use Rattle.std.specs.Prelude.{◌≡◌, ◌≢◌, ℕ, ◌+◌, ◌<◌, ◌≤◌, List, [], length, count_by}
 use Rattle.pk_base.specs.Entry.{Entry}
 use Rattle.pk_nand.specs.BoardState.{BoardState}
-use Rattle.pk_nand.specs.Calls.{after_program, ProgramFailed}
+use Rattle.pk_nand.specs.Calls.{after_programs, ProgramsFailed}
 use Rattle.pk_jrnfmt.specs.Page.{journal_entries}
 use Rattle.pk_buf.specs.Table.{Table}
-use Rattle.pk_jrn.specs.Epochs.{JournalEpoch, left_of as pages_left, next_page, EpochOnFlash}
-use Rattle.pk_jrn.specs.Appends.{next_bytes, AddsAll}
+use Rattle.pk_jrn.specs.Epochs.{JournalEpoch, left_of as pages_left, EpochOnFlash}
+use Rattle.pk_jrn.specs.Appends.{next_bytes, programs_of_commit, AddsAll}
 use Rattle.pk_moves.specs.Moves.{entries_of}
 use Rattle.pk_gc.specs.declared.moves.Move.{Move}
 use Rattle.pk_gc.specs.declared.reclaimed.Committed.{Committed}
@@ -37,22 +37,22 @@ pub record Refuses (es : List Entry) (active : Table) (e : JournalEpoch) (old : 
   pub no_room : HasRoom active e es → ⊥
   pub rests : Rests e old e' new
 
--- There are entries, with room for them, and the next page of the epoch is programmed with them.
+-- There are entries, with room for them, and they are the next commit of the epoch.
 pub record Adds (es : List Entry) (active : Table) (e : JournalEpoch) (old : BoardState) (e' : JournalEpoch) (new : BoardState) : Type 0 where
   pub some : es ≢ []
   pub room : HasRoom active e es
   pub taken : e' ≡ record e { used = e.used + 1 }
-  pub board : new ≡ after_program old (next_page e) (next_bytes e es)
+  pub board : new ≡ after_programs old (programs_of_commit e es)
   pub spells : journal_entries e.shape e.number e.used (next_bytes e es) ≡ Some es
   pub fits : EpochOnFlash e' new.pages
   pub list : AddsAll e es old.pages new.pages
 
--- There were entries, with room for them, and the program of their page failed.
+-- There were entries, with room for them, and one of the commit's programs failed.
 pub record FailsToAdd (es : List Entry) (active : Table) (e : JournalEpoch) (old new : BoardState) : Type 0 where
   pub some : es ≢ []
   pub room : HasRoom active e es
   pub spells : journal_entries e.shape e.number e.used (next_bytes e es) ≡ Some es
-  pub failed : ProgramFailed old new (next_page e) (next_bytes e es)
+  pub failed : ProgramsFailed old new (programs_of_commit e es)
 
 -- what became of these entries, by the answer
 abbrev pub Commits : List Entry → Table → JournalEpoch → BoardState → JournalEpoch → BoardState → Committed → Type 0

@@ -5,10 +5,9 @@ use Rattle.pk_base.specs.Page.{Flash}
 use Rattle.pk_base.specs.Entry.{Entry}
 use Rattle.pk_base.specs.Map.{Map}
 use Rattle.pk_nand.specs.BoardState.{BoardState}
-use Rattle.pk_nand.specs.Calls.{after_program, ProgramFailed}
+use Rattle.pk_nand.specs.Calls.{after_programs, ProgramsFailed}
 use Rattle.pk_rootfmt.specs.Root.{Root}
-use Rattle.pk_jrn.specs.Epochs.{next_page}
-use Rattle.pk_jrn.specs.Appends.{next_bytes}
+use Rattle.pk_jrn.specs.Appends.{programs_of_commit}
 use Rattle.pk_model.specs.Found.{Found}
 use Rattle.pk_steps.specs.Under.{IsUnder}
 use Rattle.pk_steps.specs.Roots.{committed}
@@ -22,16 +21,16 @@ pub record CommitsNone (log : LogState) (old : BoardState) (log' : LogState) (ne
   pub kept : log' ≡ log
   pub board : new ≡ old
 
--- the next page of the epoch is programmed with the pending entries, and none is pending then
+-- the pending entries are the next commit of the epoch, and none is pending then
 pub record CommitsAll (log : LogState) (old : BoardState) (log' : LogState) (new : BoardState) : Type 0 where
   pub some : log.pending ≢ []
   pub taken : log' ≡ all_committed log
-  pub board : new ≡ after_program old (next_page log.epoch) (next_bytes log.epoch log.pending)
+  pub board : new ≡ after_programs old (programs_of_commit log.epoch log.pending)
 
--- that program failed
+-- one of these programs failed
 pub record CommitFailed (log : LogState) (old new : BoardState) : Type 0 where
   pub some : log.pending ≢ []
-  pub failed : ProgramFailed old new (next_page log.epoch) (next_bytes log.epoch log.pending)
+  pub failed : ProgramsFailed old new (programs_of_commit log.epoch log.pending)
 
 -- the entries are in the newest epoch now
 abbrev pub CommitStands : LogState → BoardState → LogState → BoardState → Type 0

@@ -1,9 +1,9 @@
 -- Installs of roots: what is next, when it can be done, and what it does to a board.
-use Rattle.std.specs.Prelude.{◌≡◌, ◌≢◌, ◌⊎◌, ℕ, ◌+◌, ◌-◌, ◌*◌, ◌/◌, ◌%◌, ◌<◌, ◌≤◌, nat_lt, if◌then◌else◌, Bool, true, false, length, Some}
+use Rattle.std.specs.Prelude.{◌≡◌, ◌≢◌, ◌⊎◌, ℕ, ◌+◌, ◌-◌, ◌*◌, ◌/◌, ◌%◌, ◌<◌, ◌≤◌, nat_lt, if◌then◌else◌, Bool, true, false, List, [], ◌∷◌, length, Some}
 use Rattle.pk_base.specs.Shape.{Shape, root_pages}
 use Rattle.pk_base.specs.Page.{Flash, page_at, SameBehind}
 use Rattle.pk_nand.specs.BoardState.{BoardState}
-use Rattle.pk_nand.specs.Calls.{InOrder, after_program, after_erase, ProgramFailed, EraseFailed}
+use Rattle.pk_nand.specs.Calls.{InOrder, after_programs, after_erase, ProgramsFailed, EraseFailed}
 use Rattle.pk_nand.specs.Crash.{Reached, Went}
 use Rattle.pk_rootfmt.specs.Root.{Root, root_bytes}
 use Rattle.pk_rootfmt.specs.Newest.{newest_root}
@@ -61,11 +61,15 @@ pub record MayInstall (shape : Shape) (page : ℕ) (root : Root) (old cut : Flas
 
 -- ---- steps
 
+-- the programs by which a root stands in this page
+abbrev pub programs_of_root : Shape → ℕ → Root → List (ℕ × List ℕ)
+programs_of_root shape page root = (page , root_bytes shape root) ∷ []
+
 -- the root was programmed in the page that was next, by the one call, and is the newest one now
 pub record Installs (shape : Shape) (root : Root) (next : Next) (old : BoardState) (next' : Next) (new : BoardState) : Type 0 where
   pub page : ℕ
   pub was : next ≡ Program page
-  pub program : new ≡ after_program old page (root_bytes shape root)
+  pub program : new ≡ after_programs old (programs_of_root shape page root)
   pub then_next : next' ≡ next_behind shape page
   pub fits : InstallerOnFlash shape next' (page, root) new.pages
   pub cuts : Reached old new (λ cut _. MayInstall shape page root old.pages cut)
@@ -83,7 +87,7 @@ pub record ErasesOther (shape : Shape) (next : Next) (old : BoardState) (next' :
 pub record FailsToInstall (shape : Shape) (root : Root) (next : Next) (old new : BoardState) : Type 0 where
   pub page : ℕ
   pub was : next ≡ Program page
-  pub failed : ProgramFailed old new page (root_bytes shape root)
+  pub failed : ProgramsFailed old new (programs_of_root shape page root)
   pub cuts : Went old new (λ cut _. MayInstall shape page root old.pages cut)
 
 -- the one call, the erase that was next, failed
