@@ -13,7 +13,8 @@ use Rattle.pk_jrn.specs.Epochs.{left_of as pages_left}
 use Rattle.pk_work.specs.Backlog.{Backlog, is_tight}
 use Rattle.pk_work.specs.Rest.{whole_reclaim}
 use Rattle.pk_work.specs.Work.{work}
-use Rattle.pk_schedule.specs.Index.{Index, Schedule, index, merging}
+use Rattle.pk_compact.specs.FreezeSteps.{taken_by}
+use Rattle.pk_schedule.specs.Index.{Index, Schedule, index, merging, output}
 use Rattle.pk_schedule.specs.Steps.{backlog_of as backlog_of_index}
 use Rattle.pk_gc.specs.declared.course.Phase.{Phase}
 use Rattle.pk_gc.specs.declared.course.Phase.TheVariants.{Idle, Copies, GivesBack}
@@ -42,9 +43,23 @@ frames_of d = length d.arena.used
 abbrev pub index_of : Parts → Index
 index_of d = index d.log d.levels d.arena d.pool d.schedule
 
+-- Blocks that running jobs hold and the root does not name: for the journal, for meta pages, and for values.
+pub record Held : Type 0 where
+  pub journal : List ℕ
+  pub metas : List ℕ
+  pub values : List ℕ
+
+-- those that a freeze has taken, those of a merge's output, and those of a reclaim
+abbrev pub held_of : Parts → Held
+held_of d = record {
+  journal = taken_by d.schedule.freeze;
+  metas = (output d.schedule).blocks;
+  values = held_blocks d.reclaim.phase;
+}
+
 -- the blocks that a reclaim holds for values
 abbrev pub outputs_of : Parts → List ℕ
-outputs_of d = held_blocks d.reclaim.phase
+outputs_of d = (held_of d).values
 
 -- the sixteen numbers of a Report
 abbrev pub counts_of : Parts → Counts
