@@ -1,10 +1,10 @@
 #!/bin/sh
 # Kills the program at random moments of a serve, again and again on the same image, and compares what every key holds behind each
 # kill with the commands of which a record had come out: each of them must be there, and no part of a command. The commands are Stores,
-# Deletes, Flushes and Ticks on two drives, of which the small one reclaims a block with every few Stores. It proves nothing and is no
-# part of the gate.
+# Deletes, Flushes and Ticks on two drives, of which the small one reclaims a block with every few Stores. A session that ends before
+# its kill is a session and no kill; both are counted. It proves nothing and is no part of the gate.
 #
-#   bench/kill.sh [TIMES]        300 times where no number is named
+#   bench/kill.sh [TIMES]        so many sessions, 300 where no number is named
 set -eu
 
 top=$(CDPATH='' cd -- "$(dirname -- "$0")/.." && pwd)

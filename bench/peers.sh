@@ -1,23 +1,27 @@
 #!/bin/sh
 # Measures the program beside LevelDB, RocksDB, LMDB, SQLite, Berkeley DB and Redis: one workload of 64-byte entries for all, every
-# answer compared with a map's. The harness is a folder of its own beside the repository; it says which packages it wants. It is no
-# part of the gate, and takes minutes.
+# answer compared with a map's. The harness is not in this repository: it is a folder with a program `run`, which is handed the program,
+# the name of its results, and the words. This is no part of the gate, and takes minutes.
 #
-#   bench/peers.sh [HARNESS] [OUT] [WORD ..]     HARNESS: the harness' folder, ../shared/peers where none is named; OUT: the results
-#                                                go to OUT.json and OUT.md, in a temporary folder where none is named; WORD: more
-#                                                words for it, as --quick or --profiles full1000
+#   bench/peers.sh HARNESS [OUT] [WORD ..]       HARNESS: the harness' folder; OUT: the results go to OUT.json and OUT.md, in a
+#                                                temporary folder where none is named; WORD: more words for it, as --quick or
+#                                                --profiles full1000
 set -eu
 
 top=$(CDPATH='' cd -- "$(dirname -- "$0")/.." && pwd)
-harness=${1:-$top/../shared/peers}
-out=${2:-$(mktemp -d)/peers}
-[ $# -gt 0 ] && shift
-[ $# -gt 0 ] && shift
-
-if [ ! -x "$harness/run" ]; then
-    echo "bench/peers.sh: no harness in $harness (name its folder)" >&2
+if [ $# -eq 0 ]; then
+    echo "bench/peers.sh: name the harness' folder" >&2
     exit 2
 fi
+harness=$1
+if [ ! -x "$harness/run" ]; then
+    echo "bench/peers.sh: no harness in $harness" >&2
+    exit 2
+fi
+out=${2:-$(mktemp -d)/peers}
+shift
+[ $# -eq 0 ] || shift
+
 case $out in
     /*) ;;
     *) out=$PWD/$out ;;

@@ -1,14 +1,16 @@
 #!/bin/sh
-# Checks the documents beside the sources, in a second. It is run by hand, before a landing. Each fault is a line.
+# Checks the documents beside the sources, in a second or two. It is run by hand, before a landing. Each fault is a line.
 #
 # The index of lemma files is the one that docs/lemmas.sh writes; README keeps to its size; every link leads to a file; every crate,
-# every file of definitions, every clause of GUARANTEES and every wrong body that a document names exists.
+# every path of a function, every file of definitions, every clause of GUARANTEES and every wrong body that a document names exists;
+# every wrong body is named; the crates above each one that WORKING counts are those of crates.txt.
 set -u
 
 top=$(CDPATH='' cd -- "$(dirname -- "$0")/.." && pwd) || exit 1
 cd "$top" || exit 1
 faults=$(mktemp) || exit 1
-trap 'rm -f "$faults"' EXIT
+named=$(mktemp) || exit 1
+trap 'rm -f "$faults" "$named"' EXIT
 
 fault() { echo "$*" >>"$faults"; }
 
@@ -21,6 +23,34 @@ quoted() { # document
 has() { # crate, name
     [ -f "crates/$1/must-fail/$2.edit" ] \
         || grep -rqwE "(fn|struct|enum|trait|mod|ensures|requires|ghost) $2|(pub|record|abbrev) $2" "crates/$1/src" "crates/$1/specs" 2>/dev/null
+}
+
+# Whether a path leads where it says: behind a name with a small letter, a module that others see, the next name stands in the file of
+# that module; behind one with a capital letter, a type or a trait, it stands in a file that speaks of that type; what stands behind the
+# crate alone is a public module, or public at its top.
+leads() { # crate, rest of the path
+    part=${2%%::*}
+    rest=${2#"$part"}
+    rest=${rest#::}
+    last=${rest##*::}
+    sources=crates/$1/src
+    if [ -z "$rest" ]; then
+        grep -qwE "^pub (fn|struct|enum|trait|mod) $part" "$sources/lib.rt" \
+            || tr '\n' ' ' <"$sources/lib.rt" | grep -o 'pub use [^;]*;' | sed 's/[a-z_]*:://g' | grep -qw "$part" \
+            || grep -rqwE "(record|abbrev|pub) $part" "crates/$1/specs"
+        return
+    fi
+    case $part in
+        [a-z]*)
+            grep -qE "^pub mod $part;" "$sources/lib.rt" || return 1
+            grep -qwE "(fn|struct|enum|const) $last" "$sources/$part.rt"
+            ;;
+        *)
+            files=$(grep -rlwE "(impl|trait|struct|enum)(<[^>]*>)? (.* for )?$part" "$sources") || return 1
+            # shellcheck disable=SC2086  # a name of a source has no blank
+            grep -qwE "fn $last" $files
+            ;;
+    esac
 }
 
 docs/lemmas.sh --check >/dev/null || fault "docs/PROOFS.md: the index is not what docs/lemmas.sh prints"
@@ -40,7 +70,7 @@ for document in README.md docs/*.md clients/python/README.md; do
     # crate::name, crate::Type::name and crate/specs/Name
     quoted "$document" | grep -oE '^pk_[a-z_]+(::[A-Za-z_]+)+' | sort -u | while IFS= read -r name; do
         crate=${name%%::*}
-        has "$crate" "${name##*::}" || fault "$document: no $name"
+        { has "$crate" "${name##*::}" && leads "$crate" "${name#*::}"; } || fault "$document: no $name"
     done
     quoted "$document" | grep -oE '^pk_[a-z_]+/specs/[A-Za-z]+' | sort -u | while IFS= read -r name; do
         [ -f "crates/$name.antt" ] || fault "$document: no definitions $name"
@@ -61,7 +91,10 @@ awk '
         *::* | *" "*) ;;
         *)
             case $kind in
-                '*Refused*:') [ -f "crates/$crate/must-fail/$name.edit" ] || fault "docs/GUARANTEES.md: no wrong body $name of $crate" ;;
+                '*Refused*:')
+                    [ -f "crates/$crate/must-fail/$name.edit" ] || fault "docs/GUARANTEES.md: no wrong body $name of $crate"
+                    echo "$crate $name" >>"$named"
+                    ;;
                 *) has "$crate" "$name" || has pk_drive "$name" || fault "docs/GUARANTEES.md: no clause $name of $crate" ;;
             esac
             ;;
@@ -75,12 +108,39 @@ sed -n 's/^| .* | \(`.*\|the test.*\) |$/\1/p' docs/WRONG-BODIES.md | while IFS=
         case $name in
             pk_*) crate=$name ;;
             *)
+                echo "$crate $name" >>"$named"
                 [ -f "crates/$crate/must-fail/$name.edit" ] \
                     || grep -rqw "fn $name" crates/pk_trials/src crates/pk_hardship_tests/src \
                     || fault "docs/WRONG-BODIES.md: neither a wrong body nor a test $name"
                 ;;
         esac
     done
+done
+
+for edit in crates/*/must-fail/*.edit; do
+    crate=${edit#crates/}
+    crate=${crate%%/*}
+    name=$(basename "$edit" .edit)
+    grep -qx "$crate $name" "$named" || fault "$crate: neither docs/WRONG-BODIES.md nor docs/GUARANTEES.md names its wrong body $name"
+done
+
+# The crates above one, by crates.txt, in which each stands behind those it needs.
+above() { # crate
+    awk -v top="$1" '
+        /^[a-z]/ {
+            name = $1; sub(/:.*/, "", name)
+            for (i = 2; i <= NF; i++) if ($i == top || $i in over) { over[name]; break }
+        }
+        END { for (name in over) print name }' crates.txt
+}
+
+# In WORKING a line of a crate begins with the count of the crates above it, and names all of them or none.
+sed -n 's/^| \(pk_[a-z_]*\) | \([0-9]*\)\(.*\) |$/\1 \2 \3/p' docs/WORKING.md | while read -r crate count told; do
+    all=$(above "$crate" | sort)
+    [ "$(echo "$all" | grep -c .)" -eq "$count" ] || fault "docs/WORKING.md: $crate has $(echo "$all" | grep -c .) crates above it"
+    case $told in
+        ": "*,*) [ "$(echo "${told#: }" | tr -d ' ' | tr , '\n' | sort)" = "$all" ] || fault "docs/WORKING.md: not the crates above $crate" ;;
+    esac
 done
 
 for crate in $(sed -n 's/^\(pk_[a-z_]*\):.*/\1/p' crates.txt); do
