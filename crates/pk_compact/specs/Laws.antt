@@ -10,10 +10,10 @@ use Rattle.pk_model.specs.Found.{Found}
 use Rattle.pk_model.specs.Laws.{AnyByRecursion}
 use Rattle.pk_model.specs.Growth.{Reaches, Goes}
 use Rattle.pk_model.specs.Crashes.{CrashFinds, background}
-use Rattle.pk_pool.specs.Blocks.{Blocks, IsSpare}
+use Rattle.pk_pool.specs.Blocks.{given_back, Blocks, IsSpare}
 use Rattle.pk_steps.specs.Under.{IsUnder, IsValuePage, places}
 use Rattle.pk_steps.specs.Merging.{IsMerged, merged_root, merged_found, freed_by}
-use Rattle.pk_compact.specs.Freezing.{IsApart, given_back}
+use Rattle.pk_compact.specs.Freezing.{IsApart}
 
 -- No spare block is read behind a merge, where blocks of its source and of its target's former run were given back.
 abbrev pub ApartMerged : Type 0

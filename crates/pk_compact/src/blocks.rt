@@ -5,9 +5,8 @@ ghost use Rattle.pk_plan.specs.declared.owner.Owner.TheVariants.{Journal};
 ghost use Rattle.pk_nand.specs.Calls.{IsReady, IsErasedBlock};
 ghost use Rattle.pk_nand.specs.declared.types.Fault.TheVariants.{Stopped};
 ghost use Rattle.pk_pool.specs.declared.state.BlockState.TheVariants.{Owned};
-ghost use Rattle.pk_pool.specs.Blocks.{used_by, with_state, IsSpare, PoolOnFlash};
+ghost use Rattle.pk_pool.specs.Blocks.{used_by, with_state, given_back, IsSpare, PoolOnFlash};
 ghost use Rattle.pk_pool.specs.Taking.{FailsToErase};
-ghost use Rattle.pk_compact.specs.Freezing.{given_back};
 ghost use Rattle.pk_compact.specs.Steps.{AtMostErases};
 
 use pk_nand::{Fault, Nand};
