@@ -96,13 +96,6 @@ impl Epoch {
         self.used
     }
 
-    /// Whether it was begun by this drive, and not found at opening.
-    pub fn is_fresh(&self) -> bool
-        ensures { result ≡ self.now.takes_more }
-    {
-        self.takes_more
-    }
-
     /// Its number.
     pub fn number(&self) -> u64
         ensures { result ≡ self.now.number }
