@@ -1,6 +1,7 @@
 -- Blocks that a job may take.
 use Rattle.std.specs.Prelude.{◌≡◌, ◌≢◌, ℕ, ◌/◌, ◌<◌, ◌≤◌, []}
 use Rattle.pk_base.specs.Shape.{Shape}
+use Rattle.pk_base.specs.declared.sizes.TheConstants.{ROOT_BLOCKS}
 use Rattle.pk_rootfmt.specs.Root.{Root, named}
 use Rattle.pk_model.specs.Found.{Found}
 use Rattle.pk_model.specs.Laws.{AnyByRecursion}
@@ -14,8 +15,8 @@ pub record IsApart (shape : Shape) (pool : Blocks) (root : Root) (found : Found)
 
 -- two different blocks behind the root blocks
 pub record AreTwo (shape : Shape) (first second : ℕ) : Type 0 where
-  pub first_least : 2 ≤ first
+  pub first_least : ROOT_BLOCKS ≤ first
   pub first_most : first < shape.blocks
-  pub second_least : 2 ≤ second
+  pub second_least : ROOT_BLOCKS ≤ second
   pub second_most : second < shape.blocks
   pub different : second ≢ first

@@ -3,6 +3,7 @@ use Rattle.std.specs.Prelude.{◌≡◌, ℕ, ◌/◌, ◌≤◌, List, []}
 use Rattle.pk_base.specs.Shape.{Shape, IsShape}
 use Rattle.pk_base.specs.Page.{Flash}
 use Rattle.pk_base.specs.Map.{Map}
+use Rattle.pk_base.specs.declared.sizes.TheConstants.{ROOT_BLOCKS}
 use Rattle.pk_nand.specs.BoardState.{BoardState}
 use Rattle.pk_nand.specs.Calls.{IsReady, after_program, after_erase, ProgramFailed, EraseFailed}
 use Rattle.pk_rootfmt.specs.Root.{Root, named}
@@ -26,7 +27,7 @@ ApartMerged =
 
 -- a block behind the root blocks that the root does not name, and in which no value that counts has a page
 pub record IsUnread (shape : Shape) (root : Root) (found : Found) (block : ℕ) : Type 0 where
-  pub least : 2 ≤ block
+  pub least : ROOT_BLOCKS ≤ block
   pub unnamed : AnyByRecursion (λ c. block ≡ c) (named root) → ⊥
   pub no_value : (k : ℕ) → k / shape.block_pages ≡ block → IsValuePage shape (places found []) k → ⊥
 

@@ -11,7 +11,7 @@ ghost use Rattle.pk_seg.specs.Counts.{ReadsFailed};
 ghost use Rattle.pk_seg.specs.Stored.{IsFront, BringsPiece, written, WriteFailed};
 
 use crate::pages::write_page;
-use pk_base::{HEAD_BYTES, Key, Shape};
+use pk_base::{HEAD_BYTES, Key, MOST_PAGE_BYTES, Shape};
 use pk_nand::{Fault, Nand};
 use pk_segfmt::page as value_page;
 
@@ -77,7 +77,7 @@ pub fn write_value<B: Nand>(
 fn copy_page(into: &mut [u8], i: u32, page: &[u8])
     requires within { i * length page.now - HEAD_BYTES ≤ length into.old }
     requires head { HEAD_BYTES ≤ length page.now }
-    requires small { length page.now ≤ 16384 }
+    requires small { length page.now ≤ MOST_PAGE_BYTES }
     ensures front { take (min (length into.old) ((i + 1) * length page.now - HEAD_BYTES)) into.new
         ≡ take (i * length page.now - HEAD_BYTES) into.old
         ++ take (length into.old - (i * length page.now - HEAD_BYTES))
