@@ -17,7 +17,7 @@ use Rattle.pk_model.proofs.SamePages.{any_front}
 use Rattle.pk_model.proofs.Commits.{any_behind, apart, member, injective, differ_front, values_apart, is_any_back}
 use Rattle.pk_model.proofs.ValueSets.{is_true}
 use Rattle.pk_pool.specs.declared.state.BlockState.TheVariants.{Owned}
-use Rattle.pk_pool.specs.Blocks.{Blocks, IsShared, IsSpare, PoolOnFlash}
+use Rattle.pk_pool.specs.Blocks.{given_back, Blocks, IsShared, IsSpare, PoolOnFlash}
 use Rattle.pk_pool.specs.Unready.{unready}
 use Rattle.pk_pool.proofs.Fitting.{PoolOnFlash-same}
 use Rattle.pk_root.specs.declared.next.Next.{Next}
@@ -29,7 +29,7 @@ use Rattle.pk_steps.specs.Freezing.{IsFrozen}
 use Rattle.pk_steps.proofs.FrozenNext.{frozen_next}
 use Rattle.pk_steps.proofs.Untouched.{values_under}
 use Rattle.pk_steps.proofs.Places.{In, in_append}
-use Rattle.pk_compact.specs.Freezing.{IsApart, AreTwo, given_back}
+use Rattle.pk_compact.specs.Freezing.{IsApart, AreTwo}
 use Rattle.pk_compact.specs.Steps.{next_root}
 use Rattle.pk_compact.specs.declared.freezing.FreezeJob.TheVariants.{Idle, HasTwo}
 use Rattle.pk_compact.specs.Installing.{IsPrepared, CanPrepare, CanInstall, IsInstalled}

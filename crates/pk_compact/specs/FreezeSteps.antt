@@ -4,12 +4,13 @@ use Rattle.std.specs.List.{AllByRecursion}
 use Rattle.pk_base.specs.Shape.{Shape, root_pages}
 use Rattle.pk_base.specs.Page.{Flash, page_at, SameBehind}
 use Rattle.pk_base.specs.Map.{Map}
+use Rattle.pk_base.specs.declared.sizes.TheConstants.{ROOT_BLOCKS, EPOCH_BLOCKS}
 use Rattle.pk_work.specs.Rest.{Lowers, steps_of}
 use Rattle.pk_work.specs.Jobs.{freeze_rest}
 use Rattle.pk_plan.specs.declared.owner.Owner.TheVariants.{Journal}
 use Rattle.pk_nand.specs.BoardState.{BoardState}
 use Rattle.pk_nand.specs.Calls.{IsErasedBlock}
-use Rattle.pk_rootfmt.specs.Root.{Root, named, differ}
+use Rattle.pk_rootfmt.specs.Root.{Root, named, differ, last_number}
 use Rattle.pk_rootfmt.specs.Held.{Held, two_of}
 use Rattle.pk_model.specs.Found.{Found}
 use Rattle.pk_model.specs.Laws.{AnyByRecursion}
@@ -17,13 +18,13 @@ use Rattle.pk_model.specs.Growth.{Reaches, Goes}
 use Rattle.pk_model.specs.Crashes.{CrashFinds, background}
 use Rattle.pk_model.specs.Wear.{root_number}
 use Rattle.pk_pool.specs.declared.state.BlockState.TheVariants.{Owned}
-use Rattle.pk_pool.specs.Blocks.{Blocks, used_by, with_state, IsSpare, PoolOnFlash}
+use Rattle.pk_pool.specs.Blocks.{Blocks, used_by, with_state, given_back, IsSpare, PoolOnFlash}
 use Rattle.pk_pool.specs.Unready.{unready}
 use Rattle.pk_root.specs.declared.next.Next.{Next}
 use Rattle.pk_root.specs.Installing.{InstallerOnFlash, erases_next}
 use Rattle.pk_steps.specs.Under.{IsUnder}
 use Rattle.pk_steps.specs.Roots.{frozen_root, frozen}
-use Rattle.pk_compact.specs.Freezing.{IsApart, given_back}
+use Rattle.pk_compact.specs.Freezing.{IsApart}
 use Rattle.pk_compact.specs.declared.freezing.FreezeJob.{FreezeJob}
 use Rattle.pk_compact.specs.declared.freezing.FreezeJob.TheVariants.{Idle, HasOne, HasTwo}
 
@@ -43,7 +44,7 @@ freeze_left job next = steps_of (freeze_rest (length (taken_by job)) (install_st
 
 -- a block of the journal behind the root blocks, which is Erased, and which the root does not name
 pub record IsTaken (shape : Shape) (pool : Blocks) (flash : Flash) (root : Root) (b : ℕ) : Type 0 where
-  pub least : 2 ≤ b
+  pub least : ROOT_BLOCKS ≤ b
   pub most : b < shape.blocks
   pub owned : slice_get pool.states b ≡ Some (Owned Journal)
   pub is_erased : IsErasedBlock shape flash b
@@ -60,8 +61,8 @@ pub record IsFreezing (pool : Blocks) (root : Held) (next : Next) (job : FreezeJ
   pub none_older : found.older ≡ []
   pub none_named : root.root.older ≡ []
   pub told : (length found.newest == 0) ≡ not has_entries
-  pub number : root.root.number < 18446744073709551615
-  pub room : used_by Journal pool.states ≤ 2 + length (taken_by job)
+  pub number : root.root.number < last_number
+  pub room : used_by Journal pool.states ≤ EPOCH_BLOCKS + length (taken_by job)
   pub owned : (b : ℕ) → AnyByRecursion (λ c. b ≡ c) root.root.newest → slice_get pool.states b ≡ Some (Owned Journal)
   pub apart : IsApart root.shape pool root.root found
   pub taken : AllByRecursion (IsTaken root.shape pool flash root.root) (taken_by job)

@@ -1,11 +1,11 @@
--- Blocks that a job may take, and those that are given back.
-use Rattle.std.specs.Prelude.{◌≡◌, ◌≢◌, ℕ, ◌/◌, ◌<◌, ◌≤◌, List, [], ◌∷◌}
+-- Blocks that a job may take.
+use Rattle.std.specs.Prelude.{◌≡◌, ◌≢◌, ℕ, ◌/◌, ◌<◌, ◌≤◌, []}
 use Rattle.pk_base.specs.Shape.{Shape}
+use Rattle.pk_base.specs.declared.sizes.TheConstants.{ROOT_BLOCKS}
 use Rattle.pk_rootfmt.specs.Root.{Root, named}
 use Rattle.pk_model.specs.Found.{Found}
 use Rattle.pk_model.specs.Laws.{AnyByRecursion}
-use Rattle.pk_pool.specs.declared.state.BlockState.TheVariants.{Free}
-use Rattle.pk_pool.specs.Blocks.{Blocks, with_state, IsSpare}
+use Rattle.pk_pool.specs.Blocks.{Blocks, IsSpare}
 use Rattle.pk_steps.specs.Under.{IsValuePage, places}
 
 -- no spare block is read: the root names none, and none has a page of a value
@@ -13,15 +13,10 @@ pub record IsApart (shape : Shape) (pool : Blocks) (root : Root) (found : Found)
   pub unnamed : (b : ℕ) → IsSpare pool b → AnyByRecursion (λ c. b ≡ c) (named root) → ⊥
   pub no_value : (b k : ℕ) → IsSpare pool b → k / shape.block_pages ≡ b → IsValuePage shape (places found []) k → ⊥
 
--- the pool with these blocks free
-abbrev pub given_back : Blocks → List ℕ → Blocks
-given_back pool [] = pool
-given_back pool (b ∷ bs) = given_back (with_state pool b Free) bs
-
 -- two different blocks behind the root blocks
 pub record AreTwo (shape : Shape) (first second : ℕ) : Type 0 where
-  pub first_least : 2 ≤ first
+  pub first_least : ROOT_BLOCKS ≤ first
   pub first_most : first < shape.blocks
-  pub second_least : 2 ≤ second
+  pub second_least : ROOT_BLOCKS ≤ second
   pub second_most : second < shape.blocks
   pub different : second ≢ first

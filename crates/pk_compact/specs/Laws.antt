@@ -3,6 +3,7 @@ use Rattle.std.specs.Prelude.{◌≡◌, ℕ, ◌/◌, ◌≤◌, List, []}
 use Rattle.pk_base.specs.Shape.{Shape, IsShape}
 use Rattle.pk_base.specs.Page.{Flash}
 use Rattle.pk_base.specs.Map.{Map}
+use Rattle.pk_base.specs.declared.sizes.TheConstants.{ROOT_BLOCKS}
 use Rattle.pk_nand.specs.BoardState.{BoardState}
 use Rattle.pk_nand.specs.Calls.{IsReady, after_program, after_erase, ProgramFailed, EraseFailed}
 use Rattle.pk_rootfmt.specs.Root.{Root, named}
@@ -10,10 +11,10 @@ use Rattle.pk_model.specs.Found.{Found}
 use Rattle.pk_model.specs.Laws.{AnyByRecursion}
 use Rattle.pk_model.specs.Growth.{Reaches, Goes}
 use Rattle.pk_model.specs.Crashes.{CrashFinds, background}
-use Rattle.pk_pool.specs.Blocks.{Blocks, IsSpare}
+use Rattle.pk_pool.specs.Blocks.{given_back, Blocks, IsSpare}
 use Rattle.pk_steps.specs.Under.{IsUnder, IsValuePage, places}
 use Rattle.pk_steps.specs.Merging.{IsMerged, merged_root, merged_found, freed_by}
-use Rattle.pk_compact.specs.Freezing.{IsApart, given_back}
+use Rattle.pk_compact.specs.Freezing.{IsApart}
 
 -- No spare block is read behind a merge, where blocks of its source and of its target's former run were given back.
 abbrev pub ApartMerged : Type 0
@@ -26,7 +27,7 @@ ApartMerged =
 
 -- a block behind the root blocks that the root does not name, and in which no value that counts has a page
 pub record IsUnread (shape : Shape) (root : Root) (found : Found) (block : ℕ) : Type 0 where
-  pub least : 2 ≤ block
+  pub least : ROOT_BLOCKS ≤ block
   pub unnamed : AnyByRecursion (λ c. block ≡ c) (named root) → ⊥
   pub no_value : (k : ℕ) → k / shape.block_pages ≡ block → IsValuePage shape (places found []) k → ⊥
 

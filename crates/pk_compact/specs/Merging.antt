@@ -5,7 +5,7 @@ use Rattle.pk_base.specs.Page.{Flash, SameBehind}
 use Rattle.pk_base.specs.Map.{Map}
 use Rattle.pk_base.specs.Merge.{room}
 use Rattle.pk_nand.specs.BoardState.{BoardState}
-use Rattle.pk_rootfmt.specs.Root.{Root}
+use Rattle.pk_rootfmt.specs.Root.{Root, last_number}
 use Rattle.pk_rootfmt.specs.Held.{Held}
 use Rattle.pk_model.specs.Found.{Found}
 use Rattle.pk_model.specs.Growth.{Reaches, Goes}
@@ -28,7 +28,7 @@ pub record CanMerge (root : Held) (next : Next) (flash : Flash) (top : ℕ × Ro
   pub under : IsUnder root.shape flash [] top found m
   pub merged : IsMerged root.shape flash [] top found level count taken
   pub few : count ≤ room root.shape level
-  pub number : root.root.number < 18446744073709551615
+  pub number : root.root.number < last_number
 
 -- The root of the merge is the newest one: its run has the output, and the source is empty. The map is the same, wherever the program is cut.
 pub record HasMerged (shape : Shape) (old : BoardState) (top : ℕ × Root) (found : Found) (m : Map) (level count : ℕ) (taken : List ℕ) (root' : Root) (next' : Next) (new : BoardState) : Type 0 where

@@ -5,11 +5,11 @@ ghost use Rattle.pk_plan.specs.declared.owner.Owner.TheVariants.{Journal};
 ghost use Rattle.pk_nand.specs.Calls.{IsReady, IsErasedBlock};
 ghost use Rattle.pk_nand.specs.declared.types.Fault.TheVariants.{Stopped};
 ghost use Rattle.pk_pool.specs.declared.state.BlockState.TheVariants.{Owned};
-ghost use Rattle.pk_pool.specs.Blocks.{used_by, with_state, IsSpare, PoolOnFlash};
+ghost use Rattle.pk_pool.specs.Blocks.{used_by, with_state, given_back, IsSpare, PoolOnFlash};
 ghost use Rattle.pk_pool.specs.Taking.{FailsToErase};
-ghost use Rattle.pk_compact.specs.Freezing.{given_back};
 ghost use Rattle.pk_compact.specs.Steps.{AtMostErases};
 
+use pk_base::{EPOCH_BLOCKS, ROOT_BLOCKS};
 use pk_nand::{Fault, Nand};
 use pk_pool::{Owner, Pool};
 use std::alloc::Allocator;
@@ -19,14 +19,14 @@ pub(crate) fn take_block<B: Nand, A: Allocator>(
     board: &mut B,
     pool: &mut Pool<A>,
 ) -> Result<u16, Fault>
-    requires room { used_by Journal pool.old.states < 4 }
+    requires room { used_by Journal pool.old.states < 2 * EPOCH_BLOCKS }
     requires ready { IsReady (B.state board.old) pool.old.shape }
     requires fits { PoolOnFlash pool.old (B.state board.old).pages }
 
     // The journal has one block more, which is Erased.
     ensures taken { IfOk result (λ b. (pool.new ≡ with_state pool.old b (Owned Journal))
         × AtMostErases b (B.state board.old) (B.state board.new)) }
-    ensures spare { IfOk result (λ b. IsSpare pool.old b × (2 ≤ b) × (b < pool.old.shape.blocks)
+    ensures spare { IfOk result (λ b. IsSpare pool.old b × (ROOT_BLOCKS ≤ b) × (b < pool.old.shape.blocks)
         × IsErasedBlock pool.old.shape (B.state board.new).pages b) }
     ensures counted { OnOk result
         (used_by Journal pool.new.states ≡ used_by Journal pool.old.states + 1) }

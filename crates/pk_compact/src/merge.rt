@@ -5,7 +5,7 @@ ghost use Rattle.pk_base.specs.Map.{Map};
 ghost use Rattle.pk_base.specs.Shape.{meta_blocks};
 ghost use Rattle.pk_nand.specs.Calls.{IsReady};
 ghost use Rattle.pk_nand.specs.Effects.{AtMostOneCall};
-ghost use Rattle.pk_rootfmt.specs.Root.{Root as RootValue};
+ghost use Rattle.pk_rootfmt.specs.Root.{Root as RootValue, last_number};
 ghost use Rattle.pk_model.specs.Found.{Found};
 ghost use Rattle.pk_model.specs.Growth.{Grows};
 ghost use Rattle.pk_model.specs.Steps.{Step};
@@ -38,7 +38,7 @@ fn empty_source<A: Allocator>(root: &mut Root<A>, level: u8)
 // Makes the root the one behind a merge into this level, whose output has so many entries, in these blocks.
 fn follow<A: Allocator>(root: &mut Root<A>, level: u8, count: u32, taken: &[u16])
     requires level { 1 ≤ level × level ≤ 4 }
-    requires number { root.old.root.number < 18446744073709551615 }
+    requires number { root.old.root.number < last_number }
     requires newest { length root.old.root.newest ≡ 2 }
     requires room { length (concat root.old.root.runs) + length taken.now
         ≤ meta_blocks root.old.shape }
@@ -88,8 +88,5 @@ pub fn install_merge<B: Nand, A: Allocator>(
 {
     root.shape().known();
     follow(root, level, count, taken);
-    match install_root(board, root, installer, buf) {
-        Ok(()) => Ok(()),
-        Err(fault) => Err(fault),
-    }
+    install_root(board, root, installer, buf)
 }

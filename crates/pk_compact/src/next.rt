@@ -1,5 +1,6 @@
 //! The root that follows.
 ghost use Rattle.std.specs.Prelude.{◌≡◌, ◌≤◌, ◌<◌, [], length, if◌then◌else◌};
+ghost use Rattle.pk_rootfmt.specs.Root.{last_number};
 ghost use Rattle.pk_rootfmt.specs.Held.{blocks_or_none};
 ghost use Rattle.pk_compact.specs.Steps.{next_root};
 
@@ -19,7 +20,7 @@ fn older<A: Allocator>(root: &Root<A>, has_entries: bool) -> Option<[u16; 2]>
 
 /// Makes the root the next one: an empty epoch in these blocks, and the former one as the older where it has entries.
 pub(crate) fn follow<A: Allocator>(root: &mut Root<A>, blocks: [u16; 2], has_entries: bool)
-    requires number { root.old.root.number < 18446744073709551615 }
+    requires number { root.old.root.number < last_number }
     requires epoch { root.old.root.epoch ≤ root.old.root.number }
     requires newest { length root.old.root.newest ≡ 2 }
     ensures { root.new ≡ record root.old { root = next_root root.old.root blocks has_entries } }

@@ -37,10 +37,7 @@ pub fn prepare_root<B: Nand>(
     ensures grows { Grows shape.now (B.state board.old).pages (B.state board.new).pages }
 {
     shape.known();
-    match installer.erase(board, shape) {
-        Ok(()) => Ok(()),
-        Err(fault) => Err(fault),
-    }
+    installer.erase(board, shape)
 }
 
 /// Programs a root that may follow the newest one, where no erase is next: the one call of the board. Wherever it is cut, the

@@ -12,7 +12,7 @@ ghost use Rattle.pk_jrn.specs.Epochs.{started, found_at_opening, left_of, AreBlo
 ghost use Rattle.pk_jrn.specs.Appends.{next_bytes, programs_of_commit, AddsAll, CommitReached, CommitWent};
 
 use crate::pages::page_of;
-use pk_base::{Entry, Shape};
+use pk_base::{EPOCH_BLOCKS, Entry, Shape};
 use pk_jrnfmt::encode;
 use pk_nand::{Fault, Nand};
 use pk_seg::write_page;
@@ -30,6 +30,7 @@ pub struct Epoch {
 
 impl Model for Epoch {
     ghost use Rattle.std.specs.Prelude.{◌≡◌, ◌≤◌, length};
+    ghost use Rattle.pk_base.specs.declared.sizes.TheConstants.{EPOCH_BLOCKS};
     ghost use Rattle.pk_base.specs.Shape.{epoch_commits};
     ghost use Rattle.pk_jrn.specs.Epochs.{JournalEpoch};
 
@@ -43,7 +44,7 @@ impl Model for Epoch {
       takes_more = e.takes_more;
     } };
 
-    ghost invariant = { λ e. (length e.blocks ≡ 2) × (e.used ≤ epoch_commits e.shape) };
+    ghost invariant = { λ e. (length e.blocks ≡ EPOCH_BLOCKS) × (e.used ≤ epoch_commits e.shape) };
 }
 
 impl Epoch {
@@ -96,13 +97,6 @@ impl Epoch {
         self.used
     }
 
-    /// Whether it was begun by this drive, and not found at opening.
-    pub fn is_fresh(&self) -> bool
-        ensures { result ≡ self.now.takes_more }
-    {
-        self.takes_more
-    }
-
     /// Its number.
     pub fn number(&self) -> u64
         ensures { result ≡ self.now.number }
@@ -113,7 +107,7 @@ impl Epoch {
     /// Its two blocks in their order.
     pub fn blocks(&self) -> [u16; 2]
         ensures value { result ≡ self.now.blocks }
-        ensures two { length self.now.blocks ≡ 2 }
+        ensures two { length self.now.blocks ≡ EPOCH_BLOCKS }
     {
         self.blocks
     }

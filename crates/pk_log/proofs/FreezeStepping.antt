@@ -23,7 +23,7 @@ use Rattle.pk_model.specs.Found.{Found}
 use Rattle.pk_model.proofs.Commits.{blocks_of_root, member}
 use Rattle.pk_model.proofs.SamePages.{any_front}
 use Rattle.pk_pool.specs.declared.state.BlockState.TheVariants.{Free}
-use Rattle.pk_pool.specs.Blocks.{Blocks, PoolOnFlash, with_state}
+use Rattle.pk_pool.specs.Blocks.{Blocks, PoolOnFlash, with_state, given_back as back}
 use Rattle.pk_pool.specs.Unready.{unready}
 use Rattle.pk_pool.proofs.Counting.{given_back}
 use Rattle.pk_pool.proofs.States.{get-set_other}
@@ -31,7 +31,7 @@ use Rattle.pk_steps.specs.Roots.{frozen, frozen_root}
 use Rattle.pk_steps.proofs.NewestBlocks.{valid_root}
 use Rattle.pk_steps.proofs.Places.{In}
 use Rattle.pk_steps.proofs.UnderRoot.{none_named}
-use Rattle.pk_compact.specs.Freezing.{IsApart, given_back as back}
+use Rattle.pk_compact.specs.Freezing.{IsApart}
 use Rattle.pk_compact.specs.FreezeSteps.{IsFreezing, IsTaken, AreOwned, FreezeGoesOn, FreezeInstalled, FreezeSteps, taken_by, freeze_left}
 use Rattle.pk_compact.specs.declared.freezing.FreezeJob.{FreezeJob}
 use Rattle.pk_compact.proofs.TakingOne.{all_in}

@@ -3,10 +3,11 @@ use Rattle.std.specs.Prelude.{◌≡◌, ℕ, ◌+◌, ◌<◌, ◌≤◌, List,
 use Rattle.std.specs.List.{AllByRecursion}
 use Rattle.pk_base.specs.Page.{Flash, SameBehind}
 use Rattle.pk_base.specs.Map.{Map}
+use Rattle.pk_base.specs.declared.sizes.TheConstants.{EPOCH_BLOCKS}
 use Rattle.pk_work.specs.Rest.{Lowers}
 use Rattle.pk_plan.specs.declared.owner.Owner.TheVariants.{Journal}
 use Rattle.pk_nand.specs.BoardState.{BoardState}
-use Rattle.pk_rootfmt.specs.Root.{Root, differ}
+use Rattle.pk_rootfmt.specs.Root.{Root, differ, last_number}
 use Rattle.pk_root.specs.declared.next.Next.{Next}
 use Rattle.pk_jrn.specs.Epochs.{started}
 use Rattle.pk_model.specs.Found.{Found}
@@ -15,11 +16,11 @@ use Rattle.pk_model.specs.Crashes.{CrashFinds, background}
 use Rattle.pk_model.specs.Laws.{AnyByRecursion}
 use Rattle.pk_model.specs.Wear.{root_number}
 use Rattle.pk_pool.specs.declared.state.BlockState.TheVariants.{Owned}
-use Rattle.pk_pool.specs.Blocks.{Blocks, used_by, PoolOnFlash}
+use Rattle.pk_pool.specs.Blocks.{Blocks, used_by, given_back, PoolOnFlash}
 use Rattle.pk_pool.specs.Unready.{unready}
 use Rattle.pk_steps.specs.Under.{IsUnder}
 use Rattle.pk_steps.specs.Roots.{frozen, frozen_root}
-use Rattle.pk_compact.specs.Freezing.{IsApart, given_back}
+use Rattle.pk_compact.specs.Freezing.{IsApart}
 use Rattle.pk_compact.specs.FreezeSteps.{IsTaken, SameBut, TakesOne, taken_by, freeze_left}
 use Rattle.pk_compact.specs.declared.freezing.FreezeJob.{FreezeJob}
 use Rattle.pk_compact.specs.declared.freezing.FreezeJob.TheVariants.{Idle}
@@ -35,8 +36,8 @@ pub record CanStep (log : LogState) (pool : Blocks) (job : FreezeJob) (flash : F
   pub under : IsUnder log.shape flash [] top found m
   pub pool_shape : pool.shape ≡ log.shape
   pub pool_fits : PoolOnFlash pool flash
-  pub number : log.root.number < 18446744073709551615
-  pub room : used_by Journal pool.states ≤ 2 + length (taken_by job)
+  pub number : log.root.number < last_number
+  pub room : used_by Journal pool.states ≤ EPOCH_BLOCKS + length (taken_by job)
   pub owned : (b : ℕ) → AnyByRecursion (λ c. b ≡ c) log.root.newest → slice_get pool.states b ≡ Some (Owned Journal)
   pub apart : IsApart log.shape pool log.root found
   pub taken : AllByRecursion (IsTaken log.shape pool flash log.root) (taken_by job)

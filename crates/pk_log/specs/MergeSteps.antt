@@ -4,7 +4,7 @@ use Rattle.pk_base.specs.Page.{Flash, SameBehind}
 use Rattle.pk_base.specs.Map.{Map}
 use Rattle.pk_base.specs.Merge.{room}
 use Rattle.pk_nand.specs.BoardState.{BoardState}
-use Rattle.pk_rootfmt.specs.Root.{Root}
+use Rattle.pk_rootfmt.specs.Root.{Root, last_number}
 use Rattle.pk_root.specs.Installing.{erases_next}
 use Rattle.pk_buf.specs.Table.{Table}
 use Rattle.pk_model.specs.Found.{Found}
@@ -51,7 +51,7 @@ pub record MayMerge (log : LogState) (flash : Flash) (top : ℕ × Root) (found 
   pub under : IsUnder log.shape flash [] top found m
   pub merged : IsMerged log.shape flash [] top found level count taken
   pub few : count ≤ room log.shape level
-  pub number : log.root.number < 18446744073709551615
+  pub number : log.root.number < last_number
 
 -- of a log only the root, what its installer does next, and the frozen buffer may differ
 abbrev pub KeepsActive : LogState → LogState → Type 0

@@ -127,13 +127,6 @@ impl<A: Region> Log<A> {
         self.epoch.used()
     }
 
-    /// Whether the newest epoch was begun by this drive, and not found at opening.
-    pub fn is_fresh(&self) -> bool
-        ensures { result ≡ self.now.epoch.takes_more }
-    {
-        self.epoch.is_fresh()
-    }
-
     /// How many more pages the newest epoch takes.
     pub fn left(&self) -> u32
         ensures { result ≡ left_of self.now.epoch }

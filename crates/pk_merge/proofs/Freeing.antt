@@ -4,11 +4,11 @@ use Rattle.std.proofs.lemmas.Option.{slice_get_within}
 use Rattle.pk_pin.specs.Frames.{Frames, IsLeased, given}
 use Rattle.pk_plan.specs.declared.owner.Owner.TheVariants.{Meta}
 use Rattle.pk_pool.specs.declared.state.BlockState.TheVariants.{Free}
-use Rattle.pk_pool.specs.Blocks.{Blocks, IsOwned, with_state}
+use Rattle.pk_pool.specs.Blocks.{Blocks, given_back, IsOwned, with_state}
 use Rattle.pk_pool.specs.Unready.{unready}
 use Rattle.pk_pool.proofs.Counting.{given_back}
 use Rattle.pk_pool.proofs.States.{get-set_other}
-use Rattle.pk_merge.specs.Jobs.{AreOwned, AreLeased, LeavesBlocks, freed}
+use Rattle.pk_merge.specs.Jobs.{AreOwned, AreLeased, LeavesBlocks}
 use Rattle.pk_merge.proofs.Needing.{row_of}
 
 -- ---- blocks
@@ -29,8 +29,8 @@ module _ (pool new : Blocks) (blocks : List ℕ) (i : ℕ) (inside : i < length 
   still_owned own =
       rw (add-one, is) (rest_owned pool (get_or blocks i 0) (drop (suc i) blocks) (subst (λ (xs : List ℕ). AreOwned pool xs) (drop-cons blocks i 0 inside) own))
 
-  pub freed_next : freed new (drop (i + 1) blocks) ≡ freed pool (drop i blocks)
-  freed_next = rw (add-one, is) (ap (freed pool) (sym (drop-cons blocks i 0 inside)))
+  pub freed_next : given_back new (drop (i + 1) blocks) ≡ given_back pool (drop i blocks)
+  freed_next = rw (add-one, is) (ap (given_back pool) (sym (drop-cons blocks i 0 inside)))
 
   -- as many blocks are not ready
   pub unready_next : AreOwned pool (drop i blocks) → unready new.states ≡ unready pool.states
@@ -38,7 +38,7 @@ module _ (pool new : Blocks) (blocks : List ℕ) (i : ℕ) (inside : i < length 
       ap (λ (p : Blocks). unready p.states) is ∙ given_back pool.states (get_or blocks i 0) Meta (own.meta 0 (get_or blocks i 0) (ap (λ (xs : List ℕ). slice_get xs 0) (drop-cons blocks i 0 inside)))
 
 -- a block that is none of them is what it was
-pub freed_others : (pool : Blocks) (blocks : List ℕ) → LeavesBlocks blocks pool (freed pool blocks)
+pub freed_others : (pool : Blocks) (blocks : List ℕ) → LeavesBlocks blocks pool (given_back pool blocks)
 freed_others pool [] b none = refl
 freed_others pool (c ∷ cs) b none = freed_others (with_state pool c Free) cs b (λ i got. none (suc i) got) ∙ get-set_other pool.states c b Free (λ e. none 0 (ap (λ (x : ℕ). Some x) (sym e)))
 

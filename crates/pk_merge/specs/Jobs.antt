@@ -4,8 +4,7 @@ use Rattle.pk_base.specs.Shape.{Shape, run_pages, run_blocks}
 use Rattle.pk_base.specs.Entry.{Entry}
 use Rattle.pk_base.specs.Page.{Flash}
 use Rattle.pk_pin.specs.Frames.{Frames, IsLeased, given, times}
-use Rattle.pk_pool.specs.declared.state.BlockState.TheVariants.{Free}
-use Rattle.pk_pool.specs.Blocks.{Blocks, with_state}
+use Rattle.pk_pool.specs.Blocks.{Blocks}
 use Rattle.pk_run.specs.Kept.{Kept, RunOnFlash, empty}
 use Rattle.pk_merge.specs.declared.source.Source.{Source}
 use Rattle.pk_merge.specs.Merging.{Merger, restarted}
@@ -82,11 +81,6 @@ module _ {X : Type 0} (source : Source X) (target : Kept) where
       → LowersTo source target (output_of j) j.merger pool (output_of j') j'.merger pool' pages blocks
 
 -- ---- the end
-
--- these blocks are given back
-abbrev pub freed : Blocks → List ℕ → Blocks
-freed pool [] = pool
-freed pool (b ∷ bs) = freed (with_state pool b Free) bs
 
 -- these frames are given back, the last first
 abbrev pub given_all : Frames → List ℕ → Frames

@@ -8,7 +8,7 @@ ghost use Rattle.pk_nand.specs.Calls.{IsReady, Rose};
 ghost use Rattle.pk_nand.specs.Effects.{AtMostOneCall, NoFault, OnlyFlash, OnlyReading, Stops};
 ghost use Rattle.pk_nand.specs.declared.types.Fault.TheVariants.{Reading, Stopped};
 ghost use Rattle.pk_pin.specs.Frames.{Frames, AreLeases};
-ghost use Rattle.pk_pool.specs.Blocks.{Blocks, PoolOnFlash};
+ghost use Rattle.pk_pool.specs.Blocks.{Blocks, given_back, PoolOnFlash};
 ghost use Rattle.pk_pool.specs.Unready.{unready};
 ghost use Rattle.pk_run.specs.Kept.{Kept, empty, most_pages, most_blocks};
 ghost use Rattle.pk_merge.specs.declared.source.Source.{Source as SourceSpec};
@@ -17,7 +17,7 @@ ghost use Rattle.pk_merge.specs.Running.{IsMergerOf, CanBegin};
 ghost use Rattle.pk_merge.specs.Steps.{Steps, Fails};
 ghost use Rattle.pk_merge.specs.Remaining.{LowersTo, IsWithin};
 ghost use Rattle.pk_merge.specs.Elsewhere.{StepReaches, StepWent, LeavesRuns, LeavesLeases, IsElsewhere};
-ghost use Rattle.pk_merge.specs.Jobs.{pins, output_of, begun, IsIdle, JobRuns, RunsOn, Completes, LowersRest, freed, given_all, given_to, held_at, taken_from, ended, AreOwned, AreLeased, LeavesOthers, LeavesBlocks};
+ghost use Rattle.pk_merge.specs.Jobs.{pins, output_of, begun, IsIdle, JobRuns, RunsOn, Completes, LowersRest, given_all, given_to, held_at, taken_from, ended, AreOwned, AreLeased, LeavesOthers, LeavesBlocks};
 
 use crate::merger::Merger;
 use crate::source::{Inputs, Source};
@@ -254,7 +254,7 @@ impl<A: Region> MergeJob<A> {
         ensures kept { self.new ≡ given_to self.old former }
 
         // Its blocks are free.
-        ensures pool { pool.new ≡ freed pool.old former.blocks }
+        ensures pool { pool.new ≡ given_back pool.old former.blocks }
         ensures blocks { LeavesBlocks former.blocks pool.old pool.new }
         ensures unready { unready pool.new.states ≡ unready pool.old.states }
         ensures fits { (flash : Flash) → PoolOnFlash pool.old flash → PoolOnFlash pool.new flash }
@@ -283,7 +283,7 @@ impl<A: Region> MergeJob<A> {
 // Gives blocks back, which are owned.
 fn free_blocks<A: Allocator>(pool: &mut Pool<A>, blocks: &[u16])
     requires { AreOwned pool.old blocks.now }
-    ensures freed { pool.new ≡ freed pool.old blocks.now }
+    ensures freed { pool.new ≡ given_back pool.old blocks.now }
     ensures unready { unready pool.new.states ≡ unready pool.old.states }
     ensures fits { (flash : Flash) → PoolOnFlash pool.old flash → PoolOnFlash pool.new flash }
 {

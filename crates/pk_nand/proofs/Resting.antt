@@ -1,7 +1,7 @@
 -- A flash rests while nothing is done, or bytes are given out.
-use Rattle.std.proofs.Common.{◌≡◌, inl, inr, ℕ, List, [], ◌∷◌, ◌++◌, refl, sym, ◌∙◌, ap, subst, append-nil}
+use Rattle.std.proofs.Common.{◌≡◌, inl, inr, ℕ, List, [], ◌∷◌, ◌++◌, refl, sym, ◌∙◌, ap, subst}
 use Rattle.pk_base.specs.Page.{Flash}
-use Rattle.pk_base.specs.Mark.{Mark, post, all_posted}
+use Rattle.pk_base.specs.Mark.{post}
 use Rattle.pk_nand.specs.BoardState.{BoardState}
 use Rattle.pk_nand.specs.Calls.{longer, after_post, PostFailed}
 use Rattle.pk_nand.specs.Crash.{ReachedBy}

@@ -5,7 +5,7 @@ ghost use Rattle.pk_base.specs.Merge as merge;
 ghost use Rattle.pk_plan.specs.Quotas.{quota_of, IsPlan};
 
 use crate::owner::Owner;
-use pk_base::{EPOCH_BLOCKS, Shape};
+use pk_base::{EPOCH_BLOCKS, MOST_BLOCKS, Shape};
 use std::marker::Model;
 
 /// What a drive of a shape plans with. Contracts see the shape.
@@ -39,7 +39,7 @@ impl Plan {
         self.shape
     }
 
-    /// Each plan keeps these bounds.
+    /// Does nothing: brings the bounds of the quotas of a shape into a proof.
     #[tactic(auto, unfolding(pk_base::specs::Shape::data_blocks))]
     pub fn known(&self)
         ensures { IsPlan self.now }
@@ -52,7 +52,7 @@ impl Plan {
     /// Most blocks of this owner.
     pub fn quota(&self, owner: Owner) -> u32
         ensures value { result ≡ quota_of self.now owner }
-        ensures most { result ≤ 4096 }
+        ensures most { result ≤ MOST_BLOCKS }
     {
         match owner {
             Owner::Journal => 2 * EPOCH_BLOCKS,
@@ -107,6 +107,8 @@ impl Plan {
     {
         let upper = self.shape.cap(1) + self.shape.cap(2) + self.shape.cap(3);
         let pages = (upper + self.shape.cap(4)) as u64;
+        // A Store empties the buffers at most twice, by merges that read a page of a run at most twice, program it once, and take
+        // blocks; it copies at most one block, and programs its value; look-ups, commits, freezes and roots take the rest.
         8 * pages + 4 * self.shape.block_pages() as u64 + 64
     }
 

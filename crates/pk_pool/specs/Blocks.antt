@@ -1,5 +1,5 @@
 -- The blocks of a flash, each with its owner or free.
-use Rattle.std.specs.Prelude.{◌≡◌, ◌⊎◌, ℕ, ◌+◌, ◌*◌, ◌<◌, ◌≤◌, Bool, true, false, List, length, count_by, slice_get, slice_set, Some, replicate}
+use Rattle.std.specs.Prelude.{◌≡◌, ◌⊎◌, ℕ, ◌+◌, ◌*◌, ◌<◌, ◌≤◌, Bool, true, false, List, [], ◌∷◌, length, count_by, slice_get, slice_set, Some, replicate}
 use Rattle.pk_base.specs.Shape.{Shape, IsShape}
 use Rattle.pk_base.specs.Page.{Flash, page_at, erased}
 use Rattle.pk_nand.specs.Calls.{IsErasedBlock}
@@ -76,6 +76,11 @@ unused shape = record { shape = shape; states = slice_set (slice_set (replicate 
 
 abbrev pub with_state : Blocks → ℕ → BlockState → Blocks
 with_state p b s = record p { states = slice_set p.states b s }
+
+-- these blocks are given back: they are free, and count as not erased
+abbrev pub given_back : Blocks → List ℕ → Blocks
+given_back p [] = p
+given_back p (b ∷ bs) = given_back (with_state p b Free) bs
 
 abbrev pub IsOwned : Blocks → ℕ → Type 0
 IsOwned p b = (o : Owner) × (slice_get p.states b ≡ Some (Owned o))

@@ -11,6 +11,7 @@ ghost use Rattle.pk_pool.specs.Blocks.{is_ready, used_by, unused, with_state, Is
 ghost use Rattle.pk_pool.specs.Taking.{ReachesIn, TakesReady, ErasesFree, FailsToErase, ErasesOne, ErasesNone};
 
 use crate::state::BlockState;
+use pk_base::MOST_BLOCKS;
 use pk_nand::{Fault, Nand};
 use pk_plan::{Owner, Plan};
 use std::alloc::{AllocError, Allocator};
@@ -54,7 +55,7 @@ fn is_in(state: BlockState, wanted: BlockState) -> bool
 
 // How many blocks are in this state.
 fn count(states: &[BlockState], wanted: BlockState) -> u32
-    requires { length states.now ≤ 4096 }
+    requires { length states.now ≤ MOST_BLOCKS }
     ensures { result ≡ count_by (spec.is_in wanted) states.now }
 {
     let mut count = 0;
@@ -67,7 +68,7 @@ fn count(states: &[BlockState], wanted: BlockState) -> u32
 }
 
 impl<A: Allocator> Pool<A> {
-    /// All blocks from 2 on free, and none erased. All memory of the pool is taken here.
+    /// All blocks behind the root blocks are free, and none is erased. All memory of the pool is taken here.
     pub fn new(alloc: A, plan: Plan) -> Result<Pool<A>, AllocError>
         ensures unused { IfOk result (λ p. p ≡ unused plan) }
         ensures fits { IfOk result (λ p. (flash : Flash) → PoolOnFlash p flash) }
@@ -80,7 +81,7 @@ impl<A: Allocator> Pool<A> {
         Ok(Pool { plan, states })
     }
 
-    /// Each pool keeps this.
+    /// Does nothing: brings the invariant of the pool into a proof.
     pub fn known(&self)
         ensures { IsShared self.now.shape self.now.states }
     {

@@ -9,7 +9,7 @@ ghost use Rattle.pk_rootfmt.specs.Held.{first as first_root, ReadsBack};
 use crate::check::MAGIC;
 use crate::copy::put_blocks;
 use crate::layout::{LIST_FROM, VERSION};
-use pk_base::{Shape, put_text, put_u16, put_u32, put_u64, put_zeros};
+use pk_base::{EPOCH_BLOCKS, ROOT_BLOCKS, Shape, put_text, put_u16, put_u32, put_u64, put_zeros};
 
 /// Writes the entries of the four runs.
 fn put_counts(into: &mut [u8], entries: &[u32; 4])
@@ -80,15 +80,19 @@ pub(crate) fn put_page(
     put_zeros(into, at + 2 * runs.len(), all);
 }
 
-/// Writes the root page with number 1 and epoch 1 in blocks 2 and 3; `into` has the bytes of a page.
+/// Writes the root page with number 1 and epoch 1 in the two blocks behind the root blocks; `into` has the bytes of a page.
 pub fn first(shape: &Shape, into: &mut [u8])
     requires { length into.old ≡ shape.now.page_bytes }
     ensures bytes { into.new ≡ root_bytes shape.now first_root }
     ensures grammar { is_root shape.now first_root ≡ true }
 {
     shape.known();
-    put_numbers(shape, 2, 1, 1, &[0, 0, 0, 0], into);
-    put_blocks(into, LIST_FROM, &[2, 3]);
+    put_numbers(shape, EPOCH_BLOCKS as u16, 1, 1, &[0, 0, 0, 0], into);
+    put_blocks(
+        into,
+        LIST_FROM,
+        &[ROOT_BLOCKS as u16, ROOT_BLOCKS as u16 + 1],
+    );
     let all = into.len();
     put_zeros(into, LIST_FROM + 4, all);
 }

@@ -10,9 +10,14 @@ use crate::check::{checked, run_size};
 use crate::copy::{read_blocks, replace_blocks};
 use crate::layout::LIST_FROM;
 use crate::page::put_page;
-use pk_base::{Shape, get_u16, get_u32, get_u64};
+use pk_base::{EPOCH_BLOCKS, Shape, get_u16, get_u32, get_u64};
 use std::alloc::{AllocError, Allocator};
 use std::marker::Model;
+
+/// The blocks of one epoch.
+const ONE_EPOCH: usize = EPOCH_BLOCKS as usize;
+/// The blocks of the newest epoch and of the older one.
+const TWO_EPOCHS: usize = 2 * ONE_EPOCH;
 
 /// Bytes are no root page: the first byte of the first wrong field.
 #[derive(Clone, Copy, Debug, PartialEq, Eq)]
@@ -27,7 +32,7 @@ pub struct Root<A: Allocator> {
     number: u64,
     epoch: u64,
     /// The two blocks of the newest epoch, then those of the older one, as many as `journal` says.
-    epochs: [u16; 4],
+    epochs: [u16; TWO_EPOCHS],
     journal: usize,
     entries: [u32; 4],
     /// Blocks of each run.
@@ -64,7 +69,7 @@ impl<A: Allocator + Clone> Root<A> {
     pub fn new(alloc: A, shape: Shape) -> Result<Root<A>, AllocError>
         ensures { IfOk result (λ r. r ≡ record { shape = shape; root = none }) }
     {
-        let blocks = Vec::from_elem(alloc, 0u16, shape.meta_blocks() as usize + 4)?;
+        let blocks = Vec::from_elem(alloc, 0u16, shape.meta_blocks() as usize + TWO_EPOCHS)?;
         Ok(Root {
             shape,
             number: 0,
@@ -114,7 +119,7 @@ impl<A: Allocator> Root<A> {
     pub fn older(&self) -> Option<[u16; 2]>
         ensures { result ≡ older_of self.now.root.older }
     {
-        if self.journal == 4 {
+        if self.journal == TWO_EPOCHS {
             return Some([self.epochs[2], self.epochs[3]]);
         }
         None
@@ -327,8 +332,8 @@ fn journal_size(older: Option<[u16; 2]>) -> usize
     ensures even { (result == 0 || result == 2 || result == 4) ≡ true }
 {
     match older {
-        None => 2,
-        Some(_) => 4,
+        None => ONE_EPOCH,
+        Some(_) => TWO_EPOCHS,
     }
 }
 

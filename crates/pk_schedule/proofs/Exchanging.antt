@@ -4,27 +4,22 @@ use Rattle.std.proofs.lemmas.Option.{same_Some}
 use Rattle.pk_base.specs.Page.{Flash}
 use Rattle.pk_pin.specs.Frames.{Frames, AreLeases}
 use Rattle.pk_pool.specs.declared.state.BlockState.TheVariants.{Free}
-use Rattle.pk_pool.specs.Blocks.{Blocks, PoolOnFlash, with_state}
+use Rattle.pk_pool.specs.Blocks.{Blocks, PoolOnFlash, with_state, given_back}
 use Rattle.pk_pool.specs.Unready.{unready}
 use Rattle.pk_run.specs.Kept.{Kept}
 use Rattle.pk_level.specs.Levels.{Levels, run_of, with_run}
-use Rattle.pk_merge.specs.Jobs.{Job, LeavesOthers, freed, held_at, taken_from, given_to, given_all}
-use Rattle.pk_compact.specs.Freezing.{given_back}
+use Rattle.pk_merge.specs.Jobs.{Job, LeavesOthers, held_at, taken_from, given_to, given_all}
 use Rattle.pk_schedule.specs.Exchanges.{CanExchange, Exchanges}
 
-pub freed_is : (pool : Blocks) (blocks : List ℕ) → freed pool blocks ≡ given_back pool blocks
-freed_is pool [] = refl
-freed_is pool (b ∷ bs) = freed_is (with_state pool b Free) bs
-
 module _ (levels levels' : Levels) (arena arena' : Frames) (pool pool' : Blocks) (job middle job' : Job) (level : ℕ) (run former : Kept) (taken : held_at job level ≡ Some run) (left : middle ≡ taken_from job level)
-    (installed : levels' ≡ with_run levels level run) (former_is : former ≡ run_of levels level) (kept : job' ≡ given_to middle former) (pool_is : pool' ≡ freed pool former.blocks) (arena_is : arena' ≡ given_all arena former.leases)
+    (installed : levels' ≡ with_run levels level run) (former_is : former ≡ run_of levels level) (kept : job' ≡ given_to middle former) (pool_is : pool' ≡ given_back pool former.blocks) (arena_is : arena' ≡ given_all arena former.leases)
     (fits : (flash : Flash) → PoolOnFlash pool flash → PoolOnFlash pool' flash) (others : LeavesOthers former.leases arena arena')
     (leases : (before behind : List ℕ) → AreLeases arena (before ++ (former.leases ++ behind)) → AreLeases arena' (before ++ behind)) (same : unready pool'.states ≡ unready pool.states) where
   pub exchanges : (r : Kept) → CanExchange levels arena pool job level r → Exchanges levels arena pool job level r levels' arena' pool' job'
   exchanges r can = record {
     levels_are = installed ∙ ap (with_run levels level) (same_Some run r (sym taken ∙ can.held));
     job_is = kept ∙ (λ i. given_to (left i) (former_is i));
-    pool_is = pool_is ∙ ap (λ (f : Kept). freed pool f.blocks) former_is ∙ freed_is pool (run_of levels level).blocks;
+    pool_is = pool_is ∙ ap (λ (f : Kept). given_back pool f.blocks) former_is;
     arena_is = arena_is ∙ ap (λ (f : Kept). given_all arena f.leases) former_is;
     pool_fits = fits;
     others = subst (λ (f : Kept). LeavesOthers f.leases arena arena') former_is others;

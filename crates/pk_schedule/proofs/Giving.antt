@@ -9,13 +9,12 @@ use Rattle.pk_rootfmt.specs.Root.{differ}
 use Rattle.pk_model.proofs.Commits.{apart, rest_differs}
 use Rattle.pk_pool.specs.declared.state.BlockState.{BlockState}
 use Rattle.pk_pool.specs.declared.state.BlockState.TheVariants.{Free, Ready, Owned}
-use Rattle.pk_pool.specs.Blocks.{Blocks, IsSpare, with_state, used_by, is_owned_by, same_owner}
+use Rattle.pk_pool.specs.Blocks.{Blocks, IsSpare, with_state, used_by, is_owned_by, same_owner, given_back}
 use Rattle.pk_pool.specs.Unready.{unready}
 use Rattle.pk_pool.proofs.Counting.{given_back as one_given}
 use Rattle.pk_pool.proofs.Sharing.{count-set, used_given, used_adopted}
 use Rattle.pk_pool.proofs.States.{get-set_other, set_is, owned_is_not_free, owned_is_not_ready}
 use Rattle.pk_steps.proofs.Places.{In}
-use Rattle.pk_compact.specs.Freezing.{given_back}
 
 pub in_or_not : (b : ℕ) (xs : List ℕ) → In b xs ⊎ (In b xs → ⊥)
 in_or_not b [] = inr (λ is. is)

@@ -18,7 +18,7 @@ use Rattle.pk_model.specs.Tree.{merged, blocks_after}
 use Rattle.pk_model.proofs.SamePages.{any_front, any_back}
 use Rattle.pk_model.proofs.ValueSets.{is_true}
 use Rattle.pk_pool.specs.declared.state.BlockState.TheVariants.{Free}
-use Rattle.pk_pool.specs.Blocks.{Blocks, IsShared, used_by}
+use Rattle.pk_pool.specs.Blocks.{Blocks, IsShared, used_by, given_back}
 use Rattle.pk_pool.specs.Unready.{unready}
 use Rattle.pk_run.specs.Kept.{Kept, empty}
 use Rattle.pk_run.proofs.Standing.{RunOnFlash-empty}
@@ -31,7 +31,6 @@ use Rattle.pk_steps.proofs.Places.{In, in_append}
 use Rattle.pk_merge.specs.Jobs.{Job, IsIdle, LeavesOthers, taken_from, given_to, ended}
 use Rattle.pk_merge.proofs.Ending.{idle_one}
 use Rattle.pk_merge.proofs.Leasing.{are_apart}
-use Rattle.pk_compact.specs.Freezing.{given_back}
 use Rattle.pk_schedule.specs.declared.phase.Phase.TheVariants.{Ready}
 use Rattle.pk_schedule.specs.Exchanges.{CanExchange, Exchanges, EndsFirst, EndsDeep}
 use Rattle.pk_schedule.specs.Index.{Index, output}

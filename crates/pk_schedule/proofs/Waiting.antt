@@ -20,7 +20,7 @@ use Rattle.pk_model.proofs.Commits.{blocks_of_root, differ_front, apart}
 use Rattle.pk_model.proofs.SamePages.{any_back}
 use Rattle.pk_model.proofs.ValueSets.{is_true}
 use Rattle.pk_pool.specs.declared.state.BlockState.TheVariants.{Owned}
-use Rattle.pk_pool.specs.Blocks.{Blocks, IsShared}
+use Rattle.pk_pool.specs.Blocks.{given_back, Blocks, IsShared}
 use Rattle.pk_pool.proofs.Sharing.{behind_roots, exists}
 use Rattle.pk_pool.proofs.States.{owned_is_not_root}
 use Rattle.pk_run.specs.Kept.{Kept, empty}
@@ -37,7 +37,6 @@ use Rattle.pk_merge.specs.Jobs.{Job, IsIdle, AreOwned, AreLeased, all_spare, hel
 use Rattle.pk_merge.specs.Laws.{IsFormer, done_with}
 use Rattle.pk_merge.proofs.Ending.{idle_one}
 use Rattle.pk_merge.proofs.Leasing.{are_leased}
-use Rattle.pk_compact.specs.Freezing.{given_back}
 use Rattle.pk_compact.specs.FreezeSteps.{taken_by}
 use Rattle.pk_log.specs.MergeSteps.{MayPrepare, MayMerge}
 use Rattle.pk_schedule.specs.declared.phase.Phase.TheVariants.{Ready}

@@ -5,13 +5,12 @@ use Rattle.pk_base.specs.Page.{Flash}
 use Rattle.pk_pin.specs.Frames.{Frames, AreLeases}
 use Rattle.pk_plan.specs.declared.owner.Owner.TheVariants.{Journal}
 use Rattle.pk_pool.specs.declared.state.BlockState.TheVariants.{Owned}
-use Rattle.pk_pool.specs.Blocks.{Blocks, PoolOnFlash}
+use Rattle.pk_pool.specs.Blocks.{given_back, Blocks, PoolOnFlash}
 use Rattle.pk_pool.specs.Unready.{unready}
 use Rattle.pk_rootfmt.specs.Root.{differ}
 use Rattle.pk_run.specs.Kept.{Kept}
 use Rattle.pk_level.specs.Levels.{Levels, IsOfLevel, run_of, with_run}
 use Rattle.pk_merge.specs.Jobs.{Job, AreOwned, AreLeased, LeavesOthers, held_at, taken_from, given_to, given_all, ended}
-use Rattle.pk_compact.specs.Freezing.{given_back}
 
 -- The job has this run for the level, which may stand there, and what the former one has may be given back.
 pub record CanExchange (levels : Levels) (arena : Frames) (pool : Blocks) (job : Job) (level : ℕ)

@@ -10,7 +10,7 @@ use Rattle.pk_nand.specs.BoardState.{BoardState}
 use Rattle.pk_nand.specs.Calls.{IsReady, Rose}
 use Rattle.pk_nand.specs.Effects.{AtMostOneCall, OnlyFlash, OnlyReading}
 use Rattle.pk_plan.specs.declared.owner.Owner.TheVariants.{Values}
-use Rattle.pk_rootfmt.specs.Root.{Root}
+use Rattle.pk_rootfmt.specs.Root.{Root, last_number}
 use Rattle.pk_pool.specs.declared.state.BlockState.TheVariants.{Owned}
 use Rattle.pk_pool.specs.Blocks.{Blocks, used_by}
 use Rattle.pk_pool.specs.Unready.{unready}
@@ -79,7 +79,7 @@ pub record MayWork (x : Index) (frames : ℕ) (flash : Flash) (top : ℕ × Root
   pub under : IsUnder x.log.shape flash [] top found m
   pub values : (k : ℕ) → IsValuePage x.log.shape (places found []) k
       → slice_get x.pool.states (k / x.log.shape.block_pages) ≡ Some (Owned Values)
-  pub number : x.log.root.number < 18446744073709551615
+  pub number : x.log.root.number < last_number
 
 -- ---- what it leaves
 

@@ -1,10 +1,9 @@
 //! The exchange of runs behind a merge.
 ghost use Rattle.std.specs.Prelude.{◌≡◌, ◌≤◌, ℕ};
 ghost use Rattle.pk_base.specs.Page.{Flash};
-ghost use Rattle.pk_pool.specs.Blocks.{PoolOnFlash};
+ghost use Rattle.pk_pool.specs.Blocks.{given_back, PoolOnFlash};
 ghost use Rattle.pk_rootfmt.specs.Held.{blocks_or_none};
 ghost use Rattle.pk_run.specs.Kept.{Kept};
-ghost use Rattle.pk_compact.specs.Freezing.{given_back};
 ghost use Rattle.pk_schedule.specs.declared.phase.Phase.TheVariants.{Idle};
 ghost use Rattle.pk_schedule.specs.Exchanges.{CanExchange, ExchangesRun, CanFree, CanEndFirst, EndsFirst, CanEndDeep, EndsDeep};
 

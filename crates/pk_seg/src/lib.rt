@@ -6,4 +6,4 @@ mod pages;
 mod values;
 
 pub use pages::{read_page, write_page};
-pub use values::{read_head, read_value, write_value};
+pub use values::{read_value, write_value};

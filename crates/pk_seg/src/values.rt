@@ -8,12 +8,12 @@ ghost use Rattle.pk_nand.specs.declared.types.Fault.TheVariants.{Reading, Stoppe
 ghost use Rattle.pk_segfmt.specs.Stored.{IsStored};
 ghost use Rattle.pk_nand.specs.Erased.{after_reads};
 ghost use Rattle.pk_seg.specs.Counts.{ReadsFailed};
-ghost use Rattle.pk_seg.specs.Stored.{IsFront, HasHead, BringsPiece, written, WriteFailed};
+ghost use Rattle.pk_seg.specs.Stored.{IsFront, BringsPiece, written, WriteFailed};
 
 use crate::pages::write_page;
-use pk_base::{HEAD_BYTES, Key, Shape};
+use pk_base::{HEAD_BYTES, Key, MOST_PAGE_BYTES, Shape};
 use pk_nand::{Fault, Nand};
-use pk_segfmt::{Head, head, page as value_page};
+use pk_segfmt::page as value_page;
 
 /// Programs the pages of a value, the next Erased ones of a block. `Stopped` where a program fails. Wherever it is cut, no
 /// other page differs. `buf` has the bytes of a page, which are lost.
@@ -77,7 +77,7 @@ pub fn write_value<B: Nand>(
 fn copy_page(into: &mut [u8], i: u32, page: &[u8])
     requires within { i * length page.now - HEAD_BYTES ≤ length into.old }
     requires head { HEAD_BYTES ≤ length page.now }
-    requires small { length page.now ≤ 16384 }
+    requires small { length page.now ≤ MOST_PAGE_BYTES }
     ensures front { take (min (length into.old) ((i + 1) * length page.now - HEAD_BYTES)) into.new
         ≡ take (i * length page.now - HEAD_BYTES) into.old
         ++ take (length into.old - (i * length page.now - HEAD_BYTES))
@@ -176,41 +176,4 @@ pub fn read_value<B: Nand>(
         }
     }
     Ok(())
-}
-
-/// The head of the value from this page on, by one read. `Reading` where it fails. `buf` has the bytes of a page, which are
-/// lost.
-pub fn read_head<B: Nand>(
-    board: &mut B,
-    shape: &Shape,
-    page: u32,
-    buf: &mut [u8],
-) -> Result<Head, Fault>
-    requires ready { IsReady (B.state board.old) shape.now }
-    requires head { (key : List ℕ) × (len : ℕ)
-        × HasHead shape.now (B.state board.old).pages page key len }
-    requires room { length buf.old ≡ shape.now.page_bytes }
-
-    // The head, by one read.
-    ensures head { IfOk result (λ h. HasHead shape.now (B.state board.old).pages page h.key h.len) }
-    ensures only { IfOk result (λ h. (key : List ℕ) (len : ℕ)
-        → HasHead shape.now (B.state board.old).pages page key len
-        → h ≡ record { key = key; len = len }) }
-    ensures ok { OnOk result (B.state board.new ≡ after_read (B.state board.old)) }
-
-    // Or it failed.
-    ensures reading { IfErr result (λ e. e ≡ Reading) }
-    ensures err { OnErr result (ReadFailed (B.state board.old) (B.state board.new) page) }
-
-    // Either way the board and the buffer may be used again.
-    ensures ready { IsReady (B.state board.new) shape.now }
-    ensures buffer { length buf.new ≡ length buf.old }
-{
-    match board.read(page, buf) {
-        Ok(_) => match head(shape, buf) {
-            Ok(found) => Ok(found),
-            Err(_) => unreachable!(),
-        },
-        Err(_) => Err(Fault::Reading),
-    }
 }

@@ -8,7 +8,7 @@ use Rattle.pk_base.specs.Merge.{next_merge, room}
 use Rattle.pk_base.specs.Map.{Map}
 use Rattle.pk_meta.specs.Over.{over, kept_at}
 use Rattle.pk_meta.specs.Run.{run}
-use Rattle.pk_rootfmt.specs.Root.{Root, is_root, named, differ}
+use Rattle.pk_rootfmt.specs.Root.{Root, is_root, named, differ, last_number}
 use Rattle.pk_model.specs.Found.{Found}
 use Rattle.pk_model.specs.Laws.{AnyByRecursion}
 use Rattle.pk_model.specs.Tree.{run_at, merged, blocks_after}
@@ -81,7 +81,7 @@ MergedGrammar =
     → length taken ≡ run_blocks shape count → differ taken ≡ true
     → ((b : ℕ) → AnyByRecursion (λ c. b ≡ c) taken → (2 ≤ b) × (b < shape.blocks))
     → ((b : ℕ) → AnyByRecursion (λ c. b ≡ c) taken → AnyByRecursion (λ c. b ≡ c) (named root) → ⊥)
-    → root.number + 1 < 18446744073709551616
+    → root.number < last_number
     → is_root shape (merged_root root level count taken) ≡ true
 
 -- What commands that are served meanwhile leave: they add entries and values, and change no page of these blocks.
