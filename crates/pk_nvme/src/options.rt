@@ -5,3 +5,5 @@
 pub const IF_EXISTS: u8 = 1;
 /// Bit 1: the controller shall not store the KV value if the KV key exists.
 pub const IF_ABSENT: u8 = 2;
+/// Both bits, which no Store meets: its key would have to exist and not to exist.
+pub const BOTH: u8 = IF_EXISTS + IF_ABSENT;
