@@ -1,6 +1,6 @@
 -- The fields of an entry that a form gives, read again.
 use Rattle.std.proofs.Common.{◌≡◌, ℕ, zero, suc, ◌+◌, ◌-◌, ◌%◌, ◌^◌, ◌<◌, ◌≤◌, Bool, true, false, cond, List, [], ◌∷◌, ◌++◌, length, take, drop, refl, sym, ap, ◌∙◌, subst, arith, inl, inr, Option, Some, None, length-append, length-drop}
-use Rattle.std.specs.Prelude.{nat_lt, nat_le, ◌==◌, ◌&&◌, not, option_map}
+use Rattle.std.specs.Prelude.{nat_le, ◌==◌, ◌&&◌, not, option_map}
 use Rattle.std.proofs.lemmas.Bool.{and_parts}
 use Rattle.std.proofs.lemmas.Bool.Decides.{nat_tests}
 use Rattle.std.proofs.lemmas.List.{take_at, take_all, take-append-drop, length-take-le, get_or-drop}
@@ -66,7 +66,7 @@ unfolding candidate
 candidate_of number (Store key size options) bytes h =
     let f = fields_of number 1 key size options bytes h.0.is_key.most h.2 in
     let sized = same_number size (length bytes) h.1 in
-    let few : nat_lt options 4 ≡ true = let lt = h.3 in grind (arith, nat_tests) in
+    let few : nat_le options 3 ≡ true = let lt = h.3 in grind (arith, nat_tests) in
     rw (f.opcode_is, f.key_len_is, f.key_bytes_is, f.size_is, f.options_is, sized, few, key_read key h.0.is_key) refl
 candidate_of number (Retrieve key size) bytes h =
     let f = fields_of number 0x02 key size 0 [] h.0.is_key.most h.1 in
@@ -190,8 +190,8 @@ candidate_is e bytes form sized fits is =
     let small : c.size < 2 ^ 32 = number_fits 4 40 e fits in
     elim (picked (c.opcode == 0x01) (store_candidate c.key_len place c.size c.options (length bytes)) _ form is) [
       | inl s ↦
-          let h = held (c.size == length bytes && nat_lt c.options 4) (option_map (λ k. Store k c.size c.options) (key_at c.key_len place)) form s in
-          let parts = and_parts (c.size == length bytes) (nat_lt c.options 4) h.0 in
+          let h = held (c.size == length bytes && nat_le c.options 3) (option_map (λ k. Store k c.size c.options) (key_at c.key_len place)) form s in
+          let parts = and_parts (c.size == length bytes) (nat_le c.options 3) h.0 in
           let m = mapped (λ k. Store k c.size c.options) (key_at c.key_len place) form h.1 in
           let same : c.size ≡ length bytes = let t = parts.0 in grind (arith, nat_tests) in
           let few : c.options < 4 = let t = parts.1 in grind (arith, nat_tests) in

@@ -1,9 +1,10 @@
 -- What a named line asks for, and the entry that it gives.
-use Rattle.std.specs.Prelude.{ℕ, ◌%◌, ◌^◌, List, [], length, Option, Some, None}
+use Rattle.std.specs.Prelude.{ℕ, ◌%◌, ◌^◌, List, [], length}
 use Rattle.pk_nvme.specs.declared.limits.TheConstants.{NAMESPACE}
 use Rattle.pk_nvme.specs.declared.opcode.TheConstants.{FLUSH, STORE, RETRIEVE, LIST, DELETE, EXIST, TICK, REPORT}
 use Rattle.pk_base.specs.declared.sizes.TheConstants.{KEY_BYTES}
 use Rattle.pk_base.specs.Fields.{padded}
+use Rattle.pk_nvme.specs.Command.{key_or_none}
 use Rattle.pk_nvme.specs.Seen.{entry_of}
 use Rattle.pk_asm.specs.declared.form.Form.{Form}
 use Rattle.pk_asm.specs.declared.form.Form.TheVariants.{Store, Retrieve, Delete, Exist, ListFrom, Flush, Report, Tick}
@@ -12,11 +13,6 @@ use Rattle.pk_asm.specs.declared.form.Form.TheVariants.{Store, Retrieve, Delete,
 unfoldable pub entry_with : ℕ → ℕ → List ℕ → ℕ → ℕ → List ℕ
 entry_with number opcode key size options =
     entry_of (record { opcode = opcode; cid = number % 2 ^ 16; namespace = NAMESPACE; key_len = length key; key = padded KEY_BYTES key; size = size; options = options })
-
--- a missing key is one of no byte
-abbrev pub key_or_none : Option (List ℕ) → List ℕ
-key_or_none None = []
-key_or_none (Some key) = key
 
 -- the entry of this number that a form gives; a field that it does not name is 0
 abbrev pub form_entry : ℕ → Form → List ℕ

@@ -1,8 +1,10 @@
 -- What a line of a text script says.
 use Rattle.std.specs.Prelude.{ℕ, ◌==◌, ◌||◌, nat_lt, if◌then◌else◌, List, [], ◌∷◌, length, slice_index, Option, Some, None, option_map, option_and_then, codes, bytes_eq}
+use Rattle.pk_nvme.specs.declared.options.TheConstants.{IF_EXISTS, IF_ABSENT, BOTH}
 use Rattle.pk_nvme.specs.Text.{number_of, bytes_of}
 use Rattle.pk_asm.specs.Words.{words, key_of, entry_of}
 use Rattle.pk_asm.specs.Form.{form_entry}
+use Rattle.pk_asm.specs.declared.sizes.TheConstants.{MOST_LINE_BYTES}
 use Rattle.pk_asm.specs.declared.form.Form.{Form}
 use Rattle.pk_asm.specs.declared.form.Form.TheVariants.{Store, Retrieve, Delete, Exist, ListFrom, Flush, Report, Tick}
 
@@ -65,9 +67,9 @@ plain_of name operands =
 -- the option bits of a Store
 abbrev pub options_of : List ℕ → Option ℕ
 options_of word =
-    if bytes_eq word (codes "if-exists") then Some 1 else
-    if bytes_eq word (codes "if-absent") then Some 2 else
-    if bytes_eq word (codes "both") then Some 3 else None
+    if bytes_eq word (codes "if-exists") then Some IF_EXISTS else
+    if bytes_eq word (codes "if-absent") then Some IF_ABSENT else
+    if bytes_eq word (codes "both") then Some BOTH else None
 
 -- a Store with its bytes
 abbrev pub store_with : Option (List ℕ) → Option (List ℕ) → Option ℕ → Option (Form × List ℕ)
@@ -113,14 +115,10 @@ pub data Line : Type 0 where
   nothing : Line
   entry : List ℕ → List ℕ → Line
 
--- most bytes of a line, its line feed not counted
-abbrev pub most_bytes : ℕ
-most_bytes = 2200000
-
 -- what a line says, if it is in the grammar; an empty line and one that begins with `#` give nothing
 unfoldable pub says : ℕ → List ℕ → Option Line
 says number line =
-    if nat_lt most_bytes (length line) then None else
+    if nat_lt MOST_LINE_BYTES (length line) then None else
     if length line == 0 || slice_index line 0 == 35 then Some nothing else option_map (λ said. entry said.0 said.1) (entry_said number (words line))
 
 -- the parts of what is said

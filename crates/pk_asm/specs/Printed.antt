@@ -1,14 +1,16 @@
 -- The line that is printed for an entry and its bytes.
-use Rattle.std.specs.Prelude.{◌≡◌, ℕ, ◌+◌, ◌≤◌, ◌<◌, ◌^◌, Bool, ◌==◌, ◌&&◌, not, nat_le, nat_lt, if◌then◌else◌, List, [], ◌∷◌, ◌++◌, length, take, Option, Some, None, option_map, codes, bytes_eq}
+use Rattle.std.specs.Prelude.{◌≡◌, ℕ, ◌+◌, ◌≤◌, ◌<◌, ◌^◌, Bool, ◌==◌, ◌&&◌, not, nat_le, if◌then◌else◌, List, [], ◌∷◌, ◌++◌, length, take, Option, Some, None, option_map, codes, bytes_eq}
 use Rattle.std.specs.List.{flat_map}
 use Rattle.pk_base.specs.declared.sizes.TheConstants.{KEY_BYTES}
 use Rattle.pk_nvme.specs.declared.opcode.TheConstants.{FLUSH, STORE, RETRIEVE, LIST, DELETE, EXIST, TICK, REPORT}
+use Rattle.pk_nvme.specs.declared.options.TheConstants.{IF_EXISTS, IF_ABSENT, BOTH}
 use Rattle.pk_nvme.specs.Bytes.{RoomyList}
 use Rattle.pk_nvme.specs.Command.{Command, command}
 use Rattle.pk_nvme.specs.Text.{number_text, hex_text, bytes_text}
 use Rattle.pk_asm.specs.Form.{form_entry}
 use Rattle.pk_asm.specs.Words.{blank}
-use Rattle.pk_asm.specs.Line.{says, named_of, entry, most_bytes}
+use Rattle.pk_asm.specs.Line.{says, named_of, entry}
+use Rattle.pk_asm.specs.declared.sizes.TheConstants.{MOST_LINE_BYTES}
 use Rattle.pk_asm.specs.declared.form.Form.{Form}
 use Rattle.pk_asm.specs.declared.form.Form.TheVariants.{Store, Retrieve, Delete, Exist, ListFrom, Flush, Report, Tick}
 
@@ -26,9 +28,9 @@ line_of (word ∷ words) = word ++ behind_blanks words
 -- the word behind a Store with these option bits, where it has one
 abbrev pub option_words : ℕ → List (List ℕ)
 option_words options =
-    if options == 1 then codes "if-exists" ∷ [] else
-    if options == 2 then codes "if-absent" ∷ [] else
-    if options == 3 then codes "both" ∷ [] else []
+    if options == IF_EXISTS then codes "if-exists" ∷ [] else
+    if options == IF_ABSENT then codes "if-absent" ∷ [] else
+    if options == BOTH then codes "both" ∷ [] else []
 
 abbrev pub from_text : Option (List ℕ) → List ℕ
 from_text None = codes "-"
@@ -60,7 +62,7 @@ key_at size place = if nat_le 1 size && nat_le size KEY_BYTES then Some (take si
 -- the forms with these fields of a command: the bytes of the key, its place, the size
 abbrev pub store_candidate : ℕ → List ℕ → ℕ → ℕ → ℕ → Option Form
 store_candidate key_len place size options bytes =
-    if size == bytes && nat_lt options 4 then option_map (λ key. Store key size options) (key_at key_len place) else None
+    if size == bytes && nat_le options BOTH then option_map (λ key. Store key size options) (key_at key_len place) else None
 
 abbrev pub retrieve_candidate : ℕ → List ℕ → ℕ → Option Form
 retrieve_candidate key_len place size = option_map (λ key. Retrieve key size) (key_at key_len place)
@@ -116,9 +118,9 @@ pub record IsSaid (form : Form) (bytes : List ℕ) : Type 0 where
 pub record Prints (number : ℕ) (e bytes line : List ℕ) : Type 0 where
   pub named : (form : Form) → IsSaid form bytes → form_entry number form ≡ e → line ≡ form_line form bytes
   pub raw : ((form : Form) → IsSaid form bytes → ¬ (form_entry number form ≡ e)) → line ≡ raw_line e bytes
-  pub same : length line ≤ most_bytes → says number line ≡ Some (entry e bytes)
+  pub same : length line ≤ MOST_LINE_BYTES → says number line ≡ Some (entry e bytes)
 
 -- the line and its line feed are written where they fit, else nothing
 pub record WritesLine (line : List ℕ) (old new : RoomyList) (is_written : Bool) : Type 0 where
-  pub fits : is_written ≡ (nat_le (length line) most_bytes && nat_le (length old.items + (length line + 1)) old.room)
+  pub fits : is_written ≡ (nat_le (length line) MOST_LINE_BYTES && nat_le (length old.items + (length line + 1)) old.room)
   pub written : new ≡ record old { items = if is_written then old.items ++ (line ++ 10 ∷ []) else old.items }

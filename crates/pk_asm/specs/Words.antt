@@ -2,6 +2,7 @@
 use Rattle.std.specs.Prelude.{ℕ, ◌*◌, ◌==◌, nat_le, if◌then◌else◌, List, length, Option, None}
 use Rattle.std.specs.List.{slice_split}
 use Rattle.pk_base.specs.declared.sizes.TheConstants.{KEY_BYTES}
+use Rattle.pk_nvme.specs.declared.sizes.TheConstants.{SUBMISSION_BYTES}
 use Rattle.pk_nvme.specs.Text.{some_bytes_of}
 
 -- what stands between two words
@@ -16,6 +17,6 @@ words line = slice_split (λ byte. byte == blank) line
 abbrev pub key_of : List ℕ → Option (List ℕ)
 key_of word = if nat_le (length word) (2 * KEY_BYTES) then some_bytes_of word else None
 
--- the entry that a word of 128 hexadecimal digits is
+-- the entry that a word of hexadecimal digits is, two for each byte
 abbrev pub entry_of : List ℕ → Option (List ℕ)
-entry_of word = if length word == 128 then some_bytes_of word else None
+entry_of word = if length word == 2 * SUBMISSION_BYTES then some_bytes_of word else None

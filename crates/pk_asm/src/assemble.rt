@@ -5,19 +5,19 @@ ghost use Rattle.pk_nvme.specs.Text.{bytes_of};
 ghost use Rattle.pk_asm.specs.Words.{words};
 ghost use Rattle.pk_asm.specs.Operands.{words_in};
 ghost use Rattle.pk_asm.specs.Line as spec;
+ghost use Rattle.pk_asm.specs.declared.sizes.TheConstants.{MOST_LINE_VALUE_BYTES};
 
 use crate::form::Form;
 use crate::operands::{Operands, split_word, words_behind};
+use crate::sizes::MOST_LINE_BYTES;
 use crate::words::{bytes_word, entry_word, key, number as number_of};
 use pk_base::Key;
+use pk_nvme::options::{BOTH, IF_ABSENT, IF_EXISTS};
 use pk_nvme::{Bytes, SUBMISSION_BYTES};
 
 /// A line is outside the grammar.
 #[derive(Clone, Copy, Debug, PartialEq, Eq)]
 pub struct BadLine;
-
-/// Most bytes of a line, its line feed not counted.
-pub const MOST_BYTES: usize = 2_200_000;
 
 fn is(word: &[u8], text: &[u8]) -> bool
     ensures { result ≡ bytes_eq word.now text.now }
@@ -151,11 +151,11 @@ fn options(word: &[u8]) -> Option<u8>
     ensures { result ≡ spec.options_of word.now }
 {
     if is(word, b"if-exists") {
-        Some(1)
+        Some(IF_EXISTS)
     } else if is(word, b"if-absent") {
-        Some(2)
+        Some(IF_ABSENT)
     } else if is(word, b"both") {
-        Some(3)
+        Some(BOTH)
     } else {
         None
     }
@@ -278,7 +278,7 @@ pub fn assemble_line(
     number: u64,
     value: &mut Bytes,
 ) -> Result<Option<[u8; SUBMISSION_BYTES]>, BadLine>
-    requires { 1100000 ≤ value.old.room }
+    requires { MOST_LINE_VALUE_BYTES ≤ value.old.room }
     // `BadLine` comes exactly outside the grammar.
     ensures exact { MatchResult result
         (λ entry. option_map spec.entry_in (spec.says number line.now) ≡ Some entry)
@@ -287,7 +287,7 @@ pub fn assemble_line(
         ≡ record value.old { items = spec.bytes_in (spec.says number line.now) } }
 {
     value.clear();
-    if line.len() > MOST_BYTES {
+    if line.len() > MOST_LINE_BYTES {
         return Err(BadLine);
     }
     if line.is_empty() || line[0] == b'#' {

@@ -3,9 +3,9 @@ ghost use Rattle.std.specs.Prelude.{◌≡◌, ◌≤◌, length};
 ghost use Rattle.pk_asm.specs.Form.{entry_with, form_entry};
 
 use pk_base::{KEY_BYTES, Key, put_padded};
-use pk_nvme::Request;
 use pk_nvme::limits::NAMESPACE;
 use pk_nvme::opcode::{DELETE, EXIST, FLUSH, LIST, REPORT, RETRIEVE, STORE, TICK};
+use pk_nvme::{Request, SUBMISSION_BYTES};
 
 /// A command as a named line gives it; the bytes of a Store stand beside it.
 #[derive(Drop)]
@@ -24,7 +24,7 @@ pub enum Form {
 }
 
 /// The entry of this number, in namespace 1, with these fields.
-fn entry_of(number: u64, opcode: u8, key: &[u8], size: u32, options: u8) -> [u8; 64]
+fn entry_of(number: u64, opcode: u8, key: &[u8], size: u32, options: u8) -> [u8; SUBMISSION_BYTES]
     requires { length key.now ≤ KEY_BYTES }
     ensures { result ≡ entry_with number opcode key.now size options }
 {
@@ -46,7 +46,7 @@ impl Form {
     ghost use Rattle.pk_asm.specs.Form.{form_entry};
 
     /// The entry of this number among the entries of its script, counted from 1.
-    pub fn entry(&self, number: u64) -> [u8; 64]
+    pub fn entry(&self, number: u64) -> [u8; SUBMISSION_BYTES]
         ensures { result ≡ form_entry number self.now }
     {
         match self {

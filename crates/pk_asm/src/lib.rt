@@ -5,6 +5,7 @@ mod assemble;
 mod form;
 mod operands;
 mod printed;
+mod sizes;
 mod words;
 mod writer;
 
@@ -12,4 +13,5 @@ pub use assemble::{BadLine, assemble_line};
 pub use form::Form;
 pub use operands::Operands;
 pub use printed::print;
+pub use sizes::{MOST_LINE_BYTES, MOST_LINE_VALUE_BYTES};
 pub use words::{bytes_word, entry_word, key, number};

@@ -10,7 +10,8 @@ use crate::form::Form;
 use crate::writer::{Word, put_line};
 use pk_base::{KEY_BYTES, Key};
 use pk_nvme::opcode::{DELETE, EXIST, FLUSH, LIST, REPORT, RETRIEVE, STORE, TICK};
-use pk_nvme::{Bytes, Request};
+use pk_nvme::options::{BOTH, IF_ABSENT, IF_EXISTS};
+use pk_nvme::{Bytes, Request, SUBMISSION_BYTES};
 
 /// The key of a request, if its length is that of a key.
 fn key_of(request: &Request) -> Option<Key>
@@ -28,7 +29,7 @@ fn store(request: &Request, value: &[u8]) -> Option<Form>
     ensures { result ≡ spec.store_candidate request.now.key_len request.now.key request.now.size
         request.now.options (length value.now) }
 {
-    if request.size as usize != value.len() || request.options >= 4 {
+    if request.size as usize != value.len() || request.options > BOTH {
         return None;
     }
     match key_of(request) {
@@ -120,7 +121,7 @@ fn candidate(request: &Request, value: &[u8]) -> Option<Form>
 }
 
 /// The form, if its entry of this number is this one.
-fn that_gives(number: u64, entry: &[u8; 64], form: Option<Form>) -> Option<Form>
+fn that_gives(number: u64, entry: &[u8; SUBMISSION_BYTES], form: Option<Form>) -> Option<Form>
     ensures { result ≡ spec.that_gives number entry.now form }
 {
     match form {
@@ -137,7 +138,7 @@ fn that_gives(number: u64, entry: &[u8; 64], form: Option<Form>) -> Option<Form>
 
 /// The form that gives this entry, which is of this number, with these bytes.
 #[tactic(auto, unfolding(crate::specs::Printed::form_that_gives))]
-fn form_that_gives(number: u64, entry: &[u8; 64], value: &[u8]) -> Option<Form>
+fn form_that_gives(number: u64, entry: &[u8; SUBMISSION_BYTES], value: &[u8]) -> Option<Form>
     ensures { result ≡ spec.form_that_gives number entry.now value.now }
 {
     that_gives(number, entry, candidate(&Request::of(entry), value))
@@ -151,9 +152,9 @@ fn put_store<'a>(key: &'a [u8], options: u8, value: &'a [u8], into: &mut Bytes) 
     let key = Word::Hex(key);
     let bytes = Word::of_bytes(value);
     match options {
-        1 => put_line(b"store", &[key, bytes, Word::Text(b"if-exists")], into),
-        2 => put_line(b"store", &[key, bytes, Word::Text(b"if-absent")], into),
-        3 => put_line(b"store", &[key, bytes, Word::Text(b"both")], into),
+        IF_EXISTS => put_line(b"store", &[key, bytes, Word::Text(b"if-exists")], into),
+        IF_ABSENT => put_line(b"store", &[key, bytes, Word::Text(b"if-absent")], into),
+        BOTH => put_line(b"store", &[key, bytes, Word::Text(b"both")], into),
         _ => put_line(b"store", &[key, bytes], into),
     }
 }
@@ -193,8 +194,8 @@ fn put_form(form: &Form, value: &[u8], into: &mut Bytes) -> bool
 
 /// Writes the line of an entry and its bytes and a line feed behind what stands in `into`: the named line where one
 /// of this number gives the same entry and bytes, else the `raw` line. False, and nothing is written, where they do
-/// not fit into the room or the line has more than 2,200,000 bytes.
-pub fn print(entry: &[u8; 64], value: &[u8], number: u64, into: &mut Bytes) -> bool
+/// not fit into the room or the line has more than `MOST_LINE_BYTES`.
+pub fn print(entry: &[u8; SUBMISSION_BYTES], value: &[u8], number: u64, into: &mut Bytes) -> bool
     ensures line { WritesLine (spec.printed number entry.now value.now) into.old into.new result }
     // The named line is printed exactly where it can be, and what is printed is assembled to the same entry and bytes.
     ensures prints { spec.Prints number entry.now value.now

@@ -79,7 +79,7 @@ pub fn key(word: &[u8]) -> Option<Key>
     }
 }
 
-/// The 64 bytes that a word of 128 hexadecimal digits is.
+/// The entry that a word of hexadecimal digits is, two for each of its bytes.
 pub fn entry_word(word: &[u8]) -> Option<[u8; SUBMISSION_BYTES]>
     ensures { result ≡ entry_of word.now }
 {

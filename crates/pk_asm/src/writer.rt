@@ -5,7 +5,7 @@ ghost use Rattle.pk_asm.specs.Words.{blank};
 ghost use Rattle.pk_asm.specs.PrintedWord.{word_text, tail_text};
 ghost use Rattle.pk_asm.specs.Printed.{WritesLine};
 
-use crate::assemble::MOST_BYTES;
+use crate::sizes::MOST_LINE_BYTES;
 use itoa::Buffer;
 use pk_nvme::Bytes;
 
@@ -109,21 +109,22 @@ fn put_words(words: &[Word], into: &mut Bytes)
 
 /// Whether a line that begins with this word, and its line feed, fit into so many bytes.
 fn line_fits(name: &[u8], words: &[Word], left: usize) -> bool
-    ensures { result ≡ (nat_le (length (name.now ++ tail_text words.now)) 2200000 && nat_le
+    ensures { result
+        ≡ (nat_le (length (name.now ++ tail_text words.now)) MOST_LINE_BYTES && nat_le
         (length (name.now ++ tail_text words.now) + 1) left) }
 {
     if left == 0 {
         return false;
     }
-    let room = if left - 1 < MOST_BYTES {
+    let room = if left - 1 < MOST_LINE_BYTES {
         left - 1
     } else {
-        MOST_BYTES
+        MOST_LINE_BYTES
     };
     name.len() <= room && fit(words, room - name.len())
 }
 
-/// The line of these words and its line feed, where they fit.
+/// Where they fit, writes the line of these words and its line feed and answers true; else writes nothing and answers false.
 pub fn put_line(name: &[u8], words: &[Word], into: &mut Bytes) -> bool
     ensures { WritesLine (name.now ++ tail_text words.now) into.old into.new result }
 {

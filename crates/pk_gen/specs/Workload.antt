@@ -1,11 +1,13 @@
 -- The generated workload: draws from a start, and the command of each turn.
 use Rattle.std.specs.Prelude.{ℕ, zero, suc, ◌+◌, ◌-◌, ◌*◌, ◌/◌, ◌%◌, ◌^◌, ◌==◌, nat_lt, if◌then◌else◌, Bool, List, [], ◌∷◌, ◌++◌, length, replicate, codes}
+use Rattle.pk_base.specs.declared.sizes.TheConstants.{KEY_BYTES}
 use Rattle.pk_nvme.specs.declared.limits.TheConstants.{NAMESPACE}
 use Rattle.pk_nvme.specs.declared.opcode.TheConstants.{STORE, RETRIEVE, LIST, DELETE, EXIST, TICK}
 use Rattle.pk_nvme.specs.Command.{Command}
 use Rattle.pk_nvme.specs.Seen.{command_of}
 use Rattle.pk_nvme.specs.Text.{number_text, padded_number}
 use Rattle.pk_nvme.specs.declared.request.Request.{Request}
+use Rattle.pk_gen.specs.declared.numbers.TheConstants.{KEYS, KEY_DIGITS, LEAST_VALUE_BYTES, VALUE_LENGTHS, LETTERS, RETRIEVE_BYTES, LIST_BYTES, TICK_STEPS}
 
 -- a generator before a turn: its state of 31 bits, and the turn's command identifier
 pub record Generator : Type 0 where
@@ -34,39 +36,39 @@ abbrev pub is_store : ℕ → Bool
 is_store a = nat_lt (a % 10) 5
 
 abbrev pub key_text : ℕ → List ℕ
-key_text b = codes "key:" ++ padded_number 12 (b % 5000)
+key_text b = codes "key:" ++ padded_number KEY_DIGITS (b % KEYS)
 
 -- the bytes of a Store's value
 abbrev pub value_len : ℕ → ℕ
-value_len c = 200 + c % 3801
+value_len c = LEAST_VALUE_BYTES + c % VALUE_LENGTHS
 
 -- the first letters of a value, each the next of the alphabet
 abbrev pub letters : ℕ → ℕ → List ℕ
 letters c zero = []
-letters c (suc j) = letters c j ++ (97 + (c + j) % 26) ∷ []
+letters c (suc j) = letters c j ++ (97 + (c + j) % LETTERS) ∷ []
 
 abbrev pub opening : ℕ → List ℕ
-opening b = codes "{\"id\":" ++ number_text (b % 5000) ++ codes ",\"pad\":\""
+opening b = codes "{\"id\":" ++ number_text (b % KEYS) ++ codes ",\"pad\":\""
 
 -- a value of the length, with as many letters as make it
 abbrev pub value_text : ℕ → ℕ → List ℕ
 value_text b c = opening b ++ letters c (value_len c - (length (opening b) + 2)) ++ codes "\"}"
 
 abbrev pub request : ℕ → ℕ → ℕ → ℕ → Request
-request opcode cid b size = record { opcode = opcode; cid = cid; namespace = NAMESPACE; key_len = 16; key = key_text b; size = size; options = 0 }
+request opcode cid b size = record { opcode = opcode; cid = cid; namespace = NAMESPACE; key_len = KEY_BYTES; key = key_text b; size = size; options = 0 }
 
 abbrev pub tick : ℕ → Request
-tick cid = record { opcode = TICK; cid = cid; namespace = NAMESPACE; key_len = 0; key = replicate 16 0; size = 16; options = 0 }
+tick cid = record { opcode = TICK; cid = cid; namespace = NAMESPACE; key_len = 0; key = replicate KEY_BYTES 0; size = TICK_STEPS; options = 0 }
 
 -- the command of a turn by its draws: Store, Retrieve, Delete, Exist, and Tick or List
 abbrev pub drawn_request : ℕ → ℕ → ℕ → ℕ → Request
 drawn_request cid a b c =
     if is_store a then request STORE cid b (value_len c)
-    else if nat_lt (a % 10) 7 then request RETRIEVE cid b 4096
+    else if nat_lt (a % 10) 7 then request RETRIEVE cid b RETRIEVE_BYTES
     else if a % 10 == 7 then request DELETE cid b 0
     else if a % 10 == 8 then request EXIST cid b 0
     else if b % 2 == 1 then tick cid
-    else request LIST cid b 1024
+    else request LIST cid b LIST_BYTES
 
 abbrev pub request_of : Generator → Request
 request_of g = drawn_request g.cid (a_of g) (b_of g) (c_of g)

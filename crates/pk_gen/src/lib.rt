@@ -4,7 +4,9 @@
 mod command;
 mod draw;
 pub mod laws;
+mod numbers;
 mod value;
 mod workload;
 
+pub use numbers::MOST_VALUE_BYTES;
 pub use workload::Workload;

@@ -3,6 +3,7 @@ ghost use Rattle.std.specs.Prelude.{◌≡◌, ◌≤◌};
 ghost use Rattle.pk_nvme.specs.Bytes.{RoomyList};
 ghost use Rattle.pk_nvme.specs.Seen.{entry_of};
 ghost use Rattle.pk_gen.specs.Workload.{Generator, begin, request_of, value_of, after};
+ghost use Rattle.pk_gen.specs.declared.numbers.TheConstants.{MOST_VALUE_BYTES};
 
 use crate::command::command;
 use crate::draw::{drawn, step};
@@ -41,7 +42,7 @@ impl Workload {
 
     /// The next command; its value, which is empty where it is no Store, replaces what stood there.
     pub fn next_request(&mut self, value: &mut Bytes) -> Request
-        requires { 4000 ≤ value.old.room }
+        requires { MOST_VALUE_BYTES ≤ value.old.room }
         ensures request { result ≡ request_of self.old }
         ensures value { value.new ≡ record value.old { items = value_of self.old } }
         ensures after { self.new ≡ after self.old }
@@ -64,7 +65,7 @@ impl Workload {
 
     /// The entry of the next command; its value, which is empty where it is no Store, replaces what stood there.
     pub fn next(&mut self, value: &mut Bytes) -> [u8; SUBMISSION_BYTES]
-        requires { 4000 ≤ value.old.room }
+        requires { MOST_VALUE_BYTES ≤ value.old.room }
         ensures entry { result ≡ entry_of (request_of self.old) }
         ensures value { value.new ≡ record value.old { items = value_of self.old } }
         ensures after { self.new ≡ after self.old }

@@ -8,7 +8,7 @@ use Rattle.std.specs.FinMap.{keys}
 use Rattle.pk_base.specs.Key.{Key, IsKey, key_cmp, IsBelow, IsRising}
 use Rattle.pk_base.specs.Shape.{Shape}
 use Rattle.pk_base.specs.Map.{Map, keys_from}
-use Rattle.pk_nvme.specs.Command.{Command, key}
+use Rattle.pk_nvme.specs.Command.{Command, key, key_or_none}
 use Rattle.pk_nvme.specs.Reply.{Reply}
 use Rattle.pk_nvme.specs.Opcode.{op_of}
 use Rattle.pk_nvme.specs.declared.opcode.Opcode.{Opcode}
@@ -19,7 +19,7 @@ use Rattle.pk_model.specs.Answer.{refused, map_after, effect, listed, fitting, l
 use Rattle.pk_host.specs.declared.types.HostError.{HostError}
 use Rattle.pk_host.specs.Port.{PortState, Replies, Took, LeftBySome}
 use Rattle.pk_host.specs.Calls.{list_of, Leaves, AreLists, TookSome}
-use Rattle.pk_host.specs.Listing.{list_room, above, keys_of, page_after, Pages, Follows, TellsKeys, ListsAll, start_of}
+use Rattle.pk_host.specs.Listing.{list_room, above, keys_of, page_after, Pages, Follows, TellsKeys, ListsAll}
 use Rattle.pk_host.proofs.CommandLemmas.{success_served, list_by, key-of_key}
 use Rattle.pk_host.proofs.SpellingLemmas.{read_back, listed_least, are_keys, filter_all}
 use Rattle.pk_host.proofs.RisingLemmas.{above-append, above_split, above_above, above_from, are_above, rising_filter, all_middle, last_of, snoc_of, keys_rising, second_above}
@@ -162,29 +162,29 @@ next_page from m front p e =
 -- the keys so far and those above the last of them are all keys, and the map is as it was
 pub record IsListing (start now : PortState) (all : List Key) : Type 0 where
   pub leaves : Leaves start now (λ m. m)
-  pub listed_keys : (m : Map) → start.map ≡ Some m → all ++ above (start_of (slice_get all (length all - 1))) (keys m) ≡ above [] (keys m)
+  pub listed_keys : (m : Map) → start.map ≡ Some m → all ++ above (key_or_none (slice_get all (length all - 1))) (keys m) ≡ above [] (keys m)
 
 pub listing_begins : (p : PortState) → IsListing p p []
 listing_begins p = record { leaves = λ m told. told; listed_keys = λ m told. refl }
 
-add_page : (m : Map) (all page : List Key) (from : Key) → page ≡ page_after from m → from ≡ start_of (slice_get all (length all - 1))
+add_page : (m : Map) (all page : List Key) (from : Key) → page ≡ page_after from m → from ≡ key_or_none (slice_get all (length all - 1))
     → all ++ above from (keys m) ≡ above [] (keys m)
-    → (all ++ page) ++ above (start_of (slice_get (all ++ page) (length (all ++ page) - 1))) (keys m) ≡ above [] (keys m)
+    → (all ++ page) ++ above (key_or_none (slice_get (all ++ page) (length (all ++ page) - 1))) (keys m) ≡ above [] (keys m)
 add_page m all [] from is at h =
-    ap (λ (xs : List Key). xs ++ above (start_of (slice_get xs (length xs - 1))) (keys m)) (append-nil all) ∙ ap (λ (q : Key). all ++ above q (keys m)) (sym at) ∙ h
+    ap (λ (xs : List Key). xs ++ above (key_or_none (slice_get xs (length xs - 1))) (keys m)) (append-nil all) ∙ ap (λ (q : Key). all ++ above q (keys m)) (sym at) ∙ h
 add_page m all (k ∷ page) from is at h =
     let last = snoc_of k page in
     let whole : all ++ k ∷ page ≡ (all ++ last.0) ++ last.1 ∷ [] = ap (λ (xs : List Key). all ++ xs) last.2 ∙ sym (append_assoc all last.0 (last.1 ∷ [])) in
     let at_last : slice_get (all ++ k ∷ page) (length (all ++ k ∷ page) - 1) ≡ Some last.1 = ap (λ (xs : List Key). slice_get xs (length xs - 1)) whole ∙ last_of (all ++ last.0) last.1 in
-    append_assoc all (k ∷ page) _ ∙ ap (λ (o : Option Key). all ++ ((k ∷ page) ++ above (start_of o) (keys m))) at_last
+    append_assoc all (k ∷ page) _ ∙ ap (λ (o : Option Key). all ++ ((k ∷ page) ++ above (key_or_none o) (keys m))) at_last
     ∙ ap (λ (xs : List Key). all ++ (xs ++ above last.1 (keys m))) is ∙ ap (λ (xs : List Key). all ++ xs) (sym (next_page from m last.0 last.1 (sym is ∙ last.2))) ∙ h
 
-pub listing_goes : (start now next : PortState) (all page all' : List Key) (from : Key) → IsListing start now all → from ≡ start_of (slice_get all (length all - 1))
+pub listing_goes : (start now next : PortState) (all page all' : List Key) (from : Key) → IsListing start now all → from ≡ key_or_none (slice_get all (length all - 1))
     → Pages now from page → Leaves now next (λ m. m) → all' ≡ all ++ page → IsListing start next all'
 listing_goes start now next all page all' from h at pages leaves whole = record {
   leaves = λ m told. leaves m (h.leaves m told);
   listed_keys = λ m told.
-      ap (λ (xs : List Key). xs ++ above (start_of (slice_get xs (length xs - 1))) (keys m)) whole
+      ap (λ (xs : List Key). xs ++ above (key_or_none (slice_get xs (length xs - 1))) (keys m)) whole
       ∙ add_page m all page from (pages m (h.leaves m told)) at (ap (λ (q : Key). all ++ above q (keys m)) at ∙ h.listed_keys m told);
 }
 
@@ -197,7 +197,7 @@ all_above_none [] h = refl
 all_above_none ([] ∷ ks) h = absurd (let some = h.0.some in omega (arith, some))
 all_above_none ((x ∷ k) ∷ ks) h = ap (λ (xs : List Key). (x ∷ k) ∷ xs) (all_above_none ks h.1)
 
-pub listing_ends : (start now : PortState) (all : List Key) (from : Key) → IsListing start now all → from ≡ start_of (slice_get all (length all - 1))
+pub listing_ends : (start now : PortState) (all : List Key) (from : Key) → IsListing start now all → from ≡ key_or_none (slice_get all (length all - 1))
     → (more : Bool) → more ≡ false → Follows now from more → TellsKeys now → ListsAll start all
 listing_ends start now all from h at more stop none known m told =
     let here = h.leaves m told in

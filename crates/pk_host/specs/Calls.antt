@@ -8,6 +8,7 @@ use Rattle.pk_base.specs.Fields.{padded}
 use Rattle.pk_base.specs.Map.{Map}
 use Rattle.pk_base.specs.declared.sizes.TheConstants.{KEY_BYTES}
 use Rattle.pk_nvme.specs.declared.opcode.TheConstants.{STORE, RETRIEVE, LIST, DELETE, EXIST, REPORT}
+use Rattle.pk_nvme.specs.declared.options.TheConstants.{IF_EXISTS, IF_ABSENT}
 use Rattle.pk_nvme.specs.declared.status.TheConstants.{SUCCESSFUL_COMPLETION, KEY_DOES_NOT_EXIST, UNRECOVERED_ERROR}
 use Rattle.pk_nvme.specs.declared.limits.TheConstants.{NAMESPACE, MOST_LIST_BYTES}
 use Rattle.pk_nvme.specs.Command.{Command}
@@ -36,11 +37,11 @@ of_key opcode key size options value = record {
   value = value;
 }
 
--- bit 0: only a key that exists; bit 1: only a key that is missing
+-- the option bits of a Store by a rule
 abbrev pub options_of : StoreRule → ℕ
 options_of Any = 0
-options_of IfExists = 1
-options_of IfAbsent = 2
+options_of IfExists = IF_EXISTS
+options_of IfAbsent = IF_ABSENT
 
 abbrev pub store_of : Key → List ℕ → StoreRule → Command
 store_of key value rule = of_key STORE key (length value) (options_of rule) value

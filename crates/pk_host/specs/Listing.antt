@@ -71,11 +71,6 @@ ListsAll p all = (m : Map) → p.map ≡ Some m → all ≡ keys m
 
 -- ---- what a call makes of a reply
 
--- the bytes to begin after: none where no key is given
-abbrev pub start_of : Option Key → Key
-start_of None = []
-start_of (Some key) = key
-
 -- whether a key follows
 abbrev pub listed_by : List Key → Reply → Result Bool HostError
 listed_by page a = if a.status == SUCCESSFUL_COMPLETION then Ok (nat_lt 0 (length page)) else Err (Refused a.status)

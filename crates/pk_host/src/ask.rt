@@ -1,7 +1,6 @@
 //! One command, and the reply that its completion tells.
-ghost use Rattle.std.specs.Prelude.{◌≡◌, ◌≤◌, ◌<◌, ◌^◌, ℕ, List, [], ◌∷◌, length, take, IfOk, IfErr};
+ghost use Rattle.std.specs.Prelude.{◌≡◌, ◌≤◌, ℕ, List, [], ◌∷◌, length, take, IfOk, IfErr};
 ghost use Rattle.pk_nvme.specs.Command.{value_size};
-ghost use Rattle.pk_nvme.specs.Reply.{completion};
 ghost use Rattle.pk_nvme.specs.Seen.{command_of};
 ghost use Rattle.pk_nand.specs.Calls.{Rose};
 ghost use Rattle.pk_host.specs.Calls.{of_key};
@@ -10,9 +9,9 @@ ghost use Rattle.pk_host.specs.Received.{replied};
 
 use crate::port::Port;
 use crate::types::HostError;
-use pk_base::{KEY_BYTES, get_u16, get_u32};
-use pk_nvme::{COMPLETION_BYTES, Request};
+use pk_base::KEY_BYTES;
 use pk_nvme::limits::NAMESPACE;
+use pk_nvme::{Request, result_in, status_in};
 
 /// A command but for its key and value: which it is, its size in bytes, and its options.
 #[derive(Clone, Copy)]
@@ -49,22 +48,6 @@ fn request_of(asked: Asked, key: &[u8]) -> Request
     }
 }
 
-/// The status of a completion.
-fn status_of(entry: &[u8; COMPLETION_BYTES]) -> u8
-    ensures { (cid head status field : ℕ) → entry.now ≡ completion cid head status field
-        → status < 256 → result ≡ status }
-{
-    (get_u16(entry, 14) / 2 % 256) as u8
-}
-
-/// The result of a completion.
-fn result_of(entry: &[u8; COMPLETION_BYTES]) -> u32
-    ensures { (cid head status field : ℕ) → entry.now ≡ completion cid head status field
-        → field < 2 ^ 32 → result ≡ field }
-{
-    get_u32(entry, 0)
-}
-
 /// Hands over a command for these bytes of key, and tells the reply.
 pub fn ask<P: Port>(
     port: &mut P,
@@ -94,8 +77,8 @@ pub fn ask<P: Port>(
     let request = request_of(asked, key);
     match port.submit(&request.entry(), value, into) {
         Ok(done) => Ok(Received {
-            status: status_of(&done.entry),
-            result: result_of(&done.entry),
+            status: status_in(&done.entry),
+            result: result_in(&done.entry),
             len: done.data_len,
         }),
         Err(_) => Err(HostError::Port),

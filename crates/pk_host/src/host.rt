@@ -1,4 +1,4 @@
-//! The host: a buffer for keys, and the typed calls of one command each.
+//! The host: a buffer for keys, and the typed calls of one command page.
 ghost use Rattle.std.specs.Prelude.{◌≡◌, ◌≤◌, ◌<◌, ◌^◌, [], ◌∷◌, length, OnOk, OnErr, IfOk};
 ghost use Rattle.std.specs.FinMap as map;
 ghost use Rattle.std.specs.List.{AllByRecursion};
@@ -14,6 +14,7 @@ use crate::types::{HostError, StoreRule};
 use pk_base::{KEY_BYTES, Key};
 use pk_nvme::limits::MOST_LIST_BYTES;
 use pk_nvme::opcode::{DELETE, EXIST, LIST, RETRIEVE, STORE};
+use pk_nvme::options::{IF_ABSENT, IF_EXISTS};
 use pk_nvme::status::{KEY_DOES_NOT_EXIST, SUCCESSFUL_COMPLETION};
 use std::alloc::{AllocError, Global};
 use std::marker::Model;
@@ -41,8 +42,8 @@ fn options_of(rule: StoreRule) -> u8
 {
     match rule {
         StoreRule::Any => 0,
-        StoreRule::IfExists => 1,
-        StoreRule::IfAbsent => 2,
+        StoreRule::IfExists => IF_EXISTS,
+        StoreRule::IfAbsent => IF_ABSENT,
     }
 }
 
@@ -168,26 +169,26 @@ impl Host {
         &mut self,
         port: &mut P,
         from: &[u8],
-        each: &mut KeyPage,
+        page: &mut KeyPage,
     ) -> Result<bool, HostError>
         requires { length from.now ≤ KEY_BYTES }
 
         // The page of keys, and what it tells of the drive's.
         ensures gives { Gives (P.state port.old) (P.state port.new) (list_of from.now)
-            (listed_by each.new) result }
-        ensures pages { OnOk result (Pages (P.state port.old) from.now each.new) }
+            (listed_by page.new) result }
+        ensures pages { OnOk result (Pages (P.state port.old) from.now page.new) }
         ensures follows { IfOk result (λ more. Follows (P.state port.old) from.now more) }
         ensures known { OnOk result (TellsKeys (P.state port.old)) }
 
         // What the page has in any case: keys above these bytes, and none where the call failed.
-        ensures above { AllByRecursion (IsBelow from.now) each.new }
-        ensures empty { OnErr result (each.new ≡ []) }
+        ensures above { AllByRecursion (IsBelow from.now) page.new }
+        ensures empty { OnErr result (page.new ≡ []) }
 
         // The map stays, and the port took this one command.
         ensures leaves { Leaves (P.state port.old) (P.state port.new) (λ m. m) }
         ensures took { P.took port.old (list_of from.now ∷ []) port.new }
     {
-        each.clear();
+        page.clear();
         let buffer = self.buffer.as_mut_slice();
         let asked = Asked {
             opcode: LIST,
@@ -197,8 +198,8 @@ impl Host {
         match ask(port, asked, from, &[], buffer) {
             Ok(received) => match received.status {
                 SUCCESSFUL_COMPLETION => {
-                    read_keys(&buffer[..received.len as usize], from, each);
-                    Ok(each.len() > 0)
+                    read_keys(&buffer[..received.len as usize], from, page);
+                    Ok(page.len() > 0)
                 }
                 status => Err(HostError::Refused { status }),
             },

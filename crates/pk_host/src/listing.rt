@@ -8,6 +8,7 @@ ghost use Rattle.pk_host.specs.Listing.{first_key, keys_of, above};
 use crate::key_page::KeyPage;
 use crate::sizes::MOST_KEYS;
 use pk_base::{KEY_BYTES, Key, get_u16, get_u32};
+use pk_nvme::fill_behind;
 use pk_nvme::limits::COUNT_BYTES;
 
 /// The key that is spelled at the head of these bytes.
@@ -40,7 +41,7 @@ fn listed_size(key: &Key) -> usize
     ensures most { result ≤ 21 }
 {
     let len = key.bytes().len();
-    2 + len + (6 - len % 4) % 4
+    2 + len + fill_behind(len)
 }
 
 /// The key is above these bytes: above no bytes, every key is.
@@ -51,21 +52,21 @@ fn is_above(key: &Key, bytes: &[u8]) -> bool
 }
 
 /// One more key, unless it is not above the one that the page begins after.
-fn offer(each: &mut KeyPage, from: &[u8], key: Key)
-    requires { length each.old + 1 ≤ MOST_KEYS }
-    ensures keys { each.new ≡ each.old ++ above from.now (key ∷ []) }
-    ensures most { length each.new ≤ length each.old + 1 }
+fn offer(page: &mut KeyPage, from: &[u8], key: Key)
+    requires { length page.old + 1 ≤ MOST_KEYS }
+    ensures keys { page.new ≡ page.old ++ above from.now (key ∷ []) }
+    ensures most { length page.new ≤ length page.old + 1 }
 {
     if is_above(&key, from) {
-        each.push(key);
+        page.push(key);
     }
 }
 
 /// Fills the page with the keys above this one that are spelled.
-pub fn read_keys(bytes: &[u8], from: &[u8], each: &mut KeyPage)
-    ensures { each.new ≡ above from.now (keys_of bytes.now) }
+pub fn read_keys(bytes: &[u8], from: &[u8], page: &mut KeyPage)
+    ensures { page.new ≡ above from.now (keys_of bytes.now) }
 {
-    each.clear();
+    page.clear();
     if bytes.len() < COUNT_BYTES as usize {
         return;
     }
@@ -76,7 +77,7 @@ pub fn read_keys(bytes: &[u8], from: &[u8], each: &mut KeyPage)
             None => return,
             Some(key) => {
                 at += listed_size(&key);
-                offer(each, from, key);
+                offer(page, from, key);
             }
         }
     }

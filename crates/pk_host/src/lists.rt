@@ -3,8 +3,9 @@ ghost use Rattle.std.specs.Prelude.{◌≡◌, ◌≤◌, [], ◌∷◌, ◌++�
 ghost use Rattle.std.specs.List.{AllByRecursion};
 ghost use Rattle.std.specs.Option.{option_copied};
 ghost use Rattle.pk_base.specs.Key.{IsBelow};
+ghost use Rattle.pk_nvme.specs.Command.{key_or_none};
 ghost use Rattle.pk_host.specs.Calls.{IsCause, Gives, list_of, Leaves, AreLists, TookSome};
-ghost use Rattle.pk_host.specs.Listing.{Pages, Follows, TellsKeys, ListsAll, listed_by, start_of};
+ghost use Rattle.pk_host.specs.Listing.{Pages, Follows, TellsKeys, ListsAll, listed_by};
 
 use crate::host::Host;
 use crate::key_page::KeyPage;
@@ -15,7 +16,7 @@ use std::alloc::Global;
 
 /// The bytes of a key; none where there is no key.
 fn start_bytes(from: Option<&Key>) -> &[u8]
-    ensures bytes { result.now ≡ start_of (option_copied from.entry) }
+    ensures bytes { result.now ≡ key_or_none (option_copied from.entry) }
     ensures short { length result.now ≤ KEY_BYTES }
 {
     match from {
@@ -24,7 +25,7 @@ fn start_bytes(from: Option<&Key>) -> &[u8]
     }
 }
 
-/// Adds the keys of a page to a list; false where memory is missing.
+/// Adds the keys of a page to a list and answers true; false where memory is missing, and then only some were added.
 fn add(all: &mut Vec<Key>, page: &KeyPage) -> bool
     ensures { result ≡ true → all.new.items ≡ all.old.items ++ page.now }
 {
@@ -44,26 +45,29 @@ impl Host {
         &mut self,
         port: &mut P,
         from: Option<&Key>,
-        each: &mut KeyPage,
+        page: &mut KeyPage,
     ) -> Result<bool, HostError>
+        // What is answered, and why nothing is.
         ensures gives { Gives (P.state port.old) (P.state port.new)
-            (list_of (start_of (option_copied from.entry))) (listed_by each.new) result }
+            (list_of (key_or_none (option_copied from.entry))) (listed_by page.new) result }
         ensures causes { IfErr result (λ e. IsCause (P.state port.old) (P.state port.new)
             (listed_by []) e) }
+
         // The keys.
         ensures pages { OnOk result
-            (Pages (P.state port.old) (start_of (option_copied from.entry)) each.new) }
+            (Pages (P.state port.old) (key_or_none (option_copied from.entry)) page.new) }
         ensures follows { IfOk result (λ more.
-            Follows (P.state port.old) (start_of (option_copied from.entry)) more) }
+            Follows (P.state port.old) (key_or_none (option_copied from.entry)) more) }
         ensures known { OnOk result (TellsKeys (P.state port.old)) }
-        ensures above { AllByRecursion (IsBelow (start_of (option_copied from.entry))) each.new }
-        ensures empty { OnErr result (each.new ≡ []) }
+        ensures above { AllByRecursion (IsBelow (key_or_none (option_copied from.entry))) page.new }
+        ensures empty { OnErr result (page.new ≡ []) }
+
         // The port.
         ensures leaves { Leaves (P.state port.old) (P.state port.new) (λ m. m) }
-        ensures took { P.took port.old (list_of (start_of (option_copied from.entry)) ∷ [])
+        ensures took { P.took port.old (list_of (key_or_none (option_copied from.entry)) ∷ [])
             port.new }
     {
-        self.page_from(port, start_bytes(from), each)
+        self.page_from(port, start_bytes(from), page)
     }
 
     /// Every key, rising. `Refused` where a read failed, `Port` where the port did, `Memory` where it is missing for the keys.
@@ -79,6 +83,7 @@ impl Host {
             Err(_) => return Err(HostError::Memory),
         };
         let mut all = Vec::new(alloc);
+        // It ends with the first page that is empty; the count stands for a measure, and no map has so many pages.
         for _ in 0..u64::MAX {
             match self.list_page(port, all.last(), &mut page) {
                 Err(error) => return Err(error),

@@ -12,7 +12,11 @@ use pk_nvme::status::SUCCESSFUL_COMPLETION;
 
 impl Host {
     /// The numbers of a Report, each in four bytes, the lowest first. `Refused` where a read failed, `Port` where the port did.
-    pub fn report<P: Port>(&mut self, port: &mut P, numbers: &mut [u8; REPORT_BYTES]) -> Result<(), HostError>
+    pub fn report<P: Port>(
+        &mut self,
+        port: &mut P,
+        numbers: &mut [u8; REPORT_BYTES],
+    ) -> Result<(), HostError>
         ensures gives { Gives (P.state port.old) (P.state port.new) report stored result }
         ensures causes { IfErr result (λ e. IsCause (P.state port.old) (P.state port.new)
             stored e) }

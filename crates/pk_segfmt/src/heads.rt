@@ -14,8 +14,10 @@ use pk_base::{
     put_u8, put_u32, put_zeros, text, zeros,
 };
 
-const KIND: [u8; 1] = [0x44];
+/// The kind of a page that begins with a head, in byte 1: no entry has it.
+pub const KIND: u8 = 0x44;
 
+// The text at the end of a head.
 const MAGIC: [u8; 8] = *b"PINKDATA";
 
 /// A value may have this length.
@@ -33,7 +35,7 @@ fn checked(shape: &Shape, bytes: &[u8]) -> Result<(), Wrong>
 {
     let size = bytes[0];
     passes(0, size >= 1 && size as usize <= KEY_BYTES)?;
-    text(bytes, 1, &KIND)?;
+    text(bytes, 1, &[KIND])?;
     zeros(bytes, 2, 4)?;
     padding(bytes, 4, 4 + size as usize, 20)?;
     passes(20, is_len(shape, get_u32(bytes, 20)))?;
@@ -117,7 +119,7 @@ pub(crate) fn put_head(key: &[u8], len: u32, into: &mut [u8])
     ensures len { length into.new ≡ length into.old }
 {
     put_u8(into, 0, key.len() as u8);
-    put_text(into, 1, &KIND);
+    put_u8(into, 1, KIND);
     put_zeros(into, 2, 4);
     put_padded(into, 4, KEY_BYTES, key);
     put_u32(into, 20, len);

@@ -1,17 +1,17 @@
 -- Records as lines of text.
-use Rattle.std.specs.Prelude.{ℕ, ◌/◌, ◌%◌, ◌^◌, ◌==◌, if◌then◌else◌, List, [], ◌∷◌, ◌++◌, codes}
-use Rattle.pk_base.specs.Fields.{u16_at, u32_at}
+use Rattle.std.specs.Prelude.{ℕ, ◌==◌, if◌then◌else◌, List, [], ◌∷◌, ◌++◌, codes}
+use Rattle.pk_nvme.specs.Reply.{cid_at, status_at, result_at, reads_at, data_bytes_at}
 use Rattle.pk_nvme.specs.Text.{number_text, hex_text, bytes_text}
 use Rattle.pk_show.specs.declared.head.Head.{Head}
 
--- the fields of a record's 24 bytes that are shown; the status code is in bits 17 to 24 of the completion's last dword
+-- the fields of a record's head that are shown
 abbrev pub head_of : List ℕ → Head
 head_of head = record {
-  cid = u16_at head 12;
-  status = u32_at head 12 / 2 ^ 17 % 256;
-  result = u32_at head 0;
-  reads = u32_at head 16;
-  data_len = u32_at head 20;
+  cid = cid_at head;
+  status = status_at head;
+  result = result_at head;
+  reads = reads_at head;
+  data_len = data_bytes_at head;
 }
 
 -- the words of a line before its data
@@ -20,7 +20,7 @@ words h =
     codes "cid=" ++ number_text h.cid ++ codes " status=" ++ hex_text (h.status ∷ []) ++ codes " result=" ++ number_text h.result
     ++ codes " reads=" ++ number_text h.reads ++ codes " data="
 
--- the line of a record, from its 24 bytes and its data
+-- the line of a record, from its head and its data
 abbrev pub shown : List ℕ → List ℕ → List ℕ
 shown head bytes = words (head_of head) ++ bytes_text bytes ++ codes "\n"
 

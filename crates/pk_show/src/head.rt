@@ -4,8 +4,7 @@ ghost use Rattle.pk_nvme.specs.Bytes.{RoomyList};
 ghost use Rattle.pk_nvme.specs.Text.{number_text};
 ghost use Rattle.pk_show.specs.Shown.{head_of, front, shown_head};
 
-use pk_base::{get_u16, get_u32};
-use pk_nvme::{Bytes, RECORD_HEAD_BYTES};
+use pk_nvme::{Bytes, RECORD_HEAD_BYTES, cid_in, data_bytes_in, reads_in, result_in, status_in};
 
 /// Writes a record's line up to the digits of its data, with `-` where it has no data: the digits, where there are any, and a
 /// line feed follow. It is false exactly where that text does not fit the room, and then nothing is written.
@@ -39,11 +38,11 @@ impl Head {
         ensures { result ≡ head_of head.now }
     {
         Head {
-            cid: get_u16(head, 12).into(),
-            status: (get_u32(head, 12) / 131_072 % 256) as u8,
-            result: get_u32(head, 0),
-            reads: get_u32(head, 16),
-            data_len: get_u32(head, 20),
+            cid: cid_in(head).into(),
+            status: status_in(head),
+            result: result_in(head),
+            reads: reads_in(head),
+            data_len: data_bytes_in(head),
         }
     }
 

@@ -5,6 +5,7 @@ use Rattle.std.proofs.lemmas.Bool.Decides.{nat_tests}
 use Rattle.std.proofs.lemmas.List.{take-append-drop}
 use Rattle.std.proofs.Math.Seq.{take-append_seam, drop-append_seam, take-append-add, drop-append-add}
 use Rattle.pk_base.specs.Fields.{u16_at, u32_at}
+use Rattle.pk_nvme.specs.Reply.{status_at}
 use Rattle.pk_nvme.specs.Text.{hex_text, number_text}
 use Rattle.pk_nvme.proofs.TextLemmas.{hex_text-append, length-hex_text, number_text_short}
 use Rattle.pk_show.specs.Shown.{shown_head, shown as record_line, words, front, head_of}
@@ -253,7 +254,7 @@ dash_short false = omega arith
 
 length-words : (head : List ℕ)
     → length (words (head_of head)) ≡ length (number_text (u16_at head 12)) + length (number_text (u32_at head 0)) + length (number_text (u32_at head 16)) + 35
-length-words head = simp length-append (omega (arith, length-hex_text (u32_at head 12 / 2 ^ 17 % 256 ∷ [])))
+length-words head = simp length-append (omega (arith, length-hex_text (status_at head ∷ [])))
 
 front_length : (head : List ℕ) → u16_at head 12 < 2 ^ 32 → u32_at head 0 < 2 ^ 32 → u32_at head 16 < 2 ^ 32 → length (shown_head head) ≤ 66
 front_length head cid result reads =

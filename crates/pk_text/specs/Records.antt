@@ -1,7 +1,7 @@
 -- Answer records as lines of text.
 use Rattle.std.specs.Prelude.{ℕ, zero, suc, nat_le, nat_lt, if◌then◌else◌, List, [], ◌∷◌, ◌++◌, length, take, drop, codes}
-use Rattle.pk_base.specs.Fields.{u32_at}
 use Rattle.pk_nvme.specs.declared.sizes.TheConstants.{RECORD_HEAD_BYTES}
+use Rattle.pk_nvme.specs.Reply.{data_bytes_at}
 use Rattle.pk_nvme.specs.Text.{hex_text}
 use Rattle.pk_show.specs.Shown.{shown_head}
 use Rattle.pk_text.specs.Written.{Written, ended, before, most}
@@ -19,9 +19,9 @@ data_shown size more bytes =
 
 -- the line of a record with this head, from its data on, and then what follows
 abbrev pub head_shown : List ℕ → (List ℕ → Written) → List ℕ → Written
-head_shown head more bytes = before (shown_head head) (data_shown (u32_at head 20) more bytes)
+head_shown head more bytes = before (shown_head head) (data_shown (data_bytes_at head) more bytes)
 
--- the line of the record that begins here, and then what follows; a record that ends within its head of 24 bytes gives nothing
+-- the line of the record that begins here, and then what follows; a record that ends within its head gives nothing
 abbrev pub record_shown : (List ℕ → Written) → List ℕ → Written
 record_shown more bytes = if nat_lt (length bytes) RECORD_HEAD_BYTES then ended Truncated else head_shown (take RECORD_HEAD_BYTES bytes) more (drop RECORD_HEAD_BYTES bytes)
 

@@ -2,6 +2,7 @@
 use Rattle.std.specs.Prelude.{◌≡◌, ◌≢◌, ◌<◌, ℕ, suc, ◌==◌, List, [], ◌∷◌, ◌++◌, length, Option, Some, None, Bool, true, false, MatchOption}
 use Rattle.std.specs.List.{AllByRecursion}
 use Rattle.pk_nvme.specs.declared.sizes.TheConstants.{RECORD_HEAD_BYTES}
+use Rattle.pk_asm.specs.declared.sizes.TheConstants.{MOST_LINE_BYTES}
 use Rattle.pk_asm.specs.Line.{Line, entry, says}
 use Rattle.pk_nand.specs.BoardState.{BoardState}
 use Rattle.pk_nand.specs.Calls.{Rose, longer, PostFailed, put_back, AtEnd}
@@ -84,7 +85,7 @@ NoLine pending pending' old new line Truncated = ⊥
 NoLine pending pending' old new line Input = FeedFailed old new
 NoLine pending pending' old new line Output = ⊥
 NoLine pending pending' old new line TooMany = ⊥
-NoLine pending pending' old new line BadLine = IsLine line × Fed pending pending' old new line × (2200000 < length line)
+NoLine pending pending' old new line BadLine = IsLine line × Fed pending pending' old new line × (MOST_LINE_BYTES < length line)
 
 -- what a line gives was posted, and the next entry has this number
 pub record Gives (number : ℕ) (line : List ℕ) (next : ℕ) (old new : BoardState) : Type 0 where

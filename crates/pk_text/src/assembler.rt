@@ -1,5 +1,7 @@
 //! Text scripts to entries and values.
 ghost use Rattle.std.specs.Prelude.{◌≡◌, ◌≤◌, ◌<◌, ◌+◌, ◌^◌, ℕ, suc, IfOk, IfErr};
+ghost use Rattle.pk_nvme.specs.declared.sizes.TheConstants.{SUBMISSION_BYTES};
+ghost use Rattle.pk_asm.specs.declared.sizes.TheConstants.{MOST_LINE_BYTES, MOST_LINE_VALUE_BYTES};
 ghost use Rattle.pk_text.specs.Written.{most};
 ghost use Rattle.pk_text.specs.Assembled.{assembled, assembled_from};
 ghost use Rattle.pk_text.specs.Turns.{Turns, TurnsFrom};
@@ -7,14 +9,12 @@ ghost use Rattle.pk_text.specs.Steps.{Advances, ahead};
 
 use crate::TextEnd;
 use crate::feed::Feed;
-use crate::line::{MOST_BYTES, give_line, take_line};
+use crate::line::{give_line, take_line};
 use crate::over::stop;
+use pk_asm::{MOST_LINE_BYTES, MOST_LINE_VALUE_BYTES};
 use pk_nand::Board;
 use pk_nvme::{Bytes, SUBMISSION_BYTES};
 use std::alloc::{AllocError, Global};
-
-// Most bytes of a value: the digits of a line.
-const MOST_VALUE: usize = MOST_BYTES / 2;
 
 /// The memory in which text scripts are assembled: a piece of the input, a line, a value, and an entry with its value.
 #[derive(Drop)]
@@ -23,35 +23,19 @@ pub struct Assembler {
     line: Bytes,
     value: Bytes,
     out: Bytes,
-    ghost line_room: { line.room ≡ 2200001 },
-    ghost value_room: { value.room ≡ 1100000 },
-    ghost out_room: { out.room ≡ 1100064 },
+    ghost line_room: { line.room ≡ MOST_LINE_BYTES + 1 },
+    ghost value_room: { value.room ≡ MOST_LINE_VALUE_BYTES },
+    ghost out_room: { out.room ≡ SUBMISSION_BYTES + MOST_LINE_VALUE_BYTES },
 }
 
 impl Assembler {
     /// Takes all the memory that assembling needs; an error where it is missing.
     pub fn new(alloc: Global) -> Result<Assembler, AllocError> {
-        let feed = match Feed::new(alloc) {
-            Ok(feed) => feed,
-            Err(error) => return Err(error),
-        };
-        let line = match Bytes::with_room(alloc, MOST_BYTES + 1) {
-            Ok(line) => line,
-            Err(error) => return Err(error),
-        };
-        let value = match Bytes::with_room(alloc, MOST_VALUE) {
-            Ok(value) => value,
-            Err(error) => return Err(error),
-        };
-        let out = match Bytes::with_room(alloc, SUBMISSION_BYTES + MOST_VALUE) {
-            Ok(out) => out,
-            Err(error) => return Err(error),
-        };
         Ok(Assembler {
-            feed,
-            line,
-            value,
-            out,
+            feed: Feed::new(alloc)?,
+            line: Bytes::with_room(alloc, MOST_LINE_BYTES + 1)?,
+            value: Bytes::with_room(alloc, MOST_LINE_VALUE_BYTES)?,
+            out: Bytes::with_room(alloc, SUBMISSION_BYTES + MOST_LINE_VALUE_BYTES)?,
         })
     }
 

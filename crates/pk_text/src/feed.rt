@@ -2,12 +2,10 @@
 ghost use Rattle.std.specs.Prelude.{◌≡◌, ◌≤◌, ◌<◌, List, ℕ, [], length, drop, IfOk, OnErr};
 ghost use Rattle.pk_text.specs.Steps.{Filled, Nexted, FeedFailed};
 
+use crate::sizes::PIECE;
 use pk_nand::{Board, HostFault};
 use std::alloc::{AllocError, Global};
 use std::marker::Model;
-
-// Most bytes of a fetch.
-const PIECE: usize = 4096;
 
 /// Bytes that were fetched and are not used yet. Contracts see them as a list.
 #[derive(Drop)]
@@ -33,14 +31,11 @@ impl Feed {
     pub fn new(alloc: Global) -> Result<Feed, AllocError>
         ensures { IfOk result (λ f. f ≡ []) }
     {
-        match Vec::from_elem(alloc, 0u8, PIECE) {
-            Ok(bytes) => Ok(Feed {
-                bytes,
-                from: 0,
-                to: 0,
-            }),
-            Err(error) => Err(error),
-        }
+        Ok(Feed {
+            bytes: Vec::from_elem(alloc, 0u8, PIECE)?,
+            from: 0,
+            to: 0,
+        })
     }
 
     /// No bytes.

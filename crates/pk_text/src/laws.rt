@@ -1,7 +1,7 @@
 //! Laws of the two texts, as the contracts of functions.
 ghost use Rattle.std.specs.Prelude.{◌≡◌, ◌<◌, ℕ, suc, List, ◌++◌, length};
-ghost use Rattle.pk_base.specs.Fields.{u32_at};
 ghost use Rattle.pk_nvme.specs.declared.sizes.TheConstants.{RECORD_HEAD_BYTES};
+ghost use Rattle.pk_nvme.specs.Reply.{data_bytes_at};
 ghost use Rattle.pk_show.specs.Shown.{shown as record_line};
 ghost use Rattle.pk_text.specs.Written.{before, most};
 ghost use Rattle.pk_text.specs.Records.{shown_from};
@@ -9,7 +9,7 @@ ghost use Rattle.pk_text.specs.Records.{shown_from};
 /// A whole record in front of others gives its line, and then they give theirs.
 pub fn whole_record()
     ensures { (taken : ℕ) (head bytes rest : List ℕ) → taken < most → length head ≡ RECORD_HEAD_BYTES
-        → length bytes ≡ u32_at head 20
+        → length bytes ≡ data_bytes_at head
         → shown_from taken (head ++ (bytes ++ rest))
         ≡ before (record_line head bytes) (shown_from (suc taken) rest) }
 {

@@ -11,6 +11,7 @@ mod line;
 mod over;
 mod record;
 mod shower;
+mod sizes;
 
 pub use assembler::Assembler;
 pub use end::TextEnd;

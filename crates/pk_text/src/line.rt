@@ -1,16 +1,14 @@
 //! Lines of a text script, and what they give.
 ghost use Rattle.std.specs.Prelude.{◌≡◌, ◌≤◌, ◌<◌, ◌+◌, ◌^◌, ◌++◌, length, IfOk, IfErr, OnOk, OnErr};
+ghost use Rattle.pk_asm.specs.declared.sizes.TheConstants.{MOST_LINE_VALUE_BYTES};
 ghost use Rattle.pk_nand.specs.Calls.{after_post, PostFailed};
 ghost use Rattle.pk_text.specs.Steps.{LineTaken, NoLine, Gives, GivesNot};
 
 use crate::TextEnd;
 use crate::feed::Feed;
-use pk_asm::assemble_line;
+use pk_asm::{MOST_LINE_BYTES, assemble_line};
 use pk_nand::{Board, HostFault};
 use pk_nvme::{Bytes, SUBMISSION_BYTES};
-
-/// Most bytes of a line, its line feed not counted.
-pub const MOST_BYTES: usize = 2_200_000;
 
 /// Takes a line without its line feed. False where it is the last one, which lacks it.
 pub fn take_line<B: Board>(
@@ -18,7 +16,7 @@ pub fn take_line<B: Board>(
     board: &mut B,
     line: &mut Bytes,
 ) -> Result<bool, TextEnd>
-    requires { line.old.room ≡ 2200001 }
+    requires { line.old.room ≡ MOST_LINE_BYTES + 1 }
     ensures room { line.new.room ≡ line.old.room }
     ensures ok { IfOk result (λ ended. LineTaken feed.old feed.new (B.state board.old)
         (B.state board.new) line.new.items ended) }
@@ -26,7 +24,7 @@ pub fn take_line<B: Board>(
         (B.state board.new) line.new.items end) }
 {
     line.clear();
-    for _count in 0..MOST_BYTES + 1 {
+    for _count in 0..MOST_LINE_BYTES + 1 {
         match feed.next(board) {
             Ok(Some(byte)) => {
                 if byte == b'\n' {
@@ -76,8 +74,8 @@ pub fn give_line<B: Board>(
     out: &mut Bytes,
 ) -> Result<u64, TextEnd>
     requires number { number < 2 ^ 63 }
-    requires value_room { value.old.room ≡ 1100000 }
-    requires out_room { out.old.room ≡ 1100064 }
+    requires value_room { value.old.room ≡ MOST_LINE_VALUE_BYTES }
+    requires out_room { out.old.room ≡ SUBMISSION_BYTES + MOST_LINE_VALUE_BYTES }
 
     // The buffers may be used again.
     ensures value_room { value.new.room ≡ value.old.room }

@@ -1,7 +1,7 @@
 //! Answer records, taken and shown piece by piece.
 ghost use Rattle.std.specs.Prelude.{◌≡◌, ◌≤◌, ◌<◌, ◌-◌, ◌*◌, ℕ, List, length, IfOk, IfErr, OnOk, OnErr, codes};
-ghost use Rattle.pk_base.specs.Fields.{u32_at};
 ghost use Rattle.pk_nand.specs.Calls.{after_post, PostFailed};
+ghost use Rattle.pk_nvme.specs.Reply.{data_bytes_at};
 ghost use Rattle.pk_nvme.specs.Text.{hex_text};
 ghost use Rattle.pk_show.specs.Shown.{shown_head};
 ghost use Rattle.pk_text.specs.Written.{Written};
@@ -12,13 +12,10 @@ ghost use Rattle.pk_text.specs.Steps.{HeadTaken, FeedFailed, Advances, ahead};
 
 use crate::TextEnd;
 use crate::feed::Feed;
-use pk_base::{get_u16, get_u32};
+use crate::sizes::PIECE;
 use pk_nand::{Board, HostFault};
-use pk_nvme::{Bytes, RECORD_HEAD_BYTES};
+use pk_nvme::{Bytes, RECORD_HEAD_BYTES, cid_in, data_bytes_in, reads_in, result_in};
 use pk_show::{show_head, show_piece};
-
-/// Most bytes of data that are shown in one piece.
-pub const PIECE: usize = 4096;
 
 /// Takes the head of a record. False where the input ends before it is whole.
 pub fn take_head<B: Board>(
@@ -45,10 +42,10 @@ pub fn take_head<B: Board>(
 
 // Writes the front of a record's line.
 fn write_front(head: &[u8; RECORD_HEAD_BYTES], text: &mut Bytes)
-    requires { text.old.room ≡ 8192 }
+    requires { text.old.room ≡ 2 * PIECE }
     ensures { text.new ≡ record text.old { items = shown_head head.now } }
 {
-    let _numbers = (get_u16(head, 12), get_u32(head, 0), get_u32(head, 16));
+    let _numbers = (cid_in(head), result_in(head), reads_in(head));
     text.clear();
     if !show_head(head, text) {
         unreachable!();
@@ -58,9 +55,9 @@ fn write_front(head: &[u8; RECORD_HEAD_BYTES], text: &mut Bytes)
 /// Posts the front of the line of the record with this head. Answers the bytes of its data.
 pub fn post_front<B: Board>(board: &mut B, head: &Bytes, text: &mut Bytes) -> Result<u32, HostFault>
     requires whole { length head.now.items ≡ RECORD_HEAD_BYTES }
-    requires room { text.old.room ≡ 8192 }
+    requires room { text.old.room ≡ 2 * PIECE }
     ensures room { text.new.room ≡ text.old.room }
-    ensures size { IfOk result (λ size. size ≡ u32_at head.now.items 20) }
+    ensures size { IfOk result (λ size. size ≡ data_bytes_at head.now.items) }
     ensures ok { OnOk result
         (B.state board.new ≡ after_post (B.state board.old) (shown_head head.now.items)) }
     ensures err { OnErr result
@@ -70,7 +67,7 @@ pub fn post_front<B: Board>(board: &mut B, head: &Bytes, text: &mut Bytes) -> Re
     bytes.copy_from_slice(head.bytes());
     write_front(&bytes, text);
     match board.post(text.bytes()) {
-        Ok(()) => Ok(get_u32(&bytes, 20)),
+        Ok(()) => Ok(data_bytes_in(&bytes)),
         Err(fault) => Err(fault),
     }
 }
@@ -99,7 +96,7 @@ fn show_some<B: Board>(
     left: u32,
 ) -> Result<u32, TextEnd>
     requires some { 0 < left }
-    requires room { text.old.room ≡ 8192 }
+    requires room { text.old.room ≡ 2 * PIECE }
 
     // The buffer may be used again.
     ensures room { text.new.room ≡ text.old.room }
@@ -137,7 +134,7 @@ pub fn show_data<B: Board>(
     text: &mut Bytes,
     size: u32,
 ) -> Result<(), TextEnd>
-    requires { text.old.room ≡ 8192 }
+    requires { text.old.room ≡ 2 * PIECE }
     ensures room { text.new.room ≡ text.old.room }
     ensures advances { OnOk result ((more : List ℕ → Written)
         → Advances (data_shown size more) (data_shown 0 more)
@@ -177,7 +174,7 @@ pub fn show_record<B: Board>(
     text: &mut Bytes,
 ) -> Result<(), TextEnd>
     requires whole { length head.now.items ≡ RECORD_HEAD_BYTES }
-    requires room { text.old.room ≡ 8192 }
+    requires room { text.old.room ≡ 2 * PIECE }
     ensures room { text.new.room ≡ text.old.room }
     ensures advances { OnOk result ((more : List ℕ → Written)
         → Advances (head_shown head.now.items more) more

@@ -1,5 +1,7 @@
 //! Answer records to lines of text.
-ghost use Rattle.std.specs.Prelude.{◌≡◌, ◌<◌, ℕ, suc, OnOk, IfErr};
+ghost use Rattle.std.specs.Prelude.{◌≡◌, ◌<◌, ◌*◌, ℕ, suc, OnOk, IfErr};
+ghost use Rattle.pk_nvme.specs.declared.sizes.TheConstants.{RECORD_HEAD_BYTES};
+ghost use Rattle.pk_text.specs.declared.sizes.TheConstants.{PIECE};
 ghost use Rattle.pk_text.specs.Written.{most};
 ghost use Rattle.pk_text.specs.Records.{shown, shown_from};
 ghost use Rattle.pk_text.specs.Turns.{Turns, TurnsFrom};
@@ -8,7 +10,8 @@ ghost use Rattle.pk_text.specs.Steps.{Advances, ahead};
 use crate::TextEnd;
 use crate::feed::Feed;
 use crate::over::stop;
-use crate::record::{PIECE, show_record, take_head};
+use crate::record::{show_record, take_head};
+use crate::sizes::PIECE;
 use pk_nand::Board;
 use pk_nvme::{Bytes, RECORD_HEAD_BYTES};
 use std::alloc::{AllocError, Global};
@@ -20,25 +23,17 @@ pub struct Shower {
     head: Bytes,
     text: Bytes,
     ghost head_room: { head.room ≡ RECORD_HEAD_BYTES },
-    ghost text_room: { text.room ≡ 8192 },
+    ghost text_room: { text.room ≡ 2 * PIECE },
 }
 
 impl Shower {
     /// Takes all the memory that showing needs; an error where it is missing.
     pub fn new(alloc: Global) -> Result<Shower, AllocError> {
-        let feed = match Feed::new(alloc) {
-            Ok(feed) => feed,
-            Err(error) => return Err(error),
-        };
-        let head = match Bytes::with_room(alloc, RECORD_HEAD_BYTES) {
-            Ok(head) => head,
-            Err(error) => return Err(error),
-        };
-        let text = match Bytes::with_room(alloc, 2 * PIECE) {
-            Ok(text) => text,
-            Err(error) => return Err(error),
-        };
-        Ok(Shower { feed, head, text })
+        Ok(Shower {
+            feed: Feed::new(alloc)?,
+            head: Bytes::with_room(alloc, RECORD_HEAD_BYTES)?,
+            text: Bytes::with_room(alloc, 2 * PIECE)?,
+        })
     }
 
     /// Shows the records that the input is, from its next byte on, a line for each. Of a record that is cut short behind

@@ -20,7 +20,7 @@ submit-requires-clause-namespace g c = ap (λ (x : Command). x.namespace) (c.ent
 pub returns-in-Ok-clause-replies : goal.returns-in-Ok-clause-replies
 returns-in-Ok-clause-replies g c =
     let e = c.entry.ensures.fields c.args.value.now ∙ c.request_of-request.ensures c.args.value.now in
-    replied _ _ _ _ c.in-Ok.done c.submit.new.into _ _ e c.in-Ok.ensures.completes c.status_of.ensures c.result_of.ensures
+    replied _ _ _ _ c.in-Ok.done c.submit.new.into _ _ e c.in-Ok.ensures.completes c.status_in.ensures.told c.result_in.ensures.told
 
 pub returns-in-Ok-clause-took : goal.returns-in-Ok-clause-took
 returns-in-Ok-clause-took g c =

@@ -10,6 +10,6 @@ unfolding head_bytes
 returns-clause-front c =
     let key : List ℕ = c.args.key.now in
     let fields : List (List ℕ) = (length key ∷ []) ∷ (0x44 ∷ []) ∷ zeros 2 ∷ padded 16 key ∷ u32 c.args.len ∷ magic ∷ [] in
-    let all : take 32 c.put_text-2.new.bytes ≡ joined [] fields =
-    rw (c.put_text-2.ensures.front, c.put_u32.ensures.front, c.put_padded.ensures.front, c.put_zeros.ensures.front, c.put_text.ensures.front, c.put_u8.ensures.front) refl in
+    let all : take 32 c.put_text.new.bytes ≡ joined [] fields =
+    rw (c.put_text.ensures.front, c.put_u32.ensures.front, c.put_padded.ensures.front, c.put_zeros.ensures.front, c.put_u8-2.ensures.front, c.put_u8.ensures.front) refl in
     all ∙ joined_spelled [] fields

@@ -2,7 +2,8 @@ use Rattle.pk_host.proofs.CauseLemmas.{caused_later}
 use Rattle.std.proofs.Common.{◌∙◌, ap, List, [], length, ◌-◌}
 use Rattle.std.specs.List.{slice_get}
 use Rattle.pk_base.specs.Key.{Key}
-use Rattle.pk_host.specs.Listing.{start_of, listed_by}
+use Rattle.pk_nvme.specs.Command.{key_or_none}
+use Rattle.pk_host.specs.Listing.{listed_by}
 use Rattle.pk_host.proofs.PageLemmas.{more_lists, listing_goes, listing_ends}
 use Rattle.pk_host.proofs.host.Host.list_all.Goals as goal
 
@@ -17,12 +18,12 @@ returns-in-Ok-false-clause-took g c = more_lists g.P.Port.took g.met.P.Port.took
 
 pub returns-in-Ok-false-clause-lists : goal.returns-in-Ok-false-clause-lists
 returns-in-Ok-false-clause-lists g c =
-    listing_ends _ _ c.loop.all.items _ c.loop.invariant.1 (ap start_of c.last.ensures.value ∙ ap (λ (xs : List Key). start_of (slice_get xs (length xs - 1))) c.deref.ensures.value) c.in-Ok-false.field-0 c.in-Ok-false.field-0-test c.in-Ok-false.ensures.follows c.in-Ok-false.ensures.known
+    listing_ends _ _ c.loop.all.items _ c.loop.invariant.1 (ap key_or_none c.last.ensures.value ∙ ap (λ (xs : List Key). key_or_none (slice_get xs (length xs - 1))) c.deref.ensures.value) c.in-Ok-false.field-0 c.in-Ok-false.field-0-test c.in-Ok-false.ensures.follows c.in-Ok-false.ensures.known
 
 pub loop-preserved : goal.loop-preserved
 loop-preserved g c = (
   more_lists g.P.Port.took g.met.P.Port.took_both _ _ _ _ c.loop.invariant.0 c.list_page.ensures.took,
-  listing_goes _ _ _ c.loop.all.items c.list_page.new.each _ _ c.loop.invariant.1 (ap start_of c.last.ensures.value ∙ ap (λ (xs : List Key). start_of (slice_get xs (length xs - 1))) c.deref.ensures.value) c.in-Ok-true.ensures.pages c.list_page.ensures.leaves (c.add.ensures c.if-not-add.false),
+  listing_goes _ _ _ c.loop.all.items c.list_page.new.page _ _ c.loop.invariant.1 (ap key_or_none c.last.ensures.value ∙ ap (λ (xs : List Key). key_or_none (slice_get xs (length xs - 1))) c.deref.ensures.value) c.in-Ok-true.ensures.pages c.list_page.ensures.leaves (c.add.ensures c.if-not-add.false),
 )
 
 pub returns-in-Err-list_page-clause-causes : goal.returns-in-Err-list_page-clause-causes

@@ -7,14 +7,14 @@ use Rattle.pk_host.proofs.host.Host.page_from.Goals as goal
 
 pub returns-clause-pages : goal.returns-clause-pages
 returns-clause-pages g c = elim c.match-ask.branch [
-  | in-Ok+in-0 w ↦ ok_if c.match-ask.result _ (page_read _ _ c.args.from.now _ c.match-ask.each c.requires w.in-Ok.ensures.replies w.in-0.is (w.each-is ∙ w.read_keys.ensures))
+  | in-Ok+in-0 w ↦ ok_if c.match-ask.result _ (page_read _ _ c.args.from.now _ c.match-ask.page c.requires w.in-Ok.ensures.replies w.in-0.is (w.page-is ∙ w.read_keys.ensures))
   | in-Ok+in_default w ↦ ok_only c.match-ask.result _ _ w.result-is
   | in-Err w ↦ ok_only c.match-ask.result _ _ w.result-is
 ]
 
 pub returns-clause-follows : goal.returns-clause-follows
 returns-clause-follows g c = elim c.match-ask.branch [
-  | in-Ok+in-0 w ↦ follows_read _ _ c.args.from.now _ c.match-ask.each c.match-ask.result c.requires w.in-Ok.ensures.replies w.in-0.is (w.each-is ∙ w.read_keys.ensures) (w.result-is ∙ ap (λ (n : ℕ). Ok (nat_lt 0 n)) (w.len.ensures.count ∙ ap (λ (ks : List Key). length ks) (sym w.each-is)))
+  | in-Ok+in-0 w ↦ follows_read _ _ c.args.from.now _ c.match-ask.page c.match-ask.result c.requires w.in-Ok.ensures.replies w.in-0.is (w.page-is ∙ w.read_keys.ensures) (w.result-is ∙ ap (λ (n : ℕ). Ok (nat_lt 0 n)) (w.len.ensures.count ∙ ap (λ (ks : List Key). length ks) (sym w.page-is)))
   | in-Ok+in_default w ↦ ok_never c.match-ask.result _ _ w.result-is
   | in-Err w ↦ ok_never c.match-ask.result _ _ w.result-is
 ]
@@ -28,9 +28,9 @@ returns-clause-known g c = elim c.match-ask.branch [
 
 pub returns-clause-above : goal.returns-clause-above
 returns-clause-above g c = elim c.match-ask.branch [
-  | in-Ok+in-0 w ↦ all_read c.args.from.now c.match-ask.each _ (w.each-is ∙ w.read_keys.ensures)
-  | in-Ok+in_default w ↦ none_read c.args.from.now c.match-ask.each (w.each-is ∙ c.clear.ensures)
-  | in-Err w ↦ none_read c.args.from.now c.match-ask.each (w.each-is ∙ c.clear.ensures)
+  | in-Ok+in-0 w ↦ all_read c.args.from.now c.match-ask.page _ (w.page-is ∙ w.read_keys.ensures)
+  | in-Ok+in_default w ↦ none_read c.args.from.now c.match-ask.page (w.page-is ∙ c.clear.ensures)
+  | in-Err w ↦ none_read c.args.from.now c.match-ask.page (w.page-is ∙ c.clear.ensures)
 ]
 
 pub returns-clause-leaves : goal.returns-clause-leaves

@@ -1,4 +1,4 @@
-use Rattle.std.proofs.Common.{ℕ, ◌==◌, true, ◌∷◌, [], refl, arith}
+use Rattle.std.proofs.Common.{◌==◌, true, ◌∷◌, [], refl, arith}
 use Rattle.std.specs.Prelude.{codes}
 use Rattle.std.proofs.lemmas.Bool.Decides.{nat_tests}
 use Rattle.pk_nvme.specs.Text.{number_text, hex_text}
