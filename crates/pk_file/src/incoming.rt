@@ -9,7 +9,7 @@ use std::alloc::Global;
 use std::io;
 use std::io::{BufReader, Read};
 
-/// The system's number for a descriptor that is closed, or not open for this.
+/// EBADF, the system's number for a descriptor that is closed, or not open for this.
 const CLOSED: i32 = 9;
 
 /// A reader behind a buffer.
@@ -49,6 +49,7 @@ impl<R: Read + Drop> Incoming<R> {
     pub fn fetch(&mut self, into: &mut [u8]) -> io::Result<usize>
         ensures { ReadsAtMost result into.new }
     {
+        // A loop has an end: no process lives to see so many interrupted reads.
         for _ in 0..u64::MAX {
             match self.from.read(into) {
                 Ok(count) => return Ok(count),

@@ -7,7 +7,7 @@ use crate::opening::open_alone;
 use crate::page_reader::PageReader;
 use crate::slot::Slot;
 use crate::slots::slots_of;
-use pk_base::Shape;
+use pk_base::{MOST_BLOCK_PAGES, Shape};
 use pk_image::{
     HEADER_BYTES, ImageError, PageTag, file_len, header, page_at, read_header, state_at,
 };
@@ -16,6 +16,9 @@ use std::alloc::Global;
 use std::fs::{File, OpenOptions};
 use std::io;
 use std::os::unix::fs::FileExt;
+
+/// The bytes of the text with which a header begins: without it a file is no image.
+const MAGIC_BYTES: usize = 8;
 
 /// An open image file and what was read of it.
 #[derive(Drop)]
@@ -109,8 +112,8 @@ pub fn create_image(rt: &HostRuntime, path: &str, shape: &Shape) -> io::Result<F
     }
     let head = header(shape);
     file.set_len(file_len(shape))?;
-    file.write_all_at(&head[8..], 8)?;
-    file.write_all_at(&head[..8], 0)?;
+    file.write_all_at(&head[MAGIC_BYTES..], MAGIC_BYTES as u64)?;
+    file.write_all_at(&head[..MAGIC_BYTES], 0)?;
     Ok(file)
 }
 
@@ -143,11 +146,12 @@ pub fn write_page(file: &File, shape: &Shape, page: u32, bytes: &[u8]) -> Writte
 /// Sets the state bytes of pages in a row to Erased, and answers how many of them were set. A write that a signal interrupted is
 /// made again.
 pub fn erase_pages(file: &File, shape: &Shape, first: u32, count: u32) -> u32
-    requires small { count ≤ 256 }
+    requires small { count ≤ MOST_BLOCK_PAGES }
     requires exists { first < spec.page_count shape.now }
     ensures { result ≤ count }
 {
-    let states = [PageTag::Erased.byte(); 256];
+    let states = [PageTag::Erased.byte(); MOST_BLOCK_PAGES as usize];
+    // A loop has an end: no process lives to see so many interrupted writes.
     for _ in 0..u64::MAX {
         match file.write_at(&states[..count as usize], state_at(shape, first)) {
             Ok(done) => return done as u32,

@@ -4,7 +4,9 @@ ghost use Rattle.pk_base.specs.Shape as spec;
 ghost use Rattle.pk_base.specs.Page.{IsPage};
 ghost use Rattle.pk_nand.specs.declared.types.LoadFault.{LoadFault};
 ghost use Rattle.pk_file.specs.Trims.{bytes_in};
+ghost use Rattle.pk_file.specs.declared.room.TheConstants.{RUN_PAGES};
 
+use crate::room::RUN_PAGES;
 use crate::slots::known;
 use crate::trimmed::Trimmed;
 use pk_base::Shape;
@@ -15,9 +17,6 @@ use std::fs::File;
 use std::io;
 use std::os::unix::fs::FileExt;
 
-/// Most pages that are read by one call.
-const RUN_PAGES: usize = 64;
-
 /// A run of pages that was read, and room for the longest.
 #[derive(Drop)]
 pub struct PageReader {
@@ -25,8 +24,8 @@ pub struct PageReader {
     buffer: Vec<u8>,
     first: u32,
     count: u32,
-    ghost room: { length buffer.items ≡ 64 * shape.page_bytes },
-    ghost short: { count ≤ 64 },
+    ghost room: { length buffer.items ≡ RUN_PAGES * shape.page_bytes },
+    ghost short: { count ≤ RUN_PAGES },
 }
 
 /// How many pages from this one on are Whole in a row by their state bytes, which this one is, up to what one call reads.

@@ -1,24 +1,41 @@
 -- Plans that grow.
-use Rattle.std.proofs.Common.{◌≡◌, ℕ, List, [], ◌∷◌, ◌++◌, refl, sym, subst, Bool, true, false, T, ◌==◌, if◌then◌else◌, eqb→eq, Option, Some}
+use Rattle.std.proofs.Common.{◌≡◌, ℕ, List, [], ◌∷◌, ◌++◌, refl, sym, ap, ◌∙◌, subst, Bool, true, false, T, ◌==◌, if◌then◌else◌, eqb→eq, Option, Some, None}
 use Rattle.std.proofs.Math.Dec.{eqb_refl}
 use Rattle.pk_flash.specs.declared.types.Left.{Left}
 use Rattle.pk_flash.specs.declared.types.Planned.{Planned}
-use Rattle.pk_flash.specs.Plan.{later, planned_from}
+use Rattle.pk_flash.specs.Plan.{later, left_by, planned_left}
 
-pub planned-append : (call : ℕ) (found : Option Left) (plan : List Planned) (next : Planned) → planned_from call found (plan ++ next ∷ []) ≡ later call (planned_from call found plan) next
-planned-append call found [] next = refl
-planned-append call found (p ∷ plan) next = planned-append call (later call found p) plan next
+later-none : (o : Option Left) → later None o ≡ o
+later-none None = refl
+later-none (Some left) = refl
+
+later-later : (a b c : Option Left) → later a (later b c) ≡ later (later a b) c
+later-later a b None = refl
+later-later a b (Some left) = refl
+
+pub planned-append : (call : ℕ) (plan : List Planned) (next : Planned) → planned_left (plan ++ next ∷ []) call ≡ later (planned_left plan call) (left_by next call)
+planned-append call [] next = sym (later-none (left_by next call))
+planned-append call (p ∷ plan) next = ap (later (left_by p call)) (planned-append call plan next) ∙ later-later (left_by p call) (planned_left plan call) (left_by next call)
 
 yes : (b : Bool) → T b → b ≡ true
 yes true t = refl
 yes false t = absurd t
 
-pub later-same : (found : Option Left) (next : Planned) → later next.call found next ≡ Some next.left
-later-same found next = rw (yes (next.call == next.call) (eqb_refl next.call)) refl
+pub left-same : (next : Planned) → left_by next next.call ≡ Some next.left
+left-same next = rw (yes (next.call == next.call) (eqb_refl next.call)) refl
 
-pub later-other : (call : ℕ) (found : Option Left) (next : Planned) → (call ≡ next.call → ⊥) → later call found next ≡ found
-later-other call found next other =
-    elim (next.call == call) as (λ b. (next.call == call) ≡ b → (if b then Some next.left else found) ≡ found) [
+pub left-other : (call : ℕ) (next : Planned) → (call ≡ next.call → ⊥) → left_by next call ≡ None
+left-other call next other =
+    elim (next.call == call) as (λ b. (next.call == call) ≡ b → (if b then Some next.left else None) ≡ None) [
       | true ↦ λ e. absurd (other (sym (eqb→eq _ _ (subst T (sym e) tt))))
       | false ↦ λ e. refl
     ] refl
+
+-- one plan more for this call, or for another one
+pub later-same : (call : ℕ) (plan : List Planned) (next : Planned) → next.call ≡ call → planned_left (plan ++ next ∷ []) call ≡ Some next.left
+later-same call plan next is =
+    let P : ℕ → Type 0 = λ n. planned_left (plan ++ next ∷ []) n ≡ Some next.left in
+    subst P is (planned-append next.call plan next ∙ ap (later (planned_left plan next.call)) (left-same next))
+
+pub later-other : (call : ℕ) (plan : List Planned) (next : Planned) → (call ≡ next.call → ⊥) → planned_left (plan ++ next ∷ []) call ≡ planned_left plan call
+later-other call plan next other = planned-append call plan next ∙ ap (later (planned_left plan call)) (left-other call next other)

@@ -24,11 +24,6 @@ part all (Some Done) = 0
 part all (Some (Each pages)) = 0
 part all (Some (Part count)) = min all count
 
--- Beside the bytes given out there is room for so many more, and in the trail for a mark.
-pub record HasRoomFor {X : Type 0} (count posted_room room : ℕ) (posted : List ℕ) (trail : List X) : Type 0 where
-  pub within : length posted + count ≤ posted_room
-  pub below : length trail < room
-
 -- it gives these bytes out, and notes them
 pub record Gives {X E : Type 0} (left : Option Left) (out : List ℕ) (posted posted' : List ℕ) (trail trail' : List Mark) (result : Result X E) : Type 0 where
   pub answer : AnswersBy left result

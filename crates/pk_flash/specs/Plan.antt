@@ -6,17 +6,19 @@ use Rattle.pk_flash.specs.declared.types.Left.{Left}
 use Rattle.pk_flash.specs.declared.types.Left.TheVariants.{Done}
 use Rattle.pk_flash.specs.declared.types.Planned.{Planned}
 
--- a plan for this call takes the place of an earlier one
-abbrev pub later : ℕ → Option Left → Planned → Option Left
-later call found next = if next.call == call then Some next.left else found
+-- the second, or the first where there is none
+abbrev pub later : Option Left → Option Left → Option Left
+later first None = first
+later first (Some left) = Some left
 
-abbrev pub planned_from : ℕ → Option Left → List Planned → Option Left
-planned_from call found [] = found
-planned_from call found (next ∷ plan) = planned_from call (later call found next) plan
+-- what a plan has the call with this number leave, if it is for it
+abbrev pub left_by : Planned → ℕ → Option Left
+left_by next call = if next.call == call then Some next.left else None
 
--- what the call with this number is to leave, if it is to fail
+-- what the call with this number is to leave, if it is to fail: what the last plan for it says
 abbrev pub planned_left : List Planned → ℕ → Option Left
-planned_left plan call = planned_from call None plan
+planned_left [] call = None
+planned_left (next ∷ plan) call = later (left_by next call) (planned_left plan call)
 
 -- what a call leaves: what was planned, or all that it does
 abbrev pub left_of : Option Left → Left

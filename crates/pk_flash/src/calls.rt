@@ -25,6 +25,15 @@ pub fn raise(count: &mut u64)
     *count = count.saturating_add(1);
 }
 
+/// Counts a program or an erase that failed.
+pub fn count_stop(flash_faults: &mut u64, stop_faults: &mut u64)
+    ensures flash { flash_faults.new ≡ counted flash_faults.old }
+    ensures stop { stop_faults.new ≡ counted stop_faults.old }
+{
+    raise(flash_faults);
+    raise(stop_faults);
+}
+
 /// Programs a page, or fails and leaves what `left` says.
 pub fn program_page(
     pages: &mut Vec<PageState>,

@@ -7,6 +7,17 @@ pub struct Room {
     pub marks: usize,
 }
 
+/// What a failing erase leaves of one page.
+#[derive(Clone, Copy, Debug, PartialEq, Eq)]
+pub enum PageLeft {
+    /// The page is as it was.
+    Kept,
+    /// The page is Erased.
+    Erased,
+    /// The page is Torn.
+    Torn,
+}
+
 /// What a failing call leaves. One that does not fit the kind of call counts as `Untouched`.
 #[derive(Drop)]
 pub enum Left {
@@ -16,8 +27,9 @@ pub enum Left {
     Torn,
     /// The call was done.
     Done,
-    /// Of the pages of an erased block each is as it was (0), Erased (1) or Torn (2).
-    Each(Vec<u8>),
+    /// Of an erased block each page by itself: the first of these is what becomes of its first page, and the pages behind
+    /// the last of these are as they were.
+    Each(Vec<PageLeft>),
     /// So many bytes of a post were given out, or all where it has fewer.
     Part(u32),
 }
