@@ -1,5 +1,6 @@
 -- Live values, by the page at which each begins.
 use Rattle.std.specs.Prelude.{◌≡◌, ℕ, Bool, true, false, ◌+◌, ◌*◌, ◌<◌, ◌≤◌, List, length, replicate, sum, take, drop, slice_index, slice_get, Some, Option, MatchOption, All}
+use Rattle.pk_base.specs.declared.sizes.TheConstants.{MOST_BLOCK_PAGES, MOST_BLOCKS}
 use Rattle.pk_base.specs.Shape.{Shape, page_count}
 
 -- the pages of a block, the pages of the value that begins at each page, 0 where none does, and which blocks are closed
@@ -23,10 +24,10 @@ count_of a b = block_sum a.heads a.block_pages b
 -- the pages are those of the blocks, of which there are few, and no value is longer than a block can be
 pub record AreValues (a : Values) : Type 0 where
   pub some : 0 < a.block_pages
-  pub small : a.block_pages ≤ 256
-  pub few : length a.closed ≤ 4096
+  pub small : a.block_pages ≤ MOST_BLOCK_PAGES
+  pub few : length a.closed ≤ MOST_BLOCKS
   pub pages : length a.heads ≡ a.block_pages * length a.closed
-  pub short : All (λ h. h ≤ 256) a.heads
+  pub short : All (λ h. h ≤ MOST_BLOCK_PAGES) a.heads
 
 -- a value covers the page
 abbrev pub IsLive : Values → ℕ → Type 0
@@ -47,11 +48,11 @@ pub record IsLeastClosed (a : Values) (b : ℕ) : Type 0 where
 -- the counts are those of the heads
 pub record IsCounted (n total : ℕ) (heads counts : List ℕ) (closed : List Bool) : Type 0 where
   pub positive : 0 < n
-  pub small : n ≤ 256
-  pub few : length closed ≤ 4096
+  pub small : n ≤ MOST_BLOCK_PAGES
+  pub few : length closed ≤ MOST_BLOCKS
   pub pages : length heads ≡ n * length closed
   pub blocks : length counts ≡ length closed
-  pub short : All (λ h. h ≤ 256) heads
+  pub short : All (λ h. h ≤ MOST_BLOCK_PAGES) heads
   pub counted : (b : ℕ) → b < length counts → slice_index counts b ≡ block_sum heads n b
   pub all : total ≡ sum heads
 

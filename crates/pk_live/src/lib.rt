@@ -6,9 +6,9 @@
 
 ghost use Rattle.std.specs.Prelude.{◌≡◌, ℕ, ◌+◌, ◌*◌, ◌/◌, ◌%◌, ◌<◌, ◌≤◌, ◌^◌, ◌↔◌, All, length, sum, count_by, replicate, true, false, slice_index, slice_get, slice_set, slice_index_or, Some, IfOk, IfSome, IfNone, MatchOption, IsTrue};
 ghost use Rattle.pk_base.specs.Shape.{IsShape, page_count};
-ghost use Rattle.pk_live.specs.Values.{Values, no_values, count_of, IsLive, IsClosed, IsLeastClosed, AreValues, block_sum, IsBestOf};
+ghost use Rattle.pk_live.specs.Values.{Values, no_values, count_of, IsLive, IsClosed, IsLeastClosed, AreValues, IsBestOf};
 
-use pk_base::Shape;
+use pk_base::{MOST_BLOCK_PAGES, Shape};
 use std::alloc::{AllocError, Allocator};
 use std::marker::Model;
 
@@ -118,7 +118,8 @@ impl<A: Allocator> Live<A> {
         }
     }
 
-    /// A flash has few blocks, each of some pages, and no value is longer than a block.
+    /// Does nothing: brings into a proof that a flash has few blocks, each of some pages, and that no value is longer than a
+    /// block.
     pub fn known(&self)
         ensures { AreValues self.now }
     {
@@ -220,15 +221,15 @@ fn head_at(heads: &[u16], page: usize) -> u16
     if page < heads.len() { heads[page] } else { 0 }
 }
 
-// Whether a value covers the page. It begins at most 255 pages before, and all of these are looked at
+// Whether a value covers the page. It begins less than a block of pages before, and all of these are looked at
 // without a branch, so that the machine takes many at a time.
 fn covers(heads: &[u16], page: usize) -> bool
-    requires short { All (λ h. h ≤ 256) heads.now }
+    requires short { All (λ h. h ≤ MOST_BLOCK_PAGES) heads.now }
     requires page { page < 2 ^ 32 }
     ensures { IsTrue result ↔ ((h : ℕ) × (h ≤ page) × (page < h + slice_index heads.now h)) }
 {
     let mut found = false;
-    for h in page.saturating_sub(255)..heads.len().min(page + 1) {
+    for h in page.saturating_sub(MOST_BLOCK_PAGES as usize - 1)..heads.len().min(page + 1) {
         found |= heads[h] > (page - h) as u16;
     }
     found
