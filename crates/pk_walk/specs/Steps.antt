@@ -10,7 +10,9 @@ use Rattle.pk_base.specs.Page.{Flash, page_at, whole}
 use Rattle.pk_base.specs.Seen.{entry as seen}
 use Rattle.pk_base.specs.declared.entry.Entry.{Entry as RustEntry}
 use Rattle.pk_nand.specs.BoardState.{BoardState}
-use Rattle.pk_nand.specs.Calls.{ReadFailed}
+use Rattle.pk_nand.specs.Calls.{IsReady, ReadFailed}
+use Rattle.pk_nand.specs.declared.types.Fault.{Fault}
+use Rattle.pk_nand.specs.declared.types.Fault.TheVariants.{Reading}
 use Rattle.pk_meta.specs.Page.{Decodes}
 use Rattle.pk_pin.specs.Frames.{Frames, IsLeased, frame_of}
 use Rattle.pk_run.specs.Kept.{Kept, RunOnFlash, page_of}
@@ -19,7 +21,7 @@ use Rattle.pk_walk.specs.declared.position.Position.{Position}
 use Rattle.pk_walk.specs.declared.orders.Orders.{Orders as RustOrders}
 use Rattle.pk_walk.specs.Visible.{is_wanted, wanted, first_of}
 use Rattle.pk_walk.specs.Heads.{Head, entry_in, known_as, least_of, order_of}
-use Rattle.pk_walk.specs.Walking.{Cursor, Tops, Walk, AreOfShape, Follows, FollowEach, HasPassed, Passes, Reads, ReadsAll, ShowBoth, SkipsNoPage, SkipsNone, all_left, cursors_behind, pages_read, most_read, read_of, tops_behind}
+use Rattle.pk_walk.specs.Walking.{Cursor, Tops, Walk, AreOfShape, Follows, FollowEach, HasPassed, Passes, Reads, ReadsAll, ReadsFail, ShowBoth, SkipsNoPage, SkipsNone, all_left, cursors_behind, pages_read, most_read, read_of, tops_behind}
 
 -- ---- a page of a run
 
@@ -127,6 +129,25 @@ pub record GoesOn (flash : Flash) (arena : Frames) (r : Kept) (position : Positi
   pub follows : (es : List Entry) → RunOnFlash r flash arena es → Follows flash r es position d
   pub shape : d.shape ≡ c.shape
   pub passed : SkipsNoPage position → HasPassed c → HasPassed d
+
+-- The first wanted entry may be looked for: the board may be called, and the cursor follows the run.
+pub record MaySeek (r : Kept) (arena : Frames) (position : Position) (old : BoardState) (c : Cursor) : Type 0 where
+  pub ready : IsReady old r.shape
+  pub shape_is : c.shape ≡ r.shape
+  pub entries : List Entry
+  pub stands : RunOnFlash r old.pages arena entries
+  pub follows : Follows old.pages r entries position c
+
+-- Whether or not a read failed, the cursor goes on, the flash is as it was, and the board may be called as before.
+pub record SeeksOn (r : Kept) (arena : Frames) (position : Position) (old new : BoardState) (c d : Cursor) : Type 0 where
+  pub goes_on : GoesOn old.pages arena r position c d
+  pub same : new.pages ≡ old.pages
+  pub ready : IsReady new r.shape
+
+-- A page of the run that the cursor comes past could not be read.
+pub record FailsToSeek (r : Kept) (old new : BoardState) (c d : Cursor) (fault : Fault) : Type 0 where
+  pub reading : fault ≡ Reading
+  pub reads : ReadsFail (read_of r.leases c.loaded) (read_of r.leases d.loaded) old new
 
 -- ---- the first wanted entry of several runs
 

@@ -1,15 +1,11 @@
 //! The first wanted entry of a run, from a cursor on.
-ghost use Rattle.std.specs.Prelude.{◌≡◌, ◌<◌, ◌+◌, ◌%◌, ℕ, List, slice_get, None, Some, IfErr, IfOk, OnErr, OnOk};
+ghost use Rattle.std.specs.Prelude.{◌≡◌, ◌<◌, ◌+◌, ◌%◌, ℕ, List, slice_get, None, Some, IfErr, IfOk, OnOk};
 ghost use Rattle.pk_base.specs.Entry.{Entry as EntrySpec};
 ghost use Rattle.pk_base.specs.Seen.{entry as seen};
 ghost use Rattle.pk_base.specs.Shape.{page_entries};
 ghost use Rattle.pk_base.specs.declared.entry.Entry.{Entry as RustEntry};
 ghost use Rattle.pk_meta.specs.Page.{IsMetaPage};
-ghost use Rattle.pk_nand.specs.Calls.{IsReady};
-ghost use Rattle.pk_nand.specs.declared.types.Fault.TheVariants.{Reading};
-ghost use Rattle.pk_run.specs.Kept.{RunOnFlash};
-ghost use Rattle.pk_walk.specs.Steps.{FindsIn, GoesOn, HasPage, ShowsIn, bytes_in, holding};
-ghost use Rattle.pk_walk.specs.Walking.{Follows, ReadsFail, read_of};
+ghost use Rattle.pk_walk.specs.Steps.{FailsToSeek, FindsIn, HasPage, MaySeek, SeeksOn, ShowsIn, bytes_in, holding};
 
 use crate::cursor::Cursor;
 use crate::position::Position;
@@ -29,26 +25,17 @@ pub fn seek<A: Allocator, B: Nand>(
     run: &Run<A>,
     position: &Position,
 ) -> Result<(), Fault>
-    requires ready { IsReady (B.state board.old) run.now.shape }
-    requires shape { cursor.old.shape ≡ run.now.shape }
-    requires follows { (es : List EntrySpec)
-        × RunOnFlash run.now (B.state board.old).pages arena.now es
-        × Follows (B.state board.old).pages run.now es position.now cursor.old }
+    requires may { MaySeek run.now arena.now position.now (B.state board.old) cursor.old }
 
     // The first wanted entry.
     ensures shows { OnOk result (ShowsIn run.now position.now
         (B.state board.old) (B.state board.new) cursor.old cursor.new) }
 
-    // The cursor goes on in any case, and only a read fails.
-    ensures goes_on { GoesOn (B.state board.old).pages arena.now run.now position.now
-        cursor.old cursor.new }
-    ensures reading { IfErr result (λ fault. fault ≡ Reading) }
-    ensures err { OnErr result (ReadsFail (read_of run.now.leases cursor.old.loaded)
-        (read_of run.now.leases cursor.new.loaded) (B.state board.old) (B.state board.new)) }
-
-    // The flash is as it was.
-    ensures same { (B.state board.new).pages ≡ (B.state board.old).pages }
-    ensures ready { IsReady (B.state board.new) run.now.shape }
+    // Or a read failed; either way the cursor goes on, and nothing but reads was done.
+    ensures err { IfErr result (λ fault. FailsToSeek run.now
+        (B.state board.old) (B.state board.new) cursor.old cursor.new fault) }
+    ensures on { SeeksOn run.now arena.now position.now
+        (B.state board.old) (B.state board.new) cursor.old cursor.new }
 {
     run.known();
     let _ = run.entries();
@@ -86,23 +73,18 @@ fn seek_page<A: Allocator, B: Nand>(
     run: &Run<A>,
     position: &Position,
 ) -> Result<(), Fault>
-    requires ready { IsReady (B.state board.old) run.now.shape }
-    requires shape { cursor.old.shape ≡ run.now.shape }
-    requires follows { (es : List EntrySpec)
-        × RunOnFlash run.now (B.state board.old).pages arena.now es
-        × Follows (B.state board.old).pages run.now es position.now cursor.old }
+    requires may { MaySeek run.now arena.now position.now (B.state board.old) cursor.old }
     requires sought { cursor.old.head ≡ None }
 
-    // As `seek`.
+    // The first wanted entry.
     ensures shows { OnOk result (ShowsIn run.now position.now
         (B.state board.old) (B.state board.new) cursor.old cursor.new) }
-    ensures goes_on { GoesOn (B.state board.old).pages arena.now run.now position.now
-        cursor.old cursor.new }
-    ensures reading { IfErr result (λ fault. fault ≡ Reading) }
-    ensures err { OnErr result (ReadsFail (read_of run.now.leases cursor.old.loaded)
-        (read_of run.now.leases cursor.new.loaded) (B.state board.old) (B.state board.new)) }
-    ensures same { (B.state board.new).pages ≡ (B.state board.old).pages }
-    ensures ready { IsReady (B.state board.new) run.now.shape }
+
+    // Or a read failed; either way the cursor goes on, and nothing but reads was done.
+    ensures err { IfErr result (λ fault. FailsToSeek run.now
+        (B.state board.old) (B.state board.new) cursor.old cursor.new fault) }
+    ensures on { SeeksOn run.now arena.now position.now
+        (B.state board.old) (B.state board.new) cursor.old cursor.new }
 {
     run.known();
     let _ = run.entries();
@@ -123,27 +105,18 @@ fn search<A: Allocator, B: Nand>(
     run: &Run<A>,
     position: &Position,
 ) -> Result<Option<Entry>, Fault>
-    requires ready { IsReady (B.state board.old) run.now.shape }
-    requires shape { cursor.old.shape ≡ run.now.shape }
-    requires follows { (es : List EntrySpec)
-        × RunOnFlash run.now (B.state board.old).pages arena.now es
-        × Follows (B.state board.old).pages run.now es position.now cursor.old }
+    requires may { MaySeek run.now arena.now position.now (B.state board.old) cursor.old }
     requires sought { cursor.old.head ≡ None }
 
     // The first wanted entry.
     ensures finds { IfOk result (λ found. FindsIn run.now arena.now position.now
         (B.state board.old) (B.state board.new) cursor.old cursor.new found) }
 
-    // The cursor goes on in any case, and only a read fails.
-    ensures goes_on { GoesOn (B.state board.old).pages arena.now run.now position.now
-        cursor.old cursor.new }
-    ensures reading { IfErr result (λ fault. fault ≡ Reading) }
-    ensures err { OnErr result (ReadsFail (read_of run.now.leases cursor.old.loaded)
-        (read_of run.now.leases cursor.new.loaded) (B.state board.old) (B.state board.new)) }
-
-    // The flash is as it was.
-    ensures same { (B.state board.new).pages ≡ (B.state board.old).pages }
-    ensures ready { IsReady (B.state board.new) run.now.shape }
+    // Or a read failed; either way the cursor goes on, and nothing but reads was done.
+    ensures err { IfErr result (λ fault. FailsToSeek run.now
+        (B.state board.old) (B.state board.new) cursor.old cursor.new fault) }
+    ensures on { SeeksOn run.now arena.now position.now
+        (B.state board.old) (B.state board.new) cursor.old cursor.new }
 {
     run.known();
     cursor.begin(run, position);
