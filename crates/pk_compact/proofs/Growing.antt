@@ -1,26 +1,32 @@
--- The tree of lists behind a step, whether it was made or failed: the newest root is the former, or the one that follows.
-use Rattle.std.proofs.Common.{◌≡◌, inl, inr, ℕ, ◌≤◌, [], Some}
+-- The call of a step, whether it was made or failed, and the tree of lists behind it: the newest root is the former, or the one that follows.
+use Rattle.std.proofs.Common.{◌≡◌, inl, inr, ℕ, ◌≤◌, List, [], Some, ap, Result, Ok, Err}
+use Rattle.std.specs.Prelude.{OnOk, OnErr, IfErr}
 use Rattle.pk_base.specs.Shape.{Shape, IsShape}
 use Rattle.pk_base.specs.Page.{Flash, page_at, SameBehind}
 use Rattle.pk_base.specs.Map.{Map}
 use Rattle.pk_base.specs.Mark.{all_posted}
 use Rattle.pk_nand.specs.BoardState.{BoardState}
-use Rattle.pk_nand.specs.Calls.{IsReady}
+use Rattle.pk_nand.specs.Calls.{IsReady, after_program, after_erase, ProgramFailed, EraseFailed}
+use Rattle.pk_nand.specs.Effects.{AtMostOneCall}
+use Rattle.pk_nand.specs.declared.types.Fault.{Fault}
+use Rattle.pk_nand.specs.declared.types.Fault.TheVariants.{Stopped}
 use Rattle.pk_rootfmt.specs.Root.{Root}
 use Rattle.pk_rootfmt.specs.Newest.{newest_root}
 use Rattle.pk_model.specs.Found.{Found}
 use Rattle.pk_model.specs.Growth.{Grows}
+use Rattle.pk_model.proofs.Growing.{at_end}
 use Rattle.pk_model.proofs.SamePages.{newest_root_same}
 use Rattle.pk_root.specs.declared.next.Next.{Next}
 use Rattle.pk_pool.specs.Blocks.{Blocks, IsSpare}
 use Rattle.pk_pool.specs.Taking.{FailsToErase as FailsToTake}
-use Rattle.pk_root.specs.Installing.{Installs, FailsToInstall}
+use Rattle.pk_root.specs.Installing.{other_block, KeepsRoot, Installs, ErasesOther, FailsToInstall, FailsToErase}
 use Rattle.pk_root.specs.Laws.{SameFront}
 use Rattle.pk_steps.proofs.Standing.{installed}
-use Rattle.pk_compact.specs.Installing.{CanInstall}
-use Rattle.pk_compact.specs.Steps.{AtMostErases}
+use Rattle.pk_compact.specs.Installing.{Prepares, PrepareBreaks, CanInstall}
+use Rattle.pk_compact.specs.Steps.{StepByCall, AtMostErases}
 use Rattle.pk_compact.proofs.Taking.{leaves_others, not_behind}
 use Rattle.pk_compact.proofs.Numbering.{failed_front}
+use Rattle.pk_compact.proofs.NextRoot.{prepares, prepare_breaks, prepare_works, prepare_stops, prepare_number, prepare_failed_number, roots_same}
 
 -- no page of the root blocks differs
 front_grows : (shape : Shape) (old new : Flash) → SameFront shape old new → Grows shape old new
@@ -44,3 +50,53 @@ module _ (shape : Shape) (is_shape : IsShape shape) (root : Root) (next : Next) 
 
   pub install_failed_grows : FailsToInstall shape root next old new → Grows shape old.pages new.pages
   install_failed_grows f = elim (f.cuts.1.cuts new.pages (all_posted f.cuts.0) f.cuts.1.stands).newest [ inl same ↦ inl same | inr is ↦ follows f.page is ]
+
+-- ---- the one call
+
+pub erase_calls : (old new : BoardState) (b : ℕ) → new ≡ after_erase old b → AtMostOneCall old new
+erase_calls old new b e = inr (inr (inr (ap (λ (s : BoardState). s.reads) e, ap (λ (s : BoardState). s.programs) e, ap (λ (s : BoardState). s.erases) e)))
+
+pub erase_failed_calls : (old new : BoardState) (b : ℕ) → EraseFailed old new b → AtMostOneCall old new
+erase_failed_calls old new b f = inr (inr (inr (ap (λ (s : BoardState). s.reads) f.rest, ap (λ (s : BoardState). s.programs) f.rest, ap (λ (s : BoardState). s.erases) f.rest)))
+
+pub program_calls : (old new : BoardState) (page : ℕ) (bytes : List ℕ) → new ≡ after_program old page bytes → AtMostOneCall old new
+program_calls old new page bytes e = inr (inr (inl (ap (λ (s : BoardState). s.reads) e, ap (λ (s : BoardState). s.programs) e, ap (λ (s : BoardState). s.erases) e)))
+
+pub program_failed_calls : (old new : BoardState) (page : ℕ) (bytes : List ℕ) → ProgramFailed old new page bytes → AtMostOneCall old new
+program_failed_calls old new page bytes f = inr (inr (inl (ap (λ (s : BoardState). s.reads) f.rest, ap (λ (s : BoardState). s.programs) f.rest, ap (λ (s : BoardState). s.erases) f.rest)))
+
+pub took_calls : (b : ℕ) (old new : BoardState) → AtMostErases b old new → AtMostOneCall old new
+took_calls b old new (inl same) = inl (ap (λ (s : BoardState). s.reads) same, ap (λ (s : BoardState). s.programs) same, ap (λ (s : BoardState). s.erases) same)
+took_calls b old new (inr e) = erase_calls old new b e
+
+-- ---- the erase before a root
+
+module _ (shape : Shape) (is_shape : IsShape shape) (next next' : Next) (old new : BoardState) (ready : IsReady old shape) (then_ready : IsReady new shape) where
+  pub prepare_step : (r : Result Unit Fault) → OnOk r (ErasesOther shape next old next' new) → IfErr r (λ e. e ≡ Stopped) → OnErr r (FailsToErase shape next old new)
+      → StepByCall (λ u. Prepares shape next old next' new) (PrepareBreaks shape next old new) shape 0 old new r
+  prepare_step (Ok u) e stopped failed = record {
+    step = record {
+      ended = prepares shape is_shape next old ready next' new e;
+      broken = tt;
+      works = prepare_works shape next next' old new e;
+      stops = tt;
+      stopped = tt;
+      roots_few = roots_same shape old new ready then_ready (prepare_number shape next next' old new e);
+      ready = then_ready;
+    };
+    calls = erase_calls old new (other_block shape e.beside) e.erase;
+    grows = inl (at_end e.cuts.0 old new (λ cut _. KeepsRoot shape old.pages cut) e.cuts.1).newest;
+  }
+  prepare_step (Err fault) e stopped f = record {
+    step = record {
+      ended = tt;
+      broken = prepare_breaks shape is_shape next old ready new f;
+      works = tt;
+      stops = prepare_stops shape next old new f;
+      stopped = stopped;
+      roots_few = roots_same shape old new ready then_ready (prepare_failed_number shape next old new f);
+      ready = then_ready;
+    };
+    calls = erase_failed_calls old new (other_block shape f.beside) f.failed;
+    grows = inl (f.cuts.1.cuts new.pages (all_posted f.cuts.0) f.cuts.1.stands).newest;
+  }

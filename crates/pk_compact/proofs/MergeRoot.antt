@@ -11,9 +11,8 @@ use Rattle.pk_nand.specs.Calls.{IsReady}
 use Rattle.pk_rootfmt.specs.Root.{Root, is_root}
 use Rattle.pk_rootfmt.specs.Held.{Held}
 use Rattle.pk_model.specs.Found.{Found}
-use Rattle.pk_model.specs.Growth.{Goes}
+use Rattle.pk_model.specs.Growth.{Grows, Goes}
 use Rattle.pk_model.specs.Crashes.{CrashFinds, background}
-use Rattle.pk_model.specs.Steps.{Step}
 use Rattle.pk_model.proofs.Roots.{newest_sound}
 use Rattle.pk_model.proofs.Commits.{root_valid}
 use Rattle.pk_root.specs.declared.next.Next.{Next}
@@ -23,6 +22,7 @@ use Rattle.pk_steps.proofs.FourRuns.{IsLevel, next_is_level}
 use Rattle.pk_steps.proofs.Following.{merged_next}
 use Rattle.pk_steps.proofs.Amounts.{quota}
 use Rattle.pk_compact.specs.Installing.{CanInstall, IsInstalled, InstallsRoot, InstallBreaks}
+use Rattle.pk_compact.specs.Steps.{StepByCall}
 use Rattle.pk_compact.specs.Merging.{CanMerge, HasMerged, MergesRoot, MergeBreaks}
 
 -- a run that is set adds at most its own blocks
@@ -86,35 +86,45 @@ module _ (root : Held) (next : Next) (level count : ℕ) (taken : List ℕ) (old
         })
 
     abbrev Install : Next → BoardState → Result Unit Fault → Type 0
-    Install next' new result = Step (λ u. InstallsRoot held.shape held.root next old next' new) (InstallBreaks held.shape held.root next old new) held.shape 1 old new result
+    Install next' new result = StepByCall (λ u. InstallsRoot held.shape held.root next old next' new) (InstallBreaks held.shape held.root next old new) held.shape 1 old new result
 
     abbrev Merge : Next → BoardState → Result Unit Fault → Type 0
-    Merge next' new result = Step (λ u. MergesRoot root next old level count taken held.root next' new) (MergeBreaks root next old level count taken new) root.shape 1 old new result
+    Merge next' new result = StepByCall (λ u. MergesRoot root next old level count taken held.root next' new) (MergeBreaks root next old level count taken new) root.shape 1 old new result
 
-    ready_by_root : (new : BoardState) → IsReady new held.shape → IsReady new root.shape
-    ready_by_root new is = let P : Shape → Type 0 = λ s. IsReady new s in subst P same_shape is
+    module _ (next' : Next) (new : BoardState) where
+      ready_by_root : IsReady new held.shape → IsReady new root.shape
+      ready_by_root is = let P : Shape → Type 0 = λ s. IsReady new s in subst P same_shape is
 
-    pub merge_step : (next' : Next) (new : BoardState) → Install next' new (Ok tt) → Merge next' new (Ok tt)
-    merge_step next' new step = record {
-      ended = λ top found m may. has_merged top found m may next' new (step.ended top found (merged_found level found) m (held_can top found m may));
-      broken = tt;
-      works = step.works;
-      stops = tt;
-      stopped = tt;
-      roots_few = step.roots_few;
-      ready = ready_by_root new step.ready;
-    }
+      grows_by_root : Grows held.shape old.pages new.pages → Grows root.shape old.pages new.pages
+      grows_by_root is = let P : Shape → Type 0 = λ s. Grows s old.pages new.pages in subst P same_shape is
 
-    pub merge_broken : (next' : Next) (new : BoardState) (fault : Fault) → Install next' new (Err fault) → Merge next' new (Err fault)
-    merge_broken next' new fault step = record {
-      ended = tt;
-      broken = λ top found m may. subst (λ (s : Shape). Goes s old new (CrashFinds s background old.pages m)) same_shape (step.broken top found (merged_found level found) m (held_can top found m may));
-      works = tt;
-      stops = step.stops;
-      stopped = step.stopped;
-      roots_few = step.roots_few;
-      ready = ready_by_root new step.ready;
-    }
+      pub merge_step : (result : Result Unit Fault) → Install next' new result → Merge next' new result
+      merge_step (Ok u) is = record {
+        step = record {
+          ended = λ top found m may. has_merged top found m may next' new (is.step.ended top found (merged_found level found) m (held_can top found m may));
+          broken = tt;
+          works = is.step.works;
+          stops = tt;
+          stopped = tt;
+          roots_few = is.step.roots_few;
+          ready = ready_by_root is.step.ready;
+        };
+        calls = is.calls;
+        grows = grows_by_root is.grows;
+      }
+      merge_step (Err fault) is = record {
+        step = record {
+          ended = tt;
+          broken = λ top found m may. subst (λ (s : Shape). Goes s old new (CrashFinds s background old.pages m)) same_shape (is.step.broken top found (merged_found level found) m (held_can top found m may));
+          works = tt;
+          stops = is.step.stops;
+          stopped = is.step.stopped;
+          roots_few = is.step.roots_few;
+          ready = ready_by_root is.step.ready;
+        };
+        calls = is.calls;
+        grows = grows_by_root is.grows;
+      }
 
 -- ---- the root that follows has room
 

@@ -1,5 +1,5 @@
 //! The two blocks of an epoch, taken from the pool and given back.
-ghost use Rattle.std.specs.Prelude.{◌≡◌, ◌≤◌, ◌<◌, ◌≢◌, ◌+◌, ℕ, ◌∷◌, [], List, length, slice_get, slice_index, Some, if◌then◌else◌, IfOk, IfErr, OnOk, OnErr};
+ghost use Rattle.std.specs.Prelude.{◌≡◌, ◌≤◌, ◌<◌, ◌≢◌, ◌+◌, ◌*◌, ℕ, ◌∷◌, [], List, length, slice_get, slice_index, Some, if◌then◌else◌, IfOk, IfErr, OnOk, OnErr};
 ghost use Rattle.pk_base.specs.Page.{Flash};
 ghost use Rattle.pk_plan.specs.declared.owner.Owner.TheVariants.{Journal};
 ghost use Rattle.pk_nand.specs.Calls.{IsReady, IsErasedBlock};

@@ -2,12 +2,10 @@
 ghost use Rattle.std.specs.Prelude.{◌≡◌, ℕ, length};
 ghost use Rattle.pk_base.specs.Map.{Map};
 ghost use Rattle.pk_nand.specs.Calls.{IsReady};
-ghost use Rattle.pk_nand.specs.Effects.{AtMostOneCall};
 ghost use Rattle.pk_rootfmt.specs.Root.{Root as RootValue};
 ghost use Rattle.pk_model.specs.Found.{Found};
-ghost use Rattle.pk_model.specs.Growth.{Grows};
-ghost use Rattle.pk_model.specs.Steps.{Step};
 ghost use Rattle.pk_compact.specs.FreezeSteps.{IsFreezing, FreezeSteps, FreezeStepBreaks};
+ghost use Rattle.pk_compact.specs.Steps.{StepByCall};
 
 use crate::blocks::take_block;
 use crate::next::follow;
@@ -51,14 +49,12 @@ pub fn freeze_step<B: Nand, A: Allocator>(
     requires room { length buf.old ≡ root.old.shape.page_bytes }
 
     // What the step did, or the call that failed.
-    ensures step { Step
+    ensures step { StepByCall
         (λ done. FreezeSteps pool.old root.old installer.old job.old (B.state board.old) has_entries
         done pool.new root.new installer.new job.new (B.state board.new))
         (FreezeStepBreaks pool.old root.old installer.old job.old has_entries (B.state board.old)
         (B.state board.new))
         root.old.shape 1 (B.state board.old) (B.state board.new) result }
-    ensures calls { AtMostOneCall (B.state board.old) (B.state board.new) }
-    ensures grows { Grows root.old.shape (B.state board.old).pages (B.state board.new).pages }
 
     // What stays in any case.
     ensures root_shape { root.new.shape ≡ root.old.shape }

@@ -4,14 +4,12 @@ ghost use Rattle.std.specs.List.{concat};
 ghost use Rattle.pk_base.specs.Map.{Map};
 ghost use Rattle.pk_base.specs.Shape.{meta_blocks};
 ghost use Rattle.pk_nand.specs.Calls.{IsReady};
-ghost use Rattle.pk_nand.specs.Effects.{AtMostOneCall};
 ghost use Rattle.pk_rootfmt.specs.Root.{Root as RootValue, last_number};
 ghost use Rattle.pk_model.specs.Found.{Found};
-ghost use Rattle.pk_model.specs.Growth.{Grows};
-ghost use Rattle.pk_model.specs.Steps.{Step};
 ghost use Rattle.pk_root.specs.Installing.{erases_next};
 ghost use Rattle.pk_steps.specs.Merging.{merged_root};
 ghost use Rattle.pk_compact.specs.Merging.{CanMerge, MergesRoot, MergeBreaks, without_source};
+ghost use Rattle.pk_compact.specs.Steps.{StepByCall};
 
 use crate::roots::install_root;
 use pk_nand::{Fault, Nand};
@@ -73,14 +71,12 @@ pub fn install_merge<B: Nand, A: Allocator>(
     requires room { length buf.old ≡ root.old.shape.page_bytes }
 
     // The root was installed, or the call failed.
-    ensures step { Step
+    ensures step { StepByCall
         (λ u. MergesRoot root.old installer.old (B.state board.old) level count taken.now
         root.new.root installer.new (B.state board.new))
         (MergeBreaks root.old installer.old (B.state board.old) level count taken.now
         (B.state board.new))
         root.old.shape 1 (B.state board.old) (B.state board.new) result }
-    ensures calls { AtMostOneCall (B.state board.old) (B.state board.new) }
-    ensures grows { Grows root.old.shape (B.state board.old).pages (B.state board.new).pages }
 
     // What stays in any case.
     ensures shape { root.new.shape ≡ root.old.shape }

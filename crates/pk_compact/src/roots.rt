@@ -3,13 +3,11 @@ ghost use Rattle.std.specs.Prelude.{◌≡◌, ℕ, length, true, false};
 ghost use Rattle.pk_base.specs.Map.{Map};
 ghost use Rattle.pk_base.specs.Page.{SameBehind};
 ghost use Rattle.pk_nand.specs.Calls.{IsReady};
-ghost use Rattle.pk_nand.specs.Effects.{AtMostOneCall};
 ghost use Rattle.pk_rootfmt.specs.Root.{Root as RootValue};
 ghost use Rattle.pk_model.specs.Found.{Found};
-ghost use Rattle.pk_model.specs.Growth.{Grows};
-ghost use Rattle.pk_model.specs.Steps.{Step};
 ghost use Rattle.pk_root.specs.Installing.{erases_next};
 ghost use Rattle.pk_compact.specs.Installing.{CanPrepare, Prepares, PrepareBreaks, CanInstall, InstallsRoot, InstallBreaks};
+ghost use Rattle.pk_compact.specs.Steps.{StepByCall};
 
 use pk_base::Shape;
 use pk_nand::{Fault, Nand};
@@ -28,13 +26,11 @@ pub fn prepare_root<B: Nand>(
     requires erases { erases_next installer.old ≡ true }
     requires can { (top : ℕ × RootValue) × (found : Found) × (m : Map)
         × CanPrepare shape.now installer.old (B.state board.old).pages top found m }
-    ensures step { Step
+    ensures step { StepByCall
         (λ u. Prepares shape.now installer.old (B.state board.old) installer.new
         (B.state board.new))
         (PrepareBreaks shape.now installer.old (B.state board.old) (B.state board.new))
         shape.now 0 (B.state board.old) (B.state board.new) result }
-    ensures calls { AtMostOneCall (B.state board.old) (B.state board.new) }
-    ensures grows { Grows shape.now (B.state board.old).pages (B.state board.new).pages }
 {
     shape.known();
     installer.erase(board, shape)
@@ -57,14 +53,12 @@ pub fn install_root<B: Nand, A: Allocator>(
     requires room { length buf.old ≡ root.now.shape.page_bytes }
 
     // The root was installed, or the call failed.
-    ensures step { Step
+    ensures step { StepByCall
         (λ u. InstallsRoot root.now.shape root.now.root installer.old (B.state board.old)
         installer.new (B.state board.new))
         (InstallBreaks root.now.shape root.now.root installer.old (B.state board.old)
         (B.state board.new))
         root.now.shape 1 (B.state board.old) (B.state board.new) result }
-    ensures calls { AtMostOneCall (B.state board.old) (B.state board.new) }
-    ensures grows { Grows root.now.shape (B.state board.old).pages (B.state board.new).pages }
 
     // What stays in any case.
     ensures buffer { length buf.new ≡ length buf.old }

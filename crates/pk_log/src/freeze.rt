@@ -4,9 +4,7 @@ ghost use Rattle.pk_base.specs.Map.{Map};
 ghost use Rattle.pk_nand.specs.Calls.{IsReady};
 ghost use Rattle.pk_rootfmt.specs.Root.{Root as RootValue};
 ghost use Rattle.pk_model.specs.Found.{Found};
-ghost use Rattle.pk_model.specs.Growth.{Grows};
-ghost use Rattle.pk_model.specs.Steps.{Step};
-ghost use Rattle.pk_nand.specs.Effects.{AtMostOneCall};
+ghost use Rattle.pk_compact.specs.Steps.{StepByCall};
 ghost use Rattle.pk_log.specs.FreezeSteps.{CanStep, LogSteps, LogStepBreaks};
 
 use crate::log::Log;
@@ -36,13 +34,11 @@ impl<A: Region> Log<A> {
         requires room { length buf.old ≡ self.old.shape.page_bytes }
 
         // What the step did, or the call that failed.
-        ensures step { Step
+        ensures step { StepByCall
             (λ done. LogSteps self.old pool.old job.old (B.state board.old) done
             self.new pool.new job.new (B.state board.new))
             (LogStepBreaks self.old pool.old job.old (B.state board.old) (B.state board.new))
             self.old.shape 1 (B.state board.old) (B.state board.new) result }
-        ensures calls { AtMostOneCall (B.state board.old) (B.state board.new) }
-        ensures grows { Grows self.old.shape (B.state board.old).pages (B.state board.new).pages }
 
         // What stays in any case.
         ensures same_shape { self.new.shape ≡ self.old.shape }

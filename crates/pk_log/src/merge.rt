@@ -2,12 +2,10 @@
 ghost use Rattle.std.specs.Prelude.{◌≡◌, ℕ, length, true, false};
 ghost use Rattle.pk_base.specs.Map.{Map};
 ghost use Rattle.pk_nand.specs.Calls.{IsReady};
-ghost use Rattle.pk_nand.specs.Effects.{AtMostOneCall};
 ghost use Rattle.pk_rootfmt.specs.Root.{Root as RootValue};
 ghost use Rattle.pk_root.specs.Installing.{erases_next};
 ghost use Rattle.pk_model.specs.Found.{Found};
-ghost use Rattle.pk_model.specs.Growth.{Grows};
-ghost use Rattle.pk_model.specs.Steps.{Step};
+ghost use Rattle.pk_compact.specs.Steps.{StepByCall};
 ghost use Rattle.pk_log.specs.MergeSteps.{MayPrepare, LogPrepares, LogPrepareBreaks, MayMerge, LogMerges, LogMergeBreaks, KeepsActive, frozen_after};
 
 use crate::log::Log;
@@ -43,12 +41,10 @@ impl<A: Region> Log<A> {
             × MayPrepare self.old (B.state board.old).pages top found m }
 
         // The block was erased, or the call failed.
-        ensures step { Step
+        ensures step { StepByCall
             (λ u. LogPrepares self.old (B.state board.old) self.new (B.state board.new))
             (LogPrepareBreaks self.old (B.state board.old) (B.state board.new))
             self.old.shape 0 (B.state board.old) (B.state board.new) result }
-        ensures calls { AtMostOneCall (B.state board.old) (B.state board.new) }
-        ensures grows { Grows self.old.shape (B.state board.old).pages (B.state board.new).pages }
 
         // What stays in any case.
         ensures same_log { self.new ≡ record self.old { next = self.new.next } }
@@ -76,13 +72,11 @@ impl<A: Region> Log<A> {
         requires room { length buf.old ≡ self.old.shape.page_bytes }
 
         // The root was installed, or the call failed.
-        ensures step { Step
+        ensures step { StepByCall
             (λ u. LogMerges self.old (B.state board.old) level count taken.now self.new
             (B.state board.new))
             (LogMergeBreaks self.old (B.state board.old) level count taken.now (B.state board.new))
             self.old.shape 1 (B.state board.old) (B.state board.new) result }
-        ensures calls { AtMostOneCall (B.state board.old) (B.state board.new) }
-        ensures grows { Grows self.old.shape (B.state board.old).pages (B.state board.new).pages }
 
         // What stays in any case.
         ensures keeps { KeepsActive self.old self.new }

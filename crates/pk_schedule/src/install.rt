@@ -2,12 +2,10 @@
 ghost use Rattle.std.specs.Prelude.{◌≡◌, ℕ, length};
 ghost use Rattle.pk_base.specs.Map.{Map};
 ghost use Rattle.pk_nand.specs.Calls.{IsReady};
-ghost use Rattle.pk_nand.specs.Effects.{AtMostOneCall};
 ghost use Rattle.pk_rootfmt.specs.Root.{Root as RootValue};
 ghost use Rattle.pk_model.specs.Found.{Found};
-ghost use Rattle.pk_model.specs.Growth.{Grows};
-ghost use Rattle.pk_model.specs.Steps.{Step};
 ghost use Rattle.pk_schedule.specs.declared.phase.Phase.TheVariants.{Ready};
+ghost use Rattle.pk_compact.specs.Steps.{StepByCall};
 ghost use Rattle.pk_schedule.specs.Index.{index};
 ghost use Rattle.pk_schedule.specs.Steps.{MayWork, StepsOn, KeepsActive, Breaks};
 
@@ -40,14 +38,12 @@ impl<A: Region> Schedule<A> {
         requires room { length buf.old ≡ log.old.shape.page_bytes }
 
         // The install is a step further, or over; or its call failed.
-        ensures step { Step
+        ensures step { StepByCall
             (λ u. StepsOn (index log.old levels.old arena.old pool.old self.old) (B.state board.old)
             (index log.new levels.new arena.new pool.new self.new) (B.state board.new))
             (Breaks (index log.old levels.old arena.old pool.old self.old) (B.state board.old)
             (B.state board.new))
             log.old.shape 1 (B.state board.old) (B.state board.new) result }
-        ensures calls { AtMostOneCall (B.state board.old) (B.state board.new) }
-        ensures grows { Grows log.old.shape (B.state board.old).pages (B.state board.new).pages }
 
         // The rest is as it was.
         ensures active { KeepsActive log.old log.new }

@@ -264,4 +264,4 @@ module _ (shape : Shape) (root : Root) (level count : ℕ) (taken : List ℕ) (i
       })
 
 pub merged_grammar : MergedGrammar
-merged_grammar shape root level count taken is low high few size fresh place new small = is_true _ (merged_is_root shape root level count taken (subst T (sym is) tt) (levels level low high) few size (subst T (sym fresh) tt) place new small)
+merged_grammar shape root level count taken is low high few size fresh place new small = is_true _ (merged_is_root shape root level count taken (subst T (sym is) tt) (levels level low high) few size (subst T (sym fresh) tt) place new (omega (arith, small)))

@@ -1,6 +1,9 @@
-use Rattle.std.proofs.Common.{sym, ◌∙◌}
+use Rattle.std.proofs.Common.{sym, ap, subst, ◌∙◌}
+use Rattle.pk_base.specs.Shape.{Shape}
+use Rattle.pk_rootfmt.specs.Held.{Held}
+use Rattle.pk_model.specs.Growth.{Grows}
 use Rattle.pk_compact.proofs.FreezeStepping.{first_step, second_step, take_broken, epoch_least, newest_two, can_prepare_at, erase_step, erase_broken, can_install, root_step, root_broken}
-use Rattle.pk_compact.proofs.Growing.{took_grows, take_failed_grows}
+use Rattle.pk_compact.proofs.Growing.{took_grows, take_failed_grows, took_calls, erase_failed_calls}
 use Rattle.pk_compact.proofs.TakingOne.{is_shape, spare_behind}
 use Rattle.pk_compact.proofs.freezing.freeze_step.Goals as goal
 
@@ -22,64 +25,92 @@ install_root-requires-clause-can g c =
 
 pub returns-in-Ok-clause-step : goal.returns-in-Ok-clause-step
 returns-in-Ok-clause-step g c =
-    first_step c.args.pool.now c.args.root.now c.args.installer.now c.args.job.now c.args.has_entries (g.B.Nand.state c.args.board.now) c.known.ensures c.requires.ready c.requires.may c.in-Idle.is c.in-Ok.first c.take_block.new.pool (g.B.Nand.state c.take_block.new.board)
-    c.in-Ok.ensures.taken c.in-Ok.ensures.spare c.in-Ok.ensures.counted c.take_block.ensures.fits c.take_block.ensures.ready
+    let may = c.requires.may in
+    let old = g.B.Nand.state c.args.board.now in
+    let new = g.B.Nand.state c.take_block.new.board in
+    let right = is_shape c.args.pool.now c.args.root.now c.args.installer.now c.args.job.now c.args.has_entries old c.known.ensures c.requires.ready may.0 may.1 may.2 may.3 in
+    record {
+      step = first_step c.args.pool.now c.args.root.now c.args.installer.now c.args.job.now c.args.has_entries (g.B.Nand.state c.args.board.now) c.known.ensures c.requires.ready c.requires.may c.in-Idle.is c.in-Ok.first c.take_block.new.pool (g.B.Nand.state c.take_block.new.board)
+          c.in-Ok.ensures.taken c.in-Ok.ensures.spare c.in-Ok.ensures.counted c.take_block.ensures.fits c.take_block.ensures.ready;
+      calls = took_calls c.in-Ok.first old new c.in-Ok.ensures.taken.1;
+      grows = took_grows c.args.root.now.shape right c.in-Ok.first old new c.in-Ok.ensures.taken.1 c.requires.ready c.in-Ok.ensures.spare.1;
+    }
 
 pub returns-in-Err-clause-step : goal.returns-in-Err-clause-step
 returns-in-Err-clause-step g c =
-    take_broken c.args.pool.now c.args.root.now c.args.installer.now c.args.job.now c.args.has_entries (g.B.Nand.state c.args.board.now) c.known.ensures c.requires.ready c.requires.may c.take_block.new.pool c.args.root.now c.args.installer.now c.args.job.now (g.B.Nand.state c.take_block.new.board) c.in-Err.fault c.in-Err.ensures.stopped c.in-Err.ensures.failed c.take_block.ensures.ready
+    let may = c.requires.may in
+    let old = g.B.Nand.state c.args.board.now in
+    let new = g.B.Nand.state c.take_block.new.board in
+    let right = is_shape c.args.pool.now c.args.root.now c.args.installer.now c.args.job.now c.args.has_entries old c.known.ensures c.requires.ready may.0 may.1 may.2 may.3 in
+    let behind = spare_behind c.args.pool.now c.args.root.now c.args.installer.now c.args.job.now c.args.has_entries old c.known.ensures c.requires.ready may.0 may.1 may.2 may.3 in
+    record {
+      step = take_broken c.args.pool.now c.args.root.now c.args.installer.now c.args.job.now c.args.has_entries (g.B.Nand.state c.args.board.now) c.known.ensures c.requires.ready c.requires.may c.take_block.new.pool c.args.root.now c.args.installer.now c.args.job.now (g.B.Nand.state c.take_block.new.board) c.in-Err.fault c.in-Err.ensures.stopped c.in-Err.ensures.failed c.take_block.ensures.ready;
+      calls = erase_failed_calls old new c.in-Err.ensures.failed.block c.in-Err.ensures.failed.failed;
+      grows = take_failed_grows c.args.root.now.shape right c.args.pool.now old new c.requires.ready behind c.in-Err.ensures.failed;
+    }
 
 pub returns-in-Ok-take_block-clause-step : goal.returns-in-Ok-take_block-clause-step
 returns-in-Ok-take_block-clause-step g c =
-    second_step c.args.pool.now c.args.root.now c.args.installer.now c.args.job.now c.args.has_entries (g.B.Nand.state c.args.board.now) c.known.ensures c.requires.ready c.requires.may c.in-HasOne.first c.in-HasOne.is c.in-Ok-take_block.second c.take_block-in-HasOne.new.pool (g.B.Nand.state c.take_block-in-HasOne.new.board)
-    c.in-Ok-take_block.ensures.taken c.in-Ok-take_block.ensures.spare c.in-Ok-take_block.ensures.counted c.take_block-in-HasOne.ensures.fits c.take_block-in-HasOne.ensures.ready
+    let may = c.requires.may in
+    let old = g.B.Nand.state c.args.board.now in
+    let new = g.B.Nand.state c.take_block-in-HasOne.new.board in
+    let right = is_shape c.args.pool.now c.args.root.now c.args.installer.now c.args.job.now c.args.has_entries old c.known.ensures c.requires.ready may.0 may.1 may.2 may.3 in
+    record {
+      step = second_step c.args.pool.now c.args.root.now c.args.installer.now c.args.job.now c.args.has_entries (g.B.Nand.state c.args.board.now) c.known.ensures c.requires.ready c.requires.may c.in-HasOne.first c.in-HasOne.is c.in-Ok-take_block.second c.take_block-in-HasOne.new.pool (g.B.Nand.state c.take_block-in-HasOne.new.board)
+          c.in-Ok-take_block.ensures.taken c.in-Ok-take_block.ensures.spare c.in-Ok-take_block.ensures.counted c.take_block-in-HasOne.ensures.fits c.take_block-in-HasOne.ensures.ready;
+      calls = took_calls c.in-Ok-take_block.second old new c.in-Ok-take_block.ensures.taken.1;
+      grows = took_grows c.args.root.now.shape right c.in-Ok-take_block.second old new c.in-Ok-take_block.ensures.taken.1 c.requires.ready c.in-Ok-take_block.ensures.spare.1;
+    }
 
 pub returns-in-Err-take_block-clause-step : goal.returns-in-Err-take_block-clause-step
 returns-in-Err-take_block-clause-step g c =
-    take_broken c.args.pool.now c.args.root.now c.args.installer.now c.args.job.now c.args.has_entries (g.B.Nand.state c.args.board.now) c.known.ensures c.requires.ready c.requires.may c.take_block-in-HasOne.new.pool c.args.root.now c.args.installer.now c.args.job.now (g.B.Nand.state c.take_block-in-HasOne.new.board) c.in-Err-take_block.fault c.in-Err-take_block.ensures.stopped c.in-Err-take_block.ensures.failed c.take_block-in-HasOne.ensures.ready
+    let may = c.requires.may in
+    let old = g.B.Nand.state c.args.board.now in
+    let new = g.B.Nand.state c.take_block-in-HasOne.new.board in
+    let right = is_shape c.args.pool.now c.args.root.now c.args.installer.now c.args.job.now c.args.has_entries old c.known.ensures c.requires.ready may.0 may.1 may.2 may.3 in
+    let behind = spare_behind c.args.pool.now c.args.root.now c.args.installer.now c.args.job.now c.args.has_entries old c.known.ensures c.requires.ready may.0 may.1 may.2 may.3 in
+    record {
+      step = take_broken c.args.pool.now c.args.root.now c.args.installer.now c.args.job.now c.args.has_entries (g.B.Nand.state c.args.board.now) c.known.ensures c.requires.ready c.requires.may c.take_block-in-HasOne.new.pool c.args.root.now c.args.installer.now c.args.job.now (g.B.Nand.state c.take_block-in-HasOne.new.board) c.in-Err-take_block.fault c.in-Err-take_block.ensures.stopped c.in-Err-take_block.ensures.failed c.take_block-in-HasOne.ensures.ready;
+      calls = erase_failed_calls old new c.in-Err-take_block.ensures.failed.block c.in-Err-take_block.ensures.failed.failed;
+      grows = take_failed_grows c.args.root.now.shape right c.args.pool.now old new c.requires.ready behind c.in-Err-take_block.ensures.failed;
+    }
 
 pub returns-in-Ok-prepare_root-clause-step : goal.returns-in-Ok-prepare_root-clause-step
 returns-in-Ok-prepare_root-clause-step g c =
-    erase_step c.args.pool.now c.args.root.now c.args.installer.now c.args.job.now c.args.has_entries (g.B.Nand.state c.args.board.now) c.known.ensures c.requires.ready c.requires.may c.in-HasTwo.first c.in-HasTwo.second c.in-HasTwo.is c.shape.result.now c.shape.ensures c.prepare_root.new.installer (g.B.Nand.state c.prepare_root.new.board) (sym c.erases.ensures ∙ c.if-erases.true) c.in-Ok-prepare_root.ensures.step
+    let old = g.B.Nand.state c.args.board.now in
+    let new = g.B.Nand.state c.prepare_root.new.board in
+    record {
+      step = erase_step c.args.pool.now c.args.root.now c.args.installer.now c.args.job.now c.args.has_entries (g.B.Nand.state c.args.board.now) c.known.ensures c.requires.ready c.requires.may c.in-HasTwo.first c.in-HasTwo.second c.in-HasTwo.is c.shape.result.now c.shape.ensures c.prepare_root.new.installer (g.B.Nand.state c.prepare_root.new.board) (sym c.erases.ensures ∙ c.if-erases.true) c.in-Ok-prepare_root.ensures.step.step;
+      calls = c.in-Ok-prepare_root.ensures.step.calls;
+      grows = subst (λ (s : Shape). Grows s old.pages new.pages) c.shape.ensures c.in-Ok-prepare_root.ensures.step.grows;
+    }
 
 pub returns-in-Err-prepare_root-clause-step : goal.returns-in-Err-prepare_root-clause-step
 returns-in-Err-prepare_root-clause-step g c =
-    erase_broken c.args.pool.now c.args.root.now c.args.installer.now c.args.job.now c.args.has_entries (g.B.Nand.state c.args.board.now) c.known.ensures c.requires.ready c.requires.may c.in-HasTwo.first c.in-HasTwo.second c.in-HasTwo.is c.shape.result.now c.shape.ensures c.args.pool.now c.args.root.now c.prepare_root.new.installer c.args.job.now (g.B.Nand.state c.prepare_root.new.board) c.in-Err-prepare_root.fault c.in-Err-prepare_root.ensures.step
+    let old = g.B.Nand.state c.args.board.now in
+    let new = g.B.Nand.state c.prepare_root.new.board in
+    record {
+      step = erase_broken c.args.pool.now c.args.root.now c.args.installer.now c.args.job.now c.args.has_entries (g.B.Nand.state c.args.board.now) c.known.ensures c.requires.ready c.requires.may c.in-HasTwo.first c.in-HasTwo.second c.in-HasTwo.is c.shape.result.now c.shape.ensures c.args.pool.now c.args.root.now c.prepare_root.new.installer c.args.job.now (g.B.Nand.state c.prepare_root.new.board) c.in-Err-prepare_root.fault c.in-Err-prepare_root.ensures.step.step;
+      calls = c.in-Err-prepare_root.ensures.step.calls;
+      grows = subst (λ (s : Shape). Grows s old.pages new.pages) c.shape.ensures c.in-Err-prepare_root.ensures.step.grows;
+    }
 
 pub returns-in-Ok-install_root-clause-step : goal.returns-in-Ok-install_root-clause-step
 returns-in-Ok-install_root-clause-step g c =
-    root_step c.args.pool.now c.args.root.now c.args.installer.now c.args.job.now c.args.has_entries (g.B.Nand.state c.args.board.now) c.known.ensures c.requires.ready c.requires.may c.in-HasTwo.first c.in-HasTwo.second c.in-HasTwo.is c.follow.new.root c.follow.ensures c.install_root.new.installer (g.B.Nand.state c.install_root.new.board) c.in-Ok-install_root.ensures.step
+    let old = g.B.Nand.state c.args.board.now in
+    let new = g.B.Nand.state c.install_root.new.board in
+    record {
+      step = root_step c.args.pool.now c.args.root.now c.args.installer.now c.args.job.now c.args.has_entries (g.B.Nand.state c.args.board.now) c.known.ensures c.requires.ready c.requires.may c.in-HasTwo.first c.in-HasTwo.second c.in-HasTwo.is c.follow.new.root c.follow.ensures c.install_root.new.installer (g.B.Nand.state c.install_root.new.board) c.in-Ok-install_root.ensures.step.step;
+      calls = c.in-Ok-install_root.ensures.step.calls;
+      grows = subst (λ (s : Shape). Grows s old.pages new.pages) (ap (λ (h : Held). h.shape) c.follow.ensures) c.in-Ok-install_root.ensures.step.grows;
+    }
 
 pub returns-in-Err-install_root-clause-step : goal.returns-in-Err-install_root-clause-step
 returns-in-Err-install_root-clause-step g c =
-    root_broken c.args.pool.now c.args.root.now c.args.installer.now c.args.job.now c.args.has_entries (g.B.Nand.state c.args.board.now) c.known.ensures c.requires.ready c.requires.may c.in-HasTwo.first c.in-HasTwo.second c.in-HasTwo.is c.follow.new.root c.follow.ensures c.args.pool.now c.follow.new.root c.install_root.new.installer c.args.job.now (g.B.Nand.state c.install_root.new.board) c.in-Err-install_root.fault c.in-Err-install_root.ensures.step
-
-pub returns-in-Ok-clause-grows : goal.returns-in-Ok-clause-grows
-returns-in-Ok-clause-grows g c =
-    let may = c.requires.may in
     let old = g.B.Nand.state c.args.board.now in
-    let right = is_shape c.args.pool.now c.args.root.now c.args.installer.now c.args.job.now c.args.has_entries old c.known.ensures c.requires.ready may.0 may.1 may.2 may.3 in
-    took_grows c.args.root.now.shape right c.in-Ok.first old (g.B.Nand.state c.take_block.new.board) c.in-Ok.ensures.taken.1 c.requires.ready c.in-Ok.ensures.spare.1
-
-pub returns-in-Ok-take_block-clause-grows : goal.returns-in-Ok-take_block-clause-grows
-returns-in-Ok-take_block-clause-grows g c =
-    let may = c.requires.may in
-    let old = g.B.Nand.state c.args.board.now in
-    let right = is_shape c.args.pool.now c.args.root.now c.args.installer.now c.args.job.now c.args.has_entries old c.known.ensures c.requires.ready may.0 may.1 may.2 may.3 in
-    took_grows c.args.root.now.shape right c.in-Ok-take_block.second old (g.B.Nand.state c.take_block-in-HasOne.new.board) c.in-Ok-take_block.ensures.taken.1 c.requires.ready c.in-Ok-take_block.ensures.spare.1
-
-pub returns-in-Err-clause-grows : goal.returns-in-Err-clause-grows
-returns-in-Err-clause-grows g c =
-    let may = c.requires.may in
-    let old = g.B.Nand.state c.args.board.now in
-    let right = is_shape c.args.pool.now c.args.root.now c.args.installer.now c.args.job.now c.args.has_entries old c.known.ensures c.requires.ready may.0 may.1 may.2 may.3 in
-    let behind = spare_behind c.args.pool.now c.args.root.now c.args.installer.now c.args.job.now c.args.has_entries old c.known.ensures c.requires.ready may.0 may.1 may.2 may.3 in
-    take_failed_grows c.args.root.now.shape right c.args.pool.now old (g.B.Nand.state c.take_block.new.board) c.requires.ready behind c.in-Err.ensures.failed
-
-pub returns-in-Err-take_block-clause-grows : goal.returns-in-Err-take_block-clause-grows
-returns-in-Err-take_block-clause-grows g c =
-    let may = c.requires.may in
-    let old = g.B.Nand.state c.args.board.now in
-    let right = is_shape c.args.pool.now c.args.root.now c.args.installer.now c.args.job.now c.args.has_entries old c.known.ensures c.requires.ready may.0 may.1 may.2 may.3 in
-    let behind = spare_behind c.args.pool.now c.args.root.now c.args.installer.now c.args.job.now c.args.has_entries old c.known.ensures c.requires.ready may.0 may.1 may.2 may.3 in
-    take_failed_grows c.args.root.now.shape right c.args.pool.now old (g.B.Nand.state c.take_block-in-HasOne.new.board) c.requires.ready behind c.in-Err-take_block.ensures.failed
+    let new = g.B.Nand.state c.install_root.new.board in
+    record {
+      step = root_broken c.args.pool.now c.args.root.now c.args.installer.now c.args.job.now c.args.has_entries (g.B.Nand.state c.args.board.now) c.known.ensures c.requires.ready c.requires.may c.in-HasTwo.first c.in-HasTwo.second c.in-HasTwo.is c.follow.new.root c.follow.ensures c.args.pool.now c.follow.new.root c.install_root.new.installer c.args.job.now (g.B.Nand.state c.install_root.new.board) c.in-Err-install_root.fault c.in-Err-install_root.ensures.step.step;
+      calls = c.in-Err-install_root.ensures.step.calls;
+      grows = subst (λ (s : Shape). Grows s old.pages new.pages) (ap (λ (h : Held). h.shape) c.follow.ensures) c.in-Err-install_root.ensures.step.grows;
+    }

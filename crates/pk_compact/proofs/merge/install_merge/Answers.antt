@@ -1,6 +1,6 @@
 use Rattle.std.proofs.Common.{subst}
 use Rattle.pk_base.specs.Shape.{Shape, IsShape}
-use Rattle.pk_compact.proofs.MergeRoot.{room_enough, can_install, merge_step, merge_broken}
+use Rattle.pk_compact.proofs.MergeRoot.{room_enough, can_install, merge_step}
 use Rattle.pk_compact.proofs.merge.install_merge.Goals as goal
 
 pub follow-requires-clause-room : goal.follow-requires-clause-room
@@ -12,12 +12,7 @@ pub install_root-requires-clause-can : goal.install_root-requires-clause-can
 install_root-requires-clause-can g c =
     can_install c.args.root.now c.args.installer.now c.args.level c.args.count c.args.taken.now (g.B.Nand.state c.args.board.now) (subst (λ (s : Shape). IsShape s) c.shape.ensures c.known.ensures) c.follow.new.root c.follow.ensures c.requires.can
 
-pub returns-in-Ok-clause-step : goal.returns-in-Ok-clause-step
-returns-in-Ok-clause-step g c =
+pub returns-clause-step : goal.returns-clause-step
+returns-clause-step g c =
     merge_step c.args.root.now c.args.installer.now c.args.level c.args.count c.args.taken.now (g.B.Nand.state c.args.board.now) (subst (λ (s : Shape). IsShape s) c.shape.ensures c.known.ensures) c.follow.new.root c.follow.ensures
-    c.install_root.new.installer (g.B.Nand.state c.install_root.new.board) c.in-Ok.ensures.step
-
-pub returns-in-Err-clause-step : goal.returns-in-Err-clause-step
-returns-in-Err-clause-step g c =
-    merge_broken c.args.root.now c.args.installer.now c.args.level c.args.count c.args.taken.now (g.B.Nand.state c.args.board.now) (subst (λ (s : Shape). IsShape s) c.shape.ensures c.known.ensures) c.follow.new.root c.follow.ensures
-    c.install_root.new.installer (g.B.Nand.state c.install_root.new.board) c.in-Err.fault c.in-Err.ensures.step
+    c.install_root.new.installer (g.B.Nand.state c.install_root.new.board) c.install_root.result c.install_root.ensures.step
