@@ -49,6 +49,15 @@ impl<A: Region> Parts<A> {
         }
     }
 
+    // A call failed that stops the drive.
+    fn stop(&mut self) -> Ticked
+        ensures value { result ≡ StopsDrive true }
+        ensures stopped { self.new ≡ record self.old { stopped = true } }
+    {
+        self.stopped = true;
+        Ticked::Fault { stopped: true }
+    }
+
     // One step of the merges, of which one runs, or the frozen buffer has entries.
     fn merge_step<B: Nand>(&mut self, board: &mut B) -> Ticked
         requires may { MayTick self.old (B.state board.old) }
@@ -67,10 +76,7 @@ impl<A: Region> Parts<A> {
             // a merge runs, or is due
             Ok(Stepped::Idle) => unreachable!(),
             Err(Fault::Reading) => Ticked::Fault { stopped: false },
-            Err(Fault::Stopped) => {
-                self.stopped = true;
-                Ticked::Fault { stopped: true }
-            }
+            Err(Fault::Stopped) => self.stop(),
         }
     }
 
@@ -91,20 +97,9 @@ impl<A: Region> Parts<A> {
             &mut self.page,
         ) {
             Ok(_) => Ticked::Worked,
-            Err(_) => {
-                self.stopped = true;
-                Ticked::Fault { stopped: true }
-            }
+            // only a program or an erase can fail here
+            Err(_) => self.stop(),
         }
-    }
-
-    // A call failed that stops the drive.
-    fn stop(&mut self) -> Ticked
-        ensures value { result ≡ StopsDrive true }
-        ensures stopped { self.new ≡ record self.old { stopped = true } }
-    {
-        self.stopped = true;
-        Ticked::Fault { stopped: true }
     }
 
     // One step of the reclaim that runs or is due; where its moves find no room, one of the freeze that makes it.
@@ -135,6 +130,7 @@ impl<A: Region> Parts<A> {
         match self.erase_spare(board) {
             Ok(true) => Ticked::Worked,
             Ok(false) => Ticked::Idle,
+            // only an erase can fail here
             Err(_) => Ticked::Fault { stopped: true },
         }
     }
