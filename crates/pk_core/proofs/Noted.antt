@@ -18,9 +18,8 @@ use Rattle.pk_pool.specs.Blocks.{Blocks}
 use Rattle.pk_model.specs.Found.{Found, entries_in_order}
 use Rattle.pk_model.specs.Sight.{free_pages}
 use Rattle.pk_model.proofs.Lookups.{find-firsts}
-use Rattle.pk_data.specs.State.{fits_open, has_left}
+use Rattle.pk_data.specs.State.{OpenBlock, fits_open, has_left}
 use Rattle.pk_data.specs.Placed.{IsOpenIn}
-use Rattle.pk_data.specs.declared.open_block.OpenBlock.{OpenBlock}
 use Rattle.pk_call.specs.Moving.{HasOpenRoom, StoresIn, Stores}
 use Rattle.pk_parts.specs.Parts.{Parts, sight_of, block_if_open}
 use Rattle.pk_parts.specs.Agreeing.{DriveOnFlash}

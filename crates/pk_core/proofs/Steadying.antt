@@ -36,7 +36,7 @@ use Rattle.pk_data.proofs.Outputs.{no_member, freed, freed_is, used_freed}
 use Rattle.pk_work.specs.Rest.{whole_merge, whole_reclaim}
 use Rattle.pk_schedule.specs.Steps.{backlog_of as backlog_of_index}
 use Rattle.pk_parts.proofs.Reclaiming.{reclaim_within}
-use Rattle.pk_data.specs.declared.open_block.OpenBlock.{OpenBlock}
+use Rattle.pk_data.specs.State.{OpenBlock}
 use Rattle.pk_nand.specs.BoardState.{BoardState}
 use Rattle.pk_nand.specs.Effects.{OnlyFlash}
 use Rattle.pk_call.specs.Steady.{Steadies, IsSteady, IsReadyBlock, HasReady, entries_of_runs, live_blocks, pages_of_runs}

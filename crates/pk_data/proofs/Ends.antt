@@ -15,24 +15,23 @@ use Rattle.pk_gc.specs.declared.moves.Move.{Move}
 use Rattle.pk_gc.specs.State.{placed_at, left_of, heads_all}
 use Rattle.pk_gc.specs.Committing.{entries_left}
 use Rattle.pk_gc.specs.Stepping.{Hands}
-use Rattle.pk_gc.specs.Victims.{closed_with as closed_by_reclaim}
+use Rattle.pk_gc.specs.Victims.{closed_with}
 use Rattle.pk_gc.proofs.Ending.{none_changes}
 use Rattle.pk_data.specs.State.{DataState}
 use Rattle.pk_data.specs.Placed.{ValuesOnFlash}
 use Rattle.pk_data.specs.Laws.{SameValues}
-use Rattle.pk_data.specs.Reclaiming.{front_of, hands_of}
+use Rattle.pk_data.specs.Reclaiming.{hands_of}
 use Rattle.pk_data.specs.Reclaims.{MovesPlaced, EndPlaced}
-use Rattle.pk_data.proofs.Holding.{same_front, same_closed, programmed_pool, ValuesOnFlash-given, one_less}
+use Rattle.pk_data.proofs.Holding.{programmed_pool, ValuesOnFlash-given, one_less}
 use Rattle.pk_data.proofs.Relocating.{relocated, ValuesOnFlash-relocated}
 
 -- the values behind the commit
 relocated_is : (c : Course) (moves : List Move) (d d' : DataState) (heads : List ℕ) → heads ≡ heads_all d.live.heads moves
-    → d'.live ≡ record { block_pages = d.live.block_pages; heads = heads; closed = closed_by_reclaim (front_of d.open_block).block (slice_set d.live.closed c.victim false) }
-    → front_of d'.open_block ≡ record { block = Some c.output; used = c.used } → d' ≡ relocated c moves d
-relocated_is c moves d d' heads heads_are live front =
-    let open_is : d'.open_block ≡ Some (record { block = c.output; used = c.used }) = same_front d'.open_block (Some (record { block = c.output; used = c.used })) front in
+    → d'.live ≡ record { block_pages = d.live.block_pages; heads = heads; closed = closed_with d.open_block (slice_set d.live.closed c.victim false) }
+    → d'.open_block ≡ Some (record { block = c.output; used = c.used }) → d' ≡ relocated c moves d
+relocated_is c moves d d' heads heads_are live open_is =
     let live' : d'.live ≡ (relocated c moves d).live =
-    live ∙ (λ i. record { block_pages = d.live.block_pages; heads = heads_are i; closed = same_closed d.open_block (slice_set d.live.closed c.victim false) i }) in
+    live ∙ (λ i. record { block_pages = d.live.block_pages; heads = heads_are i; closed = closed_with d.open_block (slice_set d.live.closed c.victim false) }) in
     λ i. record { live = live' i; open_block = open_is i }
 
 pub moves_placed : MovesPlaced

@@ -19,14 +19,12 @@ use Rattle.pk_pool.proofs.Sharing.{used_given, used_adopted}
 use Rattle.pk_pool.specs.Laws.{IsInBlock}
 use Rattle.pk_pool.proofs.Fitting.{PoolOnFlash-marked, PoolOnFlash-but_block, PoolOnFlash-programmed, owned_not_ready, in_block}
 use Rattle.pk_live.specs.Values.{Values}
-use Rattle.pk_gc.specs.declared.open_block.OpenBlock.{OpenBlock as Front}
 use Rattle.pk_gc.specs.Stepping.{Hands}
-use Rattle.pk_gc.specs.Victims.{Chooses, closed_with as closed_by_reclaim}
-use Rattle.pk_data.specs.declared.open_block.OpenBlock.{OpenBlock}
-use Rattle.pk_data.specs.State.{DataState, closed_with}
+use Rattle.pk_gc.specs.Victims.{Chooses, closed_with}
+use Rattle.pk_gc.specs.declared.open_block.OpenBlock.{OpenBlock}
+use Rattle.pk_data.specs.State.{DataState}
 use Rattle.pk_data.specs.Placed.{ValuesOnFlash, IsOpenIn, IsNotOpen, HoldsValues}
 use Rattle.pk_data.specs.Laws.{SameValues}
-use Rattle.pk_data.specs.Reclaiming.{front_of}
 use Rattle.pk_data.specs.Reclaims.{OutputTaken, DeadGivenBack, CopyProgrammed, VictimGivenBack}
 use Rattle.pk_data.proofs.Unchanged.{some_pages, open_same, flash_elsewhere}
 use Rattle.pk_data.proofs.Filling.{another, kept, was, taken, same_values, reached_in}
@@ -85,31 +83,15 @@ closed shape live (Some o) p outputs flash es placed = record {
 pub ValuesOnFlash-closed : (shape : Shape) (d : DataState) (p : Blocks) (outputs : List ℕ) (flash : Flash) (es : List (Key × Place)) → ValuesOnFlash shape d p outputs flash es → ValuesOnFlash shape (closing d) p outputs flash es
 ValuesOnFlash-closed shape d = closed shape d.live d.open_block
 
--- ---- the open block, as a reclaim is handed it
-
-pub same_front : (a b : Option OpenBlock) → front_of a ≡ front_of b → a ≡ b
-same_front None None same = refl
-same_front None (Some b) same = let blocks = ap (λ (f : Front). f.block) same in cc
-same_front (Some a) None same = let blocks = ap (λ (f : Front). f.block) same in cc
-same_front (Some a) (Some b) same =
-    let blocks : a.block ≡ b.block = let both = ap (λ (f : Front). f.block) same in cc in
-    let used : a.used ≡ b.used = ap (λ (f : Front). f.used) same in
-    λ i. Some (record { block = blocks i; used = used i })
-
-pub same_closed : (o : Option OpenBlock) (cs : List Bool) → closed_by_reclaim (front_of o).block cs ≡ closed_with o cs
-same_closed None cs = refl
-same_closed (Some o) cs = refl
-
 -- a victim was chosen
-pub chosen : (shape of_job : Shape) (d d' : DataState) (victim : ℕ) (p : Blocks) (outputs : List ℕ) (flash : Flash) (es : List (Key × Place)) → Chooses of_job d.live (front_of d.open_block) d'.live (front_of d'.open_block) victim
+pub chosen : (shape of_job : Shape) (d d' : DataState) (victim : ℕ) (p : Blocks) (outputs : List ℕ) (flash : Flash) (es : List (Key × Place)) → Chooses of_job d.live d.open_block d'.live d'.open_block victim
     → ValuesOnFlash shape d p outputs flash es → ValuesOnFlash shape d' p outputs flash es
 chosen shape of_job d d' victim p outputs flash es chooses placed = elim chooses.1 [
   | inl kept ↦ (
-      let same : d' ≡ d = λ i. record { live = kept.0 i; open_block = same_front d'.open_block d.open_block kept.1 i } in
+      let same : d' ≡ d = λ i. record { live = kept.0 i; open_block = kept.1 i } in
       subst (λ (v : DataState). ValuesOnFlash shape v p outputs flash es) (sym same) placed)
   | inr closes ↦ (
-      let live : d'.live ≡ record d.live { closed = closed_with d.open_block d.live.closed } = closes.0 ∙ ap (λ (cs : List Bool). record d.live { closed = cs }) (same_closed d.open_block d.live.closed) in
-      let same : d' ≡ closing d = λ i. record { live = live i; open_block = same_front d'.open_block None closes.1 i } in
+      let same : d' ≡ closing d = λ i. record { live = closes.0 i; open_block = closes.1 i } in
       subst (λ (v : DataState). ValuesOnFlash shape v p outputs flash es) (sym same) (ValuesOnFlash-closed shape d p outputs flash es placed))
 ]
 
@@ -268,7 +250,7 @@ dead_given_back shape job job' d d' p q old new es placed g = (
 
 pub victim_given_back : VictimGivenBack
 victim_given_back shape victim job job' d d' p q active active' epoch epoch' old new r es placed g =
-    let same : d' ≡ d = λ i. record { live = (ap (λ (h : Hands). h.live) g.hands) i; open_block = same_front d'.open_block d.open_block (ap (λ (h : Hands). h.front) g.hands) i } in
+    let same : d' ≡ d = λ i. record { live = (ap (λ (h : Hands). h.live) g.hands) i; open_block = (ap (λ (h : Hands). h.front) g.hands) i } in
     let pool_is : q ≡ with_state p victim Free = ap (λ (h : Hands). h.pool) g.hands in (
       subst (λ (f : Flash). ValuesOnFlash shape d' q [] f es) (ap (λ (b : BoardState). b.pages) (sym g.board))
           (subst (λ (v : DataState). ValuesOnFlash shape v q [] old.pages es) (sym same)

@@ -1,5 +1,5 @@
 -- A closed block without live pages is given back.
-use Rattle.std.proofs.Common.{◌≡◌, ◌≢◌, ℕ, ◌/◌, ◌<◌, true, false, not, ◌==◌, List, Option, Some, None, sym, ap, subst, ◌∙◌, arith, length-set}
+use Rattle.std.proofs.Common.{◌≡◌, ◌≢◌, ℕ, ◌/◌, ◌<◌, true, false, not, ◌==◌, Bool, List, Option, Some, None, sym, ap, subst, ◌∙◌, arith, length-set}
 use Rattle.std.specs.Prelude.{slice_get, MatchOption}
 use Rattle.std.proofs.Math.ListN.{set}
 use Rattle.std.proofs.lemmas.Bool.{eq-eqb}
@@ -20,10 +20,14 @@ use Rattle.pk_steps.specs.Under.{IsValuePage}
 use Rattle.pk_steps.proofs.Places.{value_in}
 use Rattle.pk_live.specs.Lives.{is_used}
 use Rattle.pk_live.proofs.Standing.{block_is}
-use Rattle.pk_data.specs.declared.open_block.OpenBlock.{OpenBlock}
-use Rattle.pk_data.specs.State.{DataState, with_closed}
+use Rattle.pk_gc.specs.declared.open_block.OpenBlock.{OpenBlock}
+use Rattle.pk_data.specs.State.{DataState}
 use Rattle.pk_data.specs.Placed.{ValuesOnFlash, IsOpenIn, IsNotOpen, IsOutput, HoldsValues}
 use Rattle.pk_data.proofs.Opening.{any_block}
+
+-- the values with these blocks closed
+abbrev with_closed : DataState → List Bool → DataState
+with_closed d closed = record d { live = record d.live { closed = closed } }
 
 module _ (shape : Shape) (d : DataState) (p : Blocks) (outputs : List ℕ) (flash : Flash) (es : List (Key × Place)) (b : ℕ) (placed : ValuesOnFlash shape d p outputs flash es) (closed : IsClosed d.live b) where
   abbrev then_pool : Blocks

@@ -1,40 +1,31 @@
 -- The values of a flash, as the live map, the pool and the open block tell them.
-use Rattle.std.specs.Prelude.{◌≡◌, ◌≢◌, ℕ, ◌+◌, ◌-◌, ◌*◌, ◌/◌, ◌<◌, ◌≤◌, List, [], ◌∷◌, length, map, filter, not, true, Option, Some, None, MatchOption, slice_get}
+use Rattle.std.specs.Prelude.{◌≡◌, ◌≢◌, ℕ, ◌+◌, ◌-◌, ◌*◌, ◌/◌, ◌<◌, ◌≤◌, List, [], ◌∷◌, length, map, filter, not, true, Option, MatchOption}
 use Rattle.std.specs.List.{range_with_len, AllByRecursion}
 use Rattle.std.specs.Ordering.{eq_by_cmp}
+use Rattle.pk_base.specs.declared.sizes.TheConstants.{ROOT_BLOCKS}
 use Rattle.pk_base.specs.Key.{Key, key_cmp}
 use Rattle.pk_base.specs.Shape.{Shape, IsShape, page_count, data_blocks}
 use Rattle.pk_base.specs.Page.{Flash, page_at, erased}
 use Rattle.pk_base.specs.Entry.{Place}
 use Rattle.pk_base.specs.EntryBytes.{IsPlace}
 use Rattle.pk_plan.specs.declared.owner.Owner.TheVariants.{Values as for_values}
-use Rattle.pk_pool.specs.declared.state.BlockState.TheVariants.{Owned}
 use Rattle.pk_pool.specs.Blocks.{Blocks, PoolOnFlash, used_by}
 use Rattle.pk_live.specs.Values.{Values, IsClosed}
 use Rattle.pk_rootfmt.specs.Root.{differ}
 use Rattle.pk_model.specs.Laws.{AnyByRecursion, IsPageOf}
 use Rattle.pk_steps.specs.Under.{IsValuePage}
 use Rattle.pk_live.specs.Lives.{head_of, Lives}
-use Rattle.pk_data.specs.declared.open_block.OpenBlock.{OpenBlock}
-use Rattle.pk_data.specs.State.{DataState}
+pub use Rattle.pk_gc.specs.Victims.{HoldsValues, IsNotOpen}
+use Rattle.pk_data.specs.State.{DataState, OpenBlock}
 
--- the pool has this block for values
-abbrev pub HoldsValues : Blocks → ℕ → Type 0
-HoldsValues pool b = slice_get pool.states b ≡ Some (Owned for_values)
-
--- it is another one than the open block
-abbrev pub IsNotOpen : Option OpenBlock → ℕ → Type 0
-IsNotOpen None b = Unit {0}
-IsNotOpen (Some o) b = b ≢ o.block
-
--- it is one of those that a running reclaim holds
+-- a block is one of those that a running reclaim holds
 abbrev pub IsOutput : List ℕ → ℕ → Type 0
 IsOutput outputs b = AnyByRecursion (λ c. b ≡ c) outputs
 
 -- The open block is one for values. Its first pages are written, and those behind them are Erased.
 pub record IsOpenIn (shape : Shape) (pool : Blocks) (flash : Flash) (o : OpenBlock) : Type 0 where
   pub owned : HoldsValues pool o.block
-  pub behind_roots : 2 ≤ o.block
+  pub behind_roots : ROOT_BLOCKS ≤ o.block
   pub exists : o.block < shape.blocks
   pub within : o.used ≤ shape.block_pages
   pub written : (k : ℕ) → o.block * shape.block_pages ≤ k → k < o.block * shape.block_pages + o.used → page_at flash k ≢ erased
@@ -74,7 +65,7 @@ pub record ValuesOnFlash (shape : Shape) (d : DataState) (pool : Blocks) (output
   pub closed_owned : (b : ℕ) → IsClosed d.live b → HoldsValues pool b × IsNotOpen d.open_block b × (IsOutput outputs b → ⊥)
   pub owned_closed : (b : ℕ) → HoldsValues pool b → IsNotOpen d.open_block b → (IsOutput outputs b → ⊥) → IsClosed d.live b
   -- the blocks for values lie behind the root blocks
-  pub behind_roots : (b : ℕ) → HoldsValues pool b → 2 ≤ b
+  pub behind_roots : (b : ℕ) → HoldsValues pool b → ROOT_BLOCKS ≤ b
   -- the open block
   pub open_is : MatchOption d.open_block (Unit {0}) (λ o. IsOpenIn shape pool flash o)
   -- the blocks of a running reclaim

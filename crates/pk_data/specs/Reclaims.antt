@@ -20,20 +20,20 @@ use Rattle.pk_gc.specs.Ending.{CanGive}
 use Rattle.pk_gc.specs.Stepping.{CommitsMoves, EndsWithout, GivesVictim}
 use Rattle.pk_data.specs.State.{DataState}
 use Rattle.pk_data.specs.Placed.{ValuesOnFlash}
-use Rattle.pk_data.specs.Reclaiming.{front_of, hands_of}
+use Rattle.pk_data.specs.Reclaiming.{hands_of}
 
 -- An Erased block was taken for the copies, and the open one may have been closed.
 abbrev pub OutputTaken : Type 0
 OutputTaken =
     (shape : Shape) (job job' : JobState) (d d' : DataState) (p q : Blocks) (old new : BoardState) (es : List (Key × Place)) → ValuesOnFlash shape d p [] old.pages es
-    → (s : Starts job d.live (front_of d.open_block) p old job' d'.live (front_of d'.open_block) q new)
+    → (s : Starts job d.live d.open_block p old job' d'.live d'.open_block q new)
     → ValuesOnFlash shape d' q (s.output ∷ []) new.pages es × (used_by for_values q.states ≡ used_by for_values p.states + 1)
 
 -- A victim without live pages was given back.
 abbrev pub DeadGivenBack : Type 0
 DeadGivenBack =
     (shape : Shape) (job job' : JobState) (d d' : DataState) (p q : Blocks) (old new : BoardState) (es : List (Key × Place)) → ValuesOnFlash shape d p [] old.pages es
-    → GivesBack job d.live (front_of d.open_block) p old job' d'.live (front_of d'.open_block) q new
+    → GivesBack job d.live d.open_block p old job' d'.live d'.open_block q new
     → ValuesOnFlash shape d' q [] new.pages es × (used_by for_values q.states + 1 ≡ used_by for_values p.states)
 
 -- A page of the output was programmed.

@@ -1,5 +1,6 @@
 -- The pages for a value: what a call that finds them does.
 use Rattle.std.specs.Prelude.{◌≡◌, ◌≢◌, ◌⊎◌, ℕ, ◌+◌, ◌/◌, ◌%◌, ◌<◌, ◌≤◌, List, true, false}
+use Rattle.pk_base.specs.declared.sizes.TheConstants.{ROOT_BLOCKS}
 use Rattle.pk_base.specs.Shape.{Shape, page_count}
 use Rattle.pk_base.specs.Key.{Key}
 use Rattle.pk_base.specs.Entry.{Place}
@@ -21,7 +22,7 @@ pub record IsReserved (shape : Shape) (d : DataState) (pool : Blocks) (flash : F
   pub room : fits_open shape d count ≡ true
   pub exists : page + count ≤ page_count shape
   pub inside : page % shape.block_pages + count ≤ shape.block_pages
-  pub behind_roots : 2 ≤ page / shape.block_pages
+  pub behind_roots : ROOT_BLOCKS ≤ page / shape.block_pages
   pub owned : HoldsValues pool (page / shape.block_pages)
   pub free : (k : ℕ) → page ≤ k → k < page + count → page_at flash k ≡ erased
   pub order : InOrder shape flash page
@@ -47,7 +48,7 @@ pub record OpensBlock (shape : Shape) (d : DataState) (p : Blocks) (old : BoardS
   pub block : ℕ
   pub opens : d' ≡ opened d block
   pub spare : IsSpare p block
-  pub place : 2 ≤ block × block < p.shape.blocks
+  pub place : ROOT_BLOCKS ≤ block × block < p.shape.blocks
   pub taken : q ≡ with_state p block (Owned for_values)
   pub choice : TakesReady p old block new ⊎ ErasesFree p old block new
   pub cuts : ReachesIn p.shape block old new

@@ -1,10 +1,12 @@
 -- Where values go: the live values, and the block that is being filled.
-use Rattle.std.specs.Prelude.{ℕ, ◌+◌, ◌-◌, ◌*◌, ◌≤◌, List, Bool, true, false, not, ◌&&◌, nat_le, slice_set, Option, Some, None}
+use Rattle.std.specs.Prelude.{ℕ, ◌+◌, ◌-◌, ◌*◌, ◌≤◌, List, Bool, false, not, ◌&&◌, nat_le, slice_set, Option, Some, None}
+use Rattle.pk_base.specs.declared.sizes.TheConstants.{MOST_BLOCK_PAGES, MOST_BLOCKS}
 use Rattle.pk_base.specs.Shape.{Shape, data_blocks}
 use Rattle.pk_plan.specs.declared.owner.Owner.TheVariants.{Values as for_values}
 use Rattle.pk_pool.specs.Blocks.{Blocks, used_by}
 use Rattle.pk_live.specs.Values.{Values}
-use Rattle.pk_data.specs.declared.open_block.OpenBlock.{OpenBlock}
+pub use Rattle.pk_gc.specs.declared.open_block.OpenBlock.{OpenBlock}
+use Rattle.pk_gc.specs.Victims.{closed_with}
 
 -- the live values with the blocks that are closed, and the block that takes the next value, where there is one
 pub record DataState : Type 0 where
@@ -36,11 +38,6 @@ next_page shape d = page_behind shape d.open_block
 abbrev pub needs_reclaim : Shape → DataState → Blocks → ℕ → Bool
 needs_reclaim shape d pool count = not (fits_open shape d count) && nat_le (data_blocks shape - 1) (used_by for_values pool.states)
 
--- the open block is closed, if there is one
-abbrev pub closed_with : Option OpenBlock → List Bool → List Bool
-closed_with None closed = closed
-closed_with (Some o) closed = slice_set closed o.block true
-
 -- this block takes values from now on, in place of the one before
 abbrev pub opened : DataState → ℕ → DataState
 opened d b = record {
@@ -63,10 +60,7 @@ with_head d page count = record d { live = record d.live { heads = slice_set d.l
 abbrev pub with_heads : DataState → List ℕ → DataState
 with_heads d heads = record d { live = record d.live { heads = heads } }
 
-abbrev pub with_closed : DataState → List Bool → DataState
-with_closed d closed = record d { live = record d.live { closed = closed } }
-
--- blocks have at most 256 pages, and a flash at most 4,096 blocks
+-- its number and its written pages are within those of every flash
 abbrev pub IsSmall : Option OpenBlock → Type 0
 IsSmall None = Unit {0}
-IsSmall (Some o) = (o.block ≤ 4096) × (o.used ≤ 256)
+IsSmall (Some o) = (o.block ≤ MOST_BLOCKS) × (o.used ≤ MOST_BLOCK_PAGES)

@@ -1,5 +1,5 @@
 //! The data blocks of a drive.
-ghost use Rattle.std.specs.Prelude.{◌≡◌, ℕ, List, [], ◌+◌, ◌<◌, ◌≤◌, ◌⊎◌, false, true, sum, length, slice_get, slice_set, Some, None, IfOk, IfErr, OnOk, OnErr, MatchOption, if◌then◌else◌};
+ghost use Rattle.std.specs.Prelude.{◌≡◌, ℕ, List, [], ◌+◌, ◌<◌, ◌≤◌, ◌⊎◌, false, true, sum, length, slice_get, Some, None, IfOk, IfErr, OnOk, OnErr, MatchOption, if◌then◌else◌};
 ghost use Rattle.std.specs.FinMap.Entries.{put};
 ghost use Rattle.pk_base.specs.Key.{Key, key_cmp};
 ghost use Rattle.pk_base.specs.Shape as spec;
@@ -7,20 +7,18 @@ ghost use Rattle.pk_base.specs.Page.{Flash};
 ghost use Rattle.pk_base.specs.Entry.{Place};
 ghost use Rattle.pk_nand.specs.Calls.{IsReady};
 ghost use Rattle.pk_nand.specs.declared.types.Fault.TheVariants.{Stopped};
-ghost use Rattle.pk_pool.specs.declared.state.BlockState.TheVariants.{Free};
-ghost use Rattle.pk_pool.specs.Blocks.{Blocks, with_state};
+ghost use Rattle.pk_pool.specs.Blocks.{Blocks};
 ghost use Rattle.pk_pool.specs.Taking.{FailsToErase};
-ghost use Rattle.pk_live.specs.Values.{IsClosed, count_of};
 ghost use Rattle.pk_model.specs.Values.{all_pages};
-ghost use Rattle.pk_data.specs.State.{DataState, IsSmall, with_none_open, closed_with, opened, more_used, with_written, with_head, with_heads, with_closed};
+ghost use Rattle.pk_data.specs.State.{DataState, IsSmall, with_none_open, opened, more_used, with_written, with_head, with_heads};
 ghost use Rattle.pk_data.specs.State as state;
 ghost use Rattle.pk_data.specs.Placed.{ValuesOnFlash, HasPlaced, StayPlaced, FoundAtOpening, without};
 ghost use Rattle.pk_data.specs.Reserving.{IsReserved, TakesNextOrOpens, WritesNext, AreFree};
 ghost use Rattle.pk_data.specs.Entries.{Held, Moves, IsInOpen, heads_without};
 
-use crate::open_block::OpenBlock;
 use crate::span::Span;
-use pk_base::Shape;
+use pk_base::{MOST_BLOCKS, Shape};
+use pk_gc::{OpenBlock, close};
 use pk_live::Live;
 use pk_nand::{Fault, Nand};
 use pk_plan::Owner;
@@ -43,17 +41,6 @@ impl<A: Allocator> Model for Data<A> {
     ghost view = { λ d. record { live = d.live; open_block = d.open_block } };
 
     ghost invariant = { λ d. IsSmall d.open_block };
-}
-
-// Closes the block, if there is one.
-fn close<A: Allocator>(live: &mut Live<A>, open_block: Option<OpenBlock>)
-    requires { MatchOption open_block (Unit {0}) (λ o. o.block < length live.old.closed) }
-    ensures { live.new ≡ record live.old { closed = closed_with open_block live.old.closed } }
-{
-    match open_block {
-        None => {}
-        Some(open) => live.close(open.block),
-    }
 }
 
 // The value at these pages is live no more, if there is one.
@@ -164,7 +151,7 @@ impl<A: Allocator> Data<A> {
 
     // This block takes values from now on, and the one before is closed.
     fn open_next(&mut self, block: u32)
-        requires small { block ≤ 4096 }
+        requires small { block ≤ MOST_BLOCKS }
         requires closes { MatchOption self.old.open_block (Unit {0})
             (λ o. o.block < length self.old.live.closed) }
         ensures { self.new ≡ opened self.old block }
@@ -256,21 +243,5 @@ impl<A: Allocator> Data<A> {
             (without h.key h.es) }
     {
         self.live.clear(span.page, span.count);
-    }
-
-    /// Gives a closed block without live pages back to the pool.
-    pub fn release(&mut self, pool: &mut Pool<A>, block: u32)
-        requires closed { IsClosed self.old.live block }
-        requires empty { count_of self.old.live block ≡ 0 }
-        requires placed { (shape : spec.Shape) × (flash : Flash)
-            × HasPlaced shape self.old pool.old flash }
-        ensures released { self.new
-            ≡ with_closed self.old (slice_set self.old.live.closed block false) }
-        ensures given { pool.new ≡ with_state pool.old block Free }
-        ensures placed { (shape : spec.Shape) (flash : Flash)
-            → StayPlaced shape self.old pool.old flash self.new pool.new flash }
-    {
-        self.live.forget(block);
-        pool.give(block);
     }
 }

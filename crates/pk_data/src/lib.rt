@@ -6,11 +6,10 @@
 
 mod data_space;
 mod laws;
-mod open_block;
 mod reclaim;
 mod span;
 
 pub use data_space::Data;
 pub use laws::{elsewhere, reclaims, starts_with_none, value_blocks};
-pub use open_block::OpenBlock;
+pub use pk_gc::OpenBlock;
 pub use span::Span;

@@ -6,48 +6,15 @@ ghost use Rattle.pk_pool.specs.Blocks.{PoolOnFlash};
 ghost use Rattle.pk_jrn.specs.Epochs.{AreBlocks, EpochOnFlash};
 ghost use Rattle.pk_gc.specs.Stepping.{CanStep, Steps};
 ghost use Rattle.pk_gc.specs.Breaking.{Breaks};
-ghost use Rattle.pk_data.specs.State.{IsSmall};
-ghost use Rattle.pk_data.specs.Reclaiming.{IsFront, front_of as front_value, hands_of};
+ghost use Rattle.pk_data.specs.Reclaiming.{hands_of};
 
 use crate::data_space::Data;
-use crate::open_block::OpenBlock;
 use pk_buf::Buffer;
-use pk_gc::{OpenBlock as Front, ReclaimJob, Reclaimed};
+use pk_gc::{ReclaimJob, Reclaimed};
 use pk_jrn::Epoch;
 use pk_nand::{Fault, Nand};
 use pk_pool::Pool;
 use pk_region::Region;
-
-// The open block, as a reclaim is handed it.
-fn front_of(open_block: Option<OpenBlock>) -> Front
-    ensures { result ≡ front_value open_block }
-{
-    match open_block {
-        None => Front {
-            block: None,
-            used: 0,
-        },
-        Some(open) => Front {
-            block: Some(open.block),
-            used: open.used,
-        },
-    }
-}
-
-// The open block that a reclaim leaves.
-fn open_of(front: Front) -> Option<OpenBlock>
-    requires { IsFront front }
-    ensures value { front_value result ≡ front }
-    ensures small { IsSmall result }
-{
-    match front.block {
-        None => None,
-        Some(block) => Some(OpenBlock {
-            block,
-            used: front.used,
-        }),
-    }
-}
 
 impl<A: Region> Data<A> {
     /// A step of a reclaim, which is begun where none runs; at most one call of the board. `Reading` and `Stopped` where this
@@ -87,9 +54,13 @@ impl<A: Region> Data<A> {
         ensures shape { job.new.shape ≡ job.old.shape }
         ensures ready { IsReady (B.state board.new) job.old.shape }
     {
-        let mut front = front_of(self.open_block);
-        let answer = job.step(board, pool, &mut self.live, active, epoch, &mut front);
-        self.open_block = open_of(front);
-        answer
+        job.step(
+            board,
+            pool,
+            &mut self.live,
+            active,
+            epoch,
+            &mut self.open_block,
+        )
     }
 }

@@ -1,6 +1,6 @@
 -- Each step of a reclaim lowers what is left of it.
 use Rattle.std.proofs.Common.{◌≡◌, ◌≢◌, inl, inr, ℕ, zero, suc, ◌+◌, ◌-◌, ◌*◌, ◌<◌, ◌≤◌, refl, sym, ap, subst, ◌∙◌, arith, true, false, List, [], ◌∷◌, take, sum, Option, Some, None}
-use Rattle.std.specs.Prelude.{slice_get, slice_index, unwrap_or}
+use Rattle.std.specs.Prelude.{slice_get, slice_index, unwrap_or, MatchOption}
 use Rattle.std.proofs.lemmas.Bool.{cases_eq}
 use Rattle.std.proofs.lemmas.List.Sums.{sum_by-cons}
 use Rattle.pk_base.specs.Shape.{Shape, charge, dense}
@@ -70,21 +70,21 @@ live_at_start shape heads victim output =
 
 -- ---- the victim
 
-chosen_pages : (shape : Shape) (live : Values) (front : OpenBlock) (live' : Values) (front' : OpenBlock) (b : ℕ) → Chooses shape live front live' front' b → live'.block_pages ≡ live.block_pages
+chosen_pages : (shape : Shape) (live : Values) (front : Option OpenBlock) (live' : Values) (front' : Option OpenBlock) (b : ℕ) → Chooses shape live front live' front' b → live'.block_pages ≡ live.block_pages
 chosen_pages shape live front live' front' b is = elim is.1 [ inl same ↦ ap (λ (v : Values). v.block_pages) same.0 | inr closed ↦ ap (λ (v : Values). v.block_pages) closed.0 ]
 
 -- it is a block for values
-victim_held : (shape : Shape) (live : Values) (front : OpenBlock) (pool : Blocks) (live' : Values) (front' : OpenBlock) (b : ℕ) → IsFull shape live front pool → Chooses shape live front live' front' b → HoldsValues pool b
+victim_held : (shape : Shape) (live : Values) (front : Option OpenBlock) (pool : Blocks) (live' : Values) (front' : Option OpenBlock) (b : ℕ) → IsFull shape live front pool → Chooses shape live front live' front' b → HoldsValues pool b
 victim_held shape live front pool live' front' b full is = elim is.1 [
   | inl same ↦ full.closed_owned b (subst (λ (v : Values). IsClosed v b) same.0 is.0.least.closed)
-  | inr closed ↦ behind front.block refl (subst (λ (v : Values). IsClosed v b) closed.0 is.0.least.closed)
+  | inr closed ↦ behind front full.open_owned (subst (λ (v : Values). IsClosed v b) closed.0 is.0.least.closed)
 ]
   where
-    behind : (o : Option ℕ) → front.block ≡ o → slice_get (closed_with o live.closed) b ≡ Some true → HoldsValues pool b
-    behind None e there = full.closed_owned b there
-    behind (Some x) e there = elim (cases_eq b x) [
-      | inl same ↦ full.open_owned b (e ∙ ap Some (sym same))
-      | inr other ↦ full.closed_owned b (sym (get-set_other live.closed x b true other) ∙ there)
+    behind : (o : Option OpenBlock) → MatchOption o (Unit {0}) (λ x. HoldsValues pool x.block) → slice_get (closed_with o live.closed) b ≡ Some true → HoldsValues pool b
+    behind None owned there = full.closed_owned b there
+    behind (Some o) owned there = elim (cases_eq b o.block) [
+      | inl same ↦ subst (λ k. HoldsValues pool k) (sym same) owned
+      | inr other ↦ full.closed_owned b (sym (get-set_other live.closed o.block b true other) ∙ there)
     ]
 
 -- ---- what is left

@@ -14,7 +14,7 @@ use Rattle.pk_gc.specs.declared.moves.Move.{Move}
 use Rattle.pk_gc.specs.State.{JobState, CanGoAll, heads_all, source}
 use Rattle.pk_gc.specs.Victims.{AreDead}
 use Rattle.pk_gc.specs.Committing.{Commits, Adds, Refuses, entries_left}
-use Rattle.pk_gc.specs.Stepping.{Hands, CanEnd, Finishes, moved_in, handed_over, given_back}
+use Rattle.pk_gc.specs.Stepping.{Hands, CanEnd, Finishes, moved_in, handed_over, victim_given}
 use Rattle.pk_gc.specs.Asking.{CanFinish, Finished, IsBehindCommit}
 
 -- ---- the search for the next head
@@ -103,7 +103,7 @@ module _ (c : Course) (job : JobState) (h : Hands) (old : BoardState) (epoch : J
         subst FinishesIn (sym done.0) (record {
           job_is = done.1 ∙ (λ i. record (same i) { phase = Idle });
           none = commits.0;
-          hands = done.2 ∙ ap (λ (x : Hands). given_back c.victim (handed_over c x)) rests;
+          hands = done.2 ∙ ap (λ (x : Hands). victim_given c.victim (handed_over c x)) rests;
           board = commits.1.same;
         })
     finishes NeedsFreeze kept commits same done =

@@ -1,6 +1,6 @@
 -- What each part of a step asks, and what it answers.
 use Rattle.std.specs.Prelude.{◌≡◌, ℕ, ◌-◌, ◌*◌, ◌<◌, List, [], ◌∷◌, ◌++◌}
-use Rattle.std.specs.Prelude.{length, MatchOption}
+use Rattle.std.specs.Prelude.{length, Option, MatchOption}
 use Rattle.pk_base.specs.Key.{Key}
 use Rattle.pk_base.specs.Shape.{Shape, charge, dense}
 use Rattle.pk_base.specs.Page.{Flash}
@@ -26,15 +26,15 @@ use Rattle.pk_gc.specs.State.{JobState, CanGoAll, heads_all, begun_at}
 use Rattle.pk_gc.specs.Running.{IsRunning, IsNextValue, begun_move}
 use Rattle.pk_gc.specs.Victims.{IsFull}
 use Rattle.pk_gc.specs.Committing.{FailsToAdd}
-use Rattle.pk_gc.specs.Stepping.{Hands, moved_in, handed_over, given_back}
+use Rattle.pk_gc.specs.Stepping.{Hands, moved_in, handed_over, victim_given}
 
 -- the parts that a step is handed
-abbrev pub hands_of : Values → OpenBlock → Blocks → Table → JournalEpoch → Hands
+abbrev pub hands_of : Values → Option OpenBlock → Blocks → Table → JournalEpoch → Hands
 hands_of live front pool active epoch =
     record { live = live; front = front; pool = pool; active = active; epoch = epoch }
 
 -- No reclaim runs, and one may begin.
-pub record MayStart (job : JobState) (live : Values) (front : OpenBlock) (pool : Blocks)
+pub record MayStart (job : JobState) (live : Values) (front : Option OpenBlock) (pool : Blocks)
     (flash : Flash) : Type 0 where
   pub none : job.phase ≡ Idle
   pub shape_is : pool.shape ≡ job.shape
@@ -114,20 +114,20 @@ IsBehindCommit _ job job' = job' ≡ job
 
 -- The output may take the victim's place, by what became of the moves.
 pub record CanFinish (committed : Committed) (c : Course) (job : JobState) (live : Values)
-    (front : OpenBlock) (pool : Blocks) (active : Table) : Type 0 where
+    (front : Option OpenBlock) (pool : Blocks) (active : Table) : Type 0 where
   pub goes : committed ≡ All
       → CanGoAll live.block_pages active.capacity live.heads active.entries job.moves
   pub none : committed ≡ NoneLeft → heads_all live.heads job.moves ≡ live.heads
   pub closed : IsClosed live c.victim
   pub empty : block_sum (heads_all live.heads job.moves) live.block_pages c.victim ≡ 0
   pub owned : IsOwned pool c.victim
-  pub open_exists : MatchOption front.block (Unit {0}) (λ b. b < length live.closed)
+  pub open_exists : MatchOption front (Unit {0}) (λ o. o.block < length live.closed)
 
 -- what the end made of job and parts, by what became of the moves
 abbrev pub Finished : Committed → Course → JobState → Hands → JobState → Hands → Reclaimed → Type 0
 Finished NoneLeft c job h job' h' r =
     (r ≡ Ended) × (job' ≡ record job { phase = Idle })
-    × (h' ≡ given_back c.victim (handed_over c h))
+    × (h' ≡ victim_given c.victim (handed_over c h))
 Finished NoRoom c job h job' h' r = (r ≡ NeedsFreeze) × (job' ≡ job) × (h' ≡ h)
 Finished All c job h job' h' r =
     (r ≡ Worked) × (job' ≡ record job { phase = GivesBack c.victim })

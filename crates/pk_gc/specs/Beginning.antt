@@ -1,5 +1,6 @@
 -- The first step of a reclaim.
-use Rattle.std.specs.Prelude.{◌≡◌, ◌⊎◌, ℕ, ◌<◌, ◌≤◌, [], false, slice_set}
+use Rattle.std.specs.Prelude.{◌≡◌, ◌⊎◌, ℕ, ◌<◌, ◌≤◌, [], false, Option, slice_set}
+use Rattle.pk_base.specs.declared.sizes.TheConstants.{ROOT_BLOCKS}
 use Rattle.pk_plan.specs.declared.owner.Owner.TheVariants.{Values as for_values}
 use Rattle.pk_nand.specs.BoardState.{BoardState}
 use Rattle.pk_nand.specs.Calls.{IsErasedBlock}
@@ -15,12 +16,12 @@ use Rattle.pk_gc.specs.State.{JobState, started}
 use Rattle.pk_gc.specs.Victims.{Chooses}
 
 -- The victim has live pages, and a block without an owner was taken for their copies, by at most one erase.
-pub record Starts (job : JobState) (live : Values) (front : OpenBlock) (p : Blocks) (old : BoardState) (job' : JobState) (live' : Values) (front' : OpenBlock) (q : Blocks) (new : BoardState) : Type 0 where
+pub record Starts (job : JobState) (live : Values) (front : Option OpenBlock) (p : Blocks) (old : BoardState) (job' : JobState) (live' : Values) (front' : Option OpenBlock) (q : Blocks) (new : BoardState) : Type 0 where
   pub victim : ℕ
   pub output : ℕ
   pub chooses : Chooses job.shape live front live' front' victim
   pub spare : IsSpare p output
-  pub place : 2 ≤ output × output < p.shape.blocks
+  pub place : ROOT_BLOCKS ≤ output × output < p.shape.blocks
   pub taken : q ≡ with_state p output (Owned for_values)
   pub choice : TakesReady p old output new ⊎ ErasesFree p old output new
   pub are_erased : IsErasedBlock p.shape new.pages output
@@ -28,7 +29,7 @@ pub record Starts (job : JobState) (live : Values) (front : OpenBlock) (p : Bloc
   pub job_is : job' ≡ record job { phase = Copies (started victim output); moves = [] }
 
 -- The victim has no live page, and was given back.
-pub record GivesBack (job : JobState) (live : Values) (front : OpenBlock) (p : Blocks) (old : BoardState) (job' : JobState) (live' : Values) (front' : OpenBlock) (q : Blocks) (new : BoardState) : Type 0 where
+pub record GivesBack (job : JobState) (live : Values) (front : Option OpenBlock) (p : Blocks) (old : BoardState) (job' : JobState) (live' : Values) (front' : Option OpenBlock) (q : Blocks) (new : BoardState) : Type 0 where
   pub victim : ℕ
   pub chosen : Values
   pub chooses : Chooses job.shape live front chosen front' victim
@@ -39,7 +40,7 @@ pub record GivesBack (job : JobState) (live : Values) (front : OpenBlock) (p : B
   pub same : new ≡ old
 
 -- what it did, by its answer
-abbrev pub Begins : JobState → Values → OpenBlock → Blocks → BoardState → JobState → Values → OpenBlock → Blocks → BoardState → Reclaimed → Type 0
+abbrev pub Begins : JobState → Values → Option OpenBlock → Blocks → BoardState → JobState → Values → Option OpenBlock → Blocks → BoardState → Reclaimed → Type 0
 Begins job live front p old job' live' front' q new Worked = Starts job live front p old job' live' front' q new
 Begins job live front p old job' live' front' q new NeedsFreeze = ⊥
 Begins job live front p old job' live' front' q new Ended = GivesBack job live front p old job' live' front' q new

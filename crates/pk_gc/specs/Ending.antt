@@ -22,7 +22,7 @@ pub record CanGive (shape : Shape) (c : Course) (job : JobState) (h : Hands) (fl
   pub table_rising : T (is_sorted key_cmp h.active.entries)
   pub closed : IsClosed h.live c.victim
   pub owned : HoldsValues h.pool c.victim
-  pub open_exists : MatchOption h.front.block (Unit {0}) (λ b. b < length h.live.closed)
+  pub open_exists : MatchOption h.front (Unit {0}) (λ o. o.block < length h.live.closed)
 
 -- then the reclaim can be ended
 abbrev pub GivesUp : Type 0

@@ -2,6 +2,7 @@
 use Rattle.std.specs.Prelude.{◌≡◌, ◌≢◌, ℕ, ◌+◌, ◌*◌, ◌/◌, ◌<◌, ◌≤◌, List, [], ◌∷◌, length, true, Some}
 use Rattle.std.specs.List.{AllByRecursion}
 use Rattle.std.specs.FinMap.Entries.{find}
+use Rattle.pk_base.specs.declared.sizes.TheConstants.{ROOT_BLOCKS}
 use Rattle.pk_base.specs.Key.{Key, IsKey, key_cmp}
 use Rattle.pk_base.specs.Shape.{Shape, IsShape, charge, dense}
 use Rattle.pk_base.specs.Page.{Flash, page_at, erased, whole}
@@ -43,7 +44,7 @@ AreInOrder (m ∷ ms) = AllByRecursion (λ x. m.from + m.count ≤ x.from) ms ×
 pub record IsRunning (shape : Shape) (c : Course) (moves : List Move) (page : List ℕ) (flash : Flash) (es : List (Key × Place)) : Type 0 where
   pub is_shape : IsShape shape
   pub other : c.victim ≢ c.output
-  pub behind_roots : 2 ≤ c.output
+  pub behind_roots : ROOT_BLOCKS ≤ c.output
   pub victim_exists : c.victim < shape.blocks
   pub output_exists : c.output < shape.blocks
   pub within : c.seen + c.left ≤ shape.block_pages

@@ -18,12 +18,9 @@ pub record JobState : Type 0 where
   pub moves : List Move
   pub page : List ℕ
 
--- the place to which a value was copied, and the one from which
+-- the place to which a value was copied
 abbrev pub new_place : Move → Place
 new_place m = record { page = m.to; len = m.len }
-
-abbrev pub old_place : Move → Place
-old_place m = record { page = m.from; len = m.len }
 
 -- the keys of copied values, with the new places
 abbrev pub placed_at : List Move → List (Key × Place)

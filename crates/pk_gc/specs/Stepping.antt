@@ -1,5 +1,5 @@
 -- A step of a reclaim: when it may be made, and what it does.
-use Rattle.std.specs.Prelude.{◌≡◌, ◌⊎◌, ℕ, ◌+◌, ◌-◌, ◌*◌, ◌<◌, ◌≤◌, List, [], ◌∷◌, ◌++◌, length, slice_index, slice_set, Bool, true, false, Some, MatchOption}
+use Rattle.std.specs.Prelude.{◌≡◌, ◌⊎◌, ℕ, ◌+◌, ◌-◌, ◌*◌, ◌<◌, ◌≤◌, List, [], ◌∷◌, ◌++◌, length, slice_index, slice_set, Bool, true, false, Option, Some, MatchOption}
 use Rattle.pk_base.specs.Key.{Key}
 use Rattle.pk_base.specs.Shape.{charge, dense}
 use Rattle.pk_base.specs.Page.{Flash}
@@ -26,7 +26,7 @@ use Rattle.pk_gc.specs.Committing.{Refuses, Adds, HasRoom, entries_left}
 -- the parts that a step is handed: the live values, the open block, the blocks, the active buffer and the newest epoch
 pub record Hands : Type 0 where
   pub live : Values
-  pub front : OpenBlock
+  pub front : Option OpenBlock
   pub pool : Blocks
   pub active : Table
   pub epoch : JournalEpoch
@@ -38,7 +38,7 @@ pub record CanEnd (c : Course) (job : JobState) (h : Hands) : Type 0 where
   pub empty : block_sum (heads_all h.live.heads job.moves) h.live.block_pages c.victim ≡ 0
   pub none : entries_left h.live.heads job.moves ≡ [] → heads_all h.live.heads job.moves ≡ h.live.heads
   pub owned : IsOwned h.pool c.victim
-  pub open_exists : MatchOption h.front.block (Unit {0}) (λ b. b < length h.live.closed)
+  pub open_exists : MatchOption h.front (Unit {0}) (λ o. o.block < length h.live.closed)
 
 -- the hands where the moves that are left are made
 abbrev pub moved_in : JobState → Hands → Hands
@@ -50,13 +50,13 @@ moved_in job h = record h {
 -- the hands where the victim is closed no more, and the output is the open block
 abbrev pub handed_over : Course → Hands → Hands
 handed_over c h = record h {
-  live = record h.live { closed = closed_with h.front.block (slice_set h.live.closed c.victim false) };
-  front = record { block = Some c.output; used = c.used };
+  live = record h.live { closed = closed_with h.front (slice_set h.live.closed c.victim false) };
+  front = Some (record { block = c.output; used = c.used });
 }
 
--- the hands where a block is given back
-abbrev pub given_back : ℕ → Hands → Hands
-given_back victim h = record h { pool = with_state h.pool victim Free }
+-- the hands where the victim is given back
+abbrev pub victim_given : ℕ → Hands → Hands
+victim_given victim h = record h { pool = with_state h.pool victim Free }
 
 -- The moves that were left are in the next page of the epoch, by one program, and the output is the open block.
 pub record CommitsMoves (c : Course) (job : JobState) (h : Hands) (old : BoardState) (job' : JobState) (h' : Hands) (new : BoardState) : Type 0 where
@@ -68,7 +68,7 @@ pub record CommitsMoves (c : Course) (job : JobState) (h : Hands) (old : BoardSt
 pub record EndsWithout (c : Course) (job : JobState) (h : Hands) (old : BoardState) (job' : JobState) (h' : Hands) (new : BoardState) : Type 0 where
   pub job_is : job' ≡ record job { phase = Idle }
   pub none : entries_left h.live.heads job.moves ≡ []
-  pub hands : h' ≡ given_back c.victim (handed_over c h)
+  pub hands : h' ≡ victim_given c.victim (handed_over c h)
   pub board : new ≡ old
 
 -- what a commit of the moves did, by its answer
@@ -141,7 +141,7 @@ GoesOn c job h old job' h' new r =
 pub record GivesVictim (victim : ℕ) (job : JobState) (h : Hands) (old : BoardState) (job' : JobState) (h' : Hands) (new : BoardState) (r : Reclaimed) : Type 0 where
   pub answer : r ≡ Ended
   pub job_is : job' ≡ record job { phase = Idle }
-  pub hands : h' ≡ given_back victim h
+  pub hands : h' ≡ victim_given victim h
   pub board : new ≡ old
 
 abbrev pub StepsIn : Phase → JobState → Hands → BoardState → JobState → Hands → BoardState → Reclaimed → Type 0

@@ -26,9 +26,9 @@ ghost use Rattle.pk_gc.specs.Asking.{IsEpoch, CannotAdd, IsBehindCommit, CanFini
 
 use crate::course::{Course, Phase};
 use crate::moves::{Move, apply, fill_left, new_keys};
-use crate::open_block::OpenBlock;
+use crate::open_block::{OpenBlock, close};
 use crate::reclaimed::{Committed, Reclaimed};
-use crate::victim::{choose, close, next_head};
+use crate::victim::{choose, most_live, next_head};
 use pk_base::{Entry, Shape};
 use pk_buf::Buffer;
 use pk_jrn::Epoch;
@@ -90,7 +90,7 @@ impl<A: Region> ReclaimJob<A> {
         ensures { IfOk result (λ j. (j.shape ≡ shape) × (j.phase ≡ Idle) × (j.moves ≡ [])) }
     {
         shape.known();
-        let most = (3 * shape.block_pages() / 4) as usize;
+        let most = most_live(&shape) as usize;
         let moves = Vec::with_capacity(alloc, most)?;
         let entries = Vec::with_capacity(alloc, most)?;
         let page = Vec::from_elem(alloc, 0u8, shape.page_bytes() as usize)?;
@@ -130,7 +130,7 @@ impl<A: Region> ReclaimJob<A> {
         live: &mut Live<A>,
         active: &mut Buffer<A>,
         epoch: &mut Epoch,
-        front: &mut OpenBlock,
+        front: &mut Option<OpenBlock>,
     ) -> Result<Reclaimed, Fault>
         requires can { CanStep self.old
             (hands_of live.old front.old pool.old active.old epoch.old) (B.state board.old).pages }
@@ -195,7 +195,7 @@ impl<A: Region> ReclaimJob<A> {
         board: &mut B,
         pool: &mut Pool<A>,
         live: &mut Live<A>,
-        front: &mut OpenBlock,
+        front: &mut Option<OpenBlock>,
     ) -> Result<Reclaimed, Fault>
         requires may { MayStart self.old live.old front.old pool.old (B.state board.old).pages }
         requires ready { IsReady (B.state board.old) self.old.shape }
@@ -421,21 +421,22 @@ impl<A: Region> ReclaimJob<A> {
     }
 
     // The victim is closed no more, and the output takes the next values.
-    fn hand_over(&mut self, live: &mut Live<A>, front: &mut OpenBlock, course: Course)
+    fn hand_over(&mut self, live: &mut Live<A>, front: &mut Option<OpenBlock>, course: Course)
         requires closed { IsClosed live.old course.victim }
         requires empty { count_of live.old course.victim ≡ 0 }
-        requires front { MatchOption front.old.block (Unit {0}) (λ b. b < length live.old.closed) }
+        requires front { MatchOption front.old (Unit {0}) (λ o. o.block < length live.old.closed) }
         ensures job { self.new ≡ record self.old { phase = GivesBack course.victim } }
         ensures live { live.new ≡ record live.old {
-          closed
-              = closed_with front.old.block (slice_set live.old.closed course.victim false);
+          closed = closed_with front.old (slice_set live.old.closed course.victim false);
         } }
-        ensures front { front.new ≡ record { block = Some course.output; used = course.used } }
+        ensures front { front.new ≡ Some (record { block = course.output; used = course.used }) }
     {
         live.forget(course.victim);
-        close(live, front);
-        front.block = Some(course.output);
-        front.used = course.used;
+        close(live, *front);
+        *front = Some(OpenBlock {
+            block: course.output,
+            used: course.used,
+        });
         self.phase = Phase::GivesBack(course.victim);
     }
 
@@ -459,7 +460,7 @@ impl<A: Region> ReclaimJob<A> {
         pool: &mut Pool<A>,
         live: &mut Live<A>,
         active: &mut Buffer<A>,
-        front: &mut OpenBlock,
+        front: &mut Option<OpenBlock>,
     ) -> Reclaimed
         requires can { CanFinish committed course self.old live.old front.old pool.old active.old }
         ensures finished { (epoch : JournalEpoch) → Finished committed course self.old

@@ -26,15 +26,20 @@ pub fn cuts()
     ensures { CommitReaches }
 {}
 
-/// A reclaim that runs stands behind each step of its copy, and each lowers the steps that are left.
+/// A reclaim runs on behind each step of its copy, with fewer steps left and at most three quarters of a block to copy.
 pub fn steps()
+    // It runs behind each of them.
     ensures start { StartRuns }
     ensures read { ReadRuns }
     ensures program { ProgramRuns }
     ensures begin { BeginRuns }
+
+    // Fewer steps are left then.
     ensures read_falls { ReadFalls }
     ensures program_falls { ProgramFalls }
     ensures begin_falls { BeginFalls }
+
+    // At most three quarters of a block are copied still.
     ensures program_sparse { ProgramSparse }
     ensures begin_sparse { BeginSparse }
     ensures fewer_sparse { FewerSparse }

@@ -14,5 +14,5 @@ pub use course::{Course, Phase};
 pub use job::ReclaimJob;
 pub use laws::{at_end, buffered, copied, cuts, in_mid_copy, lowers, next_value, steps};
 pub use moves::Move;
-pub use open_block::OpenBlock;
+pub use open_block::{OpenBlock, close};
 pub use reclaimed::Reclaimed;

@@ -5,7 +5,7 @@ ghost use Rattle.pk_gc.specs.State.{entry_of, is_new, heads_behind, entries_behi
 ghost use Rattle.pk_gc.specs.State.{heads_all, entries_all, CanGo, CanGoAll};
 ghost use Rattle.pk_gc.specs.Committing.{entries_left};
 
-use pk_base::{Entry, Key};
+use pk_base::{Entry, Key, MOST_BLOCK_PAGES};
 use pk_buf::Buffer;
 use pk_live::Live;
 use pk_region::Region;
@@ -70,7 +70,7 @@ fn is_new_to<A: Region>(entry: &Entry, active: &Buffer<A>) -> bool
 
 /// How many of the entries have a key that the buffer does not hold.
 pub(crate) fn new_keys<A: Region>(entries: &[Entry], active: &Buffer<A>) -> u32
-    requires { length entries.now ≤ 256 }
+    requires { length entries.now ≤ MOST_BLOCK_PAGES }
     ensures { result ≡ count_by (is_new active.now.entries) (seen_all entries.now) }
 {
     let mut count = 0;

@@ -26,7 +26,6 @@ use Rattle.pk_gc.proofs.Lowering.{live_of_block}
 use Rattle.pk_gc.proofs.Victims.{below_quota}
 use Rattle.pk_data.specs.State.{DataState, fits_open}
 use Rattle.pk_data.specs.Placed.{ValuesOnFlash, HoldsValues}
-use Rattle.pk_data.specs.Reclaiming.{front_of}
 use Rattle.pk_data.proofs.Unchanged.{none_in_spare}
 use Rattle.pk_data.proofs.Holding.{chosen, output_taken, dead_given_back}
 use Rattle.pk_log.specs.State.{LogState}
@@ -72,7 +71,7 @@ module _ (log : LogState) (values values' : DataState) (pool pool' : Blocks) (mo
 
   -- ---- a block was taken
 
-  module _ (s : Starts (job_in log moves page Idle) values.live (front_of values.open_block) pool old job' values'.live (front_of values'.open_block) pool' new) where
+  module _ (s : Starts (job_in log moves page Idle) values.live values.open_block pool old job' values'.live values'.open_block pool' new) where
     quiet : IsQuiet log pool old top found m s.output
     quiet = record {
       has = ready.shape_is;
@@ -143,7 +142,7 @@ module _ (log : LogState) (values values' : DataState) (pool pool' : Blocks) (mo
 
   -- ---- a block without live pages was given back
 
-  module _ (g : GivesBack (job_in log moves page Idle) values.live (front_of values.open_block) pool old job' values'.live (front_of values'.open_block) pool' new) where
+  module _ (g : GivesBack (job_in log moves page Idle) values.live values.open_block pool old job' values'.live values'.open_block pool' new) where
     given : ValuesOnFlash shape values' pool' [] new.pages es × (used_by for_values pool'.states + 1 ≡ used_by for_values pool.states)
     given = dead_given_back shape (job_in log moves page Idle) job' values values' pool pool' old new es placed g
 

@@ -21,12 +21,11 @@ use Rattle.pk_gc.specs.declared.moves.Move.{Move}
 use Rattle.pk_gc.specs.declared.reclaimed.Reclaimed.{Reclaimed}
 use Rattle.pk_gc.specs.State.{JobState, source}
 use Rattle.pk_gc.specs.Victims.{AreDead}
-use Rattle.pk_gc.specs.Stepping.{Hands, EndsWithout, GivesVictim, given_back}
-use Rattle.pk_data.specs.declared.open_block.OpenBlock.{OpenBlock}
-use Rattle.pk_data.specs.State.{DataState, fits_open, has_left}
+use Rattle.pk_gc.specs.Stepping.{Hands, EndsWithout, GivesVictim, victim_given}
+use Rattle.pk_data.specs.State.{DataState, OpenBlock, fits_open, has_left}
 use Rattle.pk_data.specs.Placed.{ValuesOnFlash}
-use Rattle.pk_data.specs.Reclaiming.{front_of, hands_of}
-use Rattle.pk_data.proofs.Holding.{same_front, victim_given_back}
+use Rattle.pk_data.specs.Reclaiming.{hands_of}
+use Rattle.pk_data.proofs.Holding.{victim_given_back}
 use Rattle.pk_data.proofs.Ends.{end_placed}
 use Rattle.pk_log.specs.State.{LogState}
 use Rattle.pk_reclaim.specs.Space.{Space, SpaceOnFlash, HasRoom, space}
@@ -46,7 +45,7 @@ pub record SameParts (d d' : DataState) (p q : Blocks) (t t' : Table) (e e' : Jo
 
 pub same_parts : (d d' : DataState) (p q : Blocks) (active active' : Table) (epoch epoch' : JournalEpoch) → hands_of d' q active' epoch' ≡ hands_of d p active epoch → SameParts d d' p q active active' epoch epoch'
 same_parts d d' p q active active' epoch epoch' same = record {
-  values = λ i. record { live = (ap (λ (h : Hands). h.live) same) i; open_block = same_front d'.open_block d.open_block (ap (λ (h : Hands). h.front) same) i };
+  values = λ i. record { live = (ap (λ (h : Hands). h.live) same) i; open_block = (ap (λ (h : Hands). h.front) same) i };
   pool = ap (λ (h : Hands). h.pool) same;
   active = ap (λ (h : Hands). h.active) same;
   epoch = ap (λ (h : Hands). h.epoch) same;
@@ -54,11 +53,10 @@ same_parts d d' p q active active' epoch epoch' same = record {
 
 -- ---- a block that was filled no more than a victim may be takes every value
 
-pub output_fits : (shape : Shape) (d : DataState) (output used count : ℕ) → IsShape shape → front_of d.open_block ≡ record { block = Some output; used = used } → used ≤ dense shape → count ≤ most_pages shape → fits_open shape d count ≡ true
+pub output_fits : (shape : Shape) (d : DataState) (output used count : ℕ) → IsShape shape → d.open_block ≡ Some (record { block = output; used = used }) → used ≤ dense shape → count ≤ most_pages shape → fits_open shape d count ≡ true
 output_fits shape d output used count is_shape is few most =
-    let front : d.open_block ≡ Some (record { block = output; used = used }) = same_front d.open_block (Some (record { block = output; used = used })) is in
     let room = leaves_room shape is_shape in
-    ap (λ (o : Option OpenBlock). has_left shape o count) front ∙ le-leb (used + count) shape.block_pages (omega (arith, few, most, room))
+    ap (λ (o : Option OpenBlock). has_left shape o count) is ∙ le-leb (used + count) shape.block_pages (omega (arith, few, most, room))
 
 -- ---- the end without moves
 
@@ -127,8 +125,8 @@ module _ (log log' : LogState) (values values' : DataState) (pool pool' : Blocks
   abbrev start : Space
   start = space_in log values pool moves page (GivesBack victim)
 
-  parts : SameParts values values' (given_back victim (hands_of values pool log.active log.epoch)).pool pool' log.active log'.active log.epoch log'.epoch
-  parts = same_parts values values' (given_back victim (hands_of values pool log.active log.epoch)).pool pool' log.active log'.active log.epoch log'.epoch g.hands
+  parts : SameParts values values' (victim_given victim (hands_of values pool log.active log.epoch)).pool pool' log.active log'.active log.epoch log'.epoch
+  parts = same_parts values values' (victim_given victim (hands_of values pool log.active log.epoch)).pool pool' log.active log'.active log.epoch log'.epoch g.hands
 
   log_same : log' ≡ log
   log_same = log_is ∙ (λ i. record log { active = parts.active i; epoch = parts.epoch i })

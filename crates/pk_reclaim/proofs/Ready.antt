@@ -2,7 +2,6 @@
 use Rattle.std.proofs.Common.{◌≡◌, inl, inr, ℕ, ◌+◌, ◌-◌, ◌*◌, ◌<◌, refl, sym, ap, subst, ◌∙◌, arith, true, false, T, List, [], ◌∷◌, ◌++◌, length, reverse, Option, Some, None}
 use Rattle.std.specs.Prelude.{MatchOption}
 use Rattle.std.specs.FinMap.Entries.{is_sorted}
-use Rattle.std.proofs.lemmas.Option.{same_Some}
 use Rattle.std.proofs.lemmas.List.FromFn.{length-map-range_with_len}
 use Rattle.pk_base.specs.Key.{Key, key_cmp}
 use Rattle.pk_base.specs.Shape.{Shape, page_count, data_blocks}
@@ -21,33 +20,29 @@ use Rattle.pk_gc.specs.declared.course.Course.{Course}
 use Rattle.pk_gc.specs.declared.course.Phase.{Phase}
 use Rattle.pk_gc.specs.declared.course.Phase.TheVariants.{Idle, Copies, GivesBack}
 use Rattle.pk_gc.specs.declared.moves.Move.{Move}
+use Rattle.pk_gc.specs.declared.open_block.OpenBlock.{OpenBlock}
 use Rattle.pk_gc.specs.State.{JobState, source}
-use Rattle.pk_gc.specs.Victims.{IsFull, IsNot, AreDead}
+use Rattle.pk_gc.specs.Victims.{IsFull, HoldsValues, AreDead}
 use Rattle.pk_gc.specs.Copied.{IsCopied}
 use Rattle.pk_gc.specs.Going.{AreHeld}
 use Rattle.pk_gc.specs.Ending.{CanGive}
 use Rattle.pk_gc.specs.Stepping.{Hands, CanStep, CanGoOn}
 use Rattle.pk_gc.proofs.Going.{next_is_value}
 use Rattle.pk_gc.proofs.Ending.{gives_up}
-use Rattle.pk_data.specs.declared.open_block.OpenBlock.{OpenBlock}
 use Rattle.pk_data.specs.State.{DataState}
-use Rattle.pk_data.specs.Placed.{HoldsValues, IsNotOpen, IsOpenIn}
-use Rattle.pk_data.specs.Reclaiming.{front_of, hands_of}
+use Rattle.pk_data.specs.Placed.{IsOpenIn}
+use Rattle.pk_data.specs.Reclaiming.{hands_of}
 use Rattle.pk_log.specs.State.{LogState}
 use Rattle.pk_reclaim.specs.Space.{Space, SpaceOnFlash, MayReclaim, IsTurn, space}
 use Rattle.pk_reclaim.proofs.Known.{keys_known, rising_known, values_known, live_few, heads_known, apart_known}
 
 -- ---- the open block
 
-not_open : (o : Option OpenBlock) (b : ℕ) → IsNot (front_of o).block b → IsNotOpen o b
-not_open None b other = tt
-not_open (Some o) b other = λ same. other (ap (λ (x : ℕ). Some x) (sym same))
+open_held : (shape : Shape) (pool : Blocks) (flash : Flash) (o : Option OpenBlock) → MatchOption o (Unit {0}) (λ x. IsOpenIn shape pool flash x) → MatchOption o (Unit {0}) (λ x. HoldsValues pool x.block)
+open_held shape pool flash None is = tt
+open_held shape pool flash (Some o) is = is.owned
 
-open_held : (shape : Shape) (pool : Blocks) (flash : Flash) (o : Option OpenBlock) → MatchOption o (Unit {0}) (λ x. IsOpenIn shape pool flash x) → (b : ℕ) → (front_of o).block ≡ Some b → HoldsValues pool b
-open_held shape pool flash None is b here = cc
-open_held shape pool flash (Some o) is b here = subst (λ (x : ℕ). HoldsValues pool x) (same_Some o.block b here) is.owned
-
-open_below : (shape : Shape) (pool : Blocks) (flash : Flash) (n : ℕ) (o : Option OpenBlock) → n ≡ shape.blocks → MatchOption o (Unit {0}) (λ x. IsOpenIn shape pool flash x) → MatchOption (front_of o).block (Unit {0}) (λ b. b < n)
+open_below : (shape : Shape) (pool : Blocks) (flash : Flash) (n : ℕ) (o : Option OpenBlock) → n ≡ shape.blocks → MatchOption o (Unit {0}) (λ x. IsOpenIn shape pool flash x) → MatchOption o (Unit {0}) (λ x. x.block < n)
 open_below shape pool flash n None size is = tt
 open_below shape pool flash n (Some o) size is = let exists = is.exists in omega (arith, exists, size)
 
@@ -79,7 +74,7 @@ module _ (log : LogState) (values : DataState) (pool : Blocks) (moves : List Mov
   used_is (inl runs) = absurd (no_turn (sym runs))
   used_is (inr is) = is
 
-  is_full : MayReclaim (there Idle) flash top found m → IsFull log.shape values.live (front_of values.open_block) pool
+  is_full : MayReclaim (there Idle) flash top found m → IsFull log.shape values.live values.open_block pool
   is_full may =
       let placed = may.stands.placed in
       record {
@@ -88,7 +83,7 @@ module _ (log : LogState) (values : DataState) (pool : Blocks) (moves : List Mov
         closed_size = placed.closed_size ∙ sym placed.size;
         full = used_is may.turn;
         within = live_few log.shape flash top found m may.stands.under values pool [] placed;
-        closed = λ b held other. placed.owned_closed b held (not_open values.open_block b other) (λ none. none);
+        closed = λ b held other. placed.owned_closed b held other (λ none. none);
         closed_owned = λ b closed. (placed.closed_owned b closed).0;
         open_owned = open_held log.shape pool flash values.open_block placed.open_is;
       }
