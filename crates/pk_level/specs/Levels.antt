@@ -1,6 +1,7 @@
 -- The four runs of a drive, and a look-up through them.
 use Rattle.std.specs.Prelude.{◌≡◌, ⊤, ℕ, zero, suc, ◌+◌, ◌-◌, ◌<◌, ◌≤◌, List, [], ◌∷◌, length, slice_get, slice_index_or, slice_set, Some}
 use Rattle.std.specs.List.{flat_map}
+use Rattle.pk_base.specs.declared.sizes.TheConstants.{LEVELS}
 use Rattle.pk_base.specs.Shape.{Shape}
 use Rattle.pk_base.specs.Entry.{Entry}
 use Rattle.pk_base.specs.Page.{Flash}
@@ -40,8 +41,8 @@ AreOfLevels shape pinned level (r ∷ rs) = IsOfLevel shape pinned level r × Ar
 
 -- what all levels keep to
 pub record IsLevels (levels : Levels) : Type 0 where
-  pub most : levels.pinned ≤ 4
-  pub four : length levels.runs ≡ 4
+  pub most : levels.pinned ≤ LEVELS
+  pub four : length levels.runs ≡ LEVELS
   pub each : AreOfLevels levels.shape levels.pinned 1 levels.runs
 
 -- the entries of the runs on the flash are those of these lists

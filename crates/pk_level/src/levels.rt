@@ -13,7 +13,7 @@ ghost use Rattle.pk_run.specs.Search.{IsFound};
 ghost use Rattle.pk_level.specs.Levels as spec;
 ghost use Rattle.pk_level.specs.Levels.{IsLevels, IsOfLevel, RunsOnFlash, ReadsUpTo, ReadFailsWithin, no_runs, run_of, with_run, all_entries, reads_through};
 
-use pk_base::{Entry, Key};
+use pk_base::{Entry, Key, LEVELS};
 use pk_nand::{Fault, Nand};
 use pk_pin::PinArena;
 use pk_plan::Plan;
@@ -94,7 +94,7 @@ impl<A: Allocator> Levels<A> {
     pub fn known(&self)
         ensures levels { IsLevels self.now }
         ensures runs { AllByRecursion IsKept self.now.runs }
-        ensures few { reads_through self.now.runs + self.now.pinned ≤ 4 }
+        ensures few { reads_through self.now.runs + self.now.pinned ≤ LEVELS }
     {
         self.first.known();
         self.second.known();
@@ -111,7 +111,7 @@ impl<A: Allocator> Levels<A> {
 
     // The run at this place among the four.
     fn at(&self, place: u8) -> &Run<A>
-        requires { place < 4 }
+        requires { place < LEVELS }
         ensures { slice_get self.now.runs place ≡ Some result.now }
     {
         match place {
@@ -124,7 +124,7 @@ impl<A: Allocator> Levels<A> {
 
     /// The run of a level, 1 to 4.
     pub fn run(&self, level: u8) -> &Run<A>
-        requires { 1 ≤ level × level ≤ 4 }
+        requires { 1 ≤ level × level ≤ LEVELS }
         ensures run { result.now ≡ run_of self.now level }
         ensures of_level { IsOfLevel self.now.shape self.now.pinned level result.now }
     {
@@ -134,7 +134,7 @@ impl<A: Allocator> Levels<A> {
 
     /// How many entries the run of a level has, 1 to 4.
     pub fn entries(&self, level: u8) -> u32
-        requires { 1 ≤ level × level ≤ 4 }
+        requires { 1 ≤ level × level ≤ LEVELS }
         ensures { result ≡ (run_of self.now level).count }
     {
         self.run(level).entries()
@@ -145,7 +145,7 @@ impl<A: Allocator> Levels<A> {
         ensures target { result
             ≡ next_merge self.now.shape frozen (map (λ r. r.count) self.now.runs) }
         ensures none { IsNone result ↔ (frozen ≡ 0) }
-        ensures level { IfSome result (λ t. 1 ≤ t × t ≤ 4) }
+        ensures level { IfSome result (λ t. 1 ≤ t × t ≤ LEVELS) }
     {
         let counts = [
             self.first.entries(),
@@ -158,7 +158,7 @@ impl<A: Allocator> Levels<A> {
 
     /// Puts a run in place of the one of its level, which is handed back. All its pages have frames where those of the level have.
     pub fn install_run(&mut self, level: u8, run: Run<A>) -> Run<A>
-        requires level { 1 ≤ level × level ≤ 4 }
+        requires level { 1 ≤ level × level ≤ LEVELS }
         requires of_level { IsOfLevel self.old.shape self.old.pinned level run }
         ensures installed { self.new ≡ with_run self.old level run }
         ensures former { result ≡ run_of self.old level }
@@ -202,7 +202,7 @@ impl<A: Allocator> Levels<A> {
         ensures ready { IsReady (B.state board.new) self.now.shape }
     {
         self.known();
-        for place in 0..4u8 {
+        for place in 0..LEVELS {
             match self.at(place).find(board, arena, key, buf) {
                 Ok(Some(entry)) => return Ok(Some(entry)),
                 Ok(None) => {}

@@ -3,7 +3,7 @@ use Rattle.std.proofs.Common.{◌≡◌, ℕ, zero, suc, ◌≤◌, Bool, true, 
 use Rattle.std.specs.Prelude.{◌==◌}
 use Rattle.std.proofs.lemmas.Bool.Decides.{eqb_tells}
 use Rattle.pk_nand.specs.BoardState.{BoardState}
-use Rattle.pk_pin.specs.Frames.{Frames, AreLeases, leased, times}
+use Rattle.pk_pin.specs.Frames.{Frames, AreLeases, leased, times, KeepsPage}
 use Rattle.pk_pin.proofs.Leases.{times-append, lease_alone, leases_taken, leases_filled, leases_given}
 use Rattle.pk_pool.specs.Blocks.{Blocks}
 use Rattle.pk_run.specs.Kept.{Kept, with_lease}
@@ -12,7 +12,6 @@ use Rattle.pk_merge.specs.declared.source.Source.{Source}
 use Rattle.pk_merge.specs.declared.next.Next.{Next}
 use Rattle.pk_merge.specs.declared.next.Next.TheVariants.{LoadSource, LoadTarget, Gather, TakeBlock, Program, End}
 use Rattle.pk_merge.specs.Merging.{Merger}
-use Rattle.pk_merge.specs.Outputs.{KeepsPage}
 use Rattle.pk_merge.specs.Steps.{Acts}
 use Rattle.pk_merge.specs.Elsewhere.{LeavesLeases}
 use Rattle.pk_merge.specs.Jobs.{AreLeased, LeavesOthers, given_all}

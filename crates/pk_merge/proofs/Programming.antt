@@ -19,10 +19,10 @@ use Rattle.pk_nand.specs.Calls.{after_program}
 use Rattle.pk_nand.specs.Crash.{Reached, SameOutside}
 use Rattle.pk_nand.proofs.Leaving.{page_at-slice_set, page_at-slice_set_same}
 use Rattle.pk_nand.proofs.Writing.{SameOutside-set}
-use Rattle.pk_pin.specs.Frames.{Frames, leased}
+use Rattle.pk_pin.specs.Frames.{Frames, leased, KeepsPage}
 use Rattle.pk_run.specs.Kept.{Kept, IsNext, IsPinnedAlike, RunOnFlash, page_of, with_page}
 use Rattle.pk_run.proofs.Others.{RunOnFlash-outside, RunOnFlash-taken, RunOnFlash-filled}
-use Rattle.pk_merge.specs.Outputs.{AreApart, IsOutput, KeepsPage, ProgramsPage, OthersStand, next_bytes, SameButNext}
+use Rattle.pk_merge.specs.Outputs.{AreApart, IsOutput, ProgramsPage, OthersStand, next_bytes, SameButNext}
 use Rattle.pk_merge.proofs.Overs.{left_part, right_part}
 use Rattle.pk_merge.proofs.Places.{only_index, other_page}
 use Rattle.pk_level.specs.Arenas.{IsPinnedIf}

@@ -8,7 +8,7 @@ use Rattle.pk_base.specs.Entry.{Entry}
 use Rattle.pk_base.specs.Page.{Flash, whole}
 use Rattle.pk_meta.specs.Over.{over, kept_at}
 use Rattle.pk_nand.specs.BoardState.{BoardState}
-use Rattle.pk_pin.specs.Frames.{Frames, free_frames, leased}
+use Rattle.pk_pin.specs.Frames.{Frames, free_frames, leased, KeepsPage}
 use Rattle.pk_plan.specs.declared.owner.Owner.TheVariants.{Meta}
 use Rattle.pk_pool.specs.declared.state.BlockState.TheVariants.{Free, Ready, Owned}
 use Rattle.pk_pool.specs.Blocks.{Blocks, PoolOnFlash, with_state}
@@ -24,7 +24,7 @@ use Rattle.pk_merge.specs.declared.next.Next.TheVariants.{LoadSource, LoadTarget
 use Rattle.pk_merge.specs.Cursors.{Follows}
 use Rattle.pk_merge.specs.Sources.{FollowsIn, IsOf, blocks_in, after_look_at}
 use Rattle.pk_merge.specs.Merging.{Merger, left, StandsIn, GoesOn, HasNextPage, IsAtEnd, IsDone, Tells}
-use Rattle.pk_merge.specs.Outputs.{AreMeta, AreApart, IsOutput, TakesBlock, ProgramsPage, KeepsPage, next_bytes}
+use Rattle.pk_merge.specs.Outputs.{AreMeta, AreApart, IsOutput, TakesBlock, ProgramsPage, next_bytes}
 use Rattle.pk_merge.specs.Running.{merged, Running, HasNoSpare, IsWhole}
 use Rattle.pk_merge.proofs.Telling.{many_in, drop_end}
 use Rattle.pk_merge.proofs.Places.{block_there, rest}

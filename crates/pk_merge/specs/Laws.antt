@@ -1,5 +1,6 @@
 -- The end of a merge: the statements.
 use Rattle.std.specs.Prelude.{◌≡◌, ℕ, ◌-◌, ◌≤◌, List, ◌++◌, slice_get, Some}
+use Rattle.pk_base.specs.declared.sizes.TheConstants.{LEVELS}
 use Rattle.pk_base.specs.Shape.{Shape}
 use Rattle.pk_pin.specs.Frames.{Frames, AreLeases, times}
 use Rattle.pk_run.specs.Kept.{Kept, empty}
@@ -18,13 +19,13 @@ pub record IsFormer (shape : Shape) (level : ℕ) (r : Kept) : Type 0 where
 -- Once the output was taken and the former run of its level given back, a job is idle again.
 abbrev pub IdleBehindOne : Type 0
 IdleBehindOne =
-    (shape : Shape) (j : Job) (level : ℕ) (out former : Kept) (m : Merger) → IsIdle shape j → m.shape ≡ shape → 1 ≤ level → level ≤ 4 → IsFormer shape level former
+    (shape : Shape) (j : Job) (level : ℕ) (out former : Kept) (m : Merger) → IsIdle shape j → m.shape ≡ shape → 1 ≤ level → level ≤ LEVELS → IsFormer shape level former
     → (held_at (done_with shape j level out m) level ≡ Some out) × IsIdle shape (ended (given_to (taken_from (done_with shape j level out m) level) former))
 
 -- So it is where besides a run was taken for the level above, the source's, and the former one of that level given back.
 abbrev pub IdleBehindTwo : Type 0
 IdleBehindTwo =
-    (shape : Shape) (j : Job) (level : ℕ) (out former source : Kept) (m : Merger) → IsIdle shape j → m.shape ≡ shape → 2 ≤ level → level ≤ 4 → IsFormer shape level former → IsFormer shape (level - 1) source
+    (shape : Shape) (j : Job) (level : ℕ) (out former source : Kept) (m : Merger) → IsIdle shape j → m.shape ≡ shape → 2 ≤ level → level ≤ LEVELS → IsFormer shape level former → IsFormer shape (level - 1) source
     → (held_at (taken_from (done_with shape j level out m) level) (level - 1) ≡ Some (empty shape (level - 1)))
     × IsIdle shape (ended (given_to (given_to (taken_from (taken_from (done_with shape j level out m) level) (level - 1)) former) source))
 

@@ -1,7 +1,8 @@
 -- The output of a merge: its blocks, and its pages in them, of which each is programmed once.
-use Rattle.std.specs.Prelude.{◌≡◌, ◌⊎◌, ℕ, ◌+◌, ◌*◌, ◌<◌, ◌≤◌, Bool, true, false, not, ◌||◌, ◌==◌, T, is_some, List, [], ◌∷◌, ◌++◌, length, slice_get, Option, Some, None}
+use Rattle.std.specs.Prelude.{◌≡◌, ◌⊎◌, ℕ, ◌+◌, ◌*◌, ◌<◌, ◌≤◌, Bool, true, not, ◌||◌, ◌==◌, T, is_some, List, [], ◌∷◌, ◌++◌, length, slice_get, Option, Some}
 use Rattle.std.specs.List.{list_all}
 use Rattle.std.specs.FinMap.Entries.{is_sorted}
+use Rattle.pk_base.specs.declared.sizes.TheConstants.{LEVELS}
 use Rattle.pk_base.specs.Key.{Key, key_cmp}
 use Rattle.pk_base.specs.Shape.{page_entries}
 use Rattle.pk_base.specs.Entry.{Entry}
@@ -10,7 +11,7 @@ use Rattle.pk_meta.specs.Page.{IsContent, meta_bytes}
 use Rattle.pk_nand.specs.BoardState.{BoardState}
 use Rattle.pk_nand.specs.Calls.{IsErasedBlock, ProgramFailed, after_program}
 use Rattle.pk_nand.specs.Crash.{Reached, Went, SameOutside}
-use Rattle.pk_pin.specs.Frames.{Frames, IsLeased, free_frames, frame_of, leased, filled}
+use Rattle.pk_pin.specs.Frames.{Frames, free_frames, KeepsPage}
 use Rattle.pk_plan.specs.declared.owner.Owner.TheVariants.{Meta}
 use Rattle.pk_plan.specs.Quotas.{quota_of}
 use Rattle.pk_pool.specs.declared.state.BlockState.TheVariants.{Owned}
@@ -56,12 +57,6 @@ pub record TakesBlock (pool : Blocks) (r : Kept) (old : BoardState) (pool' : Blo
 
 -- ---- a page that is programmed
 
--- where a frame is wanted, a free one was leased and filled with these bytes; else nothing was done
-abbrev pub KeepsPage : Bool → Frames → Frames → List ℕ → Option ℕ → Type 0
-KeepsPage pins old new bytes None = (pins ≡ false) × (new ≡ old)
-KeepsPage pins old new bytes (Some lease) =
-    (pins ≡ true) × (slice_get old.used lease ≡ Some false) × (new ≡ filled (leased old lease) lease bytes) × IsLeased new lease × (frame_of new lease ≡ bytes)
-
 -- the bytes of its next page with these entries
 abbrev pub next_bytes : Kept → List Entry → List ℕ
 next_bytes r more = meta_bytes r.shape r.level (length r.firsts) more
@@ -97,7 +92,7 @@ pub record ProgramsPage (pins : Bool) (r : Kept) (more : List Entry) (old : Boar
   pub run_is : r' ≡ with_page r first lease (length more)
   pub program : new ≡ after_program old (page_of r (length r.firsts)) (next_bytes r more)
   pub frame : KeepsPage pins before after (next_bytes r more) lease
-  pub stands : (es : List Entry) → RunOnFlash r old.pages before es → T (is_sorted key_cmp (es ++ more)) → T (not (r.level == 4) || list_all (λ e. is_some e.1) more) → RunOnFlash r' new.pages after (es ++ more)
+  pub stands : (es : List Entry) → RunOnFlash r old.pages before es → T (is_sorted key_cmp (es ++ more)) → T (not (r.level == LEVELS) || list_all (λ e. is_some e.1) more) → RunOnFlash r' new.pages after (es ++ more)
   pub output : IsOutput r' new.pages
   pub others : OthersStand r old.pages before new.pages after
   pub cuts : Reached old new (λ flash _. SameButNext r old.pages flash)

@@ -66,7 +66,7 @@ impl<A: Allocator> Cursor<A> {
         self.loaded = 0;
     }
 
-    /// Each cursor keeps this.
+    /// Does nothing: brings the invariant of the cursor into a proof.
     pub fn known(&self)
         ensures { IsShape self.now.shape }
     {

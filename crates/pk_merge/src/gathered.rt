@@ -4,7 +4,7 @@ ghost use Rattle.pk_base.specs.Shape.{IsShape, page_entries};
 ghost use Rattle.pk_base.specs.Seen.{entry as seen, entries as seen_all};
 ghost use Rattle.pk_meta.specs.Over.{kept_at};
 
-use pk_base::{Entry, Shape};
+use pk_base::{Entry, LEVELS, Shape};
 use std::alloc::{AllocError, Allocator};
 use std::marker::Model;
 
@@ -38,7 +38,7 @@ impl<A: Allocator> Gathered<A> {
         Ok(Gathered { shape, entries })
     }
 
-    /// Each list keeps this.
+    /// Does nothing: brings the invariant of the list into a proof.
     pub fn known(&self)
         ensures { IsShape self.now.shape }
     {
@@ -69,13 +69,13 @@ impl<A: Allocator> Gathered<A> {
         self.entries.is_empty()
     }
 
-    /// Adds an entry behind the others, but for a deleted key where the output is run 4.
+    /// Adds an entry behind the others, but for a deleted key where the output is the deepest run.
     pub fn keep(&mut self, level: u8, entry: Entry)
         requires { length self.old.entries < page_entries self.old.shape }
         ensures { self.new ≡ record self.old
             { entries = self.old.entries ++ kept_at level (seen entry ∷ []) } }
     {
-        if level == 4 && is_gone(&entry) {
+        if level == LEVELS && is_gone(&entry) {
             return;
         }
         self.entries.push_reserved(entry);

@@ -2,6 +2,7 @@
 ghost use Rattle.std.specs.Prelude.{◌≡◌, ◌≤◌, ℕ, List, None, Some, IsSome, IfOk, IfErr, OnOk, OnErr, Err, IsTrue, ◌↔◌, ◌++◌};
 ghost use Rattle.pk_base.specs.Entry.{Entry as EntrySpec};
 ghost use Rattle.pk_base.specs.Page.{Flash};
+ghost use Rattle.pk_base.specs.declared.sizes.TheConstants.{LEVELS};
 ghost use Rattle.pk_base.specs.Shape as shapes;
 ghost use Rattle.pk_base.specs.Shape.{IsShape};
 ghost use Rattle.pk_nand.specs.Calls.{IsReady, Rose};
@@ -34,6 +35,7 @@ use std::marker::Model;
 /// A merge, or none; and the runs for the outputs of the next ones.
 pub struct MergeJob<A: Region> {
     pinned: u8,
+    /// The level of the output, 1 to 4; 0 where no merge runs.
     target: u8,
     output: Option<Run<A>>,
     merger: Merger<A>,
@@ -87,7 +89,7 @@ impl<A: Region> MergeJob<A> {
 
     /// Begins a merge into the run of a level, 1 to 4, where none runs.
     pub fn begin(&mut self, target: u8)
-        requires level { 1 ≤ target × target ≤ 4 }
+        requires level { 1 ≤ target × target ≤ LEVELS }
         requires idle { IsIdle self.old.merger.shape self.old }
         ensures begun { self.new ≡ begun self.old.merger.shape self.old target }
         ensures runs { (source : SourceSpec A) (target_run : Kept) (pool : Blocks) (flash : Flash)
@@ -101,7 +103,7 @@ impl<A: Region> MergeJob<A> {
 
     // Begins a merge, of which nothing is known yet.
     fn start(&mut self, target: u8)
-        requires level { 1 ≤ target × target ≤ 4 }
+        requires level { 1 ≤ target × target ≤ LEVELS }
         requires idle { IsIdle self.old.merger.shape self.old }
         ensures begun { self.new ≡ begun self.old.merger.shape self.old target }
         ensures shape { IsShape self.old.merger.shape }
@@ -113,8 +115,8 @@ impl<A: Region> MergeJob<A> {
         self.merger.restart();
     }
 
-    /// Each job keeps this: a merge runs as before where others change no page of a block that is owned for meta pages, and no
-    /// more of it is left than of a whole one.
+    /// Does nothing: brings the invariant of the job into a proof. A merge runs as before where others change no page of a
+    /// block that is owned for meta pages, and no more of it is left than of a whole one.
     pub fn known(&self)
         ensures elsewhere { (source : SourceSpec A) (target : Kept) (pool later : Blocks)
             (old new : Flash) (arena : Frames) (es fs : List EntrySpec)
@@ -152,6 +154,7 @@ impl<A: Region> MergeJob<A> {
         requires running { (es : List EntrySpec) × (fs : List EntrySpec)
             × JobRuns source target.now self.old pool.old (B.state board.old).pages arena.old
             es fs }
+
         // The merge goes on.
         ensures running { OnOk result (RunsOn source.entry target.now self.old pool.old
             (B.state board.old).pages arena.old self.new pool.new (B.state board.new).pages
@@ -161,6 +164,7 @@ impl<A: Region> MergeJob<A> {
         ensures whole { IfOk result (λ done. Completes source.entry target.now self.old pool.old
             (B.state board.old).pages arena.old self.new (B.state board.new).pages arena.new
             done) }
+
         // What was done, exactly, and that less is left.
         ensures steps { OnOk result (Steps source.entry target.now (pins self.old)
             (output_of self.old) self.old.merger pool.old (B.state board.old) arena.old
@@ -172,6 +176,7 @@ impl<A: Region> MergeJob<A> {
             (most_pages (output_of self.old)) (most_blocks (output_of self.old))) }
         ensures rest { OnOk result (LowersRest source.entry target.now self.old pool.old
             (B.state board.old).pages arena.old self.new pool.new) }
+
         // Other runs and leases stay, and wherever it is cut no page differs that another may read.
         ensures others { OnOk result (LeavesRuns pool.old (output_of self.old)
             (B.state board.old).pages arena.old (B.state board.new).pages arena.new) }
@@ -179,6 +184,7 @@ impl<A: Region> MergeJob<A> {
             (output_of self.new) arena.new) }
         ensures cuts { OnOk result (StepReaches pool.old (output_of self.old) (B.state board.old)
             (B.state board.new)) }
+
         // A step that failed.
         ensures fails { IfErr result (λ fault. Fails source.entry target.now (output_of self.old)
             self.old.merger pool.old (B.state board.old) fault self.new.merger
@@ -190,6 +196,7 @@ impl<A: Region> MergeJob<A> {
             arena.new }
         ensures went { result ≡ Err Stopped → StepWent pool.old (output_of self.old)
             (B.state board.old) (B.state board.new) }
+
         // The board.
         ensures calls { AtMostOneCall (B.state board.old) (B.state board.new) }
         ensures only_flash { OnlyFlash (B.state board.old) (B.state board.new) }
@@ -229,7 +236,7 @@ impl<A: Region> MergeJob<A> {
 
     /// The output for its level, and a run without entries for another.
     pub fn take(&mut self, level: u8) -> Run<A>
-        requires level { 1 ≤ level × level ≤ 4 }
+        requires level { 1 ≤ level × level ≤ LEVELS }
         requires held { IsSome (held_at self.old level) }
         ensures taken { held_at self.old level ≡ Some result }
         ensures left { self.new ≡ taken_from self.old level }

@@ -88,7 +88,7 @@ impl<A: Region> Merger<A> {
         })
     }
 
-    /// Each merger keeps this.
+    /// Does nothing: brings the invariant of the merge into a proof.
     pub fn known(&self)
         ensures shape { IsShape self.now.shape }
         ensures own { IsMergerOf self.now.shape self.now }
@@ -128,6 +128,7 @@ impl<A: Region> Merger<A> {
     {
         let source_left = self.source.place() < source.entries();
         let target_left = self.target.place() < target.entries();
+        // joined by `&` and `|`, as each path through a function is proved by itself
         !self.gathered.is_full()
             & (source_left | target_left)
             & !(source_left & source.wants_page(&self.source))
@@ -279,22 +280,10 @@ impl<A: Region> Merger<A> {
     {
         out.known();
         match next {
-            Next::LoadSource => match self.load_source(board, arena, inputs.source) {
-                Ok(()) => Ok(()),
-                Err(fault) => Err(fault),
-            },
-            Next::LoadTarget => match self.load_target(board, arena, inputs.target) {
-                Ok(()) => Ok(()),
-                Err(fault) => Err(fault),
-            },
-            Next::TakeBlock => match take_block(out, board, pool) {
-                Ok(()) => Ok(()),
-                Err(fault) => Err(fault),
-            },
-            Next::Program => match self.program(out, inputs.pins, board, arena) {
-                Ok(()) => Ok(()),
-                Err(fault) => Err(fault),
-            },
+            Next::LoadSource => self.load_source(board, arena, inputs.source),
+            Next::LoadTarget => self.load_target(board, arena, inputs.target),
+            Next::TakeBlock => take_block(out, board, pool),
+            Next::Program => self.program(out, inputs.pins, board, arena),
             Next::Gather => Ok(()),
             Next::End => Ok(()),
         }

@@ -1,17 +1,16 @@
 //! The output's blocks and pages.
-ghost use Rattle.std.specs.Prelude.{◌≡◌, ◌*◌, ◌<◌, ◌==◌, true, length, IfErr, OnOk, OnErr};
+ghost use Rattle.std.specs.Prelude.{◌≡◌, ◌*◌, ◌==◌, length, IfErr, OnOk, OnErr};
 ghost use Rattle.pk_base.specs.Seen.{entries as seen_all};
 ghost use Rattle.pk_nand.specs.Calls.{IsReady};
 ghost use Rattle.pk_nand.specs.declared.types.Fault.TheVariants.{Stopped};
-ghost use Rattle.pk_pin.specs.Frames.{free_frames};
 ghost use Rattle.pk_pool.specs.Blocks.{PoolOnFlash};
 ghost use Rattle.pk_pool.specs.Taking.{FailsToErase};
-ghost use Rattle.pk_merge.specs.Outputs.{MayTakeBlock, TakesBlock, MayProgram, ProgramsPage, FailsToProgram, KeepsPage};
+ghost use Rattle.pk_merge.specs.Outputs.{MayTakeBlock, TakesBlock, MayProgram, ProgramsPage, FailsToProgram};
 
 use pk_base::Entry;
 use pk_meta::encode;
 use pk_nand::{Fault, Nand};
-use pk_pin::{Lease, PinArena};
+use pk_pin::PinArena;
 use pk_pool::{Owner, Pool};
 use pk_run::Run;
 use pk_seg::write_page;
@@ -60,24 +59,6 @@ pub fn take_block<B: Nand, A: Allocator>(
     }
 }
 
-// Keeps the bytes of a page in a free frame, where one is wanted.
-fn keep_page<A: Allocator>(arena: &mut PinArena<A>, pins: bool, bytes: &[u8]) -> Option<Lease>
-    requires free { pins ≡ true → 0 < free_frames arena.old }
-    requires sized { length bytes.now ≡ arena.old.page_bytes }
-    ensures { KeepsPage pins arena.old arena.new bytes.now result }
-{
-    if !pins {
-        return None;
-    }
-    match arena.take() {
-        Some(lease) => {
-            arena.fill(&lease, bytes);
-            Some(lease)
-        }
-        None => unreachable!(),
-    }
-}
-
 /// Programs the next page with these entries, and keeps it in a frame where one is wanted. `Stopped` where the program fails, and
 /// all is as before. `buf` has a page's bytes, which are lost.
 pub fn program_page<B: Nand, A: Allocator>(
@@ -111,7 +92,7 @@ pub fn program_page<B: Nand, A: Allocator>(
     encode(&out.shape(), out.level(), index, entries, buf);
     match write_page(board, out.page(index), buf) {
         Ok(()) => {
-            let lease = keep_page(arena, pins, buf);
+            let lease = arena.keep(pins, buf);
             out.push_page(entries[0].key().copy(), lease, entries.len() as u32);
             Ok(())
         }

@@ -71,10 +71,7 @@ impl<'a, A: Region> Source<'a, A> {
     {
         match self {
             Source::Frozen(_) => unreachable!(),
-            Source::Run(run) => match cursor.load(board, arena, run) {
-                Ok(()) => Ok(()),
-                Err(fault) => Err(fault),
-            },
+            Source::Run(run) => cursor.load(board, arena, run),
         }
     }
 

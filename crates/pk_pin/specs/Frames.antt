@@ -1,5 +1,5 @@
 -- What contracts see of an arena of frames, and of the leases of all who have some.
-use Rattle.std.specs.Prelude.{◌≡◌, ℕ, zero, suc, Bool, true, false, not, List, [], ◌∷◌, take, drop, slice_get, slice_set, slice_index_or, count_by, Some, ◌==◌, if◌then◌else◌}
+use Rattle.std.specs.Prelude.{◌≡◌, ℕ, zero, suc, Bool, true, false, not, List, [], ◌∷◌, take, drop, slice_get, slice_set, slice_index_or, count_by, Option, Some, None, ◌==◌, if◌then◌else◌}
 
 -- the bytes of a frame, which frames are leased, and what each contains
 pub record Frames : Type 0 where
@@ -39,6 +39,12 @@ given a i = record a { used = slice_set a.used i false }
 -- frame i is written
 abbrev pub filled : Frames → ℕ → List ℕ → Frames
 filled a i bytes = record a { frames = slice_set a.frames i bytes }
+
+-- where a frame is wanted, a free one was leased and filled with these bytes; else nothing was done
+abbrev pub KeepsPage : Bool → Frames → Frames → List ℕ → Option ℕ → Type 0
+KeepsPage wanted old new bytes None = (wanted ≡ false) × (new ≡ old)
+KeepsPage wanted old new bytes (Some lease) =
+    (wanted ≡ true) × (slice_get old.used lease ≡ Some false) × (new ≡ filled (leased old lease) lease bytes) × IsLeased new lease × (frame_of new lease ≡ bytes)
 
 -- how often frame i stands among leases
 abbrev pub times : ℕ → List ℕ → ℕ

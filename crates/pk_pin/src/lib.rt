@@ -5,7 +5,7 @@
 #![tactic(auto)]
 
 ghost use Rattle.std.specs.Prelude.{◌≡◌, ◌≢◌, ℕ, ◌+◌, ◌*◌, ◌<◌, ◌↔◌, length, replicate, true, false, slice_get, slice_set, IfOk, IfSome, IfNone, IsNone, Some, count_by, not, slice_index_or, []};
-ghost use Rattle.pk_pin.specs.Frames.{Frames, free_frames, leased_frames, IsLeased, frame_of, leased, given, filled, chunks};
+ghost use Rattle.pk_pin.specs.Frames.{Frames, free_frames, leased_frames, IsLeased, frame_of, leased, given, filled, KeepsPage, chunks};
 
 mod laws;
 
@@ -173,6 +173,24 @@ impl<A: Allocator> PinArena<A> {
             lease.frame as usize,
             bytes,
         );
+    }
+
+    /// Keeps a page of bytes in the first free frame, where a frame is wanted; None where none is.
+    pub fn keep(&mut self, wanted: bool, bytes: &[u8]) -> Option<Lease>
+        requires free { wanted ≡ true → 0 < free_frames self.old }
+        requires page { length bytes.now ≡ self.old.page_bytes }
+        ensures { KeepsPage wanted self.old self.new bytes.now result }
+    {
+        if !wanted {
+            return None;
+        }
+        match self.take() {
+            Some(lease) => {
+                self.fill(&lease, bytes);
+                Some(lease)
+            }
+            None => unreachable!(),
+        }
     }
 
     /// What a frame of this arena contains.

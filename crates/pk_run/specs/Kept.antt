@@ -2,6 +2,7 @@
 use Rattle.std.specs.Prelude.{◌≡◌, ◌⊎◌, ℕ, ◌+◌, ◌*◌, ◌<◌, ◌≤◌, T, not, ◌||◌, ◌==◌, is_some, List, [], ◌∷◌, ◌++◌, length, slice_get, option_map, Option, Some, None, Ok}
 use Rattle.std.specs.List.{list_all}
 use Rattle.std.specs.FinMap.Entries.{is_sorted}
+use Rattle.pk_base.specs.declared.sizes.TheConstants.{LEVELS}
 use Rattle.pk_base.specs.Key.{Key, key_cmp, IsBelow}
 use Rattle.pk_base.specs.Shape.{Shape, page_entries, run_pages, cap, blocks_of}
 use Rattle.pk_base.specs.Entry.{Entry, key_of}
@@ -82,8 +83,8 @@ pub record IsNext (r : Kept) (flash : Flash) (arena : Frames) (es more : List En
   pub holds : meta_entries r.shape r.level (length r.firsts) (length more) bytes ≡ Some more
   pub begins : option_map key_of (slice_get more 0) ≡ Some first
   pub rising : T (is_sorted key_cmp (es ++ more))
-  -- run 4 keeps no deleted keys
-  pub deepest : T (not (r.level == 4) || list_all (λ e. is_some e.1) more)
+  -- the deepest run keeps no deleted keys
+  pub deepest : T (not (r.level == LEVELS) || list_all (λ e. is_some e.1) more)
   pub alike : IsPinnedAlike r flash arena lease
 
 -- ---- looking at a page
@@ -98,7 +99,7 @@ after_look (lease ∷ leases) board = board
 -- a run keeps within its level
 pub record IsKept (r : Kept) : Type 0 where
   pub level_least : 1 ≤ r.level
-  pub level_most : r.level ≤ 4
+  pub level_most : r.level ≤ LEVELS
   pub bound : most_pages r ≤ 1000000
   pub pages : length r.firsts ≤ most_pages r
   pub frames : length r.leases ≤ most_pages r

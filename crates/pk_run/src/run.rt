@@ -1,5 +1,6 @@
 //! A run, as memory keeps it.
 ghost use Rattle.std.specs.Prelude.{◌≡◌, ◌+◌, ◌*◌, ◌<◌, ◌≤◌, ◌⊎◌, ℕ, List, [], ◌∷◌, ◌++◌, length, slice_get, Some, None, IsNone, IfSome, IfOk, IfErr, OnOk, OnErr, MatchOption};
+ghost use Rattle.pk_base.specs.declared.sizes.TheConstants.{LEVELS};
 ghost use Rattle.pk_base.specs.Shape.{IsShape, page_entries};
 ghost use Rattle.pk_base.specs.Entry.{Entry as EntrySpec};
 ghost use Rattle.pk_base.specs.Page.{Flash, page_at, whole};
@@ -75,7 +76,7 @@ impl<A: Allocator + Clone> Run<A> {
     /// A run of this level, 1 to 4, without entries. All its memory is taken here: for the blocks, the first keys and the leases
     /// of as many pages as the level may have.
     pub fn new(alloc: A, shape: Shape, level: u8) -> Result<Run<A>, AllocError>
-        requires { 1 ≤ level × level ≤ 4 }
+        requires { 1 ≤ level × level ≤ LEVELS }
         ensures empty { IfOk result (λ r. r ≡ empty shape level) }
         ensures stands { IfOk result (λ r. (flash : Flash) (arena : Frames)
             → RunOnFlash r flash arena []) }
@@ -98,7 +99,7 @@ impl<A: Allocator + Clone> Run<A> {
 }
 
 impl<A: Allocator> Run<A> {
-    /// Each run keeps this.
+    /// Does nothing: brings the invariant of the run into a proof.
     pub fn known(&self)
         ensures kept { IsKept self.now }
         ensures shape { IsShape self.now.shape }
@@ -325,10 +326,7 @@ impl<A: Allocator> Run<A> {
                 buf.copy_from_slice(arena.bytes(lease));
                 Ok(())
             }
-            None => match read_page(board, self.page(i), buf) {
-                Ok(()) => Ok(()),
-                Err(fault) => Err(fault),
-            },
+            None => read_page(board, self.page(i), buf),
         }
     }
 }

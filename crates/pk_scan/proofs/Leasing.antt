@@ -1,18 +1,18 @@
 -- Frames that are leased one after another.
-use Rattle.std.proofs.Common.{◌≡◌, ◌≢◌, ℕ, zero, suc, ◌+◌, Bool, true, false, not, cond, List, [], ◌∷◌, ◌++◌, length, replicate, refl, ap, sym, subst, ◌∙◌, arith, Some, get_or-set_other, length-set, length-append}
+use Rattle.std.proofs.Common.{◌≡◌, ◌≢◌, ℕ, zero, suc, ◌+◌, Bool, true, false, not, cond, List, [], ◌∷◌, ◌++◌, length, replicate, refl, ap, sym, subst, ◌∙◌, arith, Option, Some, None, is_some, get_or-set_other, length-set, length-append}
 use Rattle.std.specs.Prelude.{slice_get}
 use Rattle.std.proofs.Math.ListN.{set}
 use Rattle.std.proofs.lemmas.List.{length-replicate}
 use Rattle.std.proofs.lemmas.List.Sums.{sum_by-set}
 use Rattle.std.proofs.lemmas.Option.{slice_get_within, get_or_from_slice_get}
 use Rattle.pk_base.specs.Shape.{Shape}
-use Rattle.pk_pin.specs.Frames.{Frames, IsLeased, frame_of, leased, filled, times, AreLeases}
+use Rattle.pk_pin.specs.Frames.{Frames, leased, filled, times, AreLeases, KeepsPage}
 use Rattle.pk_pin.proofs.Leases.{times-append, leases_none, leases_taken}
 use Rattle.pk_run.specs.Kept.{Kept}
 use Rattle.pk_level.specs.Levels.{Levels}
 use Rattle.pk_level.specs.Arenas.{HasArena, ArePinnedTo, leases_of}
 use Rattle.pk_run.proofs.Standing.{RunOnFlash-elsewhere}
-use Rattle.pk_scan.specs.Runs.{LeasedMore, RunsStand, KeepsPage}
+use Rattle.pk_scan.specs.Runs.{LeasedMore, RunsStand, listed}
 use Rattle.pk_scan.specs.Opening.{HaveFrames}
 
 pub leased_none : (a : Frames) → LeasedMore a a []
@@ -59,16 +59,15 @@ leased_more a b c xs ys m n = record {
 pub runs_stand : (a b : Frames) (more : List ℕ) → LeasedMore a b more → RunsStand a b
 runs_stand a b more m r flash es s = RunOnFlash-elsewhere r flash flash a b es (λ j h. refl) (λ j lease got is. m.kept lease is) s
 
--- a page is kept in a frame that was free
-pub kept_in : (old mid new : Frames) (l : ℕ) (bytes : List ℕ) (pins : Bool) → slice_get old.used l ≡ Some false → mid ≡ leased old l → new ≡ filled mid l bytes → frame_of new l ≡ bytes
-    → IsLeased mid l → pins ≡ true → KeepsPage pins old new bytes (Some l)
-kept_in old mid new l bytes pins free is_mid is_new holds is_leased wanted =
-    let is : new ≡ filled (leased old l) l bytes = is_new ∙ ap (λ (a : Frames). filled a l bytes) is_mid in
-    record {
-      wanted = sym wanted;
-      more = subst (λ (a : Frames). LeasedMore old a (l ∷ [])) (sym is) (leased_one old l bytes free);
-      kept = (subst (λ (a : Frames). IsLeased a l) (sym is_new) is_leased, holds);
-    }
+-- the frame of a page that is kept is a free one more
+pub kept_more : (pins : Bool) (old new : Frames) (bytes : List ℕ) (lease : Option ℕ) → KeepsPage pins old new bytes lease → LeasedMore old new (listed lease)
+kept_more pins old new bytes None (unwanted, same) = subst (λ (a : Frames). LeasedMore old a []) (sym same) (leased_none old)
+kept_more pins old new bytes (Some lease) (wanted, free, is_filled, leased, holds) = subst (λ (a : Frames). LeasedMore old a (lease ∷ [])) (sym is_filled) (leased_one old lease bytes free)
+
+-- and there is one where it is wanted
+pub kept_wanted : (pins : Bool) (old new : Frames) (bytes : List ℕ) (lease : Option ℕ) → KeepsPage pins old new bytes lease → is_some lease ≡ pins
+kept_wanted pins old new bytes None (unwanted, same) = sym unwanted
+kept_wanted pins old new bytes (Some lease) keeps = sym keeps.0
 
 -- ---- the arena of an opening
 

@@ -17,18 +17,18 @@ use Rattle.pk_nand.specs.Seen.{answer}
 use Rattle.pk_nand.specs.declared.types.PageRead.{PageRead}
 use Rattle.pk_nand.specs.declared.types.PageRead.TheVariants.{Erased as ReadErased, Whole as ReadWhole, Torn as ReadTorn}
 use Rattle.pk_nand.specs.Erased.{after_reads}
-use Rattle.pk_pin.specs.Frames.{Frames, free_frames}
+use Rattle.pk_pin.specs.Frames.{Frames, free_frames, KeepsPage}
 use Rattle.pk_run.proofs.Standing.{RunOnFlash-empty}
 use Rattle.pk_run.specs.Kept.{Kept, empty, most_blocks, RunOnFlash, IsNext, IsPinned, IsPinnedAlike, page_of, with_page, with_lease}
 use Rattle.pk_run.proofs.Pieces.{share, meta_next}
 use Rattle.pk_scan.specs.declared.errors.PageError.{PageError}
 use Rattle.pk_scan.specs.declared.errors.PageError.TheVariants.{Damaged, Fault}
 use Rattle.pk_level.specs.Arenas.{IsPinnedIf}
-use Rattle.pk_scan.specs.Runs.{AllExist, HasRun, ComesTo, NotRead, LeasedMore, LoadsPages, AwaitsPages, AwaitsPage, IsLast, GoesOn, listed, KeepsPage, PageAdded, PageTaken, PageRefused}
+use Rattle.pk_scan.specs.Runs.{AllExist, HasRun, ComesTo, NotRead, LeasedMore, LoadsPages, AwaitsPages, AwaitsPage, IsLast, GoesOn, listed, PageAdded, PageTaken, PageRefused}
 use Rattle.pk_scan.specs.Board.{StaysReady}
 use Rattle.pk_scan.proofs.Boards.{rest_reads, rest_not_read, stays_ready_behind}
 use Rattle.std.proofs.lemmas.Grind.{div_ceil_times}
-use Rattle.pk_scan.proofs.Leasing.{leased_none, leased_more, runs_stand}
+use Rattle.pk_scan.proofs.Leasing.{kept_more, leased_none, leased_more, runs_stand}
 use Rattle.pk_scan.proofs.Rereading.{meta_refused, last_of, pages_most, blocks_most, more_left, all_counted}
 
 -- a page has room for entries
@@ -50,10 +50,9 @@ page_exists r flash i is full exist inside =
 -- what is pinned stays so
 alike : (pins : Bool) (r : Kept) (flash : Flash) (before after : Frames) (lease : Option ℕ) (bytes : List ℕ) → IsPinnedIf pins r → KeepsPage pins before after bytes lease
     → page_at flash (page_of r (length r.firsts)) ≡ whole bytes → IsPinnedAlike r flash after lease
-alike true r flash before after None bytes pinned keeps here = let no : false ≡ true = keeps.wanted in cc
-alike true r flash before after (Some lease) bytes pinned keeps here = (pinned, record { leased = keeps.kept.0; bytes = here ∙ ap (λ (b : List ℕ). whole b) (sym keeps.kept.1) })
-alike false r flash before after None bytes pinned keeps here = pinned
-alike false r flash before after (Some lease) bytes pinned keeps here = let no : true ≡ false = keeps.wanted in cc
+alike pins r flash before after None bytes pinned (unwanted, same) here = rw unwanted at pinned
+alike pins r flash before after (Some lease) bytes pinned (wanted, free, is_filled, leased, holds) here =
+    (rw wanted at pinned, record { leased = leased; bytes = here ∙ ap (λ (b : List ℕ). whole b) (sym holds) })
 
 pub page_taken : (pins : Bool) (flash : Flash) (before after : Frames) (old new : Kept) (es : List Entry) (many : ℕ) (first last : Key) (lease : Option ℕ) (bytes : List ℕ)
     → 1 ≤ old.level → old.level ≤ 4 → length old.firsts < 2 ^ 32 → 1 ≤ many
@@ -81,7 +80,7 @@ page_taken pins flash before after old new es many first last lease bytes least 
       more = more;
       here = here;
       goes_on = goes;
-      stands = pushed flash after es more (runs_stand before after (listed lease) keeps.more old flash es stands) next held.1;
+      stands = pushed flash after es more (runs_stand before after (listed lease) (kept_more pins before after bytes lease keeps) old flash es stands) next held.1;
       ends = last_of es more (many - 1) last (let m = held.1 in omega (arith, some, m)) (ends old.level (length old.firsts) more held.0);
     }
 

@@ -1,6 +1,7 @@
 -- Opening, part by part: what the reading of a flash finds, and why it refuses.
 use Rattle.std.specs.Prelude.{◌≡◌, ⊤, ℕ, ◌+◌, ◌-◌, ◌<◌, ◌≤◌, List, [], ◌∷◌, nat_le, true, slice_index, slice_index_or, take, drop, Result, Ok, Err}
 use Rattle.std.specs.List.{AllByRecursion}
+use Rattle.pk_base.specs.declared.sizes.TheConstants.{LEVELS}
 use Rattle.pk_base.specs.Shape.{Shape, cap, caps, epoch_commits, run_pages}
 use Rattle.pk_base.specs.Key.{Key}
 use Rattle.pk_base.specs.Entry.{Entry, Place}
@@ -134,7 +135,7 @@ wanted_behind shape pinned levels = total (drop levels (take pinned (caps shape)
 -- The run of a level may be read under a root: the levels and the arena have its shape, and frames are free where the level is pinned.
 pub record MayLoadLevel (root : Held) (level : ℕ) (arena : Frames) (levels : Levels) : Type 0 where
   pub least : 1 ≤ level
-  pub most : level ≤ 4
+  pub most : level ≤ LEVELS
   pub grammar : is_root root.shape root.root ≡ true
   pub shape_is : levels.shape ≡ root.shape
   pub page_bytes : arena.page_bytes ≡ root.shape.page_bytes

@@ -3,6 +3,7 @@ use Rattle.std.specs.Prelude.{◌≡◌, ℕ, ◌+◌, ◌-◌, ◌*◌, ◌<◌
 use Rattle.std.specs.List.{list_all, AllByRecursion}
 use Rattle.std.specs.Ordering.{is_lt}
 use Rattle.std.specs.FinMap.Entries.{is_sorted}
+use Rattle.pk_base.specs.declared.sizes.TheConstants.{LEVELS}
 use Rattle.pk_base.specs.Key.{Key, key_cmp}
 use Rattle.pk_base.specs.Shape.{Shape, cap, page_entries, run_pages, run_blocks}
 use Rattle.pk_base.specs.Entry.{Entry, key_of}
@@ -15,7 +16,7 @@ use Rattle.pk_nand.specs.BoardState.{BoardState}
 use Rattle.pk_nand.specs.Calls.{Rose, ReadFailed, after_read}
 use Rattle.pk_nand.specs.Erased.{after_reads}
 use Rattle.pk_pin.specs.Frames.{Frames, IsLeased, frame_of, free_frames, AreLeases}
-use Rattle.pk_run.specs.Kept.{Kept, RunOnFlash, page_of, most_pages, with_page}
+use Rattle.pk_run.specs.Kept.{Kept, RunOnFlash, empty, page_of, most_pages, with_page}
 use Rattle.pk_level.specs.Arenas.{IsPinnedIf}
 use Rattle.pk_scan.specs.declared.errors.PageError.{PageError}
 use Rattle.pk_scan.specs.declared.errors.PageError.TheVariants.{Damaged, Fault}
@@ -71,6 +72,16 @@ pub record LeasedMore (old new : Frames) (more : List ℕ) : Type 0 where
 -- each run that stood with the frames of one arena stands with those of the other
 abbrev pub RunsStand : Frames → Frames → Type 0
 RunsStand old new = (r : Kept) (flash : Flash) (es : List Entry) → RunOnFlash r flash old es → RunOnFlash r flash new es
+
+-- A run of so many entries may be read from these blocks: they exist and have room for its pages and no others, nothing was read
+-- into it, and where frames are wanted, enough are free.
+pub record MayLoadRun (pins : Bool) (count : ℕ) (blocks : List ℕ) (arena : Frames) (r : Kept) : Type 0 where
+  pub is_empty : r ≡ empty r.shape r.level
+  pub few : count ≤ cap r.shape r.level * page_entries r.shape
+  pub places : length blocks ≡ run_blocks r.shape count
+  pub exist : AllExist r.shape blocks
+  pub page_bytes : arena.page_bytes ≡ r.shape.page_bytes
+  pub free : pins ≡ true → run_pages r.shape count ≤ free_frames arena
 
 -- Pages of a run were read into it: it stands for those, and their frames were free, if they have some. Its blocks are these, and
 -- all other runs stand as they did.
@@ -128,8 +139,8 @@ are_put es = list_all (λ e. is_some e.1) es
 pub record GoesOn (shape : Shape) (level index many : ℕ) (before : List Entry) (bytes : List ℕ) (more : List Entry) : Type 0 where
   pub holds : meta_entries shape level index many bytes ≡ Some more
   pub rising : T (is_sorted key_cmp (before ++ more))
-  -- run 4 keeps no deleted keys
-  pub deepest : T (not (level == 4) || are_put more)
+  -- the deepest run keeps no deleted keys
+  pub deepest : T (not (level == LEVELS) || are_put more)
 
 -- whether some entries go on so
 abbrev pub GoesOnOr : Shape → ℕ → ℕ → ℕ → List Entry → List ℕ → Bool → Type 0
@@ -140,17 +151,6 @@ GoesOnOr shape level index many before bytes false = (more : List Entry) → Goe
 abbrev pub listed : Option ℕ → List ℕ
 listed None = []
 listed (Some lease) = lease ∷ []
-
--- the bytes are in a frame, if there is one
-abbrev pub IsKeptIn : Frames → List ℕ → Option ℕ → Type 0
-IsKeptIn arena bytes None = Unit {0}
-IsKeptIn arena bytes (Some lease) = IsLeased arena lease × (frame_of arena lease ≡ bytes)
-
--- where a frame is wanted, a free one was leased and filled with these bytes; else nothing was done
-pub record KeepsPage (pins : Bool) (old new : Frames) (bytes : List ℕ) (lease : Option ℕ) : Type 0 where
-  pub wanted : is_some lease ≡ pins
-  pub more : LeasedMore old new (listed lease)
-  pub kept : IsKeptIn new bytes lease
 
 -- The next page of the run has so many entries, and stands in it now.
 pub record PageAdded (pins : Bool) (before after : Frames) (old new : Kept) (many : ℕ) : Type 0 where

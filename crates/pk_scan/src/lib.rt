@@ -19,15 +19,7 @@ mod taken;
 mod values;
 mod visible;
 
-pub use accept::accept_value;
-pub use adopt::{adopt_blocks, adopt_values};
 pub use contents::Found;
-pub use epochs::{read_newest, read_older};
 pub use errors::{OpenError, PageError};
-pub use levels::load_runs;
-pub use lists::{find_root, read_lists};
 pub use opening::scan;
 pub use runs::load_run;
-pub use taken::{starts_with_none, take_value};
-pub use values::check_value;
-pub use visible::{Lists, read_values};

@@ -9,7 +9,7 @@ ghost use Rattle.pk_meta.specs.Page.{Decodes, IsMetaPage};
 ghost use Rattle.pk_scan.specs.Runs as runs;
 ghost use Rattle.pk_scan.specs.Runs.{IsLast, GoesOnOr};
 
-use pk_base::{Entry, Key, Shape, is_below};
+use pk_base::{Entry, Key, LEVELS, Shape, is_below};
 use pk_meta::{MetaHead, decode, entry};
 
 // Whether a page begins so.
@@ -55,15 +55,15 @@ fn are_put(shape: &Shape, page: &[u8], count: u32) -> bool
     true
 }
 
-// Whether a page with so many entries may stand in a run of this level: run 4 keeps no deleted keys.
+// Whether a page with so many entries may stand in a run of this level: the deepest run keeps no deleted keys.
 fn may_stand(shape: &Shape, level: u8, page: &[u8], count: u32) -> bool
     requires sized { length page.now ≡ shape.now.page_bytes }
     requires decodes { Decodes shape.now page.now }
     requires count { count ≡ number_at 2 10 page.now }
     ensures { (index : ℕ) (es : List EntrySpec) → IsMetaPage shape.now page.now level index es
-        → length es ≡ count → result ≡ (not (level == 4) || runs.are_put es) }
+        → length es ≡ count → result ≡ (not (level == LEVELS) || runs.are_put es) }
 {
-    level != 4 || are_put(shape, page, count)
+    level != LEVELS || are_put(shape, page, count)
 }
 
 /// The key of an entry of a page.
@@ -78,7 +78,7 @@ pub fn key_at(shape: &Shape, page: &[u8], i: u32) -> Key
 }
 
 /// Whether a page is that of this level and index with so many entries, which go on behind others of which the last has this
-/// key, and none of which is deleted in run 4.
+/// key, and none of which is deleted in the deepest run.
 pub fn goes_on(
     shape: &Shape,
     level: u8,
@@ -87,7 +87,7 @@ pub fn goes_on(
     last: &Option<Key>,
     page: &[u8],
 ) -> bool
-    requires level { 1 ≤ level × level ≤ 4 }
+    requires level { 1 ≤ level × level ≤ LEVELS }
     requires sized { length page.now ≡ shape.now.page_bytes }
     ensures goes_on { (before : List EntrySpec) → T (is_sorted key_cmp before)
         → IsLast last.now before → GoesOnOr shape.now level index count before page.now result }

@@ -1,41 +1,23 @@
 //! Runs, each read from its pages.
-ghost use Rattle.std.specs.Prelude.{◌≡◌, ◌+◌, ◌*◌, ◌<◌, ◌≤◌, ◌++◌, List, length, true, IfOk, IfErr, OnOk, OnErr};
-ghost use Rattle.pk_base.specs.Shape.{cap, page_entries, run_pages, run_blocks};
+ghost use Rattle.std.specs.Prelude.{◌≡◌, ◌+◌, ◌≤◌, ◌++◌, List, length, IfOk, IfErr, OnOk, OnErr};
+ghost use Rattle.pk_base.specs.Shape.{run_pages};
 ghost use Rattle.pk_base.specs.Entry.{Entry as EntrySpec};
 ghost use Rattle.pk_base.specs.Page.{Flash};
 ghost use Rattle.pk_nand.specs.Calls.{IsReady, after_read};
 ghost use Rattle.pk_nand.specs.Erased.{after_reads};
-ghost use Rattle.pk_pin.specs.Frames.{Frames, free_frames};
-ghost use Rattle.pk_run.specs.Kept.{RunOnFlash, empty, most_blocks};
+ghost use Rattle.pk_pin.specs.Frames.{Frames};
+ghost use Rattle.pk_run.specs.Kept.{RunOnFlash, most_blocks};
 ghost use Rattle.pk_scan.specs.Board.{StaysReady};
-ghost use Rattle.pk_scan.specs.Runs.{AllExist, HasRun, NotRead, LoadsPages, IsLast};
-ghost use Rattle.pk_scan.specs.Runs.{AwaitsPages, AwaitsPage, KeepsPage, PageAdded, PageTaken, PageRefused};
+ghost use Rattle.pk_scan.specs.Runs.{MayLoadRun, HasRun, NotRead, LoadsPages, IsLast};
+ghost use Rattle.pk_scan.specs.Runs.{AwaitsPages, AwaitsPage, PageAdded, PageTaken, PageRefused};
 
 use crate::errors::PageError;
 use crate::pages::{goes_on, key_at};
 use pk_base::Key;
 use pk_nand::{Nand, PageRead};
-use pk_pin::{Lease, PinArena};
+use pk_pin::PinArena;
 use pk_run::Run;
 use std::alloc::Allocator;
-
-// Keeps the bytes of a page in a free frame, where one is wanted.
-fn keep_page<A: Allocator>(arena: &mut PinArena<A>, pins: bool, bytes: &[u8]) -> Option<Lease>
-    requires free { pins ≡ true → 0 < free_frames arena.old }
-    requires sized { length bytes.now ≡ arena.old.page_bytes }
-    ensures { KeepsPage pins arena.old arena.new bytes.now result }
-{
-    if !pins {
-        return None;
-    }
-    match arena.take() {
-        Some(lease) => {
-            arena.fill(&lease, bytes);
-            Some(lease)
-        }
-        None => unreachable!(),
-    }
-}
 
 // Adds blocks behind the others.
 fn add_blocks<A: Allocator>(blocks: &[u16], into: &mut Run<A>)
@@ -88,7 +70,7 @@ fn take_page<B: Nand, A: Allocator>(
             if !goes_on(&shape, into.level(), index, entries, last, buf) {
                 return Err(PageError::Damaged { page });
             }
-            let lease = keep_page(arena, pins, buf);
+            let lease = arena.keep(pins, buf);
             into.push_page(key_at(&shape, buf, 0), lease, entries);
             Ok(key_at(&shape, buf, entries - 1))
         }
@@ -145,8 +127,8 @@ fn read_pages<B: Nand, A: Allocator>(
 /// which are lost.
 ///
 /// `Damaged` names the first page that is not Whole, not the meta page of this level, index and count, whose keys do not rise
-/// behind those of the pages before, or which has a deleted key in run 4. `Fault` where a read failed. After either the run
-/// stands for the pages before.
+/// behind those of the pages before, or which has a deleted key in the deepest run. `Fault` where a read failed. After either
+/// the run stands for the pages before.
 pub fn load_run<B: Nand, A: Allocator>(
     board: &mut B,
     arena: &mut PinArena<A>,
@@ -157,12 +139,7 @@ pub fn load_run<B: Nand, A: Allocator>(
     buf: &mut [u8],
 ) -> Result<(), PageError>
     requires ready { IsReady (B.state board.old) into.old.shape }
-    requires empty { into.old ≡ empty into.old.shape into.old.level }
-    requires few { count ≤ cap into.old.shape into.old.level * page_entries into.old.shape }
-    requires places { length blocks.now ≡ run_blocks into.old.shape count }
-    requires exist { AllExist into.old.shape blocks.now }
-    requires frames { arena.old.page_bytes ≡ into.old.shape.page_bytes }
-    requires free { pins ≡ true → run_pages into.old.shape count ≤ free_frames arena.old }
+    requires may { MayLoadRun pins count blocks.now arena.old into.old }
     requires sized { length buf.old ≡ into.old.shape.page_bytes }
 
     // The run stands for its entries, behind so many reads.
@@ -183,8 +160,5 @@ pub fn load_run<B: Nand, A: Allocator>(
 {
     into.known();
     add_blocks(blocks, into);
-    match read_pages(board, arena, pins, count, into, buf) {
-        Ok(()) => Ok(()),
-        Err(error) => Err(error),
-    }
+    read_pages(board, arena, pins, count, into, buf)
 }

@@ -9,7 +9,7 @@ use Rattle.pk_base.specs.Shape.{Shape}
 use Rattle.pk_base.specs.Entry.{Entry}
 use Rattle.pk_base.specs.Page.{Flash, page_at}
 use Rattle.pk_nand.specs.BoardState.{BoardState}
-use Rattle.pk_pin.specs.Frames.{Frames}
+use Rattle.pk_pin.specs.Frames.{Frames, KeepsPage}
 use Rattle.pk_plan.specs.declared.owner.Owner.{Owner}
 use Rattle.pk_plan.specs.declared.owner.Owner.TheVariants.{Journal, Meta, Values}
 use Rattle.pk_rootfmt.specs.Root.{differ}
@@ -29,7 +29,6 @@ use Rattle.pk_merge.specs.declared.source.Source.{Source}
 use Rattle.pk_merge.specs.declared.next.Next.{Next}
 use Rattle.pk_merge.specs.declared.next.Next.TheVariants.{LoadSource, LoadTarget, Gather, TakeBlock, Program, End}
 use Rattle.pk_merge.specs.Merging.{Merger}
-use Rattle.pk_merge.specs.Outputs.{KeepsPage}
 use Rattle.pk_merge.specs.Steps.{Acts}
 use Rattle.pk_merge.specs.Elsewhere.{IsForOutput, StepReaches, StepWent, LeavesRuns}
 

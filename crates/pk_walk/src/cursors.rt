@@ -2,6 +2,7 @@
 ghost use Rattle.std.specs.List.{AllByRecursion};
 ghost use Rattle.std.specs.Prelude.{◌≡◌, List, length, option_map, IfOk, IfErr, OnErr, OnOk};
 ghost use Rattle.pk_base.specs.Entry.{Entry as EntrySpec};
+ghost use Rattle.pk_base.specs.declared.sizes.TheConstants.{LEVELS};
 ghost use Rattle.pk_base.specs.Seen.{entry as seen};
 ghost use Rattle.pk_nand.specs.Calls.{IsReady};
 ghost use Rattle.pk_nand.specs.declared.types.Fault.TheVariants.{Reading};
@@ -64,7 +65,7 @@ impl<A: Allocator + Clone> Cursors<A> {
 impl<A: Allocator> Cursors<A> {
     /// There are four.
     pub fn known(&self)
-        ensures { length self.now ≡ 4 }
+        ensures { length self.now ≡ LEVELS }
     {
         let _ = &self.first;
     }
@@ -157,10 +158,14 @@ impl<A: Allocator> Cursors<A> {
     ) -> Option<Entry>
         requires kept { AreKept (seen_tops tops.old) self.old kept.old }
         requires settled { AllByRecursion IsSettled (heads_in (seen_tops tops.old) self.old) }
+
+        // The least one; the cursors and buffers that had its key have to look for their next.
         ensures least { option_map seen result ≡ least_of (heads_in (seen_tops tops.old) self.old) }
         ensures behind { GoBehind (option_map seen result) (seen_tops tops.old) self.old
             (seen_tops tops.new) self.new }
-        ensures four { length self.new ≡ 4 }
+        ensures four { length self.new ≡ LEVELS }
+
+        // What is kept of the orders of the others, and the position behind it.
         ensures kept { AreKept (seen_tops tops.new) self.new kept.new }
         ensures passed { position.new ≡ behind_found (option_map seen result) position.old }
     {

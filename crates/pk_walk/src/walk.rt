@@ -96,7 +96,7 @@ impl<A: Region> Walk<A> {
         })
     }
 
-    /// Every walk keeps this.
+    /// Does nothing: brings the invariant of the walk into a proof.
     pub fn known(&self)
         ensures { IsWalk self.now }
     {

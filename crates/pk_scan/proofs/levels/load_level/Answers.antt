@@ -1,9 +1,8 @@
-use Rattle.std.proofs.Common.{◌≡◌, ◌∙◌, ℕ, ◌*◌, ◌≤◌, length, sym, ap, subst, arith}
+use Rattle.std.proofs.Common.{◌≡◌, ◌∙◌, ℕ, ◌*◌, ◌≤◌, length, refl, sym, ap, subst, arith}
 use Rattle.std.specs.Prelude.{nat_le}
 use Rattle.pk_base.specs.Shape.{Shape, IsShape, cap, page_entries, run_pages, run_blocks}
 use Rattle.pk_run.specs.Kept.{Kept, empty}
-use Rattle.pk_pin.specs.Frames.{free_frames}
-use Rattle.pk_scan.specs.Runs.{AllExist, HasRun, NotRead}
+use Rattle.pk_scan.specs.Runs.{MayLoadRun, HasRun, NotRead}
 use Rattle.pk_nand.specs.Erased.{after_reads}
 use Rattle.pk_scan.proofs.Boards.{reads_none, stays_same, stays_ready_behind}
 use Rattle.pk_scan.proofs.Loading.{size_some}
@@ -12,33 +11,24 @@ use Rattle.pk_scan.proofs.RootFacts.{level_few, level_blocks, level_exist}
 use Rattle.pk_scan.proofs.RunsHeld.{level_loaded, level_not_loaded, le_of}
 use Rattle.pk_scan.proofs.levels.load_level.Goals as goal
 
-pub load_run-requires-clause-few : goal.load_run-requires-clause-few
-load_run-requires-clause-few g c =
-    let is : c.in-Ok.run' ≡ empty c.args.root.now.shape c.args.level = rw c.shape.ensures at c.in-Ok.ensures.empty in
-    let few = subst (λ (n : ℕ). n ≤ cap c.args.root.now.shape c.args.level * page_entries c.args.root.now.shape) (sym c.entries-count.ensures) (level_few c.args.root.now.shape c.args.root.now.root c.requires.may.grammar c.args.level c.requires.may.least c.requires.may.most) in
-    subst (λ (r : Kept). c.entries-count.result ≤ cap r.shape r.level * page_entries r.shape) (sym is) few
-
-pub load_run-requires-clause-places : goal.load_run-requires-clause-places
-load_run-requires-clause-places g c =
-    let is : c.in-Ok.run' ≡ empty c.args.root.now.shape c.args.level = rw c.shape.ensures at c.in-Ok.ensures.empty in
-    let size = level_blocks c.args.root.now.shape c.args.root.now.root c.requires.may.grammar c.args.level c.blocks-blocks.result.now c.blocks-blocks.ensures in
-    let same = size ∙ ap (run_blocks c.args.root.now.shape) (sym c.entries-count.ensures) in
-    subst (λ (r : Kept). length c.blocks-blocks.result.now ≡ run_blocks r.shape c.entries-count.result) (sym is) same
-
-pub load_run-requires-clause-exist : goal.load_run-requires-clause-exist
-load_run-requires-clause-exist g c =
-    let is : c.in-Ok.run' ≡ empty c.args.root.now.shape c.args.level = rw c.shape.ensures at c.in-Ok.ensures.empty in
-    subst (λ (r : Kept). AllExist r.shape c.blocks-blocks.result.now) (sym is) (level_exist c.args.root.now.shape c.args.root.now.root c.requires.may.grammar c.args.level c.blocks-blocks.result.now c.blocks-blocks.ensures)
-
-pub load_run-requires-clause-free : goal.load_run-requires-clause-free
-load_run-requires-clause-free g c pins =
+pub load_run-requires-clause-may : goal.load_run-requires-clause-may
+load_run-requires-clause-may g c =
     let shape : IsShape c.args.root.now.shape = rw c.shape.ensures at c.known.ensures in
     let is : c.in-Ok.run' ≡ empty c.args.root.now.shape c.args.level = rw c.shape.ensures at c.in-Ok.ensures.empty in
     let few = subst (λ (n : ℕ). n ≤ cap c.args.root.now.shape c.args.level * page_entries c.args.root.now.shape) (sym c.entries-count.ensures) (level_few c.args.root.now.shape c.args.root.now.root c.requires.may.grammar c.args.level c.requires.may.least c.requires.may.most) in
     let pages : run_pages c.args.root.now.shape c.entries-count.result ≤ cap c.args.root.now.shape c.args.level = pages_most c.entries-count.result (page_entries c.args.root.now.shape) (cap c.args.root.now.shape c.args.level) (size_some c.args.root.now.shape shape) few in
-    let low = le_of c.args.level c.pinned.result pins in
-    let free = c.requires.may.free (omega (arith, low, c.pinned.ensures)) in
-    subst (λ (r : Kept). run_pages r.shape c.entries-count.result ≤ free_frames c.args.arena.now) (sym is) (omega (arith, pages, free))
+    let places = level_blocks c.args.root.now.shape c.args.root.now.root c.requires.may.grammar c.args.level c.blocks-blocks.result.now c.blocks-blocks.ensures in
+    subst (λ (r : Kept). MayLoadRun (nat_le c.args.level c.pinned.result) c.entries-count.result c.blocks-blocks.result.now c.args.arena.now r) (sym is) (record {
+      is_empty = refl;
+      few = few;
+      places = places ∙ ap (run_blocks c.args.root.now.shape) (sym c.entries-count.ensures);
+      exist = level_exist c.args.root.now.shape c.args.root.now.root c.requires.may.grammar c.args.level c.blocks-blocks.result.now c.blocks-blocks.ensures;
+      page_bytes = c.requires.may.page_bytes;
+      free = λ pins.
+          let low = le_of c.args.level c.pinned.result pins in
+          let free = c.requires.may.free (omega (arith, low, c.pinned.ensures)) in
+          omega (arith, pages, free);
+    })
 
 pub returns-in-Ok-load_run-clause-loaded : goal.returns-in-Ok-load_run-clause-loaded
 returns-in-Ok-load_run-clause-loaded g c =
