@@ -26,8 +26,8 @@ pub(crate) fn take_block<B: Nand, A: Allocator>(
     // The journal has one block more, which is Erased.
     ensures taken { IfOk result (λ b. (pool.new ≡ with_state pool.old b (Owned Journal))
         × AtMostErases b (B.state board.old) (B.state board.new)) }
-    ensures spare { IfOk result (λ b. IsSpare pool.old b × (ROOT_BLOCKS ≤ b) × (b < pool.old.shape.blocks)
-        × IsErasedBlock pool.old.shape (B.state board.new).pages b) }
+    ensures spare { IfOk result (λ b. IsSpare pool.old b × (ROOT_BLOCKS ≤ b)
+        × (b < pool.old.shape.blocks) × IsErasedBlock pool.old.shape (B.state board.new).pages b) }
     ensures counted { OnOk result
         (used_by Journal pool.new.states ≡ used_by Journal pool.old.states + 1) }
 

@@ -6,7 +6,7 @@ use Rattle.pk_plan.specs.declared.owner.Owner.TheVariants.{Meta}
 use Rattle.pk_pool.specs.declared.state.BlockState.TheVariants.{Free}
 use Rattle.pk_pool.specs.Blocks.{Blocks, given_back, IsOwned, with_state}
 use Rattle.pk_pool.specs.Unready.{unready}
-use Rattle.pk_pool.proofs.Counting.{given_back}
+use Rattle.pk_pool.proofs.Counting.{given_back as one_given}
 use Rattle.pk_pool.proofs.States.{get-set_other}
 use Rattle.pk_merge.specs.Jobs.{AreOwned, AreLeased, LeavesBlocks}
 use Rattle.pk_merge.proofs.Needing.{row_of}
@@ -35,7 +35,7 @@ module _ (pool new : Blocks) (blocks : List ℕ) (i : ℕ) (inside : i < length 
   -- as many blocks are not ready
   pub unready_next : AreOwned pool (drop i blocks) → unready new.states ≡ unready pool.states
   unready_next own =
-      ap (λ (p : Blocks). unready p.states) is ∙ given_back pool.states (get_or blocks i 0) Meta (own.meta 0 (get_or blocks i 0) (ap (λ (xs : List ℕ). slice_get xs 0) (drop-cons blocks i 0 inside)))
+      ap (λ (p : Blocks). unready p.states) is ∙ one_given pool.states (get_or blocks i 0) Meta (own.meta 0 (get_or blocks i 0) (ap (λ (xs : List ℕ). slice_get xs 0) (drop-cons blocks i 0 inside)))
 
 -- a block that is none of them is what it was
 pub freed_others : (pool : Blocks) (blocks : List ℕ) → LeavesBlocks blocks pool (given_back pool blocks)

@@ -12,7 +12,8 @@ give_back-requires-clause-first g c =
     let s = rw (← c.self.view_is) at c.requires.can in
     let old = g.B.Nand.state c.args.board.now in
     let new = g.B.Nand.state c.freeze_step.new.board in
-    let step = rw c.len-has_entries.ensures.len at c.in-Ok-true.ensures.step in
+    let once = rw c.len-has_entries.ensures.len at c.in-Ok-true.ensures.step in
+    let step = once.step in
     let is = is_freezing _ c.args.pool.now c.args.job.now old s.0 s.1 s.2 s.3 in
     let done = installed_by _ _ _ _ _ _ _ _ _ _ _ _ step.ended s.0 s.1 s.2 is c.in-Ok-true.field-0-test in
     (former_owned _ c.args.pool.now c.args.job.now old s.0 s.1 s.2 s.3 c.freeze_step.new.pool _ _ _ new done c.newest-former.result c.newest-former.ensures).first
@@ -22,7 +23,8 @@ give_back-requires-clause-second g c =
     let s = rw (← c.self.view_is) at c.requires.can in
     let old = g.B.Nand.state c.args.board.now in
     let new = g.B.Nand.state c.freeze_step.new.board in
-    let step = rw c.len-has_entries.ensures.len at c.in-Ok-true.ensures.step in
+    let once = rw c.len-has_entries.ensures.len at c.in-Ok-true.ensures.step in
+    let step = once.step in
     let is = is_freezing _ c.args.pool.now c.args.job.now old s.0 s.1 s.2 s.3 in
     let done = installed_by _ _ _ _ _ _ _ _ _ _ _ _ step.ended s.0 s.1 s.2 is c.in-Ok-true.field-0-test in
     (former_owned _ c.args.pool.now c.args.job.now old s.0 s.1 s.2 s.3 c.freeze_step.new.pool _ _ _ new done c.newest-former.result c.newest-former.ensures).second
@@ -32,7 +34,8 @@ give_back-requires-clause-different g c =
     let s = rw (← c.self.view_is) at c.requires.can in
     let old = g.B.Nand.state c.args.board.now in
     let new = g.B.Nand.state c.freeze_step.new.board in
-    let step = rw c.len-has_entries.ensures.len at c.in-Ok-true.ensures.step in
+    let once = rw c.len-has_entries.ensures.len at c.in-Ok-true.ensures.step in
+    let step = once.step in
     let is = is_freezing _ c.args.pool.now c.args.job.now old s.0 s.1 s.2 s.3 in
     let done = installed_by _ _ _ _ _ _ _ _ _ _ _ _ step.ended s.0 s.1 s.2 is c.in-Ok-true.field-0-test in
     (former_owned _ c.args.pool.now c.args.job.now old s.0 s.1 s.2 s.3 c.freeze_step.new.pool _ _ _ new done c.newest-former.result c.newest-former.ensures).different
@@ -41,54 +44,69 @@ pub returns-in-Ok-true-clause-step : goal.returns-in-Ok-true-clause-step
 returns-in-Ok-true-clause-step g c =
     let old = g.B.Nand.state c.args.board.now in
     let new = g.B.Nand.state c.freeze_step.new.board in
-    let step = rw c.len-has_entries.ensures.len at c.in-Ok-true.ensures.step in
+    let once = rw c.len-has_entries.ensures.len at c.in-Ok-true.ensures.step in
+    let step = once.step in
     let given = rw c.len-has_entries.ensures.len at c.give_back.ensures.given in
     let starts = rw (c.start-self-inside.ensures.started, c.shape-shape.ensures, c.epoch.ensures, c.freeze_step.ensures.root_shape) at c.start-self-inside.ensures.fits in
     record {
-      ended = λ top found m can.
-          let a = rw (← c.self.view_is) at can in
-          let is = is_freezing _ c.args.pool.now c.args.job.now old top found m a in
-          let done = installed_by _ _ _ _ _ _ _ _ _ _ _ _ step.ended top found m is c.in-Ok-true.field-0-test in
-          rw (← c.self.view_is) (log_frozen _ c.args.pool.now c.args.job.now old top found m a c.freeze_step.new.pool c.freeze_step.new.root.root c.freeze_step.new.installer c.freeze_step.new.job new done
-          c.newest-former.result c.give_back.new.pool c.newest-former.ensures given (c.give_back.ensures.fits new.pages) c.newest-blocks.result c.newest-blocks.ensures starts _ (search rules));
-      broken = tt;
-      works = step.works;
-      stops = tt;
-      stopped = tt;
-      roots_few = step.roots_few;
-      ready = rw (← c.self.view_is) step.ready;
+      step = record {
+        ended = λ top found m can.
+            let a = rw (← c.self.view_is) at can in
+            let is = is_freezing _ c.args.pool.now c.args.job.now old top found m a in
+            let done = installed_by _ _ _ _ _ _ _ _ _ _ _ _ step.ended top found m is c.in-Ok-true.field-0-test in
+            rw (← c.self.view_is) (log_frozen _ c.args.pool.now c.args.job.now old top found m a c.freeze_step.new.pool c.freeze_step.new.root.root c.freeze_step.new.installer c.freeze_step.new.job new done
+            c.newest-former.result c.give_back.new.pool c.newest-former.ensures given (c.give_back.ensures.fits new.pages) c.newest-blocks.result c.newest-blocks.ensures starts _ (search rules));
+        broken = tt;
+        works = step.works;
+        stops = tt;
+        stopped = tt;
+        roots_few = step.roots_few;
+        ready = rw (← c.self.view_is) step.ready;
+      };
+      calls = once.calls;
+      grows = rw (← c.self.view_is) once.grows;
     }
 
 pub returns-in-Ok-false-clause-step : goal.returns-in-Ok-false-clause-step
 returns-in-Ok-false-clause-step g c =
     let old = g.B.Nand.state c.args.board.now in
     let new = g.B.Nand.state c.freeze_step.new.board in
-    let step = rw c.len-has_entries.ensures.len at c.in-Ok-false.ensures.step in
+    let once = rw c.len-has_entries.ensures.len at c.in-Ok-false.ensures.step in
+    let step = once.step in
     record {
-      ended = λ top found m can.
-          let a = rw (← c.self.view_is) at can in
-          let is = is_freezing _ c.args.pool.now c.args.job.now old top found m a in
-          let on = goes_on_by _ _ _ _ _ _ _ _ _ _ _ _ step.ended top found m is c.in-Ok-false.field-0-test in
-          rw (← c.self.view_is) (log_goes_on _ c.args.pool.now c.args.job.now old top found m a c.freeze_step.new.pool c.freeze_step.new.root c.freeze_step.new.installer c.freeze_step.new.job new on _ (search rules));
-      broken = tt;
-      works = step.works;
-      stops = tt;
-      stopped = tt;
-      roots_few = step.roots_few;
-      ready = rw (← c.self.view_is) step.ready;
+      step = record {
+        ended = λ top found m can.
+            let a = rw (← c.self.view_is) at can in
+            let is = is_freezing _ c.args.pool.now c.args.job.now old top found m a in
+            let on = goes_on_by _ _ _ _ _ _ _ _ _ _ _ _ step.ended top found m is c.in-Ok-false.field-0-test in
+            rw (← c.self.view_is) (log_goes_on _ c.args.pool.now c.args.job.now old top found m a c.freeze_step.new.pool c.freeze_step.new.root c.freeze_step.new.installer c.freeze_step.new.job new on _ (search rules));
+        broken = tt;
+        works = step.works;
+        stops = tt;
+        stopped = tt;
+        roots_few = step.roots_few;
+        ready = rw (← c.self.view_is) step.ready;
+      };
+      calls = once.calls;
+      grows = rw (← c.self.view_is) once.grows;
     }
 
 pub returns-in-Err-clause-step : goal.returns-in-Err-clause-step
 returns-in-Err-clause-step g c =
-    let step = rw c.len-has_entries.ensures.len at c.in-Err.ensures.step in
+    let once = rw c.len-has_entries.ensures.len at c.in-Err.ensures.step in
+    let step = once.step in
     record {
-      ended = tt;
-      broken = λ top found m can.
-          let a = rw (← c.self.view_is) at can in
-          rw (← c.self.view_is) (step.broken top found m (is_freezing _ c.args.pool.now c.args.job.now (g.B.Nand.state c.args.board.now) top found m a));
-      works = tt;
-      stops = step.stops;
-      stopped = step.stopped;
-      roots_few = step.roots_few;
-      ready = rw (← c.self.view_is) step.ready;
+      step = record {
+        ended = tt;
+        broken = λ top found m can.
+            let a = rw (← c.self.view_is) at can in
+            rw (← c.self.view_is) (step.broken top found m (is_freezing _ c.args.pool.now c.args.job.now (g.B.Nand.state c.args.board.now) top found m a));
+        works = tt;
+        stops = step.stops;
+        stopped = step.stopped;
+        roots_few = step.roots_few;
+        ready = rw (← c.self.view_is) step.ready;
+      };
+      calls = once.calls;
+      grows = rw (← c.self.view_is) once.grows;
     }

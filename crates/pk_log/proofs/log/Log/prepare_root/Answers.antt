@@ -12,7 +12,8 @@ pub returns-clause-step : goal.returns-clause-step
 returns-clause-step g c =
     let old = g.B.Nand.state c.args.board.now in
     let new = g.B.Nand.state c.prepare_root.new.board in
-    let step = rw c.shape.ensures at c.prepare_root.ensures.step in
-    rw (← c.self.view_is) (Step-says c.prepare_root.result _ _ _ _ _ 0 0 old new (omega arith)
+    let once = rw c.shape.ensures at c.prepare_root.ensures.step in
+    let step = Step-says c.prepare_root.result _ _ _ _ _ 0 0 old new (omega arith)
     (λ u ended top found m may. log_prepared _ old new top found m c.prepare_root.new.installer may (ended top found m (can_prepare _ old.pages top found m may)))
-    (λ broken top found m may. broken top found m (can_prepare _ old.pages top found m may)) step)
+    (λ broken top found m may. broken top found m (can_prepare _ old.pages top found m may)) once.step in
+    rw (← c.self.view_is) (record { step = step; calls = once.calls; grows = once.grows })
