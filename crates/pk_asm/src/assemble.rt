@@ -162,19 +162,13 @@ fn store_with(
     ensures value { value.new ≡ record value.old
         { items = spec.brought (spec.store_with key (bytes_of bytes.now) options) } }
 {
-    match key {
-        Some(key) => match options {
-            Some(options) => {
-                if bytes_word(bytes, value) {
-                    let size = value.len() as u32;
-                    Some(Form::Store { key, size, options })
-                } else {
-                    None
-                }
-            }
-            None => None,
-        },
-        None => None,
+    let key = key?;
+    let options = options?;
+    if bytes_word(bytes, value) {
+        let size = value.len() as u32;
+        Some(Form::Store { key, size, options })
+    } else {
+        None
     }
 }
 
@@ -204,16 +198,14 @@ fn raw(operands: Operands, value: &mut Bytes) -> Option<[u8; SUBMISSION_BYTES]>
         ≡ record value.old { items = spec.brought (spec.raw_of (words_in operands.entry)) } }
 {
     match operands {
-        Operands::Two(word, bytes) => match entry_word(word) {
-            Some(entry) => {
-                if bytes_word(bytes, value) {
-                    Some(entry)
-                } else {
-                    None
-                }
+        Operands::Two(word, bytes) => {
+            let entry = entry_word(word)?;
+            if bytes_word(bytes, value) {
+                Some(entry)
+            } else {
+                None
             }
-            None => None,
-        },
+        }
         _ => None,
     }
 }

@@ -111,15 +111,11 @@ fn candidate(request: &Request, value: &[u8]) -> Option<Form>
 fn that_gives(number: u64, entry: &[u8; SUBMISSION_BYTES], form: Option<Form>) -> Option<Form>
     ensures { result ≡ spec.that_gives number entry.now form }
 {
-    match form {
-        Some(form) => {
-            if form.entry(number).as_slice() == entry.as_slice() {
-                Some(form)
-            } else {
-                None
-            }
-        }
-        None => None,
+    let form = form?;
+    if form.entry(number).as_slice() == entry.as_slice() {
+        Some(form)
+    } else {
+        None
     }
 }
 
