@@ -29,13 +29,11 @@ fn retrieve(operands: Operands) -> Option<Form>
     ensures { result ≡ spec.retrieve_of (words_in operands.entry) }
 {
     match operands {
-        Operands::Two(key_word, size) => match key(key_word) {
-            Some(key) => match number_of(size) {
-                Some(size) => Some(Form::Retrieve { key, size }),
-                None => None,
-            },
-            None => None,
-        },
+        Operands::Two(word, size) => {
+            let key = key(word)?;
+            let size = number_of(size)?;
+            Some(Form::Retrieve { key, size })
+        }
         _ => None,
     }
 }
@@ -44,10 +42,7 @@ fn delete(operands: Operands) -> Option<Form>
     ensures { result ≡ spec.delete_of (words_in operands.entry) }
 {
     match operands {
-        Operands::One(key_word) => match key(key_word) {
-            Some(key) => Some(Form::Delete { key }),
-            None => None,
-        },
+        Operands::One(word) => Some(Form::Delete { key: key(word)? }),
         _ => None,
     }
 }
@@ -56,10 +51,7 @@ fn exist(operands: Operands) -> Option<Form>
     ensures { result ≡ spec.exist_of (words_in operands.entry) }
 {
     match operands {
-        Operands::One(key_word) => match key(key_word) {
-            Some(key) => Some(Form::Exist { key }),
-            None => None,
-        },
+        Operands::One(word) => Some(Form::Exist { key: key(word)? }),
         _ => None,
     }
 }
@@ -71,23 +63,18 @@ fn from(word: &[u8]) -> Option<Option<Key>>
     if is(word, b"-") {
         return Some(None);
     }
-    match key(word) {
-        Some(key) => Some(Some(key)),
-        None => None,
-    }
+    Some(Some(key(word)?))
 }
 
 fn list(operands: Operands) -> Option<Form>
     ensures { result ≡ spec.list_of (words_in operands.entry) }
 {
     match operands {
-        Operands::Two(key_word, size) => match from(key_word) {
-            Some(from) => match number_of(size) {
-                Some(size) => Some(Form::ListFrom { from, size }),
-                None => None,
-            },
-            None => None,
-        },
+        Operands::Two(word, size) => {
+            let from = from(word)?;
+            let size = number_of(size)?;
+            Some(Form::ListFrom { from, size })
+        }
         _ => None,
     }
 }
@@ -114,10 +101,9 @@ fn tick(operands: Operands) -> Option<Form>
     ensures { result ≡ spec.tick_of (words_in operands.entry) }
 {
     match operands {
-        Operands::One(steps) => match number_of(steps) {
-            Some(steps) => Some(Form::Tick { steps }),
-            None => None,
-        },
+        Operands::One(steps) => Some(Form::Tick {
+            steps: number_of(steps)?,
+        }),
         _ => None,
     }
 }
@@ -176,19 +162,13 @@ fn store_with(
     ensures value { value.new ≡ record value.old
         { items = spec.brought (spec.store_with key (bytes_of bytes.now) options) } }
 {
-    match key {
-        Some(key) => match options {
-            Some(options) => {
-                if bytes_word(bytes, value) {
-                    let size = value.len() as u32;
-                    Some(Form::Store { key, size, options })
-                } else {
-                    None
-                }
-            }
-            None => None,
-        },
-        None => None,
+    let key = key?;
+    let options = options?;
+    if bytes_word(bytes, value) {
+        let size = value.len() as u32;
+        Some(Form::Store { key, size, options })
+    } else {
+        None
     }
 }
 
@@ -218,16 +198,14 @@ fn raw(operands: Operands, value: &mut Bytes) -> Option<[u8; SUBMISSION_BYTES]>
         ≡ record value.old { items = spec.brought (spec.raw_of (words_in operands.entry)) } }
 {
     match operands {
-        Operands::Two(word, bytes) => match entry_word(word) {
-            Some(entry) => {
-                if bytes_word(bytes, value) {
-                    Some(entry)
-                } else {
-                    None
-                }
+        Operands::Two(word, bytes) => {
+            let entry = entry_word(word)?;
+            if bytes_word(bytes, value) {
+                Some(entry)
+            } else {
+                None
             }
-            None => None,
-        },
+        }
         _ => None,
     }
 }

@@ -32,27 +32,21 @@ fn store(request: &Request, value: &[u8]) -> Option<Form>
     if request.size as usize != value.len() || request.options > BOTH {
         return None;
     }
-    match key_of(request) {
-        Some(key) => Some(Form::Store {
-            key,
-            size: request.size,
-            options: request.options,
-        }),
-        None => None,
-    }
+    Some(Form::Store {
+        key: key_of(request)?,
+        size: request.size,
+        options: request.options,
+    })
 }
 
 fn retrieve(request: &Request) -> Option<Form>
     ensures { result
         ≡ spec.retrieve_candidate request.now.key_len request.now.key request.now.size }
 {
-    match key_of(request) {
-        Some(key) => Some(Form::Retrieve {
-            key,
-            size: request.size,
-        }),
-        None => None,
-    }
+    Some(Form::Retrieve {
+        key: key_of(request)?,
+        size: request.size,
+    })
 }
 
 fn list(request: &Request) -> Option<Form>
@@ -62,31 +56,24 @@ fn list(request: &Request) -> Option<Form>
     if request.key_len == 0 {
         return Some(Form::ListFrom { from: None, size });
     }
-    match key_of(request) {
-        Some(key) => Some(Form::ListFrom {
-            from: Some(key),
-            size,
-        }),
-        None => None,
-    }
+    let from = Some(key_of(request)?);
+    Some(Form::ListFrom { from, size })
 }
 
 fn delete(request: &Request) -> Option<Form>
     ensures { result ≡ spec.delete_candidate request.now.key_len request.now.key }
 {
-    match key_of(request) {
-        Some(key) => Some(Form::Delete { key }),
-        None => None,
-    }
+    Some(Form::Delete {
+        key: key_of(request)?,
+    })
 }
 
 fn exist(request: &Request) -> Option<Form>
     ensures { result ≡ spec.exist_candidate request.now.key_len request.now.key }
 {
-    match key_of(request) {
-        Some(key) => Some(Form::Exist { key }),
-        None => None,
-    }
+    Some(Form::Exist {
+        key: key_of(request)?,
+    })
 }
 
 /// The form with the fields of a request, whatever else its entry holds.
@@ -124,15 +111,11 @@ fn candidate(request: &Request, value: &[u8]) -> Option<Form>
 fn that_gives(number: u64, entry: &[u8; SUBMISSION_BYTES], form: Option<Form>) -> Option<Form>
     ensures { result ≡ spec.that_gives number entry.now form }
 {
-    match form {
-        Some(form) => {
-            if form.entry(number).as_slice() == entry.as_slice() {
-                Some(form)
-            } else {
-                None
-            }
-        }
-        None => None,
+    let form = form?;
+    if form.entry(number).as_slice() == entry.as_slice() {
+        Some(form)
+    } else {
+        None
     }
 }
 

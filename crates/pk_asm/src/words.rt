@@ -106,13 +106,7 @@ fn digit(byte: u8) -> Option<u8>
 fn pair(high: u8, low: u8) -> Option<u8>
     ensures { result ≡ result_ok (pair_value high low 0) }
 {
-    match digit(high) {
-        Some(high) => match digit(low) {
-            Some(low) => Some(high * 16 + low),
-            None => None,
-        },
-        None => None,
-    }
+    Some(digit(high)? * 16 + digit(low)?)
 }
 
 /// The bytes that a word of hexadecimal digits is, behind those that stand in `value`.

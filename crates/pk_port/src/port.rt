@@ -1,6 +1,7 @@
 //! The port: a drive, its board and a buffer, lent together.
 ghost use Rattle.std.specs.Prelude.{◌≡◌, ◌≤◌, length};
 ghost use Rattle.pk_base.specs.Shape.{greatest};
+ghost use Rattle.pk_nvme.specs.declared.limits.TheConstants.{MOST_LIST_BYTES};
 ghost use Rattle.pk_port.specs.Ready.{Fits};
 
 use crate::Tally;
@@ -17,11 +18,11 @@ pub struct DrivePort<'d, 'b, 't, 'm, D: Engine, B: Nand> {
     pub board: &'b mut B,
     /// What the port counts.
     pub tally: &'t mut Tally,
-    /// Room for the data of any command: 65,536 bytes, or the greatest value where that is more.
+    /// Room for the data of any command: `MOST_LIST_BYTES`, or the greatest value where that is more.
     pub buffer: &'m mut [u8],
     /// The shape of the board.
     pub shape: Shape,
-    ghost room: { 65536 ≤ length buffer.now },
+    ghost room: { MOST_LIST_BYTES ≤ length buffer.now },
     ghost room_value: { greatest shape ≤ length buffer.now },
     ghost fits: { ∥ Fits (D.agrees drive.now) shape (B.state board.now) (D.sight drive.now) ∥₁ },
 }

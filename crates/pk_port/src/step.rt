@@ -3,6 +3,7 @@ ghost use Rattle.std.specs.Prelude.{◌≡◌, ◌≢◌, ◌≤◌, ◌<◌, �
 ghost use Rattle.pk_base.specs.Shape.{greatest};
 ghost use Rattle.pk_nvme.specs.Seen.{command_of};
 ghost use Rattle.pk_nvme.specs.Command.{IsWhole};
+ghost use Rattle.pk_nvme.specs.declared.limits.TheConstants.{MOST_LIST_BYTES};
 ghost use Rattle.pk_nvme.specs.declared.opcode.TheConstants.{STORE};
 ghost use Rattle.pk_call.specs.Exec.{IsValue};
 ghost use Rattle.pk_call.specs.Seen.{reply_of};
@@ -48,7 +49,7 @@ pub fn serve<D: Engine, B: Nand>(
     // The drive on its board, what is handed over, and the buffer for data.
     requires fits { Fits (D.agrees drive.old) shape.now (B.state board.old) (D.sight drive.old) }
     requires handed { IsHanded (command_of request.now value.now) }
-    requires room { 65536 ≤ length into.old }
+    requires room { MOST_LIST_BYTES ≤ length into.old }
     requires room_value { greatest shape.now ≤ length into.old }
 
     // The drive on its board, and what it made of the command.
@@ -93,7 +94,7 @@ pub fn serve_lent<D: Engine, B: Nand>(
     requires fits { ∥ Fits (D.agrees drive.old) shape.now (B.state board.old)
         (D.sight drive.old) ∥₁ }
     requires handed { IsHanded (command_of request.now value.now) }
-    requires room { 65536 ≤ length into.old }
+    requires room { MOST_LIST_BYTES ≤ length into.old }
     requires room_value { greatest shape.now ≤ length into.old }
 
     // The drive on its board, and what it made of the command.

@@ -8,7 +8,7 @@ use crate::word::Word;
 use pk_asm::{bytes_word, key, number};
 use pk_base::{Key, Shape};
 use pk_nvme::Bytes;
-use pk_wordrun::Task;
+use pk_wordrun::{Series, Task};
 use pk_words::Question;
 use std::alloc::{AllocError, Global};
 
@@ -160,10 +160,10 @@ fn generate(operands: &[&str]) -> Option<Word>
     ensures { option_map seen result ≡ spec.generate_of (map (λ w. w.now) operands.now) }
 {
     match operands {
-        [start, count] => Some(Word::Ask(Task::Generate(
-            number(start.as_bytes())?,
-            number(count.as_bytes())?,
-        ))),
+        [start, count] => Some(Word::Ask(Task::Generate(Series {
+            start: number(start.as_bytes())?,
+            count: number(count.as_bytes())?,
+        }))),
         _ => None,
     }
 }

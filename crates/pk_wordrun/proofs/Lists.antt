@@ -24,7 +24,7 @@ use Rattle.pk_wordrun.proofs.Telling.{done_unworn, output_unworn, flash_unworn}
 use Rattle.pk_words.specs.Lines.{key_line, key_lines}
 use Rattle.pk_words.specs.Says.{wanted_keys}
 use Rattle.pk_words.specs.Listing.{keys_left, start_at}
-use Rattle.pk_words.specs.declared.listing.Place.{Place}
+use Rattle.pk_words.specs.declared.listing.ListPosition.{ListPosition}
 use Rattle.pk_wordrun.specs.Pieces.{PieceAsked, PieceTold, PieceEnds}
 use Rattle.pk_wordrun.specs.Tasks.{list, SaysTask, KeptTask}
 use Rattle.pk_wordrun.specs.Told.{Told}
@@ -36,7 +36,7 @@ abbrev FrontOf : Shape → Map → List ℕ → Flash → List ℕ → Type 0
 FrontOf shape start lines flash posted = Holds shape flash start × ((rest : List ℕ) × (posted ++ rest ≡ lines))
 
 -- So far: nothing was done but reads, and the lines of the first keys went out; the others are left at this place.
-pub record IsSaying (from : Option Key) (shape : Shape) (start : Map) (a b : BoardState) (place : Place) : Type 0 where
+pub record IsSaying (from : Option Key) (shape : Shape) (start : Map) (a b : BoardState) (place : ListPosition) : Type 0 where
   pub has : a.shape ≡ Some shape
   pub holds : Holds shape a.pages start
   pub reached : Reaches shape a b (FrontOf shape start (key_lines (wanted_keys from start)))
@@ -85,7 +85,7 @@ reads_on marks a b c P only run = record {
   stands = ap (λ (s : BoardState). s.pages) only ∙ run.stands;
 }
 
-module _ (from : Option Key) (shape : Shape) (frames : ℕ) (start : Map) (a b : BoardState) (place : Place) (so_far : IsSaying from shape start a b place) where
+module _ (from : Option Key) (shape : Shape) (frames : ℕ) (start : Map) (a b : BoardState) (place : ListPosition) (so_far : IsSaying from shape start a b place) where
   abbrev lines : List ℕ
   lines = key_lines (wanted_keys from start)
 
@@ -137,7 +137,7 @@ module _ (from : Option Key) (shape : Shape) (frames : ℕ) (start : Map) (a b :
       ap key_lines (so_far.split ∙ ap (λ (ks : List Key). so_far.front ++ ks) e)
       ∙ (flat_map-append key_line so_far.front (page ++ left) ∙ ap (λ t. key_lines so_far.front ++ t) (flat_map-append key_line page left))
 
-  pub saying_more : (asked : BoardState) (next : Place) (text : List ℕ) → PieceAsked shape b asked place (Some next) text → (c : BoardState) → c ≡ after_post asked text → IsSaying from shape start a c next
+  pub saying_more : (asked : BoardState) (next : ListPosition) (text : List ℕ) → PieceAsked shape b asked place (Some next) text → (c : BoardState) → c ≡ after_post asked text → IsSaying from shape start a c next
   saying_more asked next text is c posted = let T : BoardState → Type 0 = λ x. IsSaying from shape start a x next in subst T (sym posted) (goes_on (is.piece.lines start told))
     where
       goes_on : (page : List Key) × (keys_left place start ≡ page ++ keys_left next start) × (text ≡ key_lines page) → IsSaying from shape start a (after_post asked text) next
@@ -237,7 +237,7 @@ module _ (from : Option Key) (shape : Shape) (frames : ℕ) (start : Map) (a b :
       }
 
   -- a front of the lines of the next keys
-  begins_lines : (next : Place) (asked : BoardState) (text : List ℕ) → PieceAsked shape b asked place (Some next) text → (x y : ℕ)
+  begins_lines : (next : ListPosition) (asked : BoardState) (text : List ℕ) → PieceAsked shape b asked place (Some next) text → (x y : ℕ)
       → (out rest : List ℕ) → out ++ rest ≡ text → (f : Flash) → Holds shape f start → KeptTask (list from) x y shape frames start f (key_lines so_far.front ++ out)
   begins_lines next asked text is x y out rest e f h =
       let p = is.piece.lines start told in
@@ -250,7 +250,7 @@ module _ (from : Option Key) (shape : Shape) (frames : ℕ) (start : Map) (a b :
         ),
       )
 
-  ends_output : (c : BoardState) (asked : BoardState) (text : List ℕ) (next : Option Place) → PieceAsked shape b asked place next text → PostFailed asked c text → Told (list from) shape frames start a c Output
+  ends_output : (c : BoardState) (asked : BoardState) (text : List ℕ) (next : Option ListPosition) → PieceAsked shape b asked place next text → PostFailed asked c text → Told (list from) shape frames start a c Output
   ends_output c asked text (Some next) is failed = unposted asked text is.reads c failed (begins_lines next asked text is a.read_faults c.read_faults)
   ends_output c asked text None is failed =
       let same : c.read_faults ≡ asked.read_faults = ap (λ (s : BoardState). s.read_faults) failed.rest in

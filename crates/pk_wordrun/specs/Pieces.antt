@@ -7,34 +7,34 @@ use Rattle.pk_nand.specs.Effects.{OnlyReading}
 use Rattle.pk_model.specs.Wear.{is_worn}
 use Rattle.pk_port.specs.Steps.{seen}
 use Rattle.pk_words.specs.Listing.{Piece}
-use Rattle.pk_words.specs.declared.listing.Place.{Place}
+use Rattle.pk_words.specs.declared.listing.ListPosition.{ListPosition}
 use Rattle.pk_wordrun.specs.declared.end.WordEnd.{WordEnd}
 use Rattle.pk_wordrun.specs.declared.end.WordEnd.TheVariants.{Done, Output, Flash, Worn}
 
 -- The command only read, and this text is the piece.
-pub record PieceAsked (shape : Shape) (a b : BoardState) (place : Place) (next : Option Place) (text : List ℕ) : Type 0 where
+pub record PieceAsked (shape : Shape) (a b : BoardState) (place : ListPosition) (next : Option ListPosition) (text : List ℕ) : Type 0 where
   pub piece : Piece (seen shape a 0) (seen shape b 0) place next text
   pub reads : OnlyReading a b
   pub up : a.read_faults ≤ b.read_faults
 
 -- and it went out
-pub record PieceTold (shape : Shape) (a c : BoardState) (place : Place) (next : Option Place) : Type 0 where
+pub record PieceTold (shape : Shape) (a c : BoardState) (place : ListPosition) (next : Option ListPosition) : Type 0 where
   pub asked : BoardState
   pub text : List ℕ
   pub is : PieceAsked shape a asked place next text
   pub posted : c ≡ after_post asked text
 
 -- or it did not
-pub record PieceUnposted (shape : Shape) (a c : BoardState) (place : Place) : Type 0 where
+pub record PieceUnposted (shape : Shape) (a c : BoardState) (place : ListPosition) : Type 0 where
   pub asked : BoardState
   pub text : List ℕ
-  pub next : Option Place
+  pub next : Option ListPosition
   pub is : PieceAsked shape a asked place next text
   pub failed : PostFailed asked c text
 
 -- Why no piece went out: the output failed; or a call of the flash that stops a drive, which no command that reads makes; or the numbers of
 -- roots are used up, and nothing was done.
-abbrev pub PieceEnds : Shape → BoardState → BoardState → Place → WordEnd → Type 0
+abbrev pub PieceEnds : Shape → BoardState → BoardState → ListPosition → WordEnd → Type 0
 PieceEnds shape a c place Done = ⊥
 PieceEnds shape a c place Output = PieceUnposted shape a c place
 PieceEnds shape a c place Flash = OnlyReading a c × (a.read_faults ≤ c.read_faults) × Rose a.stop_faults c.stop_faults

@@ -8,7 +8,7 @@ use Rattle.pk_wordrun.specs.declared.task.Task.TheVariants.{Answer, List as List
 abbrev pub seen : Code → Task
 seen (Answer question) = answer (seen_question question)
 seen (Listed from) = list from
-seen (Generate begin count) = generate begin count
+seen (Generate series) = generate series.start series.count
 
 -- a value whose length is a field of an entry, and a number of commands below 2^32
 abbrev pub IsShortTask : Task → Type 0

@@ -8,14 +8,10 @@ use Rattle.pk_nand.specs.Resting.{RestsFlash}
 use Rattle.pk_model.specs.Growth.{Goes}
 use Rattle.pk_model.specs.Reading.{Holds}
 use Rattle.pk_model.specs.Wear.{is_worn, roots}
+use Rattle.pk_serve.specs.Ends.{NoFaults}
 use Rattle.pk_wordrun.specs.Tasks.{Task, answer, list, generate, only_asks, SaysTask, KeptTask}
 use Rattle.pk_wordrun.specs.declared.end.WordEnd.{WordEnd}
 use Rattle.pk_wordrun.specs.declared.end.WordEnd.TheVariants.{Done, Output, Flash, Worn}
-
--- no program and no erase failed, and no post
-pub record NoFaults (a b : BoardState) : Type 0 where
-  pub output : b.out_faults ≡ a.out_faults
-  pub stop : b.stop_faults ≡ a.stop_faults
 
 -- The word is done: its text went out, and the flash holds the map that it leaves.
 pub record Finished (task : Task) (shape : Shape) (frames : ℕ) (start : Map) (a b : BoardState) : Type 0 where

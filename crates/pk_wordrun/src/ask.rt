@@ -1,6 +1,7 @@
 //! One question to a drive.
 ghost use Rattle.std.specs.Prelude.{◌≡◌, ◌≤◌, length, OnOk};
 ghost use Rattle.pk_base.specs.Shape.{greatest};
+ghost use Rattle.pk_nvme.specs.declared.limits.TheConstants.{MOST_LIST_BYTES};
 ghost use Rattle.pk_words.specs.Question.{seen, command_of, IsShort, Answers};
 ghost use Rattle.pk_words.specs.Said.{Said, Spoken};
 ghost use Rattle.pk_port.specs.Ready.{Fits};
@@ -26,7 +27,7 @@ pub fn ask<D: Engine, B: Nand>(
     requires fits { ∥ Fits (D.agrees drive.old) shape (B.state board.old) (D.sight drive.old) ∥₁ }
     requires shape { words.old.shape ≡ shape }
     requires short { IsShort (seen question.now) }
-    requires room { 65536 ≤ length buffer.old }
+    requires room { MOST_LIST_BYTES ≤ length buffer.old }
     requires room_value { greatest shape ≤ length buffer.old }
 
     // The drive on its board, and what it made of the command.

@@ -1,6 +1,7 @@
 //! A list of keys, piece by piece: one command, then its lines.
 ghost use Rattle.std.specs.Prelude.{◌≡◌, ◌≤◌, length, false, Some, IfOk, IfErr};
 ghost use Rattle.pk_base.specs.Shape.{greatest};
+ghost use Rattle.pk_nvme.specs.declared.limits.TheConstants.{MOST_LIST_BYTES};
 ghost use Rattle.pk_words.specs.Listing.{Piece, asked_at};
 ghost use Rattle.pk_words.specs.Said.{Spoken};
 ghost use Rattle.pk_port.specs.Ready.{Fits};
@@ -14,7 +15,7 @@ use pk_base::Shape;
 use pk_drive::Engine;
 use pk_nand::{Board, Nand};
 use pk_port::{DrivePort, Halt, Tally};
-use pk_words::{Place, Words};
+use pk_words::{ListPosition, Words};
 
 /// Asks a drive for the next piece of a list, and says it.
 fn ask_keys<D: Engine, B: Nand>(
@@ -23,11 +24,11 @@ fn ask_keys<D: Engine, B: Nand>(
     board: &mut B,
     buffer: &mut [u8],
     shape: Shape,
-    place: Place,
-) -> Result<Option<Place>, Halt>
+    place: ListPosition,
+) -> Result<Option<ListPosition>, Halt>
     // The drive on its board, and the buffer for data.
     requires fits { ∥ Fits (D.agrees drive.old) shape (B.state board.old) (D.sight drive.old) ∥₁ }
-    requires room { 65536 ≤ length buffer.old }
+    requires room { MOST_LIST_BYTES ≤ length buffer.old }
     requires room_value { greatest shape ≤ length buffer.old }
 
     // The drive on its board, and what it made of the command.
@@ -68,12 +69,12 @@ pub fn tell_piece<D: Engine, B: Board>(
     board: &mut B,
     buffer: &mut [u8],
     shape: Shape,
-    place: Place,
-) -> Result<Option<Place>, WordEnd>
+    place: ListPosition,
+) -> Result<Option<ListPosition>, WordEnd>
     // The drive on its board, and the buffer for data.
     requires fits { ∥ Fits (D.agrees drive.old) shape (B.state board.old) (D.sight drive.old) ∥₁ }
     requires runs { (D.sight drive.old).stopped ≡ false }
-    requires room { 65536 ≤ length buffer.old }
+    requires room { MOST_LIST_BYTES ≤ length buffer.old }
     requires room_value { greatest shape ≤ length buffer.old }
 
     // The drive on its board behind it.

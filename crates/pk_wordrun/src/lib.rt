@@ -9,6 +9,7 @@ mod end;
 mod keys;
 mod list;
 mod say;
+mod sizes;
 mod speaker;
 mod summary;
 mod task;
@@ -17,4 +18,4 @@ mod workload;
 
 pub use end::WordEnd;
 pub use speaker::Speaker;
-pub use task::Task;
+pub use task::{Series, Task};

@@ -3,6 +3,7 @@ ghost use Rattle.std.specs.Prelude.{◌≡◌, ◌≤◌, length, false, Some};
 ghost use Rattle.pk_base.specs.Shape.{greatest};
 ghost use Rattle.pk_base.specs.Map.{Map};
 ghost use Rattle.pk_model.specs.Reading.{Holds};
+ghost use Rattle.pk_nvme.specs.declared.limits.TheConstants.{MOST_LIST_BYTES};
 ghost use Rattle.pk_words.specs.Said.{Spoken};
 ghost use Rattle.pk_port.specs.Ready.{Fits};
 ghost use Rattle.pk_wordrun.specs.Tasks.{list};
@@ -13,7 +14,7 @@ use crate::keys::tell_piece;
 use pk_base::{Key, Shape};
 use pk_drive::Engine;
 use pk_nand::Board;
-use pk_words::{Place, Words};
+use pk_words::{ListPosition, Words};
 
 /// Gives the keys of a drive to the host, from this one on or all, piece by piece.
 pub fn tell_keys<D: Engine, B: Board>(
@@ -28,14 +29,14 @@ pub fn tell_keys<D: Engine, B: Board>(
     requires fits { ∥ Fits (D.agrees drive.old) shape (B.state board.old) (D.sight drive.old) ∥₁ }
     requires on_board { (B.state board.old).shape ≡ Some shape }
     requires runs { (D.sight drive.old).stopped ≡ false }
-    requires room { 65536 ≤ length buffer.old }
+    requires room { MOST_LIST_BYTES ≤ length buffer.old }
     requires room_value { greatest shape ≤ length buffer.old }
 
     ensures { (start : Map) → Holds shape (B.state board.old).pages start
         → Told (list from) shape (D.sight drive.old).counts.frames start (B.state board.old)
         (B.state board.new) result }
 {
-    let mut place = Place::from(from);
+    let mut place = ListPosition::from(from);
     loop {
         match tell_piece(words, drive, board, buffer, shape, place) {
             Ok(Some(next)) => place = next,

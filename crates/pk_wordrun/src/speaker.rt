@@ -9,23 +9,20 @@ ghost use Rattle.pk_wordrun.specs.Told.{Told};
 
 use crate::end::WordEnd;
 use crate::list::tell_keys;
+use crate::sizes::SUMMARY_BYTES;
 use crate::task::Task;
 use crate::tell::tell;
-use crate::workload::{Series, tell_workload};
+use crate::workload::tell_workload;
 use pk_base::Shape;
 use pk_drive::Engine;
+use pk_gen::MOST_VALUE_BYTES;
 use pk_model::laws::held_map;
 use pk_nand::Board;
 use pk_nvme::Bytes;
+use pk_nvme::limits::MOST_LIST_BYTES;
 use pk_words::Words;
 use std::alloc::{AllocError, Global};
 use std::marker::Model;
-
-/// The most bytes of a generated value.
-const MOST_VALUE_BYTES: usize = 4000;
-
-/// The most bytes of a summary: nine lines of at most 20.
-const SUMMARY_BYTES: usize = 9 * 20;
 
 /// All memory of the words, for drives of one shape, which is what contracts see of it.
 pub struct Speaker {
@@ -52,18 +49,21 @@ impl Drop for Speaker {
 }
 
 impl Model for Speaker {
-    ghost use Rattle.std.specs.Prelude.{◌≡◌, ◌≤◌, ◌*◌, length};
+    ghost use Rattle.std.specs.Prelude.{◌≡◌, ◌≤◌, length};
     ghost use Rattle.pk_base.specs.Shape as spec;
+    ghost use Rattle.pk_nvme.specs.declared.limits.TheConstants.{MOST_LIST_BYTES};
+    ghost use Rattle.pk_gen.specs.declared.numbers.TheConstants.{MOST_VALUE_BYTES};
+    ghost use Rattle.pk_wordrun.specs.declared.sizes.TheConstants.{SUMMARY_BYTES};
 
     ghost Value = { spec.Shape };
 
     ghost view = { λ s. s.shape };
 
     ghost invariant = { λ s. (s.words.shape ≡ s.shape)
-        × (65536 ≤ length s.buffer.items)
+        × (MOST_LIST_BYTES ≤ length s.buffer.items)
         × (spec.greatest s.shape ≤ length s.buffer.items)
-        × (4000 ≤ s.value.room)
-        × (9 * 20 ≤ s.text.room) };
+        × (MOST_VALUE_BYTES ≤ s.value.room)
+        × (SUMMARY_BYTES ≤ s.text.room) };
 }
 
 impl Speaker {
@@ -75,22 +75,26 @@ impl Speaker {
         Ok(Speaker {
             shape,
             words: Words::new(alloc, shape)?,
-            buffer: Vec::from_elem(alloc, 0u8, greatest.max(65536))?,
-            value: Bytes::with_room(alloc, MOST_VALUE_BYTES)?,
+            buffer: Vec::from_elem(alloc, 0u8, greatest.max(MOST_LIST_BYTES as usize))?,
+            value: Bytes::with_room(alloc, MOST_VALUE_BYTES as usize)?,
             text: Bytes::with_room(alloc, SUMMARY_BYTES)?,
         })
     }
 
     /// Does what a word asks of a drive that was opened, and gives its text to the host. No memory is taken.
     pub fn run<D: Engine, B: Board>(self, drive: &mut D, board: &mut B, task: Task) -> WordEnd
+        // The drive on its board, with nothing pending, and the map for which it stands.
         requires agrees { D.agrees drive.old (B.state board.old).shape (B.state board.old).pages }
         requires runs { (D.sight drive.old).stopped ≡ false }
         requires none { (D.sight drive.old).pending ≡ [] }
         requires ready { IsReady (B.state board.old) self }
         requires stands { (m : Map) × HoldsMap self (D.sight drive.old).counts.frames
             (B.state board.old) (D.sight drive.old) m }
+
+        // The word.
         requires short { IsShortTask (seen task) }
 
+        // What it did, from the map that the flash holds.
         ensures { (start : Map) → Holds self (B.state board.old).pages start
             → Told (seen task) self (D.sight drive.old).counts.frames start (B.state board.old)
             (B.state board.new) result }
@@ -108,8 +112,7 @@ impl Speaker {
         match task {
             Task::Answer(question) => tell(&mut words, drive, board, room, shape, &question),
             Task::List(from) => tell_keys(&mut words, drive, board, room, shape, from),
-            Task::Generate(start, count) => {
-                let series = Series { start, count };
+            Task::Generate(series) => {
                 tell_workload(drive, board, room, shape, &mut value, &mut text, series)
             }
         }

@@ -1,11 +1,12 @@
 //! What a workload came to.
-ghost use Rattle.std.specs.Prelude.{◌≡◌, ◌<◌, ◌≤◌, ◌+◌, ◌-◌, ◌*◌, ◌^◌, ◌++◌, ◌∷◌, [], ◌==◌, ℕ, max, List, length, if◌then◌else◌};
+ghost use Rattle.std.specs.Prelude.{◌≡◌, ◌<◌, ◌≤◌, ◌+◌, ◌-◌, ◌^◌, ◌++◌, ◌∷◌, [], ◌==◌, ℕ, max, List, length, if◌then◌else◌};
 ghost use Rattle.pk_model.specs.Run.{Exchange};
 ghost use Rattle.pk_nvme.specs.Bytes.{RoomyList};
 ghost use Rattle.pk_nvme.specs.declared.opcode.TheConstants.{RETRIEVE};
 ghost use Rattle.pk_words.specs.Lines.{number_line};
 ghost use Rattle.pk_wordrun.specs.Summary.{summary_lines};
 ghost use Rattle.pk_wordrun.specs.Sums.{Sums, IsOf};
+ghost use Rattle.pk_wordrun.specs.declared.sizes.TheConstants.{SUMMARY_BYTES, SUMMARY_LINE_BYTES};
 
 use pk_call::Outcome;
 use pk_nvme::opcode::RETRIEVE;
@@ -67,7 +68,7 @@ impl Summary {
 
     /// Says it, with the keys and the live pages of the map at the end.
     pub fn say(&self, keys: u32, pages: u32, text: &mut Bytes)
-        requires { 9 * 20 ≤ text.old.room }
+        requires { SUMMARY_BYTES ≤ text.old.room }
         ensures { (all : List Exchange) → Sums self.now all
             → text.new ≡ record text.old { items = summary_lines all keys pages } }
     {
@@ -116,11 +117,11 @@ fn reads_of(request: &Request, outcome: &Outcome) -> u32
 /// Says one more number with its name.
 fn add_line(name: &[u8], number: u32, text: &mut Bytes)
     requires short { length name.now ≤ 8 }
-    requires room { length text.old.items + 20 ≤ text.old.room }
+    requires room { length text.old.items + SUMMARY_LINE_BYTES ≤ text.old.room }
     ensures line { text.new ≡ record text.old {
       items = text.old.items ++ number_line name.now number;
     } }
-    ensures most { length text.new.items ≤ length text.old.items + 20 }
+    ensures most { length text.new.items ≤ length text.old.items + SUMMARY_LINE_BYTES }
 {
     text.extend(name);
     text.push(b' ');

@@ -10,6 +10,15 @@ pub enum Task {
     Answer(Question),
     /// The keys, from this one on or all.
     List(Option<Key>),
-    /// The summary of a workload, from a start, of so many commands.
-    Generate(u32, u32),
+    /// The summary of a workload.
+    Generate(Series),
+}
+
+/// Commands of a generated workload: so many of those from a start.
+#[derive(Clone, Copy, Debug)]
+pub struct Series {
+    /// What the generator starts from.
+    pub start: u32,
+    /// How many commands.
+    pub count: u32,
 }

@@ -3,6 +3,7 @@ ghost use Rattle.std.specs.Prelude.{◌≡◌, ◌≤◌, length, false, Some};
 ghost use Rattle.pk_base.specs.Shape.{greatest};
 ghost use Rattle.pk_base.specs.Map.{Map};
 ghost use Rattle.pk_model.specs.Reading.{Holds};
+ghost use Rattle.pk_nvme.specs.declared.limits.TheConstants.{MOST_LIST_BYTES};
 ghost use Rattle.pk_words.specs.Question.{seen, IsShort};
 ghost use Rattle.pk_words.specs.Said.{Spoken};
 ghost use Rattle.pk_port.specs.Ready.{Fits};
@@ -32,7 +33,7 @@ pub fn tell<D: Engine, B: Board>(
     requires runs { (D.sight drive.old).stopped ≡ false }
     requires shape { words.old.shape ≡ shape }
     requires short { IsShort (seen question.now) }
-    requires room { 65536 ≤ length buffer.old }
+    requires room { MOST_LIST_BYTES ≤ length buffer.old }
     requires room_value { greatest shape ≤ length buffer.old }
 
     ensures { (start : Map) → Holds shape (B.state board.old).pages start

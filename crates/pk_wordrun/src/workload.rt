@@ -1,10 +1,12 @@
 //! A generated workload on a drive, and its summary to the host.
-ghost use Rattle.std.specs.Prelude.{◌≡◌, ◌≤◌, ◌*◌, length, false, OnOk, IfOk, IfErr};
+ghost use Rattle.std.specs.Prelude.{◌≡◌, ◌≤◌, length, false, OnOk, IfOk, IfErr};
 ghost use Rattle.pk_base.specs.Shape.{greatest};
 ghost use Rattle.pk_base.specs.Map.{Map};
+ghost use Rattle.pk_nvme.specs.declared.limits.TheConstants.{MOST_LIST_BYTES};
 ghost use Rattle.pk_nvme.specs.Bytes.{RoomyList};
 ghost use Rattle.pk_nvme.specs.Seen.{command_of};
 ghost use Rattle.pk_gen.specs.Workload.{Generator, request_of, value_of, after};
+ghost use Rattle.pk_gen.specs.declared.numbers.TheConstants.{MOST_VALUE_BYTES};
 ghost use Rattle.pk_model.specs.Reading.{Holds};
 ghost use Rattle.pk_port.specs.Ready.{Fits};
 ghost use Rattle.pk_nvme.specs.Command.{IsWhole};
@@ -13,10 +15,12 @@ ghost use Rattle.pk_wordrun.specs.Generated.{Generated, Unfinished};
 ghost use Rattle.pk_wordrun.specs.Tasks.{generate};
 ghost use Rattle.pk_wordrun.specs.Told.{Told};
 ghost use Rattle.pk_wordrun.specs.Turns.{Turn};
+ghost use Rattle.pk_wordrun.specs.declared.sizes.TheConstants.{SUMMARY_BYTES};
 
 use crate::end::{WordEnd, end_of};
 use crate::say::say;
 use crate::summary::Summary;
+use crate::task::Series;
 use pk_base::Shape;
 use pk_call::Outcome;
 use pk_drive::Engine;
@@ -26,15 +30,6 @@ use pk_host::is_handed;
 use pk_nand::{Board, Nand};
 use pk_nvme::{Bytes, Request};
 use pk_port::{Halt, serve_lent};
-
-/// Commands of a generated workload: so many of those from a start.
-#[derive(Clone, Copy, Debug)]
-pub struct Series {
-    /// What the generator starts from.
-    pub start: u32,
-    /// How many commands.
-    pub count: u32,
-}
 
 /// Serves one request with a whole value.
 fn serve_request<D: Engine, B: Nand>(
@@ -48,7 +43,7 @@ fn serve_request<D: Engine, B: Nand>(
     // The drive on its board, a whole value, and the buffer.
     requires fits { Fits (D.agrees drive.old) shape.now (B.state board.old) (D.sight drive.old) }
     requires whole { IsWhole (command_of request.now value.now) }
-    requires room { 65536 ≤ length buffer.old }
+    requires room { MOST_LIST_BYTES ≤ length buffer.old }
     requires room_value { greatest shape.now ≤ length buffer.old }
 
     // The drive's answer, and the drive on its board behind it.
@@ -74,8 +69,8 @@ fn serve_turn<D: Engine, B: Nand>(
 ) -> Result<(), Halt>
     // The drive on its board, and the buffers.
     requires fits { Fits (D.agrees drive.old) shape.now (B.state board.old) (D.sight drive.old) }
-    requires value { 4000 ≤ value.old.room }
-    requires room { 65536 ≤ length buffer.old }
+    requires value { MOST_VALUE_BYTES ≤ value.old.room }
+    requires room { MOST_LIST_BYTES ≤ length buffer.old }
     requires room_value { greatest shape.now ≤ length buffer.old }
     ensures fits { Fits (D.agrees drive.new) shape.now (B.state board.new) (D.sight drive.new) }
     ensures value { value.new.room ≡ value.old.room }
@@ -112,8 +107,8 @@ fn serve_workload<D: Engine, B: Nand>(
     // The drive on its board, and the buffers.
     requires fits { Fits (D.agrees drive.old) shape.now (B.state board.old) (D.sight drive.old) }
     requires runs { (D.sight drive.old).stopped ≡ false }
-    requires value { 4000 ≤ value.old.room }
-    requires room { 65536 ≤ length buffer.old }
+    requires value { MOST_VALUE_BYTES ≤ value.old.room }
+    requires room { MOST_LIST_BYTES ≤ length buffer.old }
     requires room_value { greatest shape.now ≤ length buffer.old }
 
     // All commands were answered, or one was not.
@@ -159,9 +154,9 @@ pub fn tell_workload<D: Engine, B: Board>(
     // The drive on its board, and the buffers.
     requires fits { Fits (D.agrees drive.old) shape (B.state board.old) (D.sight drive.old) }
     requires runs { (D.sight drive.old).stopped ≡ false }
-    requires value { 4000 ≤ value.old.room }
-    requires text { 9 * 20 ≤ text.old.room }
-    requires room { 65536 ≤ length buffer.old }
+    requires value { MOST_VALUE_BYTES ≤ value.old.room }
+    requires text { SUMMARY_BYTES ≤ text.old.room }
+    requires room { MOST_LIST_BYTES ≤ length buffer.old }
     requires room_value { greatest shape ≤ length buffer.old }
 
     ensures { (m : Map) → Holds shape (B.state board.old).pages m

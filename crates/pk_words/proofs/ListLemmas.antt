@@ -11,7 +11,7 @@ use Rattle.std.specs.FinMap.Entries.{find}
 use Rattle.pk_base.specs.Key.{Key, IsKey, key_cmp, IsBelow, IsRising}
 use Rattle.pk_base.specs.Map.{Map, keys_from}
 use Rattle.pk_nand.specs.Calls.{Rose}
-use Rattle.pk_nvme.specs.Command.{Command}
+use Rattle.pk_nvme.specs.Command.{Command, key_or_none}
 use Rattle.pk_nvme.specs.declared.opcode.Opcode.TheVariants.{Exist}
 use Rattle.pk_nvme.specs.declared.status.TheConstants.{KEY_DOES_NOT_EXIST, UNRECOVERED_ERROR}
 use Rattle.pk_model.proofs.MapLemmas.{key_total, key_antisymm}
@@ -19,11 +19,11 @@ use Rattle.pk_host.specs.declared.types.HostError.{HostError}
 use Rattle.pk_host.specs.declared.types.HostError.TheVariants.{Refused, Port}
 use Rattle.pk_host.specs.Port.{PortState}
 use Rattle.pk_host.specs.Calls.{Gives, Tests, existed, exist_of}
-use Rattle.pk_host.specs.Listing.{above, Pages, Follows, TellsKeys, start_of, listed_by}
+use Rattle.pk_host.specs.Listing.{above, Pages, Follows, TellsKeys, listed_by}
 use Rattle.pk_host.proofs.RisingLemmas.{all_middle, snoc_of, keys_rising, second_above}
 use Rattle.pk_host.proofs.PageLemmas.{next_page}
 use Rattle.pk_host.proofs.CommandLemmas.{keyed_fault, exist_by}
-use Rattle.pk_words.specs.declared.listing.Place.TheVariants.{From, After}
+use Rattle.pk_words.specs.declared.listing.ListPosition.TheVariants.{From, After}
 use Rattle.pk_words.specs.Lines.{key_line, key_lines, status_line, failed_line}
 use Rattle.pk_words.specs.Listing.{IsText, keys_left, behind, pieces_left, Continues, Ends}
 use Rattle.pk_words.proofs.RankLemmas.{after_first, after_key}
@@ -125,7 +125,7 @@ none_below [] h = refl
 none_below ([] ∷ ks) h = absurd (let some = h.0.some in omega (arith, some))
 none_below ((x ∷ k) ∷ ks) h = ap (λ (xs : List Key). (x ∷ k) ∷ xs) (none_below ks h.1)
 
-pub left_behind : (p : PortState) (o : Option Key) (m : Map) → TellsKeys p → p.map ≡ Some m → keys_left (behind o) m ≡ above (start_of o) (keys m)
+pub left_behind : (p : PortState) (o : Option Key) (m : Map) → TellsKeys p → p.map ≡ Some m → keys_left (behind o) m ≡ above (key_or_none o) (keys m)
 left_behind p None m known told = none_below (keys m) (known m told)
 left_behind p (Some key) m known told = refl
 
@@ -145,7 +145,7 @@ parts [] some = absurd (omega (arith, some))
 parts (x ∷ xs) some = snoc_of x xs
 
 pub falls_behind : (o : Option Key) (page : List Key) (p : Key) → 0 < length page → p ≡ slice_index_or page (length page - 1) [] → IsText p → ((k : Key) → o ≡ Some k → IsText k)
-    → AllByRecursion (IsBelow (start_of o)) page → pieces_left (After p) < pieces_left (behind o)
+    → AllByRecursion (IsBelow (key_or_none o)) page → pieces_left (After p) < pieces_left (behind o)
 falls_behind None page p some last is_text text above_all_of = after_first p
 falls_behind (Some k) page p some last is_text text higher =
     let (front, q, e) = parts page some in
@@ -154,13 +154,13 @@ falls_behind (Some k) page p some last is_text text higher =
     after_key k p (text k refl) is_text (subst (IsBelow k) same below)
 
 pub says_page : (old : PortState) (o : Option Key) (page : List Key) (p : Key) (text : List ℕ) → 0 < length page → p ≡ slice_index_or page (length page - 1) [] → IsText p
-    → ((k : Key) → o ≡ Some k → IsText k) → AllByRecursion (IsBelow (start_of o)) page → Pages old (start_of o) page → TellsKeys old → text ≡ key_lines page → Continues old (behind o) (After p) text
+    → ((k : Key) → o ≡ Some k → IsText k) → AllByRecursion (IsBelow (key_or_none o)) page → Pages old (key_or_none o) page → TellsKeys old → text ≡ key_lines page → Continues old (behind o) (After p) text
 says_page old o page p text some last is_text from_text higher read known spelled = record {
   lines = λ m told.
       let (front, q, e) = parts page some in
       let same : q ≡ p = sym (last_is front q) ∙ ap (λ (ks : List Key). slice_index_or ks (length ks - 1) []) (sym e) ∙ sym last in
       let here = read m told in
-      let next = next_page (start_of o) m front q (sym here ∙ e) in (
+      let next = next_page (key_or_none o) m front q (sym here ∙ e) in (
         page,
         left_behind old o m known told ∙ next ∙ ap (λ (ks : List Key). ks ++ above q (keys m)) (sym here) ∙ ap (λ (k : Key). page ++ above k (keys m)) same,
         spelled,
@@ -172,9 +172,9 @@ none_follow : (xs : List Key) → false ≡ nat_lt 0 (length xs) → xs ≡ []
 none_follow [] e = refl
 none_follow (x ∷ xs) e = absurd (let clash : false ≡ true = e ∙ le-leb 1 (length (x ∷ xs)) (omega arith) in cc)
 
-pub says_end : (old new : PortState) (o : Option Key) (more : Bool) (text : List ℕ) → more ≡ false → Follows old (start_of o) more → TellsKeys old → text ≡ [] → Ends old new (behind o) text
+pub says_end : (old new : PortState) (o : Option Key) (more : Bool) (text : List ℕ) → more ≡ false → Follows old (key_or_none o) more → TellsKeys old → text ≡ [] → Ends old new (behind o) text
 says_end old new o more text stop follows known none m told =
-    inl (none, left_behind old o m known told ∙ none_follow (above (start_of o) (keys m)) (sym stop ∙ follows m told))
+    inl (none, left_behind old o m known told ∙ none_follow (above (key_or_none o) (keys m)) (sym stop ∙ follows m told))
 
 -- a page that was given has a key
 pub page_some : (old new : PortState) (c : Command) (page : List Key) (more : Bool) → more ≡ true → Gives old new c (listed_by page) (Ok more) → 0 < length page

@@ -12,27 +12,27 @@ use Rattle.pk_host.specs.Calls.{Leaves, exist_of, list_of}
 use Rattle.pk_host.specs.Listing.{above}
 use Rattle.pk_words.specs.Lines.{failed_line, key_lines}
 use Rattle.pk_words.specs.Says.{wanted_keys}
-use Rattle.pk_words.specs.declared.listing.Place.{Place}
-use Rattle.pk_words.specs.declared.listing.Place.TheVariants.{First, From, After}
+use Rattle.pk_words.specs.declared.listing.ListPosition.{ListPosition}
+use Rattle.pk_words.specs.declared.listing.ListPosition.TheVariants.{First, From, After}
 
 -- the keys that are not said yet
-abbrev pub keys_left : Place → Map → List Key
+abbrev pub keys_left : ListPosition → Map → List Key
 keys_left First m = keys_from [] m
 keys_left (From key) m = keys_from key m
 keys_left (After key) m = above key (keys m)
 
 -- where a list begins
-abbrev pub start_at : Option Key → Place
+abbrev pub start_at : Option Key → ListPosition
 start_at None = First
 start_at (Some key) = From key
 
 -- behind a key, or at the first key of all
-abbrev pub behind : Option Key → Place
+abbrev pub behind : Option Key → ListPosition
 behind None = First
 behind (Some key) = After key
 
 -- the command that a list goes on with
-abbrev pub asked_at : Place → Command
+abbrev pub asked_at : ListPosition → Command
 asked_at First = list_of []
 asked_at (From key) = exist_of key
 asked_at (After key) = list_of key
@@ -58,7 +58,7 @@ unfoldable pub most_pieces : ℕ
 most_pieces = 257 ^ KEY_BYTES
 
 -- at most so many pieces are left: each makes it less
-abbrev pub pieces_left : Place → ℕ
+abbrev pub pieces_left : ListPosition → ℕ
 pieces_left First = most_pieces + 1
 pieces_left (From key) = pieces_after key + 1
 pieces_left (After key) = pieces_after key
@@ -66,23 +66,23 @@ pieces_left (After key) = pieces_after key
 -- ---- a piece
 
 -- The lines of the next keys.
-pub record Continues (old : PortState) (place next : Place) (text : List ℕ) : Type 0 where
+pub record Continues (old : PortState) (place next : ListPosition) (text : List ℕ) : Type 0 where
   pub lines : (m : Map) → old.map ≡ Some m → (page : List Key) × (keys_left place m ≡ page ++ keys_left next m) × (text ≡ key_lines page)
   pub falls : pieces_left next < pieces_left place
 
 -- no key is left, or a read failed, which is said
-abbrev pub Ends : PortState → PortState → Place → List ℕ → Type 0
+abbrev pub Ends : PortState → PortState → ListPosition → List ℕ → Type 0
 Ends old new place text =
     (m : Map) → old.map ≡ Some m → ((text ≡ []) × (keys_left place m ≡ [])) ⊎ (Rose old.read_faults new.read_faults × (text ≡ failed_line))
 
 -- a list goes on at the next place, or it has ended
-abbrev pub Piece : PortState → PortState → Place → Option Place → List ℕ → Type 0
+abbrev pub Piece : PortState → PortState → ListPosition → Option ListPosition → List ℕ → Type 0
 Piece old new place (Some next) text = Continues old place next text
 Piece old new place None text = Ends old new place text
 
 -- ---- all pieces
 
 -- Some pieces were said: their lines are those of the first keys that are wanted, and the keys that are left are the others.
-pub record Listed (from : Option Key) (start now : PortState) (place : Place) (text : List ℕ) : Type 0 where
+pub record Listed (from : Option Key) (start now : PortState) (place : ListPosition) (text : List ℕ) : Type 0 where
   pub leaves : Leaves start now (λ m. m)
   pub lines : (m : Map) → start.map ≡ Some m → (front : List Key) × (text ≡ key_lines front) × (wanted_keys from m ≡ front ++ keys_left place m)

@@ -4,12 +4,11 @@ use Rattle.std.specs.FinMap.{get}
 use Rattle.pk_base.specs.Key.{Key}
 use Rattle.pk_base.specs.Shape.{Shape}
 use Rattle.pk_base.specs.Map.{Map, keys_from}
-use Rattle.pk_nvme.specs.Command.{Command}
+use Rattle.pk_nvme.specs.Command.{Command, key_or_none}
 use Rattle.pk_nvme.specs.Reply.{Reply}
 use Rattle.pk_nvme.specs.declared.status.TheConstants.{UNRECOVERED_ERROR}
 use Rattle.pk_model.specs.Answer.{report_bytes}
 use Rattle.pk_model.specs.Run.{StepIn}
-use Rattle.pk_host.specs.Listing.{start_of}
 use Rattle.pk_words.specs.Lines.{failed_line, status_line, value_line, key_lines, report_lines}
 
 -- a text from one map to another, on a drive of this shape, this limit of live pages and so many frames; and what holds where a read failed
@@ -33,7 +32,7 @@ SaysValue key failed shape most frames m text m' = (m' ≡ m) × Finds failed (v
 
 -- the keys of a map that are not below this one, or all of them
 abbrev pub wanted_keys : Option Key → Map → List Key
-wanted_keys from m = keys_from (start_of from) m
+wanted_keys from m = keys_from (key_or_none from) m
 
 -- all keys that are wanted, or a front of them and that a read failed
 abbrev pub ListsKeys : Type 0 → List Key → List ℕ → Type 0

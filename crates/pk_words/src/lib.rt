@@ -11,6 +11,6 @@ mod sizes;
 mod status;
 mod words;
 
-pub use listing::Place;
+pub use listing::ListPosition;
 pub use question::Question;
 pub use words::Words;

@@ -4,10 +4,10 @@ ghost use Rattle.std.specs.Option.{option_copied};
 ghost use Rattle.pk_base.specs.Fields.{AreBytes};
 ghost use Rattle.pk_nand.specs.Calls.{Rose};
 ghost use Rattle.pk_nvme.specs.Bytes.{RoomyList};
+ghost use Rattle.pk_nvme.specs.Command.{key_or_none};
 ghost use Rattle.pk_host.specs.Calls.{Leaves, exist_of, list_of};
-ghost use Rattle.pk_host.specs.Listing.{start_of};
 ghost use Rattle.pk_words.specs.Listing.{Piece, IsText, asked_at, behind, start_at};
-ghost use Rattle.pk_words.specs.declared.listing.Place.TheVariants.{From};
+ghost use Rattle.pk_words.specs.declared.listing.ListPosition.TheVariants.{From};
 ghost use Rattle.pk_words.specs.Said.{Spoken};
 
 use crate::lines::{add_key, say_keys, say_status};
@@ -17,7 +17,7 @@ use pk_host::{HostError, KeyPage, Port, PortFault};
 
 /// Where a list of keys goes on.
 #[derive(Drop)]
-pub enum Place {
+pub enum ListPosition {
     /// At the first key.
     First,
     /// At this key, or behind it where it is missing.
@@ -26,14 +26,14 @@ pub enum Place {
     After(Key),
 }
 
-impl Place {
+impl ListPosition {
     /// Where a list from this key on begins, or one of all keys.
-    pub fn from(key: Option<Key>) -> Place
+    pub fn from(key: Option<Key>) -> ListPosition
         ensures { result ≡ start_at key }
     {
         match key {
-            None => Place::First,
-            Some(key) => Place::From(key),
+            None => ListPosition::First,
+            Some(key) => ListPosition::From(key),
         }
     }
 }
@@ -41,7 +41,11 @@ impl Place {
 impl Words {
     /// Says the next piece of a list, by one command. The place where the list goes on; nothing where this was its last piece, as no
     /// key is left or as a read failed.
-    pub fn list<P: Port>(&mut self, port: &mut P, place: Place) -> Result<Option<Place>, PortFault>
+    pub fn list<P: Port>(
+        &mut self,
+        port: &mut P,
+        place: ListPosition,
+    ) -> Result<Option<ListPosition>, PortFault>
         ensures piece { IfOk result (λ next. Piece (P.state port.old) (P.state port.new) place next
             self.new.text) }
         ensures leaves { Leaves (P.state port.old) (P.state port.new) (λ m. m) }
@@ -51,9 +55,9 @@ impl Words {
         ensures shape { self.new.shape ≡ self.old.shape }
     {
         match place {
-            Place::First => self.list_after(port, None),
-            Place::From(key) => self.list_at(port, key),
-            Place::After(key) => {
+            ListPosition::First => self.list_after(port, None),
+            ListPosition::From(key) => self.list_at(port, key),
+            ListPosition::After(key) => {
                 is_text(&key);
                 self.list_after(port, Some(&key))
             }
@@ -61,7 +65,11 @@ impl Words {
     }
 
     /// Says this key, where it is there.
-    fn list_at<P: Port>(&mut self, port: &mut P, key: Key) -> Result<Option<Place>, PortFault>
+    fn list_at<P: Port>(
+        &mut self,
+        port: &mut P,
+        key: Key,
+    ) -> Result<Option<ListPosition>, PortFault>
         ensures piece { IfOk result (λ next. Piece (P.state port.old) (P.state port.new)
             (From key) next self.new.text) }
         ensures leaves { Leaves (P.state port.old) (P.state port.new) (λ m. m) }
@@ -76,9 +84,9 @@ impl Words {
         match self.host.exist(port, &key) {
             Ok(true) => {
                 add_key(&key, &mut self.text);
-                Ok(Some(Place::After(key)))
+                Ok(Some(ListPosition::After(key)))
             }
-            Ok(false) => Ok(Some(Place::After(key))),
+            Ok(false) => Ok(Some(ListPosition::After(key))),
             Err(HostError::Refused { status }) => {
                 say_status(status, &mut self.text);
                 Ok(None)
@@ -92,21 +100,21 @@ impl Words {
         &mut self,
         port: &mut P,
         from: Option<&Key>,
-    ) -> Result<Option<Place>, PortFault>
+    ) -> Result<Option<ListPosition>, PortFault>
         requires { (key : List ℕ) → option_copied from ≡ Some key → IsText key }
         ensures piece { IfOk result (λ next. Piece (P.state port.old) (P.state port.new)
             (behind (option_copied from.entry)) next self.new.text) }
         ensures leaves { Leaves (P.state port.old) (P.state port.new) (λ m. m) }
         ensures fault { OnErr result
             (Rose (P.state port.old).port_faults (P.state port.new).port_faults) }
-        ensures took { P.took port.old (list_of (start_of (option_copied from.entry)) ∷ [])
+        ensures took { P.took port.old (list_of (key_or_none (option_copied from.entry)) ∷ [])
             port.new }
         ensures shape { self.new.shape ≡ self.old.shape }
     {
         match self.host.list_page(port, from, &mut self.page) {
             Ok(true) => {
                 say_keys(&self.page, &mut self.text);
-                Ok(Some(Place::After(last_of(&self.page))))
+                Ok(Some(ListPosition::After(last_of(&self.page))))
             }
             Ok(false) => {
                 self.text.clear();

@@ -4,7 +4,7 @@ use mir.Syntax
 use prog.Wp.{WpFn}
 use denote.RattleType
 use denote.Param.Laws
-use Rattle.pk_call.specs.declared.engine.Engine
+use Rattle.pk_drive.specs.declared.engine.Engine
 use Rattle.pk_nand.specs.declared.board.Nand
 use Rattle.pk_port.specs.Ready.{Fits}
 use Rattle.pk_port.proofs.Lifting.{lifted}
