@@ -18,3 +18,4 @@ pub mod Entries
 pub mod Leveled
 pub mod Beginning
 pub mod Stepping
+pub mod Calling

@@ -2,19 +2,17 @@
 ghost use Rattle.std.specs.Prelude.{◌≡◌, ◌≤◌, ◌<◌, ◌+◌, true, false, ℕ, length, IfOk, IfErr, OnOk, OnErr, Ok, Err, MatchBool, MatchOption, not, ◌==◌};
 ghost use Rattle.pk_base.specs.Map.{Map};
 ghost use Rattle.pk_base.specs.Shape.{pinned};
-ghost use Rattle.pk_nand.specs.Calls.{IsReady, Rose};
-ghost use Rattle.pk_nand.specs.Effects.{AtMostOneCall, NoFault, OnlyFlash, OnlyReading, Stops, Works};
+ghost use Rattle.pk_nand.specs.Calls.{IsReady};
+ghost use Rattle.pk_nand.specs.Effects.{NoFault, Stops, Works};
 ghost use Rattle.pk_nand.specs.declared.types.Fault.TheVariants.{Reading, Stopped};
 ghost use Rattle.pk_rootfmt.specs.Root.{Root as RootValue};
 ghost use Rattle.pk_model.specs.Found.{Found};
-ghost use Rattle.pk_model.specs.Growth.{Grows};
-ghost use Rattle.pk_model.specs.Wear.{roots};
 ghost use Rattle.pk_merge.specs.Jobs.{IsIdle};
 ghost use Rattle.pk_compact.specs.FreezeSteps.{taken_by};
 ghost use Rattle.pk_compact.specs.declared.freezing.FreezeJob.TheVariants.{Idle as NoFreeze};
 ghost use Rattle.pk_schedule.specs.declared.phase.Phase.TheVariants.{Idle as NoMerge};
 ghost use Rattle.pk_schedule.specs.Index.{index, merging as merging_of};
-ghost use Rattle.pk_schedule.specs.Steps.{MayWork, MayFreeze, Moves, Less, Unmoved, StandsStill, KeepsActive, Breaks, FreezeMoves, Freezes, has_no_merge, is_between};
+ghost use Rattle.pk_schedule.specs.Steps.{MayWork, MayFreeze, Moves, Less, FailsByRead, KeepsActive, CallsOnce, Breaks, FreezeMoves, Freezes, has_no_merge, is_between};
 
 use crate::phase::{Phase, Stepped};
 use pk_compact::FreezeJob;
@@ -130,29 +128,19 @@ impl<A: Region> Schedule<A> {
 
         // Whatever came of it, of the log only the root, what its installer does next, and the frozen buffer may differ.
         ensures active { KeepsActive log.old log.new }
-        ensures grows { Grows log.old.shape (B.state board.old).pages (B.state board.new).pages }
 
         // A call failed, so that a merge ran.
         ensures running { OnErr result (is_between self.old.phase ≡ false) }
-        ensures unmoved { result ≡ Err Reading → Unmoved (index log.old levels.old arena.old
-            pool.old self.old) (index log.new levels.new arena.new pool.new self.new)
-            × OnlyReading (B.state board.old) (B.state board.new) }
-        ensures again { result ≡ Err Reading → StandsStill (index log.old levels.old arena.old
+        ensures unread { result ≡ Err Reading → FailsByRead (index log.old levels.old arena.old
             pool.old self.old) (B.state board.old) (index log.new levels.new arena.new pool.new
             self.new) (B.state board.new) }
-        ensures unread { result ≡ Err Reading → Rose (B.state board.old).read_faults
-            (B.state board.new).read_faults × Rose (B.state board.old).flash_faults
-            (B.state board.new).flash_faults }
         ensures broken { result ≡ Err Stopped → Breaks (index log.old levels.old arena.old pool.old
             self.old) (B.state board.old) (B.state board.new)
             × Stops (B.state board.old) (B.state board.new) }
 
         // The board.
         ensures sound { OnOk result (NoFault (B.state board.old) (B.state board.new)) }
-        ensures calls { AtMostOneCall (B.state board.old) (B.state board.new) }
-        ensures rest { OnlyFlash (B.state board.old) (B.state board.new) }
-        ensures installs { roots (B.state board.new) ≤ roots (B.state board.old) + 1 }
-        ensures ready { IsReady (B.state board.new) log.old.shape }
+        ensures calls { CallsOnce log.old.shape (B.state board.old) (B.state board.new) }
         ensures buffer { length buf.new ≡ length buf.old }
     {
         match self.phase {
@@ -202,9 +190,8 @@ impl<A: Region> Schedule<A> {
             (FreezeMoves (index log.old levels.now arena.now pool.old self.old)
             (index log.new levels.now arena.now pool.new self.new))) }
 
-        // Whatever came of it, the flash has grown, and nothing is pending.
+        // Whatever came of it, nothing is pending.
         ensures same_log { (log.new.shape ≡ log.old.shape) × (log.new.pending ≡ log.old.pending) }
-        ensures grows { Grows log.old.shape (B.state board.old).pages (B.state board.new).pages }
 
         // Or the call failed.
         ensures stopped { IfErr result (λ fault. fault ≡ Stopped) }
@@ -214,10 +201,7 @@ impl<A: Region> Schedule<A> {
 
         // The board.
         ensures sound { OnOk result (Works (B.state board.old) (B.state board.new)) }
-        ensures calls { AtMostOneCall (B.state board.old) (B.state board.new) }
-        ensures rest { OnlyFlash (B.state board.old) (B.state board.new) }
-        ensures installs { roots (B.state board.new) ≤ roots (B.state board.old) + 1 }
-        ensures ready { IsReady (B.state board.new) log.old.shape }
+        ensures calls { CallsOnce log.old.shape (B.state board.old) (B.state board.new) }
         ensures buffer { length buf.new ≡ length buf.old }
     {
         pool.known();

@@ -12,4 +12,4 @@ returns g c =
     let e = c.freeze_step.ensures in
     let r = rw (← c.self.view_is) at c.requires in
     let x = index c.freeze_step.new.log c.self.inside.levels c.self.inside.arena c.freeze_step.new.pool c.freeze_step.new.self in
-    rw (← c.self.view_is) (freezes_once _ (g.B.Nand.state c.args.board.now) r.may x (g.B.Nand.state c.freeze_step.new.board) c.freeze_step.result e.moves e.freezes e.same_log e.stopped e.broken e.sound e.calls e.installs e.ready)
+    rw (← c.self.view_is) (freezes_once _ (g.B.Nand.state c.args.board.now) r.may x (g.B.Nand.state c.freeze_step.new.board) c.freeze_step.result e.moves e.freezes e.same_log e.stopped e.broken e.sound e.calls.calls e.calls.installs e.calls.ready)

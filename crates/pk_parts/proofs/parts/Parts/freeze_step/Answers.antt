@@ -16,7 +16,7 @@ returns-in-Ok g c =
     let e = c.freeze_step.ensures in
     let done = c.in-Ok.ensures in
     let later = index c.freeze_step.new.log c.self.inside.levels c.self.inside.arena c.freeze_step.new.pool c.freeze_step.new.self in
-    rw (← c.self.view_is) (freeze_advances _ (g.B.Nand.state c.args.board.now) (g.B.Nand.state c.freeze_step.new.board) r.may later e.ready done.moves c.in-Ok.field-0 r.merged r.wanted done.freezes c.known.ensures done.sound e.calls e.installs e.grows)
+    rw (← c.self.view_is) (freeze_advances _ (g.B.Nand.state c.args.board.now) (g.B.Nand.state c.freeze_step.new.board) r.may later e.calls.ready done.moves c.in-Ok.field-0 r.merged r.wanted done.freezes c.known.ensures done.sound e.calls.calls e.calls.installs e.calls.grows)
 
 pub returns-in-Err : goal.returns-in-Err
 returns-in-Err g c =
@@ -25,4 +25,4 @@ returns-in-Err g c =
     let broken = c.in-Err.ensures.broken in
     let later : Parts = record { log = c.freeze_step.new.log; levels = c.self.inside.levels; arena = c.self.inside.arena; schedule = c.freeze_step.new.self; space = c.self.inside.space; reclaim = c.self.inside.reclaim; pool = c.freeze_step.new.pool; keys = c.self.inside.keys; stopped = true } in
     rw (c.stop.ensures.stopped, c.stop.ensures.value) (rw (← c.self.view_is) (stop_advances _ (g.B.Nand.state c.args.board.now) (g.B.Nand.state c.freeze_step.new.board) r.may later refl (e.same_log.1 ∙ r.may.none)
-    (busy_wanted _ (g.B.Nand.state c.args.board.now) r.may.agrees c.known.ensures r.wanted) broken.0 broken.1 e.calls e.installs e.grows))
+    (busy_wanted _ (g.B.Nand.state c.args.board.now) r.may.agrees c.known.ensures r.wanted) broken.0 broken.1 e.calls.calls e.calls.installs e.calls.grows))

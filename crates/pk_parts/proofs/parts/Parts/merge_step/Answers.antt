@@ -15,7 +15,7 @@ returns-in-Ok-Worked g c =
     let e = c.step.ensures in
     let was = c.in-Ok-Worked.is ∙ ap Ok c.in-Ok-Worked.field-0-is in
     let then = index c.step.new.log c.step.new.levels c.step.new.arena c.step.new.pool c.step.new.self in
-    rw (← c.self.view_is) (merge_advances _ (g.B.Nand.state c.args.board.now) (g.B.Nand.state c.step.new.board) r.may then e.ready (e.moves was) r.merges (e.less was) e.same_freeze e.active c.in-Ok-Worked.ensures.sound e.calls e.rest e.installs e.grows)
+    rw (← c.self.view_is) (merge_advances _ (g.B.Nand.state c.args.board.now) (g.B.Nand.state c.step.new.board) r.may then e.calls.ready (e.moves was) r.merges (e.less was) e.same_freeze e.active c.in-Ok-Worked.ensures.sound e.calls.calls e.calls.rest e.calls.installs e.calls.grows)
 
 pub returns-in-Err-Reading : goal.returns-in-Err-Reading
 returns-in-Err-Reading g c =
@@ -23,9 +23,8 @@ returns-in-Err-Reading g c =
     let e = c.step.ensures in
     let was = c.in-Err-Reading.is ∙ ap Err c.in-Err-Reading.field-0-is in
     let then = index c.step.new.log c.step.new.levels c.step.new.arena c.step.new.pool c.step.new.self in
-    let failed = e.unmoved was in
-    let rose = e.unread was in
-    rw (← c.self.view_is) (unread_advances _ (g.B.Nand.state c.args.board.now) (g.B.Nand.state c.step.new.board) r.may then failed.0 (e.again was) failed.1 (busy_merge _ (g.B.Nand.state c.args.board.now) (g.B.Nand.state c.args.board.now) r.may r.merges) rose.0 rose.1 e.calls)
+    let failed = e.unread was in
+    rw (← c.self.view_is) (unread_advances _ (g.B.Nand.state c.args.board.now) (g.B.Nand.state c.step.new.board) r.may then failed.unmoved failed.again failed.only (busy_merge _ (g.B.Nand.state c.args.board.now) (g.B.Nand.state c.args.board.now) r.may r.merges) failed.read failed.flash e.calls.calls)
 
 pub returns-in-Err-Stopped : goal.returns-in-Err-Stopped
 returns-in-Err-Stopped g c =
@@ -34,4 +33,4 @@ returns-in-Err-Stopped g c =
     let was = c.in-Err-Stopped.is ∙ ap Err c.in-Err-Stopped.field-0-is in
     let broken = e.broken was in
     let later : Parts = record { log = c.step.new.log; levels = c.step.new.levels; arena = c.step.new.arena; schedule = c.step.new.self; space = c.self.inside.space; reclaim = c.self.inside.reclaim; pool = c.step.new.pool; keys = c.self.inside.keys; stopped = true } in
-    rw (c.stop.ensures.stopped, c.stop.ensures.value) (rw (← c.self.view_is) (stop_advances _ (g.B.Nand.state c.args.board.now) (g.B.Nand.state c.step.new.board) r.may later refl (active_pending c.self.inside.log c.step.new.log e.active r.may.none) (busy_merge _ (g.B.Nand.state c.args.board.now) (g.B.Nand.state c.args.board.now) r.may r.merges) broken.0 broken.1 e.calls e.installs e.grows))
+    rw (c.stop.ensures.stopped, c.stop.ensures.value) (rw (← c.self.view_is) (stop_advances _ (g.B.Nand.state c.args.board.now) (g.B.Nand.state c.step.new.board) r.may later refl (active_pending c.self.inside.log c.step.new.log e.active r.may.none) (busy_merge _ (g.B.Nand.state c.args.board.now) (g.B.Nand.state c.args.board.now) r.may r.merges) broken.0 broken.1 e.calls.calls e.calls.installs e.calls.grows))

@@ -1,4 +1,5 @@
 use Rattle.pk_schedule.proofs.Freezing.{can_step, moves, freezes, broken}
+use Rattle.pk_schedule.proofs.Calling.{calls_one}
 use Rattle.pk_schedule.proofs.schedule.Schedule.freeze_step.Goals as goal
 
 pub freeze_step-requires-clause-can : goal.freeze_step-requires-clause-can
@@ -20,3 +21,6 @@ pub returns-clause-broken : goal.returns-clause-broken
 returns-clause-broken g c =
     let none = rw (← c.self.view_is) at c.requires.may.4.none_merges in
     rw (← c.self.view_is) (broken _ none c.known.ensures (g.B.Nand.state c.args.board.now) c.freeze_step.new.self c.freeze_step.new.pool c.freeze_step.new.job (g.B.Nand.state c.freeze_step.new.board) c.freeze_step.result c.freeze_step.ensures.step.step)
+
+pub returns-clause-calls : goal.returns-clause-calls
+returns-clause-calls g c = calls_one _ _ _ _ _ _ c.freeze_step.ensures.step
