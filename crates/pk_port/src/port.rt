@@ -1,8 +1,6 @@
 //! The port: a drive, its board and a buffer, lent together.
-ghost use Rattle.std.specs.Prelude.{◌≡◌, ◌≤◌, length};
-ghost use Rattle.pk_base.specs.Shape.{greatest};
-ghost use Rattle.pk_nvme.specs.declared.limits.TheConstants.{MOST_LIST_BYTES};
-ghost use Rattle.pk_port.specs.Ready.{Fits};
+ghost use Rattle.std.specs.Prelude.{◌≡◌};
+ghost use Rattle.pk_port.specs.Ready.{Fits, HasRoom};
 
 use crate::Tally;
 use pk_base::Shape;
@@ -22,7 +20,6 @@ pub struct DrivePort<'d, 'b, 't, 'm, D: Engine, B: Nand> {
     pub buffer: &'m mut [u8],
     /// The shape of the board.
     pub shape: Shape,
-    ghost room: { MOST_LIST_BYTES ≤ length buffer.now },
-    ghost room_value: { greatest shape ≤ length buffer.now },
+    ghost room: { HasRoom shape buffer.now },
     ghost fits: { ∥ Fits (D.agrees drive.now) shape (B.state board.now) (D.sight drive.now) ∥₁ },
 }

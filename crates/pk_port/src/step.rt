@@ -3,14 +3,13 @@ ghost use Rattle.std.specs.Prelude.{◌≡◌, ◌≢◌, ◌≤◌, ◌<◌, �
 ghost use Rattle.pk_base.specs.Shape.{greatest};
 ghost use Rattle.pk_nvme.specs.Seen.{command_of};
 ghost use Rattle.pk_nvme.specs.Command.{IsWhole};
-ghost use Rattle.pk_nvme.specs.declared.limits.TheConstants.{MOST_LIST_BYTES};
 ghost use Rattle.pk_nvme.specs.declared.opcode.TheConstants.{STORE};
 ghost use Rattle.pk_call.specs.Exec.{IsValue};
 ghost use Rattle.pk_call.specs.Seen.{reply_of};
 ghost use Rattle.pk_host.specs.Good.{IsHanded};
 ghost use Rattle.pk_host.specs.Port.{Replies, room_of};
 ghost use Rattle.pk_port.specs.Steps.{mount, seen, Makes};
-ghost use Rattle.pk_port.specs.Ready.{Fits};
+ghost use Rattle.pk_port.specs.Ready.{Fits, HasRoom};
 
 use crate::Halt;
 use pk_base::Shape;
@@ -49,8 +48,7 @@ pub fn serve<D: Engine, B: Nand>(
     // The drive on its board, what is handed over, and the buffer for data.
     requires fits { Fits (D.agrees drive.old) shape.now (B.state board.old) (D.sight drive.old) }
     requires handed { IsHanded (command_of request.now value.now) }
-    requires room { MOST_LIST_BYTES ≤ length into.old }
-    requires room_value { greatest shape.now ≤ length into.old }
+    requires room { HasRoom shape.now into.old }
 
     // The drive on its board, and what it made of the command.
     ensures fits { Fits (D.agrees drive.new) shape.now (B.state board.new) (D.sight drive.new) }
@@ -94,8 +92,7 @@ pub fn serve_lent<D: Engine, B: Nand>(
     requires fits { ∥ Fits (D.agrees drive.old) shape.now (B.state board.old)
         (D.sight drive.old) ∥₁ }
     requires handed { IsHanded (command_of request.now value.now) }
-    requires room { MOST_LIST_BYTES ≤ length into.old }
-    requires room_value { greatest shape.now ≤ length into.old }
+    requires room { HasRoom shape.now into.old }
 
     // The drive on its board, and what it made of the command.
     ensures fits { Fits (D.agrees drive.new) shape.now (B.state board.new) (D.sight drive.new) }

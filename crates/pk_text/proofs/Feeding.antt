@@ -1,17 +1,16 @@
 -- Bytes that are fetched, and bytes that are used.
-use Rattle.std.proofs.Common.{◌≡◌, ℕ, ◌<◌, ◌≤◌, ◌+◌, Bool, true, false, List, [], ◌∷◌, ◌++◌, length, take, drop, get_or, refl, sym, ◌∙◌, ap, subst, arith, append_assoc, append-nil, Option, Some, None, length-take-le}
-use Rattle.std.specs.Prelude.{nat_lt, ◌==◌, IfSome}
+use Rattle.std.proofs.Common.{◌≡◌, ℕ, ◌<◌, ◌≤◌, Bool, true, false, List, [], ◌∷◌, ◌++◌, length, take, drop, get_or, refl, sym, ◌∙◌, ap, subst, arith, append-nil, Option, Some, None, length-take-le}
+use Rattle.std.specs.Prelude.{nat_lt}
 use Rattle.std.proofs.lemmas.Bool.Decides.{nat_tests}
 use Rattle.std.proofs.lemmas.List.{take-append-drop, length-take}
 use Rattle.std.proofs.Math.Seq.{take-append_seam}
 use Rattle.std.proofs.Math.ListN.{drop_of_length-le}
 use Rattle.pk_base.specs.Mark.{Mark}
 use Rattle.pk_nand.specs.BoardState.{BoardState}
-use Rattle.pk_nand.specs.Calls.{Rose, longer, Fetched, FetchFailed, Takes, put_back, AtEnd}
+use Rattle.pk_nand.specs.Calls.{Fetched, FetchFailed, Takes, put_back, AtEnd}
 use Rattle.pk_nand.proofs.Resting.{Rests-start}
-use Rattle.pk_text.specs.Turns.{Touched}
-use Rattle.pk_text.specs.Steps.{ahead, Moved, Fed, IsOver, FeedFailed, Filled, Nexted, HeadTaken}
-use Rattle.pk_text.proofs.Turning.{put_back-nil, put_back-append, longer-nil, Fed-then, Fed-none}
+use Rattle.pk_text.specs.Steps.{ahead, Moved, Fed, FeedFailed, Filled, Nexted}
+use Rattle.pk_text.proofs.Turning.{put_back-nil, put_back-append, longer-nil, Fed-then}
 
 takes_back : (o left : Option (List ℕ)) (n : ℕ) (into : List ℕ) → Takes o left n into → o ≡ put_back (take n into) left
 takes_back None left n into h = sym (ap (put_back (take n into)) h)

@@ -1,14 +1,14 @@
 -- Lines that are taken, and what they give.
-use Rattle.std.proofs.Common.{◌≡◌, ℕ, suc, ◌<◌, ◌≤◌, ◌+◌, Bool, true, false, cond, List, [], ◌∷◌, ◌++◌, length, refl, sym, ◌∙◌, ap, subst, arith, append_assoc, append-nil, length-append, Option, Some, None}
+use Rattle.std.proofs.Common.{◌≡◌, ℕ, suc, ◌<◌, ◌≤◌, ◌+◌, Bool, true, false, List, [], ◌∷◌, ◌++◌, length, refl, sym, ◌∙◌, ap, subst, arith, append_assoc, append-nil, length-append, Option, Some, None}
 use Rattle.std.specs.Prelude.{nat_lt, nat_le, ◌==◌, if◌then◌else◌, IfSome, option_map}
 use Rattle.std.proofs.lemmas.Bool.Decides.{nat_tests}
 use Rattle.pk_asm.specs.Line.{Line, nothing, entry, says, entry_in, bytes_in}
 use Rattle.pk_nand.specs.BoardState.{BoardState}
 use Rattle.pk_nand.specs.Calls.{after_post, PostFailed, put_back, AtEnd}
-use Rattle.pk_text.specs.Written.{Written, ended, before}
+use Rattle.pk_text.specs.Written.{ended}
 use Rattle.pk_text.specs.Assembled.{onto_first, lines, line_given, lines_given, assembled_from}
 use Rattle.pk_text.specs.Turns.{TurnsFrom}
-use Rattle.pk_text.specs.Steps.{ahead, Moved, Advances, Fed, Nexted, IsOver, FeedFailed, IsLine, LineTaken, NoLine, Gives, GivesNot, Stops}
+use Rattle.pk_text.specs.Steps.{ahead, Moved, Advances, Fed, Nexted, IsLine, LineTaken, NoLine, Gives, GivesNot, Stops}
 use Rattle.pk_text.specs.declared.end.TextEnd.{TextEnd}
 use Rattle.pk_text.specs.declared.end.TextEnd.TheVariants.{Done, Truncated, Input, Output, TooMany, BadLine}
 use Rattle.pk_text.proofs.Feeding.{Fed-more, Fed-end}

@@ -1,23 +1,22 @@
 -- Records that are taken piece by piece, and what they show.
-use Rattle.std.proofs.Common.{◌≡◌, ◌≢◌, ℕ, zero, suc, ◌<◌, ◌≤◌, ◌+◌, ◌-◌, ◌/◌, ◌%◌, Bool, true, false, cond, List, [], ◌∷◌, ◌++◌, length, take, drop, refl, sym, ◌∙◌, ap, subst, arith, append_assoc, append-nil, length-append, Option, Some, None, length-drop, length-take-le}
-use Rattle.std.specs.Prelude.{nat_lt, nat_le, ◌==◌, ◌^◌, if◌then◌else◌, IfSome, codes, IsTrue, ◌↔◌}
+use Rattle.std.proofs.Common.{◌≡◌, ℕ, zero, suc, ◌<◌, ◌≤◌, ◌+◌, ◌-◌, Bool, true, false, List, [], ◌∷◌, ◌++◌, length, take, drop, refl, sym, ◌∙◌, ap, subst, arith, append_assoc, append-nil, length-append, length-drop, length-take-le}
+use Rattle.std.specs.Prelude.{nat_lt, nat_le, ◌==◌, ◌^◌, if◌then◌else◌, codes, IsTrue, ◌↔◌}
 use Rattle.std.proofs.lemmas.Bool.Decides.{nat_tests}
-use Rattle.std.proofs.lemmas.List.{take-append-drop}
 use Rattle.std.proofs.Math.Seq.{take-append_seam, drop-append_seam, take-append-add, drop-append-add}
 use Rattle.pk_base.specs.Fields.{u16_at, u32_at}
 use Rattle.pk_nvme.specs.Reply.{status_at}
 use Rattle.pk_nvme.specs.Text.{hex_text, number_text}
 use Rattle.pk_nvme.proofs.TextLemmas.{hex_text-append, length-hex_text, number_text_short}
-use Rattle.pk_show.specs.Shown.{shown_head, shown as record_line, words, front, head_of}
+use Rattle.pk_show.specs.Shown.{shown_head, shown as record_line, words, head_of}
 use Rattle.pk_nvme.specs.Bytes.{RoomyList}
 use Rattle.pk_nand.specs.BoardState.{BoardState}
-use Rattle.pk_nand.specs.Calls.{after_post, PostFailed, put_back, AtEnd}
+use Rattle.pk_nand.specs.Calls.{after_post, PostFailed, put_back}
 use Rattle.pk_text.specs.Written.{Written, ended, before}
 use Rattle.pk_text.specs.Records.{cut_short, data_shown, head_shown, record_shown, records_shown, shown_from}
 use Rattle.pk_text.specs.Turns.{TurnsFrom}
-use Rattle.pk_text.specs.Steps.{ahead, Moved, Advances, Fed, IsOver, Filled, FeedFailed, HeadTaken, Stops}
+use Rattle.pk_text.specs.Steps.{ahead, Advances, Fed, IsOver, Filled, HeadTaken, Stops}
 use Rattle.pk_text.specs.declared.end.TextEnd.{TextEnd}
-use Rattle.pk_text.specs.declared.end.TextEnd.TheVariants.{Done, Truncated, Input, Output, TooMany, BadLine}
+use Rattle.pk_text.specs.declared.end.TextEnd.TheVariants.{Done, Truncated, Output, TooMany}
 use Rattle.pk_text.proofs.Turning.{not_false, put_back-nil, before-before, Moved-none, Moved-then, Moved-post, known, known_is, told-back, none_ahead, Turns-output, Turns-stop, all_posted}
 use Rattle.pk_text.proofs.Feeding.{Fed-used}
 

@@ -1,11 +1,11 @@
 -- Runs that are put together from steps.
-use Rattle.std.proofs.Common.{◌≡◌, ℕ, suc, ◌+◌, Bool, true, false, arith, ◌<◌, ◌≤◌, List, [], ◌∷◌, ◌++◌, length, refl, sym, ◌∙◌, ap, subst, append_assoc, append-nil, Option, Some, None}
+use Rattle.std.proofs.Common.{◌≡◌, ℕ, suc, ◌+◌, Bool, true, false, arith, ◌<◌, List, [], ◌∷◌, ◌++◌, length, refl, sym, ◌∙◌, ap, subst, append_assoc, append-nil, Option, Some, None}
 use Rattle.std.specs.Prelude.{IfSome, IfErr, OnOk, OnErr, IsTrue, Result, Ok, Err, ◌↔◌}
 use Rattle.pk_nand.specs.BoardState.{BoardState}
 use Rattle.pk_nand.specs.Calls.{Rose, longer, after_post, PostFailed, put_back, AtEnd}
 use Rattle.pk_nand.proofs.Resting.{Rests-same, Rests-then, Rests-post, Rests-post_failed}
 use Rattle.pk_text.specs.Written.{Written, ended, before}
-use Rattle.pk_text.specs.Turns.{Touched, IsFront, IsAll, InputFailed, OutputFailed, Ends, TurnsFrom, Turns}
+use Rattle.pk_text.specs.Turns.{Touched, IsFront, IsAll, Ends, TurnsFrom, Turns}
 use Rattle.pk_text.specs.Steps.{ahead, Moved, Advances, Fed, IsOver, FeedFailed, Nexted, Stops}
 use Rattle.pk_text.specs.declared.end.TextEnd.{TextEnd}
 use Rattle.pk_text.specs.declared.end.TextEnd.TheVariants.{Done, Truncated, Input, Output, TooMany, BadLine}

@@ -1,11 +1,11 @@
 -- Steps of a run: bytes that are taken from the input, and what is posted for them.
-use Rattle.std.specs.Prelude.{◌≡◌, ◌≢◌, ◌<◌, ℕ, suc, ◌==◌, List, [], ◌∷◌, ◌++◌, length, Option, Some, None, Bool, true, false, MatchOption}
+use Rattle.std.specs.Prelude.{◌≡◌, ◌<◌, ℕ, ◌==◌, List, [], ◌∷◌, ◌++◌, length, Option, Some, None, Bool, true, false}
 use Rattle.std.specs.List.{AllByRecursion}
 use Rattle.pk_nvme.specs.declared.sizes.TheConstants.{RECORD_HEAD_BYTES}
 use Rattle.pk_asm.specs.declared.sizes.TheConstants.{MOST_LINE_BYTES}
-use Rattle.pk_asm.specs.Line.{Line, entry, says}
+use Rattle.pk_asm.specs.Line.{entry, says}
 use Rattle.pk_nand.specs.BoardState.{BoardState}
-use Rattle.pk_nand.specs.Calls.{Rose, longer, PostFailed, put_back, AtEnd}
+use Rattle.pk_nand.specs.Calls.{Rose, PostFailed, put_back, AtEnd}
 use Rattle.pk_text.specs.Written.{Written, before}
 use Rattle.pk_text.specs.Assembled.{line_given}
 use Rattle.pk_text.specs.Turns.{Touched}

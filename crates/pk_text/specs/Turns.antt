@@ -1,5 +1,5 @@
 -- What a run over the input of a board does to the board.
-use Rattle.std.specs.Prelude.{◌≡◌, ℕ, List, [], ◌++◌, Option, None, Some, IfSome}
+use Rattle.std.specs.Prelude.{◌≡◌, ℕ, List, ◌++◌, Option, IfSome}
 use Rattle.pk_nand.specs.BoardState.{BoardState}
 use Rattle.pk_nand.specs.Calls.{Rose, longer, put_back, AtEnd}
 use Rattle.pk_nand.specs.Resting.{RestsFlash}

@@ -8,8 +8,8 @@ ghost use Rattle.pk_text.specs.Records.{shown_from};
 
 /// A whole record in front of others gives its line, and then they give theirs.
 pub fn whole_record()
-    ensures { (taken : ℕ) (head bytes rest : List ℕ) → taken < most → length head ≡ RECORD_HEAD_BYTES
-        → length bytes ≡ data_bytes_at head
+    ensures { (taken : ℕ) (head bytes rest : List ℕ)
+        → taken < most → length head ≡ RECORD_HEAD_BYTES → length bytes ≡ data_bytes_at head
         → shown_from taken (head ++ (bytes ++ rest))
         ≡ before (record_line head bytes) (shown_from (suc taken) rest) }
 {

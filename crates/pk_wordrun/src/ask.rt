@@ -1,10 +1,8 @@
 //! One question to a drive.
-ghost use Rattle.std.specs.Prelude.{◌≡◌, ◌≤◌, length, OnOk};
-ghost use Rattle.pk_base.specs.Shape.{greatest};
-ghost use Rattle.pk_nvme.specs.declared.limits.TheConstants.{MOST_LIST_BYTES};
+ghost use Rattle.std.specs.Prelude.{◌≡◌, length, OnOk};
 ghost use Rattle.pk_words.specs.Question.{seen, command_of, IsShort, Answers};
 ghost use Rattle.pk_words.specs.Said.{Said, Spoken};
-ghost use Rattle.pk_port.specs.Ready.{Fits};
+ghost use Rattle.pk_port.specs.Ready.{Fits, HasRoom};
 ghost use Rattle.pk_port.specs.Steps.{mount, seen as seen_on};
 ghost use Rattle.pk_wordrun.specs.Turns.{Turns};
 
@@ -27,8 +25,7 @@ pub fn ask<D: Engine, B: Nand>(
     requires fits { ∥ Fits (D.agrees drive.old) shape (B.state board.old) (D.sight drive.old) ∥₁ }
     requires shape { words.old.shape ≡ shape }
     requires short { IsShort (seen question.now) }
-    requires room { MOST_LIST_BYTES ≤ length buffer.old }
-    requires room_value { greatest shape ≤ length buffer.old }
+    requires room { HasRoom shape buffer.old }
 
     // The drive on its board, and what it made of the command.
     ensures fits { ∥ Fits (D.agrees drive.new) shape (B.state board.new) (D.sight drive.new) ∥₁ }

@@ -1,10 +1,8 @@
 //! A list of keys, piece by piece: one command, then its lines.
-ghost use Rattle.std.specs.Prelude.{◌≡◌, ◌≤◌, length, false, Some, IfOk, IfErr};
-ghost use Rattle.pk_base.specs.Shape.{greatest};
-ghost use Rattle.pk_nvme.specs.declared.limits.TheConstants.{MOST_LIST_BYTES};
+ghost use Rattle.std.specs.Prelude.{◌≡◌, length, false, Some, IfOk, IfErr};
 ghost use Rattle.pk_words.specs.Listing.{Piece, asked_at};
 ghost use Rattle.pk_words.specs.Said.{Spoken};
-ghost use Rattle.pk_port.specs.Ready.{Fits};
+ghost use Rattle.pk_port.specs.Ready.{Fits, HasRoom};
 ghost use Rattle.pk_port.specs.Steps.{mount, seen as seen_on};
 ghost use Rattle.pk_wordrun.specs.Turns.{Turns};
 ghost use Rattle.pk_wordrun.specs.Pieces.{PieceTold, PieceEnds};
@@ -28,8 +26,7 @@ fn ask_keys<D: Engine, B: Nand>(
 ) -> Result<Option<ListPosition>, Halt>
     // The drive on its board, and the buffer for data.
     requires fits { ∥ Fits (D.agrees drive.old) shape (B.state board.old) (D.sight drive.old) ∥₁ }
-    requires room { MOST_LIST_BYTES ≤ length buffer.old }
-    requires room_value { greatest shape ≤ length buffer.old }
+    requires room { HasRoom shape buffer.old }
 
     // The drive on its board, and what it made of the command.
     ensures fits { ∥ Fits (D.agrees drive.new) shape (B.state board.new) (D.sight drive.new) ∥₁ }
@@ -74,8 +71,7 @@ pub fn tell_piece<D: Engine, B: Board>(
     // The drive on its board, and the buffer for data.
     requires fits { ∥ Fits (D.agrees drive.old) shape (B.state board.old) (D.sight drive.old) ∥₁ }
     requires runs { (D.sight drive.old).stopped ≡ false }
-    requires room { MOST_LIST_BYTES ≤ length buffer.old }
-    requires room_value { greatest shape ≤ length buffer.old }
+    requires room { HasRoom shape buffer.old }
 
     // The drive on its board behind it.
     ensures fits { IfOk result (λ next. ∥ Fits (D.agrees drive.new) shape (B.state board.new)

@@ -1,12 +1,10 @@
 //! A question to a drive, and its answer to the host.
-ghost use Rattle.std.specs.Prelude.{◌≡◌, ◌≤◌, length, false, Some};
-ghost use Rattle.pk_base.specs.Shape.{greatest};
+ghost use Rattle.std.specs.Prelude.{◌≡◌, false, Some};
 ghost use Rattle.pk_base.specs.Map.{Map};
 ghost use Rattle.pk_model.specs.Reading.{Holds};
-ghost use Rattle.pk_nvme.specs.declared.limits.TheConstants.{MOST_LIST_BYTES};
 ghost use Rattle.pk_words.specs.Question.{seen, IsShort};
 ghost use Rattle.pk_words.specs.Said.{Spoken};
-ghost use Rattle.pk_port.specs.Ready.{Fits};
+ghost use Rattle.pk_port.specs.Ready.{Fits, HasRoom};
 ghost use Rattle.pk_wordrun.specs.Tasks.{answer};
 ghost use Rattle.pk_wordrun.specs.Told.{Told};
 
@@ -33,8 +31,7 @@ pub fn tell<D: Engine, B: Board>(
     requires runs { (D.sight drive.old).stopped ≡ false }
     requires shape { words.old.shape ≡ shape }
     requires short { IsShort (seen question.now) }
-    requires room { MOST_LIST_BYTES ≤ length buffer.old }
-    requires room_value { greatest shape ≤ length buffer.old }
+    requires room { HasRoom shape buffer.old }
 
     ensures { (start : Map) → Holds shape (B.state board.old).pages start
         → Told (answer (seen question.now)) shape (D.sight drive.old).counts.frames start

@@ -1,14 +1,12 @@
 //! A generated workload on a drive, and its summary to the host.
 ghost use Rattle.std.specs.Prelude.{◌≡◌, ◌≤◌, length, false, OnOk, IfOk, IfErr};
-ghost use Rattle.pk_base.specs.Shape.{greatest};
 ghost use Rattle.pk_base.specs.Map.{Map};
-ghost use Rattle.pk_nvme.specs.declared.limits.TheConstants.{MOST_LIST_BYTES};
 ghost use Rattle.pk_nvme.specs.Bytes.{RoomyList};
 ghost use Rattle.pk_nvme.specs.Seen.{command_of};
 ghost use Rattle.pk_gen.specs.Workload.{Generator, request_of, value_of, after};
 ghost use Rattle.pk_gen.specs.declared.numbers.TheConstants.{MOST_VALUE_BYTES};
 ghost use Rattle.pk_model.specs.Reading.{Holds};
-ghost use Rattle.pk_port.specs.Ready.{Fits};
+ghost use Rattle.pk_port.specs.Ready.{Fits, HasRoom};
 ghost use Rattle.pk_nvme.specs.Command.{IsWhole};
 ghost use Rattle.pk_port.specs.Steps.{mount, Makes};
 ghost use Rattle.pk_wordrun.specs.Generated.{Generated, Unfinished};
@@ -43,8 +41,7 @@ fn serve_request<D: Engine, B: Nand>(
     // The drive on its board, a whole value, and the buffer.
     requires fits { Fits (D.agrees drive.old) shape.now (B.state board.old) (D.sight drive.old) }
     requires whole { IsWhole (command_of request.now value.now) }
-    requires room { MOST_LIST_BYTES ≤ length buffer.old }
-    requires room_value { greatest shape.now ≤ length buffer.old }
+    requires room { HasRoom shape.now buffer.old }
 
     // The drive's answer, and the drive on its board behind it.
     ensures fits { Fits (D.agrees drive.new) shape.now (B.state board.new) (D.sight drive.new) }
@@ -70,8 +67,7 @@ fn serve_turn<D: Engine, B: Nand>(
     // The drive on its board, and the buffers.
     requires fits { Fits (D.agrees drive.old) shape.now (B.state board.old) (D.sight drive.old) }
     requires value { MOST_VALUE_BYTES ≤ value.old.room }
-    requires room { MOST_LIST_BYTES ≤ length buffer.old }
-    requires room_value { greatest shape.now ≤ length buffer.old }
+    requires room { HasRoom shape.now buffer.old }
     ensures fits { Fits (D.agrees drive.new) shape.now (B.state board.new) (D.sight drive.new) }
     ensures value { value.new.room ≡ value.old.room }
     ensures room { length buffer.new ≡ length buffer.old }
@@ -108,8 +104,7 @@ fn serve_workload<D: Engine, B: Nand>(
     requires fits { Fits (D.agrees drive.old) shape.now (B.state board.old) (D.sight drive.old) }
     requires runs { (D.sight drive.old).stopped ≡ false }
     requires value { MOST_VALUE_BYTES ≤ value.old.room }
-    requires room { MOST_LIST_BYTES ≤ length buffer.old }
-    requires room_value { greatest shape.now ≤ length buffer.old }
+    requires room { HasRoom shape.now buffer.old }
 
     // All commands were answered, or one was not.
     ensures fits { OnOk result
@@ -156,8 +151,7 @@ pub fn tell_workload<D: Engine, B: Board>(
     requires runs { (D.sight drive.old).stopped ≡ false }
     requires value { MOST_VALUE_BYTES ≤ value.old.room }
     requires text { SUMMARY_BYTES ≤ text.old.room }
-    requires room { MOST_LIST_BYTES ≤ length buffer.old }
-    requires room_value { greatest shape ≤ length buffer.old }
+    requires room { HasRoom shape buffer.old }
 
     ensures { (m : Map) → Holds shape (B.state board.old).pages m
         → Told (generate series.start series.count) shape (D.sight drive.old).counts.frames m

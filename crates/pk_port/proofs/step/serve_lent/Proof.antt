@@ -30,7 +30,7 @@ module _ (T1' : RattleType.RattleType) (T2' : RattleType.RattleType) (L1' : Laws
   sure κs a = some κs a × Fits (D-Engine.agrees a.0.now) a.1.1.0.now (B-Nand.state a.1.0.now) (D-Engine.sight a.0.now)
 
   serve-requires : lts.Need-serve-requires T1' T2' L1' L2' D-Engine-dict B-Nand-dict claims sure post
-  serve-requires c κs within = let r = c.requires.0.1.1.1 in (within.0, (within.1, (c.requires.1, (r.0, (r.1.0, r.1.1)))))
+  serve-requires c κs within = let r = c.requires.0.1.1.1 in (within.0, (within.1, (c.requires.1, (r.0, r.1))))
 
   into : lts.Need-shape_of-into T1' T2' L1' L2' D-Engine-dict B-Nand-dict claims sure post
   into c = c.serve.auto.into

@@ -1,4 +1,4 @@
-use Rattle.std.proofs.Common.{◌≡◌, ◌+◌, ◌-◌, ◌*◌, ◌++◌, ◌<◌, ◌∙◌, ℕ, List, length, take, drop, ap, sym, arith}
+use Rattle.std.proofs.Common.{◌≡◌, ◌-◌, ◌*◌, ◌++◌, ◌<◌, ◌∙◌, ℕ, List, length, take, drop, ap, sym, arith}
 use Rattle.pk_base.specs.Fields.{padded}
 use Rattle.pk_segfmt.specs.Value.{head_bytes}
 use Rattle.pk_segfmt.specs.Stored.{page_of}

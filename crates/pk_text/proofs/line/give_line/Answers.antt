@@ -1,4 +1,4 @@
-use Rattle.std.proofs.Common.{◌≡◌, Some, None, sym, ap, ◌∙◌, List, ℕ, Option}
+use Rattle.std.proofs.Common.{◌≡◌, Some, None, ap, ◌∙◌}
 use Rattle.std.specs.Prelude.{option_map}
 use Rattle.pk_asm.specs.Line.{says, entry_in}
 use Rattle.pk_text.proofs.Lining.{Gives-none, Gives-some}

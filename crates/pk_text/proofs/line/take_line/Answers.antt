@@ -1,6 +1,5 @@
-use Rattle.std.proofs.Common.{◌≡◌, Some, ap, ◌∙◌, subst, sym, arith, List, ℕ, [], length, rules}
+use Rattle.std.proofs.Common.{ap, ◌∙◌, subst, sym, arith, List, ℕ, length, rules}
 use Rattle.std.proofs.lemmas.Grind.{common_steps}
-use Rattle.pk_nand.specs.BoardState.{BoardState}
 use Rattle.pk_text.specs.Steps.{Fed, IsLine}
 use Rattle.pk_text.proofs.Turning.{Failed-then, Fed-empty, Fed-over_none, is_none, not_empty}
 use Rattle.pk_text.proofs.Lining.{Line-ended, Line-final, Line-more, IsLine-more, plain_byte}

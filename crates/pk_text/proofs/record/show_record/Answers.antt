@@ -1,4 +1,4 @@
-use Rattle.std.proofs.Common.{◌∙◌, List, ℕ}
+use Rattle.std.proofs.Common.{List, ℕ}
 use Rattle.pk_text.specs.Written.{Written}
 use Rattle.pk_text.specs.Records.{head_shown}
 use Rattle.pk_text.specs.Turns.{TurnsFrom}

@@ -1,4 +1,4 @@
-use Rattle.std.proofs.Common.{◌∙◌, ap, sym, arith, rules, length, List, ℕ}
+use Rattle.std.proofs.Common.{ap, arith, rules, length}
 use Rattle.pk_text.proofs.Turning.{Turns-input}
 use Rattle.pk_text.proofs.Showing.{Data-part_as, Data-advances_as, Data-failed_as}
 use Rattle.pk_text.proofs.record.show_some.Goals as goal

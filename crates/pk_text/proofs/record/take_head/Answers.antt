@@ -1,4 +1,4 @@
-use Rattle.std.proofs.Common.{◌≡◌, ap, ◌∙◌, subst, sym, List, ℕ, arith, length, rules}
+use Rattle.std.proofs.Common.{ap, ◌∙◌, subst, sym, List, ℕ, arith, length, rules}
 use Rattle.std.proofs.lemmas.Grind.{common_steps}
 use Rattle.pk_text.specs.Steps.{Fed}
 use Rattle.pk_text.proofs.Turning.{Failed-then, Fed-empty, Fed-over}

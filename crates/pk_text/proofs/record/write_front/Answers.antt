@@ -1,5 +1,4 @@
-use Rattle.std.proofs.Common.{arith, rules, ◌≤◌, length}
-use Rattle.std.proofs.lemmas.Grind.{common_steps}
+use Rattle.std.proofs.Common.{arith, ◌≤◌, length}
 use Rattle.pk_show.specs.Shown.{shown_head}
 use Rattle.pk_text.proofs.Showing.{front_short, no_refusal}
 use Rattle.pk_text.proofs.record.write_front.Goals as goal

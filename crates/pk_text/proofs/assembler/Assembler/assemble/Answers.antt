@@ -1,4 +1,4 @@
-use Rattle.std.proofs.Common.{arith, ℕ, suc, ◌+◌, ◌≤◌}
+use Rattle.std.proofs.Common.{arith}
 use Rattle.pk_text.specs.Assembled.{assembled_from, assembled}
 use Rattle.pk_text.proofs.Turning.{Advances-empty, Advances-then, Advances-count, Turns-behind, Turns-all}
 use Rattle.pk_text.proofs.Lining.{Lines-stop}

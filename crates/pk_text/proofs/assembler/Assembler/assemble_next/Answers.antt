@@ -1,4 +1,3 @@
-use Rattle.std.proofs.Common.{ℕ}
 use Rattle.pk_text.proofs.Lining.{Line-advances_as, Line-last_as, Line-not_as, No-line}
 use Rattle.pk_text.proofs.assembler.Assembler.assemble_next.Goals as goal
 

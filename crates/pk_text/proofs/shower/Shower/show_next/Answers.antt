@@ -1,8 +1,5 @@
-use Rattle.std.proofs.Common.{ℕ, suc, ◌<◌, List}
-use Rattle.pk_text.specs.Written.{Written}
-use Rattle.pk_text.specs.Records.{head_shown, shown_from}
-use Rattle.pk_text.specs.Turns.{TurnsFrom}
-use Rattle.pk_text.specs.Steps.{ahead}
+use Rattle.std.proofs.Common.{suc}
+use Rattle.pk_text.specs.Records.{shown_from}
 use Rattle.pk_text.proofs.Turning.{Advances-then, Turns-behind, Turns-input, on_ok, if_err_map, not_empty}
 use Rattle.pk_text.proofs.Showing.{Head-advances_as, Head-part_as}
 use Rattle.pk_text.proofs.shower.Shower.show_next.Goals as goal
