@@ -1,5 +1,5 @@
 -- Keys that are listed one after another into a room, up to the first that does not fit.
-use Rattle.std.specs.Prelude.{ℕ, ◌+◌, ◌-◌, ◌++◌, List, [], ◌∷◌, length, Bool, true, nat_le, if◌then◌else◌}
+use Rattle.std.specs.Prelude.{ℕ, ◌+◌, ◌-◌, ◌++◌, List, [], ◌∷◌, length, Bool, true, nat_le, if◌then◌else◌, Option, None, Some}
 use Rattle.std.specs.Ordering.{is_lt}
 use Rattle.pk_base.specs.Key.{Key, key_cmp}
 use Rattle.pk_model.specs.Answer.{listed}
@@ -18,6 +18,11 @@ offered l k =
     if nat_le (length (listed k)) l.left
     then record l { bytes = l.bytes ++ listed k; count = l.count + 1; left = l.left - length (listed k) }
     else record l { full = true }
+
+-- where a List begins; without a key, at the empty one, which none is below
+abbrev pub start_of : Option Key → Key
+start_of None = []
+start_of (Some key) = key
 
 -- one more key, unless it is below the first that is wanted
 abbrev pub offered_from : Key → Listing → Key → Listing

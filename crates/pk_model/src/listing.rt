@@ -1,11 +1,13 @@
 //! The data of a List, written key by key.
 ghost use Rattle.std.specs.Prelude.{◌≡◌, ◌≤◌, ◌<◌, ◌^◌, ◌+◌, ◌-◌, ◌%◌, ◌++◌, length, [], false, IfOk};
-ghost use Rattle.pk_base.specs.Key.{IsKey};
+ghost use Rattle.std.specs.Option.{option_copied};
+ghost use Rattle.std.specs.Ordering.{is_lt};
+ghost use Rattle.pk_base.specs.Key.{IsKey, key_cmp};
 ghost use Rattle.pk_base.specs.Fields.{u16 as u16_bytes};
 ghost use Rattle.pk_model.specs.Answer.{listed as listed_bytes};
-ghost use Rattle.pk_model.specs.Listing.{offered, offered_from};
+ghost use Rattle.pk_model.specs.Listing.{offered, offered_from, start_of};
 
-use pk_base::{Key, is_below_bytes};
+use pk_base::{Key, is_below};
 use pk_nvme::Bytes;
 use std::alloc::{AllocError, Global};
 use std::marker::Model;
@@ -84,12 +86,22 @@ impl Page {
     }
 
     /// One more key, unless it is below the first that is wanted.
-    pub fn offer_from(&mut self, from: &[u8], key: &Key)
-        ensures { self.new ≡ offered_from from.now self.old key.now }
+    pub fn offer_from(&mut self, from: Option<&Key>, key: &Key)
+        ensures { self.new ≡ offered_from (start_of (option_copied from.entry)) self.old key.now }
     {
-        if !is_below_bytes(key, from) {
+        if !is_before(key, from) {
             self.offer(key.bytes());
         }
+    }
+}
+
+/// The key is below the first that is wanted: none is where there is no such key.
+fn is_before(key: &Key, from: Option<&Key>) -> bool
+    ensures { result ≡ is_lt (key_cmp key.now (start_of (option_copied from.entry))) }
+{
+    match from {
+        Some(first) => is_below(key, first),
+        None => false,
     }
 }
 

@@ -3,11 +3,13 @@ ghost use Rattle.std.specs.Prelude.{◌≡◌, ◌==◌, ◌≤◌, ◌<◌, ◌
 ghost use Rattle.std.specs.FinMap.{empty, get, contains_key};
 ghost use Rattle.pk_base.specs.Fields.{u32 as u32_bytes};
 ghost use Rattle.pk_base.specs.Shape.{charge, limit};
+ghost use Rattle.pk_base.specs.declared.sizes.TheConstants.{KEY_BYTES};
 ghost use Rattle.pk_base.specs.Map.{pages_of, pages_if_some, live as live_of};
 ghost use Rattle.std.specs.FinMap as map;
-ghost use Rattle.pk_nvme.specs.Command.{command, IsWhole};
+ghost use Rattle.pk_nvme.specs.Command.{command, key, IsWhole};
 ghost use Rattle.pk_nvme.specs.Seen.{command_of};
 ghost use Rattle.pk_model.specs.Answer.{early, success};
+ghost use Rattle.pk_model.specs.Listing.{offered_all};
 ghost use Rattle.pk_model.specs.Machine.{Machine, Answers, replied};
 
 use crate::answer::Answer;
@@ -16,12 +18,17 @@ use crate::listing::Page;
 use crate::table::Table;
 use crate::value::Value;
 use pk_base::{HEAD_BYTES, Key, Shape};
-use pk_nvme::{Request, SUBMISSION_BYTES};
 use pk_nvme::limits::{COUNT_BYTES, MOST_LIST_BYTES};
 use pk_nvme::opcode::{DELETE, EXIST, FLUSH, LIST, REPORT, RETRIEVE, STORE, TICK};
 use pk_nvme::status::{INVALID_COMMAND_OPCODE, KEY_DOES_NOT_EXIST};
+use pk_nvme::{REPORT_BYTES, Request, SUBMISSION_BYTES};
 use std::alloc::{AllocError, Global};
 use std::marker::Model;
+
+/// The bytes of the numbers of a Report that are not 0 here, and of those that are.
+const FRONT_BYTES: usize = 12;
+
+const REST_BYTES: usize = REPORT_BYTES - FRONT_BYTES;
 
 /// A shape and a map from keys to values.
 #[derive(Drop)]
@@ -62,7 +69,7 @@ fn pages(shape: &Shape, value: &[u8]) -> u64
 }
 
 /// The numbers of a Report that are not 0: the live pages, their limit and the keys.
-fn report_front(live: u32, limit: u32, keys: u32) -> [u8; 12]
+fn report_front(live: u32, limit: u32, keys: u32) -> [u8; FRONT_BYTES]
     ensures { result ≡ flat_map u32_bytes (live ∷ limit ∷ keys ∷ []) }
 {
     let [a0, a1, a2, a3] = live.to_le_bytes();
@@ -262,6 +269,19 @@ impl MapMachine {
         }
     }
 
+    /// Lists the keys from the one that a request names on, from the first where it names none.
+    fn list_into(&self, request: &Request, page: &mut Page)
+        requires { request.now.key_len ≤ KEY_BYTES }
+        ensures { page.new ≡ offered_all (key (command_of request.now [])) page.old
+            (map.keys self.now.map) }
+    {
+        if request.key_len == 0 {
+            self.map.list(None, page);
+        } else {
+            self.map.list(Some(&request.key()), page);
+        }
+    }
+
     /// The keys from a key on, as many as fit.
     fn list(&self, alloc: Global, request: &Request) -> Result<Answer, AllocError>
         requires opcode { request.now.opcode ≡ LIST }
@@ -273,8 +293,7 @@ impl MapMachine {
             alloc,
             (request.size.min(MOST_LIST_BYTES) - COUNT_BYTES) as usize,
         )?;
-        self.map
-            .list(&request.key[..request.key_len as usize], &mut page);
+        self.list_into(request, &mut page);
         answer_of(alloc, &page)
     }
 
@@ -299,6 +318,6 @@ impl MapMachine {
         let _ = request;
         let limit = self.shape.limit();
         let front = report_front(self.live as u32, limit, self.map.len() as u32);
-        Answer::of_parts(alloc, 0, &front, &[0; 52])
+        Answer::of_parts(alloc, 0, &front, &[0; REST_BYTES])
     }
 }
