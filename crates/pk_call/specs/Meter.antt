@@ -6,6 +6,7 @@ use Rattle.pk_nand.specs.BoardState.{BoardState}
 use Rattle.pk_nand.specs.Calls.{Rose, last_count}
 use Rattle.pk_model.specs.Run.{Exchange}
 use Rattle.pk_model.specs.Wear.{roots}
+use Rattle.pk_model.specs.declared.wear.TheConstants.{WORN_FROM}
 use Rattle.pk_call.specs.Exec.{most_installs}
 
 -- how many pages were read, the count of reads that failed, and the number of the newest root
@@ -27,7 +28,7 @@ pub record Metered (before : Meter) (x : Exchange) (after : Meter) : Type 0 wher
   pub reads : after.reads ≡ reads_after before.reads x.reads
   pub failed : x.reply.status ≡ UNRECOVERED_ERROR → Rose before.read_faults after.read_faults
   pub sound : x.reply.status ≢ UNRECOVERED_ERROR → after.read_faults ≡ before.read_faults
-  pub unworn : before.roots < 9223372036854775808
+  pub unworn : before.roots < WORN_FROM
   pub installs : after.roots ≤ before.roots + most_installs x.command.opcode x.command.size
 
 -- each command begins where the one before it ended

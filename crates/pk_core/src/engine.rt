@@ -8,6 +8,7 @@ ghost use Rattle.pk_core.specs.Agreeing.{DriveOnFlashBetween};
 ghost use Rattle.pk_core.specs.Serving.{IsServable};
 ghost use Rattle.pk_core.specs.Done.{Executes};
 ghost use Rattle.pk_core.specs.Performing.{Performs, Reports};
+ghost use Rattle.pk_nvme.specs.declared.limits.TheConstants.{MOST_LIST_BYTES};
 
 use crate::drive::Drive;
 use crate::list::list;
@@ -19,6 +20,7 @@ use crate::ticks::tick_command;
 use pk_call::{Counts, Outcome, Ticked};
 use pk_drive::Engine;
 use pk_model::early::early_fault;
+use pk_model::wear::WORN_FROM;
 use pk_nand::{Nand, NandFault};
 use pk_nvme::Request;
 use pk_nvme::opcode::{DELETE, EXIST, FLUSH, LIST, REPORT, RETRIEVE, STORE, TICK};
@@ -41,7 +43,7 @@ fn perform<B: Nand, A: Region>(
     requires sized { request.now.opcode ≡ STORE
         → request.now.size ≤ greatest parts.old.log.shape → length value.now ≡ request.now.size }
     requires empty { request.now.opcode ≢ STORE → value.now ≡ [] }
-    requires room { (65536 ≤ length into.old)
+    requires room { (MOST_LIST_BYTES ≤ length into.old)
         × (greatest parts.old.log.shape ≤ length into.old) }
 
     // The command.
@@ -104,6 +106,7 @@ impl<A: Region> Engine for Drive<A> {
                 self.parts.known();
                 Ok(())
             }
+            // a commit only programs, and a program that fails stops the drive
             Err(_) => {
                 self.parts.set_stopped();
                 Err(NandFault)
@@ -127,7 +130,7 @@ impl<A: Region> Engine for Drive<A> {
     }
 
     fn is_worn(&self) -> bool {
-        self.parts.root_number() >= 0x8000_0000_0000_0000
+        self.parts.root_number() >= WORN_FROM
     }
 
     fn counts(&self) -> Counts {

@@ -10,6 +10,7 @@ ghost use Rattle.pk_nand.specs.Calls.{Rose};
 ghost use Rattle.pk_model.specs.Answer.{early};
 ghost use Rattle.pk_model.specs.Sight.{Sight, map_of};
 ghost use Rattle.pk_model.specs.Wear.{root_number, roots, is_worn};
+ghost use Rattle.pk_model.specs.declared.wear.TheConstants.{WORN_FROM};
 ghost use Rattle.pk_call.specs.Drive.{CountsMap};
 ghost use Rattle.pk_nand.specs.Effects.{OnlyFlash, OnlyReading, NoFault, AtMostOneCall};
 ghost use Rattle.pk_call.specs.Meter.{reads_after};
@@ -27,6 +28,7 @@ ghost use Rattle.pk_call.specs.Moving.{Commits, KeepsFresh, BlocksGrow, Stores, 
 ghost use Rattle.pk_call.specs.declared.types.Ticked.{Ticked};
 ghost use Rattle.pk_nvme.specs.declared.status.TheConstants.{SUCCESSFUL_COMPLETION, UNRECOVERED_ERROR};
 ghost use Rattle.pk_nvme.specs.declared.opcode.TheConstants.{STORE, DELETE, TICK, REPORT};
+ghost use Rattle.pk_nvme.specs.declared.limits.TheConstants.{MOST_LIST_BYTES};
 
 use pk_call::{Counts, Outcome, Ticked};
 use pk_nand::{Nand, NandFault};
@@ -61,7 +63,7 @@ pub trait Engine {
         requires empty { request.now.opcode ≢ STORE → value.now ≡ [] }
         requires too_large { greatest (shape_of (B.state board.old)) < request.now.size
             → value.now ≡ [] }
-        requires room { 65536 ≤ length into.old }
+        requires room { MOST_LIST_BYTES ≤ length into.old }
         requires room_value { greatest (shape_of (B.state board.old)) ≤ length into.old }
 
         // The drive and the board behind it.
@@ -261,11 +263,11 @@ pub trait Engine {
     fn is_stopped(&self) -> bool
         ensures { result ≡ (sight self.now).stopped };
 
-    /// The numbers of roots are used up: on a drive that is not stopped, the newest root's number is at least 2^63.
+    /// The numbers of roots are used up: on a drive that is not stopped, the newest root's number is at least `WORN_FROM`.
     fn is_worn(&self) -> bool
         ensures { (shape : Shape) (flash : Flash) → agrees self.now (Some shape) flash
             → (sight self.now).stopped ≡ false
-            → result ≡ nat_le 9223372036854775808 (root_number shape flash) };
+            → result ≡ nat_le WORN_FROM (root_number shape flash) };
 
     /// The numbers of a Report. On a drive that is not stopped the first five are those of its map and its frames, and the others
     /// those of what stands on its flash.

@@ -5,6 +5,7 @@ use Rattle.pk_base.specs.Page.{Flash, page_at}
 use Rattle.pk_rootfmt.specs.Root.{Root}
 use Rattle.pk_rootfmt.specs.Newest.{newest_root}
 use Rattle.pk_nand.specs.BoardState.{BoardState, shape_of}
+use Rattle.pk_model.specs.declared.wear.TheConstants.{WORN_FROM}
 
 abbrev pub number_of : Option (ℕ × Root) → ℕ
 number_of None = 0
@@ -18,6 +19,6 @@ root_number shape flash = number_of (newest_root shape (page_at flash))
 abbrev pub roots : BoardState → ℕ
 roots board = root_number (shape_of board) board.pages
 
--- the numbers of roots are used up from 2^63 on
+-- the numbers of roots are used up
 abbrev pub is_worn : BoardState → Bool
-is_worn board = nat_le 9223372036854775808 (roots board)
+is_worn board = nat_le WORN_FROM (roots board)

@@ -14,6 +14,7 @@ pub struct Answer {
 }
 
 impl Answer {
+    ghost use Rattle.pk_nvme.specs.declared.limits.TheConstants.{MOST_LIST_BYTES};
     ghost use Rattle.pk_nvme.specs.Reply.{refusal};
     ghost use Rattle.pk_model.specs.Answer.{success};
     ghost use Rattle.pk_model.specs.Machine.{replied};
@@ -36,7 +37,7 @@ impl Answer {
         front: &[u8],
         rest: &[u8],
     ) -> Result<Answer, AllocError>
-        requires { length front.now ≤ 65536 }
+        requires { length front.now ≤ MOST_LIST_BYTES }
         ensures { IfOk result (λ a. replied a ≡ success result_field (front.now ++ rest.now)) }
     {
         let mut bytes = Bytes::with_room(alloc, front.len() + rest.len())?;
