@@ -10,11 +10,11 @@ ghost use Rattle.pk_nvme.specs.declared.opcode.TheConstants.{REPORT};
 use crate::quiet::served;
 use pk_base::put_u32;
 use pk_call::{Counts, Outcome};
-use pk_nvme::REPORT_BYTES;
+use pk_nvme::{REPORT_BYTES, REPORT_NUMBERS};
 use pk_parts::Parts;
 use pk_region::Region;
 
-// Writes the sixteen numbers in their order.
+// Writes the numbers in their order.
 fn put_counts(counts: &Counts, into: &mut [u8])
     requires { REPORT_BYTES ≤ length into.old }
     ensures bytes { take REPORT_BYTES into.new ≡ report_of (counts_of counts.now) }
@@ -38,7 +38,7 @@ fn put_counts(counts: &Counts, into: &mut [u8])
         counts.ready,
         counts.merge,
     ];
-    for i in 0..16 {
+    for i in 0..REPORT_NUMBERS {
         put_u32(into, 4 * i, numbers[i]);
     }
 }

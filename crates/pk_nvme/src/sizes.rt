@@ -6,5 +6,7 @@ pub const SUBMISSION_BYTES: usize = 64;
 pub const COMPLETION_BYTES: usize = 16;
 /// What stands before the data of a record: the completion entry, the pages read and the bytes of the data.
 pub const RECORD_HEAD_BYTES: usize = 24;
-/// The data of a Report: sixteen numbers of four bytes.
+/// The numbers of a Report.
+pub const REPORT_NUMBERS: usize = 16;
+/// The data of a Report: its numbers, of four bytes each.
 pub const REPORT_BYTES: usize = 64;
