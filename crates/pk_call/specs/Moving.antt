@@ -2,7 +2,7 @@
 use Rattle.std.specs.Prelude.{◌≡◌, ◌≢◌, ◌⊎◌, ℕ, ◌+◌, ◌-◌, ◌/◌, ◌<◌, ◌≤◌, ◌==◌, if◌then◌else◌, [], ◌++◌, length, true, Some, IsSome}
 use Rattle.std.specs.FinMap.Entries.{find}
 use Rattle.pk_base.specs.Key.{Key, key_cmp}
-use Rattle.pk_base.specs.Shape.{Shape, charge, buffer, page_entries, epoch_pages, pinned}
+use Rattle.pk_base.specs.Shape.{Shape, charge, buffer, page_entries, epoch_pages, pinned, commit_programs}
 use Rattle.pk_base.specs.Page.{Flash, page_at, page_in, erased}
 use Rattle.pk_base.specs.Entry.{Place}
 use Rattle.pk_base.specs.Firsts.{firsts}
@@ -67,9 +67,9 @@ pub record IsQuiet (shape : Shape) (flash : Flash) (drive : Sight) (key : Key) :
   pub fresh : drive.fresh ≡ true
   pub page : (page_at flash (page_in shape tree.root.newest (epoch_pages shape - 1)) ≡ erased) ⊎ (drive.pending ≢ [])
 
--- the program of a commit, where the entry is the last one that a page of the journal takes
+-- the programs of a commit, where the entry is the last one that a page of the journal takes
 abbrev pub commits_for : Shape → Sight → ℕ
-commits_for shape drive = if length drive.pending + 1 == page_entries shape then 1 else 0
+commits_for shape drive = if length drive.pending + 1 == page_entries shape then commit_programs else 0
 
 -- So many programs were made, the reads of a look-up, and no erase.
 pub record Quietly (shape : Shape) (old new : BoardState) (frames reads programs : ℕ) : Type 0 where
