@@ -3,6 +3,7 @@ ghost use Rattle.std.specs.Prelude.{◌≡◌, ◌≤◌, [], length};
 ghost use Rattle.pk_nvme.specs.Seen.{command_of};
 ghost use Rattle.pk_core.specs.Serving.{IsServable};
 ghost use Rattle.pk_core.specs.Done.{Executes};
+ghost use Rattle.pk_nvme.specs.declared.limits.TheConstants.{MOST_LIST_BYTES};
 ghost use Rattle.pk_nvme.specs.declared.opcode.TheConstants.{LIST};
 ghost use Rattle.pk_core.specs.Quiet.{OnlyLooks};
 
@@ -22,7 +23,7 @@ pub(crate) fn list<B: Nand, A: Region>(
     // The command is one that it serves, and the buffer has room for its data.
     requires servable { IsServable parts.old (B.state board.old) request.now }
     requires opcode { request.now.opcode ≡ LIST }
-    requires room { 65536 ≤ length into.old }
+    requires room { MOST_LIST_BYTES ≤ length into.old }
 
     // The command.
     ensures executes { Executes parts.old parts.new (B.state board.old) (B.state board.new)

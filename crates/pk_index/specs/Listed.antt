@@ -1,6 +1,7 @@
 -- The data of a List: keys that stand behind their number in a buffer.
 use Rattle.std.specs.Prelude.{◌≡◌, ◌⊎◌, false, ℕ, ◌+◌, ◌-◌, ◌<◌, ◌≤◌, List, [], ◌∷◌, ◌++◌, length, take, drop, map, flat_map, not, filter, Option, Some, None}
 use Rattle.std.specs.Ordering.{is_lt}
+use Rattle.pk_nvme.specs.declared.limits.TheConstants.{COUNT_BYTES, MOST_LIST_BYTES}
 use Rattle.pk_nvme.specs.declared.status.TheConstants.{SUCCESSFUL_COMPLETION, UNRECOVERED_ERROR}
 use Rattle.pk_base.specs.Key.{Key, key_cmp}
 use Rattle.pk_base.specs.Entry.{Entry, Place}
@@ -44,7 +45,7 @@ OffersFirst old at room (x ∷ rest) next new later = OffersKey old at room x.0 
 pub record IsFilled (at : Filled) (size : ℕ) : Type 0 where
   pub within : at.end ≤ at.room
   pub few : at.count ≤ at.end
-  pub small : at.room ≤ 65536
+  pub small : at.room ≤ MOST_LIST_BYTES
   pub enough : at.room ≤ size
 
 -- what a List asks of the board and of the parts that it goes over
@@ -73,19 +74,19 @@ OffersNext before after old new levels arena log at next into into' =
     → (later : List (Key × Place)) × OffersFirst into at at.room rest next into' later
     × IsLeft after new.pages arena levels.runs log.active.entries log.frozen.entries later
 
--- A front of all the keys stands behind the first four bytes, and the others are left.
+-- A front of all the keys stands behind the bytes of their count, and the others are left.
 pub record Lists (all : List Key) (room : ℕ) (into : List ℕ) (at : Filled) (left : List Key) : Type 0 where
   pub done : List Key
   pub count_is : at.count ≡ length done
-  pub end_is : at.end ≡ 4 + length (flat_map listed done)
-  pub bytes : drop 4 (take at.end into) ≡ flat_map listed done
-  pub fits : fitting (room - 4) all ≡ done ++ fitting (room - at.end) left
+  pub end_is : at.end ≡ COUNT_BYTES + length (flat_map listed done)
+  pub bytes : drop COUNT_BYTES (take at.end into) ≡ flat_map listed done
+  pub fits : fitting (room - COUNT_BYTES) all ≡ done ++ fitting (room - at.end) left
 
 -- the keys that fit stand there
 pub record ListsAll (all : List Key) (room : ℕ) (into : List ℕ) (at : Filled) : Type 0 where
-  pub count_is : at.count ≡ length (fitting (room - 4) all)
-  pub end_is : at.end ≡ 4 + length (flat_map listed (fitting (room - 4) all))
-  pub bytes : drop 4 (take at.end into) ≡ flat_map listed (fitting (room - 4) all)
+  pub count_is : at.count ≡ length (fitting (room - COUNT_BYTES) all)
+  pub end_is : at.end ≡ COUNT_BYTES + length (flat_map listed (fitting (room - COUNT_BYTES) all))
+  pub bytes : drop COUNT_BYTES (take at.end into) ≡ flat_map listed (fitting (room - COUNT_BYTES) all)
 
 -- A List was answered with these bytes, or a read failed; nothing was done but reads.
 pub record ListsInto (old new : BoardState) (o : Outcome) (into bytes : List ℕ) : Type 0 where

@@ -4,7 +4,7 @@ ghost use Rattle.pk_nand.specs.Calls.{last_count};
 
 use pk_nand::Nand;
 
-/// How many pages were read so far.
+/// How many pages were read so far. The prover learns here too that the counts of reads and of faults are of 64 bits.
 pub(crate) fn reads_so_far<B: Nand>(board: &B) -> u64
     ensures value { result ≡ (B.state board.now).reads }
     ensures last { (B.state board.now).reads ≤ last_count }

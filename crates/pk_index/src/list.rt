@@ -23,6 +23,7 @@ use pk_level::Levels;
 use pk_log::Log;
 use pk_nand::{Fault, Nand};
 use pk_nvme::Request;
+use pk_nvme::limits::{COUNT_BYTES, MOST_LIST_BYTES};
 use pk_nvme::status::{SUCCESSFUL_COMPLETION, UNRECOVERED_ERROR};
 use pk_pin::PinArena;
 use pk_region::Region;
@@ -155,7 +156,7 @@ fn put_next<B: Nand, A: Region>(
     }
 }
 
-// Writes the keys that are left, behind the first four bytes of the room, as many as fit into it.
+// Writes the keys that are left, behind the bytes of their count, as many as fit into the room.
 fn put_left<B: Nand, A: Region>(
     walk: &mut Walk<A>,
     board: &mut B,
@@ -167,8 +168,8 @@ fn put_left<B: Nand, A: Region>(
 ) -> Result<Filled, Fault>
     requires may { MayWalk walk.old (B.state board.old) levels.now arena.now log.now }
     requires none_read { pages_read levels.now.runs walk.old.cursors ≡ 0 }
-    requires some { 4 ≤ room }
-    requires room { (room ≤ 65536) × (room ≤ length into.old) }
+    requires some { COUNT_BYTES ≤ room }
+    requires room { (room ≤ MOST_LIST_BYTES) × (room ≤ length into.old) }
 
     // The keys, and the pages that were read for them.
     ensures lists { IfOk result (λ at. (at.end ≤ room) × ((rest : List (KeySpec × Place))
@@ -184,7 +185,7 @@ fn put_left<B: Nand, A: Region>(
     ensures len { length into.new ≡ length into.old }
 {
     let mut at = Filled {
-        end: 4,
+        end: COUNT_BYTES,
         count: 0,
         room,
     };
@@ -201,7 +202,7 @@ fn put_left<B: Nand, A: Region>(
 
 // Begins a walk at a key; at the first key of all where this one is empty.
 fn start_walk<A: Region>(walk: &mut Walk<A>, from: &[u8])
-    requires key { length from.now ≤ 16 }
+    requires key { length from.now ≤ KEY_BYTES }
     ensures shape { walk.new.shape ≡ walk.old.shape }
     ensures left { (flash : Flash) (arena : Frames) (runs : List Kept)
         (active frozen : List EntrySpec) (ess : List (List EntrySpec))
@@ -217,7 +218,7 @@ fn start_walk<A: Region>(walk: &mut Walk<A>, from: &[u8])
     }
 }
 
-// The pages of all runs are few.
+// The pages of all runs are few: it does nothing, and tells the proof of a List so.
 fn few_pages<A: Region>(levels: &Levels<A>)
     ensures few { most_read levels.now.runs ≤ 4000000 }
     ensures within { most_read levels.now.runs < most_calls levels.now.shape }
@@ -230,7 +231,7 @@ fn few_pages<A: Region>(levels: &Levels<A>)
 }
 
 /// Answers a List that passed the checks that read it alone: the number of keys that are there from the one that it names on, and
-/// as many of them as fit into its size, of which no more than 65,536 bytes count; `UNRECOVERED_ERROR` without data where a read fails.
+/// as many of them as fit into its size, of which no more than `MOST_LIST_BYTES` count; `UNRECOVERED_ERROR` without data where a read fails.
 pub fn answer_list<B: Nand, A: Region>(
     walk: &mut Walk<A>,
     board: &mut B,
@@ -242,15 +243,15 @@ pub fn answer_list<B: Nand, A: Region>(
 ) -> Outcome
     // The board, the parts and the request.
     requires may { MayList walk.old (B.state board.old) levels.now arena.now }
-    requires key { request.now.key_len ≤ 16 }
-    requires some { 4 ≤ request.now.size }
-    requires room { 65536 ≤ length into.old }
+    requires key { request.now.key_len ≤ KEY_BYTES }
+    requires some { COUNT_BYTES ≤ request.now.size }
+    requires room { MOST_LIST_BYTES ≤ length into.old }
 
     // The data, and the pages that were read for them.
     ensures lists { (ess : List (List EntrySpec))
         → RunsOnFlash (B.state board.old).pages arena.now levels.now.runs ess
         → ListsInto (B.state board.old) (B.state board.new) result into.new
-        (list_bytes (fitting (min request.now.size 65536 - 4)
+        (list_bytes (fitting (min request.now.size MOST_LIST_BYTES - COUNT_BYTES)
         (keys_there (key_in (command_of request.now []))
         (log.now.active.entries ∷ log.now.frozen.entries ∷ ess)))) }
     ensures few { FewCalls (most_calls levels.now.shape) (B.state board.old) (B.state board.new) }
@@ -262,7 +263,7 @@ pub fn answer_list<B: Nand, A: Region>(
 {
     few_pages(levels);
     let before = reads_so_far(board);
-    let room = request.size.min(65536);
+    let room = request.size.min(MOST_LIST_BYTES);
     start_walk(walk, &request.key[..request.key_len as usize]);
     match put_left(walk, board, levels, arena, log, room, into) {
         Ok(at) => {

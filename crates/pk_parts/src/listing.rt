@@ -1,9 +1,11 @@
 //! The keys from one on.
 ghost use Rattle.std.specs.Prelude.{◌≡◌, ◌-◌, ◌≤◌, List, [], ◌∷◌, length, min};
 ghost use Rattle.pk_base.specs.Entry.{Entry};
+ghost use Rattle.pk_base.specs.declared.sizes.TheConstants.{KEY_BYTES};
 ghost use Rattle.pk_base.specs.Shape.{most_calls};
 ghost use Rattle.pk_level.specs.Levels.{RunsOnFlash};
 ghost use Rattle.pk_nvme.specs.Command.{key as key_in};
+ghost use Rattle.pk_nvme.specs.declared.limits.TheConstants.{COUNT_BYTES, MOST_LIST_BYTES};
 ghost use Rattle.pk_nvme.specs.Seen.{command_of};
 ghost use Rattle.pk_model.specs.Answer.{fitting, list_bytes};
 ghost use Rattle.pk_call.specs.Calling.{FewCalls};
@@ -29,15 +31,15 @@ impl<A: Region> Parts<A> {
         // The drive, the request, and the buffer for data.
         requires agrees { DriveOnFlash self.old (B.state board.old).shape
             (B.state board.old).pages }
-        requires key { request.now.key_len ≤ 16 }
-        requires some { 4 ≤ request.now.size }
-        requires room { 65536 ≤ length into.old }
+        requires key { request.now.key_len ≤ KEY_BYTES }
+        requires some { COUNT_BYTES ≤ request.now.size }
+        requires room { MOST_LIST_BYTES ≤ length into.old }
 
         // The data, and the pages that were read for them.
         ensures lists { (ess : List (List Entry))
             → RunsOnFlash (B.state board.old).pages self.old.arena self.old.levels.runs ess
             → ListsInto (B.state board.old) (B.state board.new) result into.new
-            (list_bytes (fitting (min request.now.size 65536 - 4)
+            (list_bytes (fitting (min request.now.size MOST_LIST_BYTES - COUNT_BYTES)
             (keys_there (key_in (command_of request.now []))
             (self.old.log.active.entries ∷ self.old.log.frozen.entries ∷ ess)))) }
         ensures few { FewCalls (most_calls self.old.levels.shape) (B.state board.old)

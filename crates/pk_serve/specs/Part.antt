@@ -2,6 +2,7 @@
 use Rattle.std.specs.Prelude.{◌≡◌, ◌≢◌, ℕ, ◌<◌, ◌≤◌, List, [], length, Option, Some, false}
 use Rattle.pk_base.specs.Shape.{Shape, greatest}
 use Rattle.pk_base.specs.Page.{Flash as Pages}
+use Rattle.pk_nvme.specs.declared.limits.TheConstants.{MOST_LIST_BYTES}
 use Rattle.pk_nvme.specs.declared.opcode.TheConstants.{STORE}
 use Rattle.pk_nand.specs.BoardState.{BoardState}
 use Rattle.pk_model.specs.Sight.{Sight}
@@ -30,7 +31,7 @@ pub record IsHanded (shape : Shape) (opcode size : ℕ) (handed : List ℕ) : Ty
 -- the board has this shape, and a buffer has room for the data of each command: a list, or a value
 pub record HasRoom (board : BoardState) (shape : Shape) (into : List ℕ) : Type 0 where
   pub shape_is : board.shape ≡ Some shape
-  pub for_list : 65536 ≤ length into
+  pub for_list : MOST_LIST_BYTES ≤ length into
   pub for_value : greatest shape ≤ length into
 
 -- and another one for the value behind each entry

@@ -7,8 +7,8 @@ use crate::End;
 use crate::input::{fill, skip};
 use pk_base::Shape;
 use pk_nand::{Board, HostFault};
-use pk_nvme::{Request, SUBMISSION_BYTES};
 use pk_nvme::opcode::STORE;
+use pk_nvme::{Request, SUBMISSION_BYTES};
 
 /// A command that is served as the next one.
 #[derive(Clone, Copy)]

@@ -11,6 +11,7 @@ ghost use Rattle.pk_call.specs.Meter.{reads_after};
 ghost use Rattle.pk_call.specs.Seen.{reply_of};
 ghost use Rattle.pk_model.specs.Wear.{is_worn, roots};
 ghost use Rattle.pk_serve.specs.Port.{Submits, SubmitStops};
+ghost use Rattle.pk_nvme.specs.declared.limits.TheConstants.{MOST_LIST_BYTES};
 ghost use Rattle.pk_nvme.specs.declared.status.TheConstants.{UNRECOVERED_ERROR};
 ghost use Rattle.pk_nvme.specs.declared.opcode.TheConstants.{STORE};
 
@@ -40,7 +41,7 @@ pub fn submit<D: Engine, B: Nand>(
     requires empty { request.now.opcode ≢ STORE → value.now ≡ [] }
     requires too_large { greatest (shape_of (B.state board.old)) < request.now.size
         → value.now ≡ [] }
-    requires room { 65536 ≤ length into.old }
+    requires room { MOST_LIST_BYTES ≤ length into.old }
     requires room_value { greatest (shape_of (B.state board.old)) ≤ length into.old }
 
     // The drive, the board and the buffer.

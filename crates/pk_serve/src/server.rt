@@ -10,6 +10,7 @@ use crate::serve::serve_all;
 use pk_base::Shape;
 use pk_drive::Engine;
 use pk_nand::Board;
+use pk_nvme::limits::MOST_LIST_BYTES;
 use pk_queue::Queue;
 use std::alloc::{AllocError, Global};
 use std::marker::Model;
@@ -34,7 +35,7 @@ impl Model for Server {
     ghost invariant = { λ s. (spec.greatest s.shape ≤ length s.value.items)
         × (0 < length s.value.items)
         × (spec.greatest s.shape ≤ length s.into.items)
-        × (65536 ≤ length s.into.items) };
+        × (MOST_LIST_BYTES ≤ length s.into.items) };
 }
 
 impl Server {
@@ -45,7 +46,7 @@ impl Server {
         let greatest = shape.greatest() as usize;
         let held = Queue::new(alloc, shape)?;
         let value = Vec::from_elem(alloc, 0u8, greatest.max(1))?;
-        let into = Vec::from_elem(alloc, 0u8, greatest.max(65536))?;
+        let into = Vec::from_elem(alloc, 0u8, greatest.max(MOST_LIST_BYTES as usize))?;
         Ok(Server {
             shape,
             held,
