@@ -15,7 +15,7 @@ use Rattle.pk_serve.specs.Input.{Spells, IsPart}
 use Rattle.pk_serve.specs.declared.end.End.{End}
 use Rattle.pk_serve.specs.declared.end.End.TheVariants.{Done, Truncated, Input, Output, Flash, Worn}
 
--- the most entries of a run
+-- the most entries of a run, 2^32 - 1: the count of those served, in each completion, has 32 bits
 abbrev pub most_entries : ℕ
 most_entries = 4294967295
 
@@ -50,9 +50,9 @@ pub record Failed (shape : Shape) (frames : ℕ) (start : Map) (a b : BoardState
   pub spells : Spells bytes cs
   pub cause : HasCause a b end
 
--- another entry may be taken behind these
-abbrev pub GoesOn : BoardState → List Exchange → Type 0
-GoesOn board all = (length all < most_entries) × (is_worn board ≡ false)
+-- fewer entries were taken than a run takes, and the drive is not worn: another one may be taken behind these
+abbrev pub TakesMore : BoardState → ℕ → Type 0
+TakesMore board taken = (taken < most_entries) × (is_worn board ≡ false)
 
 pub record IsDone (shape : Shape) (frames : ℕ) (start : Map) (a b : BoardState) (drive : Sight) (held : List ℕ) : Type 0 where
   pub finished : Finished shape frames start a b drive held []
@@ -64,7 +64,7 @@ pub record IsTruncated (shape : Shape) (frames : ℕ) (start : Map) (a b : Board
   pub some : part ≢ []
   pub is_part : IsPart part
   pub finished : Finished shape frames start a b drive held part
-  pub goes_on : GoesOn b finished.all
+  pub goes_on : TakesMore b (length finished.all)
   pub at_end : AtEnd b.input
   pub same : b.in_faults ≡ a.in_faults
 
@@ -72,7 +72,7 @@ pub record InputFailed (shape : Shape) (frames : ℕ) (start : Map) (a b : Board
   pub part : List ℕ
   pub is_part : IsPart part
   pub finished : Finished shape frames start a b drive held part
-  pub goes_on : part ≢ [] → GoesOn b finished.all
+  pub goes_on : part ≢ [] → TakesMore b (length finished.all)
   pub rose : Rose a.in_faults b.in_faults
 
 -- another command begins

@@ -19,7 +19,7 @@ use Rattle.pk_serve.specs.Serving.{Answered, KeptAt, installs}
 use Rattle.pk_serve.specs.Calling.{calls_of, most_calls_of_all}
 use Rattle.pk_serve.specs.declared.end.End.{End}
 use Rattle.pk_serve.specs.declared.end.End.TheVariants.{Done, Truncated, Input, Output, Flash, Worn}
-use Rattle.pk_serve.specs.Loop.{most_entries}
+use Rattle.pk_serve.specs.Loop.{most_entries, TakesMore}
 
 -- The headline: every cut keeps what was served of the script, and from each state of the trail to the next the tree grows.
 abbrev pub KeepsScript : BoardState → BoardState → Sight → Type 0
@@ -55,20 +55,16 @@ pub record Served (shape : Shape) (frames : ℕ) (start : Map) (a b : BoardState
   pub few : length cs ≤ most_entries
   pub unworn : cs ≢ [] → is_worn a ≡ false
 
--- fewer were taken than a run takes, and the drive is not worn
-abbrev pub TakesMore : BoardState → List Command → Type 0
-TakesMore board cs = (length cs < most_entries) × (is_worn board ≡ false)
-
 -- Which commands were served, by the end: all of the script; all of it, and more bytes; those whole in the bytes that were taken; those before
 -- another one that begins; those before an entry that is refused; those before the one in which a call failed, or a front of them.
 abbrev pub ServedBy : Shape → ℕ → Map → BoardState → BoardState → List ℕ → End → Type 0
 ServedBy shape frames start a b input Done =
     (script input ≡ ((script input).0, [])) × Served shape frames start a b (script input).0 × AtEnd b.input × (b.in_faults ≡ a.in_faults)
 ServedBy shape frames start a b input Truncated =
-    ((script input).1 ≢ []) × TakesMore b (script input).0 × Served shape frames start a b (script input).0 × AtEnd b.input × (b.in_faults ≡ a.in_faults)
+    ((script input).1 ≢ []) × TakesMore b (length (script input).0) × Served shape frames start a b (script input).0 × AtEnd b.input × (b.in_faults ≡ a.in_faults)
 ServedBy shape frames start a b input Input =
     (taken : List ℕ) × (left : List ℕ) × (b.input ≡ Some left) × (input ≡ taken ++ left) × Served shape frames start a b (script taken).0
-    × ((script taken).1 ≢ [] → TakesMore b (script taken).0) × Rose a.in_faults b.in_faults
+    × ((script taken).1 ≢ [] → TakesMore b (length (script taken).0)) × Rose a.in_faults b.in_faults
 ServedBy shape frames start a b input Worn =
     (bytes : List ℕ) × (more : List ℕ) × (input ≡ bytes ++ more) × (more ≢ []) × (script bytes ≡ ((script bytes).0, [])) × Served shape frames start a b (script bytes).0
     × ((length (script bytes).0 ≡ most_entries) ⊎ (is_worn b ≡ true)) × (b.in_faults ≡ a.in_faults)
@@ -83,7 +79,7 @@ Answers a b before end =
 -- The same where the input is not told: some commands were served, and each end has its cause.
 abbrev pub ServedSome : Shape → ℕ → Map → BoardState → BoardState → End → Type 0
 ServedSome shape frames start a b Done = (cs : List Command) × Served shape frames start a b cs × (b.in_faults ≡ a.in_faults)
-ServedSome shape frames start a b Truncated = (cs : List Command) × TakesMore b cs × Served shape frames start a b cs × (b.in_faults ≡ a.in_faults)
+ServedSome shape frames start a b Truncated = (cs : List Command) × TakesMore b (length cs) × Served shape frames start a b cs × (b.in_faults ≡ a.in_faults)
 ServedSome shape frames start a b Input = (cs : List Command) × Served shape frames start a b cs × Rose a.in_faults b.in_faults
 ServedSome shape frames start a b Worn =
     (cs : List Command) × Served shape frames start a b cs × ((length cs ≡ most_entries) ⊎ (is_worn b ≡ true)) × (b.in_faults ≡ a.in_faults)

@@ -1,4 +1,5 @@
-//! The serving loop.
+//! The serving loop: functions over the parts of a `Server`, since their contracts say which records are held before a call and
+//! behind it, and of what a call writes into a field of `&mut self` the check gives no plain equation.
 ghost use Rattle.std.specs.Prelude.{◌≡◌, ◌<◌, ◌-◌, ◌^◌, ◌⊎◌, ℕ, List, [], true, false, OnOk, IfErr};
 ghost use Rattle.pk_queue.specs.Queue.{bytes_of};
 ghost use Rattle.pk_serve.specs.Ends.{IsFault, Blames};
