@@ -4,6 +4,7 @@ use Rattle.pk_base.specs.Shape.{Shape}
 use Rattle.pk_work.specs.Rest.{whole_reclaim}
 use Rattle.pk_work.specs.Calls.{commit_calls, lookup_calls, room_calls}
 use Rattle.pk_nand.specs.BoardState.{BoardState}
+use Rattle.pk_nand.specs.Calls.{last_count}
 use Rattle.pk_model.specs.Wear.{roots}
 use Rattle.pk_call.specs.Calling.{FewCalls}
 
@@ -14,7 +15,7 @@ pub record Spends (most_calls most_roots : ℕ) (old new : BoardState) : Type 0 
 
 -- the numbers of roots last for so many further ones
 abbrev pub NumbersLast : ℕ → BoardState → Type 0
-NumbersLast more board = roots board + more < 18446744073709551615
+NumbersLast more board = roots board + more < last_count
 
 -- a block is taken, and so many pages of a value are programmed
 abbrev pub place_calls : ℕ → ℕ

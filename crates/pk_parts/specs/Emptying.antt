@@ -5,7 +5,7 @@ use Rattle.pk_base.specs.Shape.{Shape}
 use Rattle.pk_nand.specs.declared.types.Fault.{Fault}
 use Rattle.pk_nand.specs.declared.types.Fault.TheVariants.{Reading, Stopped}
 use Rattle.pk_nand.specs.BoardState.{BoardState}
-use Rattle.pk_nand.specs.Calls.{IsReady, Rose}
+use Rattle.pk_nand.specs.Calls.{IsReady, Rose, last_count}
 use Rattle.pk_nand.specs.Effects.{AtMostOneCall, OnlyFlash, NoFault}
 use Rattle.pk_model.specs.Wear.{roots}
 use Rattle.pk_log.specs.State.{needs_freeze}
@@ -78,7 +78,7 @@ merges_due d = due_level d.log.shape (backlog_of (index_of d))
 pub record MayEmpty (d : Parts) (board : BoardState) : Type 0 where
   pub may : MayStep d board
   pub none_pending : d.log.pending ≡ []
-  pub number : roots board < 18446744073709551615
+  pub number : roots board < last_count
 
 -- A step of the merges was made, a read of it failed, or nothing was left to do.
 pub record MergesOnce (before after : Parts) (old new : BoardState) (result : Result Stepped Fault) : Type 0 where

@@ -4,6 +4,7 @@ use Rattle.pk_base.specs.Shape.{Shape}
 use Rattle.pk_base.specs.Map.{Map}
 use Rattle.pk_nand.specs.declared.types.Fault.{Fault}
 use Rattle.pk_nand.specs.BoardState.{BoardState}
+use Rattle.pk_nand.specs.Calls.{last_count}
 use Rattle.pk_work.specs.Rest.{whole_reclaim}
 use Rattle.pk_work.specs.Calls.{room_calls, room_roots}
 use Rattle.pk_model.specs.Wear.{roots}
@@ -87,7 +88,7 @@ Awaits count d = (runs_in d.reclaim.phase ≡ true) ⊎ (needs count d ≡ true)
 pub record MaySpace (count : ℕ) (d : Parts) (board : BoardState) : Type 0 where
   pub may : MayStep d board
   pub none_pending : d.log.pending ≡ []
-  pub number : roots board + space_left count d < 18446744073709551615
+  pub number : roots board + space_left count d < last_count
 
 -- One was made by so many calls of the board, and less is left; or a call of it failed.
 pub record SpacesOnce (count : ℕ) (before after : Parts) (old new : BoardState) (result : Result Unit Fault) : Type 0 where

@@ -25,7 +25,7 @@ pub record MayTick (d : Parts) (board : BoardState) : Type 0 where
   pub agrees : DriveOnFlash d board.shape board.pages
   pub unstopped : d.stopped ≡ false
   pub none : d.log.pending ≡ []
-  pub number : d.log.root.number < 18446744073709551615
+  pub number : d.log.root.number < last_count
   -- the board counts in 64 bits
   pub counted : board.read_faults ≤ last_count
 

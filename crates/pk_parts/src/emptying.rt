@@ -51,6 +51,7 @@ impl<A: Region> Parts<A> {
         ensures leaves { OnRunning (LeavesValues self.old self.new) result }
         ensures moves { OnRunning (Stays self.old self.new) result }
     {
+        // the proof names the loop by its label
         'merges: loop {
             match self.merge_once(board) {
                 Ok(Stepped::Worked) => {}
@@ -95,6 +96,7 @@ impl<A: Region> Parts<A> {
         ensures leaves { OnOk result (LeavesValues self.old self.new) }
         ensures moves { OnOk result (Stays self.old self.new) }
     {
+        // the proof names the loop by its label
         'freezes: loop {
             match self.freeze_once(board) {
                 Ok(false) => {}

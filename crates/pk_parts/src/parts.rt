@@ -25,6 +25,7 @@ pub struct Parts<A: Region> {
     pub(crate) reclaim: ReclaimJob<A>,
     pub(crate) pool: Pool<A>,
     pub(crate) keys: u32,
+    /// A program or an erase failed: set by a step that answers how it went, and by `set_stopped` where a call hands its fault on.
     pub(crate) stopped: bool,
     /// The bytes of a page.
     pub(crate) page: Vec<u8, A>,

@@ -64,6 +64,7 @@ impl<A: Region> Parts<A> {
         ensures none { OnRunning (self.new.log.pending ≡ []) result }
         ensures stays { OnRunning (StaysSame self.old self.new) result }
     {
+        // the proof names the loop by its label
         'reclaims: loop {
             if !self.awaits_space(count) {
                 return Ok(());

@@ -91,6 +91,7 @@ impl<A: Region> Parts<A> {
             &mut self.page,
         ) {
             Ok(_) => Ticked::Worked,
+            // only a program or an erase can fail here
             Err(_) => {
                 self.stopped = true;
                 Ticked::Fault { stopped: true }
@@ -135,6 +136,7 @@ impl<A: Region> Parts<A> {
         match self.erase_spare(board) {
             Ok(true) => Ticked::Worked,
             Ok(false) => Ticked::Idle,
+            // only an erase can fail here
             Err(_) => Ticked::Fault { stopped: true },
         }
     }
