@@ -7,13 +7,10 @@ ghost use Rattle.pk_rootfmt.specs.Held.{first as first_root};
 ghost use Rattle.pk_rootfmt.specs.Root.{root_bytes};
 ghost use Rattle.pk_model.specs.Reading.{Holds};
 
-use pk_base::Shape;
+use pk_base::{MOST_PAGE_BYTES, Shape};
 use pk_nand::{Nand, NandFault};
 use pk_rootfmt::first;
 use pk_seg::write_page;
-
-/// The most bytes of a page.
-const MOST_PAGE_BYTES: usize = 16384;
 
 /// Writes the first root into page 0; `page` has the bytes of a page, which are lost.
 fn write_first<B: Nand>(board: &mut B, shape: Shape, page: &mut [u8]) -> Result<(), NandFault>
@@ -53,6 +50,6 @@ pub fn format<B: Nand>(board: &mut B, shape: Shape) -> Result<(), NandFault>
 {
     shape.known();
     let bytes = shape.page_bytes() as usize;
-    let mut page = [0u8; MOST_PAGE_BYTES];
+    let mut page = [0u8; MOST_PAGE_BYTES as usize];
     write_first(board, shape, &mut page[..bytes])
 }

@@ -82,6 +82,7 @@ pub(crate) fn exist<B: Nand, A: Region>(
     match parts.look(board, &key) {
         Ok(Some(_)) => served(0, 0, reads_since(board, before)),
         Ok(None) => refusal(KEY_DOES_NOT_EXIST, reads_since(board, before)),
+        // only a read can fail here
         Err(_) => refusal(UNRECOVERED_ERROR, reads_since(board, before)),
     }
 }
@@ -117,6 +118,7 @@ pub(crate) fn retrieve<B: Nand, A: Region>(
             let count = place.len.min(request.size);
             match parts.hand_over(board, place.page, count, into) {
                 Ok(()) => served(place.len, count, reads_since(board, before)),
+                // only a read can fail here, and below
                 Err(_) => refusal(UNRECOVERED_ERROR, reads_since(board, before)),
             }
         }

@@ -39,14 +39,14 @@ fn pages_at(shape: &Shape, place: &Option<Place>) -> u32
     }
 }
 
-// Bytes are numbers below 256.
+// Bytes are numbers below 256: it does nothing, and tells the proofs so.
 fn are_bytes(bytes: &[u8])
     ensures { AreBytes bytes.now }
 {
     let _ = bytes.len();
 }
 
-// A key has 1 to 16 bytes.
+// A key has 1 to 16 bytes: it does nothing, and tells the proofs so.
 fn known(key: &Key)
     ensures key { IsKey key.now }
     ensures bytes { AreBytes key.now }

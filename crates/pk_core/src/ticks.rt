@@ -43,7 +43,7 @@ fn answer_of(last: Ticked, reads: u32) -> Outcome
 fn work<B: Nand, A: Region>(parts: &mut Parts<A>, board: &mut B, steps: u32) -> Ticked
     requires may { MayTick parts.old (B.state board.old) }
     requires count { (B.state board.old).reads ≤ last_count }
-    requires numbers { parts.old.log.root.number + steps ≤ 18446744073709551615 }
+    requires numbers { parts.old.log.root.number + steps ≤ last_count }
 
     // The drive.
     ensures stops { parts.new.stopped ≡ stopped_by result }
