@@ -27,6 +27,7 @@ pub struct Server {
 impl Model for Server {
     ghost use Rattle.std.specs.Prelude.{◌≤◌, ◌<◌, length};
     ghost use Rattle.pk_base.specs.Shape as spec;
+    ghost use Rattle.pk_nvme.specs.declared.limits.TheConstants.{MOST_LIST_BYTES};
 
     ghost Value = { spec.Shape };
 
