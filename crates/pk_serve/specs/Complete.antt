@@ -38,20 +38,20 @@ pub record Complete (shape : Shape) (frames : ℕ) (start : Map) (a b : BoardSta
   pub holds : Holds shape b.pages (map_after_all shape start cs)
 
 -- The newest root's number of a drive that is far from worn is below 2^62: half of the numbers before 2^63, from which on a drive is worn.
-abbrev pub far_number : ℕ
-far_number = 4611686018427387904
+abbrev pub far_below : ℕ
+far_below = 4611686018427387904
 
 -- The steps that Ticks may ask for are fewer than 2^61: each installs at most one root, and what is left of a further 2^62 numbers is for the other
 -- commands.
-abbrev pub most_ticks : ℕ
-most_ticks = 2305843009213693952
+abbrev pub ticks_below : ℕ
+ticks_below = 2305843009213693952
 
 -- a script that is whole, of fewer than 2^32 entries, on a drive that is far from worn, where nothing fails
 pub record IsServable (a b : BoardState) (cs : List Command) (rest : List ℕ) : Type 0 where
   pub whole : rest ≡ []
   pub few : length cs < 4294967296
-  pub far_from_worn : roots a < far_number
-  pub few_ticks : ticks cs < most_ticks
+  pub far_from_worn : roots a < far_below
+  pub few_ticks : ticks cs < ticks_below
   pub none_rose : NoneRose a b
 
 abbrev pub Completes : BoardState → BoardState → Sight → End → Type 0

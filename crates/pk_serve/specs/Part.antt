@@ -52,6 +52,12 @@ pub record Faulted (old new : BoardState) (end : End) : Type 0 where
   pub fault : IsFault end
   pub cause : HasCause old new end
 
+-- the host was given bytes, and nothing else was done
+pub record OnlyGives (old new : BoardState) : Type 0 where
+  pub flash : (new.shape ≡ old.shape) × (new.pages ≡ old.pages)
+  pub input : new.input ≡ old.input
+  pub in_faults : new.in_faults ≡ old.in_faults
+
 -- nothing was taken of the input
 pub record TakesNone (old new : BoardState) : Type 0 where
   pub shape : new.shape ≡ old.shape

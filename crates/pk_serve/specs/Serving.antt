@@ -19,6 +19,7 @@ use Rattle.pk_model.specs.Growth.{GrowsAlong, Goes}
 use Rattle.pk_call.specs.Meter.{Meter, meter, MeteredAll, reads_after}
 use Rattle.pk_call.specs.Exec.{most_installs}
 use Rattle.pk_serve.specs.Ends.{NoFaults, HasCause}
+use Rattle.pk_serve.specs.Part.{Faulted}
 use Rattle.pk_serve.specs.Calling.{calls_of, owed, most_calls_of_all}
 use Rattle.pk_serve.specs.declared.end.End.{End}
 
@@ -80,6 +81,11 @@ abbrev pub Breaks : BoardState → BoardState → Sight → List ℕ → End →
 Breaks old new before bytes end =
     (shape : Shape) (frames : ℕ) (start : Map) (a : BoardState) (behind : List ℕ) (all : List Exchange) (m : Map)
     → Serving shape frames start a old before (bytes ++ behind) all m → Cutoff shape frames start a new (commands all) × HasCause a new end
+
+-- The output or the flash failed while these bytes were held: its count of faults tells, and what was served is kept.
+pub record FailsHolding (old new : BoardState) (before : Sight) (held : List ℕ) (end : End) : Type 0 where
+  pub fault : Faulted old new end
+  pub breaks : Breaks old new before held end
 
 -- A drive with nothing pending posts these bytes.
 abbrev pub Posts : BoardState → BoardState → List ℕ → Type 0

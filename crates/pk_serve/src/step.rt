@@ -6,8 +6,8 @@ ghost use Rattle.pk_queue.specs.Queue.{bytes_of};
 ghost use Rattle.pk_call.specs.Seen.{reply_of};
 ghost use Rattle.pk_call.specs.Exec.{IsValue};
 ghost use Rattle.pk_serve.specs.Ends.{NoFaults};
-ghost use Rattle.pk_serve.specs.Part.{IsRunning, CanServe, IsHanded, HasRoom, KeepsRunning, Faulted, TakesNone, InstallsNone, SameRoom};
-ghost use Rattle.pk_serve.specs.Serving.{Flushed, Breaks, Posts, PostBreaks, Keeps, Serves, Stops};
+ghost use Rattle.pk_serve.specs.Part.{IsRunning, CanServe, IsHanded, HasRoom, KeepsRunning, Faulted, TakesNone, InstallsNone, OnlyGives, SameRoom};
+ghost use Rattle.pk_serve.specs.Serving.{Flushed, FailsHolding, Posts, PostBreaks, Keeps, Serves, Stops};
 ghost use Rattle.pk_nvme.specs.declared.opcode.TheConstants.{TICK};
 
 use crate::End;
@@ -24,10 +24,7 @@ use pk_queue::Queue;
 /// Gives bytes to the host; none where there are none.
 pub fn give<B: Board>(board: &mut B, bytes: &[u8]) -> Result<(), End>
     // What stays of the board.
-    ensures flash { ((B.state board.new).shape ≡ (B.state board.old).shape)
-        × ((B.state board.new).pages ≡ (B.state board.old).pages) }
-    ensures input { (B.state board.new).input ≡ (B.state board.old).input }
-    ensures in_faults { (B.state board.new).in_faults ≡ (B.state board.old).in_faults }
+    ensures only { OnlyGives (B.state board.old) (B.state board.new) }
 
     // The posts, or a fault.
     ensures posts { OnOk result (Posts (B.state board.old) (B.state board.new) bytes.now) }
@@ -47,10 +44,7 @@ pub fn give<B: Board>(board: &mut B, bytes: &[u8]) -> Result<(), End>
 /// Gives the held records to the host, in order.
 pub fn give_all<B: Board>(board: &mut B, heads: &[[u8; RECORD_HEAD_BYTES]]) -> Result<(), End>
     // What stays of the board.
-    ensures flash { ((B.state board.new).shape ≡ (B.state board.old).shape)
-        × ((B.state board.new).pages ≡ (B.state board.old).pages) }
-    ensures input { (B.state board.new).input ≡ (B.state board.old).input }
-    ensures in_faults { (B.state board.new).in_faults ≡ (B.state board.old).in_faults }
+    ensures only { OnlyGives (B.state board.old) (B.state board.new) }
 
     // The posts, or a fault.
     ensures posts { OnOk result
@@ -86,8 +80,7 @@ pub fn flush<D: Engine, B: Board>(drive: &mut D, board: &mut B, held: &mut Queue
         (D.sight drive.old) (D.sight drive.new) (bytes_of held.old.heads)) }
 
     // A fault.
-    ensures fault { IfErr result (Faulted (B.state board.old) (B.state board.new)) }
-    ensures breaks { IfErr result (Breaks (B.state board.old) (B.state board.new)
+    ensures fails { IfErr result (FailsHolding (B.state board.old) (B.state board.new)
         (D.sight drive.old) (bytes_of held.old.heads)) }
 {
     // so a command that only reads, behind a flush of its own, makes none before its record
@@ -127,8 +120,7 @@ pub fn prepare<D: Engine, B: Board>(
         (D.sight drive.new) (bytes_of held.old.heads) (bytes_of held.new.heads)) }
 
     // A fault.
-    ensures fault { IfErr result (Faulted (B.state board.old) (B.state board.new)) }
-    ensures breaks { IfErr result (Breaks (B.state board.old) (B.state board.new)
+    ensures fails { IfErr result (FailsHolding (B.state board.old) (B.state board.new)
         (D.sight drive.old) (bytes_of held.old.heads)) }
 {
     if request.opcode == STORE || request.opcode == DELETE {
@@ -193,8 +185,7 @@ pub fn finish<D: Engine, B: Board>(
         (bytes_of held.new.heads)) }
 
     // A fault.
-    ensures fault { IfErr result (Faulted (B.state board.old) (B.state board.new)) }
-    ensures breaks { IfErr result (Breaks (B.state board.old) (B.state board.new)
+    ensures fails { IfErr result (FailsHolding (B.state board.old) (B.state board.new)
         (D.sight drive.old) (bytes_of held.old.heads ++ (head ++ bytes.now))) }
 {
     if waits {

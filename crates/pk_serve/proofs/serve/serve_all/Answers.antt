@@ -19,9 +19,9 @@ pub returns-in-Err : goal.returns-in-Err
 returns-in-Err g c =
     let e = c.in-Err.ensures in
     record {
-      ends = λ shape frames start stands none. Finish-broken shape frames start _ _ _ _ _ _ e.rest.takes.input e.rest.takes.in_faults _ _ e.breaks (no_fault _ c.in_default.not-Output c.in_default.not-Flash)
+      ends = λ shape frames start stands none. Finish-broken shape frames start _ _ _ _ _ _ e.rest.takes.input e.rest.takes.in_faults _ _ e.fails.breaks (no_fault _ c.in_default.not-Output c.in_default.not-Flash)
           (c.serve_entries-end.ensures.ends shape frames start stands none);
-      consumes = consumes_failed _ _ _ e.fault.fault;
-      blames = blames-behind _ _ _ _ _ (no_fault _ c.in_default.not-Output c.in_default.not-Flash) c.serve_entries-end.ensures.blames e.fault.cause;
-      none = inl e.fault.fault;
+      consumes = consumes_failed _ _ _ e.fails.fault.fault;
+      blames = blames-behind _ _ _ _ _ (no_fault _ c.in_default.not-Output c.in_default.not-Flash) c.serve_entries-end.ensures.blames e.fails.fault.cause;
+      none = inl e.fails.fault.fault;
     }

@@ -20,9 +20,7 @@ loop-head-preserved g c =
     let e = c.in-Ok.ensures in
     let next : suc i ≡ i + 1 = omega arith in
     record {
-      flash = (e.flash.0 ∙ v.flash.0, e.flash.1 ∙ v.flash.1);
-      input = e.input ∙ v.input;
-      in_faults = e.in_faults ∙ v.in_faults;
+      only = record { flash = (e.only.flash.0 ∙ v.only.flash.0, e.only.flash.1 ∙ v.only.flash.1); input = e.only.input ∙ v.only.input; in_faults = e.only.in_faults ∙ v.only.in_faults };
       quiet = quiet-then _ _ _ v.quiet e.quiet;
       posts = posts_both _ _ _ (bytes_of (take i heads)) _ (bytes_of (take (i + 1) heads)) (ap (λ n. bytes_of (take n heads)) (sym next) ∙ bytes_of-next heads i c.loop-head-test.true) v.posts e.posts;
     }

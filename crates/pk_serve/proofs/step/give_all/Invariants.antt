@@ -1,6 +1,7 @@
-use Rattle.std.proofs.Common.{◌≡◌, take}
+use Rattle.std.proofs.Common.{take}
 use Rattle.pk_queue.specs.Queue.{bytes_of}
 use Rattle.pk_serve.specs.Ends.{NoFaults}
+use Rattle.pk_serve.specs.Part.{OnlyGives}
 use Rattle.pk_serve.specs.Serving.{Posts}
 use Rattle.pk_serve.proofs.step.give_all.Given as goal
 
@@ -9,9 +10,7 @@ invariant-loop-head g l =
     let a = g.B.Nand.state l.initial.board in
     let b = g.B.Nand.state l.board in
     record {
-      flash : (b.shape ≡ a.shape) × (b.pages ≡ a.pages);
-      input : b.input ≡ a.input;
-      in_faults : b.in_faults ≡ a.in_faults;
+      only : OnlyGives a b;
       quiet : NoFaults a b;
       posts : Posts a b (bytes_of (take l.head-index l.heads));
     }

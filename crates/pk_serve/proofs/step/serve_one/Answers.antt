@@ -14,7 +14,7 @@ use Rattle.pk_serve.proofs.Counting.{unworn_few}
 use Rattle.pk_serve.proofs.step.serve_one.Goals as goal
 
 pub returns-in-Err-clause-stops : goal.returns-in-Err-clause-stops
-returns-in-Err-clause-stops g c = λ v is. stops_before _ _ _ (bytes_of c.args.held.now.heads) c.args.entry.now.before c.in-Err.end _ c.in-Err.ensures.breaks
+returns-in-Err-clause-stops g c = λ v is. stops_before _ _ _ (bytes_of c.args.held.now.heads) c.args.entry.now.before c.in-Err.end _ c.in-Err.ensures.fails.breaks
 
 pub returns-then-outcome-clause-stops : goal.returns-then-outcome-clause-stops
 returns-then-outcome-clause-stops g c = λ v is.
@@ -48,7 +48,7 @@ returns-in-Err-finish-clause-stops g c = λ v is.
     (stands_value _ _ _ _ (command_of c.args.entry.now.request c.args.value.now) v has _ _ (e.stands c.if-outcome.false))
     e.rest e.up (λ h. e.unread h c.if-outcome.false) (λ h. (e.sound h).1) (e.no_stop c.if-outcome.false) e.reads (unworn_few (g.B.Nand.state c.args.board.now) (g.B.Nand.state c.prepare.new.board) c.requires.can_serve.unworn c.in-Ok.ensures.rest.installs) e.installs e.calls _ _
     (breaks_record (g.B.Nand.state c.exec-outcome.new.board) (g.B.Nand.state c.finish.new.board) (g.D.Engine.sight c.exec-outcome.new.self) (bytes_of c.prepare.new.held.heads) _ _ c.in-Err-finish.end
-    (c.head_of-head.ensures c.exec-outcome.new.into e.fits) c.in-Err-finish.ensures.breaks)
+    (c.head_of-head.ensures c.exec-outcome.new.into e.fits) c.in-Err-finish.ensures.fails.breaks)
 
 pub returns-then-outcome-clause-fault : goal.returns-then-outcome-clause-fault
 returns-then-outcome-clause-fault g c = record { fault = tt; cause = rose_from c.in-Ok.ensures.runs_on.quiet.stop (c.exec-outcome.ensures.stop c.if-outcome.true) }
@@ -62,4 +62,7 @@ pub returns-in-Err-finish-clause-fault : goal.returns-in-Err-finish-clause-fault
 returns-in-Err-finish-clause-fault g c =
     let e = c.exec-outcome.ensures in
     faulted-then (g.B.Nand.state c.args.board.now) (g.B.Nand.state c.exec-outcome.new.board) (g.B.Nand.state c.finish.new.board) c.in-Err-finish.end
-    (quiet-then _ _ _ c.in-Ok.ensures.runs_on.quiet (quiet-flash _ _ e.rest (e.no_stop c.if-outcome.false))) c.in-Err-finish.ensures.fault
+    (quiet-then _ _ _ c.in-Ok.ensures.runs_on.quiet (quiet-flash _ _ e.rest (e.no_stop c.if-outcome.false))) c.in-Err-finish.ensures.fails.fault
+
+pub returns-in-Err-clause-fault : goal.returns-in-Err-clause-fault
+returns-in-Err-clause-fault g c = c.in-Err.ensures.fails.fault
