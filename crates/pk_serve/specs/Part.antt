@@ -40,6 +40,12 @@ pub record HasBuffers (board : BoardState) (shape : Shape) (value into : List �
   pub fits : greatest shape ≤ length value
   pub some : 0 < length value
 
+-- a run may begin: the drive runs, no record is held, and the buffers have room
+pub record CanRun (agreeing : Option Shape → Pages → Type 0) (drive : Sight) (board : BoardState) (shape : Shape) (held : List (List ℕ)) (value into : List ℕ) : Type 0 where
+  pub running : IsRunning agreeing drive board
+  pub none : held ≡ []
+  pub buffers : HasBuffers board shape value into
+
 -- ---- what is left
 
 -- nothing failed: the drive agrees with the board and runs, and no fault was counted

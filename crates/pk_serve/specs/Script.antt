@@ -6,7 +6,9 @@ use Rattle.pk_model.specs.Script.{script}
 use Rattle.pk_model.specs.Wear.{is_worn}
 use Rattle.pk_serve.specs.Input.{Spells, IsPart}
 use Rattle.pk_nand.specs.Calls.{put_back, AtEnd}
-use Rattle.pk_serve.specs.Loop.{most_entries}
+use Rattle.pk_model.specs.Sight.{Sight}
+use Rattle.pk_serve.specs.Ends.{Blames}
+use Rattle.pk_serve.specs.Loop.{Ends, most_entries}
 use Rattle.pk_serve.specs.declared.end.End.{End}
 use Rattle.pk_serve.specs.declared.end.End.TheVariants.{Done, Truncated, Input, Output, Flash, Worn}
 
@@ -26,6 +28,12 @@ Consumes a b Input = Unit {0}
 Consumes a b Output = Unit {0}
 Consumes a b Flash = Unit {0}
 Consumes a b Worn = (taken : ℕ) × (part : List ℕ) × (part ≢ []) × Consumed a b taken part × ((taken ≡ most_entries) ⊎ (is_worn b ≡ true))
+
+-- What is told of a run by its end: what was taken, which commands were served, with these bytes held, and the counts of faults.
+pub record Runs (a b : BoardState) (before after : Sight) (held : List ℕ) (end : End) : Type 0 where
+  pub consumes : Consumes a b end
+  pub ends : Ends a b before after held end
+  pub blames : Blames a b end
 
 -- What it says of the script. Done: it is whole. Truncated: bytes stand behind its last command. Worn: more bytes stand behind as many commands
 -- as are taken, or the drive is worn.

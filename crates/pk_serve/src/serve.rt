@@ -3,10 +3,9 @@
 ghost use Rattle.std.specs.Prelude.{◌≡◌, ◌<◌, ◌-◌, ◌^◌, ◌⊎◌, ℕ, List, [], true, false, OnOk, IfErr};
 ghost use Rattle.pk_queue.specs.Queue.{bytes_of};
 ghost use Rattle.pk_serve.specs.Ends.{IsFault, Blames};
-ghost use Rattle.pk_serve.specs.Part.{IsRunning, HasBuffers, KeepsRunning, SameSizes};
+ghost use Rattle.pk_serve.specs.Part.{IsRunning, CanRun, HasBuffers, KeepsRunning, SameSizes};
 ghost use Rattle.pk_serve.specs.Input.{Advances, Quits};
-ghost use Rattle.pk_serve.specs.Script.{Consumes};
-ghost use Rattle.pk_serve.specs.Loop.{Ends};
+ghost use Rattle.pk_serve.specs.Script.{Runs};
 
 use crate::End;
 use crate::entry::{Numbered, take_entry, take_value};
@@ -87,18 +86,15 @@ pub fn serve_entries<D: Engine, B: Board>(
     shape: &Shape,
 ) -> End
     // The drive with no record held, and the buffers.
-    requires running { IsRunning (D.agrees drive.old) (D.sight drive.old) (B.state board.old) }
-    requires none { held.old.heads ≡ [] }
-    requires buffers { HasBuffers (B.state board.old) shape.now value.old into.old }
+    requires { CanRun (D.agrees drive.old) (D.sight drive.old) (B.state board.old) shape.now
+        held.old.heads value.old into.old }
 
     // The commands that were served.
-    ensures consumes { Consumes (B.state board.old) (B.state board.new) result }
-    ensures ends { Ends (B.state board.old) (B.state board.new) (D.sight drive.old)
+    ensures runs { Runs (B.state board.old) (B.state board.new) (D.sight drive.old)
         (D.sight drive.new) (bytes_of held.new.heads) result }
 
     // The drive and the board behind them.
     ensures shape { (B.state board.new).shape ≡ (B.state board.old).shape }
-    ensures blames { Blames (B.state board.old) (B.state board.new) result }
     ensures open { IsFault result
         ⊎ IsRunning (D.agrees drive.new) (D.sight drive.new) (B.state board.new) }
 {
@@ -125,17 +121,14 @@ pub fn serve_all<D: Engine, B: Board>(
     shape: &Shape,
 ) -> End
     // The drive with no record held, and the buffers.
-    requires running { IsRunning (D.agrees drive.old) (D.sight drive.old) (B.state board.old) }
-    requires none { held.old.heads ≡ [] }
-    requires buffers { HasBuffers (B.state board.old) shape.now value.old into.old }
+    requires { CanRun (D.agrees drive.old) (D.sight drive.old) (B.state board.old) shape.now
+        held.old.heads value.old into.old }
 
     // The commands that were served.
-    ensures consumes { Consumes (B.state board.old) (B.state board.new) result }
-    ensures ends { Ends (B.state board.old) (B.state board.new) (D.sight drive.old)
+    ensures runs { Runs (B.state board.old) (B.state board.new) (D.sight drive.old)
         (D.sight drive.new) [] result }
 
     // The drive and the board behind them.
-    ensures blames { Blames (B.state board.old) (B.state board.new) result }
     ensures none { IsFault result ⊎ (((D.sight drive.new).pending ≡ [])
         × (D.agrees drive.new (B.state board.new).shape (B.state board.new).pages)) }
 {

@@ -7,21 +7,27 @@ use Rattle.pk_serve.proofs.serve.serve_all.Goals as goal
 pub returns-in-Ok : goal.returns-in-Ok
 returns-in-Ok g c =
     let e = c.in-Ok.ensures in
+    let r = c.serve_entries-end.ensures.runs in
     record {
-      ends = λ shape frames start stands none. Finish-closed shape frames start _ _ _ _ _ _ e.rest.takes.input e.rest.takes.in_faults _ e.serves (ap (λ n. nat_le 9223372036854775808 n) e.rest.installs) (no_fault _ c.in_default.not-Output c.in_default.not-Flash)
-          (c.serve_entries-end.ensures.ends shape frames start stands none);
-      consumes = consumes-still _ _ _ e.rest.takes.input (ap (λ n. nat_le 9223372036854775808 n) e.rest.installs) _ c.serve_entries-end.ensures.consumes;
-      blames = blames-still _ _ _ _ c.serve_entries-end.ensures.blames e.rest.takes.in_faults e.runs_on.quiet;
+      runs = record {
+        ends = λ shape frames start stands none. Finish-closed shape frames start _ _ _ _ _ _ e.rest.takes.input e.rest.takes.in_faults _ e.serves (ap (λ n. nat_le 9223372036854775808 n) e.rest.installs) (no_fault _ c.in_default.not-Output c.in_default.not-Flash)
+            (r.ends shape frames start stands none);
+        consumes = consumes-still _ _ _ e.rest.takes.input (ap (λ n. nat_le 9223372036854775808 n) e.rest.installs) _ r.consumes;
+        blames = blames-still _ _ _ _ r.blames e.rest.takes.in_faults e.runs_on.quiet;
+      };
       none = inr (e.none, e.runs_on.running.agrees);
     }
 
 pub returns-in-Err : goal.returns-in-Err
 returns-in-Err g c =
     let e = c.in-Err.ensures in
+    let r = c.serve_entries-end.ensures.runs in
     record {
-      ends = λ shape frames start stands none. Finish-broken shape frames start _ _ _ _ _ _ e.rest.takes.input e.rest.takes.in_faults _ _ e.fails.breaks (no_fault _ c.in_default.not-Output c.in_default.not-Flash)
-          (c.serve_entries-end.ensures.ends shape frames start stands none);
-      consumes = consumes_failed _ _ _ e.fails.fault.fault;
-      blames = blames-behind _ _ _ _ _ (no_fault _ c.in_default.not-Output c.in_default.not-Flash) c.serve_entries-end.ensures.blames e.fails.fault.cause;
+      runs = record {
+        ends = λ shape frames start stands none. Finish-broken shape frames start _ _ _ _ _ _ e.rest.takes.input e.rest.takes.in_faults _ _ e.fails.breaks (no_fault _ c.in_default.not-Output c.in_default.not-Flash)
+            (r.ends shape frames start stands none);
+        consumes = consumes_failed _ _ _ e.fails.fault.fault;
+        blames = blames-behind _ _ _ _ _ (no_fault _ c.in_default.not-Output c.in_default.not-Flash) r.blames e.fails.fault.cause;
+      };
       none = inl e.fails.fault.fault;
     }

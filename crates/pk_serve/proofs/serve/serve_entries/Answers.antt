@@ -31,31 +31,27 @@ loop-taken-preserved g c =
           Looping-next shape frames start _ _ _ _ _ _ _ c.loop-taken.taken w (omega arith) e.advances;
     }
 
-pub returns-in-Err-clause-ends : goal.returns-in-Err-clause-ends
-returns-in-Err-clause-ends g c = λ shape frames start stands none.
+pub returns-in-Err-clause-runs : goal.returns-in-Err-clause-runs
+returns-in-Err-clause-runs g c =
     let e = c.in-Err.ensures in
     let D = g.D.Engine in
-    let w = c.loop-taken.invariant.looping shape frames start stands none in
-    Finish-quits shape frames start _ _ (g.B.Nand.state c.serve_next.new.board) _ (D.sight c.serve_next.new.drive) _ (bytes_of c.serve_next.new.held.heads) c.loop-taken.taken w (omega arith) c.in-Err.end c.loop-taken.invariant.in_faults
-    (elim e.open [ inl f ↦ inl f | inr o ↦ inr (ap D.sight o.1, ap bytes_of o.2) ]) e.quits
+    record {
+      consumes = consumes-quits _ _ _ c.loop-taken.taken c.loop-taken.invariant.consumed _ _ c.in-Err.end e.quits;
+      ends = λ shape frames start stands none.
+          let w = c.loop-taken.invariant.looping shape frames start stands none in
+          Finish-quits shape frames start _ _ (g.B.Nand.state c.serve_next.new.board) _ (D.sight c.serve_next.new.drive) _ (bytes_of c.serve_next.new.held.heads) c.loop-taken.taken w (omega arith) c.in-Err.end c.loop-taken.invariant.in_faults
+          (elim e.open [ inl f ↦ inl f | inr o ↦ inr (ap D.sight o.1, ap bytes_of o.2) ]) e.quits;
+      blames = blames-then _ _ _ c.in-Err.end c.loop-taken.invariant.in_faults c.loop-taken.invariant.runs_on.quiet e.blames;
+    }
 
-pub returns-in-Err-take_entry-clause-ends : goal.returns-in-Err-take_entry-clause-ends
-returns-in-Err-take_entry-clause-ends g c = λ shape frames start stands none.
+pub returns-in-Err-take_entry-clause-runs : goal.returns-in-Err-take_entry-clause-runs
+returns-in-Err-take_entry-clause-runs g c =
     let full : c.loop-taken.taken ≡ 4294967295 = omega arith in
-    let w = c.loop-taken.invariant.looping shape frames start stands none in
-    none_taken shape frames start _ _ _ _ _ _ _ c.loop-taken.taken w true (λ _. inl full) (λ h. absurd (true_false h)) c.in-Err-take_entry.end c.loop-taken.invariant.in_faults refl refl c.in-Err-take_entry.ensures.err
-
-pub returns-in-Err-clause-blames : goal.returns-in-Err-clause-blames
-returns-in-Err-clause-blames g c = blames-then _ _ _ c.in-Err.end c.loop-taken.invariant.in_faults c.loop-taken.invariant.runs_on.quiet c.in-Err.ensures.blames
-
-pub returns-in-Err-take_entry-clause-blames : goal.returns-in-Err-take_entry-clause-blames
-returns-in-Err-take_entry-clause-blames g c =
-    blames-then _ _ _ c.in-Err-take_entry.end c.loop-taken.invariant.in_faults c.loop-taken.invariant.runs_on.quiet (blames-entry _ _ true c.in-Err-take_entry.end c.in-Err-take_entry.ensures.err)
-
-pub returns-in-Err-clause-consumes : goal.returns-in-Err-clause-consumes
-returns-in-Err-clause-consumes g c = consumes-quits _ _ _ c.loop-taken.taken c.loop-taken.invariant.consumed _ _ c.in-Err.end c.in-Err.ensures.quits
-
-pub returns-in-Err-take_entry-clause-consumes : goal.returns-in-Err-take_entry-clause-consumes
-returns-in-Err-take_entry-clause-consumes g c =
-    let full : c.loop-taken.taken ≡ 4294967295 = omega arith in
-    consumes-entry _ _ _ c.loop-taken.taken c.loop-taken.invariant.consumed true (λ _. inl full) c.in-Err-take_entry.end c.in-Err-take_entry.ensures.err
+    let e = c.in-Err-take_entry.ensures in
+    record {
+      consumes = consumes-entry _ _ _ c.loop-taken.taken c.loop-taken.invariant.consumed true (λ _. inl full) c.in-Err-take_entry.end e.err;
+      ends = λ shape frames start stands none.
+          let w = c.loop-taken.invariant.looping shape frames start stands none in
+          none_taken shape frames start _ _ _ _ _ _ _ c.loop-taken.taken w true (λ _. inl full) (λ h. absurd (true_false h)) c.in-Err-take_entry.end c.loop-taken.invariant.in_faults refl refl e.err;
+      blames = blames-then _ _ _ c.in-Err-take_entry.end c.loop-taken.invariant.in_faults c.loop-taken.invariant.runs_on.quiet (blames-entry _ _ true c.in-Err-take_entry.end e.err);
+    }

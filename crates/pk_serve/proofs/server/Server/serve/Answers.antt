@@ -5,8 +5,8 @@ use Rattle.pk_serve.proofs.server.Server.serve.Goals as goal
 
 pub returns : goal.returns
 returns g c =
-    let e = c.serve_all.ensures in
-    let none = none_left _ _ _ e.none in
+    let none = none_left _ _ _ c.serve_all.ensures.none in
+    let e = c.serve_all.ensures.runs in
     record {
       blames = e.blames;
       says = says_of_script _ _ _ e.consumes;
