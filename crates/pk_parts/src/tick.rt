@@ -49,6 +49,15 @@ impl<A: Region> Parts<A> {
         }
     }
 
+    // A call failed that stops the drive.
+    fn stop(&mut self) -> Ticked
+        ensures value { result ≡ StopsDrive true }
+        ensures stopped { self.new ≡ record self.old { stopped = true } }
+    {
+        self.stopped = true;
+        Ticked::Fault { stopped: true }
+    }
+
     // One step of the merges, of which one runs, or the frozen buffer has entries.
     fn merge_step<B: Nand>(&mut self, board: &mut B) -> Ticked
         requires may { MayTick self.old (B.state board.old) }
@@ -67,10 +76,7 @@ impl<A: Region> Parts<A> {
             // a merge runs, or is due
             Ok(Stepped::Idle) => unreachable!(),
             Err(Fault::Reading) => Ticked::Fault { stopped: false },
-            Err(Fault::Stopped) => {
-                self.stopped = true;
-                Ticked::Fault { stopped: true }
-            }
+            Err(Fault::Stopped) => self.stop(),
         }
     }
 
@@ -92,20 +98,8 @@ impl<A: Region> Parts<A> {
         ) {
             Ok(_) => Ticked::Worked,
             // only a program or an erase can fail here
-            Err(_) => {
-                self.stopped = true;
-                Ticked::Fault { stopped: true }
-            }
+            Err(_) => self.stop(),
         }
-    }
-
-    // A call failed that stops the drive.
-    fn stop(&mut self) -> Ticked
-        ensures value { result ≡ StopsDrive true }
-        ensures stopped { self.new ≡ record self.old { stopped = true } }
-    {
-        self.stopped = true;
-        Ticked::Fault { stopped: true }
     }
 
     // One step of the reclaim that runs or is due; where its moves find no room, one of the freeze that makes it.

@@ -24,5 +24,5 @@ returns-in-Err g c =
     let e = c.freeze_step.ensures in
     let broken = c.in-Err.ensures.broken in
     let later : Parts = record { log = c.freeze_step.new.log; levels = c.self.inside.levels; arena = c.self.inside.arena; schedule = c.freeze_step.new.self; space = c.self.inside.space; reclaim = c.self.inside.reclaim; pool = c.freeze_step.new.pool; keys = c.self.inside.keys; stopped = true } in
-    rw (← c.self.view_is) (stop_advances _ (g.B.Nand.state c.args.board.now) (g.B.Nand.state c.freeze_step.new.board) r.may later refl (e.same_log.1 ∙ r.may.none)
-    (busy_wanted _ (g.B.Nand.state c.args.board.now) r.may.agrees c.known.ensures r.wanted) broken.0 broken.1 e.calls e.installs e.grows)
+    rw (c.stop.ensures.stopped, c.stop.ensures.value) (rw (← c.self.view_is) (stop_advances _ (g.B.Nand.state c.args.board.now) (g.B.Nand.state c.freeze_step.new.board) r.may later refl (e.same_log.1 ∙ r.may.none)
+    (busy_wanted _ (g.B.Nand.state c.args.board.now) r.may.agrees c.known.ensures r.wanted) broken.0 broken.1 e.calls e.installs e.grows))

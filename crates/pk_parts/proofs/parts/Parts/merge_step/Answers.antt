@@ -34,4 +34,4 @@ returns-in-Err-Stopped g c =
     let was = c.in-Err-Stopped.is ∙ ap Err c.in-Err-Stopped.field-0-is in
     let broken = e.broken was in
     let later : Parts = record { log = c.step.new.log; levels = c.step.new.levels; arena = c.step.new.arena; schedule = c.step.new.self; space = c.self.inside.space; reclaim = c.self.inside.reclaim; pool = c.step.new.pool; keys = c.self.inside.keys; stopped = true } in
-    rw (← c.self.view_is) (stop_advances _ (g.B.Nand.state c.args.board.now) (g.B.Nand.state c.step.new.board) r.may later refl (active_pending c.self.inside.log c.step.new.log e.active r.may.none) (busy_merge _ (g.B.Nand.state c.args.board.now) (g.B.Nand.state c.args.board.now) r.may r.merges) broken.0 broken.1 e.calls e.installs e.grows)
+    rw (c.stop.ensures.stopped, c.stop.ensures.value) (rw (← c.self.view_is) (stop_advances _ (g.B.Nand.state c.args.board.now) (g.B.Nand.state c.step.new.board) r.may later refl (active_pending c.self.inside.log c.step.new.log e.active r.may.none) (busy_merge _ (g.B.Nand.state c.args.board.now) (g.B.Nand.state c.args.board.now) r.may r.merges) broken.0 broken.1 e.calls e.installs e.grows))
