@@ -1,11 +1,12 @@
 //! The serving loop: functions over the parts of a `Server`, since their contracts say which records are held before a call and
 //! behind it, and of what a call writes into a field of `&mut self` the check gives no plain equation.
-ghost use Rattle.std.specs.Prelude.{◌≡◌, ◌<◌, ◌-◌, ◌^◌, ◌⊎◌, ℕ, List, [], true, false, OnOk, IfErr};
+ghost use Rattle.std.specs.Prelude.{◌≡◌, ◌<◌, ◌⊎◌, ℕ, List, [], true, false, OnOk, IfErr};
 ghost use Rattle.pk_queue.specs.Queue.{bytes_of};
 ghost use Rattle.pk_serve.specs.Ends.{IsFault, Blames};
 ghost use Rattle.pk_serve.specs.Part.{IsRunning, CanRun, HasBuffers, KeepsRunning, SameSizes};
 ghost use Rattle.pk_serve.specs.Input.{Advances, Quits};
 ghost use Rattle.pk_serve.specs.Script.{Runs};
+ghost use Rattle.pk_serve.specs.Loop.{most_entries};
 
 use crate::End;
 use crate::entry::{Numbered, take_entry, take_value};
@@ -27,7 +28,7 @@ pub fn serve_next<D: Engine, B: Board>(
     taken: u32,
 ) -> Result<(), End>
     requires running { IsRunning (D.agrees drive.old) (D.sight drive.old) (B.state board.old) }
-    requires count { taken < 2 ^ 32 - 1 }
+    requires count { taken < most_entries }
     requires buffers { HasBuffers (B.state board.old) shape.now value.old into.old }
 
     // The drive, the board and the buffers.

@@ -1,5 +1,5 @@
 //! The serving step: a command is executed, and its record is held until it is committed.
-ghost use Rattle.std.specs.Prelude.{◌≡◌, ◌≤◌, ◌<◌, ◌-◌, ◌^◌, ℕ, List, [], ◌++◌, length, take, true, OnOk, IfErr};
+ghost use Rattle.std.specs.Prelude.{◌≡◌, ◌≤◌, ◌<◌, ℕ, List, [], ◌++◌, length, take, true, OnOk, IfErr};
 ghost use Rattle.pk_nvme.specs.Reply.{reply_record};
 ghost use Rattle.pk_nvme.specs.Seen.{command_of};
 ghost use Rattle.pk_queue.specs.Queue.{bytes_of};
@@ -8,6 +8,7 @@ ghost use Rattle.pk_call.specs.Exec.{IsValue};
 ghost use Rattle.pk_serve.specs.Ends.{NoFaults};
 ghost use Rattle.pk_serve.specs.Part.{IsRunning, CanServe, IsHanded, HasRoom, KeepsRunning, Faulted, TakesNone, InstallsNone, OnlyGives, SameRoom};
 ghost use Rattle.pk_serve.specs.Serving.{Flushed, FailsHolding, Posts, PostBreaks, Keeps, Serves, Stops};
+ghost use Rattle.pk_serve.specs.Loop.{most_entries};
 ghost use Rattle.pk_nvme.specs.declared.opcode.TheConstants.{TICK};
 
 use crate::End;
@@ -217,7 +218,7 @@ pub fn serve_one<D: Engine, B: Board>(
     value: &[u8],
 ) -> Result<(), End>
     requires can_serve { CanServe (D.agrees drive.old) (D.sight drive.old) (B.state board.old) }
-    requires count { entry.now.before < 2 ^ 32 - 1 }
+    requires count { entry.now.before < most_entries }
     requires handed { IsHanded shape.now entry.now.request.opcode entry.now.request.size value.now }
     requires has_room { HasRoom (B.state board.old) shape.now into.old }
 
