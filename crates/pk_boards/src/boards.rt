@@ -19,6 +19,14 @@ const ROOM: Room = Room {
     marks: 300,
 };
 
+/// The shape of these numbers.
+pub fn shape_of(page_bytes: u32, block_pages: u32, blocks: u32) -> Result<Shape, Fail> {
+    match Shape::new(page_bytes, block_pages, blocks) {
+        Ok(shape) => Ok(shape),
+        Err(_) => Err("a shape")?,
+    }
+}
+
 /// The shape of 64 blocks of 16 pages of 512 bytes.
 pub fn worked() -> Result<Shape, Fail>
     ensures shape { IfOk result (λ s. s ≡ record {
@@ -37,7 +45,7 @@ pub fn worked() -> Result<Shape, Fail>
 
 /// The shape of 33 blocks of 8 pages of 512 bytes.
 pub fn small() -> Result<Shape, Fail> {
-    Ok(Shape::new(512, 8, 33).ok().ok_or("a shape")?)
+    shape_of(512, 8, 33)
 }
 
 /// A board of Erased pages, of which the call of the flash with this number fails and leaves this.
@@ -51,6 +59,36 @@ pub fn erased_board(alloc: Global, shape: Shape, call: u64, left: Left) -> Resul
     let mut board = Flash::new(alloc, Some(shape), Vec::new(alloc), ROOM)?;
     board.fail(alloc, call, left)?;
     Ok(board)
+}
+
+/// A board with these pages, this input and this room.
+pub fn board_in(
+    alloc: Global,
+    shape: Shape,
+    pages: Vec<PageState>,
+    input: Vec<u8>,
+    room: Room,
+) -> Result<Flash, Fail>
+    ensures { IfOk result (λ b. IsReady (⟦<Flash as Nand>⟧.state b) shape) }
+{
+    if !is_flash(&shape, &pages) {
+        return Err("pages of the shape")?;
+    }
+    Ok(Flash::with_pages(alloc, shape, pages, input, room)?)
+}
+
+/// A page that is Whole with these bytes.
+pub fn whole(alloc: Global, bytes: &[u8]) -> Result<PageState, AllocError> {
+    Ok(PageState::Whole(PageBytes::of(bytes.to_vec(alloc)?)))
+}
+
+/// The same page again.
+pub fn copied(alloc: Global, page: &PageState) -> Result<PageState, AllocError> {
+    match page {
+        PageState::Erased => Ok(PageState::Erased),
+        PageState::Whole(bytes) => whole(alloc, bytes.bytes()),
+        PageState::Torn => Ok(PageState::Torn),
+    }
 }
 
 /// What a page is that is not Erased.
@@ -85,7 +123,7 @@ fn root_bytes(alloc: Global, shape: &Shape, number: u64) -> Result<Vec<u8>, Allo
 fn state(alloc: Global, shape: &Shape, held: Held) -> Result<PageState, AllocError> {
     match held {
         Held::Torn => Ok(PageState::Torn),
-        Held::Bytes(bytes) => Ok(PageState::Whole(PageBytes::of(bytes.to_vec(alloc)?))),
+        Held::Bytes(bytes) => whole(alloc, bytes),
         Held::Root(number) => Ok(PageState::Whole(PageBytes::of(root_bytes(
             alloc, shape, number,
         )?))),
@@ -125,10 +163,7 @@ pub fn board_with(
             None => states.push(PageState::Erased)?,
         }
     }
-    if !is_flash(&shape, &states) {
-        return Err("a flash")?;
-    }
-    let mut board = Flash::with_pages(alloc, shape, states, Vec::new(alloc), ROOM)?;
+    let mut board = board_in(alloc, shape, states, Vec::new(alloc), ROOM)?;
     board.fail(alloc, call, left)?;
     Ok(board)
 }

@@ -1,6 +1,9 @@
-//! The boards on which parts of a drive are tested.
+//! The boards on which parts of a drive are tested, and whole drives.
 #![tactic(auto)]
 
 mod boards;
 
-pub use boards::{Held, NONE, board_with, erased_board, put_root, small, worked};
+pub use boards::{
+    Held, NONE, board_in, board_with, copied, erased_board, put_root, shape_of, small, whole,
+    worked,
+};

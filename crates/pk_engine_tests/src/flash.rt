@@ -1,7 +1,7 @@
 //! Failing calls, cuts and rooms of the board in memory.
 
 use pk_base::Shape;
-use pk_flash::{Flash, Left, Room};
+use pk_flash::{Flash, Left, PageLeft, Room};
 use pk_nand::{Board, HostFault, Nand, NandFault, PageState};
 use std::alloc::{AllocError, Global};
 use std::test::*;
@@ -12,7 +12,15 @@ fn left(alloc: Global, way: u8) -> Result<Left, AllocError> {
         0 => Ok(Left::Untouched),
         1 => Ok(Left::Torn),
         2 => Ok(Left::Done),
-        3 => Ok(Left::Each(Vec::from_slice(alloc, &[0, 1, 2, 2])?)),
+        3 => Ok(Left::Each(Vec::from_slice(
+            alloc,
+            &[
+                PageLeft::Kept,
+                PageLeft::Erased,
+                PageLeft::Torn,
+                PageLeft::Torn,
+            ],
+        )?)),
         _ => Ok(Left::Part(2)),
     }
 }

@@ -1,9 +1,10 @@
 //! Sessions of drives in heaps, and openings that find no memory.
 
-use crate::heaps::{Large, NO_MEMORY, Small, TooSmall};
+use crate::heaps::{Large, Small, TooSmall};
 use linked_list_allocator::LocalHeap;
 use pk_core::{Drive, OpenError};
 use pk_flash::Flash;
+use pk_sessions::exits::MEMORY;
 use pk_sessions::{MAKE_WORKED, board, made, serve, worked};
 use std::alloc::Global;
 use std::test::*;
@@ -29,7 +30,7 @@ fn no_memory(rt: HostRuntime) -> Result<(), Fail> {
     let alloc = rt.alloc();
     let pages = made::<TooSmall>(alloc, &MAKE_WORKED)?;
     let mut flash = board(alloc, worked()?, pages, Vec::from_elem(alloc, 0u8, 64)?)?;
-    assert_eq!(rt; serve::<TooSmall>(alloc, &mut flash), NO_MEMORY);
+    assert_eq!(rt; serve::<TooSmall>(alloc, &mut flash), MEMORY);
     assert_eq!(rt; (flash.posted().len(), flash.marks()), (0, 0));
     Ok(())
 }

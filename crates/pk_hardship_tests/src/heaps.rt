@@ -6,34 +6,29 @@ use pk_core::{Drive, OpenError};
 use pk_flash::Flash;
 use pk_serve::{End, Server};
 use pk_sessions::Program;
+use pk_sessions::exits::{DONE, FLASH, INPUT, MEMORY, NO_DRIVE, OUTPUT, TRUNCATED, WORN};
 use pk_top::run;
 use std::alloc::Global;
-
-/// The status of a run that found no memory.
-pub const NO_MEMORY: u8 = 7;
-
-// The status of a run that found no drive.
-const NO_DRIVE: u8 = 8;
 
 // The status of a run in which a call behind the opening kept memory.
 const MORE_MEMORY: u8 = 70;
 
 fn of_end(end: End) -> u8 {
     match end {
-        End::Done => 0,
-        End::Truncated => 3,
-        End::Input => 4,
-        End::Output => 5,
-        End::Flash => 6,
-        End::Worn => 10,
+        End::Done => DONE,
+        End::Truncated => TRUNCATED,
+        End::Input => INPUT,
+        End::Output => OUTPUT,
+        End::Flash => FLASH,
+        End::Worn => WORN,
     }
 }
 
 fn of_open_error(error: OpenError) -> u8 {
     match error {
         OpenError::NotFormatted | OpenError::Damaged { .. } => NO_DRIVE,
-        OpenError::Fault => 6,
-        OpenError::Memory => NO_MEMORY,
+        OpenError::Fault => FLASH,
+        OpenError::Memory => MEMORY,
     }
 }
 
@@ -46,10 +41,10 @@ fn serve_in(alloc: Global, frames: u32, bytes: usize, flash: &mut Flash) -> u8
         return NO_DRIVE;
     };
     let Ok(mut server) = Server::new(alloc, shape) else {
-        return NO_MEMORY;
+        return MEMORY;
     };
     let Ok(heap) = LocalHeap::new(alloc, bytes) else {
-        return NO_MEMORY;
+        return MEMORY;
     };
     let drive = match Drive::open(&heap, flash, shape, frames) {
         Ok(drive) => drive,
@@ -65,7 +60,7 @@ fn serve_in(alloc: Global, frames: u32, bytes: usize, flash: &mut Flash) -> u8
                 MORE_MEMORY
             }
         }
-        Err(_) => NO_MEMORY,
+        Err(_) => MEMORY,
     }
 }
 

@@ -5,12 +5,10 @@ use pk_sessions::boards::{Session, made_board, pages_left, serve_board, served, 
 use pk_sessions::exits::{DONE, FLASH, INPUT, OUTPUT};
 use pk_sessions::program::{RECORDS, SCRIPT};
 use pk_sessions::script::{Answer, Ask, records};
+use pk_sessions::ways::by_turns;
 use pk_sessions::{Place, Program, same};
 use std::alloc::{AllocError, Global};
 use std::test::*;
-
-// A page of a block after another: as it was, Erased or Torn.
-const BY_TURNS: [u8; 16] = [0, 1, 2, 0, 1, 2, 0, 1, 2, 0, 1, 2, 0, 1, 2, 0];
 
 // What a call that fails leaves.
 fn left(alloc: Global, way: u8) -> Result<Left, AllocError> {
@@ -18,7 +16,7 @@ fn left(alloc: Global, way: u8) -> Result<Left, AllocError> {
         0 => Ok(Left::Untouched),
         1 => Ok(Left::Torn),
         2 => Ok(Left::Done),
-        3 => Ok(Left::Each(BY_TURNS.to_vec(alloc)?)),
+        3 => by_turns(alloc),
         _ => Ok(Left::Part(10)),
     }
 }

@@ -1,7 +1,7 @@
 //! A session that begins with a reclaim and a freeze inside it, with each of its calls failing in turn.
 
 use crate::deep::{Before, Few, Trial, drive, few_board, held, in_all_ways, session, stored};
-use pk_flash::{Flash, Left};
+use pk_flash::{Flash, Left, PageLeft};
 use pk_nand::Mark;
 use pk_nvme::status::{SUCCESSFUL_COMPLETION, UNRECOVERED_ERROR};
 use pk_sessions::boards::{Session, pages_left, serve_board};
@@ -177,15 +177,24 @@ fn served_with_fault<P: Program>(
     Ok(serve_board::<P>(trial.alloc, flash))
 }
 
+const KEPT: PageLeft = PageLeft::Kept;
+
+const ERASED: PageLeft = PageLeft::Erased;
+
+const TORN: PageLeft = PageLeft::Torn;
+
+// Each of 16 pages Torn, as it was or Erased by turns.
+const FROM_TORN: [PageLeft; 16] = [
+    TORN, KEPT, ERASED, TORN, KEPT, ERASED, TORN, KEPT, ERASED, TORN, KEPT, ERASED, TORN, KEPT,
+    ERASED, TORN,
+];
+
 fn left(alloc: Global, way: u8) -> Result<Left, AllocError> {
     match way {
         0 => Ok(Left::Untouched),
         1 => Ok(Left::Torn),
         2 => Ok(Left::Done),
-        3 => {
-            let each = [2u8, 0, 1, 2, 0, 1, 2, 0, 1, 2, 0, 1, 2, 0, 1, 2];
-            Ok(Left::Each(each.to_vec(alloc)?))
-        }
+        3 => Ok(Left::Each(FROM_TORN.to_vec(alloc)?)),
         _ => Ok(Left::Part(9)),
     }
 }

@@ -8,7 +8,7 @@ use pk_flash::{Flash, Room};
 use pk_nand::{PageBytes, PageState};
 use pk_nvme::Request;
 use pk_nvme::opcode::{LIST, RETRIEVE};
-use pk_sessions::boards::{board_in, worked};
+use pk_sessions::boards::{board_in, copied, worked};
 use pk_sessions::damage::with_one_key;
 use pk_sessions::exits::{DONE, WORN};
 use pk_sessions::overwritten::record_at;
@@ -27,16 +27,6 @@ const NO_ROOM: Room = Room {
     posted: 0,
     marks: 0,
 };
-
-fn copied(alloc: Global, page: &PageState) -> Result<PageState, AllocError> {
-    match page {
-        PageState::Erased => Ok(PageState::Erased),
-        PageState::Whole(bytes) => Ok(PageState::Whole(PageBytes::of(
-            bytes.bytes().to_vec(alloc)?,
-        ))),
-        PageState::Torn => Ok(PageState::Torn),
-    }
-}
 
 fn copies(alloc: Global, pages: &[PageState]) -> Result<Vec<PageState>, AllocError> {
     let mut all = Vec::with_capacity(alloc, pages.len())?;

@@ -4,8 +4,9 @@ use crate::exits::DONE;
 use crate::script::{Ask, script};
 use crate::tried::{Place, Program, same};
 use pk_base::Shape;
-use pk_flash::{Flash, Left, Room, is_flash};
-use pk_nand::{PageBytes, PageState};
+pub use pk_boards::{board_in, copied, shape_of, small, whole, worked};
+use pk_flash::{Flash, Left, Room};
+use pk_nand::PageState;
 use std::alloc::{AllocError, Global};
 use std::test::*;
 
@@ -16,19 +17,6 @@ const ROOM: Room = Room {
     posted: 16384,
     marks: 200,
 };
-
-/// The shape of these numbers.
-pub fn shape_of(page_bytes: u32, block_pages: u32, blocks: u32) -> Result<Shape, Fail> {
-    match Shape::new(page_bytes, block_pages, blocks) {
-        Ok(shape) => Ok(shape),
-        Err(_) => Err(Fail::from("a shape")),
-    }
-}
-
-/// The shape of 64 blocks of 16 pages.
-pub fn worked() -> Result<Shape, Fail> {
-    shape_of(512, 16, 64)
-}
 
 /// A board of Erased pages, or one without an image, with this input.
 pub fn blank(alloc: Global, shape: Option<Shape>, input: Vec<u8>) -> Result<Flash, AllocError> {
@@ -45,39 +33,12 @@ pub fn board(
     board_in(alloc, shape, pages, input, ROOM)
 }
 
-/// The same with this room.
-pub fn board_in(
-    alloc: Global,
-    shape: Shape,
-    pages: Vec<PageState>,
-    input: Vec<u8>,
-    room: Room,
-) -> Result<Flash, Fail> {
-    if !is_flash(&shape, &pages) {
-        return Err(Fail::from("pages of the shape"));
-    }
-    Ok(Flash::with_pages(alloc, shape, pages, input, room)?)
-}
-
 /// The pages behind the first k marks, of which the next, where there is one, leaves this.
 pub fn cut(alloc: Global, flash: &Flash, k: usize, left: &Left) -> Result<Vec<PageState>, Fail> {
     if flash.shape().is_none() || k > flash.marks() {
         return Err(Fail::from("a cut"));
     }
     Ok(flash.cut(alloc, k, left)?)
-}
-
-/// A page that is Whole with these bytes.
-pub fn whole(alloc: Global, bytes: &[u8]) -> Result<PageState, AllocError> {
-    Ok(PageState::Whole(PageBytes::of(bytes.to_vec(alloc)?)))
-}
-
-fn copied(alloc: Global, page: &PageState) -> Result<PageState, AllocError> {
-    match page {
-        PageState::Erased => Ok(PageState::Erased),
-        PageState::Whole(bytes) => whole(alloc, bytes.bytes()),
-        PageState::Torn => Ok(PageState::Torn),
-    }
 }
 
 fn push_pages(into: &mut Vec<PageState>, alloc: Global, flash: &Flash) -> Result<(), Fail> {

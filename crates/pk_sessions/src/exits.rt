@@ -12,10 +12,12 @@ pub const INPUT: u8 = 4;
 pub const OUTPUT: u8 = 5;
 /// The flash failed.
 pub const FLASH: u8 = 6;
+/// Memory is missing.
+pub const MEMORY: u8 = 7;
 /// No drive is found.
 pub const NO_DRIVE: u8 = 8;
 /// An image is there already.
-pub const MADE: u8 = 9;
+pub const IMAGE_EXISTS: u8 = 9;
 /// Another entry begins, and no more are taken.
 pub const WORN: u8 = 10;
 /// A line of a text script is outside the grammar.

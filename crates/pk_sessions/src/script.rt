@@ -5,6 +5,9 @@ use pk_nvme::status::{KEY_DOES_NOT_EXIST, SUCCESSFUL_COMPLETION, UNRECOVERED_ERR
 use pk_nvme::{Request, completion, record_head};
 use std::alloc::{AllocError, Global};
 
+/// No command has this opcode.
+pub const UNKNOWN: u8 = 0x03;
+
 /// A value of `len` bytes: the first one, and each next one greater by one, 0 behind 255.
 #[derive(Clone, Copy)]
 pub struct Value {

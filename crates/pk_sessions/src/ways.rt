@@ -1,6 +1,6 @@
 //! Outcomes of an interruption.
 
-use pk_flash::{Flash, Left};
+use pk_flash::{Flash, Left, PageLeft};
 use pk_nand::Mark;
 use std::alloc::{AllocError, Global};
 
@@ -31,14 +31,28 @@ fn push_few(into: &mut Vec<Left>, alloc: Global, count: u8) -> Result<(), AllocE
     Ok(())
 }
 
-// Each of 16 pages as it was, Erased or Torn by turns.
-const BY_TURNS: [u8; 16] = [0, 1, 2, 0, 1, 2, 0, 1, 2, 0, 1, 2, 0, 1, 2, 0];
+const KEPT: PageLeft = PageLeft::Kept;
+
+const ERASED: PageLeft = PageLeft::Erased;
+
+const TORN: PageLeft = PageLeft::Torn;
+
+/// Each of 16 pages as it was, Erased or Torn by turns.
+const BY_TURNS: [PageLeft; 16] = [
+    KEPT, ERASED, TORN, KEPT, ERASED, TORN, KEPT, ERASED, TORN, KEPT, ERASED, TORN, KEPT, ERASED,
+    TORN, KEPT,
+];
+
+/// An erase that leaves the pages of a block of at most 16 as they were, Erased or Torn by turns.
+pub fn by_turns(alloc: Global) -> Result<Left, AllocError> {
+    Ok(Left::Each(BY_TURNS.to_vec(alloc)?))
+}
 
 fn few(alloc: Global, way: u8) -> Result<Left, AllocError> {
     match way {
         0 => Ok(Left::Untouched),
         1 => Ok(Left::Torn),
         2 => Ok(Left::Done),
-        _ => Ok(Left::Each(BY_TURNS.to_vec(alloc)?)),
+        _ => by_turns(alloc),
     }
 }

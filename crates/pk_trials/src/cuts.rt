@@ -1,8 +1,8 @@
 //! A session that is cut off at every mark, and the session behind it.
 
-use crate::steps::{MAKE_SMALL, answered, ask_small, copied, cut, holds, made, records, same};
+use crate::steps::{MAKE_SMALL, answered, ask_small, cut, holds, made, records, same};
 use crate::ways::{Ways, ways_of_erases};
-use pk_flash::{Flash, Left};
+use pk_flash::{Flash, Left, PageLeft};
 use pk_nand::Mark;
 use pk_sessions::Place;
 use pk_sessions::boards::Session;
@@ -81,12 +81,22 @@ pub fn some_ways(flash: &Flash, k: usize) -> u8 {
     }
 }
 
-// Each page of a block of eight by itself: as it was (0), Erased (1) or Torn (2).
-const EACH: [[u8; 8]; 3] = [
-    [0, 1, 2, 0, 1, 2, 0, 1],
-    [1, 0, 1, 0, 1, 0, 1, 0],
-    [2, 0, 2, 0, 2, 0, 2, 0],
+const KEPT: PageLeft = PageLeft::Kept;
+
+const ERASED: PageLeft = PageLeft::Erased;
+
+const TORN: PageLeft = PageLeft::Torn;
+
+// Each page of a block of eight by itself.
+const EACH: [[PageLeft; 8]; 3] = [
+    [KEPT, ERASED, TORN, KEPT, ERASED, TORN, KEPT, ERASED],
+    [ERASED, KEPT, ERASED, KEPT, ERASED, KEPT, ERASED, KEPT],
+    [TORN, KEPT, TORN, KEPT, TORN, KEPT, TORN, KEPT],
 ];
+
+fn each(rt: &impl Abort, alloc: Global, pages: &[PageLeft]) -> Left {
+    Left::Each(pages.to_vec(alloc).expect(rt, "memory"))
+}
 
 /// One of these: nothing is all is Torn, all is or each page of a block by itself.
 pub fn left(rt: &impl Abort, alloc: Global, way: u8) -> Left {
@@ -94,9 +104,9 @@ pub fn left(rt: &impl Abort, alloc: Global, way: u8) -> Left {
         0 => Left::Untouched,
         1 => Left::Torn,
         2 => Left::Done,
-        3 => Left::Each(copied(rt, alloc, &EACH[0])),
-        4 => Left::Each(copied(rt, alloc, &EACH[1])),
-        _ => Left::Each(copied(rt, alloc, &EACH[2])),
+        3 => each(rt, alloc, &EACH[0]),
+        4 => each(rt, alloc, &EACH[1]),
+        _ => each(rt, alloc, &EACH[2]),
     }
 }
 

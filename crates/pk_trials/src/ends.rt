@@ -6,7 +6,7 @@ use pk_nvme::opcode::STORE;
 use pk_nvme::status::INVALID_COMMAND_OPCODE;
 use pk_sessions::Place;
 use pk_sessions::exits::{DONE, INPUT, OUTPUT, TRUNCATED};
-use pk_sessions::script::{Answer, Ask, Value, entry, push_done, push_head};
+use pk_sessions::script::{Answer, Ask, UNKNOWN, Value, entry, push_done, push_head};
 use std::alloc::Global;
 use std::process::Abort;
 use std::test::*;
@@ -60,9 +60,6 @@ fn inside_a_value(rt: HostRuntime) {
     check_inside(&rt, rt.alloc(), 3);
     check_inside(&rt, rt.alloc(), 2017);
 }
-
-// No command has this opcode.
-const UNKNOWN: u8 = 0x03;
 
 // A Store, an unknown command, and a Store.
 fn with_unknown(rt: &impl Abort, alloc: Global) -> Vec<u8> {

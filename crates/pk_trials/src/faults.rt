@@ -1,8 +1,8 @@
 //! Calls of the board that fail.
 
 use crate::steps::{
-    MAKE_WORKED, answered, ask, copied, ended_well, made, pages_left, posted, records, same,
-    script, serve, worked_board,
+    MAKE_WORKED, answered, ask, ended_well, made, pages_left, posted, records, same, script, serve,
+    worked_board,
 };
 use pk_flash::Left;
 use pk_nand::Board;
@@ -11,6 +11,7 @@ use pk_sessions::Place;
 use pk_sessions::boards::Session;
 use pk_sessions::exits::{DONE, FLASH, INPUT, OUTPUT};
 use pk_sessions::script::{Answer, Ask, Value};
+use pk_sessions::ways::by_turns;
 use std::alloc::Global;
 use std::process::Abort;
 use std::test::*;
@@ -66,15 +67,12 @@ fn reads_of_opening(rt: HostRuntime) {
     }
 }
 
-// A page of a block after another: as it was, Erased or Torn.
-const BY_TURNS: [u8; 16] = [0, 1, 2, 0, 1, 2, 0, 1, 2, 0, 1, 2, 0, 1, 2, 0];
-
 fn left(rt: &impl Abort, alloc: Global, way: u8) -> Left {
     match way {
         0 => Left::Untouched,
         1 => Left::Torn,
         2 => Left::Done,
-        3 => Left::Each(copied(rt, alloc, &BY_TURNS)),
+        3 => by_turns(alloc).expect(rt, "memory"),
         _ => Left::Part(7),
     }
 }

@@ -1,6 +1,7 @@
 //! The words on an image file that leaves its grammar.
 
 use pk_file::FileBoard;
+use pk_sessions::MAKE_WORKED;
 use pk_top::{Status, run};
 use std::fs::OpenOptions;
 use std::os::unix::fs::FileExt;
@@ -25,11 +26,9 @@ fn status_of(rt: &HostRuntime, path: &str, words: &[&str]) -> u8 {
     let status = run(rt.alloc(), words, &mut board).0;
     match board.finish() {
         Ok(()) => status,
-        Err(_) => 5,
+        Err(_) => Status::OUTPUT.0,
     }
 }
-
-const MAKE: [&str; 4] = ["make", "512", "16", "64"];
 
 // Words that need the image, and those that make one.
 const WORDS: [&[&str]; 10] = [
@@ -42,7 +41,7 @@ const WORDS: [&[&str]; 10] = [
     &["stat"],
     &["gen", "1", "3"],
     &["serve", "36"],
-    &MAKE,
+    &MAKE_WORKED,
 ];
 
 // The state byte of a page is 3: each word that needs the image ends with 8, and no byte of the file changes. With the byte as it was the
@@ -51,7 +50,7 @@ const WORDS: [&[&str]; 10] = [
 fn third_state(rt: HostRuntime) {
     let folder = own_folder(&rt).expect(&rt, "a folder");
     let path = format!(in rt.alloc(); "{}/image", folder.as_str()).expect(&rt, "memory");
-    let made = status_of(&rt, path.as_str(), &MAKE);
+    let made = status_of(&rt, path.as_str(), &MAKE_WORKED);
     assert!(rt; made == Status::DONE.0, "a made image");
     let mut options = OpenOptions::new();
     options.read(true).write(true);

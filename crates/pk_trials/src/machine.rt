@@ -6,12 +6,10 @@ use pk_nvme::opcode::{DELETE, EXIST, FLUSH, LIST, RETRIEVE, STORE, TICK};
 use pk_nvme::{Request, completion, record_head};
 use pk_sessions::Place;
 use pk_sessions::exits::DONE;
+use pk_sessions::script::UNKNOWN;
 use std::alloc::Global;
 use std::process::Abort;
 use std::test::*;
-
-// No command has this opcode.
-const UNKNOWN: u8 = 0x03;
 
 // A command on a key of one byte, and the value that it stores.
 #[derive(Clone, Copy)]

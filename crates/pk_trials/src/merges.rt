@@ -2,7 +2,7 @@
 
 use crate::layered::{FLASHES, Layered, Lists, Wanted, is_done, key_of, roots_behind, ways};
 use crate::steps::{
-    MAKE_WORKED, add, at_least, copied, cut, done, ended, ended_well, holds, last_program, made,
+    MAKE_WORKED, add, at_least, cut, done, ended, ended_well, holds, last_program, made,
     pages_left, same, serve, serve_with, worked,
 };
 use pk_base::{Shape, get_u32};
@@ -14,6 +14,7 @@ use pk_sessions::boards::{Session, board_in};
 use pk_sessions::cuts::bytes_out;
 use pk_sessions::exits::DONE;
 use pk_sessions::script::{Value, entry, push_found, push_value};
+use pk_sessions::ways::by_turns;
 use std::alloc::Global;
 use std::process::Abort;
 use std::test::*;
@@ -240,9 +241,6 @@ fn last_erase(flash: &Flash, wanted: u32) -> Option<usize> {
     last
 }
 
-// Each of 16 pages as it was, Erased or Torn by turns.
-const BY_TURNS: [u8; 16] = [0, 1, 2, 0, 1, 2, 0, 1, 2, 0, 1, 2, 0, 1, 2, 0];
-
 /// Roots fill block 1, and block 0 is erased for the next install: cut off there, with its pages left as they were, Erased and Torn by
 /// turns, the newest root is one of block 1, and every key whose record was posted is there.
 #[test]
@@ -250,7 +248,7 @@ fn roots_fill_a_block(rt: HostRuntime) {
     let alloc = rt.alloc();
     let flash = behind(&rt, alloc, &[Step::Stores(300)]);
     let k = last_erase(&flash, 0).expect(&rt, "an erase of block 0");
-    let left = Left::Each(copied(&rt, alloc, &BY_TURNS));
+    let left = by_turns(alloc).expect(&rt, "memory");
     let pages = cut(&rt, alloc, &flash, k, &left);
     let later = behind_pages(&rt, alloc, pages, &[Step::List, Step::Report], "36");
     let keys = numbers(&rt, later.posted(), 0)[2];

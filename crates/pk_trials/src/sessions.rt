@@ -11,7 +11,7 @@ use pk_nand::PageState;
 use pk_nvme::Request;
 use pk_nvme::opcode::{FLUSH, REPORT, RETRIEVE, STORE};
 use pk_nvme::status::SUCCESSFUL_COMPLETION;
-use pk_sessions::exits::{DONE, FLASH, MADE, NO_DRIVE, TRUNCATED};
+use pk_sessions::exits::{DONE, FLASH, IMAGE_EXISTS, NO_DRIVE, TRUNCATED};
 use pk_sessions::program::{RECORDS, SCRIPT};
 use pk_sessions::script::{
     Answer, Ask, Value, entry, push_answer, push_done, push_found, push_head, push_value,
@@ -52,7 +52,7 @@ fn makes_once(rt: HostRuntime) {
     same(&rt, u64::from(first), u64::from(DONE), "the status");
     same(&rt, flash.program_count(), 1, "programs");
     let next = Pink::run(alloc, &MAKE_WORKED, &mut flash);
-    same(&rt, u64::from(next), u64::from(MADE), "the status");
+    same(&rt, u64::from(next), u64::from(IMAGE_EXISTS), "the status");
     let session = serve(alloc, flash);
     let place = Place::Named("half a script");
     posted(&rt, &session, TRUNCATED, &RECORDS[..24], place);

@@ -3,6 +3,7 @@
 use pk_base::Shape;
 use pk_flash::{Flash, Left};
 use pk_nand::{Mark, PageState};
+pub use pk_sessions::MAKE_WORKED;
 use pk_sessions::boards::Session;
 use pk_sessions::exits::DONE;
 use pk_sessions::script::{Answer, Ask};
@@ -23,9 +24,6 @@ impl Program for Pink {
 
 /// The words that make a drive of 33 blocks of 8 pages.
 pub const MAKE_SMALL: [&str; 4] = ["make", "512", "8", "33"];
-
-/// The words that make a drive of 64 blocks of 16 pages.
-pub const MAKE_WORKED: [&str; 4] = ["make", "512", "16", "64"];
 
 // ---- what is wanted
 

@@ -1,7 +1,7 @@
 //! All outcomes of an interruption.
 
 use crate::steps::cut;
-use pk_flash::{Flash, Left};
+use pk_flash::{Flash, Left, PageLeft};
 use pk_nand::{Mark, PageState};
 use std::alloc::Global;
 use std::process::Abort;
@@ -13,6 +13,15 @@ pub struct Ways {
     // For each page of an erased block whether it was Whole before; no page for another mark.
     wholes: Vec<bool>,
     pub count: u32,
+}
+
+// The states that an erase may leave of a page, by their numbers.
+fn page_left(number: u32) -> PageLeft {
+    match number {
+        0 => PageLeft::Kept,
+        1 => PageLeft::Erased,
+        _ => PageLeft::Torn,
+    }
 }
 
 // For each page of this block whether it is Whole behind the first k marks.
@@ -62,7 +71,7 @@ impl Ways {
         }
     }
 
-    /// What the way with this number leaves: of an erased block each page as it was (0), Erased (1) or Torn (2).
+    /// What the way with this number leaves: of an erased block each page as it was, Erased or Torn.
     pub fn left(&self, rt: &impl Abort, alloc: Global, way: u32) -> Left {
         if self.wholes.is_empty() {
             return match way {
@@ -75,7 +84,9 @@ impl Ways {
         let mut rest = way;
         for is_whole in &self.wholes {
             let (ways, first) = if *is_whole { (3, 0) } else { (2, 1) };
-            pages.push((rest % ways) as u8 + first).expect(rt, "memory");
+            pages
+                .push(page_left(rest % ways + first))
+                .expect(rt, "memory");
             rest = rest / ways;
         }
         Left::Each(pages)
