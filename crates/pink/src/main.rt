@@ -7,32 +7,51 @@ use std::env;
 use std::io::ErrorKind;
 use std::process::ExitCode;
 
-fn main(rt: HostRuntime) -> ExitCode {
+/// The words behind the program's name; the status where they cannot be had.
+fn words_of(rt: &HostRuntime) -> Result<Vec<String>, Status> {
     let mut words = Vec::new(rt.alloc());
-    let args = match env::args(&rt) {
+    let args = match env::args(rt) {
         Ok(args) => args,
-        Err(e) if e.kind() == ErrorKind::OutOfMemory => return ExitCode::from(Status::MEMORY.0),
-        Err(_) => return ExitCode::from(Status::WORDS.0),
+        Err(e) if e.kind() == ErrorKind::OutOfMemory => return Err(Status::MEMORY),
+        Err(_) => return Err(Status::WORDS),
     };
     for arg in args.skip(1) {
         if words.push(arg).is_err() {
-            return ExitCode::from(Status::MEMORY.0);
+            return Err(Status::MEMORY);
         }
     }
-    let mut texts = Vec::new(rt.alloc());
-    for word in words.iter() {
-        if texts.push(word.as_str()).is_err() {
-            return ExitCode::from(Status::MEMORY.0);
-        }
-    }
-    let Some((image, rest)) = texts.as_slice().split_first() else {
-        return ExitCode::from(Status::WORDS.0);
-    };
-    let mut board = FileBoard::new(&rt, image);
-    let status = run(rt.alloc(), rest, &mut board);
+    Ok(words)
+}
+
+/// Does over the image file of this path what the other words ask for.
+fn run_on(rt: &HostRuntime, image: &str, words: &[&str]) -> Status {
+    let mut board = FileBoard::new(rt, image);
+    let status = run(rt.alloc(), words, &mut board);
     // What was posted last may still be held. Where it does not go out, that came before whatever ended the run.
     match board.finish() {
-        Ok(()) => ExitCode::from(status.0),
-        Err(_) => ExitCode::from(Status::OUTPUT.0),
+        Ok(()) => status,
+        Err(_) => Status::OUTPUT,
     }
+}
+
+/// Does what the words ask for, of which the first is the path of the image file.
+fn obey(rt: &HostRuntime, words: &[String]) -> Status {
+    let mut texts = Vec::new(rt.alloc());
+    for word in words {
+        if texts.push(word.as_str()).is_err() {
+            return Status::MEMORY;
+        }
+    }
+    match texts.as_slice().split_first() {
+        Some((image, rest)) => run_on(rt, image, rest),
+        None => Status::WORDS,
+    }
+}
+
+fn main(rt: HostRuntime) -> ExitCode {
+    let status = match words_of(&rt) {
+        Ok(words) => obey(&rt, &words),
+        Err(status) => status,
+    };
+    ExitCode::from(status.0)
 }

@@ -7,6 +7,21 @@ use pk_nand::{LoadFault, Nand};
 use std::env;
 use std::process::ExitCode;
 
+// The exit statuses, as `pink` has them.
+
+/// All was told.
+const DONE: u8 = 0;
+/// The words are outside the table.
+const WORDS: u8 = 2;
+/// The output failed.
+const OUTPUT: u8 = 5;
+/// The flash failed.
+const FLASH: u8 = 6;
+/// Memory is missing.
+const MEMORY: u8 = 7;
+/// No drive is found.
+const NO_DRIVE: u8 = 8;
+
 /// Why nothing is told.
 #[derive(Clone, Copy, Debug, PartialEq, Eq)]
 enum Refused {
@@ -25,15 +40,15 @@ enum Refused {
 }
 
 impl Refused {
-    /// The exit status, as `pink` has it.
+    /// The exit status.
     fn status(self) -> u8 {
         match self {
-            Refused::Words => 2,
-            Refused::Output => 5,
-            Refused::Fault => 6,
-            Refused::Memory => 7,
-            Refused::NoImage => 8,
-            Refused::BadImage { .. } => 8,
+            Refused::Words => WORDS,
+            Refused::Output => OUTPUT,
+            Refused::Fault => FLASH,
+            Refused::Memory => MEMORY,
+            Refused::NoImage => NO_DRIVE,
+            Refused::BadImage { .. } => NO_DRIVE,
         }
     }
 }
@@ -86,7 +101,7 @@ fn run(rt: &HostRuntime) -> Result<(), Refused> {
 
 fn main(rt: HostRuntime) -> ExitCode {
     match run(&rt) {
-        Ok(()) => ExitCode::from(0),
+        Ok(()) => ExitCode::from(DONE),
         Err(why) => {
             let _ = match why {
                 Refused::Words => eprintln!(rt; "pinkdump: IMAGE, or IMAGE lines"),
