@@ -9,7 +9,7 @@ ghost use Rattle.pk_scan.specs.Adopts.{is_among};
 
 use crate::form::Form;
 use crate::picture::{BlockUse, Life, letter};
-use pk_base::Shape;
+use pk_base::{LEVELS, ROOT_BLOCKS, Shape};
 use pk_live::Live;
 use pk_nand::PageState;
 use pk_rootfmt::Root;
@@ -18,7 +18,7 @@ use std::fmt::Write;
 
 /// Whether the run of a level has a block.
 fn in_run<A: Allocator>(root: &Root<A>, level: u8, block: u16) -> bool
-    requires { 1 ≤ level × level ≤ 4 }
+    requires { 1 ≤ level × level ≤ LEVELS }
     ensures { result ≡ is_among (run_of root.now.root level) block }
 {
     root.blocks(level).contains(&block)
@@ -58,11 +58,11 @@ fn named_use<A: Allocator>(root: &Root<A>, block: u16) -> BlockUse
 /// What a block is for under the newest root, if there is one.
 fn block_use<A: Allocator>(root: Option<&Root<A>>, block: u32) -> BlockUse
     requires { block < 65536 }
-    ensures { MatchBool (nat_lt block 2) (result ≡ RootBlock)
+    ensures { MatchBool (nat_lt block ROOT_BLOCKS) (result ≡ RootBlock)
         (MatchOption (option_copied root.entry) (result ≡ Rest)
         (λ r. result ≡ use_of r.root block)) }
 {
-    if block < 2 {
+    if block < ROOT_BLOCKS {
         return BlockUse::Root;
     }
     match root {
@@ -125,28 +125,6 @@ fn tell_use(
     }
 }
 
-/// Tells of the pages of a block, a letter for each.
-fn tell_letters<A: Allocator>(
-    out: &mut String,
-    shape: &Shape,
-    used: BlockUse,
-    live: Option<&Live<A>>,
-    block: u32,
-    pages: &[PageState],
-) -> Result<(), AllocError>
-    requires { block < shape.now.blocks }
-{
-    shape.known();
-    let first = block * shape.block_pages();
-    for i in 0..shape.block_pages() {
-        let Some(page) = pages.get((first + i) as usize) else {
-            return Ok(());
-        };
-        out.push(letter(used, life_of(live, first + i), page))?;
-    }
-    writeln!(out, "")
-}
-
 /// How many live pages a block has.
 fn count_of<A: Allocator>(live: Option<&Live<A>>, block: u32) -> u32 {
     match live {
@@ -155,41 +133,61 @@ fn count_of<A: Allocator>(live: Option<&Live<A>>, block: u32) -> u32 {
     }
 }
 
+/// What blocks are told by: the pages of a flash of this shape, the newest root if there is one, and the live pages of its values if
+/// it holds a map.
+#[derive(Drop)]
+pub struct Ground<'a, A: Allocator> {
+    pub shape: &'a Shape,
+    pub root: Option<&'a Root<A>>,
+    pub live: Option<&'a Live<A>>,
+    pub pages: &'a [PageState],
+}
+
+/// Tells of the pages of a block, a letter for each.
+fn tell_letters<A: Allocator>(
+    out: &mut String,
+    on: &Ground<A>,
+    used: BlockUse,
+    block: u32,
+) -> Result<(), AllocError>
+    requires { block < on.now.shape.now.blocks }
+{
+    let shape = on.shape;
+    shape.known();
+    let first = block * shape.block_pages();
+    for i in 0..shape.block_pages() {
+        let Some(page) = on.pages.get((first + i) as usize) else {
+            return Ok(());
+        };
+        out.push(letter(used, life_of(on.live, first + i), page))?;
+    }
+    writeln!(out, "")
+}
+
 /// Tells of a block: its use, its live pages, and a letter for each page.
 fn tell_block<A: Allocator>(
     out: &mut String,
     form: Form,
-    shape: &Shape,
-    root: Option<&Root<A>>,
-    live: Option<&Live<A>>,
+    on: &Ground<A>,
     block: u32,
-    pages: &[PageState],
 ) -> Result<(), AllocError>
-    requires { block < shape.now.blocks }
+    requires { block < on.now.shape.now.blocks }
 {
-    shape.known();
-    let used = block_use(root, block);
-    tell_use(
-        out,
-        form,
-        block,
-        name_of(used, live, block),
-        count_of(live, block),
-    )?;
-    tell_letters(out, shape, used, live, block, pages)
+    on.shape.known();
+    let used = block_use(on.root, block);
+    let name = name_of(used, on.live, block);
+    tell_use(out, form, block, name, count_of(on.live, block))?;
+    tell_letters(out, on, used, block)
 }
 
 /// Tells of all blocks.
 pub fn tell_blocks<A: Allocator>(
     out: &mut String,
     form: Form,
-    shape: &Shape,
-    root: Option<&Root<A>>,
-    live: Option<&Live<A>>,
-    pages: &[PageState],
+    on: &Ground<A>,
 ) -> Result<(), AllocError> {
-    for block in 0..shape.blocks() {
-        tell_block(out, form, shape, root, live, block, pages)?;
+    for block in 0..on.shape.blocks() {
+        tell_block(out, form, on, block)?;
     }
     Ok(())
 }

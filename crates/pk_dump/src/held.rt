@@ -32,12 +32,31 @@ pub fn page_in(shape: &Shape, blocks: &[u16], place: u32) -> Option<u32>
     }
 }
 
-/// What a page without entries is called.
-fn name_of(held: Held) -> &'static str {
-    match held {
-        Held::Erased => "erased",
-        Held::Torn => "torn",
-        Held::Wrong | Held::Entries { .. } => "wrong",
+/// Tells of the page that belongs at a place, with so many entries, which are told behind it.
+fn tell_count(
+    out: &mut String,
+    form: Form,
+    of: &str,
+    page: u32,
+    count: u32,
+) -> Result<(), AllocError> {
+    match form {
+        Form::People => writeln!(out, "{of}: page {page}, {count} entries"),
+        Form::Programs => writeln!(out, "page of={of} number={page} entries={count}"),
+    }
+}
+
+/// Tells of a page without entries, by what it is called.
+fn tell_name(
+    out: &mut String,
+    form: Form,
+    of: &str,
+    page: u32,
+    name: &str,
+) -> Result<(), AllocError> {
+    match form {
+        Form::People => writeln!(out, "{of}: page {page} is {name}"),
+        Form::Programs => writeln!(out, "page of={of} number={page} is={name}"),
     }
 }
 
@@ -49,15 +68,10 @@ pub fn tell_held(
     page: u32,
     held: Held,
 ) -> Result<(), AllocError> {
-    let name = name_of(held);
-    match (form, held) {
-        (Form::People, Held::Entries { count }) => {
-            writeln!(out, "{of}: page {page}, {count} entries")
-        }
-        (Form::People, _) => writeln!(out, "{of}: page {page} is {name}"),
-        (Form::Programs, Held::Entries { count }) => {
-            writeln!(out, "page of={of} number={page} entries={count}")
-        }
-        (Form::Programs, _) => writeln!(out, "page of={of} number={page} is={name}"),
+    match held {
+        Held::Entries { count } => tell_count(out, form, of, page, count),
+        Held::Erased => tell_name(out, form, of, page, "erased"),
+        Held::Torn => tell_name(out, form, of, page, "torn"),
+        Held::Wrong => tell_name(out, form, of, page, "wrong"),
     }
 }

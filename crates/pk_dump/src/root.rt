@@ -6,7 +6,7 @@ ghost use Rattle.pk_dump.specs.Pages.{IsFull, AreFull};
 
 use crate::form::Form;
 use crate::words::{tell_blocks, tell_pair};
-use pk_base::Shape;
+use pk_base::{LEVELS, Shape};
 use pk_nand::PageState;
 use pk_rootfmt::Root;
 use std::alloc::{AllocError, Allocator, Global};
@@ -88,7 +88,7 @@ fn tell_root<A: Allocator>(
 ) -> Result<(), AllocError> {
     tell_epoch(out, form, page, root)?;
     tell_older(out, form, root.older())?;
-    for level in 1..5u8 {
+    for level in 1..=LEVELS {
         tell_level(out, form, level, root)?;
     }
     tell_newest(out, form, newest == Some(page))
@@ -101,7 +101,7 @@ fn tell_level<A: Allocator>(
     level: u8,
     root: &Root<A>,
 ) -> Result<(), AllocError>
-    requires { 1 ≤ level × level ≤ 4 }
+    requires { 1 ≤ level × level ≤ LEVELS }
 {
     let entries = root.entries(level);
     match form {

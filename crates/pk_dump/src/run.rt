@@ -9,7 +9,7 @@ ghost use Rattle.pk_dump.specs.Named.{wanted_of};
 use crate::form::Form;
 use crate::held::{Held, page_in, tell_held};
 use crate::words::tell_entry;
-use pk_base::Shape;
+use pk_base::{LEVELS, Shape};
 use pk_meta::{decode, entry};
 use pk_nand::PageState;
 use pk_rootfmt::Root;
@@ -41,7 +41,7 @@ fn wanted_page(shape: &Shape, level: u8, entries: u32, index: u32) -> Wanted
 /// What these bytes are as this page of a run.
 fn run_page_of(shape: &Shape, wanted: Wanted, bytes: &[u8]) -> Held
     requires full { length bytes.now ≡ shape.now.page_bytes }
-    requires level { 1 ≤ wanted.level × wanted.level ≤ 4 }
+    requires level { 1 ≤ wanted.level × wanted.level ≤ LEVELS }
     ensures { HoldsRunPage shape.now wanted (whole bytes.now) result }
 {
     match decode(shape, bytes) {
@@ -62,7 +62,7 @@ fn run_page_of(shape: &Shape, wanted: Wanted, bytes: &[u8]) -> Held
 /// What this page is as this page of a run.
 fn run_page_in(shape: &Shape, wanted: Wanted, page: &PageState) -> Held
     requires full { IsFull shape.now (state page.now) }
-    requires level { 1 ≤ wanted.level × wanted.level ≤ 4 }
+    requires level { 1 ≤ wanted.level × wanted.level ≤ LEVELS }
     ensures { HoldsRunPage shape.now wanted (state page.now) result }
 {
     match page {
@@ -103,7 +103,7 @@ fn tell_page(
     page: &PageState,
 ) -> Result<(), AllocError>
     requires full { IsFull shape.now (state page.now) }
-    requires level { 1 ≤ wanted.level × wanted.level ≤ 4 }
+    requires level { 1 ≤ wanted.level × wanted.level ≤ LEVELS }
 {
     let held = run_page_in(shape, wanted, page);
     tell_held(out, form, "run", at, held)?;
@@ -132,7 +132,7 @@ fn tell_run(
     pages: &[PageState],
 ) -> Result<(), AllocError>
     requires full { AreFull shape.now pages.now }
-    requires level { 1 ≤ level × level ≤ 4 }
+    requires level { 1 ≤ level × level ≤ LEVELS }
 {
     tell_count(out, form, level, entries)?;
     for index in 0..entries.div_ceil(shape.entries()) {
@@ -157,7 +157,7 @@ pub fn tell_runs<A: Allocator>(
 ) -> Result<(), AllocError>
     requires { AreFull root.now.shape pages.now }
 {
-    for level in 1..5u8 {
+    for level in 1..=LEVELS {
         let entries = root.entries(level);
         if entries > 0 {
             tell_run(

@@ -7,7 +7,7 @@ ghost use Rattle.pk_scan.specs.Board.{StaysReady};
 ghost use Rattle.pk_dump.specs.Pages.{AreFull};
 ghost use Rattle.pk_dump.specs.Findings.{IsFindingOf};
 
-use crate::block::tell_blocks;
+use crate::block::{Ground, tell_blocks};
 use crate::errors::DumpError;
 use crate::finding::Finding;
 use crate::form::Form;
@@ -101,7 +101,13 @@ fn tell(alloc: Global, out: &mut String, form: Form, found: &Finding) -> Result<
         Reading::Map(found) => Some(&found.live),
         _ => None,
     };
-    tell_blocks(out, form, shape, root, live, &found.pages)?;
+    let ground = Ground {
+        shape,
+        root,
+        live,
+        pages: &found.pages,
+    };
+    tell_blocks(out, form, &ground)?;
     tell_reading(out, form, &found.reading)
 }
 
