@@ -135,6 +135,7 @@ fn count_of<A: Allocator>(live: Option<&Live<A>>, block: u32) -> u32 {
 
 /// What blocks are told by: the pages of a flash of this shape, the newest root if there is one, and the live pages of its values if
 /// it holds a map.
+#[derive(Drop)]
 pub struct Ground<'a, A: Allocator> {
     pub shape: &'a Shape,
     pub root: Option<&'a Root<A>>,

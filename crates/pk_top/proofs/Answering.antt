@@ -19,7 +19,8 @@ use Rattle.pk_wordrun.specs.Seen.{IsShortTask}
 use Rattle.pk_wordrun.specs.Told.{EndsBy, Finished, most_roots}
 use Rattle.pk_wordrun.specs.declared.end.WordEnd.{WordEnd}
 use Rattle.pk_wordrun.specs.declared.end.WordEnd.TheVariants.{Done, Output, Flash as FlashFailed, Worn}
-use Rattle.pk_top.specs.Asks.{word_frames, word_status, AskedTo, Asks, AsksAll, AsksWhole, AsksFound, AskRun}
+use Rattle.pk_top.specs.Asks.{word_status, AskedTo, Asks, AsksAll, AsksWhole, AsksFound, AskRun}
+use Rattle.pk_top.specs.declared.asking.TheConstants.{WORD_FRAMES}
 use Rattle.pk_top.specs.Ends.{open_status}
 use Rattle.pk_top.specs.Loads.{load_status, HasReason}
 use Rattle.pk_top.specs.Serves.{behind_opening}
@@ -40,9 +41,9 @@ worn_never : (before behind more : ℕ) → nat_le 9223372036854775808 behind �
 worn_never before behind more worn used far few = grind (arith, nat_tests, worn, used, far, few)
 
 module _ (task : Task) (few : most_roots task < 4611686018427387904) (shape : Shape) (loaded new : BoardState) where
-  finished : (start m : Map) → start ≡ m → Finished task shape word_frames start (behind_opening shape word_frames loaded) new → Finished task shape word_frames m loaded new
+  finished : (start m : Map) → start ≡ m → Finished task shape WORD_FRAMES start (behind_opening shape WORD_FRAMES loaded) new → Finished task shape WORD_FRAMES m loaded new
   finished start m same f =
-      let T : Map → Type 0 = λ s. Finished task shape word_frames s loaded new in
+      let T : Map → Type 0 = λ s. Finished task shape WORD_FRAMES s loaded new in
       subst T same (record { left = f.left; text = f.text; says = f.says; posted = f.posted; holds = f.holds; sound = record { output = f.sound.output; stop = f.sound.stop } })
 
   by_end : (status : ℕ) (end : WordEnd) → status ≡ word_status end → AskedTo task shape loaded new end → AsksAll task shape loaded new status
@@ -78,9 +79,9 @@ module _ (task : Task) (few : most_roots task < 4611686018427387904) (old new : 
     same_shape : loaded.shape ≡ old.shape
     same_shape = (found.held some).1
 
-    finished_loaded : (start : Map) → Finished task shape word_frames start loaded new → Finished task shape word_frames start old new
+    finished_loaded : (start : Map) → Finished task shape WORD_FRAMES start loaded new → Finished task shape WORD_FRAMES start old new
     finished_loaded start f =
-        let R : ℕ → Type 0 = λ n. SaysTask task n new.read_faults shape word_frames start f.text f.left in
+        let R : ℕ → Type 0 = λ n. SaysTask task n new.read_faults shape WORD_FRAMES start f.text f.left in
         record {
           left = f.left;
           text = f.text;

@@ -26,7 +26,8 @@ use Rattle.pk_wordrun.specs.Tasks.{Task, answer, list, generate, KeptTask}
 use Rattle.pk_wordrun.specs.Told.{Told, EndsBy}
 use Rattle.pk_wordrun.specs.declared.end.WordEnd.{WordEnd}
 use Rattle.pk_wordrun.specs.declared.end.WordEnd.TheVariants.{Done, Output, Flash as FlashFailed, Worn}
-use Rattle.pk_top.specs.Asks.{word_frames, word_status, KeepsTask, AskedTo, Asks, AskRun}
+use Rattle.pk_top.specs.Asks.{word_status, KeepsTask, AskedTo, Asks, AskRun}
+use Rattle.pk_top.specs.declared.asking.TheConstants.{WORD_FRAMES}
 use Rattle.pk_top.specs.Ends.{open_status}
 use Rattle.pk_top.specs.Serves.{behind_opening}
 use Rattle.pk_top.specs.Statuses.{Tells, Untouched}
@@ -62,13 +63,13 @@ task_holds (generate begin count) before behind shape frames start flash posted 
 
 module _ (task : Task) (shape : Shape) (loaded new : BoardState) where
   abbrev KeptFrom : Flash → List ℕ → Type 0
-  KeptFrom flash posted = (start : Map) → Holds shape loaded.pages start → KeptTask task loaded.read_faults new.read_faults shape word_frames start flash posted
+  KeptFrom flash posted = (start : Map) → Holds shape loaded.pages start → KeptTask task loaded.read_faults new.read_faults shape WORD_FRAMES start flash posted
 
   keeps-none : OnlyReading loaded new → KeepsTask task shape loaded new
   keeps-none only = (
     [],
     Went-reached [] loaded new KeptFrom (Reached-start loaded new KeptFrom (ap (λ (s : BoardState). s.shape) only) (ap (λ (s : BoardState). s.pages) only) (ap (λ (s : BoardState). s.trail) only) (ap (λ (s : BoardState). s.posted) only)
-        (λ start holds. silent task loaded.read_faults new.read_faults shape word_frames start loaded.pages holds)),
+        (λ start holds. silent task loaded.read_faults new.read_faults shape WORD_FRAMES start loaded.pages holds)),
     tt,
   )
 
@@ -76,7 +77,7 @@ module _ (task : Task) (shape : Shape) (loaded new : BoardState) where
   rests-reading only = Rests-start loaded new (ap (λ (s : BoardState). s.shape) only) (ap (λ (s : BoardState). s.pages) only) (ap (λ (s : BoardState). s.trail) only) (ap (λ (s : BoardState). s.posted) only)
 
   -- the reads of opening leave the flash
-  rests-opened : RestsFlash (behind_opening shape word_frames loaded) new → RestsFlash loaded new
+  rests-opened : RestsFlash (behind_opening shape WORD_FRAMES loaded) new → RestsFlash loaded new
   rests-opened r = record {
     marks = r.marks;
     reached = record { trail = r.reached.trail; posted = r.reached.posted; same_shape = r.reached.same_shape; cuts = r.reached.cuts; stands = r.reached.stands };
@@ -87,19 +88,19 @@ module _ (task : Task) (shape : Shape) (loaded new : BoardState) where
   Asks-not status error tells reason only = record { kept = keeps-none only; rests = λ _. rests-reading only; outcome = inl (record { error = error; tells = tells; reason = reason; only_reads = only }) }
 
   -- it was
-  module _ (drive : Sight) (start : Map) (stands : HoldsMap shape word_frames (behind_opening shape word_frames loaded) drive start) (none : drive.pending ≡ []) where
+  module _ (drive : Sight) (start : Map) (stands : HoldsMap shape WORD_FRAMES (behind_opening shape WORD_FRAMES loaded) drive start) (none : drive.pending ≡ []) where
     start-held : Holds shape loaded.pages start
     start-held = let T : List Entry → Type 0 = λ p. reading shape loaded.pages p ≡ Ok start in subst T none stands.map_is
 
     -- a flash holds one map
-    kept-from : (flash : Flash) (posted : List ℕ) → KeptTask task loaded.read_faults new.read_faults shape word_frames start flash posted → KeptFrom flash posted
+    kept-from : (flash : Flash) (posted : List ℕ) → KeptTask task loaded.read_faults new.read_faults shape WORD_FRAMES start flash posted → KeptFrom flash posted
     kept-from flash posted kept m holds =
         let held : Holds shape loaded.pages start = start-held in
         let same : start ≡ m = cc in
-        let T : Map → Type 0 = λ s. KeptTask task loaded.read_faults new.read_faults shape word_frames s flash posted in
+        let T : Map → Type 0 = λ s. KeptTask task loaded.read_faults new.read_faults shape WORD_FRAMES s flash posted in
         subst T same kept
 
-    told-by : (status : ℕ) (end : WordEnd) → status ≡ word_status end → Told task shape word_frames start (behind_opening shape word_frames loaded) new end → Asks task shape loaded new status
+    told-by : (status : ℕ) (end : WordEnd) → status ≡ word_status end → Told task shape WORD_FRAMES start (behind_opening shape WORD_FRAMES loaded) new end → Asks task shape loaded new status
     told-by status end tells told = record {
       kept = (
         told.kept.0,
@@ -116,13 +117,13 @@ module _ (task : Task) (shape : Shape) (loaded new : BoardState) where
       outcome = inr (end, tells, record { start = start; holds = start-held; ends = told.ends; used = told.used });
     }
 
-  pub Asks-opened : (opened_board : BoardState) (drive : Sight) (status : ℕ) (end : WordEnd) → opened_board ≡ behind_opening shape word_frames loaded → ((m : Map) × HoldsMap shape word_frames opened_board drive m) → drive.pending ≡ []
+  pub Asks-opened : (opened_board : BoardState) (drive : Sight) (status : ℕ) (end : WordEnd) → opened_board ≡ behind_opening shape WORD_FRAMES loaded → ((m : Map) × HoldsMap shape WORD_FRAMES opened_board drive m) → drive.pending ≡ []
       → status ≡ word_status end → ((start : Map) → Holds shape opened_board.pages start → Told task shape drive.counts.frames start opened_board new end) → Asks task shape loaded new status
   Asks-opened opened_board drive status end is stands none tells told =
-      let T : BoardState → Type 0 = λ b. (m : Map) × HoldsMap shape word_frames b drive m in
+      let T : BoardState → Type 0 = λ b. (m : Map) × HoldsMap shape WORD_FRAMES b drive m in
       let S : BoardState → Type 0 = λ b. (start : Map) → Holds shape b.pages start → Told task shape drive.counts.frames start b new end in
-      let at : T (behind_opening shape word_frames loaded) = subst T is stands in
-      let F : ℕ → Type 0 = λ frames. Told task shape frames at.0 (behind_opening shape word_frames loaded) new end in
+      let at : T (behind_opening shape WORD_FRAMES loaded) = subst T is stands in
+      let F : ℕ → Type 0 = λ frames. Told task shape frames at.0 (behind_opening shape WORD_FRAMES loaded) new end in
       told-by drive at.0 at.1 none status end tells (subst F at.1.frames_is (subst S is told at.0 (start-held drive at.0 at.1 none)))
 
 -- a drive of some frames is one of its own number of frames
@@ -134,7 +135,7 @@ own_frames shape shape' frames b d same stands =
 -- ---- what the status tells
 
 module _ (shape : Shape) (old loaded new : BoardState) (found : Loaded old loaded (Some shape)) where
-  tells_end : (task : Task) (start : Map) (end : WordEnd) → EndsBy task shape word_frames start (behind_opening shape word_frames loaded) new end → Tells old new (word_status end)
+  tells_end : (task : Task) (start : Map) (end : WordEnd) → EndsBy task shape WORD_FRAMES start (behind_opening shape WORD_FRAMES loaded) new end → Tells old new (word_status end)
   tells_end task start Done ends = tells_good old new 0 (inl refl)
   tells_end task start Output ends = let T : ℕ → Type 0 = λ n. Rose n new.out_faults in tells_output old new (subst T (ap (λ (s : BoardState). s.out_faults) found.rest) ends)
   tells_end task start FlashFailed ends = let T : ℕ → Type 0 = λ n. Rose n new.stop_faults in tells_flash old new 6 refl (inl (subst T (ap (λ (s : BoardState). s.stop_faults) found.rest) ends))

@@ -15,13 +15,10 @@ use Rattle.pk_wordrun.specs.Told.{EndsBy, Finished, most_roots}
 use Rattle.pk_wordrun.specs.declared.end.WordEnd.{WordEnd}
 use Rattle.pk_wordrun.specs.declared.end.WordEnd.TheVariants.{Done, Output, Flash as FlashFailed, Worn}
 use Rattle.pk_top.specs.declared.status.TheConstants.Status.{DONE, OUTPUT, FLASH, MEMORY, NO_DRIVE, WORN}
+use Rattle.pk_top.specs.declared.asking.TheConstants.{WORD_FRAMES}
 use Rattle.pk_top.specs.Loads.{LoadRefused}
 use Rattle.pk_top.specs.Serves.{NotServed, behind_opening}
 use Rattle.pk_top.specs.Statuses.{Untouched}
-
--- the frames with which a word opens the drive
-abbrev pub word_frames : ℕ
-word_frames = 36
 
 abbrev pub word_status : WordEnd → ℕ
 word_status Done = DONE.0
@@ -35,13 +32,13 @@ word_status Worn = WORN.0
 abbrev pub KeepsTask : Task → Shape → BoardState → BoardState → Type 0
 KeepsTask task shape loaded new =
     Goes shape loaded new (λ flash posted. (start : Map) → Holds shape loaded.pages start
-    → KeptTask task loaded.read_faults new.read_faults shape word_frames start flash posted)
+    → KeptTask task loaded.read_faults new.read_faults shape WORD_FRAMES start flash posted)
 
 -- The drive was opened, and the word came to this end.
 pub record AskedTo (task : Task) (shape : Shape) (loaded new : BoardState) (end : WordEnd) : Type 0 where
   pub start : Map
   pub holds : Holds shape loaded.pages start
-  pub ends : EndsBy task shape word_frames start (behind_opening shape word_frames loaded) new end
+  pub ends : EndsBy task shape WORD_FRAMES start (behind_opening shape WORD_FRAMES loaded) new end
   pub used : end ≡ Worn → roots new ≤ roots loaded + most_roots task
 
 -- What was done on an image of this shape, from its load on. A word that only asks leaves each page.
@@ -69,7 +66,7 @@ AskRun task old new status =
 abbrev pub AsksAll : Task → Shape → BoardState → BoardState → ℕ → Type 0
 AsksAll task shape loaded new status =
     (start : Map) → Holds shape loaded.pages start → roots loaded < 4611686018427387904 → NoneRose loaded new → (Rose loaded.flash_faults new.flash_faults → ⊥)
-    → ((status ≡ DONE.0) × Finished task shape word_frames start loaded new) ⊎ ((status ≡ MEMORY.0) × Untouched loaded new)
+    → ((status ≡ DONE.0) × Finished task shape WORD_FRAMES start loaded new) ⊎ ((status ≡ MEMORY.0) × Untouched loaded new)
 
 -- the same of a board that holds its pages from the start
 abbrev pub AsksWhole : Task → BoardState → BoardState → ℕ → Type 0

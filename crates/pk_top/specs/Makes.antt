@@ -7,7 +7,7 @@ use Rattle.pk_nand.specs.Calls.{Loaded, Made, ProgramFailed, after_program}
 use Rattle.pk_rootfmt.specs.Held.{first as first_root}
 use Rattle.pk_rootfmt.specs.Root.{root_bytes}
 use Rattle.pk_model.specs.Reading.{Holds}
-use Rattle.pk_top.specs.declared.status.TheConstants.Status.{DONE, FLASH, MEMORY, MADE}
+use Rattle.pk_top.specs.declared.status.TheConstants.Status.{DONE, FLASH, MEMORY, IMAGE_EXISTS}
 use Rattle.pk_top.specs.Loads.{LoadRefused, MakeRefused}
 
 -- The flash of an image that was made holds the empty map, by one program.
@@ -34,7 +34,7 @@ pub record MakesNew (shape : Shape) (old new : BoardState) (status : ℕ) : Type
 
 -- there was one
 pub record FoundImage (old new : BoardState) (status : ℕ) : Type 0 where
-  pub tells : status ≡ MADE.0
+  pub tells : status ≡ IMAGE_EXISTS.0
   pub shape : Shape
   pub found : Loaded old new (Some shape)
 

@@ -14,7 +14,8 @@ use Rattle.pk_top.specs.Resting.{Rests}
 use Rattle.pk_top.specs.Serves.{ServeRun}
 use Rattle.pk_model.specs.Script.{script}
 use Rattle.pk_wordrun.specs.Tasks.{Task, KeptTask}
-use Rattle.pk_top.specs.Asks.{AskRun, word_frames}
+use Rattle.pk_top.specs.Asks.{AskRun}
+use Rattle.pk_top.specs.declared.asking.TheConstants.{WORD_FRAMES}
 use Rattle.pk_top.specs.Words.{Word, make, serve, ask, assemble, show, word_of}
 
 -- A run of the program: its words, its input, the board before it and at its end, its status, the marks that it made, and the flash and the bytes
@@ -46,7 +47,7 @@ pub record IsRun (shape : Shape) (r : ProgramRun) : Type 0 where
 abbrev pub LeavesMap : Option Word → Shape → ProgramRun → Map → Map → Type 0
 LeavesMap (Some (serve frames)) shape r m m' =
     (kept : Kept shape frames m (script r.input).0 (rise r.old.read_faults r.new.read_faults) r.posted r.left) × (m' ≡ kept.map_left)
-LeavesMap (Some (ask task)) shape r m m' = KeptTask task r.old.read_faults r.new.read_faults shape word_frames m r.left r.posted
+LeavesMap (Some (ask task)) shape r m m' = KeptTask task r.old.read_faults r.new.read_faults shape WORD_FRAMES m r.left r.posted
 LeavesMap (Some (make other)) shape r m m' = m' ≡ m
 LeavesMap (Some assemble) shape r m m' = m' ≡ m
 LeavesMap (Some show) shape r m m' = m' ≡ m

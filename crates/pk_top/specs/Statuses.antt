@@ -5,7 +5,7 @@ use Rattle.pk_base.specs.Refusal.{Refusal}
 use Rattle.pk_nand.specs.BoardState.{BoardState}
 use Rattle.pk_nand.specs.Calls.{Rose}
 use Rattle.pk_model.specs.Reading.{Refuses}
-use Rattle.pk_top.specs.declared.status.TheConstants.Status.{WORDS, INPUT, OUTPUT, FLASH, MEMORY, NO_DRIVE, MADE}
+use Rattle.pk_top.specs.declared.status.TheConstants.Status.{WORDS, INPUT, OUTPUT, FLASH, MEMORY, NO_DRIVE, IMAGE_EXISTS}
 
 -- nothing was taken from the input, and nothing was posted
 pub record GivesNothing (old new : BoardState) : Type 0 where
@@ -37,11 +37,11 @@ pub record Tells (old new : BoardState) (status : ℕ) : Type 0 where
   pub flash : status ≡ FLASH.0 → FlashFailed old new
   pub memory : status ≡ MEMORY.0 → (new.flash_faults ≡ old.flash_faults) × GivesNothing old new
   pub no_drive : status ≡ NO_DRIVE.0 → HasNoDrive new × Untouched old new
-  pub made : status ≡ MADE.0 → IsSome new.shape × Untouched old new
+  pub made : status ≡ IMAGE_EXISTS.0 → IsSome new.shape × Untouched old new
 
 -- The status of a text that was turned to an end: none of words, flash, memory, a missing drive or one that is there.
 pub record IsServed (status : ℕ) : Type 0 where
   pub no_words : status ≡ WORDS.0 → ⊥
   pub no_memory : status ≡ MEMORY.0 → ⊥
   pub no_drive : status ≡ NO_DRIVE.0 → ⊥
-  pub no_made : status ≡ MADE.0 → ⊥
+  pub no_made : status ≡ IMAGE_EXISTS.0 → ⊥

@@ -6,6 +6,7 @@ use Rattle.pk_nvme.specs.Text.{number_of, bytes_of}
 use Rattle.pk_asm.specs.Words.{key_of}
 use Rattle.pk_words.specs.Question.{Question, put, get, delete, has, stat}
 use Rattle.pk_wordrun.specs.Tasks.{Task, answer, list, generate}
+use Rattle.pk_top.specs.declared.words.TheConstants.{MOST_FRAMES, VALUE_LENGTHS}
 
 -- what the words ask for
 pub data Word : Type 0 where
@@ -38,12 +39,8 @@ abbrev pub make_of : List (List ℕ) → Option Word
 make_of (p ∷ n ∷ m ∷ []) = make_if (number_of p) (number_of n) (number_of m)
 make_of _ = None
 
--- the most frames of a drive
-abbrev pub most_frames : ℕ
-most_frames = 16384
-
 abbrev pub serve_with : ℕ → Option Word
-serve_with frames = if nat_le frames most_frames then Some (serve frames) else None
+serve_with frames = if nat_le frames MOST_FRAMES then Some (serve frames) else None
 
 abbrev pub serve_of : List (List ℕ) → Option Word
 serve_of (n ∷ []) = number_of n >>= serve_with
@@ -51,7 +48,7 @@ serve_of _ = None
 
 -- a value whose length is a field of an entry
 abbrev pub put_with : List ℕ → List ℕ → Option Word
-put_with key bytes = if nat_lt (length bytes) 4294967296 then Some (question (put key bytes)) else None
+put_with key bytes = if nat_lt (length bytes) VALUE_LENGTHS then Some (question (put key bytes)) else None
 
 abbrev pub put_of : List (List ℕ) → Option Word
 put_of (k ∷ b ∷ []) = do

@@ -14,7 +14,8 @@ use pk_nand::Board;
 use pk_wordrun::{Speaker, Task, WordEnd};
 use std::alloc::Global;
 
-/// The frames with which a word opens the drive.
+/// The frames with which a word opens the drive: those that pin two levels, 4 and 16 for their pages and 16 for the output of a
+/// merge into the second.
 pub const WORD_FRAMES: u32 = 36;
 
 /// The status of an end.

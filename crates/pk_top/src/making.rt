@@ -41,7 +41,7 @@ pub fn make<B: Board>(alloc: Global, shape: Shape, board: &mut B) -> Status
     ensures tells { Tells (B.state board.old) (B.state board.new) result.0 }
 {
     match board.load(alloc) {
-        Ok(Some(_)) => Status::MADE,
+        Ok(Some(_)) => Status::IMAGE_EXISTS,
         Ok(None) => make_image(alloc, shape, board),
         Err(fault) => of_load_fault(fault),
     }

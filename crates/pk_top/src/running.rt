@@ -3,6 +3,7 @@ ghost use Rattle.std.specs.Prelude.{◌≡◌, ◌≢◌, ◌≤◌, ◌⊎◌, 
 ghost use Rattle.pk_base.specs.Shape.{Shape as Form};
 ghost use Rattle.pk_top.specs.Words as spec;
 ghost use Rattle.pk_top.specs.declared.status.TheConstants.Status.{DONE, WORDS, MEMORY};
+ghost use Rattle.pk_top.specs.declared.words.TheConstants.{MOST_FRAMES};
 ghost use Rattle.pk_top.specs.Statuses.{Tells, Untouched};
 ghost use Rattle.pk_top.specs.Resting.{Rests, RestsIn};
 ghost use Rattle.pk_top.specs.Texts.{seen};
@@ -25,8 +26,8 @@ use crate::words::word_of;
 use pk_nand::Board;
 use std::alloc::Global;
 
-/// Does what the words ask for, over any board. Status 2 comes exactly where they ask for nothing of the table (or 7 where the
-/// memory for a value among them is missing), and nothing was done then.
+/// Does what the words ask for, over any board. The status is `WORDS` exactly where they ask for nothing of the table (or
+/// `MEMORY` where the memory for a value among them is missing), and nothing was done then.
 ///
 /// `serves` carries what the project is about: over any sessions on a made drive, each cut off anywhere, every record that was
 /// posted is the finite map's, and each session begins from the map after the commands that were kept of the one before.
@@ -77,7 +78,7 @@ pub fn run<B: Board>(alloc: Global, words: &[&str], board: &mut B) -> Status
 }
 
 fn obey<B: Board>(alloc: Global, word: Word, board: &mut B) -> Status
-    requires frames { (frames : ℕ) → seen word ≡ spec.serve frames → frames ≤ 16384 }
+    requires frames { (frames : ℕ) → seen word ≡ spec.serve frames → frames ≤ MOST_FRAMES }
     requires short { (task : Task) → seen word ≡ spec.ask task → IsShortTask task }
 
     // The status and its cause.

@@ -4,6 +4,7 @@ ghost use Rattle.pk_nand.specs.Calls.{IsReady};
 ghost use Rattle.pk_top.specs.Ends.{end_status, open_status};
 ghost use Rattle.pk_top.specs.Serves.{ServeRun, Serves};
 ghost use Rattle.pk_top.specs.Statuses.{Tells};
+ghost use Rattle.pk_top.specs.declared.words.TheConstants.{MOST_FRAMES};
 
 use crate::making::of_load_fault;
 use crate::status::Status;
@@ -42,7 +43,7 @@ pub fn of_open_error(error: OpenError) -> Status
 /// Opens the drive of an image and serves the input. All memory is taken before the first byte of it.
 fn serve_image<B: Board>(alloc: Global, shape: Shape, frames: u32, board: &mut B) -> Status
     requires ready { IsReady (B.state board.old) shape }
-    requires frames { frames ≤ 16384 }
+    requires frames { frames ≤ MOST_FRAMES }
     ensures { Serves shape frames (B.state board.old) (B.state board.new) result.0 }
 {
     let Ok(mut server) = Server::new(alloc, shape) else {
@@ -56,7 +57,7 @@ fn serve_image<B: Board>(alloc: Global, shape: Shape, frames: u32, board: &mut B
 
 /// Serves the script of the input with so many frames, on the drive of the image that is found.
 pub fn serve<B: Board>(alloc: Global, frames: u32, board: &mut B) -> Status
-    requires { frames ≤ 16384 }
+    requires { frames ≤ MOST_FRAMES }
     ensures runs { ServeRun frames (B.state board.old) (B.state board.new) result.0 }
     ensures tells { Tells (B.state board.old) (B.state board.new) result.0 }
 {

@@ -22,9 +22,9 @@ impl Status {
     pub const MEMORY: Status = Status(7);
     /// No drive is found.
     pub const NO_DRIVE: Status = Status(8);
-    /// An image is there already.
-    pub const MADE: Status = Status(9);
-    /// Another entry begins, and no more are taken.
+    /// `make` found an image.
+    pub const IMAGE_EXISTS: Status = Status(9);
+    /// Another entry begins, and no more are taken; or a text has another line, and no more are counted.
     pub const WORN: Status = Status(10);
     /// A line of a text script is outside the grammar.
     pub const BAD_LINE: Status = Status(12);

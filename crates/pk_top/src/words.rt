@@ -75,11 +75,14 @@ fn serve(operands: &[&str]) -> Option<Word>
     }
 }
 
+/// The lengths of values that the four bytes of an entry's field can say.
+pub const VALUE_LENGTHS: usize = 4_294_967_296;
+
 /// A Store of a value whose length is a field of an entry.
 fn put_with(key: Key, value: Bytes) -> Option<Word>
     ensures { option_map seen result ≡ spec.put_with key value.items }
 {
-    if value.len() < 4_294_967_296 {
+    if value.len() < VALUE_LENGTHS {
         Some(question(Question::Put(key, value)))
     } else {
         None
