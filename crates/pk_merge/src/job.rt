@@ -115,8 +115,8 @@ impl<A: Region> MergeJob<A> {
         self.merger.restart();
     }
 
-    /// Does nothing: brings the invariant of the job into a proof. A merge runs as before where others change no page of a
-    /// block that is owned for meta pages, and no more of it is left than of a whole one.
+    /// Does nothing: brings into a proof that a merge runs as before where others change no page of a block that is owned for
+    /// meta pages, and that no more of it is left than of a whole one.
     pub fn known(&self)
         ensures elsewhere { (source : SourceSpec A) (target : Kept) (pool later : Blocks)
             (old new : Flash) (arena : Frames) (es fs : List EntrySpec)
