@@ -3,7 +3,7 @@ use Rattle.std.specs.Prelude.{◌≡◌, ℕ, ◌+◌, ◌≤◌, ◌==◌, ◌|
 use Rattle.pk_base.specs.Shape.{Shape, most_calls}
 use Rattle.pk_nvme.specs.declared.opcode.TheConstants.{STORE, DELETE, TICK}
 use Rattle.pk_nand.specs.BoardState.{BoardState}
-use Rattle.pk_nand.specs.Erased.{counted_by}
+use Rattle.pk_nand.specs.Counts.{counted_by}
 
 -- At most so many calls of the flash were made, failed ones included.
 pub record FewCalls (most : ℕ) (old new : BoardState) : Type 0 where

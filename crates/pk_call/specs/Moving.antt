@@ -12,7 +12,7 @@ use Rattle.pk_rootfmt.specs.Newest.{newest_root}
 use Rattle.pk_nvme.specs.Command.{Command, key}
 use Rattle.pk_nvme.specs.declared.opcode.TheConstants.{STORE}
 use Rattle.pk_nand.specs.BoardState.{BoardState}
-use Rattle.pk_nand.specs.Erased.{counted_by}
+use Rattle.pk_nand.specs.Counts.{counted_by}
 use Rattle.pk_model.specs.Found.{entries_in_order}
 use Rattle.pk_model.specs.Tree.{Tree, IsTree}
 use Rattle.pk_model.specs.Sight.{Sight, free_pages}

@@ -9,7 +9,7 @@ use Rattle.pk_model.specs.Found.{Found, found_under}
 use Rattle.pk_model.specs.Tree.{Tree, IsTree}
 use Rattle.pk_nand.specs.BoardState.{BoardState}
 use Rattle.pk_nand.specs.Calls.{IsReady}
-use Rattle.pk_nand.specs.Erased.{after_reads}
+use Rattle.pk_nand.specs.Counts.{after_reads}
 use Rattle.pk_call.specs.Drive.{HoldsMap}
 use Rattle.pk_call.specs.Steady.{live_blocks}
 use Rattle.pk_parts.specs.Parts.{Parts, sight_of}

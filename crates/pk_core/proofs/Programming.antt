@@ -14,7 +14,7 @@ use Rattle.pk_base.specs.Map.{Map}
 use Rattle.pk_buf.specs.Table.{Table}
 use Rattle.pk_rootfmt.specs.Root.{Root}
 use Rattle.pk_nand.specs.BoardState.{BoardState}
-use Rattle.pk_nand.specs.Erased.{counted_by}
+use Rattle.pk_nand.specs.Counts.{counted_by}
 use Rattle.pk_jrn.specs.Epochs.{JournalEpoch, left_of}
 use Rattle.pk_jrn.proofs.Puts.{firsts-reverse, find-firsts}
 use Rattle.pk_base.proofs.ShapeLemmas.{block_pages_positive}

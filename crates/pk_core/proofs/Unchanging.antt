@@ -25,7 +25,7 @@ use Rattle.pk_seg.specs.Stored.{IsFront}
 use Rattle.pk_seg.specs.Counts.{ReadsFailed}
 use Rattle.pk_nand.specs.BoardState.{BoardState}
 use Rattle.pk_nand.specs.Calls.{last_count}
-use Rattle.pk_nand.specs.Erased.{after_reads}
+use Rattle.pk_nand.specs.Counts.{after_reads}
 use Rattle.pk_nand.proofs.Reaching.{Reached-start}
 use Rattle.pk_nvme.specs.Opcode.{op_of}
 use Rattle.pk_nvme.specs.declared.opcode.Opcode.{Opcode}

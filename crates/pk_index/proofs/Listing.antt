@@ -12,7 +12,7 @@ use Rattle.pk_base.specs.Fields.{u32}
 use Rattle.pk_base.specs.Page.{Flash}
 use Rattle.pk_nand.specs.BoardState.{BoardState}
 use Rattle.pk_nand.specs.Calls.{IsReady, ReadFailed}
-use Rattle.pk_nand.specs.Erased.{after_reads}
+use Rattle.pk_nand.specs.Counts.{after_reads}
 use Rattle.pk_pin.specs.Frames.{Frames}
 use Rattle.pk_run.specs.Kept.{Kept}
 use Rattle.pk_level.proofs.Looking.{reads_more}

@@ -3,7 +3,7 @@ use Rattle.std.proofs.Common.{◌≡◌, inl, inr, ℕ, zero, suc, ◌+◌, ◌<
 use Rattle.std.specs.Prelude.{slice_index_or}
 use Rattle.pk_nand.specs.BoardState.{BoardState}
 use Rattle.pk_nand.specs.Calls.{counted, last_count}
-use Rattle.pk_nand.specs.Erased.{counted_by}
+use Rattle.pk_nand.specs.Counts.{counted_by}
 use Rattle.pk_run.specs.Kept.{Kept, IsKept}
 use Rattle.pk_call.specs.declared.types.Outcome.{Outcome}
 use Rattle.pk_walk.specs.Walking.{Reads, ReadsFail, read_of, most_read}

@@ -22,20 +22,12 @@ use pk_call::Outcome;
 use pk_level::Levels;
 use pk_log::Log;
 use pk_nand::{Fault, Nand};
-use pk_nvme::Request;
 use pk_nvme::limits::{COUNT_BYTES, MOST_LIST_BYTES};
 use pk_nvme::status::{SUCCESSFUL_COMPLETION, UNRECOVERED_ERROR};
+use pk_nvme::{Request, fill_behind};
 use pk_pin::PinArena;
 use pk_region::Region;
 use pk_walk::Walk;
-
-// The zeros behind a listed key.
-#[inline(always)]
-fn padding(len: usize) -> usize
-    ensures { result ≡ (6 - len % 4) % 4 }
-{
-    (6 - len % 4) % 4
-}
 
 // The bytes of a listed key: its length, itself and zeros up to a multiple of four.
 #[inline(always)]
@@ -44,7 +36,7 @@ fn listed_size(key: &[u8]) -> usize
     ensures size { result ≡ length (listed key.now) }
     ensures few { result ≤ 24 }
 {
-    2 + key.len() + padding(key.len())
+    2 + key.len() + fill_behind(key.len())
 }
 
 // Writes a length of two bytes, the key, and zeros up to a multiple of four bytes.
@@ -59,7 +51,7 @@ fn put_listed(into: &mut [u8], at: usize, key: &[u8])
     let len = key.len();
     put_u16(into, at, len as u16);
     put_bytes(into, at + 2, key);
-    put_padding(into, at + 2 + len, padding(len));
+    put_padding(into, at + 2 + len, fill_behind(len));
 }
 
 // Writes the bytes of a key; those of a whole one by a copy of a fixed size, which is faster.

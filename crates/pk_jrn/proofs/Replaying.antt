@@ -19,7 +19,7 @@ use Rattle.pk_jrnfmt.specs.Epoch.{journal, epoch}
 use Rattle.pk_jrnfmt.proofs.PageLemmas.{journal_held}
 use Rattle.pk_nand.specs.BoardState.{BoardState}
 use Rattle.pk_nand.specs.Calls.{after_read, filled}
-use Rattle.pk_nand.specs.Erased.{after_reads}
+use Rattle.pk_nand.specs.Counts.{after_reads}
 use Rattle.pk_nand.specs.Seen.{answer}
 use Rattle.pk_nand.specs.declared.types.PageRead.{PageRead}
 use Rattle.pk_nand.specs.declared.types.PageRead.TheVariants.{Erased as ReadErased, Whole as ReadWhole, Torn as ReadTorn}

@@ -14,7 +14,7 @@ use Rattle.pk_jrnfmt.specs.Epoch.{epoch}
 use Rattle.pk_buf.specs.Table.{Table}
 use Rattle.pk_nand.specs.BoardState.{BoardState}
 use Rattle.pk_nand.specs.Calls.{Rose, ReadFailed}
-use Rattle.pk_nand.specs.Erased.{after_reads}
+use Rattle.pk_nand.specs.Counts.{after_reads}
 use Rattle.pk_jrn.specs.declared.error.ReplayError.{ReplayError}
 use Rattle.pk_jrn.specs.declared.error.ReplayError.TheVariants.{Damaged, Fault}
 use Rattle.pk_jrn.specs.Epochs.{HasCommit}

@@ -2,7 +2,7 @@
 ghost use Rattle.std.specs.Prelude.{◌≡◌, length, IfOk, IfErr, OnOk, OnErr, MatchBool};
 ghost use Rattle.pk_base.specs.Page.{page_at};
 ghost use Rattle.pk_nand.specs.Calls.{IsReady};
-ghost use Rattle.pk_nand.specs.Erased.{after_reads};
+ghost use Rattle.pk_nand.specs.Counts.{after_reads};
 ghost use Rattle.pk_nand.specs.declared.types.PageRead.TheVariants.{Whole};
 ghost use Rattle.pk_buf.specs.Table.{no_entries};
 ghost use Rattle.pk_jrn.specs.Epochs.{AllExist, EpochOnFlash, found_at_opening};

@@ -11,7 +11,7 @@ use Rattle.pk_base.specs.declared.entry.Entry.{Entry as RustEntry}
 use Rattle.pk_base.specs.Page.{Flash}
 use Rattle.pk_nand.specs.BoardState.{BoardState}
 use Rattle.pk_nand.specs.Calls.{counted, IsReady, after_read, ReadFailed}
-use Rattle.pk_nand.specs.Erased.{counted_by, after_reads}
+use Rattle.pk_nand.specs.Counts.{counted_by, after_reads}
 use Rattle.pk_pin.specs.Frames.{Frames}
 use Rattle.pk_run.specs.Kept.{Kept, IsPinned, RunOnFlash, empty, after_look}
 use Rattle.pk_run.specs.Search.{IsFound, IsPageFor, Looks}

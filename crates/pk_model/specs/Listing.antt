@@ -19,11 +19,6 @@ offered l k =
     then record l { bytes = l.bytes ++ listed k; count = l.count + 1; left = l.left - length (listed k) }
     else record l { full = true }
 
--- where a List begins; without a key, at the empty one, which none is below
-abbrev pub start_of : Option Key → Key
-start_of None = []
-start_of (Some key) = key
-
 -- one more key, unless it is below the first that is wanted
 abbrev pub offered_from : Key → Listing → Key → Listing
 offered_from from l k = if is_lt (key_cmp k from) then l else offered l k

@@ -5,10 +5,11 @@ ghost use Rattle.std.specs.Ordering.{is_lt};
 ghost use Rattle.pk_base.specs.Key.{IsKey, key_cmp};
 ghost use Rattle.pk_base.specs.Fields.{u16 as u16_bytes};
 ghost use Rattle.pk_model.specs.Answer.{listed as listed_bytes};
-ghost use Rattle.pk_model.specs.Listing.{offered, offered_from, start_of};
+ghost use Rattle.pk_nvme.specs.Command.{key_or_none};
+ghost use Rattle.pk_model.specs.Listing.{offered, offered_from};
 
 use pk_base::{Key, is_below};
-use pk_nvme::Bytes;
+use pk_nvme::{Bytes, fill_behind};
 use std::alloc::{AllocError, Global};
 use std::marker::Model;
 
@@ -87,7 +88,7 @@ impl Page {
 
     /// One more key, unless it is below the first that is wanted.
     pub fn offer_from(&mut self, from: Option<&Key>, key: &Key)
-        ensures { self.new ≡ offered_from (start_of (option_copied from.entry)) self.old key.now }
+        ensures { self.new ≡ offered_from (key_or_none (option_copied from.entry)) self.old key.now }
     {
         if !is_before(key, from) {
             self.offer(key.bytes());
@@ -97,7 +98,7 @@ impl Page {
 
 /// The key is below the first that is wanted: none is where there is no such key.
 fn is_before(key: &Key, from: Option<&Key>) -> bool
-    ensures { result ≡ is_lt (key_cmp key.now (start_of (option_copied from.entry))) }
+    ensures { result ≡ is_lt (key_cmp key.now (key_or_none (option_copied from.entry))) }
 {
     match from {
         Some(first) => is_below(key, first),
@@ -105,19 +106,12 @@ fn is_before(key: &Key, from: Option<&Key>) -> bool
     }
 }
 
-/// Zeros behind a listed key.
-fn padding(len: usize) -> usize
-    ensures { result ≡ (6 - len % 4) % 4 }
-{
-    (6 - len % 4) % 4
-}
-
 /// The bytes of a listed key: its length, itself and zeros up to a multiple of four.
 fn listed_size(key: &[u8]) -> usize
     requires { IsKey key.now }
     ensures { result ≡ length (listed_bytes key.now) }
 {
-    2 + key.len() + padding(key.len())
+    2 + key.len() + fill_behind(key.len())
 }
 
 fn put_listed(bytes: &mut Bytes, key: &[u8])
@@ -128,5 +122,5 @@ fn put_listed(bytes: &mut Bytes, key: &[u8])
     let zeros = [0u8; 3];
     bytes.extend(&(key.len() as u16).to_le_bytes());
     bytes.extend(key);
-    bytes.extend(&zeros[..padding(key.len())]);
+    bytes.extend(&zeros[..fill_behind(key.len())]);
 }

@@ -10,7 +10,7 @@ use Rattle.pk_base.specs.Map.{Map}
 use Rattle.pk_nand.specs.declared.types.Fault.{Fault}
 use Rattle.pk_nand.specs.BoardState.{BoardState}
 use Rattle.pk_nand.specs.Calls.{counted}
-use Rattle.pk_nand.specs.Erased.{counted_by}
+use Rattle.pk_nand.specs.Counts.{counted_by}
 use Rattle.pk_nand.specs.Effects.{OneProgram}
 use Rattle.pk_seg.specs.Stored.{written}
 use Rattle.pk_pool.specs.Blocks.{Blocks}

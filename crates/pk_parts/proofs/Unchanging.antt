@@ -8,7 +8,7 @@ use Rattle.pk_base.specs.Entry.{Place}
 use Rattle.pk_base.specs.Map.{Map}
 use Rattle.pk_nand.specs.BoardState.{BoardState}
 use Rattle.pk_nand.specs.Calls.{Rose, counted, last_count, ReadFailed, IsReady}
-use Rattle.pk_nand.specs.Erased.{counted_by, after_reads}
+use Rattle.pk_nand.specs.Counts.{counted_by, after_reads}
 use Rattle.pk_level.specs.Levels.{ReadsUpTo, ReadFailsWithin}
 use Rattle.pk_model.specs.Reading.{reading}
 use Rattle.pk_steps.proofs.Untouched.{under_reads}

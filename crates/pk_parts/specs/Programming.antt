@@ -2,7 +2,7 @@
 use Rattle.std.specs.Prelude.{◌≡◌, ℕ, ◌+◌, true, false}
 use Rattle.pk_base.specs.Key.{Key}
 use Rattle.pk_nand.specs.BoardState.{BoardState}
-use Rattle.pk_nand.specs.Erased.{counted_by}
+use Rattle.pk_nand.specs.Counts.{counted_by}
 use Rattle.pk_log.specs.State.{needs_freeze}
 use Rattle.pk_data.specs.State.{fits_open}
 use Rattle.pk_call.specs.Moving.{commits_for}

@@ -2,7 +2,7 @@
 ghost use Rattle.std.specs.Prelude.{◌≡◌, ◌≤◌, ◌-◌, ℕ, List, length, take, Option, IfOk, OnOk, OnErr};
 ghost use Rattle.pk_base.specs.Shape.{fetched};
 ghost use Rattle.pk_nand.specs.Calls.{IsReady, last_count};
-ghost use Rattle.pk_nand.specs.Erased.{after_reads};
+ghost use Rattle.pk_nand.specs.Counts.{after_reads};
 ghost use Rattle.pk_seg.specs.Stored.{IsFront};
 ghost use Rattle.pk_seg.specs.Counts.{ReadsFailed};
 ghost use Rattle.pk_parts.specs.Agreeing.{DriveOnFlash};

@@ -3,7 +3,7 @@ ghost use Rattle.std.specs.Prelude.{◌≡◌, ◌<◌, length, true, None, Some
 ghost use Rattle.pk_base.specs.Page.{page_at};
 ghost use Rattle.pk_base.specs.Shape.{root_pages};
 ghost use Rattle.pk_nand.specs.Calls.{IsReady};
-ghost use Rattle.pk_nand.specs.Erased.{after_reads};
+ghost use Rattle.pk_nand.specs.Counts.{after_reads};
 ghost use Rattle.pk_nand.specs.declared.types.Fault.TheVariants.{Reading};
 ghost use Rattle.pk_rootfmt.specs.Root.{is_root, root_page};
 ghost use Rattle.pk_rootfmt.specs.Newest.{newest_root};

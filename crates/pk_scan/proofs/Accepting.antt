@@ -7,7 +7,7 @@ use Rattle.pk_base.specs.Entry.{Place}
 use Rattle.pk_base.specs.Page.{Page, Flash, page_at}
 use Rattle.pk_base.specs.Refusal.{Refusal, damaged, ◌>>=◌, ensure}
 use Rattle.pk_nand.specs.BoardState.{BoardState}
-use Rattle.pk_nand.specs.Erased.{after_reads}
+use Rattle.pk_nand.specs.Counts.{after_reads}
 use Rattle.pk_segfmt.specs.Value.{value_pages, value_at}
 use Rattle.pk_model.specs.Values.{fits, all_pages, values_of}
 use Rattle.pk_scan.specs.Checked.{HasValue, NotFound}

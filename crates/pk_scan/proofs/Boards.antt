@@ -5,7 +5,7 @@ use Rattle.pk_base.specs.Shape.{Shape}
 use Rattle.pk_base.specs.Page.{IsFlash}
 use Rattle.pk_nand.specs.BoardState.{BoardState}
 use Rattle.pk_nand.specs.Calls.{IsReady, ReadFailed}
-use Rattle.pk_nand.specs.Erased.{after_reads}
+use Rattle.pk_nand.specs.Counts.{after_reads}
 use Rattle.pk_level.proofs.Looking.{reads_more}
 use Rattle.pk_jrn.specs.Replays.{Refused}
 use Rattle.pk_jrn.specs.declared.error.ReplayError.{ReplayError}

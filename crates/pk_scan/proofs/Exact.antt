@@ -5,7 +5,7 @@ use Rattle.std.proofs.lemmas.List.{take_all}
 use Rattle.pk_base.specs.Shape.{Shape, run_pages}
 use Rattle.pk_base.specs.Page.{Flash, page_at, commits_of}
 use Rattle.pk_nand.specs.BoardState.{BoardState}
-use Rattle.pk_nand.specs.Erased.{after_reads}
+use Rattle.pk_nand.specs.Counts.{after_reads}
 use Rattle.pk_rootfmt.specs.Root.{Root}
 use Rattle.pk_rootfmt.specs.Held.{two_of, older_of}
 use Rattle.pk_jrn.specs.Replays.{pages_to_end, epoch_reads}

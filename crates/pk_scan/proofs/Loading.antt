@@ -16,7 +16,7 @@ use Rattle.pk_nand.specs.Calls.{IsReady, ReadFailed, after_read, filled}
 use Rattle.pk_nand.specs.Seen.{answer}
 use Rattle.pk_nand.specs.declared.types.PageRead.{PageRead}
 use Rattle.pk_nand.specs.declared.types.PageRead.TheVariants.{Erased as ReadErased, Whole as ReadWhole, Torn as ReadTorn}
-use Rattle.pk_nand.specs.Erased.{after_reads}
+use Rattle.pk_nand.specs.Counts.{after_reads}
 use Rattle.pk_pin.specs.Frames.{Frames, free_frames, KeepsPage}
 use Rattle.pk_run.proofs.Standing.{RunOnFlash-empty}
 use Rattle.pk_run.specs.Kept.{Kept, empty, most_blocks, RunOnFlash, IsNext, IsPinned, IsPinnedAlike, page_of, with_page, with_lease}

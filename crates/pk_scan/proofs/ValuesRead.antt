@@ -4,7 +4,7 @@ use Rattle.pk_base.specs.Key.{Key}
 use Rattle.pk_base.specs.Shape.{Shape, charge}
 use Rattle.pk_base.specs.Entry.{Place}
 use Rattle.pk_nand.specs.BoardState.{BoardState}
-use Rattle.pk_nand.specs.Erased.{after_reads}
+use Rattle.pk_nand.specs.Counts.{after_reads}
 use Rattle.pk_run.specs.Kept.{Kept}
 use Rattle.pk_level.proofs.Looking.{reads_more}
 use Rattle.pk_walk.specs.Walking.{Walk, ReadsAll, SkipsNone, pages_read, most_read}

@@ -28,7 +28,7 @@ use Rattle.pk_live.specs.Values.{Values}
 use Rattle.pk_plan.specs.declared.owner.Owner.TheVariants.{Values as for_values}
 use Rattle.pk_pool.specs.Blocks.{Blocks, used_by, unused}
 use Rattle.pk_rootfmt.specs.Held.{Held}
-use Rattle.pk_nand.specs.Erased.{after_reads}
+use Rattle.pk_nand.specs.Counts.{after_reads}
 use Rattle.pk_model.specs.Found.{Found, found_under, entries_in_order}
 use Rattle.pk_model.specs.Laws.{IsPageOf}
 use Rattle.pk_model.specs.Reading.{reading}

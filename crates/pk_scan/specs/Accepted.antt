@@ -6,7 +6,7 @@ use Rattle.pk_base.specs.Entry.{Place}
 use Rattle.pk_base.specs.Page.{Flash, page_at}
 use Rattle.pk_base.specs.Refusal.{damaged, ◌>>=◌}
 use Rattle.pk_nand.specs.BoardState.{BoardState}
-use Rattle.pk_nand.specs.Erased.{after_reads}
+use Rattle.pk_nand.specs.Counts.{after_reads}
 use Rattle.pk_segfmt.specs.Value.{value_pages, value_at}
 use Rattle.pk_model.specs.Values.{fits, all_pages, values_of}
 use Rattle.pk_scan.specs.Checked.{Faulted}

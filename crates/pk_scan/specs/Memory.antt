@@ -8,7 +8,7 @@ use Rattle.pk_level.specs.Arenas.{leases_of}
 use Rattle.pk_live.specs.Values.{no_values}
 use Rattle.pk_model.specs.Found.{Found as FoundLists}
 use Rattle.pk_nand.specs.BoardState.{BoardState}
-use Rattle.pk_nand.specs.Erased.{after_reads}
+use Rattle.pk_nand.specs.Counts.{after_reads}
 use Rattle.pk_pin.specs.Frames.{free_frames}
 use Rattle.pk_pool.specs.Blocks.{PoolOnFlash, unused}
 use Rattle.pk_rootfmt.specs.Newest.{newest_root}

@@ -10,7 +10,7 @@ use Rattle.pk_base.specs.Page.{Flash, page_at, Page}
 use Rattle.pk_base.specs.Refusal.{Refusal, not_formatted, damaged}
 use Rattle.pk_nand.specs.BoardState.{BoardState}
 use Rattle.pk_nand.specs.Calls.{Rose}
-use Rattle.pk_nand.specs.Erased.{after_reads}
+use Rattle.pk_nand.specs.Counts.{after_reads}
 use Rattle.pk_meta.specs.Run.{run}
 use Rattle.pk_rootfmt.specs.Root.{Root, is_root}
 use Rattle.pk_rootfmt.specs.Held.{Held, total}

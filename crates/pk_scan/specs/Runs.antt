@@ -14,7 +14,7 @@ use Rattle.pk_meta.specs.Page.{meta_entries}
 use Rattle.pk_meta.specs.Run.{meta, run}
 use Rattle.pk_nand.specs.BoardState.{BoardState}
 use Rattle.pk_nand.specs.Calls.{Rose, ReadFailed, after_read}
-use Rattle.pk_nand.specs.Erased.{after_reads}
+use Rattle.pk_nand.specs.Counts.{after_reads}
 use Rattle.pk_pin.specs.Frames.{Frames, IsLeased, frame_of, free_frames, AreLeases}
 use Rattle.pk_run.specs.Kept.{Kept, RunOnFlash, empty, page_of, most_pages, with_page}
 use Rattle.pk_level.specs.Arenas.{IsPinnedIf}

@@ -5,7 +5,7 @@ use Rattle.pk_base.specs.Shape.{Shape}
 use Rattle.pk_base.specs.Entry.{Place}
 use Rattle.pk_base.specs.Page.{Flash}
 use Rattle.pk_nand.specs.BoardState.{BoardState}
-use Rattle.pk_nand.specs.Erased.{after_reads}
+use Rattle.pk_nand.specs.Counts.{after_reads}
 use Rattle.pk_live.specs.Values.{Values}
 use Rattle.pk_run.specs.Kept.{Kept}
 use Rattle.pk_walk.specs.Walking.{Walk, SkipsNone, most_read, pages_read}

@@ -5,7 +5,7 @@ ghost use Rattle.pk_base.specs.Shape as spec;
 ghost use Rattle.pk_base.specs.Entry.{Place};
 ghost use Rattle.pk_base.specs.EntryBytes.{IsPlace};
 ghost use Rattle.pk_nand.specs.Calls.{IsReady};
-ghost use Rattle.pk_nand.specs.Erased.{after_reads};
+ghost use Rattle.pk_nand.specs.Counts.{after_reads};
 ghost use Rattle.pk_live.specs.Lives.{Lives};
 ghost use Rattle.pk_scan.specs.Accepted.{Accepted, NotAccepted};
 ghost use Rattle.pk_scan.specs.Adopts.{owned_blocks};

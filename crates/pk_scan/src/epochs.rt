@@ -4,7 +4,7 @@ ghost use Rattle.pk_base.specs.Page.{page_at};
 ghost use Rattle.pk_buf.specs.Table.{no_entries};
 ghost use Rattle.pk_model.specs.Found.{newest_epoch, older_epoch};
 ghost use Rattle.pk_nand.specs.Calls.{IsReady};
-ghost use Rattle.pk_nand.specs.Erased.{after_reads};
+ghost use Rattle.pk_nand.specs.Counts.{after_reads};
 ghost use Rattle.pk_rootfmt.specs.Root.{is_root};
 ghost use Rattle.pk_scan.specs.Board.{StaysReady};
 ghost use Rattle.pk_scan.specs.Opening.{PartNotRead, OlderHeld, NewestHeld};

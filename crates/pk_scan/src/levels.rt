@@ -3,7 +3,7 @@ ghost use Rattle.std.specs.Prelude.{◌≡◌, length, OnOk, IfErr};
 ghost use Rattle.pk_base.specs.Page.{page_at};
 ghost use Rattle.pk_model.specs.Found.{runs_from};
 ghost use Rattle.pk_nand.specs.Calls.{IsReady};
-ghost use Rattle.pk_nand.specs.Erased.{after_reads};
+ghost use Rattle.pk_nand.specs.Counts.{after_reads};
 ghost use Rattle.pk_scan.specs.Board.{StaysReady};
 ghost use Rattle.pk_scan.specs.Reads.{pages_of_runs};
 ghost use Rattle.pk_scan.specs.Opening.{PartNotOpened, MayLoadLevel, MayLoadRuns, LoadsLevel, LoadsRuns, level_of, level_reads};

@@ -4,7 +4,7 @@ ghost use Rattle.pk_base.specs.Page.{page_at};
 ghost use Rattle.pk_base.specs.Shape.{root_pages};
 ghost use Rattle.pk_model.specs.Found.{Found as FoundLists, found_under};
 ghost use Rattle.pk_nand.specs.Calls.{IsReady};
-ghost use Rattle.pk_nand.specs.Erased.{after_reads};
+ghost use Rattle.pk_nand.specs.Counts.{after_reads};
 ghost use Rattle.pk_rootfmt.specs.Newest.{newest_root};
 ghost use Rattle.pk_rootfmt.specs.Root.{is_root};
 ghost use Rattle.pk_scan.specs.Board.{StaysReady};

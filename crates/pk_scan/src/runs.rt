@@ -4,7 +4,7 @@ ghost use Rattle.pk_base.specs.Shape.{run_pages};
 ghost use Rattle.pk_base.specs.Entry.{Entry as EntrySpec};
 ghost use Rattle.pk_base.specs.Page.{Flash};
 ghost use Rattle.pk_nand.specs.Calls.{IsReady, after_read};
-ghost use Rattle.pk_nand.specs.Erased.{after_reads};
+ghost use Rattle.pk_nand.specs.Counts.{after_reads};
 ghost use Rattle.pk_pin.specs.Frames.{Frames};
 ghost use Rattle.pk_run.specs.Kept.{RunOnFlash, most_blocks};
 ghost use Rattle.pk_scan.specs.Board.{StaysReady};

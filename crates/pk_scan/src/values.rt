@@ -5,7 +5,7 @@ ghost use Rattle.pk_base.specs.Shape as spec;
 ghost use Rattle.pk_base.specs.EntryBytes.{IsPlace};
 ghost use Rattle.pk_base.specs.Page.{page_at};
 ghost use Rattle.pk_nand.specs.Calls.{IsReady, after_read};
-ghost use Rattle.pk_nand.specs.Erased.{after_reads};
+ghost use Rattle.pk_nand.specs.Counts.{after_reads};
 ghost use Rattle.pk_segfmt.specs.Value.{head_bytes};
 ghost use Rattle.pk_scan.specs.Pages.{front_of, fits_page, left_at, is_right};
 ghost use Rattle.pk_scan.specs.Checked.{HasValue, NotFound, PageRefused};

@@ -12,7 +12,7 @@ use Rattle.pk_nand.specs.BoardState.{BoardState}
 use Rattle.pk_nand.specs.Calls.{IsReady, after_read, ReadFailed}
 use Rattle.pk_segfmt.specs.Value.{value_bytes}
 use Rattle.pk_segfmt.specs.Stored.{page_of}
-use Rattle.pk_nand.specs.Erased.{after_reads}
+use Rattle.pk_nand.specs.Counts.{after_reads}
 use Rattle.pk_seg.specs.Counts.{ReadsFailed}
 use Rattle.pk_seg.specs.Stored.{IsFront, BringsPiece}
 use Rattle.pk_base.proofs.ShapeLemmas.{fetched_needed, fetched_room}

@@ -6,7 +6,7 @@ ghost use Rattle.pk_nand.specs.Calls.{IsReady, InOrder, after_read, ReadFailed};
 ghost use Rattle.pk_nand.specs.Crash.{Reached, Went, SameOutside};
 ghost use Rattle.pk_nand.specs.declared.types.Fault.TheVariants.{Reading, Stopped};
 ghost use Rattle.pk_segfmt.specs.Stored.{IsStored};
-ghost use Rattle.pk_nand.specs.Erased.{after_reads};
+ghost use Rattle.pk_nand.specs.Counts.{after_reads};
 ghost use Rattle.pk_seg.specs.Counts.{ReadsFailed};
 ghost use Rattle.pk_seg.specs.Stored.{IsFront, BringsPiece, written, WriteFailed};
 

@@ -4,7 +4,7 @@ use Rattle.pk_base.specs.Shape.{Shape}
 use Rattle.pk_base.specs.Entry.{Entry}
 use Rattle.pk_nvme.specs.Command.{Command}
 use Rattle.pk_nand.specs.BoardState.{BoardState, shape_of, shape_or_none}
-use Rattle.pk_nand.specs.Erased.{counted_by}
+use Rattle.pk_nand.specs.Counts.{counted_by}
 use Rattle.pk_nand.specs.Effects.{OneProgram}
 use Rattle.pk_call.specs.Calling.{FewCalls, most_calls_of}
 use Rattle.pk_serve.specs.Calling.{calls_of, owed, most_calls_of_all}

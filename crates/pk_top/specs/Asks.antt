@@ -9,7 +9,7 @@ use Rattle.pk_nand.specs.Resting.{RestsFlash}
 use Rattle.pk_model.specs.Growth.{Goes}
 use Rattle.pk_model.specs.Reading.{Holds}
 use Rattle.pk_model.specs.Wear.{roots}
-use Rattle.pk_serve.specs.Complete.{NoneRose}
+use Rattle.pk_serve.specs.Complete.{NoneRose, far_below}
 use Rattle.pk_wordrun.specs.Tasks.{Task, only_asks, SaysTask, KeptTask}
 use Rattle.pk_wordrun.specs.Told.{EndsBy, Finished, most_roots}
 use Rattle.pk_wordrun.specs.declared.end.WordEnd.{WordEnd}
@@ -65,7 +65,7 @@ AskRun task old new status =
 -- was done.
 abbrev pub AsksAll : Task → Shape → BoardState → BoardState → ℕ → Type 0
 AsksAll task shape loaded new status =
-    (start : Map) → Holds shape loaded.pages start → roots loaded < 4611686018427387904 → NoneRose loaded new → (Rose loaded.flash_faults new.flash_faults → ⊥)
+    (start : Map) → Holds shape loaded.pages start → roots loaded < far_below → NoneRose loaded new → (Rose loaded.flash_faults new.flash_faults → ⊥)
     → ((status ≡ DONE.0) × Finished task shape WORD_FRAMES start loaded new) ⊎ ((status ≡ MEMORY.0) × Untouched loaded new)
 
 -- the same of a board that holds its pages from the start

@@ -9,7 +9,7 @@ use Rattle.pk_base.specs.Page.{Flash, page_at, whole}
 use Rattle.pk_meta.specs.Page.{IsMetaPage}
 use Rattle.pk_nand.specs.BoardState.{BoardState}
 use Rattle.pk_nand.specs.Calls.{ReadFailed}
-use Rattle.pk_nand.specs.Erased.{after_reads}
+use Rattle.pk_nand.specs.Counts.{after_reads}
 use Rattle.pk_pin.specs.Frames.{Frames}
 use Rattle.pk_run.specs.Kept.{Kept, IsKept, RunOnFlash, page_of}
 use Rattle.pk_level.proofs.Looking.{reads_more}

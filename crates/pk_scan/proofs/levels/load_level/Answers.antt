@@ -3,7 +3,7 @@ use Rattle.std.specs.Prelude.{nat_le}
 use Rattle.pk_base.specs.Shape.{Shape, IsShape, cap, page_entries, run_pages, run_blocks}
 use Rattle.pk_run.specs.Kept.{Kept, empty}
 use Rattle.pk_scan.specs.Runs.{MayLoadRun, HasRun, NotRead}
-use Rattle.pk_nand.specs.Erased.{after_reads}
+use Rattle.pk_nand.specs.Counts.{after_reads}
 use Rattle.pk_scan.proofs.Boards.{reads_none, stays_same, stays_ready_behind}
 use Rattle.pk_scan.proofs.Loading.{size_some}
 use Rattle.pk_scan.proofs.Rereading.{pages_most}

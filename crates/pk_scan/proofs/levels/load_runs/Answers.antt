@@ -1,5 +1,5 @@
 use Rattle.std.proofs.Common.{◌≡◌, ◌∙◌, ℕ, suc, ◌+◌, take, refl, subst, arith}
-use Rattle.pk_nand.specs.Erased.{after_reads}
+use Rattle.pk_nand.specs.Counts.{after_reads}
 use Rattle.pk_scan.specs.Reads.{pages_of_runs}
 use Rattle.pk_scan.proofs.Boards.{stays_same, stays_both}
 use Rattle.pk_scan.proofs.Exact.{runs_exact_next, runs_exact_end}

@@ -1,5 +1,5 @@
 use Rattle.std.proofs.Common.{◌≡◌, length, take}
-use Rattle.pk_nand.specs.Erased.{after_reads}
+use Rattle.pk_nand.specs.Counts.{after_reads}
 use Rattle.pk_scan.specs.Board.{StaysReady}
 use Rattle.pk_scan.specs.Reads.{pages_of_runs}
 use Rattle.pk_scan.proofs.RunsHeld.{RunsTo}

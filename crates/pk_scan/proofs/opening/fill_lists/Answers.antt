@@ -1,7 +1,7 @@
 use Rattle.std.proofs.Common.{◌≡◌, ◌+◌, refl, sym, ap, subst}
 use Rattle.pk_base.specs.Page.{page_at}
 use Rattle.pk_base.specs.Shape.{root_pages}
-use Rattle.pk_nand.specs.Erased.{after_reads}
+use Rattle.pk_nand.specs.Counts.{after_reads}
 use Rattle.pk_rootfmt.specs.Root.{Root}
 use Rattle.pk_scan.specs.Reads.{list_reads}
 use Rattle.pk_scan.proofs.Boards.{stays_both}

@@ -5,7 +5,7 @@ use Rattle.pk_rootfmt.specs.Root.{Root, named}
 use Rattle.pk_pool.specs.Blocks.{Blocks, unused}
 use Rattle.pk_base.specs.Shape.{Shape}
 use Rattle.pk_base.specs.Page.{page_at}
-use Rattle.pk_nand.specs.Erased.{after_reads}
+use Rattle.pk_nand.specs.Counts.{after_reads}
 use Rattle.pk_model.specs.Values.{values_of}
 use Rattle.pk_steps.specs.Under.{places}
 use Rattle.pk_walk.specs.Walking.{most_read}
