@@ -15,7 +15,7 @@ next_bytes e new = journal_bytes e.shape e.number e.used new
 
 -- the programs of its next commit, with these entries
 abbrev pub programs_of_commit : JournalEpoch → List Entry → List (ℕ × List ℕ)
-programs_of_commit e new = (next_page e , next_bytes e new) ∷ []
+programs_of_commit e new = (next_page e, next_bytes e new) ∷ []
 
 -- The entries of the epoch, and behind them the new ones, have no more keys than a write buffer.
 abbrev pub HaveRoom : JournalEpoch → List Entry → List Entry → Type 0

@@ -63,7 +63,7 @@ pub record MayInstall (shape : Shape) (page : ℕ) (root : Root) (old cut : Flas
 
 -- the programs by which a root stands in this page
 abbrev pub programs_of_root : Shape → ℕ → Root → List (ℕ × List ℕ)
-programs_of_root shape page root = (page , root_bytes shape root) ∷ []
+programs_of_root shape page root = (page, root_bytes shape root) ∷ []
 
 -- the root was programmed in the page that was next, by the one call, and is the newest one now
 pub record Installs (shape : Shape) (root : Root) (next : Next) (old : BoardState) (next' : Next) (new : BoardState) : Type 0 where
