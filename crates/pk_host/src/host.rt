@@ -1,4 +1,4 @@
-//! The host: a buffer for keys, and the typed calls of one command page.
+//! The host: a buffer for keys, and the typed calls of one command each.
 ghost use Rattle.std.specs.Prelude.{◌≡◌, ◌≤◌, ◌<◌, ◌^◌, [], ◌∷◌, length, OnOk, OnErr, IfOk};
 ghost use Rattle.std.specs.FinMap as map;
 ghost use Rattle.std.specs.List.{AllByRecursion};
