@@ -54,31 +54,9 @@ impl<'a> Word<'a> {
         into.push(b' ');
         match self {
             Word::Text(text) => into.extend(text),
-            Word::Hex(bytes) => put_hex(bytes, into),
-            Word::Number(number) => into.extend(Buffer::new().format(number).as_bytes()),
+            Word::Hex(bytes) => into.push_hex(bytes),
+            Word::Number(number) => into.push_number(number),
         }
-    }
-}
-
-const DIGITS: &[u8; 16] = b"0123456789abcdef";
-
-/// The two digits of a byte.
-#[tactic(auto, unfolding(hex::specs::Hex::encode_with))]
-fn digits(byte: u8) -> [u8; 2]
-    ensures { result ≡ hex_text (byte ∷ []) }
-{
-    [
-        DIGITS[usize::from(byte / 16)],
-        DIGITS[usize::from(byte % 16)],
-    ]
-}
-
-fn put_hex(bytes: &[u8], into: &mut Bytes)
-    requires { length into.old.items + 2 * length bytes.now ≤ into.old.room }
-    ensures { into.new ≡ record into.old { items = into.old.items ++ hex_text bytes.now } }
-{
-    for byte in bytes {
-        into.extend(&digits(*byte));
     }
 }
 

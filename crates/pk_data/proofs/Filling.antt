@@ -23,8 +23,8 @@ use Rattle.pk_pool.proofs.Fitting.{block_of, apart, PoolOnFlash-outside, owned_n
 use Rattle.pk_live.specs.Values.{Values}
 use Rattle.pk_model.proofs.ValueSets.{is_true}
 use Rattle.pk_steps.specs.Under.{IsValuePage}
-use Rattle.pk_gc.specs.declared.open_block.OpenBlock.{OpenBlock}
-use Rattle.pk_gc.specs.Victims.{closed_with}
+use Rattle.pk_live.specs.declared.open_block.OpenBlock.{OpenBlock}
+use Rattle.pk_live.specs.OpenBlocks.{closed_with}
 use Rattle.pk_data.specs.State.{DataState, has_left, page_behind, fits_open, next_page, opened, more_used, with_written, needs_reclaim}
 use Rattle.pk_data.specs.Placed.{ValuesOnFlash, AreOutputs, IsOpenIn, IsNotOpen, IsOutput, HoldsValues}
 use Rattle.pk_data.specs.Reserving.{IsReserved, WritesNext, IsFreeOf}

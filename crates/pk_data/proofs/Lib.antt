@@ -3,11 +3,7 @@ pub mod Standing
 pub mod Unchanged
 pub mod Filling
 pub mod Opening
-pub mod Releasing
 pub mod Nothing
 pub mod Storing
 pub mod Outputs
-pub mod Holding
 pub mod Heads
-pub mod Relocating
-pub mod Ends

@@ -20,7 +20,7 @@ use Rattle.pk_model.specs.Laws.{IsPageOf}
 use Rattle.pk_steps.specs.Under.{IsValuePage}
 use Rattle.pk_live.specs.Lives.{head_of}
 use Rattle.pk_live.proofs.Standing.{heads_read, total_is}
-use Rattle.pk_gc.specs.declared.open_block.OpenBlock.{OpenBlock}
+use Rattle.pk_live.specs.declared.open_block.OpenBlock.{OpenBlock}
 use Rattle.pk_data.specs.declared.span.Span.{Span}
 use Rattle.pk_data.specs.State.{DataState, with_head, with_heads}
 use Rattle.pk_data.specs.Placed.{ValuesOnFlash, IsOpenIn, IsOutput, IsNotOpen, HoldsValues, without}

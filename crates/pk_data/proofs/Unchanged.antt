@@ -18,7 +18,7 @@ use Rattle.pk_pool.proofs.States.{get-set_other, get-set_same}
 use Rattle.pk_pool.proofs.Sharing.{count-set}
 use Rattle.pk_pool.proofs.Fitting.{block_of}
 use Rattle.pk_model.specs.Laws.{AnyByRecursion}
-use Rattle.pk_gc.specs.declared.open_block.OpenBlock.{OpenBlock}
+use Rattle.pk_live.specs.declared.open_block.OpenBlock.{OpenBlock}
 use Rattle.pk_data.specs.State.{DataState}
 use Rattle.pk_data.specs.Placed.{ValuesOnFlash, IsNotOpen, IsOpenIn, IsOutput, HoldsValues}
 use Rattle.pk_live.proofs.Ranges.{has}

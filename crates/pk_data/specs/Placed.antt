@@ -1,5 +1,5 @@
 -- The values of a flash, as the live map, the pool and the open block tell them.
-use Rattle.std.specs.Prelude.{◌≡◌, ◌≢◌, ℕ, ◌+◌, ◌-◌, ◌*◌, ◌/◌, ◌<◌, ◌≤◌, List, [], ◌∷◌, length, map, filter, not, true, Option, MatchOption}
+use Rattle.std.specs.Prelude.{◌≡◌, ◌≢◌, ℕ, ◌+◌, ◌-◌, ◌*◌, ◌/◌, ◌<◌, ◌≤◌, List, [], ◌∷◌, length, map, filter, not, slice_get, true, Option, Some, MatchOption}
 use Rattle.std.specs.List.{range_with_len, AllByRecursion}
 use Rattle.std.specs.Ordering.{eq_by_cmp}
 use Rattle.pk_base.specs.declared.sizes.TheConstants.{ROOT_BLOCKS}
@@ -15,8 +15,13 @@ use Rattle.pk_rootfmt.specs.Root.{differ}
 use Rattle.pk_model.specs.Laws.{AnyByRecursion, IsPageOf}
 use Rattle.pk_steps.specs.Under.{IsValuePage}
 use Rattle.pk_live.specs.Lives.{head_of, Lives}
-pub use Rattle.pk_gc.specs.Victims.{HoldsValues, IsNotOpen}
+use Rattle.pk_pool.specs.declared.state.BlockState.TheVariants.{Owned}
+pub use Rattle.pk_live.specs.OpenBlocks.{IsNotOpen}
 use Rattle.pk_data.specs.State.{DataState, OpenBlock}
+
+-- the pool has this block for values
+abbrev pub HoldsValues : Blocks → ℕ → Type 0
+HoldsValues pool b = slice_get pool.states b ≡ Some (Owned for_values)
 
 -- a block is one of those that a running reclaim holds
 abbrev pub IsOutput : List ℕ → ℕ → Type 0

@@ -5,8 +5,8 @@ use Rattle.pk_base.specs.Shape.{Shape, data_blocks}
 use Rattle.pk_plan.specs.declared.owner.Owner.TheVariants.{Values as for_values}
 use Rattle.pk_pool.specs.Blocks.{Blocks, used_by}
 use Rattle.pk_live.specs.Values.{Values}
-pub use Rattle.pk_gc.specs.declared.open_block.OpenBlock.{OpenBlock}
-use Rattle.pk_gc.specs.Victims.{closed_with}
+pub use Rattle.pk_live.specs.declared.open_block.OpenBlock.{OpenBlock}
+use Rattle.pk_live.specs.OpenBlocks.{closed_with}
 
 -- the live values with the blocks that are closed, and the block that takes the next value, where there is one
 pub record DataState : Type 0 where

@@ -18,19 +18,20 @@ ghost use Rattle.pk_data.specs.Entries.{Held, Moves, IsInOpen, heads_without};
 
 use crate::span::Span;
 use pk_base::{MOST_BLOCKS, Shape};
-use pk_gc::{OpenBlock, close};
-use pk_live::Live;
+use pk_live::{Live, OpenBlock, close};
 use pk_nand::{Fault, Nand};
 use pk_plan::Owner;
 use pk_pool::Pool;
 use std::alloc::Allocator;
 use std::marker::Model;
 
-/// Where values go: the live values with the blocks that are closed, and the block that takes the next value.
+/// Where values go.
 #[derive(Drop)]
 pub struct Data<A: Allocator> {
-    pub(crate) live: Live<A>,
-    pub(crate) open_block: Option<OpenBlock>,
+    /// The live values, with the blocks that are closed.
+    pub live: Live<A>,
+    /// The block that takes the next value, where there is one.
+    pub open_block: Option<OpenBlock>,
 }
 
 impl<A: Allocator> Model for Data<A> {

@@ -1,6 +1,5 @@
 //! What holds of placed values whatever others do, each the contract of a function that does nothing.
 ghost use Rattle.pk_data.specs.Laws.{FlashElsewhere, BlockElsewhere, LieInFew, NoneInSpare, StartsWithNone};
-ghost use Rattle.pk_data.specs.Reclaims.{OutputTaken, DeadGivenBack, CopyProgrammed, MovesPlaced, EndPlaced, VictimGivenBack};
 
 /// Values stay placed where the flash changes in blocks that are not for values, and where such a block changes its owner.
 pub fn elsewhere()
@@ -18,14 +17,4 @@ pub fn value_blocks()
 /// At first no value is placed.
 pub fn starts_with_none()
     ensures { StartsWithNone }
-{}
-
-/// Values stay placed behind each step of a reclaim, with the block that it holds from then on.
-pub fn reclaims()
-    ensures output { OutputTaken }
-    ensures dead { DeadGivenBack }
-    ensures copy { CopyProgrammed }
-    ensures moves { MovesPlaced }
-    ensures end { EndPlaced }
-    ensures given { VictimGivenBack }
 {}

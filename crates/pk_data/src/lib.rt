@@ -6,10 +6,9 @@
 
 mod data_space;
 mod laws;
-mod reclaim;
 mod span;
 
 pub use data_space::Data;
-pub use laws::{elsewhere, reclaims, starts_with_none, value_blocks};
-pub use pk_gc::OpenBlock;
+pub use laws::{elsewhere, starts_with_none, value_blocks};
+pub use pk_live::OpenBlock;
 pub use span::Span;

@@ -18,11 +18,12 @@ use Rattle.pk_live.specs.Values.{Values, IsClosed, block_sum}
 use Rattle.pk_gc.specs.declared.course.Course.{Course}
 use Rattle.pk_gc.specs.declared.course.Phase.{Phase}
 use Rattle.pk_gc.specs.declared.course.Phase.TheVariants.{Idle, Copies, GivesBack}
-use Rattle.pk_gc.specs.declared.open_block.OpenBlock.{OpenBlock}
+use Rattle.pk_live.specs.declared.open_block.OpenBlock.{OpenBlock}
 use Rattle.pk_gc.specs.declared.reclaimed.Reclaimed.{Reclaimed}
 use Rattle.pk_gc.specs.declared.reclaimed.Reclaimed.TheVariants.{Worked, NeedsFreeze, Ended}
 use Rattle.pk_gc.specs.State.{JobState, unseen, live_from, live_unseen, steps_left, left_in, read_next, programmed, started}
-use Rattle.pk_gc.specs.Victims.{HoldsValues, IsFull, Chooses, closed_with}
+use Rattle.pk_live.specs.OpenBlocks.{closed_with}
+use Rattle.pk_gc.specs.Victims.{HoldsValues, IsFull, Chooses}
 use Rattle.pk_gc.specs.Beginning.{Begins}
 use Rattle.pk_gc.specs.Stepping.{Hands, CanGoOn, CanStepIn, StepsIn, GoesOn, Tries}
 use Rattle.pk_gc.specs.Lowering.{left_behind, StepLowers, LiveOfBlock}

@@ -16,7 +16,7 @@ use Rattle.pk_pool.specs.Blocks.{Blocks, IsOwned, PoolOnFlash}
 use Rattle.pk_gc.specs.declared.course.Course.{Course}
 use Rattle.pk_gc.specs.declared.course.Phase.TheVariants.{Idle, Copies, GivesBack}
 use Rattle.pk_gc.specs.declared.moves.Move.{Move}
-use Rattle.pk_gc.specs.declared.open_block.OpenBlock.{OpenBlock}
+use Rattle.pk_live.specs.declared.open_block.OpenBlock.{OpenBlock}
 use Rattle.pk_gc.specs.declared.reclaimed.Reclaimed.{Reclaimed}
 use Rattle.pk_gc.specs.declared.reclaimed.Reclaimed.TheVariants.{Worked, NeedsFreeze, Ended}
 use Rattle.pk_gc.specs.declared.reclaimed.Committed.{Committed}

@@ -14,12 +14,13 @@ use Rattle.pk_pool.specs.Blocks.{Blocks, IsOwned, with_state}
 use Rattle.pk_gc.specs.declared.course.Course.{Course}
 use Rattle.pk_gc.specs.declared.course.Phase.{Phase}
 use Rattle.pk_gc.specs.declared.course.Phase.TheVariants.{Idle, Copies, GivesBack}
-use Rattle.pk_gc.specs.declared.open_block.OpenBlock.{OpenBlock}
+use Rattle.pk_live.specs.declared.open_block.OpenBlock.{OpenBlock}
 use Rattle.pk_gc.specs.declared.reclaimed.Reclaimed.{Reclaimed}
 use Rattle.pk_gc.specs.declared.reclaimed.Reclaimed.TheVariants.{Worked, NeedsFreeze, Ended}
 use Rattle.pk_gc.specs.State.{JobState, CanGoAll, heads_all, entries_all, source, target, read_next, programmed, begun_at}
 use Rattle.pk_gc.specs.Running.{IsRunning, IsNextValue, begun_move}
-use Rattle.pk_gc.specs.Victims.{IsFull, AreDead, closed_with}
+use Rattle.pk_live.specs.OpenBlocks.{closed_with}
+use Rattle.pk_gc.specs.Victims.{IsFull, AreDead}
 use Rattle.pk_gc.specs.Beginning.{Begins}
 use Rattle.pk_gc.specs.Committing.{Refuses, Adds, HasRoom, entries_left}
 

@@ -7,6 +7,7 @@ ghost use Rattle.pk_base.specs.Page.{Flash};
 ghost use Rattle.pk_nand.specs.Calls.{IsReady, after_read};
 ghost use Rattle.pk_nand.specs.declared.types.Fault.TheVariants.{Stopped};
 ghost use Rattle.pk_live.specs.Values.{IsClosed, count_of};
+ghost use Rattle.pk_live.specs.OpenBlocks.{closed_with};
 ghost use Rattle.pk_pool.specs.declared.state.BlockState.TheVariants.{Free};
 ghost use Rattle.pk_pool.specs.Blocks.{PoolOnFlash, IsOwned, with_state};
 ghost use Rattle.pk_pool.specs.Taking.{FailsToErase};
@@ -16,7 +17,7 @@ ghost use Rattle.pk_gc.specs.declared.course.Phase.TheVariants.{Idle, Copies, Gi
 ghost use Rattle.pk_gc.specs.declared.reclaimed.Reclaimed.TheVariants.{Worked};
 ghost use Rattle.pk_gc.specs.State.{source, read_next, programmed, begun_at, started};
 ghost use Rattle.pk_gc.specs.Running.{begun_move};
-ghost use Rattle.pk_gc.specs.Victims.{Chooses, closed_with};
+ghost use Rattle.pk_gc.specs.Victims.{Chooses};
 ghost use Rattle.pk_gc.specs.Beginning.{Begins};
 ghost use Rattle.pk_gc.specs.Committing.{Commits, entries_left};
 ghost use Rattle.pk_gc.specs.Stepping.{CanStep, Steps, ProgramsHeld, runs_in};
@@ -26,13 +27,12 @@ ghost use Rattle.pk_gc.specs.Asking.{IsEpoch, CannotAdd, IsBehindCommit, CanFini
 
 use crate::course::{Course, Phase};
 use crate::moves::{Move, apply, fill_left, new_keys};
-use crate::open_block::{OpenBlock, close};
 use crate::reclaimed::{Committed, Reclaimed};
 use crate::victim::{choose, most_live, next_head};
 use pk_base::{Entry, Shape};
 use pk_buf::Buffer;
 use pk_jrn::Epoch;
-use pk_live::Live;
+use pk_live::{Live, OpenBlock, close};
 use pk_nand::{Fault, Nand};
 use pk_plan::Owner;
 use pk_pool::Pool;

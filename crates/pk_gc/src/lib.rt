@@ -6,7 +6,6 @@ mod course;
 mod job;
 mod laws;
 mod moves;
-mod open_block;
 mod reclaimed;
 mod victim;
 
@@ -14,5 +13,5 @@ pub use course::{Course, Phase};
 pub use job::ReclaimJob;
 pub use laws::{at_end, buffered, copied, cuts, in_mid_copy, lowers, next_value, steps};
 pub use moves::Move;
-pub use open_block::{OpenBlock, close};
+pub use pk_live::OpenBlock;
 pub use reclaimed::Reclaimed;

@@ -1,5 +1,5 @@
 -- A look-up through the runs, from the first on.
-use Rattle.std.proofs.Common.{◌≡◌, ◌⊎◌, inl, inr, ℕ, zero, suc, ◌+◌, ◌-◌, ◌<◌, ◌≤◌, Bool, true, false, cond, List, [], ◌∷◌, ◌++◌, length, slice_get, drop, refl, ap, sym, subst, ◌∙◌, arith, Option, Some, None, append_assoc}
+use Rattle.std.proofs.Common.{◌≡◌, ◌⊎◌, inl, inr, ℕ, zero, suc, ◌+◌, ◌-◌, ◌<◌, ◌≤◌, Bool, true, false, cond, List, [], ◌∷◌, ◌++◌, length, slice_get, drop, refl, ap, sym, subst, ◌∙◌, arith, Option, Some, None, MatchOption, append_assoc}
 use Rattle.std.specs.Ordering.{eq_by_cmp}
 use Rattle.std.specs.FinMap.Entries.{find}
 use Rattle.std.proofs.lemmas.Bool.{cases_lt}
@@ -15,7 +15,7 @@ use Rattle.pk_nand.specs.Counts.{counted_by, after_reads}
 use Rattle.pk_pin.specs.Frames.{Frames}
 use Rattle.pk_run.specs.Kept.{Kept, IsPinned, RunOnFlash, empty, after_look}
 use Rattle.pk_run.specs.Search.{IsFound, IsPageFor, Looks}
-use Rattle.pk_level.specs.Levels.{Levels, IsOfLevel, AreOfLevels, IsLevels, RunsOnFlash, all_entries, reads_by, most_reads, reads_through, ReadsUpTo, ReadFailsWithin}
+use Rattle.pk_level.specs.Levels.{Levels, IsOfLevel, AreOfLevels, IsLevels, RunsOnFlash, all_entries, reads_by, most_reads, reads_through, LooksFor, ReadsUpTo, ReadFailsWithin}
 
 -- ---- entries of several lists
 
@@ -132,9 +132,10 @@ pub record Looking (rs : List Kept) (arena : Frames) (key : Key) (old now : Boar
   pub few : made + reads_through (drop i rs) ≤ reads_through rs
   pub board : now ≡ after_reads made old
   pub none : (ess : List (List Entry)) → RunsOnFlash old.pages arena rs ess → find key_cmp key (all_entries ess) ≡ find key_cmp key (all_entries (drop i ess))
+  pub on : (ess : List (List Entry)) → RunsOnFlash old.pages arena rs ess → (last : BoardState) → LooksFor key (drop i rs) (drop i ess) now last → LooksFor key rs ess old last
 
 pub Looking-start : (rs : List Kept) (arena : Frames) (key : Key) (old : BoardState) → Looking rs arena key old old 0
-Looking-start rs arena key old = record { made = 0; few = omega arith; board = refl; none = λ ess each. refl }
+Looking-start rs arena key old = record { made = 0; few = omega arith; board = refl; none = λ ess each. refl; on = λ ess each last looks. looks }
 
 same_pages : (rs : List Kept) (arena : Frames) (key : Key) (old now : BoardState) (i : ℕ) → Looking rs arena key old now i → now.pages ≡ old.pages
 same_pages rs arena key old now i at = ap (λ (b : BoardState). b.pages) at.board
@@ -145,6 +146,25 @@ pub next_stands : (rs : List Kept) (arena : Frames) (key : Key) (old now : Board
 next_stands rs arena key old now i r ess at got each =
     let own = stands_at old.pages arena rs ess i r each got in
     (own.0, own.1, subst (λ (flash : Flash). RunOnFlash r flash arena own.0) (sym (same_pages rs arena key old now i at)) own.2)
+
+drop_at : {X : Type 0} (xs : List X) (i : ℕ) (x : X) → slice_get xs i ≡ Some x → drop i xs ≡ x ∷ drop (suc i) xs
+drop_at [] i x got = cc
+drop_at (y ∷ xs) zero x got = let same : y ≡ x = cc in ap (λ z. z ∷ xs) same
+drop_at (y ∷ xs) (suc i) x got = drop_at xs i x got
+
+drop_all : {X : Type 0} (xs : List X) (i : ℕ) → length xs ≤ i → drop i xs ≡ []
+drop_all [] zero h = refl
+drop_all [] (suc i) h = refl
+drop_all (x ∷ xs) zero h = absurd (omega arith)
+drop_all (x ∷ xs) (suc i) h = drop_all xs i (omega arith)
+
+-- a run is looked into, and what comes behind it is known by whether it has the key
+looks_at : (rs : List Kept) (ess : List (List Entry)) (key : Key) (now next last : BoardState) (i : ℕ) (r : Kept) (es : List Entry) (found : Option (Option Place)) → slice_get rs i ≡ Some r → slice_get ess i ≡ Some es
+    → Looks r key now next → find key_cmp key es ≡ found → MatchOption found (LooksFor key (drop (suc i) rs) (drop (suc i) ess) next last) (λ place. last ≡ next) → LooksFor key (drop i rs) (drop i ess) now last
+looks_at rs ess key now next last i r es found got own looks is rest =
+    subst (λ (ks : List Kept). LooksFor key ks (drop i ess) now last) (sym (drop_at rs i r got))
+    (subst (λ (fs : List (List Entry)). LooksFor key (r ∷ drop (suc i) rs) fs now last) (sym (drop_at ess i es own))
+    (next, looks, subst (λ (f : Option (Option Place)). MatchOption f (LooksFor key (drop (suc i) rs) (drop (suc i) ess) next last) (λ place. last ≡ next)) (sym is) rest))
 
 -- the next run has nothing either
 pub Looking-next : (rs : List Kept) (arena : Frames) (key : Key) (old now next : BoardState) (i : ℕ) (r : Kept) → Looking rs arena key old now i → slice_get rs i ≡ Some r
@@ -161,6 +181,9 @@ Looking-next rs arena key old now next i r at got looks missing =
       none = λ ess each.
           let own = next_stands rs arena key old now i r ess at got each in
           at.none ess each ∙ ap (find key_cmp key) (entries_at ess i own.0 own.1) ∙ find_right key own.0 (all_entries (drop (suc i) ess)) (missing own.0 own.2);
+      on = λ ess each last rest.
+          let own = next_stands rs arena key old now i r ess at got each in
+          at.on ess each last (looks_at rs ess key now next last i r own.0 None got own.1 looks (missing own.0 own.2) rest);
     })
 
 -- the next run has it
@@ -180,6 +203,13 @@ reads_found rs arena key old now next i r at got looks =
     let few = at.few in
     (look.0 + at.made, omega (arith, few, left, look.1), look.2 ∙ ap (λ (b : BoardState). after_reads look.0 b) at.board ∙ reads_more look.0 at.made old)
 
+pub looks_found : (rs : List Kept) (arena : Frames) (key : Key) (old now next : BoardState) (i : ℕ) (r : Kept) (e : RustEntry) → Looking rs arena key old now i → slice_get rs i ≡ Some r → Looks r key now next
+    → ((es : List Entry) → RunOnFlash r now.pages arena es → IsFound key es (Some e)) → (ess : List (List Entry)) → RunsOnFlash old.pages arena rs ess → LooksFor key rs ess old next
+looks_found rs arena key old now next i r e at got looks found ess each =
+    let own = next_stands rs arena key old now i r ess at got each in
+    let is = found own.0 own.2 in
+    at.on ess each next (looks_at rs ess key now next next i r own.0 (Some (seen e).1) got own.1 looks is.1 refl)
+
 -- none has it
 pub Looking-end : (rs : List Kept) (arena : Frames) (key : Key) (old now : BoardState) (i : ℕ) → length rs ≤ i → Looking rs arena key old now i
     → (ess : List (List Entry)) → RunsOnFlash old.pages arena rs ess → find key_cmp key (all_entries ess) ≡ None
@@ -187,6 +217,10 @@ Looking-end rs arena key old now i all at ess each = at.none ess each ∙ ap (fi
 
 pub reads_end : (rs : List Kept) (arena : Frames) (key : Key) (old now : BoardState) (i : ℕ) → Looking rs arena key old now i → ReadsUpTo (reads_through rs) old now
 reads_end rs arena key old now i at = let few = at.few in (at.made, omega (arith, few), at.board)
+
+pub looks_end : (rs : List Kept) (arena : Frames) (key : Key) (old now : BoardState) (i : ℕ) → length rs ≤ i → Looking rs arena key old now i
+    → (ess : List (List Entry)) → RunsOnFlash old.pages arena rs ess → LooksFor key rs ess old now
+looks_end rs arena key old now i all at ess each = at.on ess each now (subst (λ (ks : List Kept). LooksFor key ks (drop i ess) now now) (sym (drop_all rs i all)) refl)
 
 -- a read of the next run fails
 pub Looking-failed : (rs : List Kept) (arena : Frames) (key : Key) (old now next : BoardState) (i page : ℕ) (r : Kept) → Looking rs arena key old now i → slice_get rs i ≡ Some r → 1 ≤ most_reads r

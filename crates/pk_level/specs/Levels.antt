@@ -1,7 +1,9 @@
 -- The four runs of a drive, and a look-up through them.
-use Rattle.std.specs.Prelude.{◌≡◌, ⊤, ℕ, zero, suc, ◌+◌, ◌-◌, ◌<◌, ◌≤◌, List, [], ◌∷◌, length, slice_get, slice_index_or, slice_set, Some}
+use Rattle.std.specs.Prelude.{◌≡◌, ⊤, ℕ, zero, suc, ◌+◌, ◌-◌, ◌<◌, ◌≤◌, List, [], ◌∷◌, length, slice_get, slice_index_or, slice_set, Some, MatchOption}
 use Rattle.std.specs.List.{flat_map}
+use Rattle.std.specs.FinMap.Entries.{find}
 use Rattle.pk_base.specs.declared.sizes.TheConstants.{LEVELS}
+use Rattle.pk_base.specs.Key.{Key, key_cmp}
 use Rattle.pk_base.specs.Shape.{Shape}
 use Rattle.pk_base.specs.Entry.{Entry}
 use Rattle.pk_base.specs.Page.{Flash}
@@ -10,6 +12,7 @@ use Rattle.pk_nand.specs.Calls.{ReadFailed}
 use Rattle.pk_nand.specs.Counts.{after_reads}
 use Rattle.pk_pin.specs.Frames.{Frames}
 use Rattle.pk_run.specs.Kept.{Kept, IsPinned, RunOnFlash, empty}
+use Rattle.pk_run.specs.Search.{Looks}
 
 -- how many levels have frames for all their pages, and runs 1 to 4
 pub record Levels : Type 0 where
@@ -75,6 +78,13 @@ most_reads r = reads_by (length r.firsts) (length r.leases)
 abbrev pub reads_through : List Kept → ℕ
 reads_through [] = 0
 reads_through (r ∷ rs) = most_reads r + reads_through rs
+
+-- Runs are looked into from the first on, down to the one with an entry of the key: by at most one read each, and by none where the pages have frames.
+abbrev pub LooksFor : Key → List Kept → List (List Entry) → BoardState → BoardState → Type 0
+LooksFor key [] ess old new = new ≡ old
+LooksFor key (r ∷ rs) [] old new = new ≡ old
+LooksFor key (r ∷ rs) (es ∷ ess) old new =
+    (between : BoardState) × Looks r key old between × MatchOption (find key_cmp key es) (LooksFor key rs ess between new) (λ place. new ≡ between)
 
 -- nothing but at most n reads
 abbrev pub ReadsUpTo : ℕ → BoardState → BoardState → Type 0

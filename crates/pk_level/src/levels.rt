@@ -11,7 +11,7 @@ ghost use Rattle.pk_pin.specs.Frames.{Frames};
 ghost use Rattle.pk_run.specs.Kept.{IsKept};
 ghost use Rattle.pk_run.specs.Search.{IsFound};
 ghost use Rattle.pk_level.specs.Levels as spec;
-ghost use Rattle.pk_level.specs.Levels.{IsLevels, IsOfLevel, RunsOnFlash, ReadsUpTo, ReadFailsWithin, no_runs, run_of, with_run, all_entries, reads_through};
+ghost use Rattle.pk_level.specs.Levels.{IsLevels, IsOfLevel, RunsOnFlash, LooksFor, ReadsUpTo, ReadFailsWithin, no_runs, run_of, with_run, all_entries, reads_through};
 
 use pk_base::{Entry, Key, LEVELS};
 use pk_nand::{Fault, Nand};
@@ -191,6 +191,9 @@ impl<A: Allocator> Levels<A> {
             → IsFound key.now (all_entries ess) found) }
         ensures reads { OnOk result
             (ReadsUpTo (reads_through self.now.runs) (B.state board.old) (B.state board.new)) }
+        ensures looks { OnOk result ((ess : List (List EntrySpec))
+            → RunsOnFlash (B.state board.old).pages arena.now self.now.runs ess
+            → LooksFor key.now self.now.runs ess (B.state board.old) (B.state board.new)) }
 
         // Or one of them failed.
         ensures reading { IfErr result (λ fault. fault ≡ Reading) }

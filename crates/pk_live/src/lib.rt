@@ -4,10 +4,13 @@
 //! that is answered is one of theirs.
 #![tactic(auto)]
 
+mod open_block;
+
 ghost use Rattle.std.specs.Prelude.{◌≡◌, ℕ, ◌+◌, ◌*◌, ◌/◌, ◌%◌, ◌<◌, ◌≤◌, ◌^◌, ◌↔◌, All, length, sum, count_by, replicate, true, false, slice_index, slice_get, slice_set, slice_index_or, Some, IfOk, IfSome, IfNone, MatchOption, IsTrue};
 ghost use Rattle.pk_base.specs.Shape.{IsShape, page_count};
 ghost use Rattle.pk_live.specs.Values.{Values, no_values, count_of, IsLive, IsClosed, IsLeastClosed, AreValues, IsBestOf};
 
+pub use open_block::{OpenBlock, close};
 use pk_base::{MOST_BLOCK_PAGES, Shape};
 use std::alloc::{AllocError, Allocator};
 use std::marker::Model;

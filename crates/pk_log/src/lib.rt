@@ -7,7 +7,6 @@ mod freeze;
 mod laws;
 mod log;
 mod merge;
-mod reclaim;
 
 pub use laws::elsewhere;
 pub use log::Log;

@@ -30,8 +30,10 @@ use std::marker::Model;
 pub struct Log<A: Region> {
     pub(crate) root: Root<A>,
     pub(crate) installer: Installer,
-    pub(crate) epoch: Epoch,
-    pub(crate) active: Buffer<A>,
+    /// The epoch that is written, the newest one.
+    pub epoch: Epoch,
+    /// The buffer of the newest epoch and the pending entries.
+    pub active: Buffer<A>,
     pub(crate) frozen: Buffer<A>,
     pub(crate) pending: Vec<Entry, A>,
 }

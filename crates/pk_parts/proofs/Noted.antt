@@ -18,7 +18,7 @@ use Rattle.pk_log.specs.State.{LogState, pushed}
 use Rattle.pk_model.proofs.MapLemmas.{key_total}
 use Rattle.pk_data.specs.State.{DataState}
 use Rattle.pk_data.specs.Placed.{IsOpenIn}
-use Rattle.pk_gc.specs.declared.open_block.OpenBlock.{OpenBlock}
+use Rattle.pk_live.specs.declared.open_block.OpenBlock.{OpenBlock}
 use Rattle.pk_parts.specs.Parts.{Parts, block_if_open}
 use Rattle.pk_parts.specs.Noting.{Puts}
 use Rattle.pk_parts.specs.Moves.{OnlyCommits}

@@ -12,7 +12,7 @@ use Rattle.pk_pool.specs.Blocks.{Blocks, used_by}
 use Rattle.pk_pool.proofs.Fitting.{block_of}
 use Rattle.pk_live.specs.Values.{Values, IsClosed}
 use Rattle.pk_model.specs.Laws.{IsPageOf}
-use Rattle.pk_gc.specs.declared.open_block.OpenBlock.{OpenBlock}
+use Rattle.pk_live.specs.declared.open_block.OpenBlock.{OpenBlock}
 use Rattle.pk_data.specs.declared.span.Span.{Span}
 use Rattle.pk_data.specs.State.{DataState}
 use Rattle.pk_data.specs.Placed.{HoldsValues, IsNotOpen, IsOpenIn, ValuesOnFlash, without}

@@ -40,7 +40,7 @@ use Rattle.pk_steps.proofs.Untouched.{under_reads}
 use Rattle.pk_nand.proofs.Effects.{works_erase, stops_erase}
 use Rattle.pk_data.specs.State.{fits_open, has_left}
 use Rattle.pk_data.specs.Placed.{HoldsValues, ValuesOnFlash, IsOpenIn}
-use Rattle.pk_gc.specs.declared.open_block.OpenBlock.{OpenBlock}
+use Rattle.pk_live.specs.declared.open_block.OpenBlock.{OpenBlock}
 use Rattle.pk_data.proofs.Unchanged.{block_elsewhere}
 use Rattle.pk_model.specs.Growth.{Grows, Reaches, Goes}
 use Rattle.pk_model.specs.Wear.{number_of, root_number, roots}

@@ -39,7 +39,7 @@ use Rattle.pk_segfmt.specs.Stored.{page_of}
 use Rattle.pk_nand.proofs.Leaving.{page_at-slice_set}
 use Rattle.pk_seg.specs.Stored.{written}
 use Rattle.pk_live.specs.Values.{Values as LiveValues}
-use Rattle.pk_gc.specs.declared.open_block.OpenBlock.{OpenBlock}
+use Rattle.pk_live.specs.declared.open_block.OpenBlock.{OpenBlock}
 use Rattle.pk_data.specs.State.{DataState, fits_open, needs_reclaim, more_used}
 use Rattle.pk_data.specs.Placed.{HoldsValues, IsNotOpen}
 use Rattle.pk_data.specs.Reserving.{TakesNext}

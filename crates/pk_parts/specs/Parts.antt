@@ -8,7 +8,7 @@ use Rattle.pk_level.specs.Levels.{Levels, run_of}
 use Rattle.pk_model.specs.Sight.{Sight, Counts}
 use Rattle.pk_log.specs.State.{LogState}
 use Rattle.pk_data.specs.State.{DataState, fits_open}
-use Rattle.pk_gc.specs.declared.open_block.OpenBlock.{OpenBlock}
+use Rattle.pk_live.specs.declared.open_block.OpenBlock.{OpenBlock}
 use Rattle.pk_jrn.specs.Epochs.{left_of as pages_left}
 use Rattle.pk_work.specs.Backlog.{Backlog, is_tight}
 use Rattle.pk_work.specs.Rest.{whole_reclaim}

@@ -27,7 +27,7 @@ use Rattle.pk_gc.proofs.Victims.{below_quota}
 use Rattle.pk_data.specs.State.{DataState, fits_open}
 use Rattle.pk_data.specs.Placed.{ValuesOnFlash, HoldsValues}
 use Rattle.pk_data.proofs.Unchanged.{none_in_spare}
-use Rattle.pk_data.proofs.Holding.{chosen, output_taken, dead_given_back}
+use Rattle.pk_reclaim.proofs.Holding.{chosen, output_taken, dead_given_back}
 use Rattle.pk_log.specs.State.{LogState}
 use Rattle.pk_reclaim.specs.Space.{Space, SpaceOnFlash, MayReclaim, HasRoom, space}
 use Rattle.pk_reclaim.specs.Steps.{SpaceMoves}

@@ -47,9 +47,9 @@ use Rattle.pk_gc.proofs.Cutting.{commit_reaches}
 use Rattle.pk_data.specs.State.{DataState, fits_open}
 use Rattle.pk_data.specs.Placed.{ValuesOnFlash, HoldsValues, IsOutput}
 use Rattle.pk_data.specs.Laws.{value_blocks}
-use Rattle.pk_data.specs.Reclaiming.{hands_of}
+use Rattle.pk_reclaim.specs.Hands.{hands_of}
 use Rattle.pk_data.proofs.Unchanged.{lie_in_few, among_values}
-use Rattle.pk_data.proofs.Ends.{moves_placed}
+use Rattle.pk_reclaim.proofs.Ends.{moves_placed}
 use Rattle.pk_log.specs.State.{LogState}
 use Rattle.pk_log.specs.Logs.{LogOnFlash}
 use Rattle.pk_reclaim.specs.Space.{Space, SpaceOnFlash, HasRoom, space}

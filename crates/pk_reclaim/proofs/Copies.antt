@@ -25,7 +25,7 @@ use Rattle.pk_gc.proofs.Counting.{program_sparse, begin_sparse}
 use Rattle.pk_gc.proofs.Going.{next_is_value}
 use Rattle.pk_data.specs.State.{DataState}
 use Rattle.pk_data.specs.Placed.{ValuesOnFlash}
-use Rattle.pk_data.proofs.Holding.{programmed_output}
+use Rattle.pk_reclaim.proofs.Holding.{programmed_output}
 use Rattle.pk_log.specs.State.{LogState}
 use Rattle.pk_reclaim.specs.Space.{Space, SpaceOnFlash, space}
 use Rattle.pk_reclaim.specs.Steps.{SpaceMoves}

@@ -24,9 +24,9 @@ use Rattle.pk_gc.specs.Victims.{AreDead}
 use Rattle.pk_gc.specs.Stepping.{Hands, EndsWithout, GivesVictim, victim_given}
 use Rattle.pk_data.specs.State.{DataState, OpenBlock, fits_open, has_left}
 use Rattle.pk_data.specs.Placed.{ValuesOnFlash}
-use Rattle.pk_data.specs.Reclaiming.{hands_of}
-use Rattle.pk_data.proofs.Holding.{victim_given_back}
-use Rattle.pk_data.proofs.Ends.{end_placed}
+use Rattle.pk_reclaim.specs.Hands.{hands_of}
+use Rattle.pk_reclaim.proofs.Holding.{victim_given_back}
+use Rattle.pk_reclaim.proofs.Ends.{end_placed}
 use Rattle.pk_log.specs.State.{LogState}
 use Rattle.pk_reclaim.specs.Space.{Space, SpaceOnFlash, HasRoom, space}
 use Rattle.pk_reclaim.specs.Steps.{SpaceMoves}

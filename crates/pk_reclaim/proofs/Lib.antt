@@ -1,3 +1,7 @@
+pub mod Releasing
+pub mod Holding
+pub mod Relocating
+pub mod Ends
 pub mod Known
 pub mod Quiet
 pub mod Owners
@@ -13,3 +17,4 @@ pub mod Committed
 pub mod Stepping
 pub mod Sounding
 pub mod Whole
+pub mod Handed

@@ -20,7 +20,7 @@ use Rattle.pk_gc.specs.declared.course.Course.{Course}
 use Rattle.pk_gc.specs.declared.course.Phase.{Phase}
 use Rattle.pk_gc.specs.declared.course.Phase.TheVariants.{Idle, Copies, GivesBack}
 use Rattle.pk_gc.specs.declared.moves.Move.{Move}
-use Rattle.pk_gc.specs.declared.open_block.OpenBlock.{OpenBlock}
+use Rattle.pk_live.specs.declared.open_block.OpenBlock.{OpenBlock}
 use Rattle.pk_gc.specs.State.{JobState, source}
 use Rattle.pk_gc.specs.Victims.{IsFull, HoldsValues, AreDead}
 use Rattle.pk_gc.specs.Copied.{IsCopied}
@@ -31,7 +31,7 @@ use Rattle.pk_gc.proofs.Going.{next_is_value}
 use Rattle.pk_gc.proofs.Ending.{gives_up}
 use Rattle.pk_data.specs.State.{DataState}
 use Rattle.pk_data.specs.Placed.{IsOpenIn}
-use Rattle.pk_data.specs.Reclaiming.{hands_of}
+use Rattle.pk_reclaim.specs.Hands.{hands_of}
 use Rattle.pk_log.specs.State.{LogState}
 use Rattle.pk_reclaim.specs.Space.{Space, SpaceOnFlash, MayReclaim, IsTurn, space}
 use Rattle.pk_reclaim.proofs.Known.{keys_known, rising_known, values_known, live_few, heads_known, apart_known}

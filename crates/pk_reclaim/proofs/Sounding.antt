@@ -23,7 +23,7 @@ use Rattle.pk_gc.specs.Committing.{entries_left}
 use Rattle.pk_gc.specs.Stepping.{Hands, StepsIn, GoesOn}
 use Rattle.pk_gc.specs.Breaking.{BreaksIn, FailsToRead}
 use Rattle.pk_data.specs.State.{DataState}
-use Rattle.pk_data.specs.Reclaiming.{hands_of}
+use Rattle.pk_reclaim.specs.Hands.{hands_of}
 use Rattle.pk_log.specs.State.{LogState}
 use Rattle.pk_reclaim.specs.Space.{Space, space}
 use Rattle.pk_reclaim.specs.Steps.{KeepsLog, Unread, Breaks}

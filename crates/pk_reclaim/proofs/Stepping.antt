@@ -21,7 +21,7 @@ use Rattle.pk_gc.specs.State.{JobState, left_in}
 use Rattle.pk_gc.specs.Stepping.{Hands, CanStep, StepsIn, Tries, GoesOn, ProgramsHeld, ReadsNext, BeginsValue, runs_in}
 use Rattle.pk_gc.proofs.Lowering.{step_lowers}
 use Rattle.pk_data.specs.State.{DataState}
-use Rattle.pk_data.specs.Reclaiming.{hands_of}
+use Rattle.pk_reclaim.specs.Hands.{hands_of}
 use Rattle.pk_log.specs.State.{LogState}
 use Rattle.pk_reclaim.specs.Space.{Space, MayReclaim, Falls, left_before, space}
 use Rattle.pk_reclaim.specs.Steps.{SpaceMoves, Works, Does, LogIn, RoomIn, RoomBehind}

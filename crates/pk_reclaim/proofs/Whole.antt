@@ -16,7 +16,7 @@ use Rattle.pk_gc.specs.State.{JobState}
 use Rattle.pk_gc.specs.Stepping.{Hands, CanStep, Steps}
 use Rattle.pk_gc.specs.Breaking.{Breaks as BreaksBelow}
 use Rattle.pk_data.specs.State.{DataState}
-use Rattle.pk_data.specs.Reclaiming.{hands_of}
+use Rattle.pk_reclaim.specs.Hands.{hands_of}
 use Rattle.pk_log.specs.State.{LogState}
 use Rattle.pk_reclaim.specs.Space.{Space, space}
 use Rattle.pk_reclaim.specs.Steps.{Moves, Does, Unread, Breaks, KeepsLog}

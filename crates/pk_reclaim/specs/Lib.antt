@@ -1,3 +1,5 @@
+pub mod Hands
+pub mod Values
 pub mod Space
 pub mod Steps
 pub mod Laws

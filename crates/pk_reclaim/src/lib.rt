@@ -7,5 +7,5 @@
 mod laws;
 mod step;
 
-pub use laws::behind_freeze;
+pub use laws::{behind_freeze, values_stay};
 pub use step::reclaim_step;

@@ -59,5 +59,12 @@ pub fn reclaim_step<B: Nand, A: Region>(
     ensures ready { IsReady (B.state board.new) log.old.shape }
 {
     pool.known();
-    log.reclaim_step(board, job, values, pool)
+    job.step(
+        board,
+        pool,
+        &mut values.live,
+        &mut log.active,
+        &mut log.epoch,
+        &mut values.open_block,
+    )
 }

@@ -31,6 +31,8 @@ mod reclaims;
 #[cfg(test)]
 mod recut;
 #[cfg(test)]
+mod rows;
+#[cfg(test)]
 mod runs;
 #[cfg(test)]
 mod sessions;

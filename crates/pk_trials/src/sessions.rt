@@ -268,12 +268,18 @@ fn add_store(rt: &impl Abort, into: &mut Vec<u8>, store: &[u8; 64]) {
     add(rt, into, b"abc");
 }
 
-// 31 Stores of keys of two bytes with one page each, and a Report.
-fn many_stores(rt: &impl Abort, alloc: Global) -> Vec<u8> {
+// Stores of so many keys of two bytes with one page each.
+fn stores(rt: &impl Abort, alloc: Global, count: u8) -> Vec<u8> {
     let mut script = Vec::new(alloc);
-    for i in 0..31u8 {
+    for i in 0..count {
         add_store(rt, &mut script, &entry(u16::from(i), STORE, [0, i], 2, 3));
     }
+    script
+}
+
+// So many of them, and a Report.
+fn stores_told(rt: &impl Abort, alloc: Global, count: u8) -> Vec<u8> {
+    let mut script = stores(rt, alloc, count);
     add(rt, &mut script, &entry(31, REPORT, [0, 0], 0, 0));
     script
 }
@@ -305,6 +311,38 @@ fn check_numbers(rt: &impl Abort, posted: &[u8], numbers: &[(&str, usize, u32)])
     }
 }
 
+const GROUPED: [(&str, usize, u32); 2] = [("active", 6, 16), ("epoch", 12, 2)];
+
+/// Sixteen Stores make two commits, one of as many entries as a page of the journal has, 15, and one before the Report: programmed are a
+/// root, the values and two pages of the journal; erased two blocks for the epoch, the other root block and the values' block.
+#[test]
+fn grouped_commits(rt: HostRuntime) {
+    let alloc = rt.alloc();
+    let session = serve(alloc, made_board(&rt, alloc, stores_told(&rt, alloc, 16)));
+    ended(&rt, &session, DONE, Place::Named("sixteen Stores"));
+    wrote(&rt, &session, 19, 4);
+    check_numbers(&rt, session.flash.posted(), &GROUPED);
+}
+
+/// A Store, a Flush, and 32 Stores of other keys: the 31st of these finds no room in the write buffer, commits the 14 entries that wait,
+/// and begins an epoch. Two roots, 33 values and five pages of the journal are programmed.
+#[test]
+fn commit_before_a_freeze(rt: HostRuntime) {
+    let alloc = rt.alloc();
+    let first = entry(1, STORE, [0xff, 0xff], 2, 3);
+    let flush = entry(2, FLUSH, [0, 0], 0, 0);
+    let script = joined(
+        &rt,
+        alloc,
+        &[&first, b"abc", &flush, &stores(&rt, alloc, 32)],
+    );
+    let session = serve(alloc, made_board(&rt, alloc, script));
+    ended(&rt, &session, DONE, Place::Named("33 Stores"));
+    wrote(&rt, &session, 40, 8);
+    let posted = session.flash.posted().len() as u64;
+    same(&rt, posted, 34 * 24, "posted bytes");
+}
+
 const FULL_BUFFER: [(&str, usize, u32); 9] = [
     ("live", 0, 31),
     ("limit", 1, 492),
@@ -321,7 +359,7 @@ const FULL_BUFFER: [(&str, usize, u32); 9] = [
 /// before the Report.
 #[test]
 fn full_buffer(rt: HostRuntime) {
-    let flash = on_made(&rt, rt.alloc(), many_stores(&rt, rt.alloc()));
+    let flash = on_made(&rt, rt.alloc(), stores_told(&rt, rt.alloc(), 31));
     check_numbers(&rt, flash.posted(), &FULL_BUFFER);
 }
 
@@ -329,7 +367,7 @@ fn full_buffer(rt: HostRuntime) {
 #[test]
 fn first_of_full_buffer(rt: HostRuntime) {
     let alloc = rt.alloc();
-    let mut script = many_stores(&rt, alloc);
+    let mut script = stores_told(&rt, alloc, 31);
     add(&rt, &mut script, &entry(33, RETRIEVE, [0, 0], 2, 3));
     let flash = on_made(&rt, alloc, script);
     let mut record = Vec::new(alloc);

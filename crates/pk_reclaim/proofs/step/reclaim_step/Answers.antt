@@ -1,107 +1,232 @@
-use Rattle.pk_reclaim.proofs.Whole.{can_step, whole}
+use Rattle.pk_base.specs.Seen.{entries as seen_all}
+use Rattle.pk_reclaim.proofs.Whole.{can_step}
+use Rattle.pk_reclaim.proofs.Handed.{handed, small_behind}
+use Rattle.pk_log.proofs.Standing.{epoch_blocks_are}
 use Rattle.pk_reclaim.proofs.step.reclaim_step.Goals as goal
 
-pub reclaim_step-requires-clause-can : goal.reclaim_step-requires-clause-can
-reclaim_step-requires-clause-can g c =
+pub step-requires-clause-can : goal.step-requires-clause-can
+step-requires-clause-can g c =
     let may = c.requires.may in
-    can_step c.args.log.now c.args.values.now c.args.pool.now c.args.job.now (g.B.Nand.state c.args.board.now) c.requires.ready (record { top = may.0; found = may.1; m = may.2; may = may.3 })
+    let can = can_step c.args.log.now c.args.values.now c.args.pool.now c.args.job.now (g.B.Nand.state c.args.board.now) c.requires.ready (record { top = may.0; found = may.1; m = may.2; may = may.3 }) in
+    rw (← c.log.view_is, ← c.values.view_is) at can
+
+pub step-requires-clause-blocks : goal.step-requires-clause-blocks
+step-requires-clause-blocks g c =
+    let may = c.requires.may in
+    let blocks = epoch_blocks_are c.args.log.now (g.B.Nand.state c.args.board.now).pages may.0 may.1 may.3.stands.logs in
+    rw (← c.log.view_is) at blocks
+
+pub invariant_of-values : goal.invariant_of-values
+invariant_of-values g c =
+    let may = rw (← c.log.view_is, ← c.values.view_is) at c.requires.may in
+    let ready = rw (← c.log.view_is) at c.requires.ready in
+    let l = c.log.inside in
+    let e = c.step.ensures in
+    let n = c.step.new in
+    small_behind (record { shape = l.root.shape; root = l.root.root; next = l.installer; epoch = l.epoch; active = l.active; frozen = l.frozen; pending = seen_all l.pending.items })
+    (record { live = c.values.inside.live; open_block = c.values.inside.open_block }) c.args.pool.now n.pool c.args.job.now n.self n.live n.front n.active n.epoch (g.B.Nand.state c.args.board.now) (g.B.Nand.state n.board) c.step.result c.values.invariant (record {
+      ready = ready;
+      then_ready = e.ready;
+      shared = c.known.ensures;
+      where_is = record { top = may.0; found = may.1; m = may.2; may = may.3 };
+      shape = e.shape;
+      steps = e.steps;
+      breaks = e.breaks;
+      kept = e.kept;
+      kept_parts = e.kept_parts;
+      kept_values = e.kept_values;
+    })
 
 pub returns-clause-does : goal.returns-clause-does
 returns-clause-does g c =
-    let may = c.requires.may in
-    let e = c.reclaim_step.ensures in
-    let n = c.reclaim_step.new in
-    (whole c.args.log.now n.self c.args.values.now n.values c.args.pool.now n.pool c.args.job.now n.job (g.B.Nand.state c.args.board.now) (g.B.Nand.state n.board) c.reclaim_step.result (record {
-      ready = c.requires.ready;
+    let may = rw (← c.log.view_is, ← c.values.view_is) at c.requires.may in
+    let ready = rw (← c.log.view_is) at c.requires.ready in
+    let l = c.log.inside in
+    let e = c.step.ensures in
+    let n = c.step.new in
+    rw (← c.log.view_is, ← c.values.view_is)
+    ((handed (record { shape = l.root.shape; root = l.root.root; next = l.installer; epoch = l.epoch; active = l.active; frozen = l.frozen; pending = seen_all l.pending.items })
+    (record { live = c.values.inside.live; open_block = c.values.inside.open_block }) c.args.pool.now n.pool c.args.job.now n.self n.live n.front n.active n.epoch (g.B.Nand.state c.args.board.now) (g.B.Nand.state n.board) c.step.result (record {
+      ready = ready;
       then_ready = e.ready;
       shared = c.known.ensures;
       where_is = record { top = may.0; found = may.1; m = may.2; may = may.3 };
-      rest = e.rest;
       shape = e.shape;
       steps = e.steps;
       breaks = e.breaks;
       kept = e.kept;
-      kept_job = e.kept_job;
-      kept_pool = e.kept_pool;
+      kept_parts = e.kept_parts;
       kept_values = e.kept_values;
-    })).does
+    })).does)
+
+pub returns-clause-same_log : goal.returns-clause-same_log
+returns-clause-same_log g c =
+    let may = rw (← c.log.view_is, ← c.values.view_is) at c.requires.may in
+    let ready = rw (← c.log.view_is) at c.requires.ready in
+    let l = c.log.inside in
+    let e = c.step.ensures in
+    let n = c.step.new in
+    rw (← c.log.view_is)
+    ((handed (record { shape = l.root.shape; root = l.root.root; next = l.installer; epoch = l.epoch; active = l.active; frozen = l.frozen; pending = seen_all l.pending.items })
+    (record { live = c.values.inside.live; open_block = c.values.inside.open_block }) c.args.pool.now n.pool c.args.job.now n.self n.live n.front n.active n.epoch (g.B.Nand.state c.args.board.now) (g.B.Nand.state n.board) c.step.result (record {
+      ready = ready;
+      then_ready = e.ready;
+      shared = c.known.ensures;
+      where_is = record { top = may.0; found = may.1; m = may.2; may = may.3 };
+      shape = e.shape;
+      steps = e.steps;
+      breaks = e.breaks;
+      kept = e.kept;
+      kept_parts = e.kept_parts;
+      kept_values = e.kept_values;
+    })).same_log)
 
 pub returns-clause-grows : goal.returns-clause-grows
 returns-clause-grows g c =
-    let may = c.requires.may in
-    let e = c.reclaim_step.ensures in
-    let n = c.reclaim_step.new in
-    (whole c.args.log.now n.self c.args.values.now n.values c.args.pool.now n.pool c.args.job.now n.job (g.B.Nand.state c.args.board.now) (g.B.Nand.state n.board) c.reclaim_step.result (record {
-      ready = c.requires.ready;
+    let may = rw (← c.log.view_is, ← c.values.view_is) at c.requires.may in
+    let ready = rw (← c.log.view_is) at c.requires.ready in
+    let l = c.log.inside in
+    let e = c.step.ensures in
+    let n = c.step.new in
+    rw (← c.log.view_is)
+    ((handed (record { shape = l.root.shape; root = l.root.root; next = l.installer; epoch = l.epoch; active = l.active; frozen = l.frozen; pending = seen_all l.pending.items })
+    (record { live = c.values.inside.live; open_block = c.values.inside.open_block }) c.args.pool.now n.pool c.args.job.now n.self n.live n.front n.active n.epoch (g.B.Nand.state c.args.board.now) (g.B.Nand.state n.board) c.step.result (record {
+      ready = ready;
       then_ready = e.ready;
       shared = c.known.ensures;
       where_is = record { top = may.0; found = may.1; m = may.2; may = may.3 };
-      rest = e.rest;
       shape = e.shape;
       steps = e.steps;
       breaks = e.breaks;
       kept = e.kept;
-      kept_job = e.kept_job;
-      kept_pool = e.kept_pool;
+      kept_parts = e.kept_parts;
       kept_values = e.kept_values;
-    })).same_roots.grows
+    })).same_roots.grows)
 
 pub returns-clause-same_roots : goal.returns-clause-same_roots
 returns-clause-same_roots g c =
-    let may = c.requires.may in
-    let e = c.reclaim_step.ensures in
-    let n = c.reclaim_step.new in
-    (whole c.args.log.now n.self c.args.values.now n.values c.args.pool.now n.pool c.args.job.now n.job (g.B.Nand.state c.args.board.now) (g.B.Nand.state n.board) c.reclaim_step.result (record {
-      ready = c.requires.ready;
+    let may = rw (← c.log.view_is, ← c.values.view_is) at c.requires.may in
+    let ready = rw (← c.log.view_is) at c.requires.ready in
+    let l = c.log.inside in
+    let e = c.step.ensures in
+    let n = c.step.new in
+    (handed (record { shape = l.root.shape; root = l.root.root; next = l.installer; epoch = l.epoch; active = l.active; frozen = l.frozen; pending = seen_all l.pending.items })
+    (record { live = c.values.inside.live; open_block = c.values.inside.open_block }) c.args.pool.now n.pool c.args.job.now n.self n.live n.front n.active n.epoch (g.B.Nand.state c.args.board.now) (g.B.Nand.state n.board) c.step.result (record {
+      ready = ready;
       then_ready = e.ready;
       shared = c.known.ensures;
       where_is = record { top = may.0; found = may.1; m = may.2; may = may.3 };
-      rest = e.rest;
       shape = e.shape;
       steps = e.steps;
       breaks = e.breaks;
       kept = e.kept;
-      kept_job = e.kept_job;
-      kept_pool = e.kept_pool;
+      kept_parts = e.kept_parts;
       kept_values = e.kept_values;
     })).same_roots.same
 
 pub returns-clause-unread : goal.returns-clause-unread
 returns-clause-unread g c =
-    let may = c.requires.may in
-    let e = c.reclaim_step.ensures in
-    let n = c.reclaim_step.new in
-    (whole c.args.log.now n.self c.args.values.now n.values c.args.pool.now n.pool c.args.job.now n.job (g.B.Nand.state c.args.board.now) (g.B.Nand.state n.board) c.reclaim_step.result (record {
-      ready = c.requires.ready;
+    let may = rw (← c.log.view_is, ← c.values.view_is) at c.requires.may in
+    let ready = rw (← c.log.view_is) at c.requires.ready in
+    let l = c.log.inside in
+    let e = c.step.ensures in
+    let n = c.step.new in
+    rw (← c.log.view_is, ← c.values.view_is)
+    ((handed (record { shape = l.root.shape; root = l.root.root; next = l.installer; epoch = l.epoch; active = l.active; frozen = l.frozen; pending = seen_all l.pending.items })
+    (record { live = c.values.inside.live; open_block = c.values.inside.open_block }) c.args.pool.now n.pool c.args.job.now n.self n.live n.front n.active n.epoch (g.B.Nand.state c.args.board.now) (g.B.Nand.state n.board) c.step.result (record {
+      ready = ready;
       then_ready = e.ready;
       shared = c.known.ensures;
       where_is = record { top = may.0; found = may.1; m = may.2; may = may.3 };
-      rest = e.rest;
       shape = e.shape;
       steps = e.steps;
       breaks = e.breaks;
       kept = e.kept;
-      kept_job = e.kept_job;
-      kept_pool = e.kept_pool;
+      kept_parts = e.kept_parts;
       kept_values = e.kept_values;
-    })).unread
+    })).unread)
 
 pub returns-clause-broken : goal.returns-clause-broken
 returns-clause-broken g c =
-    let may = c.requires.may in
-    let e = c.reclaim_step.ensures in
-    let n = c.reclaim_step.new in
-    (whole c.args.log.now n.self c.args.values.now n.values c.args.pool.now n.pool c.args.job.now n.job (g.B.Nand.state c.args.board.now) (g.B.Nand.state n.board) c.reclaim_step.result (record {
-      ready = c.requires.ready;
+    let may = rw (← c.log.view_is, ← c.values.view_is) at c.requires.may in
+    let ready = rw (← c.log.view_is) at c.requires.ready in
+    let l = c.log.inside in
+    let e = c.step.ensures in
+    let n = c.step.new in
+    rw (← c.log.view_is, ← c.values.view_is)
+    ((handed (record { shape = l.root.shape; root = l.root.root; next = l.installer; epoch = l.epoch; active = l.active; frozen = l.frozen; pending = seen_all l.pending.items })
+    (record { live = c.values.inside.live; open_block = c.values.inside.open_block }) c.args.pool.now n.pool c.args.job.now n.self n.live n.front n.active n.epoch (g.B.Nand.state c.args.board.now) (g.B.Nand.state n.board) c.step.result (record {
+      ready = ready;
       then_ready = e.ready;
       shared = c.known.ensures;
       where_is = record { top = may.0; found = may.1; m = may.2; may = may.3 };
-      rest = e.rest;
       shape = e.shape;
       steps = e.steps;
       breaks = e.breaks;
       kept = e.kept;
-      kept_job = e.kept_job;
-      kept_pool = e.kept_pool;
+      kept_parts = e.kept_parts;
       kept_values = e.kept_values;
-    })).broken
+    })).broken)
+
+pub returns-clause-sound : goal.returns-clause-sound
+returns-clause-sound g c =
+    let may = rw (← c.log.view_is, ← c.values.view_is) at c.requires.may in
+    let ready = rw (← c.log.view_is) at c.requires.ready in
+    let l = c.log.inside in
+    let e = c.step.ensures in
+    let n = c.step.new in
+    (handed (record { shape = l.root.shape; root = l.root.root; next = l.installer; epoch = l.epoch; active = l.active; frozen = l.frozen; pending = seen_all l.pending.items })
+    (record { live = c.values.inside.live; open_block = c.values.inside.open_block }) c.args.pool.now n.pool c.args.job.now n.self n.live n.front n.active n.epoch (g.B.Nand.state c.args.board.now) (g.B.Nand.state n.board) c.step.result (record {
+      ready = ready;
+      then_ready = e.ready;
+      shared = c.known.ensures;
+      where_is = record { top = may.0; found = may.1; m = may.2; may = may.3 };
+      shape = e.shape;
+      steps = e.steps;
+      breaks = e.breaks;
+      kept = e.kept;
+      kept_parts = e.kept_parts;
+      kept_values = e.kept_values;
+    })).sound
+
+pub returns-clause-calls : goal.returns-clause-calls
+returns-clause-calls g c =
+    let may = rw (← c.log.view_is, ← c.values.view_is) at c.requires.may in
+    let ready = rw (← c.log.view_is) at c.requires.ready in
+    let l = c.log.inside in
+    let e = c.step.ensures in
+    let n = c.step.new in
+    (handed (record { shape = l.root.shape; root = l.root.root; next = l.installer; epoch = l.epoch; active = l.active; frozen = l.frozen; pending = seen_all l.pending.items })
+    (record { live = c.values.inside.live; open_block = c.values.inside.open_block }) c.args.pool.now n.pool c.args.job.now n.self n.live n.front n.active n.epoch (g.B.Nand.state c.args.board.now) (g.B.Nand.state n.board) c.step.result (record {
+      ready = ready;
+      then_ready = e.ready;
+      shared = c.known.ensures;
+      where_is = record { top = may.0; found = may.1; m = may.2; may = may.3 };
+      shape = e.shape;
+      steps = e.steps;
+      breaks = e.breaks;
+      kept = e.kept;
+      kept_parts = e.kept_parts;
+      kept_values = e.kept_values;
+    })).calls
+
+pub returns-clause-rest : goal.returns-clause-rest
+returns-clause-rest g c =
+    let may = rw (← c.log.view_is, ← c.values.view_is) at c.requires.may in
+    let ready = rw (← c.log.view_is) at c.requires.ready in
+    let l = c.log.inside in
+    let e = c.step.ensures in
+    let n = c.step.new in
+    (handed (record { shape = l.root.shape; root = l.root.root; next = l.installer; epoch = l.epoch; active = l.active; frozen = l.frozen; pending = seen_all l.pending.items })
+    (record { live = c.values.inside.live; open_block = c.values.inside.open_block }) c.args.pool.now n.pool c.args.job.now n.self n.live n.front n.active n.epoch (g.B.Nand.state c.args.board.now) (g.B.Nand.state n.board) c.step.result (record {
+      ready = ready;
+      then_ready = e.ready;
+      shared = c.known.ensures;
+      where_is = record { top = may.0; found = may.1; m = may.2; may = may.3 };
+      shape = e.shape;
+      steps = e.steps;
+      breaks = e.breaks;
+      kept = e.kept;
+      kept_parts = e.kept_parts;
+      kept_values = e.kept_values;
+    })).only

@@ -2,7 +2,7 @@ use Rattle.std.proofs.Common.{◌≡◌, ◌∙◌, ◌≤◌, ap, arith, length
 use Rattle.pk_base.specs.Shape.{Shape}
 use Rattle.pk_nand.specs.Calls.{IsReady}
 use Rattle.pk_run.specs.Kept.{page_of}
-use Rattle.pk_level.proofs.Looking.{of_level_at, next_stands, Looking-next, Looking-found, Looking-failed, Looking-end, reads_found, unpinned_reads}
+use Rattle.pk_level.proofs.Looking.{of_level_at, next_stands, Looking-next, Looking-found, Looking-failed, Looking-end, reads_found, looks_found, looks_end, unpinned_reads}
 use Rattle.pk_level.proofs.levels.Levels.lookup.Goals as goal
 
 pub find-requires-clause-ready : goal.find-requires-clause-ready
@@ -50,3 +50,13 @@ pub returns-clause-found : goal.returns-clause-found
 returns-clause-found g c =
     let all : length c.args.self.now.runs ≤ c.loop-place.place = omega (arith, c.known.ensures.levels.four, c.loop-place-test.false) in
     Looking-end c.args.self.now.runs c.args.arena.now c.args.key.now (g.B.Nand.state c.args.board.now) (g.B.Nand.state c.loop-place.board) c.loop-place.place all c.loop-place.invariant.looking
+
+pub returns-in-Ok-Some-clause-looks : goal.returns-in-Ok-Some-clause-looks
+returns-in-Ok-Some-clause-looks g c =
+    looks_found c.args.self.now.runs c.args.arena.now c.args.key.now (g.B.Nand.state c.args.board.now) (g.B.Nand.state c.loop-place.board) (g.B.Nand.state c.find.new.board) c.loop-place.place c.at.result.now c.in-Ok-Some.entry
+    c.loop-place.invariant.looking c.at.ensures c.in-Ok-Some.ensures.looks (rw c.in-Ok-Some.field-0-is at c.in-Ok-Some.ensures.found)
+
+pub returns-clause-looks : goal.returns-clause-looks
+returns-clause-looks g c =
+    let all : length c.args.self.now.runs ≤ c.loop-place.place = omega (arith, c.known.ensures.levels.four, c.loop-place-test.false) in
+    looks_end c.args.self.now.runs c.args.arena.now c.args.key.now (g.B.Nand.state c.args.board.now) (g.B.Nand.state c.loop-place.board) c.loop-place.place all c.loop-place.invariant.looking

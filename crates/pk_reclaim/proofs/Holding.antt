@@ -20,15 +20,16 @@ use Rattle.pk_pool.specs.Laws.{IsInBlock}
 use Rattle.pk_pool.proofs.Fitting.{PoolOnFlash-marked, PoolOnFlash-but_block, PoolOnFlash-programmed, owned_not_ready, in_block}
 use Rattle.pk_live.specs.Values.{Values}
 use Rattle.pk_gc.specs.Stepping.{Hands}
-use Rattle.pk_gc.specs.Victims.{Chooses, closed_with}
-use Rattle.pk_gc.specs.declared.open_block.OpenBlock.{OpenBlock}
+use Rattle.pk_live.specs.OpenBlocks.{closed_with}
+use Rattle.pk_gc.specs.Victims.{Chooses}
+use Rattle.pk_live.specs.declared.open_block.OpenBlock.{OpenBlock}
 use Rattle.pk_data.specs.State.{DataState}
 use Rattle.pk_data.specs.Placed.{ValuesOnFlash, IsOpenIn, IsNotOpen, HoldsValues}
 use Rattle.pk_data.specs.Laws.{SameValues}
-use Rattle.pk_data.specs.Reclaims.{OutputTaken, DeadGivenBack, CopyProgrammed, VictimGivenBack}
+use Rattle.pk_reclaim.specs.Values.{OutputTaken, DeadGivenBack, CopyProgrammed, VictimGivenBack}
 use Rattle.pk_data.proofs.Unchanged.{some_pages, open_same, flash_elsewhere}
 use Rattle.pk_data.proofs.Filling.{another, kept, was, taken, same_values, reached_in}
-use Rattle.pk_data.proofs.Releasing.{released_as}
+use Rattle.pk_reclaim.proofs.Releasing.{released_as}
 
 abbrev state_of : Values → Option OpenBlock → DataState
 state_of live open_block = record { live = live; open_block = open_block }

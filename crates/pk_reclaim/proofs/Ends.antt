@@ -15,15 +15,15 @@ use Rattle.pk_gc.specs.declared.moves.Move.{Move}
 use Rattle.pk_gc.specs.State.{placed_at, left_of, heads_all}
 use Rattle.pk_gc.specs.Committing.{entries_left}
 use Rattle.pk_gc.specs.Stepping.{Hands}
-use Rattle.pk_gc.specs.Victims.{closed_with}
+use Rattle.pk_live.specs.OpenBlocks.{closed_with}
 use Rattle.pk_gc.proofs.Ending.{none_changes}
 use Rattle.pk_data.specs.State.{DataState}
 use Rattle.pk_data.specs.Placed.{ValuesOnFlash}
 use Rattle.pk_data.specs.Laws.{SameValues}
-use Rattle.pk_data.specs.Reclaiming.{hands_of}
-use Rattle.pk_data.specs.Reclaims.{MovesPlaced, EndPlaced}
-use Rattle.pk_data.proofs.Holding.{programmed_pool, ValuesOnFlash-given, one_less}
-use Rattle.pk_data.proofs.Relocating.{relocated, ValuesOnFlash-relocated}
+use Rattle.pk_reclaim.specs.Hands.{hands_of}
+use Rattle.pk_reclaim.specs.Values.{MovesPlaced, EndPlaced}
+use Rattle.pk_reclaim.proofs.Holding.{programmed_pool, ValuesOnFlash-given, one_less}
+use Rattle.pk_reclaim.proofs.Relocating.{relocated, ValuesOnFlash-relocated}
 
 -- the values behind the commit
 relocated_is : (c : Course) (moves : List Move) (d d' : DataState) (heads : List ℕ) → heads ≡ heads_all d.live.heads moves

@@ -20,7 +20,7 @@ use Rattle.pk_steps.specs.Under.{IsValuePage}
 use Rattle.pk_steps.proofs.Places.{value_in}
 use Rattle.pk_live.specs.Lives.{is_used}
 use Rattle.pk_live.proofs.Standing.{block_is}
-use Rattle.pk_gc.specs.declared.open_block.OpenBlock.{OpenBlock}
+use Rattle.pk_live.specs.declared.open_block.OpenBlock.{OpenBlock}
 use Rattle.pk_data.specs.State.{DataState}
 use Rattle.pk_data.specs.Placed.{ValuesOnFlash, IsOpenIn, IsNotOpen, IsOutput, HoldsValues}
 use Rattle.pk_data.proofs.Opening.{any_block}

@@ -20,7 +20,7 @@ use Rattle.pk_gc.specs.Ending.{CanGive}
 use Rattle.pk_gc.specs.Stepping.{CommitsMoves, EndsWithout, GivesVictim}
 use Rattle.pk_data.specs.State.{DataState}
 use Rattle.pk_data.specs.Placed.{ValuesOnFlash}
-use Rattle.pk_data.specs.Reclaiming.{hands_of}
+use Rattle.pk_reclaim.specs.Hands.{hands_of}
 
 -- An Erased block was taken for the copies, and the open one may have been closed.
 abbrev pub OutputTaken : Type 0

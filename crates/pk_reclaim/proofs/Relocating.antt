@@ -32,8 +32,8 @@ use Rattle.pk_gc.specs.Stepping.{Hands}
 use Rattle.pk_gc.specs.Ending.{CanGive}
 use Rattle.pk_gc.proofs.Finishing.{begins, page_left, empties}
 use Rattle.pk_gc.proofs.Ending.{InBlocks, left_same, lefts_same, in_blocks}
-use Rattle.pk_gc.specs.declared.open_block.OpenBlock.{OpenBlock}
-use Rattle.pk_gc.specs.Victims.{closed_with}
+use Rattle.pk_live.specs.declared.open_block.OpenBlock.{OpenBlock}
+use Rattle.pk_live.specs.OpenBlocks.{closed_with}
 use Rattle.pk_data.specs.State.{DataState}
 use Rattle.pk_data.specs.Placed.{ValuesOnFlash, IsOpenIn, IsNotOpen, IsOutput, HoldsValues}
 use Rattle.pk_data.specs.Laws.{SameValues}

@@ -1,6 +1,6 @@
-use Rattle.pk_data.proofs.Holding.{output_taken, dead_given_back, programmed_output, victim_given_back}
-use Rattle.pk_data.proofs.Ends.{moves_placed, end_placed}
-use Rattle.pk_data.proofs.laws.reclaims.Goals as goal
+use Rattle.pk_reclaim.proofs.Holding.{output_taken, dead_given_back, programmed_output, victim_given_back}
+use Rattle.pk_reclaim.proofs.Ends.{moves_placed, end_placed}
+use Rattle.pk_reclaim.proofs.laws.values_stay.Goals as goal
 
 pub returns-clause-output : goal.returns-clause-output
 returns-clause-output c = output_taken
