@@ -1,6 +1,6 @@
 //! From an entry and its bytes to a line.
-ghost use Rattle.std.specs.Prelude.{◌≡◌, ◌+◌, ◌*◌, ◌-◌, ◌^◌, ◌≤◌, ◌<◌, ◌++◌, ◌∷◌, ◌&&◌, [], length, nat_le, if◌then◌else◌, map};
-ghost use Rattle.pk_nvme.specs.Text.{hex_text, bytes_text};
+ghost use Rattle.std.specs.Prelude.{◌≡◌, ◌+◌, ◌*◌, ◌-◌, ◌^◌, ◌≤◌, ◌<◌, ◌++◌, ◌∷◌, ◌&&◌, length, nat_le, if◌then◌else◌, map};
+ghost use Rattle.pk_nvme.specs.Text.{bytes_text};
 ghost use Rattle.pk_asm.specs.Words.{blank};
 ghost use Rattle.pk_asm.specs.PrintedWord.{word_text, tail_text};
 ghost use Rattle.pk_asm.specs.Printed.{WritesLine};

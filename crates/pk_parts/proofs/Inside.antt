@@ -38,6 +38,7 @@ use Rattle.pk_schedule.proofs.Backlogs.{some_due}
 use Rattle.pk_parts.specs.Parts.{Parts, frames_of, index_of, outputs_of}
 use Rattle.pk_parts.specs.Agreeing.{DriveOnFlashWith}
 use Rattle.pk_parts.specs.Moves.{StandsFor, Keeps, KeepsAll, BreaksAll, LeavesValues}
+use Rattle.pk_parts.specs.Reclaiming.{Holds, HoldsAll, FailsAll}
 use Rattle.pk_parts.specs.Emptying.{Came, ReadsUpTo, OnRunning, MayEmpty, MergesOnce, FreezesOnce, merges_left, merges_due}
 use Rattle.pk_parts.specs.Staying.{Stays}
 use Rattle.pk_parts.proofs.Standing.{same_found}
@@ -52,7 +53,7 @@ unfolding root_number
 number_top shape flash top is = rw is refl
 
 -- so many roots were installed as the index has in its own
-number_is : (x : Index) (frames : ℕ) (board : BoardState) (top : ℕ × Root) (found : Found) → IsReady board x.log.shape → IndexOnFlash x frames board.pages top found → roots board ≡ x.log.root.number
+pub number_is : (x : Index) (frames : ℕ) (board : BoardState) (top : ℕ × Root) (found : Found) → IsReady board x.log.shape → IndexOnFlash x frames board.pages top found → roots board ≡ x.log.root.number
 number_is x frames board top found ready stands =
     ap (λ (s : Shape). root_number s board.pages) (shape_is board x.log.shape ready)
     ∙ number_top x.log.shape board.pages top stands.logs.is_top
@@ -86,6 +87,27 @@ module _ (d : Parts) (old : BoardState) (may : MayEmpty d old) where
   on_own_shape e new keeps shape m stands =
       let P : Shape → Type 0 = λ s. StandsFor d s old.pages m → Keeps d e s m old new in
       subst P stands.with.shape_is (keeps m) stands
+
+  -- wherever it is cut
+  pub moved_holds : (x : Index) (new : BoardState) → IsReady new d.log.shape → Moves (index_of d) old x new → HoldsAll d (with_index d x) old new
+  moved_holds x new ready moves shape m stands =
+      let P : Shape → Type 0 = λ s. StandsFor d s old.pages m → Holds (with_index d x) s m old new in
+      subst P stands.with.shape_is (λ there.
+      let is = moves (frames_of d) there.top there.found m (may_work m there) in
+      record {
+        stands = record {
+          top = is.then_top;
+          found = is.then_found;
+          without = m;
+          with = moved_with d old new there.top there.found there.without m there.with may.none_pending x ready is;
+        };
+        cuts = is.cuts;
+      }) stands
+
+  pub broken_fails : (new : BoardState) → Breaks (index_of d) old new → FailsAll d old new
+  broken_fails new breaks shape m stands =
+      let P : Shape → Type 0 = λ s. StandsFor d s old.pages m → Goes s old new (CrashFinds s background old.pages m) in
+      subst P stands.with.shape_is (λ there. breaks (frames_of d) there.top there.found m (may_work m there)) stands
 
   pub moved_keeps : (x : Index) (new : BoardState) → IsReady new d.log.shape → Moves (index_of d) old x new → KeepsAll d (with_index d x) old new
   moved_keeps x new ready moves = on_own_shape (with_index d x) new (λ m there.

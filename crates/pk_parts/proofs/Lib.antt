@@ -38,3 +38,5 @@ pub mod Stored
 pub mod ReclaimWork
 pub mod ReclaimTicks
 pub mod StoreCalls
+pub mod TickSteps
+pub mod MergeTicks

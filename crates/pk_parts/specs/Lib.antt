@@ -14,3 +14,4 @@ pub mod Opening
 pub mod Reclaiming
 pub mod Spacing
 pub mod Costs
+pub mod Merging

@@ -1,5 +1,8 @@
 //! Merges to the end and a whole freeze, inside a command that needs the room.
-ghost use Rattle.std.specs.Prelude.{◌≡◌, ◌+◌, [], true, OnOk};
+ghost use Rattle.std.specs.Prelude.{◌≡◌, ◌+◌, [], true, OnOk, OnErr, IfOk, IfErr};
+ghost use Rattle.pk_model.specs.Growth.{Grows};
+ghost use Rattle.pk_parts.specs.Merging.{DoesMerge, FailsMerge, FreezesOn};
+ghost use Rattle.pk_parts.specs.Reclaiming.{FailsAll};
 ghost use Rattle.pk_parts.specs.Costs.{NumbersLast, Spends};
 ghost use Rattle.pk_work.specs.Rest.{whole_freeze};
 ghost use Rattle.pk_work.specs.Work.{emptying};
@@ -16,10 +19,22 @@ use pk_region::Region;
 use pk_schedule::Stepped;
 
 impl<A: Region> Parts<A> {
-    // One step of the merges, by at most one call of the board. `Reading` where a read fails: the step can be made again.
-    fn merge_once<B: Nand>(&mut self, board: &mut B) -> Result<Stepped, Fault>
+    // One step of the merges, by at most one flash operation. `Reading` if a read fails: the step can be made again.
+    pub(crate) fn merge_once<B: Nand>(&mut self, board: &mut B) -> Result<Stepped, Fault>
         requires { MayEmpty self.old (B.state board.old) }
-        ensures { MergesOnce self.old self.new (B.state board.old) (B.state board.new) result }
+
+        // A step was made, or nothing was left to do.
+        ensures does { IfOk result (λ s. DoesMerge self.old self.new (B.state board.old)
+            (B.state board.new) s) }
+
+        // A flash operation failed.
+        ensures fails { IfErr result (λ e. FailsMerge self.old self.new (B.state board.old)
+            (B.state board.new) e) }
+
+        // After success and failure.
+        ensures once { MergesOnce self.old self.new (B.state board.old) (B.state board.new) result }
+        ensures grows { Grows self.old.log.shape (B.state board.old).pages
+            (B.state board.new).pages }
     {
         // so that the board's counts are known to be of 64 bits
         let _ = board.read_count();
@@ -61,11 +76,20 @@ impl<A: Region> Parts<A> {
         }
     }
 
-    // One step of a freeze of the active buffer, by at most one call of the board; true where it is over.
-    fn freeze_once<B: Nand>(&mut self, board: &mut B) -> Result<bool, Fault>
+    // One step of a freeze of the active buffer, by at most one flash operation; true if it has ended.
+    pub(crate) fn freeze_once<B: Nand>(&mut self, board: &mut B) -> Result<bool, Fault>
         requires may { MayEmpty self.old (B.state board.old) }
         requires none_merges { has_no_merge (index_of self.old) ≡ true }
-        ensures { FreezesOnce self.old self.new (B.state board.old) (B.state board.new) result }
+
+        // A step was made, or a flash operation failed.
+        ensures does { OnOk result (FreezesOn self.old self.new (B.state board.old)
+            (B.state board.new)) }
+        ensures fails { OnErr result (FailsAll self.old (B.state board.old) (B.state board.new)) }
+
+        // After success and failure.
+        ensures once { FreezesOnce self.old self.new (B.state board.old) (B.state board.new) result }
+        ensures grows { Grows self.old.log.shape (B.state board.old).pages
+            (B.state board.new).pages }
     {
         self.schedule.freeze_step(
             board,

@@ -64,14 +64,7 @@ impl<A: Region> Parts<A> {
         requires merges { has_no_merge (index_of self.old) ≡ false }
         ensures { Advances self.old self.new (B.state board.old) (B.state board.new) result }
     {
-        match self.schedule.step(
-            board,
-            &mut self.pool,
-            &mut self.arena,
-            &mut self.levels,
-            &mut self.log,
-            &mut self.page,
-        ) {
+        match self.merge_once(board) {
             Ok(Stepped::Worked) => Ticked::Worked,
             // a merge runs, or is due
             Ok(Stepped::Idle) => unreachable!(),
@@ -88,14 +81,7 @@ impl<A: Region> Parts<A> {
         ensures { Advances self.old self.new (B.state board.old) (B.state board.new) result }
     {
         self.pool.known();
-        match self.schedule.freeze_step(
-            board,
-            &mut self.pool,
-            &self.arena,
-            &self.levels,
-            &mut self.log,
-            &mut self.page,
-        ) {
+        match self.freeze_once(board) {
             Ok(_) => Ticked::Worked,
             // only a program or an erase can fail here
             Err(_) => self.stop(),

@@ -1,28 +1,26 @@
-use Rattle.std.proofs.Common.{refl, true, ◌∙◌}
-use Rattle.pk_schedule.specs.Index.{index}
+use Rattle.std.proofs.Common.{subst}
+use Rattle.pk_pool.specs.Blocks.{IsShared}
 use Rattle.pk_parts.specs.Parts.{Parts}
-use Rattle.pk_parts.proofs.Advancing.{freeze_some, freeze_advances, stop_advances}
-use Rattle.pk_parts.proofs.Ticking.{busy_wanted}
+use Rattle.pk_parts.specs.Emptying.{FreezesOnce}
+use Rattle.pk_parts.proofs.MergeTicks.{may_empty, tick_frozen, tick_unfrozen}
 use Rattle.pk_parts.proofs.parts.Parts.freeze_step.Goals as goal
 
-pub freeze_step-requires-clause-may : goal.freeze_step-requires-clause-may
-freeze_step-requires-clause-may g c =
-    let r = rw (← c.self.view_is) at c.requires in
-    freeze_some _ (g.B.Nand.state c.args.board.now) (g.B.Nand.state c.args.board.now) r.may r.merged
+pub freeze_once-requires-clause-may : goal.freeze_once-requires-clause-may
+freeze_once-requires-clause-may g c = may_empty c.args.self.now (g.B.Nand.state c.args.board.now) c.requires.may
 
 pub returns-in-Ok : goal.returns-in-Ok
 returns-in-Ok g c =
-    let r = rw (← c.self.view_is) at c.requires in
-    let e = c.freeze_step.ensures in
-    let done = c.in-Ok.ensures in
-    let later = index c.freeze_step.new.log c.self.inside.levels c.self.inside.arena c.freeze_step.new.pool c.freeze_step.new.self in
-    rw (← c.self.view_is) (freeze_advances _ (g.B.Nand.state c.args.board.now) (g.B.Nand.state c.freeze_step.new.board) r.may later e.calls.ready done.moves c.in-Ok.field-0 r.merged r.wanted done.freezes c.known.ensures done.sound e.calls.calls e.calls.installs e.calls.grows)
+    let r = c.requires in
+    let old = g.B.Nand.state c.args.board.now in
+    let new = g.B.Nand.state c.freeze_once.new.board in
+    tick_frozen c.args.self.now old r.may c.freeze_once.new.self new c.freeze_once.ensures.grows c.in-Ok.field-0 (subst (λ x. FreezesOnce c.args.self.now c.freeze_once.new.self old new x) c.in-Ok.is c.freeze_once.ensures.once) c.in-Ok.ensures.does r.wanted
+    (subst (λ (d : Parts). IsShared d.pool.shape d.pool.states) c.self.view_is c.known.ensures)
 
 pub returns-in-Err : goal.returns-in-Err
 returns-in-Err g c =
-    let r = rw (← c.self.view_is) at c.requires in
-    let e = c.freeze_step.ensures in
-    let broken = c.in-Err.ensures.broken in
-    let later : Parts = record { log = c.freeze_step.new.log; levels = c.self.inside.levels; arena = c.self.inside.arena; schedule = c.freeze_step.new.self; space = c.self.inside.space; reclaim = c.self.inside.reclaim; pool = c.freeze_step.new.pool; keys = c.self.inside.keys; stopped = true } in
-    rw (c.stop.ensures.stopped, c.stop.ensures.value) (rw (← c.self.view_is) (stop_advances _ (g.B.Nand.state c.args.board.now) (g.B.Nand.state c.freeze_step.new.board) r.may later refl (e.same_log.1 ∙ r.may.none)
-    (busy_wanted _ (g.B.Nand.state c.args.board.now) r.may.agrees c.known.ensures r.wanted) broken.0 broken.1 e.calls.calls e.calls.installs e.calls.grows))
+    let r = c.requires in
+    let old = g.B.Nand.state c.args.board.now in
+    let new = g.B.Nand.state c.freeze_once.new.board in
+    rw (c.stop.ensures.stopped, c.stop.ensures.value)
+    (tick_unfrozen c.args.self.now old r.may c.freeze_once.new.self new c.freeze_once.ensures.grows c.in-Err.field-0 (subst (λ x. FreezesOnce c.args.self.now c.freeze_once.new.self old new x) c.in-Err.is c.freeze_once.ensures.once) c.in-Err.ensures.fails r.wanted
+    (subst (λ (d : Parts). IsShared d.pool.shape d.pool.states) c.self.view_is c.known.ensures))
