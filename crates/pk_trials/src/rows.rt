@@ -1,4 +1,4 @@
-//! Commands in a row on a made drive, each with its answer: options and lengths, namespaces, and the keys of a List.
+//! Consecutive commands on a made drive, each with its answer: options and lengths, namespaces, and the keys of a List.
 
 use crate::steps::{add, holds, made_board, posted, serve};
 use pk_nvme::Request;
@@ -18,7 +18,7 @@ const OK: u8 = SUCCESSFUL_COMPLETION;
 
 const ALL: u32 = 0xffff_ffff;
 
-// A command and its answer: the opcode, the namespace, the place of the key and its length, the size, the options; the status and the
+// A command and its answer: the opcode, the namespace, the bytes of the key and its length, the size, the options; the status and the
 // data. A Store has as many bytes of the value as its size says. No page is read for any of them.
 type Row = (u8, u32, &'static [u8; 16], u8, u32, u8, u8, &'static [u8]);
 
@@ -64,7 +64,7 @@ const OPTIONS: &[Row] = &[
     (STORE, 1, A, 1, 1, 1, OK, b""),
 ];
 
-// Behind a Flush, so that the last command has CID 5.
+// After a Flush, so that the last command has CID 5.
 const DELETED: &[Row] = &[
     (FLUSH, 1, A, 0, 0, 0, OK, b""),
     (STORE, 1, A, 1, 1, 0, OK, b""),

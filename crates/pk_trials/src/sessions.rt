@@ -268,7 +268,7 @@ fn add_store(rt: &impl Abort, into: &mut Vec<u8>, store: &[u8; 64]) {
     add(rt, into, b"abc");
 }
 
-// Stores of so many keys of two bytes with one page each.
+// Stores of this many keys of two bytes, each with a value of one page.
 fn stores(rt: &impl Abort, alloc: Global, count: u8) -> Vec<u8> {
     let mut script = Vec::new(alloc);
     for i in 0..count {
@@ -277,7 +277,7 @@ fn stores(rt: &impl Abort, alloc: Global, count: u8) -> Vec<u8> {
     script
 }
 
-// So many of them, and a Report.
+// This many of them, and a Report.
 fn stores_told(rt: &impl Abort, alloc: Global, count: u8) -> Vec<u8> {
     let mut script = stores(rt, alloc, count);
     add(rt, &mut script, &entry(31, REPORT, [0, 0], 0, 0));
@@ -313,8 +313,8 @@ fn check_numbers(rt: &impl Abort, posted: &[u8], numbers: &[(&str, usize, u32)])
 
 const GROUPED: [(&str, usize, u32); 2] = [("active", 6, 16), ("epoch", 12, 2)];
 
-/// Sixteen Stores make two commits, one of as many entries as a page of the journal has, 15, and one before the Report: programmed are a
-/// root, the values and two pages of the journal; erased two blocks for the epoch, the other root block and the values' block.
+/// Sixteen Stores make two commits: one of 15 entries, as many as a page of the journal has, and one before the Report. A root, the
+/// values and two pages of the journal are programmed; two blocks for the epoch, the other root block and the values' block are erased.
 #[test]
 fn grouped_commits(rt: HostRuntime) {
     let alloc = rt.alloc();
