@@ -53,7 +53,8 @@ unfolding root_number
 number_top shape flash top is = rw is refl
 
 -- so many roots were installed as the index has in its own
-pub number_is : (x : Index) (frames : ℕ) (board : BoardState) (top : ℕ × Root) (found : Found) → IsReady board x.log.shape → IndexOnFlash x frames board.pages top found → roots board ≡ x.log.root.number
+pub number_is : (x : Index) (frames : ℕ) (board : BoardState) (top : ℕ × Root) (found : Found) → IsReady board x.log.shape → IndexOnFlash x frames board.pages top found
+    → roots board ≡ x.log.root.number
 number_is x frames board top found ready stands =
     ap (λ (s : Shape). root_number s board.pages) (shape_is board x.log.shape ready)
     ∙ number_top x.log.shape board.pages top stands.logs.is_top

@@ -80,7 +80,8 @@ module _ (d : Parts) (old : BoardState) (may : MayEmpty d old) (x : Index) (new 
   merge_fails (Err Stopped) step = let broken = step.broken refl in (busy_of d step.running, broken_fails d old may new broken.0, broken.1)
 
 module _ (d : Parts) (old : BoardState) (may : MayEmpty d old) (x : Index) (new : BoardState) where
-  pub freeze_does : (r : Result Bool Fault) → OnOk r (Moves (index_of d) old x new) → IfOk r (λ done. MatchBool done (Freezes (index_of d) x) (FreezeMoves (index_of d) x)) → has_no_merge (index_of d) ≡ true → IsReady new d.log.shape
+  pub freeze_does : (r : Result Bool Fault) → OnOk r (Moves (index_of d) old x new) → IfOk r (λ done. MatchBool done (Freezes (index_of d) x) (FreezeMoves (index_of d) x))
+      → has_no_merge (index_of d) ≡ true → IsReady new d.log.shape
       → OnOk r (FreezesOn d (with_index d x) old new)
   freeze_does (Ok done) moves freezes merged ready =
       let some = may.may.stands in
@@ -117,7 +118,8 @@ module _ (d : Parts) (old : BoardState) (m : MayTick d old) where
     tick_unread once is =
         let number = ap (λ (e : Parts). e.log.root.number) is.rest in
         unread_advances d old m d' new once.step.ready once.calls once.step.rest once.step.roots_few grows (busy_merge d old old m is.busy) once.none_pending
-        is.seen (is.stands d.log.shape m.agrees.all (its_stand d old m)) is.only is.read is.flash once.leaves.frames (ap (λ (e : Parts). e.stopped) once.leaves.rest) (stays_frees d d' once.stays) (omega (arith, number))
+        is.seen (is.stands d.log.shape m.agrees.all (its_stand d old m)) is.only is.read is.flash once.leaves.frames (ap (λ (e : Parts). e.stopped) once.leaves.rest)
+        (stays_frees d d' once.stays) (omega (arith, number))
 
     pub tick_stopped : MergesOnce d d' old new (Err Stopped) → FailsMerge d d' old new Stopped → Advances d (record d' { stopped = true }) old new (Fails true)
     tick_stopped once is =
@@ -128,6 +130,8 @@ module _ (d : Parts) (old : BoardState) (m : MayTick d old) where
         made_advances d old m d' new once.step.ready once.calls once.step.works.rest once.step.roots_few grows (busy_wanted d old m.agrees shared wants) once.none_pending
         is.holds once.step.works.no_fault once.leaves.frames (ap (λ (e : Parts). e.stopped) once.leaves.rest) (stays_frees d d' once.stays) is.number (is.less wants)
 
-    pub tick_unfrozen : (e : Fault) → FreezesOnce d d' old new (Err e) → FailsAll d old new → WantsFreeze d → IsShared d.pool.shape d.pool.states → Advances d (record d' { stopped = true }) old new (Fails true)
+    pub tick_unfrozen : (e : Fault) → FreezesOnce d d' old new (Err e) → FailsAll d old new → WantsFreeze d → IsShared d.pool.shape d.pool.states
+        → Advances d (record d' { stopped = true }) old new (Fails true)
     tick_unfrozen e once fails wants shared =
-        stop_advances d old m (record d' { stopped = true }) new once.step.ready once.calls once.step.stops.rest once.step.roots_few grows (busy_wanted d old m.agrees shared wants) once.none_pending refl fails once.step.stops
+        stop_advances d old m (record d' { stopped = true }) new once.step.ready once.calls once.step.stops.rest once.step.roots_few grows
+        (busy_wanted d old m.agrees shared wants) once.none_pending refl fails once.step.stops

@@ -77,7 +77,8 @@ module _ (d : Parts) (old : BoardState) (m : MayTick d old) (wants : WantsReclai
     busy : IsShared d.pool.shape d.pool.states → IsIdle d.log.shape old.pages (sight_of d) → ⊥
     busy shared idle = busy_reclaim d old m.agrees shared wants idle
 
-    worked_advances : (d' : Parts) → Lessens d d' old new → d'.log.pending ≡ [] → NoFault old new → IsShared d.pool.shape d.pool.states → (sight_of d').work < (sight_of d).work → Advances d d' old new Worked
+    worked_advances : (d' : Parts) → Lessens d d' old new → d'.log.pending ≡ [] → NoFault old new → IsShared d.pool.shape d.pool.states
+        → (sight_of d').work < (sight_of d).work → Advances d d' old new Worked
     worked_advances d' made none sound shared less =
         let there : Holds d' d.log.shape m.agrees.all old new = made.holds d.log.shape m.agrees.all (its_stand d old m) in
         let stays = leaves_stay d d' made.leaves in
@@ -103,7 +104,8 @@ module _ (d : Parts) (old : BoardState) (m : MayTick d old) (wants : WantsReclai
         let same = ap (λ (e : Parts). (counts_of e).blocks) unread.rest in
         let number = ap (λ (e : Parts). e.log.root.number) unread.rest in
         unread_advances d old m d' new ready calls rest installs grows (busy shared) (ap (λ (e : Parts). e.log.pending) unread.rest ∙ m.none) (ap (λ (e : Parts). sight_of e) unread.rest)
-        (unread.stands d.log.shape m.agrees.all (its_stand d old m)) unread.only unread.read unread.flash stays.frames stays.stopped (record { fresh = stays.fresh; no_more = omega (arith, same) }) (omega (arith, number))
+        (unread.stands d.log.shape m.agrees.all (its_stand d old m)) unread.only unread.read unread.flash stays.frames stays.stopped
+        (record { fresh = stays.fresh; no_more = omega (arith, same) }) (omega (arith, number))
 
     pub stops_so : (d' : Parts) → d'.stopped ≡ true → d'.log.pending ≡ [] → FailsAll d old new → Stops old new → IsShared d.pool.shape d.pool.states → Advances d d' old new (Fault true)
     stops_so d' stopped none fails stops shared = stop_advances d old m d' new ready calls rest installs grows (busy shared) none stopped fails stops

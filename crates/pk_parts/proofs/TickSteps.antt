@@ -35,18 +35,21 @@ module _ (d : Parts) (old : BoardState) (m : MayTick d old) where
       subst (λ s. StandsFor d s old.pages m.agrees.all) (sym m.agrees.with.shape_is)
       (record { top = m.agrees.top; found = m.agrees.found; without = m.agrees.without; with = m.agrees.with })
 
-  module _ (d' : Parts) (new : BoardState) (ready : IsReady new d.log.shape) (calls : AtMostOneCall old new) (rest : OnlyFlash old new) (installs : roots new ≤ roots old + 1) (grows : Grows d.log.shape old.pages new.pages)
+  module _ (d' : Parts) (new : BoardState) (ready : IsReady new d.log.shape) (calls : AtMostOneCall old new) (rest : OnlyFlash old new)
+      (installs : roots new ≤ roots old + 1) (grows : Grows d.log.shape old.pages new.pages)
       (busy : IsIdle d.log.shape old.pages (sight_of d) → ⊥) (none : d'.log.pending ≡ []) where
     grown : Grows (shape_or_none old.shape) old.pages new.pages
     grown = subst (λ o. Grows (shape_or_none o) old.pages new.pages) (sym (agrees_ready d old m.agrees).shape_is) grows
 
     -- a step that worked: the map is unchanged, and less work remains
-    pub made_advances : HoldsAll d d' old new → NoFault old new → frames_of d' ≡ frames_of d → d'.stopped ≡ d.stopped → StaysOrFrees d d' → d'.log.root.number ≤ d.log.root.number + 1 → (sight_of d').work < (sight_of d).work → Advances d d' old new Worked
+    pub made_advances : HoldsAll d d' old new → NoFault old new → frames_of d' ≡ frames_of d → d'.stopped ≡ d.stopped → StaysOrFrees d d'
+        → d'.log.root.number ≤ d.log.root.number + 1 → (sight_of d').work < (sight_of d).work → Advances d d' old new Worked
     made_advances holds sound frames stopped frees number less =
         let here : Holds d' d.log.shape m.agrees.all old new = holds d.log.shape m.agrees.all its_stand in
         record {
           ticks = record {
-            stands = λ _. for_its_map d old m.agrees (λ s f x. HoldsMap s f new (sight_of d') x) (record { shape_is = ready.shape_is; frames_is = frames; map_is = reads_as d' d.log.shape new.pages m.agrees.all here.stands });
+            stands = λ _. for_its_map d old m.agrees (λ s f x. HoldsMap s f new (sight_of d') x)
+                (record { shape_is = ready.shape_is; frames_is = frames; map_is = reads_as d' d.log.shape new.pages m.agrees.all here.stands });
             cuts = λ _. for_its_map d old m.agrees (λ s f x. Reaches s old new (CrashFinds s background old.pages x)) here.cuts;
             cuts_stopped = λ e. absurd (false_true e);
             idle_rests = λ e. absurd (worked_idle e);
@@ -73,7 +76,8 @@ module _ (d : Parts) (old : BoardState) (m : MayTick d old) where
         }
 
     -- a step of which a read failed: the state of the drive is unchanged
-    pub unread_advances : sight_of d' ≡ sight_of d → StandsFor d' d.log.shape old.pages m.agrees.all → OnlyReading old new → Rose old.read_faults new.read_faults → Rose old.flash_faults new.flash_faults
+    pub unread_advances : sight_of d' ≡ sight_of d → StandsFor d' d.log.shape old.pages m.agrees.all → OnlyReading old new → Rose old.read_faults new.read_faults
+        → Rose old.flash_faults new.flash_faults
         → frames_of d' ≡ frames_of d → d'.stopped ≡ d.stopped → StaysOrFrees d d' → d'.log.root.number ≤ d.log.root.number + 1 → Advances d d' old new (Fault false)
     unread_advances seen stands only rose flash frames stopped frees number =
         let counted = m.counted in
@@ -82,10 +86,12 @@ module _ (d : Parts) (old : BoardState) (m : MayTick d old) where
         let still : StandsFor d' d.log.shape new.pages m.agrees.all = subst S (sym pages_same) stands in
         record {
           ticks = record {
-            stands = λ _. for_its_map d old m.agrees (λ s f x. HoldsMap s f new (sight_of d') x) (record { shape_is = ready.shape_is; frames_is = frames; map_is = reads_as d' d.log.shape new.pages m.agrees.all still });
+            stands = λ _. for_its_map d old m.agrees (λ s f x. HoldsMap s f new (sight_of d') x)
+                (record { shape_is = ready.shape_is; frames_is = frames; map_is = reads_as d' d.log.shape new.pages m.agrees.all still });
             cuts = λ _. for_its_map d old m.agrees (λ s f x. Reaches s old new (CrashFinds s background old.pages x)) (
               [],
-              Reached-start old new (CrashFinds d.log.shape background old.pages m.agrees.all) (ap (λ (b : BoardState). b.shape) only) pages_same (ap (λ (b : BoardState). b.trail) only) (ap (λ (b : BoardState). b.posted) only)
+              Reached-start old new (CrashFinds d.log.shape background old.pages m.agrees.all) (ap (λ (b : BoardState). b.shape) only) pages_same
+                  (ap (λ (b : BoardState). b.trail) only) (ap (λ (b : BoardState). b.posted) only)
                   (refl, subst (λ (es : List Entry). reading d.log.shape old.pages es ≡ Ok m.agrees.all) m.none (reads_as d d.log.shape old.pages m.agrees.all its_stand)),
               tt,
             );

@@ -8,16 +8,26 @@ pub merge_once-requires : goal.merge_once-requires
 merge_once-requires g c = may_empty c.args.self.now (g.B.Nand.state c.args.board.now) c.merges.self (g.B.Nand.state c.merges.board) c.requires.may.ready c.merges.invariant c.requires.number
 
 pub merges-preserved : goal.merges-preserved
-merges-preserved g c = emptying_more c.args.self.now (g.B.Nand.state c.args.board.now) c.merges.self (g.B.Nand.state c.merges.board) c.requires.may.ready c.merges.invariant c.merge_once.new.self (g.B.Nand.state c.merge_once.new.board) c.in-Ok-Worked.field-0 c.in-Ok-Worked.field-0-is c.in-Ok-Worked.ensures.once
+merges-preserved g c =
+    emptying_more c.args.self.now (g.B.Nand.state c.args.board.now) c.merges.self (g.B.Nand.state c.merges.board) c.requires.may.ready c.merges.invariant c.merge_once.new.self
+    (g.B.Nand.state c.merge_once.new.board) c.in-Ok-Worked.field-0 c.in-Ok-Worked.field-0-is c.in-Ok-Worked.ensures.once
 
 pub returns-in-Ok-Idle-clause-step : goal.returns-in-Ok-Idle-clause-step
-returns-in-Ok-Idle-clause-step g c = emptying_idle c.args.self.now (g.B.Nand.state c.args.board.now) c.merges.self (g.B.Nand.state c.merges.board) c.requires.may.ready c.merges.invariant c.merge_once.new.self (g.B.Nand.state c.merge_once.new.board) c.in-Ok-Idle.field-0 c.in-Ok-Idle.field-0-is c.in-Ok-Idle.ensures.once
+returns-in-Ok-Idle-clause-step g c =
+    emptying_idle c.args.self.now (g.B.Nand.state c.args.board.now) c.merges.self (g.B.Nand.state c.merges.board) c.requires.may.ready c.merges.invariant c.merge_once.new.self
+    (g.B.Nand.state c.merge_once.new.board) c.in-Ok-Idle.field-0 c.in-Ok-Idle.field-0-is c.in-Ok-Idle.ensures.once
 
 pub returns-in-Err-clause-step : goal.returns-in-Err-clause-step
-returns-in-Err-clause-step g c = emptying_failed c.args.self.now (g.B.Nand.state c.args.board.now) c.merges.self (g.B.Nand.state c.merges.board) c.requires.may.ready c.merges.invariant c.merge_once.new.self (g.B.Nand.state c.merge_once.new.board) c.in-Err.fault c.in-Err.ensures.once
+returns-in-Err-clause-step g c =
+    emptying_failed c.args.self.now (g.B.Nand.state c.args.board.now) c.merges.self (g.B.Nand.state c.merges.board) c.requires.may.ready c.merges.invariant
+    c.merge_once.new.self (g.B.Nand.state c.merge_once.new.board) c.in-Err.fault c.in-Err.ensures.once
 
 pub returns-in-Ok-Idle-clause-spends : goal.returns-in-Ok-Idle-clause-spends
-returns-in-Ok-Idle-clause-spends g c = idle_spends c.args.self.now (g.B.Nand.state c.args.board.now) c.merges.self (g.B.Nand.state c.merges.board) c.requires.may.ready c.merges.invariant c.merge_once.new.self (g.B.Nand.state c.merge_once.new.board) c.in-Ok-Idle.field-0 c.in-Ok-Idle.field-0-is c.in-Ok-Idle.ensures.once
+returns-in-Ok-Idle-clause-spends g c =
+    idle_spends c.args.self.now (g.B.Nand.state c.args.board.now) c.merges.self (g.B.Nand.state c.merges.board) c.requires.may.ready c.merges.invariant c.merge_once.new.self
+    (g.B.Nand.state c.merge_once.new.board) c.in-Ok-Idle.field-0 c.in-Ok-Idle.field-0-is c.in-Ok-Idle.ensures.once
 
 pub returns-in-Err-clause-spends : goal.returns-in-Err-clause-spends
-returns-in-Err-clause-spends g c = failed_spends c.args.self.now (g.B.Nand.state c.args.board.now) c.merges.self (g.B.Nand.state c.merges.board) c.requires.may.ready c.merges.invariant c.merge_once.new.self (g.B.Nand.state c.merge_once.new.board) c.in-Err.fault c.in-Err.ensures.once
+returns-in-Err-clause-spends g c =
+    failed_spends c.args.self.now (g.B.Nand.state c.args.board.now) c.merges.self (g.B.Nand.state c.merges.board) c.requires.may.ready c.merges.invariant c.merge_once.new.self
+    (g.B.Nand.state c.merge_once.new.board) c.in-Err.fault c.in-Err.ensures.once

@@ -13,7 +13,8 @@ returns-in-Ok g c =
     let r = c.requires in
     let old = g.B.Nand.state c.args.board.now in
     let new = g.B.Nand.state c.freeze_once.new.board in
-    tick_frozen c.args.self.now old r.may c.freeze_once.new.self new c.freeze_once.ensures.grows c.in-Ok.field-0 (subst (λ x. FreezesOnce c.args.self.now c.freeze_once.new.self old new x) c.in-Ok.is c.freeze_once.ensures.once) c.in-Ok.ensures.does r.wanted
+    tick_frozen c.args.self.now old r.may c.freeze_once.new.self new c.freeze_once.ensures.grows c.in-Ok.field-0
+    (subst (λ x. FreezesOnce c.args.self.now c.freeze_once.new.self old new x) c.in-Ok.is c.freeze_once.ensures.once) c.in-Ok.ensures.does r.wanted
     (subst (λ (d : Parts). IsShared d.pool.shape d.pool.states) c.self.view_is c.known.ensures)
 
 pub returns-in-Err : goal.returns-in-Err
@@ -22,5 +23,6 @@ returns-in-Err g c =
     let old = g.B.Nand.state c.args.board.now in
     let new = g.B.Nand.state c.freeze_once.new.board in
     rw (c.stop.ensures.stopped, c.stop.ensures.value)
-    (tick_unfrozen c.args.self.now old r.may c.freeze_once.new.self new c.freeze_once.ensures.grows c.in-Err.field-0 (subst (λ x. FreezesOnce c.args.self.now c.freeze_once.new.self old new x) c.in-Err.is c.freeze_once.ensures.once) c.in-Err.ensures.fails r.wanted
+    (tick_unfrozen c.args.self.now old r.may c.freeze_once.new.self new c.freeze_once.ensures.grows c.in-Err.field-0
+    (subst (λ x. FreezesOnce c.args.self.now c.freeze_once.new.self old new x) c.in-Err.is c.freeze_once.ensures.once) c.in-Err.ensures.fails r.wanted
     (subst (λ (d : Parts). IsShared d.pool.shape d.pool.states) c.self.view_is c.known.ensures))
