@@ -1,7 +1,8 @@
 #!/bin/sh
 # Checks the documents beside the sources, in a second or two. It is run by hand, before a landing. Each fault is a line.
 #
-# The index of lemma files is the one that docs/lemmas.sh writes; README keeps to its size; every link leads to a file; every crate,
+# The index of lemma files, the lists of definitions and the map of the crates are those that docs/lemmas.sh, docs/definitions.py and
+# docs/crates.py write; README keeps to its size; every link leads to a file; every crate,
 # every path of a function, every file of definitions, every clause of GUARANTEES and every wrong body that a document names exists;
 # every wrong body is named; the crates above each one that WORKING counts are those of crates.txt.
 set -u
@@ -54,6 +55,8 @@ leads() { # crate, rest of the path
 }
 
 docs/lemmas.sh --check >/dev/null || fault "docs/PROOFS.md: the index is not what docs/lemmas.sh prints"
+docs/definitions.py --check 2>>"$faults"
+docs/crates.py --check 2>>"$faults"
 
 [ "$(wc -l <README.md)" -le 125 ] || fault "README.md: more than 125 lines"
 LC_ALL=C.UTF-8 awk '{ gsub(/[\200-\277]/, "") } length($0) > 100 { print "README.md:" FNR ": wider than 100 columns" }' README.md >>"$faults"

@@ -1,9 +1,10 @@
 //! The law over any number of runs, from the contract of `run` alone.
 ghost use Rattle.pk_top.specs.Sessions.{KeptThroughRuns};
 
-/// Over any runs on a made drive, whatever their words, each stopped before or within any program or erase: what a run of `serve`
-/// left holds the map after commands of its script from the front on, with every one of which a byte was posted, each record is
-/// by the map before it, what another run left holds the map as it was, and the next run begins from that map.
+/// Over any runs on a made drive, each stopped before or within any program or erase. After a run of `serve` the flash holds the
+/// map after a prefix of its script that contains every command of which a byte was posted, and each record is by the map before
+/// its command. After a run of `put`, `del`, `gen` or another question it holds a map that the word keeps. After any other run
+/// it holds the same map as before. The next run begins from the map that is held.
 pub fn sessions()
     ensures { KeptThroughRuns }
 {}
