@@ -34,7 +34,7 @@ use Rattle.pk_mirror.proofs.MapLemmas.{value_fits, by_key, get_removed, get_remo
 
 -- ---- what a Retrieve found
 
-found_none : (o : Option (List ℕ)) (into : List ℕ) → IsFront o None into → o ≡ None
+pub found_none : (o : Option (List ℕ)) (into : List ℕ) → IsFront o None into → o ≡ None
 found_none None into e = refl
 found_none (Some value) into e = absurd (let clash : ◌≡◌ {A = Option ℕ} None (Some (length value)) = e.0 in cc)
 
