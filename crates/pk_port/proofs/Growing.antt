@@ -29,7 +29,7 @@ ok_same : (x y : Map) → ◌≡◌ {A = Result Map Refusal} (Ok x) (Ok y) → x
 ok_same x y e = cc
 
 -- more commands, and more faults
-silent-more : (shape : Shape) (frames : ℕ) (start : Map) (cs more : List Command) (n later : Option ℕ) → ((k : ℕ) → AtMost n k → AtMost later k)
+pub silent-more : (shape : Shape) (frames : ℕ) (start : Map) (cs more : List Command) (n later : Option ℕ) → ((k : ℕ) → AtMost n k → AtMost later k)
     → (f : Flash) (q : List ℕ) → KeptSilently shape frames start cs n f q → KeptSilently shape frames start (cs ++ more) later f q
 silent-more shape frames start cs more n later up f q (none, k) = (
   none,
@@ -82,7 +82,7 @@ unfolding asked-none
 asked-none-all shape frames start a has holds = refl
 
 -- two parts of a run
-flash-then : (a b c : BoardState) → OnlyFlash a b → OnlyFlash b c → OnlyFlash a c
+pub flash-then : (a b c : BoardState) → OnlyFlash a b → OnlyFlash b c → OnlyFlash a c
 flash-then a b c first second = second ∙ ap (λ (s : BoardState). record s {
   pages = c.pages;
   trail = c.trail;

@@ -2,3 +2,4 @@ pub mod Serving
 pub mod Stepping
 pub mod Lifting
 pub mod Growing
+pub mod Chaining

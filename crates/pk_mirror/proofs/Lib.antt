@@ -1,0 +1,10 @@
+pub mod ReplyLemmas
+pub mod PairLemmas
+pub mod WriteLemmas
+pub mod AskLemmas
+pub mod MapLemmas
+pub mod KeyLemmas
+pub mod SpendLemmas
+pub mod RankLemmas
+pub mod VisitLemmas
+pub mod PageLemmas

@@ -1,0 +1,132 @@
+-- One visit after another.
+use Rattle.std.proofs.Common.{◌≡◌, ℕ, List, [], ◌∷◌, ◌++◌, Option, Some, Result, Err, refl, sym, subst, ◌∙◌}
+use Rattle.std.specs.List.{AllByRecursion}
+use Rattle.pk_base.specs.Key.{Key}
+use Rattle.pk_base.specs.Map.{Map}
+use Rattle.pk_nvme.specs.Command.{Command}
+use Rattle.pk_host.specs.Port.{PortState, Took}
+use Rattle.pk_host.specs.TookLaws.{took_both}
+use Rattle.pk_host.specs.Calls.{TookSome}
+use Rattle.pk_mirror.specs.declared.error.Side.TheVariants.{First, Second}
+use Rattle.pk_mirror.specs.declared.error.MirrorError.{MirrorError}
+use Rattle.pk_mirror.specs.declared.error.MirrorError.TheVariants.{Refused, Port, Split}
+use Rattle.pk_mirror.specs.Causes.{RefusedBy, IsCause, OnlyAsks, AreAsking}
+use Rattle.pk_mirror.specs.Visits.{Visits, OnlyReadsFail}
+use Rattle.pk_mirror.specs.Spending.{Spent}
+use Rattle.pk_mirror.proofs.PairLemmas.{rose_later}
+use Rattle.pk_mirror.proofs.SpendLemmas.{spent_none, took_spent, goes_visits}
+
+pub all_map : (P Q : Key → Type 0) → ((k : Key) → P k → Q k) → (ks : List Key) → AllByRecursion P ks → AllByRecursion Q ks
+all_map P Q f [] h = tt
+all_map P Q f (k ∷ ks) h = (f k h.0, all_map P Q f ks h.1)
+
+pub all_append : (P : Key → Type 0) (ks ls : List Key) → AllByRecursion P ks → AllByRecursion P ls → AllByRecursion P (ks ++ ls)
+all_append P [] ls h g = g
+all_append P (k ∷ ks) ls h g = (h.0, all_append P ks ls h.1 g)
+
+-- ---- visits
+
+module _ (Keeps : Map → Map → Type 0) (Done : Map → Map → Key → Type 0) where
+  pub visits_none : (first second : PortState) → Visits Keeps Done first second second []
+  visits_none first second a b ea eb keeps = (b, eb, record { keeps = keeps; done = tt; still = λ k h. h })
+
+  pub visits_more : (first first1 second second1 second' : PortState) (ks ls : List Key) → first1.map ≡ first.map → Visits Keeps Done first second second1 ks → Visits Keeps Done first1 second1 second' ls
+      → Visits Keeps Done first second second' (ks ++ ls)
+  visits_more first first1 second second1 second' ks ls same h g a b ea eb keeps =
+      let v = h a b ea eb keeps in
+      let w = g a v.0 (same ∙ ea) v.1 v.2.keeps in (
+        w.0,
+        w.1,
+        record {
+          keeps = w.2.keeps;
+          done = all_append (Done a w.0) ks ls (all_map (Done a v.0) (Done a w.0) w.2.still ks v.2.done) w.2.done;
+          still = λ k d. w.2.still k (v.2.still k d);
+        },
+      )
+
+  -- a failure behind visits
+  pub fails_later : (first first1 second second1 : PortState) (ks : List Key) (e : MirrorError) → first1.map ≡ first.map → Visits Keeps Done first second second1 ks → OnlyReadsFail Keeps first1 second1 e → OnlyReadsFail Keeps first second e
+  fails_later first first1 second second1 ks e same h g a b ea eb keeps = let v = h a b ea eb keeps in g a v.0 (same ∙ ea) v.1 v.2.keeps
+
+-- a failure where nothing was done to the maps before
+pub fails_kept : (Keeps : Map → Map → Type 0) (first first1 second second1 : PortState) (e : MirrorError) → first1.map ≡ first.map → second1.map ≡ second.map → OnlyReadsFail Keeps first1 second1 e → OnlyReadsFail Keeps first second e
+fails_kept Keeps first first1 second second1 e same too g a b ea eb keeps = g a b (same ∙ ea) (too ∙ eb) keeps
+
+-- ---- causes
+
+refused_later : (start old new : PortState) (cs : List Command) (status : ℕ) → Took start old cs → RefusedBy old new status → RefusedBy start new status
+refused_later start old new cs status t r = record {
+  before = cs ++ r.before;
+  asked = r.asked;
+  took = took_both start cs old r.before r.asked t r.took;
+  command = r.command;
+  reply = r.reply;
+  replies = r.replies;
+  status_is = r.status_is;
+  no_success = r.no_success;
+  unread = λ s. rose_later start.read_faults old.read_faults new.read_faults t.read_faults (r.unread s);
+}
+
+-- a cause in a later call is one of both
+pub cause_later : (first first1 first' second second1 second' : PortState) (cs ds : List Command) (e : MirrorError) → Took first first1 cs → Took second second1 ds → IsCause first1 first' second1 second' e
+    → IsCause first first' second second' e
+cause_later first first1 first' second second1 second' cs ds (Refused First status) t u h = refused_later first first1 first' cs status t h
+cause_later first first1 first' second second1 second' cs ds (Refused Second status) t u h = refused_later second second1 second' ds status u h
+cause_later first first1 first' second second1 second' cs ds (Port First) t u h = rose_later first.port_faults first1.port_faults first'.port_faults t.port_faults h
+cause_later first first1 first' second second1 second' cs ds (Port Second) t u h = rose_later second.port_faults second1.port_faults second'.port_faults u.port_faults h
+cause_later first first1 first' second second1 second' cs ds Split t u h = h
+
+-- such a cause is none of a split pair
+pub not_split : {X : Type 0} (first first' second second' : PortState) (e : MirrorError) → IsCause first first' second second' e → ◌≡◌ {A = Result X MirrorError} (Err e) (Err Split) → ⊥
+not_split first first' second second' e h is = subst (IsCause first first' second second') (let same : e ≡ Split = cc in same) h
+
+-- ---- commands
+
+asking_append : (cs ds : List Command) → AreAsking cs → AreAsking ds → AreAsking (cs ++ ds)
+asking_append [] ds h g = g
+asking_append (c ∷ cs) ds h g = (h.0, asking_append cs ds h.1 g)
+
+module _ {P : Type 0} (took : P → List Command → P → Type 0) (both : (p : P) (cs : List Command) (q : P) (ds : List Command) (r : P) → took p cs q → took q ds r → took p (cs ++ ds) r) where
+  pub asking_more : (p q r : P) → TookSome took AreAsking p q → TookSome took AreAsking q r → TookSome took AreAsking p r
+  asking_more p q r h g = (h.0 ++ g.0, asking_append h.0 g.0 h.1 g.1, both p h.0 q g.0 r h.2 g.2)
+
+module _ {P : Type 0} (took : P → List Command → P → Type 0) where
+  pub asking_none : (p : P) → took p [] p → TookSome took AreAsking p p
+  asking_none p none = ([], tt, none)
+
+  pub asking_one : (p q : P) (c : Command) → OnlyAsks c → took p (c ∷ []) q → TookSome took AreAsking p q
+  asking_one p q c asks h = (c ∷ [], (asks, tt), h)
+
+-- ---- a page of visits
+
+module _ (Keeps : Map → Map → Type 0) (Done : Map → Map → Key → Type 0) (room : Map → Map → ℕ) (opcode : ℕ) {P Q : Type 0} (stateP : P → PortState) (tookP : P → List Command → P → Type 0) (stateQ : Q → PortState) (tookQ : Q → List Command → Q → Type 0) where
+  -- These keys were visited, from two ports on to two others.
+  pub record IsVisiting (first first' : P) (second second' : Q) (keys : List Key) : Type 0 where
+    pub took_first : TookSome tookP AreAsking first first'
+    pub took_second : TookSome tookQ (Spent Keeps room opcode (stateP first) (stateQ second) (stateQ second')) second second'
+    pub same : (stateP first').map ≡ (stateP first).map
+    pub visits : Visits Keeps Done (stateP first) (stateQ second) (stateQ second') keys
+
+  pub visiting_begins : (first : P) (second : Q) → tookP first [] first → tookQ second [] second → IsVisiting first first second second []
+  visiting_begins first second p q = record { took_first = asking_none tookP first p; took_second = ([], spent_none Keeps room opcode (stateP first) (stateQ second), q); same = refl; visits = visits_none Keeps Done (stateP first) (stateQ second) }
+
+  pub visiting_goes : ((p : P) (cs : List Command) (q : P) (ds : List Command) (r : P) → tookP p cs q → tookP q ds r → tookP p (cs ++ ds) r) → ((p : Q) (cs : List Command) (q : Q) (ds : List Command) (r : Q) → tookQ p cs q → tookQ q ds r → tookQ p (cs ++ ds) r)
+      → (first mid first' : P) (second halfway second' : Q) (keys : List Key) (k : Key) (more : List Key) → IsVisiting first mid second halfway keys → TookSome tookP AreAsking mid first'
+      → TookSome tookQ (Spent Keeps room opcode (stateP mid) (stateQ halfway) (stateQ second')) halfway second'
+      → (stateP first').map ≡ (stateP mid).map → Visits Keeps Done (stateP mid) (stateQ halfway) (stateQ second') (k ∷ []) → more ≡ keys ++ k ∷ [] → IsVisiting first first' second second' more
+  visiting_goes bothP bothQ first mid first' second halfway second' keys k more h p q same visits is = record {
+    took_first = asking_more tookP bothP first mid first' h.took_first p;
+    took_second = took_spent Keeps room opcode stateQ tookQ bothQ (stateP first) (stateP mid) second halfway second' h.same (goes_visits Keeps Done (stateP first) (stateQ second) (stateQ halfway) keys h.visits) h.took_second q;
+    same = same ∙ h.same;
+    visits = subst (Visits Keeps Done (stateP first) (stateQ second) (stateQ second')) (sym is)
+        (visits_more Keeps Done (stateP first) (stateP mid) (stateQ second) (stateQ halfway) (stateQ second') keys (k ∷ []) h.same h.visits visits);
+  }
+
+  -- what the keys so far came to on the second
+  pub visiting_keeps : (first first' : P) (second second' : Q) (keys : List Key) → IsVisiting first first' second second' keys
+      → (a b : Map) → (stateP first).map ≡ Some a → (stateQ second).map ≡ Some b → Keeps a b → (b' : Map) × ((stateQ second').map ≡ Some b') × Keeps a b'
+  visiting_keeps first first' second second' keys h = goes_visits Keeps Done (stateP first) (stateQ second) (stateQ second') keys h.visits
+
+  -- all of them
+  pub visiting_all : (first first' : P) (second second' : Q) (keys all : List Key) → keys ≡ all → IsVisiting first first' second second' keys → Visits Keeps Done (stateP first) (stateQ second) (stateQ second') all
+  visiting_all first first' second second' keys all is h = subst (Visits Keeps Done (stateP first) (stateQ second) (stateQ second')) is h.visits

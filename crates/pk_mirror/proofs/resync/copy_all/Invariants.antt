@@ -1,0 +1,12 @@
+use Rattle.pk_mirror.specs.Agreement.{IsPart, HaveSame}
+use Rattle.pk_mirror.specs.Ranks.{keys_left}
+use Rattle.pk_mirror.specs.Spending.{to_store}
+use Rattle.pk_nvme.specs.declared.opcode.TheConstants.{STORE}
+use Rattle.pk_mirror.proofs.PageLemmas.{IsTurning}
+use Rattle.pk_mirror.proofs.resync.copy_all.Given as goal
+
+abbrev pub invariant-loop-next : goal.invariant-loop-next
+invariant-loop-next g l = IsTurning IsPart HaveSame to_store STORE g.P.Port.state g.P.Port.took g.Q.Port.state g.Q.Port.took l.initial.first l.first l.initial.second l.second l.last
+
+abbrev pub decreases-loop-next : goal.decreases-loop-next
+decreases-loop-next g l = keys_left l.last
