@@ -47,7 +47,7 @@ last_is front q =
     ap (λ (i : ℕ). slice_index_or (front ++ q ∷ []) i []) n ∙ last_at front q
 
 -- its front and its last key
-parts : (page : List Key) (next : Key) → 0 < length page → next ≡ slice_index_or page (length page - 1) [] → (front : List Key) × (page ≡ front ++ next ∷ [])
+pub parts : (page : List Key) (next : Key) → 0 < length page → next ≡ slice_index_or page (length page - 1) [] → (front : List Key) × (page ≡ front ++ next ∷ [])
 parts [] next some last = absurd (omega (arith, some))
 parts (x ∷ xs) next some last =
     let (front, q, e) = snoc_of x xs in
@@ -55,11 +55,11 @@ parts (x ∷ xs) next some last =
     (front, e ∙ ap (λ (k : Key). front ++ k ∷ []) same)
 
 -- a key is above no key
-above_none : (k : Key) → IsKey k → is_lt (key_cmp [] k) ≡ true
+pub above_none : (k : Key) → IsKey k → is_lt (key_cmp [] k) ≡ true
 above_none [] h = absurd (let some = h.some in omega (arith, some))
 above_none (x ∷ k) h = refl
 
-none_follow : (xs : List Key) → false ≡ nat_lt 0 (length xs) → xs ≡ []
+pub none_follow : (xs : List Key) → false ≡ nat_lt 0 (length xs) → xs ≡ []
 none_follow [] e = refl
 none_follow (x ∷ xs) e = absurd (let clash : false ≡ true = e ∙ le-leb 1 (length (x ∷ xs)) (omega arith) in cc)
 

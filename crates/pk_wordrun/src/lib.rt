@@ -8,7 +8,7 @@ mod ask;
 mod end;
 mod keys;
 mod list;
-mod say;
+pub mod say;
 mod sizes;
 mod speaker;
 mod summary;
@@ -16,6 +16,6 @@ mod task;
 mod tell;
 mod workload;
 
-pub use end::WordEnd;
+pub use end::{WordEnd, end_of};
 pub use speaker::Speaker;
 pub use task::{Series, Task};

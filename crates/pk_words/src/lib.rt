@@ -3,11 +3,11 @@
 //! All memory is taken before the first command, and a call takes none.
 #![tactic(auto)]
 
-mod lines;
+pub mod lines;
 mod listing;
 mod question;
 mod report;
-mod sizes;
+pub mod sizes;
 mod status;
 mod words;
 

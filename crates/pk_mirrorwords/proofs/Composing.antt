@@ -1,0 +1,170 @@
+-- A word of a pair: the resync before it, and what it asks then.
+use Rattle.std.proofs.Common.{◌≡◌, inl, inr, ℕ, ◌+◌, ◌≤◌, ◌⊎◌, ◌==◌, if◌then◌else◌, List, [], ◌∷◌, ◌++◌, Option, Some, None, true, false, Result, Ok, Err, refl, sym, ap, subst, ◌∙◌, arith}
+use Rattle.std.proofs.lemmas.List.{append_assoc}
+use Rattle.std.specs.List.{AllByRecursion}
+use Rattle.std.specs.FinMap.{len}
+use Rattle.pk_base.specs.Shape.{Shape, limit}
+use Rattle.pk_base.specs.Map.{Map}
+use Rattle.pk_nvme.specs.Command.{Command}
+use Rattle.pk_nvme.specs.declared.opcode.TheConstants.{STORE, DELETE}
+use Rattle.pk_nvme.specs.declared.status.TheConstants.{UNRECOVERED_ERROR}
+use Rattle.pk_host.specs.Port.{PortState, Took}
+use Rattle.pk_host.specs.Calls.{AtMostOne, TookSome, store_of, delete_of}
+use Rattle.pk_host.specs.declared.types.StoreRule.TheVariants.{Any}
+use Rattle.pk_words.specs.Lines.{failed_line, status_line}
+use Rattle.pk_mirror.specs.declared.error.Side.{Side}
+use Rattle.pk_mirror.specs.declared.error.Side.TheVariants.{First, Second}
+use Rattle.pk_mirror.specs.declared.error.MirrorError.{MirrorError}
+use Rattle.pk_mirror.specs.declared.error.MirrorError.TheVariants.{Refused, Port, Split}
+use Rattle.pk_mirror.specs.Pair.{Mirrored, IsPair}
+use Rattle.pk_mirror.specs.Causes.{OnlyAsks, AreAsking, IsCause, IsReadError}
+use Rattle.pk_mirror.specs.Spending.{OnlyLooks, LooksOr, count_of, AreOfResync}
+use Rattle.pk_mirrorwords.specs.PairTasks.{PairTask, put, get, delete, list, resync, change_of, text_of, map_left}
+use Rattle.pk_mirrorwords.specs.PairAnswers.{IsToldPair, IsInStep, PairUnread, PairFault, PairDone, PairSaid, PairFails, AreChange, AreOfFirst, AreOfPair, HaveOneChange, AreOfSecond}
+use Rattle.pk_mirrorwords.proofs.Paging.{unread_later, fault_later}
+
+-- ---- commands
+
+abbrev IsOfPair : Command → Type 0
+IsOfPair c = LooksOr DELETE c ⊎ (c.opcode ≡ STORE)
+
+pair_both : (cs ds : List Command) → AreOfPair cs → AreOfPair ds → AreOfPair (cs ++ ds)
+pair_both [] ds h g = g
+pair_both (c ∷ cs) ds h g = (h.0, pair_both cs ds h.1 g)
+
+count_both : (opcode : ℕ) (cs ds : List Command) → count_of opcode (cs ++ ds) ≡ count_of opcode cs + count_of opcode ds
+count_both opcode [] ds = omega arith
+count_both opcode (c ∷ cs) ds = let e = count_both opcode cs ds in omega (arith, e)
+
+asking_both : (cs ds : List Command) → AreAsking cs → AreAsking ds → AreAsking (cs ++ ds)
+asking_both [] ds h g = g
+asking_both (c ∷ cs) ds h g = (h.0, asking_both cs ds h.1 g)
+
+-- a List or a Retrieve changes nothing
+one_if : ℕ → ℕ → ℕ
+one_if opcode given = if given == opcode then 1 else 0
+
+asks_count : (c : Command) → OnlyAsks c → (◌≡◌ {A = ℕ} (if c.opcode == DELETE then 1 else 0) 0) × (◌≡◌ {A = ℕ} (if c.opcode == STORE then 1 else 0) 0)
+unfolding one_if
+asks_count c (inl (from, e)) = (ap (λ (d : Command). one_if DELETE d.opcode) e, ap (λ (d : Command). one_if STORE d.opcode) e)
+asks_count c (inr (key, size, e)) = (ap (λ (d : Command). one_if DELETE d.opcode) e, ap (λ (d : Command). one_if STORE d.opcode) e)
+
+asking_count : (cs : List Command) → AreAsking cs → (count_of DELETE cs + count_of STORE cs ≡ 0) × AreOfPair cs
+asking_count [] h = (refl, tt)
+asking_count (c ∷ cs) h =
+    let (d, s) = asks_count c h.0 in
+    let (rest, only) = asking_count cs h.1 in
+    (omega (arith, d, s, rest), (inl (inl (inl h.0)), only))
+
+pub one_of_asking : (cs : List Command) → AreAsking cs → HaveOneChange cs
+one_of_asking cs h = let (none, only) = asking_count cs h in record { only = only; few = omega (arith, none) }
+
+pub one_of_store : (k : List ℕ) (value : List ℕ) (cs : List Command) → AtMostOne (store_of k value Any) cs → HaveOneChange cs
+one_of_store k value cs (inl none) = subst HaveOneChange (sym none) (record { only = tt; few = omega arith })
+one_of_store k value cs (inr one) = subst HaveOneChange (sym one) (record { only = (inr refl, tt); few = omega arith })
+
+pub one_of_delete : (k : List ℕ) (cs : List Command) → AtMostOne (delete_of k) cs → HaveOneChange cs
+one_of_delete k cs (inl none) = subst HaveOneChange (sym none) (record { only = tt; few = omega arith })
+one_of_delete k cs (inr one) = subst HaveOneChange (sym one) (record { only = (inl (inr refl), tt); few = omega arith })
+
+-- none at all
+no_change : (task : PairTask) → AreChange (change_of task) []
+no_change (put key value) = inl refl
+no_change (get key) = refl
+no_change (delete key) = inl refl
+no_change list = refl
+no_change resync = refl
+
+append_none : (cs : List Command) → cs ≡ cs ++ []
+append_none [] = refl
+append_none (c ∷ cs) = ap (λ (ds : List Command). c ∷ ds) (append_none cs)
+
+-- commands that only ask, of a word
+pub first_asks : (task : PairTask) (cs : List Command) → AreAsking cs → AreOfFirst task cs
+first_asks task cs h = record { asks = cs; change = []; asking = h; changing = no_change task; are = append_none cs }
+
+-- the command that changes the maps alone
+pub first_change : (task : PairTask) (c : Command) (cs : List Command) → change_of task ≡ Some c → AtMostOne c cs → AreOfFirst task cs
+first_change task c cs is one = record { asks = []; change = cs; asking = tt; changing = subst (λ (o : Option Command). AreChange o cs) (sym is) one; are = refl }
+
+module _ {P : Type 0} (took : P → List Command → P → Type 0) (both : (p : P) (cs : List Command) (q : P) (ds : List Command) (r : P) → took p cs q → took q ds r → took p (cs ++ ds) r) where
+  -- the resync asks, and then the word
+  pub first_both : (task : PairTask) (p q r : P) → TookSome took AreAsking p q → TookSome took (AreOfFirst task) q r → TookSome took (AreOfFirst task) p r
+  first_both task p q r h g = (
+    h.0 ++ g.0,
+    record {
+      asks = h.0 ++ g.1.asks;
+      change = g.1.change;
+      asking = asking_both h.0 g.1.asks h.1 g.1.asking;
+      changing = g.1.changing;
+      are = ap (λ (ds : List Command). h.0 ++ ds) g.1.are ∙ sym (append_assoc h.0 g.1.asks g.1.change);
+    },
+    both p h.0 q g.0 r h.2 g.2,
+  )
+
+  pub second_both : (first second : PortState) (p q r : P) → TookSome took (AreOfResync first second) p q → TookSome took HaveOneChange q r → TookSome took (AreOfSecond first second) p r
+  second_both first second p q r h g = (
+    h.0 ++ g.0,
+    record {
+      only = pair_both h.0 g.0 h.1.only g.1.only;
+      few = λ m other told too.
+          let deletes = h.1.deletes m other told too in
+          let stores = h.1.stores m other told too in
+          let last = g.1.few in
+          let d = count_both DELETE h.0 g.0 in
+          let s = count_both STORE h.0 g.0 in
+          omega (arith, deletes, stores, last, d, s);
+    },
+    both p h.0 q g.0 r h.2 g.2,
+  )
+
+pub second_alone : {P : Type 0} (took : P → List Command → P → Type 0) (first second : PortState) (p q : P) → TookSome took (AreOfResync first second) p q → TookSome took (AreOfSecond first second) p q
+second_alone took first second p q h = (
+  h.0,
+  record {
+    only = h.1.only;
+    few = λ m other told too. let deletes = h.1.deletes m other told too in let stores = h.1.stores m other told too in omega (arith, deletes, stores);
+  },
+  h.2,
+)
+
+-- ---- answers
+
+module _ (task : PairTask) (p p1 p' q q1 q' : PortState) (cs ds : List Command) (t : Took p p1 cs) (u : Took q q1 ds) (m : Map) where
+  pub done_later : (text : List ℕ) → PairDone task p1 p' q' m text → PairDone task p p' q' m text
+  done_later text h = record {
+    spelled = h.spelled ∙ ap (λ (s : Shape). text_of s p1.limit task m) t.shape ∙ ap (λ (n : ℕ). text_of p.shape n task m) t.limit;
+    first_left = h.first_left ∙ ap (λ (s : Shape). Some (map_left s p1.limit task m)) t.shape ∙ ap (λ (n : ℕ). Some (map_left p.shape n task m)) t.limit;
+    second_left = h.second_left ∙ ap (λ (s : Shape). Some (map_left s p1.limit task m)) t.shape ∙ ap (λ (n : ℕ). Some (map_left p.shape n task m)) t.limit;
+  }
+
+  pub fails_later : (e : MirrorError) → PairFails task p1 p' q1 q' m e → PairFails task p p' q q' m e
+  fails_later (Refused side status) (inl done) = inl (done_later (status_line status) done)
+  fails_later (Refused side status) (inr (unread, is)) = inr (unread_later p p1 p' q q1 q' cs ds t u unread, is)
+  fails_later (Port side) fault = fault_later p p1 p' q q1 q' cs ds t u fault
+  fails_later Split fault = fault_later p p1 p' q q1 q' cs ds t u fault
+
+-- a resync that failed
+pub resync_fails : (task : PairTask) (p p' q q' : PortState) (m : Map) (e : MirrorError) → IsCause p p' q q' e → IsReadError e → PairFails task p p' q q' m e
+resync_fails task p p' q q' m (Refused First status) cause unread = inr (inl (cause.unread unread), unread)
+resync_fails task p p' q q' m (Refused Second status) cause unread = inr (inr (cause.unread unread), unread)
+resync_fails task p p' q q' m (Port First) cause unread = inl cause
+resync_fails task p p' q q' m (Port Second) cause unread = inr cause
+resync_fails task p p' q q' m Split cause unread = absurd cause
+
+-- a refusal is said as it is
+pub said_refused : (task : PairTask) (p p' q q' : PortState) (m : Map) (side : Side) (status : ℕ) (text : List ℕ) → text ≡ status_line status → PairFails task p p' q q' m (Refused side status) → PairSaid task p p' q q' m text
+said_refused task p p' q q' m side status text is (inl done) = inl (record { spelled = is ∙ done.spelled; first_left = done.first_left; second_left = done.second_left })
+said_refused task p p' q q' m side status text is (inr (unread, read)) = inr (unread, is ∙ ap status_line read)
+
+-- a resync leaves the pair in step
+pub in_step_after : (old new : Mirrored) (p p' q q' : PortState) (cs : List Command) → IsToldPair old p q → Took p p' cs → IsPair new p' q' → p'.map ≡ p.map → new.split ≡ false → IsInStep new p' q'
+in_step_after old new p p' q q' cs told t pair keeps off = record {
+  pair = record {
+    pair = pair;
+    limit_is = t.limit ∙ told.limit_is ∙ ap limit (sym t.shape);
+    map = told.map;
+    told = keeps ∙ told.told;
+  };
+  in_step = off;
+}

@@ -1,0 +1,3 @@
+pub mod Replying
+pub mod Paging
+pub mod Composing

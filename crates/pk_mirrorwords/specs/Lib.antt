@@ -1,0 +1,3 @@
+pub mod PairTasks
+pub mod PairAnswers
+pub mod PairPages
