@@ -201,7 +201,7 @@ file_fault() { # IMAGE WORD: why it cannot be opened; prints nothing if nothing 
 
 flash_fault() { # IMAGE WORD
     if user=$(user_of "$1"); then
-        words=$(tr '\0' ' ' <"/proc/$user/cmdline" 2>/dev/null | cut -c 1-80)
+        words=$(tr '\0' ' ' <"/proc/$user/cmdline" 2>/dev/null | cut -c 1-80 | sed 's/ *$//')
         echo "the image is in use by process $user${words:+ ($words)}"
         return
     fi
