@@ -138,11 +138,6 @@ class Shape(NamedTuple):
         return sum(blocks) + max(blocks[2:])
 
     @property
-    def live_limit(self) -> int:
-        """The pages that the values of all keys may take."""
-        return (self.blocks - 6 - self.index_blocks - 1) * (3 * self.block_pages // 4)
-
-    @property
     def image_bytes(self) -> int:
         """The length of the image file."""
         return 32 + self.block_pages * self.blocks * (self.page_bytes + 1)
@@ -301,19 +296,28 @@ class KeyExists(StatusError):
 STATUS_ERRORS: Dict[int, Type[StatusError]] = {it.status: it for it in StatusError.__subclasses__()}
 
 
-def refusal_text(status: int, opcode: int, key: bytes, size: int, shape: Optional[Shape]) -> str:
+class Limits(NamedTuple):
+    """The shape of a drive, and the pages that the values of all keys may take."""
+
+    shape: Shape
+    live_pages: int
+
+
+def refusal_text(status: int, opcode: int, key: bytes, size: int, limits: Optional[Limits]) -> str:
     """What the status of a command means, in words, with the limit; `size` as in the command."""
     if status == 0x01:
         return f"the drive has no command {opcode:02X}h (status 01h)"
     if status == 0x02:
         return f"a List needs a buffer of at least 4 bytes, not {size} (status 02h)"
     if status == 0x81:
-        limit = f"{shape.pages_of(size)} more pages, and all values at most {shape.live_limit}"
-        tail = f": a value of {size} bytes would take {limit}" if shape else ""
+        tail = ""
+        if limits:
+            pages, most = limits.shape.pages_of(size), limits.live_pages
+            tail = f": its value takes {pages} pages, and the values of all keys at most {most}"
         return f"no space for the key {key!r}{tail} (status 81h)"
     if status == 0x85:
-        limit = str(shape.greatest_value) if shape else "fewer"
-        return f"the value of {key!r} has {size} bytes; the drive takes at most {limit} (status 85h)"
+        most = str(limits.shape.greatest_value) if limits else "fewer"
+        return f"the value of {key!r} has {size} bytes; the drive takes at most {most} (status 85h)"
     if status == 0x86:
         return f"a key has 1 to {KEY_BYTES} bytes; {key!r} has {len(key)} (status 86h)"
     if status == 0x87:
@@ -474,7 +478,7 @@ class Pending:
     def error(self) -> DriveError:
         """The exception of its status."""
         status = self.status or 0
-        text = refusal_text(status, self.opcode, self.key, self.size, self._session.shape)
+        text = refusal_text(status, self.opcode, self.key, self.size, self._session.limits)
         known = STATUS_ERRORS.get(status)
         return known(self.key, text) if known else DriveError(text)
 
@@ -489,7 +493,7 @@ class _Session:
 
     def __init__(self, program: str, image: str, frames: int, stderr: Any) -> None:
         self.image = image
-        self.shape: Optional[Shape] = None
+        self.limits: Optional[Limits] = None
         self.pid = os.getpid()
         self.closed = False
         self._sending = threading.Lock()
@@ -785,11 +789,13 @@ class Drive(MutableMapping[bytes, bytes]):
     def _open(self, program: str, frames: int, stderr: Any) -> _Session:
         session = _Session(program, self.image, frames, stderr)
         try:
-            session.wait(session.send(Opcode.FLUSH, b"", 0, 0, b"", False))
+            report = session.send(Opcode.REPORT, b"", 0, 0, b"", False).result().data
         except BaseException:
             session.abandon()
             raise
-        session.shape = shape_of(self.image)
+        shape = shape_of(self.image)
+        if shape:
+            session.limits = Limits(shape, struct.unpack_from("<I", report, 4)[0])
         return session
 
     @property
@@ -798,9 +804,9 @@ class Drive(MutableMapping[bytes, bytes]):
         return self._session.process
 
     @property
-    def shape(self) -> Optional[Shape]:
-        """The shape of the drive, with what follows from it, as `shape.greatest_value`."""
-        return self._session.shape
+    def limits(self) -> Optional[Limits]:
+        """The limits of the drive, as `limits.shape.greatest_value`; None if the image was moved."""
+        return self._session.limits
 
     @property
     def closed(self) -> bool:
@@ -827,7 +833,7 @@ class Drive(MutableMapping[bytes, bytes]):
             return self._session.send(opcode, key, size, options, b"", unheard)
         value = _bytes(value)
         if len(value) >= 2**32:
-            text = refusal_text(InvalidValueSize.status, opcode, key, len(value), self.shape)
+            text = refusal_text(InvalidValueSize.status, opcode, key, len(value), self.limits)
             raise InvalidValueSize(key, text)
         return self._session.send(opcode, key, len(value), options, value, unheard)
 

@@ -90,7 +90,7 @@ class AsAMapping(OnImage):
         keys = [b"%02d" % i for i in range(40)]
         with self.open() as d:
             d.update(dict.fromkeys(keys, b""))
-            size, pinkdrive.LIST_BYTES = pinkdrive.LIST_BYTES, 20
+            size, pinkdrive.LIST_BYTES = pinkdrive.LIST_BYTES, (20,)
             try:
                 self.assertEqual(list(d), keys)
             finally:
@@ -219,9 +219,8 @@ class Ends(OnImage):
         d[b"a"] = b"1"
         d.close()
         d.close()
-        with self.assertRaises(DriveEnded):
+        with self.assertRaises(ValueError):
             d[b"b"] = b"2"
-            d.flush()
 
 
 class Images(OnImage):
