@@ -37,22 +37,40 @@ def doubts_of(image: Image, flash: Flash) -> list[Doubt]:
     """All doubts about a flash that has a root, in the order of their pages by kind."""
     if flash.root is None:
         return []
-    found = [*wrong_roots(image, flash), *broken_numbers(image, flash), *hidden_roots(image, flash)]
-    found += broken_change(image, flash, flash.root)
+    found = root_doubts(image, flash)
     if flash.opens:
         found += [*epoch_ends(image, flash), *other_commits(image, flash, flash.root)]
         found += [*run_ends(image, flash, flash.root), *baseless_deletions(flash)]
     return found
 
 
-def wrong_roots(image: Image, flash: Flash) -> Iterator[Doubt]:
+def root_doubts(image: Image, flash: Flash) -> list[Doubt]:
+    """The doubts about the root blocks alone."""
+    if flash.root is None:
+        return []
+    found = [*wrong_roots(image, flash, flash.root), *broken_numbers(image, flash), *hidden_roots(image, flash)]
+    return [*found, *broken_change(image, flash, flash.root)]
+
+
+def wrong_roots(image: Image, flash: Flash, root: Root) -> Iterator[Doubt]:
     """Whole pages of the root blocks that are no root: the newest root may be among them."""
-    known = {root.page for root in flash.roots}
+    known = {other.page for other in flash.roots}
     for page in flash.layout.root_pages:
         if image.states[page] == WHOLE and page not in known:
             version = root_version(image.page(page))
             named = f"names version {version}" if version not in (None, *it.RULES) else "is damaged"
-            yield Doubt("root-wrong", page, f"root page {page} {named}: an older map may have opened")
+            if is_older(flash, root, page):
+                yield Doubt("former-root-wrong", page, f"root page {page} {named}; it is older than the newest root, so the map is the same")
+            else:
+                yield Doubt("root-wrong", page, f"root page {page} {named}: an older map may have opened")
+
+
+def is_older(flash: Flash, root: Root, page: int) -> bool:
+    """Whether a page of the root blocks was surely written before the newest root."""
+    n = flash.layout.shape.block_pages
+    if page // n == root.page // n:
+        return page < root.page
+    return any(other.page // n == page // n for other in flash.roots)
 
 
 def broken_numbers(image: Image, flash: Flash) -> Iterator[Doubt]:
