@@ -13,6 +13,7 @@ from .status import Exit, ToolError
 
 HEX = re.compile(r"0[xX]((?:[0-9a-fA-F]{2})*)\Z")
 PLAIN = re.compile(r"[!-~]+\Z")
+QUOTED = str.maketrans({"\\": "\\\\", '"': '\\"', "\n": "\\n", "\t": "\\t", "\r": "\\r"})
 ESCAPES = {"n": b"\n", "t": b"\t", "r": b"\r", "0": b"\0", "\\": b"\\", '"': b'"', "'": b"'"}
 
 
@@ -108,9 +109,8 @@ def shown(data: bytes) -> str:
         return "0x" + data.hex()
     if PLAIN.match(text) and text[0] not in "\"'#@<>" and text[:2].lower() != "0x":
         return text
-    if not text.isprintable():
-        return "0x" + data.hex() if data else '""'
-    return '"' + text.replace("\\", "\\\\").replace('"', '\\"') + '"'
+    quoted = text.translate(QUOTED)
+    return f'"{quoted}"' if quoted.isprintable() else "0x" + data.hex()
 
 
 def read_value(name: str) -> bytes:
