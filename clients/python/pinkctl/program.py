@@ -1,0 +1,55 @@
+"""The programs beside the tools: the client of the drive, and pinkdump where it is built."""
+
+import os
+import shutil
+import subprocess
+import sys
+from typing import NamedTuple, Optional
+
+CLIENTS = os.path.dirname(os.path.dirname(os.path.realpath(__file__)))
+TOP = os.path.dirname(os.path.dirname(CLIENTS))
+if CLIENTS not in sys.path:
+    sys.path.insert(0, CLIENTS)
+
+import pinkdrive
+
+
+def pink() -> str:
+    """The launcher of the program, as the client has it, or as the environment names it."""
+    return os.environ.get("PINK_PROGRAM", pinkdrive.PROGRAM)
+
+
+def open_drive(image: str, frames: int = 148) -> pinkdrive.Drive:
+    """A session of the drive in an image. What the launcher says is not shown: the exception says it."""
+    return pinkdrive.Drive(image, frames=frames, program=pink(), stderr=subprocess.DEVNULL)
+
+
+def make_image(image: str, shape: tuple[int, int, int]) -> None:
+    """Makes the image of a drive without keys."""
+    pinkdrive.make(image, *shape, program=pink(), stderr=subprocess.DEVNULL)
+
+
+def pinkdump() -> Optional[str]:
+    """The program pinkdump, only where it is built: none is built for a comparison."""
+    named = os.environ.get("PINKDUMP_PROGRAM")
+    if named:
+        return named
+    built = os.path.join(TOP, "crates", "pinkdump", "out", "pinkdump")
+    return built if os.access(built, os.X_OK) else shutil.which("pinkdump")
+
+
+class Told(NamedTuple):
+    """What pinkdump says of an image: its status, the last line, or the line of its refusal."""
+
+    status: int
+    line: str
+
+
+def dump_verdict(image: str) -> Optional[Told]:
+    """The verdict of pinkdump about an image; None where it is not built."""
+    program = pinkdump()
+    if program is None:
+        return None
+    done = subprocess.run([program, image, "lines"], capture_output=True, text=True, stdin=subprocess.DEVNULL)
+    lines = (done.stdout or done.stderr).splitlines()
+    return Told(done.returncode, lines[-1] if lines else "")
