@@ -312,8 +312,8 @@ def refusal_text(status: int, opcode: int, key: bytes, size: int, limits: Option
     if status == 0x81:
         tail = ""
         if limits:
-            pages, most = limits.shape.pages_of(size), limits.live_pages
-            tail = f": its value takes {pages} pages, and the values of all keys at most {most}"
+            pages, all_pages = limits.shape.pages_of(size), limits.live_pages
+            tail = f": its value takes {pages} pages, and the values of all keys at most {all_pages}"
         return f"no space for the key {key!r}{tail} (status 81h)"
     if status == 0x85:
         most = str(limits.shape.greatest_value) if limits else "fewer"
@@ -955,7 +955,7 @@ class Drive(MutableMapping[bytes, bytes]):
     def values(self) -> ValuesView[bytes]:
         return _Values(self)
 
-    def setdefault(self, key: Bytes, default: Bytes = b"") -> bytes:  # type: ignore[override]
+    def setdefault(self, key: Bytes, default: Bytes = b"") -> bytes:
         """The value of a key, which gets this one if it has none."""
         try:
             self.store(key, default, if_absent=True)

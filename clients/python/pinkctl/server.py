@@ -9,6 +9,8 @@ answers a change when it is on the flash, so no client hears of it before.
 import argparse
 import collections
 import errno
+import functools
+import gc
 import os
 import selectors
 import signal
@@ -18,14 +20,14 @@ import struct
 import subprocess
 import sys
 import time
-from typing import Callable, Deque, Dict, List, NamedTuple, Optional, Tuple, Union
-
-import pinkdrive
-from pinkdrive import ENTRY, KEY_BYTES, RECORD, Opcode, Report
+from typing import Callable, Deque, Dict, List, NamedTuple, Optional, Set, Tuple, Union
 
 from . import resp
+from .program import pink  # first: it puts the client on the path
+import pinkdrive
+from pinkdrive import ENTRY, KEY_BYTES, RECORD, Opcode, Report
 from .resp import NIL, NO_ITEMS, OK, PONG, array, bulk, error, integer
-
+from .status import Exit, ToolError
 STORE, RETRIEVE, LIST = int(Opcode.STORE), int(Opcode.RETRIEVE), int(Opcode.LIST)
 DELETE, EXIST, FLUSH, REPORT = (
     int(it) for it in (Opcode.DELETE, Opcode.EXIST, Opcode.FLUSH, Opcode.REPORT)
@@ -315,8 +317,8 @@ class Server:
             self.limits = pinkdrive.Limits(shape, report.limit)
         self.selector = selectors.DefaultSelector()
         self.clients: Dict[int, Client] = {}
-        self.to_write: set = set()
-        self.held: set = set()
+        self.to_write: Set[Client] = set()
+        self.held: Set[Client] = set()
         self.cursors: "collections.OrderedDict[int, bytes]" = collections.OrderedDict()
         self.last_cursor = 0
         self.connections = 0
@@ -332,7 +334,7 @@ class Server:
     # The loop.
 
     def run(self) -> int:
-        """Serves until a signal ends it; returns 0, or the status of a program that ended itself."""
+        """Serves until a signal ends it, and returns the exit status."""
         self.listener.setblocking(False)
         self.selector.register(self.listener, selectors.EVENT_READ, self._accept)
         self.selector.register(self._wakes, selectors.EVENT_READ, self._woken)
@@ -447,7 +449,7 @@ class Server:
         if self.link.over:
             return self._last_replies()
         self.selector.unregister(self.link.output)
-        return self.link.end()
+        return Exit.PROGRAM if self.link.end() else Exit.OK
 
     def _last_replies(self) -> int:
         """The program ended by itself: what it answered was told, and the rest is an error."""
@@ -462,7 +464,7 @@ class Server:
             client.collect()
             client.write()
         print(f"pinkctl serve: the drive ended: {cause}", file=sys.stderr)
-        return status or 1
+        return Exit.PROGRAM
 
     # Commands.
 
@@ -504,10 +506,6 @@ class Server:
 
 
 # What does the commands that ask the drive.
-
-
-def retrieve(server: Server, key: bytes, size: int, found: Then) -> None:
-    server.link.send(RETRIEVE, key, size, found)
 
 
 def value_or_nil(server: Server, key: bytes, size: int, answer: Answer) -> bytes:
@@ -552,13 +550,12 @@ class Gathered:
 def get_many(server: Server, client: Client, words: List[bytes]) -> None:
     gathered = Gathered(client.slot(), len(words) - 1, False)
     size = pinkdrive.GREATEST_VALUE
+
+    def found(key: bytes, answer: Answer) -> None:
+        gathered.take(value_or_nil(server, key, size, answer))
+
     for key in words[1:]:
-        server.link.send(
-            RETRIEVE,
-            key,
-            size,
-            lambda answer, key=key: gathered.take(value_or_nil(server, key, size, answer)),
-        )
+        server.link.send(RETRIEVE, key, size, functools.partial(found, key))
 
 
 def set_options(words: List[bytes]) -> Union[Tuple[int, bool], str]:
@@ -638,7 +635,7 @@ def count(server: Server, client: Client, opcode: int, keys: List[bytes]) -> Non
             gathered.take(server.refusal(answer.status, opcode, key, 0))
 
     for key in keys:
-        server.link.send(opcode, key, 0, lambda answer, key=key: done(key, answer))
+        server.link.send(opcode, key, 0, functools.partial(done, key))
 
 
 @command("DEL", 2, None)
@@ -696,7 +693,7 @@ class Scan(NamedTuple):
 
     start: bytes
     pattern: bytes
-    count: int
+    most: int
     kind: bytes
 
 
@@ -726,11 +723,12 @@ def scan_of(server: Server, words: List[bytes]) -> Union[Scan, str]:
 
 @command("SCAN", 2, None)
 def scan(server: Server, client: Client, words: List[bytes]) -> None:
-    asked = scan_of(server, words)
-    if isinstance(asked, str):
-        client.say(error(asked))
+    parsed = scan_of(server, words)
+    if isinstance(parsed, str):
+        client.say(error(parsed))
         return
-    slot, size = client.slot(), 4 + KEY_ROOM * asked.count
+    asked = parsed
+    slot, size = client.slot(), 4 + KEY_ROOM * asked.most
     prefix = resp.fixed_prefix(asked.pattern)
 
     def listed(answer: Answer) -> None:
@@ -781,11 +779,11 @@ def resident_bytes(process: Union[int, str]) -> int:
         return 0
 
 
-def info_text(server: Server, numbers: Report, wanted: set) -> bytes:
+def info_text(server: Server, numbers: Report, wanted: Set[str]) -> bytes:
     """The sections of INFO, all of them if none is named."""
     link, shape = server.link, server.limits.shape if server.limits else None
     memory = resident_bytes(link.process.pid) + resident_bytes("self")
-    sections = {
+    sections: Dict[str, Dict[str, object]] = {
         "Server": {
             "server_name": "pinkctl serve",
             "redis_version": "0.0.0",
@@ -895,12 +893,9 @@ def hello(server: Server, client: Client, words: List[bytes]) -> None:
     if len(words) > 1 and words[1] != b"2":
         client.say(error("NOPROTO the drive speaks version 2 of the protocol"))
         return
-    client.say(
-        array(
-            [bulk(b"server"), bulk(b"pinkctl"), bulk(b"proto"), 2, bulk(b"id"), client.number]
-            + [bulk(b"mode"), bulk(b"standalone"), bulk(b"role"), bulk(b"master")]
-        )
-    )
+    told: List[Union[bytes, int]] = [bulk(b"server"), bulk(b"pinkctl"), bulk(b"proto"), 2]
+    told += [bulk(b"id"), client.number, bulk(b"mode"), bulk(b"standalone")]
+    client.say(array(told + [bulk(b"role"), bulk(b"master")]))
 
 
 # The word of pinkctl.
@@ -909,7 +904,7 @@ def hello(server: Server, client: Client, words: List[bytes]) -> None:
 def listen_at(path: str) -> socket.socket:
     """Listens at a socket that only this user may use; one that nobody listens at goes."""
     if len(os.fsencode(path)) > 107:
-        raise OSError(errno.ENAMETOOLONG, "the path of a socket has at most 107 bytes", path)
+        raise ToolError(f"{path}: the path of a socket has at most 107 bytes", Exit.USAGE)
     try:
         left = stat.S_ISSOCK(os.stat(path).st_mode)
     except FileNotFoundError:
@@ -921,13 +916,13 @@ def listen_at(path: str) -> socket.socket:
             except ConnectionRefusedError:
                 os.unlink(path)
             else:
-                raise OSError(errno.EADDRINUSE, "another server listens at the socket", path)
+                raise ToolError(f"{path}: another server listens at it", Exit.IN_USE)
     listener = socket.socket(socket.AF_UNIX)
     mask = os.umask(0o177)
     try:
         listener.bind(path)
     except OSError as fault:
-        raise OSError(fault.errno, fault.strerror, path) from None
+        raise ToolError(f"{path}: {fault.strerror}", Exit.FILE) from None
     finally:
         os.umask(mask)
     return listener
@@ -939,8 +934,8 @@ def listen_on(port: int) -> socket.socket:
     listener.setsockopt(socket.SOL_SOCKET, socket.SO_REUSEADDR, 1)
     try:
         listener.bind(("127.0.0.1", port))
-    except OSError as fault:
-        raise OSError(fault.errno, fault.strerror, f"127.0.0.1:{port}") from None
+    except (OSError, OverflowError) as fault:
+        raise ToolError(f"port {port}: {getattr(fault, 'strerror', fault)}", Exit.FILE) from None
     return listener
 
 
@@ -951,7 +946,7 @@ The commands: GET MGET SET (NX, XX, GET) SETNX DEL UNLINK EXISTS TYPE STRLEN SCA
 ECHO SELECT QUIT HELLO, and of COMMAND, CLIENT and CONFIG what redis-cli and redis-benchmark ask."""
 
 
-def add_parser(subparsers: "argparse._SubParsersAction") -> None:
+def add_parser(subparsers: "argparse._SubParsersAction[argparse.ArgumentParser]") -> None:
     parser = subparsers.add_parser(
         "serve",
         help="serve a drive at a socket, in the protocol of Redis",
@@ -980,21 +975,20 @@ def add_parser(subparsers: "argparse._SubParsersAction") -> None:
 
 
 def run(args: argparse.Namespace) -> int:
-    """Serves until a signal comes: 0; the status of the program if it ends by itself."""
-    link, numbers = open_link(pinkdrive.PROGRAM, args.image, args.frames, args.wait)
+    """Serves until a signal comes; `Exit.PROGRAM` if the program ends by itself."""
+    link, numbers = open_link(pink(), args.image, args.frames, args.wait)
     try:
         listener = listen_at(args.socket) if args.socket else listen_on(args.port)
         listener.listen(512)
-        place = args.socket or "127.0.0.1:%d" % listener.getsockname()[1]
-        server = Server(link, numbers, listener)
-    except OSError as fault:
+    except BaseException:
         link.end()
-        print(f"pinkctl serve: {fault.filename}: {fault.strerror}", file=sys.stderr)
-        return 11
-    print(f"serving {args.image} at {place}: {numbers.keys} keys", flush=True)
+        raise
+    place = args.socket or "127.0.0.1:%d" % listener.getsockname()[1]
+    server = Server(link, numbers, listener)
+    gc.set_threshold(50000)  # replies are freed by their counts; cycles are rare
     try:
-        status = server.run()
+        print(f"serving {args.image} at {place}: {numbers.keys} keys", flush=True)
+        return server.run()
     finally:
         if args.socket and os.path.exists(args.socket):
             os.unlink(args.socket)
-    return 0 if status == 0 else 15
