@@ -623,9 +623,9 @@ class _Session:
             pass  # the pipe was closed
         with self._state:
             self._ended = True
-            waiters = [waiter for pending in self._waiting for waiter in pending._waiters]
-        for waiter in waiters:
-            waiter.release()
+        while self._waiting:  # others may still be sending, so the queue is not iterated over
+            for waiter in self._waiting.popleft()._waiters:
+                waiter.release()
 
     def _take_records(self, data: bytearray) -> int:
         """Hands each whole record to its command, and returns how many bytes they have."""
@@ -640,10 +640,10 @@ class _Session:
         return at
 
     def _take(self, marks: int, reply: Reply) -> None:
-        pending = self._waiting.popleft() if self._waiting else None
-        if pending is None or marks & 0xFFFF != pending._number % 65536:
+        if not self._waiting or marks & 0xFFFF != self._waiting[0]._number % 65536:
             self._fault = self._fault or "a record came that belongs to no command"
             raise ValueError
+        pending = self._waiting.popleft()
         pending.reply = reply
         pending.status = status = marks >> 17 & 0xFF
         missing = status == KeyDoesNotExist.status and pending.opcode == DELETE
