@@ -8,7 +8,7 @@ from typing import Any, BinaryIO
 
 from . import progress
 from .check import Verdict, check_open, counted
-from .files import NewFile, file_error, locked, refuse_existing
+from .files import NewFile, add_wait, file_error, locked, refuse_existing
 from .status import Exit, ToolError
 
 DESCRIPTION = """\
@@ -26,7 +26,7 @@ def add_parser(subparsers: Any) -> None:
     )
     parser.add_argument("image", metavar="IMAGE")
     parser.add_argument("copy", metavar="COPY", help="the new file; for a folder, a file of the same name in it")
-    parser.add_argument("--wait", type=float, default=0, metavar="SECONDS", help="wait so long for an image in use")
+    add_wait(parser)
     parser.add_argument("--force", "-f", action="store_true", help="replace COPY if it exists")
     parser.add_argument("--even-damaged", action="store_true", help="copy an image that check does not call whole, too")
     progress.add_arguments(parser)

@@ -1,5 +1,6 @@
 """Files: opening with the cause of a failure in words, the lock of an image, and new files that appear whole or not at all."""
 
+import argparse
 import contextlib
 import fcntl
 import os
@@ -12,6 +13,11 @@ from typing import BinaryIO, Optional
 from .status import Exit, ToolError
 
 POLL_SECONDS = 0.1
+
+
+def add_wait(parser: argparse.ArgumentParser) -> None:
+    """The choice to wait for an image in use."""
+    parser.add_argument("--wait", type=float, default=0, metavar="SECONDS", help="wait up to this long for an image in use")
 
 
 def cause(path: str, error: OSError) -> str:

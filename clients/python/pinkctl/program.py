@@ -13,14 +13,24 @@ if CLIENTS not in sys.path:
 
 import pinkdrive
 
+from .files import locked
+from .status import Exit, ToolError
+
 
 def pink() -> str:
     """The launcher of the program, as the client has it, or as the environment names it."""
     return os.environ.get("PINK_PROGRAM", pinkdrive.PROGRAM)
 
 
-def open_drive(image: str, frames: int = 148) -> pinkdrive.Drive:
-    """A session of the drive in an image. What the launcher says is not shown: the exception says it."""
+def open_drive(image: str, frames: int = 148, wait: float = 0) -> pinkdrive.Drive:
+    """A session of the drive in an image; what keeps it from opening is told by its cause.
+
+    What the launcher says is not shown: the exception says it.
+    """
+    with locked(image, wait):
+        pass
+    if not os.access(image, os.W_OK):
+        raise ToolError(f"{image}: no permission to write, which the program needs to open it", Exit.FILE)
     return pinkdrive.Drive(image, frames=frames, program=pink(), stderr=subprocess.DEVNULL)
 
 

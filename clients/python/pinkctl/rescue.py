@@ -171,6 +171,18 @@ class Index:
 
     candidates: dict[bytes, list[Candidate]] = dataclasses.field(default_factory=dict)
     damaged: list[str] = dataclasses.field(default_factory=list)
+    named: Optional[dict[int, set[tuple[bytes, Place]]]] = None
+
+    def agrees(self, key: bytes, place: Place) -> bool:
+        """Whether no entry says that another value begins at this page: a head that differs from its entry was changed."""
+        if self.named is None:
+            self.named = {}
+            for other, candidates in self.candidates.items():
+                for candidate in candidates:
+                    if candidate.place:
+                        self.named.setdefault(candidate.place.page, set()).add((other, candidate.place))
+        found = self.named.get(place.page)
+        return not found or (key, place) in found
 
     def add(self, entries: Sequence[Entry], why: Optional[str]) -> None:
         for key, place in entries:
@@ -303,7 +315,11 @@ def is_deleted(candidates: Sequence[Candidate]) -> bool:
 def without_index(rescue: Rescue, keys: Sequence[bytes], index: Index) -> None:
     """Looks for values of lost keys, and of keys that no entry names, by what former pages of the index say, and by the values alone."""
     image, layout = rescue.image, rescue.layout
-    values = loose_values(image, layout)
+    values = {
+        key: agreed
+        for key, places in loose_values(image, layout).items()
+        if (agreed := [place for place in places if index.agrees(key, place)])
+    }
     former = former_entries(image, layout).candidates
     unnamed = [key for key in values if key not in index.candidates] if index.damaged else []
     for key in sorted({*keys, *unnamed}):

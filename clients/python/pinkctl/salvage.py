@@ -8,7 +8,7 @@ from typing import Any, Optional, TextIO
 
 from . import progress
 from .check import check_file, counted
-from .files import file_error, locked
+from .files import add_wait, file_error, locked
 from .keys import shown as shown_key
 from .layout import Shape, shape_fault
 from .program import make_image, open_drive, pinkdrive
@@ -33,7 +33,7 @@ def add_parser(subparsers: Any) -> None:
     )
     parser.add_argument("image", metavar="IMAGE")
     parser.add_argument("new", metavar="NEW", help="the image to make; it must not exist")
-    parser.add_argument("--wait", type=float, default=0, metavar="SECONDS", help="wait so long for an image in use")
+    add_wait(parser)
     parser.add_argument("--shape", type=int, nargs=3, metavar=("P", "N", "M"), help="the shape of NEW (default: that of IMAGE)")
     parser.add_argument("--sure-only", action="store_true", help="leave out what is doubtful")
     parser.add_argument("--list", metavar="FILE", help="write a line of JSON for each key that is doubtful, lost or refused")

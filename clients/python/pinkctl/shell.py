@@ -8,6 +8,7 @@ import sys
 from collections.abc import Callable, Iterator, Sequence
 from typing import Any, NamedTuple, Optional
 
+from .files import add_wait
 from .keys import Word, WordError, read_value, shown, words_of
 from .program import open_drive, pinkdrive
 from .status import Exit, ToolError
@@ -192,6 +193,7 @@ def add_parser(subparsers: Any) -> None:
     parser.add_argument("--execute", "-e", action="append", metavar="LINE", help="run this line, and end")
     parser.add_argument("--raw", action="store_true", default=None, help="get prints the bytes of a value (as it does where no terminal is)")
     parser.add_argument("--words", dest="raw", action="store_false", help="get prints a value as a word that set reads again")
+    add_wait(parser)
     parser.set_defaults(run=run)
 
 
@@ -281,7 +283,7 @@ def interact(session: Session, image: str) -> int:
 
 def run(args: argparse.Namespace) -> int:
     raw = not sys.stdout.isatty() if args.raw is None else args.raw
-    with open_drive(args.image) as drive:
+    with open_drive(args.image, wait=args.wait) as drive:
         session = Session(drive, raw)
         if args.execute:
             return run_script(session, (("", line) for line in args.execute))
