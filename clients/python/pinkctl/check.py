@@ -130,7 +130,7 @@ def told(fault: Fault) -> str:
 
 
 def expected(verdict: Verdict) -> Optional[str]:
-    """What pinkdump says last if it agrees; None where the two are not to be compared."""
+    """What pinkdump says last if it agrees; None if the two are not compared."""
     if verdict.at is not None:
         return f"pinkdump: no image: the first wrong byte is at {verdict.at}"
     if verdict.flash is None or verdict.name == "unknown":

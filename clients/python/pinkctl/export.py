@@ -17,7 +17,7 @@ DESCRIPTION = """\
 Writes each pair of the drive as a line, in rising order of the keys:
 
   asm    store KEY VALUE, both in hexadecimal ('-' is the empty value): pink IMAGE asm reads it
-  json   {"key": "..", "value": ".."} where the bytes are UTF-8, else "key_hex" or "value_base64"
+  json   {"key": "..", "value": ".."} if the bytes are UTF-8, else "key_hex" or "value_base64"
 
 pinkctl import reads both and gives the same bytes again. A line of asm that begins with # counts
 the pairs at the end, so that import notices a file that was cut off."""
@@ -54,7 +54,7 @@ def asm_line(pair: Pair) -> bytes:
 
 
 def json_field(name: str, data: bytes) -> dict[str, str]:
-    """Bytes as a field: the text where they are UTF-8."""
+    """Bytes as a field: the text if they are UTF-8."""
     with contextlib.suppress(UnicodeDecodeError):
         return {name: data.decode("utf-8")}
     if name == "key":

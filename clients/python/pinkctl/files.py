@@ -89,7 +89,7 @@ def locked(path: str, wait: float = 0) -> Iterator[BinaryIO]:
 
 
 def refuse_existing(path: str, force: bool) -> None:
-    """Raises where the file exists and may not be replaced."""
+    """Raises if the file exists and may not be replaced."""
     if os.path.isdir(path):
         raise ToolError(f"{path}: it is a folder", Exit.FILE)
     if os.path.lexists(path) and not force:
@@ -97,7 +97,7 @@ def refuse_existing(path: str, force: bool) -> None:
 
 
 class NewFile:
-    """A file under another name in the same folder, until `keep` gives it its own; it goes away where that is not called."""
+    """A file under another name in the same folder, until `keep` gives it its own; it is removed if that is not called."""
 
     def __init__(self, path: str, force: bool) -> None:
         refuse_existing(path, force)
@@ -124,7 +124,7 @@ class NewFile:
         os.fsync(self.file.fileno())
 
     def keep(self, mode: int = 0o666) -> None:
-        """Gives the file its name, synced; where one exists by now it is replaced only by force."""
+        """Gives the file its name, synced; one that exists by now is replaced only by force."""
         self.sync()
         os.fchmod(self.file.fileno(), mode & ~umask())
         try:

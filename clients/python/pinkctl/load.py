@@ -113,7 +113,7 @@ def json_pair(number: int, line: str) -> Pair:
 
 
 def pair_of(number: int, data: bytes) -> Optional[Pair]:
-    """The pair of a line, None where it has none."""
+    """The pair of a line, None if it has none."""
     if len(data) > LINE_BYTES and not data.startswith(b"{"):
         raise LineError(number, f"it is longer than {LINE_BYTES:,} bytes")
     try:

@@ -1,4 +1,4 @@
-"""The programs beside the tools: the client of the drive, and pinkdump where it is built."""
+"""The programs beside the tools: the client of the drive, and pinkdump if it is built."""
 
 import os
 import shutil
@@ -13,7 +13,7 @@ if CLIENTS not in sys.path:
 
 import pinkdrive
 
-from .files import locked
+from .files import cause, locked
 from .status import Exit, ToolError
 
 
@@ -29,8 +29,10 @@ def open_drive(image: str, frames: int = 148, wait: float = 0) -> pinkdrive.Driv
     """
     with locked(image, wait):
         pass
-    if not os.access(image, os.W_OK):
-        raise ToolError(f"{image}: no permission to write, which the program needs to open it", Exit.FILE)
+    try:
+        open(image, "r+b").close()
+    except OSError as error:
+        raise ToolError(f"{cause(image, error)} to write, which the program needs to open it", Exit.FILE) from None
     return pinkdrive.Drive(image, frames=frames, program=pink(), stderr=subprocess.DEVNULL)
 
 
@@ -40,7 +42,7 @@ def make_image(image: str, shape: tuple[int, int, int]) -> None:
 
 
 def pinkdump() -> Optional[str]:
-    """The program pinkdump, only where it is built: none is built for a comparison."""
+    """The program pinkdump, only if it is built: a comparison builds nothing."""
     named = os.environ.get("PINKDUMP_PROGRAM")
     if named:
         return named
@@ -56,7 +58,7 @@ class Told(NamedTuple):
 
 
 def dump_verdict(image: str) -> Optional[Told]:
-    """The verdict of pinkdump about an image; None where it is not built."""
+    """The verdict of pinkdump about an image; None if it is not built."""
     program = pinkdump()
     if program is None:
         return None

@@ -1,6 +1,6 @@
 """What can be read of a damaged image: an index as far as it is there, and the values that it leads to.
 
-Whatever is given was stored once under its key: a value is taken only where its head has the key and
+Whatever is given was stored once under its key: a value is taken only if its head has the key and
 the length that the index names. Whether it is the last one stored is another matter; `why` says so.
 """
 
@@ -41,7 +41,7 @@ OLDER = "the newest entry of the key leads to no value: this is an older one"
 DAMAGED_VALUE = "a page of the value was changed: the value may be, too"
 NO_INDEX = "it is in no readable page of the index: it may be older, or deleted since"
 SAME_BYTES = 5
-"""So many of the eight bytes of a page's text have to be there."""
+"""This many of the eight bytes of a page's text have to be right."""
 
 
 class Candidate(NamedTuple):
@@ -87,7 +87,7 @@ def shapes_of(size: int) -> Iterator[Shape]:
 
 
 def shape_in(data: Buffer) -> Optional[Shape]:
-    """The shape of a damaged file: the header's where it is allowed, else the one whose roots stand in it."""
+    """The shape of a damaged file: the header's if it is allowed, else the one whose roots are in it."""
     if len(data) >= it.HEADER_BYTES:
         _, p, n, m, _ = it.IMAGE_HEADER.unpack_from(data)
         shape = Shape(p, n, m)
@@ -134,7 +134,7 @@ def repaired(image: Image, page: int, data: bytes) -> Optional[Root]:
 
 
 def hidden_roots(image: Image, newest: int) -> list[Root]:
-    """Roots that only padding or a mark hides, if the newest of them follows the newest one that stands."""
+    """Roots that only padding or a mark hides, if the newest of them follows the newest valid one."""
     found = []
     for page in Layout(image.shape).root_pages:
         data = image.page(page)
@@ -331,7 +331,7 @@ def without_index(rescue: Rescue, keys: Sequence[bytes], index: Index) -> None:
 
 
 def rescue_image(data: Buffer) -> Optional[Rescue]:
-    """All that reads of a file; None where it cannot be an image of any drive."""
+    """All that reads of a file; None if it cannot be an image of any drive."""
     image, wrong = image_of(data)
     if image is None:
         return None

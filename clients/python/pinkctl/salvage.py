@@ -19,7 +19,7 @@ DESCRIPTION = """\
 Copies what reads of a damaged image into a new one. The damaged image is only read.
 
 Each value that is copied was stored once under its key, for its head has the key and the length;
-there is no checksum, so a changed byte inside a value is copied. Where a part of the index is lost,
+there is no checksum, so a changed byte inside a value is copied. If a part of the index is lost,
 deleted keys and older values may come back: such keys are counted as doubtful, with the reason, and
 --list names each. Keys of which an entry is left and no value are counted as lost. Of keys whose
 entry and value are both gone nothing is known, and they are not counted.
