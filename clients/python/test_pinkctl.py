@@ -26,9 +26,9 @@ HERE = os.path.dirname(os.path.abspath(__file__))
 sys.path.insert(0, HERE)
 
 import pinkdrive
-from pinkctl import image, keys, layout, rescue, shapes
+from pinkctl import image, keys, layout
 from pinkctl.__main__ import main as pinkctl
-from pinkctl.status import MEANINGS, Exit, ToolError
+from pinkctl.status import MEANINGS, Exit
 from pinkdrive import Drive, make
 
 TOP = os.path.join(HERE, "..", "..")
@@ -479,11 +479,11 @@ class Salvage(OnImage):
         self.change(self.place(min(flash.newest.pages), 0), b"X" * 512)
         found = self.salvage("--list", self.path("list"))
         listed = [json.loads(line) for line in self.bytes(self.path("list")).splitlines()]
-        self.assertEqual(found[b"c"], b"3")
-        self.assertIn(found[b"a"], (b"old", b"new"))
-        self.assertEqual({it["key"] for it in listed if it["is"] == "doubtful"} >= {"c"}, True)
-        self.assertIn("doubtful", self.out)
-        self.assertEqual(self.salvage("--sure-only").keys() & {b"c"}, set())
+        self.assertEqual(found, {b"a": b"old", b"b": b"gone", b"c": b"3"})
+        self.assertEqual({it["key"]: it["is"] for it in listed}, {"a": "doubtful", "b": "doubtful"})
+        self.assertIn("1 sure, 2 doubtful; 0 lost", self.out)
+        self.assertIn("it may be older, or deleted since", self.out)
+        self.assertEqual(self.salvage("--sure-only"), {b"c": b"3"})
 
     def test_a_lost_newest_root(self):
         self.store({b"a": b"1"})
@@ -683,8 +683,9 @@ class TheWhole(OnImage):
         self.fill(300)
         with open(self.image, "rb") as held:
             fcntl.flock(held, fcntl.LOCK_EX)
-            running = subprocess.Popen([PINKCTL, "backup", self.image, self.path("copy"), "--wait", "60"])
-            time.sleep(1)
+            running = subprocess.Popen([PINKCTL, "backup", self.image, self.path("copy"), "--wait", "60"], stderr=subprocess.PIPE)
+            self.assertIn(b"waiting", running.stderr.readline())
+            running.stderr.close()
             running.send_signal(signal.SIGTERM)
             self.assertEqual(running.wait(30), 128 + signal.SIGTERM)
         self.assertEqual(os.listdir(self.folder), ["drive.img"])

@@ -5,6 +5,7 @@ import contextlib
 import fcntl
 import os
 import re
+import sys
 import tempfile
 import time
 from collections.abc import Iterator
@@ -70,7 +71,7 @@ def in_use(path: str, file: BinaryIO) -> ToolError:
 def locked(path: str, wait: float = 0) -> Iterator[BinaryIO]:
     """The image, open for reading, while no program has it open: pink is refused meanwhile, other readers are not."""
     with open_read(path) as file:
-        end = time.monotonic() + wait
+        end, said = time.monotonic() + wait, False
         while True:
             try:
                 fcntl.flock(file, fcntl.LOCK_SH | fcntl.LOCK_NB)
@@ -79,6 +80,9 @@ def locked(path: str, wait: float = 0) -> Iterator[BinaryIO]:
                 left = end - time.monotonic()
                 if left <= 0:
                     raise in_use(path, file) from None
+                if not said:
+                    print(f"waiting for {path}, which is in use by process {holder_of(file)}", file=sys.stderr)
+                    said = True
                 time.sleep(min(POLL_SECONDS, left))
             except OSError as error:
                 raise file_error(path, error) from None

@@ -33,12 +33,22 @@ def open_drive(image: str, frames: int = 148, wait: float = 0) -> pinkdrive.Driv
         open(image, "r+b").close()
     except OSError as error:
         raise ToolError(f"{cause(image, error)} to write, which the program needs to open it", Exit.FILE) from None
-    return pinkdrive.Drive(image, frames=frames, program=pink(), stderr=subprocess.DEVNULL)
+    try:
+        return pinkdrive.Drive(image, frames=frames, program=pink(), stderr=subprocess.DEVNULL)
+    except OSError as error:
+        raise not_started(error) from None
+
+
+def not_started(error: OSError) -> ToolError:
+    return ToolError(f"the program {pink()} cannot be started: {error.strerror}", Exit.PROGRAM)
 
 
 def make_image(image: str, shape: tuple[int, int, int]) -> None:
     """Makes the image of a drive without keys."""
-    pinkdrive.make(image, *shape, program=pink(), stderr=subprocess.DEVNULL)
+    try:
+        pinkdrive.make(image, *shape, program=pink(), stderr=subprocess.DEVNULL)
+    except OSError as error:
+        raise not_started(error) from None
 
 
 def pinkdump() -> Optional[str]:

@@ -80,7 +80,8 @@ def file_name(words: Sequence[Word], mark: str) -> str:
 
 
 def set_(session: Session, words: Sequence[Word]) -> int:
-    value = words[1].bytes() if len(words) == 2 else read_value(file_name(words, "<"))
+    plain = len(words) == 2 and (words[1].quoted is not None or words[1].text != "<")
+    value = words[1].bytes() if plain else read_value(file_name(words, "<"))
     session.drive.store(words[0].bytes(), value)
     session.print("ok")
     return Exit.OK
