@@ -4,7 +4,7 @@
     python3 bench/damage.py [IMAGES [SALVAGES [SEED]]]        2000, 200 and 1 if not named
 
 Each image is one of some drives with one to three changed bytes. Of each: `check` and pinkdump agree
-on the map or on the first wrong page; and where `check` says whole, the map is that of the drive as
+on the map or on the first wrong page; and if `check` says whole, the map is that of the drive as
 it was, but for values whose own bytes were changed (there is no checksum). Of the refused ones each
 value that `salvage` reads was once stored under its key, with the same exception. It is no part of
 the gate. It ends with a count, and with status 1 at the first image that differs.
@@ -114,7 +114,7 @@ def places(it, draw):
 
 
 def changed(drive, place, draw):
-    """The drive's bytes with one to three changed, and where."""
+    """The drive's bytes with one to three changed, and the offsets."""
     data = bytearray(drive.data)
     at = {place() for _ in range(draw.randrange(1, 4))}
     for it in at:

@@ -4,6 +4,7 @@ import argparse
 import importlib
 import importlib.util
 import os
+import signal
 import sys
 from collections.abc import Sequence
 from typing import Optional
@@ -45,7 +46,7 @@ def guarded(args: argparse.Namespace) -> int:
     except ToolError as error:
         message, status = str(error), error.status
     except pinkdrive.DriveError as error:
-        message, status = str(error), drive_error(error)
+        message, status = told(error, args), drive_error(error)
     except KeyboardInterrupt:
         message, status = "interrupted", Exit.INTERRUPTED
     except BrokenPipeError:
@@ -57,8 +58,22 @@ def guarded(args: argparse.Namespace) -> int:
     return status
 
 
+def told(error: pinkdrive.DriveError, args: argparse.Namespace) -> str:
+    """What the drive says, and what tells more."""
+    if isinstance(error, pinkdrive.DriveEnded) and error.status == Exit.DAMAGED:
+        return f"{error}; pinkctl check {args.image} tells what is wrong"
+    return str(error)
+
+
+def end_on(signals: Sequence[signal.Signals]) -> None:
+    """These signals end a part as an exit does, so that unfinished files go away and the drive is closed."""
+    for number in signals:
+        signal.signal(number, lambda number, _: sys.exit(128 + number))
+
+
 def main(arguments: Optional[Sequence[str]] = None) -> int:
     args = parser_of().parse_args(arguments)
+    end_on([signal.SIGTERM, signal.SIGHUP])
     status = guarded(args)
     try:
         sys.stdout.flush()

@@ -8,7 +8,7 @@ from typing import Any, BinaryIO
 
 from . import progress
 from .check import Verdict, check_open, counted
-from .files import NewFile, file_error, locked, refuse_existing
+from .files import NewFile, add_wait, file_error, locked, refuse_existing
 from .status import Exit, ToolError
 
 DESCRIPTION = """\
@@ -26,7 +26,7 @@ def add_parser(subparsers: Any) -> None:
     )
     parser.add_argument("image", metavar="IMAGE")
     parser.add_argument("copy", metavar="COPY", help="the new file; for a folder, a file of the same name in it")
-    parser.add_argument("--wait", type=float, default=0, metavar="SECONDS", help="wait so long for an image in use")
+    add_wait(parser)
     parser.add_argument("--force", "-f", action="store_true", help="replace COPY if it exists")
     parser.add_argument("--even-damaged", action="store_true", help="copy an image that check does not call whole, too")
     progress.add_arguments(parser)
@@ -49,7 +49,7 @@ def extents(file: BinaryIO, size: int) -> Iterator[tuple[int, int]]:
 
 
 def read_at(file: BinaryIO, at: int, length: int) -> bytes:
-    """So many bytes from a place on, as they are on the file."""
+    """This many bytes of a file from an offset on."""
     data = bytearray()
     while len(data) < length:
         part = os.pread(file.fileno(), length - len(data), at + len(data))
@@ -76,7 +76,7 @@ def copy_sparse(source: BinaryIO, into: BinaryIO, size: int, shown: progress.Pro
 
 
 def first_difference(one: BinaryIO, other: BinaryIO, size: int) -> bool:
-    """Whether two files of a length differ anywhere."""
+    """Whether two files, which should have this length, differ."""
     if any(os.fstat(file.fileno()).st_size != size for file in (one, other)):
         return True
     return any(
@@ -87,7 +87,7 @@ def first_difference(one: BinaryIO, other: BinaryIO, size: int) -> bool:
 
 
 def refuse_damaged(path: str, verdict: Verdict, even_damaged: bool) -> None:
-    """Raises where the image is not whole and a copy of it was not asked for."""
+    """Raises if the image is not whole, unless a copy of it was asked for all the same."""
     if verdict.status == Exit.OK or even_damaged:
         return
     raise ToolError(f"{path} is {verdict.name}: {verdict.text}; nothing was copied (--even-damaged copies it)", verdict.status)

@@ -8,7 +8,7 @@ from typing import Any, BinaryIO, Optional
 
 from . import layout as it
 from .doubts import Doubt, doubts_of
-from .files import locked
+from .files import add_wait, locked
 from .image import Fault, Flash, Image, NotAnImage, open_image, read_flash, unknown_versions
 from .keys import shown
 from .program import dump_verdict
@@ -53,7 +53,7 @@ def add_parser(subparsers: Any) -> None:
     )
     parser.add_argument("image", metavar="IMAGE")
     parser.add_argument("--json", action="store_true", help="print one object of JSON")
-    parser.add_argument("--wait", type=float, default=0, metavar="SECONDS", help="wait so long for an image in use")
+    add_wait(parser)
     parser.add_argument("--no-compare", action="store_true", help="do not run pinkdump")
     parser.set_defaults(run=run)
 
@@ -130,7 +130,7 @@ def told(fault: Fault) -> str:
 
 
 def expected(verdict: Verdict) -> Optional[str]:
-    """What pinkdump says last if it agrees; None where the two are not to be compared."""
+    """What pinkdump says last if it agrees; None if the two are not compared."""
     if verdict.at is not None:
         return f"pinkdump: no image: the first wrong byte is at {verdict.at}"
     if verdict.flash is None or verdict.name == "unknown":

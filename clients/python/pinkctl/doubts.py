@@ -154,7 +154,7 @@ def merge_fault(before: Root, root: Root) -> Optional[str]:
 
 
 def count_fault(before: Root, root: Root, level: int) -> Optional[str]:
-    """Why the output of a merge into this run (counted from 0) cannot have so many entries, or None."""
+    """Why the output of a merge into this run (counted from 0) cannot have this count of entries, or None."""
     count, target = root.counts[level], before.counts[level]
     source = before.counts[level - 1] if level else None
     last = level == it.LEVELS - 1
@@ -211,7 +211,7 @@ def other_commits(image: Image, flash: Flash, root: Root) -> Iterator[Doubt]:
 
 
 def whole_pages_with(image: Image, text: bytes) -> Iterator[int]:
-    """The Whole pages behind the root blocks that begin with this text."""
+    """The Whole pages after the root blocks that begin with this text."""
     size = image.shape.page_bytes
     at = image.first + it.ROOT_BLOCKS * image.shape.block_pages * size
     while (at := image.data.find(text, at)) >= 0:

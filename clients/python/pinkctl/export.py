@@ -9,7 +9,7 @@ from collections.abc import Iterator
 from typing import Any, BinaryIO, NamedTuple, Optional
 
 from . import progress
-from .files import NewFile, refuse_existing
+from .files import NewFile, add_wait, refuse_existing
 from .keys import key_argument
 from .program import open_drive, pinkdrive
 
@@ -17,7 +17,7 @@ DESCRIPTION = """\
 Writes each pair of the drive as a line, in rising order of the keys:
 
   asm    store KEY VALUE, both in hexadecimal ('-' is the empty value): pink IMAGE asm reads it
-  json   {"key": "..", "value": ".."} where the bytes are UTF-8, else "key_hex" or "value_base64"
+  json   {"key": "..", "value": ".."} if the bytes are UTF-8, else "key_hex" or "value_base64"
 
 pinkctl import reads both and gives the same bytes again. A line of asm that begins with # counts
 the pairs at the end, so that import notices a file that was cut off."""
@@ -44,6 +44,7 @@ def add_parser(subparsers: Any) -> None:
     parser.add_argument("--format", choices=("asm", "json"), default="asm")
     parser.add_argument("--from", dest="start", metavar="KEY", help="only keys from this one on")
     parser.add_argument("--prefix", metavar="KEY", help="only keys that begin with this (text; hexadecimal after 0x)")
+    add_wait(parser)
     progress.add_arguments(parser)
     parser.set_defaults(run=run)
 
@@ -53,7 +54,7 @@ def asm_line(pair: Pair) -> bytes:
 
 
 def json_field(name: str, data: bytes) -> dict[str, str]:
-    """Bytes as a field: the text where they are UTF-8."""
+    """Bytes as a field: the text if they are UTF-8."""
     with contextlib.suppress(UnicodeDecodeError):
         return {name: data.decode("utf-8")}
     if name == "key":
@@ -96,7 +97,7 @@ def write_pairs(drive: pinkdrive.Drive, args: argparse.Namespace, out: BinaryIO)
 def run(args: argparse.Namespace) -> int:
     if args.output:
         refuse_existing(args.output, args.force)
-    with open_drive(args.image) as drive:
+    with open_drive(args.image, wait=args.wait) as drive:
         if args.output is None:
             count = write_pairs(drive, args, sys.stdout.buffer)
         else:

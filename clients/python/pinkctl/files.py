@@ -1,9 +1,11 @@
 """Files: opening with the cause of a failure in words, the lock of an image, and new files that appear whole or not at all."""
 
+import argparse
 import contextlib
 import fcntl
 import os
 import re
+import sys
 import tempfile
 import time
 from collections.abc import Iterator
@@ -12,6 +14,11 @@ from typing import BinaryIO, Optional
 from .status import Exit, ToolError
 
 POLL_SECONDS = 0.1
+
+
+def add_wait(parser: argparse.ArgumentParser) -> None:
+    """The choice to wait for an image in use."""
+    parser.add_argument("--wait", type=float, default=0, metavar="SECONDS", help="wait up to this long for an image in use")
 
 
 def cause(path: str, error: OSError) -> str:
@@ -64,7 +71,7 @@ def in_use(path: str, file: BinaryIO) -> ToolError:
 def locked(path: str, wait: float = 0) -> Iterator[BinaryIO]:
     """The image, open for reading, while no program has it open: pink is refused meanwhile, other readers are not."""
     with open_read(path) as file:
-        end = time.monotonic() + wait
+        end, said = time.monotonic() + wait, False
         while True:
             try:
                 fcntl.flock(file, fcntl.LOCK_SH | fcntl.LOCK_NB)
@@ -73,6 +80,9 @@ def locked(path: str, wait: float = 0) -> Iterator[BinaryIO]:
                 left = end - time.monotonic()
                 if left <= 0:
                     raise in_use(path, file) from None
+                if not said:
+                    print(f"waiting for {path}, which is in use by process {holder_of(file)}", file=sys.stderr)
+                    said = True
                 time.sleep(min(POLL_SECONDS, left))
             except OSError as error:
                 raise file_error(path, error) from None
@@ -83,7 +93,7 @@ def locked(path: str, wait: float = 0) -> Iterator[BinaryIO]:
 
 
 def refuse_existing(path: str, force: bool) -> None:
-    """Raises where the file exists and may not be replaced."""
+    """Raises if the file exists and may not be replaced."""
     if os.path.isdir(path):
         raise ToolError(f"{path}: it is a folder", Exit.FILE)
     if os.path.lexists(path) and not force:
@@ -91,7 +101,7 @@ def refuse_existing(path: str, force: bool) -> None:
 
 
 class NewFile:
-    """A file under another name in the same folder, until `keep` gives it its own; it goes away where that is not called."""
+    """A file under another name in the same folder, until `keep` gives it its own; it is removed if that is not called."""
 
     def __init__(self, path: str, force: bool) -> None:
         refuse_existing(path, force)
@@ -118,7 +128,7 @@ class NewFile:
         os.fsync(self.file.fileno())
 
     def keep(self, mode: int = 0o666) -> None:
-        """Gives the file its name, synced; where one exists by now it is replaced only by force."""
+        """Gives the file its name, synced; one that exists by now is replaced only by force."""
         self.sync()
         os.fchmod(self.file.fileno(), mode & ~umask())
         try:

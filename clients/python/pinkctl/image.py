@@ -189,7 +189,7 @@ def entry_of(layout: Layout, fields: tuple[int, int, int, bytes, int, int, int])
 
 
 def entries_in(layout: Layout, data: bytes, count: int) -> Optional[list[Entry]]:
-    """The entries of a journal or meta page with so many, or None outside the grammar."""
+    """This many entries of a journal or meta page, or None outside the grammar."""
     end = it.HEAD_BYTES + count * it.ENTRY_BYTES
     if not 1 <= count <= layout.page_entries or not zeros_from(data, end):
         return None

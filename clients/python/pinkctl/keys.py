@@ -102,7 +102,7 @@ def key_argument(text: str) -> bytes:
 
 
 def shown(data: bytes) -> str:
-    """Bytes as a word that gives them again: plain where that is possible, in quotes where they are text, else hexadecimal."""
+    """Bytes as a word that gives them again: plain if that is possible, in quotes if they are text, else hexadecimal."""
     try:
         text = data.decode("utf-8")
     except UnicodeDecodeError:

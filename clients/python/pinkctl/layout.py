@@ -1,6 +1,6 @@
 """Everything of the format that depends on the shape of a drive or on the version of its layout.
 
-The version stands in a drive's root pages. A layout that is not in `RULES` is refused by its number.
+The root pages of a drive name the version. A layout that is not in `RULES` is refused by its number.
 """
 
 import dataclasses

@@ -12,6 +12,7 @@ from typing import Any, BinaryIO, NamedTuple, Optional
 
 from . import progress
 from .export import END, HEAD, Pair
+from .files import add_wait
 from .keys import shown as shown_key
 from .layout import KEY_BYTES, Layout, Shape, shape_fault
 from .program import make_image, open_drive, pinkdrive
@@ -62,6 +63,7 @@ def add_parser(subparsers: Any) -> None:
     parser.add_argument("--overwrite", action="store_true", help="replace the values of keys that exist")
     parser.add_argument("--make", nargs=3, type=int, metavar=("P", "N", "M"), help="make the image first: page bytes, pages of a block, blocks")
     parser.add_argument("--dry-run", "-n", action="store_true", help="read the lines, and store nothing")
+    add_wait(parser)
     progress.add_arguments(parser)
     parser.set_defaults(run=run)
 
@@ -111,7 +113,7 @@ def json_pair(number: int, line: str) -> Pair:
 
 
 def pair_of(number: int, data: bytes) -> Optional[Pair]:
-    """The pair of a line, None where it has none."""
+    """The pair of a line, None if it has none."""
     if len(data) > LINE_BYTES and not data.startswith(b"{"):
         raise LineError(number, f"it is longer than {LINE_BYTES:,} bytes")
     try:
@@ -220,7 +222,7 @@ def make_first(args: argparse.Namespace) -> None:
 
 
 def store_all(args: argparse.Namespace, lines: BinaryIO, total: Optional[int]) -> Import:
-    with open_drive(args.image) as drive:
+    with open_drive(args.image, wait=args.wait) as drive:
         running = Import(drive, args.overwrite)
         with progress.Progress("import: pairs", total, progress.shown(args)) as shown:
             try:

@@ -1,4 +1,4 @@
-"""The programs beside the tools: the client of the drive, and pinkdump where it is built."""
+"""The programs beside the tools: the client of the drive, and pinkdump if it is built."""
 
 import os
 import shutil
@@ -13,24 +13,46 @@ if CLIENTS not in sys.path:
 
 import pinkdrive
 
+from .files import cause, locked
+from .status import Exit, ToolError
+
 
 def pink() -> str:
     """The launcher of the program, as the client has it, or as the environment names it."""
     return os.environ.get("PINK_PROGRAM", pinkdrive.PROGRAM)
 
 
-def open_drive(image: str, frames: int = 148) -> pinkdrive.Drive:
-    """A session of the drive in an image. What the launcher says is not shown: the exception says it."""
-    return pinkdrive.Drive(image, frames=frames, program=pink(), stderr=subprocess.DEVNULL)
+def open_drive(image: str, frames: int = 148, wait: float = 0) -> pinkdrive.Drive:
+    """A session of the drive in an image; what keeps it from opening is told by its cause.
+
+    What the launcher says is not shown: the exception says it.
+    """
+    with locked(image, wait):
+        pass
+    try:
+        open(image, "r+b").close()
+    except OSError as error:
+        raise ToolError(f"{cause(image, error)} to write, which the program needs to open it", Exit.FILE) from None
+    try:
+        return pinkdrive.Drive(image, frames=frames, program=pink(), stderr=subprocess.DEVNULL)
+    except OSError as error:
+        raise not_started(error) from None
+
+
+def not_started(error: OSError) -> ToolError:
+    return ToolError(f"the program {pink()} cannot be started: {error.strerror}", Exit.PROGRAM)
 
 
 def make_image(image: str, shape: tuple[int, int, int]) -> None:
     """Makes the image of a drive without keys."""
-    pinkdrive.make(image, *shape, program=pink(), stderr=subprocess.DEVNULL)
+    try:
+        pinkdrive.make(image, *shape, program=pink(), stderr=subprocess.DEVNULL)
+    except OSError as error:
+        raise not_started(error) from None
 
 
 def pinkdump() -> Optional[str]:
-    """The program pinkdump, only where it is built: none is built for a comparison."""
+    """The program pinkdump, only if it is built: a comparison builds nothing."""
     named = os.environ.get("PINKDUMP_PROGRAM")
     if named:
         return named
@@ -46,7 +68,7 @@ class Told(NamedTuple):
 
 
 def dump_verdict(image: str) -> Optional[Told]:
-    """The verdict of pinkdump about an image; None where it is not built."""
+    """The verdict of pinkdump about an image; None if it is not built."""
     program = pinkdump()
     if program is None:
         return None

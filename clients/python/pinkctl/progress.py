@@ -1,4 +1,4 @@
-"""A line on standard error that tells how far a long work is, on a terminal or where it is asked for."""
+"""A line on standard error that tells how far a long work is, on a terminal or on request."""
 
 import argparse
 import sys
@@ -41,7 +41,7 @@ class Progress:
 def add_arguments(parser: argparse.ArgumentParser) -> None:
     """The choice of progress lines."""
     choice = parser.add_mutually_exclusive_group()
-    choice.add_argument("--progress", action="store_true", default=None, help="show progress also where standard error is no terminal")
+    choice.add_argument("--progress", action="store_true", default=None, help="show progress also if standard error is no terminal")
     choice.add_argument("--quiet", "-q", dest="progress", action="store_false", help="show no progress, and no summary of what was done")
 
 

@@ -1,6 +1,6 @@
 """What can be read of a damaged image: an index as far as it is there, and the values that it leads to.
 
-Whatever is given was stored once under its key: a value is taken only where its head has the key and
+Whatever is given was stored once under its key: a value is taken only if its head has the key and
 the length that the index names. Whether it is the last one stored is another matter; `why` says so.
 """
 
@@ -36,12 +36,13 @@ from .layout import TORN, WHOLE, Layout, Shape, shape_fault
 
 LOST_ROOT = "the newest root is lost: it may be older, or deleted since"
 DAMAGED_INDEX = "its entry is in a damaged page of the index"
+BELOW_GAP = "a newer part of the index is damaged: it may be older, or deleted since"
 UNFINISHED = "its commit is marked as not finished"
 OLDER = "the newest entry of the key leads to no value: this is an older one"
 DAMAGED_VALUE = "a page of the value was changed: the value may be, too"
 NO_INDEX = "it is in no readable page of the index: it may be older, or deleted since"
 SAME_BYTES = 5
-"""So many of the eight bytes of a page's text have to be there."""
+"""This many of the eight bytes of a page's text have to be right."""
 
 
 class Candidate(NamedTuple):
@@ -87,7 +88,7 @@ def shapes_of(size: int) -> Iterator[Shape]:
 
 
 def shape_in(data: Buffer) -> Optional[Shape]:
-    """The shape of a damaged file: the header's where it is allowed, else the one whose roots stand in it."""
+    """The shape of a damaged file: the header's if it is allowed, else the one whose roots are in it."""
     if len(data) >= it.HEADER_BYTES:
         _, p, n, m, _ = it.IMAGE_HEADER.unpack_from(data)
         shape = Shape(p, n, m)
@@ -134,7 +135,7 @@ def repaired(image: Image, page: int, data: bytes) -> Optional[Root]:
 
 
 def hidden_roots(image: Image, newest: int) -> list[Root]:
-    """Roots that only padding or a mark hides, if the newest of them follows the newest one that stands."""
+    """Roots that only padding or a mark hides, if the newest of them follows the newest valid one."""
     found = []
     for page in Layout(image.shape).root_pages:
         data = image.page(page)
@@ -165,29 +166,50 @@ def has_text(data: bytes, text: bytes) -> bool:
     return sum(a == b for a, b in zip(data, text)) >= SAME_BYTES
 
 
+class Gap(NamedTuple):
+    """Keys of which an entry may be missing: those between two keys, or beyond one."""
+
+    after: Optional[bytes] = None
+    before: Optional[bytes] = None
+
+    def covers(self, key: bytes) -> bool:
+        return (self.after is None or self.after < key) and (self.before is None or key < self.before)
+
+
 @dataclasses.dataclass
 class Index:
-    """The entries of each key, those that count more first, and whether a part of the index is missing."""
+    """The entries of each key, those that count more first, and which parts of the index are missing."""
 
     candidates: dict[bytes, list[Candidate]] = dataclasses.field(default_factory=dict)
     damaged: list[str] = dataclasses.field(default_factory=list)
+    gaps: list[Gap] = dataclasses.field(default_factory=list)
 
-    def add(self, entries: Sequence[Entry], why: Optional[str]) -> None:
+    def add(self, entries: Sequence[Entry], why: Optional[str] = None) -> None:
+        """Adds entries after all that were added before; in a gap above them an entry that counts more may be missing."""
         for key, place in entries:
-            self.candidates.setdefault(key, []).append(Candidate(place, why))
+            hidden = key not in self.candidates and any(gap.covers(key) for gap in self.gaps)
+            self.candidates.setdefault(key, []).append(Candidate(place, why or (BELOW_GAP if hidden else None)))
+
+    def named(self) -> dict[int, set[tuple[bytes, Place]]]:
+        """The keys and places that entries name, by the first page."""
+        found: dict[int, set[tuple[bytes, Place]]] = {}
+        for key, candidates in self.candidates.items():
+            for place, _ in candidates:
+                if place:
+                    found.setdefault(place.page, set()).add((key, place))
+        return found
 
 
-class FoundCommit(NamedTuple):
-    epoch: int
-    index: int
-    entries: list[Entry]
-    why: Optional[str]
+def whole_entries(layout: Layout, data: bytes, count: int) -> bool:
+    """Whether a damaged page of the index still has all of its entries, which are this many."""
+    end = it.HEAD_BYTES + count * it.ENTRY_BYTES
+    return 1 <= count <= layout.page_entries and len(loose_entries(layout, data)) == count and not data[end:].strip(b"\0")
 
 
-def commits_on(image: Image, layout: Layout, root: Optional[Root]) -> list[FoundCommit]:
-    """All commits that are not older than the root's epochs, wherever they lie, the last one first."""
+def commits_by_number(image: Image, layout: Layout, root: Optional[Root], index: Index) -> None:
+    """Adds all commits that are not older than the root's epochs, wherever they are, the last one first."""
     oldest = root.epoch - bool(root.older) if root else 0
-    found: dict[tuple[int, int], FoundCommit] = {}
+    found: dict[tuple[int, int], tuple[list[Entry], Optional[str]]] = {}
     for page in range(it.ROOT_BLOCKS * image.shape.block_pages, image.shape.pages):
         data = image.page(page)
         commit = commit_in(layout, data) if data.startswith(it.JOURNAL_TEXT) else None
@@ -195,54 +217,73 @@ def commits_on(image: Image, layout: Layout, root: Optional[Root]) -> list[Found
             continue
         why = None if image.states[page] == WHOLE else UNFINISHED
         key = commit.epoch, commit.index
-        if key not in found or (found[key].why and not why):
-            found[key] = FoundCommit(*commit, why)
-    return [found[key] for key in sorted(found, reverse=True)]
+        if key not in found or (found[key][1] and not why):
+            found[key] = commit.entries, why
+    for key in sorted(found, reverse=True):
+        entries, why = found[key]
+        index.add(entries[::-1], why)
 
 
-def damaged_commits(image: Image, layout: Layout, root: Root, index: Index) -> list[FoundCommit]:
-    """What is left of the commits of the root's epochs whose pages are damaged."""
-    found = []
-    for number, blocks in ((root.epoch, root.newest), (root.epoch - 1, root.older)):
-        for place in range(layout.commits if blocks else 0):
-            for page in layout.commit_pages(blocks, place):
-                data = image.page(page)
-                commit = commit_in(layout, data)
-                good = commit is not None and (commit.epoch, commit.index) == (number, place)
-                if image.states[page] == WHOLE and not good:
-                    index.damaged.append(f"page {page}, commit {place + 1} of epoch {number}")
-                    if has_text(data, it.JOURNAL_TEXT):
-                        found.append(FoundCommit(number, place, loose_entries(layout, data), DAMAGED_INDEX))
-    return found
+def add_epoch(image: Image, layout: Layout, number: int, blocks: tuple[int, ...], index: Index) -> None:
+    """Adds the commits of an epoch by their places, the last one first."""
+    for place in reversed(range(layout.commits if blocks else 0)):
+        pages = layout.commit_pages(blocks, place)
+        good = [page for page in pages if is_commit(layout, image.page(page), number, place)]
+        page = next((page for page in good if image.states[page] == WHOLE), good[0] if good else None)
+        if page is not None:
+            commit = commit_in(layout, image.page(page))
+            index.add(commit.entries[::-1] if commit else [], None if image.states[page] == WHOLE else UNFINISHED)
+        elif any(image.states[page] == WHOLE for page in pages):
+            add_damaged_commit(image, layout, pages, f"commit {place + 1} of epoch {number}", index)
 
 
-def add_journal(image: Image, layout: Layout, root: Optional[Root], index: Index) -> None:
-    commits = commits_on(image, layout, root)
-    if root:
-        commits += damaged_commits(image, layout, root, index)
-    for commit in sorted(commits, key=lambda it: (it.epoch, it.index), reverse=True):
-        index.add(commit.entries[::-1], commit.why)
+def is_commit(layout: Layout, data: bytes, number: int, place: int) -> bool:
+    commit = commit_in(layout, data)
+    return commit is not None and (commit.epoch, commit.index) == (number, place)
 
 
-def add_runs(image: Image, layout: Layout, root: Root, index: Index) -> None:
-    """The entries of the runs that the root names, page by page."""
-    for level, (count, blocks) in enumerate(zip(root.counts, root.runs), 1):
-        for place in range(layout.run_pages(count)):
-            page = layout.run_page(blocks, place)
-            data = image.page(page)
-            meta = meta_in(layout, data)
-            if meta and (meta.level, meta.index) == (level, place):
-                index.add(meta.entries, None if image.states[page] == WHOLE else DAMAGED_INDEX)
-                continue
-            index.damaged.append(f"page {page}, page {place} of run {level}")
-            if has_text(data, it.META_TEXT):
-                index.add(loose_entries(layout, data), DAMAGED_INDEX)
+def add_damaged_commit(image: Image, layout: Layout, pages: Sequence[int], what: str, index: Index) -> None:
+    """Adds what entries are left of a commit whose page is damaged."""
+    page = next(page for page in pages if image.states[page] == WHOLE)
+    data = image.page(page)
+    index.damaged.append(f"page {page}, {what}")
+    if has_text(data, it.JOURNAL_TEXT):
+        index.add(loose_entries(layout, data)[::-1], DAMAGED_INDEX)
+    if not whole_entries(layout, data, it.JOURNAL_HEAD.unpack_from(data)[3]):
+        index.gaps.append(Gap())
+
+
+def add_run(image: Image, layout: Layout, root: Root, level: int, index: Index) -> None:
+    """Adds the entries of the run of a level, page by page."""
+    count, blocks = root.counts[level - 1], root.runs[level - 1]
+    pages = [layout.run_page(blocks, place) for place in range(layout.run_pages(count))]
+    metas = [run_page(image, layout, page, level, place) for place, page in enumerate(pages)]
+    gaps = []
+    for place, (page, entries) in enumerate(zip(pages, metas)):
+        if entries is not None:
+            index.add(entries, None if image.states[page] == WHOLE else DAMAGED_INDEX)
+            continue
+        data = image.page(page)
+        index.damaged.append(f"page {page}, page {place} of run {level}")
+        if has_text(data, it.META_TEXT):
+            index.add(loose_entries(layout, data), DAMAGED_INDEX)
+        if not whole_entries(layout, data, min(layout.page_entries, count - place * layout.page_entries)):
+            before = next((entries[-1].key for entries in metas[:place][::-1] if entries), None)
+            after = next((entries[0].key for entries in metas[place + 1 :] if entries), None)
+            gaps.append(Gap(before, after))
+    index.gaps += gaps
+
+
+def run_page(image: Image, layout: Layout, page: int, level: int, place: int) -> Optional[list[Entry]]:
+    """The entries of a page of a run, whatever its state is; None if it is not this page."""
+    meta = meta_in(layout, image.page(page))
+    return meta.entries if meta and (meta.level, meta.index) == (level, place) else None
 
 
 def former_entries(image: Image, layout: Layout) -> Index:
     """The entries of all pages of the index that are on the flash, also of former ones: newer epochs first, then upper runs."""
     index = Index()
-    add_journal(image, layout, None, index)
+    commits_by_number(image, layout, None, index)
     pages = []
     for page in range(it.ROOT_BLOCKS * image.shape.block_pages, image.shape.pages):
         data = image.whole(page)
@@ -284,6 +325,17 @@ def loose_values(image: Image, layout: Layout) -> dict[bytes, list[Place]]:
     return found
 
 
+def agreed_values(image: Image, layout: Layout, index: Index) -> dict[bytes, list[Place]]:
+    """The values on the flash but those at whose page an entry has another key or length: a head that differs from its entry was changed."""
+    named = index.named()
+    found: dict[bytes, list[Place]] = {}
+    for key, places in loose_values(image, layout).items():
+        agreed = [place for place in places if (key, place) in named.get(place.page, {(key, place)})]
+        if agreed:
+            found[key] = agreed
+    return found
+
+
 def decide(rescue: Rescue, key: bytes, candidates: Sequence[Candidate], trusted: bool) -> Optional[Saved]:
     """The value of a key by its entries: that of the first entry that reads, up to a deletion."""
     for number, (place, why) in enumerate(candidates):
@@ -303,7 +355,7 @@ def is_deleted(candidates: Sequence[Candidate]) -> bool:
 def without_index(rescue: Rescue, keys: Sequence[bytes], index: Index) -> None:
     """Looks for values of lost keys, and of keys that no entry names, by what former pages of the index say, and by the values alone."""
     image, layout = rescue.image, rescue.layout
-    values = loose_values(image, layout)
+    values = agreed_values(image, layout, index)
     former = former_entries(image, layout).candidates
     unnamed = [key for key in values if key not in index.candidates] if index.damaged else []
     for key in sorted({*keys, *unnamed}):
@@ -315,7 +367,7 @@ def without_index(rescue: Rescue, keys: Sequence[bytes], index: Index) -> None:
 
 
 def rescue_image(data: Buffer) -> Optional[Rescue]:
-    """All that reads of a file; None where it cannot be an image of any drive."""
+    """All that reads of a file; None if it cannot be an image of any drive."""
     image, wrong = image_of(data)
     if image is None:
         return None
@@ -339,15 +391,20 @@ def rescue_image(data: Buffer) -> Optional[Rescue]:
 
 def index_of(rescue: Rescue, root: Optional[Root], trusted: bool) -> Index:
     """The entries to read by, with notes on what is missing of them."""
+    image, layout = rescue.image, rescue.layout
     if root is None:
-        index = former_entries(rescue.image, rescue.layout)
+        index = former_entries(image, layout)
         index.damaged.append("all roots")
     else:
         index = Index()
-        add_journal(rescue.image, rescue.layout, root, index)
-        add_runs(rescue.image, rescue.layout, root, index)
-        if not trusted:
+        if trusted:
+            add_epoch(image, layout, root.epoch, root.newest, index)
+            add_epoch(image, layout, root.epoch - 1, root.older, index)
+        else:
             index.damaged.append("the newest root")
+            commits_by_number(image, layout, root, index)
+        for level in range(1, it.LEVELS + 1):
+            add_run(image, layout, root, level, index)
     rescue.notes += [f"damaged: {part}" for part in index.damaged]
     return index
 

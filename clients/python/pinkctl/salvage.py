@@ -8,7 +8,7 @@ from typing import Any, Optional, TextIO
 
 from . import progress
 from .check import check_file, counted
-from .files import file_error, locked
+from .files import add_wait, file_error, locked
 from .keys import shown as shown_key
 from .layout import Shape, shape_fault
 from .program import make_image, open_drive, pinkdrive
@@ -19,7 +19,7 @@ DESCRIPTION = """\
 Copies what reads of a damaged image into a new one. The damaged image is only read.
 
 Each value that is copied was stored once under its key, for its head has the key and the length;
-there is no checksum, so a changed byte inside a value is copied. Where a part of the index is lost,
+there is no checksum, so a changed byte inside a value is copied. If a part of the index is lost,
 deleted keys and older values may come back: such keys are counted as doubtful, with the reason, and
 --list names each. Keys of which an entry is left and no value are counted as lost. Of keys whose
 entry and value are both gone nothing is known, and they are not counted.
@@ -33,7 +33,7 @@ def add_parser(subparsers: Any) -> None:
     )
     parser.add_argument("image", metavar="IMAGE")
     parser.add_argument("new", metavar="NEW", help="the image to make; it must not exist")
-    parser.add_argument("--wait", type=float, default=0, metavar="SECONDS", help="wait so long for an image in use")
+    add_wait(parser)
     parser.add_argument("--shape", type=int, nargs=3, metavar=("P", "N", "M"), help="the shape of NEW (default: that of IMAGE)")
     parser.add_argument("--sure-only", action="store_true", help="leave out what is doubtful")
     parser.add_argument("--list", metavar="FILE", help="write a line of JSON for each key that is doubtful, lost or refused")

@@ -1,4 +1,4 @@
-"""shapes: which shapes hold so many values of a length, and what a shape holds."""
+"""shapes: which shapes hold a number of values of a length, and what a shape holds."""
 
 import argparse
 from collections.abc import Iterator
@@ -8,7 +8,7 @@ from .layout import BLOCK_PAGES, MOST_BLOCKS, PAGE_BYTES, Layout, Shape, shape_f
 from .status import Exit, ToolError
 
 DESCRIPTION = """\
-Prints the smallest images that hold so many values of a length, smallest first, for `pink IMAGE
+Prints the smallest images that hold COUNT values of BYTES bytes, smallest first, for `pink IMAGE
 make P N M`. A value takes whole pages with a head of 32 bytes. With --shape it prints what a shape holds."""
 
 
@@ -16,10 +16,10 @@ def add_parser(subparsers: Any) -> None:
     parser = subparsers.add_parser(
         "shapes", help="choose a shape for make", description=DESCRIPTION, formatter_class=argparse.RawDescriptionHelpFormatter
     )
-    parser.add_argument("--values", type=int, metavar="COUNT", help="so many values")
-    parser.add_argument("--bytes", type=int, metavar="BYTES", help="of so many bytes each")
+    parser.add_argument("--values", type=int, metavar="COUNT", help="how many values")
+    parser.add_argument("--bytes", type=int, metavar="BYTES", help="the length of each")
     parser.add_argument("--shape", type=int, nargs=3, metavar=("P", "N", "M"))
-    parser.add_argument("--most", type=int, default=5, metavar="LINES", help="at most so many lines (default 5)")
+    parser.add_argument("--most", type=int, default=5, metavar="LINES", help="print at most this many lines (default 5)")
     parser.set_defaults(run=run)
 
 

@@ -8,6 +8,7 @@ import sys
 from collections.abc import Callable, Iterator, Sequence
 from typing import Any, NamedTuple, Optional
 
+from .files import add_wait
 from .keys import Word, WordError, read_value, shown, words_of
 from .program import open_drive, pinkdrive
 from .status import Exit, ToolError
@@ -75,11 +76,12 @@ def file_name(words: Sequence[Word], mark: str) -> str:
     if len(words) == 3 and words[1].text == mark and words[1].quoted is None:
         word = words[2]
         return os.fsdecode(word.quoted) if word.quoted is not None else word.text
-    raise WordError(f"KEY {mark} FILE is needed; a value of several words stands in quotes")
+    raise WordError(f"KEY {mark} FILE is needed; quote a value of several words")
 
 
 def set_(session: Session, words: Sequence[Word]) -> int:
-    value = words[1].bytes() if len(words) == 2 else read_value(file_name(words, "<"))
+    plain = len(words) == 2 and (words[1].quoted is not None or words[1].text != "<")
+    value = words[1].bytes() if plain else read_value(file_name(words, "<"))
     session.drive.store(words[0].bytes(), value)
     session.print("ok")
     return Exit.OK
@@ -116,7 +118,7 @@ def length(session: Session, words: Sequence[Word]) -> int:
 
 
 def count_in(words: Sequence[Word], at: int) -> Optional[int]:
-    """The number at this place of the words, None where there is none."""
+    """The number at this place of the words, None if there is none."""
     if len(words) <= at:
         return None
     if not words[at].text.isdigit():
@@ -190,8 +192,9 @@ def add_parser(subparsers: Any) -> None:
     )
     parser.add_argument("image", metavar="IMAGE")
     parser.add_argument("--execute", "-e", action="append", metavar="LINE", help="run this line, and end")
-    parser.add_argument("--raw", action="store_true", default=None, help="get prints the bytes of a value (as it does where no terminal is)")
+    parser.add_argument("--raw", action="store_true", default=None, help="get prints the bytes of a value (the default without a terminal)")
     parser.add_argument("--words", dest="raw", action="store_false", help="get prints a value as a word that set reads again")
+    add_wait(parser)
     parser.set_defaults(run=run)
 
 
@@ -205,7 +208,7 @@ def run_line(session: Session, line: str) -> int:
     if command is None:
         raise WordError(f"{words[0].text}: there is no such command; help lists them")
     if not command.least <= len(words) - 1 <= command.most:
-        raise WordError(f"{name} {command.arguments} is needed; a key or value of several words stands in quotes")
+        raise WordError(f"{name} {command.arguments} is needed; quote a key or value of several words")
     return command.run(session, words[1:])
 
 
@@ -246,7 +249,7 @@ def history_file() -> str:
 
 @contextlib.contextmanager
 def history() -> Iterator[None]:
-    """Lines of earlier shells come back by the arrow keys, and commands are completed, where Python has readline."""
+    """Lines of earlier shells come back by the arrow keys, and commands are completed, if Python has readline."""
     try:
         import readline
     except ImportError:
@@ -281,7 +284,7 @@ def interact(session: Session, image: str) -> int:
 
 def run(args: argparse.Namespace) -> int:
     raw = not sys.stdout.isatty() if args.raw is None else args.raw
-    with open_drive(args.image) as drive:
+    with open_drive(args.image, wait=args.wait) as drive:
         session = Session(drive, raw)
         if args.execute:
             return run_script(session, (("", line) for line in args.execute))
