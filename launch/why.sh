@@ -183,7 +183,12 @@ bad_line() { # the first line of the input that is outside the grammar
 user_of() { # IMAGE: the process that has it locked, as the system lists it
     inode=$(ls -diL -- "$1" 2>/dev/null | sed 's/^ *\([0-9]*\) .*$/\1/')
     [ -n "$inode" ] || return 1
-    sed -n "s/^.*: FLOCK *[A-Z]* *[A-Z]* *\(-*[0-9]*\) [^ ]*:$inode .*$/\1/p" /proc/locks 2>/dev/null | sed -n 1p | grep .
+    # A list that is read in pieces while it changes may lack an entry, so it is read up to three times.
+    for _ in 1 2 3; do
+        user=$(sed -n "s/^.*: FLOCK *[A-Z]* *[A-Z]* *\(-*[0-9]*\) [^ ]*:$inode .*$/\1/p" /proc/locks 2>/dev/null | sed -n 1p)
+        [ -z "$user" ] || break
+    done
+    [ -n "$user" ] && echo "$user"
 }
 
 file_fault() { # IMAGE WORD: why it cannot be opened; prints nothing if nothing is seen

@@ -184,6 +184,15 @@ def process_using(image: Path) -> Optional[int]:
     """The process that has the image file locked; None if the system lists none."""
     try:
         inode = str(os.stat(image).st_ino)
+    except OSError:
+        return None
+    # A list that is read in pieces while it changes may lack an entry, so it is read up to three times.
+    found = (_lock_of(inode) for _ in range(3))
+    return next((process for process in found if process is not None), None)
+
+
+def _lock_of(inode: str) -> Optional[int]:
+    try:
         with open("/proc/locks") as locks:
             lines = [line.split() for line in locks]
     except OSError:
