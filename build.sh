@@ -30,6 +30,12 @@ needs() { # crate
         }' "$top/crates.txt"
 }
 
+if ! command -v rt >/dev/null; then
+    echo "$name: the program is not built, and building it takes the kit of Rattle (rt), which is not in the path;" >&2
+    echo "$name: without it use a program that was built elsewhere, by make install (docs/LIVING.md)" >&2
+    exit 1
+fi
+
 # One build at a time: in a pipe of first uses the others wait for the one that came first.
 if command -v flock >/dev/null && exec 9<"$0" && ! flock -n 9; then
     echo "$name: waiting for the program, which is being built" >&2

@@ -1,9 +1,20 @@
-# Completion of the words of ./pink for bash:  . docs/pink.bash
+# Completion of ./pink for bash:  . docs/pink.bash
 _pink() {
     local word=${COMP_WORDS[COMP_CWORD]}
     case $COMP_CWORD in
-        1) COMPREPLY=($(compgen -f -W --help -- "$word")) ;;
+        1)
+            compopt -o filenames 2>/dev/null
+            COMPREPLY=($(compgen -f -- "$word") $(compgen -W "--help --version" -- "$word"))
+            ;;
         2) COMPREPLY=($(compgen -W "make serve asm show put get del has list stat gen" -- "$word")) ;;
+        3)
+            case ${COMP_WORDS[2]} in
+                make) COMPREPLY=($(compgen -W "512 1024 2048 4096 8192 16384" -- "$word")) ;;
+                serve) COMPREPLY=($(compgen -W "8 36 148 520" -- "$word")) ;;
+                *) COMPREPLY=() ;;
+            esac
+            ;;
+        4) [ "${COMP_WORDS[2]}" = make ] && COMPREPLY=($(compgen -W "8 16 32 64 128 256" -- "$word")) || COMPREPLY=() ;;
         *) COMPREPLY=() ;;
     esac
 }

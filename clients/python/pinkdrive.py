@@ -7,30 +7,73 @@
         d[b"key"] = b"value"
         print(d[b"key"], b"other" in d, list(d))
 
-A drive is a mapping from keys, of 1 to 16 bytes, to values, both bytes. It needs Python 3.8 and the
-standard library alone, and is for one thread at a time.
+A drive is a mapping from keys, of 1 to 16 bytes, to values, both bytes. It needs Python 3.8, Linux
+and the standard library alone. Threads may share a `Drive`: each call gets its own answer, and the
+commands of one thread are done in their order.
 
 What is sent, and what is waited for. A command goes out as an entry of 64 bytes, and its record
 comes back in the order of the commands. `d[key] = value` is sent and not waited for: as with a
-buffered file, it is on the flash once `flush()` or `close()` (the end of the `with`) has returned,
-and a refusal of it is raised there. Every other call waits, and raises what the drive says of it.
-`send` sends any command without waiting, for a pipeline of one's own.
+buffered file, it is on the flash after `flush()` or `close()` (the end of the `with`), which raise
+a refusal of it. Every other call waits, and raises what the drive says of it. `send` sends any
+command without waiting, for a pipeline of one's own. A drive that is not closed is closed when it
+is collected or the process ends; a refusal that nobody heard is a `DriveWarning` then.
 
 What is raised. A status of the drive other than success is an exception with the standard's name,
-such as `KeyDoesNotExist` (a `KeyError` too) or `CapacityExceeded`. Where the program itself has
-ended, as for want of an image or because it was killed, it is `DriveEnded`; whatever the drive had
-answered is on the flash, and a new `Drive` finds it.
+such as `KeyDoesNotExist` (a `KeyError` too) or `CapacityExceeded`, with the limit in its text. If
+the program itself has ended, as for want of an image or because it was killed, it is `DriveEnded`
+with the cause in its text; whatever the drive had answered is on the flash, and a new `Drive` finds
+it. A closed drive raises `DriveClosed` (a `ValueError` too).
 """
 
+from __future__ import annotations
+
+import atexit
 import collections
 import collections.abc
 import enum
 import os
+import shutil
+import signal
 import struct
 import subprocess
 import threading
+import time
+import warnings
+import weakref
+from typing import (
+    Any,
+    Deque,
+    Dict,
+    ItemsView,
+    Iterable,
+    Iterator,
+    List,
+    MutableMapping,
+    NamedTuple,
+    NoReturn,
+    Optional,
+    Sequence,
+    Tuple,
+    Type,
+    TypeVar,
+    Union,
+    ValuesView,
+)
 
-PROGRAM = os.path.join(os.path.dirname(os.path.abspath(__file__)), "..", "..", "pink")
+Path = Union[str, "os.PathLike[str]"]
+Bytes = Union[bytes, bytearray, memoryview]
+Default = TypeVar("Default")
+
+
+def _launcher() -> str:
+    """The launcher that the environment names, the repository's, or the one on the path."""
+    named = os.environ.get("PINK_PROGRAM")
+    here = os.path.dirname(os.path.realpath(__file__))
+    own = os.path.normpath(os.path.join(here, "..", "..", "pink"))
+    return named or (own if os.path.isfile(own) else shutil.which("pink") or own)
+
+
+PROGRAM = _launcher()
 """The launcher of the program, unless a call names another."""
 
 KEY_BYTES = 16
@@ -40,7 +83,18 @@ RECORD = struct.Struct("<I4xHHIII")
 """The head of an answer record: result, entries taken, queue, identifier, marks, reads, length."""
 GREATEST_VALUE = 64 * 16384
 """No drive has a longer value, in bytes."""
-LIST_BYTES = 65536
+LIST_BYTES = (512, 4096, 65536)
+"""The buffers of the first Lists of an iteration, in bytes; the last is that of all others."""
+OUT_BYTES = 65536
+"""So many bytes of entries are gathered before they are written."""
+READ_BYTES = 262144
+"""So many bytes of records are read at once."""
+AHEAD = 64
+"""So many values, at most, are asked for ahead of an iteration,"""
+AHEAD_BYTES = 1 << 20
+"""and about so many bytes of them."""
+REFUSALS_KEPT = 1000
+"""So many refusals that nobody waited for are kept; more are counted."""
 
 
 class Opcode(enum.IntEnum):
@@ -56,15 +110,123 @@ class Opcode(enum.IntEnum):
     REPORT = 0xC2
 
 
+STORE, DELETE = int(Opcode.STORE), int(Opcode.DELETE)
+
+
+class Shape(NamedTuple):
+    """The shape of a drive, and what follows from it (docs/FORMATS.md)."""
+
+    page_bytes: int
+    block_pages: int
+    blocks: int
+
+    @property
+    def greatest_value(self) -> int:
+        """The length of the longest value, in bytes."""
+        return self.block_pages // 4 * self.page_bytes - 32
+
+    @property
+    def page_entries(self) -> int:
+        """The entries of a page of the index or the journal."""
+        return (self.page_bytes - 32) // 32
+
+    @property
+    def index_blocks(self) -> int:
+        """The blocks of the four runs, and of the longer of the last two again."""
+        last = -(-self.blocks * (3 * self.block_pages // 4) // self.page_entries) + 24
+        blocks = [-(-pages // self.block_pages) for pages in (4, 16, 64, last)]
+        return sum(blocks) + max(blocks[2:])
+
+    @property
+    def image_bytes(self) -> int:
+        """The length of the image file."""
+        return 32 + self.block_pages * self.blocks * (self.page_bytes + 1)
+
+    def pages_of(self, length: int) -> int:
+        """The pages that a value of so many bytes takes."""
+        return -(-(32 + length) // self.page_bytes)
+
+    def fault(self) -> Optional[str]:
+        """The first rule that the shape breaks, in words; None if it is allowed."""
+        page, pages, blocks = self
+        if page not in (512, 1024, 2048, 4096, 8192, 16384):
+            return f"a page has 512, 1024, 2048, 4096, 8192 or 16384 bytes, not {page}"
+        if pages not in (8, 16, 32, 64, 128, 256):
+            return f"a block has 8, 16, 32, 64, 128 or 256 pages, not {pages}"
+        if 3 * pages // 4 > self.page_entries:
+            return f"with pages of {page} bytes a block has fewer than {pages} pages"
+        if blocks > 4096:
+            return f"a drive has at most 4096 blocks, not {blocks}"
+        if page * pages * blocks > 1 << 28:
+            return f"a drive has at most 256 MiB, not {page} * {pages} * {blocks} bytes"
+        index = self.index_blocks
+        if 64 + 2 * (index + 4) > page:
+            return f"a root with {index + 4} block numbers does not fit a page of {page} bytes"
+        if blocks < 9 + index:
+            return f"a drive of this page and block has at least {9 + index} blocks, not {blocks}"
+        return None
+
+
+def shape_of(image: Path) -> Optional[Shape]:
+    """The shape that the head of an image file has; None if it has none."""
+    try:
+        with open(image, "rb") as file:
+            head = file.read(32)
+    except OSError:
+        return None
+    if len(head) < 32 or head[:8] != b"PINKIMG1":
+        return None
+    shape = Shape(*struct.unpack_from("<III", head, 8))
+    return None if shape.fault() else shape
+
+
+def process_using(image: Path) -> Optional[int]:
+    """The process that has the image file locked; None if the system lists none."""
+    try:
+        inode = str(os.stat(image).st_ino)
+    except OSError:
+        return None
+    # A list that is read in pieces while it changes may lack an entry, so it is read up to three times.
+    found = (_lock_of(inode) for _ in range(3))
+    return next((process for process in found if process is not None), None)
+
+
+def _lock_of(inode: str) -> Optional[int]:
+    try:
+        with open("/proc/locks") as locks:
+            lines = [line.split() for line in locks]
+    except OSError:
+        return None
+    for words in lines:
+        if len(words) > 5 and words[1] == "FLOCK" and words[5].rpartition(":")[2] == inode:
+            return int(words[4])
+    return None
+
+
+# What is raised.
+
+
+class DriveWarning(UserWarning):
+    """A refusal that nobody waited for, or an end that nobody heard of."""
+
+
 class DriveError(Exception):
     """What a drive or its program says that is no success."""
 
+    others: Tuple["DriveError", ...] = ()
+    """Further refusals that nobody had waited for, the first thousand at most."""
+
+
+class DriveClosed(DriveError, ValueError):
+    """The drive was closed, or belongs to the process that this one was forked from."""
+
 
 class DriveEnded(DriveError):
-    """The program has ended. `status` is its exit status, negative where a signal ended it."""
+    """The program has ended. `status` is its exit status, negative if a signal ended it."""
 
     NAMES = {
         0: "done",
+        1: "not built",
         2: "words",
         3: "truncated",
         4: "input failed",
@@ -74,24 +236,34 @@ class DriveEnded(DriveError):
         8: "no drive",
         9: "already made",
         10: "worn",
+        12: "bad line",
     }
 
-    def __init__(self, status):
+    def __init__(self, status: int, cause: Optional[str] = None) -> None:
         self.status = status
-        self.name = self.NAMES.get(status, "killed" if status < 0 or status > 128 else "unknown")
-        super().__init__(f"the program ended with status {status}: {self.name}")
+        self.cause = cause
+        killed = status < 0 or status > 128
+        self.name = "killed" if killed else self.NAMES.get(status, "unknown")
+        super().__init__(f"status {status}: {cause or self.name}")
+
+
+class ImageInUse(DriveEnded):
+    """Another process has the image open; `process` is its number."""
+
+    process: Optional[int] = None
 
 
 class StatusError(DriveError):
     """A command was refused. `key` is the key that it named; the map is as it was."""
 
-    status = None
+    status = 0
 
-    def __init__(self, key):
+    def __init__(self, key: bytes, text: str = "") -> None:
         self.key = key
-        super().__init__(f"status {self.status:02X}h for the key {key!r}")
+        super().__init__(text or f"status {self.status:02X}h for the key {key!r}")
 
-    __str__ = Exception.__str__
+    def __str__(self) -> str:
+        return str(self.args[0])
 
 
 class InvalidCommandOpcode(StatusError):
@@ -130,184 +302,576 @@ class KeyExists(StatusError):
     status = 0x89
 
 
-STATUS_ERRORS = {it.status: it for it in StatusError.__subclasses__()}
+STATUS_ERRORS: Dict[int, Type[StatusError]] = {it.status: it for it in StatusError.__subclasses__()}
 
-Report = collections.namedtuple(
-    "Report",
-    "live limit keys pinned frames leased active frozen"
-    " run1 run2 run3 run4 epoch blocks ready merge",
-)
-"""The drive's numbers, as docs/COMMANDS.md has them."""
 
-Reply = collections.namedtuple("Reply", "result reads data")
-"""An answer: the result, the pages that were read for it, and the data."""
+class Limits(NamedTuple):
+    """The shape of a drive, and the pages that the values of all keys may take."""
+
+    shape: Shape
+    live_pages: int
+
+
+def refusal_text(status: int, opcode: int, key: bytes, size: int, limits: Optional[Limits]) -> str:
+    """What the status of a command means, in words, with the limit; `size` as in the command."""
+    if status == 0x01:
+        return f"the drive has no command {opcode:02X}h (status 01h)"
+    if status == 0x02:
+        return f"a List needs a buffer of at least 4 bytes, not {size} (status 02h)"
+    if status == 0x81:
+        tail = ""
+        if limits:
+            pages, all_pages = limits.shape.pages_of(size), limits.live_pages
+            tail = f": its value takes {pages} pages, and the values of all keys at most {all_pages}"
+        return f"no space for the key {key!r}{tail} (status 81h)"
+    if status == 0x85:
+        most = str(limits.shape.greatest_value) if limits else "fewer"
+        return f"the value of {key!r} has {size} bytes; the drive takes at most {most} (status 85h)"
+    if status == 0x86:
+        return f"a key has 1 to {KEY_BYTES} bytes; {key!r} has {len(key)} (status 86h)"
+    if status == 0x87:
+        return f"there is no key {key!r} (status 87h)"
+    if status == 0x88:
+        return f"reading the flash failed for {key!r}; pinkctl check tells the page (status 88h)"
+    if status == 0x89:
+        return f"the key {key!r} is there already (status 89h)"
+    return f"status {status:02X}h for the key {key!r}"
+
+
+def _file_fault(image: str, making: bool) -> Optional[str]:
+    """What hinders the program from opening the image file; None if nothing is seen."""
+    folder = os.path.dirname(os.path.realpath(image))
+    if os.path.isdir(image):
+        return f"{image} is a folder"
+    if not os.path.isdir(folder):
+        return f"there is no folder {folder}"
+    if os.path.exists(image) and not os.access(image, os.R_OK | os.W_OK):
+        return f"no permission to read and write {image}"
+    if making and not os.path.exists(image) and not os.access(folder, os.W_OK):
+        return f"no permission to make a file in {folder}"
+    return None
+
+
+def _no_space(image: str) -> Optional[str]:
+    try:
+        system = os.statvfs(image if os.path.exists(image) else os.path.dirname(image) or ".")
+    except OSError:
+        return None
+    free = system.f_bavail * system.f_frsize
+    return f"there is no space left on the disk of {image}" if free < 65536 else None
+
+
+def _image_fault(image: str, making: bool) -> str:
+    """What is wrong with a file that holds no drive, by its head and length."""
+    if not os.path.exists(image):
+        return f"there is no file {image}: make() makes one"
+    hint = ": remove it, or name another file" if making else ""
+    size = os.path.getsize(image)
+    try:
+        with open(image, "rb") as file:
+            head = file.read(8)
+    except OSError as error:
+        return f"{image}: {error.strerror}"
+    if not head.startswith(b"PINKIMG1"):
+        return f"{image} is no image of a drive ({size} bytes){hint}"
+    shape = shape_of(image)
+    if shape is None:
+        return f"the head of the image {image} is damaged, or was never whole{hint}"
+    if size != shape.image_bytes:
+        return f"the image {image} has {size} bytes, and should have {shape.image_bytes}{hint}"
+    return f"the image {image} is damaged, or its making was broken off: see pinkctl check {image}"
+
+
+def cause_of(status: int, image: Path, words: Sequence[str] = ("serve",)) -> Optional[str]:
+    """Why the program ended with this status on these words, as far as the image file shows."""
+    image, making = os.fspath(image), list(words[:1]) == ["make"]
+    if status < 0 or status > 128:
+        number = -status if status < 0 else status - 128
+        try:
+            name = signal.Signals(number).name
+        except ValueError:
+            name = "unknown"
+        return f"ended by signal {number} ({name}); what was answered is on the flash"
+    if status == 2 and making:
+        return Shape(*map(int, words[1:4])).fault()
+    if status == 2:
+        return "frames are 0 to 16384"
+    if status == 6:
+        process = process_using(image)
+        if process is not None:
+            return f"{image} is in use by process {process}"
+        return _file_fault(image, making) or _no_space(image)
+    if status == 8:
+        return _file_fault(image, making) or _image_fault(image, making)
+    plain = {
+        1: "the program is not built, and building it failed (its kit, rt, has to be there)",
+        3: "the input ended within a command; all before it was served",
+        7: "there was not enough memory; nothing was served",
+        9: f"there is an image already: remove {image}, or name another file",
+        10: "the drive is worn, or 2^32-1 commands were taken",
+        126: "the launcher may not be run",
+        127: "the launcher was not found",
+    }
+    return plain.get(status)
+
+
+def ended(status: int, image: Path, words: Sequence[str] = ("serve",)) -> DriveEnded:
+    """The exception of a program that ended with this status, with the cause in words."""
+    process = process_using(image) if status == 6 else None
+    if process is None:
+        return DriveEnded(status, cause_of(status, image, words))
+    error = ImageInUse(status, f"{os.fspath(image)} is in use by process {process}")
+    error.process = process
+    return error
+
+
+# Commands and their answers.
+
+
+class Report(NamedTuple):
+    """The drive's numbers, as docs/COMMANDS.md has them."""
+
+    live: int
+    limit: int
+    keys: int
+    pinned: int
+    frames: int
+    leased: int
+    active: int
+    frozen: int
+    run1: int
+    run2: int
+    run3: int
+    run4: int
+    epoch: int
+    blocks: int
+    ready: int
+    merge: int
+
+
+class Reply(NamedTuple):
+    """An answer: the result, the pages that were read for it, and the data."""
+
+    result: int
+    reads: int
+    data: bytes
 
 
 class Pending:
     """A command that was sent. `result()` waits for its record."""
 
-    def __init__(self, drive, number, opcode, key):
-        self._drive = drive
-        self._number = number
+    __slots__ = ("_session", "_number", "_waiters", "opcode", "key", "size", "status", "reply", "unheard")
+
+    def __init__(self, session: _Session, opcode: int, key: bytes, size: int) -> None:
+        self._session = session
+        self._number = 0
+        self._waiters: List[threading.Lock] = []
         self.opcode = opcode
         self.key = key
-        self.status = None
-        self.reply = None
-        self.unheard = False  # where nobody waits for it, flush or close raises a refusal
+        self.size = size
+        self.status: Optional[int] = None
+        self.reply = Reply(0, 0, b"")
+        self.unheard = False  # if nobody waits for it, flush or close raises a refusal
 
-    def done(self):
+    def done(self) -> bool:
         """Whether its record has come."""
         return self.status is not None
 
-    def result(self):
+    def result(self) -> Reply:
         """Its `Reply`, or the exception of its status."""
-        self._drive._await(self)
+        self._session.wait(self)
         if self.status == 0:
             return self.reply
         raise self.error()
 
-    def error(self):
+    def error(self) -> DriveError:
         """The exception of its status."""
-        known = STATUS_ERRORS.get(self.status)
-        if known:
-            return known(self.key)
-        return DriveError(f"status {self.status:02X}h for the key {self.key!r}")
+        status = self.status or 0
+        text = refusal_text(status, self.opcode, self.key, self.size, self._session.limits)
+        known = STATUS_ERRORS.get(status)
+        return known(self.key, text) if known else DriveError(text)
 
 
-class Drive(collections.abc.MutableMapping):
-    """A session of the drive in an image file, with so many page frames for the index."""
+class _Session:
+    """The program that serves a drive, its two pipes and the commands under way, for any thread.
 
-    def __init__(self, image, frames=36, program=PROGRAM, stderr=None):
-        """Opens the drive. `stderr`, as subprocess takes it, gets the program's own line."""
-        self._changed = threading.Condition()
-        self._waiting = collections.deque()
-        self._refused = None
+    `_sending` is held while commands get their numbers and their bytes are written, so they go out
+    in the order in which they wait for their records. `_state` is held while records are taken. The
+    thread that reads takes the second alone, and never waits for one that sends.
+    """
+
+    def __init__(self, program: str, image: str, frames: int, stderr: Any) -> None:
+        self.image = image
+        self.limits: Optional[Limits] = None
+        self.pid = os.getpid()
+        self.closed = False
+        self._sending = threading.Lock()
+        self._state = threading.Lock()
+        self._waiting: Deque[Pending] = collections.deque()
+        self._refused: List[Pending] = []
+        self._refusals = 0
+        self._fault: Optional[str] = None
+        self._ended = False
         self._sent = 0
         self._released = 0
-        self._ended = False
+        self._out = bytearray()
+        # The launcher gives its place to the program, so signals to the process reach the program.
         self.process = subprocess.Popen(
-            [program, os.fspath(image), "serve", str(frames)],
+            [program, image, "serve", str(frames)],
+            bufsize=0,
             stdin=subprocess.PIPE,
             stdout=subprocess.PIPE,
             stderr=stderr,
             start_new_session=True,
+            env={**os.environ, "PINK_EXEC": "1"},
         )
+        assert self.process.stdin and self.process.stdout
+        self._input, self._output = self.process.stdin, self.process.stdout
         self._reader = threading.Thread(target=self._read_records, daemon=True)
         self._reader.start()
+        _open_sessions.add(self)
+
+    def send(self, opcode: int, key: bytes, size: int, options: int, value: bytes, unheard: bool) -> Pending:
+        pending = Pending(self, opcode, key, size)
+        pending.unheard = unheard
+        with self._sending:
+            self._append(pending, options, value)
+            if len(self._out) >= OUT_BYTES:
+                self._write_out()
+        return pending
+
+    def _append(self, pending: Pending, options: int = 0, value: bytes = b"") -> None:
+        """Gives a command its number and its place; `_sending` is held."""
+        if self.closed or self.pid != os.getpid():
+            raise DriveClosed(f"the drive {self.image} is closed")
+        if self._ended or self._fault:
+            raise self._end()
+        number, key = self._sent, pending.key
+        front = key[:KEY_BYTES].ljust(KEY_BYTES, b"\0")
+        length = min(len(key), 255)
+        entry = ENTRY.pack(
+            pending.opcode, number % 65536, 1, front[:8], pending.size, length, options, front[8:]
+        )
+        pending._number = number
         try:
-            self.flush()
-        except BaseException:
-            self._abandon()
+            self._waiting.append(pending)
+            self._out += entry
+            self._out += value
+            self._sent = number + 1
+        except BaseException:  # broken off between two of these, records would go to wrong commands
+            self._spoil("a command was broken off while it was sent")
+            raise
+        if pending.opcode not in (STORE, DELETE):
+            self._released = self._sent
+
+    def _write_out(self) -> None:
+        """Writes what was gathered; `_sending` is held."""
+        out, self._out = memoryview(self._out), bytearray()
+        try:
+            while out:
+                out = out[os.write(self._input.fileno(), out[:OUT_BYTES]) :]
+        except BrokenPipeError:
+            raise self._end() from None
+        except BaseException:  # how much was written is not known, and the rest would be read as another command
+            self._spoil("writing to the program was broken off")
             raise
 
-    # The pipes.
+    def _spoil(self, fault: str) -> None:
+        """Sends no more: what went out whole is served, and all else is told as an error."""
+        self._fault = self._fault or fault
+        self._out.clear()
+        try:
+            self._input.close()
+        except OSError:
+            pass
 
-    def send(self, opcode, key=b"", size=0, options=0, value=b""):
+    def wait(self, pending: Pending) -> None:
+        """Returns when the record of a command has come; raises if it never comes."""
+        if pending.status is None and not self.closed:
+            with self._sending:
+                self._push(pending)
+        waiter = threading.Lock()
+        waiter.acquire()
+        with self._state:
+            coming = pending.status is None and not self._ended
+            if coming:
+                pending._waiters.append(waiter)
+        if coming:
+            waiter.acquire()
+        if pending.status is None:
+            raise self._end()
+
+    def _push(self, pending: Pending) -> None:
+        """Sends what a command's record needs to come; `_sending` is held."""
+        if self.closed or pending.status is not None:
+            return
+        if pending._number >= self._released:
+            # The drive gathers Stores and Deletes until something follows.
+            self._append(Pending(self, Opcode.FLUSH, b"", 0))
+        self._write_out()
+
+    def _end(self) -> DriveError:
+        """The program takes no more: what it had answered has come, and the rest never comes."""
+        if self._fault:
+            return DriveError(f"{self._fault}: the drive {self.image} has to be opened again")
+        if threading.current_thread() is not self._reader:
+            self._reader.join()
+        return ended(self.process.wait(), self.image)
+
+    def _read_records(self) -> None:
+        data = bytearray()
+        try:
+            while True:
+                piece = os.read(self._output.fileno(), READ_BYTES)
+                if not piece:
+                    break
+                data += piece
+                with self._state:
+                    del data[: self._take_records(data)]
+        except (OSError, ValueError):
+            pass  # the pipe was closed
+        with self._state:
+            self._ended = True
+        while self._waiting:  # others may still be sending, so the queue is not iterated over
+            for waiter in self._waiting.popleft()._waiters:
+                waiter.release()
+
+    def _take_records(self, data: bytearray) -> int:
+        """Hands each whole record to its command, and returns how many bytes they have."""
+        at, size = 0, len(data)
+        while size - at >= RECORD.size:
+            result, _, _, marks, reads, length = RECORD.unpack_from(data, at)
+            end = at + RECORD.size + length
+            if end > size:
+                break
+            self._take(marks, Reply(result, reads, bytes(data[at + RECORD.size : end])))
+            at = end
+        return at
+
+    def _take(self, marks: int, reply: Reply) -> None:
+        if not self._waiting or marks & 0xFFFF != self._waiting[0]._number % 65536:
+            self._fault = self._fault or "a record came that belongs to no command"
+            raise ValueError
+        pending = self._waiting.popleft()
+        pending.reply = reply
+        pending.status = status = marks >> 17 & 0xFF
+        missing = status == KeyDoesNotExist.status and pending.opcode == DELETE
+        if status and pending.unheard and not missing:
+            self._refusals += 1
+            if len(self._refused) < REFUSALS_KEPT:
+                self._refused.append(pending)
+        for waiter in pending._waiters:
+            waiter.release()
+
+    def refusal(self) -> Optional[DriveError]:
+        """The refusals that nobody waited for, as one exception, once."""
+        with self._state:
+            refused, self._refused = self._refused, []
+            count, self._refusals = self._refusals, 0
+        if not refused:
+            return None
+        error, others = refused[0].error(), tuple(it.error() for it in refused[1:])
+        if others:
+            error.args = (f"{error}; {count - 1} more were refused, the next: {others[0]}",)
+            error.others = others
+        return error
+
+    def close(self) -> None:
+        """Ends the session: all that was sent is on the flash, or an exception tells what is not."""
+        if self.closed or self.pid != os.getpid():
+            return
+        with self._sending:
+            if self.closed:
+                return
+            self.closed = True
+            try:
+                self._write_out()
+            except DriveError:
+                pass  # told by the status below
+            finally:
+                if not self._fault:
+                    self._input.close()
+        self._reader.join()
+        self._output.close()
+        _open_sessions.discard(self)
+        status = self.process.wait()
+        if self._fault or status:
+            raise self._end()
+        refusal = self.refusal()
+        if refusal:
+            raise refusal
+
+    def abandon(self) -> None:
+        """Closes the pipes of a drive that did not open."""
+        self.closed = True
+        self._input.close()
+        self.process.wait()
+        self._reader.join()
+        self._output.close()
+        _open_sessions.discard(self)
+
+    def close_and_warn(self) -> None:
+        """Closes a session that nobody closed; what would be raised is a warning."""
+        try:
+            self.close()
+        except DriveError as error:
+            text = f"{self.image} was not closed, and nobody heard that: {error}"
+            warnings.warn(DriveWarning(text), stacklevel=2)
+
+
+_open_sessions: "weakref.WeakSet[_Session]" = weakref.WeakSet()
+
+
+def _close_at_exit() -> None:
+    for session in list(_open_sessions):
+        session.close_and_warn()
+
+
+def _close_in_child() -> None:
+    """The drives of the parent are not the child's: it keeps no end of their pipes."""
+    for session in list(_open_sessions):
+        session.closed = True
+        for pipe in (session._input, session._output):
+            try:
+                os.close(pipe.fileno())
+            except (OSError, ValueError):
+                pass
+    _open_sessions.clear()
+
+
+atexit.register(_close_at_exit)
+os.register_at_fork(after_in_child=_close_in_child)
+
+
+def _close_collected(session: _Session) -> None:
+    """Closes the session of a drive that was collected, in a thread: any lock may be held here."""
+    if not session.closed and session.pid == os.getpid():
+        threading.Thread(target=session.close_and_warn).start()
+
+
+class _Items(ItemsView[bytes, bytes]):
+    _mapping: Drive
+
+    def __iter__(self) -> Iterator[Tuple[bytes, bytes]]:
+        return self._mapping.items_from()
+
+
+class _Values(ValuesView[bytes]):
+    _mapping: Drive
+
+    def __iter__(self) -> Iterator[bytes]:
+        return (value for _, value in self._mapping.items_from())
+
+
+class Drive(MutableMapping[bytes, bytes]):
+    """A session of the drive in an image file, with so many page frames for the index."""
+
+    def __init__(
+        self,
+        image: Path,
+        frames: int = 36,
+        program: Optional[str] = None,
+        stderr: Any = None,
+        timeout: float = 0,
+    ) -> None:
+        """Opens the drive.
+
+        It waits for at most `timeout` seconds while another process has the image open, and raises
+        `ImageInUse` then. `stderr`, as subprocess takes it, gets what building the program says.
+        """
+        self.image = os.fspath(image)
+        last = time.monotonic() + timeout
+        pause = 0.005
+        while True:
+            try:
+                self._session = self._open(program or PROGRAM, frames, stderr)
+                break
+            except DriveEnded as error:
+                # Of another cause than the image in use there is a text.
+                waits = isinstance(error, ImageInUse) or (error.status == 6 and not error.cause)
+                if not waits or time.monotonic() + pause > last:
+                    raise
+            time.sleep(pause)
+            pause = min(2 * pause, 0.1)
+        weakref.finalize(self, _close_collected, self._session).atexit = False
+
+    def _open(self, program: str, frames: int, stderr: Any) -> _Session:
+        session = _Session(program, self.image, frames, stderr)
+        try:
+            report = session.send(Opcode.REPORT, b"", 0, 0, b"", False).result().data
+        except BaseException:
+            session.abandon()
+            raise
+        shape = shape_of(self.image)
+        if shape:
+            session.limits = Limits(shape, struct.unpack_from("<I", report, 4)[0])
+        return session
+
+    @property
+    def process(self) -> "subprocess.Popen[bytes]":
+        """The program."""
+        return self._session.process
+
+    @property
+    def limits(self) -> Optional[Limits]:
+        """The limits of the drive, as `limits.shape.greatest_value`; None if the image was moved."""
+        return self._session.limits
+
+    @property
+    def closed(self) -> bool:
+        return self._session.closed
+
+    def __repr__(self) -> str:
+        return f"<Drive {self.image!r}{', closed' if self.closed else ''}>"
+
+    def send(
+        self, opcode: int, key: Bytes = b"", size: int = 0, options: int = 0, value: Bytes = b""
+    ) -> Pending:
         """Sends a command and waits for nothing. Its `Pending` has the answer.
 
         `size` is the buffer of a Retrieve or a List and the steps of a Tick; of a Store it is the
         value's length, whatever is named.
         """
+        return self._send(opcode, key, size, options, value, False)
+
+    def _send(
+        self, opcode: int, key: Bytes, size: int, options: int, value: Bytes, unheard: bool
+    ) -> Pending:
         key = _bytes(key)
-        if opcode == Opcode.STORE:
-            value = _bytes(value)
-            size = len(value)
-            if size >= 2**32:
-                raise InvalidValueSize(key)
-        front = key[:KEY_BYTES].ljust(KEY_BYTES, b"\0")
-        entry = ENTRY.pack(
-            opcode, self._sent % 65536, 1, front[:8], size, min(len(key), 255), options, front[8:]
-        )
-        pending = Pending(self, self._sent, opcode, key)
-        with self._changed:
-            if self._ended:
-                raise DriveEnded(self.process.wait())
-            self._waiting.append(pending)
-        self._sent += 1
-        if opcode not in (Opcode.STORE, Opcode.DELETE):
-            self._released = self._sent
-        self._write(entry + value if opcode == Opcode.STORE else entry)
-        return pending
-
-    def _write(self, data):
-        try:
-            self.process.stdin.write(data)
-        except (BrokenPipeError, ValueError):
-            raise self._end() from None
-
-    def _await(self, pending):
-        """Waits until the record of a command has come, or the program has ended."""
-        if not pending.done() and pending._number >= self._released:
-            self.send(Opcode.FLUSH)  # the drive gathers Stores and Deletes until something follows
-        try:
-            self.process.stdin.flush()
-        except (BrokenPipeError, ValueError):
-            pass  # the reader sees the end
-        with self._changed:
-            self._changed.wait_for(lambda: pending.done() or self._ended)
-        if not pending.done():
-            raise self._end()
-
-    def _end(self):
-        """The program takes no more: what it had answered has come, and the rest never comes."""
-        self._reader.join()
-        return DriveEnded(self.process.wait())
-
-    def _read_records(self):
-        while True:
-            head = self.process.stdout.read(RECORD.size)
-            if len(head) < RECORD.size:
-                break
-            result, _, _, marks, reads, length = RECORD.unpack(head)
-            found = self.process.stdout.read(length)
-            if len(found) < length:
-                break
-            with self._changed:
-                self._take(marks >> 17 & 0xFF, Reply(result, reads, found))
-                self._changed.notify_all()
-        with self._changed:
-            self._ended = True
-            self._changed.notify_all()
-
-    def _take(self, status, reply):
-        pending = self._waiting.popleft()
-        pending.reply = reply
-        pending.status = status
-        if status and pending.unheard and not self._refused:
-            self._refused = pending
-
-    def _abandon(self):
-        for pipe in (self.process.stdin, self.process.stdout):
-            try:
-                pipe.close()
-            except (BrokenPipeError, OSError):
-                pass
-        self.process.wait()
+        if opcode != STORE:
+            return self._session.send(opcode, key, size, options, b"", unheard)
+        value = _bytes(value)
+        if len(value) >= 2**32:
+            text = refusal_text(InvalidValueSize.status, opcode, key, len(value), self.limits)
+            raise InvalidValueSize(key, text)
+        return self._session.send(opcode, key, len(value), options, value, unheard)
 
     # Commands that are waited for.
 
-    def store(self, key, value, *, if_absent=False, if_exists=False):
+    def store(
+        self, key: Bytes, value: Bytes, *, if_absent: bool = False, if_exists: bool = False
+    ) -> None:
         """Stores a value, and returns when it is on the flash.
 
-        With `if_absent` it raises `KeyExists` where the key is there, with `if_exists`
-        `KeyDoesNotExist` where it is not.
+        With `if_absent` it raises `KeyExists` if the key is there, with `if_exists`
+        `KeyDoesNotExist` if it is not.
         """
         options = bool(if_exists) + 2 * bool(if_absent)
         self.send(Opcode.STORE, key, options=options, value=value).result()
 
-    def retrieve(self, key, size=GREATEST_VALUE):
+    def retrieve(self, key: Bytes, size: int = GREATEST_VALUE) -> bytes:
         """The front of a value, of at most so many bytes."""
         return self.send(Opcode.RETRIEVE, key, size).result().data
 
-    def length(self, key):
+    def length(self, key: Bytes) -> int:
         """The length of a value in bytes."""
         return self.send(Opcode.RETRIEVE, key, 0).result().result
 
-    def delete(self, key):
+    def delete(self, key: Bytes) -> None:
         """Takes a key away, and returns when that is on the flash."""
         self.send(Opcode.DELETE, key).result()
 
-    def exist(self, key):
+    def exist(self, key: Bytes) -> bool:
         """Whether a key is there."""
         try:
             self.send(Opcode.EXIST, key).result()
@@ -315,130 +879,167 @@ class Drive(collections.abc.MutableMapping):
             return False
         return True
 
-    def flush(self):
-        """Returns when all that was sent is on the flash; raises a refusal nobody waited for."""
+    def flush(self) -> None:
+        """Returns when all that was sent is on the flash; raises refusals nobody waited for."""
         self.send(Opcode.FLUSH).result()
-        self._raise_refused()
+        refusal = self._session.refusal()
+        if refusal:
+            raise refusal
 
-    def report(self):
+    def report(self) -> Report:
         """The drive's numbers."""
         return Report._make(struct.unpack("<16I", self.send(Opcode.REPORT).result().data))
 
-    def tick(self, steps=16):
+    def tick(self, steps: int = 16) -> None:
         """Lets the drive make so many steps of its work in the background, or fewer."""
         self.send(Opcode.TICK, size=steps).result()
 
-    def keys_from(self, start=b""):
+    def keys_from(self, start: Bytes = b"") -> Iterator[bytes]:
         """The keys in their order, from `start` on."""
-        for page in self._pages_of_keys(start):
+        for page in self._pages_of_keys(_bytes(start)):
             yield from page
 
-    def items_from(self, start=b""):
+    def items_from(self, start: Bytes = b"") -> Iterator[Tuple[bytes, bytes]]:
         """The keys in their order, from `start` on, each with its value."""
-        for page in self._pages_of_keys(start):
-            for pending in [self.send(Opcode.RETRIEVE, key, GREATEST_VALUE) for key in page]:
-                try:
-                    yield pending.key, pending.result().data
-                except KeyDoesNotExist:
-                    pass  # it was deleted meanwhile
+        for key, value in self._values_of(self.keys_from(start)):
+            if value is not None:  # else it was deleted meanwhile
+                yield key, value
 
-    def get_many(self, keys, default=None):
-        """The values of these keys, in their order, asked for at once."""
-        for pending in [self.send(Opcode.RETRIEVE, key, GREATEST_VALUE) for key in keys]:
-            try:
-                yield pending.result().data
-            except KeyDoesNotExist:
-                yield default
+    def get_many(
+        self, keys: Iterable[Bytes], default: Optional[Default] = None
+    ) -> Iterator[Union[bytes, Optional[Default]]]:
+        """The values of these keys, in their order, asked for in a pipeline."""
+        for _, value in self._values_of(keys):
+            yield default if value is None else value
 
-    def _pages_of_keys(self, start):
-        last = None
+    def _values_of(self, keys: Iterable[Bytes]) -> Iterator[Tuple[bytes, Optional[bytes]]]:
+        """Keys with their values: the first is asked for alone, the next further and further ahead."""
+        ahead: Deque[Pending] = collections.deque()
+        most, longest = 1, 1
+        for key in keys:
+            ahead.append(self.send(Opcode.RETRIEVE, key, GREATEST_VALUE))
+            if len(ahead) >= most:
+                found = _value_of(ahead.popleft())
+                longest = max(longest, len(found[1] or b""))
+                yield found
+                most = max(1, min(2 * most, AHEAD, AHEAD_BYTES // longest))
+        yield from map(_value_of, ahead)
+
+    def _pages_of_keys(self, start: bytes) -> Iterator[List[bytes]]:
+        last: Optional[bytes] = None
+        turn = 0
         while True:
-            listed = _keys_in(self.send(Opcode.LIST, start, LIST_BYTES).result().data)
+            size = LIST_BYTES[min(turn, len(LIST_BYTES) - 1)]
+            listed = _keys_in(self.send(Opcode.LIST, start, size).result().data)
             page = listed[1:] if listed and listed[0] == last else listed
             if not page:
                 return
             yield page
             start = last = page[-1]
+            turn += 1
 
     # The mapping.
 
-    def __getitem__(self, key):
+    def __getitem__(self, key: Bytes) -> bytes:
         return self.retrieve(key)
 
-    def __setitem__(self, key, value):
-        pending = self.send(Opcode.STORE, key, value=value)
-        with self._changed:
-            pending.unheard = True
-            if pending.status and not self._refused:
-                self._refused = pending  # its record came before it was marked
+    def __setitem__(self, key: Bytes, value: Bytes) -> None:
+        self._send(Opcode.STORE, key, 0, 0, value, True)
 
-    def __delitem__(self, key):
+    def __delitem__(self, key: Bytes) -> None:
         self.delete(key)
 
-    def __contains__(self, key):
-        return self.exist(key)
+    def __contains__(self, key: object) -> bool:
+        return self.exist(_bytes(key))
 
-    def __iter__(self):
+    def __iter__(self) -> Iterator[bytes]:
         return self.keys_from()
 
-    def __len__(self):
+    def __len__(self) -> int:
         return self.report().keys
+
+    def items(self) -> ItemsView[bytes, bytes]:
+        return _Items(self)
+
+    def values(self) -> ValuesView[bytes]:
+        return _Values(self)
+
+    def setdefault(self, key: Bytes, default: Bytes = b"") -> bytes:
+        """The value of a key, which gets this one if it has none."""
+        try:
+            self.store(key, default, if_absent=True)
+        except KeyExists:
+            return self[key]
+        return _bytes(default)
+
+    def update(self, other: Any = (), /, **named: Any) -> None:
+        """Stores many values in a pipeline, and returns when they are on the flash."""
+        super().update(other, **named)
+        self.flush()
+
+    def clear(self) -> None:
+        """Takes all keys away in a pipeline, and returns when that is on the flash."""
+        for key in self.keys_from():
+            self._send(Opcode.DELETE, key, 0, 0, b"", True)
+        self.flush()
 
     # The end.
 
-    def _raise_refused(self):
-        with self._changed:
-            refused, self._refused = self._refused, None
-        if refused:
-            raise refused.error()
-
-    def close(self):
+    def close(self) -> None:
         """Ends the session: all that was sent is on the flash. A second call does nothing."""
-        if self.process.stdin.closed:
-            return
-        try:
-            self.process.stdin.close()
-        except BrokenPipeError:
-            pass
-        self._reader.join()
-        self.process.stdout.close()
-        status = self.process.wait()
-        if status:
-            raise DriveEnded(status)
-        self._raise_refused()
+        self._session.close()
 
-    def __enter__(self):
+    def __enter__(self) -> Drive:
         return self
 
-    def __exit__(self, kind, error, trace):
+    def __exit__(self, kind: Any, error: Any, trace: Any) -> None:
         if kind is None:
             self.close()
-            return
-        try:
-            self.close()
-        except DriveError:
-            pass  # the error that ends the block is the one that is told
+        else:  # the error that ends the block is raised, and what the end says is a warning
+            self._session.close_and_warn()
 
 
-def make(image, page_bytes, block_pages, blocks, program=PROGRAM, stderr=None):
-    """Makes the image of a drive without keys; `DriveEnded` with status 9 where there is one."""
-    words = [program, os.fspath(image), "make", *map(str, (page_bytes, block_pages, blocks))]
-    status = subprocess.run(words, stdin=subprocess.DEVNULL, stderr=stderr).returncode
-    if status:
-        raise DriveEnded(status)
+def make(
+    image: Path,
+    page_bytes: int,
+    block_pages: int,
+    blocks: int,
+    program: Optional[str] = None,
+    stderr: Any = None,
+) -> None:
+    """Makes the image of a drive without keys; `DriveEnded` with status 9 if there is one."""
+    words = ["make", *map(str, (page_bytes, block_pages, blocks))]
+    run = subprocess.run(
+        [program or PROGRAM, os.fspath(image), *words],
+        stdin=subprocess.DEVNULL,
+        stderr=stderr,
+        env={**os.environ, "PINK_EXEC": "1"},
+    )
+    if run.returncode:
+        raise ended(run.returncode, image, words)
 
 
-def _bytes(value):
-    if isinstance(value, (bytes, bytearray, memoryview)):
+def _bytes(value: object) -> bytes:
+    if isinstance(value, bytes):
+        return value
+    if isinstance(value, (bytearray, memoryview)):
         return bytes(value)
     raise TypeError(f"keys and values are bytes, not {type(value).__name__}")
 
 
-def _keys_in(data):
+def _value_of(pending: Pending) -> Tuple[bytes, Optional[bytes]]:
+    """The key of a Retrieve, and the value, or None if there is none."""
+    try:
+        return pending.key, pending.result().data
+    except KeyDoesNotExist:
+        return pending.key, None
+
+
+def _keys_in(data: bytes) -> List[bytes]:
     """The keys of a List's data."""
     count, at, keys = struct.unpack_from("<I", data)[0], 4, []
     for _ in range(count):
         size = struct.unpack_from("<H", data, at)[0]
-        keys.append(bytes(data[at + 2 : at + 2 + size]))
+        keys.append(data[at + 2 : at + 2 + size])
         at += -(-(2 + size) // 4) * 4
     return keys

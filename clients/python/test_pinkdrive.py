@@ -3,16 +3,21 @@
 The environment's PINK_PROGRAM names another program than ./pink.
 """
 
+import gc
 import os
 import random
 import signal
+import struct
 import subprocess
 import sys
 import tempfile
+import threading
 import time
 import unittest
+import warnings
 
-sys.path.insert(0, os.path.dirname(os.path.abspath(__file__)))
+HERE = os.path.dirname(os.path.abspath(__file__))
+sys.path.insert(0, HERE)
 
 import pinkdrive
 from pinkdrive import Drive, DriveEnded, Opcode, make
@@ -90,7 +95,7 @@ class AsAMapping(OnImage):
         keys = [b"%02d" % i for i in range(40)]
         with self.open() as d:
             d.update(dict.fromkeys(keys, b""))
-            size, pinkdrive.LIST_BYTES = pinkdrive.LIST_BYTES, 20
+            size, pinkdrive.LIST_BYTES = pinkdrive.LIST_BYTES, (20,)
             try:
                 self.assertEqual(list(d), keys)
             finally:
@@ -184,6 +189,341 @@ class Pipelines(OnImage):
             self.assertEqual(dict(d), {b"a": b"1"})
 
 
+class Threads(OnImage):
+    shape = (4096, 64, 128)
+
+    def together(self, count, work):
+        """Runs a function in so many threads, and raises what one of them raised."""
+        faults = []
+
+        def guarded(number):
+            try:
+                work(number)
+            except BaseException as fault:
+                faults.append(fault)
+
+        threads = [threading.Thread(target=guarded, args=(number,)) for number in range(count)]
+        for it in threads:
+            it.start()
+        for it in threads:
+            it.join(300)
+        self.assertFalse(any(it.is_alive() for it in threads))
+        if faults:
+            raise faults[0]
+
+    def test_each_thread_gets_its_own_values(self):
+        with self.open() as d:
+
+            def work(number):
+                for i in range(300):
+                    key = b"t%d_%d" % (number, i)
+                    d[key] = key
+                    self.assertEqual(d[key], key)
+
+            self.together(4, work)
+            self.assertEqual(len(d), 1200)
+
+    def test_four_threads_and_100000_calls(self):
+        with self.open() as d:
+
+            def work(number):
+                draw, held = random.Random(number), {}
+                for i in range(25000):
+                    key, value = b"%d/%d" % (number, draw.randrange(200)), b"%d.%d" % (number, i)
+                    kind = draw.randrange(10)
+                    if kind < 4:
+                        d[key] = held[key] = value
+                    elif kind < 5:
+                        held.pop(key, None)
+                        d.pop(key, None)
+                    elif kind < 6:
+                        self.assertEqual(key in d, key in held)
+                    elif kind < 7:
+                        self.assertEqual(d.setdefault(key, value), held.setdefault(key, value))
+                    else:
+                        self.assertEqual(d.get(key), held.get(key))
+                maps[number] = held
+
+            maps = {}
+            self.together(4, work)
+            wanted = {key: value for held in maps.values() for key, value in held.items()}
+            self.assertEqual(dict(d.items()), wanted)
+        with self.open() as d:
+            self.assertEqual(dict(d.items()), wanted)
+
+    def test_pipelines_of_threads(self):
+        with self.open() as d:
+
+            def work(number):
+                value = b"%d" % number * 900
+                sent = [d.send(Opcode.STORE, b"%d/%d" % (number, i % 50), value=value) for i in range(3000)]
+                sent += [d.send(Opcode.RETRIEVE, b"%d/%d" % (number, i % 50), 4096) for i in range(3000)]
+                self.assertEqual({it.result().data for it in sent[3000:]}, {value})
+                for it in sent[:3000]:
+                    it.result()
+
+            self.together(4, work)
+
+    def test_one_answer_for_many_threads(self):
+        with self.open() as d:
+            pending = d.send(Opcode.STORE, b"a", value=b"1")
+            self.together(8, lambda _: pending.result())
+
+    def test_a_drive_that_is_killed_while_threads_wait(self):
+        d = self.open()
+        ended = []
+
+        def work(number):
+            with self.assertRaises(DriveEnded):
+                while True:
+                    d.store(b"%d" % number, b"x")
+            ended.append(number)
+
+        killer = threading.Timer(0.2, d.process.kill)
+        killer.start()
+        self.together(4, work)
+        self.assertEqual(sorted(ended), [0, 1, 2, 3])
+        with self.assertRaises(DriveEnded):
+            d.close()
+
+
+class AtTheEnd(OnImage):
+    shape = (4096, 64, 64)
+
+    def script(self, text, status=0):
+        """Runs a program of Python that does not close its drive; what it wrote on standard error."""
+        head = f"import os, sys; sys.path.insert(0, {HERE!r}); from pinkdrive import *; image = {self.image!r}\n"
+        run = subprocess.run([sys.executable, "-c", head + text], capture_output=True, text=True, timeout=60)
+        self.assertEqual(run.returncode, status, run.stderr)
+        return run.stderr
+
+    def test_a_forgotten_close(self):
+        self.assertEqual(self.script("d = Drive(image); d[b'forgot'] = b'1'"), "")
+        with self.open() as d:
+            self.assertEqual(dict(d), {b"forgot": b"1"})
+
+    def test_a_forgotten_refusal(self):
+        told = self.script("d = Drive(image)\nfor i in range(5000): d[b'%d' % i] = b'x' * 20000\nd[b'last'] = b'1' * 70000")
+        self.assertIn("nobody heard that: no space for the key", told)
+        self.assertIn("more were refused", told)
+
+    def test_an_exception_ends_the_program(self):
+        told = self.script("d = Drive(image); d[b'a'] = b'1'; 1 / 0", 1)
+        self.assertIn("ZeroDivisionError", told)
+        with self.open() as d:
+            self.assertEqual(dict(d), {b"a": b"1"})
+
+    def test_a_refusal_beside_an_error_of_the_block(self):
+        with warnings.catch_warnings(record=True) as caught:
+            warnings.simplefilter("always")
+            with self.assertRaises(ZeroDivisionError):
+                with self.open() as d:
+                    d[b"long"] = bytes(70000)
+                    1 // 0
+        self.assertEqual([it.category for it in caught], [pinkdrive.DriveWarning])
+        self.assertIn("70000 bytes; the drive takes at most 65504", str(caught[0].message))
+
+    def test_a_drive_that_is_collected(self):
+        d = self.open()
+        d[b"a"] = b"1"
+        process = d.process
+        del d
+        gc.collect()
+        process.wait(10)
+        with Drive(self.image, program=PROGRAM, timeout=10) as d:
+            self.assertEqual(dict(d), {b"a": b"1"})
+
+    def test_a_forked_process(self):
+        text = "d = Drive(image); d[b'a'] = b'1'\nif os.fork() == 0:\n"
+        text += "    try: d[b'b'] = b'2'\n    except ValueError: sys.exit(0)\n    os._exit(1)\n"
+        text += "status = os.wait()[1]; d[b'c'] = b'3'; d.close(); sys.exit(status)"
+        self.script(text)
+        with self.open() as d:
+            self.assertEqual(dict(d), {b"a": b"1", b"c": b"3"})
+
+    def test_a_write_that_is_broken_off(self):
+        text = "import signal\nd = Drive(image)\nsignal.signal(signal.SIGALRM, lambda *_: 1 / 0)\n"
+        text += "os.kill(d.process.pid, signal.SIGSTOP); signal.setitimer(signal.ITIMER_REAL, 0.3)\n"
+        text += "try:\n    for i in range(100): d[b'%d' % i] = b'x' * 60000\nexcept ZeroDivisionError: pass\n"
+        text += "os.kill(d.process.pid, signal.SIGCONT)\n"
+        text += "try: d.get(b'0')\nexcept DriveError as error: print(error, file=sys.stderr)"
+        self.assertIn("was broken off", self.script(text))
+        with self.open() as d:
+            self.assertEqual([set(value) for value in d.values()], [set(b"x")] * len(d))
+
+
+class Pages(OnImage):
+    shape = (4096, 64, 512)
+
+    def test_many_keys(self):
+        with self.open() as d:
+            values = {b"%06d" % i: b"x%d" % i for i in range(2000)}
+            d.update(values)
+            self.assertEqual(dict(d.items()), values)
+            self.assertEqual(list(d.values()), list(values.values()))
+            began = time.monotonic()
+            d.clear()
+            self.assertLess(time.monotonic() - began, 5)
+            self.assertEqual((len(d), list(d)), (0, []))
+
+    def test_the_first_item_comes_alone(self):
+        with self.open() as d:
+            d.update({b"%04d" % i: bytes(60000) for i in range(1000)})
+            asked = d.send(Opcode.FLUSH)._number
+            items = d.items_from()
+            self.assertEqual(next(items)[0], b"0000")
+            self.assertLessEqual(d.send(Opcode.FLUSH)._number - asked, 3)  # a List, a Retrieve and the Flush
+            for _ in range(50):
+                next(items)
+            self.assertLessEqual(d.send(Opcode.FLUSH)._number - asked, 4 + 51 + 18)  # about a megabyte ahead
+            self.assertEqual(sum(1 for _ in items), 949)
+
+    def test_update_tells_a_refusal(self):
+        with self.open() as d:
+            with self.assertRaises(pinkdrive.InvalidValueSize):
+                d.update({b"a": b"1", b"b": bytes(70000), b"c": b"3"})
+            self.assertEqual(dict(d), {b"a": b"1", b"c": b"3"})
+
+
+class Messages(OnImage):
+    def test_limits(self):
+        with self.open() as d:
+            self.assertEqual((d.limits.shape.greatest_value, d.limits.live_pages), (GREATEST, 492))
+            cases = [
+                (lambda: d.store(b"k", bytes(9000)), "has 9000 bytes; the drive takes at most 2016 (status 85h)"),
+                (lambda: d.store(b"photos/2024/1.jpg", b""), "a key has 1 to 16 bytes; b'photos/2024/1.jpg' has 17"),
+                (lambda: d.store(b"", b""), "has 0 (status 86h)"),
+                (lambda: d[b"none"], "there is no key b'none' (status 87h)"),
+                (lambda: d.send(0x7F).result(), "the drive has no command 7Fh"),
+                (lambda: d.send(Opcode.LIST, size=3).result(), "at least 4 bytes, not 3"),
+            ]
+            for call, text in cases:
+                with self.assertRaises(pinkdrive.StatusError) as caught:
+                    call()
+                self.assertIn(text, str(caught.exception))
+            d.store(b"k", b"")
+            with self.assertRaisesRegex(pinkdrive.KeyExists, "is there already"):
+                d.store(b"k", b"", if_absent=True)
+
+    def test_all_refusals_are_told(self):
+        with self.open() as d:
+            d[b"a"] = bytes(3000)
+            d[b"b"] = bytes(4000)
+            d[b""] = b""
+            with self.assertRaises(pinkdrive.InvalidValueSize) as caught:
+                d.flush()
+            self.assertIn("2 more were refused", str(caught.exception))
+            self.assertEqual([type(it) for it in caught.exception.others], [pinkdrive.InvalidValueSize, pinkdrive.InvalidKeySize])
+            d.flush()
+
+    def cause(self, call, kind=DriveEnded):
+        with self.assertRaises(kind) as caught:
+            call()
+        return str(caught.exception)
+
+    def test_causes(self):
+        folder = os.path.dirname(self.image)
+        junk = os.path.join(folder, "junk")
+        with open(junk, "wb") as it:
+            it.write(b"hello")
+        cut = os.path.join(folder, "cut")
+        with open(cut, "wb") as it:
+            it.write(self.bytes_of_image()[:300000])
+        sized = os.path.join(folder, "sized")
+        whole = self.bytes_of_image()
+        with open(sized, "wb") as it:
+            it.write(whole[:32] + bytes(len(whole) - 32))
+        cases = [
+            (lambda: Drive(folder, program=PROGRAM), "is a folder"),
+            (lambda: Drive(self.image + "/no", program=PROGRAM), "there is no folder"),
+            (lambda: make(folder + "/no/image", *SMALL, program=PROGRAM), "there is no folder"),
+            (lambda: Drive(folder + "/no", program=PROGRAM), "there is no file"),
+            (lambda: Drive(junk, program=PROGRAM), "is no image of a drive (5 bytes)"),
+            (lambda: make(junk, *SMALL, program=PROGRAM), "remove it, or name another file"),
+            (lambda: make(self.image, *SMALL, program=PROGRAM), "there is an image already: remove"),
+            (lambda: Drive(cut, program=PROGRAM), "has 300000 bytes, and should have 525344"),
+            (lambda: Drive(sized, program=PROGRAM), "see pinkctl check"),
+            (lambda: Drive(self.image, frames=16385, program=PROGRAM), "frames are 0 to 16384"),
+            (lambda: make(junk + "2", 500, 16, 64, program=PROGRAM), "a page has 512, 1024,"),
+            (lambda: make(junk + "2", 512, 12, 64, program=PROGRAM), "a block has 8, 16,"),
+            (lambda: make(junk + "2", 512, 32, 64, program=PROGRAM), "a block has fewer than 32 pages"),
+            (lambda: make(junk + "2", 512, 16, 9, program=PROGRAM), "has at least 21 blocks"),
+            (lambda: make(junk + "2", 16384, 256, 65, program=PROGRAM), "has at most 256 MiB"),
+        ]  # fmt: skip
+        for call, text in cases:
+            self.assertIn(text, self.cause(call))
+
+    def test_the_rules_of_shapes_are_the_program_s(self):
+        place = self.image + "2"
+        draw = random.Random(5)
+        for _ in range(60):
+            page, pages = draw.choice([512, 1024, 4096, 700]), draw.choice([8, 16, 32, 64, 9])
+            shape = pinkdrive.Shape(page, pages, draw.randrange(10, 60))
+            try:
+                make(place, *shape, program=PROGRAM)
+                made = True
+                self.assertEqual(os.path.getsize(place), shape.image_bytes)
+                os.remove(place)
+            except DriveEnded as error:
+                self.assertEqual(error.status, 2)
+                made = False
+            self.assertEqual(made, shape.fault() is None, shape)
+
+    @unittest.skipIf(os.geteuid() == 0 and not os.path.exists("/usr/sbin/runuser"), "root may do anything")
+    def test_no_permission(self):
+        os.chmod(self.image, 0o400)
+        if os.geteuid():
+            self.assertIn("no permission", self.cause(self.open))
+            return
+        os.chmod(os.path.dirname(self.image), 0o755)
+        os.chmod(self.image, 0o444)
+        text = f"import sys; sys.path.insert(0, {HERE!r}); from pinkdrive import *\n"
+        text += f"try: Drive({self.image!r}, program={os.path.realpath(PROGRAM)!r})\nexcept DriveEnded as error: print(error)"
+        run = subprocess.run(["/usr/sbin/runuser", "-u", "nobody", "--", "/usr/bin/env", "python3", "-c", text], capture_output=True, text=True)
+        if "Permission denied" in run.stderr:
+            self.skipTest("nobody cannot read this folder")
+        self.assertIn("no permission to read and write", run.stdout)
+
+    def test_in_use(self):
+        with self.open() as d:
+            with self.assertRaises(pinkdrive.ImageInUse) as caught:
+                self.open()
+            self.assertEqual(caught.exception.process, d.process.pid)
+            self.assertIn(f"is in use by process {d.process.pid}", str(caught.exception))
+            began = time.monotonic()
+            with self.assertRaises(pinkdrive.ImageInUse):
+                Drive(self.image, program=PROGRAM, timeout=0.5)
+            self.assertGreater(time.monotonic() - began, 0.3)
+            threading.Timer(0.3, d.close).start()
+            with Drive(self.image, program=PROGRAM, timeout=20) as other:
+                self.assertEqual(list(other), [])
+
+    def test_killed(self):
+        d = self.open()
+        d.process.kill()
+        self.assertIn("ended by signal 9 (SIGKILL); what was answered is on the flash", self.cause(lambda: d[b"a"]))
+        self.assertIn("SIGKILL", self.cause(d.close))
+        self.open().close()  # the image is free at once
+
+    def test_a_closed_drive(self):
+        d = self.open()
+        d.close()
+        for call in (lambda: d[b"a"], d.flush, d.report, lambda: list(d), lambda: d.store(b"a", b"")):
+            self.cause(call, ValueError)
+        self.assertIn("closed", repr(d))
+
+    def test_an_answer_of_another_command(self):
+        """A program that answers with wrong identifiers: no value is given to the wrong call."""
+        place = os.path.join(os.path.dirname(self.image), "wrong")
+        record = struct.pack("<I4xHHIII", 0, 1, 1, 1 << 16 | 77, 0, 0)
+        with open(place, "w") as it:
+            it.write(f"#!{sys.executable}\nimport sys\nsys.stdin.buffer.read(64)\n")
+            it.write(f"sys.stdout.buffer.write({record!r}); sys.stdout.flush(); sys.stdin.read()\n")
+        os.chmod(place, 0o755)
+        with self.assertRaisesRegex(pinkdrive.DriveError, "belongs to no command"):
+            Drive(self.image, program=place)
+
+
 class Ends(OnImage):
     def test_killed_in_mid_session(self):
         for trial in range(20):
@@ -192,7 +532,7 @@ class Ends(OnImage):
             values = {b"%02d" % i: bytes([i]) * 300 for i in range(40)}
             d = self.open()
             sent = [d.send(Opcode.STORE, key, value=values[key]) for key in values]
-            d.process.stdin.flush()
+            sent[0].result()
             time.sleep(random.Random(trial).random() * 0.01)
             os.killpg(d.process.pid, signal.SIGKILL)
             with self.assertRaises(DriveEnded) as caught:
@@ -219,9 +559,8 @@ class Ends(OnImage):
         d[b"a"] = b"1"
         d.close()
         d.close()
-        with self.assertRaises(DriveEnded):
+        with self.assertRaises(ValueError):
             d[b"b"] = b"2"
-            d.flush()
 
 
 class Images(OnImage):

@@ -1,0 +1,211 @@
+#!/usr/bin/env python3
+"""Tries the launchers: what they say of each status, links, signals, closed pipes, make install. It proves nothing and is no part of
+the gate. It ends with a count, and with 1 if a check failed.
+
+    python3 bench/launch.py
+"""
+
+import os
+import shutil
+import signal
+import subprocess
+import sys
+import tempfile
+import time
+
+TOP = os.path.dirname(os.path.dirname(os.path.abspath(__file__)))
+PINK, DUMP = TOP + '/pink', TOP + '/pinkdump'
+checks = 0
+faults = []
+
+
+def check(what, holds):
+    global checks
+    checks += 1
+    if not holds:
+        faults.append(what)
+        print('launch.py: failed: ' + what, file=sys.stderr)
+
+
+def run(*words, stdin=subprocess.DEVNULL, **how):
+    done = subprocess.run(words, stdin=stdin, capture_output=True, text=True, timeout=300, **how)
+    return done.returncode, done.stdout, done.stderr
+
+
+def says(words, status, text, **how):
+    """One line, with the status and this text."""
+    found, _, told = run(PINK, *words, **how)
+    check(f'{" ".join(words)}: status {status}, {text!r}, and not {told!r}', found == status and told.count('\n') == 1 and text in told)
+
+
+def holders(image):
+    inode = f':{os.stat(image).st_ino} '
+    with open('/proc/locks') as locks:
+        return [int(line.split()[4]) for line in locks if inode in line]
+
+
+def serving(image, **how):
+    """The launcher, once its program has the image open, and the program."""
+    launcher = subprocess.Popen([PINK, image, 'serve', '36'], stdin=subprocess.PIPE, stdout=subprocess.PIPE, stderr=subprocess.PIPE, **how)
+    while not holders(image):
+        time.sleep(0.01)
+    return launcher, holders(image)[0]
+
+
+def free_soon(image):
+    """A killed process goes when the system comes to it."""
+    last = time.monotonic() + 10
+    while holders(image) and time.monotonic() < last:
+        time.sleep(0.005)
+    return not holders(image)
+
+
+def causes(folder, image):
+    junk, cut = folder + '/junk', folder + '/cut'
+    with open(junk, 'w') as it:
+        it.write('hello')
+    with open(image, 'rb') as whole, open(cut, 'wb') as it:
+        it.write(whole.read()[:300000])
+    damaged = folder + '/damaged'
+    with open(image, 'rb') as whole, open(damaged, 'wb') as it:
+        text = bytearray(whole.read())
+        text[40] = 3
+        it.write(text)
+    shape = ['512', '16', '64']
+    says([folder + '/no/d.img', 'make', *shape], 6, f'there is no folder {folder}/no')
+    says([folder, 'make', *shape], 6, 'is a folder')
+    says([folder, 'list'], 6, 'is a folder')
+    says([folder + '/none', 'list'], 8, 'there is no file')
+    says([junk, 'list'], 8, 'junk (5 bytes) is no image of a drive')
+    says([junk, 'make', *shape], 8, 'is no image of a drive: remove it, or name another file')
+    says([cut, 'list'], 8, 'has 300000 bytes, and by its head it should have 525344')
+    says([damaged, 'list'], 8, 'is damaged, or its making was broken off: see pinkctl check')
+    says([image, 'make', *shape], 9, 'there is an image already: remove')
+    launcher, program = serving(image)
+    says([image, 'list'], 6, f'is in use by process {program} (')
+    launcher.stdin.close()
+    check('the end of the input ends it with 0', launcher.wait(30) == 0)
+    if os.geteuid() == 0 and shutil.which('runuser') and run('runuser', '-u', 'nobody', '--', 'test', '-x', PINK)[0] == 0:
+        os.chmod(folder, 0o755)
+        told = run('runuser', '-u', 'nobody', '--', PINK, image, 'list')
+        check('no permission for the image', told[0] == 6 and 'no permission to read and write' in told[2])
+        told = run('runuser', '-u', 'nobody', '--', PINK, folder + '/new', 'make', *shape)
+        check('no permission for the folder', told[0] == 6 and 'no permission to make a file' in told[2])
+    small = folder + '/small'
+    os.mkdir(small)
+    if os.geteuid() == 0 and run('mount', '-t', 'tmpfs', '-o', 'size=256k', 'none', small)[0] == 0:
+        try:
+            run(PINK, small + '/d.img', 'make', '4096', '64', '64')
+            script = b''.join(b'store %02x %s\n' % (i, b'61' * 60000) for i in range(16))
+            asm = subprocess.run([PINK, image, 'asm'], input=script, stdout=subprocess.PIPE).stdout
+            done = subprocess.run([PINK, small + '/d.img', 'serve', '36'], input=asm, capture_output=True)
+            check('no space', done.returncode == 6 and b'no space is left on the disk' in done.stderr)
+        finally:
+            run('umount', small)
+
+
+def words(image):
+    for given, text in [
+        ('make 513 16 64', 'a page has 512, 1024,'), ('make 512 12 64', 'a block has 8, 16,'), ('make 512 32 64', 'fewer than 32 pages'),
+        ('make 512 16 9', 'at least 21 blocks'), ('make 512 16 5000', 'at most 4096 blocks'), ('make 16384 256 65', 'at most 256 MiB'),
+        ('make 512 8 3000', 'does not fit a page'), ('make 4k 16 64', "'4k' is no number"), ('make 512 16', 'make takes P N M, and was given 2 words'),
+        ('get 6', 'even count of hexadecimal digits'), ('get zz', "the key 'zz'"), ('get ' + '61' * 17, 'the key has 17 bytes'),
+        ('put hello world', "the key 'hello'"), ('put 61 6', 'the value is not'), ('serve 16385', 'at most 16384 frames'), ('serve 036', "'036' is no number"),
+        ('PUT 61 62', "there is no word 'PUT'"), ('version', "there is no word 'version'"), ('list zz', "the key 'zz'"), ('stat x', 'stat takes no more words'),
+        ('gen 1 4294967296', "'4294967296' is no number"),
+    ]:  # fmt: skip
+        says([image, *given.split()], 2, text)
+    says(['get', 'd.img', '61'], 2, 'the image comes first')
+
+
+def scripts(folder, image):
+    place = folder + '/script'
+    for line, text in [
+        ('store 61  62', 'divided by one blank'), ('store 61\t62', 'it has a tab'), ('exist 61 ', 'divided by one blank'), ('store 61 62\r', 'carriage return'),
+        ('put 61 62', 'there is no command put'), ('store 61 6', 'the bytes are not'), ('store 61 62 never', 'the option is none'), ('tick x', 'tick takes STEPS'),
+        ('list - x', 'the size is no number'), ('raw 00 -', 'raw takes ENTRY'), ('exist ' + '61' * 17, 'the key is not 2 to 32'), ('flush 1', 'flush takes no more'),
+    ]:  # fmt: skip
+        with open(place, 'w', newline='') as it:
+            it.write(f'# a script\n\nstore 61 62\n{line}\nexist 61\n')
+        with open(place) as it:
+            says([image, 'asm'], 12, text, stdin=it)
+        with open(place) as it:
+            says([image, 'asm'], 12, 'line 4 of the script', stdin=it)
+    with open(place) as it:
+        says([image, 'serve', '36'], 3, 'pink IMAGE asm turns it into entries', stdin=it)
+    check('an empty input is served', run(PINK, image, 'serve', '36')[0] == 0)
+
+
+def signals(image):
+    for number in (signal.SIGTERM, signal.SIGINT, signal.SIGHUP, signal.SIGQUIT):
+        launcher, _ = serving(image)
+        launcher.send_signal(number)
+        status = launcher.wait(30)
+        check(f'{number.name} ends both, and the image is free at once', status == -number and not holders(image) and launcher.stderr.read() == b'')
+    launcher, _ = serving(image)
+    launcher.kill()
+    launcher.wait(30)
+    check('KILL of the launcher ends the program', not shutil.which('setpriv') or free_soon(image))
+    launcher, program = serving(image)
+    os.kill(program, signal.SIGKILL)
+    status = launcher.wait(30)
+    check('KILL of the program is told', status == 137 and b'ended by signal 9; what was answered is on the flash' in launcher.stderr.read())
+    launcher, program = serving(image, env={**os.environ, 'PINK_EXEC': '1'})
+    check('with PINK_EXEC the program has the place of the launcher', launcher.pid == program)
+    launcher.kill()
+    check('and its status is its own', launcher.wait(30) == -9 and launcher.stderr.read() == b'')
+
+
+def pipes(image):
+    value = '61' * 2000
+    check('a value is stored', run(PINK, image, 'put', '61', value)[:2] == (0, 'ok\n'))
+    script = 'retrieve 61 2000\n' * 500
+    done = subprocess.run(['sh', '-c', f'"{PINK}" "{image}" asm | {{ "{PINK}" "{image}" serve 36; echo "$?" >&2; }} | head -c 5 >/dev/null'],
+                          input=script, capture_output=True, text=True)
+    check('a reader that left: status 5 and no line', done.stderr == '5\n')
+    done = subprocess.run([PINK, image, 'list'], stdout=open('/dev/full', 'w'), stderr=subprocess.PIPE, text=True)
+    check('a full output is told', done.returncode == 5 and 'writing the output failed' in done.stderr)
+    for closed in ('<&-', '<&- 2>&-'):
+        check(f'serve {closed}: status 0', run('sh', '-c', f'"{PINK}" "{image}" serve 36 {closed}')[0] == 0)
+
+
+def links(folder, image):
+    os.mkdir(folder + '/bin')
+    os.symlink(PINK, folder + '/pink')
+    os.symlink('../pink', folder + '/bin/pink')
+    for place in (folder + '/pink', folder + '/bin/pink'):
+        check('a link is resolved', run(place, image, 'has', '61')[:2] == (0, 'ok\n'))
+    path = {**os.environ, 'PATH': folder + '/bin:' + os.environ['PATH']}
+    check('a link on the path', run('pink', image, 'has', '61', env=path, cwd='/')[:2] == (0, 'ok\n'))
+    for launcher in (PINK, DUMP):
+        status, told, _ = run(launcher, '--version')
+        check('--version tells the commit and the kit', status == 0 and 'commit ' in told and 'kit rattle-kit' in told)
+        check('--help ends with 2', run(launcher, '--help')[0] == 2)
+
+
+def installed(folder, image):
+    root = folder + '/root'
+    status, _, told = run('make', '-C', TOP, 'install', f'DESTDIR={root}', 'PREFIX=/usr')
+    check('make install: ' + told, status == 0)
+    bin = root + '/usr/bin/'
+    check('installed: pink', run(bin + 'pink', image, 'has', '61', cwd='/')[:2] == (0, 'ok\n'))
+    check('installed: pinkdump', run(bin + 'pinkdump', image, 'lines', cwd='/')[1].startswith('image page_bytes=512'))
+    check('installed: pinkctl', 'serve' in run(bin + 'pinkctl', '--help', cwd='/')[1])
+    check('installed: --version', 'commit ' in run(bin + 'pink', '--version')[1])
+    check('installed: pages and completion', os.path.isfile(root + '/usr/share/man/man1/pink.1') and os.path.isfile(root + '/usr/share/bash-completion/completions/pink'))
+    check('make uninstall', run('make', '-C', TOP, 'uninstall', f'DESTDIR={root}', 'PREFIX=/usr')[0] == 0)
+    check('nothing is left', not [names for _, _, names in os.walk(root) if names])
+
+
+with tempfile.TemporaryDirectory() as folder:
+    image = folder + '/drive.img'
+    check('make', run(PINK, image, 'make', '512', '16', '64') == (0, '', ''))
+    causes(folder, image)
+    words(image)
+    scripts(folder, image)
+    signals(image)
+    pipes(image)
+    links(folder, image)
+    installed(folder, image)
+print(f'launch.py: {checks - len(faults)} of {checks} checks passed')
+sys.exit(bool(faults))

@@ -1,0 +1,91 @@
+"""pinkctl: what people need to live with a drive.  pinkctl PART --help  tells of each part."""
+
+import argparse
+import importlib
+import importlib.util
+import os
+import signal
+import sys
+from collections.abc import Sequence
+from typing import Optional
+
+from .program import pinkdrive
+from .status import Exit, ToolError, table
+
+PARTS = ("check", "export", "load", "backup", "salvage", "shell", "shapes", "server")
+"""The modules of the parts, in the order of the help."""
+
+
+def parser_of() -> argparse.ArgumentParser:
+    parser = argparse.ArgumentParser(
+        prog="pinkctl",
+        description="Tools for the image file of a key-value drive.",
+        epilog=f"exit statuses of all parts:\n{table()}",
+        formatter_class=argparse.RawDescriptionHelpFormatter,
+    )
+    subparsers = parser.add_subparsers(title="parts", metavar="PART", dest="part", required=True)
+    for name in PARTS:
+        if importlib.util.find_spec(f"{__package__}.{name}"):
+            importlib.import_module(f"{__package__}.{name}").add_parser(subparsers)
+    return parser
+
+
+def drive_error(error: pinkdrive.DriveError) -> Exit:
+    """The exit status of what the drive or its program says."""
+    if isinstance(error, pinkdrive.KeyDoesNotExist):
+        return Exit.MISSING
+    if isinstance(error, pinkdrive.DriveEnded):
+        return {6: Exit.IN_USE, 8: Exit.DAMAGED, 9: Exit.EXISTS}.get(error.status, Exit.PROGRAM)
+    return Exit.REFUSED
+
+
+def guarded(args: argparse.Namespace) -> int:
+    """Runs a part; what ends it early is one line on standard error."""
+    try:
+        return args.run(args)
+    except ToolError as error:
+        message, status = str(error), error.status
+    except pinkdrive.DriveError as error:
+        message, status = told(error, args), drive_error(error)
+    except KeyboardInterrupt:
+        message, status = "interrupted", Exit.INTERRUPTED
+    except BrokenPipeError:
+        os.dup2(os.open(os.devnull, os.O_WRONLY), sys.stdout.fileno())  # so that the end of Python writes nothing
+        return Exit.OUTPUT
+    except OSError as error:
+        message, status = str(error), Exit.FILE
+    print(f"pinkctl {args.part}: {message}", file=sys.stderr)
+    return status
+
+
+def told(error: pinkdrive.DriveError, args: argparse.Namespace) -> str:
+    """What the drive says, and what tells more."""
+    if isinstance(error, pinkdrive.DriveEnded) and error.status == Exit.DAMAGED:
+        return f"{error}; pinkctl check {args.image} tells what is wrong"
+    return str(error)
+
+
+def end_on(signals: Sequence[signal.Signals]) -> None:
+    """These signals end a part as an exit does, so that unfinished files go away and the drive is closed."""
+    for number in signals:
+        signal.signal(number, lambda number, _: sys.exit(128 + number))
+
+
+def main(arguments: Optional[Sequence[str]] = None) -> int:
+    args = parser_of().parse_args(arguments)
+    end_on([signal.SIGTERM, signal.SIGHUP])
+    status = guarded(args)
+    try:
+        sys.stdout.flush()
+    except BrokenPipeError:
+        os.dup2(os.open(os.devnull, os.O_WRONLY), sys.stdout.fileno())
+        return Exit.OUTPUT
+    except OSError as error:
+        print(f"pinkctl {args.part}: writing the output failed: {error.strerror}", file=sys.stderr)
+        os.dup2(os.open(os.devnull, os.O_WRONLY), sys.stdout.fileno())
+        return Exit.OUTPUT
+    return status
+
+
+if __name__ == "__main__":
+    sys.exit(main())

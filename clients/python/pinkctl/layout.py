@@ -1,0 +1,194 @@
+"""Everything of the format that depends on the shape of a drive or on the version of its layout.
+
+The root pages of a drive name the version. A layout that is not in `RULES` is refused by its number.
+"""
+
+import dataclasses
+import struct
+from functools import cached_property
+from typing import Optional
+
+HEADER_BYTES = 32
+"""Bytes of the header of an image file, before the state bytes."""
+HEAD_BYTES = 32
+"""Bytes of the head of a value, and of a journal or meta page."""
+ENTRY_BYTES = 32
+KEY_BYTES = 16
+ROOT_BLOCKS = 2
+EPOCH_BLOCKS = 2
+LEVELS = 4
+CAPS = (4, 16, 64)
+"""Most pages of runs 1 to 3."""
+PAGE_BYTES = (512, 1024, 2048, 4096, 8192, 16384)
+BLOCK_PAGES = (8, 16, 32, 64, 128, 256)
+MOST_BLOCKS = 4096
+MOST_FLASH_BYTES = 2**28
+ROOT_LIST_FROM = 64
+"""Where the list of blocks begins in a root page."""
+ERASED, WHOLE, TORN = 0, 1, 2
+"""The state bytes of pages."""
+
+IMAGE_TEXT = b"PINKIMG1"
+VALUE_TEXT = b"PINKDATA"
+JOURNAL_TEXT = b"PINKJRNL"
+META_TEXT = b"PINKMETA"
+ROOT_TEXT = b"PINKROOT"
+VALUE_MARK = 0x44
+
+IMAGE_HEADER = struct.Struct("<8sIII12s")
+ENTRY = struct.Struct("<BBH16sIII")
+"""Key length, kind, zeros, key, page, length, zeros."""
+PUT, GONE = 1, 2
+VALUE_HEAD = struct.Struct("<BBH16sI8s")
+"""Key length, mark, zeros, key, length, text."""
+JOURNAL_HEAD = struct.Struct("<8sQIH10s")
+"""Text, epoch, index of the commit, count of entries, zeros."""
+META_HEAD = struct.Struct("<8sBBHI16s")
+"""Text, level, zero, count of entries, index of the page, zeros."""
+ROOT_HEAD = struct.Struct("<8sHHIHHIQQ4I8s")
+"""Text, version, N, P, M, journal blocks, zeros, number, epoch, entries of runs 1 to 4, zeros."""
+
+
+@dataclasses.dataclass(frozen=True)
+class Rules:
+    """What a version of the layout says.
+
+    `step` pages form a unit: a commit, a place of a root, and the pages of a value are whole units.
+    """
+
+    step: int
+
+
+RULES: dict[int, Rules] = {1: Rules(step=1)}
+"""The versions that are known."""
+
+
+def units(count: int, size: int) -> int:
+    """How many units of this size hold `count`."""
+    return -(-count // size)
+
+
+@dataclasses.dataclass(frozen=True)
+class Shape:
+    """Bytes of a page, pages of a block, blocks."""
+
+    page_bytes: int
+    block_pages: int
+    blocks: int
+
+    @property
+    def pages(self) -> int:
+        return self.block_pages * self.blocks
+
+    @property
+    def flash_bytes(self) -> int:
+        return self.page_bytes * self.pages
+
+    @property
+    def file_bytes(self) -> int:
+        """The exact length of an image file of this shape."""
+        return HEADER_BYTES + self.pages * (self.page_bytes + 1)
+
+    def __str__(self) -> str:
+        return f"{self.page_bytes} {self.block_pages} {self.blocks}"
+
+
+@dataclasses.dataclass(frozen=True)
+class Layout:
+    """The numbers of a shape under a version of the layout, as docs/FORMATS.md names them."""
+
+    shape: Shape
+    version: int = max(RULES)
+
+    @property
+    def step(self) -> int:
+        return RULES[self.version].step
+
+    @cached_property
+    def page_entries(self) -> int:
+        """Most entries of a journal or meta page."""
+        return (self.shape.page_bytes - HEAD_BYTES) // ENTRY_BYTES
+
+    @property
+    def greatest(self) -> int:
+        """Most bytes of a value."""
+        return self.shape.block_pages // 4 * self.shape.page_bytes - HEAD_BYTES
+
+    @property
+    def buffer(self) -> int:
+        """Most keys of an epoch."""
+        return 2 * self.page_entries
+
+    def charge(self, length: int) -> int:
+        """The pages that a value of this length takes."""
+        return self.step * units(HEAD_BYTES + length, self.step * self.shape.page_bytes)
+
+    @property
+    def commits(self) -> int:
+        """Commits of an epoch."""
+        return EPOCH_BLOCKS * self.shape.block_pages // self.step
+
+    def commit_pages(self, blocks: tuple[int, ...], index: int) -> range:
+        """The pages of a commit of an epoch, the first that counts first."""
+        in_block = self.shape.block_pages // self.step
+        first = blocks[index // in_block] * self.shape.block_pages + index % in_block * self.step
+        return range(first, first + self.step)
+
+    def run_page(self, blocks: tuple[int, ...], index: int) -> int:
+        n = self.shape.block_pages
+        return blocks[index // n] * n + index % n
+
+    def run_pages(self, entries: int) -> int:
+        return units(entries, self.page_entries)
+
+    def run_blocks(self, entries: int) -> int:
+        return units(self.run_pages(entries), self.shape.block_pages)
+
+    @property
+    def dense(self) -> int:
+        """Three quarters of a block, in pages."""
+        return 3 * self.shape.block_pages // 4
+
+    @cached_property
+    def caps(self) -> tuple[int, ...]:
+        """Most pages of runs 1 to 4."""
+        deepest = units(self.shape.blocks * self.dense, self.page_entries) + 24
+        return (*CAPS, deepest)
+
+    @cached_property
+    def meta_blocks(self) -> int:
+        blocks = [units(cap, self.shape.block_pages) for cap in self.caps]
+        return sum(blocks) + max(blocks[2:])
+
+    @cached_property
+    def data_blocks(self) -> int:
+        return self.shape.blocks - ROOT_BLOCKS - 2 * EPOCH_BLOCKS - self.meta_blocks
+
+    @cached_property
+    def limit(self) -> int:
+        """Most pages of all values."""
+        return (self.data_blocks - 1) * self.dense
+
+    @property
+    def root_pages(self) -> range:
+        return range(ROOT_BLOCKS * self.shape.block_pages)
+
+
+def shape_fault(shape: Shape) -> Optional[str]:
+    """Why a shape is not allowed, or None."""
+    if shape.page_bytes not in PAGE_BYTES:
+        return f"a page of {shape.page_bytes} bytes: it has to be 512, 1024, 2048, 4096, 8192 or 16384"
+    layout = Layout(shape)
+    if shape.block_pages not in BLOCK_PAGES:
+        return f"a block of {shape.block_pages} pages: it has to be 8, 16, 32, 64, 128 or 256"
+    if layout.dense > layout.page_entries:
+        return f"blocks of {shape.block_pages} pages are too large for pages of {shape.page_bytes} bytes"
+    if shape.blocks > MOST_BLOCKS:
+        return f"{shape.blocks} blocks: at most {MOST_BLOCKS} are allowed"
+    if shape.flash_bytes > MOST_FLASH_BYTES:
+        return f"a flash of {shape.flash_bytes} bytes: at most {MOST_FLASH_BYTES} are allowed"
+    if ROOT_LIST_FROM + 2 * (layout.meta_blocks + 4) > shape.page_bytes:
+        return "a root page has no room for the list of blocks: take larger pages or fewer blocks"
+    if shape.blocks < 9 + layout.meta_blocks:
+        return f"{shape.blocks} blocks: at least {9 + layout.meta_blocks} are needed"
+    return None

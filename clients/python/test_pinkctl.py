@@ -1,0 +1,699 @@
+"""Tests of pinkctl against the real program:  python3 clients/python/test_pinkctl.py
+
+The environment's PINK_PROGRAM names another program than ./pink.
+"""
+
+import errno
+import fcntl
+import io
+import json
+import os
+import pty
+import random
+import re
+import select
+import shutil
+import signal
+import subprocess
+import sys
+import tempfile
+import time
+import unittest
+from contextlib import redirect_stderr, redirect_stdout
+from unittest import mock
+
+HERE = os.path.dirname(os.path.abspath(__file__))
+sys.path.insert(0, HERE)
+
+import pinkdrive
+from pinkctl import image, keys, layout
+from pinkctl.__main__ import main as pinkctl
+from pinkctl.status import MEANINGS, Exit
+from pinkdrive import Drive, make
+
+TOP = os.path.join(HERE, "..", "..")
+PINKCTL = os.path.join(TOP, "pinkctl")
+PROGRAM = os.environ.get("PINK_PROGRAM", pinkdrive.PROGRAM)
+SMALL = (512, 16, 64)
+GREATEST = 2016  # bytes of a value in this shape
+PAGE, PAGES = 512, 1024
+STATES, DATA = 32, 32 + 1024
+
+
+class OnImage(unittest.TestCase):
+    """A test with an image of its own, and pinkctl on it."""
+
+    shape = SMALL
+
+    def setUp(self):
+        folder = tempfile.TemporaryDirectory()
+        self.addCleanup(folder.cleanup)
+        self.folder = folder.name
+        self.image = self.path("drive.img")
+        make(self.image, *self.shape, program=PROGRAM)
+
+    def path(self, name):
+        return os.path.join(self.folder, name)
+
+    def ctl(self, *words, input=b"", status=0, env=None):
+        """Runs pinkctl in this process; its status is as expected, and its standard output is answered."""
+        out, said = io.TextIOWrapper(io.BytesIO()), io.StringIO()
+        given = io.TextIOWrapper(io.BytesIO(input))
+        with redirect_stdout(out), redirect_stderr(said), mock.patch("sys.stdin", given), mock.patch.dict(os.environ, env or {}):
+            try:
+                ended = pinkctl(list(words))
+            except SystemExit as end:
+                ended = end.code
+        out.flush()
+        self.said, answered = said.getvalue(), out.buffer.getvalue()
+        self.assertEqual(ended, status, f"{words}: {answered[-400:]!r} {self.said}")
+        return answered
+
+    def check(self, status=0, path=None):
+        return json.loads(self.ctl("check", "--json", path or self.image, status=status))
+
+    def store(self, values, path=None):
+        with Drive(path or self.image, program=PROGRAM) as d:
+            for key, value in values.items():
+                d.store(key, value)
+
+    def held(self, path=None):
+        with Drive(path or self.image, program=PROGRAM) as d:
+            return dict(d.items_from())
+
+    def bytes(self, path=None):
+        with open(path or self.image, "rb") as file:
+            return file.read()
+
+    def change(self, at, what):
+        with open(self.image, "r+b") as file:
+            file.seek(at)
+            file.write(what)
+
+    def flash(self):
+        with open(self.image, "rb") as file:
+            it = image.load_image(file.read())
+        return it, image.read_flash(it)
+
+    def place(self, page, within=0):
+        return DATA + page * PAGE + within
+
+    def fill(self, count=492):
+        """A drive with this many keys, each with a value of one page."""
+        with Drive(self.image, program=PROGRAM) as d:
+            for i in range(count):
+                d[b"key%03d" % i] = b"value %d" % i
+
+
+class Check(OnImage):
+    def test_whole(self):
+        found = self.check()
+        self.assertEqual((found["verdict"], found["use"]["keys"]), ("whole", 0))
+        self.store({b"a": b"1", b"b": bytes(600)})
+        found = self.check()
+        self.assertEqual((found["verdict"], found["compared"], found["doubts"]), ("whole", "yes", []))
+        self.assertEqual((found["use"]["keys"], found["use"]["value_pages"], found["use"]["value_bytes"]), (2, 3, 601))
+        self.assertEqual((found["limits"]["value_bytes"], found["limits"]["value_pages"]), (GREATEST, 492))
+        self.assertEqual(found["sizes"]["file_bytes"], 525344)
+        self.assertLess(found["sizes"]["disk_bytes"], 200000)
+        self.assertTrue(self.ctl("check", self.image).startswith(b"whole: 2 keys, 3 of 492 pages"))
+
+    def test_it_changes_nothing_and_needs_no_program(self):
+        self.store({b"a": b"1"})
+        before, times = self.bytes(), os.stat(self.image).st_mtime_ns
+        self.ctl("check", "--no-compare", self.image, env={"PINK_PROGRAM": "/nowhere", "PINKDUMP_PROGRAM": "/nowhere"})
+        self.assertEqual((self.bytes(), os.stat(self.image).st_mtime_ns), (before, times))
+
+    def test_damaged_pages_are_told_with_their_keys(self):
+        self.store({b"a": b"1", b"b": bytes(600)})
+        it, flash = self.flash()
+        page = flash.map[b"b"].page
+        whole = self.bytes()
+        for at, part in (
+            (self.place(page + 1, 500), "page 2 of the 2 of a value of 600 bytes"),
+            (self.place(page, 4), "page 1 of the 2"),
+            (STATES + page, "page 1 of the 2"),
+        ):
+            self.change(at, b"\2")
+            found = self.check(status=8)
+            self.assertEqual((found["verdict"], found["compared"]), ("refused", "yes"))
+            self.assertEqual(found["fault"]["key"], {"hex": "62", "text": "b"})
+            self.assertTrue(found["fault"]["part"].startswith(part), found["fault"])
+            self.assertIn("pinkctl salvage", self.ctl("check", self.image, status=8).decode())
+            self.change(0, whole)
+        journal = min(flash.newest.pages)
+        self.change(self.place(journal, 8), b"\xff")
+        found = self.check(status=8)
+        self.assertEqual(found["fault"]["page"], journal)
+        self.assertTrue(found["fault"]["part"].startswith("commit 1 of the newest epoch"))
+
+    def test_a_damaged_run(self):
+        self.fill(200)
+        it, flash = self.flash()
+        page = flash.root.runs[0][0] * 16 if flash.root.counts[0] else flash.root.runs[1][0] * 16
+        self.change(self.place(page, 100), b"\xee")
+        found = self.check(status=8)
+        self.assertEqual(found["fault"]["page"], page)
+        self.assertIn("of the index", found["fault"]["part"])
+        self.assertIn("key", found["fault"]["keys"][0]["text"])
+
+    def test_a_damaged_newest_root(self):
+        self.store({b"a": b"1"})
+        self.store({b"b": b"2"})
+        self.store({b"c": b"3"})
+        it, flash = self.flash()
+        self.change(self.place(flash.root.page, 500), b"\1")
+        found = self.check(status=10)
+        self.assertEqual((found["verdict"], found["compared"]), ("doubtful", "yes"))
+        self.assertEqual(found["doubts"][0]["code"], "root-wrong")
+        self.assertEqual(found["use"]["keys"], 2)
+        self.assertIn("an older map may have opened", found["text"])
+
+    def test_a_hidden_commit_or_root(self):
+        self.store({b"a": b"1"})
+        self.store({b"b": b"2"})
+        whole = self.bytes()
+        it, flash = self.flash()
+        commit = max(flash.newest.pages)
+        for state, code in ((b"\2", "commit-unfinished"), (b"\0", "commit-erased")):
+            self.change(STATES + commit, state)
+            found = self.check(status=10)
+            self.assertIn(code, [doubt["code"] for doubt in found["doubts"]])
+        self.change(0, whole)
+        self.change(STATES + flash.root.page, b"\0")
+        codes = [doubt["code"] for doubt in self.check(status=10)["doubts"]]
+        self.assertIn("root-erased", codes)
+        self.assertIn("commit-elsewhere", codes)
+
+    def test_a_run_that_lost_its_end(self):
+        self.fill(60)
+        with Drive(self.image, program=PROGRAM) as d:
+            d.tick(10000)
+        it, flash = self.flash()
+        level = next(i for i in range(4) if flash.root.counts[i] > 15)
+        self.change(self.place(flash.root.page, 40 + 4 * level), (15).to_bytes(4, "little"))
+        self.assertIn("run-after-end", [doubt["code"] for doubt in self.check(status=10)["doubts"]])
+
+    def test_what_is_no_image(self):
+        whole = self.bytes()
+        for data, words in (
+            (b"", "the file is empty"),
+            (b"junk", "fewer than a header"),
+            (b"x" * 600000, "does not begin with PINKIMG1"),
+            (whole[:300000], "300,000 bytes, and a drive of shape 512 16 64 has 525,344"),
+            (whole[:8] + b"\1" + whole[9:], "a page of 513 bytes"),
+            (whole[:40] + b"\3" + whole[41:], "the state of page 8 is 3"),
+        ):
+            with open(self.image, "wb") as file:
+                file.write(data)
+            found = self.check(status=8)
+            self.assertEqual(found["verdict"], "no drive")
+            self.assertIn(words, found["text"])
+        os.remove(self.image)
+        self.assertIn("there is no such file", self.check(status=8)["text"])
+        self.assertIn("there is no folder", self.check(status=8, path=self.path("none/x.img"))["text"])
+        self.ctl("check", self.folder, status=11)
+        self.assertIn("it is a folder", self.said)
+
+    def test_a_half_made_image(self):
+        self.change(STATES, b"\0")
+        self.assertIn("make did not end", self.check(status=8)["text"])
+
+    def test_a_version_that_is_not_known(self):
+        self.store({b"a": b"1"})
+        it, flash = self.flash()
+        for root in flash.roots:
+            self.change(self.place(root.page, 8), b"\x63")
+        found = self.check(status=13)
+        self.assertIn("version 99", found["text"])
+
+    def test_without_permission(self):
+        os.chmod(self.folder, 0o755)
+        own = os.geteuid()
+        for mode, words, status in ((0, ["check"], 11), (0o444, ["shell", "-e", "list"], 11), (0o444, ["check"], 0)):
+            os.chmod(self.image, mode)
+            os.seteuid(own or 65534)  # root may read every file
+            try:
+                self.ctl(words[0], self.image, *words[1:], status=status)
+            finally:
+                os.seteuid(own)
+            self.assertEqual("no permission" in self.said, status == 11)
+
+    def test_in_use(self):
+        with Drive(self.image, program=PROGRAM):
+            self.ctl("check", self.image, status=6)
+            self.assertRegex(self.said, r"in use by process \d+")
+        self.check()
+
+    def test_every_deletion_had_its_key(self):
+        self.store({b"a": b"1", b"b": b"2"})
+        with Drive(self.image, program=PROGRAM) as d:
+            del d[b"a"]
+        it, flash = self.flash()
+        page = max(flash.newest.pages)
+        self.assertIsNone(flash.newest.commits[-1].entries[-1].place)
+        self.change(self.place(page, 32 + 4), b"c")
+        self.assertIn("deletion-of-nothing", [doubt["code"] for doubt in self.check(status=10)["doubts"]])
+
+
+class ExportAndImport(OnImage):
+    values = {bytes([i]): bytes([i]) * (i * 7) for i in range(256)} | {b"\xff" * 16: b"", "ключ".encode(): "значение\n".encode()}
+
+    def other(self, name="other.img"):
+        make(self.path(name), *SMALL, program=PROGRAM)
+        return self.path(name)
+
+    def small(self):
+        self.values = {key: value[:400] for key, value in self.values.items()}
+        self.store(self.values)
+
+    def test_round_trip_of_both_formats(self):
+        self.small()
+        for form in ("asm", "json"):
+            out = self.path(form)
+            self.ctl("export", self.image, "-o", out, "--format", form)
+            self.assertIn("258 pairs", self.said)
+            other = self.other(form + ".img")
+            self.ctl("import", other, out)
+            self.assertEqual(self.held(other), self.values)
+            again = self.ctl("export", other, "--format", form)
+            strip = lambda data: [line for line in data.splitlines() if not line.startswith(b"#")]
+            self.assertEqual(strip(again), strip(self.bytes(out)))
+            self.assertEqual(self.ctl("import", self.path("none"), out, "--dry-run"), b"258 pairs\n")
+
+    def test_the_program_reads_an_export(self):
+        self.small()
+        script, other = self.ctl("export", self.image), self.other()
+        entries = subprocess.run([PROGRAM, other, "asm"], input=script, capture_output=True, check=True).stdout
+        subprocess.run([PROGRAM, other, "serve", "36"], input=entries, capture_output=True, check=True)
+        self.assertEqual(self.held(other), self.values)
+
+    def test_parts(self):
+        self.store({b"user:1": b"a", b"user:2": b"b", b"v": b"c"})
+        keys_of = lambda *words: [json.loads(it)["key"] for it in self.ctl("export", self.image, "--format", "json", *words).splitlines()]
+        self.assertEqual(keys_of("--prefix", "user:"), ["user:1", "user:2"])
+        self.assertEqual(keys_of("--from", "user:2"), ["user:2", "v"])
+        self.assertEqual(keys_of("--from", "0x757365723a32", "--prefix", "user:"), ["user:2"])
+        self.assertEqual(keys_of("--prefix", "w"), [])
+
+    def test_nothing_is_replaced_unasked(self):
+        self.store({b"a": b"1"})
+        out = self.path("out")
+        self.ctl("export", self.image, "-o", out)
+        self.store({b"a": b"2"})
+        self.ctl("export", self.image, "-o", out, status=9)
+        self.ctl("import", self.image, out, status=9)
+        self.assertIn("line 2: key a: the key exists with another value", self.said)
+        self.assertEqual(self.held(), {b"a": b"2"})
+        self.ctl("import", self.image, out, "--overwrite")
+        self.assertEqual(self.held(), {b"a": b"1"})
+        self.ctl("import", self.image, out)
+        self.assertIn("0 stored, 1 there already, 0 refused", self.said)
+        self.ctl("export", self.image, "-o", out, "--force")
+        self.assertEqual(sorted(os.listdir(self.folder)), ["drive.img", "out"])
+
+    def test_a_wrong_line_stores_nothing(self):
+        lines = self.path("lines")
+        for line, words in (
+            ("store 6 61", "line 2: the key is no even count"),
+            ("store 61  61", "line 2: store KEY VALUE is needed"),
+            ("delete 61", "line 2: 'delete' is no store"),
+            ("store " + "61" * 17 + " 61", "line 2: a key of 17 bytes"),
+            ('{"key": "a"}', "line 2: one of value"),
+            ('{"key": "a", "value": 1}', "has to be text"),
+            ('{"key": "a", "value_base64": "?"}', "cannot be read"),
+            ("{", "line 2: no JSON"),
+        ):
+            with open(lines, "w") as file:
+                file.write(f"store 62 62\n{line}\n")
+            self.ctl("import", self.image, lines, status=12)
+            self.assertIn(words, self.said)
+        self.assertEqual(self.held(), {})
+
+    def test_an_export_that_was_cut_off(self):
+        self.store({b"a": b"1", b"b": b"2"})
+        out = self.path("out")
+        self.ctl("export", self.image, "-o", out)
+        whole = self.bytes(out).splitlines(keepends=True)
+        for part in (whole[:-1], whole[:2] + whole[3:], whole[:1]):
+            with open(out, "wb") as file:
+                file.writelines(part)
+            self.ctl("import", self.other(f"{len(part)}{part[-1][2:5]}.img"), out, status=12)
+            self.assertIn("cut off", self.said)
+
+    def test_what_the_drive_refuses(self):
+        lines = "store 61 61\nstore 62 %s\nstore 63 63\n" % ("00" * (GREATEST + 1))
+        self.ctl("import", self.image, input=lines.encode(), status=3)
+        self.assertIn("line 2: key b:", self.said)
+        self.assertEqual(self.held(), {b"a": b"a", b"c": b"c"})
+
+    def test_making_the_image(self):
+        new = self.path("new.img")
+        self.ctl("import", new, input=b"store 61 61\n", status=8)
+        self.ctl("import", new, "--make", "512", "16", "21", input=b"store 61 61\n", status=2)
+        self.assertIn("at least 22 are needed", self.said)
+        self.assertFalse(os.path.exists(new))
+        self.ctl("import", new, "--make", "512", "16", "64", input=b"store 61 61\n")
+        self.assertEqual(self.held(new), {b"a": b"a"})
+
+    def test_a_closed_pipe(self):
+        self.small()
+        done = subprocess.run(f"'{PINKCTL}' export '{self.image}' | head -1", shell=True, capture_output=True)
+        self.assertIn(b"pinkctl export", done.stdout)
+        self.assertEqual(done.stderr.count(b"Traceback") + done.stderr.count(b"Broken"), 0)
+
+
+class Backup(OnImage):
+    def test_a_copy_opens(self):
+        self.store({b"a": b"1"})
+        copy = self.path("copy.img")
+        os.chmod(self.image, 0o640)
+        self.ctl("backup", self.image, copy)
+        self.assertEqual(self.bytes(copy), self.bytes())
+        self.assertEqual(os.stat(copy).st_mode & 0o777, 0o640)
+        self.assertLess(os.stat(copy).st_blocks * 512, 200000)
+        self.ctl("backup", self.image, copy, status=9)
+        self.store({b"a": b"2"})
+        self.ctl("backup", self.image, copy, "--force")
+        self.assertEqual(self.held(copy), {b"a": b"2"})
+        os.mkdir(self.path("folder"))
+        self.ctl("backup", self.image, self.path("folder"))
+        self.assertEqual(self.bytes(self.path("folder/drive.img")), self.bytes())
+        self.assertEqual(sorted(os.listdir(self.folder)), ["copy.img", "drive.img", "folder"])
+
+    def test_an_image_in_use(self):
+        copy = self.path("copy.img")
+        drive = Drive(self.image, program=PROGRAM)
+        self.ctl("backup", self.image, copy, status=6)
+        self.assertFalse(os.path.exists(copy))
+        waiting = subprocess.Popen([PINKCTL, "backup", self.image, copy, "--wait", "60"], stderr=subprocess.PIPE)
+        drive.store(b"a", b"1")
+        time.sleep(0.5)
+        self.assertIsNone(waiting.poll())
+        drive.close()
+        self.assertEqual((waiting.wait(60), waiting.stderr.close()), (0, None))
+        self.assertEqual(self.held(copy), {b"a": b"1"})
+
+    def test_copies_beside_a_writer(self):
+        """Every copy that is made while sessions come and go opens, with a map that was there."""
+        maps, stop = [{}], time.monotonic() + 4
+        copies = []
+        while time.monotonic() < stop or len(copies) < 8:
+            with Drive(self.image, program=PROGRAM) as d:
+                copy = self.path(f"copy{len(copies)}.img")
+                running = subprocess.Popen([PINKCTL, "backup", "-q", self.image, copy, "--wait", "60"])
+                for _ in range(20):
+                    key = b"%d" % random.randrange(50)
+                    d[key] = b"%d" % len(copies)
+                    maps.append({**maps[-1], key: b"%d" % len(copies)})
+            self.assertEqual(running.wait(60), 0)
+            copies.append(copy)
+        for copy in copies:
+            self.check(path=copy)
+            self.assertIn(self.held(copy), maps)
+
+    def test_what_is_refused(self):
+        copy = self.path("copy.img")
+        self.ctl("backup", self.image, self.image, status=2)
+        self.ctl("backup", self.path("none"), copy, status=8)
+        self.ctl("backup", self.image, self.path("none/copy"), status=11)
+        self.store({b"a": b"1"})
+        it, flash = self.flash()
+        self.change(self.place(flash.map[b"a"].page, 0), b"\0")
+        self.ctl("backup", self.image, copy, status=8)
+        self.assertFalse(os.path.exists(copy))
+        self.ctl("backup", self.image, copy, "--even-damaged", status=8)
+        self.assertEqual(self.bytes(copy), self.bytes())
+
+    def test_a_full_disk(self):
+        if os.geteuid() or not shutil.which("mount"):
+            self.skipTest("a small file system needs root")
+        small = self.path("small")
+        os.mkdir(small)
+        if subprocess.run(["mount", "-t", "tmpfs", "-o", "size=64k", "none", small], capture_output=True).returncode:
+            self.skipTest("no file system can be mounted here")
+        self.addCleanup(subprocess.run, ["umount", small])
+        self.fill(300)
+        self.ctl("backup", self.image, os.path.join(small, "copy"), status=11)
+        self.assertIn(os.strerror(errno.ENOSPC), self.said)
+        self.assertEqual(os.listdir(small), [])
+
+
+class Salvage(OnImage):
+    def salvage(self, *words, status=10):
+        new = self.path("new.img")
+        if os.path.exists(new):
+            os.remove(new)
+        before = self.bytes()
+        self.out = self.ctl("salvage", self.image, new, *words, status=status).decode()
+        self.assertEqual(self.bytes(), before)
+        return self.held(new) if os.path.exists(new) else None
+
+    def test_of_a_whole_drive(self):
+        self.fill(100)
+        self.assertEqual(self.salvage(status=0), self.held())
+        self.assertIn("100 sure, 0 doubtful; 0 lost", self.out)
+
+    def test_the_review_s_four(self):
+        self.fill()
+        held, whole = self.held(), self.bytes()
+        it, flash = self.flash()
+        page = flash.map[b"key100"].page
+        journal = min(flash.newest.pages)
+        meta = next(run[0] * 16 for run in flash.root.runs if run)
+        for at, least in ((self.place(page, 500), 492), (self.place(page, 5), 491), (self.place(journal, 8), 478), (self.place(meta, 40), 490)):
+            self.change(0, whole)
+            self.change(at, bytes([whole[at] ^ 1]))
+            self.check(status=8)
+            found = self.salvage()
+            self.assertGreaterEqual(len(found), least)
+            self.assertEqual({key: held.get(key) for key in found}, found)
+
+    def test_what_is_doubtful_is_told(self):
+        self.store({b"a": b"old", b"b": b"gone"})
+        with Drive(self.image, program=PROGRAM) as d:
+            d[b"a"] = b"new"
+            del d[b"b"]
+            d[b"c"] = b"3"
+        it, flash = self.flash()
+        self.change(self.place(min(flash.newest.pages), 0), b"X" * 512)
+        found = self.salvage("--list", self.path("list"))
+        listed = [json.loads(line) for line in self.bytes(self.path("list")).splitlines()]
+        self.assertEqual(found, {b"a": b"old", b"b": b"gone", b"c": b"3"})
+        self.assertEqual({it["key"]: it["is"] for it in listed}, {"a": "doubtful", "b": "doubtful"})
+        self.assertIn("1 sure, 2 doubtful; 0 lost", self.out)
+        self.assertIn("it may be older, or deleted since", self.out)
+        self.assertEqual(self.salvage("--sure-only"), {b"c": b"3"})
+
+    def test_a_lost_newest_root(self):
+        self.store({b"a": b"1"})
+        self.store({b"b": b"2"})
+        self.store({b"c": b"3"})
+        it, flash = self.flash()
+        self.change(self.place(flash.root.page, 500), b"\1")
+        self.assertEqual(self.salvage(status=0), {b"a": b"1", b"b": b"2", b"c": b"3"})
+        self.change(self.place(flash.root.page, 24), b"\xff")
+        self.assertEqual(self.salvage(), {b"a": b"1", b"b": b"2", b"c": b"3"})
+
+    def test_without_any_root(self):
+        self.fill(60)
+        held = self.held()
+        for page in range(32):
+            self.change(STATES + page, b"\0")
+            self.change(self.place(page), bytes(PAGE))
+        self.assertEqual(self.salvage(), held)
+
+    def test_damaged_files(self):
+        self.fill(60)
+        held, whole = self.held(), self.bytes()
+        for at, what in ((0, b"junk"), (8, b"\1\2\3"), (16, b"\0\0\0\0"), (20, b"\1"), (STATES + 1020, b"\7")):
+            self.change(0, whole)
+            self.change(at, what)
+            self.check(status=8)
+            self.assertEqual(self.salvage(status=0), held)
+        self.change(0, whole)
+        os.truncate(self.image, 525344 - 3000)
+        self.assertEqual(self.salvage(status=0), held)
+
+    def test_what_is_refused(self):
+        self.store({b"a": b"1"})
+        self.ctl("salvage", self.image, self.image, status=9)
+        self.ctl("salvage", self.path("none"), self.path("new.img"), status=8)
+        self.ctl("salvage", self.image, self.path("none/new.img"), status=11)
+        self.ctl("salvage", self.image, self.path("new.img"), "--shape", "1", "2", "3", status=2)
+        junk = self.path("junk")
+        with open(junk, "wb") as file:
+            file.write(b"junk" * 1000)
+        self.ctl("salvage", junk, self.path("new.img"), status=8)
+        self.assertFalse(os.path.exists(self.path("new.img")))
+        self.ctl("salvage", self.image, self.path("new.img"), "--dry-run")
+        self.assertFalse(os.path.exists(self.path("new.img")))
+
+    def test_another_shape(self):
+        self.fill(60)
+        held = self.held()
+        self.assertEqual(self.salvage("--shape", "512", "16", "26", status=0), held)
+        self.assertIsNotNone(self.salvage("--shape", "512", "16", "22"))
+        self.assertIn("refused by the new drive", self.out)
+
+
+class Shell(OnImage):
+    def shell(self, *lines, status=0, input=b"", words=()):
+        given = [word for line in lines for word in ("-e", line)]
+        return self.ctl("shell", self.image, *words, *given, input=input, status=status)
+
+    def test_commands(self):
+        out = self.shell('set user:1 "two words\\n"', "get user:1", "has user:1", "length user:1", "add b 2", "list", "scan user", "del b user:1")
+        self.assertEqual(out, b'ok\ntwo words\nyes\n10\nok\nb\nuser:1\nuser:1 "two words\\n"\nok\n')
+        self.assertIn(b"limit 492\n", self.shell("stat"))
+        self.assertIn(b"get KEY", self.shell("help"))
+        self.shell("tick 3", "quit", "get nothing")
+
+    def test_statuses(self):
+        self.assertEqual(self.shell("has a", status=1), b"no\n")
+        self.shell("get a", status=1)
+        self.assertIn("missing a", self.said)
+        self.shell("del a", status=1)
+        self.shell("get a", "set a 1", status=1)
+        self.assertEqual(self.held(), {})
+        self.shell("set a 1", "add a 2", status=3)
+        self.assertIn("KeyExists", self.said)
+        self.shell("set " + "k" * 17 + " 1", status=3)
+        for line in ("what", "get", "set a", "set a b c", "set 0x1 a", 'get "a', "get 'a'b", 'get "\\q"', "list a b", "set a < "):
+            self.shell(line, status=2)
+
+    def test_a_script(self):
+        self.assertEqual(self.shell(input=b"# a comment\n\nset a 1\nget a\nget b\nset c 3\n", status=1), b"ok\n1")
+        self.assertIn("line 5: missing b", self.said)
+        self.assertEqual(self.held(), {b"a": b"1"})
+
+    def test_files_and_bytes(self):
+        value = bytes(range(256)) * 4
+        with open(self.path("a file"), "wb") as file:
+            file.write(value)
+        self.shell(f"set 0x00ff < '{self.path('a file')}'", f'get 0x00ff > "{self.path("out")}"')
+        self.assertEqual(self.bytes(self.path("out")), value)
+        self.assertEqual(self.shell("get 0x00ff"), value)
+        self.assertEqual(self.shell("get 0x00ff", words=["--words"]).strip(), b"0x" + value.hex().encode())
+        self.shell("set a < /nowhere/file", status=11)
+        self.assertEqual(self.held(), {b"\0\xff": value})
+
+    def test_words_round_trip(self):
+        draw = random.Random(1)
+        for _ in range(2000):
+            data = bytes(draw.choice(b'ab "\'\\#@<>0x\n\t\0\xc3\xa9') for _ in range(draw.randrange(12)))
+            (word,) = keys.words_of(keys.shown(data))
+            self.assertEqual(word.bytes(), data)
+
+    def test_at_a_terminal(self):
+        pid, terminal = pty.fork()
+        if not pid:
+            os.environ.update(TERM="dumb", PINKCTL_HISTORY=self.path("history"))
+            os.execv(PINKCTL, [PINKCTL, "shell", self.image])
+        said = b""
+        for line, answer in ((b"set a 1\n", b"ok"), (b"get b\n", b"missing b"), (b"get a\n", b"1"), (b"quit\n", b"")):
+            said = self.until(terminal, b"pink> ")
+            os.write(terminal, line)
+            said = self.until(terminal, answer)
+            self.assertIn(answer, said)
+        with self.subTest("the end"):
+            self.assertEqual(os.waitpid(pid, 0)[1], 0)
+        os.close(terminal)
+        self.assertIn(b"get a", self.bytes(self.path("history")))
+
+    def until(self, terminal, text):
+        said, end = b"", time.monotonic() + 30
+        while text not in said and time.monotonic() < end:
+            if select.select([terminal], [], [], 1)[0]:
+                said += os.read(terminal, 4096)
+        return said
+
+    def test_what_does_not_open(self):
+        self.ctl("shell", self.path("none"), "-e", "list", status=8)
+        with Drive(self.image, program=PROGRAM):
+            self.shell("list", status=6)
+        self.change(STATES, b"\0")
+        self.shell("list", status=8)
+        self.assertIn("pinkctl check", self.said)
+
+
+class Shapes(OnImage):
+    def test_a_shape_holds_what_it_promises(self):
+        out = self.ctl("shapes", "--values", "30", "--bytes", "900").decode().splitlines()
+        shape = tuple(map(int, out[0].split()[1:4]))
+        count = int(re.search(r"([\d,]+) such", out[0])[1].replace(",", ""))
+        self.assertGreaterEqual(count, 30)
+        new = self.path("new.img")
+        make(new, *shape, program=PROGRAM)
+        self.assertEqual(os.path.getsize(new), layout.Shape(*shape).file_bytes)
+        with Drive(new, program=PROGRAM) as d:
+            for i in range(count):
+                d.store(b"%d" % i, bytes(900))
+            self.assertEqual(d.report().limit, layout.Layout(layout.Shape(*shape)).limit)
+            with self.assertRaises(pinkdrive.CapacityExceeded):
+                d.store(b"one more", bytes(900))
+
+    def test_shapes_are_those_that_make_takes(self):
+        for p in (256, 512, 1024, 16384):
+            for n in (4, 8, 64, 256):
+                for m in (21, 22, 30, 40, 4096, 4097):
+                    allowed = layout.shape_fault(layout.Shape(p, n, m)) is None
+                    new = self.path("new.img")
+                    status = subprocess.run([PROGRAM, new, "make", str(p), str(n), str(m)], capture_output=True).returncode
+                    self.assertEqual(status == 0, allowed, (p, n, m, status))
+                    if allowed:
+                        self.assertEqual(os.path.getsize(new), layout.Shape(p, n, m).file_bytes)
+                        os.remove(new)
+
+    def test_words(self):
+        self.ctl("shapes", status=2)
+        self.ctl("shapes", "--values", "9", "--bytes", "2000000", status=1)
+        self.assertIn(b"2,016 bytes", self.ctl("shapes", "--shape", "512", "16", "64"))
+        self.ctl("shapes", "--shape", "500", "16", "64", status=2)
+
+
+class TheWhole(OnImage):
+    def test_help(self):
+        parts = ("check", "export", "import", "backup", "salvage", "shell", "shapes")
+        text = self.ctl("--help").decode()
+        for part in parts:
+            self.assertIn(f"    {part} ", text)
+            self.assertIn("usage: pinkctl " + part, self.ctl(part, "--help").decode())
+        for status in Exit:
+            self.assertIn(MEANINGS[status], text)
+        self.ctl(status=2)
+        self.ctl("what", status=2)
+
+    def test_the_page_of_the_manual(self):
+        with open(os.path.join(TOP, "docs", "pinkctl.1"), encoding="utf-8") as file:
+            page = re.sub(r"[ \n]+", " ", file.read().replace("\\-", "-"))
+        for status in Exit:
+            self.assertIn(f".B {status.value} ", page)
+        for part in ("check", "export", "import", "backup", "salvage", "shell", "shapes"):
+            for option in re.findall(r"--[a-z-]+", self.ctl(part, "--help").decode()):
+                if option != "--help":
+                    self.assertIn(option, page, part)
+
+    def test_through_a_link(self):
+        os.symlink(os.path.abspath(PINKCTL), self.path("link"))
+        done = subprocess.run([self.path("link"), "check", self.image], capture_output=True, cwd=self.folder)
+        self.assertEqual((done.returncode, done.stdout[:6]), (0, b"whole:"))
+
+    def test_an_end_by_a_signal_leaves_no_file(self):
+        self.fill(300)
+        with open(self.image, "rb") as held:
+            fcntl.flock(held, fcntl.LOCK_EX)
+            running = subprocess.Popen([PINKCTL, "backup", self.image, self.path("copy"), "--wait", "60"], stderr=subprocess.PIPE)
+            self.assertIn(b"waiting", running.stderr.readline())
+            running.stderr.close()
+            running.send_signal(signal.SIGTERM)
+            self.assertEqual(running.wait(30), 128 + signal.SIGTERM)
+        self.assertEqual(os.listdir(self.folder), ["drive.img"])
+
+    def test_a_program_that_is_not_there(self):
+        self.ctl("shell", self.image, "-e", "list", status=15, env={"PINK_PROGRAM": "/nowhere/pink"})
+        self.assertIn("/nowhere/pink", self.said)
+
+
+if __name__ == "__main__":
+    unittest.main()

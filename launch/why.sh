@@ -1,0 +1,254 @@
+# Why a program ended with a status, as far as its words, the image file and the system show it.
+# shellcheck shell=sh
+
+why() { # NAME STATUS IMAGE WORDS..
+    name=$1
+    status=$2
+    shift 2
+    case $status in
+        2) if [ "$name" = pink ]; then words_fault "$@"; else echo "the words are IMAGE, or IMAGE lines"; fi ;;
+        3) input_cut "${2:-}" ;;
+        4) if [ -d /dev/fd/0 ]; then echo "the input is a folder"; else echo "reading the input failed"; fi ;;
+        5) echo "writing the output failed (is its disk full?)" ;;
+        6) flash_fault "$1" "${2:-}" ;;
+        7) echo "there was not enough memory; nothing was taken from the input" ;;
+        8) image_fault "$1" "${2:-}" ;;
+        9) echo "there is an image already: remove $1, or name another file" ;;
+        10) echo "the drive is worn, or 2^32-1 entries were taken" ;;
+        12) bad_line ;;
+        *)
+            if [ "$status" -gt 128 ]; then
+                echo "ended by signal $((status - 128)); what was answered is on the flash"
+            else
+                echo "which the program has not (docs/COMMANDS.md)"
+            fi
+            ;;
+    esac
+}
+
+# Words outside the table.
+
+is_number() { # WORD: decimal digits without a leading zero, at most 4,294,967,295
+    case $1 in
+        0) return 0 ;;
+        '' | 0* | *[!0-9]*) return 1 ;;
+    esac
+    [ ${#1} -le 10 ] && [ "$1" -le 4294967295 ]
+}
+
+is_hexadecimal() { # WORD: an even count of digits, at least 2
+    case $1 in
+        '' | *[!0-9a-fA-F]*) return 1 ;;
+    esac
+    [ $((${#1} % 2)) -eq 0 ]
+}
+
+key_fault() { # WORD: prints nothing if it is a key
+    if ! is_hexadecimal "$1"; then
+        echo "the key '$1' is not an even count of hexadecimal digits (the key abc is 616263)"
+    elif [ ${#1} -gt 32 ]; then
+        echo "the key has $((${#1} / 2)) bytes; at most 16 are allowed"
+    fi
+}
+
+shape_fault() { # P N M: the first rule of docs/FORMATS.md that they break
+    case $1 in
+        512 | 1024 | 2048 | 4096 | 8192 | 16384) ;;
+        *) echo "a page has 512, 1024, 2048, 4096, 8192 or 16384 bytes, not $1" && return ;;
+    esac
+    case $2 in
+        8 | 16 | 32 | 64 | 128 | 256) ;;
+        *) echo "a block has 8, 16, 32, 64, 128 or 256 pages, not $2" && return ;;
+    esac
+    held=$((($1 - 32) / 32))
+    quarters=$((3 * $2 / 4))
+    if [ "$quarters" -gt "$held" ]; then
+        echo "with pages of $1 bytes a block has fewer than $2 pages"
+    elif [ "$3" -gt 4096 ]; then
+        echo "a drive has at most 4096 blocks, not $3"
+    elif [ $(($1 * $2 * $3)) -gt 268435456 ]; then
+        echo "a drive has at most 256 MiB (268435456 bytes), not $(($1 * $2 * $3)) bytes"
+    else
+        # the blocks of runs of 4, 16 and 64 pages and of the last run, and of the longer of the last two again
+        last=$(((($3 * quarters + held - 1) / held + 24 + $2 - 1) / $2))
+        third=$(((64 + $2 - 1) / $2))
+        longer=$((last > third ? last : third))
+        index=$(((4 + $2 - 1) / $2 + (16 + $2 - 1) / $2 + third + last + longer))
+        if [ $((64 + 2 * (index + 4))) -gt "$1" ]; then
+            echo "a root with $((index + 4)) block numbers does not fit a page of $1 bytes"
+        else
+            echo "a drive of this page and block has at least $((9 + index)) blocks, not $3"
+        fi
+    fi
+}
+
+words_fault() { # IMAGE WORDS..
+    image=$1
+    word=${2:-}
+    known='make serve asm show put get del has list stat gen'
+    shift 2
+    case " $known " in
+        *" $word "*) ;;
+        *)
+            case " $known " in
+                *" $image "*) echo "the image comes first: pink IMAGE $image .." ;;
+                *) echo "there is no word '$word'; the words are $known" ;;
+            esac
+            return
+            ;;
+    esac
+    case $word in
+        make) wanted=3 operands='P N M' ;;
+        serve) wanted=1 operands=FRAMES ;;
+        put) wanted=2 operands='KEY BYTES' ;;
+        gen) wanted=2 operands='START COUNT' ;;
+        get | del | has) wanted=1 operands=KEY ;;
+        list) wanted=1 operands='a KEY or nothing' ;;
+        *) wanted=0 operands='no more words' ;;
+    esac
+    if [ $# -ne "$wanted" ]; then
+        echo "$word takes $operands, and was given $# words"
+        return
+    fi
+    case $word in
+        make | serve | gen)
+            for number; do
+                is_number "$number" || { echo "'$number' is no number: digits without a leading zero, at most 4294967295" && return; }
+            done
+            ;;
+    esac
+    case $word in
+        make) shape_fault "$@" ;;
+        serve) echo "there are at most 16384 frames, not $1" ;;
+        get | del | has | list) key_fault "$1" ;;
+        put)
+            fault=$(key_fault "$1")
+            echo "${fault:-the value is not - or an even count of hexadecimal digits (the bytes abc are 616263)}"
+            ;;
+        *) echo "the words are none of those that it knows (docs/COMMANDS.md)" ;;
+    esac
+}
+
+# The input. A file is looked at again from its start; a pipe is gone.
+
+input_cut() { # WORD
+    text="the input ends inside an entry, a value or a record; all before it was served"
+    if [ -f /dev/fd/0 ] && [ "$1" = serve ]; then
+        case $(head -c 4 /dev/fd/0 | tr -d '\0') in
+            stor | retr | dele | exis | list | flus | repo | tick | raw\ | '#'*) text="the input is a text: pink IMAGE asm turns it into entries" ;;
+        esac
+    fi
+    echo "$text"
+}
+
+bad_line() { # the first line of the input that is outside the grammar
+    if [ ! -f /dev/fd/0 ]; then
+        echo "a line of the script is outside the grammar; of a file, as in asm < script.txt, the line is told"
+        return
+    fi
+    LC_ALL=C awk -F '[ ]' '
+        function hexadecimal(word) { return length(word) % 2 == 0 && word ~ /^[0-9a-fA-F]+$/ }
+        function key(word) { return hexadecimal(word) && length(word) <= 32 }
+        function bytes(word) { return word == "-" || hexadecimal(word) }
+        function number(word) { return word ~ /^(0|[1-9][0-9]*)$/ && length(word) <= 10 && word + 0 <= 4294967295 }
+        function known(count) { return NF == count }
+        function fault() {
+            if ($0 ~ /\r$/) return "it ends with a carriage return"
+            if ($0 ~ /\t/) return "it has a tab; words are divided by one blank"
+            if ($0 ~ /^ / || $0 ~ /  / || $0 ~ / $/) return "words are divided by one blank, and none comes first or last"
+            if (length($0) > 2200000) return "it has more than 2200000 bytes"
+            if ($1 !~ /^(store|retrieve|delete|exist|list|flush|report|tick|raw)$/) return "there is no command " substr($1, 1, 20)
+            if ($1 == "store") {
+                if (NF < 3 || NF > 4) return "store takes KEY BYTES, and if-exists, if-absent or both"
+                if (!bytes($3)) return "the bytes are not - or an even count of hexadecimal digits"
+                if (NF == 4 && $4 !~ /^(if-exists|if-absent|both)$/) return "the option is none of if-exists, if-absent, both"
+            }
+            if ($1 ~ /^(retrieve|list)$/ && NF != 3) return $1 " takes KEY SIZE"
+            if ($1 ~ /^(delete|exist)$/ && NF != 2) return $1 " takes KEY"
+            if ($1 ~ /^(flush|report)$/ && NF != 1) return $1 " takes no more words"
+            if ($1 == "tick") return NF == 2 && number($2) ? "" : "tick takes STEPS, a number"
+            if ($1 == "raw") return NF == 3 && hexadecimal($2) && length($2) == 128 && bytes($3) ? "" : "raw takes ENTRY, 128 digits, and BYTES"
+            if (NF > 1 && !key($2) && !($1 == "list" && $2 == "-")) return "the key is not 2 to 32 hexadecimal digits, an even count"
+            if ($1 ~ /^(retrieve|list)$/ && !number($3)) return "the size is no number"
+            return ""
+        }
+        /^#/ || /^$/ { next }
+        { why = fault() }
+        why != "" { print "line " FNR " of the script: " why; found = 1; exit }
+        END { if (!found) print "a line of the script is outside the grammar" }' /dev/fd/0
+}
+
+# The image.
+
+user_of() { # IMAGE: the process that has it locked, as the system lists it
+    inode=$(ls -diL -- "$1" 2>/dev/null | sed 's/^ *\([0-9]*\) .*$/\1/')
+    [ -n "$inode" ] || return 1
+    # A list that is read in pieces while it changes may lack an entry, so it is read up to three times.
+    for _ in 1 2 3; do
+        user=$(sed -n "s/^.*: FLOCK *[A-Z]* *[A-Z]* *\(-*[0-9]*\) [^ ]*:$inode .*$/\1/p" /proc/locks 2>/dev/null | sed -n 1p)
+        [ -z "$user" ] || break
+    done
+    [ -n "$user" ] && echo "$user"
+}
+
+file_fault() { # IMAGE WORD: why it cannot be opened; prints nothing if nothing is seen
+    folder=$(dirname -- "$1")
+    if [ -d "$1" ]; then
+        echo "$1 is a folder"
+    elif [ ! -d "$folder" ]; then
+        echo "there is no folder $folder"
+    elif [ -e "$1" ] && { [ ! -r "$1" ] || [ ! -w "$1" ]; }; then
+        echo "no permission to read and write $1"
+    elif [ ! -e "$1" ] && [ "$2" = make ] && [ ! -w "$folder" ]; then
+        echo "no permission to make a file in $folder"
+    fi
+}
+
+flash_fault() { # IMAGE WORD
+    if user=$(user_of "$1"); then
+        words=$(tr '\0' ' ' <"/proc/$user/cmdline" 2>/dev/null | cut -c 1-80 | sed 's/ *$//')
+        echo "the image is in use by process $user${words:+ ($words)}"
+        return
+    fi
+    fault=$(file_fault "$1" "$2")
+    if [ -z "$fault" ]; then
+        place=$1
+        [ -e "$place" ] || place=$(dirname -- "$1")
+        free=$(df -Pk -- "$place" 2>/dev/null | awk 'NR == 2 { print $4 }')
+        if [ "${free:-64}" -lt 64 ]; then fault="no space is left on the disk of $1"; fi
+    fi
+    echo "${fault:-a read or write of the image failed, or another process had it open}"
+}
+
+image_fault() { # IMAGE WORD
+    fault=$(file_fault "$1" "$2")
+    if [ -n "$fault" ]; then
+        echo "$fault"
+        return
+    fi
+    if [ ! -e "$1" ]; then
+        echo "there is no file $1; pink $1 make 512 16 64 would make a small drive"
+        return
+    fi
+    hint=
+    [ "$2" != make ] || hint=": remove it, or name another file"
+    size=$(wc -c <"$1" | tr -d ' ')
+    # shellcheck disable=SC2046  # the bytes of the head are words
+    set -- "$1" $(od -An -v -tu1 -N 32 -- "$1" 2>/dev/null)
+    if [ "$*" = "$1" ] || [ "${2:-} ${3:-} ${4:-} ${5:-} ${6:-} ${7:-} ${8:-} ${9:-}" != "80 73 78 75 73 77 71 49" ]; then
+        echo "$1 ($size bytes) is no image of a drive$hint"
+        return
+    fi
+    shift 9
+    page=$(($1 + $2 * 256)) pages=$(($5 + $6 * 256)) blocks=$(($9 + ${10} * 256))
+    echo "$(size_fault "$size" "$page" "$pages" "$blocks")$hint"
+}
+
+size_fault() { # SIZE PAGE PAGES BLOCKS: what is wrong with an image whose head has the text of one
+    wanted=$((32 + $3 * $4 * ($2 + 1)))
+    if [ "$1" -ne "$wanted" ]; then
+        echo "the image has $1 bytes, and by its head it should have $wanted"
+    else
+        echo "the image is damaged, or its making was broken off: see pinkctl check"
+    fi
+}
