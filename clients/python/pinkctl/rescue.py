@@ -217,7 +217,7 @@ def commits_by_number(image: Image, layout: Layout, root: Optional[Root], index:
         if commit is None or commit.epoch < oldest or (root is None and image.states[page] != WHOLE):
             continue
         why = None if image.states[page] == WHOLE else UNFINISHED
-        key = commit.epoch, commit.index
+        key = commit.epoch, commit.place
         if key not in found or (found[key][1] and not why):
             found[key] = commit.entries, why
     for key in sorted(found, reverse=True):
@@ -240,7 +240,7 @@ def add_epoch(image: Image, layout: Layout, number: int, blocks: tuple[int, ...]
 
 def is_commit(layout: Layout, data: bytes, number: int, place: int) -> bool:
     commit = commit_in(layout, data)
-    return commit is not None and (commit.epoch, commit.index) == (number, place)
+    return commit is not None and (commit.epoch, commit.place) == (number, place)
 
 
 def add_damaged_commit(image: Image, layout: Layout, pages: Sequence[int], what: str, index: Index) -> None:
@@ -278,7 +278,7 @@ def add_run(image: Image, layout: Layout, root: Root, level: int, index: Index) 
 def run_page(image: Image, layout: Layout, page: int, level: int, place: int) -> Optional[list[Entry]]:
     """The entries of a page of a run, whatever its state is; None if it is not this page."""
     meta = meta_in(layout, image.page(page))
-    return meta.entries if meta and (meta.level, meta.index) == (level, place) else None
+    return meta.entries if meta and (meta.level, meta.place) == (level, place) else None
 
 
 def former_entries(image: Image, layout: Layout) -> Index:
