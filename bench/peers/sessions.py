@@ -14,6 +14,8 @@ from workload import PROBE, key_of
 
 # The launcher ./pink sets the same: the image in memory takes large pages of the system.
 PINK_ENVIRONMENT = {"GLIBC_TUNABLES": "glibc.malloc.hugetlb=1"}
+# Each program and erase is on the disk when its call returns.
+SYNC = "PINK_SYNC"
 
 
 class SessionFailed(Exception):
@@ -34,16 +36,17 @@ class Bench:
     # Seconds that a server may be silent.
     patience: int
 
-    def command(self, engine: Engine, store: Path, alone: bool) -> list[str]:
+    def command(self, engine: Engine, store: Path, mode: str) -> list[str]:
         """The command of a server."""
         if engine.program is None:
             return [str(self.pink), str(store), "serve", str(engines.FRAMES)]
-        group = 1 if alone else engines.GROUP
-        program = self.programs / engine.program
-        return [str(program), *engine.words, "--group", str(group), str(store)]
+        words = [*engine.words, "--group", str(1 if mode == "alone" else engines.GROUP)]
+        if mode == "durable":
+            words.append("--sync")
+        return [str(self.programs / engine.program), *words, str(store)]
 
     def feed(
-        self, command: list[str], phases: list[Path], before: list[Path]
+        self, command: list[str], phases: list[Path], before: list[Path], durable: bool = False
     ) -> dict[str, dict[str, float]]:
         """What the feeder tells of each phase of a session."""
         words = [str(self.programs / "feeder"), "--cpu", str(self.cpu)]
@@ -52,7 +55,7 @@ class Bench:
             words += ["--before", str(path)]
         for path in phases:
             words += ["--phase", str(path)]
-        environment = os.environ | PINK_ENVIRONMENT
+        environment = os.environ | PINK_ENVIRONMENT | {SYNC: "1" if durable else "0"}
         done = subprocess.run(
             [*words, "--", *command], stdout=subprocess.PIPE, text=True, env=environment
         )
@@ -106,14 +109,15 @@ def drop_from_cache(store: Path) -> None:
             os.posix_fadvise(file.fileno(), 0, 0, os.POSIX_FADV_DONTNEED)
 
 
-def measure(bench: Bench, engine: Engine, phases: list[Path], alone: bool) -> dict[str, object]:
-    """Feeds the phases to an engine with an empty store, and opens what they leave."""
+def measure(bench: Bench, engine: Engine, phases: list[Path], mode: str) -> dict[str, object]:
+    """Feeds the phases to an engine with an empty store; in groups, opens what they leave."""
     store = bench.folder / "store"
     bench.make(engine, store)
-    command = bench.command(engine, store, alone)
+    command = bench.command(engine, store, mode)
     try:
-        result: dict[str, object] = {"phases": bench.feed(command, phases, [])}
-        if not alone and engine.name != "map":
+        told = bench.feed(command, phases, [], mode == "durable")
+        result: dict[str, object] = {"phases": told}
+        if mode == "groups" and engine.name != "map":
             result["disk"] = sum(path.stat().st_blocks * 512 for path in files_of(store))
             result["opening"] = bench.feed(command, [], phases)["open"]["processor"]
             result["cat"] = bench.cat_seconds(store)

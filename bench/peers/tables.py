@@ -24,6 +24,7 @@ README_CASE = (80, 1000, "groups")
 MODES = {
     "groups": "changes in groups of at most 127",
     "alone": "each change committed alone",
+    "durable": "changes in groups of at most 127, each on the disk before its answer",
 }
 
 Run = dict[str, Any]
@@ -38,6 +39,10 @@ class Case:
     value: int
     mode: str
     runs: list[Run]
+
+    @property
+    def keys(self) -> int:
+        return self.runs[0]["phases"]["store"]["commands"]
 
     def engines(self) -> list[str]:
         present = {run["engine"] for run in self.runs}
@@ -63,6 +68,11 @@ def rate(phase: str) -> Figure:
     return lambda run: (
         run["phases"][phase]["commands"] / max(run["phases"][phase]["settled"], 1e-9) / 1000
     )
+
+
+def clock_rate(phase: str) -> Figure:
+    """Commands a second of the clock."""
+    return lambda run: run["phases"][phase]["commands"] / run["phases"][phase]["clock"]
 
 
 def written(phase: str) -> Figure:
@@ -100,9 +110,8 @@ def title_of(engine: str) -> str:
 
 
 def heading(case: Case) -> str:
-    return (
-        f"{case.live} % of the space live, values of {case.value:,} bytes, {MODES[case.mode]}"
-    )
+    keys = f"{case.keys:,} keys" if case.mode == "durable" else f"{case.live} % of the space live"
+    return f"{keys}, values of {case.value:,} bytes, {MODES[case.mode]}"
 
 
 def speed_table(case: Case, phases: Iterable[str]) -> str:
@@ -127,6 +136,17 @@ def cost_table(case: Case) -> str:
     figures += [lambda run: run["disk"] / 1e6, *milliseconds.values()]
     rows = [
         [title_of(name), *(number(case.median(name, figure)) for figure in figures)]
+        for name in case.engines()
+        if name != "map"
+    ]
+    return table(head, rows)
+
+
+def durable_table(case: Case) -> str:
+    phases = ("store", "overwrite")
+    head = ["engine", *(f"{PHASES[phase]}, by the clock" for phase in phases)]
+    rows = [
+        [title_of(name), *(number(case.median(name, clock_rate(phase))) for phase in phases)]
         for name in case.engines()
         if name != "map"
     ]
@@ -199,6 +219,9 @@ def report(results: dict[str, Any]) -> str:
         if (case.live, case.value, case.mode) == README_CASE:
             parts += [f"**README** ({heading(case)}; thousands a second)\n", readme_table(case)]
     for case in cases:
+        if case.mode == "durable":
+            parts += [f"**{heading(case)}**: commands a second\n", durable_table(case)]
+            continue
         parts += [f"**{heading(case)}**: thousands of commands a second of processor time\n"]
         parts += [speed_table(case, PHASES)]
         if case.mode == "alone":

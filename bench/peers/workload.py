@@ -119,7 +119,7 @@ class Workload:
         """The files of the phases in order, which are written if they are not there."""
         done = self._folder / "done"
         names = ["store", "overwrite"]
-        if not self._size.alone:
+        if self._size.retrieves > 0:
             names += ["retrieve", "zipf", "missing", "list", "delete"]
         paths = [self._folder / f"{name}.script" for name in names]
         if not done.exists():
