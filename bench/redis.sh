@@ -16,7 +16,7 @@ trap 'rm -rf "$folder"' EXIT
 trap 'exit 1' HUP INT TERM
 
 exec 3<<'PY'
-import os, random, signal, socket, statistics, subprocess, sys, threading, time
+import atexit, os, random, signal, socket, statistics, subprocess, sys, threading, time
 
 top, folder = sys.argv[1:3]
 words = sys.argv[3:]
@@ -34,6 +34,7 @@ def check(what, holds):
 def start(image, path, *more, stderr=None):
     """The server, once it serves."""
     server = subprocess.Popen([top + '/pinkctl', 'serve', image, '--socket', path, *more], stdout=subprocess.PIPE, stderr=stderr, text=True)
+    atexit.register(server.kill)
     if not server.stdout.readline():
         sys.exit(f'redis.sh: the server ended with {server.wait()}')
     return server
