@@ -6,14 +6,13 @@
 Each image is one of some drives with one to three changed bytes. Of each: `check` and pinkdump agree
 on the map or on the first wrong page; and if `check` says whole, the map is that of the drive as
 it was, but for values whose own bytes were changed (there is no checksum). Of the refused ones each
-value that `salvage` reads was once stored under its key, with the same exception. It is no part of
-the gate. It ends with a count, and with status 1 at the first image that differs.
+value that `salvage` reads was once stored under its key, and each that it is sure of is the last one,
+with the same exception. It is no part of the gate. It ends with a count, and with status 1 at the first image that differs.
 """
 
 import collections
 import os
 import random
-import subprocess
 import sys
 import tempfile
 from typing import NamedTuple
@@ -133,7 +132,7 @@ def differs(drive, verdict, at):
 
 
 def never_stored(drive, data, at):
-    """The keys that salvage reads with a value that was never stored, but for values whose own bytes were changed; and how many it reads."""
+    """What salvage reads that was never stored, but for values whose own bytes were changed; and all that it reads."""
     found = rescue.rescue_image(data)
     if found is None:
         return [], None
@@ -192,6 +191,11 @@ class Trial:
             self.counts["nothing to salvage"] += 1
             return
         held = {saved.key: found.value(saved) for saved in found.saved}
+        own = {drive.body[it] for it in at if it in drive.body}
+        sure = [saved.key for saved in found.saved if saved.why is None and saved.key not in own]
+        if any(held[key] != drive.map.get(key) for key in sure):
+            self.fail(drive, data, at, "salvage is sure of a value that is not the last one")
+        self.counts["keys that salvage is sure of"] += len(sure)
         self.kept[0] += sum(held.get(key) == value for key, value in drive.map.items())
         self.kept[1] += len(drive.map)
         self.counts["keys that came back"] += len(held.keys() - drive.map.keys())
@@ -213,7 +217,7 @@ class Trial:
             same = file.read() == data
         os.remove(new)
         if status not in (0, 10) or got != held or not same:
-            self.fail(drive, data, at, f"salvage: status {status}, {len(got)} keys of {len(held)}, the old image {'is unchanged' if same else 'changed'}")
+            self.fail(drive, data, at, f"salvage: status {status}, {len(got)} keys of {len(held)}, the old image is the same: {same}")
         self.counts["salvaged by the command"] += 1
 
 

@@ -124,7 +124,6 @@ def run(args: argparse.Namespace) -> int:
     except OSError as error:
         raise file_error(target, error) from None
     found = os.stat(target)
-    progress.say(
-        args, f"backup: {target}: {verdict.name}, {counted(found.st_size, 'byte')}, of which {found.st_blocks * 512:,} are taken on the disk"
-    )
+    size, on_disk = counted(found.st_size, "byte"), found.st_blocks * 512
+    progress.say(args, f"backup: {target}: {verdict.name}, {size}, of which {on_disk:,} are taken on the disk")
     return verdict.status

@@ -7,11 +7,12 @@ but for `commit-unfinished`, which a kill at the wrong instant leaves too.
 """
 
 import dataclasses
-from collections.abc import Iterator
+from collections.abc import Iterator, Sequence
 from typing import Optional
 
 from . import layout as it
 from .image import (
+    Entry,
     Epoch,
     Flash,
     Image,
@@ -60,7 +61,8 @@ def wrong_roots(image: Image, flash: Flash, root: Root) -> Iterator[Doubt]:
             version = root_version(image.page(page))
             named = f"names version {version}" if version not in (None, *it.RULES) else "is damaged"
             if is_older(flash, root, page):
-                yield Doubt("former-root-wrong", page, f"root page {page} {named}; it is older than the newest root, so the map is the same")
+                words = f"root page {page} {named}; it is older than the newest root, so the map is the same"
+                yield Doubt("former-root-wrong", page, words)
             else:
                 yield Doubt("root-wrong", page, f"root page {page} {named}: an older map may have opened")
 
@@ -83,7 +85,8 @@ def broken_numbers(image: Image, flash: Flash) -> Iterator[Doubt]:
         places = [(root.page // flash.layout.step, root) for root in roots]
         for (place, root), (next_place, later) in zip(places, places[1:]):
             if later.number - root.number != next_place - place:
-                yield Doubt("root-number", later.page, f"the root in page {later.page} has number {later.number} after {root.number}")
+                words = f"the root in page {later.page} has number {later.number} after {root.number}"
+                yield Doubt("root-number", later.page, words)
     if all(by_block):
         low, high = sorted(by_block, key=lambda roots: max(root.number for root in roots))
         ends, begins = max(root.number for root in low), min(root.number for root in high)
@@ -141,7 +144,8 @@ def merge_fault(before: Root, root: Root) -> Optional[str]:
         return "it changes the blocks of the newest epoch"
     if not before.older:
         return "there was nothing to merge"
-    level = 0 if not root.older else next((i + 1 for i in range(3) if before.counts[i] and not root.counts[i]), None)
+    emptied = [i for i in range(it.LEVELS - 1) if before.counts[i] and not root.counts[i]]
+    level = 0 if not root.older else emptied[0] + 1 if emptied else None
     if level is None or (root.older and root.older != before.older):
         return "it is no merge of two neighbouring levels"
     for i in range(it.LEVELS):
@@ -238,11 +242,19 @@ def baseless_deletions(flash: Flash) -> Iterator[Doubt]:
     present = {key for key, place in below.items() if place}
     for epoch in (flash.older, flash.newest):
         for commit in epoch.commits if epoch else ():
-            for key, place in commit.entries:
-                if place:
-                    present.add(key)
-                elif key in present:
-                    present.remove(key)
-                else:
-                    page = flash.layout.commit_pages(epoch.blocks, commit.index)[0]
-                    yield Doubt("deletion-of-nothing", page, f"a commit in page {page} deletes a key that was not there: it may be another key's deletion")
+            if not all_present(commit.entries, present):
+                page = flash.layout.commit_pages(epoch.blocks, commit.place)[0] if epoch else 0
+                words = f"a commit in page {page} deletes a key that was not there: it may be another key's deletion"
+                yield Doubt("deletion-of-nothing", page, words)
+
+
+def all_present(entries: Sequence[Entry], present: set[bytes]) -> bool:
+    """Whether each deleted key was present; `present` has the keys after the entries."""
+    missing = 0
+    for key, place in entries:
+        if place:
+            present.add(key)
+        else:
+            missing += key not in present
+            present.discard(key)
+    return not missing

@@ -39,7 +39,7 @@ def add_parser(subparsers: Any) -> None:
         formatter_class=argparse.RawDescriptionHelpFormatter,
     )
     parser.add_argument("image", metavar="IMAGE")
-    parser.add_argument("--output", "-o", metavar="FILE", help="write to a file, which appears when all is written (default: standard output)")
+    parser.add_argument("--output", "-o", metavar="FILE", help="a file, which appears when all is written (default: standard output)")
     parser.add_argument("--force", "-f", action="store_true", help="replace the file if it exists")
     parser.add_argument("--format", choices=("asm", "json"), default="asm")
     parser.add_argument("--from", dest="start", metavar="KEY", help="only keys from this one on")

@@ -9,7 +9,7 @@ import mmap
 import os
 import struct
 from collections.abc import Iterator, Sequence
-from typing import BinaryIO, NamedTuple, Optional, Union
+from typing import Any, BinaryIO, NamedTuple, Optional, Union
 
 from . import layout as it
 from .layout import ERASED, GONE, PUT, TORN, WHOLE, Layout, Shape, shape_fault
@@ -175,8 +175,8 @@ def is_place(layout: Layout, page: int, length: int) -> bool:
     )
 
 
-def entry_of(layout: Layout, fields: tuple[int, int, int, bytes, int, int, int]) -> Optional[Entry]:
-    """The entry of these fields, or None outside the grammar."""
+def entry_of(layout: Layout, fields: tuple[Any, ...]) -> Optional[Entry]:
+    """The entry of these fields of `ENTRY`, or None outside the grammar."""
     size, kind, zeros, padded, page, length, tail = fields
     key = key_of(size, padded)
     if key is None or zeros or tail:
@@ -203,10 +203,10 @@ def entries_in(layout: Layout, data: bytes, count: int) -> Optional[list[Entry]]
 
 
 class Commit(NamedTuple):
-    """A journal page."""
+    """A journal page: its epoch, its place in the epoch, and its entries."""
 
     epoch: int
-    index: int
+    place: int
     entries: list[Entry]
 
 
@@ -220,10 +220,10 @@ def commit_in(layout: Layout, data: bytes) -> Optional[Commit]:
 
 
 class MetaPage(NamedTuple):
-    """A page of a run."""
+    """A page of a run: the level, its place in the run, and its entries."""
 
     level: int
-    index: int
+    place: int
     entries: list[Entry]
 
 
@@ -336,7 +336,7 @@ def roots_of(image: Image) -> list[Root]:
 
 def newest_of(roots: Sequence[Root]) -> Optional[Root]:
     """The root with the greatest number, of equals the one of the lowest page."""
-    return max(roots, key=lambda root: (root.number, -root.page), default=None)
+    return max(roots, key=lambda root: (root.number, -root.page)) if roots else None
 
 
 def keys_named(layout: Layout, data: bytes) -> tuple[bytes, ...]:
@@ -369,7 +369,7 @@ def read_epoch(image: Image, layout: Layout, part: str, number: int, blocks: tup
         data = image.page(page)
         what = f"commit {index + 1} of {part} epoch of the journal (number {number})"
         commit = commit_in(layout, data)
-        if commit is None or (commit.epoch, commit.index) != (number, index):
+        if commit is None or (commit.epoch, commit.place) != (number, index):
             raise Damaged(Fault(page, what, "it is not the journal page of this place", keys=keys_named(layout, data)))
         keys.update(entry.key for entry in commit.entries)
         if len(keys) > layout.buffer:
@@ -412,7 +412,7 @@ def run_page_fault(
         return f"it is {STATE_NAMES[image.states[page]]}", []
     meta = meta_in(layout, data)
     wanted = min(layout.page_entries, count - index * layout.page_entries)
-    if meta is None or (meta.level, meta.index, len(meta.entries)) != (level, index, wanted):
+    if meta is None or (meta.level, meta.place, len(meta.entries)) != (level, index, wanted):
         return "it is not the meta page of this place", []
     if before and meta.entries[0].key <= before[-1].key:
         return "its keys do not follow those of the page before", []

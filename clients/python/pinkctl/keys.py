@@ -45,7 +45,8 @@ class Word:
 
 def words_of(line: str) -> list[Word]:
     """The words of a line, up to a # at the start of one."""
-    words, at = [], 0
+    words: list[Word] = []
+    at = 0
     while True:
         while at < len(line) and line[at].isspace():
             at += 1

@@ -61,7 +61,7 @@ def add_parser(subparsers: Any) -> None:
     parser.add_argument("image", metavar="IMAGE")
     parser.add_argument("input", metavar="FILE", nargs="?", default="-", help="the lines (default: standard input)")
     parser.add_argument("--overwrite", action="store_true", help="replace the values of keys that exist")
-    parser.add_argument("--make", nargs=3, type=int, metavar=("P", "N", "M"), help="make the image first: page bytes, pages of a block, blocks")
+    parser.add_argument("--make", nargs=3, type=int, metavar=("P", "N", "M"), help="make the image first, as pink IMAGE make P N M")
     parser.add_argument("--dry-run", "-n", action="store_true", help="read the lines, and store nothing")
     add_wait(parser)
     progress.add_arguments(parser)

@@ -37,6 +37,7 @@ from .layout import TORN, WHOLE, Layout, Shape, shape_fault
 LOST_ROOT = "the newest root is lost: it may be older, or deleted since"
 DAMAGED_INDEX = "its entry is in a damaged page of the index"
 BELOW_GAP = "a newer part of the index is damaged: it may be older, or deleted since"
+MISNAMED = "an entry of another key leads to a value of this key: it may be older"
 UNFINISHED = "its commit is marked as not finished"
 OLDER = "the newest entry of the key leads to no value: this is an older one"
 DAMAGED_VALUE = "a page of the value was changed: the value may be, too"
@@ -216,7 +217,7 @@ def commits_by_number(image: Image, layout: Layout, root: Optional[Root], index:
         if commit is None or commit.epoch < oldest or (root is None and image.states[page] != WHOLE):
             continue
         why = None if image.states[page] == WHOLE else UNFINISHED
-        key = commit.epoch, commit.index
+        key = commit.epoch, commit.place
         if key not in found or (found[key][1] and not why):
             found[key] = commit.entries, why
     for key in sorted(found, reverse=True):
@@ -239,7 +240,7 @@ def add_epoch(image: Image, layout: Layout, number: int, blocks: tuple[int, ...]
 
 def is_commit(layout: Layout, data: bytes, number: int, place: int) -> bool:
     commit = commit_in(layout, data)
-    return commit is not None and (commit.epoch, commit.index) == (number, place)
+    return commit is not None and (commit.epoch, commit.place) == (number, place)
 
 
 def add_damaged_commit(image: Image, layout: Layout, pages: Sequence[int], what: str, index: Index) -> None:
@@ -277,7 +278,7 @@ def add_run(image: Image, layout: Layout, root: Root, level: int, index: Index) 
 def run_page(image: Image, layout: Layout, page: int, level: int, place: int) -> Optional[list[Entry]]:
     """The entries of a page of a run, whatever its state is; None if it is not this page."""
     meta = meta_in(layout, image.page(page))
-    return meta.entries if meta and (meta.level, meta.index) == (level, place) else None
+    return meta.entries if meta and (meta.level, meta.place) == (level, place) else None
 
 
 def former_entries(image: Image, layout: Layout) -> Index:
@@ -348,6 +349,18 @@ def decide(rescue: Rescue, key: bytes, candidates: Sequence[Candidate], trusted:
     return None
 
 
+def misnamed(rescue: Rescue, candidates: dict[bytes, list[Candidate]]) -> set[bytes]:
+    """The keys of values to which the first entry of another key leads: that entry, or the head, was changed."""
+    found = set()
+    for key, ((place, _), *_) in candidates.items():
+        if place:
+            size, _, _, padded, length, text = it.VALUE_HEAD.unpack_from(rescue.image.page(place.page))
+            other = key_of(size, padded)
+            if other and other != key and (length, text) == (place.length, it.VALUE_TEXT):
+                found.add(other)
+    return found
+
+
 def is_deleted(candidates: Sequence[Candidate]) -> bool:
     return candidates[0].place is None
 
@@ -376,11 +389,12 @@ def rescue_image(data: Buffer) -> Optional[Rescue]:
     rescue.notes += [f"the file: {wrong}"] if wrong else []
     index = index_of(rescue, root, trusted)
     lost = []
+    doubtful = dict.fromkeys(misnamed(rescue, index.candidates), MISNAMED) if trusted else dict.fromkeys(index.candidates, LOST_ROOT)
     for key in sorted(index.candidates):
         candidates = index.candidates[key]
         saved = decide(rescue, key, candidates, trusted)
         if saved:
-            rescue.saved.append(saved if trusted or saved.why else saved._replace(why=LOST_ROOT))
+            rescue.saved.append(saved._replace(why=saved.why or doubtful.get(key)))
         elif not is_deleted(candidates):
             lost.append(key)
     if lost or index.damaged:

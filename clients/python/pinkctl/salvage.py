@@ -100,7 +100,8 @@ def report(args: argparse.Namespace, rescue: Rescue, copied: int, refused: dict[
     for key in rescue.lost[:10]:
         print(f"  lost: {shown_key(key)}")
     if refused:
-        print(f"refused by the new drive: {len(refused):,}, such as {shown_key(min(refused))}: {refused[min(refused)]}; take a larger --shape")
+        key = min(refused)
+        print(f"refused by the new drive: {len(refused):,}, such as {shown_key(key)}: {refused[key]}; take a larger --shape")
     if not args.dry_run:
         print(f"{args.new}: {counted(copied, 'key')}")
 
