@@ -4,7 +4,8 @@
 # answered commands made of them, or what further ones of it, in their order, would have. It proves nothing and is no part of the gate.
 #
 #   bench/redis.sh [KILLS]       so many kills, 60 if no number is named; ends with a count, and with 1 if a check failed
-#   bench/redis.sh --speed       requests per second beside Redis (Debian's redis-server), medians of three runs, as a table
+#   bench/redis.sh --speed [N]   requests per second beside Redis (Debian's redis-server), medians of three runs, as a table; with
+#                                the Nth part of the requests if N is named, for a trial
 set -eu
 
 top=$(CDPATH='' cd -- "$(dirname -- "$0")/.." && pwd)
@@ -178,7 +179,7 @@ def try_benchmark():
 
 # Speed.
 
-def speed():
+def speed(part):
     image, path = folder + '/speed.img', folder + '/speed'
     make(image, 4096, 64, 512)
     server = start(image, path)
@@ -199,7 +200,7 @@ def speed():
         for place in places:
             rates = []
             for _ in range(3):
-                count = 20000 if clients == 1 else 50000 if depth == 1 else 200000
+                count = (20000 if clients == 1 else 50000 if depth == 1 else 200000) // part
                 run = subprocess.run(['redis-benchmark', '-s', place, '-t', word.lower(), '-r', '10000', '-d', '100', '-n', str(count), '-c', str(clients), '-P', str(depth),
                                       '--csv'], capture_output=True, text=True, check=True)
                 rates.append(float(run.stdout.splitlines()[-1].split(',')[1].strip('"')))
@@ -211,7 +212,7 @@ def speed():
         it.wait(30)
 
 if words[:1] == ['--speed']:
-    speed()
+    speed(int(words[1]) if words[1:] else 1)
 else:
     kills = int(words[0]) if words else 60
     try_cli()
