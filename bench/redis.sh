@@ -4,7 +4,8 @@
 # answered commands made of them, or what further ones of it, in their order, would have. It proves nothing and is no part of the gate.
 #
 #   bench/redis.sh [KILLS]       so many kills, 60 if no number is named; ends with a count, and with 1 if a check failed
-#   bench/redis.sh --speed       requests per second beside Redis (Debian's redis-server), medians of three runs, as a table
+#   bench/redis.sh --speed [N]   requests per second beside Redis (Debian's redis-server), medians of three runs, as a table; with
+#                                the Nth part of the requests if N is named, for a trial
 set -eu
 
 top=$(CDPATH='' cd -- "$(dirname -- "$0")/.." && pwd)
@@ -16,7 +17,7 @@ trap 'rm -rf "$folder"' EXIT
 trap 'exit 1' HUP INT TERM
 
 exec 3<<'PY'
-import os, random, signal, socket, statistics, subprocess, sys, threading, time
+import atexit, os, random, signal, socket, statistics, subprocess, sys, threading, time
 
 top, folder = sys.argv[1:3]
 words = sys.argv[3:]
@@ -34,6 +35,7 @@ def check(what, holds):
 def start(image, path, *more, stderr=None):
     """The server, once it serves."""
     server = subprocess.Popen([top + '/pinkctl', 'serve', image, '--socket', path, *more], stdout=subprocess.PIPE, stderr=stderr, text=True)
+    atexit.register(server.kill)
     if not server.stdout.readline():
         sys.exit(f'redis.sh: the server ended with {server.wait()}')
     return server
@@ -177,7 +179,7 @@ def try_benchmark():
 
 # Speed.
 
-def speed():
+def speed(part):
     image, path = folder + '/speed.img', folder + '/speed'
     make(image, 4096, 64, 512)
     server = start(image, path)
@@ -198,7 +200,7 @@ def speed():
         for place in places:
             rates = []
             for _ in range(3):
-                count = 20000 if clients == 1 else 50000 if depth == 1 else 200000
+                count = (20000 if clients == 1 else 50000 if depth == 1 else 200000) // part
                 run = subprocess.run(['redis-benchmark', '-s', place, '-t', word.lower(), '-r', '10000', '-d', '100', '-n', str(count), '-c', str(clients), '-P', str(depth),
                                       '--csv'], capture_output=True, text=True, check=True)
                 rates.append(float(run.stdout.splitlines()[-1].split(',')[1].strip('"')))
@@ -210,7 +212,7 @@ def speed():
         it.wait(30)
 
 if words[:1] == ['--speed']:
-    speed()
+    speed(int(words[1]) if words[1:] else 1)
 else:
     kills = int(words[0]) if words else 60
     try_cli()

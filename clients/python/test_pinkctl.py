@@ -386,12 +386,12 @@ class Backup(OnImage):
         drive = Drive(self.image, program=PROGRAM)
         self.ctl("backup", self.image, copy, status=6)
         self.assertFalse(os.path.exists(copy))
-        waiting = subprocess.Popen([PINKCTL, "backup", self.image, copy, "--wait", "60"], stderr=subprocess.PIPE)
+        waiting = subprocess.Popen([PINKCTL, "backup", self.image, copy, "--wait", "300"], stderr=subprocess.PIPE)
         drive.store(b"a", b"1")
         time.sleep(0.5)
         self.assertIsNone(waiting.poll())
         drive.close()
-        self.assertEqual((waiting.wait(60), waiting.stderr.close()), (0, None))
+        self.assertEqual((waiting.wait(300), waiting.stderr.close()), (0, None))
         self.assertEqual(self.held(copy), {b"a": b"1"})
 
     def test_copies_beside_a_writer(self):
@@ -401,12 +401,12 @@ class Backup(OnImage):
         while time.monotonic() < stop or len(copies) < 8:
             with Drive(self.image, program=PROGRAM) as d:
                 copy = self.path(f"copy{len(copies)}.img")
-                running = subprocess.Popen([PINKCTL, "backup", "-q", self.image, copy, "--wait", "60"])
+                running = subprocess.Popen([PINKCTL, "backup", "-q", self.image, copy, "--wait", "300"])
                 for _ in range(20):
                     key = b"%d" % random.randrange(50)
                     d[key] = b"%d" % len(copies)
                     maps.append({**maps[-1], key: b"%d" % len(copies)})
-            self.assertEqual(running.wait(60), 0)
+            self.assertEqual(running.wait(300), 0)
             copies.append(copy)
         for copy in copies:
             self.check(path=copy)
@@ -683,11 +683,11 @@ class TheWhole(OnImage):
         self.fill(300)
         with open(self.image, "rb") as held:
             fcntl.flock(held, fcntl.LOCK_EX)
-            running = subprocess.Popen([PINKCTL, "backup", self.image, self.path("copy"), "--wait", "60"], stderr=subprocess.PIPE)
+            running = subprocess.Popen([PINKCTL, "backup", self.image, self.path("copy"), "--wait", "300"], stderr=subprocess.PIPE)
             self.assertIn(b"waiting", running.stderr.readline())
             running.stderr.close()
             running.send_signal(signal.SIGTERM)
-            self.assertEqual(running.wait(30), 128 + signal.SIGTERM)
+            self.assertEqual(running.wait(300), 128 + signal.SIGTERM)
         self.assertEqual(os.listdir(self.folder), ["drive.img"])
 
     def test_a_program_that_is_not_there(self):
