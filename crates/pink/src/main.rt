@@ -4,6 +4,7 @@
 use pk_file::FileBoard;
 use pk_top::{Status, run};
 use std::env;
+use std::env::VarError;
 use std::io::ErrorKind;
 use std::process::ExitCode;
 
@@ -23,9 +24,27 @@ fn words_of(rt: &HostRuntime) -> Result<Vec<String>, Status> {
     Ok(words)
 }
 
+/// Whether each change has to be on the disk when its call returns: `PINK_SYNC` is in the environment, and is not 0.
+fn is_durable(rt: &HostRuntime) -> bool {
+    match env::var(rt, "PINK_SYNC") {
+        Ok(value) => value.as_str() != "0",
+        Err(VarError::NotPresent) => false,
+        Err(_) => true,
+    }
+}
+
+/// The board over the image file of this path.
+fn board_over<'a>(rt: &'a HostRuntime, image: &'a str) -> FileBoard<'a> {
+    if is_durable(rt) {
+        FileBoard::durable(rt, image)
+    } else {
+        FileBoard::new(rt, image)
+    }
+}
+
 /// Does over the image file of this path what the other words ask for.
 fn run_on(rt: &HostRuntime, image: &str, words: &[&str]) -> Status {
-    let mut board = FileBoard::new(rt, image);
+    let mut board = board_over(rt, image);
     let status = run(rt.alloc(), words, &mut board);
     // What was posted last may still be held. Where it does not go out, that came before whatever ended the run.
     match board.finish() {

@@ -1,3 +1,4 @@
 pub mod Rows
 pub mod Slotting
+pub mod Steps
 pub mod Trimming

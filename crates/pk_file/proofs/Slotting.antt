@@ -4,12 +4,13 @@ use Rattle.std.specs.Prelude.{nat_le}
 use Rattle.std.proofs.lemmas.Bool.Decides.{nat_tests}
 use Rattle.std.proofs.lemmas.List.{length-map, drop_more, take_more}
 use Rattle.pk_base.specs.Shape.{Shape, page_count}
-use Rattle.pk_base.specs.Page.{Flash, page_at, erased, whole, IsPage, IsFlash}
+use Rattle.pk_base.specs.Page.{Flash, page_at, erased, whole, torn, IsPage, IsFlash}
 use Rattle.pk_nand.specs.BoardState.{shape_or_none}
 use Rattle.pk_image.specs.Image.{bad_state}
 use Rattle.pk_file.specs.declared.slot.Slot.{Slot}
 use Rattle.pk_file.specs.declared.slot.Slot.TheVariants.{Erased, Whole, Torn}
 use Rattle.pk_file.specs.Slots.{page_of, pages_of, byte_by, bytes_of, Fits, AllFit}
+use Rattle.pk_file.specs.Extents.{extent_of, extents_of}
 
 -- slots of the right number and size are the pages of a flash
 pub flash_of : (shape : Shape) (slots : List Slot) → length slots ≡ page_count shape → AllFit shape slots → IsFlash shape (pages_of slots)
@@ -34,11 +35,11 @@ states_stop bytes i h large =
 
 -- ---- slots that are written and added
 
-pub erased_fits : (shape : Shape) → Fits shape Erased
-erased_fits shape bytes e = cc
+pub erased_fits : (shape : Shape) (s : Slot) → page_of s ≡ erased → Fits shape s
+erased_fits shape s is bytes e = cc
 
-pub torn_fits : (shape : Shape) → Fits shape Torn
-torn_fits shape bytes e = cc
+pub torn_fits : (shape : Shape) (s : Slot) → page_of s ≡ torn → Fits shape s
+torn_fits shape s is bytes e = cc
 
 pub whole_fits : (shape : Shape) (own bytes : List ℕ) → own ≡ bytes → IsPage shape bytes → (b : List ℕ) → whole own ≡ whole b → IsPage shape b
 whole_fits shape own bytes same page b e = let is : bytes ≡ b = cc in subst (IsPage shape) is page
@@ -79,11 +80,17 @@ pub bytes_more : (slots : List Slot) (s : Slot) (states : List ℕ) (i : ℕ) �
 bytes_more slots s states i h before own = bytes_pushed slots s ∙ (λ j. before j ++ own j ∷ []) ∙ sym (take_more states i 0 h)
 
 pub byte_small : (s : Slot) (byte : ℕ) → byte_by s ≡ byte → byte < 3
-byte_small Erased byte e = omega (arith, e)
+byte_small (Erased extent) byte e = omega (arith, e)
 byte_small (Whole kept) byte e = omega (arith, e)
-byte_small Torn byte e = omega (arith, e)
+byte_small (Torn extent) byte e = omega (arith, e)
 
 -- the slots of a board with a shape are its flash
 pub ready_flash : (o : Option Shape) (slots : List Slot) → length slots ≡ page_count (shape_or_none o) → AllFit (shape_or_none o) slots → (s : Shape) → o ≡ Some s → IsFlash s (pages_of slots)
 ready_flash None slots count fit s e = cc
 ready_flash (Some t) slots count fit s e = let same : t ≡ s = cc in subst (λ (x : Shape). IsFlash x (pages_of slots)) same (flash_of t slots count fit)
+
+-- a slot that gets the extent that it has
+pub same_extent : (slots : List Slot) (i : ℕ) (s : Slot) → i < length slots → s ≡ get_or slots i s → (extent : ℕ) → extent ≡ extent_of s → slice_set (extents_of slots) i extent ≡ extents_of slots
+same_extent [] i s inside is extent own = absurd (omega (arith, inside))
+same_extent (x ∷ slots) zero s inside is extent own = ap (λ (n : ℕ). n ∷ extents_of slots) (own ∙ ap extent_of is)
+same_extent (x ∷ slots) (suc i) s inside is extent own = ap (λ (l : List ℕ). extent_of x ∷ l) (same_extent slots i s (omega (arith, inside)) is extent own)

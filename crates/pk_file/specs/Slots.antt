@@ -8,18 +8,18 @@ use Rattle.pk_file.specs.declared.slot.Slot.TheVariants.{Erased, Whole, Torn}
 use Rattle.pk_file.specs.Trims.{bytes_in}
 
 abbrev pub page_of : Slot → Page
-page_of Erased = erased
+page_of (Erased extent) = erased
 page_of (Whole kept) = whole (bytes_in kept)
-page_of Torn = torn
+page_of (Torn extent) = torn
 
 abbrev pub pages_of : List Slot → Flash
 pages_of slots = map page_of slots
 
 -- the byte that says the state of a page in an image file
 abbrev pub byte_by : Slot → ℕ
-byte_by Erased = ERASED
+byte_by (Erased extent) = ERASED
 byte_by (Whole kept) = WHOLE
-byte_by Torn = TORN
+byte_by (Torn extent) = TORN
 
 -- the state bytes of slots
 abbrev pub bytes_of : List Slot → List ℕ
@@ -33,7 +33,7 @@ Fits shape slot = (bytes : List ℕ) → page_of slot ≡ whole bytes → IsPage
 abbrev pub AllFit : Shape → List Slot → Type 0
 AllFit shape slots = (at : ℕ) (bytes : List ℕ) → page_at (pages_of slots) at ≡ whole bytes → IsPage shape bytes
 
--- so many pages in a row became Erased, and the others stayed
+-- pages from one on became Erased, and the others are unchanged
 pub record ErasedRow (first count : ℕ) (old new : Flash) : Type 0 where
   pub same_size : length new ≡ length old
   pub inside : (k : ℕ) → first ≤ k → k < first + count → page_at new k ≡ erased

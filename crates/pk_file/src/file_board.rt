@@ -7,16 +7,16 @@ ghost use Rattle.pk_nand.specs.BoardState.{BoardState, shape_or_none};
 ghost use Rattle.pk_nand.specs.Calls.{counted, Rose, LeftBehind};
 ghost use Rattle.pk_file.specs.Slots.{pages_of, AllFit};
 
+use crate::image_file::ImageFile;
 use crate::incoming::Incoming;
-use crate::mirror::{Written, create_image, erase_pages, find_image, write_page};
 use crate::outgoing::Outgoing;
+use crate::pages_to_file::{Written, create_image, erase_pages, find_image, write_page};
 use crate::slot::Slot;
 use crate::slots::{erase_slots, erased_slots, known, read_slot, set_slot};
 use crate::trimmed::Trimmed;
 use pk_base::Shape;
 use pk_nand::{Board, HostFault, LoadFault, Nand, NandFault, PageRead};
 use std::alloc::Global;
-use std::fs::File;
 use std::rt::{Stdin, Stdout};
 
 /// The image file of a drive, with its pages in memory, beside standard input and output.
@@ -24,7 +24,9 @@ use std::rt::{Stdin, Stdout};
 pub struct FileBoard<'a> {
     rt: &'a HostRuntime,
     path: &'a str,
-    file: Option<File>,
+    /// Whether each change has to be on the disk when its call returns.
+    is_durable: bool,
+    file: Option<ImageFile>,
     shape: Option<Shape>,
     slots: Vec<Slot>,
     input: Incoming<Stdin>,
@@ -50,10 +52,11 @@ fn raise(count: &mut u64)
     *count = count.saturating_add(1);
 }
 
-/// Programs a page in the file and in memory. A write that fails leaves both alike; without memory for the page nothing is done.
+/// Programs a page in the file and in memory. A write or sync that fails leaves both alike; without memory for the page nothing is
+/// done.
 fn program_page(
     alloc: Global,
-    file: &Option<File>,
+    file: &mut Option<ImageFile>,
     shape: &Option<Shape>,
     slots: &mut Vec<Slot>,
     page: u32,
@@ -78,25 +81,40 @@ fn program_page(
     let Ok(kept) = Trimmed::of(alloc, bytes) else {
         return Err(NandFault);
     };
+    let front = kept.front.len();
     match (file, shape) {
-        (Some(file), Some(shape)) => match write_page(file, shape, page, bytes) {
-            Written::Whole => {
-                set_slot(slots, page as usize, Slot::Whole(kept));
-                Ok(())
+        (Some(file), Some(shape)) => {
+            match write_page(
+                file,
+                shape,
+                page,
+                bytes,
+                front,
+                slots[page as usize].extent(),
+            ) {
+                Written::Whole => {
+                    set_slot(slots, page as usize, Slot::Whole(kept));
+                    Ok(())
+                }
+                Written::Unsynced => {
+                    set_slot(slots, page as usize, Slot::Whole(kept));
+                    Err(NandFault)
+                }
+                Written::Torn => {
+                    let slot = slots[page as usize].torn(bytes, front);
+                    set_slot(slots, page as usize, slot);
+                    Err(NandFault)
+                }
+                Written::Nothing => Err(NandFault),
             }
-            Written::Torn => {
-                set_slot(slots, page as usize, Slot::Torn);
-                Err(NandFault)
-            }
-            Written::Nothing => Err(NandFault),
-        },
+        }
         _ => Err(NandFault),
     }
 }
 
-/// Erases a block in the file and in memory. A write that fails erases the pages whose state bytes it set.
+/// Erases a block in the file and in memory. A write or sync that fails erases the pages whose state bytes were set.
 fn erase_block(
-    file: &Option<File>,
+    file: &mut Option<ImageFile>,
     shape: &Option<Shape>,
     slots: &mut Vec<Slot>,
     block: u32,
@@ -115,29 +133,42 @@ fn erase_block(
     ensures count { length slots.new.items ≡ length slots.old.items }
     ensures fit { AllFit (shape_or_none shape.now) slots.new.items }
 {
-    match (file, shape) {
-        (Some(file), Some(shape)) => {
-            let count = shape.block_pages();
-            let first = block * count;
-            let done = erase_pages(file, shape, first, count);
-            erase_slots(slots, first as usize, done as usize);
-            if done < count {
-                return Err(NandFault);
-            }
-            Ok(())
-        }
-        _ => Err(NandFault),
+    let (Some(file), Some(shape)) = (file, shape) else {
+        return Err(NandFault);
+    };
+    let count = shape.block_pages();
+    let first = block * count;
+    let cleared = erase_pages(file, shape, first, count);
+    erase_slots(slots, first as usize, cleared.count as usize);
+    if cleared.is_done {
+        return Ok(());
     }
+    Err(NandFault)
 }
 
 impl<'a> FileBoard<'a> {
-    /// A board whose image is the file at this path. Nothing is opened before `load` or `make`.
+    /// A board whose image is the file at this path. Nothing is opened before `load` or `make`. The system brings changes to the disk
+    /// when it likes.
     pub fn new(rt: &'a HostRuntime, path: &'a str) -> FileBoard<'a>
+        ensures { result.shape ≡ None }
+    {
+        FileBoard::with(rt, path, false)
+    }
+
+    /// The same, with each program and erase on the disk when its call returns, and the file and its name when a `make` does.
+    pub fn durable(rt: &'a HostRuntime, path: &'a str) -> FileBoard<'a>
+        ensures { result.shape ≡ None }
+    {
+        FileBoard::with(rt, path, true)
+    }
+
+    fn with(rt: &'a HostRuntime, path: &'a str, is_durable: bool) -> FileBoard<'a>
         ensures { result.shape ≡ None }
     {
         FileBoard {
             rt,
             path,
+            is_durable,
             file: None,
             shape: None,
             slots: Vec::new(rt.alloc()),
@@ -208,7 +239,7 @@ impl Nand for FileBoard<'_> {
         if self.shape.is_some() {
             return Ok(self.shape);
         }
-        match find_image(self.rt, alloc, self.path) {
+        match find_image(self.rt, alloc, self.path, self.is_durable) {
             Ok(None) => Ok(None),
             Ok(Some(image)) => {
                 self.slots = image.slots;
@@ -233,7 +264,7 @@ impl Nand for FileBoard<'_> {
         let Ok(slots) = erased_slots(alloc, &shape) else {
             return Err(LoadFault::Memory);
         };
-        let Ok(file) = create_image(self.rt, self.path, &shape) else {
+        let Ok(file) = create_image(self.rt, self.path, &shape, self.is_durable) else {
             raise(&mut self.flash_faults);
             return Err(LoadFault::Fault);
         };
@@ -251,7 +282,14 @@ impl Nand for FileBoard<'_> {
     fn program(&mut self, page: u32, bytes: &[u8]) -> Result<(), NandFault> {
         raise(&mut self.programs);
         let alloc = self.rt.alloc();
-        match program_page(alloc, &self.file, &self.shape, &mut self.slots, page, bytes) {
+        match program_page(
+            alloc,
+            &mut self.file,
+            &self.shape,
+            &mut self.slots,
+            page,
+            bytes,
+        ) {
             Ok(()) => Ok(()),
             Err(_) => {
                 raise(&mut self.flash_faults);
@@ -264,7 +302,7 @@ impl Nand for FileBoard<'_> {
 
     fn erase(&mut self, block: u32) -> Result<(), NandFault> {
         raise(&mut self.erases);
-        match erase_block(&self.file, &self.shape, &mut self.slots, block) {
+        match erase_block(&mut self.file, &self.shape, &mut self.slots, block) {
             Ok(()) => Ok(()),
             Err(_) => {
                 raise(&mut self.flash_faults);

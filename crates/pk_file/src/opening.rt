@@ -1,6 +1,6 @@
 //! How an image file is opened: on a descriptor of its own, and by one board at a time.
 
-use std::fs::{File, OpenOptions};
+use std::fs::{File, OpenOptions, canonicalize};
 use std::io;
 use std::os::fd::AsRawFd;
 
@@ -27,5 +27,14 @@ pub fn open_alone(rt: &HostRuntime, how: &OpenOptions, path: &str) -> io::Result
     match file.try_lock() {
         Ok(()) => Ok(file),
         Err(held) => Err(io::Error::from(held)),
+    }
+}
+
+/// Brings the name of a file to the disk: its folder is synced, that of the file itself where the path is a link.
+pub fn sync_folder(rt: &HostRuntime, path: &str) -> io::Result<()> {
+    let own = canonicalize(rt, path)?;
+    match own.as_path().parent() {
+        Some(folder) => File::open(rt, folder)?.sync_all(),
+        None => Err(io::Error::from(io::ErrorKind::NotFound)),
     }
 }

@@ -10,6 +10,7 @@ ghost use Rattle.pk_image.specs.declared.head.TheConstants.{HEADER_BYTES};
 ghost use Rattle.pk_image.specs.declared.tag.TheConstants.{TORN};
 ghost use Rattle.pk_image.specs.Image.{bad_state, byte_of};
 ghost use Rattle.pk_file.specs.Slots.{byte_by, page_of, pages_of, bytes_of, Fits, AllFit, ErasedRow};
+ghost use Rattle.pk_file.specs.Extents.{extent_of, extents_of};
 
 use crate::page_reader::PageReader;
 use crate::slot::Slot;
@@ -26,7 +27,7 @@ pub fn known(bytes: &[u8])
     let _ = bytes;
 }
 
-/// All pages of a shape, Erased.
+/// All pages of a shape, Erased, of a file that was just made: there only zeros stand at their places.
 pub fn erased_slots(alloc: Global, shape: &Shape) -> Result<Vec<Slot>, AllocError>
     ensures pages { IfOk result
         (λ v. pages_of v.items ≡ replicate (spec.page_count shape.now) erased) }
@@ -37,7 +38,7 @@ pub fn erased_slots(alloc: Global, shape: &Shape) -> Result<Vec<Slot>, AllocErro
     let mut slots = Vec::with_capacity(alloc, count as usize)?;
     for i in 0..count {
         let _ = i;
-        slots.push(Slot::Erased)?;
+        slots.push(Slot::Erased { extent: 0 })?;
     }
     Ok(slots)
 }
@@ -73,8 +74,12 @@ fn slot_in(
 {
     let shape = reader.shape;
     match state_by(&shape, states[page as usize], page) {
-        Ok(PageTag::Erased) => Ok(Slot::Erased),
-        Ok(PageTag::Torn) => Ok(Slot::Torn),
+        Ok(PageTag::Erased) => Ok(Slot::Erased {
+            extent: reader.extent(file, page),
+        }),
+        Ok(PageTag::Torn) => Ok(Slot::Torn {
+            extent: reader.extent(file, page),
+        }),
         Ok(PageTag::Whole) => match reader.copy(alloc, file, states, page) {
             Ok(kept) => Ok(Slot::Whole(kept)),
             Err(fault) => Err(fault),
@@ -120,12 +125,12 @@ pub fn read_slot(slots: &Vec<Slot>, page: usize, into: &mut [u8]) -> PageRead
     ensures bytes { into.new ≡ filled (page_at (pages_of slots.now.items) page) into.old }
 {
     match &slots[page] {
-        Slot::Erased => PageRead::Erased,
+        Slot::Erased { .. } => PageRead::Erased,
         Slot::Whole(kept) => {
             kept.fill(into);
             PageRead::Whole
         }
-        Slot::Torn => PageRead::Torn,
+        Slot::Torn { .. } => PageRead::Torn,
     }
 }
 
@@ -134,6 +139,8 @@ pub fn set_slot(slots: &mut Vec<Slot>, page: usize, slot: Slot)
     requires { page < length slots.old.items }
     ensures pages { pages_of slots.new.items
         ≡ slice_set (pages_of slots.old.items) page (page_of slot) }
+    ensures extents { extents_of slots.new.items
+        ≡ slice_set (extents_of slots.old.items) page (extent_of slot) }
     ensures count { length slots.new.items ≡ length slots.old.items }
     ensures fit { (shape : spec.Shape) → AllFit shape slots.old.items → Fits shape slot
         → AllFit shape slots.new.items }
@@ -141,15 +148,17 @@ pub fn set_slot(slots: &mut Vec<Slot>, page: usize, slot: Slot)
     slots[page] = slot;
 }
 
-/// So many pages in a row become Erased.
+/// Pages become Erased, from one on, so many. What the file has at their places is unchanged.
 pub fn erase_slots(slots: &mut Vec<Slot>, first: usize, count: usize)
     requires { first + count ≤ length slots.old.items }
     ensures pages { ErasedRow first count (pages_of slots.old.items) (pages_of slots.new.items) }
+    ensures extents { extents_of slots.new.items ≡ extents_of slots.old.items }
     ensures count { length slots.new.items ≡ length slots.old.items }
     ensures fit { (shape : spec.Shape) → AllFit shape slots.old.items
         → AllFit shape slots.new.items }
 {
     for i in 0..count {
-        set_slot(slots, first + i, Slot::Erased);
+        let slot = slots[first + i].erased();
+        set_slot(slots, first + i, slot);
     }
 }

@@ -1,0 +1,395 @@
+#!/bin/sh
+# Loses the power of a host. The program is started with a library that keeps back what is written to the image, as a system does,
+# until a sync brings it there; at a random call it ends the process, and of what was kept back some sectors of 512 bytes reach the
+# file and the others are lost. With PINK_SYNC=1 whatever map the image then holds has every command of which a record came out, and
+# no part of a command; without it such a loss is found, or the test shows nothing. Then each call of a session fails in turn, the
+# image is cut short while a session runs, and it is told what PINK_SYNC=1 costs. It proves nothing and is no part of the gate. A C
+# compiler makes the library.
+#
+#   bench/durable.sh [TIMES]        so many sessions with PINK_SYNC=1, 500 where no number is named
+set -eu
+
+top=$(CDPATH='' cd -- "$(dirname -- "$0")/.." && pwd)
+folder=$(mktemp -d)
+trap 'rm -rf "$folder"' EXIT
+
+cat >"$folder/disk.c" <<'C'
+#define _GNU_SOURCE
+#include <dlfcn.h>
+#include <errno.h>
+#include <fcntl.h>
+#include <limits.h>
+#include <signal.h>
+#include <stdarg.h>
+#include <stdio.h>
+#include <stdlib.h>
+#include <string.h>
+#include <sys/stat.h>
+#include <unistd.h>
+
+/* A write that was kept back. */
+struct kept { off_t at; size_t len; unsigned char *bytes; };
+
+enum { SECTOR = 512 };
+static struct kept *kept;
+static size_t count, room;
+static int image = -1;      /* the descriptor of the image */
+static int is_new;          /* its name is not on the disk */
+static off_t size_kept;     /* its length on the disk */
+static long calls, lost_at, fail_at;
+static const char *path;
+
+static ssize_t (*real_take)(int, void *, size_t);
+static ssize_t (*real_write)(int, const void *, size_t, off_t);
+static ssize_t (*real_read)(int, void *, size_t, off_t);
+static int (*real_data)(int), (*real_all)(int), (*real_open)(const char *, int, ...), (*real_cut)(int, off_t), (*real_close)(int);
+
+static long number(const char *name) {
+    const char *text = getenv(name);
+    return text ? atol(text) : 0;
+}
+
+static void start(void) {
+    if (real_open) return;
+    real_take = (ssize_t (*)(int, void *, size_t))dlsym(RTLD_NEXT, "read");
+    real_write = (ssize_t (*)(int, const void *, size_t, off_t))dlsym(RTLD_NEXT, "pwrite");
+    real_read = (ssize_t (*)(int, void *, size_t, off_t))dlsym(RTLD_NEXT, "pread");
+    real_data = (int (*)(int))dlsym(RTLD_NEXT, "fdatasync");
+    real_all = (int (*)(int))dlsym(RTLD_NEXT, "fsync");
+    real_cut = (int (*)(int, off_t))dlsym(RTLD_NEXT, "ftruncate");
+    real_close = (int (*)(int))dlsym(RTLD_NEXT, "close");
+    real_open = (int (*)(const char *, int, ...))dlsym(RTLD_NEXT, "open");
+    path = getenv("DISK_IMAGE");
+    lost_at = number("DISK_LOST_AT");
+    fail_at = number("DISK_FAIL_AT");
+    srandom((unsigned)number("DISK_SEED"));
+}
+
+/* What was kept back goes to the file: all of it, or each sector by chance. */
+static void release(int by_chance) {
+    for (size_t i = 0; i < count; i++) {
+        for (size_t from = 0; from < kept[i].len;) {
+            size_t to = from + SECTOR - (size_t)(kept[i].at + (off_t)from) % SECTOR;
+            if (to > kept[i].len) to = kept[i].len;
+            if (!by_chance || random() % 2) real_write(image, kept[i].bytes + from, to - from, kept[i].at + (off_t)from);
+            from = to;
+        }
+        free(kept[i].bytes);
+    }
+    count = 0;
+}
+
+static void lose(void) {
+    if (image < 0) return;
+    struct stat now;
+    fstat(image, &now);
+    release(random() % 4 != 0);
+    if (now.st_size != size_kept && random() % 2) real_cut(image, size_kept);
+    if (is_new && random() % 2) unlink(path);
+}
+
+/* Counts a call on the image. Whether it is to fail; the power is lost at the one that is named. */
+static int fails(void) {
+    calls++;
+    if (calls == lost_at) {
+        if (!getenv("DISK_ALL")) lose();
+        kill(getpid(), SIGKILL);
+        pause();
+    }
+    return calls == fail_at;
+}
+
+/* The session ended, and the power goes. */
+__attribute__((destructor)) static void last(void) {
+    start();
+    const char *name = getenv("DISK_CALLS");
+    FILE *to = name ? fopen(name, "w") : NULL;
+    if (to) { fprintf(to, "%ld\n", calls); fclose(to); }
+    if (getenv("DISK_ALL")) release(0); else lose();
+    image = -1;
+}
+
+int open(const char *name, int flags, ...) {
+    va_list more;
+    va_start(more, flags);
+    int mode = va_arg(more, int);
+    va_end(more);
+    start();
+    int own = path && !strcmp(name, path);
+    struct stat now;
+    int was = own && stat(name, &now) == 0;
+    int fd = real_open(name, flags, mode);
+    if (own && fd >= 0) {
+        image = fd;
+        is_new = !was;
+        size_kept = was ? now.st_size : 0;
+    }
+    return fd;
+}
+
+ssize_t pwrite(int fd, const void *bytes, size_t len, off_t at) {
+    start();
+    if (fd != image) return real_write(fd, bytes, len, at);
+    if (fails()) { errno = EIO; return -1; }
+    if (count == room) kept = realloc(kept, (room = 2 * room + 64) * sizeof *kept);
+    kept[count].at = at;
+    kept[count].len = len;
+    kept[count].bytes = malloc(len);
+    memcpy(kept[count++].bytes, bytes, len);
+    return (ssize_t)len;
+}
+
+ssize_t pread(int fd, void *bytes, size_t len, off_t at) {
+    start();
+    if (fd != image) return real_read(fd, bytes, len, at);
+    if (fails()) { errno = EIO; return -1; }
+    ssize_t got = real_read(fd, bytes, len, at);
+    for (size_t i = 0; i < count; i++)
+        for (size_t k = 0; k < kept[i].len; k++)
+            if (kept[i].at + (off_t)k >= at && kept[i].at + (off_t)k < at + got) ((unsigned char *)bytes)[kept[i].at + (off_t)k - at] = kept[i].bytes[k];
+    return got;
+}
+
+/* The script comes in pieces, as from a host that waits for its records: so these come out before the session ends. */
+ssize_t read(int fd, void *bytes, size_t len) {
+    start();
+    if (fd == 0 && path && len > 1500) len = 1 + (size_t)random() % 1500;
+    return real_take(fd, bytes, len);
+}
+
+static int sync_of(int fd, int (*real)(int)) {
+    start();
+    struct stat it;
+    if (fd == image) {
+        if (fails()) { errno = EIO; return -1; }
+        release(0);
+        if (fstat(fd, &it) == 0) size_kept = it.st_size;
+        return 0;
+    }
+    if (fstat(fd, &it) == 0 && S_ISDIR(it.st_mode)) {
+        if (fails()) { errno = EIO; return -1; }
+        is_new = 0;
+        return 0;
+    }
+    return real(fd);
+}
+
+int fdatasync(int fd) { start(); return sync_of(fd, real_data); }
+int fsync(int fd) { start(); return sync_of(fd, real_all); }
+
+int ftruncate(int fd, off_t size) {
+    start();
+    if (fd == image && fails()) { errno = EIO; return -1; }
+    return real_cut(fd, size);
+}
+
+int close(int fd) {
+    start();
+    if (fd == image && fd >= 0) {               /* later writes have another descriptor */
+        if (getenv("DISK_ALL")) release(0); else lose();
+        image = -1;
+    }
+    return real_close(fd);
+}
+C
+cc -shared -fPIC -O1 -o "$folder/disk.so" "$folder/disk.c" -ldl
+python3 - "${PINK:-$top/crates/pink/out/pink}" "$top/pink" "$folder" "${1:-500}" <<'PY'
+import os, random, struct, subprocess, sys, time
+
+program, launcher, folder, times = sys.argv[1], sys.argv[2], sys.argv[3], int(sys.argv[4])
+FLUSH, STORE, RETRIEVE, DELETE, TICK, RECORD = 0x00, 0x01, 0x02, 0x10, 0xC0, 24
+image, records, script, calls = (f'{folder}/{name}' for name in ['drive.img', 'records', 'script', 'calls'])
+clean = {name: value for name, value in os.environ.items() if name != 'PINK_SYNC'}
+
+def entry(opcode, key=b'', size=0):
+    body = bytearray(64)
+    body[0] = opcode
+    struct.pack_into('<HI', body, 2, 1, 1)
+    padded = key + bytes(16 - len(key))
+    body[8:16], body[56:64] = padded[:8], padded[8:]
+    struct.pack_into('<I', body, 40, size)
+    body[44] = len(key)
+    return bytes(body)
+
+def content():
+    with open(image, 'rb') as file:
+        return file.read()
+
+def put(bytes):
+    with open(image, 'wb') as file:
+        file.write(bytes)
+
+def run(words, text=b'', sync=None, seconds=120, **disk):       # the status, and what came out
+    environment = dict(clean)
+    if sync is not None:
+        environment['PINK_SYNC'] = sync
+    if disk:
+        environment.update(LD_PRELOAD=folder + '/disk.so', DISK_IMAGE=image, DISK_CALLS=calls)
+        environment.update({'DISK_' + name.upper(): str(value) for name, value in disk.items()})
+    with open(script, 'wb') as file:
+        file.write(text)
+    with open(script, 'rb') as entries, open(records, 'wb') as out:
+        status = subprocess.run([program, image] + words, stdin=entries, stdout=out, env=environment, timeout=seconds).returncode
+    with open(records, 'rb') as out:
+        return status, out.read()
+
+def called():
+    with open(calls) as file:
+        return int(file.read())
+
+class Drive:
+    def __init__(self, words, keys, longest):
+        self.keys, self.longest = [b'key%02d' % i for i in range(keys)], longest
+        if os.path.exists(image):
+            os.remove(image)
+        if run(words)[0] != 0:
+            sys.exit('durable: no drive was made')
+        self.words, self.made, self.most = words, content(), 500
+
+    def command(self):                                  # its bytes, and what it makes of a map
+        draw, key = random.random(), random.choice(self.keys)
+        if draw < 0.7:
+            value = random.randbytes(random.randrange(self.longest + 1))
+            return entry(STORE, key, len(value)) + value, lambda held: {**held, key: value}
+        if draw < 0.8:
+            return entry(DELETE, key), lambda held: {k: v for k, v in held.items() if k != key}
+        if draw < 0.9:
+            return entry(TICK, size=random.choice([1, 3, 10, 100])), lambda held: held
+        return entry(FLUSH), lambda held: held
+
+    def commands(self, most):
+        return [self.command() for _ in range(random.randrange(1, most))]
+
+    def held(self):                                     # the map that the image holds; None where it is refused
+        status, told = run(['serve', '36'], b''.join(entry(RETRIEVE, key, 2016) for key in self.keys))
+        if status:
+            return None
+        found, at = {}, 0
+        for key in self.keys:
+            size = struct.unpack_from('<I', told, at + 20)[0]
+            if struct.unpack_from('<I', told, at + 12)[0] >> 17 == 0:
+                found[key] = told[at + RECORD:at + RECORD + size]
+            at += RECORD + size
+        return found
+
+def maps_of(start, made):                               # behind so many commands
+    maps = [start]
+    for _, makes in made:
+        maps.append(makes(maps[-1]))
+    return maps
+
+def session(drive, start, sync):                        # commands that were answered, whether it was cut off, and the map it left
+    made = drive.commands(200)
+    lost_at = random.randrange(1, int(1.3 * drive.most) + 2)
+    status, told = run(['serve', '36'], b''.join(bytes for bytes, _ in made), sync, lost_at=lost_at, seed=random.randrange(1 << 30))
+    if status not in (0, -9):
+        sys.exit(f'durable: status {status}')
+    if status == 0:
+        drive.most = (drive.most + called()) / 2
+    answered, found = -(-len(told) // RECORD), drive.held()
+    return answered, status == -9, found if found in maps_of(start, made)[answered:] else None
+
+random.seed(times)
+small, worked = Drive(['make', '512', '8', '33'], 10, 480), None
+cut, told = 0, 0
+for drive in [small, worked]:
+    if drive is None:
+        drive = worked = Drive(['make', '512', '16', '64'], 60, 2016)
+    put(drive.made)
+    left = {}
+    for number in range((times + (drive is small)) // 2):
+        answered, was_cut, left = session(drive, left, '1')
+        if left is None:
+            sys.exit(f'durable: PINK_SYNC=1, session {number}: a command that was answered is lost ({answered} were)')
+        told, cut = told + answered, cut + was_cut
+print(f'PINK_SYNC=1: {times} sessions, {cut} of them cut off, {told} commands answered: none lost')
+
+losses = 0
+for number in range(60):
+    drive = [small, worked][number % 2]
+    put(drive.made)
+    losses += session(drive, {}, '0')[2] is None
+if not losses:
+    sys.exit('durable: PINK_SYNC=0 lost nothing in 60 sessions, so this test shows nothing')
+print(f'PINK_SYNC=0: {losses} of 60 sessions lost a command that was answered, or the drive')
+
+makes, whole = 120, 0
+for number in range(makes):
+    if os.path.exists(image):
+        os.remove(image)
+    status, _ = run(['make', '512', '8', '33'], sync='1', lost_at=random.randrange(1, 40), seed=number)
+    whole += status == 0
+    after = run(['list'])[0]
+    if status == 0 and after != 0 or after not in (0, 8):
+        sys.exit(f'durable: a make that ended with {status} left an image that is opened with {after}')
+print(f'make with PINK_SYNC=1: {makes} times, {whole} came to their end: each of these is a drive after it, the others are none or one')
+
+print('calls that fail')
+stores = [(b'key%02d' % i, bytes([i]) * (100 + i)) for i in range(8)]
+text = b''.join(entry(STORE, key, len(value)) + value + entry(FLUSH) for key, value in stores)
+maps = [dict(stores[:i]) for i in range(9)]
+for sync in '0', '1':
+    put(worked.made)
+    run(['serve', '36'], text, sync, all=1)
+    most, ends = called(), {}
+    for number in range(1, most + 1):
+        put(worked.made)
+        status, told = run(['serve', '36'], text, sync, all=1, fail_at=number)
+        ends[status] = ends.get(status, 0) + 1
+        found = worked.held()
+        if status != 6 or found not in maps[-(-len(told) // RECORD) // 2:]:
+            sys.exit(f'durable: PINK_SYNC={sync}, call {number} of {most} failed: status {status}, or another map')
+    print(f'  PINK_SYNC={sync}: each of {most} calls on the image failed once: status 6, every command that was answered is there')
+
+print('an image that is cut short while it is served')
+size = len(worked.made)
+for sync in '0', '1':
+    for length in [0, 20, 32, 1000, size // 2, size - 1]:
+        put(worked.made)
+        serve = subprocess.Popen([program, image, 'serve', '36'], stdin=subprocess.PIPE, stdout=subprocess.PIPE, env={**clean, 'PINK_SYNC': sync})
+        first = entry(STORE, b'key01', 3) + b'abc' + entry(FLUSH)
+        serve.stdin.write(first)
+        serve.stdin.flush()
+        before = serve.stdout.read(2 * RECORD)
+        os.truncate(image, length)
+        short = content()
+        serve.stdin.write(entry(RETRIEVE, b'key01', 3) + entry(STORE, b'key02', 3) + b'def' + entry(FLUSH))
+        serve.stdin.close()
+        behind = serve.stdout.read()
+        status = serve.wait(timeout=60)
+        if status != 6 or behind[RECORD:] != b'abc' or content() != short:
+            sys.exit(f'durable: cut to {length} bytes: status {status}, {behind!r}')
+        if run(['list'])[0] != 8:
+            sys.exit(f'durable: an image of {length} bytes is opened')
+print('  status 6 at the next change and nothing written; what was stored before was answered; it is no drive after it (8)')
+
+print('the variable')
+for value, wanted in [('0', 0), ('1', 0), ('2', 2), ('', 2), ('yes', 2)]:
+    put(worked.made)
+    done = subprocess.run([launcher, image, 'put', '61', '62'], stdout=subprocess.PIPE, stderr=subprocess.PIPE, env={**clean, 'PINK_SYNC': value})
+    lines = done.stderr.decode().splitlines()
+    if done.returncode != wanted or wanted and (len(lines) != 1 or 'PINK_SYNC' not in lines[0] or content() != worked.made):
+        sys.exit(f'durable: PINK_SYNC={value!r}: the launcher ended with {done.returncode}, {lines}')
+for value, wanted in [(None, 0), ('0', 0), ('1', 1), ('2', 1), ('', 1)]:
+    put(worked.made)
+    run(['put', '61', '62'], sync=value, seed=1)    # the power goes at the end
+    found = run(['get', '61'])[1] == b'ok 62\n'
+    if wanted and not found:
+        sys.exit(f'durable: PINK_SYNC={value!r} does not count as 1 in the program')
+print('  the launcher refuses other values than 0 and 1 in one line; in the program they count as 1')
+
+print('what it costs: thousands of commands a second by the clock')
+for name, text, number in [
+    ('Stores of 1,000 bytes', b''.join(entry(STORE, b'key%02d' % (i % 60), 1000) + bytes([i % 256]) * 1000 for i in range(3000)), 3000),
+    ('Stores of 1,000 bytes, each with a Flush', b''.join(entry(STORE, b'key%02d' % (i % 60), 1000) + bytes([i % 256]) * 1000 + entry(FLUSH) for i in range(600)), 600),
+]:
+    rates = []
+    for sync in '0', '1':
+        put(worked.made)
+        began = time.monotonic()
+        if run(['serve', '36'], text, sync, seconds=600)[0] != 0:
+            sys.exit('durable: the Stores failed')
+        rates.append(number / (time.monotonic() - began) / 1000)
+    print(f'  {name}: {rates[0]:.2f} with PINK_SYNC=0, {rates[1]:.2f} with PINK_SYNC=1')
+print(f'durable: {times} sessions without a loss, {losses} of 60 with one without PINK_SYNC, all as wanted')
+PY

@@ -1,0 +1,247 @@
+//! What is read of an image file and written to it.
+ghost use Rattle.std.specs.Prelude.{◌≡◌, ◌≤◌, ◌<◌, length, true, IfOk};
+ghost use Rattle.pk_base.specs.Shape as spec;
+ghost use Rattle.pk_nand.specs.Calls.{longer};
+ghost use Rattle.pk_file.specs.Slots.{AllFit};
+ghost use Rattle.pk_file.specs.Trims.{ZerosFrom};
+ghost use Rattle.pk_file.specs.Extents.{Restores};
+ghost use Rattle.pk_file.specs.FileSteps.{Programs, erase_steps};
+ghost use Rattle.pk_file.specs.declared.pages_to_file.Written.{Written};
+
+use crate::image_file::{ImageFile, PageFile};
+use crate::opening::{open_alone, sync_folder};
+use crate::page_reader::PageReader;
+use crate::slot::Slot;
+use crate::slots::slots_of;
+use pk_base::{MOST_BLOCK_PAGES, Shape};
+use pk_image::{HEADER_BYTES, ImageError, PageTag, file_len, header, read_header};
+use pk_nand::LoadFault;
+use std::alloc::Global;
+use std::fs::{File, OpenOptions};
+use std::io;
+use std::os::unix::fs::FileExt;
+
+/// The bytes of the text with which a header begins: without it a file is no image.
+const MAGIC_BYTES: usize = 8;
+
+/// An open image file and what was read of it.
+#[derive(Drop)]
+pub struct Image {
+    pub file: ImageFile,
+    pub shape: Shape,
+    pub slots: Vec<Slot>,
+    ghost count: { length slots.items ≡ spec.page_count shape },
+    ghost fit: { AllFit shape slots.items },
+}
+
+/// Opens the image file, with its length in bytes; None where it is missing or empty. An image that another board has open is a
+/// fault.
+fn opened(rt: &HostRuntime, path: &str) -> Result<Option<(File, u64)>, LoadFault> {
+    let file = match open_alone(rt, OpenOptions::new().read(true).write(true), path) {
+        Ok(file) => file,
+        Err(e) if e.kind() == io::ErrorKind::NotFound => return Ok(None),
+        Err(_) => return Err(LoadFault::Fault),
+    };
+    match file.metadata() {
+        Ok(data) if data.len() == 0 => Ok(None),
+        Ok(data) => Ok(Some((file, data.len()))),
+        Err(_) => Err(LoadFault::Fault),
+    }
+}
+
+/// The shape of a file of this length, by its header. Of a shorter file than a header nothing is read.
+fn shape_of(file: &File, len: u64) -> Result<Shape, LoadFault> {
+    let mut head = [0u8; HEADER_BYTES];
+    if len >= HEADER_BYTES as u64 && file.read_exact_at(&mut head, 0).is_err() {
+        return Err(LoadFault::Fault);
+    }
+    match read_header(&head, len) {
+        Ok(shape) => Ok(shape),
+        Err(ImageError::Bad { at }) => Err(LoadFault::BadImage { at }),
+    }
+}
+
+/// The pages of a file: its state bytes, and the bytes of the Whole ones.
+fn slots_in(alloc: Global, file: &File, shape: &Shape) -> Result<Vec<Slot>, LoadFault>
+    ensures count { IfOk result (λ v. length v.items ≡ spec.page_count shape.now) }
+    ensures fit { IfOk result (λ v. AllFit shape.now v.items) }
+{
+    let Ok(mut states) = Vec::from_elem(alloc, 0u8, shape.page_count() as usize) else {
+        return Err(LoadFault::Memory);
+    };
+    if file
+        .read_exact_at(states.as_mut_slice(), HEADER_BYTES as u64)
+        .is_err()
+    {
+        return Err(LoadFault::Fault);
+    }
+    let Ok(mut reader) = PageReader::new(alloc, *shape) else {
+        return Err(LoadFault::Memory);
+    };
+    slots_of(alloc, file, &mut reader, states.as_slice())
+}
+
+/// The image of an open file of this length.
+fn read_image(alloc: Global, file: File, len: u64, is_durable: bool) -> Result<Image, LoadFault> {
+    let shape = match shape_of(&file, len) {
+        Ok(shape) => shape,
+        Err(fault) => return Err(fault),
+    };
+    match slots_in(alloc, &file, &shape) {
+        Ok(slots) => Ok(Image {
+            file: ImageFile::new(file, len, is_durable),
+            shape,
+            slots,
+        }),
+        Err(fault) => Err(fault),
+    }
+}
+
+/// The image at this path; None where there is none. Where changes have to be on the disk, so has to be what an earlier run wrote.
+pub fn find_image(
+    rt: &HostRuntime,
+    alloc: Global,
+    path: &str,
+    is_durable: bool,
+) -> Result<Option<Image>, LoadFault> {
+    let (file, len) = match opened(rt, path) {
+        Ok(None) => return Ok(None),
+        Ok(Some(found)) => found,
+        Err(fault) => return Err(fault),
+    };
+    if is_durable && file.sync_data().is_err() {
+        return Err(LoadFault::Fault);
+    }
+    match read_image(alloc, file, len, is_durable) {
+        Ok(image) => Ok(Some(image)),
+        Err(fault) => Err(fault),
+    }
+}
+
+/// Makes an image file with all pages Erased of a missing or empty one that no other board has open. Its text is written last, so
+/// that a file that was not made to its end is no image. Where changes have to be on the disk, so are the file and its name.
+pub fn create_image(
+    rt: &HostRuntime,
+    path: &str,
+    shape: &Shape,
+    is_durable: bool,
+) -> io::Result<ImageFile> {
+    let mut how = OpenOptions::new();
+    how.read(true).write(true).create(true);
+    let file = open_alone(rt, &how, path)?;
+    if file.metadata()?.len() != 0 {
+        return Err(io::Error::from(io::ErrorKind::AlreadyExists));
+    }
+    let head = header(shape);
+    let len = file_len(shape);
+    file.set_len(len)?;
+    file.write_all_at(&head[MAGIC_BYTES..], MAGIC_BYTES as u64)?;
+    if is_durable {
+        file.sync_all()?;
+    }
+    file.write_all_at(&head[..MAGIC_BYTES], 0)?;
+    if is_durable {
+        file.sync_all()?;
+        sync_folder(rt, path)?;
+    }
+    Ok(ImageFile::new(file, len, is_durable))
+}
+
+/// The bytes of a page that a file may lack at its place, where it has zeros from the extent on: no byte is written that it has.
+/// Only zeros follow the first `front` bytes of the page.
+fn unlike(bytes: &[u8], front: usize, extent: usize) -> &[u8]
+    requires { ZerosFrom front bytes.now }
+    ensures { Restores result.now extent bytes.now }
+{
+    &bytes[..front.max(extent).min(bytes.len())]
+}
+
+/// What a program left of a page in the file.
+#[derive(Clone, Copy, Debug, PartialEq, Eq)]
+pub enum Written {
+    Nothing,
+    Torn,
+    /// It is Whole, and not known to be on the disk.
+    Unsynced,
+    Whole,
+}
+
+/// Writes a page, at whose place the file has zeros from the extent on. It counts as Torn until its bytes are written, and on the
+/// disk if they have to be, so that a kill in between, or a loss of power, leaves a Torn page and never a wrong one.
+pub fn write_page<F: PageFile>(
+    file: &mut F,
+    shape: &Shape,
+    page: u32,
+    bytes: &[u8],
+    front: usize,
+    extent: usize,
+) -> Written
+    requires exists { page < spec.page_count shape.now }
+    requires zeros { ZerosFrom front bytes.now }
+    ensures { result ≡ Written.Whole
+        → Programs page extent bytes.now (F.steps file.old) (F.steps file.new) }
+{
+    let part = unlike(bytes, front, extent);
+    if file.begin().is_err() {
+        return Written::Nothing;
+    }
+    let Ok(()) = file.set_state(shape, page, PageTag::Torn) else {
+        return Written::Nothing;
+    };
+    let Ok(()) = file.write_prefix(shape, page, part) else {
+        return Written::Torn;
+    };
+    let Ok(()) = file.sync() else {
+        return Written::Torn;
+    };
+    let Ok(()) = file.set_state(shape, page, PageTag::Whole) else {
+        return Written::Torn;
+    };
+    match file.sync() {
+        Ok(()) => Written::Whole,
+        Err(_) => Written::Unsynced,
+    }
+}
+
+/// What an erase left of pages in the file.
+#[derive(Clone, Copy, Debug)]
+pub struct Cleared {
+    /// Pages that are Erased, from the first on.
+    pub count: u32,
+    /// All of them are, and on the disk if they have to be.
+    pub is_done: bool,
+}
+
+/// Sets the state bytes of pages to Erased.
+pub fn erase_pages<F: PageFile>(file: &mut F, shape: &Shape, first: u32, count: u32) -> Cleared
+    requires small { count ≤ MOST_BLOCK_PAGES }
+    requires exists { first < spec.page_count shape.now }
+    ensures most { result.count ≤ count }
+    ensures all { result.is_done ≡ true → result.count ≡ count }
+    ensures done { result.is_done ≡ true
+        → F.steps file.new ≡ longer (F.steps file.old) (erase_steps first count) }
+{
+    if file.begin().is_err() {
+        return Cleared {
+            count: 0,
+            is_done: false,
+        };
+    }
+    let done = file.erase_states(shape, first, count);
+    if done < count {
+        return Cleared {
+            count: done,
+            is_done: false,
+        };
+    }
+    match file.sync() {
+        Ok(()) => Cleared {
+            count,
+            is_done: true,
+        },
+        Err(_) => Cleared {
+            count,
+            is_done: false,
+        },
+    }
+}
