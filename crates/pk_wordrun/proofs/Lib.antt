@@ -1,7 +1,7 @@
 mod Resting
-mod Telling
+pub mod Telling
 mod Posting
 mod Lists
 mod Counting
-mod Opening
+pub mod Opening
 mod Generating
