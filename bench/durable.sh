@@ -244,7 +244,9 @@ class Drive:
             os.remove(image)
         if run(words)[0] != 0:
             sys.exit('durable: no drive was made')
-        self.words, self.made, self.most = words, content(), 500
+        self.made = content()
+        run(['serve', '36'], b''.join(self.command()[0] for _ in range(100)), '1', all=1)
+        self.most = called()                            # calls on the image of a session that is not cut off
 
     def command(self):                                  # its bytes, and what it makes of a map
         draw, key = random.random(), random.choice(self.keys)
