@@ -244,7 +244,9 @@ class Drive:
             os.remove(image)
         if run(words)[0] != 0:
             sys.exit('durable: no drive was made')
-        self.words, self.made, self.most = words, content(), 500
+        self.made = content()
+        run(['serve', '36'], b''.join(self.command()[0] for _ in range(100)), '1', all=1)
+        self.calls = called() / 100                     # on the image, for a command
 
     def command(self):                                  # its bytes, and what it makes of a map
         draw, key = random.random(), random.choice(self.keys)
@@ -280,12 +282,10 @@ def maps_of(start, made):                               # behind so many command
 
 def session(drive, start, sync):                        # commands that were answered, whether it was cut off, and the map it left
     made = drive.commands(200)
-    lost_at = random.randrange(1, int(1.3 * drive.most) + 2)
+    lost_at = random.randrange(1, int(1.2 * drive.calls * len(made)) + 2)
     status, told = run(['serve', '36'], b''.join(bytes for bytes, _ in made), sync, lost_at=lost_at, seed=random.randrange(1 << 30))
     if status not in (0, -9):
         sys.exit(f'durable: status {status}')
-    if status == 0:
-        drive.most = (drive.most + called()) / 2
     answered, found = -(-len(told) // RECORD), drive.held()
     return answered, status == -9, found if found in maps_of(start, made)[answered:] else None
 

@@ -5,7 +5,6 @@
 #![tactic(auto)]
 
 mod file_board;
-mod holes;
 mod image_file;
 mod incoming;
 mod opening;

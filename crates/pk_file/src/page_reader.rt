@@ -6,7 +6,6 @@ ghost use Rattle.pk_nand.specs.declared.types.LoadFault.{LoadFault};
 ghost use Rattle.pk_file.specs.Trims.{bytes_in};
 ghost use Rattle.pk_file.specs.declared.room.TheConstants.{RUN_PAGES};
 
-use crate::holes::Holes;
 use crate::room::RUN_PAGES;
 use crate::slots::known;
 use crate::trimmed::Trimmed;
@@ -25,7 +24,6 @@ pub struct PageReader {
     buffer: Vec<u8>,
     first: u32,
     count: u32,
-    holes: Holes,
     ghost room: { length buffer.items ≡ RUN_PAGES * shape.page_bytes },
     ghost short: { count ≤ RUN_PAGES },
 }
@@ -77,7 +75,6 @@ impl PageReader {
             buffer,
             first: 0,
             count: 0,
-            holes: Holes::new(),
         })
     }
 
@@ -138,19 +135,5 @@ impl PageReader {
             }
             Err(_) => Err(LoadFault::Fault),
         }
-    }
-
-    /// How many bytes at the place of a page that is not Whole may differ from zero; 0 where the file has a hole there. Pages are asked
-    /// for in rising order.
-    pub fn extent(&mut self, file: &File, page: u32) -> usize
-        requires { page < spec.page_count self.old.shape }
-        ensures { self.new.shape ≡ self.old.shape }
-    {
-        let bytes = self.shape.page_bytes();
-        let at = page_at(&self.shape, page);
-        if self.holes.have(file, at, at + u64::from(bytes)) {
-            return 0;
-        }
-        bytes as usize
     }
 }

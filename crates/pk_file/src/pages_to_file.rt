@@ -234,7 +234,8 @@ pub fn erase_pages<F: PageFile>(file: &mut F, shape: &Shape, first: u32, count: 
             is_done: false,
         };
     }
-    match file.sync() {
+    let synced = file.sync();
+    match synced {
         Ok(()) => Cleared {
             count,
             is_done: true,

@@ -73,13 +73,11 @@ fn slot_in(
         → (TORN < slice_index states.now page) × (at ≡ HEADER_BYTES + page) }
 {
     let shape = reader.shape;
+    // what an earlier run left at the place of a page that is not Whole is not known
+    let extent = shape.page_bytes() as usize;
     match state_by(&shape, states[page as usize], page) {
-        Ok(PageTag::Erased) => Ok(Slot::Erased {
-            extent: reader.extent(file, page),
-        }),
-        Ok(PageTag::Torn) => Ok(Slot::Torn {
-            extent: reader.extent(file, page),
-        }),
+        Ok(PageTag::Erased) => Ok(Slot::Erased { extent }),
+        Ok(PageTag::Torn) => Ok(Slot::Torn { extent }),
         Ok(PageTag::Whole) => match reader.copy(alloc, file, states, page) {
             Ok(kept) => Ok(Slot::Whole(kept)),
             Err(fault) => Err(fault),
