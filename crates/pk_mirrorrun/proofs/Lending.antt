@@ -1,0 +1,43 @@
+-- Two drives that are lent as ports to a pair.
+use Rattle.std.proofs.Common.{◌≡◌, ℕ, List, true, false, is_some, [], Ok, refl, sym, ap, subst, ◌∙◌}
+use Rattle.std.specs.Result.{result_ok}
+use Rattle.pk_base.specs.Entry.{Entry}
+use Rattle.pk_base.specs.Shape.{Shape}
+use Rattle.pk_base.specs.Map.{Map}
+use Rattle.pk_nand.specs.BoardState.{BoardState}
+use Rattle.pk_nand.specs.Calls.{IsReady}
+use Rattle.pk_model.specs.Reading.{reading, Holds}
+use Rattle.pk_model.specs.Sight.{Sight}
+use Rattle.pk_call.specs.Drive.{HoldsMap}
+use Rattle.pk_port.specs.Steps.{seen}
+use Rattle.pk_mirror.specs.Pair.{Mirrored}
+use Rattle.pk_mirrorwords.specs.PairAnswers.{IsToldPair}
+use Rattle.pk_mirrorrun.specs.PairTold.{IsServing}
+
+told_both : (shape : Shape) (a c : BoardState) (m n : Map) → Holds shape a.pages m → Holds shape c.pages n → is_some (result_ok (reading shape c.pages [])) ≡ is_some (result_ok (reading shape a.pages []))
+told_both shape a c m n h g = ap is_some (ap result_ok g) ∙ sym (ap is_some (ap result_ok h))
+
+-- two boards of one shape that hold maps, and a mirror that is split
+pub told_pair : (mirror : Mirrored) (shape : Shape) (a c : BoardState) (f g : ℕ) → mirror ≡ record { shape = shape; split = true } → (m : Map) × Holds shape a.pages m → (n : Map) × Holds shape c.pages n
+    → IsToldPair mirror (seen shape a f) (seen shape c g)
+told_pair mirror shape a c f g is (m, h) (n, k) = record {
+  pair = record {
+    first_shape = sym (ap (λ (x : Mirrored). x.shape) is);
+    second_shape = sym (ap (λ (x : Mirrored). x.shape) is);
+    limit = refl;
+    both_tell = told_both shape a c m n h k;
+    in_step = λ off. absurd (let clash : true ≡ false = sym (ap (λ (x : Mirrored). x.split) is) ∙ off in cc);
+  };
+  limit_is = refl;
+  map = m;
+  told = ap result_ok h;
+}
+
+-- a drive that was opened serves
+pub serving : (shape : Shape) (b : BoardState) (d : Sight) → IsReady b shape → d.stopped ≡ false → d.pending ≡ [] → (m : Map) × HoldsMap shape d.counts.frames b d m → IsServing shape b d
+serving shape b d ready runs none stands = record {
+  shape_is = ready.shape_is;
+  runs = runs;
+  map = stands.0;
+  holds = subst (λ (p : List Entry). reading shape b.pages p ≡ Ok stands.0) none stands.1.map_is;
+}

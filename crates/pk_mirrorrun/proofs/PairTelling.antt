@@ -1,0 +1,272 @@
+-- What a word of a pair makes of both boards.
+use Rattle.std.proofs.Common.{◌≡◌, ◌⊎◌, inl, inr, ℕ, ◌+◌, ◌≤◌, List, [], ◌∷◌, ◌++◌, Option, Some, None, refl, sym, ap, subst, ◌∙◌, true, false, arith}
+use Rattle.std.specs.Result.{result_ok}
+use Rattle.pk_base.specs.Shape.{Shape, limit}
+use Rattle.pk_base.specs.Page.{Flash}
+use Rattle.pk_base.specs.Map.{Map}
+use Rattle.pk_nvme.specs.Command.{Command}
+use Rattle.pk_nand.specs.BoardState.{BoardState}
+use Rattle.pk_nand.specs.Calls.{Rose, longer, after_post, PostFailed}
+use Rattle.pk_nand.specs.Effects.{OnlyFlash}
+use Rattle.pk_model.specs.Growth.{Reaches, Goes}
+use Rattle.pk_model.specs.Kept.{rise}
+use Rattle.pk_model.specs.Reading.{reading, Holds}
+use Rattle.pk_model.specs.Wear.{roots, is_worn}
+use Rattle.pk_model.proofs.Growing.{weaken_went, Goes-reaches}
+use Rattle.pk_words.specs.Lines.{failed_line}
+use Rattle.pk_port.specs.Asking.{KeptSilently, KeptWord, Asked}
+use Rattle.pk_port.specs.Steps.{Standing, HasCause, Chain, seen}
+use Rattle.pk_port.specs.Chained.{installs, AllServed, WhyHalted, HaltedAt, Chained}
+use Rattle.pk_port.specs.declared.halt.Halt.{Halt}
+use Rattle.pk_port.specs.declared.halt.Halt.TheVariants.{Stopped, Worn as UsedUp}
+use Rattle.pk_port.proofs.Growing.{asked-posts, asked-post_failed}
+use Rattle.pk_port.proofs.Chaining.{chained}
+use Rattle.pk_wordrun.specs.Ends.{end_of}
+use Rattle.pk_wordrun.specs.Told.{KeepsInput}
+use Rattle.pk_wordrun.specs.declared.end.WordEnd.{WordEnd}
+use Rattle.pk_wordrun.specs.declared.end.WordEnd.TheVariants.{Done, Output, Flash as FlashFailed, Worn}
+use Rattle.pk_wordrun.proofs.Telling.{keeps-flash}
+use Rattle.pk_mirrorwords.specs.PairTasks.{PairTask}
+use Rattle.pk_mirrorwords.specs.PairAnswers.{PairDone, PairSaid, PairFault, AreOfFirst, AreOfSecond}
+use Rattle.pk_mirrorrun.specs.PairTold.{EitherUnread, left_by, text_by, Walk, end_by, KeptFirst, KeptSecond, PairFinished, PairEnds, most_roots, UsedRoots, PairTold}
+use Rattle.pk_mirrorrun.proofs.Commands.{kept_first, first_installs, second_installs}
+
+some_same : {X : Type 0} (x y : X) → ◌≡◌ {A = Option X} (Some x) (Some y) → x ≡ y
+some_same x y e = cc
+
+-- ---- one drive
+
+module _ (shape : Shape) (start : Map) (cs : List Command) (p q : Standing) where
+  -- where the board was cut off, the commands were kept
+  kept_by : Chained shape start cs p q → Goes shape p.on.board q.on.board (KeptSilently shape p.on.frames start cs (rise p.on.board.read_faults q.on.board.read_faults))
+  kept_by (inl w) = Goes-reaches shape p.on.board q.on.board (KeptSilently shape p.on.frames start cs (rise p.on.board.read_faults q.on.board.read_faults)) w.asked.reached
+  kept_by (inr h) = h.kept
+
+  only_flash : Chained shape start cs p q → OnlyFlash p.on.board q.on.board
+  only_flash (inl w) = w.asked.rest
+  only_flash (inr h) = h.rest
+
+  used_by : (m other : Map) → installs cs ≤ most_roots m other → Chained shape start cs p q → UsedRoots m other p.on.board q.on.board
+  used_by m other few (inl w) = let most = w.few in inr (omega (arith, most, few))
+  used_by m other few (inr h) = elim h.why [
+    | inl stop ↦ inl stop
+    | inr (same, going, most) ↦ inr (omega (arith, most, few))
+  ]
+
+  -- no command was left without an answer
+  all_served : p.halt ≡ None → q.halt ≡ None → Chained shape start cs p q → AllServed shape start cs p q
+  all_served before none (inl w) = w
+  all_served before none (inr h) = let clash : ◌≡◌ {A = Option Halt} None (Some h.halt) = sym none ∙ h.is in absurd (cc)
+
+  -- one was, for this reason
+  halted_at : (halt : Halt) → p.halt ≡ None → q.halt ≡ Some halt → Chained shape start cs p q → (h : HaltedAt shape start cs p q) × (h.halt ≡ halt)
+  halted_at halt before is (inl w) = let clash : ◌≡◌ {A = Option Halt} None (Some halt) = sym before ∙ sym w.same_halt ∙ is in absurd (cc)
+  halted_at halt before is (inr h) = (h, some_same h.halt halt (sym h.is ∙ is))
+
+  stopped_by : HaltedAt shape start cs p q → q.on.stopped ≡ true → Rose p.on.board.stop_faults q.on.board.stop_faults
+  stopped_by h stopped = elim h.why [
+    | inl stop ↦ stop
+    | inr (same, going, few) ↦ absurd (let clash : true ≡ false = sym stopped ∙ going in cc)
+  ]
+
+  -- the second of a pair
+  second_kept : Chained shape start cs p q → Goes shape p.on.board q.on.board (KeptSecond shape)
+  second_kept w =
+      let run = kept_by w in (
+        run.0,
+        weaken_went run.0 p.on.board q.on.board (KeptSilently shape p.on.frames start cs (rise p.on.board.read_faults q.on.board.read_faults)) (KeptSecond shape) (λ f posted k. record { map = k.1.map_left; held = k.1.held; silent = k.0 }) run.1,
+        run.2,
+      )
+
+-- ---- both
+
+module _ (task : PairTask) (shape : Shape) (m other : Map) (cs ds : List Command) (p p' q q' : Standing) (are : AreOfFirst task cs)
+    (few : installs ds ≤ most_roots m other) (walk : Chained shape m cs p p') (too : Chained shape other ds q q') where
+  abbrev a : BoardState
+  a = p.on.board
+
+  abbrev b : BoardState
+  b = p'.on.board
+
+  abbrev c : BoardState
+  c = q.on.board
+
+  abbrev d : BoardState
+  d = q'.on.board
+
+  -- without a post
+  silent : (failed : Type 0) (n : Option ℕ) (f : Flash) (posted : List ℕ) → KeptSilently shape p.on.frames m cs n f posted → KeptFirst task failed shape m f posted
+  silent failed n f posted k = record { held = kept_first task shape p.on.frames m cs n [] f are k.1; said = inl k.0 }
+
+  first_silent : (failed : Type 0) → Goes shape a b (KeptFirst task failed shape m)
+  first_silent failed =
+      let run = kept_by shape m cs p p' walk in
+      (run.0, weaken_went run.0 a b (KeptSilently shape p.on.frames m cs (rise a.read_faults b.read_faults)) (KeptFirst task failed shape m) (silent failed (rise a.read_faults b.read_faults)) run.1, run.2)
+
+  ended : (end : WordEnd) → PairEnds task shape m a b c d end → PairTold task shape m other a b c d end
+  ended end ends = record {
+    first_kept = first_silent (EitherUnread a b c d);
+    second_kept = second_kept shape other ds q q' too;
+    ends = ends;
+    first_used = used_by shape m cs p p' m other (first_installs task m other cs are) walk;
+    second_used = used_by shape other ds q q' m other few too;
+    first_input = keeps-flash a b (only_flash shape m cs p p' walk);
+    second_input = keeps-flash c d (only_flash shape other ds q q' too);
+  }
+
+  first_halted : (h : HaltedAt shape m cs p p') (halt : Halt) → h.halt ≡ halt → PairEnds task shape m a b c d (end_of halt)
+  first_halted h Stopped is = inl (stopped_by shape m cs p p' h (subst (λ (x : Halt). HasCause p'.on x) is h.cause))
+  first_halted h UsedUp is = inl (subst (λ (x : Halt). HasCause p'.on x) is h.cause)
+
+  second_halted : (h : HaltedAt shape other ds q q') (halt : Halt) → h.halt ≡ halt → PairEnds task shape m a b c d (end_of halt)
+  second_halted h Stopped is = inr (stopped_by shape other ds q q' h (subst (λ (x : Halt). HasCause q'.on x) is h.cause))
+  second_halted h UsedUp is = inr (subst (λ (x : Halt). HasCause q'.on x) is h.cause)
+
+  -- a drive halted
+  pub told-halted : (one two : Option Halt) (end : WordEnd) → p.halt ≡ None → q.halt ≡ None → p'.halt ≡ one → q'.halt ≡ two → end_by one two ≡ Some end → PairTold task shape m other a b c d end
+  told-halted None None end first second is also by = absurd (let clash : ◌≡◌ {A = Option WordEnd} None (Some end) = by in cc)
+  told-halted None (Some halt) end first second is also by =
+      let (h, same) = halted_at shape other ds q q' halt second also too in
+      ended end (subst (λ (e : WordEnd). PairEnds task shape m a b c d e) (some_same (end_of halt) end by) (second_halted h halt same))
+  told-halted (Some halt) two end first second is also by =
+      let (h, same) = halted_at shape m cs p p' halt first is walk in
+      ended end (subst (λ (e : WordEnd). PairEnds task shape m a b c d e) (some_same (end_of halt) end by) (first_halted h halt same))
+
+  -- where neither did, no port failed
+  pub no_fault : p.halt ≡ None → q.halt ≡ None → p'.halt ≡ None → q'.halt ≡ None → p.faults ≡ 0 → q.faults ≡ 0
+      → PairFault (seen shape a p.faults) (seen shape b p'.faults) (seen shape c q.faults) (seen shape d q'.faults) → ⊥
+  no_fault first second none nor zero too_zero (inl rose) =
+      let same = (all_served shape m cs p p' first none walk).same_faults in
+      let now : Rose 0 0 = subst (λ (n : ℕ). Rose n n) zero (subst (λ (n : ℕ). Rose p.faults n) same rose) in absurd (omega (arith, now))
+  no_fault first second none nor zero too_zero (inr rose) =
+      let same = (all_served shape other ds q q' second nor too).same_faults in
+      let now : Rose 0 0 = subst (λ (n : ℕ). Rose n n) too_zero (subst (λ (n : ℕ). Rose q.faults n) same rose) in absurd (omega (arith, now))
+
+  -- ---- the text
+
+  module _ (w : AllServed shape m cs p p') (v : AllServed shape other ds q q') (text : List ℕ)
+      (said : PairSaid task (seen shape a p.faults) (seen shape b p'.faults) (seen shape c q.faults) (seen shape d q'.faults) m text) where
+    -- what the text says of the map that the first drive holds
+    abbrev Says : List ℕ → Map → Type 0
+    Says t left = ((left ≡ left_by shape task m) × (t ≡ text_by shape task m)) ⊎ (EitherUnread a b c d × (t ≡ failed_line))
+
+    says : Says text w.asked.left
+    says = elim said [
+      | inl done ↦ inl (some_same w.asked.left (left_by shape task m) (sym (ap result_ok w.asked.held) ∙ done.first_left), done.spelled)
+      | inr unread ↦ inr unread
+    ]
+
+    posting : (n : Option ℕ) (f : Flash) (posted : List ℕ) → KeptWord Says shape p.on.frames m cs n f posted → KeptFirst task (EitherUnread a b c d) shape m f posted
+    posting n f posted (k, inl none) = record { held = kept_first task shape p.on.frames m cs n [] f are k; said = inl none }
+    posting n f posted (k, inr s) = record {
+      held = kept_first task shape p.on.frames m cs n [] f are k;
+      said = elim s.says [
+        | inl (left, spelled) ↦ inr (inl (subst (λ (x : Map). Holds shape f x) left s.held, (s.unposted, s.front ∙ spelled)))
+        | inr (failed, spelled) ↦ inr (inr (failed, (s.unposted, s.front ∙ spelled)))
+      ];
+    }
+
+    -- what holds at the end
+    finished_says : ((text ≡ text_by shape task m) × Holds shape b.pages (left_by shape task m) × Holds shape d.pages (left_by shape task m)) ⊎ (EitherUnread a b c d × (text ≡ failed_line))
+    finished_says = elim said [
+      | inl done ↦ inl (
+        done.spelled,
+        subst (λ (x : Map). Holds shape b.pages x) (some_same w.asked.left (left_by shape task m) (sym (ap result_ok w.asked.held) ∙ done.first_left)) w.asked.held,
+        subst (λ (x : Map). Holds shape d.pages x) (some_same v.asked.left (left_by shape task m) (sym (ap result_ok v.asked.held) ∙ done.second_left)) v.asked.held,
+      )
+      | inr unread ↦ inr unread
+    ]
+
+    used_too : UsedRoots m other a b
+    used_too = used_by shape m cs p p' m other (first_installs task m other cs are) walk
+
+    -- it was posted
+    posted : PairTold task shape m other a (after_post b text) c d Done
+    posted =
+        let run = asked-posts Says shape p.on.frames m cs a b w.asked text says in
+        let n = rise a.read_faults b.read_faults in
+        let goes = Goes-reaches shape a (after_post b text) (KeptWord Says shape p.on.frames m cs n) run in
+        record {
+          first_kept = (goes.0, weaken_went goes.0 a (after_post b text) (KeptWord Says shape p.on.frames m cs n) (KeptFirst task (EitherUnread a b c d) shape m) (posting n) goes.1, goes.2);
+          second_kept = second_kept shape other ds q q' too;
+          ends = record {
+            text = text;
+            posted = ap (λ t. longer t text) (ap (λ (s : BoardState). s.posted) w.asked.rest);
+            says = finished_says;
+            no_output = ap (λ (s : BoardState). s.out_faults) w.asked.rest;
+            first_sound = w.asked.no_stop;
+            second_sound = v.asked.no_stop;
+          };
+          first_used = used_too;
+          second_used = used_by shape other ds q q' m other few too;
+          first_input = record { input = ap (λ (s : BoardState). s.input) w.asked.rest; in_faults = ap (λ (s : BoardState). s.in_faults) w.asked.rest };
+          second_input = keeps-flash c d (only_flash shape other ds q q' too);
+        }
+
+    pub told-posted : (last : BoardState) → last ≡ after_post b text → PairTold task shape m other a last c d Done
+    told-posted last is = subst (λ (s : BoardState). PairTold task shape m other a s c d Done) (sym is) posted
+
+    -- the output failed
+    pub told-unposted : (last : BoardState) → PostFailed b last text → PairTold task shape m other a last c d Output
+    told-unposted last failed =
+        let n = rise a.read_faults b.read_faults in
+        let run = asked-post_failed Says shape p.on.frames m cs a b w.asked text says last failed in
+        let same : last.read_faults ≡ b.read_faults = ap (λ (s : BoardState). s.read_faults) failed.rest in
+        let same_stop : last.stop_faults ≡ b.stop_faults = ap (λ (s : BoardState). s.stop_faults) failed.rest in
+        let F : ℕ → Type 0 = λ k. Goes shape a last (KeptFirst task (Rose a.read_faults k ⊎ Rose c.read_faults d.read_faults) shape m) in
+        record {
+          first_kept = subst F (sym same) (run.0, weaken_went run.0 a last (KeptWord Says shape p.on.frames m cs n) (KeptFirst task (EitherUnread a b c d) shape m) (posting n) run.1, run.2);
+          second_kept = second_kept shape other ds q q' too;
+          ends = subst (λ (k : ℕ). Rose k last.out_faults) (ap (λ (s : BoardState). s.out_faults) w.asked.rest) failed.faults;
+          first_used =
+              let R : BoardState → Type 0 = λ s. roots s ≤ roots a + most_roots m other in
+              elim used_too [
+                | inl stop ↦ inl (subst (λ (k : ℕ). Rose a.stop_faults k) (sym same_stop) stop)
+                | inr most ↦ inr (let same_roots : roots last ≡ roots b = ap roots failed.rest in omega (arith, most, same_roots))
+              ];
+          second_used = used_by shape other ds q q' m other few too;
+          first_input = record {
+            input = ap (λ (s : BoardState). s.input) failed.rest ∙ ap (λ (s : BoardState). s.input) w.asked.rest;
+            in_faults = ap (λ (s : BoardState). s.in_faults) failed.rest ∙ ap (λ (s : BoardState). s.in_faults) w.asked.rest;
+          };
+          second_input = keeps-flash c d (only_flash shape other ds q q' too);
+        }
+
+-- ---- from the commands that took both ports
+
+pub both_none : (one two : Option Halt) → end_by one two ≡ None → (one ≡ None) × (two ≡ None)
+both_none None None e = (refl, refl)
+both_none None (Some halt) e = let clash : ◌≡◌ {A = Option WordEnd} (Some (end_of halt)) None = e in absurd (cc)
+both_none (Some halt) two e = let clash : ◌≡◌ {A = Option WordEnd} (Some (end_of halt)) None = e in absurd (cc)
+
+module _ (task : PairTask) (shape : Shape) (m other : Map) (p p' q q' : Standing) (has : p.on.board.shape ≡ Some shape) (has' : q.on.board.shape ≡ Some shape) (holds : Holds shape p.on.board.pages m)
+    (holds' : Holds shape q.on.board.pages other) (going : p.on.stopped ≡ false) (going' : q.on.stopped ≡ false) (walk : Walk shape (AreOfFirst task) p p')
+    (too : Walk shape (AreOfSecond (seen shape p.on.board p.faults) (seen shape q.on.board q.faults)) q q') (first : p.halt ≡ None) (second : q.halt ≡ None) where
+  one : Chained shape m walk.0 p p'
+  one = chained shape m p walk.0 p' has holds going walk.2
+
+  two : Chained shape other too.0 q q'
+  two = chained shape other q too.0 q' has' holds' going' too.2
+
+  few_roots : installs too.0 ≤ most_roots m other
+  few_roots = second_installs (seen shape p.on.board p.faults) (seen shape q.on.board q.faults) m other too.0 (ap result_ok holds) (ap result_ok holds') too.1
+
+  pub tells-halted : (end : WordEnd) → Some end ≡ end_by p'.halt q'.halt → PairTold task shape m other p.on.board p'.on.board q.on.board q'.on.board end
+  tells-halted end by = told-halted task shape m other walk.0 too.0 p p' q q' walk.1 few_roots one two p'.halt q'.halt end first second refl refl (sym by)
+
+  pub tells-posted : end_by p'.halt q'.halt ≡ None → (text : List ℕ) → PairSaid task (seen shape p.on.board p.faults) (seen shape p'.on.board p'.faults) (seen shape q.on.board q.faults) (seen shape q'.on.board q'.faults) m text
+      → (last : BoardState) → last ≡ after_post p'.on.board text → PairTold task shape m other p.on.board last q.on.board q'.on.board Done
+  tells-posted by text said last is =
+      let (none, nor) = both_none p'.halt q'.halt by in
+      told-posted task shape m other walk.0 too.0 p p' q q' walk.1 few_roots one two (all_served shape m walk.0 p p' first none one) (all_served shape other too.0 q q' second nor two) text said last is
+
+  pub tells-unposted : end_by p'.halt q'.halt ≡ None → (text : List ℕ) → PairSaid task (seen shape p.on.board p.faults) (seen shape p'.on.board p'.faults) (seen shape q.on.board q.faults) (seen shape q'.on.board q'.faults) m text
+      → (last : BoardState) → PostFailed p'.on.board last text → PairTold task shape m other p.on.board last q.on.board q'.on.board Output
+  tells-unposted by text said last failed =
+      let (none, nor) = both_none p'.halt q'.halt by in
+      told-unposted task shape m other walk.0 too.0 p p' q q' walk.1 few_roots one two (all_served shape m walk.0 p p' first none one) (all_served shape other too.0 q q' second nor two) text said last failed
+
+  pub faults-never : end_by p'.halt q'.halt ≡ None → p.faults ≡ 0 → q.faults ≡ 0
+      → PairFault (seen shape p.on.board p.faults) (seen shape p'.on.board p'.faults) (seen shape q.on.board q.faults) (seen shape q'.on.board q'.faults) → ⊥
+  faults-never by zero zero' fault =
+      let (none, nor) = both_none p'.halt q'.halt by in no_fault task shape m other walk.0 too.0 p p' q q' walk.1 few_roots one two first second none nor zero zero' fault

@@ -1,0 +1,106 @@
+-- What a word of a pair did to both boards, from the opened drives on.
+use Rattle.std.specs.Prelude.{◌≡◌, ◌⊎◌, ℕ, ◌+◌, ◌*◌, ◌≤◌, List, [], ◌++◌, Option, Some, None, true, false}
+use Rattle.std.specs.FinMap.{len}
+use Rattle.pk_base.specs.Shape.{Shape, limit}
+use Rattle.pk_base.specs.Page.{Flash}
+use Rattle.pk_base.specs.Map.{Map}
+use Rattle.pk_nand.specs.BoardState.{BoardState}
+use Rattle.pk_nvme.specs.Command.{Command}
+use Rattle.pk_nand.specs.Calls.{Rose, longer}
+use Rattle.pk_model.specs.Growth.{Goes}
+use Rattle.pk_model.specs.Reading.{Holds}
+use Rattle.pk_model.specs.Sight.{Sight}
+use Rattle.pk_model.specs.Wear.{is_worn, roots}
+use Rattle.pk_port.specs.Steps.{Standing, Chain}
+use Rattle.pk_words.specs.Lines.{failed_line}
+use Rattle.pk_port.specs.declared.halt.Halt.{Halt}
+use Rattle.pk_wordrun.specs.Ends.{end_of}
+use Rattle.pk_wordrun.specs.Told.{KeepsInput}
+use Rattle.pk_wordrun.specs.declared.end.WordEnd.{WordEnd}
+use Rattle.pk_wordrun.specs.declared.end.WordEnd.TheVariants.{Done, Output, Flash as FlashFailed, Worn}
+use Rattle.pk_mirrorwords.specs.PairTasks.{PairTask, map_left, text_of}
+
+-- a read of either drive failed
+abbrev pub EitherUnread : BoardState → BoardState → BoardState → BoardState → Type 0
+EitherUnread a b c d = Rose a.read_faults b.read_faults ⊎ Rose c.read_faults d.read_faults
+
+-- the map that a word leaves, and what it says, on drives of this shape
+abbrev pub left_by : Shape → PairTask → Map → Map
+left_by shape task m = map_left shape (limit shape) task m
+
+abbrev pub text_by : Shape → PairTask → Map → List ℕ
+text_by shape task m = text_of shape (limit shape) task m
+
+-- commands of this kind, one after another, took a port to another
+abbrev pub Walk : Shape → (List Command → Type 0) → Standing → Standing → Type 0
+Walk shape Are p q = (cs : List Command) × Are cs × Chain shape p cs q
+
+-- how a word ends when a drive halted, the first or else the second
+abbrev pub end_by : Option Halt → Option Halt → Option WordEnd
+end_by None None = None
+end_by None (Some halt) = Some (end_of halt)
+end_by (Some halt) second = Some (end_of halt)
+
+-- a drive that is not stopped, on a board of this shape that holds a map
+pub record IsServing (shape : Shape) (board : BoardState) (drive : Sight) : Type 0 where
+  pub shape_is : board.shape ≡ Some shape
+  pub runs : drive.stopped ≡ false
+  pub map : Map
+  pub holds : Holds shape board.pages map
+
+-- ---- at every cut
+
+-- The first drive holds its map or the one after the word. What was posted begins the text of the word, and the drive holds the map after it where a
+-- byte was posted; or it begins the line that says that a read failed, and one did.
+pub record KeptFirst (task : PairTask) (failed : Type 0) (shape : Shape) (m : Map) (flash : Flash) (posted : List ℕ) : Type 0 where
+  pub held : Holds shape flash m ⊎ Holds shape flash (left_by shape task m)
+  pub said :
+      (posted ≡ [])
+      ⊎ ((Holds shape flash (left_by shape task m) × ((rest : List ℕ) × (posted ++ rest ≡ text_by shape task m)))
+      ⊎ (failed × ((rest : List ℕ) × (posted ++ rest ≡ failed_line))))
+
+-- The second holds a map, and nothing is posted on it.
+pub record KeptSecond (shape : Shape) (flash : Flash) (posted : List ℕ) : Type 0 where
+  pub map : Map
+  pub held : Holds shape flash map
+  pub silent : posted ≡ []
+
+-- ---- ends
+
+-- The word is done: its text was posted on the first board, and both drives hold the map after it; or a read failed, and the text says that.
+pub record PairFinished (task : PairTask) (shape : Shape) (m : Map) (a b c d : BoardState) : Type 0 where
+  pub text : List ℕ
+  pub posted : b.posted ≡ longer a.posted text
+  pub says :
+      ((text ≡ text_by shape task m) × Holds shape b.pages (left_by shape task m) × Holds shape d.pages (left_by shape task m))
+      ⊎ (EitherUnread a b c d × (text ≡ failed_line))
+  pub no_output : b.out_faults ≡ a.out_faults
+  pub first_sound : b.stop_faults ≡ a.stop_faults
+  pub second_sound : d.stop_faults ≡ c.stop_faults
+
+-- how it ended, and why: the first board from a to b, the second from c to d
+abbrev pub PairEnds : PairTask → Shape → Map → BoardState → BoardState → BoardState → BoardState → WordEnd → Type 0
+PairEnds task shape m a b c d Done = PairFinished task shape m a b c d
+PairEnds task shape m a b c d Output = Rose a.out_faults b.out_faults
+PairEnds task shape m a b c d FlashFailed = Rose a.stop_faults b.stop_faults ⊎ Rose c.stop_faults d.stop_faults
+PairEnds task shape m a b c d Worn = (is_worn b ≡ true) ⊎ (is_worn d ≡ true)
+
+-- most roots that the commands of a word install on a drive, each at most ten: a Delete of each key of the second, a Store of each of the first, and the
+-- word's own command
+abbrev pub most_roots : Map → Map → ℕ
+most_roots m other = 10 * (len m + len other + 1)
+
+-- Where the numbers of roots are used up, the word installed no more than these, or a program or an erase had failed.
+abbrev pub UsedRoots : Map → Map → BoardState → BoardState → Type 0
+UsedRoots m other a b = Rose a.stop_faults b.stop_faults ⊎ (roots b ≤ roots a + most_roots m other)
+
+-- A word on two drives of this shape, of which the first held this map and the second that one. Wherever either was cut off it was kept, and the word
+-- ended so.
+pub record PairTold (task : PairTask) (shape : Shape) (m other : Map) (a b c d : BoardState) (end : WordEnd) : Type 0 where
+  pub first_kept : Goes shape a b (KeptFirst task (EitherUnread a b c d) shape m)
+  pub second_kept : Goes shape c d (KeptSecond shape)
+  pub ends : PairEnds task shape m a b c d end
+  pub first_used : UsedRoots m other a b
+  pub second_used : UsedRoots m other c d
+  pub first_input : KeepsInput a b
+  pub second_input : KeepsInput c d
