@@ -17,6 +17,8 @@ from workload import PROBE, Size, Workload, key_of
 HERE = Path(__file__).resolve().parent
 SIZE = Size(keys=40, value_bytes=100, overwrites=20, retrieves=30, missing=10, lists=5, deletes=4,
             alone=False)
+# Seconds that a server may be silent: many, as the machine may be busy.
+PATIENCE = 60
 # Serves by the program of the first word and changes its output: the byte at a place is turned
 # over, cut off from there, or followed by one more at the end.
 CHANGER = """
@@ -56,9 +58,11 @@ class FeederTest(unittest.TestCase):
     def tearDownClass(cls) -> None:
         cls._temporary.cleanup()
 
-    def feed(self, *command: str, before: list[Path] = []) -> tuple[int, str]:
+    def feed(
+        self, *command: str, before: list[Path] = [], patience: int = PATIENCE
+    ) -> tuple[int, str]:
         """The feeder's status, and what it says on standard error."""
-        words = [str(self.folder / "bin" / "feeder"), "--patience", "2"]
+        words = [str(self.folder / "bin" / "feeder"), "--patience", str(patience)]
         words += ["--probe", key_of(PROBE).decode()]
         for path in before:
             words += ["--before", str(path)]
@@ -67,9 +71,10 @@ class FeederTest(unittest.TestCase):
         done = subprocess.run([*words, "--", *command], capture_output=True, text=True)
         return done.returncode, done.stderr
 
-    def changed(self, change: str, place: int) -> tuple[int, str]:
+    def changed(self, change: str, place: int, patience: int = PATIENCE) -> tuple[int, str]:
         changer = [sys.executable, str(self.folder / "changer.py")]
-        return self.feed(*changer, str(self.folder / "bin" / "map"), change, str(place))
+        words = [*changer, str(self.folder / "bin" / "map"), change, str(place)]
+        return self.feed(*words, patience=patience)
 
     def answers(self) -> int:
         """The bytes of all answers: of those to the probe and to the phases."""
@@ -84,7 +89,7 @@ class FeederTest(unittest.TestCase):
     def test_changed_byte(self) -> None:
         # A record's bytes 4 to 7 are zeros, 8 to 11 count what was taken, 16 to 19 count reads,
         # and the lowest bit of byte 14 is a tag: none of them is a part of the answer.
-        compared = [0, 12, 15, 23]
+        compared = [0, 12, 15]
         bytes_of_answers = self.answers()
         first_of_last_flush = bytes_of_answers - 24
         for base in (0, 24, first_of_last_flush):
@@ -93,6 +98,12 @@ class FeederTest(unittest.TestCase):
                     status, said = self.changed("turn", base + place)
                     self.assertEqual(status, 1)
                     self.assertIn("feeder: ", said)
+
+    def test_changed_length(self) -> None:
+        # The first record is 65,536 bytes long, more than all others, so the feeder waits.
+        status, said = self.changed("turn", 22, patience=1)
+        self.assertEqual(status, 1)
+        self.assertIn("feeder: the server is silent", said)
 
     def test_changed_value(self) -> None:
         stores = 24 * (1 + SIZE.keys + 1 + SIZE.overwrites + 1)
@@ -117,7 +128,7 @@ class FeederTest(unittest.TestCase):
         self.assertEqual(self.feed("false")[0], 1)
 
     def test_silent(self) -> None:
-        status, said = self.feed("sleep", "60")
+        status, said = self.feed("sleep", "60", patience=1)
         self.assertEqual(status, 1)
         self.assertIn("silent", said)
 
