@@ -6,6 +6,7 @@ that is none is refused with its first wrong byte; and no dump changes a byte of
 """
 
 import os
+import re
 import subprocess
 import sys
 import tempfile
@@ -152,14 +153,41 @@ class Dump(unittest.TestCase):
         for words in (["what"], ["lines", "more"]):
             self.assertEqual(self.run_dump(*words).returncode, 2)
 
+    def picture(self, lines, *words):
+        words = [sys.executable, os.path.join(TOP, "docs", "picture.py"), *words]
+        return subprocess.run(words, input=lines, capture_output=True, text=True)
+
     def test_the_picture(self):
         self.store({b"a": b"1"})
         lines = self.run_dump("lines").stdout
-        words = [sys.executable, os.path.join(TOP, "docs", "picture.py")]
-        done = subprocess.run(words, input=lines, capture_output=True, text=True)
+        done = self.picture(lines)
         self.assertEqual((done.returncode, done.stderr), (0, ""))
         self.assertTrue(done.stdout.startswith("<svg ") and done.stdout.endswith("</svg>\n"))
         self.assertIn(": the newest epoch of the journal</title>", done.stdout)
+        # Each cell is there, as a part of a line: those of all blocks but the free ones that are erased, and one of the legend for each
+        # colour.
+        used = [it["pages"] for it in self.of("block") if it["use"] != "free" or set(it["pages"]) != {"."}]
+        cells = sum((int(length) + 2) // 14 for length in re.findall(r'h(\d+)" stroke="#', done.stdout))
+        self.assertEqual(cells, sum(map(len, used)) + len(set("".join(used))))
+
+    def test_the_picture_of_a_large_drive(self):
+        os.remove(self.image)
+        pinkdrive.make(self.image, 4096, 64, 512, program=PINK)
+        self.store({b"%05d" % i: b"x" * 100 for i in range(3000)})
+        done = self.picture(self.run_dump("lines").stdout)
+        self.assertEqual(done.returncode, 0)
+        self.assertLess(len(done.stdout), 50000)
+
+    def test_no_picture_is_no_file(self):
+        place = self.image + ".svg"
+        self.assertEqual(self.picture(self.run_dump("lines").stdout, "-o", place).returncode, 0)
+        with open(place) as it:
+            self.assertTrue(it.read().endswith("</svg>\n"))
+        os.remove(place)
+        done = self.picture("", "-o", place)
+        self.assertEqual((done.returncode, os.path.exists(place)), (1, False))
+        self.assertIn("no line of a block", done.stderr)
+        self.assertIn("drive.svg", self.picture("", "--help").stdout)
 
 
 if __name__ == "__main__":

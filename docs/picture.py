@@ -2,9 +2,12 @@
 """Draws the picture of a drive as an SVG, from the lines of `pinkdump IMAGE lines`: a page a cell, a block a row.
 
     ./pinkdump drive.img lines | docs/picture.py > drive.svg
+    ./pinkdump drive.img lines | docs/picture.py -o drive.svg     writes no file if there is no picture
 """
 
+import argparse
 import html
+import itertools
 import sys
 
 COLOURS = {
@@ -22,6 +25,7 @@ COLOURS = {
     "x": ("#e41a1c", "torn"),
 }
 CELL, LABEL, TOP = 14, 150, 58
+EDGE = "#bdbdbd"
 
 
 def items(lines):
@@ -81,42 +85,66 @@ def text(x, y, words, size=11):
     return f'<text x="{x}" y="{y}" font-size="{size}">{html.escape(words)}</text>'
 
 
-def cell(x, y, letter, title, fails):
+def cells(x, y, letter, count, title):
+    """Equal cells side by side: one line with gaps."""
     colour, meaning = COLOURS[letter]
-    edge = "#000000" if fails else "#bdbdbd"
-    width = 3 if fails else 1
-    return (
-        f'<rect x="{x}" y="{y}" width="{CELL - 2}" height="{CELL - 2}" fill="{colour}" stroke="{edge}"'
-        f' stroke-width="{width}"><title>{title}: {meaning}</title></rect>'
-    )
+    return f'<path d="M{x} {y + CELL // 2 - 1}h{count * CELL - 2}" stroke="{colour}"><title>{title}: {meaning}</title></path>'
+
+
+def row(y, letters, first):
+    """The cells of a block, whose first page has this number, on a grey ground that shows as their edges."""
+    ground = f'<rect x="{LABEL - 1}" y="{y - 1}" width="{len(letters) * CELL}" height="{CELL}" fill="{EDGE}"/>'
+    parts, at = [ground], 0
+    for letter, same in itertools.groupby(letters):
+        count = len(list(same))
+        pages = f"page {first + at}" if count == 1 else f"pages {first + at} to {first + at + count - 1}"
+        parts.append(cells(LABEL + at * CELL, y, letter, count, pages))
+        at += count
+    return parts
+
+
+def frame(x, y):
+    """The edge of the page at which reading fails."""
+    size = CELL - 2
+    return f'<rect x="{x}" y="{y}" width="{size}" height="{size}" fill="none" stroke="#000000" stroke-width="3"/>'
 
 
 def drawn(heading, blocks, failing):
     """The picture as text."""
     pages = max(len(letters) for _, letters in blocks)
-    parts, y = [text(10, 20, heading, 14), text(10, 40, "a row is a block, a cell a page")], TOP
+    words, parts, frames, y = [text(10, 20, heading, 14), text(10, 40, "a row is a block, a cell a page")], [], [], TOP
     for number, label, letters in folded(blocks):
-        parts.append(text(10, y + CELL - 4, label))
-        for i, letter in enumerate(letters):
-            page = number * pages + i
-            parts.append(cell(LABEL + i * CELL, y, letter, f"page {page}", page == failing))
+        words.append(text(10, y + CELL - 4, label))
+        if letters:
+            parts += row(y, letters, number * pages)
+        if failing is not None and letters and failing // pages == number:
+            frames.append(frame(LABEL + failing % pages * CELL, y))
         y += CELL
     y += CELL
     for letter in COLOURS:
         if any(letter in letters for _, letters in blocks):
-            parts.append(cell(10, y, letter, "legend", False))
-            parts.append(text(30, y + CELL - 4, COLOURS[letter][1]))
+            parts += [f'<rect x="9" y="{y - 1}" width="{CELL}" height="{CELL}" fill="{EDGE}"/>', cells(10, y, letter, 1, "legend")]
+            words.append(text(30, y + CELL - 4, COLOURS[letter][1]))
             y += CELL + 4
     width = max(LABEL + pages * CELL + 10, 9 * len(heading) + 20)
     head = f'<svg xmlns="http://www.w3.org/2000/svg" width="{width}" height="{y + 10}" font-family="sans-serif">'
-    return "\n".join([head, '<rect width="100%" height="100%" fill="#ffffff"/>', *parts, "</svg>"])
+    group = f'<g stroke-width="{CELL - 2}" stroke-dasharray="{CELL - 2} 2">'
+    return "\n".join([head, '<rect width="100%" height="100%" fill="#ffffff"/>', *words, group, *parts, "</g>", *frames, "</svg>"])
 
 
 def main():
+    parser = argparse.ArgumentParser(description=__doc__, formatter_class=argparse.RawDescriptionHelpFormatter)
+    parser.add_argument("-o", metavar="FILE", help="the file of the picture (standard output)")
+    chosen = parser.parse_args()
     heading, blocks, failing = read(sys.stdin)
     if not blocks:
         sys.exit("picture.py: no line of a block; it reads what `pinkdump IMAGE lines` prints")
-    print(drawn(heading, blocks, failing))
+    picture = drawn(heading, blocks, failing)
+    if chosen.o:
+        with open(chosen.o, "w") as file:
+            print(picture, file=file)
+    else:
+        print(picture)
 
 
 if __name__ == "__main__":

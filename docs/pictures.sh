@@ -8,7 +8,7 @@ image=$(mktemp -d)/drive.img
 trap 'rm -rf "$(dirname -- "$image")"' EXIT
 
 picture() { # name
-    "$top/pinkdump" "$image" lines | "$docs/picture.py" >"$docs/$1.svg"
+    "$top/pinkdump" "$image" lines | "$docs/picture.py" -o "$docs/$1.svg"
 }
 
 "$top/pink" "$image" make 512 16 64
