@@ -164,11 +164,11 @@ class Dump(unittest.TestCase):
         self.assertEqual((done.returncode, done.stderr), (0, ""))
         self.assertTrue(done.stdout.startswith("<svg ") and done.stdout.endswith("</svg>\n"))
         self.assertIn(": the newest epoch of the journal</title>", done.stdout)
-        # Each cell is there, as a part of a line: those of all blocks but the free ones that are erased, and one of the legend for each
-        # colour.
-        used = [it["pages"] for it in self.of("block") if it["use"] != "free" or set(it["pages"]) != {"."}]
+        # Each page of blocks 0 to 5 is there, as a part of a line, and one cell for each colour; the rest are 58 blocks in one row.
+        drawn = "".join(it["pages"] for it in self.of("block")[:6])
         cells = sum((int(length) + 2) // 14 for length in re.findall(r'h(\d+)" stroke="#', done.stdout))
-        self.assertEqual(cells, sum(map(len, used)) + len(set("".join(used))))
+        self.assertEqual(cells, len(drawn) + len(set(drawn)))
+        self.assertIn(">6 to 63 erased</text>", done.stdout)
 
     def test_the_picture_of_a_large_drive(self):
         os.remove(self.image)
