@@ -34,7 +34,7 @@ class Connection:
 
     def __init__(self, path):
         self.socket = socket.socket(socket.AF_UNIX)
-        self.socket.settimeout(30)
+        self.socket.settimeout(300)  # a busy machine may be slow
         self.socket.connect(path)
         self.file = self.socket.makefile("rb")
 
@@ -265,7 +265,7 @@ class Pipelines(OnServer):
         self.assertEqual(other.do("PING"), "PONG")
         with open(f"/proc/{self.server.pid}/statm") as it:
             self.assertLess(int(it.read().split()[1]) * 4096, 100 << 20)
-        c.socket.settimeout(30)
+        c.socket.settimeout(300)
         for _ in range(1000):
             self.assertEqual(len(c.reply()), GREATEST)
 
@@ -308,6 +308,25 @@ class Pipelines(OnServer):
         told = dict(it.split(":", 1) for it in clients[0].do("INFO", "stats").decode().split("\r\n") if ":" in it)
         self.assertEqual(int(told["drive_changes"]), 1000)
         self.assertLess(int(told["drive_groups"]), 900)
+
+    def stats(self, c):
+        lines = c.do("INFO", "stats").decode().split("\r\n")
+        return {name: int(value) for name, value in (it.split(":", 1) for it in lines if ":" in it)}
+
+    def test_numbers_of_a_drive_that_runs(self):
+        c = self.connect()
+        before = self.stats(c)
+        for i in range(30):
+            c.do("SET", "n%d" % i, "x" * 400)
+        after = self.stats(c)
+        self.assertEqual(after["drive_changes"] - before["drive_changes"], 30)
+        # Of each value its page, and the page of the journal that its entry is in, with their states.
+        written = after["drive_written_bytes"] - before["drive_written_bytes"]
+        self.assertGreater(written, 30 * 400)
+        self.assertLess(written, 30 * 3 * 512 * 2)
+        self.assertEqual(after["drive_waiting"], 0)
+        self.assertGreater(after["drive_mean_microseconds"], 0)
+        self.assertLess(after["drive_mean_microseconds"], 10**7)
 
 
 class Ends(OnServer):
@@ -374,6 +393,7 @@ class Ends(OnServer):
         status, told = self.trial(second, "--socket", "/tmp/" + "x" * 200)
         self.assertIn("at most 107 bytes", told)
         self.assertEqual(self.trial(second)[0], 2)
+        self.assertEqual(self.trial(second, "--socket", self.path + "2", "--frames", "16385")[0], 2)
         self.assertEqual(self.connect().do("PING"), "PONG")
 
     def test_a_port_of_this_machine(self):

@@ -44,6 +44,8 @@ CLIENT_BYTES = 1 << 20
 CLIENT_REPLIES = 4096
 """The same for replies that are not there yet."""
 RECEIVE_BYTES = 65536
+MOST_FRAMES = 16384
+"""The most page frames that the program takes."""
 CURSORS = 10000
 """Cursors of SCAN that are kept; the oldest go first."""
 LAST_SECONDS = 5.0
@@ -100,8 +102,11 @@ class Link:
         self.changes = 0
         self.flushes = 0
         self.over = False
+        self.received = 0
         self._open_changes = False
         self._data = b""
+        self._waited = 0.0
+        self._seen = time.monotonic()
 
     def send(
         self,
@@ -132,6 +137,25 @@ class Link:
             self.flushes += 1
             self.send(FLUSH, b"", 0, None)
 
+    def pass_time(self) -> None:
+        """Counts the time since the last call for each command that waits."""
+        now = time.monotonic()
+        self._waited += len(self.waiting) * (now - self._seen)
+        self._seen = now
+
+    def mean_microseconds(self) -> int:
+        """The mean time from the sending of a command to its record."""
+        return int(1e6 * self._waited / max(1, self.sent - len(self.waiting)))
+
+    def written_bytes(self) -> Optional[int]:
+        """Bytes that the program wrote to the image; None if the system does not say."""
+        try:
+            with open(f"/proc/{self.process.pid}/io") as file:
+                fields = dict(line.split(": ") for line in file.read().splitlines())
+            return max(0, int(fields["wchar"]) - self.received)
+        except (OSError, KeyError, ValueError):
+            return None
+
     def write(self) -> None:
         """Writes what the pipe takes."""
         try:
@@ -151,6 +175,7 @@ class Link:
         if not data:
             self.over = True
             return
+        self.received += len(data)
         data, at = self._data + data if self._data else data, 0
         while len(data) - at >= RECORD.size:
             result, _, _, marks, _, length = RECORD.unpack_from(data, at)
@@ -351,7 +376,9 @@ class Server:
 
     def _round(self, seconds: Optional[float]) -> None:
         """Waits, reads what came, has its changes committed, and writes what can be written."""
-        for key, events in self.selector.select(seconds):
+        ready = self.selector.select(seconds)
+        self.link.pass_time()
+        for key, events in ready:
             if isinstance(key.data, Client):
                 if events & selectors.EVENT_READ:
                     key.data.receive()
@@ -783,6 +810,7 @@ def info_text(server: Server, numbers: Report, wanted: Set[str]) -> bytes:
     """The sections of INFO, all of them if none is named."""
     link, shape = server.link, server.limits.shape if server.limits else None
     memory = resident_bytes(link.process.pid) + resident_bytes("self")
+    written = link.written_bytes()
     sections: Dict[str, Dict[str, object]] = {
         "Server": {
             "server_name": "pinkctl serve",
@@ -800,6 +828,9 @@ def info_text(server: Server, numbers: Report, wanted: Set[str]) -> bytes:
             "drive_commands": link.sent,
             "drive_changes": link.changes,
             "drive_groups": link.flushes,
+            "drive_waiting": len(link.waiting),
+            "drive_mean_microseconds": link.mean_microseconds(),
+            **({"drive_written_bytes": written} if written is not None else {}),
         },
         "Drive": {
             **(shape._asdict() if shape else {}),
@@ -946,6 +977,13 @@ The commands: GET MGET SET (NX, XX, GET) SETNX DEL UNLINK EXISTS TYPE STRLEN SCA
 ECHO SELECT QUIT HELLO, and of COMMAND, CLIENT and CONFIG what redis-cli and redis-benchmark ask."""
 
 
+def frames_of(text: str) -> int:
+    """A number of page frames."""
+    if not text.isdecimal() or int(text) > MOST_FRAMES:
+        raise argparse.ArgumentTypeError(f"frames are 0 to {MOST_FRAMES}, not {text}")
+    return int(text)
+
+
 def add_parser(subparsers: "argparse._SubParsersAction[argparse.ArgumentParser]") -> None:
     parser = subparsers.add_parser(
         "serve",
@@ -960,7 +998,7 @@ def add_parser(subparsers: "argparse._SubParsersAction[argparse.ArgumentParser]"
     parser.add_argument(
         "--frames",
         metavar="N",
-        type=int,
+        type=frames_of,
         default=520,
         help="page frames for the index (%(default)s; a frame has the bytes of a page)",
     )
