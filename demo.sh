@@ -44,6 +44,11 @@ if [ -x "$top/crates/pink/out/pink" ]; then
     exit
 fi
 
+if ! command -v rt >/dev/null; then
+    echo "demo.sh: there is no program, and running the sources takes the kit of Rattle (rt), which is not in the path;" >&2
+    echo "demo.sh: without it use a program that was built elsewhere (docs/LIVING.md)" >&2
+    exit 1
+fi
 echo "This runs the very sources, unproved and with checks (rt try, about a minute); ./pink proves and builds them."
 
 numbers() { # each number below 65536, as two bytes

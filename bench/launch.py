@@ -104,6 +104,17 @@ def causes(folder, image):
             run('umount', small)
 
 
+def gone(image):
+    """The process that had the image open has ended before its words were read, and a kit that is not there."""
+    shell = f'. "{TOP}/launch/why.sh"; user_of() {{ echo 999999999; }}; flash_fault "{image}" list'
+    check('a process that has gone: no line of the shell', run('sh', '-c', shell) == (0, 'the image is in use by process 999999999\n', ''))
+    with tempfile.TemporaryDirectory() as folder:
+        for name in ('demo.sh', 'build.sh'):
+            shutil.copy(f'{TOP}/{name}', folder)
+            status, _, told = run(f'{folder}/{name}', env={'PATH': '/usr/bin:/bin'})
+            check(f'{name} without the kit', status == 1 and 'the kit of Rattle (rt), which is not in the path' in told and 'not found' not in told)
+
+
 def words(image):
     for given, text in [
         ('make 513 16 64', 'a page has 512, 1024,'), ('make 512 12 64', 'a block has 8, 16,'), ('make 512 32 64', 'fewer than 32 pages'),
@@ -201,6 +212,7 @@ with tempfile.TemporaryDirectory() as folder:
     image = folder + '/drive.img'
     check('make', run(PINK, image, 'make', '512', '16', '64') == (0, '', ''))
     causes(folder, image)
+    gone(image)
     words(image)
     scripts(folder, image)
     signals(image)

@@ -206,7 +206,8 @@ file_fault() { # IMAGE WORD: why it cannot be opened; prints nothing if nothing 
 
 flash_fault() { # IMAGE WORD
     if user=$(user_of "$1"); then
-        words=$(tr '\0' ' ' <"/proc/$user/cmdline" 2>/dev/null | cut -c 1-80 | sed 's/ *$//')
+        # The process may have ended by now, so that its file is not there.
+        words=$({ tr '\0' ' ' <"/proc/$user/cmdline"; } 2>/dev/null | cut -c 1-80 | sed 's/ *$//')
         echo "the image is in use by process $user${words:+ ($words)}"
         return
     fi
