@@ -1,6 +1,6 @@
 #!/bin/sh
-# Proves and builds a program, with the crates that it stands on and no others, and tells on standard error how far it is. Nothing is
-# built twice: what was proved before stays, also where a run was broken off. `./pink` and `./pinkdump` call it on their first use;
+# Proves and builds a program, with the crates that it depends on and no others, and reports its progress on standard error. Nothing is
+# built twice: what was proved before is kept, also if a run was interrupted. `./pink` and `./pinkdump` call it on their first use;
 # after an edit of the sources it is called by hand.
 #
 #   ./build.sh [pink|pinkdump]
@@ -16,7 +16,7 @@ weigh() { # crate
     find "$top/crates/$1/src" "$top/crates/$1/specs" "$top/crates/$1/proofs" -type f -exec cat {} + 2>/dev/null | wc -l
 }
 
-# The crates that a crate stands on, and itself: by the lines of crates.txt, in which each stands behind those it needs.
+# The crates that a crate depends on, and itself: by the lines of crates.txt, in which each crate comes after those it needs.
 needs() { # crate
     awk -v top="$1" '
         /^[a-z]/ { name = $1; sub(/:.*/, "", name); sub(/^[^:]*:/, ""); below[name] = $0; order[++count] = name }
@@ -53,11 +53,11 @@ done >"$weights"
 
 cat >&2 <<END
 $name: proving and building the program, on first use only: $(wc -l <"$weights" | tr -d ' ') crates, about half an hour on four
-$name: processors (there are $jobs here). What is proved stays, so it may be broken off and goes on from there.
+$name: processors (there are $jobs here). What is proved is kept, so it may be interrupted and goes on from there.
 END
 
-# Each crate is named once it is proved, and the time that the lines so far took tells of the rest.
-tell() {
+# Each crate is named once it is proved; the remaining time is estimated from the time that the lines so far took.
+progress() {
     start=$(date +%s)
     total=$(awk '{ sum += $2 } END { print sum }' "$weights")
     count=0
@@ -79,7 +79,7 @@ tell() {
 # its run only leaves it built.
 {
     (cd "$folder" && rt all check --jobs "$jobs" </dev/null) && (cd "$folder" && rt run </dev/null)
-} 2>&1 | tee "$log" | sed -un '/^== summary$/!s/^== //p' | tell
+} 2>&1 | tee "$log" | sed -un '/^== summary$/!s/^== //p' | progress
 
 if [ ! -x "$folder/out/$name" ]; then
     cat "$log" >&2

@@ -1,9 +1,9 @@
 #!/bin/sh
 # Shows a drive at work: makes one, serves a script of three commands, and reads the value again in a second session.
 #
-# Where the proved program stands it is run, by a pipe. Where it does not, the very sources are run unproved: `rt try` compiles them
-# with checks (which takes about a minute) and runs one case a word. There is no pipe between cases, so each is handed what the
-# one before it has to write, and what that wrote is compared with it, byte for byte.
+# If the proved program is built it is run, by a pipe. Otherwise the same sources are run unproved: `rt try` compiles them with checks
+# (which takes about a minute) and runs one case for each word. There is no pipe between cases, so each case gets what the one before
+# it has to write, and what that one wrote is compared with it, byte for byte.
 set -eu
 
 top=$(CDPATH='' cd -- "$(dirname -- "$0")" && pwd)
@@ -12,7 +12,7 @@ trap 'rm -rf "$folder"' EXIT
 trap 'exit 1' HUP INT TERM
 
 cat >"$folder/script.txt" <<'END'
-# the value 'abc' under the key 'a', in hexadecimal; the value again; a key that is not there
+# the value 'abc' under the key 'a', in hexadecimal; the value again; a key that does not exist
 store 61 616263
 retrieve 61 3
 exist 63
@@ -24,7 +24,7 @@ pipe='./pink drive.img asm < script.txt | ./pink drive.img serve 36 | ./pink dri
 again="echo 'retrieve 61 3' | ./pink drive.img asm | ./pink drive.img serve 36 | ./pink drive.img show"
 
 # Prints what was typed and what came out of it.
-tell() { # the lines of the first session, those of the second
+print_sessions() { # the lines of the first session, those of the second
     printf '\n$ cat script.txt\n'
     cat "$folder/script.txt"
     printf '\n$ %s      # pages of 512 bytes, 16 in a block, 64 blocks\n' "$make"
@@ -40,7 +40,7 @@ if [ -x "$top/crates/pink/out/pink" ]; then
     pink make 512 16 64
     pink asm <"$folder/script.txt" | pink serve 36 | pink show >"$folder/first"
     pink asm <"$folder/later.txt" | pink serve 36 | pink show >"$folder/second"
-    tell "$folder/first" "$folder/second"
+    print_sessions "$folder/first" "$folder/second"
     exit
 fi
 
@@ -49,7 +49,7 @@ if ! command -v rt >/dev/null; then
     echo "demo.sh: without it use a program that was built elsewhere (docs/LIVING.md)" >&2
     exit 1
 fi
-echo "This runs the very sources, unproved and with checks (rt try, about a minute); ./pink proves and builds them."
+echo "This runs the sources unproved, with checks (rt try, about a minute); ./pink proves and builds them."
 
 numbers() { # each number below 65536, as two bytes
     for number; do
@@ -97,11 +97,11 @@ cp "$cases/4-show" "$cases/3-serve.stdout"
 cp "$cases/6-serve" "$cases/5-asm.stdout"
 cp "$cases/7-show" "$cases/6-serve.stdout"
 
-# What has no file to be compared with is printed, behind a line '== NAME'.
+# What has no file to be compared with is printed, after a line '== NAME'.
 if ! (cd "$top/crates/pink" && rt try --cases "$cases") >"$folder/out" 2>"$folder/said"; then
     cat "$folder/out" "$folder/said" >&2
     exit 1
 fi
 sed -n '/^== 4-show$/,/^== /{/^== /!p;}' "$folder/out" >"$folder/first"
 sed -n '/^== 7-show$/,/^== /{/^== /!p;}' "$folder/out" >"$folder/second"
-tell "$folder/first" "$folder/second"
+print_sessions "$folder/first" "$folder/second"

@@ -15,7 +15,7 @@ trap 'rm -f "$faults" "$named"' EXIT
 
 fault() { echo "$*" >>"$faults"; }
 
-# What stands in backticks in a document, an item a line; blocks of code are left out.
+# The text in backticks in a document, an item a line; blocks of code are left out.
 quoted() { # document
     sed '/^```/,/^```/d' "$1" | tr '\n' ' ' | grep -o '`[^`]*`' | tr -d '`'
 }
@@ -26,9 +26,9 @@ has() { # crate, name
         || grep -rqwE "(fn|struct|enum|trait|mod|ensures|requires|ghost) $2|(pub|record|abbrev) $2" "crates/$1/src" "crates/$1/specs" 2>/dev/null
 }
 
-# Whether a path leads where it says: behind a name with a small letter, a module that others see, the next name stands in the file of
-# that module; behind one with a capital letter, a type or a trait, it stands in a file that speaks of that type; what stands behind the
-# crate alone is a public module, or public at its top.
+# Whether a path exists: after a name with a small letter, a public module, the next name is in the file of that module; after one with
+# a capital letter, a type or a trait, it is in a file that names that type; what follows the crate directly is a public module, or
+# public at its top.
 leads() { # crate, rest of the path
     part=${2%%::*}
     rest=${2#"$part"}
@@ -58,7 +58,7 @@ docs/lemmas.sh --check >/dev/null || fault "docs/PROOFS.md: the index is not wha
 docs/definitions.py --check 2>>"$faults"
 docs/crates.py --check 2>>"$faults"
 
-[ "$(wc -l <README.md)" -le 125 ] || fault "README.md: more than 125 lines"
+[ "$(wc -l <README.md)" -le 100 ] || fault "README.md: more than 100 lines"
 LC_ALL=C.UTF-8 awk '{ gsub(/[\200-\277]/, "") } length($0) > 100 { print "README.md:" FNR ": wider than 100 columns" }' README.md >>"$faults"
 
 for document in README.md docs/*.md clients/python/README.md; do
@@ -80,7 +80,7 @@ for document in README.md docs/*.md clients/python/README.md; do
     done
 done
 
-# In GUARANTEES each line of a clause names a function, and behind it clauses and fields; each line of refused bodies names edits.
+# In GUARANTEES each line of a clause names a function, and after it clauses and fields; each line of refused bodies names edits.
 awk '
     /^- \*/ { kind = $2 }
     /^$/ { kind = "" }
@@ -127,7 +127,7 @@ for edit in crates/*/must-fail/*.edit; do
     grep -qx "$crate $name" "$named" || fault "$crate: neither docs/WRONG-BODIES.md nor docs/GUARANTEES.md names its wrong body $name"
 done
 
-# The crates above one, by crates.txt, in which each stands behind those it needs.
+# The crates above one, by crates.txt, in which each crate comes after those it needs.
 above() { # crate
     awk -v top="$1" '
         /^[a-z]/ {
@@ -138,11 +138,11 @@ above() { # crate
 }
 
 # In WORKING a line of a crate begins with the count of the crates above it, and names all of them or none.
-sed -n 's/^| \(pk_[a-z_]*\) | \([0-9]*\)\(.*\) |$/\1 \2 \3/p' docs/WORKING.md | while read -r crate count told; do
+sed -n 's/^| \(pk_[a-z_]*\) | \([0-9]*\)\(.*\) |$/\1 \2 \3/p' docs/WORKING.md | while read -r crate count named_crates; do
     all=$(above "$crate" | sort)
     [ "$(echo "$all" | grep -c .)" -eq "$count" ] || fault "docs/WORKING.md: $crate has $(echo "$all" | grep -c .) crates above it"
-    case $told in
-        ": "*,*) [ "$(echo "${told#: }" | tr -d ' ' | tr , '\n' | sort)" = "$all" ] || fault "docs/WORKING.md: not the crates above $crate" ;;
+    case $named_crates in
+        ": "*,*) [ "$(echo "${named_crates#: }" | tr -d ' ' | tr , '\n' | sort)" = "$all" ] || fault "docs/WORKING.md: not the crates above $crate" ;;
     esac
 done
 

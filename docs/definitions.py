@@ -41,7 +41,7 @@ class Item:
 
 @dataclass
 class Imports:
-    """What names mean in a file: single names, and names that stand for a whole file."""
+    """What names mean in a file: single names, and names that mean a whole file."""
 
     single: dict[str, Name] = field(default_factory=dict)
     whole: dict[str, str] = field(default_factory=dict)

@@ -1,8 +1,9 @@
 #!/bin/sh
-# Writes the index of lemma files behind docs/PROOFS.md: each file of crates/*/proofs with its first line.
+# Prints the index of lemma files for docs/PROOFS.md: each file of crates/*/proofs with its first line.
 #
 #   docs/lemmas.sh            prints the index
-#   docs/lemmas.sh --check    fails where docs/PROOFS.md has another one
+#   docs/lemmas.sh --write    writes it into docs/PROOFS.md
+#   docs/lemmas.sh --check    fails if docs/PROOFS.md has another one
 set -eu
 
 top=$(CDPATH='' cd -- "$(dirname -- "$0")/.." && pwd)
@@ -20,6 +21,12 @@ index() {
     done
 }
 
+if [ "${1:-}" = --write ]; then
+    head=$(sed '/^<!-- index -->$/q' "$top/docs/PROOFS.md")
+    { printf '%s\n' "$head"; index; } >"$top/docs/PROOFS.md.new"
+    mv "$top/docs/PROOFS.md.new" "$top/docs/PROOFS.md"
+    exit
+fi
 if [ "${1:-}" = --check ]; then
     kept=$(mktemp)
     trap 'rm -f "$kept"' EXIT

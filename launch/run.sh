@@ -28,8 +28,8 @@ launch() { # NAME WORDS..
     fi
     [ -z "${PINK_EXEC:-}" ] || exec "$program" "$@"
 
-    # The program runs beside the shell, which waits for it and hands signals on, as TERM: a shell has a process in the background
-    # ignore INT and QUIT. If the shell is killed, the program is killed with it, where the system has setpriv.
+    # The program runs in the background of the shell, which waits for it and passes signals on, as TERM: a shell has a process in the
+    # background ignore INT and QUIT. If the shell is killed, the program is killed with it, if the system has setpriv.
     caught=
     child=
     for signal in HUP INT QUIT TERM; do
@@ -58,7 +58,7 @@ launch() { # NAME WORDS..
 
     # A launcher that a signal ended ends by it, as its caller expects.
     [ -z "$caught" ] || [ "$status" -le 128 ] || kill -s "$caught" $$
-    # A reader that has left, as of `pink .. | head`, wants no line.
+    # If the reader has left, as in `pink .. | head`, there is no line.
     if [ "$status" -eq 5 ] && { [ -p /dev/fd/1 ] || [ -S /dev/fd/1 ]; }; then exit 5; fi
     if [ "$status" -ne 0 ]; then
         # shellcheck source=launch/why.sh

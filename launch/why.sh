@@ -143,7 +143,7 @@ input_cut() { # WORD
 
 bad_line() { # the first line of the input that is outside the grammar
     if [ ! -f /dev/fd/0 ]; then
-        echo "a line of the script is outside the grammar; of a file, as in asm < script.txt, the line is told"
+        echo "a line of the script is outside the grammar; if it is a file, as in asm < script.txt, its number is printed"
         return
     fi
     LC_ALL=C awk -F '[ ]' '

@@ -86,15 +86,15 @@ GREATEST_VALUE = 64 * 16384
 LIST_BYTES = (512, 4096, 65536)
 """The buffers of the first Lists of an iteration, in bytes; the last is that of all others."""
 OUT_BYTES = 65536
-"""So many bytes of entries are gathered before they are written."""
+"""Bytes of entries that are gathered before they are written."""
 READ_BYTES = 262144
-"""So many bytes of records are read at once."""
+"""Bytes of records that are read at once."""
 AHEAD = 64
-"""So many values, at most, are asked for ahead of an iteration,"""
+"""The most values that are requested ahead of an iteration,"""
 AHEAD_BYTES = 1 << 20
-"""and about so many bytes of them."""
+"""and about how many bytes of them."""
 REFUSALS_KEPT = 1000
-"""So many refusals that nobody waited for are kept; more are counted."""
+"""Refusals that nobody waited for are kept up to this number; more are counted."""
 
 
 class Opcode(enum.IntEnum):
@@ -143,7 +143,7 @@ class Shape(NamedTuple):
         return 32 + self.block_pages * self.blocks * (self.page_bytes + 1)
 
     def pages_of(self, length: int) -> int:
-        """The pages that a value of so many bytes takes."""
+        """The pages that a value of this length takes."""
         return -(-(32 + length) // self.page_bytes)
 
     def fault(self) -> Optional[str]:
@@ -332,9 +332,9 @@ def refusal_text(status: int, opcode: int, key: bytes, size: int, limits: Option
     if status == 0x87:
         return f"there is no key {key!r} (status 87h)"
     if status == 0x88:
-        return f"reading the flash failed for {key!r}; pinkctl check tells the page (status 88h)"
+        return f"reading the flash failed for {key!r}; pinkctl check prints the page (status 88h)"
     if status == 0x89:
-        return f"the key {key!r} is there already (status 89h)"
+        return f"the key {key!r} exists already (status 89h)"
     return f"status {status:02X}h for the key {key!r}"
 
 
@@ -577,7 +577,7 @@ class _Session:
             raise
 
     def _spoil(self, fault: str) -> None:
-        """Sends no more: what went out whole is served, and all else is told as an error."""
+        """Sends no more: what was sent whole is served, and everything else is raised as an error."""
         self._fault = self._fault or fault
         self._out.clear()
         try:
@@ -677,7 +677,7 @@ class _Session:
         return error
 
     def close(self) -> None:
-        """Ends the session: all that was sent is on the flash, or an exception tells what is not."""
+        """Ends the session: all that was sent is on the flash, or an exception says what is not."""
         if self.closed or self.pid != os.getpid():
             return
         with self._sending:
@@ -687,7 +687,7 @@ class _Session:
             try:
                 self._write_out()
             except DriveError:
-                pass  # told by the status below
+                pass  # raised by the status below
             finally:
                 if not self._fault:
                     self._input.close()
@@ -764,7 +764,7 @@ class _Values(ValuesView[bytes]):
 
 
 class Drive(MutableMapping[bytes, bytes]):
-    """A session of the drive in an image file, with so many page frames for the index."""
+    """A session of the drive in an image file, with a number of page frames for the index."""
 
     def __init__(
         self,
@@ -860,7 +860,7 @@ class Drive(MutableMapping[bytes, bytes]):
         self.send(Opcode.STORE, key, options=options, value=value).result()
 
     def retrieve(self, key: Bytes, size: int = GREATEST_VALUE) -> bytes:
-        """The front of a value, of at most so many bytes."""
+        """The first bytes of a value, at most `size`."""
         return self.send(Opcode.RETRIEVE, key, size).result().data
 
     def length(self, key: Bytes) -> int:
@@ -868,11 +868,11 @@ class Drive(MutableMapping[bytes, bytes]):
         return self.send(Opcode.RETRIEVE, key, 0).result().result
 
     def delete(self, key: Bytes) -> None:
-        """Takes a key away, and returns when that is on the flash."""
+        """Deletes a key, and returns when that is on the flash."""
         self.send(Opcode.DELETE, key).result()
 
     def exist(self, key: Bytes) -> bool:
-        """Whether a key is there."""
+        """Whether a key exists."""
         try:
             self.send(Opcode.EXIST, key).result()
         except KeyDoesNotExist:
@@ -891,7 +891,7 @@ class Drive(MutableMapping[bytes, bytes]):
         return Report._make(struct.unpack("<16I", self.send(Opcode.REPORT).result().data))
 
     def tick(self, steps: int = 16) -> None:
-        """Lets the drive make so many steps of its work in the background, or fewer."""
+        """Lets the drive make this many steps of its background work, or fewer."""
         self.send(Opcode.TICK, size=steps).result()
 
     def keys_from(self, start: Bytes = b"") -> Iterator[bytes]:

@@ -402,7 +402,7 @@ class Messages(OnImage):
                     call()
                 self.assertIn(text, str(caught.exception))
             d.store(b"k", b"")
-            with self.assertRaisesRegex(pinkdrive.KeyExists, "is there already"):
+            with self.assertRaisesRegex(pinkdrive.KeyExists, "exists already"):
                 d.store(b"k", b"", if_absent=True)
 
     def test_all_refusals_are_told(self):

@@ -4,7 +4,7 @@
     pip wheel -w DIR clients/python                                  # a file for elsewhere, and there
     pip install --no-index --find-links DIR pinkdrive                # by its name
 
-pip calls these functions (PEP 517). The name, the version and the rest stand in pyproject.toml.
+pip calls these functions (PEP 517). The name, the version and the rest are in pyproject.toml.
 """
 
 import base64

@@ -1,4 +1,4 @@
-"""pinkctl: what people need to live with a drive.  pinkctl PART --help  tells of each part."""
+"""pinkctl: what people need to live with a drive.  pinkctl PART --help  explains each part."""
 
 import argparse
 import importlib
@@ -59,9 +59,9 @@ def guarded(args: argparse.Namespace) -> int:
 
 
 def told(error: pinkdrive.DriveError, args: argparse.Namespace) -> str:
-    """What the drive says, and what tells more."""
+    """What the drive says, and where to look for more."""
     if isinstance(error, pinkdrive.DriveEnded) and error.status == Exit.DAMAGED:
-        return f"{error}; pinkctl check {args.image} tells what is wrong"
+        return f"{error}; pinkctl check {args.image} prints what is wrong"
     return str(error)
 
 

@@ -47,7 +47,7 @@ class Verdict:
 def add_parser(subparsers: Any) -> None:
     parser = subparsers.add_parser(
         "check",
-        help="tell whether an image is whole, and what it holds",
+        help="report whether an image is whole, and what it holds",
         description=DESCRIPTION,
         formatter_class=argparse.RawDescriptionHelpFormatter,
     )
@@ -160,7 +160,7 @@ def compare(path: str, verdict: Verdict) -> None:
         verdict.status = Exit.DISAGREES
 
 
-# What is told of the drive.
+# What is printed of the drive.
 
 
 def sizes_of(path: str) -> tuple[int, int]:
@@ -227,7 +227,7 @@ def as_text(path: str, verdict: Verdict, size: int, on_disk: int) -> list[str]:
 
 
 def doubts_told(verdict: Verdict) -> list[Doubt]:
-    """The doubts that the first line does not tell."""
+    """The doubts that are not in the first line."""
     return verdict.doubts[1:] if verdict.name == "doubtful" else verdict.doubts
 
 

@@ -32,7 +32,7 @@ class Word:
         self.quoted = quoted
 
     def bytes(self) -> bytes:
-        """What the word stands for as a key or a value."""
+        """The key or the value that the word means."""
         if self.quoted is not None:
             return self.quoted
         found = HEX.match(self.text)

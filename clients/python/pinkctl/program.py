@@ -23,7 +23,7 @@ def pink() -> str:
 
 
 def open_drive(image: str, frames: int = 148, wait: float = 0) -> pinkdrive.Drive:
-    """A session of the drive in an image; what keeps it from opening is told by its cause.
+    """A session of the drive in an image; what keeps it from opening is raised with its cause.
 
     What the launcher says is not shown: the exception says it.
     """

@@ -1,4 +1,4 @@
-"""A line on standard error that tells how far a long work is, on a terminal or on request."""
+"""A line on standard error that shows the progress of long work, on a terminal or on request."""
 
 import argparse
 import sys

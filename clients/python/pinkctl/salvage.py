@@ -1,4 +1,4 @@
-"""salvage: what reads of a damaged image, into a new one."""
+"""salvage: what can be read of a damaged image, into a new one."""
 
 import argparse
 import collections
@@ -16,12 +16,12 @@ from .rescue import Rescue, Saved, read_all, rescue_image
 from .status import Exit, ToolError
 
 DESCRIPTION = """\
-Copies what reads of a damaged image into a new one. The damaged image is only read.
+Copies what can be read of a damaged image into a new one. The damaged image is only read.
 
 Each value that is copied was stored once under its key, for its head has the key and the length;
 there is no checksum, so a changed byte inside a value is copied. If a part of the index is lost,
 deleted keys and older values may come back: such keys are counted as doubtful, with the reason, and
---list names each. Keys of which an entry is left and no value are counted as lost. Of keys whose
+--list names each. Keys that have an entry but no value any more are counted as lost. Of keys whose
 entry and value are both gone nothing is known, and they are not counted.
 
 The status is 0 if nothing is doubtful or lost, 10 if something is, 8 if nothing reads."""
@@ -29,7 +29,7 @@ The status is 0 if nothing is doubtful or lost, 10 if something is, 8 if nothing
 
 def add_parser(subparsers: Any) -> None:
     parser = subparsers.add_parser(
-        "salvage", help="copy what reads of a damaged image", description=DESCRIPTION, formatter_class=argparse.RawDescriptionHelpFormatter
+        "salvage", help="copy what can be read of a damaged image", description=DESCRIPTION, formatter_class=argparse.RawDescriptionHelpFormatter
     )
     parser.add_argument("image", metavar="IMAGE")
     parser.add_argument("new", metavar="NEW", help="the image to make; it must not exist")
@@ -43,7 +43,7 @@ def add_parser(subparsers: Any) -> None:
 
 
 def read_image(path: str, wait: float) -> Rescue:
-    """All that reads of an image."""
+    """All that can be read of an image."""
     with locked(path, wait) as file:
         data = read_all(file.fileno())
     rescue = rescue_image(data)

@@ -210,7 +210,7 @@ class Link:
 
 
 def open_link(program: str, image: str, frames: int, seconds: float) -> Tuple[Link, Report]:
-    """Opens the drive; waits for so many seconds while another process has the image open."""
+    """Opens the drive; waits up to this many seconds while another process has the image open."""
     last = time.monotonic() + seconds
     while True:
         link = Link(program, image, frames)
@@ -395,7 +395,7 @@ class Server:
             self.to_write.pop().write()
 
     def _resume(self) -> None:
-        """Goes on with the connections that were held, where there is room again."""
+        """Goes on with the connections that were held, if there is room again."""
         if self.is_full():
             return
         held, self.held = self.held, set()
@@ -479,7 +479,7 @@ class Server:
         return Exit.PROGRAM if self.link.end() else Exit.OK
 
     def _last_replies(self) -> int:
-        """The program ended by itself: what it answered was told, and the rest is an error."""
+        """The program ended by itself: what it answered was sent on, and the rest is an error."""
         self.selector.unregister(self.link.output)
         status = self.link.end()
         cause = pinkdrive.ended(status, self.link.image)

@@ -175,7 +175,7 @@ COMMANDS: dict[str, Command] = {
     "set": Command("KEY VALUE | KEY < FILE", "stores a value", set_, 2, 3),
     "add": Command("KEY VALUE", "stores a value unless the key exists", add, 2, 2),
     "del": Command("KEY ..", "deletes keys", delete, 1, 1000),
-    "has": Command("KEY", "tells whether a key exists", has, 1, 1),
+    "has": Command("KEY", "prints whether a key exists", has, 1, 1),
     "length": Command("KEY", "prints the length of a value", length, 1, 1),
     "list": Command("[KEY [COUNT]]", "prints the keys in order, from KEY on", list_, 0, 2),
     "scan": Command("[PREFIX [COUNT]]", "prints keys that begin with PREFIX, and their values", scan, 0, 2),
