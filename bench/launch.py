@@ -6,6 +6,7 @@ the gate. It ends with a count, and with 1 if a check failed.
 """
 
 import os
+import re
 import shutil
 import signal
 import subprocess
@@ -194,6 +195,29 @@ def links(folder, image):
         check('--help ends with 2', run(launcher, '--help')[0] == 2)
 
 
+def examples(folder):
+    """The examples of COMMANDS print what it says, also when they are typed again."""
+    with open(TOP + '/docs/COMMANDS.md') as it:
+        blocks = re.findall(r'^```sh\n(\$ rm -f .*?)^```$', it.read(), re.S | re.M)
+    check('examples in COMMANDS', len(blocks) >= 2)
+    os.makedirs(folder + '/typed')
+    os.symlink(PINK, folder + '/typed/pink')
+    for turn in ('first', 'second'):
+        for block in blocks:
+            typed, wanted, is_text = [], [], False
+            for line in block.splitlines():
+                if line.startswith('$ '):
+                    typed.append(line[2:])
+                    is_text = '<<END' in line
+                elif is_text:
+                    typed.append(line)
+                    is_text = line != 'END'
+                else:
+                    wanted.append(line)
+            status, printed, told = run('sh', '-c', '\n'.join(typed), cwd=folder + '/typed')
+            check(f'the examples of COMMANDS, typed the {turn} time', (status, printed.splitlines(), told) == (0, wanted, ''))
+
+
 def installed(folder, image):
     root = folder + '/root'
     status, _, told = run('make', '-C', TOP, 'install', f'DESTDIR={root}', 'PREFIX=/usr')
@@ -218,6 +242,7 @@ with tempfile.TemporaryDirectory() as folder:
     signals(image)
     pipes(image)
     links(folder, image)
+    examples(folder)
     installed(folder, image)
 print(f'launch.py: {checks - len(faults)} of {checks} checks passed')
 sys.exit(bool(faults))
