@@ -2,8 +2,9 @@
 # Loses the power of a host. The program is started with a library that keeps back what is written to the image, as a system does,
 # until a sync brings it there; at a random call it ends the process, and of what was kept back some sectors of 512 bytes reach the
 # file and the others are lost. With PINK_SYNC=1 whatever map the image then holds has every command of which a record came out, and
-# no part of a command; without it such a loss is found, or the test shows nothing. Then each call of a session fails in turn, the
-# image is cut short while a session runs, and it is told what PINK_SYNC=1 costs. It proves nothing and is no part of the gate. A C
+# no part of a command; without it such a loss is found, or the test shows nothing. Of a page the program writes no zeros that the file
+# has: sessions are served again with a library that writes each page whole, and leave the same image. Then each call of a session fails
+# in turn, the image is cut short while a session runs, and it is told what PINK_SYNC=1 costs. It proves nothing and is no part of the gate. A C
 # compiler makes the library.
 #
 #   bench/durable.sh [TIMES]        so many sessions with PINK_SYNC=1, 500 where no number is named
@@ -37,6 +38,8 @@ static int image = -1;      /* the descriptor of the image */
 static int is_new;          /* its name is not on the disk */
 static off_t size_kept;     /* its length on the disk */
 static long calls, lost_at, fail_at;
+static long whole;          /* where the pages of the image begin, if each is to be written whole */
+static long padded;         /* zeros that were written for it */
 static const char *path;
 
 static ssize_t (*real_take)(int, void *, size_t);
@@ -62,6 +65,7 @@ static void start(void) {
     path = getenv("DISK_IMAGE");
     lost_at = number("DISK_LOST_AT");
     fail_at = number("DISK_FAIL_AT");
+    whole = number("DISK_WHOLE");
     srandom((unsigned)number("DISK_SEED"));
 }
 
@@ -104,7 +108,7 @@ __attribute__((destructor)) static void last(void) {
     start();
     const char *name = getenv("DISK_CALLS");
     FILE *to = name ? fopen(name, "w") : NULL;
-    if (to) { fprintf(to, "%ld\n", calls); fclose(to); }
+    if (to) { fprintf(to, "%ld %ld\n", calls, padded); fclose(to); }
     if (getenv("DISK_ALL")) release(0); else lose();
     image = -1;
 }
@@ -132,10 +136,13 @@ ssize_t pwrite(int fd, const void *bytes, size_t len, off_t at) {
     if (fd != image) return real_write(fd, bytes, len, at);
     if (fails()) { errno = EIO; return -1; }
     if (count == room) kept = realloc(kept, (room = 2 * room + 64) * sizeof *kept);
+    size_t all = whole && at >= whole ? SECTOR : len;   /* a page of these drives has as many bytes as a sector */
+    if (all < len) abort();
     kept[count].at = at;
-    kept[count].len = len;
-    kept[count].bytes = malloc(len);
+    kept[count].len = all;
+    kept[count].bytes = calloc(1, all);
     memcpy(kept[count++].bytes, bytes, len);
+    padded += (long)(all - len);
     return (ssize_t)len;
 }
 
@@ -233,9 +240,9 @@ def run(words, text=b'', sync=None, seconds=120, **disk):       # the status, an
     with open(records, 'rb') as out:
         return status, out.read()
 
-def called():
+def called(which=0):                                    # calls on the image, or the zeros that were added
     with open(calls) as file:
-        return int(file.read())
+        return int(file.read().split()[which])
 
 class Drive:
     def __init__(self, words, keys, longest):
@@ -303,6 +310,24 @@ for drive in [small, worked]:
             sys.exit(f'durable: PINK_SYNC=1, session {number}: a command that was answered is lost ({answered} were)')
         told, cut = told + answered, cut + was_cut
 print(f'PINK_SYNC=1: {times} sessions, {cut} of them cut off, {told} commands answered: none lost')
+
+same, saved = 0, 0
+for drive, first in (small, 32 + 264), (worked, 32 + 1024):
+    put(drive.made)
+    for number in range(30):
+        before, text = content(), b''.join(bytes for bytes, _ in drive.commands(200))
+        one = run(['serve', '36'], text)
+        found = content()
+        put(before)
+        other = run(['serve', '36'], text, all=1, whole=first)
+        if one[0] != 0 or other != one or content() != found:
+            sys.exit(f'durable: session {number}: with each page written whole the image or the records are others')
+        same, saved = same + 1, saved + called(1)
+        if number % 3 == 2:                             # the next session finds what a kill leaves
+            run(['serve', '36'], b''.join(bytes for bytes, _ in drive.commands(200)), lost_at=random.randrange(1, 200), seed=number, all=1)
+if not saved:
+    sys.exit('durable: no page was written in part, so this test shows nothing')
+print(f'bytes that the file has: {same} sessions leave the image that they leave if each page is written whole, which takes {saved:,} bytes more')
 
 losses = 0
 for number in range(60):
@@ -389,5 +414,5 @@ for name, behind, number in [('Stores of 1,000 bytes', b'', 3000), ('Stores of 1
             sys.exit('durable: the Stores failed')
         rates.append(count / (time.monotonic() - began))
     print(f'  {name}: {rates[0]:,.0f} with PINK_SYNC=0, {rates[1]:,.0f} with PINK_SYNC=1')
-print(f'durable: {times} sessions without a loss, {losses} of 60 with one without PINK_SYNC, all as wanted')
+print(f'durable: {times} sessions without a loss, {losses} of 60 with one without PINK_SYNC, {same} with the same bytes, all as wanted')
 PY
