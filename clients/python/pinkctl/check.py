@@ -93,7 +93,7 @@ def check_open(file: BinaryIO) -> Verdict:
 def judge(image: Image, flash: Flash) -> Verdict:
     """The verdict about an image that was read."""
     doubts = doubts_of(image, flash)
-    found = {"image": image, "flash": flash, "doubts": doubts}
+    found: dict[str, Any] = {"image": image, "flash": flash, "doubts": doubts}
     if flash.root is None:
         return judge_without_root(image, found)
     if flash.fault:

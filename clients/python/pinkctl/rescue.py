@@ -372,7 +372,8 @@ def without_index(rescue: Rescue, keys: Sequence[bytes], index: Index) -> None:
     former = former_entries(image, layout).candidates
     unnamed = [key for key in values if key not in index.candidates] if index.damaged else []
     for key in sorted({*keys, *unnamed}):
-        places = [c.place for c in former.get(key, ()) if c.place in values.get(key, ())] or values.get(key, [])
+        agreed: Sequence[Optional[Place]] = values.get(key, ())
+        places = [c.place for c in former.get(key, ()) if c.place in agreed] or agreed
         if places and places[0] is not None:
             rescue.saved.append(Saved(key, places[0], NO_INDEX))
         elif key in keys:
