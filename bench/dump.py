@@ -1,5 +1,5 @@
 #!/usr/bin/env python3
-"""Tests of pinkdump against the real programs, beside the gate:  python3 bench/dump.py
+"""Tests of pinkdump against the real programs, outside of the gate:  python3 bench/dump.py
 
 What it prints of a drive that is made, in use, and cut is compared with what was stored; an image
 that is none is refused with its first wrong byte; and no dump changes a byte of an image.

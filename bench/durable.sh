@@ -1,13 +1,12 @@
 #!/bin/sh
-# Loses the power of a host. The program is started with a library that keeps back what is written to the image, as a system does,
-# until a sync brings it there; at a random call it ends the process, and of what was kept back some sectors of 512 bytes reach the
-# file and the others are lost. With PINK_SYNC=1 whatever map the image then holds has every command of which a record came out, and
-# no part of a command; without it such a loss is found, or the test shows nothing. Of a page the program writes no zeros that the file
-# has: sessions are served again with a library that writes each page whole, and leave the same image. Then each call of a session fails
-# in turn, the image is cut short while a session runs, and it is told what PINK_SYNC=1 costs. It proves nothing and is no part of the gate. A C
-# compiler makes the library.
+# Simulates a host that loses power. The program is started with a library that holds back what is written to the image, as a system
+# does, until a sync writes it; at a random call it ends the process, and of what was held back some sectors of 512 bytes reach the file
+# and the others are lost. With PINK_SYNC=1 the map that the image then holds has every command whose record was written, and no part of
+# a command; without it such a loss is found, or the test shows nothing. The program writes no zeros of a page that the file has: the
+# same sessions with a library that writes each page whole leave the same image. Then each call of a session fails in turn, the image is
+# cut short while a session runs, and the cost of PINK_SYNC=1 is printed. It is not part of the gate. A C compiler makes the library.
 #
-#   bench/durable.sh [TIMES]        so many sessions with PINK_SYNC=1, 500 where no number is named
+#   bench/durable.sh [TIMES]        TIMES sessions with PINK_SYNC=1, 500 by default
 set -eu
 
 top=$(CDPATH='' cd -- "$(dirname -- "$0")/.." && pwd)
@@ -281,7 +280,7 @@ class Drive:
             at += RECORD + size
         return found
 
-def maps_of(start, made):                               # behind so many commands
+def maps_of(start, made):                               # after each number of commands
     maps = [start]
     for _, makes in made:
         maps.append(makes(maps[-1]))

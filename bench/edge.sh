@@ -1,6 +1,6 @@
 #!/bin/sh
-# Runs the program with standard streams that are closed, full, slow or shared, and with two processes on one image, and looks at
-# what becomes of the image, the records and the status. It proves nothing and is no part of the gate.
+# Runs the program with standard streams that are closed, full, slow or shared, and with two processes on one image, and checks the
+# image, the records and the status afterwards. It is not part of the gate.
 #
 #   bench/edge.sh
 set -eu
@@ -34,7 +34,7 @@ commands = [entry(STORE, i, key, len(value)) + value for i, (key, value) in enum
 with open(script, 'wb') as file:
     file.write(b''.join(commands))
 asks = [entry(RETRIEVE, i, key, 2016) for i, key in enumerate(keys)]
-maps = [{}]                                     # behind so many Stores
+maps = [{}]                                     # after each number of Stores
 for key, value in stores:
     maps.append({**maps[-1], key: value})
 
@@ -72,7 +72,7 @@ print('closed streams')
 for streams in ['>&-', '>&- 2>&-']:
     fresh()
     status, _ = shell(f'serve 36 <"{script}" {streams}')
-    expect(f'serve < script {streams}: status 5, the image holds a front of the script', status == 5 and held() in maps)
+    expect(f'serve < script {streams}: status 5, the image holds a prefix of the script', status == 5 and held() in maps)
 for streams in ['<&-', '<&- 2>&-']:
     fresh()
     status, _ = shell(f'serve 36 {streams}')
@@ -88,7 +88,7 @@ for streams in ['>&-', '<&- >&- 2>&-']:
 print('an output that fails')
 fresh()
 status, _ = shell(f'serve 36 <"{script}" >/dev/full')
-expect('serve < script > /dev/full: status 5, the image holds a front of the script', status == 5 and held() in maps)
+expect('serve < script > /dev/full: status 5, the image holds a prefix of the script', status == 5 and held() in maps)
 fresh()
 serve = subprocess.Popen([program, image, 'serve', '36'], stdin=subprocess.PIPE, stdout=subprocess.PIPE)
 serve.stdin.write(asks[0])
@@ -109,7 +109,7 @@ run = subprocess.run(['sh', '-c', f'(cat "{script}"; head -c 40 "{script}") | "{
 expect('an input that ends inside an entry: status 3, a record of each command before it', run.returncode == 3 and len(run.stdout) == len(commands) * RECORD and held() == maps[-1])
 fresh()
 run = subprocess.run(['sh', '-c', f'"{launcher}" "{image}" serve 36 <"{script}" 1<"{script}"'], stdout=subprocess.PIPE, stderr=subprocess.PIPE, timeout=60)
-expect('an output that was opened for reading: status 5, the image holds a front of the script', run.returncode == 5 and held() in maps)
+expect('an output that was opened for reading: status 5, the image holds a prefix of the script', run.returncode == 5 and held() in maps)
 for what, path, statuses in [('a folder', folder, (6, 6)), ('in no folder', folder + '/none/drive.img', (8, 6)), ('the null device', '/dev/null', (8, 6))]:
     told = []
     for words in [['serve', '36'], ['make', '512', '16', '64']]:
@@ -195,5 +195,5 @@ for words in [f'serve 36 <"{script}"', 'make 512 16 64']:
 serve.stdin.close()
 serve.stdout.read()
 expect('the first goes on to its end', serve.wait(timeout=60) == 0)
-expect('behind it the image is free, with what the first stored', held() == maps[1])
+expect('after it the image is free, with what the first stored', held() == maps[1])
 PY

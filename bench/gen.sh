@@ -1,9 +1,9 @@
 #!/bin/sh
-# Runs the generated workload on fresh images of shape (4096, 64, 512), twice, by the built program: both runs are to end with 0 and to post
-# the same summary, and the keys and live pages that `stat` tells are to be those of the summary. Where strace is installed, it prints the
-# programs and erases of the second run. It proves nothing and is no part of the gate.
+# Runs the generated workload on fresh images of shape (4096, 64, 512), twice, with the built program: both runs have to end with 0 and to
+# print the same summary, and the keys and live pages that `stat` prints have to be those of the summary. If strace is installed, it
+# prints the programs and erases of the second run. It is not part of the gate.
 #
-#   bench/gen.sh [SEED [COUNT]]     gen 7 100000 where no number is named
+#   bench/gen.sh [SEED [COUNT]]     gen 7 100000 by default
 set -eu
 
 top=$(CDPATH='' cd -- "$(dirname -- "$0")/.." && pwd)

@@ -1,10 +1,10 @@
 #!/bin/sh
-# Kills the program at random moments of a serve, again and again on the same image, and compares what every key holds behind each
-# kill with the commands of which a record had come out: each of them must be there, and no part of a command. The commands are Stores,
+# Kills the program at random moments of a serve, again and again on the same image, and compares the value of every key after each kill
+# with the commands whose record was written: each of them must have been executed, and no part of a command. The commands are Stores,
 # Deletes, Flushes and Ticks on two drives, of which the small one reclaims a block with every few Stores. A session that ends before
-# its kill is a session and no kill; both are counted. It proves nothing and is no part of the gate.
+# its kill is a session and no kill; both are counted. It is not part of the gate.
 #
-#   bench/kill.sh [TIMES]        so many sessions, 300 where no number is named
+#   bench/kill.sh [TIMES]        TIMES sessions, 300 by default
 set -eu
 
 top=$(CDPATH='' cd -- "$(dirname -- "$0")/.." && pwd)
@@ -78,7 +78,7 @@ class Drive:
 
     def trial(self, number):
         made = [self.command() for _ in range(random.randrange(1, 600))]
-        maps = [self.map]                               # behind so many commands
+        maps = [self.map]                               # after each number of commands
         for _, makes, _ in made:
             maps.append(makes(maps[-1]))
         seconds = 60 if self.most is None else random.random() * 1.3 * self.most
@@ -88,7 +88,7 @@ class Drive:
         told = -(-len(records) // RECORD)
         found = self.held()
         if found not in maps[told:]:
-            sys.exit(f'kill {number}: behind {told} of {len(made)} records {self.image} holds another map')
+            sys.exit(f'kill {number}: after {told} of {len(made)} records {self.image} holds another map')
         kept = len(maps) - 1 - maps[::-1].index(found)
         self.map = found
         self.commands += kept
@@ -103,5 +103,5 @@ for number in range(times):
 for drive in drives:
     print(f'{drive.image.split("/")[-1]}: {drive.kills} kills, {drive.inside} of them between the first and the last command; {drive.commands} '
           f'commands were kept, and their values took {drive.stored} pages, on a drive that has {drive.pages} for values')
-print(f'{times} sessions: behind each the image held every command whose record had come out')
+print(f'{times} sessions: after each the image held every command whose record was written')
 PY

@@ -1,14 +1,14 @@
 #!/bin/sh
 # Runs trials of whole sessions that take longer than the gate gives a test, and prints how many cuts each made and how long it took:
-# the first reclaim of a full drive of 64 blocks, cut off at every mark, and so the session behind each cut; and on the three smallest
-# shapes three sessions one behind the other, the first of which begins with a freeze, with merges into each of the four levels and a
-# freeze, or with a reclaim and a freeze inside it. Each mark is interrupted in three ways, an erase in four; of the marks of the later
-# sessions one of every EVERY is cut, where the next cut goes on. It is no part of the gate.
+# the first reclaim of a full drive of 64 blocks, cut at every mark, and so the session after each cut; and on the three smallest shapes
+# three consecutive sessions, the first of which begins with a freeze, with merges into each of the four levels and a freeze, or with a
+# reclaim and a freeze inside it. Each mark is interrupted in three ways, an erase in four; of the marks of the later sessions one of
+# every EVERY is cut, and the next cut goes on from there. It is not part of the gate.
 #
 # It works on a copy of the sources, in which these are the tests of a crate. They are proved, over the libraries in out/, which ./pink and
 # `rt check` leave (what is missing there is proved first), and run as they are built, at full speed.
 #
-#   bench/long.sh [EVERY [WORD]]     all cuts where EVERY is 1, which is what it is without a number; with a WORD only trials that have it
+#   bench/long.sh [EVERY [WORD]]     all cuts if EVERY is 1, the default; with a WORD only trials whose name has it
 set -eu
 
 every=${1:-1}
@@ -38,7 +38,7 @@ for crate in "$top"/crates/*/; do
 done
 tests=$folder/crates/pk_hardship_tests
 rm "$tests"/src/*
-# the trial of a reclaim stands in pk_trials, whose other dependencies it does not need
+# the trial of a reclaim is in pk_trials, whose other dependencies it does not need
 cp "$top/crates/pk_trials/src/reclaims.rt" "$top/crates/pk_trials/src/steps.rt" "$tests/src/"
 sed -i 's/^pk_hardship_tests: /&pk_nand pk_nvme /' "$folder/crates.txt"
 cat > "$tests/src/lib.rt" <<'RT'
@@ -79,7 +79,7 @@ use std::test::*;
 #[test]
 fn first_on_full(rt: HostRuntime) -> Result<(), Fail> {
     let cuts = first_on_full_twice(&rt, rt.alloc(), EVERY);
-    println!(rt; "first_on_full: {} cuts, and {} behind them", cuts.first, cuts.second)?;
+    println!(rt; "first_on_full: {} cuts, and {} after them", cuts.first, cuts.second)?;
     Ok(())
 }
 RT

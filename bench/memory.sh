@@ -1,7 +1,7 @@
 #!/bin/sh
-# Refuses each allocation of a run in turn, by a library that the program is started with and that answers malloc and its kind with
-# nothing once: whatever is refused, the run ends with status 7, with nothing taken, posted or written, or as it ends without it. It
-# proves nothing and is no part of the gate. A C compiler makes the library.
+# Refuses each allocation of a run in turn, by a library that the program is started with and whose malloc fails once: whatever is
+# refused, the run ends with status 7, with nothing taken, posted or written, or as it ends without the refusal. It is not part of the
+# gate. A C compiler makes the library.
 #
 #   bench/memory.sh
 set -eu
@@ -102,30 +102,30 @@ def held():                                         # the values that a run with
         at += RECORD + size
     return found
 
-def behind(count):                                  # those behind so many of the Stores
+def after(count):                                   # those after this many of the Stores
     return values[:count] + [None] * (len(keys) - count)
 
 with open(folder + '/first.img', 'rb') as file:
     made = file.read()
 put(made)
-if run(['serve', '36'], stores)[0] != 0 or held() != behind(8):
+if run(['serve', '36'], stores)[0] != 0 or held() != after(8):
     sys.exit('memory: the Stores failed')
 full = content()
 
 print('each allocation of a run refused in turn')
 for words, text, before, maps in [
-    (['serve', '36'], asks, full, [behind(8)]),
-    (['serve', '36'], stores, made, [behind(i) for i in range(9)]),
-    (['serve', '236'], asks, full, [behind(8)]),
-    (['get', '6b657930'], b'', full, [behind(8)]),
-    (['put', '6b657938', '6162'], b'', full, [behind(8), values + [b'ab']]),
-    (['list'], b'', full, [behind(8)]),
-    (['stat'], b'', full, [behind(8)]),
+    (['serve', '36'], asks, full, [after(8)]),
+    (['serve', '36'], stores, made, [after(i) for i in range(9)]),
+    (['serve', '236'], asks, full, [after(8)]),
+    (['get', '6b657930'], b'', full, [after(8)]),
+    (['put', '6b657938', '6162'], b'', full, [after(8), values + [b'ab']]),
+    (['list'], b'', full, [after(8)]),
+    (['stat'], b'', full, [after(8)]),
 ]:
     put(before)
     wanted = run(words, text)
     ends, refused, served = {}, 0, 0
-    while served < 60:                              # so many in a row, behind the last allocation
+    while served < 60:                              # this many consecutive ones, after the last allocation
         refused += 1
         put(before)
         status, told = run(words, text, refused)

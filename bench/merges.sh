@@ -1,9 +1,9 @@
 #!/bin/sh
 # Measures freezes and merges: Stores of distinct keys, of one page each, on an image of shape (4096, 64, 512), until all four levels
-# have merged; then a Retrieve of each key with 36 frames and with none. It prints Stores per second, calls of the flash per Store, and
-# the mean and the greatest number of pages that a Retrieve read. It proves nothing and is no part of the gate.
+# have merged; then a Retrieve of each key with 36 frames and with none. It prints Stores per second, flash operations per Store, and
+# the mean and the greatest number of pages that a Retrieve read. It is not part of the gate.
 #
-#   bench/merges.sh [KEYS]        20,000 keys where no number is named; calls are counted by strace, where that is installed
+#   bench/merges.sh [KEYS]        20,000 keys by default; operations are counted by strace, if that is installed
 set -eu
 
 top=$(CDPATH='' cd -- "$(dirname -- "$0")/.." && pwd)

@@ -1,10 +1,9 @@
 #!/bin/sh
 # Measures reclaims: an image of shape (4096, 64, 512) on which a part of the space that values may have is live, and then overwrites of
 # single keys in an order that is the same each time. It prints programs and erases of the flash per Store, Stores per second, and the
-# longest command in device calls, where each Store is behind the others alone and where background steps are made between them. It
-# proves nothing and is no part of the gate.
+# longest command in flash operations: with one Store after another, and with background steps between them. It is not part of the gate.
 #
-#   bench/reclaims.sh [STORES]      20,000 overwrites where no number is named; calls are counted by strace
+#   bench/reclaims.sh [STORES]      20,000 overwrites by default; operations are counted by strace
 set -eu
 
 top=$(CDPATH='' cd -- "$(dirname -- "$0")/.." && pwd)
@@ -75,7 +74,7 @@ for share in (80, 100):
     shutil.copy(image, full)
     _, opening = serve(b'')
     print('%d %% of %d pages live: %d keys of %d bytes' % (share, limit, keys, SIZE))
-    for name, ticks, flushes in (('one after another', 0, False), ('each behind a Flush', 0, True), ('with 8 background steps before each', 8, True)):
+    for name, ticks, flushes in (('one after another', 0, False), ('each after a Flush', 0, True), ('with 8 background steps before each', 8, True)):
         shutil.copy(full, image)
         chosen = random.Random(7)
         script = []
@@ -92,5 +91,5 @@ for share in (80, 100):
         shutil.copy(full, image)
         serve(b''.join(script), ['strace', '-f', '-o', trace, '-e', 'trace=pwrite64,write'])
         programs, erases, longest = calls_between_posts()
-        print('  %s: programs of a Store %.2f, erases %.3f; %d Stores a second behind opening; between two posts at most %d programs and erases; of a command at most %d reads' % (name, programs / stores, erases / stores, stores / max(seconds - opening, 0.01), longest, reads))
+        print('  %s: programs of a Store %.2f, erases %.3f; %d Stores a second after opening; between two posts at most %d programs and erases; of a command at most %d reads' % (name, programs / stores, erases / stores, stores / max(seconds - opening, 0.01), longest, reads))
 PY

@@ -1,11 +1,11 @@
 #!/bin/sh
 # Tries pinkctl serve with redis-cli and redis-benchmark (Debian's redis-tools), at 1, 10 and 50 clients, and kills it at random
-# moments: the server, the program under it, or both. After each kill the drive opens again, and each client's keys hold what its
-# answered commands made of them, or what further ones of it, in their order, would have. It proves nothing and is no part of the gate.
+# moments: the server, the program that it runs, or both. After each kill the drive opens again, and each client's keys hold what its
+# answered commands made of them, or what its further commands, in their order, would have. It is not part of the gate.
 #
-#   bench/redis.sh [KILLS]       so many kills, 60 if no number is named; ends with a count, and with 1 if a check failed
-#   bench/redis.sh --speed [N]   requests per second beside Redis (Debian's redis-server), medians of three runs, as a table; with
-#                                the Nth part of the requests if N is named, for a trial
+#   bench/redis.sh [KILLS]       KILLS kills, 60 by default; ends with a count, and with 1 if a check failed
+#   bench/redis.sh --speed [N]   requests per second next to Redis (Debian's redis-server), medians of three runs, as a table; with
+#                                the Nth part of the requests if N is given, for a trial
 set -eu
 
 top=$(CDPATH='' cd -- "$(dirname -- "$0")/.." && pwd)

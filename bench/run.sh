@@ -1,11 +1,11 @@
 #!/bin/sh
 # Measures the program on images of the two worked shapes, (512, 16, 64) and (4096, 64, 512), the second of 134 MB: a serve of Stores
 # and 100,000 Retrieves within one epoch of the journal, then on the image that this left a serve without input (load and opening)
-# and one of 100,000 Retrieves, beside a plain read and a copy of the file. Commands per second are those of the whole run, with its
+# and one of 100,000 Retrieves, next to a plain read and a copy of the file. Commands per second are those of the whole run, with its
 # load and opening. An image holds what one epoch takes (a full one needs merges), so a load reads fewer bytes than a copy, which
-# copies every page. It proves nothing and is no part of the gate.
+# copies every page. It is not part of the gate.
 #
-#   bench/run.sh [FOLDER]        FOLDER holds the files for the time of the run; a temporary one where none is named
+#   bench/run.sh [FOLDER]        FOLDER holds the files while it runs; a temporary one by default
 set -eu
 
 top=$(CDPATH='' cd -- "$(dirname -- "$0")/.." && pwd)
@@ -20,7 +20,7 @@ image=$folder/bench.img
 script=$folder/script
 retrieves=$folder/retrieves
 
-write_scripts() { # so many Stores of so many bytes, then 100,000 Retrieves of these keys; and these Retrieves alone
+write_scripts() { # Stores of values of one length, then 100,000 Retrieves of these keys; and these Retrieves alone
     python3 - "$script" "$retrieves" "$1" "$2" <<'PY'
 import struct, sys
 count, size = int(sys.argv[3]), int(sys.argv[4])
