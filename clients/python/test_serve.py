@@ -349,6 +349,17 @@ class Ends(OnServer):
             self.assertGreaterEqual(len(self.held()), answered + 5)
             self.start()
 
+    def test_signals_again_and_again(self):
+        """Each may come at any moment of the end, also when Python itself ends."""
+        for _ in range(10):
+            self.assertEqual(self.connect().do("SET", "a", "1"), "OK")
+            while self.server.poll() is None:
+                self.server.send_signal(signal.SIGTERM)
+                time.sleep(0.0005)
+            self.assertEqual(self.end(), 0)
+            self.assertFalse(os.path.exists(self.path))
+            self.start()
+
     def test_the_program_is_killed(self):
         c = self.connect()
         c.do("SET", "a", "1")

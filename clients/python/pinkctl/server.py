@@ -48,6 +48,8 @@ MOST_FRAMES = 16384
 """The most page frames that the program takes."""
 CURSORS = 10000
 """Cursors of SCAN that are kept; the oldest go first."""
+SIGNALS = (signal.SIGTERM, signal.SIGINT, signal.SIGHUP)
+"""The signals that end the server."""
 LAST_SECONDS = 5.0
 """How long the end waits for connections that do not take their replies."""
 
@@ -358,15 +360,18 @@ class Server:
 
     # The loop.
 
+    def end_on_signals(self) -> None:
+        """From now on a signal ends the loop."""
+        signal.set_wakeup_fd(self._wake.fileno())
+        for number in SIGNALS:
+            signal.signal(number, self._end_soon)
+
     def run(self) -> int:
         """Serves until a signal ends it, and returns the exit status."""
         self.listener.setblocking(False)
         self.selector.register(self.listener, selectors.EVENT_READ, self._accept)
         self.selector.register(self._wakes, selectors.EVENT_READ, self._woken)
         self.selector.register(self.link.output, selectors.EVENT_READ, self.link.read)
-        signal.set_wakeup_fd(self._wake.fileno())
-        for number in (signal.SIGTERM, signal.SIGINT, signal.SIGHUP):
-            signal.signal(number, self._end_soon)
         while not self.link.over and not self.ending:
             self._round(None)
         status = self._last_replies() if self.link.over else self._finish()
@@ -1025,8 +1030,11 @@ def run(args: argparse.Namespace) -> int:
     server = Server(link, numbers, listener)
     gc.set_threshold(50000)  # replies are freed by their counts; cycles are rare
     try:
+        server.end_on_signals()
         print(f"serving {args.image} at {place}: {numbers.keys} keys", flush=True)
         return server.run()
     finally:
+        for number in SIGNALS:  # the end goes on, and Python's own end keeps what is ignored
+            signal.signal(number, signal.SIG_IGN)
         if args.socket and os.path.exists(args.socket):
             os.unlink(args.socket)
