@@ -61,8 +61,8 @@ fn run_on_pair(rt: &HostRuntime, image: &str, other: &str, words: &[&str]) -> St
     if image == other || image == PAIR || other == PAIR {
         return Status::WORDS;
     }
-    let mut first = FileBoard::new(rt, image);
-    let mut second = FileBoard::new(rt, other);
+    let mut first = board_over(rt, image);
+    let mut second = board_over(rt, other);
     let status = run_pair(rt.alloc(), words, &mut first, &mut second);
     match first.finish() {
         Ok(()) => status,
