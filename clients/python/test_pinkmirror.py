@@ -11,7 +11,15 @@ import unittest
 sys.path.insert(0, os.path.dirname(os.path.abspath(__file__)))
 
 import pinkdrive
-from pinkdrive import CapacityExceeded, Drive, DriveEnded, KeyDoesNotExist, make
+from pinkdrive import (
+    CapacityExceeded,
+    Drive,
+    DriveEnded,
+    ImageInUse,
+    InvalidValueSize,
+    KeyDoesNotExist,
+    make,
+)
 from pinkmirror import LONGEST_VALUE, Mirror
 
 PROGRAM = os.environ.get("PINK_PROGRAM", pinkdrive.PROGRAM)
@@ -70,6 +78,36 @@ class Mapping(OnPair):
         self.assertEqual(self.alone(self.second), {b"same": b"first", b"new": b"1"})
         self.assertEqual(self.alone(self.first), self.alone(self.second))
 
+    def test_a_second_that_was_replaced(self):
+        self.pair[b"a"] = b"one"
+        os.remove(self.second)
+        make(self.second, *self.shape, program=PROGRAM)
+        self.pair[b"b"] = b"two"
+        self.assertEqual(self.alone(self.second), {b"a": b"one", b"b": b"two"})
+
+    def test_what_a_refusal_says(self):
+        with self.assertRaises(InvalidValueSize) as caught:
+            self.pair[b"a"] = bytes(2017)
+        self.assertIn("has 2017 bytes", str(caught.exception))
+        with self.assertRaises(KeyDoesNotExist) as missing:
+            self.pair[b"a"]
+        self.assertIn("there is no key b'a'", str(missing.exception))
+        self.assertEqual(missing.exception.key, b"a")
+        self.assertIsNone(self.pair.get(b"a"))
+        self.assertEqual(self.alone(self.second), {})
+
+    def test_an_image_named_mirror_and_one_image_twice(self):
+        folder = os.getcwd()
+        self.addCleanup(os.chdir, folder)
+        os.chdir(os.path.dirname(self.first))
+        make("mirror", *self.shape, program=PROGRAM)
+        pair = Mirror("mirror", "b.img", program=PROGRAM)
+        pair[b"a"] = b"one"
+        self.assertEqual(self.alone("./mirror"), {b"a": b"one"})
+        with self.assertRaises(DriveEnded) as caught:
+            Mirror("b.img", "b.img", program=PROGRAM).resync()
+        self.assertEqual(caught.exception.status, 2)
+
     def test_a_value_too_long_for_a_word(self):
         with self.assertRaises(ValueError):
             self.pair[b"a"] = bytes(LONGEST_VALUE + 1)
@@ -113,8 +151,28 @@ class Lost(OnPair):
     def test_both_lost(self):
         os.remove(self.first)
         os.remove(self.second)
-        with self.assertRaises(DriveEnded):
+        with self.assertRaises(DriveEnded) as caught:
             self.pair[b"a"]
+        self.assertIn("there is no file", str(caught.exception))
+        self.assertIn(self.first, str(caught.exception))
+
+    def test_a_damaged_image_is_not_written(self):
+        self.pair[b"a"] = b"one"
+        for image, other in ((self.first, self.second), (self.second, self.first)):
+            with open(image, "r+b") as file:
+                whole = file.read()
+                file.seek(0)
+                file.write(bytes(32))
+            with self.assertRaises(DriveEnded) as caught:
+                self.pair[b"b"] = b"two"
+            self.assertEqual(caught.exception.status, 8)
+            self.assertIn(f"{image} is no image of a drive", str(caught.exception))
+            self.assertEqual(self.pair[b"a"], b"one")
+            self.assertEqual(self.pair.fallback, other)
+            with open(image, "r+b") as file:
+                file.write(whole)
+        self.assertEqual(dict(self.pair), {b"a": b"one"})
+        self.assertIsNone(self.pair.fallback)
 
     def test_drives_of_two_shapes(self):
         self.pair[b"a"] = b"one"
@@ -123,15 +181,17 @@ class Lost(OnPair):
         with self.assertRaises(DriveEnded) as caught:
             self.pair[b"b"] = b"two"
         self.assertEqual(caught.exception.status, 8)
+        self.assertIn("different shapes", str(caught.exception))
         self.assertEqual(self.pair[b"a"], b"one")
         self.assertEqual(self.pair.fallback, self.first)
 
     def test_an_image_that_another_process_has_open(self):
         self.pair[b"a"] = b"one"
         with Drive(self.second, program=PROGRAM):
-            with self.assertRaises(DriveEnded) as caught:
+            with self.assertRaises(ImageInUse) as caught:
                 self.pair[b"b"] = b"two"
             self.assertEqual(caught.exception.status, 6)
+            self.assertIn(f"{self.second} is in use by process", str(caught.exception))
             self.assertEqual(self.pair[b"a"], b"one")
             self.assertEqual(self.pair.fallback, self.first)
 
