@@ -1,11 +1,11 @@
-//! Each call of either flash that fails, in each way, followed by a run over both: nothing that was completed is lost, what was cut off
-//! is there whole or not at all, and both drives hold the same.
+//! Each call of either flash that fails, in each way, followed by a run over both: nothing that was completed is lost, the word that was
+//! not completed is done or not done at all, and both drives hold the same.
 
 use crate::pairs::{
-    Board, Images, MAKE_SMALL, images_of, left, made, run_with, said, same_alone, words_of,
+    Change, DELETE, Half, PUT, RESYNC, Ran, different, images_of, mended, mended_to_either,
+    run_failing, run_over,
 };
-use pk_flash::Left;
-use pk_top::run;
+use pk_flash::{Flash, Left};
 use std::alloc::Global;
 use std::process::Abort;
 use std::test::*;
@@ -19,106 +19,96 @@ fn way(number: u8) -> Left {
     }
 }
 
-// Two drives of 33 blocks: the first has two keys, and the second has another value of one of them and a key that the first lacks.
-fn different(rt: &impl Abort, alloc: Global) -> Images {
-    let mut first = made(rt, alloc, &MAKE_SMALL);
-    let mut second = made(rt, alloc, &MAKE_SMALL);
-    for text in ["put 61 616263", "put 62 -"] {
-        assert!(rt; run(alloc, &words_of(rt, alloc, text), &mut first).0 == 0);
-    }
-    for text in ["put 61 00", "put 63 0102"] {
-        assert!(rt; run(alloc, &words_of(rt, alloc, text), &mut second).0 == 0);
-    }
-    let shape = first.shape().expect(rt, "a shape");
-    Images {
-        shape,
-        first: left(rt, alloc, &first),
-        second: left(rt, alloc, &second),
-    }
+// The calls of a board that had no failing one: its reads, and those that left marks.
+fn calls(flash: &Flash) -> u64 {
+    flash.read_count().saturating_add(flash.marks() as u64)
 }
 
-// The next run lists these keys or those, both drives hold the same of each key, and the value of the first key is one of two.
-fn mended(rt: &impl Abort, alloc: Global, images: &Images, keys: [&[u8]; 2]) {
-    let ran = run_with(rt, alloc, images, "list", None);
+// The run that had a failing call does not end as if it had none. What it posted is true of the map that the first drive has, and the next
+// run mends the pair.
+fn check(rt: &impl Abort, alloc: Global, ran: &Ran, change: &Change) {
+    let images = images_of(rt, alloc, &ran.first, &ran.second);
     let text = ran.first.posted();
-    assert!(rt; ran.status == 0 && (text == keys[0] || text == keys[1]));
-    let mended = images_of(rt, alloc, images.shape, &ran);
-    for text in ["list", "get 61", "get 62", "get 63", "get 64"] {
-        same_alone(rt, alloc, &mended, text);
+    if text == b"ok\n".as_slice() {
+        assert!(rt; ran.status == 5);
+        mended(rt, alloc, &images, change.after);
+    } else if ran.status == 5 {
+        assert!(rt; text.is_empty());
+        mended(rt, alloc, &images, change.after);
+    } else {
+        let unread = ran.status == 0 && text == b"refused 88\n".as_slice();
+        assert!(rt; unread || (ran.status == 6 && text.is_empty()));
+        mended_to_either(rt, alloc, &images, change);
     }
-    let _ = said(rt, alloc, &mended, "get 62", b"ok -\n");
 }
 
-// All calls of one side in a run of a word, each failing in each way, and a run over both after it.
-fn each_failing(rt: &impl Abort, alloc: Global, side: Board, text: &str, keys: [&[u8]; 2]) {
+// Whether the call that failed was a read, which leaves the same in each way.
+fn was_read(ran: &Ran, half: Half) -> bool {
+    let flash = ran.of(half);
+    let quiet = flash.program_count() == 0 && flash.erase_count() == 0;
+    ran.status == 0 || (ran.status == 6 && quiet)
+}
+
+// A run of a word in which this call of one half fails, and the run after it.
+fn failing(
+    rt: &impl Abort,
+    alloc: Global,
+    half: Half,
+    change: &Change,
+    call: u64,
+    number: u8,
+) -> Ran {
     let images = different(rt, alloc);
-    for number in 0..3 {
-        for call in 0..4096 {
-            let ran = run_with(rt, alloc, &images, text, Some((side, call, way(number))));
-            let after = images_of(rt, alloc, images.shape, &ran);
-            if ran.status == 0 && ran.first.posted() == b"ok\n" {
-                let _ = said(rt, alloc, &after, "list", keys[1]);
-                let calls = match side {
-                    Board::First => ran.first.read_count() + ran.first.program_count() + 8,
-                    Board::Second => ran.second.read_count() + ran.second.program_count() + 8,
-                };
-                if call > calls {
-                    break;
-                }
-            } else {
-                assert!(rt; ran.status == 6 || ran.status == 0 || ran.status == 5);
-            }
-            mended(rt, alloc, &after, keys);
+    let ran = run_failing(rt, alloc, &images, change.text, half, call, way(number));
+    check(rt, alloc, &ran, change);
+    ran
+}
+
+// Each call of one half in a run of a word fails, in each way.
+fn each_failing(rt: &impl Abort, alloc: Global, half: Half, change: &Change) {
+    let quiet = run_over(rt, alloc, &different(rt, alloc), change.text);
+    assert!(rt; quiet.status == 0 && quiet.first.posted() == b"ok\n".as_slice());
+    for call in 0..calls(quiet.of(half)) {
+        let ran = failing(rt, alloc, half, change, call, 0);
+        if !was_read(&ran, half) {
+            failing(rt, alloc, half, change, call, 1);
+            failing(rt, alloc, half, change, call, 2);
         }
     }
 }
 
-const BEFORE: &[u8] = b"61\n62\n";
-
+/// Each call of the first drive in a Store.
 #[test]
-fn a_put_on_the_first_drive(rt: HostRuntime) -> Result<(), Fail> {
-    each_failing(
-        &rt,
-        rt.alloc(),
-        Board::First,
-        "put 64 0a0b0c",
-        [BEFORE, b"61\n62\n64\n"],
-    );
-    Ok(())
+fn store_with_failing_first(rt: HostRuntime) {
+    each_failing(&rt, rt.alloc(), Half::First, &PUT);
 }
 
+/// Each call of the first drive in a Delete.
 #[test]
-fn a_put_on_the_second_drive(rt: HostRuntime) -> Result<(), Fail> {
-    each_failing(
-        &rt,
-        rt.alloc(),
-        Board::Second,
-        "put 64 0a0b0c",
-        [BEFORE, b"61\n62\n64\n"],
-    );
-    Ok(())
+fn delete_with_failing_first(rt: HostRuntime) {
+    each_failing(&rt, rt.alloc(), Half::First, &DELETE);
 }
 
+/// Each call of the first drive in a resync.
 #[test]
-fn a_delete_on_the_first_drive(rt: HostRuntime) -> Result<(), Fail> {
-    each_failing(&rt, rt.alloc(), Board::First, "del 61", [BEFORE, b"62\n"]);
-    Ok(())
+fn resync_with_failing_first(rt: HostRuntime) {
+    each_failing(&rt, rt.alloc(), Half::First, &RESYNC);
 }
 
+/// Each call of the second drive in a Store.
 #[test]
-fn a_delete_on_the_second_drive(rt: HostRuntime) -> Result<(), Fail> {
-    each_failing(&rt, rt.alloc(), Board::Second, "del 61", [BEFORE, b"62\n"]);
-    Ok(())
+fn store_with_failing_second(rt: HostRuntime) {
+    each_failing(&rt, rt.alloc(), Half::Second, &PUT);
 }
 
+/// Each call of the second drive in a Delete.
 #[test]
-fn a_resync_on_the_first_drive(rt: HostRuntime) -> Result<(), Fail> {
-    each_failing(&rt, rt.alloc(), Board::First, "resync", [BEFORE, BEFORE]);
-    Ok(())
+fn delete_with_failing_second(rt: HostRuntime) {
+    each_failing(&rt, rt.alloc(), Half::Second, &DELETE);
 }
 
+/// Each call of the second drive in a resync.
 #[test]
-fn a_resync_on_the_second_drive(rt: HostRuntime) -> Result<(), Fail> {
-    each_failing(&rt, rt.alloc(), Board::Second, "resync", [BEFORE, BEFORE]);
-    Ok(())
+fn resync_with_failing_second(rt: HostRuntime) {
+    each_failing(&rt, rt.alloc(), Half::Second, &RESYNC);
 }
