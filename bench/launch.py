@@ -118,6 +118,32 @@ def words(image):
     says(['get', 'd.img', '61'], 2, 'the image comes first')
 
 
+def pairs(folder, image):
+    other, small, junk = folder + '/other', folder + '/small.img', folder + '/junk'
+    run(PINK, other, 'make', '512', '16', '64')
+    run(PINK, small, 'make', '512', '8', '33')
+    pair = ['mirror', image, other]
+    check('a pair stores', run(PINK, *pair, 'put', '61', '616263') == (0, 'ok\n', ''))
+    check('a pair finds', run(PINK, *pair, 'get', '61') == (0, 'ok 616263\n', ''))
+    check('the second drive has it', run(PINK, other, 'get', '61')[1] == 'ok 616263\n')
+    check('a pair with each change on the disk', run(PINK, *pair, 'del', '61', env={**os.environ, 'PINK_SYNC': '1'})[:2] == (0, 'ok\n'))
+    for given, text in [
+        (['mirror', image], 'mirror takes two images and a word'), (pair, 'mirror takes two images and a word'),
+        (['mirror', image, 'list'], 'two images come first: pink mirror IMAGE IMAGE list'), (['mirror', image, image, 'list'], 'both images are'),
+        (['mirror', 'mirror', image, 'list'], 'cannot be named mirror'), ([*pair, 'stat'], "there is no word 'stat' for a pair"),
+        ([*pair, 'list', '61'], 'list of a pair takes no more words'), ([*pair, 'get', 'zz'], "the key 'zz'"), ([*pair, 'put', '61'], 'put takes KEY BYTES'),
+    ]:  # fmt: skip
+        says(given, 2, text)
+    says(['mirror', image, folder + '/none', 'list'], 8, 'make 512 16 64 would make one for the other image')
+    says(['mirror', junk, image, 'list'], 8, 'junk (5 bytes) is no image of a drive')
+    says(['mirror', image, small, 'list'], 8, 'the drives have different shapes')
+    says(['mirror', image, folder, 'list'], 6, 'is a folder')
+    launcher, program = serving(other)
+    says([*pair, 'list'], 6, f'{other} is in use by process {program} (')
+    launcher.stdin.close()
+    check('the end of the input ends it with 0', launcher.wait(30) == 0)
+
+
 def scripts(folder, image):
     place = folder + '/script'
     for line, text in [
@@ -202,6 +228,7 @@ with tempfile.TemporaryDirectory() as folder:
     check('make', run(PINK, image, 'make', '512', '16', '64') == (0, '', ''))
     causes(folder, image)
     words(image)
+    pairs(folder, image)
     scripts(folder, image)
     signals(image)
     pipes(image)

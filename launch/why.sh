@@ -185,9 +185,9 @@ pair_words_fault() { # IMAGE IMAGE WORDS..
 }
 
 pair_shape_fault() { # IMAGE IMAGE
-    fault=$(drive_fault "$1" list)
-    [ -n "$fault" ] || fault=$(drive_fault "$2" list)
     one=$(shape_of "$1") two=$(shape_of "$2")
+    fault=$(drive_fault "$1" list "$two")
+    [ -n "$fault" ] || fault=$(drive_fault "$2" list "$one")
     if [ -z "$fault" ] && [ "$one" != "$two" ]; then
         fault="the drives have different shapes: $1 has $one, $2 has $two"
     fi
@@ -297,14 +297,16 @@ image_fault() { # IMAGE WORD
     echo "${fault:-the image is damaged, or its making was broken off: see pinkctl check}$hint"
 }
 
-drive_fault() { # IMAGE WORD: why there is no drive in it, by its file and its head; prints nothing if nothing is seen
+drive_fault() { # IMAGE WORD [SHAPE]: why there is no drive in it, by its file and its head; prints nothing if nothing is seen
     fault=$(file_fault "$1" "$2")
     if [ -n "$fault" ]; then
         echo "$fault"
         return
     fi
     if [ ! -e "$1" ]; then
-        echo "there is no file $1; pink $1 make 512 16 64 would make a small drive"
+        hint="pink $1 make 512 16 64 would make a small drive"
+        [ -z "${3:-}" ] || hint="pink $1 make $3 would make one for the other image"
+        echo "there is no file $1; $hint"
         return
     fi
     size=$(wc -c <"$1" | tr -d ' ')

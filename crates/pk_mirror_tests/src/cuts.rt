@@ -49,14 +49,21 @@ fn cuts_of_first(rt: &impl Abort, alloc: Global, ran: &Ran, second: &Images, cha
             if mark < marks {
                 mended_to_either(rt, alloc, &images, change);
             } else {
-                mended(rt, alloc, &images, change.after);
+                mended(rt, alloc, &images, change, change.after);
             }
         }
     }
 }
 
 // The second drive is cut off at each mark, with the first as it is here: its keys are these.
-fn cuts_of_second(rt: &impl Abort, alloc: Global, ran: &Ran, first: &Images, keys: &[u8]) {
+fn cuts_of_second(
+    rt: &impl Abort,
+    alloc: Global,
+    ran: &Ran,
+    first: &Images,
+    change: &Change,
+    keys: &[u8],
+) {
     for mark in 0..ran.second.marks().saturating_add(1) {
         let ways = few_ways(alloc, &ran.second, mark).expect(rt, "memory");
         for way in &ways {
@@ -65,7 +72,7 @@ fn cuts_of_second(rt: &impl Abort, alloc: Global, ran: &Ran, first: &Images, key
                 first: copy_of(rt, alloc, first, Half::First),
                 second: cut_of(rt, alloc, &ran.second, mark, way),
             };
-            mended(rt, alloc, &images, keys);
+            mended(rt, alloc, &images, change, keys);
         }
     }
 }
@@ -91,8 +98,8 @@ fn each_cut_of_second(rt: &impl Abort, alloc: Global, change: &Change) {
     let before = different(rt, alloc);
     let ran = whole(rt, alloc, &before, change);
     let after = images_of(rt, alloc, &ran.first, &ran.second);
-    cuts_of_second(rt, alloc, &ran, &before, change.before);
-    cuts_of_second(rt, alloc, &ran, &after, change.after);
+    cuts_of_second(rt, alloc, &ran, &before, change, change.before);
+    cuts_of_second(rt, alloc, &ran, &after, change, change.after);
 }
 
 /// Each cut of the first drive in a Store.

@@ -99,18 +99,15 @@ fn damaged_drives(rt: HostRuntime) {
     }
 }
 
-// A value that takes six pages: four of them fill a drive of 33 blocks.
-const SIX_PAGES: Value = Value {
-    first: 1,
-    len: 3000,
-};
+// The longest value of a drive of 33 blocks, which takes two pages: six of them fill it.
+const LONGEST: Value = Value { first: 1, len: 992 };
 
-// A full drive of 33 blocks with four keys from this one on.
-fn full(rt: &impl Abort, alloc: Global, keys: [u8; 4]) -> Vec<PageState> {
+// A full drive of 33 blocks with these keys.
+fn full(rt: &impl Abort, alloc: Global, keys: [u8; 6]) -> Vec<PageState> {
     let made = made(rt, alloc, MAKE_SMALL);
     let mut asks = Vec::new(alloc);
     for key in keys {
-        asks.push(Ask::Store(key, SIX_PAGES)).expect(rt, "memory");
+        asks.push(Ask::Store(key, LONGEST)).expect(rt, "memory");
     }
     let input = pk_sessions::script::script(alloc, &asks).expect(rt, "memory");
     let shape = shape_of(rt, &made);
@@ -127,21 +124,19 @@ fn full_drives(rt: HostRuntime) {
     let alloc = rt.alloc();
     let images = Images {
         shape: shape_of(&rt, &made(&rt, alloc, MAKE_SMALL)),
-        first: full(&rt, alloc, [0x61, 0x62, 0x63, 0x64]),
-        second: full(&rt, alloc, [0x71, 0x72, 0x73, 0x74]),
+        first: full(&rt, alloc, [0x61, 0x62, 0x63, 0x64, 0x65, 0x66]),
+        second: full(&rt, alloc, [0x71, 0x72, 0x73, 0x74, 0x75, 0x76]),
     };
     let other = alone(&rt, alloc, images.shape, &images.second, "list");
-    assert!(rt; other.posted() == b"71\n72\n73\n74\n".as_slice());
-    let ran = run_over(&rt, alloc, &images, "put 65 -");
+    assert!(rt; other.posted() == b"71\n72\n73\n74\n75\n76\n".as_slice());
+    let ran = run_over(&rt, alloc, &images, "put 67 -");
     assert!(rt; ran.status == 0 && ran.first.posted() == b"refused 81\n".as_slice());
     let images = images_of(&rt, alloc, &ran.first, &ran.second);
-    for text in [
-        "list", "get 61", "get 62", "get 63", "get 64", "get 65", "get 71",
-    ] {
+    for text in ["list", "get 61", "get 66", "get 67", "get 71"] {
         same_alone(&rt, alloc, &images, text);
     }
-    let images = said(&rt, alloc, &images, "list", b"61\n62\n63\n64\n");
+    let images = said(&rt, alloc, &images, "list", b"61\n62\n63\n64\n65\n66\n");
     let images = said(&rt, alloc, &images, "put 61 00", b"ok\n");
-    let images = said(&rt, alloc, &images, "put 65 -", b"ok\n");
+    let images = said(&rt, alloc, &images, "put 67 -", b"ok\n");
     same_alone(&rt, alloc, &images, "list");
 }

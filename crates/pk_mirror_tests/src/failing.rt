@@ -31,10 +31,10 @@ fn check(rt: &impl Abort, alloc: Global, ran: &Ran, change: &Change) {
     let text = ran.first.posted();
     if text == b"ok\n".as_slice() {
         assert!(rt; ran.status == 5);
-        mended(rt, alloc, &images, change.after);
+        mended(rt, alloc, &images, change, change.after);
     } else if ran.status == 5 {
         assert!(rt; text.is_empty());
-        mended(rt, alloc, &images, change.after);
+        mended(rt, alloc, &images, change, change.after);
     } else {
         let unread = ran.status == 0 && text == b"refused 88\n".as_slice();
         assert!(rt; unread || (ran.status == 6 && text.is_empty()));
