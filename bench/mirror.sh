@@ -1,11 +1,12 @@
 #!/bin/sh
-# Tries a mirrored pair over the built program; it proves nothing and is no part of the gate.
+# Tries a mirrored pair over the built program. It proves nothing and is no part of the gate. It ends with a count, and with 1 if a
+# check failed.
 #
-#   bench/mirror.sh [TIMES]        kills that many sessions (300 when no number is named), then images that are lost
+#   bench/mirror.sh [TIMES]        kills so many sessions, 300 if no number is named; then images that are lost
 #   bench/mirror.sh speed          how long words take over a pair and over one drive, and resyncs of 20,000 keys
 #
-# Kills: words of a pair, each killed at a random moment. After each one the next run has to answer, with every word that was
-# completed and with all or nothing of the one that was killed, and both drives hold the same.
+# Kills: words of a pair, each killed at a random moment. After each the next run has to answer, with every word that was completed
+# and with all or nothing of the one that was killed, and both drives hold the same. Now and then the second drive is a new one.
 # Images: one is damaged, missing, of another shape or open in another process. The status has to say so, and both stay as they were.
 set -eu
 
@@ -21,6 +22,7 @@ import fcntl, os, random, shutil, struct, subprocess, sys, time
 program, folder, task = sys.argv[1:4]
 first, second = folder + '/a.img', folder + '/b.img'
 failures = []
+checks = 0
 
 def run(*words, seconds=None, data=None):               # status and text; None where it was killed
     with open(folder + '/text', 'wb') as text:
@@ -34,12 +36,14 @@ def run(*words, seconds=None, data=None):               # status and text; None 
             process.wait()
             status = None
     with open(folder + '/text', 'rb') as text:
-        return status, text.read().decode()
+        return status, text.read().decode(errors='replace')
 
 def pair(*words, **more):
     return run('mirror', first, second, *words, **more)
 
 def expect(what, found, wanted):
+    global checks
+    checks += 1
     if found != wanted:
         failures.append(f'{what}: {found!r} and not {wanted!r}')
         print('FAILED', failures[-1])
@@ -140,7 +144,13 @@ def images():
     stays('a missing image', missing, 8)
     stays('a damaged image', damaged, 8)
     stays('an image of another shape', shaped, 8)
+    def no_map(image):                                  # each page is torn, so there is no root
+        with open(image, 'r+b') as file:
+            file.seek(32)
+            file.write(bytes([2]) * 1024)
+
     stays('an image in use', opened, 6)
+    stays('an image without a map', no_map, 8)
     stays('a missing image, read', missing, 8, ('get', '61'))
     for words in ((), ('mirror',), ('mirror', first), ('mirror', first, second), ('mirror', first, first, 'list'),
                   ('mirror', 'mirror', second, 'list'), ('mirror', first, second, 'stat'), ('mirror', first, second, 'list', '61'),
@@ -203,5 +213,6 @@ if task == 'speed':
 else:
     kills(int(task))
     images()
+print(f'mirror.sh: {checks - len(failures)} of {checks} checks passed')
 sys.exit(1 if failures else 0)
 PY
