@@ -3,7 +3,7 @@
 # check failed.
 #
 #   bench/mirror.sh [TIMES]        kills so many sessions, 300 if no number is named; then images that are lost
-#   bench/mirror.sh speed          how long words take over a pair and over one drive, and resyncs of 20,000 keys
+#   bench/mirror.sh speed          the processor time of words over a pair and over one drive, and of resyncs of 20,000 keys
 #
 # Kills: words of a pair, each killed at a random moment. After each the next run has to answer, with every word that was completed
 # and with all or nothing of the one that was killed, and both drives hold the same. Now and then the second drive is a new one.
@@ -17,7 +17,7 @@ program=${PINK:-$top/crates/pink/out/pink}
 [ -x "$program" ] || { "$top/pink" 2>/dev/null || true; }
 
 python3 - "$program" "$folder" "${1:-300}" <<'PY'
-import fcntl, os, random, shutil, struct, subprocess, sys, time
+import fcntl, os, random, resource, shutil, struct, subprocess, sys, time
 
 program, folder, task = sys.argv[1:4]
 first, second = folder + '/a.img', folder + '/b.img'
@@ -180,13 +180,17 @@ def script(count, length):
         parts.append(bytes(entry) + bytes(random.randbytes(length)))
     return b''.join(parts)
 
-def timed(what, *words):
+def processor():                                        # seconds that the runs so far took, of program and system
+    used = resource.getrusage(resource.RUSAGE_CHILDREN)
+    return used.ru_utime + used.ru_stime
+
+def timed(what, *words, turns=3, text=None):
     best = None
-    for turn in range(3):
-        began = time.monotonic()
-        status, text = run(*words)
-        spent = time.monotonic() - began
-        expect(what, status, 0)
+    for turn in range(turns):
+        began = processor()
+        answer = run(*words)
+        spent = processor() - began
+        expect(what, answer if text else answer[0], (0, text) if text else 0)
         best = spent if best is None else min(best, spent)
     print(f'{what}: {best * 1000:.0f} ms')
 
@@ -199,9 +203,7 @@ def speed():
     timed('get, one drive of a key', first, 'get', '61')
     timed('get, a pair of a key', 'mirror', first, second, 'get', '61')
     expect('fill', run(first, 'serve', '36', data=script(20000, 100))[0], 0)
-    began = time.monotonic()
-    expect('resync', pair('resync'), (0, 'ok\n'))
-    print(f'resync of 20,000 keys to an empty second: {time.monotonic() - began:.2f} s')
+    timed('resync of 20,000 keys to an empty second', 'mirror', first, second, 'resync', turns=1, text='ok\n')
     timed('resync of 20,000 equal keys', 'mirror', first, second, 'resync')
     timed('put, one drive of 20,000 keys', first, 'put', '61', '616263')
     timed('put, a pair of 20,000 keys', 'mirror', first, second, 'put', '61', '616263')

@@ -16,7 +16,7 @@ use Rattle.pk_nand.specs.declared.types.LoadFault.TheVariants.{Fault, BadImage, 
 use Rattle.pk_nand.proofs.Reaching.{Reached-start, Went-reached}
 use Rattle.pk_model.specs.Growth.{Goes}
 use Rattle.pk_model.specs.Laws.{MapHeld}
-use Rattle.pk_model.specs.Reading.{reading, Holds}
+use Rattle.pk_model.specs.Reading.{reading, Holds, Refuses}
 use Rattle.pk_model.specs.Sight.{Sight}
 use Rattle.pk_model.specs.Wear.{root_number, roots, is_worn}
 use Rattle.pk_serve.specs.Complete.{NoneRose}
@@ -41,7 +41,7 @@ use Rattle.pk_top.specs.Ends.{open_status}
 use Rattle.pk_top.specs.Loads.{load_status, HasReason, LoadRefused}
 use Rattle.pk_top.specs.Serves.{NotServed, behind_opening}
 use Rattle.pk_top.specs.Statuses.{GivesNothing, Untouched, HasNoDrive, FlashFailed as FlashHasFailed, Tells}
-use Rattle.pk_top.specs.PairRuns.{NotFound, KeepsPair, AskedPair, NotOpenedPair, AsksPair, FoundPair, OtherShapes, PairRun, HasNoPair, PairFlashFailed, PairTells, PairWhole}
+use Rattle.pk_top.specs.PairRuns.{NotFound, KeepsPair, AskedPair, NotOpenedPair, AsksPair, FoundPair, OtherShapes, PairRun, HasNoPair, PairFlashFailed, PairTells, LacksPair, PairRefused, PairWhole}
 use Rattle.pk_top.proofs.Telling.{tells_refused, tells_not, tells_no_drive, wants_untouched, wants_sound, gives_same, untouched_same, load_untouched, refused_untouched}
 use Rattle.pk_top.proofs.Completing.{reads_leave}
 
@@ -160,6 +160,7 @@ module _ (task : PairTask) (shape : Shape) (loaded new loaded' new' : BoardState
           ends = told.ends;
           first_used = told.first_used;
           second_used = told.second_used;
+          few = few;
         },
       ));
     }
@@ -356,10 +357,50 @@ pair_tells task old new old' new' status (inr (inr (inr (inl o)))) = record {
 }
 pair_tells task old new old' new' status (inr (inr (inr (inr f)))) = asks_tells task f.shape old f.loaded new old' f.loaded' new' f.found f.found' status f.asks
 
--- ---- where no call fails
+-- ---- boards that hold no pair
 
 no_map : (shape : Shape) (pages : Flash) (m : Map) (refusal : Refusal) → Holds shape pages m → reading shape pages [] ≡ Err refusal → ⊥
 no_map shape pages m refusal held refuses = let clash : ◌≡◌ {A = Result Map Refusal} (Ok m) (Err refusal) = sym held ∙ refuses in cc
+
+found_shape : (o l : BoardState) (s shape : Shape) → o.shape ≡ Some shape → Loaded o l (Some s) → s ≡ shape
+found_shape o l s shape is found = let told : ◌≡◌ {A = Option Shape} (Some s) (Some shape) = sym found.shape_is ∙ (found.held (subst IsSome (sym is) refl)).1 ∙ is in cc
+
+found_pages : (o l : BoardState) (s shape : Shape) → o.shape ≡ Some shape → Loaded o l (Some s) → l.pages ≡ o.pages
+found_pages o l s shape is found = (found.held (subst IsSome (sym is) refl)).0
+
+refused_one : (status : ℕ) → (status ≡ 6) ⊎ ((status ≡ 7) ⊎ (status ≡ 8)) → (status ≡ 8) ⊎ ((status ≡ 7) ⊎ (status ≡ 6))
+refused_one status (inl e) = inr (inr e)
+refused_one status (inr (inl e)) = inr (inl e)
+refused_one status (inr (inr e)) = inl e
+
+-- a flash that holds a map is not refused
+not_refused : (s shape : Shape) (now then : Flash) (m : Map) (refusal : Refusal) → s ≡ shape → now ≡ then → Holds s now m → Refuses shape then refusal → ⊥
+not_refused s shape now then m refusal same pages held refuses =
+    no_map shape then m refusal (subst (λ (f : Flash). Holds shape f m) pages (subst (λ (x : Shape). Holds x now m) same held)) refuses
+
+-- two drives that were opened are a pair
+no_lack : (s shape other : Shape) (old old' loaded loaded' : BoardState) (m k : Map) → s ≡ shape → s ≡ other → loaded.pages ≡ old.pages → loaded'.pages ≡ old'.pages
+    → Holds s loaded.pages m → Holds s loaded'.pages k → LacksPair shape other old old' → ⊥
+no_lack s shape other old old' loaded loaded' m k one two pages pages' held held' (inl differ) = differ (sym one ∙ two)
+no_lack s shape other old old' loaded loaded' m k one two pages pages' held held' (inr (inl (refusal, refuses))) = not_refused s shape loaded.pages old.pages m refusal one pages held refuses
+no_lack s shape other old old' loaded loaded' m k one two pages pages' held held' (inr (inr (refusal, refuses))) = not_refused s other loaded'.pages old'.pages k refusal two pages' held' refuses
+
+pub pair_refused : (task : PairTask) (old new old' new' : BoardState) (status : ℕ) → PairRun task old new old' new' status → PairRefused old old' status
+pair_refused task old new old' new' status (inl (is, same, same')) shape other has has' lacks = inr (inl is)
+pair_refused task old new old' new' status (inr (inl (missing, same'))) shape other has has' lacks = refused_one status (not_found_one old new status missing)
+pair_refused task old new old' new' status (inr (inr (inl (s, found, missing)))) shape other has has' lacks = refused_one status (not_found_one old' new' status missing)
+pair_refused task old new old' new' status (inr (inr (inr (inl o)))) shape other has has' lacks = inl o.tells
+pair_refused task old new old' new' status (inr (inr (inr (inr f)))) shape other has has' lacks = elim f.asks.outcome [
+  | inl (is, same, same') ↦ inr (inl is)
+  | inr (inl (inl (n, same'))) ↦ refused_one status (open_one status n.error n.tells)
+  | inr (inl (inr (is, n))) ↦ refused_one status (open_one status n.error n.tells)
+  | inr (inr (end, is, asked)) ↦ absurd (no_lack f.shape shape other old old' f.loaded f.loaded' asked.start asked.other
+      (found_shape old f.loaded f.shape shape has f.found) (found_shape old' f.loaded' f.shape other has' f.found')
+      (found_pages old f.loaded f.shape shape has f.found) (found_pages old' f.loaded' f.shape other has' f.found')
+      asked.holds asked.holds_other lacks)
+]
+
+-- ---- where no call fails
 
 worn_never : (before behind more : ℕ) → nat_le 9223372036854775808 behind ≡ true → behind ≤ before + more → before < 4611686018427387904 → more < 4611686018427387904 → ⊥
 worn_never before behind more worn used far few = grind (arith, nat_tests, worn, used, far, few)

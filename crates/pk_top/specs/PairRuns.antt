@@ -2,10 +2,11 @@
 use Rattle.std.specs.Prelude.{◌≡◌, ◌≢◌, ◌⊎◌, ℕ, ◌<◌, List, Some, None, true}
 use Rattle.pk_base.specs.Shape.{Shape}
 use Rattle.pk_base.specs.Map.{Map}
+use Rattle.pk_base.specs.Refusal.{Refusal}
 use Rattle.pk_nand.specs.BoardState.{BoardState}
 use Rattle.pk_nand.specs.Calls.{Rose, Loaded, longer}
 use Rattle.pk_model.specs.Growth.{Goes}
-use Rattle.pk_model.specs.Reading.{Holds}
+use Rattle.pk_model.specs.Reading.{Holds, Refuses}
 use Rattle.pk_model.specs.Wear.{is_worn, roots}
 use Rattle.pk_serve.specs.Complete.{NoneRose, far_below}
 use Rattle.pk_wordrun.specs.declared.end.WordEnd.{WordEnd}
@@ -100,6 +101,18 @@ pub record PairTells (old new old' new' : BoardState) (status : ℕ) : Type 0 wh
   pub memory : status ≡ MEMORY.0 → Untouched old new × Untouched old' new'
   pub no_drive : status ≡ NO_DRIVE.0 → HasNoPair new new' × Untouched old new × Untouched old' new'
   pub worn : status ≡ WORN.0 → (is_worn new ≡ true) ⊎ (is_worn new' ≡ true)
+
+-- the boards hold no pair: their shapes differ, or the flash of one holds no map
+abbrev pub LacksPair : Shape → Shape → BoardState → BoardState → Type 0
+LacksPair shape other old old' =
+    (shape ≢ other) ⊎ (((refusal : Refusal) × Refuses shape old.pages refusal) ⊎ ((refusal : Refusal) × Refuses other old'.pages refusal))
+
+-- Two boards that hold their pages from the start, and no pair: the status is that of a missing drive, unless memory was missing or a call of the flash
+-- failed before that was known.
+abbrev pub PairRefused : BoardState → BoardState → ℕ → Type 0
+PairRefused old old' status =
+    (shape other : Shape) → old.shape ≡ Some shape → old'.shape ≡ Some other → LacksPair shape other old old'
+    → (status ≡ NO_DRIVE.0) ⊎ ((status ≡ MEMORY.0) ⊎ (status ≡ FLASH.0))
 
 -- ---- completeness
 

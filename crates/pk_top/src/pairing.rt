@@ -3,7 +3,7 @@ ghost use Rattle.std.specs.Prelude.{◌≡◌, ◌≢◌, ◌⊎◌, None, Some,
 ghost use Rattle.pk_nand.specs.Calls.{IsReady, Loaded};
 ghost use Rattle.pk_mirrorwords.specs.PairTasks.{PairTask as Asked, seen, IsShort};
 ghost use Rattle.pk_top.specs.PairWords as spec;
-ghost use Rattle.pk_top.specs.PairRuns.{NotFound, AsksPair, PairRun, PairTells, PairWhole};
+ghost use Rattle.pk_top.specs.PairRuns.{NotFound, AsksPair, PairRun, PairRefused, PairTells, PairWhole};
 ghost use Rattle.pk_top.specs.declared.status.TheConstants.Status.{WORDS, MEMORY};
 
 use crate::asking::{WORD_FRAMES, of_word_end};
@@ -33,9 +33,12 @@ pub fn run_pair<B: Board, C: Board>(
     ensures words { result.0 ≡ WORDS.0 → (spec.pair_task_of (map (λ w. w.now) words.now) ≡ None)
         × (B.state first.new ≡ B.state first.old) × (C.state second.new ≡ C.state second.old) }
     ensures no_words { spec.pair_task_of (map (λ w. w.now) words.now) ≡ None
-        → (result.0 ≡ WORDS.0) ⊎ (result.0 ≡ MEMORY.0) }
+        → (B.state first.new ≡ B.state first.old) × (C.state second.new ≡ C.state second.old)
+        × ((result.0 ≡ WORDS.0) ⊎ (result.0 ≡ MEMORY.0)) }
     ensures tells { (result.0 ≡ WORDS.0) ⊎ PairTells (B.state first.old) (B.state first.new)
         (C.state second.old) (C.state second.new) result.0 }
+    ensures no_pair { (task : Asked) → spec.pair_task_of (map (λ w. w.now) words.now) ≡ Some task
+        → PairRefused (B.state first.old) (C.state second.old) result.0 }
 
     // What is kept, and what is said.
     ensures runs { (task : Asked) → spec.pair_task_of (map (λ w. w.now) words.now) ≡ Some task
